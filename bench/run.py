@@ -1,0 +1,123 @@
+#!/usr/bin/env python3
+"""Times `mountd -` on made-up sessions, and prints lines per second and the most memory it took.
+
+Usage: bench/run.py [--program PATH] [--seed N] [--only WORD]
+
+The program is crates/mt_server/out/mt_server, which `rt run mt_server` builds. Nothing is judged:
+the figures are for docs/GATE.md. The same seed makes the same sessions.
+"""
+import argparse
+import os
+import random
+import subprocess
+import tempfile
+import time
+
+HERE = os.path.dirname(os.path.dirname(os.path.abspath(__file__)))
+
+
+def start():
+    """Two filesystems, some directories and a namespace."""
+    return ["mkfs a tmpfs none", "mkfs d ext4 /dev/x", "mkdir a /m", "newns a"]
+
+
+def cheap_commands(rng):
+    """Directories until the limit, then refusals: 100,000 lines."""
+    lines = start()
+    for n in range(100_000):
+        lines.append(f"mkdir {rng.choice('ad')} /x{n}")
+    return lines
+
+
+def deep_directories(rng):
+    """Chains of 30 directories: 15,000 lines."""
+    lines = start()
+    for chain in range(500):
+        path = ""
+        for _ in range(30):
+            path += f"/c{chain}"
+            lines.append(f"mkdir d {path}")
+    return lines
+
+
+def refused_lines(rng):
+    """Lines that are refused as they are read: 200,000 lines."""
+    bad = ["", "mount", "mkdir a x", "show 01", "mkdir a /\\041", "frobnicate", "mkfs a x y"]
+    return start() + [rng.choice(bad) for _ in range(200_000)]
+
+
+def stacked_mounts(rng):
+    """Mounts at one place until the limit: 4,200 lines."""
+    return start() + ["mount 1 d /m"] * 4_200
+
+
+def wide_mounts(rng):
+    """2,000 mounts at places of their own, and their table shown 20 times."""
+    lines = start()
+    for n in range(2_000):
+        lines += [f"mkdir a /w{n}", f"mount 1 d /w{n}"]
+    return lines + ["show 1"] * 20
+
+
+def small_shows(rng):
+    """A table of three rows shown 100,000 times."""
+    return start() + ["mount 1 d /m", "mount 1 a /m"] + ["show 1"] * 100_000
+
+
+def mixed(rng):
+    """200,000 lines of mkdir, mount and show in a namespace of few mounts."""
+    lines = start()
+    for n in range(64):
+        lines.append(f"mkdir a /d{n}")
+    for n in range(200_000):
+        draw = rng.random()
+        if draw < 0.4:
+            lines.append(f"mkdir d /n{rng.randrange(2_000)}")
+        elif draw < 0.9 or n > 10_000:
+            lines.append(f"mount 1 d /nothing{rng.randrange(64)}")
+        elif draw < 0.902:
+            lines.append(f"mount 1 d /d{rng.randrange(64)}")
+        else:
+            lines.append("show 1")
+    return lines
+
+
+WORKLOADS = [cheap_commands, deep_directories, refused_lines, stacked_mounts, wide_mounts, small_shows, mixed]
+
+
+def run(program, lines):
+    """Seconds, bytes of answers and the most memory in MB of one session."""
+    with tempfile.TemporaryFile() as source, tempfile.TemporaryFile() as answers:
+        source.write(("\n".join(lines) + "\n").encode())
+        source.seek(0)
+        begin = time.perf_counter()
+        child = subprocess.Popen([program, "-"], stdin=source, stdout=answers)
+        _, status, usage = os.wait4(child.pid, 0)
+        seconds = time.perf_counter() - begin
+        child.returncode = status
+        if status != 0:
+            raise SystemExit(f"{program} ended with status {status}")
+        answers.seek(0, os.SEEK_END)
+        return seconds, answers.tell(), usage.ru_maxrss / 1024
+
+
+def main():
+    parser = argparse.ArgumentParser(description=__doc__.splitlines()[0])
+    parser.add_argument("--program", default=os.path.join(HERE, "crates/mt_server/out/mt_server"))
+    parser.add_argument("--seed", type=int, default=1)
+    parser.add_argument("--only", default="")
+    words = parser.parse_args()
+    print(f"{'session':18} {'lines':>8} {'seconds':>8} {'lines/s':>10} {'answers MB':>10} {'memory MB':>10}")
+    for workload in WORKLOADS:
+        if words.only not in workload.__name__:
+            continue
+        lines = workload(random.Random(words.seed))
+        seconds, answered, memory = run(words.program, lines)
+        print(
+            f"{workload.__name__:18} {len(lines):8} {seconds:8.3f} {len(lines) / seconds:10.0f}"
+            f" {answered / 1e6:10.1f} {memory:10.1f}"
+        )
+
+
+if __name__ == "__main__":
+    main()

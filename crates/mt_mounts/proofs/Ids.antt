@@ -1,0 +1,96 @@
+-- The IDs of a forest, sorted, are those of its rows.
+use Rattle.std.proofs.Common.{◌≡◌, ◌≢◌, ℕ, suc, ◌+◌, ◌<◌, true, false, cond, eqb, List, [], ◌∷◌, map, Option, Some, None, refl, sym, ap, subst, ◌∙◌, inl, inr, arith, Contains, IsPermutation}
+use Rattle.std.specs.Prelude.{nat_lt, slice_index}
+use Rattle.std.specs.List.{AllByRecursion, IsDistinct, list_all}
+use Rattle.std.specs.List.Sorted.{IsSorted, IsStrictlyIncreasing}
+use Rattle.std.specs.Ordering.{nat_cmp}
+use Rattle.std.specs.Option.{option_map}
+use Rattle.std.specs.Cmp.{nat_eq_equiv}
+use Rattle.std.proofs.lemmas.Bool.{cases_eq, ne_eqb}
+use Rattle.std.proofs.lemmas.Bool.Decides.{nat_tests}
+use Rattle.std.proofs.lemmas.List.Sorted.{Contains-permutation, IsPermutation-sym, IsNonDecreasingBy-from_sort}
+use Rattle.std.proofs.lemmas.Map.Keys.{IsDistinct-IsPermutation, IsStrictlyIncreasing-from_distinct}
+use Rattle.slab.specs.Slab.{Slab, entries, entries_from}
+use Rattle.slab.proofs.SlabLemmas.{Contains-cons, Contains-cons_cases}
+use Rattle.mt_skel.specs.Keyed.{row_at, rises}
+use Rattle.mt_skel.proofs.KeyedLaws.{row_at-key, same_rows}
+use Rattle.mt_mounts.specs.declared.mount.Mount.{Mount}
+use Rattle.mt_mounts.specs.Forest.{id_of}
+use Rattle.mt_mounts.specs.Slots.{table_of, HasDistinctIds}
+use Rattle.mt_mounts.proofs.SlotLaws.{vals, row_vals, rises_table, same_options, entries_differ}
+use Rattle.mt_mounts.proofs.ForestLaws.{AreApart, absent_later}
+
+-- the IDs of these entries, in the order of the slab
+abbrev pub ids_of : List (ℕ × Mount) → List ℕ
+ids_of es = map id_of (vals es)
+
+-- they differ
+all_differ : (x : ℕ) (es : List (ℕ × Mount)) → ((e : ℕ × Mount) → Contains es e → e.1.id ≢ x) → AllByRecursion (λ y. eqb x y ≡ false) (ids_of es)
+all_differ x [] f = tt
+all_differ x (e ∷ es) f = (ne_eqb x e.1.id (λ s. f e (0, omega arith, refl) (sym s)), all_differ x es (λ y c. f y (Contains-cons _ _ _ c)))
+
+distinct_from : (first : ℕ) (slots : List (Option Mount)) → AreApart (entries_from first slots) → IsDistinct eqb (ids_of (entries_from first slots))
+unfolding IsDistinct
+distinct_from first [] unique = tt
+distinct_from first (None ∷ rest) unique = distinct_from (first + 1) rest unique
+distinct_from first (Some m ∷ rest) unique = (
+  all_differ m.id (entries_from (first + 1) rest) (absent_later first m rest unique),
+  distinct_from (first + 1) rest (λ a b ca cb. unique a b (Contains-cons _ _ _ ca) (Contains-cons _ _ _ cb)),
+)
+
+-- numbers that rise strictly are rows with themselves as keys
+lower : (x y : ℕ) (ys : List ℕ) → x < y → list_all (λ z. nat_lt y z) ys ≡ true → list_all (λ z. nat_lt x z) ys ≡ true
+lower x y [] l h = refl
+lower x y (z ∷ zs) l h = let ih = lower x y zs l in grind (arith, nat_tests)
+
+rises_of : (xs : List ℕ) → IsStrictlyIncreasing xs → rises (λ n. n) xs ≡ true
+rises_of [] h = refl
+rises_of (x ∷ []) h = refl
+rises_of (x ∷ y ∷ ys) h =
+    let ih = rises_of (y ∷ ys) (λ k l. subst (λ n. slice_index (y ∷ ys) k < slice_index (x ∷ y ∷ ys) n) {x = suc k + 1} {y = suc (k + 1)} (omega arith) (h (suc k) (omega arith))) in
+    let lt : x < y = h 0 (omega arith) in
+    let low = lower x y ys lt in
+    grind (arith, nat_tests)
+
+row_of_number : (xs : List ℕ) (q : ℕ) → Contains xs q → row_at (λ n. n) q xs ≡ Some q
+row_of_number [] q c = absurd (omega (arith, c.1))
+row_of_number (x ∷ xs) q c = elim (Contains-cons_cases _ _ _ c) [
+  | inl here ↦ let e : x ≡ q = here in grind (arith, nat_tests)
+  | inr there ↦ let ih = row_of_number xs q there in grind (arith, nat_tests)
+]
+
+number_of_row : (xs : List ℕ) (q x : ℕ) → row_at (λ n. n) q xs ≡ Some x → Contains xs q
+number_of_row [] q x e = absurd (cc)
+number_of_row (y ∷ ys) q x e = elim (cases_eq q y) [
+  | inl here ↦ (0, omega arith, sym here)
+  | inr off ↦ Contains-cons _ _ _ (number_of_row ys q x (sym (ap (λ b. cond b (Some y) (row_at (λ n. n) q ys)) (ne_eqb q y off)) ∙ e))
+]
+
+within : (xs ys : List ℕ) (q x : ℕ) → (Contains xs q → Contains ys q) → row_at (λ n. n) q xs ≡ Some x → row_at (λ n. n) q ys ≡ Some x
+within xs ys q x f e = row_of_number ys q (f (number_of_row xs q x e)) ∙ ap (λ k. Some k) (sym (row_at-key (λ n. n) q xs x e))
+
+-- the rows' IDs are such numbers
+row_of_ids : (ms : List Mount) (q : ℕ) → row_at (λ n. n) q (map id_of ms) ≡ option_map id_of (row_at id_of q ms)
+row_of_ids [] q = refl
+row_of_ids (m ∷ ms) q = elim (eqb q m.id) as (λ b. cond b (Some m.id) (row_at (λ n. n) q (map id_of ms)) ≡ option_map id_of (cond b (Some m) (row_at id_of q ms))) [ true ↦ refl | false ↦ row_of_ids ms q ]
+
+above_ids : (k : ℕ) (ms : List Mount) → list_all (λ z. nat_lt k z) (map id_of ms) ≡ list_all (λ (m : Mount). nat_lt k m.id) ms
+above_ids k [] = refl
+above_ids k (m ∷ ms) = rw (above_ids k ms) refl
+
+rises_ids : (ms : List Mount) → rises (λ n. n) (map id_of ms) ≡ rises id_of ms
+rises_ids [] = refl
+rises_ids (m ∷ ms) = rw (above_ids m.id ms, rises_ids ms) refl
+
+table_rows : (s : Slab Mount) (q : ℕ) → row_at id_of q (table_of s) ≡ row_at id_of q (vals (entries s))
+unfolding table_of
+table_rows s q = row_vals (entries s) q
+
+-- sorted, the slab's IDs are the rows'
+pub sorted_ids : (s : Slab Mount) (ws vs : List ℕ) → HasDistinctIds s → ws ≡ ids_of (entries s) → IsPermutation ws vs → IsSorted nat_cmp vs → vs ≡ map id_of (table_of s)
+sorted_ids s ws vs ids is p sorted =
+    let distinct : IsDistinct eqb ws = rw is (distinct_from 0 s.slots (entries_differ s ids)) in
+    let up = IsStrictlyIncreasing-from_distinct vs (IsNonDecreasingBy-from_sort (λ x. x) vs sorted) (IsDistinct-IsPermutation eqb nat_eq_equiv.symm ws vs p distinct) in
+    same_rows (λ n. n) vs (map id_of (table_of s)) (rises_of vs up) (rises_ids (table_of s) ∙ rises_table s) (λ q.
+    same_options _ _ (λ x e. within vs ws q x (Contains-permutation vs ws q (IsPermutation-sym ws vs p)) e) (λ x e. within ws vs q x (Contains-permutation ws vs q p) e)
+    ∙ ap (row_at (λ n. n) q) is ∙ row_of_ids (vals (entries s)) q ∙ ap (option_map id_of) (sym (table_rows s q)) ∙ sym (row_of_ids (table_of s) q))

@@ -1,0 +1,61 @@
+-- The words `top` and `is_below`, step by step.
+use Rattle.std.proofs.Common.{◌≡◌, ◌≢◌, ℕ, zero, suc, ◌+◌, ◌-◌, ◌<◌, ◌≤◌, Bool, true, false, ◌||◌, eqb, eq-eqb, List, [], ◌∷◌, Option, Some, None, refl, sym, ap, ◌∙◌, arith}
+use Rattle.std.specs.List.{last_or, list_any}
+use Rattle.std.specs.Option.{option_map, option_map_or, unwrap_or}
+use Rattle.std.proofs.lemmas.Bool.{ne_eqb}
+use Rattle.std.proofs.lemmas.Bool.Decides.{nat_tests}
+use Rattle.mt_skel.specs.Chain.{chain}
+use Rattle.mt_skel.proofs.ChainLaws.{chain-last}
+use Rattle.mt_mounts.specs.declared.mount.Place.{Place}
+use Rattle.mt_mounts.specs.declared.mount.Mount.{Mount}
+use Rattle.mt_mounts.specs.Forest.{on, parent, root_place}
+
+abbrev pub stacked : List Mount → Place → Option Place
+stacked ms q = option_map root_place (on ms q)
+
+-- the place that so many steps lead to
+abbrev pub top_within : List Mount → ℕ → Place → Place
+top_within ms n p = unwrap_or (last_or None (chain (stacked ms) n p)) p
+
+-- what is found after a first place does not depend on the default
+last_of_some : (a : Place) (xs : List Place) (p q : Place) → unwrap_or (last_or (Some a) xs) p ≡ unwrap_or (last_or (Some a) xs) q
+last_of_some a [] p q = refl
+last_of_some a (x ∷ xs) p q = last_of_some x xs p q
+
+-- `top` ends at a free place, and else goes on from the root of the mount that stands there
+pub top_stop : (ms : List Mount) (n : ℕ) (p : Place) → stacked ms p ≡ None → top_within ms n p ≡ p
+top_stop ms n p e = ap (λ xs. unwrap_or (last_or None xs) p) (chain-last (stacked ms) n p e)
+
+pub top_step : (ms : List Mount) (n : ℕ) (p q : Place) → stacked ms p ≡ Some q → top_within ms (suc n) p ≡ top_within ms n q
+top_step ms n p q e = ap (λ o. unwrap_or (last_or (Some p) (option_map_or (λ y. chain (stacked ms) n y) o [])) p) e ∙ go n
+  where
+    go : (n : ℕ) → unwrap_or (last_or (Some p) (chain (stacked ms) n q)) p ≡ top_within ms n q
+    go zero = refl
+    go (suc n) = last_of_some q (option_map_or (λ y. chain (stacked ms) n y) (stacked ms q) []) p q
+
+-- whether so many steps from j meet i
+abbrev pub below_within : List Mount → ℕ → ℕ → ℕ → Bool
+below_within ms i n j = list_any (λ k. eqb i k) (chain (parent ms) n j)
+
+-- `is_below` ends at i and at a mount without a parent, and else goes on from the parent
+pub below_here : (ms : List Mount) (i n j : ℕ) → j ≡ i → below_within ms i n j ≡ true
+below_here ms i zero j e = let s = eq-eqb i j (sym e) in grind (arith, nat_tests)
+below_here ms i (suc n) j e = let s = eq-eqb i j (sym e) in grind (arith, nat_tests)
+
+pub below_stop : (ms : List Mount) (i n j : ℕ) → parent ms j ≡ None → below_within ms i n j ≡ (eqb i j || false)
+below_stop ms i n j e = ap (list_any (λ k. eqb i k)) (chain-last (parent ms) n j e)
+
+pub below_step : (ms : List Mount) (i n j p : ℕ) → j ≢ i → parent ms j ≡ Some p → below_within ms i (suc n) j ≡ below_within ms i n p
+below_step ms i n j p ne e =
+    ap (λ o. eqb i j || list_any (λ k. eqb i k) (option_map_or (λ y. chain (parent ms) n y) o [])) e
+    ∙ ap (λ b. b || below_within ms i n p) (ne_eqb i j (λ s. ne (sym s)))
+
+-- the fuel before and after a step
+pub fuel_step : (n i : ℕ) → i < n → n - i ≡ suc (n - (i + 1))
+fuel_step n i l = omega arith
+
+pub fuel_start : (n : ℕ) → n - 0 ≡ n
+fuel_start n = omega arith
+
+pub fuel_end : (n i : ℕ) → i ≤ n → n ≤ i → n - i ≡ 0
+fuel_end n i a b = omega arith

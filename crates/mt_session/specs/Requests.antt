@@ -1,0 +1,137 @@
+-- The request that a line says, or why it is refused (the lines are this project's rule).
+use Rattle.std.specs.Prelude.{◌≡◌, ◌⊎◌, ℕ, Bool, true, false, not, ◌&&◌, ◌||◌, ◌==◌, nat_eq, nat_lt, if◌then◌else◌, List, [], ◌∷◌, length, drop, fold, Option, Some, None, unwrap_or, Result, Ok, Err, codes}
+use Rattle.std.specs.List.{list_all, list_any, starts_with}
+use Rattle.std.specs.Option.{option_map, option_map_or, option_or}
+use Rattle.std.specs.Str.{bytes_eq}
+use Rattle.mt_skel.specs.declared.fault.Fault.{Fault}
+use Rattle.mt_skel.specs.declared.fault.Fault.TheVariants.{BadLine, TooLong, BadPath, NoMemory}
+use Rattle.mt_skel.specs.Escapes.{unescaped}
+use Rattle.mt_skel.specs.Names.{is_name}
+use Rattle.mt_skel.specs.Outcome.{refuse_if, first_fault}
+use Rattle.mt_session.specs.Words.{pieces, words, number_of}
+use Rattle.mt_session.specs.declared.early.book.Command.TheVariants as command
+use Rattle.mt_session.specs.declared.request.Request.{Request}
+use Rattle.mt_session.specs.declared.request.Request.TheVariants as request
+
+-- how many bytes a word stands for; none where it is empty, has a zero byte, or has a backslash that begins no escape
+abbrev pub text_length : List ℕ → Option ℕ
+text_length word =
+    if nat_eq (length word) 0 || list_any (λ b. b == 0) word then None else option_map (λ bytes. length bytes) (unescaped word)
+
+-- a word that stands for no text is a bad line, and a label of more than 255 bytes is too long
+abbrev pub label_fault : List ℕ → Option Fault
+label_fault word = option_map_or (λ n. refuse_if (nat_lt 255 n) TooLong) (text_length word) (Some BadLine)
+
+-- the bytes that a word stands for
+abbrev pub label_bytes : List ℕ → List ℕ
+label_bytes word = unwrap_or (unescaped word) []
+
+-- the components of a path stand between its slashes, behind the first; `/` alone has none
+abbrev pub components : List ℕ → List (List ℕ)
+components path = if bytes_eq path (codes "/") then [] else drop 1 (pieces 47 path)
+
+-- a path begins with a slash, and each of its components is a name
+abbrev pub is_path : List ℕ → Bool
+is_path path = starts_with nat_eq path (codes "/") && list_all is_name (components path)
+
+-- whether a piece between slashes, in front of them or behind them has more than 255 bytes
+abbrev pub has_long_piece : List ℕ → Bool
+has_long_piece path = list_any (λ piece. nat_lt 255 (length piece)) (pieces 47 path)
+
+-- a word that stands for no text is a bad line, one of more than 4,095 bytes or with a long piece is too long, and any other is to be a path
+abbrev pub path_fault : List ℕ → Option Fault
+path_fault word =
+    option_map_or (λ n. first_fault (refuse_if (nat_lt 4095 n || has_long_piece (label_bytes word)) TooLong
+    ∷ refuse_if (not (is_path (label_bytes word))) BadPath ∷ []))
+    (text_length word) (Some BadLine)
+
+-- the names that a path word says, from the root down
+abbrev pub path_names : List ℕ → List (List ℕ)
+path_names word = components (label_bytes word)
+
+-- whether a word is a reason to refuse the line as bad, or as too long
+abbrev pub is_bad_line : Option Fault → Bool
+is_bad_line (Some BadLine) = true
+is_bad_line _ = false
+
+abbrev pub is_too_long : Option Fault → Bool
+is_too_long (Some TooLong) = true
+is_too_long _ = false
+
+-- of two faults a BadLine comes first, then a TooLong, and then the first that is there
+abbrev pub worse : Option Fault → Option Fault → Option Fault
+worse a b = if is_bad_line a then a else (if is_bad_line b then b else (if is_too_long a then a else (if is_too_long b then b else option_or a b)))
+
+-- the fault among those of a line's words that comes first
+abbrev pub worst : List (Option Fault) → Option Fault
+worst faults = fold worse None faults
+
+-- none of a line's words has a fault
+abbrev pub HasNoFault : List (Option Fault) → Type 0
+HasNoFault [] = Unit {0}
+HasNoFault (f ∷ fs) = (f ≡ None) × HasNoFault fs
+
+-- a request, unless there is a fault
+abbrev pub unless : Option Fault → Request → Result Request Fault
+unless fault asked = option_map_or (λ f. Err f) fault (Ok asked)
+
+-- `mkfs NAME TYPE SOURCE` makes a filesystem
+abbrev pub mkfs_of : List (List ℕ) → Result Request Fault
+mkfs_of (name ∷ kind ∷ source ∷ []) =
+    unless (worst (label_fault name ∷ label_fault kind ∷ label_fault source ∷ []))
+    (request.Run (command.MakeFs (label_bytes name) (label_bytes kind) (label_bytes source)))
+mkfs_of _ = Err BadLine
+
+-- `mkdir FS DIR` makes a directory of a filesystem
+abbrev pub mkdir_of : List (List ℕ) → Result Request Fault
+mkdir_of (fs ∷ dir ∷ []) =
+    unless (worst (label_fault fs ∷ path_fault dir ∷ [])) (request.Run (command.MakeDir (label_bytes fs) (path_names dir)))
+mkdir_of _ = Err BadLine
+
+-- `newns FS` makes a namespace
+abbrev pub newns_of : List (List ℕ) → Result Request Fault
+newns_of (fs ∷ []) = unless (label_fault fs) (request.Run (command.NewSpace (label_bytes fs)))
+newns_of _ = Err BadLine
+
+-- `mount NS FS PATH` mounts a filesystem in a namespace; a bad number is a bad line, and so comes before every other fault
+abbrev pub mount_of : List (List ℕ) → Result Request Fault
+mount_of (space ∷ fs ∷ path ∷ []) =
+    option_map_or (λ n. unless (worst (label_fault fs ∷ path_fault path ∷ [])) (request.Run (command.Mount n (label_bytes fs) (path_names path))))
+    (number_of space) (Err BadLine)
+mount_of _ = Err BadLine
+
+-- `show NS` shows a namespace
+abbrev pub show_of : List (List ℕ) → Result Request Fault
+show_of (space ∷ []) = option_map_or (λ n. Ok (request.Show n)) (number_of space) (Err BadLine)
+show_of _ = Err BadLine
+
+-- `quit` ends the session
+abbrev pub quit_of : List (List ℕ) → Result Request Fault
+quit_of [] = Ok request.Quit
+quit_of _ = Err BadLine
+
+-- the first word of a line chooses how the others are read
+abbrev pub by_words : List (List ℕ) → Result Request Fault
+by_words [] = Err BadLine
+by_words (word ∷ rest) =
+    if bytes_eq word (codes "mkfs") then mkfs_of rest
+    else (if bytes_eq word (codes "mkdir") then mkdir_of rest
+    else (if bytes_eq word (codes "newns") then newns_of rest
+    else (if bytes_eq word (codes "mount") then mount_of rest
+    else (if bytes_eq word (codes "show") then show_of rest
+    else (if bytes_eq word (codes "quit") then quit_of rest else Err BadLine)))))
+
+-- what a line asks for, or why it is refused
+unfoldable pub request_of : List ℕ → Result Request Fault
+request_of line = by_words (words line)
+
+-- every refusal of a line, and `quit`, is found without memory; every other answer may fail for want of it
+abbrev pub may_want_memory : Result Request Fault → Bool
+may_want_memory (Ok (request.Run c)) = true
+may_want_memory (Ok (request.Show n)) = true
+may_want_memory (Ok request.Quit) = false
+may_want_memory (Err f) = false
+
+-- what was read is what the line asks for, or want of memory where that may be
+abbrev pub ReadsAs : Result Request Fault → Result Request Fault → Type 0
+ReadsAs asked read = (read ≡ asked) ⊎ ((read ≡ Err NoMemory) × (may_want_memory asked ≡ true))

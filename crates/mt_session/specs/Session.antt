@@ -1,0 +1,141 @@
+-- What a plain session writes and does: the fold of its lines over the floor (this project's rule).
+use Rattle.std.specs.Prelude.{◌≡◌, ℕ, ◌<◌, ◌≤◌, List, [], ◌∷◌, ◌++◌, take, map, length, Result, Ok, Err, Bool, true, false, if◌then◌else◌, Option, None, Some, ◌⊎◌}
+use Rattle.mt_skel.specs.declared.fault.Fault.{Fault}
+use Rattle.mt_skel.specs.declared.fault.Fault.TheVariants.{BadLine, TooLong as LineTooLong, NoMemory as WantsMemory}
+use Rattle.mt_session.specs.declared.request.Request.{Request}
+use Rattle.mt_session.specs.declared.request.Request.TheVariants.{Run, Show, Quit as AsksQuit}
+use Rattle.mt_session.specs.declared.line.ReadFault.{ReadFault}
+use Rattle.mt_session.specs.declared.line.ReadFault.TheVariants.{Device, Interrupted, Endless as NeverEnds, NoMemory as NoRoom}
+use Rattle.mt_session.specs.declared.stream.Cut.{Cut}
+use Rattle.mt_session.specs.declared.session.End.{End}
+use Rattle.mt_session.specs.declared.session.End.TheVariants.{Quit, Input, Read, Cut as CutOff, Memory, Spent}
+use Rattle.mt_session.specs.Requests.{request_of, may_want_memory}
+use Rattle.mt_session.specs.Lines.{Item, Text, TooLong, Unended, Endless, lines_of}
+use Rattle.mt_session.specs.Book.{BookView}
+use Rattle.mt_session.specs.Answers.{answer_to, book_to, refusal}
+
+-- what the lines of a session are folded over
+pub record SessionState : Type 0 where
+  pub floor : BookView
+
+abbrev pub session_at : BookView → SessionState
+session_at b = record { floor = b }
+
+-- whether every growth that a request asked for was granted
+pub data Growth : Type 0 where
+  Granted : Growth
+  Refused : Growth
+
+-- a line, and whether its request met a refused growth
+pub record Turn : Type 0 where
+  pub line : Item
+  pub growth : Growth
+
+-- what a line asks for
+abbrev pub asked : Item → Result Request Fault
+asked (Text bytes) = request_of bytes
+asked TooLong = Err LineTooLong
+asked Unended = Err BadLine
+asked Endless = Err BadLine
+
+-- a refused growth can stand in place of any answer but those that are found without memory
+abbrev pub granted : Growth → Result Request Fault → Result Request Fault
+granted Granted r = r
+granted Refused r = if may_want_memory r then Err WantsMemory else r
+
+-- what is done for the line
+abbrev pub done : Turn → Result Request Fault
+done turn = granted turn.growth (asked turn.line)
+
+abbrev pub answer_of : SessionState → Result Request Fault → List ℕ
+answer_of state (Ok r) = answer_to state.floor r
+answer_of state (Err f) = refusal f
+
+abbrev pub state_of : SessionState → Result Request Fault → SessionState
+state_of state (Ok r) = session_at (book_to state.floor r)
+state_of state (Err f) = state
+
+-- the text that answers a line, and the state after it
+unfoldable pub answer : SessionState → Turn → List ℕ
+answer state turn = answer_of state (done turn)
+
+unfoldable pub after : SessionState → Turn → SessionState
+after state turn = state_of state (done turn)
+
+-- the line ends the session
+abbrev pub ends_by : Result Request Fault → Bool
+ends_by (Ok AsksQuit) = true
+ends_by (Ok (Show n)) = false
+ends_by (Ok (Run c)) = false
+ends_by (Err f) = false
+
+unfoldable pub quits : Turn → Bool
+quits turn = ends_by (done turn)
+
+-- the stated text: the answers of the lines, one after another
+abbrev pub text_of : List Turn → SessionState → List ℕ
+text_of [] state = []
+text_of (turn ∷ turns) state = answer state turn ++ text_of turns (after state turn)
+
+abbrev pub state_after : List Turn → SessionState → SessionState
+state_after [] state = state
+state_after (turn ∷ turns) state = state_after turns (after state turn)
+
+-- none of the lines ends the session
+abbrev pub AllGoOn : List Turn → Type 0
+AllGoOn [] = Unit {0}
+AllGoOn (turn ∷ turns) = (quits turn ≡ false) × AllGoOn turns
+
+-- the longest line, in bytes before its line end, and the most lines of a session
+abbrev pub line_limit : ℕ
+line_limit = 8192
+
+abbrev pub most_lines : ℕ
+most_lines = 16777216
+
+-- the session has served these lines and goes on
+pub record Going (turns : List Turn) (before later : List ℕ) (old new : SessionState) (sent written : List ℕ) : Type 0 where
+  pub lines : lines_of line_limit before ≡ map (λ t. t.line) turns ++ lines_of line_limit later
+  pub state : new ≡ state_after turns old
+  pub out : written ≡ sent ++ text_of turns old
+  pub goes : AllGoOn turns
+
+-- how much of the last answer went out
+abbrev pub sent_by : End → List ℕ → List ℕ
+sent_by (CutOff cut) text = take cut.sent text
+sent_by _ text = text
+
+-- why the session ended, by its last line and the lines not read; a line of this limit never wants memory
+abbrev pub IsCause : End → List Turn → List Item → Type 0
+IsCause Quit last later = (turn : Turn) × (last ≡ turn ∷ []) × (quits turn ≡ true)
+IsCause Input last later = (later ≡ []) × ((last ≡ []) ⊎ ((turn : Turn) × (last ≡ turn ∷ []) × (turn.line ≡ Unended)))
+IsCause (Read NeverEnds) last later = (last ≡ []) × (more : List Item) × (later ≡ Endless ∷ more)
+IsCause (Read Device) last later = last ≡ []
+IsCause (Read Interrupted) last later = last ≡ []
+IsCause (Read NoRoom) last later = ⊥
+IsCause (CutOff cut) last later = (turn : Turn) × (last ≡ turn ∷ [])
+IsCause Memory last later = last ≡ []
+IsCause Spent last later = last ≡ []
+
+-- a session is spent after so many lines
+abbrev pub IsSpent : End → ℕ → Type 0
+IsSpent Spent count = count ≡ most_lines
+IsSpent _ count = Unit {0}
+
+-- a session is cut only where a call of the writer failed
+abbrev pub IsCutCause : Option End → ℕ → ℕ → Type 0
+IsCutCause (Some (CutOff cut)) old new = old < new
+IsCutCause _ old new = old ≤ new
+
+-- a whole session: the lines served whole, the line that ended it, if one did, and the lines not read;
+-- what was written is their text, of the last as much as the end says
+pub record Served (before : List ℕ) (old new : SessionState) (sent written : List ℕ) (by : End) : Type 0 where
+  pub turns : List Turn
+  pub last : List Turn
+  pub later : List Item
+  pub lines : lines_of line_limit before ≡ map (λ t. t.line) turns ++ (map (λ t. t.line) last ++ later)
+  pub state : new ≡ state_after last (state_after turns old)
+  pub out : written ≡ sent ++ (text_of turns old ++ sent_by by (text_of last (state_after turns old)))
+  pub goes : AllGoOn turns
+  pub cause : IsCause by last later
+  pub spent : IsSpent by (length turns)

@@ -1,0 +1,445 @@
+//! Requests, as lines say them.
+ghost use Rattle.std.specs.Prelude.{◌≡◌, None, Some};
+ghost use Rattle.mt_session.specs.Requests.{ReadsAs, request_of, HasNoFault, worse, worst, mkfs_of, mkdir_of, newns_of, mount_of, show_of, quit_of};
+
+use crate::early::book::Command;
+use crate::label::{label_fault, label_of};
+use crate::path::{path_fault, path_of};
+use crate::words::{Words, number, words};
+use mt_skel::fault::Fault;
+use std::alloc::Global;
+
+/// What a line asks for.
+#[derive(Drop)]
+pub enum Request {
+    /// A change of the tables.
+    Run(Command),
+    /// `show NS` shows the table of a namespace.
+    Show(u64),
+    /// `quit` ends the session.
+    Quit,
+}
+
+/// The fault of two words that is refused first.
+fn worse(first: Option<Fault>, second: Option<Fault>) -> Option<Fault>
+    ensures { result ≡ worse first second }
+{
+    match (first, second) {
+        (Some(Fault::BadLine), _) => first,
+        (_, Some(Fault::BadLine)) => second,
+        (Some(Fault::TooLong), _) => first,
+        (_, Some(Fault::TooLong)) => second,
+        (Some(_), _) => first,
+        (None, _) => second,
+    }
+}
+
+/// The fault among those of a line's words that is refused first.
+fn worst(faults: &[Option<Fault>]) -> Option<Fault>
+    ensures worst { result ≡ worst faults.now }
+    ensures none { result ≡ None → HasNoFault faults.now }
+{
+    let mut worst = None;
+    for fault in faults {
+        worst = worse(worst, *fault);
+    }
+    worst
+}
+
+/// The request of a line `mkfs NAME TYPE SOURCE`, behind the first word.
+fn read_mkfs(alloc: Global, words: &mut Words<'_>) -> Result<Request, Fault>
+    ensures { ReadsAs (mkfs_of words.old) result }
+{
+    let (Some(name), Some(kind), Some(source), None) = (
+        words.next(),
+        words.next(),
+        words.next(),
+        words.next(),
+    ) else {
+        return Err(Fault::BadLine);
+    };
+    if let Some(fault) = worst(&[label_fault(name), label_fault(kind), label_fault(source)]) {
+        return Err(fault);
+    }
+    let name = label_of(alloc, name)?;
+    let kind = label_of(alloc, kind)?;
+    let source = label_of(alloc, source)?;
+    Ok(Request::Run(Command::MakeFs { name, kind, source }))
+}
+
+/// The request of a line `mkdir FS DIR`, behind the first word.
+fn read_mkdir(alloc: Global, words: &mut Words<'_>) -> Result<Request, Fault>
+    ensures { ReadsAs (mkdir_of words.old) result }
+{
+    let (Some(fs), Some(path), None) = (words.next(), words.next(), words.next()) else {
+        return Err(Fault::BadLine);
+    };
+    if let Some(fault) = worst(&[label_fault(fs), path_fault(path)]) {
+        return Err(fault);
+    }
+    let fs = label_of(alloc, fs)?;
+    let path = path_of(alloc, path)?;
+    Ok(Request::Run(Command::MakeDir { fs, path }))
+}
+
+/// The request of a line `newns FS`, behind the first word.
+fn read_newns(alloc: Global, words: &mut Words<'_>) -> Result<Request, Fault>
+    ensures { ReadsAs (newns_of words.old) result }
+{
+    let (Some(fs), None) = (words.next(), words.next()) else {
+        return Err(Fault::BadLine);
+    };
+    if let Some(fault) = label_fault(fs) {
+        return Err(fault);
+    }
+    let fs = label_of(alloc, fs)?;
+    Ok(Request::Run(Command::NewSpace { fs }))
+}
+
+/// The request of a line `mount NS FS PATH`, behind the first word.
+fn read_mount(alloc: Global, words: &mut Words<'_>) -> Result<Request, Fault>
+    ensures { ReadsAs (mount_of words.old) result }
+{
+    let (Some(space), Some(fs), Some(path), None) = (
+        words.next(),
+        words.next(),
+        words.next(),
+        words.next(),
+    ) else {
+        return Err(Fault::BadLine);
+    };
+    let Some(space) = number(space) else {
+        return Err(Fault::BadLine);
+    };
+    if let Some(fault) = worst(&[label_fault(fs), path_fault(path)]) {
+        return Err(fault);
+    }
+    let fs = label_of(alloc, fs)?;
+    let path = path_of(alloc, path)?;
+    Ok(Request::Run(Command::Mount { space, fs, path }))
+}
+
+/// The request of a line `show NS`, behind the first word.
+fn read_show(words: &mut Words<'_>) -> Result<Request, Fault>
+    ensures { result ≡ show_of words.old }
+{
+    let (Some(space), None) = (words.next(), words.next()) else {
+        return Err(Fault::BadLine);
+    };
+    let space = number(space).ok_or(Fault::BadLine)?;
+    Ok(Request::Show(space))
+}
+
+/// The request of a line `quit`, behind the first word.
+fn read_quit(words: &mut Words<'_>) -> Result<Request, Fault>
+    ensures { result ≡ quit_of words.old }
+{
+    match words.next() {
+        Some(_) => Err(Fault::BadLine),
+        None => Ok(Request::Quit),
+    }
+}
+
+/// The request that a line says. The line is without its end.
+///
+/// Refused as `BadLine` where the line is none of the requests, or one of its words cannot stand
+/// there; else as `TooLong` where a label or a component of a path has more than 255 bytes, or a
+/// path more than 4,095; else as `BadPath` where a path does not begin with `/`, or has a component
+/// that is empty, `.` or `..`. The first two are found without memory, and every other answer may
+/// be `NoMemory` in its place.
+#[tactic(auto, unfolding(crate::specs::Requests::request_of))]
+pub fn read_request(alloc: Global, line: &[u8]) -> Result<Request, Fault>
+    ensures { ReadsAs (request_of line.now) result }
+{
+    let mut words = words(line);
+    let Some(command) = words.next() else {
+        return Err(Fault::BadLine);
+    };
+    if command == b"mkfs".as_slice() {
+        read_mkfs(alloc, &mut words)
+    } else if command == b"mkdir".as_slice() {
+        read_mkdir(alloc, &mut words)
+    } else if command == b"newns".as_slice() {
+        read_newns(alloc, &mut words)
+    } else if command == b"mount".as_slice() {
+        read_mount(alloc, &mut words)
+    } else if command == b"show".as_slice() {
+        read_show(&mut words)
+    } else if command == b"quit".as_slice() {
+        read_quit(&mut words)
+    } else {
+        Err(Fault::BadLine)
+    }
+}
+
+#[cfg(test)]
+mod tests {
+    use super::*;
+    use std::test::Fail;
+
+    /// The request of a line as a text, each part behind a bar.
+    fn shown(alloc: Global, line: &[u8]) -> Result<Vec<u8>, Fault> {
+        let mut text = Vec::new(alloc);
+        match read_request(alloc, line)? {
+            Request::Run(Command::MakeFs { name, kind, source }) => {
+                text.extend_from_slice(b"MakeFs")?;
+                push_parts(&mut text, &[name.bytes(), kind.bytes(), source.bytes()])?;
+            }
+            Request::Run(Command::MakeDir { fs, path }) => {
+                text.extend_from_slice(b"MakeDir")?;
+                push_parts(&mut text, &[fs.bytes()])?;
+                push_path(&mut text, &path)?;
+            }
+            Request::Run(Command::NewSpace { fs }) => {
+                text.extend_from_slice(b"NewSpace")?;
+                push_parts(&mut text, &[fs.bytes()])?;
+            }
+            Request::Run(Command::Mount { space, fs, path }) => {
+                text.extend_from_slice(if space == 7 { b"Mount 7" } else { b"Mount ?" })?;
+                push_parts(&mut text, &[fs.bytes()])?;
+                push_path(&mut text, &path)?;
+            }
+            Request::Show(space) => {
+                text.extend_from_slice(if space == 7 { b"Show 7" } else { b"Show ?" })?
+            }
+            Request::Quit => text.extend_from_slice(b"Quit")?,
+        }
+        Ok(text)
+    }
+
+    fn push_parts(text: &mut Vec<u8>, parts: &[&[u8]]) -> Result<(), Fault> {
+        for part in parts {
+            text.push(b'|')?;
+            text.extend_from_slice(part)?;
+        }
+        Ok(())
+    }
+
+    fn push_path(text: &mut Vec<u8>, path: &Names) -> Result<(), Fault> {
+        for name in path.as_slice() {
+            push_parts(text, &[name.bytes()])?;
+        }
+        Ok(())
+    }
+
+    #[test]
+    fn reads_a_line_of_each_command(rt: HostRuntime) -> Result<(), Fail> {
+        for (line, wanted) in [
+            (
+                b"mkfs home ext4 /dev/sda1".as_slice(),
+                b"MakeFs|home|ext4|/dev/sda1".as_slice(),
+            ),
+            (b"mkfs . .. a/b".as_slice(), b"MakeFs|.|..|a/b".as_slice()),
+            (
+                b"mkfs a\\040b \\134 \\011".as_slice(),
+                b"MakeFs|a b|\\|\t".as_slice(),
+            ),
+            (
+                b"mkdir home /a/b".as_slice(),
+                b"MakeDir|home|a|b".as_slice(),
+            ),
+            (b"mkdir home /".as_slice(), b"MakeDir|home".as_slice()),
+            (
+                b"mkdir home /a\\040b/\\012".as_slice(),
+                b"MakeDir|home|a b|\n".as_slice(),
+            ),
+            (
+                b"mkdir home /.../.a".as_slice(),
+                b"MakeDir|home|...|.a".as_slice(),
+            ),
+            (b"newns home".as_slice(), b"NewSpace|home".as_slice()),
+            (b"mount 7 home /a".as_slice(), b"Mount 7|home|a".as_slice()),
+            (b"mount 7 home /".as_slice(), b"Mount 7|home".as_slice()),
+            (b"show 7".as_slice(), b"Show 7".as_slice()),
+            (b"show 0".as_slice(), b"Show ?".as_slice()),
+            (b"quit".as_slice(), b"Quit".as_slice()),
+        ] {
+            let text = shown(rt.alloc(), line)?;
+            assert_eq!(rt; text.as_slice(), wanted, "{line:?}");
+        }
+        Ok(())
+    }
+
+    #[test]
+    fn refuses_bad_lines(rt: HostRuntime) {
+        for line in [
+            b"".as_slice(),
+            b" ".as_slice(),
+            b"quit ".as_slice(),
+            b" quit".as_slice(),
+            b"quit now".as_slice(),
+            b"Quit".as_slice(),
+            b"\\161uit".as_slice(),
+            b"mkfs".as_slice(),
+            b"mkfs a b".as_slice(),
+            b"mkfs a b c d".as_slice(),
+            b"mkfs a  b c".as_slice(),
+            b"mkfs a  b".as_slice(),
+            b"mkfs a b ".as_slice(),
+            b"mkfs\ta b c".as_slice(),
+            b"newns ".as_slice(),
+            b"newns a\0b".as_slice(),
+            b"newns a\\041".as_slice(),
+            b"newns a\\".as_slice(),
+            b"newns \\04/0".as_slice(),
+            b"mkdir a ".as_slice(),
+            b"mkdir a /x\\".as_slice(),
+            b"mkdir a x\\057".as_slice(),
+            b"mkdir a /\0".as_slice(),
+            b"mount 1 a".as_slice(),
+            b"mount x a /b".as_slice(),
+            b"mount 01 a b".as_slice(),
+            b"show".as_slice(),
+            b"show ".as_slice(),
+            b"show 01".as_slice(),
+            b"show 00".as_slice(),
+            b"show -1".as_slice(),
+            b"show +1".as_slice(),
+            b"show 1x".as_slice(),
+            b"show \\0601".as_slice(),
+            b"show 18446744073709551616".as_slice(),
+            b"show 99999999999999999999".as_slice(),
+        ] {
+            let fault = read_request(rt.alloc(), line).err();
+            assert_eq!(rt; fault, Some(Fault::BadLine), "{line:?}");
+        }
+    }
+
+    #[test]
+    fn refuses_bad_paths(rt: HostRuntime) {
+        for line in [
+            b"mkdir a x".as_slice(),
+            b"mkdir a x/y".as_slice(),
+            b"mkdir a //".as_slice(),
+            b"mkdir a //x".as_slice(),
+            b"mkdir a /x/".as_slice(),
+            b"mkdir a /x//y".as_slice(),
+            b"mkdir a /.".as_slice(),
+            b"mkdir a /..".as_slice(),
+            b"mkdir a /x/../y".as_slice(),
+            b"mount 1 a \\040/x".as_slice(),
+            b"mount 1 a /./x".as_slice(),
+        ] {
+            let fault = read_request(rt.alloc(), line).err();
+            assert_eq!(rt; fault, Some(Fault::BadPath), "{line:?}");
+        }
+    }
+
+    #[test]
+    fn reads_the_greatest_number(rt: HostRuntime) {
+        let request = read_request(rt.alloc(), b"show 18446744073709551615");
+        assert!(rt; matches!(request, Ok(Request::Show(u64::MAX))));
+    }
+
+    #[test]
+    fn refuses_long_words(rt: HostRuntime) -> Result<(), Fail> {
+        for (before, count, after, wanted) in [
+            (b"newns ".as_slice(), 255usize, b"".as_slice(), None),
+            (
+                b"newns ".as_slice(),
+                256,
+                b"".as_slice(),
+                Some(Fault::TooLong),
+            ),
+            (b"newns \\040".as_slice(), 254, b"".as_slice(), None),
+            (
+                b"newns \\040".as_slice(),
+                255,
+                b"".as_slice(),
+                Some(Fault::TooLong),
+            ),
+            (b"mkdir a /".as_slice(), 255, b"/x".as_slice(), None),
+            (
+                b"mkdir a /".as_slice(),
+                256,
+                b"/x".as_slice(),
+                Some(Fault::TooLong),
+            ),
+            (
+                b"mkdir a /x/".as_slice(),
+                256,
+                b"".as_slice(),
+                Some(Fault::TooLong),
+            ),
+            (
+                b"mkdir a ".as_slice(),
+                255,
+                b"".as_slice(),
+                Some(Fault::BadPath),
+            ),
+            (
+                b"mkdir a ".as_slice(),
+                300,
+                b"".as_slice(),
+                Some(Fault::TooLong),
+            ),
+            (
+                b"mkdir a ../".as_slice(),
+                256,
+                b"".as_slice(),
+                Some(Fault::TooLong),
+            ),
+            (
+                b"mount 1 ".as_slice(),
+                256,
+                b" x".as_slice(),
+                Some(Fault::TooLong),
+            ),
+            (
+                b"mount 01 ".as_slice(),
+                256,
+                b" /x".as_slice(),
+                Some(Fault::BadLine),
+            ),
+            (
+                b"mkfs a ".as_slice(),
+                256,
+                b" \\".as_slice(),
+                Some(Fault::BadLine),
+            ),
+            (
+                b"mkdir a /\\04/".as_slice(),
+                256,
+                b"".as_slice(),
+                Some(Fault::BadLine),
+            ),
+            (
+                b"newns ".as_slice(),
+                256,
+                b" x".as_slice(),
+                Some(Fault::BadLine),
+            ),
+        ] {
+            let mut line = Vec::from_slice(rt.alloc(), before)?;
+            for _ in 0..count {
+                line.push(b'k')?;
+            }
+            line.extend_from_slice(after)?;
+            let fault = read_request(rt.alloc(), line.as_slice()).err();
+            assert_eq!(rt; fault, wanted, "{before:?} {count} {after:?}");
+        }
+        Ok(())
+    }
+
+    #[test]
+    fn refuses_long_paths(rt: HostRuntime) -> Result<(), Fail> {
+        let mut line = Vec::from_slice(rt.alloc(), b"mkdir a ")?;
+        for at in 0..4094usize {
+            line.push(if at % 256 == 0 { b'/' } else { b'k' })?;
+        }
+        for (end, wanted) in [
+            (b"k".as_slice(), None),
+            (b"\\040".as_slice(), None),
+            (b"kk".as_slice(), Some(Fault::TooLong)),
+            (b"k\\040".as_slice(), Some(Fault::TooLong)),
+            (b"k/".as_slice(), Some(Fault::TooLong)),
+            (b"/".as_slice(), Some(Fault::BadPath)),
+        ] {
+            let mut whole = line.clone()?;
+            whole.extend_from_slice(end)?;
+            let fault = read_request(rt.alloc(), whole.as_slice()).err();
+            assert_eq!(rt; fault, wanted, "{end:?}");
+        }
+        Ok(())
+    }
+}

@@ -1,0 +1,115 @@
+//! The lines of an answer.
+ghost use Rattle.std.specs.Prelude.{◌≡◌, ◌+◌, ◌≤◌, ◌++◌, length, codes, flat_map, OnOk, IfOk};
+ghost use Rattle.mt_session.specs.Answers.{refusal, reply_text, table_text, row_line};
+
+use crate::early::book::Reply;
+use crate::early::print::{push_number, push_row};
+use crate::early::table::{Row, Table};
+use arrayvec::ArrayVec;
+use itoa::Buffer;
+use mt_skel::fault::Fault;
+use std::alloc::{AllocError, Global};
+use std::marker::Model;
+
+/// A line of at most 64 bytes, which takes no memory, or more lines.
+#[derive(Drop)]
+enum Body {
+    Short(ArrayVec<u8, 64>),
+    Long(Vec<u8>),
+}
+
+/// The lines of an answer, each with its line end.
+#[derive(Drop)]
+pub struct Text {
+    body: Body,
+}
+
+impl Model for Text {
+    ghost use Rattle.std.specs.Prelude.{ℕ, List};
+    ghost use Rattle.mt_session.specs.Text.{body_bytes};
+
+    ghost Value = { List ℕ };
+
+    ghost view = { λ t. body_bytes t.body };
+}
+
+/// Appends bytes for which there is room.
+fn put(line: &mut ArrayVec<u8, 64>, bytes: &[u8])
+    requires { length line.old.items + length bytes.now ≤ 64 }
+    ensures { line.new.items ≡ line.old.items ++ bytes.now }
+{
+    let _ = line.try_extend_from_slice(bytes);
+}
+
+impl Text {
+    /// The line of a refusal, `no` and its name. Takes no memory.
+    pub fn refusal(fault: Fault) -> Text
+        ensures { result ≡ refusal fault }
+    {
+        let mut line = ArrayVec::new();
+        put(&mut line, b"no ");
+        put(&mut line, fault.name());
+        put(&mut line, b"\n");
+        Text {
+            body: Body::Short(line),
+        }
+    }
+
+    /// The line of an accepted command: `ok`, and the number that it answers, if it does. Takes no
+    /// memory.
+    pub fn reply(reply: Reply) -> Text
+        ensures { result ≡ reply_text reply }
+    {
+        let mut line = ArrayVec::new();
+        match reply {
+            Reply::Done => put(&mut line, b"ok\n"),
+            Reply::Number(number) => {
+                let mut buffer = Buffer::new();
+                put(&mut line, b"ok ");
+                put(&mut line, buffer.format(number).as_bytes());
+                put(&mut line, b"\n");
+            }
+        }
+        Text {
+            body: Body::Short(line),
+        }
+    }
+
+    /// The lines of a table: `ok`, the count of its rows and how often it has changed, and then the
+    /// line of each row. Fails for want of memory alone.
+    pub fn table(alloc: Global, number: u64, table: &Table) -> Result<Text, AllocError>
+        ensures { IfOk result (λ text. text ≡ table_text number table.now) }
+    {
+        let mut lines = Vec::new(alloc);
+        lines.extend_from_slice(b"ok ")?;
+        push_number(&mut lines, table.rows().len() as u64)?;
+        lines.extend_from_slice(b" ")?;
+        push_number(&mut lines, number)?;
+        lines.extend_from_slice(b"\n")?;
+        push_rows(&mut lines, table.rows())?;
+        Ok(Text {
+            body: Body::Long(lines),
+        })
+    }
+
+    /// The bytes of the lines.
+    pub fn bytes(&self) -> &[u8]
+        ensures { result.now ≡ self.now }
+    {
+        match &self.body {
+            Body::Short(bytes) => bytes.as_slice(),
+            Body::Long(bytes) => bytes.as_slice(),
+        }
+    }
+}
+
+/// Appends the lines of rows.
+fn push_rows(lines: &mut Vec<u8>, rows: &[Row]) -> Result<(), AllocError>
+    ensures { OnOk result (lines.new.items ≡ lines.old.items ++ flat_map row_line rows.now) }
+{
+    for row in rows {
+        push_row(lines, row)?;
+        lines.extend_from_slice(b"\n")?;
+    }
+    Ok(())
+}

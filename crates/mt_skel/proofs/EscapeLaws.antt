@@ -1,0 +1,132 @@
+-- A text with escapes: its first byte, and the way back from the bytes that it stands for.
+use Rattle.std.proofs.lemmas.List.{take_all, append-nil}
+use Rattle.std.proofs.Math.Dec.{eqb-suc-zero}
+use Rattle.std.proofs.Common.{get_or, ◌-◌, ◌≡◌, ◌≢◌, ℕ, ◌+◌, ◌<◌, ◌≤◌, ◌==◌, List, [], ◌∷◌, ◌++◌, length, take, drop, Bool, Option, Some, None, true, false, refl, ap, sym, ◌∙◌, arith, append_assoc, zero-add}
+use Rattle.std.proofs.lemmas.Bool.{ne_eqb, eqb-true, eqb-false}
+use Rattle.std.specs.Option.{option_map}
+use Rattle.mt_skel.specs.Escapes.{escaped, escaped_byte, unescaped, cons_to, byte_of_digits}
+
+pub unescaped-plain : (x : ℕ) (xs : List ℕ) → x ≢ 92 → unescaped (x ∷ xs) ≡ cons_to (Some x) (unescaped xs)
+unfolding unescaped
+unescaped-plain x [] h = rw (ne_eqb x 92 h) refl
+unescaped-plain x (a ∷ []) h = rw (ne_eqb x 92 h) refl
+unescaped-plain x (a ∷ b ∷ []) h = rw (ne_eqb x 92 h) refl
+unescaped-plain x (a ∷ b ∷ c ∷ rest) h = rw (ne_eqb x 92 h) refl
+
+pub unescaped-short : (xs : List ℕ) → length xs < 3 → unescaped (92 ∷ xs) ≡ None
+unfolding unescaped
+unescaped-short [] h = refl
+unescaped-short (a ∷ []) h = refl
+unescaped-short (a ∷ b ∷ []) h = refl
+unescaped-short (a ∷ b ∷ c ∷ rest) h = absurd (omega arith)
+
+-- a text that begins with a backslash and three more characters
+pub unescaped-code : (rest : List ℕ) → 3 ≤ length rest → unescaped (92 ∷ rest) ≡ cons_to (byte_of_digits (get_or rest 0 0) (get_or rest 1 0) (get_or rest 2 0)) (unescaped (take (length rest - 3) (drop 3 rest)))
+unfolding unescaped
+unescaped-code [] h = absurd (omega arith)
+unescaped-code (a ∷ []) h = absurd (omega arith)
+unescaped-code (a ∷ b ∷ []) h = absurd (omega arith)
+unescaped-code (a ∷ b ∷ c ∷ rest) h =
+    let e : take (length (a ∷ b ∷ c ∷ rest) - 3) rest ≡ rest = take_all (length (a ∷ b ∷ c ∷ rest) - 3) rest (omega arith) in
+    ap (λ x. cons_to (byte_of_digits a b c) (unescaped x)) (sym e)
+
+-- the rest of a text behind its first byte, as a slice has it
+abbrev pub rest_of : List ℕ → List ℕ
+rest_of text = take (length text - 1) (drop 1 text)
+
+pub rest_of-cons : (x : ℕ) (xs : List ℕ) → rest_of (x ∷ xs) ≡ xs
+rest_of-cons x xs = take_all (length (x ∷ xs) - 1) xs (omega arith)
+
+pub first_plain : (text : List ℕ) → 0 < length text → get_or text 0 0 ≢ 92 → unescaped text ≡ cons_to (Some (get_or text 0 0)) (unescaped (rest_of text))
+first_plain [] h ne = absurd (omega arith)
+first_plain (x ∷ xs) h ne = rw (rest_of-cons x xs) (unescaped-plain x xs ne)
+
+pub first_short : (text : List ℕ) → 0 < length text → get_or text 0 0 ≡ 92 → length (rest_of text) < 3 → unescaped text ≡ None
+first_short [] h e lt = absurd (omega arith)
+first_short (x ∷ xs) h e lt = rw e (unescaped-short xs (rw (rest_of-cons x xs) at lt))
+
+pub first_code : (text : List ℕ) (o : Option ℕ) → 0 < length text → get_or text 0 0 ≡ 92 → 3 ≤ length (rest_of text) → o ≡ byte_of_digits (get_or (rest_of text) 0 0) (get_or (rest_of text) 1 0) (get_or (rest_of text) 2 0) → unescaped text ≡ cons_to o (unescaped (take (length (rest_of text) - 3) (drop 3 (rest_of text))))
+first_code [] o h e le k = absurd (omega arith)
+first_code (x ∷ xs) o h e le k =
+    let r = rest_of-cons x xs in
+    rw (e, k, r) (unescaped-code xs (rw r at le))
+
+pub unescaped-nil : (text : List ℕ) → length text ≡ 0 → unescaped text ≡ Some []
+unfolding unescaped
+unescaped-nil [] h = refl
+unescaped-nil (x ∷ xs) h = absurd (omega arith)
+
+-- bytes before what is to come
+abbrev pub before_all : List ℕ → Option (List ℕ) → Option (List ℕ)
+before_all out rest = option_map (λ r. out ++ r) rest
+
+pub before_all-push : (out : List ℕ) (b : ℕ) (rest : Option (List ℕ)) → before_all (out ++ b ∷ []) rest ≡ before_all out (cons_to (Some b) rest)
+before_all-push out b None = refl
+before_all-push out b (Some r) = ap Some (append_assoc out (b ∷ []) r)
+
+-- how many bytes there are, with n before those to come
+abbrev pub count_from : ℕ → Option (List ℕ) → Option ℕ
+count_from n rest = option_map (λ r. n + length r) rest
+
+pub count_from-push : (n b : ℕ) (rest : Option (List ℕ)) → count_from (n + 1) rest ≡ count_from n (cons_to (Some b) rest)
+count_from-push n b None = refl
+count_from-push n b (Some r) = ap Some (omega arith)
+
+pub unescaped-escape : (d e f : ℕ) (rest : List ℕ) → unescaped (92 ∷ d ∷ e ∷ f ∷ rest) ≡ cons_to (byte_of_digits d e f) (unescaped rest)
+unfolding unescaped
+unescaped-escape d e f rest = refl
+
+-- the text of a byte stands for that byte
+unescaped-escaped_byte : (b : ℕ) (rest : List ℕ) → unescaped (escaped_byte b ++ rest) ≡ cons_to (Some b) (unescaped rest)
+unescaped-escaped_byte b rest = by_space (b == 32) refl
+  where
+    by_backslash : (k : Bool) → (b == 92) ≡ k → (b == 32) ≡ false → (b == 9) ≡ false → (b == 10) ≡ false → unescaped (escaped_byte b ++ rest) ≡ cons_to (Some b) (unescaped rest)
+    by_backslash true is space tab newline = let e : b ≡ 92 = eqb-true b 92 is in rw e (unescaped-escape 49 51 52 rest)
+    by_backslash false is space tab newline = rw (space, tab, newline, is) (unescaped-plain b rest (eqb-false b 92 is))
+
+    by_newline : (k : Bool) → (b == 10) ≡ k → (b == 32) ≡ false → (b == 9) ≡ false → unescaped (escaped_byte b ++ rest) ≡ cons_to (Some b) (unescaped rest)
+    by_newline true is space tab = let e : b ≡ 10 = eqb-true b 10 is in rw e (unescaped-escape 48 49 50 rest)
+    by_newline false is space tab = by_backslash (b == 92) refl space tab is
+
+    by_tab : (k : Bool) → (b == 9) ≡ k → (b == 32) ≡ false → unescaped (escaped_byte b ++ rest) ≡ cons_to (Some b) (unescaped rest)
+    by_tab true is space = let e : b ≡ 9 = eqb-true b 9 is in rw e (unescaped-escape 48 49 49 rest)
+    by_tab false is space = by_newline (b == 10) refl space is
+
+    by_space : (k : Bool) → (b == 32) ≡ k → unescaped (escaped_byte b ++ rest) ≡ cons_to (Some b) (unescaped rest)
+    by_space true is = let e : b ≡ 32 = eqb-true b 32 is in rw e (unescaped-escape 48 52 48 rest)
+    by_space false is = by_tab (b == 9) refl is
+
+-- the text of bytes stands for those bytes
+pub unescaped-escaped : (bytes : List ℕ) → unescaped (escaped bytes) ≡ Some bytes
+unescaped-escaped [] = unescaped-nil [] refl
+unescaped-escaped (b ∷ bytes) =
+    unescaped-escaped_byte b (escaped bytes) ∙ ap (cons_to (Some b)) (unescaped-escaped bytes)
+
+pub stands_for : (text bytes : List ℕ) → text ≡ escaped bytes → unescaped text ≡ Some bytes
+stands_for text bytes e = rw e (unescaped-escaped bytes)
+
+pub not_empty : (text : List ℕ) → false ≡ (length text == 0) → 0 < length text
+not_empty [] e = cc
+not_empty (x ∷ text) e = omega arith
+
+count_from-zero : (o : Option (List ℕ)) → count_from 0 o ≡ option_map (λ r. length r) o
+count_from-zero None = refl
+count_from-zero (Some r) = ap Some (zero-add (length r))
+
+-- what was counted is all, once nothing is left
+pub all_counted : (n : ℕ) (rest text : List ℕ) → count_from n (unescaped rest) ≡ count_from 0 (unescaped text) → true ≡ (length rest == 0) → Some n ≡ option_map (λ r. length r) (unescaped text)
+all_counted n [] text h e =
+    ap Some (omega arith) ∙ ap (count_from n) (sym (unescaped-nil [] refl)) ∙ h ∙ count_from-zero (unescaped text)
+all_counted n (x ∷ rest) text h e = let no : (length (x ∷ rest) == 0) ≡ false = eqb-suc-zero (length rest) in cc
+
+-- what was read is all, once no byte is left to read
+pub all_read : (out rest text : List ℕ) (n : ℕ) → before_all out (unescaped rest) ≡ unescaped text → Some n ≡ option_map (λ r. length r) (unescaped text) → (0 < length rest → unescaped rest ≡ None) → unescaped text ≡ Some out
+all_read out [] text n h is none = sym h ∙ ap (before_all out) (unescaped-nil [] refl) ∙ ap Some (append-nil out)
+all_read out (x ∷ rest) text n h is none =
+    let e : unescaped text ≡ None = sym h ∙ ap (before_all out) (none (omega arith)) in
+    let f : Some n ≡ None = is ∙ ap (option_map (λ r. length r)) e in cc
+
+-- a text whose bytes cannot be counted stands for none
+pub not_counted : (o : Option (List ℕ)) → None ≡ option_map (λ r. length r) o → o ≡ None
+not_counted None h = refl
+not_counted (Some r) h = cc

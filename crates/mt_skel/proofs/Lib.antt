@@ -1,0 +1,10 @@
+pub mod AddedLaws
+pub mod ChainLaws
+pub mod EscapeLaws
+pub mod GrowthLaws
+pub mod HoldLaws
+pub mod KeyedLaws
+pub mod ListLaws
+pub mod NodeLaws
+pub mod OutcomeLaws
+pub mod SkeletonLaws

@@ -1,0 +1,75 @@
+-- A list with one more element at its end.
+use Rattle.std.proofs.Common.{◌≡◌, ◌⊎◌, ℕ, zero, suc, ◌+◌, ◌-◌, ◌<◌, List, [], ◌∷◌, ◌++◌, length, get_or, take, drop, reverse, Some, slice_get, refl, sym, ap, ◌∙◌, inl, inr, arith, append_assoc}
+use Rattle.std.proofs.lemmas.List.{reverse-append, take_more, take-append-drop, length_push}
+use Rattle.std.proofs.Math.Seq.{take-append_seam}
+use Rattle.std.proofs.lemmas.Option.{slice_get_within}
+
+-- a last element that is the same, after lists that are the same
+pub snoc_same : {X : Type 0} (xs ys : List X) (x y : X) → xs ++ x ∷ [] ≡ ys ++ y ∷ [] → (xs ≡ ys) × (x ≡ y)
+snoc_same [] [] x y e = (refl, cc)
+snoc_same [] (z ∷ []) x y e = absurd (cc)
+snoc_same [] (z ∷ w ∷ ys) x y e = absurd (cc)
+snoc_same (z ∷ []) [] x y e = absurd (cc)
+snoc_same (z ∷ w ∷ xs) [] x y e = absurd (cc)
+snoc_same (a ∷ xs) (b ∷ ys) x y e =
+    let tail : xs ++ x ∷ [] ≡ ys ++ y ∷ [] = cc in
+    let head : a ≡ b = cc in
+    let later = snoc_same xs ys x y tail in
+    ((λ i. head i ∷ later.0 i), later.1)
+
+pub snoc_some : {X : Type 0} (xs : List X) (x : X) → xs ++ x ∷ [] ≡ [] → ⊥
+snoc_some [] x e = absurd (cc)
+snoc_some (y ∷ ys) x e = absurd (cc)
+
+pub front_empty : {X : Type 0} (xs ys : List X) → xs ++ ys ≡ [] → xs ≡ []
+front_empty [] ys e = refl
+front_empty (x ∷ xs) ys e = absurd (cc)
+
+-- a list is empty or has a last element
+pub last_of : {X : Type 0} (xs : List X) → (xs ≡ []) ⊎ ((front : List X) × (x : X) × (xs ≡ front ++ x ∷ []))
+last_of [] = inl refl
+last_of (x ∷ xs) = elim (last_of xs) [
+  | inl none ↦ inr ([], x, ap (λ l. x ∷ l) none)
+  | inr some ↦ inr (x ∷ some.0, some.1, ap (λ l. x ∷ l) some.2)
+]
+
+-- an element of a list with one more: one of before, or the last
+pub pushed : {X : Type 0} (xs : List X) (y x : X) (i : ℕ) → slice_get (xs ++ y ∷ []) i ≡ Some x → (slice_get xs i ≡ Some x) ⊎ ((i ≡ length xs) × (y ≡ x))
+pushed [] y x zero e = inr (refl, cc)
+pushed [] y x (suc i) e = absurd (omega (arith, slice_get_within (y ∷ []) (suc i) x e))
+pushed (a ∷ xs) y x zero e = inl e
+pushed (a ∷ xs) y x (suc i) e = elim (pushed xs y x i e) [
+  | inl old ↦ inl old
+  | inr last ↦ inr (omega (arith, last.0), last.1)
+]
+
+pub kept : {X : Type 0} (xs : List X) (y x : X) (i : ℕ) → slice_get xs i ≡ Some x → slice_get (xs ++ y ∷ []) i ≡ Some x
+kept [] y x i e = absurd (omega (arith, slice_get_within [] i x e))
+kept (a ∷ xs) y x zero e = e
+kept (a ∷ xs) y x (suc i) e = kept xs y x i e
+
+pub last_place : {X : Type 0} (xs : List X) (y : X) → slice_get (xs ++ y ∷ []) (length xs) ≡ Some y
+last_place [] y = refl
+last_place (x ∷ xs) y = last_place xs y
+
+-- the front of a list with one element more
+pub take_next : {X : Type 0} (xs : List X) (i : ℕ) (x : X) → i < length xs → x ≡ get_or xs i x → take (i + 1) xs ≡ take i xs ++ x ∷ []
+take_next xs i x l e = take_more xs i x l ∙ ap (λ y. take i xs ++ y ∷ []) (sym e)
+
+pub split_next : {X : Type 0} (xs : List X) (i : ℕ) (x : X) → i < length xs → x ≡ get_or xs i x → xs ≡ (take i xs ++ x ∷ []) ++ drop (i + 1) xs
+split_next xs i x l e = sym (take-append-drop (i + 1) xs) ∙ ap (λ l. l ++ drop (i + 1) xs) (take_next xs i x l e)
+
+-- all but the last element
+pub take_front : {X : Type 0} (xs front : List X) (x : X) → xs ≡ front ++ x ∷ [] → take (length xs - 1) xs ≡ front
+take_front xs front x e =
+    let size : length xs - 1 ≡ length front = omega (arith, ap length e, length_push front x) in
+    ap (λ n. take n xs) size ∙ ap (take (length front)) e ∙ take-append_seam front (x ∷ [])
+
+-- a list that is walked from its end, and what is walked already in its reverse
+pub walked_more : {X : Type 0} (here up done more whole : List X) (x y : X) → here ≡ up ++ x ∷ [] → here ++ reverse done ≡ whole → more ≡ done ++ y ∷ [] → y ≡ x → up ++ reverse more ≡ whole
+walked_more here up done more whole x y e w m same =
+    let turned : reverse more ≡ x ∷ reverse done = ap reverse m ∙ reverse-append done (y ∷ []) ∙ ap (λ z. z ∷ reverse done) same in
+    ap (λ l. up ++ l) turned ∙ sym (append_assoc up (x ∷ []) (reverse done)) ∙ ap (λ l. l ++ reverse done) (sym e) ∙ w
+
+pub walked_all : {X : Type 0} (here done whole : List X) → here ≡ [] → here ++ reverse done ≡ whole → reverse done ≡ whole
+walked_all here done whole e w = ap (λ l. l ++ reverse done) (sym e) ∙ w

@@ -1,0 +1,12 @@
+-- What the labels and names of the server are (this project's rule).
+use Rattle.std.specs.Prelude.{ℕ, Bool, not, ◌&&◌, ◌==◌, nat_le, List, length, codes}
+use Rattle.std.specs.List.{list_all}
+use Rattle.std.specs.Str.{bytes_eq}
+
+-- a label is 1 to 255 bytes, none of them zero
+abbrev pub is_label : List ℕ → Bool
+is_label l = nat_le 1 (length l) && nat_le (length l) 255 && list_all (λ b. not (b == 0)) l
+
+-- a name is a label without `/` that is neither `.` nor `..`
+abbrev pub is_name : List ℕ → Bool
+is_name l = is_label l && list_all (λ b. not (b == 47)) l && not (bytes_eq l (codes ".")) && not (bytes_eq l (codes ".."))

@@ -1,0 +1,167 @@
+//! The four escapes of names in lines, as in `/proc/pid/mountinfo`: space, tab, newline and backslash
+//! are written `\040`, `\011`, `\012` and `\134`, and every other byte stands for itself.
+ghost use Rattle.std.specs.Prelude.{◌≡◌, ℕ, ◌+◌, ◌<◌, ◌⊎◌, List, ◌++◌, length, IfOk, IfErr, OnOk, IsOkUnless, MatchOption, Some, None};
+ghost use Rattle.std.specs.Option.{option_map};
+ghost use Rattle.mt_skel.specs.Escapes.{escaped, escaped_byte, byte_of_digits, unescaped, cons_to};
+
+use crate::fault::Fault;
+use std::alloc::{AllocError, Global};
+
+/// The text of these bytes in a line.
+///
+/// Refused as `NoMemory` alone.
+pub fn escape(alloc: Global, bytes: &[u8]) -> Result<Vec<u8>, Fault>
+    ensures text { IfOk result (λ text. text.items ≡ escaped bytes.now) }
+    ensures memory { IsOkUnless result Fault.NoMemory }
+{
+    let mut text = Vec::new(alloc);
+    push_escaped(&mut text, bytes)?;
+    Ok(text)
+}
+
+/// Appends the text of these bytes to a line.
+pub fn push_escaped(text: &mut Vec<u8>, bytes: &[u8]) -> Result<(), AllocError>
+    ensures { OnOk result (text.new.items ≡ text.old.items ++ escaped bytes.now) }
+{
+    for byte in bytes {
+        push_byte(text, *byte)?;
+    }
+    Ok(())
+}
+
+/// Appends the text of a byte.
+fn push_byte(text: &mut Vec<u8>, byte: u8) -> Result<(), AllocError>
+    ensures { OnOk result (text.new.items ≡ text.old.items ++ escaped_byte byte) }
+{
+    match byte {
+        b' ' => text.extend_from_slice(b"\\040"),
+        b'\t' => text.extend_from_slice(b"\\011"),
+        b'\n' => text.extend_from_slice(b"\\012"),
+        b'\\' => text.extend_from_slice(b"\\134"),
+        _ => Ok(text.push(byte)?),
+    }
+}
+
+/// The bytes that a text of a line stands for.
+///
+/// Refused as `BadLine` exactly where a backslash begins none of the four escapes, which is found
+/// out without memory, and else as `NoMemory` alone.
+#[tactic(auto, using(crate::proofs::EscapeLaws::stands_for))]
+pub fn unescape(alloc: Global, text: &[u8]) -> Result<Vec<u8>, Fault>
+    ensures bytes { IfOk result (λ bytes. unescaped text.now ≡ Some bytes.items) }
+    ensures bad { unescaped text.now ≡ None → result ≡ Err Fault.BadLine }
+    ensures faults { IfErr result (λ fault. ((fault ≡ Fault.BadLine) × (unescaped text.now ≡ None)) ⊎ (fault ≡ Fault.NoMemory)) }
+    ensures inverse { (bytes : List ℕ) → text.now ≡ escaped bytes → unescaped text.now ≡ Some bytes }
+{
+    let Some(length) = unescaped_len(text) else {
+        return Err(Fault::BadLine);
+    };
+    let mut bytes = Vec::with_capacity(alloc, length)?;
+    let mut rest = text;
+    while let Some((byte, later)) = first_byte(rest) {
+        bytes.push(byte)?;
+        rest = later;
+    }
+    Ok(bytes)
+}
+
+/// How many bytes a text stands for, or None where a backslash begins no escape. Takes no memory.
+pub fn unescaped_len(text: &[u8]) -> Option<usize>
+    ensures { result ≡ option_map (λ bytes. length bytes) (unescaped text.now) }
+{
+    let mut length = 0usize;
+    let mut rest = text;
+    while !rest.is_empty() {
+        let (_, later) = first_byte(rest)?;
+        length += 1;
+        rest = later;
+    }
+    Some(length)
+}
+
+/// The byte that three digits behind a backslash stand for.
+fn byte_of_digits(a: u8, b: u8, c: u8) -> Option<u8>
+    ensures { result ≡ byte_of_digits a b c }
+{
+    match (a, b, c) {
+        (b'0', b'4', b'0') => Some(b' '),
+        (b'0', b'1', b'1') => Some(b'\t'),
+        (b'0', b'1', b'2') => Some(b'\n'),
+        (b'1', b'3', b'4') => Some(b'\\'),
+        _ => None,
+    }
+}
+
+/// The first byte that a text stands for, and the text behind it; None at the end, and where a
+/// backslash begins no escape.
+fn first_byte(text: &[u8]) -> Option<(u8, &[u8])>
+    ensures first { MatchOption result (0 < length text.now → unescaped text.now ≡ None) (λ p. unescaped text.now ≡ cons_to (Some p.0) (unescaped p.1.now)) }
+    ensures shorter { MatchOption result (Unit {0}) (λ p. length p.1.now < length text.now) }
+{
+    if text.is_empty() {
+        return None;
+    }
+    let first = text[0];
+    let rest = &text[1..];
+    if first != b'\\' {
+        return Some((first, rest));
+    }
+    if rest.len() < 3 {
+        return None;
+    }
+    match byte_of_digits(rest[0], rest[1], rest[2]) {
+        Some(byte) => Some((byte, &rest[3..])),
+        None => None,
+    }
+}
+
+#[cfg(test)]
+mod tests {
+    use super::*;
+    use std::test::Fail;
+
+    #[test]
+    fn every_byte_comes_back(rt: HostRuntime) -> Result<(), Fail> {
+        for byte in 0..=255u8 {
+            let bytes = [b'1', byte, b'1'];
+            let text = escape(rt.alloc(), bytes.as_slice())?;
+            let is_escaped = matches!(byte, b' ' | b'\t' | b'\n' | b'\\');
+            let length: usize = if is_escaped { 6 } else { 3 };
+            assert_eq!(rt; text.len(), length, "at {byte}");
+            let back = unescape(rt.alloc(), text.as_slice())?;
+            assert_eq!(rt; back.as_slice(), bytes.as_slice(), "at {byte}");
+        }
+        Ok(())
+    }
+
+    #[test]
+    fn four_bytes_have_escapes(rt: HostRuntime) -> Result<(), Fail> {
+        let text = escape(rt.alloc(), b"a b\tc\nd\\e")?;
+        assert_eq!(rt; text.as_slice(), b"a\\040b\\011c\\012d\\134e".as_slice());
+        let whole = unescape(rt.alloc(), b"\\134040")?;
+        assert_eq!(rt; whole.as_slice(), b"\\040".as_slice());
+        let empty = unescape(rt.alloc(), b"")?;
+        assert_eq!(rt; empty.len(), 0);
+        Ok(())
+    }
+
+    #[test]
+    fn other_escapes_are_bad(rt: HostRuntime) {
+        for text in [
+            b"\\".as_slice(),
+            b"a\\".as_slice(),
+            b"\\0".as_slice(),
+            b"\\04".as_slice(),
+            b"\\041".as_slice(),
+            b"\\057".as_slice(),
+            b"\\777".as_slice(),
+            b"\\n".as_slice(),
+            b"\\\\134".as_slice(),
+            b"\\04 0".as_slice(),
+        ] {
+            assert_eq!(rt; unescaped_len(text), None, "{text:?}");
+            let bytes = unescape(rt.alloc(), text);
+            assert_eq!(rt; bytes.err(), Some(Fault::BadLine), "{text:?}");
+        }
+    }
+}
