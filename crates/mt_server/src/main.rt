@@ -8,9 +8,8 @@ use mt_session::line::ReadFault;
 use mt_session::session::{End, serve_plain};
 use mt_session::stream::{Reading, Writing};
 use std::alloc::Global;
-use std::env;
-use std::io;
 use std::process::ExitCode;
+use std::{env, io};
 
 /// The name of the socket that stands for standard input and output.
 const STANDARD: &str = "-";

@@ -46,12 +46,14 @@ fs_made s t f e =
 pub dir_made : (s t : Skeleton) (name : List ℕ) (path : List (List ℕ)) → added_dir s name path ≡ Ok t → (d : Directory) × (t ≡ with_dir s d)
 dir_made s t name path e =
     let f = unwrap_or (fs_named s name) 0 in
-    let d : Directory = record { fs = f; path = path } in
-    (d, (outcome-ok (refuse_if (is_none (fs_named s name)) NoFilesystem
-      ∷ refuse_if (is_none (number_of s (record { fs = f; path = take (length path - 1) path }))) NoEntry
-      ∷ refuse_if (is_some (number_of s d)) EntryExists
-      ∷ refuse_if (nat_lt depth_limit (length path)) TooMany
-      ∷ refuse_if (nat_le directory_limit (length s.directories)) TooMany ∷ []) (with_dir s d) t e).0)
+    let d : Directory = record { fs = f; path = path } in (
+      d,
+      (outcome-ok (refuse_if (is_none (fs_named s name)) NoFilesystem
+          ∷ refuse_if (is_none (number_of s (record { fs = f; path = take (length path - 1) path }))) NoEntry
+          ∷ refuse_if (is_some (number_of s d)) EntryExists
+          ∷ refuse_if (nat_lt depth_limit (length path)) TooMany
+          ∷ refuse_if (nat_le directory_limit (length s.directories)) TooMany ∷ []) (with_dir s d) t e).0,
+    )
 
 fault_none : {A : Type 0} (r : Result A Fault) → fault_of r ≡ None → (a : A) × (r ≡ Ok a)
 fault_none (Ok a) e = (a, refl)
@@ -96,9 +98,9 @@ world_grown w t more e h = record {
   forest = record {
     rising = h.forest.rising;
     placed = λ i m p g at.
-      let q = h.forest.placed i m p g at in
-      let b = h.below p.mount q.0 q.1 in
-      (q.0, q.1, q.2, holds_grown w.skel t more q.0.root p.dir e b.3 q.3);
+        let q = h.forest.placed i m p g at in
+        let b = h.below p.mount q.0 q.1 in
+        (q.0, q.1, q.2, holds_grown w.skel t more q.0.root p.dir e b.3 q.3);
     apart = h.forest.apart;
     rooted = h.forest.rooted;
     one_root = h.forest.one_root;

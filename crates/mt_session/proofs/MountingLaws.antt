@@ -74,11 +74,13 @@ module _ (w : WorldView) (n : ℕ) (h : IsWellFormed w) where
       by (Some d) at e ih =
           let here : Place = record { mount = p.mount; dir = d } in
           let below : StandsIn w n here = (st.0, st.1, st.2, holds_child w.skel st.0.root p.dir d c st.3 at) in
-          let more = ih (top w.forest here) (stands_top (length w.forest) here below) e in
-          (more.0, elim more.1 [
-            | inl same ↦ inr (ap (on w.forest) same ∙ top_is_free w.forest h.forest.rising h.forest.no_cycle here)
-            | inr free ↦ inr free
-          ])
+          let more = ih (top w.forest here) (stands_top (length w.forest) here below) e in (
+            more.0,
+            elim more.1 [
+              | inl same ↦ inr (ap (on w.forest) same ∙ top_is_free w.forest h.forest.rising h.forest.no_cycle here)
+              | inr free ↦ inr free
+            ],
+          )
 
   -- a walk ends on a mount of the namespace, and where that is not its root place, nothing stands there
   pub walked : (path : List (List ℕ)) (p : Place) → walk w.skel w.forest n path ≡ Ok p → StandsIn w n p × (is_root_place w p ≡ false → on w.forest p ≡ None)
@@ -90,13 +92,15 @@ module _ (w : WorldView) (n : ℕ) (h : IsWellFormed w) where
           let same : r ≡ p = cc in
           let row = find_row (is_root n) w.forest m h.forest.rising at in
           let root = root_here n m (find_passes (is_root n) w.forest m at) in
-          let more = walked_from path (root_place m) p (stands_root m row root.1) (f ∙ ap (λ x. Some x) same) in
-          (more.0, λ off. elim more.1 [
-            | inl start ↦
-                let there : is_root_place w (root_place m) ≡ true = ap (λ o. is_none (unwrap_or o unknown).place && (m.root == (unwrap_or o unknown).root)) row ∙ (grind (arith, nat_tests)) in
-                absurd (true≢false (sym there ∙ ap (is_root_place w) (sym start) ∙ off))
-            | inr free ↦ free
-          ])
+          let more = walked_from path (root_place m) p (stands_root m row root.1) (f ∙ ap (λ x. Some x) same) in (
+            more.0,
+            λ off. elim more.1 [
+              | inl start ↦
+                  let there : is_root_place w (root_place m) ≡ true = ap (λ o. is_none (unwrap_or o unknown).place && (m.root == (unwrap_or o unknown).root)) row ∙ (grind (arith, nat_tests)) in
+                  absurd (true≢false (sym there ∙ ap (is_root_place w) (sym start) ∙ off))
+              | inr free ↦ free
+            ],
+          )
 
       by : (o : Option Mount) → root_mount w.forest n ≡ o → option_map_or (λ m. ok_or (walk_from w.skel w.forest (root_place m) path) NoEntry) o (Err NoNamespace) ≡ Ok p → StandsIn w n p × (is_root_place w p ≡ false → on w.forest p ≡ None)
       by None at e = absurd (cc)
@@ -135,9 +139,9 @@ mount_fits w n path p m h e off id space at =
     record {
       absent = ap (mount_at w.forest) id ∙ number_free w h;
       placed = λ r f.
-        let v : Some p ≡ Some r = sym at ∙ f in
-        let same : p ≡ r = cc in
-        subst (λ (r : Place). (q : Mount) × (mount_at w.forest r.mount ≡ Some q) × (q.space ≡ m.space) × IsTrue (holds w.skel q.root r.dir)) same (end.0.0, end.0.1, end.0.2 ∙ sym space, end.0.3);
+          let v : Some p ≡ Some r = sym at ∙ f in
+          let same : p ≡ r = cc in
+          subst (λ (r : Place). (q : Mount) × (mount_at w.forest r.mount ≡ Some q) × (q.space ≡ m.space) × IsTrue (holds w.skel q.root r.dir)) same (end.0.0, end.0.1, end.0.2 ∙ sym space, end.0.3);
       free = λ r f. let v : Some p ≡ Some r = sym at ∙ f in let same : p ≡ r = cc in subst (λ r. on w.forest r ≡ None) same (end.1 off);
       first = λ f. let v : Some p ≡ None = sym at ∙ f in absurd (cc);
     }
@@ -152,6 +156,6 @@ pub mounted_done : (w : WorldView) (n : ℕ) (name : List ℕ) (path : List (Lis
     → mounted w n name path ≡ Ok (with_mount w n p f, w.next_mount)
 mounted_done w n name path f p e at off mounts =
     ap (λ o. outcome (refuse_if (is_none o) NoFilesystem ∷ fault_of (walk w.skel w.forest n path) ∷ refuse_if (is_root_place w (place_or_nowhere (walk w.skel w.forest n path))) RootPlace ∷ refuse_if (too_many_mounts w 1) TooMany ∷ [])
-      (with_mount w n (place_or_nowhere (walk w.skel w.forest n path)) (unwrap_or o 0), w.next_mount)) e
+    (with_mount w n (place_or_nowhere (walk w.skel w.forest n path)) (unwrap_or o 0), w.next_mount)) e
     ∙ ap (λ r. outcome (fault_of r ∷ refuse_if (is_root_place w (place_or_nowhere r)) RootPlace ∷ refuse_if (too_many_mounts w 1) TooMany ∷ []) (with_mount w n (place_or_nowhere r) f, w.next_mount)) at
     ∙ passed (is_root_place w p) RootPlace _ _ off ∙ passed (too_many_mounts w 1) TooMany _ _ (grind (arith, nat_tests))

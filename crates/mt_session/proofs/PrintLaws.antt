@@ -24,17 +24,17 @@ behind-more ws text b w e = flat_map-append (λ v. 44 ∷ v) ws (word_if b w) �
 -- the options are the access, and each option that is set behind a comma
 pub options_text : (a : Attrs) → join_with_byte 44 (option_words a)
     ≡ cond a.ro (codes "ro") (codes "rw") ++ (cond a.nosuid (44 ∷ codes "nosuid") [] ++ cond a.nodev (44 ∷ codes "nodev") [] ++ cond a.noexec (44 ∷ codes "noexec") []
-      ++ cond (is_noatime a.atime) (44 ∷ codes "noatime") [] ++ cond a.nodiratime (44 ∷ codes "nodiratime") [] ++ cond (is_relatime a.atime) (44 ∷ codes "relatime") []
-      ++ cond a.nosymfollow (44 ∷ codes "nosymfollow") [])
+    ++ cond (is_noatime a.atime) (44 ∷ codes "noatime") [] ++ cond a.nodiratime (44 ∷ codes "nodiratime") [] ++ cond (is_relatime a.atime) (44 ∷ codes "relatime") []
+    ++ cond a.nosymfollow (44 ∷ codes "nosymfollow") [])
 options_text a =
     join-cons 44 (cond a.ro (codes "ro") (codes "rw")) _
     ∙ ap (λ t. cond a.ro (codes "ro") (codes "rw") ++ t)
-      (behind-more _ _ a.nosymfollow (codes "nosymfollow")
-        (behind-more _ _ (is_relatime a.atime) (codes "relatime")
-          (behind-more _ _ a.nodiratime (codes "nodiratime")
-            (behind-more _ _ (is_noatime a.atime) (codes "noatime")
-              (behind-more _ _ a.noexec (codes "noexec")
-                (behind-more _ _ a.nodev (codes "nodev") (behind-word_if a.nosuid (codes "nosuid"))))))))
+    (behind-more _ _ a.nosymfollow (codes "nosymfollow")
+    (behind-more _ _ (is_relatime a.atime) (codes "relatime")
+    (behind-more _ _ a.nodiratime (codes "nodiratime")
+    (behind-more _ _ (is_noatime a.atime) (codes "noatime")
+    (behind-more _ _ a.noexec (codes "noexec")
+    (behind-more _ _ a.nodev (codes "nodev") (behind-word_if a.nosuid (codes "nosuid"))))))))
 
 -- eight appends in a row, the options behind the access
 pub options_appended : (t0 t1 t2 t3 t4 t5 t6 t7 t8 a b c d e f g h : List ℕ) → t1 ≡ t0 ++ a → t2 ≡ t1 ++ b → t3 ≡ t2 ++ c → t4 ≡ t3 ++ d → t5 ≡ t4 ++ e → t6 ≡ t5 ++ f → t7 ≡ t6 ++ g → t8 ≡ t7 ++ h → t8 ≡ t0 ++ (a ++ (b ++ c ++ d ++ e ++ f ++ g ++ h))

@@ -51,19 +51,22 @@ served_last before later turn old new sent written by lines state out cause spen
   out = out ∙ ap (λ x. sent ++ sent_by by x) (sym (append-nil (answer old turn)));
   goes = tt;
   cause = cause;
-  spent = spent
+  spent = spent;
 }
 
 pub after_text : (before later : List ℕ) (line : Item) (old new : SessionState) (sent written text : List ℕ) (q : Bool) (result : Option End) → lines_of line_limit before ≡ line ∷ lines_of line_limit later → Answered old new line text q → IsSent sent written text (quit_end_of q) result → ServedLine before later old new sent written result
 after_text before later line old new sent written text true result lines a (inl s) =
     rw s.0 (served_last before later (the_turn line a.0) old new sent written Quit lines a.2 (s.1 ∙ ap (λ x. sent ++ x) a.1) (the_turn line a.0, refl, sym a.3) tt, tt)
 after_text before later line old new sent written text false result lines a (inl s) =
-    rw s.0 (the_turn line a.0, record {
-      lines = lines;
-      state = a.2;
-      out = s.1 ∙ ap (λ x. sent ++ x) (a.1 ∙ sym (append-nil (answer old (the_turn line a.0))));
-      goes = (sym a.3, tt)
-    })
+    rw s.0 (
+      the_turn line a.0,
+      record {
+        lines = lines;
+        state = a.2;
+        out = s.1 ∙ ap (λ x. sent ++ x) (a.1 ∙ sym (append-nil (answer old (the_turn line a.0))));
+        goes = (sym a.3, tt);
+      },
+    )
 after_text before later line old new sent written text q result lines a (inr s) =
     rw s.1 (served_last before later (the_turn line a.0) old new sent written (CutOff s.0) lines a.2 (s.2 ∙ ap (λ x. sent ++ take s.0.sent x) a.1) (the_turn line a.0, refl) tt, tt)
 
@@ -91,7 +94,7 @@ served_none before later old sent by lines nothing cause spent = record {
   out = rw nothing (sym (append-nil sent));
   goes = tt;
   cause = cause;
-  spent = spent
+  spent = spent;
 }
 
 pub after_end : (before : List ℕ) (old : SessionState) (sent : List ℕ) → lines_of line_limit before ≡ [] → Served before old old sent sent Input
@@ -133,7 +136,7 @@ Going-more turns more before mid later old now new sent so_far written a b = rec
   lines = a.lines ∙ ap (λ x. map (λ t. t.line) turns ++ x) b.lines ∙ sym (ap (λ x. x ++ lines_of line_limit later) (map-append-turns turns more) ∙ append_assoc (map (λ t. t.line) turns) (map (λ t. t.line) more) (lines_of line_limit later));
   state = b.state ∙ ap (state_after more) a.state ∙ sym (state_after-append turns more old);
   out = b.out ∙ ap (λ x. x ++ text_of more now) a.out ∙ ap (λ w. (sent ++ text_of turns old) ++ text_of more w) a.state ∙ append_assoc sent (text_of turns old) (text_of more (state_after turns old)) ∙ ap (λ x. sent ++ x) (sym (text_of-append turns more old));
-  goes = AllGoOn-append turns more a.goes b.goes
+  goes = AllGoOn-append turns more a.goes b.goes;
 }
 
 -- lines served, and then the last
@@ -147,7 +150,7 @@ Served-more turns before mid old now new sent so_far written by a b spent = reco
   out = b.out ∙ ap (λ x. x ++ (text_of b.turns now ++ sent_by by (text_of b.last (state_after b.turns now)))) a.out ∙ ap (λ w. (sent ++ text_of turns old) ++ (text_of b.turns w ++ sent_by by (text_of b.last (state_after b.turns w)))) a.state ∙ rw (text_of-append turns b.turns old, state_after-append turns b.turns old) (simp append_assoc);
   goes = AllGoOn-append turns b.turns a.goes b.goes;
   cause = b.cause;
-  spent = spent
+  spent = spent;
 }
 
 pub Going-none : (before : List ℕ) (old : SessionState) (sent : List ℕ) → Going [] before before old old sent sent
@@ -164,7 +167,7 @@ served_spent turns before later old new sent written a count = record {
   out = a.out ∙ ap (λ x. sent ++ x) (sym (append-nil (text_of turns old)));
   goes = a.goes;
   cause = refl;
-  spent = count
+  spent = count;
 }
 
 -- one line's end is no end of the count

@@ -102,13 +102,13 @@ module _ (s : Skeleton) (ms : List Mount) (m : Mount) (h : IsForest s ms) (fits 
     ];
     apart = λ i j a b p ga gb pa pb. elim (row_cases i a ga) [
       | inl ai ↦ elim (row_cases j b gb) [
-          | inl bj ↦ ai.0 ∙ sym bj.0
-          | inr bj ↦ absurd (not_at j b p bj pb (ap (λ x. x.place) (sym ai.1) ∙ pa))
-        ]
+        | inl bj ↦ ai.0 ∙ sym bj.0
+        | inr bj ↦ absurd (not_at j b p bj pb (ap (λ x. x.place) (sym ai.1) ∙ pa))
+      ]
       | inr ai ↦ elim (row_cases j b gb) [
-          | inl bj ↦ absurd (not_at i a p ai pa (ap (λ x. x.place) (sym bj.1) ∙ pb))
-          | inr bj ↦ h.apart i j a b p ai bj pa pb
-        ]
+        | inl bj ↦ absurd (not_at i a p ai pa (ap (λ x. x.place) (sym bj.1) ∙ pb))
+        | inr bj ↦ h.apart i j a b p ai bj pa pb
+      ]
     ];
     rooted = λ i a g. elim (row_cases i a g) [
       | inl new ↦ (own_root.0, own_root.1, own_root.2, own_root.3, own_root.4 ∙ ap (λ x. x.space) (sym new.1))
@@ -116,13 +116,13 @@ module _ (s : Skeleton) (ms : List Mount) (m : Mount) (h : IsForest s ms) (fits 
     ];
     one_root = λ i j a b ga gb pa pb same. elim (row_cases i a ga) [
       | inl ai ↦ elim (row_cases j b gb) [
-          | inl bj ↦ ai.0 ∙ sym bj.0
-          | inr bj ↦ absurd (not_root j b bj pb (ap (λ x. x.place) (sym ai.1) ∙ pa) (sym same ∙ ap (λ x. x.space) ai.1))
-        ]
+        | inl bj ↦ ai.0 ∙ sym bj.0
+        | inr bj ↦ absurd (not_root j b bj pb (ap (λ x. x.place) (sym ai.1) ∙ pa) (sym same ∙ ap (λ x. x.space) ai.1))
+      ]
       | inr ai ↦ elim (row_cases j b gb) [
-          | inl bj ↦ absurd (not_root i a ai pa (ap (λ x. x.place) (sym bj.1) ∙ pb) (same ∙ ap (λ x. x.space) bj.1))
-          | inr bj ↦ h.one_root i j a b ai bj pa pb same
-        ]
+        | inl bj ↦ absurd (not_root i a ai pa (ap (λ x. x.place) (sym bj.1) ∙ pb) (same ∙ ap (λ x. x.space) bj.1))
+        | inr bj ↦ h.one_root i j a b ai bj pa pb same
+      ]
     ];
     no_cycle = no_cycle_new ms m h.no_cycle parents fits.absent (λ p at none. let q = fits.placed p at in let v : None ≡ Some q.0 = sym none ∙ q.1 in absurd (cc));
   }

@@ -41,16 +41,16 @@ with_mount w n p fs =
 abbrev pub new_space : WorldView → List ℕ → Result (WorldView × ℕ) Fault
 new_space w name =
     outcome (refuse_if (is_none (fs_named w.skel name)) NoFilesystem
-        ∷ refuse_if (too_many_spaces w) TooMany
-        ∷ refuse_if (too_many_mounts w 1) TooMany ∷ [])
-      (with_space w (unwrap_or (fs_named w.skel name) 0), w.next_space)
+    ∷ refuse_if (too_many_spaces w) TooMany
+    ∷ refuse_if (too_many_mounts w 1) TooMany ∷ [])
+    (with_space w (unwrap_or (fs_named w.skel name) 0), w.next_space)
 
 -- a new mount of a filesystem where the walk ends, and its ID (mount(2); that the root place is no destination is this project's rule)
 abbrev pub mounted : WorldView → ℕ → List ℕ → List (List ℕ) → Result (WorldView × ℕ) Fault
 mounted w n name path =
     let p = place_or_nowhere (walk w.skel w.forest n path) in
     outcome (refuse_if (is_none (fs_named w.skel name)) NoFilesystem
-        ∷ fault_of (walk w.skel w.forest n path)
-        ∷ refuse_if (is_root_place w p) RootPlace
-        ∷ refuse_if (too_many_mounts w 1) TooMany ∷ [])
-      (with_mount w n p (unwrap_or (fs_named w.skel name) 0), w.next_mount)
+    ∷ fault_of (walk w.skel w.forest n path)
+    ∷ refuse_if (is_root_place w p) RootPlace
+    ∷ refuse_if (too_many_mounts w 1) TooMany ∷ [])
+    (with_mount w n p (unwrap_or (fs_named w.skel name) 0), w.next_mount)

@@ -30,14 +30,14 @@ is_relatime Strictatime = false
 abbrev pub option_words : Attrs → List (List ℕ)
 option_words a =
     cond a.ro (codes "ro") (codes "rw") ∷ word_if a.nosuid (codes "nosuid") ++ word_if a.nodev (codes "nodev") ++ word_if a.noexec (codes "noexec")
-      ++ word_if (is_noatime a.atime) (codes "noatime") ++ word_if a.nodiratime (codes "nodiratime") ++ word_if (is_relatime a.atime) (codes "relatime")
-      ++ word_if a.nosymfollow (codes "nosymfollow")
+    ++ word_if (is_noatime a.atime) (codes "noatime") ++ word_if a.nodiratime (codes "nodiratime") ++ word_if (is_relatime a.atime) (codes "relatime")
+    ++ word_if a.nosymfollow (codes "nosymfollow")
 
 -- the words of a line: mount ID, parent ID, device, root, mount point, options, `-`, type, source, super options
 abbrev pub line_words : Row → List (List ℕ)
 line_words r =
     decimal r.id ∷ decimal r.parent ∷ (codes "0:" ++ decimal r.minor) ∷ path_text r.root ∷ path_text r.point ∷ join_with_byte 44 (option_words r.attrs)
-      ∷ codes "-" ∷ escaped r.kind ∷ escaped r.source ∷ codes "rw" ∷ []
+    ∷ codes "-" ∷ escaped r.kind ∷ escaped r.source ∷ codes "rw" ∷ []
 
 -- the line without its line end
 abbrev pub line : Row → List ℕ

@@ -1,9 +1,9 @@
-use Rattle.std.proofs.Common.{◌≡◌, ℕ, ◌+◌, length, ◌<◌, Bool, true, false, cond, not, ◌&&◌, eqb, ltb, List, [], ◌∷◌, map, Option, Some, None, refl, sym, ap, ◌∙◌, subst, arith, ◌⊎◌, inl, inr}
-use Rattle.std.specs.List.{filter, list_all, fold, AllByRecursion, IsDistinct, range_with_len}
-use Rattle.std.specs.Option.{is_some, option_map}
+use Rattle.std.proofs.Common.{◌≡◌, ℕ, ◌+◌, length, ◌<◌, Bool, true, false, cond, eqb, ltb, List, [], ◌∷◌, map, Option, Some, None, refl, ◌∙◌, arith}
+use Rattle.std.specs.List.{filter, list_all, AllByRecursion, IsDistinct, range_with_len}
+use Rattle.std.specs.Option.{option_map}
 use Rattle.std.proofs.lemmas.Bool.Decides.{nat_tests}
 use Rattle.std.specs.Cmp.{IsEquivalence}
-use Rattle.mt_skel.specs.Keyed.{row_at, has, put, rises, without, numbered}
+use Rattle.mt_skel.specs.Keyed.{row_at, put, rises, numbered}
 
 -- what an option holds if it passes a test, and the first of two options that holds something
 abbrev pub passing : {X : Type 0} → (X → Bool) → Option X → Option X

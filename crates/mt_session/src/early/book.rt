@@ -23,9 +23,14 @@ pub enum Command {
         source: Label,
     },
     /// A new directory, whose parent has to be there.
-    MakeDir { fs: Label, path: Names },
+    MakeDir {
+        fs: Label,
+        path: Names,
+    },
     /// A new namespace, whose root mount shows the root of a filesystem.
-    NewSpace { fs: Label },
+    NewSpace {
+        fs: Label,
+    },
     /// A new mount of a filesystem where a path leads.
     Mount {
         space: SpaceId,

@@ -12,6 +12,7 @@ use mt_skel::skel::Skel;
 use std::alloc::Global;
 
 const MOST_MOUNTS: usize = 4096;
+
 const MOST_SPACES: usize = 64;
 
 /// The directories, the mounts, and the numbers that the next mount and namespace get.

@@ -15,7 +15,7 @@ loop-count-preserved g c = record {
   fresh = c.in_default.ensures.fresh;
   limit = c.in_default.ensures.limit;
   going = λ t u.
-    let i = c.loop-count.invariant.going t u in
-    let n = c.in_default.ensures.served t u in
-    (i.0 ++ n.0 ∷ [], simp length-append (omega (arith, i.1)), Going-more i.0 (n.0 ∷ []) _ _ _ _ _ _ _ _ _ i.2 n.1)
+      let i = c.loop-count.invariant.going t u in
+      let n = c.in_default.ensures.served t u in
+      (i.0 ++ n.0 ∷ [], simp length-append (omega (arith, i.1)), Going-more i.0 (n.0 ∷ []) _ _ _ _ _ _ _ _ _ i.2 n.1);
 }

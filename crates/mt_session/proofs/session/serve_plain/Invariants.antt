@@ -9,5 +9,5 @@ invariant-loop-count g l = record {
   failed : IsTrue g.W.Output.counts → g.W.Output.failed l.initial.writer ≤ g.W.Output.failed l.writer;
   fresh : fault_of l.lines ≡ None;
   limit : limit_of l.lines ≡ line_limit;
-  going : IsTrue g.R.Input.tells → IsTrue g.W.Output.tells → (turns : List Turn) × (length turns ≡ l._count) × Going turns (bytes_left l.initial.lines) (bytes_left l.lines) (session_at l.initial.floor) (session_at l.floor) (g.W.Output.written l.initial.writer) (g.W.Output.written l.writer)
+  going : IsTrue g.R.Input.tells → IsTrue g.W.Output.tells → (turns : List Turn) × (length turns ≡ l._count) × Going turns (bytes_left l.initial.lines) (bytes_left l.lines) (session_at l.initial.floor) (session_at l.floor) (g.W.Output.written l.initial.writer) (g.W.Output.written l.writer);
 }

@@ -1,6 +1,5 @@
 use Rattle.std.proofs.Common.{◌≡◌, ◌+◌, ap, sym, ◌∙◌, length, arith, List, [], ℕ}
 use Rattle.std.specs.List.{count_by}
-use Rattle.slab.specs.Slab.{entries}
 use Rattle.mt_mounts.specs.declared.mount.Mount.{Mount}
 use Rattle.mt_mounts.specs.Forest.{roots}
 use Rattle.mt_mounts.proofs.SpaceLaws.{placeless, roots_table}
@@ -15,4 +14,4 @@ returns c =
     let s = c.self.inside.slots in
     let first = c.into_iter-mount-iterator.ensures.into_iter_gives ∙ c.iter-mount-items.ensures.rest in
     none_left c.loop-mount.mount-iterator c.loop-mount.spaces _ c.in-None.ensures.steps.0 c.loop-mount.invariant.counted
-      ∙ ap (count_by (λ e. placeless e.1)) first ∙ sym (roots_table s c.self.invariant.ids) ∙ ap (λ t. length (roots t.mounts)) c.self.view_is
+    ∙ ap (count_by (λ e. placeless e.1)) first ∙ sym (roots_table s c.self.invariant.ids) ∙ ap (λ t. length (roots t.mounts)) c.self.view_is

@@ -1,4 +1,4 @@
-use Rattle.std.proofs.Common.{◌≡◌, ◌+◌, ◌≤◌, ◌^◌, ◌<◌}
+use Rattle.std.proofs.Common.{◌≡◌, ◌+◌}
 use Rattle.std.specs.List.{count_by}
 use Rattle.mt_mounts.proofs.SpaceLaws.{placeless}
 use Rattle.mt_mounts.proofs.forest.Forest.spaces.Given as goal

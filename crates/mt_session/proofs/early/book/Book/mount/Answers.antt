@@ -29,4 +29,4 @@ invariant_of-self-2 c =
     let b : BookView = record { world = world_view c.self.inside.world; numbers = c.self.inside.numbers.items } in
     let at = (mount_numbered b (world_view c.mount.new.self) c.args.space c.args.fs.now c.as_slice.result.now c.in_ok-id.id c.self.invariant c.in_ok-id.ensures.done).1 in
     book_mounted b (world_view c.mount.new.self) c.args.space c.args.fs.now c.as_slice.result.now c.in_ok-id.id c.index_mut.result.now c.self.invariant c.in_ok-id.ensures.done c.in_ok-id.ensures.kept
-      (c.index_mut.ensures.value ∙ get_or_default_zero c.self.inside.numbers.items (c.args.space - 1) _ at)
+    (c.index_mut.ensures.value ∙ get_or_default_zero c.self.inside.numbers.items (c.args.space - 1) _ at)
