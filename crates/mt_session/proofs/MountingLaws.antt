@@ -1,14 +1,13 @@
 -- Where a walk ends, and what a command that makes a mount leads to.
-use Rattle.std.proofs.Common.{◌≡◌, ◌≢◌, ◌⊎◌, ℕ, zero, suc, ◌+◌, ◌<◌, ◌≤◌, ◌==◌, ◌&&◌, Bool, true, false, eqb, List, [], ◌∷◌, ◌++◌, length, Option, Some, None, Result, Ok, Err, refl, sym, ap, subst, ◌∙◌, inl, inr, arith, IsTrue}
+use Rattle.std.proofs.Common.{◌≡◌, ◌⊎◌, ℕ, zero, suc, ◌<◌, ◌≤◌, ◌==◌, ◌&&◌, true, false, List, [], ◌∷◌, length, Option, Some, None, Ok, Err, refl, sym, ap, subst, ◌∙◌, inl, inr, arith, IsTrue}
 use Rattle.std.specs.Option.{option_map, option_map_or, option_and_then, ok_or, unwrap_or, is_none}
 use Rattle.std.proofs.lemmas.Bool.{true≢false}
 use Rattle.std.proofs.lemmas.Bool.Decides.{nat_tests}
-use Rattle.mt_skel.specs.declared.fault.Fault.{Fault}
 use Rattle.mt_skel.specs.declared.fault.Fault.TheVariants.{NoFilesystem, NoEntry, NoNamespace, RootPlace, TooMany}
 use Rattle.mt_skel.specs.Outcome.{refuse_if, fault_of, outcome}
-use Rattle.mt_skel.specs.Skeleton.{Skeleton, holds, child, fs_named, root_of, is_directory}
+use Rattle.mt_skel.specs.Skeleton.{holds, child, fs_named}
 use Rattle.mt_skel.proofs.OutcomeLaws.{passed}
-use Rattle.mt_skel.proofs.SkeletonLaws.{holds_self, directory_within}
+use Rattle.mt_skel.proofs.SkeletonLaws.{holds_self}
 use Rattle.mt_skel.proofs.HoldLaws.{holds_child}
 use Rattle.mt_mounts.specs.declared.mount.Mount.{Mount}
 use Rattle.mt_mounts.specs.declared.mount.Place.{Place}
@@ -16,7 +15,7 @@ use Rattle.mt_mounts.specs.Forest.{mount_at, on, is_at, is_root, place_eq, root_
 use Rattle.mt_mounts.specs.Walk.{walk, walk_from}
 use Rattle.mt_mounts.proofs.SlotLaws.{none_found}
 use Rattle.mt_mounts.proofs.ForestLaws.{find_row, find_passes}
-use Rattle.mt_mounts.proofs.Walks.{stacked, top_within, top_stop, top_step}
+use Rattle.mt_mounts.proofs.Walks.{top_within, top_stop, top_step}
 use Rattle.mt_mounts.proofs.CycleLaws.{top_is_free}
 use Rattle.mt_session.specs.World.{WorldView, unknown, is_root_place, place_or_nowhere}
 use Rattle.mt_session.specs.WellFormed.{IsWellFormed}

@@ -1,5 +1,5 @@
 -- What a session has served, line by line.
-use Rattle.std.proofs.Common.{subst, ◌≡◌, ◌≢◌, ℕ, ◌<◌, ◌≤◌, List, [], ◌∷◌, ◌++◌, take, map, refl, ap, sym, ◌∙◌, inl, inr, Bool, true, false, Result, Ok, Err, Option, Some, None, append_assoc, arith, rules, length}
+use Rattle.std.proofs.Common.{subst, ◌≡◌, ◌≢◌, ℕ, ◌<◌, ◌≤◌, List, [], ◌∷◌, ◌++◌, take, map, refl, ap, sym, ◌∙◌, inl, inr, Bool, true, false, Ok, Err, Option, Some, None, append_assoc, arith, length}
 use Rattle.std.proofs.lemmas.List.{append-nil}
 use Rattle.std.specs.Option.{ForSome}
 use Rattle.mt_skel.specs.declared.fault.Fault.{Fault}
@@ -10,10 +10,10 @@ use Rattle.mt_session.specs.declared.session.End.TheVariants.{Quit, Input, Read,
 use Rattle.mt_session.specs.declared.line.ReadFault.{ReadFault}
 use Rattle.mt_session.specs.declared.line.ReadFault.TheVariants.{Device, Interrupted, Endless as NeverEnds, NoMemory as NoRoom}
 use Rattle.mt_session.specs.Requests.{request_of, may_want_memory, ReadsAs}
-use Rattle.mt_session.specs.Lines.{Item, Text, TooLong, Unended, Endless, lines_of}
+use Rattle.mt_session.specs.Lines.{Item, Text, Unended, Endless, lines_of}
 use Rattle.mt_session.specs.Reading.{IsNext}
 use Rattle.mt_session.specs.Answers.{answer_to, book_to, refusal}
-use Rattle.mt_session.specs.Session.{SessionState, session_at, Growth, Granted, Refused, Turn, asked, done, answer, after, quits, ends_by, text_of, state_after, AllGoOn, Going, Served, IsCause, sent_by, line_limit, IsSpent, IsCutCause}
+use Rattle.mt_session.specs.Session.{SessionState, session_at, Granted, Refused, Turn, asked, answer, after, quits, ends_by, text_of, state_after, AllGoOn, Going, Served, IsCause, sent_by, line_limit, IsSpent, IsCutCause}
 use Rattle.mt_session.specs.Serving.{the_turn, Answered, IsSent, quit_end_of, ServedLine, is_cut}
 use Rattle.mt_session.specs.Book.{BookView}
 

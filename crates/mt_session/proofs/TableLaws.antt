@@ -1,9 +1,9 @@
 -- Rows of a well-formed world, mount by mount.
-use Rattle.std.proofs.Common.{◌≡◌, ℕ, suc, ◌+◌, ◌-◌, ◌<◌, ◌==◌, eqb, ltb, Bool, true, false, cond, ◌&&◌, List, [], ◌∷◌, ◌++◌, map, length, drop, Option, Some, None, refl, sym, ap, subst, ◌∙◌, arith, append_assoc, IsTrue}
+use Rattle.std.proofs.Common.{◌≡◌, ℕ, suc, ◌+◌, ◌-◌, ◌<◌, ◌==◌, ltb, Bool, true, false, cond, ◌&&◌, List, [], ◌∷◌, ◌++◌, map, length, drop, Some, None, refl, sym, ap, ◌∙◌, arith, append_assoc}
 use Rattle.std.specs.List.{filter, flat_map, list_all, AllByRecursion}
 use Rattle.std.specs.Option.{option_map_or, option_to_list, unwrap_or}
 use Rattle.std.proofs.lemmas.Bool.Decides.{nat_tests}
-use Rattle.mt_skel.specs.Keyed.{row_at, rises}
+use Rattle.mt_skel.specs.Keyed.{rises}
 use Rattle.mt_skel.specs.Chain.{chain}
 use Rattle.mt_skel.specs.Skeleton.{directory, is_directory, path_below}
 use Rattle.mt_mounts.specs.declared.mount.Mount.{Mount}

@@ -1,19 +1,18 @@
 -- A well-formed world stays so where a mount is added.
-use Rattle.std.proofs.Common.{◌≡◌, ◌≢◌, ◌⊎◌, ℕ, ◌+◌, ◌<◌, ◌≤◌, Bool, true, false, cond, eqb, ltb, List, [], ◌∷◌, ◌++◌, length, Option, Some, None, Result, Ok, Err, refl, sym, ap, subst, ◌∙◌, inl, inr, arith, IsTrue, length-append}
-use Rattle.std.specs.List.{find}
+use Rattle.std.proofs.Common.{◌≡◌, ◌⊎◌, ℕ, ◌+◌, ◌<◌, ◌≤◌, true, false, List, [], ◌∷◌, ◌++◌, length, Option, Some, None, refl, sym, ap, subst, ◌∙◌, inl, inr, arith, IsTrue}
 use Rattle.std.specs.Option.{option_map, option_map_or, option_and_then}
 use Rattle.std.proofs.lemmas.Bool.{cases_eq, true≢false}
 use Rattle.std.proofs.lemmas.Bool.Decides.{nat_tests}
-use Rattle.mt_skel.specs.Keyed.{row_at, put, rises}
+use Rattle.mt_skel.specs.Keyed.{put}
 use Rattle.mt_skel.specs.Skeleton.{Skeleton, holds}
-use Rattle.mt_skel.proofs.KeyedLaws.{row_at-key, row_at-put, rises-put}
+use Rattle.mt_skel.proofs.KeyedLaws.{rises-put}
 use Rattle.mt_mounts.specs.declared.mount.Mount.{Mount}
 use Rattle.mt_mounts.specs.declared.mount.Place.{Place}
 use Rattle.mt_mounts.specs.declared.mount.Attrs.{Attrs}
-use Rattle.mt_mounts.specs.Forest.{id_of, mount_at, on, is_at, is_root, root_mount, parent, place_eq}
-use Rattle.mt_mounts.specs.Tree.{HasNoCycle, HasParents}
-use Rattle.mt_mounts.proofs.SlotLaws.{row_put_here, row_put_later, none_found}
-use Rattle.mt_mounts.proofs.ForestLaws.{find_row, find_passes, find_none}
+use Rattle.mt_mounts.specs.Forest.{id_of, mount_at, on, is_at, is_root, root_mount, place_eq}
+use Rattle.mt_mounts.specs.Tree.{HasParents}
+use Rattle.mt_mounts.proofs.SlotLaws.{row_put_here, row_put_later}
+use Rattle.mt_mounts.proofs.ForestLaws.{find_none}
 use Rattle.mt_mounts.proofs.CycleLaws.{no_cycle_new}
 use Rattle.mt_session.specs.World.{WorldView}
 use Rattle.mt_session.specs.WellFormed.{IsForest, IsWellFormed}

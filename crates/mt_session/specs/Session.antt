@@ -1,12 +1,10 @@
 -- What a plain session writes and does: the fold of its lines over the floor (this project's rule).
-use Rattle.std.specs.Prelude.{◌≡◌, ℕ, ◌<◌, ◌≤◌, List, [], ◌∷◌, ◌++◌, take, map, length, Result, Ok, Err, Bool, true, false, if◌then◌else◌, Option, None, Some, ◌⊎◌}
+use Rattle.std.specs.Prelude.{◌≡◌, ℕ, ◌<◌, ◌≤◌, List, [], ◌∷◌, ◌++◌, take, map, length, Result, Ok, Err, Bool, true, false, if◌then◌else◌, Option, Some, ◌⊎◌}
 use Rattle.mt_skel.specs.declared.fault.Fault.{Fault}
 use Rattle.mt_skel.specs.declared.fault.Fault.TheVariants.{BadLine, TooLong as LineTooLong, NoMemory as WantsMemory}
 use Rattle.mt_session.specs.declared.request.Request.{Request}
 use Rattle.mt_session.specs.declared.request.Request.TheVariants.{Run, Show, Quit as AsksQuit}
-use Rattle.mt_session.specs.declared.line.ReadFault.{ReadFault}
 use Rattle.mt_session.specs.declared.line.ReadFault.TheVariants.{Device, Interrupted, Endless as NeverEnds, NoMemory as NoRoom}
-use Rattle.mt_session.specs.declared.stream.Cut.{Cut}
 use Rattle.mt_session.specs.declared.session.End.{End}
 use Rattle.mt_session.specs.declared.session.End.TheVariants.{Quit, Input, Read, Cut as CutOff, Memory, Spent}
 use Rattle.mt_session.specs.Requests.{request_of, may_want_memory}

@@ -1,5 +1,5 @@
 -- What a World holds, as all contracts see it.
-use Rattle.std.specs.Prelude.{ℕ, Bool, false, ◌&&◌, ◌==◌, List, [], None, is_some, is_none, Result, Ok, Err}
+use Rattle.std.specs.Prelude.{ℕ, Bool, ◌&&◌, ◌==◌, List, [], None, is_some, is_none, Result, Ok, Err}
 use Rattle.std.specs.Option.{unwrap_or}
 use Rattle.mt_skel.specs.declared.fault.Fault.{Fault}
 use Rattle.mt_skel.specs.Skeleton.{Skeleton, empty_skeleton}

@@ -175,6 +175,7 @@ pub fn read_request(alloc: Global, line: &[u8]) -> Result<Request, Fault>
 #[cfg(test)]
 mod tests {
     use super::*;
+    use mt_skel::name::Names;
     use std::test::Fail;
 
     /// The request of a line as a text, each part behind a bar.

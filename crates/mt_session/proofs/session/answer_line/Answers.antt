@@ -1,4 +1,3 @@
-use Rattle.std.proofs.Common.{rules, refl}
 use Rattle.mt_session.proofs.SessionLaws.{answered_ok, answered_none, answered_err}
 use Rattle.mt_session.proofs.session.answer_line.Goals as goal
 

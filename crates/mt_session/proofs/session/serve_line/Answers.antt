@@ -1,4 +1,4 @@
-use Rattle.std.proofs.Common.{rules, refl, ap, sym, ◌∙◌}
+use Rattle.std.proofs.Common.{refl}
 use Rattle.mt_skel.specs.declared.fault.Fault.TheVariants as fault
 use Rattle.mt_session.specs.Lines.{TooLong, Unended}
 use Rattle.mt_session.specs.Reading.{limit_of}

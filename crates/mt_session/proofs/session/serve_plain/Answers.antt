@@ -1,6 +1,5 @@
-use Rattle.std.proofs.Common.{rules, ◌≡◌, ℕ, ◌+◌, List, [], ◌∷◌, ◌++◌, length, IsTrue, refl, ap, sym, ◌∙◌, arith, length-append}
-use Rattle.mt_session.specs.Session.{Turn, Going, Served}
-use Rattle.mt_session.proofs.SessionLaws.{Going-more, Served-more, served_spent, not_spent}
+use Rattle.std.proofs.Common.{[], ◌∷◌, ◌++◌, arith, length-append}
+use Rattle.mt_session.proofs.SessionLaws.{Going-more, Served-more, not_spent}
 use Rattle.mt_session.proofs.session.serve_plain.Goals as goal
 
 pub returns-in-Some-clause-served : goal.returns-in-Some-clause-served

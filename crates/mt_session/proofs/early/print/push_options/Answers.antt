@@ -1,4 +1,4 @@
-use Rattle.std.proofs.Common.{◌≡◌, ◌++◌, ◌∷◌, [], ◌∙◌, ap, sym, cond, codes}
+use Rattle.std.proofs.Common.{◌++◌, ◌∷◌, [], ◌∙◌, ap, sym, cond, codes}
 use Rattle.mt_session.specs.RowLine.{is_noatime, is_relatime}
 use Rattle.mt_session.proofs.PrintLaws.{options_text, options_appended}
 use Rattle.mt_session.proofs.early.print.push_options.Goals as goal

@@ -1,4 +1,4 @@
-use Rattle.std.proofs.Common.{◌≡◌, codes, decimal}
+use Rattle.std.proofs.Common.{codes, decimal}
 use Rattle.std.specs.List.{join_with_byte}
 use Rattle.mt_skel.specs.Escapes.{escaped}
 use Rattle.mt_session.specs.RowLine.{path_text, option_words}

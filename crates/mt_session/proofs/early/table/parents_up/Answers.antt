@@ -1,6 +1,4 @@
-use Rattle.std.proofs.Common.{◌≡◌, ◌++◌, ◌∷◌, [], ◌-◌, ◌+◌, ◌<◌, ◌∙◌, ap, sym, arith, length, append_assoc}
-use Rattle.std.specs.Option.{option_map_or}
-use Rattle.mt_skel.specs.Chain.{chain}
+use Rattle.std.proofs.Common.{◌++◌, ◌-◌, ◌<◌, ◌∙◌, ap, sym, arith, length}
 use Rattle.mt_skel.proofs.ChainLaws.{chain-last}
 use Rattle.mt_mounts.specs.Forest.{parent}
 use Rattle.mt_session.proofs.TableLaws.{way_up}

@@ -1,4 +1,4 @@
-use Rattle.std.proofs.Common.{◌≡◌, ◌∙◌, sym, Some, None}
+use Rattle.std.proofs.Common.{◌∙◌, sym}
 use Rattle.mt_session.specs.World.{world_view}
 use Rattle.mt_session.proofs.TableLaws.{place_there}
 use Rattle.mt_session.proofs.early.table.push_own_names.Goals as goal

@@ -1,4 +1,4 @@
-use Rattle.std.proofs.Common.{◌≡◌, ◌∷◌, [], ap}
+use Rattle.std.proofs.Common.{◌∷◌, [], ap}
 use Rattle.mt_session.specs.Book.{BookView}
 use Rattle.mt_session.specs.World.{world_view}
 use Rattle.mt_session.proofs.BookLaws.{book_grown, dir_made}

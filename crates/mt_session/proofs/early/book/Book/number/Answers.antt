@@ -1,4 +1,4 @@
-use Rattle.std.proofs.Common.{◌≡◌, ◌+◌, ◌-◌, ◌∙◌, arith, subst, true}
+use Rattle.std.proofs.Common.{◌≡◌, ◌-◌, ◌∙◌, arith, subst, true}
 use Rattle.std.proofs.lemmas.Grind.{get_or_default_zero}
 use Rattle.mt_session.specs.Book.{BookView, number_of}
 use Rattle.mt_session.specs.World.{world_view, is_space}

@@ -1,4 +1,4 @@
-use Rattle.std.proofs.Common.{◌≡◌, ◌∙◌, ◌≤◌, ◌+◌, List, ap, sym, subst, arith, Ok, Some, None, refl}
+use Rattle.std.proofs.Common.{◌≡◌, ◌∙◌, ◌+◌, List, ap, sym, subst, arith, Ok, Some, None, refl}
 use Rattle.mt_skel.specs.Skeleton.{root_of}
 use Rattle.mt_skel.proofs.SkeletonLaws.{directory_within}
 use Rattle.mt_mounts.specs.Attrs.{new_attrs}
