@@ -12,5 +12,7 @@ mod path;
 pub mod request;
 pub mod session;
 pub mod stream;
+#[cfg(test)]
+mod tests;
 pub mod text;
 pub mod words;
