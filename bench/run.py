@@ -11,6 +11,7 @@ import os
 import random
 import subprocess
 import tempfile
+import threading
 import time
 
 HERE = os.path.dirname(os.path.dirname(os.path.abspath(__file__)))
@@ -85,20 +86,36 @@ def mixed(rng):
 WORKLOADS = [cheap_commands, deep_directories, refused_lines, stacked_mounts, wide_mounts, small_shows, mixed]
 
 
+def most_memory(process, seen):
+    """Keeps the most memory of a running process, in MB, in the first place of a list."""
+    while process.poll() is None:
+        try:
+            with open(f"/proc/{process.pid}/status", encoding="ascii") as status:
+                for line in status:
+                    if line.startswith("VmHWM:"):
+                        seen[0] = max(seen[0], int(line.split()[1]) / 1024)
+        except OSError:
+            return
+        time.sleep(0.002)
+
+
 def run(program, lines):
     """Seconds, bytes of answers and the most memory in MB of one session."""
     with tempfile.TemporaryFile() as source, tempfile.TemporaryFile() as answers:
         source.write(("\n".join(lines) + "\n").encode())
         source.seek(0)
+        seen = [0.0]
         begin = time.perf_counter()
-        child = subprocess.Popen([program, "-"], stdin=source, stdout=answers)
-        _, status, usage = os.wait4(child.pid, 0)
+        session = subprocess.Popen([program, "-"], stdin=source, stdout=answers)
+        watcher = threading.Thread(target=most_memory, args=(session, seen))
+        watcher.start()
+        status = session.wait()
         seconds = time.perf_counter() - begin
-        child.returncode = status
+        watcher.join()
         if status != 0:
             raise SystemExit(f"{program} ended with status {status}")
         answers.seek(0, os.SEEK_END)
-        return seconds, answers.tell(), usage.ru_maxrss / 1024
+        return seconds, answers.tell(), seen[0]
 
 
 def main():

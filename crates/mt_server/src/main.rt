@@ -1,15 +1,12 @@
 //! `mountd`: the mount server. `mountd -` serves one session on standard input and output.
 #![tactic(auto)]
 
-mod output;
-
 use clap::error::ErrorKind;
 use clap::{Arg, ArgAction, Command, Error};
 use mt_session::early::floor::Floor;
 use mt_session::line::ReadFault;
 use mt_session::session::{End, serve_plain};
-use mt_session::stream::Reading;
-use output::StandardOutput;
+use mt_session::stream::{Reading, Writing};
 use std::alloc::Global;
 use std::process::ExitCode;
 use std::{env, io};
@@ -51,7 +48,7 @@ fn fail(rt: &HostRuntime, line: &str) -> ExitCode {
 /// Serves one session on standard input and output.
 fn serve_standard(rt: &HostRuntime) -> ExitCode {
     let reader = Reading::new(rt.reader());
-    let mut writer = StandardOutput;
+    let mut writer = Writing::new(io::writer(rt));
     let mut floor = Floor::new(rt.alloc());
     let end = serve_plain(rt.alloc(), reader, &mut writer, &mut floor);
     match complaint(end) {
