@@ -1,0 +1,2 @@
+//! New namespaces, and what makes mounts stand where none stood: mount, bind, rbind and move.
+#![tactic(auto)]

@@ -1,0 +1,4 @@
+//! Commands, and what a list of them does.
+#![tactic(auto)]
+
+pub mod command;

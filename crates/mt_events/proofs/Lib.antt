@@ -1,0 +1,3 @@
+pub mod SameRowLaws
+pub mod DifferenceLaws
+pub mod EmptyLaws

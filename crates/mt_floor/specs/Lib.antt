@@ -1,0 +1,2 @@
+pub mod Watcher
+pub mod Schedule

@@ -1,0 +1,4 @@
+pub mod WordLaws
+pub mod LineLaws
+pub mod OptionLaws
+pub mod RowLineLaws

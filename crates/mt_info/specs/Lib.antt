@@ -1,0 +1,4 @@
+pub mod Table
+pub mod SameRow
+pub mod RowLine
+pub mod Laws

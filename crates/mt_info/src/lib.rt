@@ -1,0 +1,6 @@
+//! The table of a namespace, as in `/proc/pid/mountinfo`: its rows, and their lines.
+#![tactic(auto)]
+
+pub mod laws;
+pub mod row;
+pub mod table;

@@ -1,0 +1,7 @@
+pub mod Peers
+pub mod Masters
+pub mod Loss
+pub mod Making
+pub mod WellFormed
+pub mod Entries
+pub mod Laws

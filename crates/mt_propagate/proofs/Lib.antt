@@ -1,0 +1,6 @@
+pub mod ContainLaws
+pub mod NumberLaws
+pub mod ListedLaws
+pub mod RootLaws
+pub mod AddedLaws
+pub mod WalkLaws

@@ -1,0 +1,12 @@
+pub mod World
+pub mod Named
+pub mod Limits
+pub mod Receivers
+pub mod FromGroup
+pub mod Copies
+pub mod Groups
+pub mod Places
+pub mod Copied
+pub mod WellFormed
+pub mod Contained
+pub mod Laws

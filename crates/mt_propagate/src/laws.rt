@@ -1,0 +1,25 @@
+//! What is true of propagation, whatever finds the receivers and makes the copies. The functions do
+//! nothing: their contracts are the laws.
+ghost use Rattle.mt_propagate.specs.Laws.{StaysInside, NumberedInOrder, CopyingKeepsLists, CopyingKeepsRoots};
+
+/// What happens at a mount of a contained namespace is received in that namespace alone.
+pub fn contained_receivers_are_inside()
+    ensures { StaysInside }
+{}
+
+/// New mounts get consecutive numbers: at the place first, then at each receiver by rising ID, and
+/// there by rising ID of the mounts that they are copies of.
+pub fn copies_are_numbered_in_order()
+    ensures { NumberedInOrder }
+{}
+
+/// Once copies stand, the mounts and their states are still listed by rising ID, each mount with its
+/// state, and no ID is as high as the next one.
+pub fn copying_keeps_lists()
+    ensures { CopyingKeepsLists }
+{}
+
+/// Copies and moves leave each namespace its root mount: no namespace comes or goes by them.
+pub fn copying_keeps_roots()
+    ensures { CopyingKeepsRoots }
+{}

@@ -1,0 +1,60 @@
+//! What is to be changed.
+
+use mt_peers::state::Kind;
+
+/// What is to be added to the attributes: `attr_set` of mount_setattr(2).
+///
+/// At most one of the three access times, and only where [`ClrWords::atime`] makes room for it.
+#[derive(Clone, Copy, PartialEq, Eq, Debug)]
+pub struct SetWords {
+    /// Nothing can be written.
+    pub ro: bool,
+    /// The set-user-ID and set-group-ID bits of programs are ignored.
+    pub nosuid: bool,
+    /// Device files cannot be opened.
+    pub nodev: bool,
+    /// Programs cannot be run.
+    pub noexec: bool,
+    /// Symbolic links are not followed.
+    pub nosymfollow: bool,
+    /// The times of access of directories are not updated.
+    pub nodiratime: bool,
+    /// Times of access are updated where they are not later than the last change, or a day old.
+    pub relatime: bool,
+    /// Times of access are never updated.
+    pub noatime: bool,
+    /// Times of access are always updated.
+    pub strictatime: bool,
+}
+
+/// What is to be taken away from the attributes first: `attr_clr` of mount_setattr(2).
+#[derive(Clone, Copy, PartialEq, Eq, Debug)]
+pub struct ClrWords {
+    /// Files can be written again.
+    pub ro: bool,
+    /// The set-user-ID and set-group-ID bits of programs count again.
+    pub nosuid: bool,
+    /// Device files can be opened again.
+    pub nodev: bool,
+    /// Programs can be run again.
+    pub noexec: bool,
+    /// Symbolic links are followed again.
+    pub nosymfollow: bool,
+    /// The times of access of directories are updated again.
+    pub nodiratime: bool,
+    /// The access time goes, and is `relatime` unless another one is set.
+    pub atime: bool,
+}
+
+/// A change of one mount, or of a mount and all below it.
+#[derive(Clone, Copy, PartialEq, Eq, Debug)]
+pub struct Change {
+    /// What is added, after `clr` was taken away.
+    pub set: SetWords,
+    /// What is taken away.
+    pub clr: ClrWords,
+    /// What the mounts are made, all at once, or `None` to leave their propagation as it is.
+    pub prop: Option<Kind>,
+    /// Whether it is also for all mounts below the named one: `AT_RECURSIVE` of mount_setattr(2).
+    pub recursive: bool,
+}

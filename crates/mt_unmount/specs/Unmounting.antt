@@ -1,0 +1,68 @@
+-- umount: the world after the call, or the first refusal whose condition holds.
+use Rattle.std.specs.Prelude.{ℕ, Bool, false, cond, not, ◌==◌, List, [], ◌∷◌, map, length, Option, None, Result}
+use Rattle.std.specs.List.{filter, filter_map, list_any, list_all, last_or}
+use Rattle.std.specs.Option.{option_map, unwrap_or, option_map_or}
+use Rattle.mt_skel.specs.declared.fault.Fault.{Fault}
+use Rattle.mt_skel.specs.declared.fault.Fault.TheVariants.{NotMountRoot, RootPlace, Busy}
+use Rattle.mt_skel.specs.Keyed.{without}
+use Rattle.mt_skel.specs.Chain.{chain}
+use Rattle.mt_skel.specs.Outcome.{refuse_if, fault_of, outcome}
+use Rattle.mt_mounts.specs.declared.mount.Mount.{Mount}
+use Rattle.mt_mounts.specs.declared.mount.Place.{Place}
+use Rattle.mt_mounts.specs.Forest.{on, id_of}
+use Rattle.mt_mounts.specs.Walk.{walk}
+use Rattle.mt_peers.specs.Loss.{left}
+use Rattle.mt_propagate.specs.World.{WorldView}
+use Rattle.mt_propagate.specs.Named.{place_or_nowhere, mount_or_unknown, is_named_mount, is_root_mount}
+use Rattle.mt_propagate.specs.Receivers.{hits}
+
+-- the place of a mount (proc_pid_mountinfo(5), fields 2 and 5)
+abbrev pub place_of : WorldView → ℕ → Option Place
+place_of w i = (mount_or_unknown w i).place
+
+-- a mount is a child of mount i (proc_pid_mountinfo(5), field 2)
+abbrev pub stands_on : ℕ → Mount → Bool
+stands_on i m = option_map_or (λ p. p.mount == i) m.place false
+
+-- the children of a mount (proc_pid_mountinfo(5), field 2)
+abbrev pub children : WorldView → ℕ → List Mount
+children w i = filter (stands_on i) w.forest
+
+-- a propagated unmount spares a mount with children (`sharedsubtree`, unmount semantics), except for one that stands at its own
+-- root directory (this project's rule)
+abbrev pub may_go : WorldView → Mount → Bool
+may_go w m = list_all (λ c. option_map_or (λ p. p.dir == m.root) c.place false) (children w m.id)
+
+-- the named mount goes, and from each mount that its parent propagates to the mount at the same directory, if it may
+-- (`sharedsubtree`, unmount semantics)
+abbrev pub removed : WorldView → ℕ → List ℕ
+removed w i =
+    i ∷ option_map_or (λ p. map id_of (filter (may_go w) (filter_map (λ t. on w.forest (record { mount = t; dir = p.dir })) (hits w p)))) (place_of w i) []
+
+-- a mount goes (`sharedsubtree`, unmount semantics)
+abbrev pub is_removed : WorldView → ℕ → ℕ → Bool
+is_removed w i j = list_any (λ k. k == j) (removed w i)
+
+-- a mount that stays slides to the place of a removed parent, and on while the parent there goes too (this project's rule)
+abbrev pub slid : WorldView → ℕ → Place → Place
+slid w i p =
+    unwrap_or (last_or None (chain (λ (q : Place). cond (is_removed w i q.mount) (place_of w q.mount) None) (length w.forest) p)) p
+
+-- the world once a mount is unmounted, there and wherever that propagates (`sharedsubtree`, unmount semantics; the masters after
+-- it: this project's rule)
+unfoldable pub without_mount : WorldView → ℕ → WorldView
+without_mount w i = record w {
+  forest = map (λ (m : Mount). record m { place = option_map (slid w i) m.place }) (without (λ (m : Mount). is_removed w i m.id) w.forest);
+  peering = left (is_removed w i) w.peering;
+}
+
+-- the mount that a path names is unmounted (`sharedsubtree`, unmount semantics; umount(2), EBUSY and EINVAL; that a root mount
+-- stays is this project's rule)
+abbrev pub unmounted : WorldView → ℕ → List (List ℕ) → Result WorldView Fault
+unmounted w n path =
+    let p = place_or_nowhere (walk w.skel w.forest n path) in
+    outcome (fault_of (walk w.skel w.forest n path)
+    ∷ refuse_if (not (is_named_mount w p)) NotMountRoot
+    ∷ refuse_if (is_root_mount w p) RootPlace
+    ∷ refuse_if (list_any (stands_on p.mount) w.forest) Busy ∷ [])
+    (without_mount w p.mount)

@@ -1,0 +1,2 @@
+//! Unmounting, and what it takes away elsewhere.
+#![tactic(auto)]
