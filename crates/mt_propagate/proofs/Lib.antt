@@ -4,3 +4,4 @@ pub mod ListedLaws
 pub mod RootLaws
 pub mod AddedLaws
 pub mod WalkLaws
+pub mod PrivateLaws
