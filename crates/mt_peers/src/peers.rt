@@ -1,5 +1,6 @@
 //! The propagation states of all mounts.
 ghost use Rattle.std.specs.Prelude.{◌≡◌, []};
+ghost use Rattle.mt_peers.specs.Peers.{state_at};
 
 use crate::state::{GroupId, State};
 use mt_mounts::mount::MountId;
@@ -47,5 +48,17 @@ impl Peers {
             next: 1,
             alloc,
         }
+    }
+
+    /// The state of the mount with this ID, if it is there.
+    pub fn state(&self, id: MountId) -> Option<State>
+        ensures { result ≡ state_at self.now.peers id }
+    {
+        for entry in &self.entries {
+            if entry.mount == id {
+                return Some(entry.state);
+            }
+        }
+        None
     }
 }
