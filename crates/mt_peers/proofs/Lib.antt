@@ -4,3 +4,10 @@ pub mod LeavingLaws
 pub mod MakingLaws
 pub mod AddedLaws
 pub mod ReachLaws
+pub mod EntryLaws
+pub mod HeirLaws
+pub mod NumberLaws
+pub mod ChangeLaws
+pub mod LeaveLaws
+pub mod ChainLaws
+pub mod JoinLaws

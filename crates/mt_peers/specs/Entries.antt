@@ -1,5 +1,5 @@
 -- How `Peers` lie in memory: each mount's state, and the state that it had when the last change began, from which masters are
--- settled with no more memory (this project's rule). No public clause cites this module.
+-- settled with no more memory (this project's rule). Of its words public clauses cite `among` alone.
 use Rattle.std.specs.Prelude.{ℕ, Bool, cond, List, map, nat_eq}
 use Rattle.std.specs.List.{list_any}
 use Rattle.mt_skel.specs.Keyed.{numbered}

@@ -4,4 +4,5 @@ pub mod Loss
 pub mod Making
 pub mod WellFormed
 pub mod Entries
+pub mod Above
 pub mod Laws

@@ -1,9 +1,18 @@
 //! The propagation states of all mounts.
-ghost use Rattle.std.specs.Prelude.{◌≡◌, []};
-ghost use Rattle.mt_peers.specs.Peers.{state_at};
+ghost use Rattle.std.specs.Prelude.{◌≡◌, ◌+◌, ◌-◌, ◌<◌, ◌≤◌, ◌^◌, [], map, length, cond, not, ◌&&◌, is_none, nat_eq, nat_lt, None, IsTrue, OnOk, IfOk, IsOkUnless, vec_capacity, vec_len};
+ghost use Rattle.std.specs.List.{filter, position_from, position_or_len};
+ghost use Rattle.mt_skel.specs.Keyed.{put, rises};
+ghost use Rattle.mt_peers.specs.Peers.{peering_of, mount_of, state_at, has_member, members, slaves};
+ghost use Rattle.mt_peers.specs.Masters.{master_of, masters_up};
+ghost use Rattle.mt_peers.specs.Loss.{heir, left};
+ghost use Rattle.mt_peers.specs.Making.{made, changed, is_shared, groupless};
+ghost use Rattle.mt_peers.specs.WellFormed.{IsPeering};
+ghost use Rattle.mt_peers.specs.Entries.{now_peers, was_peers, among, changed_entry, settled_entry};
+ghost use Rattle.mt_peers.specs.Above.{above};
 
-use crate::state::{GroupId, State};
+use crate::state::{GroupId, Kind, State};
 use mt_mounts::mount::MountId;
+use mt_skel::fault::Fault;
 use std::alloc::Global;
 use std::marker::Model;
 
@@ -17,7 +26,10 @@ struct Entry {
 
 /// The propagation state of each mount, and the number of the next peer group.
 ///
-/// Groups count from 1, and no number is given twice.
+/// Groups count from 1, and no number is given twice. A group that has no member is gone, and is no
+/// one's master: its slaves get the nearest master above it that has a member.
+///
+/// Each call scans all mounts. A change scans them for each mount and each group above its master.
 #[derive(Drop)]
 pub struct Peers {
     entries: Vec<Entry>,
@@ -38,6 +50,169 @@ impl Model for Peers {
     ghost invariant = { λ p. IsTrue (rises mount_of (now_peers p.entries.items)) };
 }
 
+fn is_among(ids: &[MountId], id: MountId) -> bool
+    ensures { result ≡ among ids.now id }
+{
+    ids.iter().any(|other| *other == id)
+}
+
+// The index of the first entry of a greater mount.
+fn first_above(entries: &[Entry], id: MountId) -> Option<usize>
+    ensures { result ≡ position_from (λ e. nat_lt id e.mount) 0 entries.now }
+{
+    entries.iter().position(|entry| id < entry.mount)
+}
+
+// Where an entry of this mount goes.
+fn place_for(entries: &[Entry], id: MountId) -> usize
+    ensures place { result ≡ position_or_len (λ e. nat_lt id e.mount) entries.now }
+    ensures within { result ≤ length entries.now }
+{
+    first_above(entries, id).unwrap_or(entries.len())
+}
+
+fn lives(entries: &[Entry], group: GroupId) -> bool
+    ensures { result ≡ has_member (now_peers entries.now) group }
+{
+    for entry in entries {
+        if entry.state.group == Some(group) {
+            return true;
+        }
+    }
+    false
+}
+
+// The master of a group when the change began.
+fn old_master(entries: &[Entry], group: GroupId) -> Option<GroupId>
+    ensures { result ≡ master_of (was_peers entries.now) group }
+{
+    for entry in entries {
+        if entry.was.group == Some(group) {
+            return entry.was.master;
+        }
+    }
+    None
+}
+
+// The first group that still lives of a master and the masters that were above it.
+fn first_living(entries: &[Entry], master: Option<GroupId>) -> Option<GroupId>
+    ensures { result ≡ heir (was_peers entries.now) (now_peers entries.now) master }
+{
+    let mut group = master?;
+    'masters: for _step in 0..entries.len() {
+        if lives(entries, group) {
+            return Some(group);
+        }
+        group = old_master(entries, group)?;
+    }
+    if lives(entries, group) {
+        Some(group)
+    } else {
+        None
+    }
+}
+
+// Gives each mount whose master has gone the nearest living one above it.
+fn settle_all(entries: &mut [Entry])
+    ensures { entries.new ≡ map (settled_entry entries.old) entries.old }
+{
+    for i in 0..entries.len() {
+        let master = first_living(entries, entries[i].state.master);
+        entries[i].state.master = master;
+    }
+}
+
+// The state after a change. A mount without group would get the group `fresh`.
+fn state_after(kind: Kind, fresh: GroupId, state: State) -> State
+    ensures { result ≡ changed kind fresh state }
+{
+    match kind {
+        Kind::Shared => State {
+            group: state.group.or(Some(fresh)),
+            master: state.master,
+            unbindable: false,
+        },
+        Kind::Private => State {
+            group: None,
+            master: None,
+            unbindable: false,
+        },
+        Kind::Slave => State {
+            group: None,
+            master: state.group.or(state.master),
+            unbindable: state.unbindable,
+        },
+        Kind::Unbindable => State {
+            group: None,
+            master: None,
+            unbindable: true,
+        },
+    }
+}
+
+fn entry_after(kind: Kind, chosen: bool, fresh: GroupId, entry: &Entry) -> Entry
+    ensures { result ≡ record { mount = entry.now.mount; state = cond chosen (changed kind fresh entry.now.state) entry.now.state; was = entry.now.state } }
+{
+    let state = if chosen {
+        state_after(kind, fresh, entry.state)
+    } else {
+        entry.state
+    };
+    Entry {
+        mount: entry.mount,
+        state,
+        was: entry.state,
+    }
+}
+
+// The next new group after a mount's change, which may have taken `fresh`.
+fn fresh_after(kind: Kind, chosen: bool, fresh: GroupId, was: &State) -> GroupId
+    requires numbered { IsTrue (is_shared kind) → fresh + 1 < 2 ^ 64 }
+    ensures { result ≡ cond (is_shared kind && (chosen && is_none was.now.group)) (fresh + 1) fresh }
+{
+    let is_new = chosen && was.group.is_none();
+    match kind {
+        Kind::Shared if is_new => fresh + 1,
+        _ => fresh,
+    }
+}
+
+// Changes the states of these mounts and keeps what all states were. Returns the next new group.
+fn change_all(entries: &mut [Entry], ids: &[MountId], kind: Kind, next: GroupId) -> GroupId
+    requires rising { IsTrue (rises mount_of (now_peers entries.old)) }
+    requires numbered { IsTrue (is_shared kind) → next + length entries.old < 2 ^ 64 }
+    ensures entries { entries.new ≡ map (changed_entry kind ids.now next entries.old) entries.old }
+    ensures next { result ≡ cond (is_shared kind) (next + length (groupless (among ids.now) (now_peers entries.old))) next }
+{
+    let mut fresh = next;
+    for i in 0..entries.len() {
+        let chosen = is_among(ids, entries[i].mount);
+        let after = entry_after(kind, chosen, fresh, &entries[i]);
+        fresh = fresh_after(kind, chosen, fresh, &entries[i].state);
+        entries[i] = after;
+    }
+    fresh
+}
+
+// Changes the states of these mounts and settles all masters. Returns the next new group.
+fn make_entries(entries: &mut [Entry], ids: &[MountId], kind: Kind, next: GroupId) -> GroupId
+    requires rising { IsTrue (rises mount_of (now_peers entries.old)) }
+    requires numbered { IsTrue (is_shared kind) → next + length entries.old < 2 ^ 64 }
+    ensures { record { peers = now_peers entries.new; next = result } ≡ made kind (among ids.now) (record { peers = now_peers entries.old; next = next }) }
+{
+    let after = change_all(entries, ids, kind, next);
+    settle_all(entries);
+    after
+}
+
+fn drop_entry(entries: &mut Vec<Entry>, id: MountId)
+    ensures entries { entries.new.items ≡ filter (λ e. not (nat_eq id e.mount)) entries.old.items }
+    ensures len { vec_len entries.new ≤ vec_len entries.old }
+    ensures capacity { vec_capacity entries.new ≡ vec_capacity entries.old }
+{
+    entries.retain(|entry| id != entry.mount);
+}
+
 impl Peers {
     /// No mount's state, with 1 as the next group. The entries' memory will come from `alloc`.
     pub fn new(alloc: Global) -> Self
@@ -50,6 +225,29 @@ impl Peers {
         }
     }
 
+    /// The same states, with the same next group. Refused as `NoMemory` alone.
+    pub fn copy(&self) -> Result<Peers, Fault>
+        ensures copy { IfOk result (λ p. peering_of p ≡ peering_of self.now) }
+        ensures memory { IsOkUnless result Fault.NoMemory }
+    {
+        Ok(Peers {
+            entries: Vec::from_slice(self.alloc, &self.entries)?,
+            next: self.next,
+            alloc: self.alloc,
+        })
+    }
+
+    /// Makes room for so many more mounts to join, and changes no state. Refused as `NoMemory` alone.
+    pub fn reserve(&mut self, additional: usize) -> Result<(), Fault>
+        ensures room { OnOk result (additional ≤ self.new.room) }
+        ensures memory { IsOkUnless result Fault.NoMemory }
+        ensures keeps { self.old.room ≤ self.new.room }
+        ensures peering { peering_of self.new ≡ peering_of self.old }
+    {
+        self.entries.reserve(additional)?;
+        Ok(())
+    }
+
     /// The state of the mount with this ID, if it is there.
     pub fn state(&self, id: MountId) -> Option<State>
         ensures { result ≡ state_at self.now.peers id }
@@ -60,5 +258,160 @@ impl Peers {
             }
         }
         None
+    }
+
+    /// The master of a peer group, which is the one that its members have, or `None` for a group
+    /// without master and for one that has no member.
+    pub fn master_of(&self, group: GroupId) -> Option<GroupId>
+        ensures { result ≡ master_of self.now.peers group }
+    {
+        for entry in &self.entries {
+            if entry.state.group == Some(group) {
+                return entry.state.master;
+            }
+        }
+        None
+    }
+
+    /// The masters above a peer group, nearest first: its master, the master of that, and so on.
+    pub fn masters_up(&self, group: GroupId) -> MastersUp<'_>
+        ensures { above result ≡ masters_up self.now.peers group }
+    {
+        MastersUp {
+            peers: self,
+            next: self.master_of(group),
+            left: self.entries.len(),
+        }
+    }
+
+    /// The IDs of the members of a peer group, rising. Refused as `NoMemory` alone.
+    pub fn members(&self, group: GroupId) -> Result<Vec<MountId>, Fault>
+        ensures members { IfOk result (λ ids. ids.items ≡ members self.now.peers group) }
+        ensures memory { IsOkUnless result Fault.NoMemory }
+    {
+        let mut found = Vec::new(self.alloc);
+        for entry in &self.entries {
+            if entry.state.group == Some(group) {
+                found.push(entry.mount)?;
+            }
+        }
+        Ok(found)
+    }
+
+    /// The IDs of the mounts that have this peer group as their master, rising. Refused as
+    /// `NoMemory` alone.
+    pub fn slaves(&self, group: GroupId) -> Result<Vec<MountId>, Fault>
+        ensures slaves { IfOk result (λ ids. ids.items ≡ slaves self.now.peers group) }
+        ensures memory { IsOkUnless result Fault.NoMemory }
+    {
+        let mut found = Vec::new(self.alloc);
+        for entry in &self.entries {
+            if entry.state.master == Some(group) {
+                found.push(entry.mount)?;
+            }
+        }
+        Ok(found)
+    }
+
+    /// Takes the number of the next peer group.
+    pub fn fresh(&mut self) -> GroupId
+        requires numbered { self.old.next < 2 ^ 63 }
+        ensures group { result ≡ self.old.next }
+        ensures next { self.new.next ≡ self.old.next + 1 }
+        ensures peers { self.new.peers ≡ self.old.peers }
+        ensures room { self.old.room ≤ self.new.room }
+    {
+        let group = self.next;
+        self.next += 1;
+        group
+    }
+
+    /// Adds a mount that is not there yet, for which [`reserve`](Peers::reserve) has made room.
+    pub fn join(&mut self, id: MountId, state: State)
+        requires room { 0 < self.old.room }
+        requires absent { state_at self.old.peers id ≡ None }
+        ensures peers { self.new.peers ≡ put mount_of (record { mount = id; state = state }) self.old.peers }
+        ensures next { self.new.next ≡ self.old.next }
+        ensures room { self.old.room ≤ self.new.room + 1 }
+    {
+        let place = place_for(&self.entries, id);
+        let entry = Entry {
+            mount: id,
+            state,
+            was: state,
+        };
+        self.entries.insert(place, entry).unwrap();
+    }
+
+    // Makes these mounts so. Only new groups need numbers.
+    fn change(&mut self, ids: &[MountId], kind: Kind)
+        requires numbered { IsTrue (is_shared kind) → self.old.next < 2 ^ 63 }
+        ensures made { peering_of self.new ≡ made kind (among ids.now) (peering_of self.old) }
+        ensures room { self.old.room ≤ self.new.room }
+        ensures kept { IsPeering (peering_of self.old) → IsPeering (peering_of self.new) }
+    {
+        let next = make_entries(&mut self.entries, ids, kind, self.next);
+        self.next = next;
+    }
+
+    /// Makes a mount shared, private, a slave or unbindable. An ID that is not there changes nothing.
+    pub fn make(&mut self, id: MountId, kind: Kind)
+        requires numbered { self.old.next < 2 ^ 63 }
+        ensures made { peering_of self.new ≡ made kind (nat_eq id) (peering_of self.old) }
+        ensures room { self.old.room ≤ self.new.room }
+        ensures kept { IsPeering (peering_of self.old) → IsPeering (peering_of self.new) }
+    {
+        self.change(&[id], kind);
+    }
+
+    /// Makes all mounts with these IDs so at once, before any gets another master. The IDs may be in
+    /// any order; new groups are numbered by rising ID.
+    pub fn make_all(&mut self, ids: &[MountId], kind: Kind)
+        requires numbered { self.old.next < 2 ^ 63 }
+        ensures made { peering_of self.new ≡ made kind (among ids.now) (peering_of self.old) }
+        ensures room { self.old.room ≤ self.new.room }
+        ensures kept { IsPeering (peering_of self.old) → IsPeering (peering_of self.new) }
+    {
+        self.change(ids, kind);
+    }
+
+    /// Takes a mount away, out of its group. An ID that is not there changes nothing.
+    pub fn leave(&mut self, id: MountId)
+        ensures left { peering_of self.new ≡ left (nat_eq id) (peering_of self.old) }
+        ensures room { self.old.room ≤ self.new.room }
+        ensures kept { IsPeering (peering_of self.old) → IsPeering (peering_of self.new) }
+    {
+        self.change(&[id], Kind::Private);
+        drop_entry(&mut self.entries, id);
+    }
+}
+
+/// The masters above a peer group, nearest first.
+#[derive(Drop)]
+pub struct MastersUp<'a> {
+    peers: &'a Peers,
+    next: Option<GroupId>,
+    // No chain of masters is longer than the list of states.
+    left: usize,
+}
+
+impl<'a> Iterator for MastersUp<'a> {
+    ghost use Rattle.std.specs.Iterator.{YieldsFirst, item_count};
+    ghost use Rattle.mt_peers.specs.Above.{above};
+
+    type Item = GroupId;
+
+    ghost next_gives = { YieldsFirst above };
+
+    ghost remaining = { item_count above };
+
+    fn next(&mut self) -> Option<GroupId> {
+        let group = self.next?;
+        if self.left == 0 {
+            return None;
+        }
+        self.left -= 1;
+        self.next = self.peers.master_of(group);
+        Some(group)
     }
 }
