@@ -11,3 +11,4 @@ pub mod ChangeLaws
 pub mod LeaveLaws
 pub mod ChainLaws
 pub mod JoinLaws
+pub mod AlikeLaws

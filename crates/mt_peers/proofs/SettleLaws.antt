@@ -27,6 +27,14 @@ state_at-settle old new i = ap (option_map (λ (e : Peer). e.state)) (row_at-map
     go None = refl
     go (Some e) = refl
 
+pub settled-mounts : (old new : List Peer) → map mount_of (settle old new) ≡ map mount_of new
+unfolding settle
+settled-mounts old new = go new
+  where
+    go : (es : List Peer) → map mount_of (map (settled old new) es) ≡ map mount_of es
+    go [] = refl
+    go (e ∷ es) = ap (λ l. e.mount ∷ l) (go es)
+
 -- the groups of a world stay
 pub has_member-settle : (old new : List Peer) (es : List Peer) (g : ℕ) → has_member (map (settled old new) es) g ≡ has_member es g
 has_member-settle old new [] g = refl
@@ -46,7 +54,7 @@ heir-lives old new None g e = absurd (cc)
 heir-lives old new (Some m) g e = find-holds (has_member new) (groups_up old m) g e
 
 -- a heir is no higher in rank than the old master
-find-among : (p : ℕ → Bool) (xs : List ℕ) (x : ℕ) → find p xs ≡ Some x → list_any (eqb x) xs ≡ true
+pub find-among : (p : ℕ → Bool) (xs : List ℕ) (x : ℕ) → find p xs ≡ Some x → list_any (eqb x) xs ≡ true
 find-among p [] x e = absurd (cc)
 find-among p (y ∷ ys) x e =
     elim (p y) as (λ b. cond b (Some y) (find p ys) ≡ Some x → (eqb x y || list_any (eqb x) ys) ≡ true) [
@@ -85,6 +93,14 @@ chain-rank next rank falls (suc n) x q h = go (next x) refl (λ y. chain-rank ne
           | false ↦ λ _ r. let l = ih y r in omega arith
         ] refl a
 
+-- the state of the list that a settled state comes from
+pub before : (old mid : List Peer) (i : ℕ) (t : State) → state_at (settle old mid) i ≡ Some t → (s : State) × (state_at mid i ≡ Some s) × (t ≡ with_master s (heir old mid s.master))
+before old mid i t e = go (state_at mid i) refl (sym (state_at-settle old mid i) ∙ e)
+  where
+    go : (o : Option State) → state_at mid i ≡ o → option_map (λ s. with_master s (heir old mid s.master)) o ≡ Some t → (s : State) × (state_at mid i ≡ Some s) × (t ≡ with_master s (heir old mid s.master))
+    go None is f = absurd (cc)
+    go (Some s) is f = (s, is, sym (some-is _ _ f))
+
 -- Settling a list whose groups and masters are in order, apart from masters that have no member any more
 module _ (old mid : List Peer) (n : ℕ) (rank : ℕ → ℕ)
     (falls_old : (x y : ℕ) → master_of old x ≡ Some y → rank y < rank x)
@@ -93,14 +109,6 @@ module _ (old mid : List Peer) (n : ℕ) (rank : ℕ → ℕ)
     (below : (i : ℕ) (s : State) (g : ℕ) → state_at mid i ≡ Some s → s.group ≡ Some g → g < n)
     (one_master : (i j : ℕ) (s t : State) (g : ℕ) → state_at mid i ≡ Some s → state_at mid j ≡ Some t → s.group ≡ Some g → t.group ≡ Some g → s.master ≡ t.master)
     (alone : (i : ℕ) (s : State) → state_at mid i ≡ Some s → IsTrue s.unbindable → (s.group ≡ None) × (s.master ≡ None)) where
-  -- the state of the list that a settled state comes from
-  before : (i : ℕ) (t : State) → state_at (settle old mid) i ≡ Some t → (s : State) × (state_at mid i ≡ Some s) × (t ≡ with_master s (heir old mid s.master))
-  before i t e = go (state_at mid i) refl (sym (state_at-settle old mid i) ∙ e)
-    where
-      go : (o : Option State) → state_at mid i ≡ o → option_map (λ s. with_master s (heir old mid s.master)) o ≡ Some t → (s : State) × (state_at mid i ≡ Some s) × (t ≡ with_master s (heir old mid s.master))
-      go None is f = absurd (cc)
-      go (Some s) is f = (s, is, sym (some-is _ _ f))
-
   falls_new : (x y : ℕ) → master_of (settle old mid) x ≡ Some y → rank y < rank x
   falls_new x y e = go (master_of mid x) refl (sym (master_of-settle old mid x) ∙ e)
     where
@@ -115,19 +123,19 @@ module _ (old mid : List Peer) (n : ℕ) (rank : ℕ → ℕ)
   unfolding settle
   settle-IsPeering = record {
     rising = rises-map mount_of (settled old mid) (λ x. refl) mid ∙ rising;
-    below = λ i t g e is. let b = before i t e in below i b.0 g b.1 (ap (λ (s : State). s.group) (sym b.2) ∙ is);
+    below = λ i t g e is. let b = before old mid i t e in below i b.0 g b.1 (ap (λ (s : State). s.group) (sym b.2) ∙ is);
     one_master = λ i j s t g es et gs gt.
-        let b = before i s es in
-        let c = before j t et in
+        let b = before old mid i s es in
+        let c = before old mid j t et in
         let m = one_master i j b.0 c.0 g b.1 c.1 (ap (λ (s : State). s.group) (sym b.2) ∙ gs) (ap (λ (s : State). s.group) (sym c.2) ∙ gt) in
         ap (λ (s : State). s.master) b.2 ∙ ap (heir old mid) m ∙ ap (λ (s : State). s.master) (sym c.2);
     master_lives = λ i t g e is.
-        let b = before i t e in
+        let b = before old mid i t e in
         let l = heir-lives old mid b.0.master g (ap (λ (s : State). s.master) (sym b.2) ∙ is) in
         has_member-settle old mid mid g ∙ l;
     no_cycle = λ g. subst (λ k. ends (master_of (settle old mid)) k g ≡ true) (length-map (settle old mid)) (ends-within (master_of (settle old mid)) rank falls_new (map group_number (settle old mid)) (known (settle old mid)) g);
     unbindable_alone = λ i t e u.
-        let b = before i t e in
+        let b = before old mid i t e in
         let a = alone i b.0 b.1 (subst (λ (s : State). IsTrue s.unbindable) b.2 u) in
         (ap (λ (s : State). s.group) b.2 ∙ a.0, ap (λ (s : State). s.master) b.2 ∙ ap (heir old mid) a.1);
   }

@@ -5,3 +5,6 @@ pub mod RootLaws
 pub mod AddedLaws
 pub mod WalkLaws
 pub mod PrivateLaws
+pub mod RowLaws
+pub mod TreeLaws
+pub mod ShownLaws

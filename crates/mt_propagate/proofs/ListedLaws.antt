@@ -29,7 +29,7 @@ module _ {X : Type 0} (key : X → ℕ) where
   rises-keys (x ∷ xs) = rw (all-keys (key x) xs, rises-keys xs) refl
 
   -- keys below a bound, as the rows that are found tell
-  below-all : (n : ℕ) (xs : List X) → rises key xs ≡ true → ((i : ℕ) (x : X) → row_at key i xs ≡ Some x → i < n) → list_all (λ k. ltb k n) (map key xs) ≡ true
+  pub below-all : (n : ℕ) (xs : List X) → rises key xs ≡ true → ((i : ℕ) (x : X) → row_at key i xs ≡ Some x → i < n) → list_all (λ k. ltb k n) (map key xs) ≡ true
   below-all n [] h b = refl
   below-all n (x ∷ xs) h b =
       let same : eqb (key x) (key x) ≡ true = grind (arith, nat_tests) in
@@ -46,7 +46,7 @@ module _ {X : Type 0} (key : X → ℕ) where
       twice i k (z ∷ zs) y s a e = let ih = twice i k zs y s in grind (arith, nat_tests)
 
   -- and the other way round
-  all-below : (n : ℕ) (xs : List X) → list_all (λ k. ltb k n) (map key xs) ≡ true → (i : ℕ) (x : X) → row_at key i xs ≡ Some x → i < n
+  pub all-below : (n : ℕ) (xs : List X) → list_all (λ k. ltb k n) (map key xs) ≡ true → (i : ℕ) (x : X) → row_at key i xs ≡ Some x → i < n
   all-below n [] h i x e = absurd (cc)
   all-below n (y ∷ ys) h i x e = let ih = all-below n ys in let ih_i = ih (grind (arith, nat_tests)) i x in grind (arith, nat_tests)
 
@@ -54,7 +54,7 @@ pub map-append : {X Y : Type 0} (f : X → Y) (xs ys : List X) → map f (xs ++ 
 map-append f [] ys = refl
 map-append f (x ∷ xs) ys = ap (λ l. f x ∷ l) (map-append f xs ys)
 
-map-map : {X Y Z : Type 0} (f : X → Y) (g : Y → Z) (h : X → Z) → ((x : X) → g (f x) ≡ h x) → (xs : List X) → map g (map f xs) ≡ map h xs
+pub map-map : {X Y Z : Type 0} (f : X → Y) (g : Y → Z) (h : X → Z) → ((x : X) → g (f x) ≡ h x) → (xs : List X) → map g (map f xs) ≡ map h xs
 map-map f g h e [] = refl
 map-map f g h e (x ∷ xs) = let a = e x in let r = map-map f g h e xs in cc
 
@@ -71,7 +71,7 @@ climbs-range : (n len : ℕ) → climbs (range_with_len n len) ≡ true
 climbs-range n zero = refl
 climbs-range n (suc len) = let ih = climbs-range (n + 1) len in let low = low-range n (n + 1) len (omega arith) in grind (arith, nat_tests)
 
-climbs-append : (n len : ℕ) (xs : List ℕ) → climbs xs ≡ true → list_all (λ k. ltb k n) xs ≡ true → climbs (xs ++ range_with_len n len) ≡ true
+pub climbs-append : (n len : ℕ) (xs : List ℕ) → climbs xs ≡ true → list_all (λ k. ltb k n) xs ≡ true → climbs (xs ++ range_with_len n len) ≡ true
 climbs-append n len [] h b = climbs-range n len
 climbs-append n len (x ∷ xs) h b =
     let ih = climbs-append n len xs in
@@ -84,7 +84,7 @@ below-range : (n m len : ℕ) → n + len ≤ m → list_all (λ k. ltb k m) (ra
 below-range n m zero l = refl
 below-range n m (suc len) l = let ih = below-range (n + 1) m len (omega arith) in let s : n < m = omega arith in grind (arith, nat_tests)
 
-below-append : (n len : ℕ) (xs : List ℕ) → list_all (λ k. ltb k n) xs ≡ true → list_all (λ k. ltb k (n + len)) (xs ++ range_with_len n len) ≡ true
+pub below-append : (n len : ℕ) (xs : List ℕ) → list_all (λ k. ltb k n) xs ≡ true → list_all (λ k. ltb k (n + len)) (xs ++ range_with_len n len) ≡ true
 below-append n len [] h = below-range n (n + len) len (omega arith)
 below-append n len (x ∷ xs) h = let ih = below-append n len xs in grind (arith, nat_tests)
 
