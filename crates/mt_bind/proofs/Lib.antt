@@ -1,1 +1,2 @@
 pub mod SpaceLaws
+pub mod GoneLaws

@@ -1,3 +1,4 @@
 pub mod Spaces
 pub mod Sources
 pub mod Mounting
+pub mod Laws

@@ -1,2 +1,4 @@
 //! New namespaces, and what makes mounts stand where none stood: mount, bind, rbind and move.
 #![tactic(auto)]
+
+pub mod laws;

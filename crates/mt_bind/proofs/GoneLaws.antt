@@ -1,0 +1,67 @@
+-- A well-formed world stays so where all mounts of a namespace vanish.
+use Rattle.std.proofs.Common.{◌≡◌, ℕ, Bool, true, false, not, ◌==◌, List, [], ◌∷◌, map, Some, refl, sym, ap, ◌∙◌}
+use Rattle.std.specs.Prelude.{unwrap_or}
+use Rattle.std.specs.List.{filter, AllByRecursion}
+use Rattle.std.specs.Option.{option_map}
+use Rattle.mt_skel.specs.Keyed.{without}
+use Rattle.mt_skel.specs.Skeleton.{directory}
+use Rattle.mt_mounts.specs.declared.mount.Mount.{Mount}
+use Rattle.mt_mounts.specs.Forest.{id_of, mount_at}
+use Rattle.mt_peers.specs.declared.state.State.{State}
+use Rattle.mt_peers.specs.Peers.{mount_of, state_at}
+use Rattle.mt_peers.specs.Loss.{left}
+use Rattle.mt_peers.proofs.LeavingLaws.{left-IsPeering}
+use Rattle.mt_peers.proofs.AlikeLaws.{IsAlike, left-IsAlike, same-IsAlike}
+use Rattle.mt_propagate.specs.World.{WorldView, space_of}
+use Rattle.mt_propagate.specs.WellFormed.{IsWellFormed, fs_at}
+use Rattle.mt_propagate.proofs.RowLaws.{filter-same, all-each, found-each, kept-row, keys-filter}
+use Rattle.mt_propagate.proofs.TreeLaws.{forest_without}
+use Rattle.mt_propagate.proofs.ShownLaws.{shown-alike, groups-show, masters-show, left-mounts, state-mount}
+use Rattle.mt_bind.specs.Spaces.{without_space}
+
+module _ (w : WorldView) (h : IsWellFormed w) (n : ℕ) where
+  abbrev gone : Mount → Bool
+  gone m = m.space == n
+
+  abbrev leaves : ℕ → Bool
+  leaves i = space_of w i == n
+
+  stays : (i : ℕ) (m : Mount) → mount_at (without gone w.forest) i ≡ Some m → mount_at w.forest i ≡ Some m
+  stays i m e = (kept-row id_of gone w.forest h.forest.rising i m e).0
+
+  -- those that vanish are those whose states leave
+  agree : AllByRecursion (λ m. not (gone m) ≡ not (leaves m.id)) w.forest
+  agree =
+      all-each (λ m. mount_at w.forest m.id ≡ Some m) (λ m. not (gone m) ≡ not (leaves m.id))
+      (λ m e. ap (λ o. not (unwrap_or (option_map (λ (m : Mount). m.space) o) 0 == n)) (sym e)) w.forest (found-each id_of w.forest h.forest.rising)
+
+  same_ids : map id_of (without gone w.forest) ≡ map mount_of (left leaves w.peering).peers
+  same_ids =
+      ap (map id_of) (filter-same (λ m. not (gone m)) (λ m. not (leaves m.id)) w.forest agree)
+      ∙ keys-filter id_of (λ i. not (leaves i)) w.forest ∙ ap (filter (λ i. not (leaves i))) h.same_mounts ∙ sym (left-mounts leaves w.peering)
+
+  -- the mounts that are left show what they showed
+  same_fs : (i : ℕ) (s : State) → state_at (left leaves w.peering).peers i ≡ Some s → fs_at (without_space w n) i ≡ fs_at w i
+  unfolding without_space
+  same_fs i s e =
+      let m = state-mount (without gone w.forest) (left leaves w.peering).peers i s same_ids e in
+      ap (λ o. (directory w.skel (unwrap_or (option_map (λ (m : Mount). m.root) o) 0)).fs) (m.1 ∙ sym (stays i m.0 m.1))
+
+  alike : IsAlike (fs_at (without_space w n)) (without_space w n).peering.peers
+  unfolding without_space
+  alike =
+      same-IsAlike (fs_at w) (fs_at (without_space w n)) (left leaves w.peering).peers same_fs
+      (left-IsAlike (fs_at w) w.peering h.peering (shown-alike w h) leaves)
+
+  -- the end of a namespace keeps a world well-formed
+  pub end-kept : IsWellFormed (without_space w n)
+  unfolding without_space
+  end-kept = record {
+    forest = forest_without w.skel w.forest h.forest gone (λ m o same. ap (λ k. k == n) same);
+    peering = left-IsPeering w.peering h.peering leaves;
+    same_mounts = same_ids;
+    from_one = h.from_one;
+    below = λ i m e. h.below i m (stays i m e);
+    group_fs = groups-show (without_space w n) alike;
+    master_fs = masters-show (without_space w n) alike;
+  }

@@ -1,0 +1,9 @@
+//! What is true of new namespaces and of their end, whatever makes them. The functions do nothing:
+//! their contracts are the laws.
+ghost use Rattle.mt_bind.specs.Laws.{EndingKeeps};
+
+/// When all mounts of a namespace vanish, a well-formed world stays well-formed: the other namespaces
+/// keep their trees, and slaves of groups that are gone have masters that live.
+pub fn ending_keeps_worlds()
+    ensures { EndingKeeps }
+{}
