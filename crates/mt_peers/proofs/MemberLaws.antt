@@ -74,6 +74,16 @@ find-none g [] e = refl
 find-none g (p ∷ es) e =
     elim (in_group g p) as (λ b. cond b (Some p) (find (in_group g) es) ≡ None → (b || has_member es g) ≡ false) [ true ↦ λ f. absurd (cc) | false ↦ λ f. find-none g es f ] e
 
+-- a mount in a group is a member of it
+pub member-there : (g : ℕ) (es : List Peer) (i : ℕ) (s : State) → state_at es i ≡ Some s → s.group ≡ Some g → has_member es g ≡ true
+member-there g es i s e k = any es found.0 found.1
+  where
+    found : (e : Peer) × (find (in_group g) es ≡ Some e)
+    found = has_found g es i s e k
+
+    any : (es : List Peer) (e : Peer) → find (in_group g) es ≡ Some e → has_member es g ≡ true
+    any [] e f = absurd (cc)
+    any (x ∷ es) e f = elim (names x.state.group g) as (λ b. cond b (Some x) (find (in_group g) es) ≡ Some e → (b || has_member es g) ≡ true) [ true ↦ λ f. refl | false ↦ λ f. any es e f ] f
 pub state_at-filter : (q : Peer → Bool) (es : List Peer) (i : ℕ) (s : State) → rises mount_of es ≡ true → state_at (filter q es) i ≡ Some s → state_at es i ≡ Some s
 state_at-filter q es i s h e = go (row_at mount_of i es) (sym (ap (option_map (λ (e : Peer). e.state)) (row_at-filter mount_of q i es h)) ∙ e)
   where

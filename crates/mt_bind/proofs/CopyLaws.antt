@@ -1,0 +1,165 @@
+-- A well-formed world stays so where a namespace is copied.
+use Rattle.std.proofs.Common.{◌≡◌, ◌⊎◌, ℕ, ◌+◌, ◌<◌, ◌≤◌, Bool, true, false, List, ◌++◌, map, length, Option, Some, None, refl, sym, ap, subst, ◌∙◌, inl, inr, arith}
+use Rattle.std.specs.Prelude.{IsTrue}
+use Rattle.std.specs.Option.{option_map, option_or, unwrap_or}
+use Rattle.mt_skel.specs.Keyed.{row_at, rises}
+use Rattle.mt_skel.specs.Skeleton.{directory}
+use Rattle.mt_mounts.specs.declared.mount.Mount.{Mount}
+use Rattle.mt_mounts.specs.Forest.{id_of, mount_at}
+use Rattle.mt_peers.specs.declared.state.State.{State}
+use Rattle.mt_peers.specs.Peers.{Peer, mount_of, state_at, has_member}
+use Rattle.mt_peers.specs.WellFormed.{IsPeering}
+use Rattle.mt_peers.proofs.AddedLaws.{added-IsPeering}
+use Rattle.mt_peers.proofs.MemberLaws.{member-there}
+use Rattle.mt_peers.proofs.AlikeLaws.{IsAlike, like-IsAlike}
+use Rattle.mt_propagate.specs.World.{WorldView, state_of, private, root_dir}
+use Rattle.mt_propagate.specs.WellFormed.{IsWellFormed, fs_at}
+use Rattle.mt_propagate.proofs.ListedLaws.{rises-keys, map-append, map-map}
+use Rattle.mt_propagate.proofs.NumberLaws.{climbs}
+use Rattle.mt_propagate.proofs.RowLaws.{renamed-row, appended-row}
+use Rattle.mt_propagate.proofs.ShownLaws.{shown-alike, groups-show, masters-show, mount-state, state-mount, state-row}
+use Rattle.mt_bind.specs.Spaces.{originals, twin, twin_of, twin_state, with_copy}
+use Rattle.mt_bind.proofs.TwinLaws.{copies, order, was-original, among, twin-high, twin-low, old-in, copy-in, IsCopy, row-of}
+use Rattle.mt_bind.proofs.CopyTreeLaws.{grown, grown-ids, grown-forest}
+
+-- what a copy's state has of its original's
+module _ (w : WorldView) (n : ℕ) where
+  twin-group : (less : Bool) (s : State) (g : ℕ) → (twin_state w n less s).group ≡ Some g → (s.group ≡ Some g) × ((twin_state w n less s).master ≡ s.master)
+  twin-group true s g e = absurd (let v : None ≡ Some g = e in cc)
+  twin-group false s g e = (e, refl)
+
+  twin-master : (less : Bool) (s : State) (g : ℕ) → (twin_state w n less s).master ≡ Some g → (s.master ≡ Some g) ⊎ (s.group ≡ Some g)
+  twin-master false s g e = inl e
+  twin-master true s g e = elim s.group as (λ o. option_or o s.master ≡ Some g → (s.master ≡ Some g) ⊎ (o ≡ Some g)) [ None ↦ λ x. inl x | Some q ↦ λ x. inr x ] e
+
+  twin-alone : (less : Bool) (s : State) → (IsTrue s.unbindable → (s.group ≡ None) × (s.master ≡ None)) → IsTrue (twin_state w n less s).unbindable
+      → ((twin_state w n less s).group ≡ None) × ((twin_state w n less s).master ≡ None)
+  twin-alone false s a u = a u
+  twin-alone true s a u = let b = a u in (refl, ap (λ o. option_or o s.master) b.0 ∙ b.1)
+
+module _ (w : WorldView) (h : IsWellFormed w) (n : ℕ) (less : Bool) where
+  abbrev twin_peer : Mount → Peer
+  twin_peer m = record { mount = twin w n m.id; state = twin_state w n less (state_of w m.id) }
+
+  abbrev joined : List Peer
+  joined = map twin_peer (originals w n)
+
+  -- the mount and the state that a new state is of
+  record IsTwin (i : ℕ) (t : State) : Type 0 where
+    pub source : Mount
+    pub state : State
+    pub there : mount_at w.forest source.id ≡ Some source
+    pub space : source.space ≡ n
+    pub number : i ≡ twin w n source.id
+    pub stated : state_at w.peering.peers source.id ≡ Some state
+    pub made : t ≡ twin_state w n less state
+
+  twin-from : (i : ℕ) (t : State) → state_at joined i ≡ Some t → IsTwin i t
+  twin-from i t e =
+      let row = state-row joined i t e in
+      let r = renamed-row id_of mount_of twin_peer (twin w n) (λ m. refl) (originals w n) (order w h n) i row.0 row.1 in
+      let o = was-original w h n r.0.id r.0 r.1 in
+      let s = mount-state w.forest w.peering.peers r.0.id r.0 h.same_mounts o.0 in
+      record {
+        source = r.0;
+        state = s.0;
+        there = o.0;
+        space = o.1;
+        number = r.3;
+        stated = s.1;
+        made = sym row.2 ∙ ap (λ (e : Peer). e.state) r.2 ∙ ap (λ o. twin_state w n less (unwrap_or o private)) s.1;
+      }
+
+  joined-ids : map id_of (copies w h n) ≡ map mount_of joined
+  joined-ids =
+      map-map (twin_of w n) id_of (λ (m : Mount). twin w n m.id) (λ m. refl) (originals w n)
+      ∙ sym (map-map twin_peer mount_of (λ (m : Mount). twin w n m.id) (λ m. refl) (originals w n))
+
+  same_ids : map id_of (grown w h n) ≡ map mount_of (w.peering.peers ++ joined)
+  same_ids = grown-ids w h n ∙ (λ i. h.same_mounts i ++ joined-ids i) ∙ sym (map-append mount_of w.peering.peers joined)
+
+  rising : rises mount_of (w.peering.peers ++ joined) ≡ true
+  rising =
+      sym (rises-keys mount_of (w.peering.peers ++ joined)) ∙ ap climbs (sym same_ids)
+      ∙ rises-keys id_of (grown w h n) ∙ (grown-forest w h n).rising
+
+  peered : IsPeering (record w.peering { peers = w.peering.peers ++ joined })
+  peered =
+      added-IsPeering w.peering h.peering joined rising
+      (λ i t g e is.
+      let c = twin-from i t e in
+      let s = twin-group w n less c.state g (ap (λ (s : State). s.group) (sym c.made) ∙ is) in
+      (c.source.id, c.state, c.stated, s.0, sym s.1 ∙ ap (λ (s : State). s.master) (sym c.made)))
+      (λ i t m e is.
+      let c = twin-from i t e in
+      elim (twin-master w n less c.state m (ap (λ (s : State). s.master) (sym c.made) ∙ is)) [
+        | inl master ↦ h.peering.master_lives c.source.id c.state m c.stated master
+        | inr group ↦ member-there m w.peering.peers c.source.id c.state c.stated group
+      ])
+      (λ i t e u.
+      let c = twin-from i t e in
+      subst (λ (s : State). (s.group ≡ None) × (s.master ≡ None)) (sym c.made)
+      (twin-alone w n less c.state (h.peering.unbindable_alone c.source.id c.state c.stated) (subst (λ (s : State). IsTrue s.unbindable) c.made u)))
+
+  abbrev fs_of : Option Mount → ℕ
+  fs_of o = (directory w.skel (unwrap_or (option_map (λ (m : Mount). m.root) o) 0)).fs
+
+  -- a mount and its copy show one filesystem
+  old-fs : (i : ℕ) (m : Mount) → mount_at w.forest i ≡ Some m → fs_at (with_copy w n less) i ≡ fs_at w i
+  unfolding with_copy
+  old-fs i m e = ap fs_of (old-in w h n i m e ∙ sym e)
+
+  copy-fs : (i : ℕ) (m : Mount) → mount_at w.forest i ≡ Some m → m.space ≡ n → fs_at (with_copy w n less) (twin w n i) ≡ fs_at w i
+  unfolding with_copy
+  copy-fs i m e same = ap fs_of (copy-in w h n i m e same) ∙ ap fs_of (sym e)
+
+  alike : IsAlike (fs_at (with_copy w n less)) (with_copy w n less).peering.peers
+  unfolding with_copy
+  alike =
+      like-IsAlike (fs_at w) (fs_at (with_copy w n less)) w.peering.peers (w.peering.peers ++ joined) (shown-alike w h) (λ i t e.
+      let row = state-row (w.peering.peers ++ joined) i t e in
+      elim (appended-row mount_of w.peering.peers joined i row.0 row.1) [
+        | inl old ↦
+            let was : state_at w.peering.peers i ≡ Some t = ap (option_map (λ (e : Peer). e.state)) old ∙ ap (λ s. Some s) row.2 in
+            let m = state-mount w.forest w.peering.peers i t h.same_mounts was in
+            (i, t, was, old-fs i m.0 m.1, λ g is. is, λ g is. inl is)
+        | inr new ↦
+            let c = twin-from i t (ap (option_map (λ (e : Peer). e.state)) new ∙ ap (λ s. Some s) row.2) in (
+              c.source.id,
+              c.state,
+              c.stated,
+              ap (fs_at (with_copy w n less)) c.number ∙ copy-fs c.source.id c.source c.there c.space,
+              λ g is. (twin-group w n less c.state g (ap (λ (s : State). s.group) (sym c.made) ∙ is)).0,
+              λ g is. twin-master w n less c.state g (ap (λ (s : State). s.master) (sym c.made) ∙ is),
+            )
+      ])
+
+  given : (i : ℕ) (m : Mount) → mount_at (grown w h n) i ≡ Some m
+      → (1 ≤ i) × (i < w.next_mount + length (originals w n)) × (1 ≤ m.space) × (m.space < w.next_space + 1) × (m.root < length w.skel.directories)
+  given i m e = elim (row-of w h n i m e) [
+    | inl old ↦ let b = h.below i m old in (b.0, omega (arith, b.1), b.2, omega (arith, b.3), b.4)
+    | inr c ↦
+        let b = h.below c.source.id c.source c.there in
+        let high = twin-high w h n c.source.id in
+        let low = twin-low w h n c.source.id (among w h n c.source.id c.source c.there c.space) in
+        let is : m.space ≡ w.next_space = ap (λ (m : Mount). m.space) c.made in (
+          omega (arith, high, c.number, h.from_one.0),
+          omega (arith, low, c.number),
+          omega (arith, is, h.from_one.1),
+          omega (arith, is),
+          subst (λ (m : Mount). m.root < length w.skel.directories) (sym c.made) b.4,
+        )
+  ]
+
+  -- a copy of a namespace keeps a world well-formed
+  pub copy-kept : IsWellFormed (with_copy w n less)
+  unfolding with_copy
+  copy-kept = record {
+    forest = grown-forest w h n;
+    peering = peered;
+    same_mounts = same_ids;
+    from_one = (omega (arith, h.from_one.0), omega (arith, h.from_one.1));
+    below = given;
+    group_fs = groups-show (with_copy w n less) alike;
+    master_fs = masters-show (with_copy w n less) alike;
+  }
