@@ -2,19 +2,21 @@
 use Rattle.std.proofs.Common.{◌≡◌, ℕ, zero, suc, ◌<◌, ◌≤◌, Bool, true, false, List, map, Option, Some, None, not, refl, sym, ap, subst, ◌∙◌, inl, inr, arith}
 use Rattle.std.specs.Prelude.{IsTrue}
 use Rattle.std.specs.Option.{option_map, option_map_or, option_and_then, is_none}
-use Rattle.std.proofs.lemmas.Bool.{cases_lt}
+use Rattle.std.proofs.lemmas.Bool.{cases_lt, true≢false}
 use Rattle.mt_skel.specs.Chain.{ends}
 use Rattle.mt_skel.proofs.ChainLaws.{ends-suc}
-use Rattle.mt_skel.specs.Keyed.{without}
+use Rattle.mt_skel.specs.Keyed.{rises, without}
 use Rattle.mt_skel.specs.Skeleton.{Skeleton, holds}
 use Rattle.mt_skel.proofs.KeyedLaws.{rises-map, rises-filter}
 use Rattle.mt_mounts.specs.declared.mount.Mount.{Mount}
 use Rattle.mt_mounts.specs.declared.mount.Place.{Place}
-use Rattle.mt_mounts.specs.Forest.{id_of, mount_at, parent}
+use Rattle.mt_mounts.specs.Forest.{id_of, mount_at, parent, on, is_at}
 use Rattle.mt_mounts.specs.Tree.{HasNoCycle}
 use Rattle.mt_mounts.proofs.CycleLaws.{no_cycle, rank_of, rank_falls}
 use Rattle.mt_propagate.specs.WellFormed.{IsForest}
-use Rattle.mt_propagate.proofs.AddedLaws.{parent_id}
+use Rattle.mt_mounts.proofs.ForestLaws.{find_row, find_passes, find_none}
+use Rattle.mt_propagate.proofs.AddedLaws.{parent_id, at_place}
+use Rattle.mt_propagate.proofs.WalkLaws.{stands_at}
 use Rattle.mt_propagate.proofs.RowLaws.{mapped-row, row-mapped, kept-row, row-kept}
 
 -- a parent is the mount of a place
@@ -31,6 +33,18 @@ parent-from ms x y e = go (mount_at ms x) refl e
 
 pub parent-is : (ms : List Mount) (x : ℕ) (m : Mount) (p : Place) → mount_at ms x ≡ Some m → m.place ≡ Some p → parent ms x ≡ Some p.mount
 parent-is ms x m p e at = ap (option_and_then parent_id) e ∙ ap (option_map (λ (p : Place). p.mount)) at
+
+-- a mount at a place is the one that is found there
+pub on-is : (ms : List Mount) → rises id_of ms ≡ true → ((i j : ℕ) (m n : Mount) (p : Place) → mount_at ms i ≡ Some m → mount_at ms j ≡ Some n → m.place ≡ Some p → n.place ≡ Some p → i ≡ j)
+    → (i : ℕ) (m : Mount) (p : Place) → mount_at ms i ≡ Some m → m.place ≡ Some p → on ms p ≡ Some m
+on-is ms h apart i m p e at = go (on ms p) refl
+  where
+    go : (o : Option Mount) → on ms p ≡ o → o ≡ Some m
+    go None none = absurd (true≢false (sym (at_place m p at) ∙ find_none (is_at p) ms none i m e))
+    go (Some x) found =
+        let row = find_row (is_at p) ms x h found in
+        let same = apart x.id i x m p row e (stands_at p x (find_passes (is_at p) ms x found)) at in
+        sym row ∙ ap (mount_at ms) same ∙ e
 
 -- a way that goes nowhere ends, and one that ends within some steps ends within more
 pub ends-none : (next : ℕ → Option ℕ) (n x : ℕ) → next x ≡ None → ends next n x ≡ true

@@ -26,7 +26,7 @@ place_same p q e =
     let d : p.dir ≡ q.dir = grind (arith, nat_tests) in
     λ i. record { mount = m i; dir = d i }
 
-stands_at : (p : Place) (x : Mount) → is_at p x ≡ true → x.place ≡ Some p
+pub stands_at : (p : Place) (x : Mount) → is_at p x ≡ true → x.place ≡ Some p
 stands_at p x e = by x.place refl e
   where
     by : (o : Option Place) → x.place ≡ o → option_map_or (place_eq p) o false ≡ true → o ≡ Some p

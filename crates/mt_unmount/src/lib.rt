@@ -1,2 +1,4 @@
 //! Unmounting, and what it takes away elsewhere.
 #![tactic(auto)]
+
+pub mod laws;

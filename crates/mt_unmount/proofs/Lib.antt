@@ -1,0 +1,5 @@
+pub mod RemovedLaws
+pub mod EndLaws
+pub mod SlideLaws
+pub mod UnmountTreeLaws
+pub mod UnmountLaws

@@ -1,0 +1,112 @@
+-- The mounts of each namespace stay one tree where a mount is unmounted.
+use Rattle.std.proofs.Common.{◌≡◌, ℕ, ◌<◌, Bool, true, false, not, List, map, Option, Some, None, refl, sym, ap, subst, ◌∙◌, arith}
+use Rattle.std.specs.List.{list_any}
+use Rattle.std.specs.Option.{option_map, is_none}
+use Rattle.mt_skel.specs.Keyed.{without}
+use Rattle.mt_skel.specs.Skeleton.{holds}
+use Rattle.mt_skel.proofs.KeyedLaws.{row_at-key, rises-map, rises-filter}
+use Rattle.mt_mounts.specs.declared.mount.Mount.{Mount}
+use Rattle.mt_mounts.specs.declared.mount.Place.{Place}
+use Rattle.mt_mounts.specs.Forest.{id_of, mount_at}
+use Rattle.mt_mounts.proofs.CycleLaws.{no_cycle, rank_of}
+use Rattle.mt_propagate.specs.World.{WorldView}
+use Rattle.mt_propagate.specs.WellFormed.{IsForest, IsWellFormed}
+use Rattle.mt_propagate.proofs.RowLaws.{mapped-row, row-mapped, kept-row, row-kept}
+use Rattle.mt_propagate.proofs.TreeLaws.{parent-from}
+use Rattle.mt_unmount.specs.Unmounting.{place_of, stands_on, is_removed, slid}
+use Rattle.mt_unmount.proofs.RemovedLaws.{removed-placed}
+use Rattle.mt_unmount.proofs.SlideLaws.{heir_at, slid-there, heir-single}
+
+module _ (w : WorldView) (i : ℕ) where
+  abbrev pub goes : Mount → Bool
+  goes m = is_removed w i m.id
+
+  abbrev pub moved : Mount → Mount
+  moved m = record m { place = option_map (slid w i) m.place }
+
+  abbrev pub left_mounts : List Mount
+  left_mounts = map moved (without goes w.forest)
+
+  placed-moved : (o : Option Place) (q : Place) → option_map (slid w i) o ≡ Some q → (p : Place) × (o ≡ Some p) × (q ≡ slid w i p)
+  placed-moved None q e = absurd (let v : None ≡ Some q = e in cc)
+  placed-moved (Some p) q e = (p, refl, let v : Some (slid w i p) ≡ Some q = e in let same : slid w i p ≡ q = cc in sym same)
+
+  unplaced-moved : (o : Option Place) → option_map (slid w i) o ≡ None → o ≡ None
+  unplaced-moved None e = refl
+  unplaced-moved (Some p) e = absurd (let v : Some (slid w i p) ≡ None = e in cc)
+
+module _ (w : WorldView) (h : IsWellFormed w) (i : ℕ) where
+  -- the mount that stays as y with the ID k
+  pub record Stays (k : ℕ) (y : Mount) : Type 0 where
+    pub mount : Mount
+    pub there : mount_at w.forest k ≡ Some mount
+    pub stays : is_removed w i k ≡ false
+    pub made : y ≡ moved w i mount
+
+  pub row-of : (k : ℕ) (y : Mount) → mount_at (left_mounts w i) k ≡ Some y → Stays k y
+  row-of k y e =
+      let m = mapped-row id_of (moved w i) (λ m. refl) (without (goes w i) w.forest) k y e in
+      let x = kept-row id_of (goes w i) w.forest h.forest.rising k m.0 m.1 in
+      record { mount = m.0; there = x.0; stays = ap (is_removed w i) (sym (row_at-key id_of k w.forest m.0 x.0)) ∙ x.1; made = m.2 }
+
+  pub stays-in : (k : ℕ) (m : Mount) → mount_at w.forest k ≡ Some m → is_removed w i k ≡ false → mount_at (left_mounts w i) k ≡ Some (moved w i m)
+  stays-in k m e off =
+      row-mapped id_of (moved w i) (λ m. refl) (without (goes w i) w.forest) k m
+      (row-kept id_of (goes w i) w.forest h.forest.rising k m (ap (is_removed w i) (row_at-key id_of k w.forest m e) ∙ off) e)
+
+  place-was : (k : ℕ) (y : Mount) (q : Place) (s : Stays k y) → y.place ≡ Some q → (p : Place) × (s.mount.place ≡ Some p) × (q ≡ slid w i p)
+  place-was k y q s e = placed-moved w i s.mount.place q (ap (λ (m : Mount). m.place) (sym s.made) ∙ e)
+
+  root-was : (k : ℕ) (y : Mount) (s : Stays k y) → y.place ≡ None → s.mount.place ≡ None
+  root-was k y s e = unplaced-moved w i s.mount.place (ap (λ (m : Mount). m.place) (sym s.made) ∙ e)
+
+  space-was : (k : ℕ) (y : Mount) (s : Stays k y) → y.space ≡ s.mount.space
+  space-was k y s = ap (λ (m : Mount). m.space) s.made
+
+  module _ (rooted : is_none (place_of w i) ≡ false) (bare : list_any (stands_on i) w.forest ≡ false) where
+    root-stays : (j : ℕ) (r : Mount) → mount_at w.forest j ≡ Some r → r.place ≡ None → is_removed w i j ≡ false
+    root-stays j r e none = by (is_removed w i j) refl
+      where
+        by : (b : Bool) → is_removed w i j ≡ b → b ≡ false
+        by false is = refl
+        by true is = let p = removed-placed w h i rooted bare j r is e in let v : None ≡ Some p.0 = sym none ∙ p.1 in absurd (cc)
+
+    pub left-forest : IsForest w.skel (left_mounts w i)
+    left-forest = record {
+      rising =
+          rises-map id_of (moved w i) (λ m. refl) (without (goes w i) w.forest) ∙ rises-filter id_of (λ m. not (goes w i m)) w.forest h.forest.rising;
+      placed = λ k y q e at.
+          let s = row-of k y e in
+          let p = place-was k y q s at in
+          let t = slid-there w h i rooted bare k s.mount p.0 s.there p.1 s.stays in
+          let on = h.forest.placed t.0.id t.0.mount (slid w i p.0) t.0.there t.0.stands in (
+            moved w i on.0,
+            ap (λ (q : Place). mount_at (left_mounts w i) q.mount) p.2 ∙ stays-in (slid w i p.0).mount on.0 on.1 t.1,
+            on.2 ∙ t.0.space ∙ sym (space-was k y s),
+            ap (λ (q : Place). holds w.skel on.0.root q.dir) p.2 ∙ on.3,
+          );
+      apart = λ k j a b q ea eb pa pb.
+          let s = row-of k a ea in
+          let t = row-of j b eb in
+          let p = place-was k a q s pa in
+          let r = place-was j b q t pb in
+          let x = slid-there w h i rooted bare k s.mount p.0 s.there p.1 s.stays in
+          let y = slid-there w h i rooted bare j t.mount r.0 t.there r.1 t.stays in
+          let same : s.mount ≡ t.mount =
+          heir-single w i x.0.steps y.0.steps (slid w i p.0) s.mount t.mount x.0.leads (subst (λ q. heir_at w i y.0.steps q ≡ Some t.mount) (sym r.2 ∙ p.2) y.0.leads) in
+          sym (row_at-key id_of k w.forest s.mount s.there) ∙ ap id_of same ∙ row_at-key id_of j w.forest t.mount t.there;
+      rooted = λ k y e.
+          let s = row-of k y e in
+          let r = h.forest.rooted k s.mount s.there in
+          (r.0, moved w i r.1, stays-in r.0 r.1 r.2 (root-stays r.0 r.1 r.2 r.3), ap (option_map (slid w i)) r.3, r.4 ∙ sym (space-was k y s));
+      one_root = λ k j a b ea eb pa pb same.
+          let s = row-of k a ea in
+          let t = row-of j b eb in
+          h.forest.one_root k j s.mount t.mount s.there t.there (root-was k a s pa) (root-was j b t pb) (sym (space-was k a s) ∙ same ∙ space-was j b t);
+      no_cycle = no_cycle (left_mounts w i) (rank_of w.forest) (λ k j e.
+          let m = parent-from (left_mounts w i) k j e in
+          let s = row-of k m.0 m.2 in
+          let p = place-was k m.0 m.1 s m.3 in
+          let t = slid-there w h i rooted bare k s.mount p.0 s.there p.1 s.stays in
+          subst (λ j. rank_of w.forest j < rank_of w.forest k) (ap (λ (q : Place). q.mount) (sym p.2) ∙ m.4) t.0.lower);
+    }
