@@ -1,0 +1,64 @@
+use Rattle.std.proofs.Common.{◌≡◌, ◌∙◌, ◌+◌, ◌∷◌, ◌++◌, [], List, ap, sym, subst, arith, Ok, None, refl}
+use Rattle.mt_skel.specs.Skeleton.{root_of}
+use Rattle.mt_skel.proofs.SkeletonLaws.{directory_within}
+use Rattle.mt_mounts.specs.declared.mount.Mount.{Mount}
+use Rattle.mt_mounts.specs.Forest.{root_mount}
+use Rattle.mt_peers.specs.Peers.{Peering, state_at}
+use Rattle.mt_propagate.specs.World.{WorldView, world_view}
+use Rattle.mt_propagate.specs.WellFormed.{IsWellFormed}
+use Rattle.mt_propagate.proofs.WalkLaws.{space_free}
+use Rattle.mt_propagate.proofs.PrivateLaws.{state_free, forest_after, peers_after, private_world}
+use Rattle.mt_bind.proofs.SpaceLaws.{new_root, new_space_done, with_space_is, space-kept}
+use Rattle.mt_bind.specs.Spaces.{with_space}
+use Rattle.mt_bind.proofs.spaces.new_space.Goals as goal
+
+pub insert-requires-clause-rootless : goal.insert-requires-clause-rootless
+insert-requires-clause-rootless c _ =
+    let w = world_view c.args.world.now in
+    ap (λ ms. root_mount ms w.next_space) c.in_ok-reserve.ensures.mounts ∙ space_free w c.requires.well_formed
+
+pub join-requires-clause-absent : goal.join-requires-clause-absent
+join-requires-clause-absent c =
+    let w = world_view c.args.world.now in
+    ap (λ (p : Peering). state_at p.peers w.next_mount) c.in_ok-reserve-2.ensures.peering ∙ state_free w c.requires.well_formed
+
+pub returns-clause-done : goal.returns-clause-done
+returns-clause-done c =
+    let w = world_view c.args.world.now in
+    let v : WorldView = record {
+      skel = w.skel;
+      forest = c.insert.new.self.mounts;
+      peering = record { peers = c.join.new.self.peers; next = c.join.new.self.next };
+      next_mount = w.next_mount + 1;
+      next_space = w.next_space + 1;
+    } in
+    let root : List Mount = record { id = w.next_mount; space = w.next_space; place = None; root = c.root.result; attrs = c.new.result } ∷ [] in
+    let forest = forest_after w (record { id = w.next_mount; space = w.next_space; place = None; root = c.root.result; attrs = c.new.result }) _ _ c.requires.well_formed refl c.insert.ensures.mounts c.in_ok-reserve.ensures.mounts in
+    let peers = peers_after w _ _ c.requires.well_formed c.join.ensures.peers (ap (λ (p : Peering). p.peers) c.in_ok-reserve-2.ensures.peering) in
+    let next = c.join.ensures.next ∙ ap (λ (p : Peering). p.next) c.in_ok-reserve-2.ensures.peering in
+    let same : v ≡ with_space w c.in-Some.fs =
+        private_world w v (new_root w c.in-Some.fs) (w.next_space + 1) refl
+            (forest ∙ (λ i. w.forest ++ record { id = w.next_mount; space = w.next_space; place = None; root = c.root.ensures.root i; attrs = c.new.ensures i } ∷ [])) peers next refl refl
+        ∙ with_space_is w c.in-Some.fs in
+    new_space_done w c.args.fs.now c.in-Some.fs (sym c.fs.ensures.number ∙ c.in-Some.is) (omega (arith, c.if-spaces-ge-MOST_SPACES.false, c.spaces.ensures)) (omega (arith, c.if-len-ge-MOST_MOUNTS.false, c.len.ensures))
+    ∙ ap (λ v. Ok (v, w.next_space)) (sym same)
+
+pub returns-clause-kept : goal.returns-clause-kept
+returns-clause-kept c =
+    let w = world_view c.args.world.now in
+    let v : WorldView = record {
+      skel = w.skel;
+      forest = c.insert.new.self.mounts;
+      peering = record { peers = c.join.new.self.peers; next = c.join.new.self.next };
+      next_mount = w.next_mount + 1;
+      next_space = w.next_space + 1;
+    } in
+    let forest = forest_after w (record { id = w.next_mount; space = w.next_space; place = None; root = c.root.result; attrs = c.new.result }) _ _ c.requires.well_formed refl c.insert.ensures.mounts c.in_ok-reserve.ensures.mounts in
+    let peers = peers_after w _ _ c.requires.well_formed c.join.ensures.peers (ap (λ (p : Peering). p.peers) c.in_ok-reserve-2.ensures.peering) in
+    let next = c.join.ensures.next ∙ ap (λ (p : Peering). p.next) c.in_ok-reserve-2.ensures.peering in
+    let same : v ≡ with_space w c.in-Some.fs =
+        private_world w v (new_root w c.in-Some.fs) (w.next_space + 1) refl
+            (forest ∙ (λ i. w.forest ++ record { id = w.next_mount; space = w.next_space; place = None; root = c.root.ensures.root i; attrs = c.new.ensures i } ∷ [])) peers next refl refl
+        ∙ with_space_is w c.in-Some.fs in
+    let there = directory_within w.skel c.root.result c.root.ensures.there in
+    subst IsWellFormed (sym same) (space-kept w c.in-Some.fs c.requires.well_formed (omega (arith, there, c.root.ensures.root)))

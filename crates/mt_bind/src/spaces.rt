@@ -1,0 +1,53 @@
+//! New namespaces.
+ghost use Rattle.std.specs.Prelude.{◌≡◌, ◌≢◌, ◌^◌, ◌<◌, IfOk, IfErr, OnErr, Ok, Err};
+ghost use Rattle.mt_propagate.specs.World.{world_view};
+ghost use Rattle.mt_propagate.specs.WellFormed.{IsWellFormed};
+ghost use Rattle.mt_bind.specs.Spaces.{new_space};
+
+use mt_mounts::mount::{Attrs, Mount, SpaceId};
+use mt_peers::state::State;
+use mt_propagate::world::{MOST_MOUNTS, MOST_SPACES, World};
+use mt_skel::fault::Fault;
+use mt_skel::name::Label;
+
+/// The state of a mount that neither gives nor gets, and may be bound.
+const PRIVATE: State = State {
+    group: None,
+    master: None,
+    unbindable: false,
+};
+
+/// Adds a namespace whose root mount is private and shows the root of the filesystem of this name,
+/// and answers its number.
+///
+/// Refused as `NoFilesystem`, as `TooMany` at 64 namespaces or 4,096 mounts, and as `NoMemory`; then
+/// nothing has changed.
+pub fn new_space(world: &mut World, fs: &Label) -> Result<SpaceId, Fault>
+    requires well_formed { IsWellFormed (world_view world.old) }
+    requires numbers { (world.old.next_mount < 2 ^ 63) × (world.old.next_space < 2 ^ 63) }
+    ensures done { IfOk result (λ space. new_space (world_view world.old) fs.now ≡ Ok (world_view world.new, space)) }
+    ensures refused { IfErr result (λ fault. fault ≢ Fault.NoMemory → new_space (world_view world.old) fs.now ≡ Err fault) }
+    ensures unchanged { OnErr result (world_view world.new ≡ world_view world.old) }
+    ensures kept { IsWellFormed (world_view world.new) }
+{
+    let Some(fs) = world.skel.fs(fs) else {
+        return Err(Fault::NoFilesystem);
+    };
+    if world.forest.spaces() >= MOST_SPACES || world.forest.len() >= MOST_MOUNTS {
+        return Err(Fault::TooMany);
+    }
+    world.forest.reserve(1)?;
+    world.peers.reserve(1)?;
+    let space = world.next_space;
+    world.forest.insert(Mount {
+        id: world.next_mount,
+        space,
+        place: None,
+        root: world.skel.root(fs),
+        attrs: Attrs::new(),
+    });
+    world.peers.join(world.next_mount, PRIVATE);
+    world.next_mount += 1;
+    world.next_space += 1;
+    Ok(space)
+}
