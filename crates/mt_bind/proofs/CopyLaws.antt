@@ -2,24 +2,24 @@
 use Rattle.std.proofs.Common.{◌≡◌, ◌⊎◌, ℕ, ◌+◌, ◌<◌, ◌≤◌, Bool, true, false, List, ◌++◌, map, length, Option, Some, None, refl, sym, ap, subst, ◌∙◌, inl, inr, arith}
 use Rattle.std.specs.Prelude.{IsTrue}
 use Rattle.std.specs.Option.{option_map, option_or, unwrap_or}
-use Rattle.mt_skel.specs.Keyed.{row_at, rises}
+use Rattle.mt_skel.specs.Keyed.{rises}
 use Rattle.mt_skel.specs.Skeleton.{directory}
 use Rattle.mt_mounts.specs.declared.mount.Mount.{Mount}
 use Rattle.mt_mounts.specs.Forest.{id_of, mount_at}
 use Rattle.mt_peers.specs.declared.state.State.{State}
-use Rattle.mt_peers.specs.Peers.{Peer, mount_of, state_at, has_member}
+use Rattle.mt_peers.specs.Peers.{Peer, mount_of, state_at}
 use Rattle.mt_peers.specs.WellFormed.{IsPeering}
 use Rattle.mt_peers.proofs.AddedLaws.{added-IsPeering}
 use Rattle.mt_peers.proofs.MemberLaws.{member-there}
 use Rattle.mt_peers.proofs.AlikeLaws.{IsAlike, like-IsAlike}
-use Rattle.mt_propagate.specs.World.{WorldView, state_of, private, root_dir}
+use Rattle.mt_propagate.specs.World.{WorldView, state_of, private}
 use Rattle.mt_propagate.specs.WellFormed.{IsWellFormed, fs_at}
 use Rattle.mt_propagate.proofs.ListedLaws.{rises-keys, map-append, map-map}
 use Rattle.mt_propagate.proofs.NumberLaws.{climbs}
 use Rattle.mt_propagate.proofs.RowLaws.{renamed-row, appended-row}
 use Rattle.mt_propagate.proofs.ShownLaws.{shown-alike, groups-show, masters-show, mount-state, state-mount, state-row}
 use Rattle.mt_bind.specs.Spaces.{originals, twin, twin_of, twin_state, with_copy}
-use Rattle.mt_bind.proofs.TwinLaws.{copies, order, was-original, among, twin-high, twin-low, old-in, copy-in, IsCopy, row-of}
+use Rattle.mt_bind.proofs.TwinLaws.{copies, order, was-original, among, twin-high, twin-low, old-in, copy-in, row-of}
 use Rattle.mt_bind.proofs.CopyTreeLaws.{grown, grown-ids, grown-forest}
 
 -- what a copy's state has of its original's

@@ -1,5 +1,5 @@
 -- The mounts of each namespace stay one tree where a namespace is copied.
-use Rattle.std.proofs.Common.{◌≡◌, ◌⊎◌, ℕ, ◌+◌, ◌<◌, ◌≤◌, true, List, ◌++◌, map, length, Option, Some, None, refl, sym, ap, ◌∙◌, inl, inr, arith, length-append}
+use Rattle.std.proofs.Common.{◌≡◌, ℕ, ◌<◌, ◌≤◌, true, List, ◌++◌, map, length, Option, Some, None, refl, sym, ap, ◌∙◌, inl, inr, arith, length-append}
 use Rattle.std.specs.Option.{option_map, option_and_then}
 use Rattle.mt_skel.specs.Chain.{ends}
 use Rattle.mt_skel.specs.Keyed.{rises}

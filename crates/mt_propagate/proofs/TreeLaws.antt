@@ -1,6 +1,5 @@
 -- The mounts of each namespace stay one tree where mounts are changed in place, and where whole namespaces go.
 use Rattle.std.proofs.Common.{◌≡◌, ℕ, zero, suc, ◌<◌, ◌≤◌, Bool, true, false, List, map, Option, Some, None, not, refl, sym, ap, subst, ◌∙◌, inl, inr, arith}
-use Rattle.std.specs.Prelude.{IsTrue}
 use Rattle.std.specs.Option.{option_map, option_map_or, option_and_then, is_none}
 use Rattle.std.proofs.lemmas.Bool.{cases_lt, true≢false}
 use Rattle.mt_skel.specs.Chain.{ends}
@@ -11,7 +10,6 @@ use Rattle.mt_skel.proofs.KeyedLaws.{rises-map, rises-filter}
 use Rattle.mt_mounts.specs.declared.mount.Mount.{Mount}
 use Rattle.mt_mounts.specs.declared.mount.Place.{Place}
 use Rattle.mt_mounts.specs.Forest.{id_of, mount_at, parent, on, is_at}
-use Rattle.mt_mounts.specs.Tree.{HasNoCycle}
 use Rattle.mt_mounts.proofs.CycleLaws.{no_cycle, rank_of, rank_falls}
 use Rattle.mt_propagate.specs.WellFormed.{IsForest}
 use Rattle.mt_mounts.proofs.ForestLaws.{find_row, find_passes, find_none}

@@ -1,9 +1,8 @@
 -- Which mounts an unmount takes away, and that their children stand at their root directories.
-use Rattle.std.proofs.Common.{◌≡◌, ◌⊎◌, ℕ, Bool, true, false, cond, ◌||◌, ◌==◌, eqb, eqb-true, eq-eqb, List, [], ◌∷◌, map, Option, Some, None, refl, sym, ap, subst, ◌∙◌, inl, inr, arith}
+use Rattle.std.proofs.Common.{◌≡◌, ◌⊎◌, ℕ, Bool, true, false, cond, ◌||◌, ◌==◌, eqb, eqb-true, eq-eqb, List, [], ◌∷◌, map, Option, Some, None, refl, sym, ap, ◌∙◌, inl, inr}
 use Rattle.std.specs.List.{cons_option, filter, filter_map, list_any, AllByRecursion}
 use Rattle.std.specs.Option.{option_map_or, is_none, unwrap_or}
 use Rattle.std.proofs.lemmas.Bool.{true≢false}
-use Rattle.std.proofs.lemmas.Bool.Decides.{nat_tests}
 use Rattle.mt_skel.proofs.KeyedLaws.{row_at-key}
 use Rattle.mt_mounts.specs.declared.mount.Mount.{Mount}
 use Rattle.mt_mounts.specs.declared.mount.Place.{Place}
@@ -16,7 +15,7 @@ use Rattle.mt_propagate.specs.Receivers.{hits}
 use Rattle.mt_propagate.specs.WellFormed.{IsWellFormed}
 use Rattle.mt_propagate.proofs.RowLaws.{row-picked, all-row, any-row}
 use Rattle.mt_propagate.proofs.WalkLaws.{stands_at}
-use Rattle.mt_unmount.specs.Unmounting.{place_of, stands_on, children, may_go, removed, is_removed}
+use Rattle.mt_unmount.specs.Unmounting.{place_of, stands_on, children, may_go, is_removed}
 
 -- what a list of optional results holds are results
 each-result : {X Y : Type 0} (f : X → Option Y) (xs : List X) → AllByRecursion (λ y. (x : X) × (f x ≡ Some y)) (filter_map f xs)

@@ -1,15 +1,15 @@
 -- A well-formed world stays so where a mount is unmounted.
-use Rattle.std.proofs.Common.{◌≡◌, ℕ, ◌<◌, ◌≤◌, Bool, true, false, not, List, [], ◌∷◌, map, length, Option, Some, None, Ok, Err, refl, sym, ap, subst, ◌∙◌}
+use Rattle.std.proofs.Common.{◌≡◌, ℕ, ◌<◌, ◌≤◌, Bool, true, false, not, List, [], ◌∷◌, map, length, Option, Some, Ok, Err, refl, sym, ap, subst, ◌∙◌}
 use Rattle.std.specs.Prelude.{Result}
 use Rattle.std.specs.List.{filter, list_any}
-use Rattle.std.specs.Option.{option_map, option_map_or, is_none, unwrap_or}
+use Rattle.std.specs.Option.{option_map, is_none, unwrap_or}
 use Rattle.mt_skel.specs.declared.fault.Fault.{Fault}
 use Rattle.mt_skel.specs.declared.fault.Fault.TheVariants.{NotMountRoot, RootPlace, Busy}
 use Rattle.mt_skel.specs.Keyed.{without}
 use Rattle.mt_skel.specs.Outcome.{refuse_if, fault_of, outcome}
 use Rattle.mt_skel.specs.Skeleton.{directory}
 use Rattle.mt_mounts.specs.declared.mount.Mount.{Mount}
-use Rattle.mt_mounts.specs.Forest.{id_of, mount_at}
+use Rattle.mt_mounts.specs.Forest.{id_of}
 use Rattle.mt_mounts.specs.Walk.{walk}
 use Rattle.mt_peers.specs.declared.state.State.{State}
 use Rattle.mt_peers.specs.Peers.{mount_of, state_at}
