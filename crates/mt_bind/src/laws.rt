@@ -9,7 +9,7 @@ pub fn copying_keeps_worlds()
 {}
 
 /// When all mounts of a namespace vanish, a well-formed world stays well-formed: the other namespaces
-/// keep their trees, and slaves of groups that are gone have masters that live.
+/// keep their trees, and no mount is left with a master that has no member.
 pub fn ending_keeps_worlds()
     ensures { EndingKeeps }
 {}

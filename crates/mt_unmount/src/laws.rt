@@ -3,7 +3,7 @@
 ghost use Rattle.mt_unmount.specs.Laws.{UnmountingKeeps};
 
 /// An accepted unmount leaves a well-formed world well-formed: no two mounts slide to one place, each
-/// stands on a mount that stays, and slaves of groups that are gone have masters that live.
+/// stands on a mount that stays, and no mount is left with a master that has no member.
 pub fn unmounting_keeps_worlds()
     ensures { UnmountingKeeps }
 {}
