@@ -46,7 +46,7 @@ module _ {X : Type 0} (key : X → ℕ) where
       twice i k (z ∷ zs) y s a e = let ih = twice i k zs y s in grind (arith, nat_tests)
 
   -- and the other way round
-  pub all-below : (n : ℕ) (xs : List X) → list_all (λ k. ltb k n) (map key xs) ≡ true → (i : ℕ) (x : X) → row_at key i xs ≡ Some x → i < n
+  all-below : (n : ℕ) (xs : List X) → list_all (λ k. ltb k n) (map key xs) ≡ true → (i : ℕ) (x : X) → row_at key i xs ≡ Some x → i < n
   all-below n [] h i x e = absurd (cc)
   all-below n (y ∷ ys) h i x e = let ih = all-below n ys in let ih_i = ih (grind (arith, nat_tests)) i x in grind (arith, nat_tests)
 
@@ -84,7 +84,7 @@ below-range : (n m len : ℕ) → n + len ≤ m → list_all (λ k. ltb k m) (ra
 below-range n m zero l = refl
 below-range n m (suc len) l = let ih = below-range (n + 1) m len (omega arith) in let s : n < m = omega arith in grind (arith, nat_tests)
 
-pub below-append : (n len : ℕ) (xs : List ℕ) → list_all (λ k. ltb k n) xs ≡ true → list_all (λ k. ltb k (n + len)) (xs ++ range_with_len n len) ≡ true
+below-append : (n len : ℕ) (xs : List ℕ) → list_all (λ k. ltb k n) xs ≡ true → list_all (λ k. ltb k (n + len)) (xs ++ range_with_len n len) ≡ true
 below-append n len [] h = below-range n (n + len) len (omega arith)
 below-append n len (x ∷ xs) h = let ih = below-append n len xs in grind (arith, nat_tests)
 
