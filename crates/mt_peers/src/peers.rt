@@ -415,3 +415,185 @@ impl<'a> Iterator for MastersUp<'a> {
         Some(group)
     }
 }
+
+#[cfg(test)]
+mod tests {
+    use super::*;
+    use std::test::Fail;
+
+    fn of(group: Option<GroupId>, master: Option<GroupId>) -> State {
+        State {
+            group,
+            master,
+            unbindable: false,
+        }
+    }
+
+    // Joins a mount, if it is new.
+    fn add(peers: &mut Peers, id: MountId, state: State) -> Result<(), Fault>
+        ensures { peers.new.next ≡ peers.old.next }
+    {
+        if peers.state(id).is_some() {
+            return Err(Fault::Busy);
+        }
+        peers.reserve(1)?;
+        peers.join(id, state);
+        Ok(())
+    }
+
+    // The state of a mount after a change. Its group would be 1, with another member if `has_peer`,
+    // its master 2, and a new group 3.
+    fn made_from(
+        alloc: Global,
+        kind: Kind,
+        from: State,
+        has_peer: bool,
+    ) -> Result<Option<State>, Fault> {
+        let mut peers = Peers::new(alloc);
+        let own = peers.fresh();
+        let above = peers.fresh();
+        add(&mut peers, 20, of(Some(above), None))?;
+        add(&mut peers, 10, from)?;
+        if has_peer {
+            add(&mut peers, 5, of(Some(own), from.master))?;
+        }
+        peers.make(10, kind);
+        Ok(peers.state(10))
+    }
+
+    // Group 1 is the master of 2, and 2 of 3; 40 and 45 are slaves of 3.
+    fn chain(alloc: Global) -> Result<Peers, Fault> {
+        let mut peers = Peers::new(alloc);
+        for (id, group, master) in [
+            (45, None, Some(3)),
+            (30, Some(3), Some(2)),
+            (20, Some(2), Some(1)),
+            (25, Some(2), Some(1)),
+            (40, None, Some(3)),
+            (10, Some(1), None),
+        ] {
+            add(&mut peers, id, of(group, master))?;
+        }
+        Ok(peers)
+    }
+
+    fn has_members(peers: &Peers, group: GroupId, ids: &[MountId]) -> Result<bool, Fault> {
+        Ok(peers.members(group)?.as_slice() == ids)
+    }
+
+    fn has_slaves(peers: &Peers, group: GroupId, ids: &[MountId]) -> Result<bool, Fault> {
+        Ok(peers.slaves(group)?.as_slice() == ids)
+    }
+
+    fn has_masters(peers: &Peers, group: GroupId, masters: &[GroupId]) -> bool {
+        let mut above = peers.masters_up(group);
+        for master in masters {
+            if above.next() != Some(*master) {
+                return false;
+            }
+        }
+        above.next().is_none()
+    }
+
+    #[test]
+    fn changes_as_in_the_table(rt: HostRuntime) -> Result<(), Fail> {
+        let shared = of(Some(1), None);
+        let slave = of(None, Some(2));
+        let both = of(Some(1), Some(2));
+        let private = of(None, None);
+        let unbindable = State {
+            unbindable: true,
+            ..private
+        };
+        let slave_of_peer = of(None, Some(1));
+        for (kind, from, to, to_alone) in [
+            (Kind::Shared, shared, shared, shared),
+            (
+                Kind::Shared,
+                slave,
+                of(Some(3), Some(2)),
+                of(Some(3), Some(2)),
+            ),
+            (Kind::Shared, both, both, both),
+            (Kind::Shared, private, of(Some(3), None), of(Some(3), None)),
+            (
+                Kind::Shared,
+                unbindable,
+                of(Some(3), None),
+                of(Some(3), None),
+            ),
+            (Kind::Slave, shared, slave_of_peer, private),
+            (Kind::Slave, slave, slave, slave),
+            (Kind::Slave, both, slave_of_peer, slave),
+            (Kind::Slave, private, private, private),
+            (Kind::Slave, unbindable, unbindable, unbindable),
+            (Kind::Private, shared, private, private),
+            (Kind::Private, slave, private, private),
+            (Kind::Private, both, private, private),
+            (Kind::Private, private, private, private),
+            (Kind::Private, unbindable, private, private),
+            (Kind::Unbindable, shared, unbindable, unbindable),
+            (Kind::Unbindable, slave, unbindable, unbindable),
+            (Kind::Unbindable, both, unbindable, unbindable),
+            (Kind::Unbindable, private, unbindable, unbindable),
+            (Kind::Unbindable, unbindable, unbindable, unbindable),
+        ] {
+            let state = made_from(rt.alloc(), kind, from, true)?;
+            assert_eq!(rt; state, Some(to), "{kind:?} from {from:?}");
+            let state = made_from(rt.alloc(), kind, from, false)?;
+            assert_eq!(rt; state, Some(to_alone), "{kind:?} from {from:?}, alone");
+        }
+        Ok(())
+    }
+
+    #[test]
+    fn finds_groups_and_masters(rt: HostRuntime) -> Result<(), Fail> {
+        let peers = chain(rt.alloc())?;
+        assert!(rt; has_members(&peers, 2, &[20, 25])?);
+        assert!(rt; has_members(&peers, 4, &[])?);
+        assert!(rt; has_slaves(&peers, 3, &[40, 45])?);
+        assert!(rt; has_slaves(&peers, 1, &[20, 25])?);
+        for (group, master) in [(1, None), (2, Some(1)), (3, Some(2)), (4, None)] {
+            assert_eq!(rt; peers.master_of(group), master, "of {group}");
+        }
+        assert!(rt; has_masters(&peers, 3, &[2, 1]));
+        assert!(rt; has_masters(&peers, 1, &[]));
+        assert!(rt; peers.state(99).is_none());
+        Ok(())
+    }
+
+    #[test]
+    fn slaves_get_the_nearest_living_master(rt: HostRuntime) -> Result<(), Fail> {
+        let mut peers = chain(rt.alloc())?;
+        let before = peers.copy()?;
+        for (leaving, master) in [
+            (99, Some(3)),
+            (20, Some(3)),
+            (30, Some(2)),
+            (25, Some(1)),
+            (10, None),
+        ] {
+            peers.leave(leaving);
+            let state = peers.state(40);
+            assert_eq!(rt; state, Some(of(None, master)), "after {leaving}");
+        }
+        assert!(rt; peers.state(30).is_none());
+        assert!(rt; has_masters(&before, 3, &[2, 1]));
+        Ok(())
+    }
+
+    #[test]
+    fn a_whole_group_leaves_at_once(rt: HostRuntime) -> Result<(), Fail> {
+        let mut peers = Peers::new(rt.alloc());
+        add(&mut peers, 10, of(Some(1), Some(2)))?;
+        add(&mut peers, 11, of(Some(1), Some(2)))?;
+        add(&mut peers, 12, of(None, Some(1)))?;
+        add(&mut peers, 20, of(Some(2), None))?;
+        peers.make_all(&[12, 11, 99, 10], Kind::Slave);
+        for id in [10, 11, 12] {
+            assert_eq!(rt; peers.state(id), Some(of(None, Some(2))), "of {id}");
+        }
+        assert_eq!(rt; peers.state(20), Some(of(Some(2), None)));
+        Ok(())
+    }
+}
