@@ -289,13 +289,13 @@ impl Peers {
         ensures members { IfOk result (λ ids. ids.items ≡ members self.now.peers group) }
         ensures memory { IsOkUnless result Fault.NoMemory }
     {
-        let mut found = Vec::new(self.alloc);
+        let mut members = Vec::new(self.alloc);
         for entry in &self.entries {
             if entry.state.group == Some(group) {
-                found.push(entry.mount)?;
+                members.push(entry.mount)?;
             }
         }
-        Ok(found)
+        Ok(members)
     }
 
     /// The IDs of the mounts that have this peer group as their master, rising. Refused as
@@ -304,13 +304,13 @@ impl Peers {
         ensures slaves { IfOk result (λ ids. ids.items ≡ slaves self.now.peers group) }
         ensures memory { IsOkUnless result Fault.NoMemory }
     {
-        let mut found = Vec::new(self.alloc);
+        let mut slaves = Vec::new(self.alloc);
         for entry in &self.entries {
             if entry.state.master == Some(group) {
-                found.push(entry.mount)?;
+                slaves.push(entry.mount)?;
             }
         }
-        Ok(found)
+        Ok(slaves)
     }
 
     /// Takes the number of the next peer group.
