@@ -2,3 +2,5 @@ pub mod WordLaws
 pub mod LineLaws
 pub mod OptionLaws
 pub mod RowLineLaws
+pub mod TableLaws
+pub mod PrintLaws

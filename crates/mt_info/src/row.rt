@@ -1,7 +1,9 @@
 //! What is told of one mount.
+ghost use Rattle.std.specs.Prelude.{◌≡◌, IfOk, IsOkUnless};
 
 use mt_mounts::mount::{Attrs, MountId};
 use mt_peers::state::GroupId;
+use mt_skel::fault::Fault;
 use mt_skel::name::{Label, Names};
 use mt_skel::skel::FsId;
 
@@ -31,4 +33,26 @@ pub struct Row {
     pub kind: Label,
     /// The source of its filesystem.
     pub source: Label,
+}
+
+impl Row {
+    /// An equal row. Refused as `NoMemory` alone.
+    pub fn copy(&self) -> Result<Row, Fault>
+        ensures copy { IfOk result (λ row. row ≡ self.now) }
+        ensures memory { IsOkUnless result Fault.NoMemory }
+    {
+        Ok(Row {
+            id: self.id,
+            parent: self.parent,
+            minor: self.minor,
+            root: self.root.copy()?,
+            point: self.point.copy()?,
+            attrs: self.attrs,
+            shared: self.shared,
+            master: self.master,
+            unbindable: self.unbindable,
+            kind: self.kind.copy()?,
+            source: self.source.copy()?,
+        })
+    }
 }

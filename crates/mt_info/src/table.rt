@@ -1,6 +1,18 @@
 //! The mounts of one namespace.
+ghost use Rattle.std.specs.Prelude.{◌≡◌, ◌≢◌, ◌++◌, false, true, IfErr, IfOk, IsOkUnless, OnOk, Err, Some, drop};
+ghost use Rattle.mt_mounts.specs.Forest.{mount_at, parents_up};
+ghost use Rattle.mt_propagate.specs.World.{world_view, is_space, state_of};
+ghost use Rattle.mt_propagate.specs.WellFormed.{IsWellFormed};
+ghost use Rattle.mt_info.specs.Table.{table_of, row_of, mount_point, own_names};
+ghost use Rattle.mt_info.specs.Pieces.{rows_at};
 
 use crate::row::Row;
+use mt_mounts::mount::{Mount, MountId, SpaceId};
+use mt_peers::state::State;
+use mt_propagate::world::World;
+use mt_skel::fault::Fault;
+use mt_skel::name::{Name, Names};
+use std::alloc::Global;
 use std::marker::Model;
 
 /// The rows of the mounts of one namespace, by rising ID.
@@ -20,4 +32,162 @@ impl Model for Table {
     ghost view = { λ t. t.rows.items };
 
     ghost invariant = { λ t. IsTrue (rises row_id t.rows.items) };
+}
+
+impl Table {
+    /// The rows, by rising ID.
+    pub fn rows(&self) -> &[Row]
+        ensures { result.now ≡ self.now }
+    {
+        self.rows.as_slice()
+    }
+}
+
+/// The table of a namespace.
+///
+/// Refused as `NoNamespace` where there is no such namespace, and else as `NoMemory` alone.
+pub fn table_of(world: &World, space: SpaceId) -> Result<Table, Fault>
+    requires well_formed { IsWellFormed (world_view world.now) }
+    ensures table { IfOk result (λ table. (is_space (world_view world.now) space ≡ true) × (table ≡ table_of (world_view world.now) space)) }
+    ensures absent { is_space (world_view world.now) space ≡ false → result ≡ Err Fault.NoNamespace }
+    ensures refused { IfErr result (λ fault. fault ≢ Fault.NoMemory → (fault ≡ Fault.NoNamespace) × (is_space (world_view world.now) space ≡ false)) }
+{
+    if world.forest.root(space).is_none() {
+        return Err(Fault::NoNamespace);
+    }
+    let ids = world.forest.ids()?;
+    let alloc = *ids.allocator();
+    let mut rows = Vec::new(alloc);
+    for id in &ids {
+        push_row_of(alloc, &mut rows, world, space, *id)?;
+    }
+    Ok(Table { rows })
+}
+
+/// Appends the row of a mount, if it is in the namespace.
+fn push_row_of(
+    alloc: Global,
+    rows: &mut Vec<Row>,
+    world: &World,
+    space: SpaceId,
+    id: MountId,
+) -> Result<(), Fault>
+    requires { IsWellFormed (world_view world.now) }
+    ensures rows { OnOk result (rows.new.items ≡ rows.old.items ++ rows_at (world_view world.now) space id) }
+    ensures memory { IsOkUnless result Fault.NoMemory }
+{
+    let Some(mount) = world.forest.get(id) else {
+        return Ok(());
+    };
+    if mount.space != space {
+        return Ok(());
+    }
+    rows.push(row_of(alloc, world, &mount)?)?;
+    Ok(())
+}
+
+/// The row of a mount.
+fn row_of(alloc: Global, world: &World, mount: &Mount) -> Result<Row, Fault>
+    requires well_formed { IsWellFormed (world_view world.now) }
+    requires there { mount_at world.now.forest.mounts mount.now.id ≡ Some mount.now }
+    ensures row { IfOk result (λ row. row ≡ row_of (world_view world.now) mount.now) }
+    ensures memory { IsOkUnless result Fault.NoMemory }
+{
+    let minor = world.skel.fs_of(mount.root);
+    let state = state_of(world, mount.id);
+    let parent = match mount.place {
+        Some(place) => place.mount,
+        None => mount.id,
+    };
+    Ok(Row {
+        id: mount.id,
+        parent,
+        minor,
+        root: Names::new(world.skel.path_of(mount.root)?),
+        point: mount_point(alloc, world, mount.id)?,
+        attrs: mount.attrs,
+        shared: state.group,
+        master: state.master,
+        unbindable: state.unbindable,
+        kind: world.skel.kind(minor).copy()?,
+        source: world.skel.source(minor).copy()?,
+    })
+}
+
+/// The state of a mount; one that is not there counts as private.
+fn state_of(world: &World, id: MountId) -> State
+    ensures { result ≡ state_of (world_view world.now) id }
+{
+    world.peers.state(id).unwrap_or(State {
+        group: None,
+        master: None,
+        unbindable: false,
+    })
+}
+
+/// Where a mount stands, from the root of its namespace down.
+fn mount_point(alloc: Global, world: &World, id: MountId) -> Result<Names, Fault>
+    requires { IsWellFormed (world_view world.now) }
+    ensures point { IfOk result (λ point. point ≡ mount_point (world_view world.now) id) }
+    ensures memory { IsOkUnless result Fault.NoMemory }
+{
+    let mut above = parents_up(alloc, world, id)?;
+    above.reverse();
+    let mut point = Vec::new(alloc);
+    for mount in &above {
+        push_own_names(&mut point, world, *mount)?;
+    }
+    Ok(Names::new(point))
+}
+
+/// A mount, its parent, and so on.
+fn parents_up(alloc: Global, world: &World, id: MountId) -> Result<Vec<MountId>, Fault>
+    ensures above { IfOk result (λ above. above.items ≡ parents_up world.now.forest.mounts id) }
+    ensures memory { IsOkUnless result Fault.NoMemory }
+{
+    let mut above = Vec::new(alloc);
+    let mut here = id;
+    'steps: for _step in 0..world.forest.len() {
+        above.push(here)?;
+        let Some(parent) = world.forest.parent(here) else {
+            return Ok(above);
+        };
+        here = parent;
+    }
+    above.push(here)?;
+    Ok(above)
+}
+
+/// Appends the names that a mount adds to the mount point of its parent.
+fn push_own_names(point: &mut Vec<Name>, world: &World, id: MountId) -> Result<(), Fault>
+    requires { IsWellFormed (world_view world.now) }
+    ensures names { OnOk result (point.new.items ≡ point.old.items ++ own_names (world_view world.now) id) }
+    ensures memory { IsOkUnless result Fault.NoMemory }
+{
+    let Some(mount) = world.forest.get(id) else {
+        return Ok(());
+    };
+    let Some(place) = mount.place else {
+        return Ok(());
+    };
+    let Some(parent) = world.forest.get(place.mount) else {
+        return Ok(());
+    };
+    let depth = world.skel.path_of(parent.root)?.len();
+    let names = world.skel.path_of(place.dir)?;
+    push_names(point, names.as_slice(), depth)
+}
+
+/// Appends copies of the names of a path behind the first so many.
+fn push_names(point: &mut Vec<Name>, path: &[Name], depth: usize) -> Result<(), Fault>
+    ensures names { OnOk result (point.new.items ≡ point.old.items ++ drop depth path.now) }
+    ensures memory { IsOkUnless result Fault.NoMemory }
+{
+    if depth >= path.len() {
+        return Ok(());
+    }
+    for name in &path[depth..] {
+        point.push(name.copy()?)?;
+    }
+    Ok(())
 }
