@@ -1,7 +1,7 @@
 //! The mounts of all namespaces.
-ghost use Rattle.std.specs.Prelude.{◌≡◌, ℕ, ◌+◌, ◌<◌, ◌≤◌, [], map, length, None, OnOk, IfSome, IfNone, IfOk, IsOkUnless};
+ghost use Rattle.std.specs.Prelude.{◌≡◌, ℕ, ◌+◌, ◌<◌, ◌≤◌, [], map, length, None, IsTrue, OnOk, IfSome, IfNone, IfOk, IsOkUnless};
 ghost use Rattle.std.specs.Option.{ForSome, option_map};
-ghost use Rattle.mt_skel.specs.Keyed.{put};
+ghost use Rattle.mt_skel.specs.Keyed.{put, rises};
 ghost use Rattle.mt_mounts.specs.Forest.{id_of, mount_at, on, is_at, is_root, root_mount, roots, parent, top, subtree, is_below};
 ghost use Rattle.mt_mounts.specs.Table.{with_attrs, with_place, without_id};
 ghost use Rattle.mt_mounts.specs.Slots.{HoldsAt};
@@ -143,6 +143,7 @@ impl Forest {
     pub fn set_attrs(&mut self, id: MountId, attrs: Attrs)
         ensures mounts { self.new.mounts ≡ with_attrs id attrs self.old.mounts }
         ensures room { self.old.room ≤ self.new.room }
+        ensures rising { IsTrue (rises id_of self.old.mounts) }
     {
         if let Some(key) = key_of(&self.slots, id) {
             if let Some(mount) = self.slots.get_mut(key) {

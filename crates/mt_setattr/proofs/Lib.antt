@@ -1,1 +1,4 @@
 pub mod ChangeLaws
+pub mod SettingLaws
+pub mod ChosenLaws
+pub mod WalkedLaws

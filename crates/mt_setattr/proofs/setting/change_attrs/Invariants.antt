@@ -1,0 +1,8 @@
+use Rattle.std.proofs.Common.{◌≡◌, map, take}
+use Rattle.mt_peers.specs.Entries.{among}
+use Rattle.mt_setattr.specs.Change.{changed_mount}
+use Rattle.mt_setattr.proofs.setting.change_attrs.Given as goal
+
+-- the mounts of the IDs so far are changed
+abbrev pub invariant-loop-id : goal.invariant-loop-id
+invariant-loop-id l = l.forest.mounts ≡ map (changed_mount l.change (among (take l.id-index l.ids))) l.initial.forest.mounts

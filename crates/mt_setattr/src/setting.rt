@@ -1,0 +1,141 @@
+//! The change of mounts.
+ghost use Rattle.std.specs.Prelude.{◌≡◌, ◌≢◌, ◌<◌, ◌^◌, ◌||◌, ◌&&◌, not, map, IsTrue, OnOk, OnErr, IfErr, IsOkUnless, Ok, Err};
+ghost use Rattle.std.specs.Option.{option_map_or};
+ghost use Rattle.mt_skel.specs.Keyed.{has};
+ghost use Rattle.mt_mounts.specs.Forest.{id_of};
+ghost use Rattle.mt_peers.specs.Entries.{among};
+ghost use Rattle.mt_peers.specs.Making.{made};
+ghost use Rattle.mt_propagate.specs.World.{world_view};
+ghost use Rattle.mt_propagate.specs.Named.{is_named_mount};
+ghost use Rattle.mt_propagate.specs.WellFormed.{IsWellFormed};
+ghost use Rattle.mt_setattr.specs.Change.{clashes, changed_atime, changed_attrs, changed_mount, with_change, attributed};
+
+use crate::change::Change;
+use mt_mounts::forest::Forest;
+use mt_mounts::mount::{Atime, Attrs, MountId, Place, SpaceId};
+use mt_propagate::world::World;
+use mt_skel::fault::Fault;
+use mt_skel::name::Name;
+
+// Whether a change sets two access times, or one that it makes no room for.
+fn clashes(change: &Change) -> bool
+    ensures { result ≡ clashes change.now }
+{
+    let set = &change.set;
+    let any = set.relatime || set.noatime || set.strictatime;
+    let two = set.relatime && set.noatime
+        || set.relatime && set.strictatime
+        || set.noatime && set.strictatime;
+    two || any && !change.clr.atime
+}
+
+fn atime_after(change: &Change, atime: Atime) -> Atime
+    ensures { result ≡ changed_atime change.now atime }
+{
+    if change.set.noatime {
+        Atime::Noatime
+    } else if change.set.strictatime {
+        Atime::Strictatime
+    } else if change.set.relatime || change.clr.atime {
+        Atime::Relatime
+    } else {
+        atime
+    }
+}
+
+fn flag_after(had: bool, clear: bool, set: bool) -> bool
+    ensures { result ≡ ((had && not clear) || set) }
+{
+    had && !clear || set
+}
+
+fn attrs_after(change: &Change, attrs: &Attrs) -> Attrs
+    ensures { result ≡ changed_attrs change.now attrs.now }
+{
+    let clr = &change.clr;
+    let set = &change.set;
+    Attrs {
+        ro: flag_after(attrs.ro, clr.ro, set.ro),
+        nosuid: flag_after(attrs.nosuid, clr.nosuid, set.nosuid),
+        nodev: flag_after(attrs.nodev, clr.nodev, set.nodev),
+        noexec: flag_after(attrs.noexec, clr.noexec, set.noexec),
+        nosymfollow: flag_after(attrs.nosymfollow, clr.nosymfollow, set.nosymfollow),
+        nodiratime: flag_after(attrs.nodiratime, clr.nodiratime, set.nodiratime),
+        atime: atime_after(change, attrs.atime),
+    }
+}
+
+// Changes the attributes of these mounts. One that is listed twice is changed once, since a change
+// that comes again does nothing.
+fn change_attrs(forest: &mut Forest, ids: &[MountId], change: &Change)
+    ensures { forest.new.mounts ≡ map (changed_mount change.now (among ids.now)) forest.old.mounts }
+{
+    for id in ids {
+        if let Some(mount) = forest.get(*id) {
+            forest.set_attrs(*id, attrs_after(change, &mount.attrs));
+        }
+    }
+}
+
+// Changes these mounts, all at once.
+fn change_all(world: &mut World, ids: &[MountId], change: &Change)
+    requires numbered { world.old.peers.next < 2 ^ 63 }
+    ensures { world_view world.new ≡ record (world_view world.old) { forest = map (changed_mount change.now (among ids.now)) world.old.forest.mounts; peering = option_map_or (λ k. made k (among ids.now) (world_view world.old).peering) change.now.prop (world_view world.old).peering } }
+{
+    change_attrs(&mut world.forest, ids, change);
+    if let Some(kind) = change.prop {
+        world.peers.make_all(ids, kind);
+    }
+}
+
+// Changes a mount, and if the change is recursive all below it.
+fn change_from(world: &mut World, top: MountId, change: &Change) -> Result<(), Fault>
+    requires there { IsTrue (has id_of top world.old.forest.mounts) }
+    requires numbered { world.old.peers.next < 2 ^ 63 }
+    ensures done { OnOk result (world_view world.new ≡ with_change (world_view world.old) change.now top) }
+    ensures memory { IsOkUnless result Fault.NoMemory }
+    ensures unchanged { OnErr result (world_view world.new ≡ world_view world.old) }
+{
+    if change.recursive {
+        let ids = world.forest.subtree(top)?;
+        change_all(world, &ids, change);
+    } else {
+        change_all(world, &[top], change);
+    }
+    Ok(())
+}
+
+// Whether a place is the root directory of its mount.
+fn is_named(world: &World, place: Place) -> bool
+    ensures { result ≡ is_named_mount (world_view world.now) place }
+{
+    match world.forest.get(place.mount) {
+        Some(mount) => place.dir == mount.root,
+        None => place.dir == 0,
+    }
+}
+
+/// Changes the mount that a path names in a namespace, and if the change is recursive all mounts
+/// below it, all at once. It may be a root mount. An empty change changes nothing.
+///
+/// Refused as `NoNamespace` where the namespace is not there, `NoEntry` where a directory of the
+/// path is not, `NotMountRoot` where the path does not end at the root of a mount, `BadAttr` where
+/// two access times are set, or one whose room the change does not clear, and as `NoMemory` where
+/// it is recursive; then nothing has changed.
+#[tactic(auto, unfolding(crate::specs::Change::attributed))]
+pub fn set_attr(world: &mut World, space: SpaceId, path: &[Name], change: &Change) -> Result<(), Fault>
+    requires numbered { world.old.peers.next < 2 ^ 63 }
+    ensures done { OnOk result (attributed (world_view world.old) space path.now change.now ≡ Ok (world_view world.new)) }
+    ensures refused { IfErr result (λ fault. fault ≢ Fault.NoMemory → attributed (world_view world.old) space path.now change.now ≡ Err fault) }
+    ensures unchanged { OnErr result (world_view world.new ≡ world_view world.old) }
+    ensures kept { IsWellFormed (world_view world.old) → IsWellFormed (world_view world.new) }
+{
+    let place = world.forest.walk(&world.skel, space, path)?;
+    if !is_named(world, place) {
+        return Err(Fault::NotMountRoot);
+    }
+    if clashes(change) {
+        return Err(Fault::BadAttr);
+    }
+    change_from(world, place.mount, change)
+}
