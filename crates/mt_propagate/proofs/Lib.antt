@@ -8,3 +8,5 @@ pub mod PrivateLaws
 pub mod RowLaws
 pub mod TreeLaws
 pub mod ShownLaws
+pub mod ElementLaws
+pub mod CopyForestLaws

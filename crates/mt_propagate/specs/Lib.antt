@@ -10,3 +10,4 @@ pub mod Copied
 pub mod WellFormed
 pub mod Contained
 pub mod Laws
+pub mod Sound
