@@ -1,7 +1,10 @@
 -- The elements of lists, and the rows that are found among them.
 use Rattle.std.specs.Prelude.{Bool, ◌||◌}
-use Rattle.std.proofs.Common.{◌≡◌, ◌⊎◌, ℕ, true, false, cond, eqb, ltb, eqb-true, List, [], ◌∷◌, ◌++◌, map, Some, refl, sym, ap, ◌∙◌, subst, inl, inr, arith}
-use Rattle.std.specs.List.{flat_map, filter, list_any, list_all}
+use Rattle.std.proofs.Common.{◌≡◌, ◌⊎◌, ℕ, zero, suc, ◌<◌, ◌≤◌, true, false, cond, not, Option, None, eqb, ltb, eqb-true, List, [], ◌∷◌, ◌++◌, map, Some, refl, sym, ap, ◌∙◌, subst, inl, inr, arith}
+use Rattle.std.specs.List.{flat_map, filter, find, list_any, list_all, slice_get, position_or_len}
+use Rattle.std.specs.Option.{option_map_or, option_to_list}
+use Rattle.std.proofs.lemmas.List.Folds.{find_at}
+use Rattle.mt_skel.specs.Chain.{chain}
 use Rattle.std.proofs.lemmas.Bool.Decides.{nat_tests}
 use Rattle.mt_skel.specs.Keyed.{row_at, rises, firsts}
 
@@ -93,3 +96,63 @@ module _ {X Y : Type 0} where
     | inl here ↦ in_left y (f z) (flat_map f xs) (subst (λ v. In y (f v)) (sym here) k)
     | inr later ↦ in_right y (f z) (flat_map f xs) (in_flatted f y x xs later k)
   ]
+
+module _ {X : Type 0} where
+  -- what a search finds
+  pub find_in : (q : X → Bool) (xs : List X) (x : X) → find q xs ≡ Some x → In x xs × (q x ≡ true)
+  find_in q [] x h = absurd (cc)
+  find_in q (y ∷ ys) x h = go (q y) refl h (find_in q ys x)
+    where
+      go : (b : Bool) → q y ≡ b → cond b (Some y) (find q ys) ≡ Some x → (find q ys ≡ Some x → In x ys × (q x ≡ true)) → In x (y ∷ ys) × (q x ≡ true)
+      go true is f ih = let s : y ≡ x = cc in (inl s, ap q (sym s) ∙ is)
+      go false is f ih = let r = ih f in (inr r.0, r.1)
+
+  pub in_found : (q : X → Bool) (xs : List X) (x : X) → In x xs → q x ≡ true → (y : X) × (find q xs ≡ Some y)
+  in_found q [] x h t = absurd h
+  in_found q (y ∷ ys) x h t = go (q y) refl h (λ later. in_found q ys x later t)
+    where
+      go : (b : Bool) → q y ≡ b → In x (y ∷ ys) → (In x ys → (v : X) × (find q ys ≡ Some v)) → (v : X) × (cond b (Some y) (find q ys) ≡ Some v)
+      go true is f ih = (y, refl)
+      go false is f ih = elim f [ inl here ↦ absurd (let v : true ≡ false = sym t ∙ ap q (sym here) ∙ is in cc) | inr later ↦ ih later ]
+
+  pub get_in : (xs : List X) (i : ℕ) (x : X) → slice_get xs i ≡ Some x → In x xs
+  get_in [] i x h = absurd (cc)
+  get_in (y ∷ ys) zero x h = inl (let s : y ≡ x = cc in s)
+  get_in (y ∷ ys) (suc i) x h = inr (get_in ys i x h)
+
+  -- under a test that tells elements apart, an element stands at its own position, and among the first ones
+  module _ (eq : X → X → Bool) (same : (x : X) → eq x x ≡ true) (exact : (x y : X) → eq x y ≡ true → x ≡ y) where
+    pub at_position : (xs : List X) (x : X) → In x xs → slice_get xs (position_or_len (eq x) xs) ≡ Some x
+    at_position xs x h =
+        let f = in_found (eq x) xs x h (same x) in
+        let r = find_in (eq x) xs f.0 f.1 in
+        sym (find_at (eq x) xs) ∙ f.1 ∙ ap (λ v. Some v) (sym (exact x f.0 r.1))
+
+    pub in_firsts : (xs : List X) (x : X) → In x xs → In x (firsts eq xs)
+    in_firsts [] x h = absurd h
+    in_firsts (y ∷ ys) x h = elim h [ inl here ↦ inl here | inr later ↦ go (eq y x) refl (in_firsts ys x later) ]
+      where
+        go : (b : Bool) → eq y x ≡ b → In x (firsts eq ys) → In x (y ∷ filter (λ z. not (eq y z)) (firsts eq ys))
+        go true is f = inl (exact y x is)
+        go false is f = inr (in_filtered (λ z. not (eq y z)) x (firsts eq ys) f (ap not is))
+
+  pub firsts_in : (eq : X → X → Bool) (xs : List X) (x : X) → In x (firsts eq xs) → In x xs
+  firsts_in eq [] x h = absurd h
+  firsts_in eq (y ∷ ys) x h = elim h [ inl here ↦ inl here | inr later ↦ inr (firsts_in eq ys x (in_filter (λ z. not (eq y z)) x (firsts eq ys) later).0) ]
+
+  pub option_in : (o : Option X) (x : X) → In x (option_to_list o) → o ≡ Some x
+  option_in None x h = absurd h
+  option_in (Some y) x h = elim h [ inl here ↦ ap (λ v. Some v) here | inr later ↦ absurd later ]
+
+  pub in_option : (o : Option X) (x : X) → o ≡ Some x → In x (option_to_list o)
+  in_option None x h = absurd (cc)
+  in_option (Some y) x h = inl (let s : y ≡ x = cc in s)
+
+  -- along a chain a number that falls with each step is no higher than at its start
+  pub chain_low : (next : X → Option X) (rank : X → ℕ) → ((x y : X) → next x ≡ Some y → rank y < rank x) → (n : ℕ) (x y : X) → In y (chain next n x) → rank y ≤ rank x
+  chain_low next rank falls zero x y h = elim h [ inl here ↦ omega (arith, ap rank here) | inr later ↦ absurd later ]
+  chain_low next rank falls (suc n) x y h = go (next x) refl h (λ v. chain_low next rank falls n v y)
+    where
+      go : (o : Option X) → next x ≡ o → In y (x ∷ option_map_or (λ v. chain next n v) o []) → ((v : X) → In y (chain next n v) → rank y ≤ rank v) → rank y ≤ rank x
+      go None is f ih = elim f [ inl here ↦ omega (arith, ap rank here) | inr later ↦ absurd later ]
+      go (Some v) is f ih = elim f [ inl here ↦ omega (arith, ap rank here) | inr later ↦ omega (arith, ih v later, falls x v is) ]

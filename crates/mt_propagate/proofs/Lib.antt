@@ -10,3 +10,5 @@ pub mod TreeLaws
 pub mod ShownLaws
 pub mod ElementLaws
 pub mod CopyForestLaws
+pub mod JoinLaws
+pub mod KeyLaws
