@@ -1,10 +1,10 @@
 -- The elements of lists, and the rows that are found among them.
 use Rattle.std.specs.Prelude.{Bool, ◌||◌}
 use Rattle.std.proofs.Common.{◌≡◌, ◌⊎◌, ℕ, zero, suc, ◌<◌, ◌≤◌, true, false, cond, not, Option, None, eqb, ltb, eqb-true, List, [], ◌∷◌, ◌++◌, map, Some, refl, sym, ap, ◌∙◌, subst, inl, inr, arith}
-use Rattle.std.specs.List.{flat_map, filter, find, list_any, list_all, slice_get, position_or_len}
-use Rattle.std.specs.Option.{option_map_or, option_to_list}
+use Rattle.std.specs.List.{flat_map, filter, find, list_any, list_all, slice_get, position_or_len, last_or}
+use Rattle.std.specs.Option.{is_none, option_map_or, option_to_list}
 use Rattle.std.proofs.lemmas.List.Folds.{find_at}
-use Rattle.mt_skel.specs.Chain.{chain}
+use Rattle.mt_skel.specs.Chain.{chain, ends}
 use Rattle.std.proofs.lemmas.Bool.Decides.{nat_tests}
 use Rattle.mt_skel.specs.Keyed.{row_at, rises, firsts}
 
@@ -156,3 +156,19 @@ module _ {X : Type 0} where
       go : (o : Option X) → next x ≡ o → In y (x ∷ option_map_or (λ v. chain next n v) o []) → ((v : X) → In y (chain next n v) → rank y ≤ rank v) → rank y ≤ rank x
       go None is f ih = elim f [ inl here ↦ omega (arith, ap rank here) | inr later ↦ absurd later ]
       go (Some v) is f ih = elim f [ inl here ↦ omega (arith, ap rank here) | inr later ↦ omega (arith, ih v later, falls x v is) ]
+
+  -- where a chain ends there is nothing next, and its last one is as its first where each step keeps that
+  pub chain_end : (next : X → Option X) (P : X → Type 0) → ((x y : X) → P x → next x ≡ Some y → P y)
+      → (n : ℕ) (x : X) (o : Option X) → P x → ends next n x ≡ true → (z : X) × (last_or o (chain next n x) ≡ Some z) × P z × (next z ≡ None)
+  chain_end next P step zero x o p e = go (next x) refl e
+    where
+      go : (v : Option X) → next x ≡ v → is_none v ≡ true → (z : X) × (Some x ≡ Some z) × P z × (next z ≡ None)
+      go None is f = (x, refl, p, is)
+      go (Some y) is f = absurd (cc)
+  chain_end next P step (suc n) x o p e = go (next x) refl e (λ y q f. chain_end next P step n y (Some x) q f)
+    where
+      go : (v : Option X) → next x ≡ v → option_map_or (λ y. ends next n y) v true ≡ true
+          → ((y : X) → P y → ends next n y ≡ true → (z : X) × (last_or (Some x) (chain next n y) ≡ Some z) × P z × (next z ≡ None))
+          → (z : X) × (last_or (Some x) (option_map_or (λ y. chain next n y) v []) ≡ Some z) × P z × (next z ≡ None)
+      go None is f ih = (x, refl, p, is)
+      go (Some y) is f ih = ih y (step x y p is) f

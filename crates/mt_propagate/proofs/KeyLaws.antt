@@ -56,7 +56,7 @@ key_parts : (k l : GroupKey) → Some k ≡ Some l → (k.group ≡ l.group) × 
 key_parts k l e = let v : k ≡ l = cc in (ap (λ (l : GroupKey). l.group) v, ap (λ (l : GroupKey). l.source) v)
 
 module _ (w : WorldView) (h : IsPeering w.peering) (src : Source) (dest : Place) where
-  abbrev es : List Peer
+  abbrev pub es : List Peer
   es = w.peering.peers
 
   -- the copies, by target and source
@@ -73,7 +73,7 @@ module _ (w : WorldView) (h : IsPeering w.peering) (src : Source) (dest : Place)
       (in_mapped (λ (m : Mount). record { target = t; source = m.id }) m src.mounts f))
 
   -- a group at which copies stand has a target
-  abbrev stands : ℕ → Bool
+  abbrev pub stands : ℕ → Bool
   stands g = is_home w src dest g || has_hit w src dest g
 
   pub standing : (g : ℕ) → stands g ≡ true → (u : ℕ) × In u (targets w src dest) × (group_of w u ≡ Some g)
@@ -84,7 +84,7 @@ module _ (w : WorldView) (h : IsPeering w.peering) (src : Source) (dest : Place)
       go false is f = let r = in_any (λ t. names (group_of w t) g) (hits w dest) f in (r.0, inr r.1, named (group_of w r.0) g r.2)
 
   -- the nearest group at which copies stand, above a group's master
-  abbrev above : Option ℕ → Option ℕ
+  abbrev pub above : Option ℕ → Option ℕ
   above o = option_and_then (λ m. find stands (groups_up es m)) o
 
   above_from : (o : Option ℕ) (g : ℕ) → above o ≡ Some g → (m : ℕ) × (o ≡ Some m) × In g (groups_up es m) × (stands g ≡ true)
@@ -92,7 +92,7 @@ module _ (w : WorldView) (h : IsPeering w.peering) (src : Source) (dest : Place)
   above_from (Some m) g e = let r = find_in stands (groups_up es m) g e in (m, refl, r.0, r.1)
 
   -- the master of a copy by whether its target is at home, what is nearest above its target, and its source
-  abbrev master_by : Bool → Option ℕ → ℕ → Option ℕ
+  abbrev pub master_by : Bool → Option ℕ → ℕ → Option ℕ
   master_by at_home near s = option_map_or (λ k. Some (key_group w src dest k)) (cond at_home None (option_map (λ g. record { group = g; source = s }) near)) (state_of w s).master
 
   master_by_cases : (b : Bool) (near : Option ℕ) (s m : ℕ) → master_by b near s ≡ Some m
@@ -106,7 +106,7 @@ module _ (w : WorldView) (h : IsPeering w.peering) (src : Source) (dest : Place)
   state-unshared c e =
       ap (λ o. option_map_or (λ _. record { group = option_map (key_group w src dest) (group_key w src dest c); master = master_by (at_home w src dest c.target) (nearest w src dest c.target) c.source; unbindable = false }) o (state_of w c.source)) e
 
-  abbrev shared_state : Copy → State
+  abbrev pub shared_state : Copy → State
   shared_state c = record { group = option_map (key_group w src dest) (group_key w src dest c); master = master_by (at_home w src dest c.target) (nearest w src dest c.target) c.source; unbindable = false }
 
   pub state-shared : (c : Copy) (g : ℕ) → home w src dest ≡ Some g → copy_state w src dest c ≡ shared_state c
@@ -114,7 +114,7 @@ module _ (w : WorldView) (h : IsPeering w.peering) (src : Source) (dest : Place)
       ap (λ o. option_map_or (λ _. record { group = option_map (key_group w src dest) (group_key w src dest c); master = master_by (at_home w src dest c.target) (nearest w src dest c.target) c.source; unbindable = false }) o (state_of w c.source)) e
 
   -- keys that are new, and where they come from
-  abbrev keys : List GroupKey
+  abbrev pub keys : List GroupKey
   keys = new_keys w src dest
 
   abbrev keys_of : Copy → List GroupKey
@@ -144,7 +144,7 @@ module _ (w : WorldView) (h : IsPeering w.peering) (src : Source) (dest : Place)
       (in_filtered (is_new_key w src dest) k (flat_map keys_of (all_copies w src dest)) (in_flatted keys_of k c (all_copies w src dest) e l) new)
 
   -- the key that a number was given to
-  abbrev key_at : ℕ → Option GroupKey
+  abbrev pub key_at : ℕ → Option GroupKey
   key_at g = slice_get keys (g - w.peering.next)
 
   new_number : (k : GroupKey) → In k keys → is_new_key w src dest k ≡ true
@@ -251,7 +251,7 @@ module _ (w : WorldView) (h : IsPeering w.peering) (src : Source) (dest : Place)
       mastered_by c false None g = absurd (cc)
       mastered_by c false (Some q) g = let r = key_parts (record { group = q; source = c.source }) k g in (ap (λ v. Some v) r.0, r.1)
 
-  old_low : (s m : ℕ) → (state_of w s).master ≡ Some m → m < w.peering.next
+  pub old_low : (s m : ℕ) → (state_of w s).master ≡ Some m → m < w.peering.next
   old_low s m e = let r = member_state es m h.rising (h.master_lives s (state_of w s) m (master_known w s m e) e) in h.below r.0 r.1 m r.2 r.3
 
   -- along masters of new groups the way up gets shorter

@@ -12,3 +12,6 @@ pub mod ElementLaws
 pub mod CopyForestLaws
 pub mod JoinLaws
 pub mod KeyLaws
+pub mod CopyPeerLaws
+pub mod StackLaws
+pub mod SoundLaws
