@@ -15,3 +15,4 @@ pub mod KeyLaws
 pub mod CopyPeerLaws
 pub mod StackLaws
 pub mod SoundLaws
+pub mod CopiedLaws

@@ -94,32 +94,32 @@ pub row_left : {X : Type 0} (key : X → ℕ) (i : ℕ) (xs ys : List X) (x : X)
 row_left key i xs ys x e = row_at-append key i xs ys ∙ ap (λ o. option_or o (row_at key i ys)) e
 
 module _ (w : WorldView) (h : IsWellFormed w) (ms : List Mount) (top : Mount) (dest : Place) (tree : IsTree w.skel ms top) (d : IsDestination w dest) where
-  abbrev src : Source
+  abbrev pub src : Source
   src = record { mounts = ms; top = top; moved = false }
 
-  abbrev num : ℕ → ℕ → ℕ
+  abbrev pub num : ℕ → ℕ → ℕ
   num t s = copy_id w src dest t s
 
-  abbrev copy : ℕ → Mount → Mount
+  abbrev pub copy : ℕ → Mount → Mount
   copy t m = copy_of w src dest t m
 
-  abbrev out : List Mount
+  abbrev pub out : List Mount
   out = map (relocated w src dest) w.forest ++ new_mounts w src dest
 
-  abbrev copies : List Copy
+  abbrev pub copies : List Copy
   copies = new_copies w src dest
 
   back : ℕ → Copy
   back x = unwrap_or (slice_get copies (x - w.next_mount)) (record { target = 0; source = 0 })
 
-  after : IsListed (copied w src dest)
+  pub after : IsListed (copied w src dest)
   after = copied-listed w (listed w h) src dest tree.rising
 
   out_rises : rises id_of out ≡ true
   unfolding copied
   out_rises = after.rising
 
-  in_mounts : (m : Mount) → In m ms → mount_at ms m.id ≡ Some m
+  pub in_mounts : (m : Mount) → In m ms → mount_at ms m.id ≡ Some m
   in_mounts m e = in_row id_of ms m tree.rising e
 
   mounts_in : (i : ℕ) (m : Mount) → mount_at ms i ≡ Some m → In m ms
@@ -135,7 +135,7 @@ module _ (w : WorldView) (h : IsWellFormed w) (ms : List Mount) (top : Mount) (d
       (t.0, m.0, t.1, in_mounts m.0 m.1, m.2)
 
   -- each row is of a mount that was there, or of a copy
-  rows : (i : ℕ) (a : Mount) → mount_at out i ≡ Some a
+  pub rows : (i : ℕ) (a : Mount) → mount_at out i ≡ Some a
       → ((x : Mount) × (mount_at w.forest i ≡ Some x) × (a ≡ relocated w src dest x)) ⊎ ((t : ℕ) × (m : Mount) × In t (targets w src dest) × (mount_at ms m.id ≡ Some m) × (i ≡ num t m.id) × (a ≡ copy t m))
   rows i a e =
       let k = row_at-key id_of i out a e in
@@ -147,15 +147,15 @@ module _ (w : WorldView) (h : IsWellFormed w) (ms : List Mount) (top : Mount) (d
         | inr new ↦ let n = new_in a new in inr (n.0, n.1, n.2, n.3, sym k ∙ ap id_of (sym n.4), sym n.4)
       ]
 
-  kept : (i : ℕ) (x : Mount) → mount_at w.forest i ≡ Some x → mount_at out i ≡ Some (relocated w src dest x)
+  pub kept : (i : ℕ) (x : Mount) → mount_at w.forest i ≡ Some x → mount_at out i ≡ Some (relocated w src dest x)
   kept i x e =
       row_left id_of i (map (relocated w src dest) w.forest) (new_mounts w src dest) (relocated w src dest x)
       (row_at-map id_of (relocated w src dest) (relocated-id w src dest) i w.forest ∙ ap (option_map (relocated w src dest)) e)
 
-  made : (t : ℕ) (m : Mount) → In t (targets w src dest) → mount_at ms m.id ≡ Some m → mount_at out (num t m.id) ≡ Some (copy t m)
+  pub made : (t : ℕ) (m : Mount) → In t (targets w src dest) → mount_at ms m.id ≡ Some m → mount_at out (num t m.id) ≡ Some (copy t m)
   made t m e f = in_row id_of out (copy t m) out_rises (in_right (copy t m) (map (relocated w src dest) w.forest) (new_mounts w src dest) (in_new t m e f))
 
-  target : (t : ℕ) → In t (targets w src dest) → (q : Mount) × (mount_at w.forest t ≡ Some q) × (q.space ≡ space_of w t) × IsTrue (holds w.skel q.root dest.dir)
+  pub target : (t : ℕ) → In t (targets w src dest) → (q : Mount) × (mount_at w.forest t ≡ Some q) × (q.space ≡ space_of w t) × IsTrue (holds w.skel q.root dest.dir)
   target t e = elim e [
     | inl here ↦ let g = d.there in (g.0, ap (mount_at w.forest) (sym here) ∙ g.1, sym (space_is w t g.0 (ap (mount_at w.forest) (sym here) ∙ g.1)), g.2)
     | inr hit ↦ hit_there w h dest t hit
@@ -203,14 +203,14 @@ module _ (w : WorldView) (h : IsWellFormed w) (ms : List Mount) (top : Mount) (d
             ap (λ o. (option_map_or (λ t. record x { place = Some (stack_end w src dest t) }) o x).place) is ∙ ap (λ p. Some p) (ends_at t),
           )
 
-  same_root : (x : Mount) → (relocated w src dest x).root ≡ x.root
+  pub same_root : (x : Mount) → (relocated w src dest x).root ≡ x.root
   same_root x = go (made_way w src dest x)
     where
       go : (o : Option ℕ) → (option_map_or (λ t. record x { place = Some (stack_end w src dest t) }) o x).root ≡ x.root
       go None = refl
       go (Some t) = refl
 
-  same_space : (x : Mount) → (relocated w src dest x).space ≡ x.space
+  pub same_space : (x : Mount) → (relocated w src dest x).space ≡ x.space
   same_space x = go (made_way w src dest x)
     where
       go : (o : Option ℕ) → (option_map_or (λ t. record x { place = Some (stack_end w src dest t) }) o x).space ≡ x.space
