@@ -73,7 +73,7 @@ receiver_mount w h i t e = go (group_of w i) e
         let q = state_mount w h b.0 c.0 in
         (q.0, ap (mount_at w.forest) (sym b.2) ∙ q.1)
 
-root_is : (w : WorldView) (i : ℕ) (q : Mount) → mount_at w.forest i ≡ Some q → root_dir w i ≡ q.root
+pub root_is : (w : WorldView) (i : ℕ) (q : Mount) → mount_at w.forest i ≡ Some q → root_dir w i ≡ q.root
 root_is w i q e = ap (λ o. unwrap_or (option_map (λ (m : Mount). m.root) o) 0) e
 
 space_is : (w : WorldView) (i : ℕ) (q : Mount) → mount_at w.forest i ≡ Some q → space_of w i ≡ q.space

@@ -11,6 +11,8 @@ use Rattle.mt_propagate.specs.Receivers.{receivers}
 use Rattle.mt_propagate.specs.Copies.{Source, Copy, new_copies, copy_id}
 use Rattle.mt_propagate.specs.Copied.{copied}
 use Rattle.mt_propagate.specs.Contained.{IsContained}
+use Rattle.mt_propagate.specs.WellFormed.{IsWellFormed}
+use Rattle.mt_propagate.specs.Sound.{IsCopied, IsDestination}
 
 -- all receivers of a mount of a contained namespace are in it (mount_namespaces(7), restrictions on mount namespaces)
 abbrev pub StaysInside : Type 0
@@ -44,3 +46,7 @@ abbrev pub CopyingKeepsRoots : Type 0
 CopyingKeepsRoots =
     (w : WorldView) (src : Source) (dest : Place) (n : ℕ) → IsTrue (rises id_of w.forest) → MovesNoRoot w src
     → root_mount (copied w src dest).forest n ≡ root_mount w.forest n
+
+-- copies of a source tree of which nothing moves keep a world well-formed (mount_namespaces(7); `sharedsubtree`, mount states)
+abbrev pub CopyingKeepsWorlds : Type 0
+CopyingKeepsWorlds = (w : WorldView) → IsWellFormed w → (src : Source) (dest : Place) → IsCopied w src → IsDestination w dest → IsWellFormed (copied w src dest)

@@ -1,6 +1,6 @@
 //! What is true of propagation, whatever finds the receivers and makes the copies. The functions do
 //! nothing: their contracts are the laws.
-ghost use Rattle.mt_propagate.specs.Laws.{StaysInside, NumberedInOrder, CopyingKeepsLists, CopyingKeepsRoots};
+ghost use Rattle.mt_propagate.specs.Laws.{StaysInside, NumberedInOrder, CopyingKeepsLists, CopyingKeepsRoots, CopyingKeepsWorlds};
 
 /// What happens at a mount of a contained namespace is received in that namespace alone.
 pub fn contained_receivers_are_inside()
@@ -22,4 +22,11 @@ pub fn copying_keeps_lists()
 /// Copies and moves leave each namespace its root mount: no namespace comes or goes by them.
 pub fn copying_keeps_roots()
     ensures { CopyingKeepsRoots }
+{}
+
+/// Where a tree of mounts is copied to a place and to its receivers, and nothing moves, a
+/// well-formed world stays so: its mounts are one tree for each namespace, and its peer groups and
+/// masters are in order.
+pub fn copying_keeps_worlds()
+    ensures { CopyingKeepsWorlds }
 {}
