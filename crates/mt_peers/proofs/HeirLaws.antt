@@ -1,5 +1,5 @@
 -- The first group that still lives on a chain of masters, while the entries are settled one after the other.
-use Rattle.std.proofs.Common.{◌≡◌, ℕ, zero, suc, ◌+◌, ◌-◌, ◌<◌, ◌≤◌, Bool, true, false, ◌||◌, List, [], ◌∷◌, ◌++◌, map, take, drop, length, get_or, set, Option, Some, None, refl, ap, ◌∙◌, arith}
+use Rattle.std.proofs.Common.{◌≡◌, ℕ, zero, suc, ◌+◌, ◌-◌, ◌<◌, Bool, false, ◌||◌, List, [], ◌∷◌, ◌++◌, map, take, drop, length, get_or, set, Option, Some, None, refl, ap, ◌∙◌, arith}
 use Rattle.std.specs.List.{find}
 use Rattle.std.specs.Option.{option_map_or}
 use Rattle.std.proofs.lemmas.Bool.Decides.{nat_tests}
@@ -23,13 +23,6 @@ find-chain p next n k g l off =
     go None = refl
     go (Some h) = refl
 
-pub find-chain_here : (p : ℕ → Bool) (next : ℕ → Option ℕ) (n g : ℕ) → p g ≡ true → find p (chain next n g) ≡ Some g
-find-chain_here p next zero g on = rw on refl
-find-chain_here p next (suc n) g on = rw on refl
-
-pub find-chain_end : (p : ℕ → Bool) (next : ℕ → Option ℕ) (n k g : ℕ) → n ≤ k → p g ≡ false → find p (chain next (n - k) g) ≡ None
-find-chain_end p next n k g l off = let e : n - k ≡ 0 = omega arith in rw e (rw off refl)
-
 -- two tests that agree find the same
 find-same : (p q : ℕ → Bool) → ((x : ℕ) → p x ≡ q x) → (xs : List ℕ) → find p xs ≡ find q xs
 find-same p q same [] = refl
@@ -47,6 +40,7 @@ was_peers-part es zero xs = refl
 was_peers-part es (suc i) [] = refl
 was_peers-part es (suc i) (x ∷ xs) = ap (λ t. was_peer x ∷ t) (was_peers-part es i xs)
 
+-- only which groups live matters
 pub heir-same : (old mid new : List Peer) → ((g : ℕ) → has_member mid g ≡ has_member new g) → (m : Option ℕ) → heir old mid m ≡ heir old new m
 heir-same old mid new same None = refl
 heir-same old mid new same (Some g) = find-same (has_member mid) (has_member new) same (groups_up old g)
