@@ -4,3 +4,4 @@ pub mod OptionLaws
 pub mod RowLineLaws
 pub mod TableLaws
 pub mod PrintLaws
+pub mod SmallWorld

@@ -1,6 +1,6 @@
 -- The words of a line, piece by piece.
 use Rattle.std.proofs.Common.{◌≡◌, ℕ, List, [], ◌∷◌, ◌++◌, Bool, true, false, cond, refl, ap, sym, ◌∙◌, append-nil, append_assoc, codes, decimal}
-use Rattle.std.specs.List.{flat_map, join_with_byte}
+use Rattle.std.specs.List.{join_with_byte}
 use Rattle.std.proofs.lemmas.Grind.{flat_map-append}
 use Rattle.mt_mounts.specs.declared.mount.Attrs.{Attrs}
 use Rattle.mt_skel.specs.Escapes.{escaped}

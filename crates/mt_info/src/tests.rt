@@ -1,10 +1,23 @@
-//! Lines of rows made by hand, and tables of small worlds.
+//! Lines of rows made by hand, and the table of a small world.
+ghost use Rattle.std.specs.Prelude.{◌≡◌, None, IfOk, OnOk, IsTrue};
+ghost use Rattle.mt_skel.specs.Keyed.{put};
+ghost use Rattle.mt_skel.specs.Skeleton.{is_directory};
+ghost use Rattle.mt_mounts.specs.Forest.{id_of};
+ghost use Rattle.mt_peers.specs.Peers.{mount_of};
+ghost use Rattle.mt_propagate.specs.World.{world_view};
+ghost use Rattle.mt_propagate.specs.WellFormed.{IsWellFormed};
+
 use crate::print::{print_row, push_number, push_row};
 use crate::row::Row;
-use mt_mounts::mount::{Atime, Attrs};
-use mt_peers::state::GroupId;
+use crate::table::table_of;
+use mt_mounts::forest::Forest;
+use mt_mounts::mount::{Atime, Attrs, Mount, MountId, Place};
+use mt_peers::peers::Peers;
+use mt_peers::state::{GroupId, State};
+use mt_propagate::world::World;
 use mt_skel::fault::Fault;
 use mt_skel::name::{Label, Name, Names};
+use mt_skel::skel::{Dir, Skel};
 use std::alloc::Global;
 use std::test::Fail;
 
@@ -186,5 +199,137 @@ fn prints_numbers(rt: HostRuntime) -> Result<(), Fail> {
         text.push(b';')?;
     }
     assert_eq!(rt; text.as_slice(), b"0;10;18446744073709551615;".as_slice());
+    Ok(())
+}
+
+/// Filesystem 1, `a`, with the directory `/b c`, and filesystem 2, `d`; and the number of the
+/// directory.
+fn skeleton(alloc: Global) -> Result<(Skel, Dir), Fault> {
+    let mut skel = Skel::new(alloc);
+    let first = label(alloc, b"a")?;
+    let second = label(alloc, b"d")?;
+    skel.add_fs(
+        first.copy()?,
+        label(alloc, b"tmpfs")?,
+        label(alloc, b"none")?,
+    )?;
+    skel.add_fs(second, label(alloc, b"ext4")?, label(alloc, b"/dev/x")?)?;
+    let dir = skel.add_dir(&first, names(alloc, &[b"b c".as_slice()])?.as_slice())?;
+    Ok((skel, dir))
+}
+
+/// The root directory of the filesystem of this name.
+fn root_of(skel: &Skel, name: &Label) -> Result<Dir, Fault>
+    ensures { IfOk result (λ dir. IsTrue (is_directory skel.now dir)) }
+{
+    let Some(fs) = skel.fs(name) else {
+        return Err(Fault::NoFilesystem);
+    };
+    Ok(skel.root(fs))
+}
+
+/// Adds a mount, if its number is new and its place is free.
+fn add(forest: &mut Forest, mount: Mount) -> Result<(), Fault>
+    ensures { OnOk result (forest.new.mounts ≡ put id_of mount forest.old.mounts) }
+{
+    let taken = match mount.place {
+        Some(place) => forest.at(place).is_some(),
+        None => forest.root(mount.space).is_some(),
+    };
+    if taken || forest.get(mount.id).is_some() {
+        return Err(Fault::Busy);
+    }
+    forest.reserve(1)?;
+    forest.insert(mount);
+    Ok(())
+}
+
+/// Adds the state of a mount that has none.
+fn seat(peers: &mut Peers, id: MountId, unbindable: bool) -> Result<(), Fault>
+    ensures peers { OnOk result (peers.new.peers ≡ put mount_of (record { mount = id; state = record { group = None; master = None; unbindable = unbindable } }) peers.old.peers) }
+    ensures next { OnOk result (peers.new.next ≡ peers.old.next) }
+{
+    if peers.state(id).is_some() {
+        return Err(Fault::Busy);
+    }
+    peers.reserve(1)?;
+    peers.join(
+        id,
+        State {
+            group: None,
+            master: None,
+            unbindable,
+        },
+    );
+    Ok(())
+}
+
+/// Namespace 1 with the first filesystem as its root, and the second one, unbindable, on `/b c`.
+fn small_world(alloc: Global) -> Result<World, Fault>
+    ensures { IfOk result (λ world. IsWellFormed (world_view world)) }
+{
+    let (skel, dir) = skeleton(alloc)?;
+    let root = root_of(&skel, &label(alloc, b"a")?)?;
+    let top = root_of(&skel, &label(alloc, b"d")?)?;
+    if !skel.holds(root, dir) {
+        return Err(Fault::NoEntry);
+    }
+    let mut forest = Forest::new(alloc);
+    let attrs = Attrs::new();
+    add(
+        &mut forest,
+        Mount {
+            id: 1,
+            space: 1,
+            place: None,
+            root,
+            attrs,
+        },
+    )?;
+    add(
+        &mut forest,
+        Mount {
+            id: 2,
+            space: 1,
+            place: Some(Place { mount: 1, dir }),
+            root: top,
+            attrs,
+        },
+    )?;
+    let mut peers = Peers::new(alloc);
+    seat(&mut peers, 1, false)?;
+    seat(&mut peers, 2, true)?;
+    Ok(World {
+        skel,
+        forest,
+        peers,
+        next_mount: 3,
+        next_space: 2,
+    })
+}
+
+/// The lines of the table of a namespace, each with a semicolon.
+fn table_text(alloc: Global, world: &World, space: u64) -> Result<Vec<u8>, Fault>
+    requires { IsWellFormed (world_view world.now) }
+{
+    let table = table_of(world, space)?;
+    let mut text = Vec::new(alloc);
+    for row in table.rows() {
+        push_row(&mut text, row)?;
+        text.push(b';')?;
+    }
+    Ok(text)
+}
+
+#[test]
+fn tells_the_table_of_a_namespace(rt: HostRuntime) -> Result<(), Fail> {
+    let world = small_world(rt.alloc())?;
+    let text = table_text(rt.alloc(), &world, 1)?;
+    assert_eq!(rt;
+        text.as_slice(),
+        b"1 1 0:1 / / rw,relatime - tmpfs none rw;2 1 0:2 / /b\\040c rw,relatime unbindable - ext4 /dev/x rw;".as_slice()
+    );
+    let absent = table_text(rt.alloc(), &world, 2);
+    assert!(rt; matches!(absent, Err(Fault::NoNamespace)));
     Ok(())
 }
