@@ -1,7 +1,8 @@
 -- A well-formed world stays so where mounts are changed.
-use Rattle.std.proofs.Common.{◌≡◌, ℕ, ◌<◌, ◌≤◌, map, length, Option, Some, None, refl, sym, ap, subst, ◌∙◌}
+use Rattle.std.proofs.Common.{◌≡◌, ℕ, ◌<◌, ◌≤◌, List, map, length, Option, Some, None, refl, sym, ap, subst, ◌∙◌, Result, Ok, Err, OnOk, OnErr}
 use Rattle.std.specs.Option.{option_map, option_map_or, unwrap_or}
 use Rattle.mt_skel.specs.Skeleton.{directory}
+use Rattle.mt_skel.specs.declared.fault.Fault.{Fault}
 use Rattle.mt_skel.proofs.KeyedLaws.{row_at-map}
 use Rattle.mt_mounts.specs.declared.mount.Mount.{Mount}
 use Rattle.mt_mounts.specs.Forest.{id_of, mount_at}
@@ -71,3 +72,8 @@ module _ (w : WorldView) (h : IsWellFormed w) (c : Change) (i : ℕ) where
     group_fs = groups-show (with_change w c i) alike;
     master_fs = masters-show (with_change w c i) alike;
   }
+
+-- and so does one that was made or refused
+pub change-kept-by : {A : Type 0} (r : Result A Fault) (w new : WorldView) (c : Change) (i : ℕ) → OnOk r (new ≡ with_change w c i) → OnErr r (new ≡ w) → IsWellFormed w → IsWellFormed new
+change-kept-by (Ok x) w new c i done unchanged h = subst IsWellFormed (sym done) (change-kept w h c i)
+change-kept-by (Err f) w new c i done unchanged h = subst IsWellFormed (sym unchanged) h

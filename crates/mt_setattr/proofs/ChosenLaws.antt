@@ -18,19 +18,16 @@ use Rattle.mt_setattr.proofs.SettingLaws.{same_tests}
 
 among-filter : (p : ℕ → Bool) (ids : List ℕ) (j : ℕ) → among (filter p ids) j ≡ (among ids j && p j)
 among-filter p [] j = refl
-among-filter p (i ∷ ids) j = go (eqb i j) refl (p i) refl (p j) refl (among (filter p ids) j) (among ids j) (among-filter p ids j)
+among-filter p (i ∷ ids) j = go (eqb i j) refl (p i) refl (among-filter p ids j)
   where
-    go : (b : Bool) → eqb i j ≡ b → (d : Bool) → p i ≡ d → (e : Bool) → p j ≡ e → (some all : Bool) → some ≡ (all && e) → (cond d (b || some) some) ≡ ((b || all) && e)
-    go true same d f e g some all ih =
-        let one : d ≡ e = sym f ∙ ap p (eqb-true i j same) ∙ g in
-        rw one (both e some all ih)
+    go : (b : Bool) → eqb i j ≡ b → (d : Bool) → p i ≡ d → among (filter p ids) j ≡ (among ids j && p j) → among (cond d (i ∷ filter p ids) (filter p ids)) j ≡ ((b || among ids j) && p j)
+    go true same true f ih = ap (λ b. b || among (filter p ids) j) same ∙ sym f ∙ ap p (eqb-true i j same)
+    go true same false f ih = let q : p j ≡ false = ap p (sym (eqb-true i j same)) ∙ f in ih ∙ none (among ids j) (p j) q ∙ sym q
       where
-        both : (e some all : Bool) → some ≡ (all && e) → (cond e true some) ≡ e
-        both true some all h = refl
-        both false some true h = h
-        both false some false h = h
-    go false off true f e g some all ih = ih
-    go false off false f e g some all ih = ih
+        none : (a b : Bool) → b ≡ false → (a && b) ≡ false
+        none a b e = grind (arith, nat_tests)
+    go false off true f ih = ap (λ b. b || among (filter p ids) j) off ∙ ih
+    go false off false f ih = ih
 
 among-ids : (ms : List Mount) (j : ℕ) → among (map id_of ms) j ≡ has id_of j ms
 among-ids [] j = refl

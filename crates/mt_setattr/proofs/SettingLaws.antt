@@ -99,10 +99,11 @@ module _ (c : Change) (s : ℕ → Bool) (i : ℕ) where
       go true q f ih = absurd (cc)
       go false q f ih = ap₂ (λ (a : Attrs) (t : List Mount). (record x { attrs = a }) ∷ t) (other x.attrs x.attrs false (eqb i x.id) (s x.id) refl q) (ih f)
 
-among-more : (ids : List ℕ) (k i d : ℕ) → k < length ids → i ≡ get_or ids k d → (j : ℕ) → among (take (k + 1) ids) j ≡ (among (take k ids) j || nat_eq i j)
-among-more ids k i d l e j = let n : k + 1 ≡ suc k = omega arith in rw n (rw e (go ids k l))
+-- the next one of a list
+among-more : (ids : List ℕ) (k : ℕ) → k < length ids → (j : ℕ) → among (take (k + 1) ids) j ≡ (among (take k ids) j || nat_eq (get_or ids k 0) j)
+among-more ids k l j = let n : k + 1 ≡ suc k = omega arith in rw n (go ids k l)
   where
-    go : (ids : List ℕ) (k : ℕ) → k < length ids → among (take (suc k) ids) j ≡ (among (take k ids) j || nat_eq (get_or ids k d) j)
+    go : (ids : List ℕ) (k : ℕ) → k < length ids → among (take (suc k) ids) j ≡ (among (take k ids) j || nat_eq (get_or ids k 0) j)
     go [] k l = absurd (omega arith)
     go (x ∷ ids) zero l = grind (arith, nat_tests)
     go (x ∷ ids) (suc k) l = let ih = go ids k (omega arith) in grind (arith, nat_tests)
@@ -112,17 +113,20 @@ pub same_tests : {f g : ℕ → Bool} → ((j : ℕ) → f j ≡ g j) → f ≡ 
 same_tests same = λ t j. same j t
 
 -- so many of a list are changed, and then the next one
-module _ (c : Change) (ids : List ℕ) (k i : ℕ) (old now : List Mount) (within : k < length ids) (next : i ≡ get_or ids k i) (so_far : now ≡ map (changed_mount c (among (take k ids))) old) where
-  again : map (changed_mount c (λ j. among (take k ids) j || nat_eq i j)) old ≡ map (changed_mount c (among (take (k + 1) ids))) old
-  again = ap (λ (s : ℕ → Bool). map (changed_mount c s) old) (sym (same_tests (λ j. among-more ids k i i within next j)))
+module _ (c : Change) (ids : List ℕ) (k : ℕ) (old now : List Mount) (within : k < length ids) (so_far : now ≡ map (changed_mount c (among (take k ids))) old) where
+  abbrev next : ℕ
+  next = get_or ids k 0
 
-  pub set-step : (m : Mount) (a : Attrs) → rises id_of now ≡ true → mount_at now i ≡ Some m → a ≡ changed_attrs c m.attrs → with_attrs i a now ≡ map (changed_mount c (among (take (k + 1) ids))) old
+  one_further : map (changed_mount c (λ j. among (take k ids) j || nat_eq next j)) old ≡ map (changed_mount c (among (take (k + 1) ids))) old
+  one_further = ap (λ (s : ℕ → Bool). map (changed_mount c s) old) (sym (same_tests (λ j. among-more ids k within j)))
+
+  pub set-step : (m : Mount) (a : Attrs) → rises id_of now ≡ true → mount_at now next ≡ Some m → a ≡ changed_attrs c m.attrs → with_attrs next a now ≡ map (changed_mount c (among (take (k + 1) ids))) old
   set-step m a r found is =
       let was : rises id_of old ≡ true = sym (rises-map id_of (changed_mount c (among (take k ids))) (λ x. refl) old) ∙ ap (rises id_of) (sym so_far) ∙ r in
-      ap (λ (a : Attrs). with_attrs i a now) is
-      ∙ ap (with_attrs i (changed_attrs c m.attrs)) so_far
-      ∙ one-more c (among (take k ids)) i old m was (ap (λ (ms : List Mount). mount_at ms i) (sym so_far) ∙ found)
-      ∙ again
+      ap (λ (a : Attrs). with_attrs next a now) is
+      ∙ ap (with_attrs next (changed_attrs c m.attrs)) so_far
+      ∙ one-more c (among (take k ids)) next old m was (ap (λ (ms : List Mount). mount_at ms next) (sym so_far) ∙ found)
+      ∙ one_further
 
-  pub skip-step : mount_at now i ≡ None → now ≡ map (changed_mount c (among (take (k + 1) ids))) old
-  skip-step found = so_far ∙ not-there c (among (take k ids)) i old (ap (λ (ms : List Mount). mount_at ms i) (sym so_far) ∙ found) ∙ again
+  pub skip-step : mount_at now next ≡ None → now ≡ map (changed_mount c (among (take (k + 1) ids))) old
+  skip-step found = so_far ∙ not-there c (among (take k ids)) next old (ap (λ (ms : List Mount). mount_at ms next) (sym so_far) ∙ found) ∙ one_further
