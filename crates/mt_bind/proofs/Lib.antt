@@ -3,3 +3,8 @@ pub mod GoneLaws
 pub mod TwinLaws
 pub mod CopyTreeLaws
 pub mod CopyLaws
+pub mod SourceLaws
+pub mod MountLaws
+pub mod PartLaws
+pub mod BelowLaws
+pub mod WithinLaws

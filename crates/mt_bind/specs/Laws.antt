@@ -1,8 +1,9 @@
 -- What the laws of this crate say.
-use Rattle.std.specs.Prelude.{ℕ, Bool}
+use Rattle.std.specs.Prelude.{◌≡◌, ℕ, Bool, List, Ok}
 use Rattle.mt_propagate.specs.World.{WorldView}
 use Rattle.mt_propagate.specs.WellFormed.{IsWellFormed}
 use Rattle.mt_bind.specs.Spaces.{with_copy, without_space}
+use Rattle.mt_bind.specs.Mounting.{mounted, bound}
 
 -- a world stays well-formed when a namespace is copied, whether into one less privileged or not; where the namespace has no
 -- mounts, nothing is copied (this project's rule)
@@ -12,3 +13,12 @@ CopyingKeeps = (w : WorldView) → IsWellFormed w → (n : ℕ) (less : Bool) �
 -- a world stays well-formed when all mounts of a namespace vanish (this project's rule)
 abbrev pub EndingKeeps : Type 0
 EndingKeeps = (w : WorldView) → IsWellFormed w → (n : ℕ) → IsWellFormed (without_space w n)
+
+-- a world stays well-formed through a mount that is accepted (mount_namespaces(7); `sharedsubtree`, mount states)
+abbrev pub MountKeeps : Type 0
+MountKeeps = (w : WorldView) (n : ℕ) (name : List ℕ) (path : List (List ℕ)) (v : WorldView) (i : ℕ) → IsWellFormed w → mounted w n name path ≡ Ok (v, i) → IsWellFormed v
+
+-- and through a bind, of one mount or of a tree (`sharedsubtree`, bind and rbind semantics)
+abbrev pub BindKeeps : Type 0
+BindKeeps =
+    (w : WorldView) (n : ℕ) (deep : Bool) (from to : List (List ℕ)) (v : WorldView) (i : ℕ) → IsWellFormed w → bound w n deep from to ≡ Ok (v, i) → IsWellFormed v

@@ -1,0 +1,87 @@
+-- A world stays well-formed through a mount and a bind.
+use Rattle.std.proofs.Common.{◌≡◌, ℕ, ◌<◌, ◌≤◌, Bool, true, false, cond, List, [], ◌∷◌, length, Option, Some, None, Result, Ok, Err, refl, sym, ap, ◌∙◌, subst, arith}
+use Rattle.std.specs.Prelude.{unwrap_or, is_none}
+use Rattle.std.specs.Option.{option_map_or}
+use Rattle.mt_skel.specs.declared.fault.Fault.{Fault}
+use Rattle.mt_skel.specs.declared.fault.Fault.TheVariants.{NoFilesystem, RootPlace, Unbindable}
+use Rattle.mt_skel.specs.Outcome.{refuse_if, fault_of, first_fault, outcome}
+use Rattle.mt_skel.specs.Skeleton.{fs_named}
+use Rattle.mt_mounts.specs.declared.mount.Place.{Place}
+use Rattle.mt_mounts.specs.Walk.{walk}
+use Rattle.mt_propagate.specs.World.{WorldView, state_of}
+use Rattle.mt_propagate.specs.Named.{place_or_nowhere, is_root_place}
+use Rattle.mt_propagate.specs.WellFormed.{IsWellFormed}
+use Rattle.mt_propagate.specs.Copies.{Source, copy_id}
+use Rattle.mt_propagate.specs.Copied.{copied}
+use Rattle.mt_propagate.specs.Sound.{IsCopied, IsDestination}
+use Rattle.mt_propagate.proofs.WalkLaws.{walked}
+use Rattle.mt_propagate.proofs.CopiedLaws.{copied_kept}
+use Rattle.mt_bind.specs.Sources.{fresh, alone, tree_within}
+use Rattle.mt_bind.specs.Mounting.{mounted, bound, ended, no_end, too_many}
+use Rattle.mt_bind.proofs.SourceLaws.{fresh_copied, alone_copied, holds_there}
+use Rattle.mt_bind.proofs.WithinLaws.{within_copied}
+
+-- what an accepted command tells: its effect, and that no refusal held
+pub outcome_ok : {A : Type 0} (fs : List (Option Fault)) (a b : A) → outcome fs a ≡ Ok b → (a ≡ b) × (first_fault fs ≡ None)
+outcome_ok {A} fs a b e = by (first_fault fs) e
+  where
+    by : (o : Option Fault) → option_map_or (λ f. Err f) o (Ok a) ≡ Ok b → (a ≡ b) × (o ≡ None)
+    by None f = let same : a ≡ b = cc in (same, refl)
+    by (Some g) f = absurd (cc)
+
+pub first_none : (o : Option Fault) (fs : List (Option Fault)) → first_fault (o ∷ fs) ≡ None → (o ≡ None) × (first_fault fs ≡ None)
+first_none None fs e = (refl, e)
+first_none (Some f) fs e = absurd (cc)
+
+pub not_refused : (b : Bool) (f : Fault) → refuse_if b f ≡ None → b ≡ false
+not_refused false f e = refl
+not_refused true f e = absurd (cc)
+
+pub has_ended : (r : Result Place Fault) → fault_of r ≡ None → r ≡ Ok (place_or_nowhere r)
+has_ended (Ok p) e = refl
+has_ended (Err f) e = absurd (cc)
+
+-- the end of a walk that is no root place is a destination
+pub destination : (w : WorldView) (n : ℕ) (path : List (List ℕ)) (p : Place) → IsWellFormed w → walk w.skel w.forest n path ≡ Ok p → is_root_place w p ≡ false → IsDestination w p
+destination w n path p h e off =
+    let r = walked w n h path p e in
+    record { there = (r.0.0, r.0.1, r.0.3); free = r.1 off }
+
+pub mount_keeps : (w : WorldView) (n : ℕ) (name : List ℕ) (path : List (List ℕ)) (v : WorldView) (i : ℕ) → IsWellFormed w → mounted w n name path ≡ Ok (v, i) → IsWellFormed v
+mount_keeps w n name path v i h e =
+    let p = ended w n path in
+    let fs = unwrap_or (fs_named w.skel name) 0 in
+    let src = fresh w fs in
+    let none = refuse_if (is_none (fs_named w.skel name)) NoFilesystem in
+    let lost = no_end w n path in
+    let root = refuse_if (is_root_place w p) RootPlace in
+    let many = too_many w n src p in
+    let ok = outcome_ok (none ∷ lost ∷ root ∷ many ∷ []) (copied w src p, copy_id w src p p.mount 0) (v, i) e in
+    let one = first_none none (lost ∷ root ∷ many ∷ []) ok.1 in
+    let two = first_none lost (root ∷ many ∷ []) one.1 in
+    let three = first_none root (many ∷ []) two.1 in
+    let d = destination w n path p h (has_ended (walk w.skel w.forest n path) two.0) (not_refused (is_root_place w p) RootPlace three.0) in
+    let low = holds_there w.skel d.there.0.root p.dir d.there.2 in
+    subst IsWellFormed (ap (λ x. x.0) ok.0) (copied_kept w h src p (fresh_copied w h fs (omega (arith, low))) d)
+
+-- what is bound from the end of a walk is a source tree
+bound_source : (w : WorldView) (n : ℕ) (from : List (List ℕ)) (deep : Bool) (p : Place) → IsWellFormed w → walk w.skel w.forest n from ≡ Ok p → IsCopied w (cond deep (tree_within w p) (alone w p))
+bound_source w n from true p h e = let r = (walked w n h from p e).0 in within_copied w h p r.0 r.1 r.3
+bound_source w n from false p h e = let r = (walked w n h from p e).0 in alone_copied w h p r.0 r.1 r.3
+
+pub bind_keeps : (w : WorldView) (n : ℕ) (deep : Bool) (from to : List (List ℕ)) (v : WorldView) (i : ℕ) → IsWellFormed w → bound w n deep from to ≡ Ok (v, i) → IsWellFormed v
+bind_keeps w n deep from to v i h e =
+    let p = ended w n to in
+    let src = cond deep (tree_within w (ended w n from)) (alone w (ended w n from)) in
+    let lost_from = no_end w n from in
+    let lost_to = no_end w n to in
+    let root = refuse_if (is_root_place w p) RootPlace in
+    let unbindable = refuse_if (state_of w (ended w n from).mount).unbindable Unbindable in
+    let many = too_many w n src p in
+    let ok = outcome_ok (lost_from ∷ lost_to ∷ root ∷ unbindable ∷ many ∷ []) (copied w src p, copy_id w src p p.mount src.top.id) (v, i) e in
+    let one = first_none lost_from (lost_to ∷ root ∷ unbindable ∷ many ∷ []) ok.1 in
+    let two = first_none lost_to (root ∷ unbindable ∷ many ∷ []) one.1 in
+    let three = first_none root (unbindable ∷ many ∷ []) two.1 in
+    let d = destination w n to p h (has_ended (walk w.skel w.forest n to) two.0) (not_refused (is_root_place w p) RootPlace three.0) in
+    let s = bound_source w n from deep (ended w n from) h (has_ended (walk w.skel w.forest n from) one.0) in
+    subst IsWellFormed (ap (λ x. x.0) ok.0) (copied_kept w h src p s d)

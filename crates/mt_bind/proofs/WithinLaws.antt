@@ -1,0 +1,189 @@
+-- The tree of mounts below a directory is a source tree.
+use Rattle.std.proofs.Common.{◌≡◌, ◌≢◌, ℕ, ◌<◌, ◌≤◌, ◌&&◌, Bool, true, false, cond, not, ◌==◌, eqb, eqb-true, eq-eqb, List, [], ◌∷◌, map, length, Option, Some, None, refl, sym, ap, ◌∙◌, subst, arith, inl, inr, IsTrue}
+use Rattle.std.specs.Prelude.{unwrap_or}
+use Rattle.std.specs.List.{filter, list_all, last_or}
+use Rattle.std.specs.Option.{option_map, option_map_or}
+use Rattle.std.proofs.lemmas.Bool.{cases_eq, ne_eqb, true≢false}
+use Rattle.std.proofs.lemmas.Bool.Decides.{nat_tests}
+use Rattle.mt_skel.specs.Keyed.{row_at, rises}
+use Rattle.mt_skel.specs.Skeleton.{holds, directory}
+use Rattle.mt_skel.proofs.KeyedLaws.{row_at-key, row_at-map, rises-map, row_at-filter, rises-filter, passing}
+use Rattle.mt_mounts.specs.declared.mount.Mount.{Mount}
+use Rattle.mt_mounts.specs.declared.mount.Place.{Place}
+use Rattle.mt_mounts.specs.Forest.{id_of, mount_at, is_below}
+use Rattle.mt_mounts.proofs.SlotLaws.{none_found}
+use Rattle.mt_propagate.specs.World.{WorldView, state_of}
+use Rattle.mt_propagate.specs.Named.{unknown, mount_or_unknown}
+use Rattle.mt_propagate.specs.WellFormed.{IsWellFormed, fs_at}
+use Rattle.mt_propagate.specs.Sound.{IsTree, IsCopied}
+use Rattle.mt_propagate.proofs.CopyForestLaws.{parent_is}
+use Rattle.mt_propagate.proofs.SoundLaws.{root_is}
+use Rattle.mt_bind.specs.Sources.{top_at, tree_within, is_bound_along, path_to}
+use Rattle.mt_bind.proofs.SourceLaws.{holds_there, known_mount, top_is, own_id, shows_same}
+use Rattle.mt_bind.proofs.PartLaws.{part_tree}
+use Rattle.mt_bind.proofs.BelowLaws.{below_self, below_parent, below_has_parent, above_not_below, path_top, path_step}
+
+pub passed : (t : Mount → Bool) (o : Option Mount) (m : Mount) → passing t o ≡ Some m → (o ≡ Some m) × (t m ≡ true)
+passed t None m e = absurd (cc)
+passed t (Some x) m e = go (t x) refl e
+  where
+    go : (b : Bool) → t x ≡ b → cond b (Some x) None ≡ Some m → (Some x ≡ Some m) × (t m ≡ true)
+    go true is f = let s : x ≡ m = cc in (f, ap t (sym s) ∙ is)
+    go false is f = absurd (cc)
+
+both : (a b : Bool) → (a && b) ≡ true → (a ≡ true) × (b ≡ true)
+both true b e = (refl, e)
+both false b e = absurd (cc)
+
+from-both : (a b : Bool) → a ≡ true → b ≡ true → (a && b) ≡ true
+from-both true b e f = f
+from-both false b e f = absurd (cc)
+
+module _ (w : WorldView) (h : IsWellFormed w) (p : Place) (q : Mount) (row : mount_at w.forest p.mount ≡ Some q) (held : holds w.skel q.root p.dir ≡ true) where
+  abbrev bound : Mount → Bool
+  bound m = is_bound_along w p m.id
+
+  abbrev cut : Mount → Mount
+  cut m = cond (m.id == p.mount) (top_at w p) m
+
+  abbrev ms : List Mount
+  ms = map (λ m. cond (m.id == p.mount) (top_at w p) m) (filter (λ m. is_bound_along w p m.id) w.forest)
+
+  top_id : (top_at w p).id ≡ p.mount
+  top_id = ap (λ (m : Mount). m.id) (top_is w h p q row held) ∙ own_id w h p q row held
+
+  cut-id : (m : Mount) → id_of (cut m) ≡ id_of m
+  cut-id m = go (m.id == p.mount) refl
+    where
+      go : (b : Bool) → (m.id == p.mount) ≡ b → id_of (cond b (top_at w p) m) ≡ m.id
+      go true is = top_id ∙ sym (eqb-true m.id p.mount is)
+      go false is = refl
+
+  rows : (i : ℕ) → mount_at ms i ≡ option_map cut (passing bound (mount_at w.forest i))
+  rows i = row_at-map id_of cut cut-id i (filter bound w.forest) ∙ ap (option_map cut) (row_at-filter id_of bound i w.forest h.forest.rising)
+
+  from_row : (i : ℕ) (m : Mount) → mount_at ms i ≡ Some m → (x : Mount) × (mount_at w.forest i ≡ Some x) × (is_bound_along w p i ≡ true) × (m ≡ cut x)
+  from_row i m e = go (passing bound (mount_at w.forest i)) refl (sym (rows i) ∙ e)
+    where
+      go : (o : Option Mount) → passing bound (mount_at w.forest i) ≡ o → option_map cut o ≡ Some m → (x : Mount) × (mount_at w.forest i ≡ Some x) × (is_bound_along w p i ≡ true) × (m ≡ cut x)
+      go None is f = absurd (cc)
+      go (Some x) is f =
+          let r = passed bound (mount_at w.forest i) x is in
+          (x, r.0, ap (is_bound_along w p) (sym (row_at-key id_of i w.forest x r.0)) ∙ r.1, let s : cut x ≡ m = cc in sym s)
+
+  to_row : (i : ℕ) (x : Mount) → mount_at w.forest i ≡ Some x → is_bound_along w p i ≡ true → mount_at ms i ≡ Some (cut x)
+  to_row i x e b =
+      let k = row_at-key id_of i w.forest x e in
+      rows i ∙ ap (λ o. option_map cut (passing bound o)) e ∙ ap (λ b. option_map cut (cond b (Some x) None)) (ap (is_bound_along w p) k ∙ b)
+
+  cut-top : (x : Mount) → x.id ≡ p.mount → cut x ≡ top_at w p
+  cut-top x e = ap (λ b. cond b (top_at w p) x) (eq-eqb x.id p.mount e)
+
+  cut-other : (x : Mount) → x.id ≢ p.mount → cut x ≡ x
+  cut-other x ne = ap (λ b. cond b (top_at w p) x) (ne_eqb x.id p.mount ne)
+
+  -- the conditions of a bound mount, and of its parent
+  abbrev unbound : ℕ → Bool
+  unbound k = not (state_of w k).unbindable
+
+  abbrev in_dir : ℕ → Bool
+  in_dir k = option_map_or (λ (r : Place). holds w.skel p.dir r.dir) (mount_or_unknown w k).place false
+
+  abbrev first_in : List ℕ → Bool
+  first_in ks = option_map_or (λ k. in_dir k) (last_or None ks) true
+
+  bound_top : is_bound_along w p p.mount ≡ true
+  bound_top =
+      let e = path_top w h p.mount in
+      from-both (is_below w.forest p.mount p.mount && list_all unbound (path_to w p.mount p.mount)) (first_in (path_to w p.mount p.mount))
+      (from-both (is_below w.forest p.mount p.mount) (list_all unbound (path_to w p.mount p.mount)) (below_self w h p.mount) (ap (list_all unbound) e))
+      (ap first_in e)
+
+  last_in : (i : ℕ) (ks : List ℕ) → first_in (i ∷ ks) ≡ true → first_in ks ≡ true
+  last_in i [] e = refl
+  last_in i (k ∷ ks) e = e
+
+  bound_parent : (i : ℕ) (x : Mount) → mount_at w.forest i ≡ Some x → i ≢ p.mount → is_bound_along w p i ≡ true
+      → (r : Place) × (x.place ≡ Some r) × (is_bound_along w p r.mount ≡ true) × (r.mount ≡ p.mount → holds w.skel p.dir r.dir ≡ true)
+  bound_parent i x e ne b =
+      let c = both (is_below w.forest p.mount i && list_all unbound (path_to w p.mount i)) (first_in (path_to w p.mount i)) b in
+      let d = both (is_below w.forest p.mount i) (list_all unbound (path_to w p.mount i)) c.0 in
+      let r = below_has_parent w h p.mount i x ne e d.0 in
+      let up = parent_is w.forest i x r.0 e r.1 in
+      let path = path_step w h p.mount i r.0.mount ne up in
+      let free = both (unbound i) (list_all unbound (path_to w p.mount r.0.mount)) (sym (ap (list_all unbound) path) ∙ d.1) in
+      let first = sym (ap first_in path) ∙ c.1 in (
+        r.0,
+        r.1,
+        from-both (is_below w.forest p.mount r.0.mount && list_all unbound (path_to w p.mount r.0.mount)) (first_in (path_to w p.mount r.0.mount))
+            (from-both (is_below w.forest p.mount r.0.mount) (list_all unbound (path_to w p.mount r.0.mount)) (sym (below_parent w h p.mount i r.0.mount ne up) ∙ d.0) free.1)
+            (last_in i (path_to w p.mount r.0.mount) first),
+        λ same.
+            let none : path_to w p.mount r.0.mount ≡ [] = ap (path_to w p.mount) same ∙ path_top w h p.mount in
+            let here : in_dir i ≡ true = sym (ap (λ ks. first_in (i ∷ ks)) none) ∙ first in
+            let place : (mount_or_unknown w i).place ≡ Some r.0 = ap (λ o. (unwrap_or o unknown).place) e ∙ r.1 in
+            sym (ap (λ o. option_map_or (λ (r : Place). holds w.skel p.dir r.dir) o false) place) ∙ here,
+      )
+
+  same_place : (i : ℕ) (x : Mount) → mount_at w.forest i ≡ Some x → (cut x).place ≡ x.place
+  same_place i x e =
+      let k = row_at-key id_of i w.forest x e in
+      elim (cases_eq x.id p.mount) [
+        | inl top ↦
+            let v : Some q ≡ Some x = sym row ∙ ap (mount_at w.forest) (sym top ∙ k) ∙ e in
+            let s : q ≡ x = cc in
+            ap (λ (m : Mount). m.place) (cut-top x top ∙ top_is w h p q row held) ∙ ap (λ (m : Mount). m.place) s
+        | inr off ↦ ap (λ (m : Mount). m.place) (cut-other x off)
+      ]
+
+  root_low : (i : ℕ) (x : Mount) → mount_at w.forest i ≡ Some x → (cut x).root < length w.skel.directories
+  root_low i x e = elim (cases_eq x.id p.mount) [
+    | inl top ↦ subst (λ r. r < length w.skel.directories) (ap (λ (m : Mount). m.root) (sym (cut-top x top ∙ top_is w h p q row held))) (holds_there w.skel q.root p.dir held)
+    | inr off ↦ let b = h.below i x e in subst (λ r. r < length w.skel.directories) (ap (λ (m : Mount). m.root) (sym (cut-other x off))) b.4
+  ]
+
+  shows_cut : (i : ℕ) (x : Mount) → mount_at w.forest i ≡ Some x → (directory w.skel (cut x).root).fs ≡ fs_at w i
+  shows_cut i x e =
+      let k = row_at-key id_of i w.forest x e in
+      elim (cases_eq x.id p.mount) [
+        | inl top ↦ ap (λ (m : Mount). (directory w.skel m.root).fs) (cut-top x top ∙ top_is w h p q row held) ∙ shows_same w h p q row held ∙ ap (fs_at w) (sym top ∙ k)
+        | inr off ↦ ap (λ (m : Mount). (directory w.skel m.root).fs) (cut-other x off) ∙ ap (λ r. (directory w.skel r).fs) (sym (root_is w i x e))
+      ]
+
+  inside : (i : ℕ) (m : Mount) → mount_at ms i ≡ Some m → i ≢ (top_at w p).id → (r : Place) × (u : Mount) × (m.place ≡ Some r) × (mount_at ms r.mount ≡ Some u) × IsTrue (holds w.skel u.root r.dir)
+  inside i m e ne =
+      let x = from_row i m e in
+      let off : i ≢ p.mount = (λ s. ne (s ∙ sym top_id)) in
+      let r = bound_parent i x.0 x.1 off x.2 in
+      let f = h.forest.placed i x.0 r.0 x.1 r.1 in
+      let k = row_at-key id_of r.0.mount w.forest f.0 f.1 in (
+        r.0,
+        cut f.0,
+        ap (λ (v : Mount). v.place) x.3 ∙ same_place i x.0 x.1 ∙ r.1,
+        to_row r.0.mount f.0 f.1 r.2,
+        elim (cases_eq f.0.id p.mount) [
+          | inl top ↦ ap (λ (v : Mount). holds w.skel v.root r.0.dir) (cut-top f.0 top ∙ top_is w h p q row held) ∙ r.3 (sym k ∙ top)
+          | inr other ↦ ap (λ (v : Mount). holds w.skel v.root r.0.dir) (cut-other f.0 other) ∙ f.3
+        ],
+      )
+
+  outside : (r : Place) → (top_at w p).place ≡ Some r → mount_at ms r.mount ≡ None
+  outside r at = none_found _ (λ x e.
+      let y = from_row r.mount x e in
+      let c = both (is_below w.forest p.mount r.mount && list_all unbound (path_to w p.mount r.mount)) (first_in (path_to w p.mount r.mount)) y.2 in
+      let d = both (is_below w.forest p.mount r.mount) (list_all unbound (path_to w p.mount r.mount)) c.0 in
+      above_not_below w h p.mount q r row (ap (λ (m : Mount). m.place) (sym (top_is w h p q row held)) ∙ at) d.0)
+
+  pub within_copied : IsCopied w (tree_within w p)
+  within_copied = record {
+    stays = refl;
+    tree =
+        part_tree w h ms (top_at w p) (rises-map id_of cut cut-id (filter bound w.forest) ∙ rises-filter id_of bound w.forest h.forest.rising)
+        (ap (mount_at ms) top_id ∙ to_row p.mount q row bound_top ∙ ap (λ m. Some m) (cut-top q (own_id w h p q row held)))
+        (λ i m e.
+        let x = from_row i m e in
+        (x.0, x.1, sym (same_place i x.0 x.1) ∙ ap (λ (v : Mount). v.place) (sym x.3), subst (λ (v : Mount). v.root < length w.skel.directories) (sym x.3) (root_low i x.0 x.1)))
+        inside outside;
+    group_fs = λ i g m e is. let x = from_row i m e in ap (λ (v : Mount). (directory w.skel v.root).fs) x.3 ∙ shows_cut i x.0 x.1;
+    master_fs = λ i g m e is. let x = from_row i m e in ap (λ (v : Mount). (directory w.skel v.root).fs) x.3 ∙ shows_cut i x.0 x.1;
+  }
