@@ -16,3 +16,4 @@ pub mod CopyPeerLaws
 pub mod StackLaws
 pub mod SoundLaws
 pub mod CopiedLaws
+pub mod GrownLaws
