@@ -55,6 +55,15 @@ pub fn table_of(world: &World, space: SpaceId) -> Result<Table, Fault>
     if world.forest.root(space).is_none() {
         return Err(Fault::NoNamespace);
     }
+    table_or_empty(world, space)
+}
+
+/// The table of a namespace, which is empty where there is no such namespace. Refused as `NoMemory` alone.
+pub fn table_or_empty(world: &World, space: SpaceId) -> Result<Table, Fault>
+    requires well_formed { IsWellFormed (world_view world.now) }
+    ensures table { IfOk result (λ table. table ≡ table_of (world_view world.now) space) }
+    ensures memory { IsOkUnless result Fault.NoMemory }
+{
     let ids = world.forest.ids()?;
     let alloc = *ids.allocator();
     let mut rows = Vec::new(alloc);

@@ -9,7 +9,7 @@ ghost use Rattle.mt_propagate.specs.WellFormed.{IsWellFormed};
 
 use crate::print::{print_row, push_number, push_row};
 use crate::row::Row;
-use crate::table::table_of;
+use crate::table::{table_of, table_or_empty};
 use mt_mounts::forest::Forest;
 use mt_mounts::mount::{Atime, Attrs, Mount, MountId, Place};
 use mt_peers::peers::Peers;
@@ -331,5 +331,17 @@ fn tells_the_table_of_a_namespace(rt: HostRuntime) -> Result<(), Fail> {
     );
     let absent = table_text(rt.alloc(), &world, 2);
     assert!(rt; matches!(absent, Err(Fault::NoNamespace)));
+    Ok(())
+}
+
+#[test]
+fn no_namespace_has_no_rows(rt: HostRuntime) -> Result<(), Fail> {
+    let world = World::new(rt.alloc());
+    for space in [0, 1, u64::MAX] {
+        let table = table_or_empty(&world, space)?;
+        assert!(rt; table.rows().is_empty(), "{space}");
+        let refused = matches!(table_of(&world, space), Err(Fault::NoNamespace));
+        assert!(rt; refused, "{space}");
+    }
     Ok(())
 }

@@ -6,7 +6,7 @@ use Rattle.mt_propagate.specs.World.{world_view}
 use Rattle.mt_info.specs.Table.{row_id, table_of}
 use Rattle.mt_info.specs.Pieces.{rows_at}
 use Rattle.mt_info.proofs.TableLaws.{rows_of_ids, table_rises}
-use Rattle.mt_info.proofs.table.table_of.Goals as goal
+use Rattle.mt_info.proofs.table.table_or_empty.Goals as goal
 
 pub loop-id-init : goal.loop-id-init
 loop-id-init c =

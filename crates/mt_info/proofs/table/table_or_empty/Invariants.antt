@@ -3,7 +3,7 @@ use Rattle.std.specs.List.{flat_map}
 use Rattle.mt_propagate.specs.World.{world_view}
 use Rattle.mt_info.specs.Table.{table_of}
 use Rattle.mt_info.specs.Pieces.{rows_at}
-use Rattle.mt_info.proofs.table.table_of.Given as goal
+use Rattle.mt_info.proofs.table.table_or_empty.Given as goal
 
 -- the rows of the mounts passed, and of those to come
 abbrev pub invariant-loop-id : goal.invariant-loop-id
