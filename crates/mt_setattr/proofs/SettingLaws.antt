@@ -84,7 +84,7 @@ module _ (c : Change) (s : ℕ → Bool) (i : ℕ) where
           let on : eqb x.id i ≡ true = grind (arith, nat_tests) in
           let above : list_all (λ m. ltb i m.id) ms ≡ true = subst (λ k. list_all (λ m. ltb k m.id) ms ≡ true) (sym (eqb-true i x.id e)) (grind (arith, nat_tests)) in
           subst (λ (v : Mount). with_attrs i (changed_attrs c v.attrs) (map (changed_mount c s) (x ∷ ms)) ≡ map (changed_mount c and_i) (x ∷ ms)) is
-            (ap₂ (λ (a : Attrs) (t : List Mount). (record x { attrs = a }) ∷ t) (this x.attrs (eqb x.id i) (eqb i x.id) (s x.id) on e) (rest-above (changed_attrs c (changed_mount c s x).attrs) ms above))
+          (ap₂ (λ (a : Attrs) (t : List Mount). (record x { attrs = a }) ∷ t) (this x.attrs (eqb x.id i) (eqb i x.id) (s x.id) on e) (rest-above (changed_attrs c (changed_mount c s x).attrs) ms above))
       go false e f ih =
           let off : eqb x.id i ≡ false = grind (arith, nat_tests) in
           ap₂ (λ (a : Attrs) (t : List Mount). (record x { attrs = a }) ∷ t) (other x.attrs (changed_attrs c m.attrs) (eqb x.id i) (eqb i x.id) (s x.id) off e) (ih f)

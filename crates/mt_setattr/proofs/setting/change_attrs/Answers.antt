@@ -17,7 +17,7 @@ loop-id-preserved c =
       | in-Some w ↦
           ap (λ f. f.mounts) w.forest-is ∙ w.set_attrs.ensures.mounts
           ∙ set-step c.args.change.now c.args.ids.now c.loop-id.id-index old now c.loop-id-test.true c.loop-id.invariant
-              w.in-Some.mount w.attrs_after.result w.set_attrs.ensures.rising (sym c.get.ensures ∙ w.in-Some.is) w.attrs_after.ensures
+          w.in-Some.mount w.attrs_after.result w.set_attrs.ensures.rising (sym c.get.ensures ∙ w.in-Some.is) w.attrs_after.ensures
       | in_default w ↦
           ap (λ f. f.mounts) w.forest-is
           ∙ skip-step c.args.change.now c.args.ids.now c.loop-id.id-index old now c.loop-id-test.true c.loop-id.invariant (sym c.get.ensures ∙ w.in_default.is)
