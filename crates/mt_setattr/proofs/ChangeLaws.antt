@@ -1,5 +1,5 @@
 -- A well-formed world stays so where mounts are changed.
-use Rattle.std.proofs.Common.{◌≡◌, ℕ, ◌<◌, ◌≤◌, List, map, length, Option, Some, None, refl, sym, ap, subst, ◌∙◌, Result, Ok, Err, OnOk, OnErr}
+use Rattle.std.proofs.Common.{◌≡◌, ℕ, ◌<◌, ◌≤◌, map, length, Option, Some, None, refl, sym, ap, subst, ◌∙◌, Result, Ok, Err, OnOk, OnErr}
 use Rattle.std.specs.Option.{option_map, option_map_or, unwrap_or}
 use Rattle.mt_skel.specs.Skeleton.{directory}
 use Rattle.mt_skel.specs.declared.fault.Fault.{Fault}

@@ -120,8 +120,8 @@ fn is_named(world: &World, place: Place) -> bool
 ///
 /// Refused as `NoNamespace` where the namespace is not there, `NoEntry` where a directory of the
 /// path is not, `NotMountRoot` where the path does not end at the root of a mount, `BadAttr` where
-/// two access times are set, or one whose room the change does not clear, and as `NoMemory` where
-/// it is recursive; then nothing has changed.
+/// two access times are set, or one while the access time is not taken away, and as `NoMemory`;
+/// then nothing has changed. Only a recursive change takes memory.
 #[tactic(auto, unfolding(crate::specs::Change::attributed))]
 pub fn set_attr(
     world: &mut World,

@@ -1,4 +1,4 @@
-use Rattle.std.proofs.Common.{◌≡◌, ℕ, List, [], ◌∷◌, eqb, ◌||◌, ◌&&◌, sym, ap, ◌∙◌}
+use Rattle.std.proofs.Common.{ℕ, List, [], ◌∷◌, eqb, ◌||◌, ◌&&◌, sym, ap, ◌∙◌}
 use Rattle.mt_mounts.specs.Forest.{is_below}
 use Rattle.mt_peers.specs.Entries.{among}
 use Rattle.mt_propagate.specs.World.{world_view}
