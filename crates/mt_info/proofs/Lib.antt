@@ -5,3 +5,4 @@ pub mod RowLineLaws
 pub mod TableLaws
 pub mod PrintLaws
 pub mod SmallWorld
+pub mod SameRowLaws

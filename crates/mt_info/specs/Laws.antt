@@ -1,10 +1,11 @@
 -- What the laws of this crate say.
-use Rattle.std.specs.Prelude.{◌≡◌, ◌<◌, ◌^◌, IsTrue}
+use Rattle.std.specs.Prelude.{◌≡◌, ◌↔◌, ◌<◌, ◌^◌, true, List, IsTrue}
 use Rattle.std.specs.List.{list_all}
 use Rattle.std.specs.Option.{ForSome}
 use Rattle.mt_skel.specs.Names.{is_name}
 use Rattle.mt_info.specs.declared.row.Row.{Row}
 use Rattle.mt_info.specs.RowLine.{line}
+use Rattle.mt_info.specs.SameRow.{rows_eq}
 
 -- what is true of the fields of every `Row` by their types: numbers of 64 bits, and names in its paths (this project's
 -- rule)
@@ -20,3 +21,7 @@ pub record IsRow (r : Row) : Type 0 where
 -- no text is the line of two rows (proc_pid_mountinfo(5): the fields can be told apart)
 abbrev pub LinesTellRows : Type 0
 LinesTellRows = (r s : Row) → IsRow r → IsRow s → line r ≡ line s → r ≡ s
+
+-- lists of rows compare as equal exactly if they are equal (this project's rule)
+abbrev pub ComparingTellsRows : Type 0
+ComparingTellsRows = (a b : List Row) → (rows_eq a b ≡ true) ↔ (a ≡ b)

@@ -5,6 +5,7 @@ ghost use Rattle.mt_propagate.specs.World.{world_view, is_space, state_of};
 ghost use Rattle.mt_propagate.specs.WellFormed.{IsWellFormed};
 ghost use Rattle.mt_info.specs.Table.{table_of, row_of, mount_point, own_names};
 ghost use Rattle.mt_info.specs.Pieces.{rows_at};
+ghost use Rattle.mt_info.specs.SameRow.{rows_eq};
 
 use crate::row::Row;
 use mt_mounts::mount::{Mount, MountId, SpaceId};
@@ -41,6 +42,29 @@ impl Table {
     {
         self.rows.as_slice()
     }
+
+    /// Whether two tables have equal rows. Takes no memory.
+    pub fn same(&self, other: &Table) -> bool
+        ensures { result ≡ rows_eq self.now other.now }
+    {
+        same_rows(&self.rows, &other.rows)
+    }
+}
+
+/// Whether two lists have equal rows.
+fn same_rows(left: &[Row], right: &[Row]) -> bool
+    ensures { result ≡ rows_eq left.now right.now }
+{
+    let mut others = right.iter();
+    for here in left {
+        let Some(there) = others.next() else {
+            return false;
+        };
+        if !here.same(there) {
+            return false;
+        }
+    }
+    others.next().is_none()
 }
 
 /// The table of a namespace.
@@ -199,4 +223,58 @@ fn push_names(point: &mut Vec<Name>, path: &[Name], depth: usize) -> Result<(), 
         point.push(name.copy()?)?;
     }
     Ok(())
+}
+
+#[cfg(test)]
+mod tests {
+    use super::*;
+    use crate::tests::row;
+    use std::test::Fail;
+
+    fn one_row(alloc: Global) -> Result<Table, Fault> {
+        let mut first = row(alloc)?;
+        first.id = 1;
+        let mut rows = Vec::new(alloc);
+        rows.push(first)?;
+        Ok(Table { rows })
+    }
+
+    /// Two rows, of which the second has this parent.
+    fn two_rows(alloc: Global, parent: MountId) -> Result<Table, Fault> {
+        let mut first = row(alloc)?;
+        first.id = 1;
+        let mut second = row(alloc)?;
+        second.id = 2;
+        second.parent = parent;
+        let mut rows = Vec::new(alloc);
+        rows.push(first)?;
+        rows.push(second)?;
+        Ok(Table { rows })
+    }
+
+    #[test]
+    fn tables_compare_by_rows(rt: HostRuntime) -> Result<(), Fail> {
+        let none = Table {
+            rows: Vec::new(rt.alloc()),
+        };
+        let one = one_row(rt.alloc())?;
+        let two = two_rows(rt.alloc(), 1)?;
+        let copy = two_rows(rt.alloc(), 1)?;
+        let other = two_rows(rt.alloc(), 2)?;
+        for (at, left, right, wanted) in [
+            (0, &none, &none, true),
+            (1, &none, &one, false),
+            (2, &one, &none, false),
+            (3, &one, &one, true),
+            (4, &one, &two, false),
+            (5, &two, &one, false),
+            (6, &two, &two, true),
+            (7, &two, &copy, true),
+            (8, &two, &other, false),
+        ] {
+            let same = left.same(right);
+            assert_eq!(rt; same, wanted, "{at}");
+        }
+        Ok(())
+    }
 }
