@@ -17,3 +17,5 @@ pub mod StackLaws
 pub mod SoundLaws
 pub mod CopiedLaws
 pub mod GrownLaws
+pub mod MovedForestLaws
+pub mod MoveLaws

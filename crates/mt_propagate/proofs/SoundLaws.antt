@@ -35,10 +35,10 @@ use Rattle.mt_propagate.proofs.CopyForestLaws.{CopiesStand, copies-forest, copy_
 use Rattle.mt_propagate.proofs.CopyPeerLaws.{CopiesJoin, peering_kept, group_shows, master_shows}
 use Rattle.mt_propagate.proofs.StackLaws.{stack_end_of}
 
-copy_self : (c : Copy) → copy_eq c c ≡ true
+pub copy_self : (c : Copy) → copy_eq c c ≡ true
 copy_self c = grind (arith, nat_tests)
 
-copy_exact : (c d : Copy) → copy_eq c d ≡ true → c ≡ d
+pub copy_exact : (c d : Copy) → copy_eq c d ≡ true → c ≡ d
 copy_exact c d e =
     let a : c.target ≡ d.target = grind (arith, nat_tests) in
     let b : c.source ≡ d.source = grind (arith, nat_tests) in
@@ -86,7 +86,7 @@ hit_there w h dest t e =
     let q = receiver_mount w h dest.mount t a.0 in
     (q.0, q.1, sym (space_is w t q.0 q.1), ap (λ r. holds w.skel r dest.dir) (sym (root_is w t q.0 q.1)) ∙ a.1)
 
-none_passes : {X : Type 0} (q : X → Bool) (xs : List X) (x : X) → find q xs ≡ None → In x xs → q x ≡ true → ⊥
+pub none_passes : {X : Type 0} (q : X → Bool) (xs : List X) (x : X) → find q xs ≡ None → In x xs → q x ≡ true → ⊥
 none_passes q xs x e h t = let f = in_found q xs x h t in let v : None ≡ Some f.0 = sym e ∙ f.1 in absurd (cc)
 
 -- a row of a list that others follow

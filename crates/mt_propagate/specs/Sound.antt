@@ -1,11 +1,11 @@
 -- What a source tree and a place have to be, so that a world stays well-formed once the tree and its copies stand.
-use Rattle.std.specs.Prelude.{◌≡◌, ◌≢◌, ℕ, ◌<◌, false, List, length, Some, None, IsTrue}
+use Rattle.std.specs.Prelude.{◌≡◌, ◌≢◌, ℕ, ◌<◌, true, false, List, length, Some, None, IsTrue}
 use Rattle.mt_skel.specs.Keyed.{rises}
 use Rattle.mt_skel.specs.Chain.{ends}
 use Rattle.mt_skel.specs.Skeleton.{Skeleton, holds, directory}
 use Rattle.mt_mounts.specs.declared.mount.Mount.{Mount}
 use Rattle.mt_mounts.specs.declared.mount.Place.{Place}
-use Rattle.mt_mounts.specs.Forest.{id_of, mount_at, on, parent}
+use Rattle.mt_mounts.specs.Forest.{id_of, mount_at, on, parent, is_below}
 use Rattle.mt_propagate.specs.World.{WorldView, state_of, group_of}
 use Rattle.mt_propagate.specs.Copies.{Source}
 use Rattle.mt_propagate.specs.WellFormed.{fs_at}
@@ -44,3 +44,18 @@ pub record IsCopied (w : WorldView) (src : Source) : Type 0 where
   pub group_fs : (i g : ℕ) (m : Mount) → mount_at src.mounts i ≡ Some m → group_of w i ≡ Some g → (directory w.skel m.root).fs ≡ fs_at w i
   -- one that has a master shows the filesystem of that master
   pub master_fs : (i g : ℕ) (m : Mount) → mount_at src.mounts i ≡ Some m → (state_of w i).master ≡ Some g → (directory w.skel m.root).fs ≡ fs_at w i
+
+-- a source tree that itself goes to a place (`sharedsubtree`, move semantics)
+pub record IsMoved (w : WorldView) (src : Source) (dest : Place) : Type 0 where
+  -- it goes there
+  pub moves : src.moved ≡ true
+  -- its mounts are one tree
+  pub tree : IsTree w.skel src.mounts src.top
+  -- they are mounts of the world
+  pub known : (i : ℕ) (m : Mount) → mount_at src.mounts i ≡ Some m → mount_at w.forest i ≡ Some m
+  -- the top stands on another mount
+  pub placed : src.top.place ≢ None
+  -- the place is in the namespace of the top
+  pub same_space : (q : Mount) → mount_at w.forest dest.mount ≡ Some q → q.space ≡ src.top.space
+  -- and not below the top
+  pub outside : is_below w.forest src.top.id dest.mount ≡ false
