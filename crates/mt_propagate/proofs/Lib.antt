@@ -19,3 +19,4 @@ pub mod CopiedLaws
 pub mod GrownLaws
 pub mod MovedForestLaws
 pub mod MoveLaws
+pub mod MovedLaws

@@ -12,7 +12,7 @@ use Rattle.mt_propagate.specs.Copies.{Source, Copy, new_copies, copy_id}
 use Rattle.mt_propagate.specs.Copied.{copied}
 use Rattle.mt_propagate.specs.Contained.{IsContained}
 use Rattle.mt_propagate.specs.WellFormed.{IsWellFormed}
-use Rattle.mt_propagate.specs.Sound.{IsCopied, IsDestination}
+use Rattle.mt_propagate.specs.Sound.{IsCopied, IsMoved, IsDestination}
 
 -- all receivers of a mount of a contained namespace are in it (mount_namespaces(7), restrictions on mount namespaces)
 abbrev pub StaysInside : Type 0
@@ -50,3 +50,7 @@ CopyingKeepsRoots =
 -- copies of a source tree of which nothing moves keep a world well-formed (mount_namespaces(7); `sharedsubtree`, mount states)
 abbrev pub CopyingKeepsWorlds : Type 0
 CopyingKeepsWorlds = (w : WorldView) → IsWellFormed w → (src : Source) (dest : Place) → IsCopied w src → IsDestination w dest → IsWellFormed (copied w src dest)
+
+-- and so does a move of a source tree, with its copies (`sharedsubtree`, move semantics)
+abbrev pub MovingKeepsWorlds : Type 0
+MovingKeepsWorlds = (w : WorldView) → IsWellFormed w → (src : Source) (dest : Place) → IsMoved w src dest → IsDestination w dest → IsWellFormed (copied w src dest)

@@ -1,6 +1,6 @@
 //! What is true of propagation, whatever finds the receivers and makes the copies. The functions do
 //! nothing: their contracts are the laws.
-ghost use Rattle.mt_propagate.specs.Laws.{StaysInside, NumberedInOrder, CopyingKeepsLists, CopyingKeepsRoots, CopyingKeepsWorlds};
+ghost use Rattle.mt_propagate.specs.Laws.{StaysInside, NumberedInOrder, CopyingKeepsLists, CopyingKeepsRoots, CopyingKeepsWorlds, MovingKeepsWorlds};
 
 /// What happens at a mount of a contained namespace is received in that namespace alone.
 pub fn contained_receivers_are_inside()
@@ -29,4 +29,10 @@ pub fn copying_keeps_roots()
 /// masters are in order.
 pub fn copying_keeps_worlds()
     ensures { CopyingKeepsWorlds }
+{}
+
+/// Where a tree of mounts goes to a place of its namespace that is not below it, and copies of it
+/// stand at the receivers, a well-formed world stays so.
+pub fn moving_keeps_worlds()
+    ensures { MovingKeepsWorlds }
 {}
