@@ -8,3 +8,4 @@ pub mod MountLaws
 pub mod PartLaws
 pub mod BelowLaws
 pub mod WithinLaws
+pub mod TreeOfLaws

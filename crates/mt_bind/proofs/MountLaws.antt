@@ -1,25 +1,30 @@
--- A world stays well-formed through a mount and a bind.
+-- A world stays well-formed through a mount, a bind and a move.
 use Rattle.std.proofs.Common.{◌≡◌, ℕ, ◌<◌, ◌≤◌, Bool, true, false, cond, List, [], ◌∷◌, length, Option, Some, None, Result, Ok, Err, refl, sym, ap, ◌∙◌, subst, arith}
-use Rattle.std.specs.Prelude.{unwrap_or, is_none}
+use Rattle.std.specs.Prelude.{unwrap_or, is_none, is_some, not, ◌&&◌}
+use Rattle.std.specs.List.{list_any}
 use Rattle.std.specs.Option.{option_map_or}
 use Rattle.mt_skel.specs.declared.fault.Fault.{Fault}
-use Rattle.mt_skel.specs.declared.fault.Fault.TheVariants.{NoFilesystem, RootPlace, Unbindable}
+use Rattle.mt_skel.specs.declared.fault.Fault.TheVariants.{NoFilesystem, RootPlace, Unbindable, NotMountRoot, SharedParent, IntoItself, UnbindableInside}
 use Rattle.mt_skel.specs.Outcome.{refuse_if, fault_of, first_fault, outcome}
 use Rattle.mt_skel.specs.Skeleton.{fs_named}
+use Rattle.mt_mounts.specs.declared.mount.Mount.{Mount}
 use Rattle.mt_mounts.specs.declared.mount.Place.{Place}
+use Rattle.mt_mounts.specs.Forest.{mount_at, parent, is_below}
 use Rattle.mt_mounts.specs.Walk.{walk}
-use Rattle.mt_propagate.specs.World.{WorldView, state_of}
-use Rattle.mt_propagate.specs.Named.{place_or_nowhere, is_root_place}
+use Rattle.mt_propagate.specs.World.{WorldView, state_of, group_of}
+use Rattle.mt_propagate.specs.Named.{place_or_nowhere, is_root_place, is_root_mount, is_named_mount}
 use Rattle.mt_propagate.specs.WellFormed.{IsWellFormed}
 use Rattle.mt_propagate.specs.Copies.{Source, copy_id}
 use Rattle.mt_propagate.specs.Copied.{copied}
 use Rattle.mt_propagate.specs.Sound.{IsCopied, IsDestination}
 use Rattle.mt_propagate.proofs.WalkLaws.{walked}
 use Rattle.mt_propagate.proofs.CopiedLaws.{copied_kept}
-use Rattle.mt_bind.specs.Sources.{fresh, alone, tree_within}
-use Rattle.mt_bind.specs.Mounting.{mounted, bound, ended, no_end, too_many}
+use Rattle.mt_propagate.proofs.MovedLaws.{moved_kept}
+use Rattle.mt_bind.specs.Sources.{fresh, alone, tree_within, tree_of}
+use Rattle.mt_bind.specs.Mounting.{mounted, bound, moved, ended, no_end, too_many}
 use Rattle.mt_bind.proofs.SourceLaws.{fresh_copied, alone_copied, holds_there}
 use Rattle.mt_bind.proofs.WithinLaws.{within_copied}
+use Rattle.mt_bind.proofs.TreeOfLaws.{tree_moves}
 
 -- what an accepted command tells: its effect, and that no refusal held
 pub outcome_ok : {A : Type 0} (fs : List (Option Fault)) (a b : A) → outcome fs a ≡ Ok b → (a ≡ b) × (first_fault fs ≡ None)
@@ -85,3 +90,34 @@ bind_keeps w n deep from to v i h e =
     let d = destination w n to p h (has_ended (walk w.skel w.forest n to) two.0) (not_refused (is_root_place w p) RootPlace three.0) in
     let s = bound_source w n from deep (ended w n from) h (has_ended (walk w.skel w.forest n from) one.0) in
     subst IsWellFormed (ap (λ x. x.0) ok.0) (copied_kept w h src p s d)
+
+pub move_keeps : (w : WorldView) (n : ℕ) (from to : List (List ℕ)) (v : WorldView) → IsWellFormed w → moved w n from to ≡ Ok v → IsWellFormed v
+move_keeps w n from to v h e =
+    let p = ended w n to in
+    let i = (ended w n from).mount in
+    let src = tree_of w i in
+    let lost_from = no_end w n from in
+    let named = refuse_if (not (is_named_mount w (ended w n from))) NotMountRoot in
+    let root = refuse_if (is_root_mount w (ended w n from)) RootPlace in
+    let lost_to = no_end w n to in
+    let root_to = refuse_if (is_root_place w p) RootPlace in
+    let shared = refuse_if (option_map_or (λ k. is_some (group_of w k)) (parent w.forest i) false) SharedParent in
+    let itself = refuse_if (is_below w.forest i p.mount) IntoItself in
+    let unbindable = refuse_if (is_some (group_of w p.mount) && list_any (λ (m : Mount). (state_of w m.id).unbindable) src.mounts) UnbindableInside in
+    let many = too_many w n src p in
+    let ok = outcome_ok (lost_from ∷ named ∷ root ∷ lost_to ∷ root_to ∷ shared ∷ itself ∷ unbindable ∷ many ∷ []) (copied w src p) v e in
+    let one = first_none lost_from (named ∷ root ∷ lost_to ∷ root_to ∷ shared ∷ itself ∷ unbindable ∷ many ∷ []) ok.1 in
+    let two = first_none named (root ∷ lost_to ∷ root_to ∷ shared ∷ itself ∷ unbindable ∷ many ∷ []) one.1 in
+    let three = first_none root (lost_to ∷ root_to ∷ shared ∷ itself ∷ unbindable ∷ many ∷ []) two.1 in
+    let four = first_none lost_to (root_to ∷ shared ∷ itself ∷ unbindable ∷ many ∷ []) three.1 in
+    let five = first_none root_to (shared ∷ itself ∷ unbindable ∷ many ∷ []) four.1 in
+    let six = first_none shared (itself ∷ unbindable ∷ many ∷ []) five.1 in
+    let seven = first_none itself (unbindable ∷ many ∷ []) six.1 in
+    let to_ok = has_ended (walk w.skel w.forest n to) four.0 in
+    let from_end = (walked w n h from (ended w n from) (has_ended (walk w.skel w.forest n from) one.0)).0 in
+    let to_end = (walked w n h to p to_ok).0 in
+    let d = destination w n to p h to_ok (not_refused (is_root_place w p) RootPlace five.0) in
+    let space : (u : Mount) → mount_at w.forest p.mount ≡ Some u → u.space ≡ from_end.0.space =
+    (λ u f. (let s : Some u ≡ Some to_end.0 = sym f ∙ to_end.1 in let same : u ≡ to_end.0 = cc in ap (λ (m : Mount). m.space) same ∙ to_end.2 ∙ sym from_end.2)) in
+    let s = tree_moves w h i from_end.0 from_end.1 p (not_refused (is_root_mount w (ended w n from)) RootPlace three.0) space (not_refused (is_below w.forest i p.mount) IntoItself seven.0) in
+    subst IsWellFormed ok.0 (moved_kept w h src p s d)

@@ -1,0 +1,70 @@
+-- A mount with all below it is a source tree that may move.
+use Rattle.std.proofs.Common.{◌≡◌, ◌≢◌, ℕ, true, false, cond, List, Option, Some, None, refl, sym, ap, ◌∙◌, subst, IsTrue}
+use Rattle.std.specs.Prelude.{unwrap_or, Bool, is_none}
+use Rattle.std.specs.List.{filter}
+use Rattle.std.proofs.lemmas.Bool.{true≢false}
+use Rattle.mt_skel.specs.Keyed.{rises}
+use Rattle.mt_skel.specs.Skeleton.{holds}
+use Rattle.mt_skel.proofs.KeyedLaws.{row_at-key, row_at-filter, rises-filter, passing}
+use Rattle.mt_mounts.specs.declared.mount.Mount.{Mount}
+use Rattle.mt_mounts.specs.declared.mount.Place.{Place}
+use Rattle.mt_mounts.specs.Forest.{id_of, mount_at, is_below}
+use Rattle.mt_mounts.proofs.SlotLaws.{none_found}
+use Rattle.mt_propagate.specs.World.{WorldView}
+use Rattle.mt_propagate.specs.Named.{unknown, mount_or_unknown}
+use Rattle.mt_propagate.specs.WellFormed.{IsWellFormed}
+use Rattle.mt_propagate.specs.Sound.{IsTree, IsMoved}
+use Rattle.mt_propagate.proofs.CopyForestLaws.{parent_is}
+use Rattle.mt_bind.specs.Sources.{tree_of}
+use Rattle.mt_bind.proofs.PartLaws.{part_tree}
+use Rattle.mt_bind.proofs.BelowLaws.{below_self, below_parent, below_has_parent, above_not_below}
+use Rattle.mt_bind.proofs.WithinLaws.{passed}
+
+module _ (w : WorldView) (h : IsWellFormed w) (i : ℕ) (q : Mount) (row : mount_at w.forest i ≡ Some q) where
+  abbrev below : Mount → Bool
+  below m = is_below w.forest i m.id
+
+  abbrev ms : List Mount
+  ms = filter (λ m. is_below w.forest i m.id) w.forest
+
+  from_row : (j : ℕ) (m : Mount) → mount_at ms j ≡ Some m → (mount_at w.forest j ≡ Some m) × (is_below w.forest i j ≡ true)
+  from_row j m e =
+      let r = passed below (mount_at w.forest j) m (sym (row_at-filter id_of below j w.forest h.forest.rising) ∙ e) in
+      (r.0, ap (is_below w.forest i) (sym (row_at-key id_of j w.forest m r.0)) ∙ r.1)
+
+  to_row : (j : ℕ) (m : Mount) → mount_at w.forest j ≡ Some m → is_below w.forest i j ≡ true → mount_at ms j ≡ Some m
+  to_row j m e b =
+      row_at-filter id_of below j w.forest h.forest.rising ∙ ap (passing below) e
+      ∙ ap (λ b. cond b (Some m) None) (ap (is_below w.forest i) (row_at-key id_of j w.forest m e) ∙ b)
+
+  own : q.id ≡ i
+  own = row_at-key id_of i w.forest q row
+
+  inside : (j : ℕ) (m : Mount) → mount_at ms j ≡ Some m → j ≢ q.id → (p : Place) × (u : Mount) × (m.place ≡ Some p) × (mount_at ms p.mount ≡ Some u) × IsTrue (holds w.skel u.root p.dir)
+  inside j m e ne =
+      let x = from_row j m e in
+      let off : j ≢ i = (λ s. ne (s ∙ sym own)) in
+      let p = below_has_parent w h i j m off x.0 x.1 in
+      let u = h.forest.placed j m p.0 x.0 p.1 in
+      let b = sym (below_parent w h i j p.0.mount off (parent_is w.forest j m p.0 x.0 p.1)) ∙ x.1 in
+      (p.0, u.0, p.1, to_row p.0.mount u.0 u.1 b, u.3)
+
+  tree : IsTree w.skel ms q
+  tree =
+      part_tree w h ms q (rises-filter id_of below w.forest h.forest.rising) (ap (mount_at ms) own ∙ to_row i q row (below_self w h i))
+      (λ j m e. let x = from_row j m e in let b = h.below j m x.0 in (m, x.0, refl, b.4))
+      inside
+      (λ p at. none_found _ (λ x e. let r = from_row p.mount x e in above_not_below w h i q p row at r.1))
+
+  top_is : mount_or_unknown w i ≡ q
+  top_is = ap (λ o. unwrap_or o unknown) row
+
+  pub tree_moves : (dest : Place) → is_none (mount_or_unknown w i).place ≡ false → ((u : Mount) → mount_at w.forest dest.mount ≡ Some u → u.space ≡ q.space) → is_below w.forest i dest.mount ≡ false → IsMoved w (tree_of w i) dest
+  tree_moves dest placed space off = record {
+    moves = refl;
+    tree = subst (IsTree w.skel ms) (sym top_is) tree;
+    known = λ j m e. (from_row j m e).0;
+    placed = λ e. true≢false (sym (ap is_none e) ∙ placed);
+    same_space = λ u e. space u e ∙ ap (λ (m : Mount). m.space) (sym top_is);
+    outside = ap (λ k. is_below w.forest k dest.mount) (ap (λ (m : Mount). m.id) top_is ∙ own) ∙ off;
+  }
