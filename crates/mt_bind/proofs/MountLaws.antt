@@ -16,15 +16,14 @@ use Rattle.mt_propagate.specs.Named.{place_or_nowhere, is_root_place, is_root_mo
 use Rattle.mt_propagate.specs.WellFormed.{IsWellFormed}
 use Rattle.mt_propagate.specs.Copies.{Source, copy_id}
 use Rattle.mt_propagate.specs.Copied.{copied}
-use Rattle.mt_propagate.specs.Sound.{IsCopied, IsDestination}
+use Rattle.mt_propagate.specs.Sound.{IsSource, IsDestination}
 use Rattle.mt_propagate.proofs.WalkLaws.{walked}
-use Rattle.mt_propagate.proofs.CopiedLaws.{copied_kept}
-use Rattle.mt_propagate.proofs.MovedLaws.{moved_kept}
+use Rattle.mt_propagate.proofs.MovedLaws.{source_kept}
 use Rattle.mt_bind.specs.Sources.{fresh, alone, tree_within, tree_of}
 use Rattle.mt_bind.specs.Mounting.{mounted, bound, moved, ended, no_end, too_many}
-use Rattle.mt_bind.proofs.SourceLaws.{fresh_copied, alone_copied, holds_there}
-use Rattle.mt_bind.proofs.WithinLaws.{within_copied}
-use Rattle.mt_bind.proofs.TreeOfLaws.{tree_moves}
+use Rattle.mt_bind.proofs.SourceLaws.{fresh_source, alone_source, holds_there}
+use Rattle.mt_bind.proofs.WithinLaws.{within_source}
+use Rattle.mt_bind.proofs.TreeOfLaws.{tree_source}
 
 -- what an accepted command tells: its effect, and that no refusal held
 pub outcome_ok : {A : Type 0} (fs : List (Option Fault)) (a b : A) → outcome fs a ≡ Ok b → (a ≡ b) × (first_fault fs ≡ None)
@@ -67,12 +66,12 @@ mount_keeps w n name path v i h e =
     let three = first_none root (many ∷ []) two.1 in
     let d = destination w n path p h (has_ended (walk w.skel w.forest n path) two.0) (not_refused (is_root_place w p) RootPlace three.0) in
     let low = holds_there w.skel d.there.0.root p.dir d.there.2 in
-    subst IsWellFormed (ap (λ x. x.0) ok.0) (copied_kept w h src p (fresh_copied w h fs (omega (arith, low))) d)
+    subst IsWellFormed (ap (λ x. x.0) ok.0) (source_kept w h src p (fresh_source w h fs p (omega (arith, low))) d)
 
 -- what is bound from the end of a walk is a source tree
-bound_source : (w : WorldView) (n : ℕ) (from : List (List ℕ)) (deep : Bool) (p : Place) → IsWellFormed w → walk w.skel w.forest n from ≡ Ok p → IsCopied w (cond deep (tree_within w p) (alone w p))
-bound_source w n from true p h e = let r = (walked w n h from p e).0 in within_copied w h p r.0 r.1 r.3
-bound_source w n from false p h e = let r = (walked w n h from p e).0 in alone_copied w h p r.0 r.1 r.3
+bound_source : (w : WorldView) (n : ℕ) (from : List (List ℕ)) (deep : Bool) (p dest : Place) → IsWellFormed w → walk w.skel w.forest n from ≡ Ok p → IsSource w (cond deep (tree_within w p) (alone w p)) dest
+bound_source w n from true p dest h e = let r = (walked w n h from p e).0 in within_source w h p r.0 r.1 r.3 dest
+bound_source w n from false p dest h e = let r = (walked w n h from p e).0 in alone_source w h p r.0 r.1 r.3 dest
 
 pub bind_keeps : (w : WorldView) (n : ℕ) (deep : Bool) (from to : List (List ℕ)) (v : WorldView) (i : ℕ) → IsWellFormed w → bound w n deep from to ≡ Ok (v, i) → IsWellFormed v
 bind_keeps w n deep from to v i h e =
@@ -88,8 +87,8 @@ bind_keeps w n deep from to v i h e =
     let two = first_none lost_to (root ∷ unbindable ∷ many ∷ []) one.1 in
     let three = first_none root (unbindable ∷ many ∷ []) two.1 in
     let d = destination w n to p h (has_ended (walk w.skel w.forest n to) two.0) (not_refused (is_root_place w p) RootPlace three.0) in
-    let s = bound_source w n from deep (ended w n from) h (has_ended (walk w.skel w.forest n from) one.0) in
-    subst IsWellFormed (ap (λ x. x.0) ok.0) (copied_kept w h src p s d)
+    let s = bound_source w n from deep (ended w n from) p h (has_ended (walk w.skel w.forest n from) one.0) in
+    subst IsWellFormed (ap (λ x. x.0) ok.0) (source_kept w h src p s d)
 
 pub move_keeps : (w : WorldView) (n : ℕ) (from to : List (List ℕ)) (v : WorldView) → IsWellFormed w → moved w n from to ≡ Ok v → IsWellFormed v
 move_keeps w n from to v h e =
@@ -119,5 +118,5 @@ move_keeps w n from to v h e =
     let d = destination w n to p h to_ok (not_refused (is_root_place w p) RootPlace five.0) in
     let space : (u : Mount) → mount_at w.forest p.mount ≡ Some u → u.space ≡ from_end.0.space =
     (λ u f. (let s : Some u ≡ Some to_end.0 = sym f ∙ to_end.1 in let same : u ≡ to_end.0 = cc in ap (λ (m : Mount). m.space) same ∙ to_end.2 ∙ sym from_end.2)) in
-    let s = tree_moves w h i from_end.0 from_end.1 p (not_refused (is_root_mount w (ended w n from)) RootPlace three.0) space (not_refused (is_below w.forest i p.mount) IntoItself seven.0) in
-    subst IsWellFormed ok.0 (moved_kept w h src p s d)
+    let s = tree_source w h i from_end.0 from_end.1 p (not_refused (is_root_mount w (ended w n from)) RootPlace three.0) space (not_refused (is_below w.forest i p.mount) IntoItself seven.0) in
+    subst IsWellFormed ok.0 (source_kept w h src p s d)

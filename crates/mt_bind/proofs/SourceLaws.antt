@@ -17,7 +17,7 @@ use Rattle.mt_mounts.proofs.CycleLaws.{no_cycle, rank_of, rank_falls}
 use Rattle.mt_propagate.specs.World.{WorldView, state_of, group_of, root_dir}
 use Rattle.mt_propagate.specs.Named.{unknown, mount_or_unknown}
 use Rattle.mt_propagate.specs.WellFormed.{IsWellFormed, fs_at}
-use Rattle.mt_propagate.specs.Sound.{IsTree, IsCopied}
+use Rattle.mt_propagate.specs.Sound.{IsTree, IsSource}
 use Rattle.mt_propagate.proofs.CopyForestLaws.{parent_from, parent_is}
 use Rattle.mt_propagate.proofs.KeyLaws.{group_known, master_known}
 use Rattle.mt_propagate.proofs.SoundLaws.{state_at_mount, root_is}
@@ -88,14 +88,14 @@ module _ (w : WorldView) (h : IsWellFormed w) where
   zero_master i g z e = let q = state_at_mount w h i (state_of w i) (master_known w i g e) in no_zero q.0 (ap (mount_at w.forest) (sym z) ∙ q.1)
 
   -- a fresh mount
-  pub fresh_copied : (fs : ℕ) → 0 < length w.skel.directories → IsCopied w (fresh w fs)
-  fresh_copied fs some =
+  pub fresh_source : (fs : ℕ) (dest : Place) → 0 < length w.skel.directories → IsSource w (fresh w fs) dest
+  fresh_source fs dest some =
       let m : Mount = record unknown { root = root_of w.skel fs } in
       record {
-        stays = refl;
         tree = one_tree w.skel m (λ p e. let v : None ≡ Some p = e in absurd (cc)) (root_there w.skel fs some);
         group_fs = λ i g x e is. zero_group i g (one_row m i x e).0 is;
         master_fs = λ i g x e is. zero_master i g (one_row m i x e).0 is;
+        moves = λ e. let v : false ≡ true = e in absurd (cc);
       }
 
   -- the mount that a path ends on, shown from there on
@@ -118,15 +118,15 @@ module _ (w : WorldView) (h : IsWellFormed w) where
     pub shows_same : (directory w.skel p.dir).fs ≡ fs_at w p.mount
     shows_same = holds_fs w.skel q.root p.dir held ∙ ap (λ r. (directory w.skel r).fs) (sym (root_is w p.mount q row))
 
-    pub alone_copied : IsCopied w (alone w p)
-    alone_copied =
+    pub alone_source : (dest : Place) → IsSource w (alone w p) dest
+    alone_source dest =
         let m : Mount = record q { root = p.dir } in
         let plain : IsTree w.skel (m ∷ []) m = one_tree w.skel m off_itself (holds_there w.skel q.root p.dir held) in
         record {
-          stays = refl;
           tree = subst (λ v. IsTree w.skel (v ∷ []) v) (sym top_is) plain;
           group_fs = λ i g x e is. same i x e;
           master_fs = λ i g x e is. same i x e;
+          moves = λ e. let v : false ≡ true = e in absurd (cc);
         }
       where
         same : (i : ℕ) (x : Mount) → mount_at (top_at w p ∷ []) i ≡ Some x → (directory w.skel x.root).fs ≡ fs_at w i

@@ -4,7 +4,7 @@ use Rattle.std.specs.Prelude.{unwrap_or, Bool, is_none}
 use Rattle.std.specs.List.{filter}
 use Rattle.std.proofs.lemmas.Bool.{true≢false}
 use Rattle.mt_skel.specs.Keyed.{rises}
-use Rattle.mt_skel.specs.Skeleton.{holds}
+use Rattle.mt_skel.specs.Skeleton.{directory, holds}
 use Rattle.mt_skel.proofs.KeyedLaws.{row_at-key, row_at-filter, rises-filter, passing}
 use Rattle.mt_mounts.specs.declared.mount.Mount.{Mount}
 use Rattle.mt_mounts.specs.declared.mount.Place.{Place}
@@ -12,9 +12,10 @@ use Rattle.mt_mounts.specs.Forest.{id_of, mount_at, is_below}
 use Rattle.mt_mounts.proofs.SlotLaws.{none_found}
 use Rattle.mt_propagate.specs.World.{WorldView}
 use Rattle.mt_propagate.specs.Named.{unknown, mount_or_unknown}
-use Rattle.mt_propagate.specs.WellFormed.{IsWellFormed}
-use Rattle.mt_propagate.specs.Sound.{IsTree, IsMoved}
+use Rattle.mt_propagate.specs.WellFormed.{IsWellFormed, fs_at}
+use Rattle.mt_propagate.specs.Sound.{IsTree, IsSource}
 use Rattle.mt_propagate.proofs.CopyForestLaws.{parent_is}
+use Rattle.mt_propagate.proofs.SoundLaws.{root_is}
 use Rattle.mt_bind.specs.Sources.{tree_of}
 use Rattle.mt_bind.proofs.PartLaws.{part_tree}
 use Rattle.mt_bind.proofs.BelowLaws.{below_self, below_parent, below_has_parent, above_not_below}
@@ -59,12 +60,19 @@ module _ (w : WorldView) (h : IsWellFormed w) (i : ℕ) (q : Mount) (row : mount
   top_is : mount_or_unknown w i ≡ q
   top_is = ap (λ o. unwrap_or o unknown) row
 
-  pub tree_moves : (dest : Place) → is_none (mount_or_unknown w i).place ≡ false → ((u : Mount) → mount_at w.forest dest.mount ≡ Some u → u.space ≡ q.space) → is_below w.forest i dest.mount ≡ false → IsMoved w (tree_of w i) dest
-  tree_moves dest placed space off = record {
-    moves = refl;
+  shows_same : (j : ℕ) (m : Mount) → mount_at ms j ≡ Some m → (directory w.skel m.root).fs ≡ fs_at w j
+  shows_same j m e = ap (λ r. (directory w.skel r).fs) (sym (root_is w j m (from_row j m e).0))
+
+  pub tree_source : (dest : Place) → is_none (mount_or_unknown w i).place ≡ false → ((u : Mount) → mount_at w.forest dest.mount ≡ Some u → u.space ≡ q.space) → is_below w.forest i dest.mount ≡ false
+      → IsSource w (tree_of w i) dest
+  tree_source dest placed space off = record {
     tree = subst (IsTree w.skel ms) (sym top_is) tree;
-    known = λ j m e. (from_row j m e).0;
-    placed = λ e. true≢false (sym (ap is_none e) ∙ placed);
-    same_space = λ u e. space u e ∙ ap (λ (m : Mount). m.space) (sym top_is);
-    outside = ap (λ k. is_below w.forest k dest.mount) (ap (λ (m : Mount). m.id) top_is ∙ own) ∙ off;
+    group_fs = λ j g m e is. shows_same j m e;
+    master_fs = λ j g m e is. shows_same j m e;
+    moves = λ _. record {
+      known = λ j m e. (from_row j m e).0;
+      placed = λ e. true≢false (sym (ap is_none e) ∙ placed);
+      same_space = λ u e. space u e ∙ ap (λ (m : Mount). m.space) (sym top_is);
+      outside = ap (λ k. is_below w.forest k dest.mount) (ap (λ (m : Mount). m.id) top_is ∙ own) ∙ off;
+    };
   }

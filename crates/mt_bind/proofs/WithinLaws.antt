@@ -15,7 +15,7 @@ use Rattle.mt_mounts.proofs.SlotLaws.{none_found}
 use Rattle.mt_propagate.specs.World.{WorldView, state_of}
 use Rattle.mt_propagate.specs.Named.{unknown, mount_or_unknown}
 use Rattle.mt_propagate.specs.WellFormed.{IsWellFormed, fs_at}
-use Rattle.mt_propagate.specs.Sound.{IsTree, IsCopied}
+use Rattle.mt_propagate.specs.Sound.{IsTree, IsSource}
 use Rattle.mt_propagate.proofs.CopyForestLaws.{parent_is}
 use Rattle.mt_propagate.proofs.SoundLaws.{root_is}
 use Rattle.mt_bind.specs.Sources.{top_at, tree_within, is_bound_along, path_to}
@@ -174,9 +174,9 @@ module _ (w : WorldView) (h : IsWellFormed w) (p : Place) (q : Mount) (row : mou
       let d = both (is_below w.forest p.mount r.mount) (list_all unbound (path_to w p.mount r.mount)) c.0 in
       above_not_below w h p.mount q r row (ap (λ (m : Mount). m.place) (sym (top_is w h p q row held)) ∙ at) d.0)
 
-  pub within_copied : IsCopied w (tree_within w p)
-  within_copied = record {
-    stays = refl;
+  pub within_source : (dest : Place) → IsSource w (tree_within w p) dest
+  within_source dest = record {
+    moves = λ e. let v : false ≡ true = e in absurd (cc);
     tree =
         part_tree w h ms (top_at w p) (rises-map id_of cut cut-id (filter bound w.forest) ∙ rises-filter id_of bound w.forest h.forest.rising)
         (ap (mount_at ms) top_id ∙ to_row p.mount q row bound_top ∙ ap (λ m. Some m) (cut-top q (own_id w h p q row held)))

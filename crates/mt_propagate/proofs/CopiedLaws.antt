@@ -16,7 +16,7 @@ use Rattle.mt_propagate.specs.Copies.{Source, Copy, targets, all_copies, copy_id
 use Rattle.mt_propagate.specs.Groups.{copy_state, new_keys}
 use Rattle.mt_propagate.specs.Places.{relocated}
 use Rattle.mt_propagate.specs.Copied.{copied, regrouped}
-use Rattle.mt_propagate.specs.Sound.{IsTree, IsDestination, IsCopied}
+use Rattle.mt_propagate.specs.Sound.{IsTree, IsDestination}
 use Rattle.mt_propagate.proofs.ElementLaws.{In, in_append, in_left, in_right, in_any, any_in, in_row, in_map, in_mapped}
 use Rattle.mt_propagate.proofs.ListedLaws.{rises-keys}
 use Rattle.mt_propagate.proofs.NumberLaws.{climbs}
@@ -144,10 +144,3 @@ module _ (w : WorldView) (h : IsWellFormed w) (ms : List Mount) (top : Mount) (d
         master_shows w h source dest peers shows shown join i j g (state_of (copied w source dest) i) (state_of (copied w source dest) j)
         (master_known (copied w source dest) i g ei) (group_known (copied w source dest) j g ej) ei ej;
   }
-
--- copies of a source tree of which nothing moves keep a world well-formed
-pub copied_kept : (w : WorldView) → IsWellFormed w → (src : Source) (dest : Place) → IsCopied w src → IsDestination w dest → IsWellFormed (copied w src dest)
-copied_kept w h src dest s d =
-    let plain : Source = record { mounts = src.mounts; top = src.top; moved = false } in
-    let same : plain ≡ src = (λ i. record { mounts = src.mounts; top = src.top; moved = (sym s.stays) i }) in
-    subst (λ v. IsWellFormed (copied w v dest)) same (copied_plain w h src.mounts src.top dest s.tree d s.group_fs s.master_fs)

@@ -20,7 +20,7 @@ use Rattle.mt_propagate.specs.Copies.{Source, Copy, targets, all_copies, new_cop
 use Rattle.mt_propagate.specs.Groups.{key_eq, home, is_home, new_keys, key_group, copy_state}
 use Rattle.mt_propagate.specs.Places.{relocated}
 use Rattle.mt_propagate.specs.Copied.{copied, regrouped, is_moved}
-use Rattle.mt_propagate.specs.Sound.{IsTree, IsDestination, IsMoved}
+use Rattle.mt_propagate.specs.Sound.{IsSource, IsDestination}
 use Rattle.mt_propagate.proofs.ElementLaws.{In, in_append, in_left, in_right, in_any, any_in, in_row, row_in, in_map, in_mapped, in_flat}
 use Rattle.mt_propagate.proofs.ListedLaws.{rises-keys}
 use Rattle.mt_propagate.proofs.NumberLaws.{climbs}
@@ -28,6 +28,7 @@ use Rattle.mt_propagate.proofs.JoinLaws.{state_row}
 use Rattle.mt_propagate.proofs.KeyLaws.{group_known, master_known, state_is, copy_in, in_copies, state-unshared, state-shared, shared_state}
 use Rattle.mt_propagate.proofs.CopyPeerLaws.{CopiesJoin, peering_kept, group_shows, master_shows}
 use Rattle.mt_propagate.proofs.SoundLaws.{state_at_mount, root_is, hit_there}
+use Rattle.mt_propagate.proofs.CopiedLaws.{copied_plain}
 use Rattle.mt_propagate.proofs.MoveLaws.{Goes, src, out, after, world_rows, kept_world, made, root_stays, space_stays, in_mounts, num_new, moved_copies_forest}
 
 module _ (w : WorldView) (h : IsWellFormed w) (ms : List Mount) (top : Mount) (dest : Place) (g : Goes w ms top dest) where
@@ -261,14 +262,27 @@ module _ (w : WorldView) (h : IsWellFormed w) (ms : List Mount) (top : Mount) (d
         (master_known (copied w source dest) i k ei) (group_known (copied w source dest) j k ej) ei ej;
   }
 
--- a source tree that moves, and its copies, keep a world well-formed
-pub moved_kept : (w : WorldView) → IsWellFormed w → (src : Source) (dest : Place) → IsMoved w src dest → IsDestination w dest → IsWellFormed (copied w src dest)
-moved_kept w h src dest s d = go src.top.place refl
-  where
-    go : (o : Option Place) → src.top.place ≡ o → IsWellFormed (copied w src dest)
-    go None e = absurd (s.placed e)
-    go (Some r) e =
-        let plain : Source = record { mounts = src.mounts; top = src.top; moved = true } in
-        let same : plain ≡ src = (λ i. record { mounts = src.mounts; top = src.top; moved = (sym s.moves) i }) in
-        let goes : Goes w src.mounts src.top dest = record { tree = s.tree; there = d; known = s.known; from = r; at = e; same_space = s.same_space; outside = s.outside } in
-        subst (λ v. IsWellFormed (copied w v dest)) same (moved_plain w h src.mounts src.top dest goes)
+-- a source tree and its copies keep a world well-formed
+module _ (w : WorldView) (h : IsWellFormed w) (src : Source) (dest : Place) (s : IsSource w src dest) (d : IsDestination w dest) where
+  abbrev with_moved : Bool → Source
+  with_moved b = record { mounts = src.mounts; top = src.top; moved = b }
+
+  stays : src.moved ≡ false → IsWellFormed (copied w src dest)
+  stays is =
+      let same : with_moved false ≡ src = (λ i. record { mounts = src.mounts; top = src.top; moved = (sym is) i }) in
+      subst (λ v. IsWellFormed (copied w v dest)) same (copied_plain w h src.mounts src.top dest s.tree d s.group_fs s.master_fs)
+
+  goes : src.moved ≡ true → (o : Option Place) → src.top.place ≡ o → IsWellFormed (copied w src dest)
+  goes is None e = absurd ((s.moves is).placed e)
+  goes is (Some r) e =
+      let m = s.moves is in
+      let same : with_moved true ≡ src = (λ i. record { mounts = src.mounts; top = src.top; moved = (sym is) i }) in
+      let all : Goes w src.mounts src.top dest = record { tree = s.tree; there = d; known = m.known; from = r; at = e; same_space = m.same_space; outside = m.outside } in
+      subst (λ v. IsWellFormed (copied w v dest)) same (moved_plain w h src.mounts src.top dest all)
+
+  pub source_kept : IsWellFormed (copied w src dest)
+  source_kept = by src.moved refl
+    where
+      by : (b : Bool) → src.moved ≡ b → IsWellFormed (copied w src dest)
+      by false is = stays is
+      by true is = goes is src.top.place refl

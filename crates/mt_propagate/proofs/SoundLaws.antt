@@ -25,7 +25,7 @@ use Rattle.mt_propagate.specs.Groups.{copy_state}
 use Rattle.mt_propagate.specs.Places.{copy_of, new_mounts, relocated, made_way, stack_end}
 use Rattle.mt_propagate.specs.Copied.{copied, regrouped}
 use Rattle.mt_propagate.specs.Laws.{IsListed}
-use Rattle.mt_propagate.specs.Sound.{IsTree, IsDestination, IsCopied}
+use Rattle.mt_propagate.specs.Sound.{IsTree, IsDestination}
 use Rattle.mt_propagate.proofs.ElementLaws.{In, in_append, in_left, in_right, in_filter, in_any, any_in, row_in, in_row, in_map, in_mapped, in_flat, in_flatted, find_in, in_found, at_position}
 use Rattle.mt_propagate.proofs.ListedLaws.{copied-listed, relocated-id}
 use Rattle.mt_propagate.proofs.WalkLaws.{stands_at}
