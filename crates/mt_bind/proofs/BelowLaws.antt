@@ -1,8 +1,8 @@
 -- Which mounts are below a mount, and the way up from them.
-use Rattle.std.proofs.Common.{◌≡◌, ◌≢◌, ℕ, zero, suc, ◌<◌, ◌≤◌, ◌||◌, Bool, true, false, cond, not, ◌==◌, eqb, eq-eqb, List, [], ◌∷◌, length, Option, Some, None, refl, sym, ap, ◌∙◌, subst, arith}
+use Rattle.std.proofs.Common.{◌≡◌, ◌≢◌, ℕ, zero, suc, ◌≤◌, ◌||◌, true, false, cond, not, ◌==◌, eqb, eq-eqb, [], ◌∷◌, length, Option, Some, None, refl, sym, ap, ◌∙◌, subst, arith}
 use Rattle.std.specs.List.{list_any, take_while}
-use Rattle.std.specs.Option.{option_map, option_map_or, option_and_then}
-use Rattle.std.proofs.lemmas.Bool.{ne_eqb, true≢false}
+use Rattle.std.specs.Option.{option_map, option_map_or}
+use Rattle.std.proofs.lemmas.Bool.{ne_eqb}
 use Rattle.std.proofs.lemmas.Bool.Decides.{nat_tests}
 use Rattle.std.proofs.lemmas.List.Sums.{take_while-cons}
 use Rattle.mt_skel.specs.Chain.{chain}
@@ -14,7 +14,7 @@ use Rattle.mt_mounts.proofs.Walks.{below_here, below_stop}
 use Rattle.mt_mounts.proofs.CycleLaws.{above_of, rank_of, rank_falls}
 use Rattle.mt_propagate.specs.World.{WorldView}
 use Rattle.mt_propagate.specs.WellFormed.{IsWellFormed}
-use Rattle.mt_propagate.proofs.ElementLaws.{In, in_any, chain_low}
+use Rattle.mt_propagate.proofs.ElementLaws.{in_any, chain_low}
 use Rattle.mt_propagate.proofs.CopyForestLaws.{parent_is}
 use Rattle.mt_bind.specs.Sources.{path_to}
 

@@ -1,5 +1,5 @@
 -- Mounts of a world that are one tree below a top are a source tree.
-use Rattle.std.proofs.Common.{◌≡◌, ◌≢◌, ℕ, ◌<◌, ◌≤◌, true, false, eqb, List, length, Option, Some, None, refl, sym, ap, ◌∙◌, subst, arith, IsTrue}
+use Rattle.std.proofs.Common.{◌≡◌, ◌≢◌, ℕ, ◌<◌, true, List, length, Some, None, ap, ◌∙◌, IsTrue}
 use Rattle.mt_skel.specs.Keyed.{rises}
 use Rattle.mt_skel.specs.Skeleton.{holds}
 use Rattle.mt_mounts.specs.declared.mount.Mount.{Mount}

@@ -1,11 +1,8 @@
 -- A fresh mount, and one mount bound alone, are source trees.
-use Rattle.std.proofs.Common.{◌≡◌, ◌≢◌, ℕ, ◌<◌, ◌≤◌, Bool, true, false, cond, eqb, eqb-true, eq-eqb, List, [], ◌∷◌, length, Option, Some, None, refl, sym, ap, ◌∙◌, subst, arith, IsTrue}
+use Rattle.std.proofs.Common.{◌≡◌, ◌≢◌, ℕ, ◌<◌, Bool, true, false, cond, eqb, eqb-true, eq-eqb, [], ◌∷◌, length, Option, Some, None, refl, sym, ap, ◌∙◌, subst, arith}
 use Rattle.std.specs.Prelude.{unwrap_or}
-use Rattle.std.specs.Option.{option_map}
-use Rattle.std.proofs.lemmas.Bool.{ne_eqb, true≢false}
-use Rattle.std.proofs.lemmas.Bool.Decides.{nat_tests}
+use Rattle.std.proofs.lemmas.Bool.{ne_eqb}
 use Rattle.std.proofs.lemmas.Option.{slice_get_within}
-use Rattle.mt_skel.specs.Keyed.{rises}
 use Rattle.mt_skel.specs.Skeleton.{Skeleton, Directory, directory, holds, number_of, root_of}
 use Rattle.mt_skel.proofs.KeyedLaws.{row_at-key}
 use Rattle.mt_skel.proofs.SkeletonLaws.{at_number, holds-Decides}
@@ -14,7 +11,7 @@ use Rattle.mt_mounts.specs.declared.mount.Place.{Place}
 use Rattle.mt_mounts.specs.Forest.{id_of, mount_at}
 use Rattle.mt_mounts.proofs.SlotLaws.{none_found}
 use Rattle.mt_mounts.proofs.CycleLaws.{no_cycle, rank_of, rank_falls}
-use Rattle.mt_propagate.specs.World.{WorldView, state_of, group_of, root_dir}
+use Rattle.mt_propagate.specs.World.{WorldView, state_of, group_of}
 use Rattle.mt_propagate.specs.Named.{unknown, mount_or_unknown}
 use Rattle.mt_propagate.specs.WellFormed.{IsWellFormed, fs_at}
 use Rattle.mt_propagate.specs.Sound.{IsTree, IsSource}

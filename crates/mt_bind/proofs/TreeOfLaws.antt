@@ -1,9 +1,8 @@
 -- A mount with all below it is a source tree that may move.
-use Rattle.std.proofs.Common.{◌≡◌, ◌≢◌, ℕ, true, false, cond, List, Option, Some, None, refl, sym, ap, ◌∙◌, subst, IsTrue}
+use Rattle.std.proofs.Common.{◌≡◌, ◌≢◌, ℕ, true, false, cond, List, Some, None, refl, sym, ap, ◌∙◌, subst, IsTrue}
 use Rattle.std.specs.Prelude.{unwrap_or, Bool, is_none}
 use Rattle.std.specs.List.{filter}
 use Rattle.std.proofs.lemmas.Bool.{true≢false}
-use Rattle.mt_skel.specs.Keyed.{rises}
 use Rattle.mt_skel.specs.Skeleton.{directory, holds}
 use Rattle.mt_skel.proofs.KeyedLaws.{row_at-key, row_at-filter, rises-filter, passing}
 use Rattle.mt_mounts.specs.declared.mount.Mount.{Mount}

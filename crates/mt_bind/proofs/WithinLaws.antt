@@ -1,11 +1,9 @@
 -- The tree of mounts below a directory is a source tree.
-use Rattle.std.proofs.Common.{◌≡◌, ◌≢◌, ℕ, ◌<◌, ◌≤◌, ◌&&◌, Bool, true, false, cond, not, ◌==◌, eqb, eqb-true, eq-eqb, List, [], ◌∷◌, map, length, Option, Some, None, refl, sym, ap, ◌∙◌, subst, arith, inl, inr, IsTrue}
+use Rattle.std.proofs.Common.{◌≡◌, ◌≢◌, ℕ, ◌<◌, ◌&&◌, Bool, true, false, cond, not, ◌==◌, eqb-true, eq-eqb, List, [], ◌∷◌, map, length, Option, Some, None, refl, sym, ap, ◌∙◌, subst, inl, inr, IsTrue}
 use Rattle.std.specs.Prelude.{unwrap_or}
 use Rattle.std.specs.List.{filter, list_all, last_or}
 use Rattle.std.specs.Option.{option_map, option_map_or}
-use Rattle.std.proofs.lemmas.Bool.{cases_eq, ne_eqb, true≢false}
-use Rattle.std.proofs.lemmas.Bool.Decides.{nat_tests}
-use Rattle.mt_skel.specs.Keyed.{row_at, rises}
+use Rattle.std.proofs.lemmas.Bool.{cases_eq, ne_eqb}
 use Rattle.mt_skel.specs.Skeleton.{holds, directory}
 use Rattle.mt_skel.proofs.KeyedLaws.{row_at-key, row_at-map, rises-map, row_at-filter, rises-filter, passing}
 use Rattle.mt_mounts.specs.declared.mount.Mount.{Mount}
@@ -15,11 +13,11 @@ use Rattle.mt_mounts.proofs.SlotLaws.{none_found}
 use Rattle.mt_propagate.specs.World.{WorldView, state_of}
 use Rattle.mt_propagate.specs.Named.{unknown, mount_or_unknown}
 use Rattle.mt_propagate.specs.WellFormed.{IsWellFormed, fs_at}
-use Rattle.mt_propagate.specs.Sound.{IsTree, IsSource}
+use Rattle.mt_propagate.specs.Sound.{IsSource}
 use Rattle.mt_propagate.proofs.CopyForestLaws.{parent_is}
 use Rattle.mt_propagate.proofs.SoundLaws.{root_is}
 use Rattle.mt_bind.specs.Sources.{top_at, tree_within, is_bound_along, path_to}
-use Rattle.mt_bind.proofs.SourceLaws.{holds_there, known_mount, top_is, own_id, shows_same}
+use Rattle.mt_bind.proofs.SourceLaws.{holds_there, top_is, own_id, shows_same}
 use Rattle.mt_bind.proofs.PartLaws.{part_tree}
 use Rattle.mt_bind.proofs.BelowLaws.{below_self, below_parent, below_has_parent, above_not_below, path_top, path_step}
 

@@ -1,5 +1,5 @@
 -- A world stays well-formed where a source tree is copied: groups and masters, and the whole.
-use Rattle.std.proofs.Common.{◌≡◌, ◌⊎◌, ℕ, ◌+◌, ◌<◌, ◌≤◌, true, false, List, ◌++◌, map, length, Option, Some, None, refl, sym, ap, ◌∙◌, subst, inl, inr, arith}
+use Rattle.std.proofs.Common.{◌≡◌, ◌⊎◌, ℕ, ◌<◌, ◌≤◌, true, List, ◌++◌, map, length, Some, sym, ap, ◌∙◌, subst, inl, inr, arith}
 use Rattle.std.specs.Prelude.{unwrap_or}
 use Rattle.std.specs.Option.{option_map}
 use Rattle.mt_skel.specs.Keyed.{rises}
@@ -9,12 +9,11 @@ use Rattle.mt_mounts.specs.declared.mount.Mount.{Mount}
 use Rattle.mt_mounts.specs.declared.mount.Place.{Place}
 use Rattle.mt_mounts.specs.Forest.{id_of, mount_at}
 use Rattle.mt_peers.specs.declared.state.State.{State}
-use Rattle.mt_peers.specs.Peers.{Peer, mount_of, state_at, in_group, has_member}
+use Rattle.mt_peers.specs.Peers.{Peer, mount_of, state_at, in_group}
 use Rattle.mt_propagate.specs.World.{WorldView, state_of, group_of}
 use Rattle.mt_propagate.specs.WellFormed.{IsWellFormed, fs_at}
-use Rattle.mt_propagate.specs.Copies.{Source, Copy, targets, all_copies, copy_id}
-use Rattle.mt_propagate.specs.Groups.{copy_state, new_keys}
-use Rattle.mt_propagate.specs.Places.{relocated}
+use Rattle.mt_propagate.specs.Copies.{Source, Copy, all_copies, copy_id}
+use Rattle.mt_propagate.specs.Groups.{copy_state}
 use Rattle.mt_propagate.specs.Copied.{copied, regrouped}
 use Rattle.mt_propagate.specs.Sound.{IsTree, IsDestination}
 use Rattle.mt_propagate.proofs.ElementLaws.{In, in_append, in_left, in_right, in_any, any_in, in_row, in_map, in_mapped}
@@ -23,7 +22,7 @@ use Rattle.mt_propagate.proofs.NumberLaws.{climbs}
 use Rattle.mt_propagate.proofs.JoinLaws.{state_row}
 use Rattle.mt_propagate.proofs.KeyLaws.{group_known, master_known, copy_in}
 use Rattle.mt_propagate.proofs.CopyPeerLaws.{CopiesJoin, peering_kept, group_shows, master_shows}
-use Rattle.mt_propagate.proofs.SoundLaws.{src, num, out, after, rows, kept, made, target, same_root, same_space, in_mounts, state_at_mount, copied_forest}
+use Rattle.mt_propagate.proofs.SoundLaws.{src, out, after, rows, kept, made, target, same_root, same_space, in_mounts, state_at_mount, copied_forest}
 
 module _ (w : WorldView) (h : IsWellFormed w) (ms : List Mount) (top : Mount) (dest : Place) (tree : IsTree w.skel ms top) (d : IsDestination w dest)
     (group_fs : (i g : ℕ) (m : Mount) → mount_at ms i ≡ Some m → group_of w i ≡ Some g → (directory w.skel m.root).fs ≡ fs_at w i)

@@ -1,7 +1,7 @@
 -- The mounts of each namespace stay one tree where a source tree goes to a place and is copied to the targets.
-use Rattle.std.proofs.Common.{◌≡◌, ◌≢◌, ◌⊎◌, ℕ, ◌+◌, ◌-◌, ◌<◌, ◌≤◌, true, false, cond, ◌==◌, eqb, eq-eqb, List, [], ◌∷◌, ◌++◌, map, length, Option, Some, None, refl, sym, ap, ◌∙◌, subst, inl, inr, arith, IsTrue}
+use Rattle.std.proofs.Common.{◌≡◌, ◌≢◌, ◌⊎◌, ℕ, ◌-◌, true, false, cond, ◌==◌, eqb, eq-eqb, List, [], ◌∷◌, ◌++◌, map, length, Option, Some, None, refl, sym, ap, ◌∙◌, inl, inr, arith, IsTrue}
 use Rattle.std.specs.Prelude.{not, unwrap_or, slice_get, Bool}
-use Rattle.std.specs.List.{find, flat_map, position_or_len, last_or, list_all}
+use Rattle.std.specs.List.{find, position_or_len, last_or, list_all}
 use Rattle.std.specs.Option.{option_map, option_map_or}
 use Rattle.std.proofs.lemmas.Bool.{ne_eqb}
 use Rattle.std.proofs.lemmas.Bool.Decides.{nat_tests}
@@ -14,7 +14,6 @@ use Rattle.mt_mounts.specs.declared.mount.Place.{Place}
 use Rattle.mt_mounts.specs.Forest.{id_of, mount_at, on, is_at, is_below, root_place}
 use Rattle.mt_mounts.specs.Table.{with_place}
 use Rattle.mt_mounts.proofs.SlotLaws.{none_found}
-use Rattle.mt_peers.specs.Peers.{mount_of}
 use Rattle.mt_propagate.specs.World.{WorldView, space_of}
 use Rattle.mt_propagate.specs.WellFormed.{IsForest, IsWellFormed}
 use Rattle.mt_propagate.specs.Receivers.{hits}

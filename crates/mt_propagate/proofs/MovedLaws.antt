@@ -1,8 +1,8 @@
 -- A world stays well-formed where a source tree moves: groups and masters, and the whole.
-use Rattle.std.proofs.Common.{◌≡◌, ◌≢◌, ◌⊎◌, ℕ, ◌+◌, ◌<◌, ◌≤◌, ◌==◌, true, false, cond, eqb, eqb-true, eq-eqb, List, ◌∷◌, ◌++◌, map, length, Option, Some, None, refl, sym, ap, ◌∙◌, subst, inl, inr, arith}
+use Rattle.std.proofs.Common.{◌≡◌, ◌⊎◌, ℕ, ◌<◌, ◌≤◌, ◌==◌, true, false, cond, eqb-true, eq-eqb, List, ◌++◌, map, length, Option, Some, None, refl, sym, ap, ◌∙◌, subst, inl, inr, arith}
 use Rattle.std.specs.Prelude.{unwrap_or, Bool, not, ◌&&◌, is_some}
 use Rattle.std.specs.List.{list_any}
-use Rattle.std.specs.Option.{option_map, option_map_or}
+use Rattle.std.specs.Option.{option_map}
 use Rattle.std.proofs.lemmas.Bool.Decides.{nat_tests}
 use Rattle.mt_skel.specs.Keyed.{rises, numbered}
 use Rattle.mt_skel.specs.Skeleton.{directory}
@@ -16,18 +16,17 @@ use Rattle.mt_peers.proofs.MemberLaws.{named}
 use Rattle.mt_propagate.specs.World.{WorldView, state_of, group_of}
 use Rattle.mt_propagate.specs.WellFormed.{IsWellFormed, fs_at}
 use Rattle.mt_propagate.specs.Receivers.{hits}
-use Rattle.mt_propagate.specs.Copies.{Source, Copy, targets, all_copies, new_copies, copy_id}
+use Rattle.mt_propagate.specs.Copies.{Source, Copy, all_copies, new_copies, copy_id}
 use Rattle.mt_propagate.specs.Groups.{key_eq, home, is_home, new_keys, key_group, copy_state}
-use Rattle.mt_propagate.specs.Places.{relocated}
-use Rattle.mt_propagate.specs.Copied.{copied, regrouped, is_moved}
+use Rattle.mt_propagate.specs.Copied.{copied, regrouped}
 use Rattle.mt_propagate.specs.Sound.{IsSource, IsDestination}
 use Rattle.mt_propagate.proofs.ElementLaws.{In, in_append, in_left, in_right, in_any, any_in, in_row, row_in, in_map, in_mapped, in_flat}
 use Rattle.mt_propagate.proofs.ListedLaws.{rises-keys}
 use Rattle.mt_propagate.proofs.NumberLaws.{climbs}
 use Rattle.mt_propagate.proofs.JoinLaws.{state_row}
-use Rattle.mt_propagate.proofs.KeyLaws.{group_known, master_known, state_is, copy_in, in_copies, state-unshared, state-shared, shared_state}
+use Rattle.mt_propagate.proofs.KeyLaws.{group_known, master_known, state_is, copy_in, in_copies, state-unshared, state-shared}
 use Rattle.mt_propagate.proofs.CopyPeerLaws.{CopiesJoin, peering_kept, group_shows, master_shows}
-use Rattle.mt_propagate.proofs.SoundLaws.{state_at_mount, root_is, hit_there}
+use Rattle.mt_propagate.proofs.SoundLaws.{state_at_mount, hit_there}
 use Rattle.mt_propagate.proofs.CopiedLaws.{copied_plain}
 use Rattle.mt_propagate.proofs.MoveLaws.{Goes, src, out, after, world_rows, kept_world, made, root_stays, space_stays, in_mounts, num_new, moved_copies_forest}
 

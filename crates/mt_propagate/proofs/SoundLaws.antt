@@ -1,13 +1,13 @@
 -- A world stays well-formed where a source tree is copied to a place and to its targets, and nothing moves.
-use Rattle.std.proofs.Common.{◌≡◌, ◌≢◌, ◌⊎◌, ℕ, ◌+◌, ◌-◌, ◌<◌, ◌≤◌, true, false, List, [], ◌∷◌, ◌++◌, map, length, Option, Some, None, refl, sym, ap, ◌∙◌, subst, inl, inr, arith, IsTrue}
+use Rattle.std.proofs.Common.{◌≡◌, ◌≢◌, ◌⊎◌, ℕ, ◌-◌, true, false, List, [], ◌++◌, map, length, Option, Some, None, refl, sym, ap, ◌∙◌, subst, inl, inr, arith, IsTrue}
 use Rattle.std.specs.Prelude.{not, ◌==◌, unwrap_or, slice_get, Bool}
-use Rattle.std.specs.List.{find, filter, flat_map, position_or_len, last_or}
+use Rattle.std.specs.List.{find, filter, position_or_len, last_or}
 use Rattle.std.specs.Option.{option_map, option_map_or, option_or}
 use Rattle.std.proofs.lemmas.Bool.{true≢false}
 use Rattle.std.proofs.lemmas.Bool.Decides.{nat_tests}
 use Rattle.mt_skel.specs.Keyed.{row_at, rises}
 use Rattle.mt_skel.specs.Chain.{chain}
-use Rattle.mt_skel.specs.Skeleton.{holds, directory}
+use Rattle.mt_skel.specs.Skeleton.{holds}
 use Rattle.mt_skel.proofs.KeyedLaws.{row_at-key, row_at-map}
 use Rattle.mt_mounts.specs.declared.mount.Mount.{Mount}
 use Rattle.mt_mounts.specs.declared.mount.Place.{Place}
@@ -15,24 +15,22 @@ use Rattle.mt_mounts.specs.Forest.{id_of, mount_at, on, is_at, root_place}
 use Rattle.mt_mounts.proofs.SlotLaws.{none_found}
 use Rattle.mt_mounts.proofs.ForestLaws.{find_none}
 use Rattle.mt_peers.specs.declared.state.State.{State}
-use Rattle.mt_peers.specs.Peers.{Peer, mount_of, state_at, in_group, has_member}
+use Rattle.mt_peers.specs.Peers.{Peer, mount_of, state_at}
 use Rattle.mt_peers.proofs.AddedLaws.{row_at-append}
-use Rattle.mt_propagate.specs.World.{WorldView, state_of, group_of, root_dir, space_of}
-use Rattle.mt_propagate.specs.WellFormed.{IsForest, IsWellFormed, fs_at}
+use Rattle.mt_propagate.specs.World.{WorldView, group_of, root_dir, space_of}
+use Rattle.mt_propagate.specs.WellFormed.{IsForest, IsWellFormed}
 use Rattle.mt_propagate.specs.Receivers.{receivers, hits, gets_from}
 use Rattle.mt_propagate.specs.Copies.{Source, Copy, copy_eq, targets, new_copies, copy_id}
-use Rattle.mt_propagate.specs.Groups.{copy_state}
 use Rattle.mt_propagate.specs.Places.{copy_of, new_mounts, relocated, made_way, stack_end}
-use Rattle.mt_propagate.specs.Copied.{copied, regrouped}
+use Rattle.mt_propagate.specs.Copied.{copied}
 use Rattle.mt_propagate.specs.Laws.{IsListed}
 use Rattle.mt_propagate.specs.Sound.{IsTree, IsDestination}
-use Rattle.mt_propagate.proofs.ElementLaws.{In, in_append, in_left, in_right, in_filter, in_any, any_in, row_in, in_row, in_map, in_mapped, in_flat, in_flatted, find_in, in_found, at_position}
+use Rattle.mt_propagate.proofs.ElementLaws.{In, in_append, in_right, in_filter, row_in, in_row, in_map, in_mapped, in_flat, in_flatted, find_in, in_found, at_position}
 use Rattle.mt_propagate.proofs.ListedLaws.{copied-listed, relocated-id}
 use Rattle.mt_propagate.proofs.WalkLaws.{stands_at}
 use Rattle.mt_propagate.proofs.JoinLaws.{state_row}
-use Rattle.mt_propagate.proofs.KeyLaws.{group_known, master_known, copy_in, in_copies}
-use Rattle.mt_propagate.proofs.CopyForestLaws.{CopiesStand, copies-forest, copy_for, stands_here}
-use Rattle.mt_propagate.proofs.CopyPeerLaws.{CopiesJoin, peering_kept, group_shows, master_shows}
+use Rattle.mt_propagate.proofs.KeyLaws.{in_copies}
+use Rattle.mt_propagate.proofs.CopyForestLaws.{CopiesStand, copies-forest, stands_here}
 use Rattle.mt_propagate.proofs.StackLaws.{stack_end_of}
 
 pub copy_self : (c : Copy) → copy_eq c c ≡ true
