@@ -17,7 +17,7 @@ use Rattle.mt_propagate.specs.WellFormed.{IsWellFormed, fs_at}
 use Rattle.mt_propagate.specs.Sound.{IsTree, IsSource}
 use Rattle.mt_propagate.proofs.CopyForestLaws.{parent_from, parent_is}
 use Rattle.mt_propagate.proofs.KeyLaws.{group_known, master_known}
-use Rattle.mt_propagate.proofs.SoundLaws.{state_at_mount, root_is}
+use Rattle.mt_propagate.proofs.CopyRowLaws.{state_at_mount, root_is}
 use Rattle.mt_bind.specs.Sources.{fresh, alone, top_at}
 
 pub holds_fs : (s : Skeleton) (outer inner : ℕ) → holds s outer inner ≡ true → (directory s inner).fs ≡ (directory s outer).fs

@@ -14,7 +14,7 @@ use Rattle.mt_propagate.specs.Named.{unknown, mount_or_unknown}
 use Rattle.mt_propagate.specs.WellFormed.{IsWellFormed, fs_at}
 use Rattle.mt_propagate.specs.Sound.{IsTree, IsSource}
 use Rattle.mt_propagate.proofs.CopyForestLaws.{parent_is}
-use Rattle.mt_propagate.proofs.SoundLaws.{root_is}
+use Rattle.mt_propagate.proofs.CopyRowLaws.{root_is}
 use Rattle.mt_bind.specs.Sources.{tree_of}
 use Rattle.mt_bind.proofs.PartLaws.{part_tree}
 use Rattle.mt_bind.proofs.BelowLaws.{below_self, below_parent, below_has_parent, above_not_below}

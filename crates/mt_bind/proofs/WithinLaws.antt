@@ -15,7 +15,7 @@ use Rattle.mt_propagate.specs.Named.{unknown, mount_or_unknown}
 use Rattle.mt_propagate.specs.WellFormed.{IsWellFormed, fs_at}
 use Rattle.mt_propagate.specs.Sound.{IsSource}
 use Rattle.mt_propagate.proofs.CopyForestLaws.{parent_is}
-use Rattle.mt_propagate.proofs.SoundLaws.{root_is}
+use Rattle.mt_propagate.proofs.CopyRowLaws.{root_is}
 use Rattle.mt_bind.specs.Sources.{top_at, tree_within, is_bound_along, path_to}
 use Rattle.mt_bind.proofs.SourceLaws.{holds_there, top_is, own_id, shows_same}
 use Rattle.mt_bind.proofs.PartLaws.{part_tree}

@@ -14,9 +14,9 @@ pub mod JoinLaws
 pub mod KeyLaws
 pub mod CopyPeerLaws
 pub mod StackLaws
-pub mod SoundLaws
+pub mod CopyRowLaws
 pub mod CopiedLaws
 pub mod GrownLaws
 pub mod MovedForestLaws
-pub mod MoveLaws
+pub mod MoveRowLaws
 pub mod MovedLaws

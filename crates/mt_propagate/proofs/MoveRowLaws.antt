@@ -1,4 +1,4 @@
--- The mounts of each namespace stay one tree where a source tree goes to a place and is copied to the targets.
+-- Where a source tree moves: the mounts that are there afterwards, and that those of each namespace stay one tree.
 use Rattle.std.proofs.Common.{◌≡◌, ◌≢◌, ◌⊎◌, ℕ, ◌-◌, true, false, cond, ◌==◌, eqb, eq-eqb, List, [], ◌∷◌, ◌++◌, map, length, Option, Some, None, refl, sym, ap, ◌∙◌, inl, inr, arith, IsTrue}
 use Rattle.std.specs.Prelude.{not, unwrap_or, slice_get, Bool}
 use Rattle.std.specs.List.{find, position_or_len, last_or, list_all}
@@ -28,7 +28,7 @@ use Rattle.mt_propagate.proofs.ListedLaws.{copied-listed, relocated-id}
 use Rattle.mt_propagate.proofs.WalkLaws.{stands_at}
 use Rattle.mt_propagate.proofs.CopyForestLaws.{CopiesStand, copies-forest, stands_here}
 use Rattle.mt_propagate.proofs.StackLaws.{stack_end_of}
-use Rattle.mt_propagate.proofs.SoundLaws.{copy_self, copy_exact, listed, hit_there, none_passes, row_left}
+use Rattle.mt_propagate.proofs.CopyRowLaws.{copy_self, copy_exact, listed, hit_there, none_passes, row_left}
 use Rattle.mt_propagate.proofs.MovedForestLaws.{lifted, from_lifted, to_lifted, moved_forest}
 
 all_in : {X : Type 0} (q : X → Bool) (xs : List X) (x : X) → list_all q xs ≡ true → In x xs → q x ≡ true

@@ -1,4 +1,4 @@
--- A world stays well-formed where a source tree is copied to a place and to its targets, and nothing moves.
+-- Where a source tree is copied and nothing moves: the mounts that are there afterwards, and that those of each namespace stay one tree.
 use Rattle.std.proofs.Common.{◌≡◌, ◌≢◌, ◌⊎◌, ℕ, ◌-◌, true, false, List, [], ◌++◌, map, length, Option, Some, None, refl, sym, ap, ◌∙◌, subst, inl, inr, arith, IsTrue}
 use Rattle.std.specs.Prelude.{not, ◌==◌, unwrap_or, slice_get, Bool}
 use Rattle.std.specs.List.{find, filter, position_or_len, last_or}
