@@ -3,7 +3,7 @@ use Rattle.std.specs.Prelude.{◌≡◌, ℕ, Bool, List, Ok}
 use Rattle.mt_propagate.specs.World.{WorldView}
 use Rattle.mt_propagate.specs.WellFormed.{IsWellFormed}
 use Rattle.mt_bind.specs.Spaces.{with_copy, without_space}
-use Rattle.mt_bind.specs.Mounting.{mounted, bound}
+use Rattle.mt_bind.specs.Mounting.{mounted, bound, moved}
 
 -- a world stays well-formed when a namespace is copied, whether into one less privileged or not; where the namespace has no
 -- mounts, nothing is copied (this project's rule)
@@ -22,3 +22,7 @@ MountKeeps = (w : WorldView) (n : ℕ) (name : List ℕ) (path : List (List ℕ)
 abbrev pub BindKeeps : Type 0
 BindKeeps =
     (w : WorldView) (n : ℕ) (deep : Bool) (from to : List (List ℕ)) (v : WorldView) (i : ℕ) → IsWellFormed w → bound w n deep from to ≡ Ok (v, i) → IsWellFormed v
+
+-- and through a move (`sharedsubtree`, move semantics)
+abbrev pub MoveKeeps : Type 0
+MoveKeeps = (w : WorldView) (n : ℕ) (from to : List (List ℕ)) (v : WorldView) → IsWellFormed w → moved w n from to ≡ Ok v → IsWellFormed v
