@@ -1,119 +1,87 @@
--- What commands lead to, and that a book stays a book.
-use Rattle.std.proofs.Common.{◌≡◌, ℕ, ◌+◌, ◌-◌, ◌<◌, ◌≤◌, Bool, true, false, List, [], ◌∷◌, ◌++◌, length, take, nat_lt, nat_le, slice_set, slice_index_or, Option, Some, None, Result, Ok, Err, refl, sym, ap, ◌∙◌, arith, inl, inr, length-append}
-use Rattle.std.specs.Option.{is_none, is_some, unwrap_or, option_map, option_map_or}
-use Rattle.std.proofs.lemmas.Bool.Decides.{nat_tests}
-use Rattle.mt_skel.specs.declared.fault.Fault.{Fault}
-use Rattle.mt_skel.specs.declared.fault.Fault.TheVariants.{TooMany, NoFilesystem, RootPlace, FilesystemExists, NoEntry, EntryExists}
-use Rattle.mt_skel.specs.Outcome.{refuse_if, fault_of, first_fault, outcome}
-use Rattle.mt_skel.specs.Skeleton.{Skeleton, Directory, Filesystem, added_fs, added_dir, root_of, with_fs, with_dir, fs_named, number_of, filesystem_limit, directory_limit, depth_limit}
-use Rattle.mt_skel.proofs.HoldLaws.{holds_grown}
-use Rattle.mt_mounts.specs.declared.mount.Place.{Place}
-use Rattle.mt_mounts.specs.Walk.{walk}
+-- A book stays a book.
+use Rattle.std.proofs.Common.{◌≡◌, ℕ, zero, suc, ◌+◌, ◌-◌, ◌<◌, ◌≤◌, Bool, true, false, cond, ◌&&◌, List, [], ◌∷◌, ◌++◌, length, map, nat_lt, slice_set, slice_index_or, Option, Some, None, Ok, refl, sym, ap, subst, ◌∙◌, arith, inl, inr, length-append}
+use Rattle.std.specs.List.{filter}
+use Rattle.std.specs.Option.{is_some, is_none, option_map, option_map_or}
 use Rattle.std.proofs.lemmas.Bool.{cases_eq}
-use Rattle.std.proofs.lemmas.List.{length-set, get_or-set_other}
+use Rattle.std.proofs.lemmas.Bool.Decides.{nat_tests}
+use Rattle.std.proofs.lemmas.List.{length-set, length-map, get_or-set_other}
 use Rattle.std.proofs.lemmas.Grind.{get_or-set_at}
-use Rattle.mt_mounts.specs.Attrs.{new_attrs}
+use Rattle.mt_skel.specs.Skeleton.{Skeleton, Directory}
 use Rattle.mt_mounts.specs.declared.mount.Mount.{Mount}
 use Rattle.mt_mounts.specs.Forest.{id_of, is_root, root_mount}
 use Rattle.mt_mounts.proofs.ForestLaws.{find_row, find_passes}
-use Rattle.mt_session.proofs.WorldLaws.{next_mount}
-use Rattle.mt_session.proofs.MountingLaws.{space_given, root_here}
-use Rattle.mt_session.specs.World.{WorldView, place_or_nowhere, is_root_place, is_space}
-use Rattle.mt_session.specs.WellFormed.{IsWellFormed}
-use Rattle.mt_session.specs.Mounting.{new_space, mounted, with_space, with_mount, too_many_spaces, too_many_mounts}
-use Rattle.mt_session.specs.Book.{BookView, IsBook}
+use Rattle.mt_peers.specs.declared.state.Kind.{Kind}
+use Rattle.mt_peers.specs.Peers.{Peer, Peering, mount_of}
+use Rattle.mt_peers.specs.Making.{made, groupless, is_shared}
+use Rattle.mt_propagate.specs.World.{WorldView, is_space}
+use Rattle.mt_propagate.specs.WellFormed.{IsWellFormed}
+use Rattle.mt_propagate.proofs.GrownLaws.{grown-kept}
+use Rattle.mt_propagate.proofs.WalkLaws.{root_here, space_given}
+use Rattle.mt_bind.specs.Spaces.{new_space, with_space}
+use Rattle.mt_setattr.specs.declared.change.Change.{Change}
+use Rattle.mt_setattr.specs.Change.{attributed, with_change, changed_mount, is_chosen}
+use Rattle.mt_session.specs.Mounting.{mounted}
+use Rattle.mt_session.specs.Book.{BookView, IsBook, counted, command_limit}
+use Rattle.mt_session.proofs.StepLaws.{space_made, mount_made, set_made}
 
--- an outcome that is a success: no refusal held, and this is the effect
-outcome-ok : {A : Type 0} (fs : List (Option Fault)) (a b : A) → outcome fs a ≡ Ok b → (b ≡ a) × (first_fault fs ≡ None)
-outcome-ok {A} fs a b e = by (first_fault fs) e
-  where
-    by : (o : Option Fault) → option_map_or (λ f. Err f) o (Ok a) ≡ Ok b → (b ≡ a) × (o ≡ None)
-    by None e = let same : a ≡ b = cc in (sym same, refl)
-    by (Some f) e = absurd (cc)
+-- the numbers after a change are as many, and none rose by more than one
+pub counted-length : (w v : WorldView) (n : ℕ) (ks : List ℕ) → length (counted w v n ks) ≡ length ks
+counted-length w v n [] = refl
+counted-length w v n (k ∷ ks) = ap (λ l. suc l) (counted-length w v (n + 1) ks)
 
-first-none : (o : Option Fault) (fs : List (Option Fault)) → first_fault (o ∷ fs) ≡ None → (o ≡ None) × (first_fault fs ≡ None)
-first-none None fs e = (refl, e)
-first-none (Some f) fs e = absurd (cc)
+one-more : (b : Bool) (k : ℕ) → cond b k (k + 1) ≤ k + 1
+one-more true k = omega arith
+one-more false k = omega arith
 
-passed_if : (b : Bool) (f : Fault) → refuse_if b f ≡ None → b ≡ false
-passed_if false f e = refl
-passed_if true f e = absurd (cc)
+pub counted-few : (w v : WorldView) (n : ℕ) (ks : List ℕ) (i : ℕ) → slice_index_or (counted w v n ks) i 0 ≤ slice_index_or ks i 0 + 1
+counted-few w v n [] i = omega arith
+counted-few w v n (k ∷ ks) zero = one-more _ k
+counted-few w v n (k ∷ ks) (suc i) = counted-few w v (n + 1) ks i
 
-pub fs_made : (s t : Skeleton) (f : Filesystem) → added_fs s f ≡ Ok t → t ≡ with_fs s f
-fs_made s t f e =
-    (outcome-ok (refuse_if (is_some (fs_named s f.name)) FilesystemExists ∷ refuse_if (nat_le filesystem_limit (length s.filesystems)) TooMany ∷ refuse_if (nat_le directory_limit (length s.directories)) TooMany ∷ []) (with_fs s f) t e).0
+-- of a list no more pass a test than there are
+few-pass : {A : Type 0} (test : A → Bool) (xs : List A) → length (filter test xs) ≤ length xs
+few-pass test [] = omega arith
+few-pass {A} test (x ∷ xs) =
+    let ih = few-pass test xs in
+    elim (test x) as (λ b. length (cond {A = List A} b (x ∷ filter test xs) (filter test xs)) ≤ length (x ∷ xs)) [
+      | true ↦ omega (arith, ih)
+      | false ↦ omega (arith, ih)
+    ]
 
-pub dir_made : (s t : Skeleton) (name : List ℕ) (path : List (List ℕ)) → added_dir s name path ≡ Ok t → (d : Directory) × (t ≡ with_dir s d)
-dir_made s t name path e =
-    let f = unwrap_or (fs_named s name) 0 in
-    let d : Directory = record { fs = f; path = path } in (
-      d,
-      (outcome-ok (refuse_if (is_none (fs_named s name)) NoFilesystem
-          ∷ refuse_if (is_none (number_of s (record { fs = f; path = take (length path - 1) path }))) NoEntry
-          ∷ refuse_if (is_some (number_of s d)) EntryExists
-          ∷ refuse_if (nat_lt depth_limit (length path)) TooMany
-          ∷ refuse_if (nat_le directory_limit (length s.directories)) TooMany ∷ []) (with_dir s d) t e).0,
-    )
+-- a change gives at most as many groups as there are mounts
+few-groups : (k : Kind) (chosen : ℕ → Bool) (p : Peering) → (made k chosen p).next ≤ p.next + length p.peers
+unfolding made
+few-groups k chosen p =
+    let few = few-pass (λ (e : Peer). chosen e.mount && is_none e.state.group) p.peers in
+    let same = length-map (filter (λ (e : Peer). chosen e.mount && is_none e.state.group) p.peers) mount_of in
+    elim (is_shared k) as (λ b. cond b (p.next + length (groupless chosen p.peers)) p.next ≤ p.next + length p.peers) [
+      | true ↦ omega (arith, few, same)
+      | false ↦ omega arith
+    ]
 
-fault_none : {A : Type 0} (r : Result A Fault) → fault_of r ≡ None → (a : A) × (r ≡ Ok a)
-fault_none (Ok a) e = (a, refl)
-fault_none (Err f) e = absurd (cc)
+changed-groups : (k : Option Kind) (chosen : ℕ → Bool) (p : Peering) → (option_map_or (λ k. made k chosen p) k p).next ≤ p.next + length p.peers
+changed-groups None chosen p = omega arith
+changed-groups (Some k) chosen p = few-groups k chosen p
 
--- a new namespace, where the command was accepted
-pub space_made : (w v : WorldView) (name : List ℕ) (n : ℕ) → new_space w name ≡ Ok (v, n) → (v ≡ with_space w (unwrap_or (fs_named w.skel name) 0)) × (length w.forest < 4096)
-space_made w v name n e =
-    let none = refuse_if (is_none (fs_named w.skel name)) NoFilesystem in
-    let spaces = refuse_if (too_many_spaces w) TooMany in
-    let mounts = refuse_if (too_many_mounts w 1) TooMany in
-    let ok = outcome-ok (none ∷ spaces ∷ mounts ∷ []) (with_space w (unwrap_or (fs_named w.skel name) 0), w.next_space) (v, n) e in
-    let one = first-none none (spaces ∷ mounts ∷ []) ok.1 in
-    let two = first-none spaces (mounts ∷ []) one.1 in
-    let three = first-none mounts [] two.1 in
-    let few = passed_if (too_many_mounts w 1) TooMany three.0 in
-    (ap (λ p. p.0) ok.0, grind (arith, nat_tests))
+-- what a change leaves as it is, and how many groups it makes
+record IsSized (w v : WorldView) : Type 0 where
+  spaces : v.next_space ≡ w.next_space
+  mounts : v.next_mount ≡ w.next_mount
+  forest : length v.forest ≡ length w.forest
+  groups : v.peering.next ≤ w.peering.next + length w.peering.peers
 
--- a new mount, where the command was accepted: the walk ended at a place
-pub mount_made : (w v : WorldView) (n : ℕ) (name : List ℕ) (path : List (List ℕ)) (i : ℕ) → mounted w n name path ≡ Ok (v, i)
-    → (p : Place) × (walk w.skel w.forest n path ≡ Ok p) × (v ≡ with_mount w n p (unwrap_or (fs_named w.skel name) 0)) × (length w.forest < 4096)
-mount_made w v n name path i e =
-    let p = place_or_nowhere (walk w.skel w.forest n path) in
-    let none = refuse_if (is_none (fs_named w.skel name)) NoFilesystem in
-    let lost = fault_of (walk w.skel w.forest n path) in
-    let root = refuse_if (is_root_place w p) RootPlace in
-    let mounts = refuse_if (too_many_mounts w 1) TooMany in
-    let ok = outcome-ok (none ∷ lost ∷ root ∷ mounts ∷ []) (with_mount w n p (unwrap_or (fs_named w.skel name) 0), w.next_mount) (v, i) e in
-    let one = first-none none (lost ∷ root ∷ mounts ∷ []) ok.1 in
-    let two = first-none lost (root ∷ mounts ∷ []) one.1 in
-    let three = first-none root (mounts ∷ []) two.1 in
-    let four = first-none mounts [] three.1 in
-    let few = passed_if (too_many_mounts w 1) TooMany four.0 in
-    let end = fault_none (walk w.skel w.forest n path) two.0 in
-    (end.0, end.1, ap (λ q. q.0) ok.0 ∙ ap (λ r. with_mount w n (place_or_nowhere r) (unwrap_or (fs_named w.skel name) 0)) end.1, grind (arith, nat_tests))
-
--- a world stays well-formed where directories are made
-pub world_grown : (w : WorldView) (t : Skeleton) (more : List Directory) → t.directories ≡ w.skel.directories ++ more → IsWellFormed w → IsWellFormed (record w { skel = t })
-world_grown w t more e h = record {
-  from_one = h.from_one;
-  below = λ i m g. let b = h.below i m g in (b.0, b.1, b.2, omega (arith, b.3, ap length e, length-append w.skel.directories more));
-  forest = record {
-    rising = h.forest.rising;
-    placed = λ i m p g at.
-        let q = h.forest.placed i m p g at in
-        let b = h.below p.mount q.0 q.1 in
-        (q.0, q.1, q.2, holds_grown w.skel t more q.0.root p.dir e b.3 q.3);
-    apart = h.forest.apart;
-    rooted = h.forest.rooted;
-    one_root = h.forest.one_root;
-    no_cycle = h.forest.no_cycle;
-  };
+changed-sized : (w : WorldView) (c : Change) (i : ℕ) → IsSized w (with_change w c i)
+unfolding with_change
+changed-sized w c i = record {
+  spaces = refl;
+  mounts = refl;
+  forest = length-map w.forest (changed_mount c (is_chosen w c i));
+  groups = changed-groups c.prop (is_chosen w c i) w.peering;
 }
 
-pub book_grown : (b : BookView) (t : Skeleton) (more : List Directory) → t.directories ≡ b.world.skel.directories ++ more → IsBook b → IsBook (record { world = record b.world { skel = t }; numbers = b.numbers })
-book_grown b t more e h = record { well_formed = world_grown b.world t more e h.well_formed; spaces = h.spaces; mounts = h.mounts; within = h.within; few = h.few }
-
--- the mount that such a command makes
-abbrev pub made_mount : WorldView → ℕ → List ℕ → Place → Mount
-made_mount w n name p = next_mount w n (Some p) (root_of w.skel (unwrap_or (fs_named w.skel name) 0)) new_attrs
+-- there are as many states as mounts
+as-many : (w : WorldView) → IsWellFormed w → length w.peering.peers ≡ length w.forest
+as-many w h = sym (length-map w.peering.peers mount_of) ∙ ap length (sym h.same_mounts) ∙ length-map w.forest id_of
 
 -- the namespace of an accepted mount has its number among the book's
 pub mount_numbered : (b : BookView) (v : WorldView) (n : ℕ) (name : List ℕ) (path : List (List ℕ)) (i : ℕ) → IsBook b → mounted b.world n name path ≡ Ok (v, i) → (1 ≤ n) × (n - 1 < length b.numbers)
@@ -134,23 +102,82 @@ space_numbered b n o h e some = by (root_mount b.world.forest n) refl (ap is_som
         let low = h.well_formed.below r.id r row in
         (omega (arith, low.1, root.1), omega (arith, low.1, low.2, root.1, h.spaces), ap is_some at)
 
+-- a book stays one where directories are made
+pub book_grown : (b : BookView) (t : Skeleton) (more : List Directory) → t.directories ≡ b.world.skel.directories ++ more → b.accepted < command_limit → IsBook b
+    → IsBook (record { world = record b.world { skel = t }; numbers = b.numbers; accepted = b.accepted + 1 })
+book_grown b t more e few h = record {
+  well_formed = grown-kept b.world t more e h.well_formed;
+  spaces = h.spaces;
+  within = h.within;
+  accepted = omega (arith, few);
+  few_spaces = omega (arith, h.few_spaces);
+  few_mounts = omega (arith, h.few_mounts);
+  few_groups = omega (arith, h.few_groups);
+  few_changes = λ i. let low = h.few_changes i in omega (arith, low);
+}
+
+-- a book stays one where a namespace is made
+pub book_spaced : (b : BookView) (v : WorldView) (name : List ℕ) (n : ℕ) → new_space b.world name ≡ Ok (v, n) → IsWellFormed v → b.accepted < command_limit → IsBook b
+    → IsBook (record { world = v; numbers = b.numbers ++ 1 ∷ []; accepted = b.accepted + 1 })
+unfolding with_space
+book_spaced b v name n e well few h =
+    let m = space_made b.world v name n e in
+    let forest = ap (λ x. length x.forest) m.0 ∙ length-append b.world.forest _ in
+    record {
+      well_formed = well;
+      spaces = omega (arith, ap (λ x. x.next_space) m.0, h.spaces, length-append b.numbers (1 ∷ []));
+      within = omega (arith, forest, m.1);
+      accepted = omega (arith, few);
+      few_spaces = omega (arith, h.few_spaces, length-append b.numbers (1 ∷ []));
+      few_mounts = omega (arith, ap (λ x. x.next_mount) m.0, h.few_mounts);
+      few_groups = omega (arith, ap (λ x. x.peering.next) m.0, h.few_groups);
+      few_changes = λ i. let low = appended b.numbers i in let old = h.few_changes i in omega (arith, low, old);
+    }
+  where
+    appended : (ks : List ℕ) (i : ℕ) → slice_index_or (ks ++ 1 ∷ []) i 0 ≤ slice_index_or ks i 0 + 1
+    appended [] zero = omega arith
+    appended [] (suc i) = omega arith
+    appended (k ∷ ks) zero = omega arith
+    appended (k ∷ ks) (suc i) = appended ks i
+
 -- a book stays one after a mount
-pub book_mounted : (b : BookView) (v : WorldView) (n : ℕ) (name : List ℕ) (path : List (List ℕ)) (i k : ℕ) → IsBook b → mounted b.world n name path ≡ Ok (v, i) → IsWellFormed v → k ≡ slice_index_or b.numbers (n - 1) 0
-    → IsBook (record { world = v; numbers = slice_set b.numbers (n - 1) (k + 1) })
-book_mounted b v n name path i k h e well same =
+pub book_mounted : (b : BookView) (v : WorldView) (n : ℕ) (name : List ℕ) (path : List (List ℕ)) (i k : ℕ) → b.accepted < command_limit → IsBook b → mounted b.world n name path ≡ Ok (v, i) → IsWellFormed v
+    → k ≡ slice_index_or b.numbers (n - 1) 0 → IsBook (record { world = v; numbers = slice_set b.numbers (n - 1) (k + 1); accepted = b.accepted + 1 })
+book_mounted b v n name path i k few h e well same =
     let m = mount_made b.world v n name path i e in
     let at = mount_numbered b v n name path i h e in
-    let next : v.next_mount ≡ b.world.next_mount + 1 = ap (λ x. x.next_mount) m.2 in
-    let forest = ap (λ x. length x.forest) m.2 in
+    let forest = ap (λ x. length x.forest) m.2 ∙ length-append b.world.forest _ in
     record {
       well_formed = well;
       spaces = ap (λ x. x.next_space) m.2 ∙ h.spaces ∙ ap (λ x. x + 1) (sym (length-set b.numbers (n - 1) (k + 1)));
-      mounts = omega (arith, next, h.mounts, forest, length-append b.world.forest (made_mount b.world n name m.0 ∷ []));
-      within = omega (arith, m.3, forest, length-append b.world.forest (made_mount b.world n name m.0 ∷ []));
-      few = λ j. elim (cases_eq j (n - 1)) [
+      within = omega (arith, forest, m.3);
+      accepted = omega (arith, few);
+      few_spaces = omega (arith, h.few_spaces, length-set b.numbers (n - 1) (k + 1));
+      few_mounts = omega (arith, ap (λ x. x.next_mount) m.2, h.few_mounts);
+      few_groups = omega (arith, ap (λ x. x.peering.next) m.2, h.few_groups);
+      few_changes = λ j. elim (cases_eq j (n - 1)) [
         | inl here ↦
-            let low = h.few (n - 1) in
-            omega (arith, next, low, same, get_or-set_at b.numbers (n - 1) j (k + 1) 0 here at.1)
-        | inr off ↦ let low = h.few j in omega (arith, next, low, get_or-set_other b.numbers (n - 1) j (k + 1) 0 off)
+            let low = h.few_changes (n - 1) in
+            omega (arith, low, same, get_or-set_at b.numbers (n - 1) j (k + 1) 0 here at.1)
+        | inr off ↦ let low = h.few_changes j in omega (arith, low, get_or-set_other b.numbers (n - 1) j (k + 1) 0 off)
       ];
+    }
+
+-- a book stays one after a change of mounts
+pub book_changed : (b : BookView) (v : WorldView) (n : ℕ) (path : List (List ℕ)) (c : Change) → b.accepted < command_limit → IsBook b → attributed b.world n path c ≡ Ok v → IsWellFormed v
+    → IsBook (record { world = v; numbers = counted b.world v 1 b.numbers; accepted = b.accepted + 1 })
+book_changed b v n path c few h e well =
+    let is = set_made b.world v n path c e in
+    let sized = subst (IsSized b.world) (sym is) (changed-sized b.world c _) in
+    let many = as-many b.world h.well_formed in
+    let long = counted-length b.world v 1 b.numbers in
+    record {
+      well_formed = well;
+      spaces = omega (arith, sized.spaces, h.spaces, long);
+      within = omega (arith, sized.forest, h.within);
+      accepted = omega (arith, few);
+      few_spaces = omega (arith, h.few_spaces, long);
+      few_mounts = omega (arith, sized.mounts, h.few_mounts);
+      few_groups = omega (arith, sized.groups, many, h.within, h.few_groups);
+      few_changes = λ i. let low = h.few_changes i in let more = counted-few b.world v 1 b.numbers i in omega (arith, low, more);
     }

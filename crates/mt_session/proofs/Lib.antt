@@ -1,12 +1,11 @@
 pub mod BookLaws
+pub mod StepLaws
 pub mod FaultLaws
 pub mod LineLemmas
 pub mod MountingLaws
+pub mod OptionLaws
 pub mod PathLaws
-pub mod PrintLaws
 pub mod StreamLemmas
-pub mod TableLaws
 pub mod TextLaws
 pub mod WordLaws
-pub mod WorldLaws
 pub mod SessionLaws

@@ -1,160 +1,62 @@
--- Where a walk ends, and what a command that makes a mount leads to.
-use Rattle.std.proofs.Common.{◌≡◌, ◌⊎◌, ℕ, zero, suc, ◌<◌, ◌≤◌, ◌==◌, ◌&&◌, true, false, List, [], ◌∷◌, length, Option, Some, None, Ok, Err, refl, sym, ap, subst, ◌∙◌, inl, inr, arith, IsTrue}
-use Rattle.std.specs.Option.{option_map, option_map_or, option_and_then, ok_or, unwrap_or, is_none}
-use Rattle.std.proofs.lemmas.Bool.{true≢false}
+-- What a new mount leads to, and that a well-formed world stays so.
+use Rattle.std.proofs.Common.{◌≡◌, ℕ, ◌+◌, ◌<◌, false, List, [], ◌∷◌, ◌++◌, length, Some, Ok, refl, ap, ◌∙◌, arith}
+use Rattle.std.specs.Option.{is_none, is_some, unwrap_or}
 use Rattle.std.proofs.lemmas.Bool.Decides.{nat_tests}
-use Rattle.mt_skel.specs.declared.fault.Fault.TheVariants.{NoFilesystem, NoEntry, NoNamespace, RootPlace, TooMany}
+use Rattle.mt_skel.specs.declared.fault.Fault.TheVariants.{NoFilesystem, RootPlace, SharedParent, TooMany}
 use Rattle.mt_skel.specs.Outcome.{refuse_if, fault_of, outcome}
-use Rattle.mt_skel.specs.Skeleton.{holds, child, fs_named}
+use Rattle.mt_skel.specs.Keyed.{put}
+use Rattle.mt_skel.specs.Skeleton.{fs_named, root_of}
 use Rattle.mt_skel.proofs.OutcomeLaws.{passed}
-use Rattle.mt_skel.proofs.SkeletonLaws.{holds_self}
-use Rattle.mt_skel.proofs.HoldLaws.{holds_child}
 use Rattle.mt_mounts.specs.declared.mount.Mount.{Mount}
 use Rattle.mt_mounts.specs.declared.mount.Place.{Place}
-use Rattle.mt_mounts.specs.Forest.{mount_at, on, is_at, is_root, place_eq, root_mount, root_place, roots, top}
-use Rattle.mt_mounts.specs.Walk.{walk, walk_from}
-use Rattle.mt_mounts.proofs.SlotLaws.{none_found}
-use Rattle.mt_mounts.proofs.ForestLaws.{find_row, find_passes}
-use Rattle.mt_mounts.proofs.Walks.{top_within, top_stop, top_step}
-use Rattle.mt_mounts.proofs.CycleLaws.{top_is_free}
-use Rattle.mt_session.specs.World.{WorldView, unknown, is_root_place, place_or_nowhere}
-use Rattle.mt_session.specs.WellFormed.{IsWellFormed}
-use Rattle.mt_session.specs.Mounting.{new_space, mounted, with_space, with_mount, too_many_spaces, too_many_mounts}
-use Rattle.mt_session.proofs.WorldLaws.{Fits}
+use Rattle.mt_mounts.specs.declared.mount.Attrs.{Attrs}
+use Rattle.mt_mounts.specs.Attrs.{new_attrs}
+use Rattle.mt_mounts.specs.Forest.{id_of}
+use Rattle.mt_mounts.specs.Walk.{walk}
+use Rattle.mt_peers.specs.Peers.{Peer, mount_of}
+use Rattle.mt_propagate.specs.World.{WorldView, group_of}
+use Rattle.mt_propagate.specs.Named.{place_or_nowhere, is_root_place}
+use Rattle.mt_propagate.specs.Limits.{too_many_mounts}
+use Rattle.mt_propagate.specs.WellFormed.{IsWellFormed}
+use Rattle.mt_propagate.proofs.WalkLaws.{mount_fits, space_given}
+use Rattle.mt_propagate.proofs.PrivateLaws.{new_peer, private-kept, private_world, forest_after, peers_after}
+use Rattle.mt_session.specs.Mounting.{mounted, with_mount}
 
-place_same : (p q : Place) → place_eq p q ≡ true → p ≡ q
-place_same p q e =
-    let m : p.mount ≡ q.mount = grind (arith, nat_tests) in
-    let d : p.dir ≡ q.dir = grind (arith, nat_tests) in
-    λ i. record { mount = m i; dir = d i }
+-- the new mount
+abbrev pub new_mount : WorldView → ℕ → Place → ℕ → Mount
+new_mount w n p fs = record { id = w.next_mount; space = n; place = Some p; root = root_of w.skel fs; attrs = new_attrs }
 
-stands_at : (p : Place) (x : Mount) → is_at p x ≡ true → x.place ≡ Some p
-stands_at p x e = by x.place refl e
-  where
-    by : (o : Option Place) → x.place ≡ o → option_map_or (place_eq p) o false ≡ true → o ≡ Some p
-    by None at e = absurd (cc)
-    by (Some q) at e = ap (λ y. Some y) (sym (place_same p q e))
-
-pub root_here : (n : ℕ) (m : Mount) → is_root n m ≡ true → (is_none m.place ≡ true) × (m.space ≡ n)
-root_here n m e = (grind (arith, nat_tests), grind (arith, nat_tests))
-
--- the place is on a mount of the namespace, within its root
-abbrev pub StandsIn : WorldView → ℕ → Place → Type 0
-StandsIn w n p = (q : Mount) × (mount_at w.forest p.mount ≡ Some q) × (q.space ≡ n) × (holds w.skel q.root p.dir ≡ true)
-
-module _ (w : WorldView) (n : ℕ) (h : IsWellFormed w) where
-  stands_root : (m : Mount) → mount_at w.forest m.id ≡ Some m → m.space ≡ n → StandsIn w n (root_place m)
-  stands_root m e s = let b = h.below m.id m e in (m, e, s, holds_self w.skel m.root b.3)
-
-  stands_step : (p : Place) (x : Mount) → StandsIn w n p → on w.forest p ≡ Some x → StandsIn w n (root_place x)
-  stands_step p x st e =
-      let row = find_row (is_at p) w.forest x h.forest.rising e in
-      let at = stands_at p x (find_passes (is_at p) w.forest x e) in
-      let q = h.forest.placed x.id x p row at in
-      let v : Some q.0 ≡ Some st.0 = sym q.1 ∙ st.1 in
-      let same : q.0 ≡ st.0 = cc in
-      stands_root x row (sym q.2 ∙ ap (λ (y : Mount). y.space) same ∙ st.2)
-
-  stands_top : (fuel : ℕ) (p : Place) → StandsIn w n p → StandsIn w n (top_within w.forest fuel p)
-  stands_top zero p st = st
-  stands_top (suc k) p st = by (on w.forest p) refl (λ q. stands_top k q)
-    where
-      by : (o : Option Mount) → on w.forest p ≡ o → ((q : Place) → StandsIn w n q → StandsIn w n (top_within w.forest k q)) → StandsIn w n (top_within w.forest (suc k) p)
-      by None e ih = subst (StandsIn w n) (sym (top_stop w.forest (suc k) p (ap (option_map root_place) e))) st
-      by (Some x) e ih = subst (StandsIn w n) (sym (top_step w.forest k p (root_place x) (ap (option_map root_place) e))) (ih (root_place x) (stands_step p x st e))
-
-  walked_from : (path : List (List ℕ)) (p r : Place) → StandsIn w n p → walk_from w.skel w.forest p path ≡ Some r → StandsIn w n r × ((r ≡ p) ⊎ (on w.forest r ≡ None))
-  walked_from [] p r st e = let same : p ≡ r = cc in (subst (StandsIn w n) same st, inl (sym same))
-  walked_from (c ∷ cs) p r st e = by (child w.skel p.dir c) refl e (λ q. walked_from cs q r)
-    where
-      by : (o : Option ℕ) → child w.skel p.dir c ≡ o → option_and_then (λ d. walk_from w.skel w.forest (top w.forest (record { mount = p.mount; dir = d })) cs) o ≡ Some r
-          → ((q : Place) → StandsIn w n q → walk_from w.skel w.forest q cs ≡ Some r → StandsIn w n r × ((r ≡ q) ⊎ (on w.forest r ≡ None))) → StandsIn w n r × ((r ≡ p) ⊎ (on w.forest r ≡ None))
-      by None at e ih = absurd (cc)
-      by (Some d) at e ih =
-          let here : Place = record { mount = p.mount; dir = d } in
-          let below : StandsIn w n here = (st.0, st.1, st.2, holds_child w.skel st.0.root p.dir d c st.3 at) in
-          let more = ih (top w.forest here) (stands_top (length w.forest) here below) e in (
-            more.0,
-            elim more.1 [
-              | inl same ↦ inr (ap (on w.forest) same ∙ top_is_free w.forest h.forest.rising h.forest.no_cycle here)
-              | inr free ↦ inr free
-            ],
-          )
-
-  -- a walk ends on a mount of the namespace, and where that is not its root place, nothing stands there
-  pub walked : (path : List (List ℕ)) (p : Place) → walk w.skel w.forest n path ≡ Ok p → StandsIn w n p × (is_root_place w p ≡ false → on w.forest p ≡ None)
-  walked path p e = by (root_mount w.forest n) refl e
-    where
-      started : (m : Mount) → root_mount w.forest n ≡ Some m → (o : Option Place) → walk_from w.skel w.forest (root_place m) path ≡ o → ok_or o NoEntry ≡ Ok p → StandsIn w n p × (is_root_place w p ≡ false → on w.forest p ≡ None)
-      started m at None f e = absurd (cc)
-      started m at (Some r) f e =
-          let same : r ≡ p = cc in
-          let row = find_row (is_root n) w.forest m h.forest.rising at in
-          let root = root_here n m (find_passes (is_root n) w.forest m at) in
-          let more = walked_from path (root_place m) p (stands_root m row root.1) (f ∙ ap (λ x. Some x) same) in (
-            more.0,
-            λ off. elim more.1 [
-              | inl start ↦
-                  let there : is_root_place w (root_place m) ≡ true = ap (λ o. is_none (unwrap_or o unknown).place && (m.root == (unwrap_or o unknown).root)) row ∙ (grind (arith, nat_tests)) in
-                  absurd (true≢false (sym there ∙ ap (is_root_place w) (sym start) ∙ off))
-              | inr free ↦ free
-            ],
-          )
-
-      by : (o : Option Mount) → root_mount w.forest n ≡ o → option_map_or (λ m. ok_or (walk_from w.skel w.forest (root_place m) path) NoEntry) o (Err NoNamespace) ≡ Ok p → StandsIn w n p × (is_root_place w p ≡ false → on w.forest p ≡ None)
-      by None at e = absurd (cc)
-      by (Some m) at e = started m at (walk_from w.skel w.forest (root_place m) path) refl e
-
--- a namespace in which a walk ends was given out
-pub space_given : (w : WorldView) (n : ℕ) (path : List (List ℕ)) (p : Place) → IsWellFormed w → walk w.skel w.forest n path ≡ Ok p → (1 ≤ n) × (n < w.next_space)
-space_given w n path p h e =
-    let st = (walked w n h path p e).0 in
-    let b = h.below p.mount st.0 st.1 in
-    (omega (arith, b.1, st.2), omega (arith, b.2, st.2))
-
--- no mount is in the next namespace, and none has the next number
-pub space_free : (w : WorldView) → IsWellFormed w → root_mount w.forest w.next_space ≡ None
-space_free w h = none_found _ (λ x e.
-    let row = find_row (is_root w.next_space) w.forest x h.forest.rising e in
-    let root = root_here w.next_space x (find_passes (is_root w.next_space) w.forest x e) in
-    let b = h.below x.id x row in
-    absurd (omega (arith, b.2, root.1)))
-
-pub number_free : (w : WorldView) → IsWellFormed w → mount_at w.forest w.next_mount ≡ None
-number_free w h = none_found _ (λ x e. let b = h.below w.next_mount x e in absurd (omega (arith, b.0)))
-
--- what a new root mount and a new mount at the end of a walk need
-pub root_fits : (w : WorldView) (m : Mount) → IsWellFormed w → m.id ≡ w.next_mount → m.space ≡ w.next_space → m.place ≡ None → Fits w.skel w.forest m
-root_fits w m h id space at = record {
-  absent = ap (mount_at w.forest) id ∙ number_free w h;
-  placed = λ p e. let v : None ≡ Some p = sym at ∙ e in absurd (cc);
-  free = λ p e. let v : None ≡ Some p = sym at ∙ e in absurd (cc);
-  first = λ e. ap (root_mount w.forest) space ∙ space_free w h;
-}
-
-pub mount_fits : (w : WorldView) (n : ℕ) (path : List (List ℕ)) (p : Place) (m : Mount) (h : IsWellFormed w) → walk w.skel w.forest n path ≡ Ok p → is_root_place w p ≡ false → m.id ≡ w.next_mount → m.space ≡ n → m.place ≡ Some p → Fits w.skel w.forest m
-mount_fits w n path p m h e off id space at =
-    let end = walked w n h path p e in
-    record {
-      absent = ap (mount_at w.forest) id ∙ number_free w h;
-      placed = λ r f.
-          let v : Some p ≡ Some r = sym at ∙ f in
-          let same : p ≡ r = cc in
-          subst (λ (r : Place). (q : Mount) × (mount_at w.forest r.mount ≡ Some q) × (q.space ≡ m.space) × IsTrue (holds w.skel q.root r.dir)) same (end.0.0, end.0.1, end.0.2 ∙ sym space, end.0.3);
-      free = λ r f. let v : Some p ≡ Some r = sym at ∙ f in let same : p ≡ r = cc in subst (λ r. on w.forest r ≡ None) same (end.1 off);
-      first = λ f. let v : Some p ≡ None = sym at ∙ f in absurd (cc);
-    }
-
--- what the calls lead to where no refusal holds
-pub new_space_done : (w : WorldView) (name : List ℕ) (f : ℕ) → fs_named w.skel name ≡ Some f → length (roots w.forest) < 64 → length w.forest < 4096 → new_space w name ≡ Ok (with_space w f, w.next_space)
-new_space_done w name f e spaces mounts =
-    ap (λ o. outcome (refuse_if (is_none o) NoFilesystem ∷ refuse_if (too_many_spaces w) TooMany ∷ refuse_if (too_many_mounts w 1) TooMany ∷ []) (with_space w (unwrap_or o 0), w.next_space)) e
-    ∙ passed (too_many_spaces w) TooMany _ _ (grind (arith, nat_tests)) ∙ passed (too_many_mounts w 1) TooMany _ _ (grind (arith, nat_tests))
-
-pub mounted_done : (w : WorldView) (n : ℕ) (name : List ℕ) (path : List (List ℕ)) (f : ℕ) (p : Place) → fs_named w.skel name ≡ Some f → walk w.skel w.forest n path ≡ Ok p → is_root_place w p ≡ false → length w.forest < 4096
-    → mounted w n name path ≡ Ok (with_mount w n p f, w.next_mount)
-mounted_done w n name path f p e at off mounts =
-    ap (λ o. outcome (refuse_if (is_none o) NoFilesystem ∷ fault_of (walk w.skel w.forest n path) ∷ refuse_if (is_root_place w (place_or_nowhere (walk w.skel w.forest n path))) RootPlace ∷ refuse_if (too_many_mounts w 1) TooMany ∷ [])
+-- a new mount where no refusal holds
+pub mounted_done : (w : WorldView) (n : ℕ) (name : List ℕ) (path : List (List ℕ)) (f : ℕ) (p : Place) → fs_named w.skel name ≡ Some f → walk w.skel w.forest n path ≡ Ok p → is_root_place w p ≡ false
+    → is_some (group_of w p.mount) ≡ false → length w.forest < 4096 → mounted w n name path ≡ Ok (with_mount w n p f, w.next_mount)
+mounted_done w n name path f p e at off alone mounts =
+    ap (λ o. outcome (refuse_if (is_none o) NoFilesystem
+    ∷ fault_of (walk w.skel w.forest n path)
+    ∷ refuse_if (is_root_place w (place_or_nowhere (walk w.skel w.forest n path))) RootPlace
+    ∷ refuse_if (is_some (group_of w (place_or_nowhere (walk w.skel w.forest n path)).mount)) SharedParent
+    ∷ refuse_if (too_many_mounts w 1) TooMany ∷ [])
     (with_mount w n (place_or_nowhere (walk w.skel w.forest n path)) (unwrap_or o 0), w.next_mount)) e
-    ∙ ap (λ r. outcome (fault_of r ∷ refuse_if (is_root_place w (place_or_nowhere r)) RootPlace ∷ refuse_if (too_many_mounts w 1) TooMany ∷ []) (with_mount w n (place_or_nowhere r) f, w.next_mount)) at
-    ∙ passed (is_root_place w p) RootPlace _ _ off ∙ passed (too_many_mounts w 1) TooMany _ _ (grind (arith, nat_tests))
+    ∙ ap (λ r. outcome (fault_of r
+    ∷ refuse_if (is_root_place w (place_or_nowhere r)) RootPlace
+    ∷ refuse_if (is_some (group_of w (place_or_nowhere r).mount)) SharedParent
+    ∷ refuse_if (too_many_mounts w 1) TooMany ∷ [])
+    (with_mount w n (place_or_nowhere r) f, w.next_mount)) at
+    ∙ passed (is_root_place w p) RootPlace _ _ off ∙ passed (is_some (group_of w p.mount)) SharedParent _ _ alone ∙ passed (too_many_mounts w 1) TooMany _ _ (grind (arith, nat_tests))
+
+-- a new mount at the end of a walk keeps a world well-formed, if the root directory of the filesystem is there
+pub mount-kept : (w : WorldView) (n : ℕ) (path : List (List ℕ)) (p : Place) (fs : ℕ) → IsWellFormed w → walk w.skel w.forest n path ≡ Ok p → is_root_place w p ≡ false → root_of w.skel fs < length w.skel.directories
+    → IsWellFormed (with_mount w n p fs)
+mount-kept w n path p fs h at off there =
+    let given = space_given w n path p h at in
+    private-kept w (new_mount w n p fs) w.next_space h (mount_fits w n path p (new_mount w n p fs) h at off refl refl refl) refl given.0 given.1 (omega arith) there
+
+-- the world once the new mount stands and has joined as private
+pub mounted-world : (w : WorldView) (n : ℕ) (p : Place) (fs r next : ℕ) (a : Attrs) (before after : List Mount) (joined peers : List Peer) → IsWellFormed w
+    → after ≡ put id_of (record { id = w.next_mount; space = n; place = Some p; root = r; attrs = a }) before → before ≡ w.forest → r ≡ root_of w.skel fs → a ≡ new_attrs
+    → joined ≡ put mount_of (new_peer w.next_mount) peers → peers ≡ w.peering.peers → next ≡ w.peering.next
+    → ◌≡◌ {A = WorldView} (record { skel = w.skel; forest = after; peering = record { peers = joined; next = next }; next_mount = w.next_mount + 1; next_space = w.next_space }) (with_mount w n p fs)
+mounted-world w n p fs r next a before after joined peers h put_mount was root attrs put_peer were groups =
+    private_world w (record { skel = w.skel; forest = after; peering = record { peers = joined; next = next }; next_mount = w.next_mount + 1; next_space = w.next_space }) (new_mount w n p fs) w.next_space refl
+    (forest_after w (record { id = w.next_mount; space = n; place = Some p; root = r; attrs = a }) before after h refl put_mount was
+    ∙ (λ i. w.forest ++ record { id = w.next_mount; space = n; place = Some p; root = root i; attrs = attrs i } ∷ []))
+    (peers_after w peers joined h put_peer were) groups refl refl

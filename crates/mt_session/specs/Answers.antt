@@ -9,12 +9,12 @@ use Rattle.mt_session.specs.declared.early.book.Reply.TheVariants.{Done, Number}
 use Rattle.mt_session.specs.declared.early.floor.Answer.{Answer}
 use Rattle.mt_session.specs.declared.early.floor.Answer.TheVariants.{Replied}
 use Rattle.mt_session.specs.declared.early.floor.Event.TheVariants.{Apply}
-use Rattle.mt_session.specs.declared.early.table.Row.{Row}
+use Rattle.mt_info.specs.declared.row.Row.{Row}
 use Rattle.mt_session.specs.declared.request.Request.{Request}
 use Rattle.mt_session.specs.declared.request.Request.TheVariants.{Run, Show, Quit}
-use Rattle.mt_session.specs.World.{is_space}
-use Rattle.mt_session.specs.Table.{table_of}
-use Rattle.mt_session.specs.RowLine.{line}
+use Rattle.mt_propagate.specs.World.{is_space}
+use Rattle.mt_info.specs.Table.{table_of}
+use Rattle.mt_info.specs.RowLine.{line}
 use Rattle.mt_session.specs.Book.{BookView, number_of}
 use Rattle.mt_session.specs.Floor.{stepped}
 

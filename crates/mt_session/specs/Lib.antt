@@ -3,14 +3,11 @@ pub mod Book
 pub mod Floor
 pub mod Lines
 pub mod Mounting
+pub mod Options
 pub mod Reading
 pub mod Requests
-pub mod RowLine
 pub mod Serving
 pub mod Session
 pub mod Stream
-pub mod Table
 pub mod Text
-pub mod WellFormed
 pub mod Words
-pub mod World

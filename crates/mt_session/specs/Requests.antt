@@ -9,6 +9,7 @@ use Rattle.mt_skel.specs.Escapes.{unescaped}
 use Rattle.mt_skel.specs.Names.{is_name}
 use Rattle.mt_skel.specs.Outcome.{refuse_if, first_fault}
 use Rattle.mt_session.specs.Words.{pieces, words, number_of}
+use Rattle.mt_session.specs.Options.{change_of}
 use Rattle.mt_session.specs.declared.early.book.Command.TheVariants as command
 use Rattle.mt_session.specs.declared.request.Request.{Request}
 use Rattle.mt_session.specs.declared.request.Request.TheVariants as request
@@ -100,6 +101,13 @@ mount_of (space ∷ fs ∷ path ∷ []) =
     (number_of space) (Err BadLine)
 mount_of _ = Err BadLine
 
+-- `setattr NS PATH [rec] [set=W,..] [clr=W,..] [prop=K]` changes a mount, or all below it too; the options come in any order
+abbrev pub setattr_of : List (List ℕ) → Result Request Fault
+setattr_of (space ∷ path ∷ options) =
+    option_map_or (λ n. option_map_or (λ change. unless (path_fault path) (request.Run (command.SetAttr n (path_names path) change))) (change_of options) (Err BadLine))
+    (number_of space) (Err BadLine)
+setattr_of _ = Err BadLine
+
 -- `show NS` shows a namespace
 abbrev pub show_of : List (List ℕ) → Result Request Fault
 show_of (space ∷ []) = option_map_or (λ n. Ok (request.Show n)) (number_of space) (Err BadLine)
@@ -118,8 +126,9 @@ by_words (word ∷ rest) =
     else (if bytes_eq word (codes "mkdir") then mkdir_of rest
     else (if bytes_eq word (codes "newns") then newns_of rest
     else (if bytes_eq word (codes "mount") then mount_of rest
+    else (if bytes_eq word (codes "setattr") then setattr_of rest
     else (if bytes_eq word (codes "show") then show_of rest
-    else (if bytes_eq word (codes "quit") then quit_of rest else Err BadLine)))))
+    else (if bytes_eq word (codes "quit") then quit_of rest else Err BadLine))))))
 
 -- what a line asks for, or why it is refused
 unfoldable pub request_of : List ℕ → Result Request Fault

@@ -1,8 +1,6 @@
-//! The commands that are served before peer groups, events and the journal come: filesystems,
-//! directories, namespaces and plain mounts, over one world.
+//! The commands that are served before mounts propagate and events and the journal come:
+//! filesystems, directories, namespaces, mounts and their attributes, over one world.
 
 pub mod book;
 pub mod floor;
-pub mod print;
-pub mod table;
-pub mod world;
+mod mounting;

@@ -8,6 +8,7 @@ pub mod early;
 mod label;
 pub mod line;
 pub mod memory;
+mod options;
 mod path;
 pub mod request;
 pub mod session;

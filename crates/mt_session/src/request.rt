@@ -1,9 +1,10 @@
 //! Requests, as lines say them.
 ghost use Rattle.std.specs.Prelude.{◌≡◌, None, Some};
-ghost use Rattle.mt_session.specs.Requests.{ReadsAs, request_of, HasNoFault, worse, worst, mkfs_of, mkdir_of, newns_of, mount_of, show_of, quit_of};
+ghost use Rattle.mt_session.specs.Requests.{ReadsAs, request_of, HasNoFault, worse, worst, mkfs_of, mkdir_of, newns_of, mount_of, setattr_of, show_of, quit_of};
 
 use crate::early::book::Command;
 use crate::label::{label_fault, label_of};
+use crate::options::change_of;
 use crate::path::{path_fault, path_of};
 use crate::words::{Words, number, words};
 use mt_skel::fault::Fault;
@@ -119,6 +120,26 @@ fn read_mount(alloc: Global, words: &mut Words<'_>) -> Result<Request, Fault>
     Ok(Request::Run(Command::Mount { space, fs, path }))
 }
 
+/// The request of a line `setattr NS PATH` with its options, behind the first word.
+fn read_setattr(alloc: Global, words: &mut Words<'_>) -> Result<Request, Fault>
+    ensures { ReadsAs (setattr_of words.old) result }
+{
+    let (Some(space), Some(path)) = (words.next(), words.next()) else {
+        return Err(Fault::BadLine);
+    };
+    let space = number(space).ok_or(Fault::BadLine)?;
+    let change = change_of(words).ok_or(Fault::BadLine)?;
+    if let Some(fault) = path_fault(path) {
+        return Err(fault);
+    }
+    let path = path_of(alloc, path)?;
+    Ok(Request::Run(Command::SetAttr {
+        space,
+        path,
+        change,
+    }))
+}
+
 /// The request of a line `show NS`, behind the first word.
 fn read_show(words: &mut Words<'_>) -> Result<Request, Fault>
     ensures { result ≡ show_of words.old }
@@ -163,6 +184,8 @@ pub fn read_request(alloc: Global, line: &[u8]) -> Result<Request, Fault>
         read_newns(alloc, &mut words)
     } else if command == b"mount".as_slice() {
         read_mount(alloc, &mut words)
+    } else if command == b"setattr".as_slice() {
+        read_setattr(alloc, &mut words)
     } else if command == b"show".as_slice() {
         read_show(&mut words)
     } else if command == b"quit".as_slice() {
@@ -198,6 +221,21 @@ mod tests {
             Request::Run(Command::Mount { space, fs, path }) => {
                 text.extend_from_slice(if space == 7 { b"Mount 7" } else { b"Mount ?" })?;
                 push_parts(&mut text, &[fs.bytes()])?;
+                push_path(&mut text, &path)?;
+            }
+            Request::Run(
+                Command::SetAttr {
+                    space,
+                    path,
+                    change,
+                },
+            ) => {
+                text.extend_from_slice(if space == 7 {
+                    b"SetAttr 7"
+                } else {
+                    b"SetAttr ?"
+                })?;
+                text.extend_from_slice(if change.recursive { b"|rec" } else { b"|one" })?;
                 push_path(&mut text, &path)?;
             }
             Request::Show(space) => {
@@ -251,6 +289,11 @@ mod tests {
             (b"newns home".as_slice(), b"NewSpace|home".as_slice()),
             (b"mount 7 home /a".as_slice(), b"Mount 7|home|a".as_slice()),
             (b"mount 7 home /".as_slice(), b"Mount 7|home".as_slice()),
+            (
+                b"setattr 7 /a prop=slave rec".as_slice(),
+                b"SetAttr 7|rec|a".as_slice(),
+            ),
+            (b"setattr 7 /".as_slice(), b"SetAttr 7|one".as_slice()),
             (b"show 7".as_slice(), b"Show 7".as_slice()),
             (b"show 0".as_slice(), b"Show ?".as_slice()),
             (b"quit".as_slice(), b"Quit".as_slice()),

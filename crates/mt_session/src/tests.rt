@@ -1,13 +1,12 @@
 //! Whole sessions: what they answer, however the input and the output are cut, and where they fail.
 use crate::early::book::Book;
 use crate::early::floor::Floor;
-use crate::early::print::print_row;
-use crate::early::world::World;
 use crate::line::ReadFault;
 use crate::memory::{Faulty, Pieces, Sink};
 use crate::request::{Request, read_request};
 use crate::session::{End, serve_plain};
 use crate::stream::{Cut, StreamFault};
+use mt_info::print::print_row;
 use mt_skel::fault::Fault;
 use std::alloc::Global;
 use std::test::Fail;
@@ -26,7 +25,7 @@ const ANSWERS: &[u8] =
     b"ok 1\nok 2\nok\nok 1\nok 2\nok 2 2\n1 1 0:1 / / rw,relatime - tmpfs none rw\n2 1 0:2 / /m rw,relatime - ext4 /dev/x rw\n";
 
 /// Lines behind the start, and what they are answered.
-const LINES: [(&[u8], &[u8], End); 9] = [
+const LINES: [(&[u8], &[u8], End); 15] = [
     (b"", b"", End::Input),
     (b"show 2\n", b"no NoNamespace\n", End::Input),
     (b"show 1", b"no BadLine\n", End::Input),
@@ -54,6 +53,36 @@ const LINES: [(&[u8], &[u8], End); 9] = [
     (
         b"newns d\nmkdir d /u\nmount 2 a /u\nshow 2\nshow 1\n",
         b"ok 2\nok\nok 3\nok 2 2\n2 2 0:2 / / rw,relatime - ext4 /dev/x rw\n3 2 0:1 / /u rw,relatime - tmpfs none rw\nok 1 1\n1 1 0:1 / / rw,relatime - tmpfs none rw\n",
+        End::Input,
+    ),
+    (
+        b"setattr 1 / prop=shared\nsetattr 1 / prop=slave\nshow 1\nsetattr 1 / prop=slave\nshow 1\n",
+        b"ok\nok\nok 1 3\n1 1 0:1 / / rw,relatime - tmpfs none rw\nok\nok 1 3\n1 1 0:1 / / rw,relatime - tmpfs none rw\n",
+        End::Input,
+    ),
+    (
+        b"setattr 1 / prop=shared\nmount 1 d /m\nmount 1 q /m\nmount 1 d /\nshow 1\nsetattr 1 / prop=unbindable\nshow 1\n",
+        b"ok\nno SharedParent\nno NoFilesystem\nno RootPlace\nok 1 2\n1 1 0:1 / / rw,relatime shared:1 - tmpfs none rw\nok\nok 1 3\n1 1 0:1 / / rw,relatime unbindable - tmpfs none rw\n",
+        End::Input,
+    ),
+    (
+        b"mkdir d /u\nmount 1 d /m\nmount 1 a /m/u\nsetattr 1 / rec set=noatime\nsetattr 1 / rec set=noatime clr=atime\nsetattr 1 /m set=ro clr=ro\nshow 1\n",
+        b"ok\nok 2\nok 3\nno BadAttr\nok\nok\nok 3 5\n1 1 0:1 / / rw,noatime - tmpfs none rw\n2 1 0:2 / /m ro,noatime - ext4 /dev/x rw\n3 2 0:1 / /m/u rw,noatime - tmpfs none rw\n",
+        End::Input,
+    ),
+    (
+        b"setattr 9 /q set=noatime\nsetattr 1 /q set=noatime\nsetattr 1 /m set=noatime\nsetattr 1 / set=noatime,relatime clr=atime\nsetattr 1 / set=noatime clr=ro\nsetattr 1 /\n",
+        b"no NoNamespace\nno NoEntry\nno NotMountRoot\nno BadAttr\nno BadAttr\nok\n",
+        End::Input,
+    ),
+    (
+        b"setattr 1\nsetattr 1 / all\nsetattr 1 / recs\nsetattr 1 / rec rec\nsetattr 1 / set=\nsetattr 1 / set=ro,\nsetattr 1 / set=atime\nsetattr 1 / clr=noatime\nsetattr 1 / set=ro set=nodev\nsetattr 1 / prop=\nsetattr 1 / prop=peer\nsetattr 1 / set=r\\157\nsetattr 1  rec\nsetattr 01 /\n",
+        b"no BadLine\nno BadLine\nno BadLine\nno BadLine\nno BadLine\nno BadLine\nno BadLine\nno BadLine\nno BadLine\nno BadLine\nno BadLine\nno BadLine\nno BadLine\nno BadLine\n",
+        End::Input,
+    ),
+    (
+        b"setattr 1 m set=\nsetattr 1 m set=ro\nsetattr 1 /m/ rec\nsetattr 1 / set=ro,ro,nodev rec clr=nodev prop=private\nshow 1\n",
+        b"no BadLine\nno BadPath\nno BadPath\nok\nok 1 2\n1 1 0:1 / / ro,nodev,relatime - tmpfs none rw\n",
         End::Input,
     ),
 ];
@@ -185,14 +214,6 @@ fn keeps_a_book_without_a_session(rt: HostRuntime) -> Result<(), Fail> {
     );
     let third = booked_lines(rt.alloc(), &lines, 3);
     assert!(rt; matches!(third, Err(Fault::NoNamespace)));
-    Ok(())
-}
-
-#[test]
-fn copies_a_world(rt: HostRuntime) -> Result<(), Fail> {
-    let copy = World::new(rt.alloc()).copy()?;
-    assert_eq!(rt; copy.next_mount, 1);
-    assert_eq!(rt; copy.forest.len(), 0);
     Ok(())
 }
 

@@ -3,10 +3,11 @@ ghost use Rattle.std.specs.Prelude.{◌≡◌, ◌+◌, ◌≤◌, ◌++◌, len
 ghost use Rattle.mt_session.specs.Answers.{refusal, reply_text, table_text, row_line};
 
 use crate::early::book::Reply;
-use crate::early::print::{push_number, push_row};
-use crate::early::table::{Row, Table};
 use arrayvec::ArrayVec;
 use itoa::Buffer;
+use mt_info::print::{push_number, push_row};
+use mt_info::row::Row;
+use mt_info::table::Table;
 use mt_skel::fault::Fault;
 use std::alloc::{AllocError, Global};
 use std::marker::Model;

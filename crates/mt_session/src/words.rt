@@ -56,6 +56,16 @@ impl<'a> Pieces<'a> {
             rest: Some(text),
         }
     }
+
+    /// The same pieces once more.
+    pub fn again(&self) -> Pieces<'a>
+        ensures { result ≡ self.entry.now }
+    {
+        Pieces {
+            separator: self.separator,
+            rest: self.rest,
+        }
+    }
 }
 
 impl<'a> Iterator for Pieces<'a> {

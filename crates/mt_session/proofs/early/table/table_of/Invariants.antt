@@ -1,9 +1,0 @@
-use Rattle.std.proofs.Common.{◌≡◌, ◌++◌, drop}
-use Rattle.std.specs.List.{flat_map}
-use Rattle.mt_session.specs.World.{world_view}
-use Rattle.mt_session.specs.Table.{table_of, rows_at}
-use Rattle.mt_session.proofs.early.table.table_of.Given as goal
-
--- the rows of the mounts passed, and of those to come
-abbrev pub invariant-loop-id : goal.invariant-loop-id
-invariant-loop-id l = l.rows.items ++ flat_map (rows_at (world_view l.world) l.space) (drop l.id-index l.id-items) ≡ table_of (world_view l.world) l.space
