@@ -1,0 +1,3 @@
+pub mod SkelLaws
+pub mod EffectLaws
+pub mod StepLaws
