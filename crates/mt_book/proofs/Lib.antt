@@ -1,3 +1,4 @@
 pub mod SkelLaws
 pub mod EffectLaws
 pub mod StepLaws
+pub mod RiseLaws
