@@ -18,7 +18,7 @@ StepKeeps =
 abbrev pub AfterIsWellFormed : Type 0
 AfterIsWellFormed = (cs : List Command) → IsWellFormed (after cs)
 
--- a number is given out once (this project's rule)
+-- numbers rise from one world to another (this project's rule)
 pub record Rises (w v : WorldView) : Type 0 where
   -- the numbers that come next for mounts, namespaces and groups never fall
   pub mounts : w.next_mount ≤ v.next_mount

@@ -13,8 +13,8 @@ pub fn after_is_well_formed()
     ensures { AfterIsWellFormed }
 {}
 
-/// A command that is accepted gives new mounts numbers that no mount had before, and the numbers that
-/// come next never fall.
+/// A command that is accepted numbers new mounts from the world's next number on, and the numbers that
+/// come next for mounts, namespaces and peer groups never fall.
 pub fn new_ids_rise()
     ensures { NewIdsRise }
 {}
