@@ -41,6 +41,10 @@ in_group g e = names e.state.group g
 abbrev pub has_master : ℕ → Peer → Bool
 has_master g e = names e.state.master g
 
+-- mounts with their states, as they are listed (mount_namespaces(7), shared subtrees)
+abbrev pub peers_of : List (ℕ × State) → List Peer
+peers_of rows = map (λ (r : ℕ × State). record { mount = r.0; state = r.1 }) rows
+
 -- the state of the mount with this ID (mount_namespaces(7), shared subtrees)
 abbrev pub state_at : List Peer → ℕ → Option State
 state_at es i = option_map (λ (e : Peer). e.state) (row_at mount_of i es)

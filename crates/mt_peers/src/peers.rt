@@ -2,7 +2,7 @@
 ghost use Rattle.std.specs.Prelude.{◌≡◌, ◌+◌, ◌-◌, ◌<◌, ◌≤◌, ◌^◌, [], map, length, cond, not, ◌&&◌, is_none, nat_eq, nat_lt, None, IsTrue, OnOk, IfOk, IsOkUnless, vec_capacity, vec_len};
 ghost use Rattle.std.specs.List.{filter, position_from, position_or_len};
 ghost use Rattle.mt_skel.specs.Keyed.{put, rises};
-ghost use Rattle.mt_peers.specs.Peers.{peering_of, mount_of, state_at, has_member, members, slaves};
+ghost use Rattle.mt_peers.specs.Peers.{peering_of, peers_of, mount_of, state_at, has_member, members, slaves};
 ghost use Rattle.mt_peers.specs.Masters.{master_of, masters_up};
 ghost use Rattle.mt_peers.specs.Loss.{heir, left};
 ghost use Rattle.mt_peers.specs.Making.{made, changed, is_shared, groupless};
@@ -258,6 +258,18 @@ impl Peers {
             }
         }
         None
+    }
+
+    /// All mounts by rising ID, each with its state. Refused as `NoMemory` alone.
+    pub fn states(&self) -> Result<Vec<(MountId, State)>, Fault>
+        ensures states { IfOk result (λ states. peers_of states.items ≡ self.now.peers) }
+        ensures memory { IsOkUnless result Fault.NoMemory }
+    {
+        let mut states = Vec::with_capacity(self.alloc, self.entries.len())?;
+        for entry in &self.entries {
+            states.push((entry.mount, entry.state))?;
+        }
+        Ok(states)
     }
 
     /// The master of a peer group, which is the one that its members have, or `None` for a group
@@ -559,6 +571,16 @@ mod tests {
         assert!(rt; has_masters(&peers, 3, &[2, 1]));
         assert!(rt; has_masters(&peers, 1, &[]));
         assert!(rt; peers.state(99).is_none());
+        Ok(())
+    }
+
+    #[test]
+    fn lists_all_states(rt: HostRuntime) -> Result<(), Fail> {
+        let peers = chain(rt.alloc())?;
+        let states = peers.states()?;
+        assert_eq!(rt; states.len(), 6);
+        assert!(rt; states.first().copied() == Some((10, of(Some(1), None))));
+        assert!(rt; states.last().copied() == Some((45, of(None, Some(3)))));
         Ok(())
     }
 

@@ -20,3 +20,4 @@ pub mod GrownLaws
 pub mod MovedForestLaws
 pub mod MoveRowLaws
 pub mod MovedLaws
+pub mod ReachedLaws

@@ -11,3 +11,4 @@ pub mod WellFormed
 pub mod Contained
 pub mod Laws
 pub mod Sound
+pub mod Reached

@@ -3,5 +3,8 @@
 //! A [`World`](world::World) holds the directories, the mounts and their propagation states.
 #![tactic(auto)]
 
+#[cfg(test)]
+mod fixture;
 pub mod laws;
+pub mod receivers;
 pub mod world;
