@@ -1,5 +1,5 @@
 -- Options of a `setattr` line that are given twice, and lists of words.
-use Rattle.std.proofs.Common.{arith, suc, ◌≡◌, ℕ, Bool, true, false, nat_lt, List, [], ◌∷◌, length, cond, ◌||◌, codes, Some, refl, ap, sym, ◌∙◌}
+use Rattle.std.proofs.Common.{arith, suc, ◌≡◌, ℕ, Bool, true, false, nat_lt, List, [], ◌∷◌, length, cond, ◌||◌, codes, Some, refl, ◌∙◌}
 use Rattle.std.proofs.lemmas.Bool.Decides.{nat_tests}
 use Rattle.std.specs.List.{filter, list_all, list_any}
 use Rattle.mt_session.specs.Words.{pieces}

@@ -1,5 +1,5 @@
 -- Commands applied one after another: the world, and for each namespace how many of them changed its table.
-use Rattle.std.specs.Prelude.{◌≡◌, ℕ, ◌+◌, ◌*◌, ◌-◌, ◌<◌, ◌≤◌, nat_le, if◌then◌else◌, cond, List, [], ◌∷◌, ◌++◌, length, slice_set, slice_index_or, Result, Ok, Err}
+use Rattle.std.specs.Prelude.{◌≡◌, ℕ, ◌+◌, ◌*◌, ◌-◌, ◌≤◌, nat_le, if◌then◌else◌, cond, List, [], ◌∷◌, ◌++◌, length, slice_set, slice_index_or, Result, Ok, Err}
 use Rattle.mt_skel.specs.declared.fault.Fault.{Fault}
 use Rattle.mt_skel.specs.declared.fault.Fault.TheVariants.{JournalFull}
 use Rattle.mt_skel.specs.Skeleton.{Skeleton, added_fs, added_dir}

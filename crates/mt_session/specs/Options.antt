@@ -1,5 +1,5 @@
 -- The options of a `setattr` line (their words: mount_setattr(2); how a line writes them: this project's rule).
-use Rattle.std.specs.Prelude.{ℕ, Bool, true, false, not, ◌&&◌, ◌||◌, nat_eq, nat_lt, if◌then◌else◌, List, [], ◌∷◌, length, drop, Option, Some, None, codes}
+use Rattle.std.specs.Prelude.{ℕ, Bool, false, not, ◌||◌, nat_eq, nat_lt, if◌then◌else◌, List, length, drop, Option, Some, None, codes}
 use Rattle.std.specs.List.{filter, find, list_all, list_any, starts_with}
 use Rattle.std.specs.Option.{option_map, option_map_or, option_and_then}
 use Rattle.std.specs.Str.{bytes_eq}

@@ -1,5 +1,4 @@
 use Rattle.std.proofs.Common.{◌≡◌, ◌∙◌, ◌+◌, ◌∷◌, ◌++◌, [], List, ap, sym, subst, arith, Ok, None, refl}
-use Rattle.mt_skel.specs.Skeleton.{root_of}
 use Rattle.mt_skel.proofs.SkeletonLaws.{directory_within}
 use Rattle.mt_mounts.specs.declared.mount.Mount.{Mount}
 use Rattle.mt_mounts.specs.Forest.{root_mount}
@@ -37,9 +36,9 @@ returns-clause-done c =
     let peers = peers_after w _ _ c.requires.well_formed c.join.ensures.peers (ap (λ (p : Peering). p.peers) c.in_ok-reserve-2.ensures.peering) in
     let next = c.join.ensures.next ∙ ap (λ (p : Peering). p.next) c.in_ok-reserve-2.ensures.peering in
     let same : v ≡ with_space w c.in-Some.fs =
-        private_world w v (new_root w c.in-Some.fs) (w.next_space + 1) refl
-            (forest ∙ (λ i. w.forest ++ record { id = w.next_mount; space = w.next_space; place = None; root = c.root.ensures.root i; attrs = c.new.ensures i } ∷ [])) peers next refl refl
-        ∙ with_space_is w c.in-Some.fs in
+    private_world w v (new_root w c.in-Some.fs) (w.next_space + 1) refl
+    (forest ∙ (λ i. w.forest ++ record { id = w.next_mount; space = w.next_space; place = None; root = c.root.ensures.root i; attrs = c.new.ensures i } ∷ [])) peers next refl refl
+    ∙ with_space_is w c.in-Some.fs in
     new_space_done w c.args.fs.now c.in-Some.fs (sym c.fs.ensures.number ∙ c.in-Some.is) (omega (arith, c.if-spaces-ge-MOST_SPACES.false, c.spaces.ensures)) (omega (arith, c.if-len-ge-MOST_MOUNTS.false, c.len.ensures))
     ∙ ap (λ v. Ok (v, w.next_space)) (sym same)
 
@@ -57,8 +56,8 @@ returns-clause-kept c =
     let peers = peers_after w _ _ c.requires.well_formed c.join.ensures.peers (ap (λ (p : Peering). p.peers) c.in_ok-reserve-2.ensures.peering) in
     let next = c.join.ensures.next ∙ ap (λ (p : Peering). p.next) c.in_ok-reserve-2.ensures.peering in
     let same : v ≡ with_space w c.in-Some.fs =
-        private_world w v (new_root w c.in-Some.fs) (w.next_space + 1) refl
-            (forest ∙ (λ i. w.forest ++ record { id = w.next_mount; space = w.next_space; place = None; root = c.root.ensures.root i; attrs = c.new.ensures i } ∷ [])) peers next refl refl
-        ∙ with_space_is w c.in-Some.fs in
+    private_world w v (new_root w c.in-Some.fs) (w.next_space + 1) refl
+    (forest ∙ (λ i. w.forest ++ record { id = w.next_mount; space = w.next_space; place = None; root = c.root.ensures.root i; attrs = c.new.ensures i } ∷ [])) peers next refl refl
+    ∙ with_space_is w c.in-Some.fs in
     let there = directory_within w.skel c.root.result c.root.ensures.there in
     subst IsWellFormed (sym same) (space-kept w c.in-Some.fs c.requires.well_formed (omega (arith, there, c.root.ensures.root)))

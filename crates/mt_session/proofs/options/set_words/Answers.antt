@@ -1,4 +1,3 @@
-use Rattle.std.proofs.Common.{rules, true, ◌≡◌}
 use Rattle.mt_session.proofs.OptionLaws.{set_words_found}
 use Rattle.mt_session.proofs.options.set_words.Goals as goal
 

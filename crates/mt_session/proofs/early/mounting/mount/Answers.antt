@@ -1,13 +1,11 @@
-use Rattle.std.proofs.Common.{◌≡◌, ◌∙◌, ◌+◌, ◌∷◌, ◌++◌, [], ap, sym, subst, arith, Ok, Some, None, refl}
-use Rattle.mt_skel.specs.Skeleton.{root_of}
+use Rattle.std.proofs.Common.{◌≡◌, ◌∙◌, ap, sym, subst, arith, Ok, None}
 use Rattle.mt_skel.proofs.SkeletonLaws.{directory_within}
 use Rattle.mt_mounts.specs.Forest.{on}
 use Rattle.mt_peers.specs.Peers.{Peering, state_at}
 use Rattle.mt_propagate.specs.World.{WorldView, world_view}
 use Rattle.mt_propagate.specs.WellFormed.{IsWellFormed}
 use Rattle.mt_propagate.proofs.WalkLaws.{walked}
-use Rattle.mt_propagate.proofs.PrivateLaws.{state_free, forest_after, peers_after, private_world}
-use Rattle.mt_session.specs.Mounting.{with_mount}
+use Rattle.mt_propagate.proofs.PrivateLaws.{state_free}
 use Rattle.mt_session.proofs.MountingLaws.{mounted_done, mount-kept, mounted-world}
 use Rattle.mt_session.proofs.early.mounting.mount.Goals as goal
 
