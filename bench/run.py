@@ -65,6 +65,23 @@ def small_shows(rng):
     return start() + ["mount 1 d /m", "mount 1 a /m"] + ["show 1"] * 100_000
 
 
+def small_changes(rng):
+    """Attributes of one of three mounts set and taken away 20,000 times."""
+    lines = start() + ["mkdir d /u", "mount 1 d /m", "mount 1 a /m/u"]
+    for _ in range(10_000):
+        path = rng.choice(["/", "/m", "/m/u"])
+        lines += [f"setattr 1 {path} set=ro", f"setattr 1 {path} clr=ro"]
+    return lines
+
+
+def wide_changes(rng):
+    """1,000 mounts made a group of their own each, and slaves, 10 times at once."""
+    lines = start()
+    for n in range(1_000):
+        lines += [f"mkdir a /w{n}", f"mount 1 d /w{n}"]
+    return lines + ["setattr 1 / rec prop=shared", "setattr 1 / rec prop=slave"] * 5
+
+
 def mixed(rng):
     """200,000 lines of mkdir, mount and show in a namespace of few mounts."""
     lines = start()
@@ -83,7 +100,17 @@ def mixed(rng):
     return lines
 
 
-WORKLOADS = [cheap_commands, deep_directories, refused_lines, stacked_mounts, wide_mounts, small_shows, mixed]
+WORKLOADS = [
+    cheap_commands,
+    deep_directories,
+    refused_lines,
+    stacked_mounts,
+    wide_mounts,
+    small_shows,
+    small_changes,
+    wide_changes,
+    mixed,
+]
 
 
 def most_memory(process, seen):
