@@ -1,5 +1,5 @@
 -- What is decided before copies are made.
-use Rattle.std.specs.Prelude.{◌≡◌, ℕ, ◌≤◌, false, List, [], ◌∷◌, map, length, Option}
+use Rattle.std.specs.Prelude.{◌≡◌, ℕ, ◌≤◌, false, cond, ◌==◌, List, [], ◌∷◌, map, length, Option}
 use Rattle.std.specs.List.{filter_map}
 use Rattle.std.specs.Option.{option_map}
 use Rattle.mt_mounts.specs.declared.mount.Mount.{Mount}
@@ -8,23 +8,36 @@ use Rattle.mt_mounts.specs.Forest.{on}
 use Rattle.mt_peers.specs.declared.state.State.{State}
 use Rattle.mt_peers.specs.Peers.{peers_of}
 use Rattle.mt_propagate.specs.World.{WorldView}
-use Rattle.mt_propagate.specs.Named.{unknown}
+use Rattle.mt_propagate.specs.Named.{unknown, mount_or_unknown}
 use Rattle.mt_propagate.specs.Receivers.{hits}
 use Rattle.mt_propagate.specs.Copies.{Source, new_copies, copy_id}
 use Rattle.mt_propagate.specs.Groups.{copy_state, new_keys}
 use Rattle.mt_propagate.specs.Places.{new_mounts, stack_end}
 use Rattle.mt_propagate.specs.declared.copies.SourceTree.{SourceTree}
 use Rattle.mt_propagate.specs.declared.plan.Sources.{Sources}
-use Rattle.mt_propagate.specs.declared.plan.Sources.TheVariants.{Fresh}
+use Rattle.mt_propagate.specs.declared.plan.Sources.TheVariants.{Fresh, Tree}
 use Rattle.mt_propagate.specs.declared.plan.Plan.{Plan}
 
 -- a fresh private mount of a directory (`sharedsubtree`, mount semantics)
 abbrev pub fresh_source : ℕ → Source
 fresh_source root = let m : Mount = record unknown { root = root } in record { mounts = m ∷ []; top = m; moved = false }
 
+-- the top of a copied tree shows a directory of its own (mount(2), MS_BIND)
+abbrev pub top_of : WorldView → ℕ → ℕ → Mount
+top_of w top root = record (mount_or_unknown w top) { root = root }
+
+-- a mount of a copied tree (`sharedsubtree`, rbind semantics)
+abbrev pub member_of : WorldView → ℕ → ℕ → ℕ → Mount
+member_of w top root i = cond (i == top) (top_of w top root) (mount_or_unknown w i)
+
+-- a copied tree (`sharedsubtree`, bind and rbind semantics)
+abbrev pub copied_source : WorldView → ℕ → ℕ → List ℕ → Source
+copied_source w top root ids = record { mounts = map (member_of w top root) ids; top = top_of w top root; moved = false }
+
 -- what is to be mounted, as a source tree (this project's rule)
-abbrev pub source_of : Sources → Source
-source_of (Fresh root) = fresh_source root
+abbrev pub source_of : WorldView → Sources → Source
+source_of w (Fresh root) = fresh_source root
+source_of w (Tree top root members) = copied_source w top root members.items
 
 -- a source tree as it lies in memory (this project's rule)
 abbrev pub tree_view : SourceTree → Source

@@ -2,6 +2,7 @@
 ghost use Rattle.std.specs.Prelude.{◌≡◌, ◌≢◌, ◌+◌, ◌<◌, ◌≤◌, ◌^◌, ◌∷◌, length, false, IsTrue, IfOk, IfErr, OnOk, IsOkUnless};
 ghost use Rattle.mt_peers.specs.Peers.{peers_of};
 ghost use Rattle.mt_propagate.specs.World.{world_view};
+ghost use Rattle.mt_propagate.specs.Named.{mount_or_unknown};
 ghost use Rattle.mt_propagate.specs.Limits.{too_many_mounts};
 ghost use Rattle.mt_propagate.specs.WellFormed.{IsWellFormed};
 ghost use Rattle.mt_propagate.specs.Sound.{IsSource, IsDestination};
@@ -9,7 +10,7 @@ ghost use Rattle.mt_propagate.specs.Receivers.{hits as all_hits};
 ghost use Rattle.mt_propagate.specs.Copied.{copied};
 ghost use Rattle.mt_propagate.specs.Copies.{new_copies, copy_id};
 ghost use Rattle.mt_propagate.specs.Planned.{copies_of, keys_of, peers_at, twins_at};
-ghost use Rattle.mt_propagate.specs.Plans.{source_of, tree_view, source_in, place_in, mounts_in, states_in, IsPlan};
+ghost use Rattle.mt_propagate.specs.Plans.{fresh_source, top_of, member_of, copied_source, source_of, tree_view, source_in, place_in, mounts_in, states_in, IsPlan};
 
 use crate::carry::{insert_all, join_all, move_all, take_groups};
 use crate::copies::{SourceTree, Twin, copy_id, twins_at};
@@ -24,12 +25,21 @@ use mt_skel::skel::Dir;
 use std::alloc::Global;
 
 /// What is to be mounted.
-#[derive(Clone, Copy)]
+#[derive(Drop)]
 pub enum Sources {
     /// A fresh private mount that shows this directory at its root.
     Fresh {
         /// The directory.
         root: Dir,
+    },
+    /// Copies of mounts that stay where they are.
+    Tree {
+        /// The mount on which the others stand.
+        top: MountId,
+        /// The directory that its copies show at their root.
+        root: Dir,
+        /// The mounts with the top, by rising ID.
+        members: Vec<MountId>,
     },
 }
 
@@ -50,23 +60,91 @@ pub struct Plan {
     top: MountId,
 }
 
-fn source_tree(alloc: Global, sources: &Sources) -> Result<SourceTree, Fault>
-    ensures tree { IfOk result (λ tree. tree_view tree ≡ source_of sources.now) }
+// One fresh private mount that shows a directory.
+fn fresh_tree(alloc: Global, root: Dir) -> Result<SourceTree, Fault>
+    ensures tree { IfOk result (λ tree. tree_view tree ≡ fresh_source root) }
+    ensures memory { IsOkUnless result Fault.NoMemory }
+{
+    let top = Mount {
+        id: 0,
+        space: 0,
+        place: None,
+        root,
+        attrs: Attrs::new(),
+    };
+    let mut mounts = Vec::new(alloc);
+    mounts.push(top)?;
+    Ok(SourceTree { mounts, top })
+}
+
+// The mount with this ID.
+fn mount_or_unknown(world: &World, id: MountId) -> Mount
+    ensures { result ≡ mount_or_unknown (world_view world.now) id }
+{
+    match world.forest.get(id) {
+        Some(mount) => mount,
+        None => Mount {
+            id: 0,
+            space: 0,
+            place: None,
+            root: 0,
+            attrs: Attrs::new(),
+        },
+    }
+}
+
+// The top of a copied tree.
+fn top_of(world: &World, top: MountId, root: Dir) -> Mount
+    ensures { result ≡ top_of (world_view world.now) top root }
+{
+    let mount = mount_or_unknown(world, top);
+    Mount {
+        id: mount.id,
+        space: mount.space,
+        place: mount.place,
+        root,
+        attrs: mount.attrs,
+    }
+}
+
+// A mount of a copied tree.
+fn member_of(world: &World, top: MountId, root: Dir, id: MountId) -> Mount
+    ensures { result ≡ member_of (world_view world.now) top root id }
+{
+    if id == top {
+        return top_of(world, top, root);
+    }
+    mount_or_unknown(world, id)
+}
+
+// The mounts of a tree that is copied.
+fn copied_tree(
+    alloc: Global,
+    world: &World,
+    top: MountId,
+    root: Dir,
+    members: &[MountId],
+) -> Result<SourceTree, Fault>
+    ensures tree { IfOk result (λ tree. tree_view tree ≡ copied_source (world_view world.now) top root members.now) }
+    ensures memory { IsOkUnless result Fault.NoMemory }
+{
+    let mut mounts = Vec::new(alloc);
+    for id in members {
+        mounts.push(member_of(world, top, root, *id))?;
+    }
+    Ok(SourceTree {
+        mounts,
+        top: top_of(world, top, root),
+    })
+}
+
+fn source_tree(alloc: Global, world: &World, sources: &Sources) -> Result<SourceTree, Fault>
+    ensures tree { IfOk result (λ tree. tree_view tree ≡ source_of (world_view world.now) sources.now) }
     ensures memory { IsOkUnless result Fault.NoMemory }
 {
     match sources {
-        Sources::Fresh { root } => {
-            let top = Mount {
-                id: 0,
-                space: 0,
-                place: None,
-                root: *root,
-                attrs: Attrs::new(),
-            };
-            let mut mounts = Vec::new(alloc);
-            mounts.push(top)?;
-            Ok(SourceTree { mounts, top })
-        }
+        Sources::Fresh { root } => fresh_tree(alloc, *root),
+        Sources::Tree { top, root, members } => copied_tree(alloc, world, *top, *root, members),
     }
 }
 
@@ -117,13 +195,13 @@ fn states(
 pub fn make_plan(world: &World, sources: &Sources, place: Place) -> Result<Plan, Fault>
     requires numbers { (world.now.next_mount < 2 ^ 63) × (world.now.peers.next < 2 ^ 63) }
     ensures planned { IfOk result (λ plan. IsPlan (world_view world.now) plan) }
-    ensures given { IfOk result (λ plan. (source_in plan ≡ source_of sources.now) × (place_in plan ≡ place)) }
-    ensures few { OnOk result (too_many_mounts (world_view world.now) (length (new_copies (world_view world.now) (source_of sources.now) place)) ≡ false) }
-    ensures refused { IfErr result (λ fault. fault ≢ Fault.NoMemory → (fault ≡ Fault.TooMany) × IsTrue (too_many_mounts (world_view world.now) (length (new_copies (world_view world.now) (source_of sources.now) place)))) }
+    ensures given { IfOk result (λ plan. (source_in plan ≡ source_of (world_view world.now) sources.now) × (place_in plan ≡ place)) }
+    ensures few { OnOk result (too_many_mounts (world_view world.now) (length (new_copies (world_view world.now) (source_of (world_view world.now) sources.now) place)) ≡ false) }
+    ensures refused { IfErr result (λ fault. fault ≢ Fault.NoMemory → (fault ≡ Fault.TooMany) × IsTrue (too_many_mounts (world_view world.now) (length (new_copies (world_view world.now) (source_of (world_view world.now) sources.now) place)))) }
 {
     let hits = receivers(world, place)?;
     let alloc = *hits.allocator();
-    let tree = source_tree(alloc, sources)?;
+    let tree = source_tree(alloc, world, sources)?;
     let targets = targets(alloc, place, &hits)?;
     let twins = twins_at(alloc, &targets, &tree.mounts)?;
     if too_many(world, twins.len()) {
@@ -293,6 +371,45 @@ mod tests {
         assert!(rt; has_mounts(&plan, &[50]));
         assert!(rt; has_states(&plan, 100, &[of(None, None)]));
         assert!(rt; plan.ways.is_empty());
+        Ok(())
+    }
+
+    // The tree of 20, 30 and 40 at directory 1 of a private mount.
+    fn tree_plan(world: &World) -> Result<Plan, Fault> {
+        if world.next_mount > 100 || world.peers.next_group() > 100 {
+            return Err(Fault::TooMany);
+        }
+        let mut members = world.peers.members(1)?;
+        members.clear();
+        for id in [20, 30, 40] {
+            members.push(id)?;
+        }
+        let sources = Sources::Tree {
+            top: 20,
+            root: 0,
+            members,
+        };
+        make_plan(world, &sources, Place { mount: 50, dir: 1 })
+    }
+
+    // Whether one of the new mounts has this ID and stands at this place.
+    fn stands(plan: &Plan, at: usize, id: MountId, place: Place) -> bool {
+        match plan.mounts.get(at) {
+            Some(mount) => mount.id == id && mount.place == Some(place),
+            None => false,
+        }
+    }
+
+    #[test]
+    fn copies_a_tree(rt: HostRuntime) -> Result<(), Fail> {
+        let world = family(rt.alloc())?;
+        let plan = tree_plan(&world)?;
+        for (at, id, mount, dir) in [(0, 100, 50, 1), (1, 101, 100, 1), (2, 102, 100, 2)] {
+            assert!(rt; stands(&plan, at, id, Place { mount, dir }));
+        }
+        let states = [of(Some(1), None), of(Some(2), Some(1)), of(None, Some(2))];
+        assert!(rt; has_states(&plan, 100, &states));
+        assert_eq!(rt; plan.groups, 0);
         Ok(())
     }
 }

@@ -23,7 +23,7 @@ returns-then-too_many-clause-refused c _ =
     c.in_ok-twins.ensures.twins
     ∙ ap (λ (l : List Mount). twins_at l c.deref-2.result.now) c.deref-3.ensures.value
     ∙ ap (λ (l : List ℕ). twins_at c.in_ok-tree.tree.mounts.items l) c.deref-2.ensures.value in
-    let count = copies-count w c.in_ok-tree.tree.mounts.items c.in_ok-tree.tree.top place c.in_ok-hits.hits.items c.in_ok-targets.targets.items c.in_ok-twins.twins.items c.in_ok-hits.ensures.hits all made (source_of c.args.sources.now) c.in_ok-tree.ensures.tree in
+    let count = copies-count w c.in_ok-tree.tree.mounts.items c.in_ok-tree.tree.top place c.in_ok-hits.hits.items c.in_ok-targets.targets.items c.in_ok-twins.twins.items c.in_ok-hits.ensures.hits all made (source_of w c.args.sources.now) c.in_ok-tree.ensures.tree in
     (refl, sym (ap (λ (n : ℕ). too_many_mounts w n) (c.len.ensures ∙ c.in_ok-twins.twins.ok.0 ∙ count)) ∙ sym c.too_many.ensures ∙ c.if-too_many.true)
 
 pub returns-clause-few : goal.returns-clause-few
@@ -35,5 +35,5 @@ returns-clause-few c =
     c.in_ok-twins.ensures.twins
     ∙ ap (λ (l : List Mount). twins_at l c.deref-2.result.now) c.deref-3.ensures.value
     ∙ ap (λ (l : List ℕ). twins_at c.in_ok-tree.tree.mounts.items l) c.deref-2.ensures.value in
-    let count = copies-count w c.in_ok-tree.tree.mounts.items c.in_ok-tree.tree.top place c.in_ok-hits.hits.items c.in_ok-targets.targets.items c.in_ok-twins.twins.items c.in_ok-hits.ensures.hits all made (source_of c.args.sources.now) c.in_ok-tree.ensures.tree in
+    let count = copies-count w c.in_ok-tree.tree.mounts.items c.in_ok-tree.tree.top place c.in_ok-hits.hits.items c.in_ok-targets.targets.items c.in_ok-twins.twins.items c.in_ok-hits.ensures.hits all made (source_of w c.args.sources.now) c.in_ok-tree.ensures.tree in
     always c.plan_of.result (sym (ap (λ (n : ℕ). too_many_mounts w n) (c.len.ensures ∙ c.in_ok-twins.twins.ok.0 ∙ count)) ∙ sym c.too_many.ensures ∙ c.if-too_many.false)
