@@ -9,4 +9,3 @@ pub mod PartLaws
 pub mod BelowLaws
 pub mod WithinLaws
 pub mod TreeOfLaws
-pub mod MountedLaws

@@ -2,5 +2,4 @@
 #![tactic(auto)]
 
 pub mod laws;
-pub mod mounting;
 pub mod spaces;

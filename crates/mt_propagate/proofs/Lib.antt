@@ -21,8 +21,3 @@ pub mod MovedForestLaws
 pub mod MoveRowLaws
 pub mod MovedLaws
 pub mod ReachedLaws
-pub mod PlannedLaws
-pub mod CarriedLaws
-pub mod WayLaws
-pub mod PlansLaws
-pub mod CarryLaws
