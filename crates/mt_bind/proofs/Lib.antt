@@ -9,3 +9,4 @@ pub mod PartLaws
 pub mod BelowLaws
 pub mod WithinLaws
 pub mod TreeOfLaws
+pub mod MountedLaws

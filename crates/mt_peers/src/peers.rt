@@ -325,9 +325,16 @@ impl Peers {
         Ok(slaves)
     }
 
+    /// The number that the next new peer group gets.
+    pub fn next_group(&self) -> GroupId
+        ensures { result ≡ self.now.next }
+    {
+        self.next
+    }
+
     /// Takes the number of the next peer group.
     pub fn fresh(&mut self) -> GroupId
-        requires numbered { self.old.next < 2 ^ 63 }
+        requires numbered { self.old.next + 1 < 2 ^ 64 }
         ensures group { result ≡ self.old.next }
         ensures next { self.new.next ≡ self.old.next + 1 }
         ensures peers { self.new.peers ≡ self.old.peers }
@@ -581,6 +588,7 @@ mod tests {
         assert_eq!(rt; states.len(), 6);
         assert!(rt; states.first().copied() == Some((10, of(Some(1), None))));
         assert!(rt; states.last().copied() == Some((45, of(None, Some(3)))));
+        assert_eq!(rt; peers.next_group(), 1);
         Ok(())
     }
 

@@ -21,3 +21,8 @@ pub mod MovedForestLaws
 pub mod MoveRowLaws
 pub mod MovedLaws
 pub mod ReachedLaws
+pub mod PlannedLaws
+pub mod CarriedLaws
+pub mod WayLaws
+pub mod PlansLaws
+pub mod CarryLaws

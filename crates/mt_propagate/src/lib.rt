@@ -3,8 +3,13 @@
 //! A [`World`](world::World) holds the directories, the mounts and their propagation states.
 #![tactic(auto)]
 
+mod carry;
+pub mod copies;
 #[cfg(test)]
 mod fixture;
+mod groups;
 pub mod laws;
+mod places;
+pub mod plan;
 pub mod receivers;
 pub mod world;
