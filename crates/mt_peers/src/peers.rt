@@ -329,7 +329,8 @@ impl Peers {
     pub fn next_group(&self) -> GroupId
         ensures { result ≡ self.now.next }
     {
-        self.next
+        let next = self.next;
+        next
     }
 
     /// Takes the number of the next peer group.
