@@ -12,3 +12,4 @@ pub mod LeaveLaws
 pub mod ChainLaws
 pub mod JoinLaws
 pub mod AlikeLaws
+pub mod GivenLaws

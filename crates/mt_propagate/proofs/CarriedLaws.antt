@@ -1,18 +1,18 @@
 -- Mounts and states that are added in their order stand at the end of their lists.
 use Rattle.std.proofs.Common.{◌≡◌, ℕ, ◌<◌, Bool, true, ltb, List, [], ◌∷◌, ◌++◌, Option, Some, None, refl, sym, ap, ◌∙◌, subst, inl, arith, append_assoc}
-use Rattle.std.specs.List.{list_all, AllByRecursion}
-use Rattle.std.specs.Option.{option_map}
+use Rattle.std.specs.List.{list_all}
+use Rattle.std.specs.Option.{option_map, is_none}
 use Rattle.std.proofs.lemmas.Bool.Decides.{nat_tests}
 use Rattle.std.proofs.lemmas.List.{append-nil}
 use Rattle.mt_skel.specs.Keyed.{put, rises, row_at}
 use Rattle.mt_mounts.specs.declared.mount.Mount.{Mount}
 use Rattle.mt_mounts.specs.declared.mount.Place.{Place}
-use Rattle.mt_mounts.specs.Forest.{id_of, mount_at, on, is_at}
+use Rattle.mt_mounts.specs.Forest.{id_of, mount_at, on, is_at, is_root, root_mount}
 use Rattle.mt_mounts.proofs.ForestLaws.{find_row, find_passes}
 use Rattle.mt_peers.specs.declared.state.State.{State}
 use Rattle.mt_peers.specs.Peers.{Peer, mount_of, peers_of}
 use Rattle.mt_propagate.specs.Carried.{inserted, IsNew, joined, IsAbsent}
-use Rattle.mt_propagate.proofs.WalkLaws.{stands_at}
+use Rattle.mt_propagate.proofs.WalkLaws.{stands_at, root_here}
 use Rattle.mt_propagate.proofs.RowLaws.{all-row}
 use Rattle.mt_propagate.proofs.ElementLaws.{in_row, in_right}
 use Rattle.mt_propagate.proofs.CopyRowLaws.{row_left}
@@ -63,40 +63,53 @@ joined-end (r ∷ rs) es h =
 abbrev pub Apart : List Mount → Type 0
 Apart ms = (i j : ℕ) (m n : Mount) (p : Place) → mount_at ms i ≡ Some m → mount_at ms j ≡ Some n → m.place ≡ Some p → n.place ≡ Some p → i ≡ j
 
+-- no namespace has two root mounts
+abbrev pub HasOneRoot : List Mount → Type 0
+HasOneRoot ms = (i j : ℕ) (m n : Mount) → mount_at ms i ≡ Some m → mount_at ms j ≡ Some n → m.place ≡ None → n.place ≡ None → m.space ≡ n.space → i ≡ j
+
+nowhere : (o : Option Place) → is_none o ≡ true → o ≡ None
+nowhere None e = refl
+nowhere (Some p) e = absurd (cc)
+
 -- mounts
-module _ (m : Mount) (ns bs : List Mount) (h : rises id_of (bs ++ m ∷ ns) ≡ true) (apart : Apart (bs ++ m ∷ ns)) where
+module _ (m : Mount) (ns bs : List Mount) (h : rises id_of (bs ++ m ∷ ns) ≡ true) where
   lower : (x : Mount) → mount_at bs x.id ≡ Some x → x.id < m.id
   lower x e = let low = all-row id_of (λ y. ltb (id_of y) (id_of m)) bs x.id x (rises-under id_of m bs ns h) e in grind (arith, nat_tests)
 
-  free : (p : Place) → m.place ≡ Some p → on bs p ≡ None
-  free p at = go (on bs p) refl
+  own : mount_at (bs ++ m ∷ ns) m.id ≡ Some m
+  own = in_row id_of (bs ++ m ∷ ns) m h (in_right m bs (m ∷ ns) (inl refl))
+
+  free : Apart (bs ++ m ∷ ns) → (p : Place) → m.place ≡ Some p → on bs p ≡ None
+  free apart p at = go (on bs p) refl
     where
       go : (o : Option Mount) → on bs p ≡ o → o ≡ None
       go None e = refl
       go (Some x) e =
           let row = find_row (is_at p) bs x (rises-left id_of bs (m ∷ ns) h) e in
           let there = stands_at p x (find_passes (is_at p) bs x e) in
-          let own = in_row id_of (bs ++ m ∷ ns) m h (in_right m bs (m ∷ ns) (inl refl)) in
           let same = apart x.id m.id x m p (row_left id_of x.id bs (m ∷ ns) x row) own there at in
           let less = lower x row in
           absurd (omega (arith, same, less))
 
-abbrev pub HasPlace : Mount → Type 0
-HasPlace m = (p : Place) × (m.place ≡ Some p)
+  rootless : HasOneRoot (bs ++ m ∷ ns) → m.place ≡ None → root_mount bs m.space ≡ None
+  rootless one at = go (root_mount bs m.space) refl
+    where
+      go : (o : Option Mount) → root_mount bs m.space ≡ o → o ≡ None
+      go None e = refl
+      go (Some x) e =
+          let row = find_row (is_root m.space) bs x (rises-left id_of bs (m ∷ ns) h) e in
+          let there = root_here m.space x (find_passes (is_root m.space) bs x e) in
+          let same = one x.id m.id x m (row_left id_of x.id bs (m ∷ ns) x row) own (nowhere x.place there.0) at there.1 in
+          let less = lower x row in
+          absurd (omega (arith, same, less))
 
-pub inserted-end : (ns bs : List Mount) → rises id_of (bs ++ ns) ≡ true → Apart (bs ++ ns) → AllByRecursion HasPlace ns → IsNew ns bs × (inserted ns bs ≡ bs ++ ns)
-inserted-end [] bs h apart at = (tt, sym (append-nil bs))
-inserted-end (m ∷ ns) bs h apart at =
+pub inserted-end : (ns bs : List Mount) → rises id_of (bs ++ ns) ≡ true → Apart (bs ++ ns) → HasOneRoot (bs ++ ns) → IsNew ns bs × (inserted ns bs ≡ bs ++ ns)
+inserted-end [] bs h apart one = (tt, sym (append-nil bs))
+inserted-end (m ∷ ns) bs h apart one =
     let low = rises-under id_of m bs ns h in
     let last = put-end id_of m bs low in
     let more = append_assoc bs (m ∷ []) ns in
-    let ih = inserted-end ns (bs ++ m ∷ []) (ap (rises id_of) more ∙ h) (subst Apart (sym more) apart) at.1 in
-    let place = at.0 in (
-      (
-        none-end id_of m.id bs low,
-        free m ns bs h apart,
-        λ e. absurd (let v : None ≡ Some place.0 = sym e ∙ place.1 in cc),
-        subst (IsNew ns) (sym last) ih.0,
-      ),
+    let ih = inserted-end ns (bs ++ m ∷ []) (ap (rises id_of) more ∙ h) (subst Apart (sym more) apart) (subst HasOneRoot (sym more) one) in (
+      (none-end id_of m.id bs low, free m ns bs h apart, rootless m ns bs h one, subst (IsNew ns) (sym last) ih.0),
       ap (inserted ns) last ∙ ih.1 ∙ more,
     )

@@ -1,165 +1,128 @@
 -- What a plan lists, done one after the other, makes the world with the copies.
-use Rattle.std.proofs.Common.{◌≡◌, ◌≢◌, ℕ, ◌+◌, true, false, ltb, List, [], ◌∷◌, ◌++◌, map, length, Option, Some, None, refl, sym, ap, ◌∙◌, subst, inl, inr, arith}
-use Rattle.std.specs.List.{AllByRecursion, list_all, filter_map, flat_map}
-use Rattle.std.proofs.lemmas.Bool.{ne_eqb}
-use Rattle.std.proofs.lemmas.Bool.Decides.{nat_tests}
+use Rattle.std.proofs.Common.{◌≡◌, ℕ, ◌+◌, Bool, true, false, cond, ◌&&◌, ◌||◌, ◌==◌, eqb-true, List, [], ◌∷◌, ◌++◌, map, length, refl, sym, ap, ◌∙◌, subst}
+use Rattle.std.specs.List.{list_any}
 use Rattle.std.proofs.lemmas.List.{map-id}
 use Rattle.mt_skel.specs.Keyed.{rises}
 use Rattle.mt_mounts.specs.declared.mount.Mount.{Mount}
 use Rattle.mt_mounts.specs.declared.mount.Place.{Place}
-use Rattle.mt_mounts.specs.Forest.{id_of, mount_at, on, is_at, place_eq}
-use Rattle.mt_mounts.proofs.ForestLaws.{find_row, find_passes}
 use Rattle.mt_peers.specs.declared.state.State.{State}
-use Rattle.mt_peers.specs.Peers.{Peer, mount_of, peers_of}
+use Rattle.mt_peers.specs.Peers.{Peer, mount_of, peers_of, with_state}
 use Rattle.mt_propagate.specs.World.{WorldView}
 use Rattle.mt_propagate.specs.WellFormed.{IsWellFormed}
-use Rattle.mt_propagate.specs.Receivers.{hits}
-use Rattle.mt_propagate.specs.Copies.{Source, Copy, targets, new_copies, copy_id}
+use Rattle.mt_propagate.specs.Copies.{Source, Copy, new_copies, copy_id}
 use Rattle.mt_propagate.specs.Groups.{copy_state, new_keys}
-use Rattle.mt_propagate.specs.Places.{relocated, new_mounts, copy_of, copy_place, stack_end}
+use Rattle.mt_propagate.specs.Places.{relocated, new_mounts}
 use Rattle.mt_propagate.specs.Copied.{copied, regrouped}
-use Rattle.mt_propagate.specs.Sound.{IsTree, IsDestination}
-use Rattle.mt_propagate.specs.Plans.{way}
-use Rattle.mt_propagate.specs.Carried.{placed, IsFree, inserted, IsNew, joined, IsAbsent}
-use Rattle.mt_propagate.proofs.ElementLaws.{In}
-use Rattle.mt_propagate.proofs.NumberLaws.{climbs, hits-climb}
-use Rattle.mt_propagate.proofs.ListedLaws.{rises-keys}
-use Rattle.mt_propagate.proofs.WalkLaws.{stands_at}
-use Rattle.mt_propagate.proofs.CopyRowLaws.{src, num, out, after, back, z, ends_at, stand, copied_forest}
-use Rattle.mt_propagate.proofs.CarriedLaws.{HasPlace, inserted-end, joined-end}
-use Rattle.mt_propagate.proofs.WayLaws.{placed-sent, free-sent, Differ}
+use Rattle.mt_propagate.specs.Sound.{IsSource, IsDestination}
+use Rattle.mt_propagate.specs.Plans.{moves, moved_states}
+use Rattle.mt_propagate.specs.Carried.{placed, IsFree, inserted, IsNew, joined, IsAbsent, stated}
+use Rattle.mt_propagate.proofs.ListedLaws.{map-map}
+use Rattle.mt_propagate.proofs.CarriedLaws.{inserted-end, joined-end}
+use Rattle.mt_propagate.proofs.MovesLaws.{moves-done}
+use Rattle.mt_propagate.proofs.MovedLaws.{source_kept}
 
--- what holds of each element
-all-in : {X : Type 0} (P : X → Type 0) (xs : List X) → ((x : X) → In x xs → P x) → AllByRecursion P xs
-all-in P [] f = tt
-all-in P (x ∷ xs) f = (f x (inl refl), all-in P xs (λ y h. f y (inr h)))
+-- mounts get the states that a rule gives to their IDs
+module _ (state : ℕ → State) where
+  abbrev given : List Mount → List Peer
+  given ms = map (λ (m : Mount). record { mount = m.id; state = state m.id }) ms
 
-above-in : (t u : ℕ) (ts : List ℕ) → list_all (λ y. ltb t y) ts ≡ true → In u ts → t ≢ u
-above-in t u [] h e same = absurd e
-above-in t u (v ∷ ts) h e same = elim e [
-  | inl here ↦ absurd (grind (arith, nat_tests, same, here))
-  | inr later ↦ above-in t u ts (grind (arith, nat_tests)) later same
-]
+  abbrev one : List Mount → Peer → Peer
+  one ms e = cond (list_any (λ (m : Mount). m.id == e.mount) ms) (record { mount = e.mount; state = state e.mount }) e
 
-module _ (w : WorldView) (h : IsWellFormed w) (ms : List Mount) (top : Mount) (dest : Place) (tree : IsTree w.skel ms top) (d : IsDestination w dest) where
-  abbrev source : Source
-  source = src w h ms top dest tree d
+  first_parts : (r : ℕ × State) (rs : List (ℕ × State)) (m : Mount) (ms : List Mount) → peers_of (r ∷ rs) ≡ given (m ∷ ms) → (r.0 ≡ m.id) × (r.1 ≡ state m.id) × (peers_of rs ≡ given ms)
+  first_parts r rs m ms e =
+      let a : Peer = record { mount = r.0; state = r.1 } in
+      let b : Peer = record { mount = m.id; state = state m.id } in
+      let same : a ≡ b = cc in
+      let rest : peers_of rs ≡ given ms = cc in
+      (ap (λ (p : Peer). p.mount) same, ap (λ (p : Peer). p.state) same, rest)
 
-  abbrev end : ℕ → Place
-  end t = stack_end w source dest t
-
-  -- the last of the stack
-  abbrev last : Mount
-  last = (z w h ms top dest tree d).0
-
-  end_is : (t : ℕ) → end t ≡ record { mount = num w h ms top dest tree d t last.id; dir = last.root }
-  end_is t = ends_at w h ms top dest tree d t
-
-  last_there : mount_at ms last.id ≡ Some last
-  last_there = (stand w h ms top dest tree d).end_there
-
-  -- no mount stands yet where others go
-  end_free : (t : ℕ) → In t (hits w dest) → on w.forest (end t) ≡ None
-  end_free t e = go (on w.forest (end t)) refl
+  one-more : (m : Mount) (ms : List Mount) (e : Peer) → one ms (record e { state = cond (m.id == e.mount) (state m.id) e.state }) ≡ one (m ∷ ms) e
+  one-more m ms e = by (m.id == e.mount) refl (list_any (λ (m : Mount). m.id == e.mount) ms)
     where
-      go : (o : Option Mount) → on w.forest (end t) ≡ o → o ≡ None
-      go None is = refl
-      go (Some x) is =
-          let row = find_row (is_at (end t)) w.forest x h.forest.rising is in
-          let at = stands_at (end t) x (find_passes (is_at (end t)) w.forest x is) in
-          let q = h.forest.placed x.id x (end t) row at in
-          let fresh = (stand w h ms top dest tree d).fresh t last (inr e) last_there in
-          let v : None ≡ Some q.0 = sym fresh ∙ ap (λ (p : Place). mount_at w.forest p.mount) (sym (end_is t)) ∙ q.1 in
-          absurd (cc)
+      by : (b : Bool) → (m.id == e.mount) ≡ b → (c : Bool)
+          → cond c (record { mount = e.mount; state = state e.mount }) (record e { state = cond b (state m.id) e.state }) ≡ cond (b || c) (record { mount = e.mount; state = state e.mount }) e
+      by true is true = refl
+      by true is false = ap (λ k. record { mount = e.mount; state = state k }) (eqb-true m.id e.mount is)
+      by false is true = refl
+      by false is false = refl
 
-  -- and they go to different places
-  end_apart : (t u : ℕ) → In t (hits w dest) → In u (hits w dest) → t ≢ u → place_eq (end u) (end t) ≡ false
-  end_apart t u et eu off =
-      let st = stand w h ms top dest tree d in
-      let ids : num w h ms top dest tree d u last.id ≢ num w h ms top dest tree d t last.id = λ same.
-      let v : (let a : Copy = record { target = u; source = last.id } in a) ≡ record { target = t; source = last.id } =
-      sym (st.whence u last (inr eu) last_there) ∙ ap (back w h ms top dest tree d) same ∙ st.whence t last (inr et) last_there in
-      off (sym (ap (λ (c : Copy). c.target) v)) in
-      let apart = ne_eqb (num w h ms top dest tree d u last.id) (num w h ms top dest tree d t last.id) ids in
-      ap (λ (p : Place). place_eq p (end t)) (end_is u)
-      ∙ ap (λ (p : Place). place_eq (record { mount = num w h ms top dest tree d u last.id; dir = last.root }) p) (end_is t)
-      ∙ (grind (arith, nat_tests, apart))
+  stated-given : (rs : List (ℕ × State)) (ms : List Mount) (es : List Peer) → peers_of rs ≡ given ms → stated rs es ≡ map (one ms) es
+  stated-given [] [] es e = sym (map-id es)
+  stated-given [] (m ∷ ms) es e = absurd (cc)
+  stated-given (r ∷ rs) [] es e = absurd (cc)
+  stated-given (r ∷ rs) (m ∷ ms) es e =
+      let p = first_parts r rs m ms e in
+      let here : with_state r.0 r.1 es ≡ with_state m.id (state m.id) es = λ i. with_state (p.0 i) (p.1 i) es in
+      ap (stated rs) here
+      ∙ stated-given rs ms (with_state m.id (state m.id) es) p.2
+      ∙ map-map (λ (e : Peer). record e { state = cond (m.id == e.mount) (state m.id) e.state }) (one ms) (one (m ∷ ms)) (one-more m ms) es
 
-  differ : (ts : List ℕ) → climbs ts ≡ true → ((t : ℕ) → In t ts → In t (hits w dest)) → Differ w.forest h.forest.rising h.forest.apart end dest.dir ts
-  differ [] c f = tt
-  differ (t ∷ ts) c f = (
-    all-in (λ u. place_eq (end u) (end t) ≡ false) ts (λ u e. end_apart t u (f t (inl refl)) (f u (inr e)) (above-in t u ts (grind (arith, nat_tests)) e)),
-    differ ts (grind (arith, nat_tests)) (λ u e. f u (inr e)),
-  )
+module _ (w : WorldView) (h : IsWellFormed w) (src : Source) (dest : Place) (s : IsSource w src dest) (d : IsDestination w dest) where
+  after : IsWellFormed (copied w src dest)
+  after = source_kept w h src dest s d
 
-  pub ways-free : IsFree (filter_map (way w source dest) (hits w dest)) w.forest
-  ways-free =
-      free-sent w.forest h.forest.rising h.forest.apart end dest.dir (hits w dest) w.forest
-      (differ (hits w dest) (hits-climb w h.peering.rising dest).0 (λ t e. e)) (all-in (λ t. on w.forest (end t) ≡ None) (hits w dest) end_free)
+  abbrev out : List Mount
+  out = map (relocated w src dest) w.forest ++ new_mounts w src dest
 
-  pub ways-done : placed (filter_map (way w source dest) (hits w dest)) w.forest ≡ map (relocated w source dest) w.forest
-  ways-done =
-      ap (placed (filter_map (way w source dest) (hits w dest))) (sym (map-id w.forest))
-      ∙ placed-sent w.forest h.forest.rising h.forest.apart end dest.dir (hits w dest) (λ m. m) (λ m. refl)
-
-  block_placed : (t : ℕ) (xs : List Mount) (rest : List Mount) → AllByRecursion HasPlace rest → AllByRecursion HasPlace (map (copy_of w source dest t) xs ++ rest)
-  block_placed t [] rest a = a
-  block_placed t (m ∷ xs) rest a = ((copy_place w source dest t m, refl), block_placed t xs rest a)
-
-  new_placed : (ts : List ℕ) → AllByRecursion HasPlace (flat_map (λ t. map (copy_of w source dest t) ms) ts)
-  new_placed [] = tt
-  new_placed (t ∷ ts) = block_placed t ms (flat_map (λ t. map (copy_of w source dest t) ms) ts) (new_placed ts)
-
-  pub mounts-done : IsNew (new_mounts w source dest) (map (relocated w source dest) w.forest) × (inserted (new_mounts w source dest) (map (relocated w source dest) w.forest) ≡ out w h ms top dest tree d)
+  mounts-done : IsNew (new_mounts w src dest) (map (relocated w src dest) w.forest) × (inserted (new_mounts w src dest) (map (relocated w src dest) w.forest) ≡ out)
   unfolding copied
   mounts-done =
-      inserted-end (new_mounts w source dest) (map (relocated w source dest) w.forest) (copied_forest w h ms top dest tree d).rising (copied_forest w h ms top dest tree d).apart (new_placed (targets w source dest))
+      inserted-end (new_mounts w src dest) (map (relocated w src dest) w.forest) after.forest.rising after.forest.apart after.forest.one_root
 
-  -- the copies with their states
+  -- the copies with their states, and the states of those that were there
   abbrev pub new_peers : List Peer
-  new_peers = map (λ (c : Copy). let e : Peer = record { mount = copy_id w source dest c.target c.source; state = copy_state w source dest c } in e) (new_copies w source dest)
+  new_peers = map (λ (c : Copy). let e : Peer = record { mount = copy_id w src dest c.target c.source; state = copy_state w src dest c } in e) (new_copies w src dest)
 
-  still : map (regrouped w source dest) w.peering.peers ≡ w.peering.peers
-  still = map-id w.peering.peers
+  abbrev old_peers : List Peer
+  old_peers = map (regrouped w src dest) w.peering.peers
 
-  peers_rise : rises mount_of (w.peering.peers ++ new_peers) ≡ true
+  peers_rise : rises mount_of (old_peers ++ new_peers) ≡ true
   unfolding copied
-  peers_rise =
-      let a = after w h ms top dest tree d in
-      ap (λ (es : List Peer). rises mount_of (es ++ new_peers)) (sym still)
-      ∙ sym (rises-keys mount_of (map (regrouped w source dest) w.peering.peers ++ new_peers)) ∙ ap climbs (sym a.same_mounts) ∙ rises-keys id_of (out w h ms top dest tree d) ∙ a.rising
-
-  pub states-done : (rs : List (ℕ × State)) → peers_of rs ≡ new_peers → IsAbsent rs w.peering.peers × (joined rs w.peering.peers ≡ w.peering.peers ++ new_peers)
-  states-done rs e =
-      let r = joined-end rs w.peering.peers (ap (λ (es : List Peer). rises mount_of (w.peering.peers ++ es)) e ∙ peers_rise) in
-      (r.0, r.1 ∙ ap (λ (es : List Peer). w.peering.peers ++ es) e)
-
-  -- the world that these make
-  pub world-done : (forest : List Mount) (es : List Peer) (next more : ℕ) → forest ≡ out w h ms top dest tree d → es ≡ w.peering.peers ++ new_peers → next ≡ w.peering.next + length (new_keys w source dest)
-      → more ≡ length (new_copies w source dest)
-      → ◌≡◌ {A = WorldView} (record { skel = w.skel; forest = forest; peering = record { peers = es; next = next }; next_mount = w.next_mount + more; next_space = w.next_space }) (copied w source dest)
-  unfolding copied
-  world-done forest es next more f e n m =
-      let all : es ≡ map (regrouped w source dest) w.peering.peers ++ new_peers = e ∙ ap (λ (l : List Peer). l ++ new_peers) (sym still) in
-      λ i. record { skel = w.skel; forest = f i; peering = record { peers = all i; next = n i }; next_mount = w.next_mount + m i; next_space = w.next_space }
+  peers_rise = after.peering.rising
 
   -- each step, given what the steps before it made
-  module _ (ways : List (ℕ × Place)) (given : ways ≡ filter_map (way w source dest) (hits w dest)) (forest : List Mount) (moved : forest ≡ placed ways w.forest) where
+  module _ (ways : List (ℕ × Place)) (listed : ways ≡ moves w src dest) (forest : List Mount) (moved : forest ≡ placed ways w.forest) where
     pub free-given : IsFree ways w.forest
-    free-given = subst (λ (l : List (ℕ × Place)). IsFree l w.forest) (sym given) ways-free
+    free-given = subst (λ (l : List (ℕ × Place)). IsFree l w.forest) (sym listed) (moves-done w h src dest s d).0
 
-    moved-are : forest ≡ map (relocated w source dest) w.forest
-    moved-are = moved ∙ ap (λ (l : List (ℕ × Place)). placed l w.forest) given ∙ ways-done
+    moved-are : forest ≡ map (relocated w src dest) w.forest
+    moved-are = moved ∙ ap (λ (l : List (ℕ × Place)). placed l w.forest) listed ∙ (moves-done w h src dest s d).1
 
-    pub new-given : (news : List Mount) → news ≡ new_mounts w source dest → IsNew news forest
+    pub new-given : (news : List Mount) → news ≡ new_mounts w src dest → IsNew news forest
     new-given news e =
-        subst (λ (l : List Mount). IsNew l forest) (sym e) (subst (λ (l : List Mount). IsNew (new_mounts w source dest) l) (sym moved-are) mounts-done.0)
+        subst (λ (l : List Mount). IsNew l forest) (sym e) (subst (λ (l : List Mount). IsNew (new_mounts w src dest) l) (sym moved-are) mounts-done.0)
 
-    pub forest-given : (news after_all : List Mount) → news ≡ new_mounts w source dest → after_all ≡ inserted news forest → after_all ≡ out w h ms top dest tree d
-    forest-given news after_all e f = f ∙ ap (λ (l : List Mount). inserted l forest) e ∙ ap (inserted (new_mounts w source dest)) moved-are ∙ mounts-done.1
+    pub forest-given : (news after_all : List Mount) → news ≡ new_mounts w src dest → after_all ≡ inserted news forest → after_all ≡ out
+    forest-given news after_all e f = f ∙ ap (λ (l : List Mount). inserted l forest) e ∙ ap (inserted (new_mounts w src dest)) moved-are ∙ mounts-done.1
 
-  pub absent-given : (rs : List (ℕ × State)) (es : List Peer) → peers_of rs ≡ new_peers → es ≡ w.peering.peers → IsAbsent rs es
-  absent-given rs es e same = subst (IsAbsent rs) (sym same) (states-done rs e).0
+  -- first those that move get their states
+  module _ (changes : List (ℕ × State)) (listed : peers_of changes ≡ moved_states w src dest) (es : List Peer) (changed : es ≡ stated changes w.peering.peers) where
+    changed-are : es ≡ old_peers
+    changed-are = changed ∙ by src.moved listed
+      where
+        state_by : Bool → ℕ → State
+        state_by b i = copy_state w (record { mounts = src.mounts; top = src.top; moved = b }) dest (record { target = dest.mount; source = i })
 
-  pub peers-given : (rs : List (ℕ × State)) (es after_all : List Peer) → peers_of rs ≡ new_peers → es ≡ w.peering.peers → after_all ≡ joined rs es → after_all ≡ w.peering.peers ++ new_peers
-  peers-given rs es after_all e same f = f ∙ ap (joined rs) same ∙ (states-done rs e).1
+        by : (b : Bool) → peers_of changes ≡ given (state_by b) (cond b src.mounts []) → stated changes w.peering.peers
+            ≡ map (λ (e : Peer). cond (b && list_any (λ (m : Mount). m.id == e.mount) src.mounts) (record { mount = e.mount; state = state_by b e.mount }) e) w.peering.peers
+        by true e = stated-given (state_by true) changes src.mounts w.peering.peers e
+        by false e = stated-given (state_by false) changes [] w.peering.peers e
+
+    module _ (rs : List (ℕ × State)) (news : peers_of rs ≡ new_peers) where
+      added : IsAbsent rs old_peers × (joined rs old_peers ≡ old_peers ++ peers_of rs)
+      added = joined-end rs old_peers (ap (λ (l : List Peer). rises mount_of (old_peers ++ l)) news ∙ peers_rise)
+
+      pub absent-given : IsAbsent rs es
+      absent-given = subst (IsAbsent rs) (sym changed-are) added.0
+
+      pub peers-given : (after_all : List Peer) → after_all ≡ joined rs es → after_all ≡ old_peers ++ new_peers
+      peers-given after_all f = f ∙ ap (joined rs) changed-are ∙ added.1 ∙ ap (λ (l : List Peer). old_peers ++ l) news
+
+  -- the world that these make
+  pub world-done : (forest : List Mount) (es : List Peer) (next more : ℕ) → forest ≡ out → es ≡ old_peers ++ new_peers → next ≡ w.peering.next + length (new_keys w src dest)
+      → more ≡ length (new_copies w src dest)
+      → ◌≡◌ {A = WorldView} (record { skel = w.skel; forest = forest; peering = record { peers = es; next = next }; next_mount = w.next_mount + more; next_space = w.next_space }) (copied w src dest)
+  unfolding copied
+  world-done forest es next more f e n m =
+      λ i. record { skel = w.skel; forest = f i; peering = record { peers = e i; next = n i }; next_mount = w.next_mount + m i; next_space = w.next_space }

@@ -24,5 +24,8 @@ pub mod ReachedLaws
 pub mod PlannedLaws
 pub mod CarriedLaws
 pub mod WayLaws
+pub mod SentLaws
+pub mod MovesLaws
 pub mod PlansLaws
 pub mod CarryLaws
+pub mod BelowSourceLaws

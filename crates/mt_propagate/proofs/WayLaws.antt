@@ -23,7 +23,7 @@ map-twice g f [] = refl
 map-twice g f (x ∷ xs) = ap (λ l. g (f x) ∷ l) (map-twice g f xs)
 
 -- a place stays free where a mount moves to another one
-on-moved : (p q : Place) (i : ℕ) (ms : List Mount) → on ms p ≡ None → place_eq p q ≡ false → on (with_place i q ms) p ≡ None
+pub on-moved : (p q : Place) (i : ℕ) (ms : List Mount) → on ms p ≡ None → place_eq p q ≡ false → on (with_place i q ms) p ≡ None
 on-moved p q i [] e off = refl
 on-moved p q i (m ∷ ms) e off = go (m.id == i) (is_at p m) refl e (on-moved p q i ms)
   where

@@ -88,18 +88,16 @@ module _ (w : WorldView) (home : Option ℕ) (hs : List ℕ) where
         unbindable = false;
       }) home (state_of w c.source)
 
-  -- a copy with its state, given all copies (this project's rule)
-  abbrev pub peer_at : List GroupKey → List Copy → Copy → Peer
-  peer_at ks all c = record { mount = numbered copy_eq w.next_mount all c; state = state_for ks c }
-
-  abbrev pub peers_at : List GroupKey → List Copy → List Copy → List Peer
-  peers_at ks all cs = map (peer_at ks all) cs
-
--- the number that the first copy gets, all copies, the top of the tree and the place are given (this project's rule)
-module _ (next : ℕ) (cs : List Copy) (top : Mount) (dest : Place) where
-  -- the number of a copy (this project's rule)
+-- the number that the first new mount gets, all copies that are new mounts, the top of the tree, the place, and whether the tree
+-- moves there are given (this project's rule)
+module _ (next : ℕ) (cs : List Copy) (top : Mount) (dest : Place) (moved : Bool) where
+  -- the number of a copy; what moves to the place keeps its own (this project's rule)
   abbrev pub number_at : ℕ → ℕ → ℕ
-  number_at t s = numbered copy_eq next cs (record { target = t; source = s })
+  number_at t s = cond (moved && (t == dest.mount)) s (numbered copy_eq next cs (record { target = t; source = s }))
+
+  -- copies with their states (this project's rule)
+  abbrev pub peers_at : WorldView → Option ℕ → List ℕ → List GroupKey → List Copy → List Peer
+  peers_at w home hs ks ds = map (λ (c : Copy). record { mount = number_at c.target c.source; state = state_for w home hs ks c }) ds
 
   -- its place (this project's rule)
   abbrev pub place_at : ℕ → Mount → Place
@@ -116,13 +114,19 @@ module _ (next : ℕ) (cs : List Copy) (top : Mount) (dest : Place) where
   abbrev pub mounts_at : WorldView → List Mount → List ℕ → List Mount
   mounts_at w ms ts = flat_map (mounts_for w ms) ts
 
-  -- the mounts that make way at these targets, and where they go, where a stack of copies ends with that of z (this project's
-  -- rule)
+  -- the mounts that make way at these targets, and where they go, where a stack of copies ends with that of z; the top of a tree
+  -- that moves does not (this project's rule)
   abbrev pub way_at : WorldView → Mount → ℕ → Option (ℕ × Place)
-  way_at w z t = option_map (λ (i : ℕ). (i, record { mount = number_at t z.id; dir = z.root })) (option_map id_of (on w.forest (record { mount = t; dir = dest.dir })))
+  way_at w z t =
+      option_and_then (λ (i : ℕ). cond (moved && (i == top.id)) None (Some (i, record { mount = number_at t z.id; dir = z.root })))
+      (option_map id_of (on w.forest (record { mount = t; dir = dest.dir })))
 
   abbrev pub ways_at : WorldView → Mount → List ℕ → List (ℕ × Place)
   ways_at w z ts = filter_map (way_at w z) ts
+
+  -- it goes to the place (this project's rule)
+  abbrev pub first_ways : List (ℕ × Place)
+  first_ways = cond moved ((top.id, dest) ∷ []) []
 
 -- the last of a stack that begins with a mount (this project's rule)
 abbrev pub over : List Mount → Mount → Option Mount

@@ -3,7 +3,7 @@
 //! A [`World`](world::World) holds the directories, the mounts and their propagation states.
 #![tactic(auto)]
 
-mod carry;
+pub mod carry;
 pub mod copies;
 #[cfg(test)]
 mod fixture;

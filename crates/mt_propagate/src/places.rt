@@ -2,7 +2,7 @@
 ghost use Rattle.std.specs.Prelude.{◌≡◌, ◌+◌, ◌<◌, ◌^◌, ◌++◌, length, Some, IfOk, OnOk, IsOkUnless};
 ghost use Rattle.mt_mounts.specs.Forest.{on};
 ghost use Rattle.mt_propagate.specs.World.{world_view, space_of};
-ghost use Rattle.mt_propagate.specs.Planned.{copies_of, number_at, place_at, copy_at, mounts_for, mounts_at, way_at, ways_at, stack_last};
+ghost use Rattle.mt_propagate.specs.Planned.{copies_of, number_at, place_at, copy_at, mounts_for, mounts_at, way_at, ways_at, first_ways, stack_last};
 
 use crate::copies::{Twin, copy_id};
 use crate::world::World;
@@ -13,14 +13,16 @@ use std::alloc::Global;
 /// What the places of copies follow from.
 #[derive(Drop)]
 pub(crate) struct Layout {
-    /// The number that the first copy gets.
+    /// The number that the first new mount gets.
     pub(crate) next: MountId,
-    /// All copies.
+    /// All copies that are new mounts.
     pub(crate) twins: Vec<Twin>,
     /// The top of the source tree.
     pub(crate) top: Mount,
-    /// Where its first copy comes.
+    /// Where its first copy comes, or the top itself.
     pub(crate) place: Place,
+    /// Whether the tree moves to the place.
+    pub(crate) moved: bool,
 }
 
 fn space_of(world: &World, id: MountId) -> SpaceId
@@ -32,18 +34,21 @@ fn space_of(world: &World, id: MountId) -> SpaceId
     }
 }
 
-// The number of the copy of a source mount at a target.
-fn number_at(layout: &Layout, target: MountId, source: MountId) -> MountId
+/// The number of the copy of a source mount at a target. What moves to the place keeps its own.
+pub(crate) fn number_at(layout: &Layout, target: MountId, source: MountId) -> MountId
     requires { layout.now.next + length layout.now.twins.items < 2 ^ 64 }
-    ensures { result ≡ number_at layout.now.next (copies_of layout.now.twins.items) layout.now.top layout.now.place target source }
+    ensures { result ≡ number_at layout.now.next (copies_of layout.now.twins.items) layout.now.top layout.now.place layout.now.moved target source }
 {
+    if layout.moved && target == layout.place.mount {
+        return source;
+    }
     copy_id(layout.next, &layout.twins, target, source)
 }
 
 // The place of the copy of a source mount at a target.
 fn place_at(layout: &Layout, target: MountId, mount: &Mount) -> Place
     requires { layout.now.next + length layout.now.twins.items < 2 ^ 64 }
-    ensures { result ≡ place_at layout.now.next (copies_of layout.now.twins.items) layout.now.top layout.now.place target mount.now }
+    ensures { result ≡ place_at layout.now.next (copies_of layout.now.twins.items) layout.now.top layout.now.place layout.now.moved target mount.now }
 {
     if mount.id == layout.top.id {
         return Place {
@@ -63,7 +68,7 @@ fn place_at(layout: &Layout, target: MountId, mount: &Mount) -> Place
 // The copy of a source mount at a target.
 fn copy_at(world: &World, layout: &Layout, target: MountId, mount: &Mount) -> Mount
     requires { layout.now.next + length layout.now.twins.items < 2 ^ 64 }
-    ensures { result ≡ copy_at layout.now.next (copies_of layout.now.twins.items) layout.now.top layout.now.place (world_view world.now) target mount.now }
+    ensures { result ≡ copy_at layout.now.next (copies_of layout.now.twins.items) layout.now.top layout.now.place layout.now.moved (world_view world.now) target mount.now }
 {
     Mount {
         id: number_at(layout, target, mount.id),
@@ -83,7 +88,7 @@ fn push_copies(
     copies: &mut Vec<Mount>,
 ) -> Result<(), Fault>
     requires { layout.now.next + length layout.now.twins.items < 2 ^ 64 }
-    ensures copies { OnOk result (copies.new.items ≡ copies.old.items ++ mounts_for layout.now.next (copies_of layout.now.twins.items) layout.now.top layout.now.place (world_view world.now) mounts.now target) }
+    ensures copies { OnOk result (copies.new.items ≡ copies.old.items ++ mounts_for layout.now.next (copies_of layout.now.twins.items) layout.now.top layout.now.place layout.now.moved (world_view world.now) mounts.now target) }
     ensures memory { IsOkUnless result Fault.NoMemory }
 {
     for mount in mounts {
@@ -101,7 +106,7 @@ pub(crate) fn new_mounts(
     mounts: &[Mount],
 ) -> Result<Vec<Mount>, Fault>
     requires { layout.now.next + length layout.now.twins.items < 2 ^ 64 }
-    ensures mounts { IfOk result (λ copies. copies.items ≡ mounts_at layout.now.next (copies_of layout.now.twins.items) layout.now.top layout.now.place (world_view world.now) mounts.now targets.now) }
+    ensures mounts { IfOk result (λ copies. copies.items ≡ mounts_at layout.now.next (copies_of layout.now.twins.items) layout.now.top layout.now.place layout.now.moved (world_view world.now) mounts.now targets.now) }
     ensures memory { IsOkUnless result Fault.NoMemory }
 {
     let mut copies = Vec::new(alloc);
@@ -142,14 +147,18 @@ pub(crate) fn stack_last(mounts: &[Mount], first: Mount) -> Mount
 }
 
 // The mount that makes way at a target, and where it goes: onto the copy of the last of the stack.
+// The top of a tree that moves makes none, since it has left.
 fn way_at(world: &World, layout: &Layout, last: Mount, target: MountId) -> Option<(MountId, Place)>
     requires { layout.now.next + length layout.now.twins.items < 2 ^ 64 }
-    ensures { result ≡ way_at layout.now.next (copies_of layout.now.twins.items) layout.now.top layout.now.place (world_view world.now) last target }
+    ensures { result ≡ way_at layout.now.next (copies_of layout.now.twins.items) layout.now.top layout.now.place layout.now.moved (world_view world.now) last target }
 {
     let id = world.forest.at(Place {
         mount: target,
         dir: layout.place.dir,
     })?;
+    if layout.moved && id == layout.top.id {
+        return None;
+    }
     let place = Place {
         mount: number_at(layout, target, last.id),
         dir: last.root,
@@ -157,7 +166,20 @@ fn way_at(world: &World, layout: &Layout, last: Mount, target: MountId) -> Optio
     Some((id, place))
 }
 
-/// The mounts that make way at these targets, and where they go. Refused as `NoMemory` alone.
+// Where the top of a tree goes that moves.
+fn first_ways(alloc: Global, layout: &Layout) -> Result<Vec<(MountId, Place)>, Fault>
+    ensures ways { IfOk result (λ ways. ways.items ≡ first_ways layout.now.next (copies_of layout.now.twins.items) layout.now.top layout.now.place layout.now.moved) }
+    ensures memory { IsOkUnless result Fault.NoMemory }
+{
+    let mut ways = Vec::new(alloc);
+    if layout.moved {
+        ways.push((layout.top.id, layout.place))?;
+    }
+    Ok(ways)
+}
+
+/// Which mounts go elsewhere, and where: the top of a tree that moves, and then those that make way
+/// at these targets. Refused as `NoMemory` alone.
 pub(crate) fn ways_at(
     alloc: Global,
     world: &World,
@@ -166,10 +188,10 @@ pub(crate) fn ways_at(
     targets: &[MountId],
 ) -> Result<Vec<(MountId, Place)>, Fault>
     requires { layout.now.next + length layout.now.twins.items < 2 ^ 64 }
-    ensures ways { IfOk result (λ ways. ways.items ≡ ways_at layout.now.next (copies_of layout.now.twins.items) layout.now.top layout.now.place (world_view world.now) last targets.now) }
+    ensures ways { IfOk result (λ ways. ways.items ≡ first_ways layout.now.next (copies_of layout.now.twins.items) layout.now.top layout.now.place layout.now.moved ++ ways_at layout.now.next (copies_of layout.now.twins.items) layout.now.top layout.now.place layout.now.moved (world_view world.now) last targets.now) }
     ensures memory { IsOkUnless result Fault.NoMemory }
 {
-    let mut ways = Vec::new(alloc);
+    let mut ways = first_ways(alloc, layout)?;
     for target in targets {
         if let Some(way) = way_at(world, layout, last, *target) {
             ways.push(way)?;
