@@ -38,11 +38,11 @@ module _ (w : WorldView) (n : ℕ) where
   twin-alone true s a u = let b = a u in (refl, ap (λ o. option_or o s.master) b.0 ∙ b.1)
 
 module _ (w : WorldView) (h : IsWellFormed w) (n : ℕ) (less : Bool) where
-  abbrev twin_peer : Mount → Peer
+  abbrev pub twin_peer : Mount → Peer
   twin_peer m = record { mount = twin w n m.id; state = twin_state w n less (state_of w m.id) }
 
-  abbrev joined : List Peer
-  joined = map twin_peer (originals w n)
+  abbrev pub new_peers : List Peer
+  new_peers = map twin_peer (originals w n)
 
   -- the mount and the state that a new state is of
   record IsTwin (i : ℕ) (t : State) : Type 0 where
@@ -54,9 +54,9 @@ module _ (w : WorldView) (h : IsWellFormed w) (n : ℕ) (less : Bool) where
     pub stated : state_at w.peering.peers source.id ≡ Some state
     pub made : t ≡ twin_state w n less state
 
-  twin-from : (i : ℕ) (t : State) → state_at joined i ≡ Some t → IsTwin i t
+  twin-from : (i : ℕ) (t : State) → state_at new_peers i ≡ Some t → IsTwin i t
   twin-from i t e =
-      let row = state-row joined i t e in
+      let row = state-row new_peers i t e in
       let r = renamed-row id_of mount_of twin_peer (twin w n) (λ m. refl) (originals w n) (order w h n) i row.0 row.1 in
       let o = was-original w h n r.0.id r.0 r.1 in
       let s = mount-state w.forest w.peering.peers r.0.id r.0 h.same_mounts o.0 in
@@ -70,22 +70,22 @@ module _ (w : WorldView) (h : IsWellFormed w) (n : ℕ) (less : Bool) where
         made = sym row.2 ∙ ap (λ (e : Peer). e.state) r.2 ∙ ap (λ o. twin_state w n less (unwrap_or o private)) s.1;
       }
 
-  joined-ids : map id_of (copies w h n) ≡ map mount_of joined
-  joined-ids =
+  peer-ids : map id_of (copies w h n) ≡ map mount_of new_peers
+  peer-ids =
       map-map (twin_of w n) id_of (λ (m : Mount). twin w n m.id) (λ m. refl) (originals w n)
       ∙ sym (map-map twin_peer mount_of (λ (m : Mount). twin w n m.id) (λ m. refl) (originals w n))
 
-  same_ids : map id_of (grown w h n) ≡ map mount_of (w.peering.peers ++ joined)
-  same_ids = grown-ids w h n ∙ (λ i. h.same_mounts i ++ joined-ids i) ∙ sym (map-append mount_of w.peering.peers joined)
+  same_ids : map id_of (grown w h n) ≡ map mount_of (w.peering.peers ++ new_peers)
+  same_ids = grown-ids w h n ∙ (λ i. h.same_mounts i ++ peer-ids i) ∙ sym (map-append mount_of w.peering.peers new_peers)
 
-  rising : rises mount_of (w.peering.peers ++ joined) ≡ true
-  rising =
-      sym (rises-keys mount_of (w.peering.peers ++ joined)) ∙ ap climbs (sym same_ids)
+  pub peers-rise : rises mount_of (w.peering.peers ++ new_peers) ≡ true
+  peers-rise =
+      sym (rises-keys mount_of (w.peering.peers ++ new_peers)) ∙ ap climbs (sym same_ids)
       ∙ rises-keys id_of (grown w h n) ∙ (grown-forest w h n).rising
 
-  peered : IsPeering (record w.peering { peers = w.peering.peers ++ joined })
+  peered : IsPeering (record w.peering { peers = w.peering.peers ++ new_peers })
   peered =
-      added-IsPeering w.peering h.peering joined rising
+      added-IsPeering w.peering h.peering new_peers peers-rise
       (λ i t g e is.
       let c = twin-from i t e in
       let s = twin-group w n less c.state g (ap (λ (s : State). s.group) (sym c.made) ∙ is) in
@@ -116,9 +116,9 @@ module _ (w : WorldView) (h : IsWellFormed w) (n : ℕ) (less : Bool) where
   alike : IsAlike (fs_at (with_copy w n less)) (with_copy w n less).peering.peers
   unfolding with_copy
   alike =
-      like-IsAlike (fs_at w) (fs_at (with_copy w n less)) w.peering.peers (w.peering.peers ++ joined) (shown-alike w h) (λ i t e.
-      let row = state-row (w.peering.peers ++ joined) i t e in
-      elim (appended-row mount_of w.peering.peers joined i row.0 row.1) [
+      like-IsAlike (fs_at w) (fs_at (with_copy w n less)) w.peering.peers (w.peering.peers ++ new_peers) (shown-alike w h) (λ i t e.
+      let row = state-row (w.peering.peers ++ new_peers) i t e in
+      elim (appended-row mount_of w.peering.peers new_peers i row.0 row.1) [
         | inl old ↦
             let was : state_at w.peering.peers i ≡ Some t = ap (option_map (λ (e : Peer). e.state)) old ∙ ap (λ s. Some s) row.2 in
             let m = state-mount w.forest w.peering.peers i t h.same_mounts was in

@@ -10,3 +10,10 @@ pub mod BelowLaws
 pub mod WithinLaws
 pub mod TreeOfLaws
 pub mod MountedLaws
+pub mod SizeLaws
+pub mod CopyingLaws
+pub mod MadeLaws
+pub mod AlongLaws
+pub mod MemberLaws
+pub mod BoundLaws
+pub mod MovingLaws

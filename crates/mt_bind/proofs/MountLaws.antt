@@ -69,7 +69,7 @@ mount_keeps w n name path v i h e =
     subst IsWellFormed (ap (λ x. x.0) ok.0) (source_kept w h src p (fresh_source w h fs p (omega (arith, low))) d)
 
 -- what is bound from the end of a walk is a source tree
-bound_source : (w : WorldView) (n : ℕ) (from : List (List ℕ)) (deep : Bool) (p dest : Place) → IsWellFormed w → walk w.skel w.forest n from ≡ Ok p → IsSource w (cond deep (tree_within w p) (alone w p)) dest
+pub bound_source : (w : WorldView) (n : ℕ) (from : List (List ℕ)) (deep : Bool) (p dest : Place) → IsWellFormed w → walk w.skel w.forest n from ≡ Ok p → IsSource w (cond deep (tree_within w p) (alone w p)) dest
 bound_source w n from true p dest h e = let r = (walked w n h from p e).0 in within_source w h p r.0 r.1 r.3 dest
 bound_source w n from false p dest h e = let r = (walked w n h from p e).0 in alone_source w h p r.0 r.1 r.3 dest
 

@@ -1,4 +1,6 @@
 pub mod Spaces
+pub mod Copying
 pub mod Sources
+pub mod Along
 pub mod Mounting
 pub mod Laws

@@ -11,8 +11,8 @@ use mt_propagate::world::World;
 use mt_skel::fault::Fault;
 use mt_skel::name::{Label, Name};
 
-// Whether this is the root directory of a root mount.
-fn is_root_place(world: &World, place: Place) -> bool
+/// Whether this is the root directory of a root mount.
+pub(crate) fn is_root_place(world: &World, place: Place) -> bool
     ensures { result ≡ is_root_place (world_view world.now) place }
 {
     match world.forest.get(place.mount) {
@@ -50,77 +50,8 @@ pub fn mount(world: &mut World, space: SpaceId, fs: &Label, path: &[Name]) -> Re
 #[cfg(test)]
 mod tests {
     use super::*;
-    use crate::spaces::new_space;
-    use mt_mounts::forest::Forest;
-    use mt_peers::peers::Peers;
-    use mt_skel::skel::Skel;
-    use std::alloc::Global;
+    use crate::fixture::{add_mount, add_space, bare};
     use std::test::Fail;
-
-    fn label(alloc: Global, text: &[u8]) -> Result<Label, Fault> {
-        Label::new(Vec::from_slice(alloc, text)?).map_err(|_| Fault::BadLine)
-    }
-
-    // The names between the slashes of a text.
-    fn path(alloc: Global, text: &[u8]) -> Result<Vec<Name>, Fault> {
-        let mut names = Vec::new(alloc);
-        for piece in text.split(|byte| *byte == b'/') {
-            match Name::new(Vec::from_slice(alloc, piece)?) {
-                Ok(name) => names.push(name)?,
-                Err(_) => return Err(Fault::BadPath),
-            }
-        }
-        Ok(names)
-    }
-
-    // The filesystem "ext" with a directory "a" in it, and no namespace.
-    fn bare(alloc: Global) -> Result<World, Fault>
-        ensures { IfOk result (λ world. IsWellFormed (world_view world)) }
-    {
-        let mut skel = Skel::new(alloc);
-        let ext = label(alloc, b"ext")?;
-        skel.add_fs(
-            label(alloc, b"ext")?,
-            label(alloc, b"ext4")?,
-            label(alloc, b"/dev/x")?,
-        )?;
-        skel.add_dir(&ext, &path(alloc, b"a")?)?;
-        Ok(World {
-            skel,
-            forest: Forest::new(alloc),
-            peers: Peers::new(alloc),
-            next_mount: 1,
-            next_space: 1,
-        })
-    }
-
-    // A namespace in such a world.
-    fn add_space(alloc: Global, world: &mut World) -> Result<SpaceId, Fault>
-        requires { IsWellFormed (world_view world.old) }
-        ensures { IsWellFormed (world_view world.new) }
-    {
-        if world.next_mount > 100 || world.next_space > 100 {
-            return Err(Fault::TooMany);
-        }
-        new_space(world, &label(alloc, b"ext")?)
-    }
-
-    // The ID of a mount of a filesystem, or the fault.
-    fn add_mount(
-        alloc: Global,
-        world: &mut World,
-        space: SpaceId,
-        fs: &[u8],
-        to: &[u8],
-    ) -> Result<MountId, Fault>
-        requires { IsWellFormed (world_view world.old) }
-        ensures { IsWellFormed (world_view world.new) }
-    {
-        if world.next_mount > 100 || world.peers.next_group() > 100 {
-            return Err(Fault::TooMany);
-        }
-        mount(world, space, &label(alloc, fs)?, &path(alloc, to)?)
-    }
 
     #[test]
     fn mounts_one_over_another(rt: HostRuntime) -> Result<(), Fail> {

@@ -11,7 +11,7 @@ use mt_skel::fault::Fault;
 use mt_skel::name::Label;
 
 /// The state of a mount that neither gives nor gets, and may be bound.
-const PRIVATE: State = State {
+pub(crate) const PRIVATE: State = State {
     group: None,
     master: None,
     unbindable: false,

@@ -1,0 +1,101 @@
+-- What the copy of a namespace, done mount by mount, makes of a world.
+use Rattle.std.proofs.Common.{◌≡◌, ℕ, ◌+◌, ◌==◌, Bool, true, false, cond, ◌||◌, List, [], ◌∷◌, ◌++◌, map, length, Option, Some, None, Result, Ok, not, refl, sym, ap, ◌∙◌, subst, arith}
+use Rattle.std.specs.List.{filter, filter_map, cons_option, AllByRecursion}
+use Rattle.std.specs.Option.{is_some, option_map, option_and_then}
+use Rattle.std.proofs.lemmas.Bool.Decides.{nat_tests}
+use Rattle.std.proofs.lemmas.List.{length-map}
+use Rattle.mt_skel.specs.declared.fault.Fault.{Fault}
+use Rattle.mt_skel.specs.declared.fault.Fault.TheVariants.{NoNamespace, TooMany}
+use Rattle.mt_skel.specs.Keyed.{rises}
+use Rattle.mt_skel.specs.Outcome.{refuse_if, outcome}
+use Rattle.mt_mounts.specs.declared.mount.Mount.{Mount}
+use Rattle.mt_mounts.specs.Forest.{id_of, mount_at}
+use Rattle.mt_peers.specs.declared.state.State.{State}
+use Rattle.mt_peers.specs.Peers.{Peer, mount_of, peers_of}
+use Rattle.mt_propagate.specs.World.{WorldView, is_space}
+use Rattle.mt_propagate.specs.Limits.{too_many_mounts, too_many_spaces}
+use Rattle.mt_propagate.specs.WellFormed.{IsWellFormed}
+use Rattle.mt_propagate.specs.Carried.{inserted, IsNew, joined, IsAbsent}
+use Rattle.mt_propagate.proofs.RowLaws.{found-each}
+use Rattle.mt_propagate.proofs.CarriedLaws.{inserted-end, joined-end}
+use Rattle.mt_bind.specs.Spaces.{originals, twin_of, with_copy, copy_space}
+use Rattle.mt_bind.specs.Copying.{original_at, copy_of, peer_of}
+use Rattle.mt_bind.proofs.TwinLaws.{copies}
+use Rattle.mt_bind.proofs.CopyTreeLaws.{grown-forest}
+use Rattle.mt_bind.proofs.CopyLaws.{new_peers, peers-rise}
+
+picked : (b : Bool) (y : Mount) (rest : List Mount) → cons_option (cond b (Some y) None) rest ≡ cond b (y ∷ rest) rest
+picked true y rest = refl
+picked false y rest = refl
+
+by-id : (w : WorldView) (n : ℕ) (ys : List Mount) → AllByRecursion (λ y. mount_at w.forest y.id ≡ Some y) ys → filter_map (original_at w n) (map id_of ys) ≡ filter (λ m. m.space == n) ys
+by-id w n [] found = refl
+by-id w n (y ∷ ys) found =
+    ap (λ o. cons_option o (filter_map (original_at w n) (map id_of ys))) (ap (option_and_then (λ (m : Mount). cond (m.space == n) (Some m) None)) found.0)
+    ∙ ap (cons_option (cond (y.space == n) (Some y) None)) (by-id w n ys found.1)
+    ∙ picked (y.space == n) y (filter (λ m. m.space == n) ys)
+
+-- the mounts of a namespace, looked up one after the other
+pub originals-listed : (w : WorldView) (n : ℕ) → IsWellFormed w → filter_map (original_at w n) (map id_of w.forest) ≡ originals w n
+originals-listed w n h = by-id w n w.forest (found-each id_of w.forest h.forest.rising)
+
+module _ (w : WorldView) (h : IsWellFormed w) (n : ℕ) where
+  mounts-done : IsNew (copies w h n) w.forest × (inserted (copies w h n) w.forest ≡ w.forest ++ copies w h n)
+  mounts-done = let g = grown-forest w h n in inserted-end (copies w h n) w.forest g.rising g.apart g.one_root
+
+  states-done : (rs : List (ℕ × State)) → peers_of rs ≡ new_peers w h n false → IsAbsent rs w.peering.peers × (joined rs w.peering.peers ≡ w.peering.peers ++ new_peers w h n false)
+  states-done rs e =
+      let r = joined-end rs w.peering.peers (ap (λ (es : List Peer). rises mount_of (w.peering.peers ++ es)) e ∙ peers-rise w h n false) in
+      (r.0, r.1 ∙ ap (λ (es : List Peer). w.peering.peers ++ es) e)
+
+  -- the lists that were made of the mounts that were found
+  module _ (ms : List Mount) (found : ms ≡ originals w n) where
+    pub copies-are : (cs : List Mount) → cs ≡ map (copy_of w (map id_of ms)) ms → cs ≡ copies w h n
+    copies-are cs e = e ∙ ap (λ (l : List Mount). map (copy_of w (map id_of l)) l) found
+
+    pub peers-are : (rs : List (ℕ × State)) → peers_of rs ≡ map (peer_of w (map id_of ms)) ms → peers_of rs ≡ new_peers w h n false
+    peers-are rs e = e ∙ ap (λ (l : List Mount). map (peer_of w (map id_of l)) l) found
+
+  -- each has its turn in a world that is still the same
+  module _ (u : WorldView) (still : u ≡ w) (cs : List Mount) (mounts : cs ≡ copies w h n) (rs : List (ℕ × State)) (peers : peers_of rs ≡ new_peers w h n false) where
+    pub copies-new : IsNew cs u.forest
+    copies-new = subst (λ (v : WorldView). IsNew cs v.forest) (sym still) (subst (λ (l : List Mount). IsNew l w.forest) (sym mounts) mounts-done.0)
+
+    pub states-absent : IsAbsent rs u.peering.peers
+    states-absent = subst (λ (v : WorldView). IsAbsent rs v.peering.peers) (sym still) (states-done rs peers).0
+
+    -- and together they make the copy
+    pub copy-made : (v : WorldView) → v.forest ≡ inserted cs u.forest → v.peering.peers ≡ joined rs u.peering.peers → (v.skel ≡ u.skel) × (v.peering.next ≡ u.peering.next)
+        → (v.next_mount ≡ u.next_mount + length cs) × (v.next_space ≡ u.next_space + 1) → v ≡ with_copy w n false
+    unfolding with_copy
+    copy-made v forest states same next =
+        let all : v.forest ≡ w.forest ++ copies w h n = forest ∙ ap (λ (x : WorldView). inserted cs x.forest) still ∙ ap (λ (l : List Mount). inserted l w.forest) mounts ∙ mounts-done.1 in
+        let stated : v.peering.peers ≡ w.peering.peers ++ new_peers w h n false = states ∙ ap (λ (x : WorldView). joined rs x.peering.peers) still ∙ (states-done rs peers).1 in
+        let skel : v.skel ≡ w.skel = same.0 ∙ ap (λ (x : WorldView). x.skel) still in
+        let groups : v.peering.next ≡ w.peering.next = same.1 ∙ ap (λ (x : WorldView). x.peering.next) still in
+        let count : length cs ≡ length (originals w n) = ap length mounts ∙ length-map (originals w n) (twin_of w n) in
+        let numbers : v.next_mount ≡ w.next_mount + length (originals w n) = next.0 ∙ ap (λ (x : WorldView). x.next_mount + length cs) still ∙ ap (λ (k : ℕ). w.next_mount + k) count in
+        let spaces : v.next_space ≡ w.next_space + 1 = next.1 ∙ ap (λ (x : WorldView). x.next_space + 1) still in
+        λ i. record { skel = skel i; forest = all i; peering = record { peers = stated i; next = groups i }; next_mount = numbers i; next_space = spaces i }
+
+-- a namespace is there where its root mount is found
+pub space-there : (o : Option Mount) (id : Option ℕ) (b : Bool) → id ≡ option_map id_of o → is_some id ≡ not b → b ≡ false → is_some o ≡ true
+space-there None id b e f off = absurd (let v : is_some id ≡ false = ap is_some e in grind (arith, nat_tests))
+space-there (Some m) id b e f off = refl
+
+-- what a copy of a namespace answers
+module _ (w : WorldView) (n : ℕ) where
+  abbrev both : Bool
+  both = too_many_spaces w || too_many_mounts w (length (originals w n))
+
+  module _ (there : is_space w n ≡ true) where
+    abbrev answer : Bool → Bool → Bool → Result (WorldView × ℕ) Fault
+    answer a b c = outcome (refuse_if (not a) NoNamespace ∷ refuse_if b TooMany ∷ refuse_if c TooMany ∷ []) (with_copy w n false, w.next_space)
+
+    neither : (b c : Bool) → (b || c) ≡ false → answer true b c ≡ Ok (with_copy w n false, w.next_space)
+    neither true c e = absurd (cc)
+    neither false true e = absurd (cc)
+    neither false false e = refl
+
+    pub copy-done : both ≡ false → copy_space w n false ≡ Ok (with_copy w n false, w.next_space)
+    copy-done e = ap (λ a. answer a (too_many_spaces w) (too_many_mounts w (length (originals w n)))) there ∙ neither (too_many_spaces w) (too_many_mounts w (length (originals w n))) e

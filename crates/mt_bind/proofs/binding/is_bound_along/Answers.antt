@@ -1,0 +1,37 @@
+use Rattle.std.proofs.Common.{◌<◌, ap, ◌∙◌, sym, arith, length, ◌+◌, ◌-◌}
+use Rattle.mt_mounts.proofs.Walks.{fuel_step}
+use Rattle.mt_propagate.specs.World.{world_view}
+use Rattle.mt_bind.proofs.AlongLaws.{taken, taken_here, taken_unbindable, taken_step}
+use Rattle.mt_bind.proofs.binding.is_bound_along.Goals as goal
+
+pub parents-preserved : goal.parents-preserved
+parents-preserved c =
+    let w = world_view c.args.world.now in
+    let n = length w.forest in
+    let more : c.parents._step < n = omega (arith, c.parents-test.true, c.len-step-end.ensures) in
+    record {
+      within = omega arith;
+      answers = sym (taken_step w c.args.from (n - (c.parents._step + 1)) c.parents.passed c.parents.here c.in-Some.parent c.if-here-from.false (sym c.is_unbindable.ensures ∙ c.if-is_unbindable.false) (sym c.parent.ensures ∙ c.in-Some.is))
+          ∙ ap (λ k. taken w c.args.from k c.parents.passed c.parents.here) (sym (fuel_step n c.parents._step more))
+          ∙ c.parents.invariant.answers;
+    }
+
+pub returns-then-here-from : goal.returns-then-here-from
+returns-then-here-from c =
+    let w = world_view c.args.world.now in
+    c.stands_in.ensures
+    ∙ sym (taken_here w c.args.from (length w.forest - c.parents._step) c.parents.passed c.parents.here c.if-here-from.true)
+    ∙ c.parents.invariant.answers
+
+pub returns-then-is_unbindable : goal.returns-then-is_unbindable
+returns-then-is_unbindable c =
+    let w = world_view c.args.world.now in
+    sym (taken_unbindable w c.args.from (length w.forest - c.parents._step) c.parents.passed c.parents.here c.if-here-from.false (sym c.is_unbindable.ensures ∙ c.if-is_unbindable.true))
+    ∙ c.parents.invariant.answers
+
+pub returns-then-here-from-2 : goal.returns-then-here-from-2
+returns-then-here-from-2 c =
+    let w = world_view c.args.world.now in
+    c.stands_in-then-here-from-2.ensures
+    ∙ sym (taken_here w c.args.from (length w.forest - c.parents._step) c.parents.passed c.parents.here c.if-here-from-2.true)
+    ∙ c.parents.invariant.answers

@@ -1,0 +1,12 @@
+use Rattle.std.proofs.Common.{◌≡◌, ◌-◌, ◌≤◌, length}
+use Rattle.mt_propagate.specs.World.{world_view}
+use Rattle.mt_bind.specs.Sources.{is_bound_along}
+use Rattle.mt_bind.proofs.AlongLaws.{taken}
+use Rattle.mt_bind.proofs.binding.is_bound_along.Given as goal
+
+-- the steps that are left answer for the start
+abbrev pub invariant-parents : goal.invariant-parents
+invariant-parents l = record {
+  within : l._step ≤ length l.world.forest.mounts;
+  answers : taken (world_view l.world) l.from (length l.world.forest.mounts - l._step) l.passed l.here ≡ is_bound_along (world_view l.world) l.from l.fn.id;
+}

@@ -1,0 +1,52 @@
+use Rattle.std.proofs.Common.{◌≡◌, ◌||◌, ℕ, false, length, Ok, sym, ap, ◌∙◌, subst}
+use Rattle.mt_mounts.specs.Forest.{root_mount}
+use Rattle.mt_peers.specs.Peers.{peers_of}
+use Rattle.mt_propagate.specs.World.{WorldView, world_view}
+use Rattle.mt_propagate.specs.Limits.{too_many_mounts, too_many_spaces}
+use Rattle.mt_propagate.specs.WellFormed.{IsWellFormed}
+use Rattle.mt_bind.specs.Spaces.{with_copy}
+use Rattle.mt_bind.proofs.CopyLaws.{copy-kept}
+use Rattle.mt_bind.proofs.CopyingLaws.{copies-are, peers-are, copies-new, states-absent, copy-made, space-there, copy-done}
+use Rattle.mt_bind.proofs.copying.copy_space.Goals as goal
+
+pub add_space-requires-clause-new : goal.add_space-requires-clause-new
+add_space-requires-clause-new c =
+    let w = world_view c.args.world.now in
+    let h = c.requires.well_formed in
+    let n = c.args.space in
+    let mounts = copies-are w h n c.deref.result.now (c.deref.ensures.value ∙ c.in_ok-originals.ensures.originals) c.deref-3.result.now (c.deref-3.ensures.value ∙ c.in_ok-mounts.ensures.copies) in
+    let peers = peers-are w h n c.deref-2.result.now (c.deref-2.ensures.value ∙ c.in_ok-originals.ensures.originals) c.deref-4.result.now (ap peers_of c.deref-4.ensures.value ∙ c.in_ok-states.ensures.states) in
+    copies-new w h n (world_view c.make_room.new.world) c.in_ok-make_room.ensures.world c.deref-3.result.now mounts c.deref-4.result.now peers
+
+pub add_space-requires-clause-absent : goal.add_space-requires-clause-absent
+add_space-requires-clause-absent c =
+    let w = world_view c.args.world.now in
+    let h = c.requires.well_formed in
+    let n = c.args.space in
+    let mounts = copies-are w h n c.deref.result.now (c.deref.ensures.value ∙ c.in_ok-originals.ensures.originals) c.deref-3.result.now (c.deref-3.ensures.value ∙ c.in_ok-mounts.ensures.copies) in
+    let peers = peers-are w h n c.deref-2.result.now (c.deref-2.ensures.value ∙ c.in_ok-originals.ensures.originals) c.deref-4.result.now (ap peers_of c.deref-4.ensures.value ∙ c.in_ok-states.ensures.states) in
+    states-absent w h n (world_view c.make_room.new.world) c.in_ok-make_room.ensures.world c.deref-3.result.now mounts c.deref-4.result.now peers
+
+-- the world after the call
+is_copy : (c : goal.After-drop-originals-2) → world_view c.add_space.new.world ≡ with_copy (world_view c.args.world.now) c.args.space false
+is_copy c =
+    let w = world_view c.args.world.now in
+    let h = c.requires.well_formed in
+    let n = c.args.space in
+    let mounts = copies-are w h n c.deref.result.now (c.deref.ensures.value ∙ c.in_ok-originals.ensures.originals) c.deref-3.result.now (c.deref-3.ensures.value ∙ c.in_ok-mounts.ensures.copies) in
+    let peers = peers-are w h n c.deref-2.result.now (c.deref-2.ensures.value ∙ c.in_ok-originals.ensures.originals) c.deref-4.result.now (ap peers_of c.deref-4.ensures.value ∙ c.in_ok-states.ensures.states) in
+    copy-made w h n (world_view c.make_room.new.world) c.in_ok-make_room.ensures.world c.deref-3.result.now mounts c.deref-4.result.now peers (world_view c.add_space.new.world)
+    c.add_space.ensures.forest c.add_space.ensures.peers c.add_space.ensures.same c.add_space.ensures.next
+
+pub returns-clause-done : goal.returns-clause-done
+returns-clause-done c =
+    let w = world_view c.args.world.now in
+    let n = c.args.space in
+    let there = space-there (root_mount w.forest n) c.root.result c.is_none.result c.root.ensures c.is_none.ensures c.if-is_none.false in
+    let more = c.len.ensures ∙ c.in_ok-originals.originals.ok.0 ∙ ap length c.in_ok-originals.ensures.originals in
+    let few = ap (λ (k : ℕ). too_many_spaces w || too_many_mounts w k) (sym more) ∙ sym c.too_many.ensures ∙ c.if-too_many.false in
+    let number = c.add_space.ensures.space ∙ ap (λ (v : WorldView). v.next_space) c.in_ok-make_room.ensures.world in
+    copy-done w n there few ∙ (λ i. Ok (sym (is_copy c) i, sym number i))
+
+pub returns-clause-kept : goal.returns-clause-kept
+returns-clause-kept c = subst IsWellFormed (sym (is_copy c)) (copy-kept (world_view c.args.world.now) c.requires.well_formed c.args.space false)

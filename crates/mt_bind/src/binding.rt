@@ -1,0 +1,337 @@
+//! Binds: copies of one mount, or of the tree of mounts below a directory.
+ghost use Rattle.std.specs.Prelude.{◌≡◌, ◌≢◌, ◌^◌, ◌<◌, cond, true, false, map, IfOk, IfErr, OnErr, IsOkUnless, Ok, Err, [], ◌∷◌};
+ghost use Rattle.std.specs.List.{filter};
+ghost use Rattle.mt_mounts.specs.Forest.{id_of};
+ghost use Rattle.mt_propagate.specs.World.{world_view, state_of};
+ghost use Rattle.mt_propagate.specs.WellFormed.{IsWellFormed};
+ghost use Rattle.mt_propagate.specs.Plans.{source_of};
+ghost use Rattle.mt_bind.specs.Sources.{alone, is_bound_along, tree_within};
+ghost use Rattle.mt_bind.specs.Along.{stands_in};
+ghost use Rattle.mt_bind.specs.Mounting.{bound};
+
+use crate::mounting::is_root_place;
+use mt_mounts::mount::{MountId, Place, SpaceId};
+use mt_propagate::plan::{Sources, carry_out, make_plan, ready};
+use mt_propagate::world::{MOST_MOUNTS, World};
+use mt_skel::fault::Fault;
+use mt_skel::name::Name;
+use mt_skel::skel::Dir;
+
+/// Whether a mount is unbindable.
+pub(crate) fn is_unbindable(world: &World, id: MountId) -> bool
+    ensures { result ≡ (state_of (world_view world.now) id).unbindable }
+{
+    match world.peers.state(id) {
+        Some(state) => state.unbindable,
+        None => false,
+    }
+}
+
+// Whether a mount stands within a directory. True where there is no mount to ask for.
+fn stands_in(world: &World, dir: Dir, mount: Option<MountId>) -> bool
+    ensures { result ≡ stands_in (world_view world.now) dir mount }
+{
+    let Some(id) = mount else {
+        return true;
+    };
+    let Some(mount) = world.forest.get(id) else {
+        return false;
+    };
+    match mount.place {
+        Some(place) => world.skel.holds(dir, place.dir),
+        None => false,
+    }
+}
+
+// Whether a recursive bind of a directory copies a mount: it is the directory's own mount, or it
+// stands on that one at whatever height, within the directory, and neither it nor a mount between
+// the two is unbindable.
+fn is_bound_along(world: &World, from: Place, id: MountId) -> bool
+    ensures { result ≡ is_bound_along (world_view world.now) from id }
+{
+    let mut here = id;
+    let mut passed = None;
+    'parents: for _step in 0..world.forest.len() {
+        if here == from.mount {
+            return stands_in(world, from.dir, passed);
+        }
+        if is_unbindable(world, here) {
+            return false;
+        }
+        let Some(parent) = world.forest.parent(here) else {
+            return false;
+        };
+        passed = Some(here);
+        here = parent;
+    }
+    here == from.mount && stands_in(world, from.dir, passed)
+}
+
+// The mounts that a recursive bind of a directory copies, by rising ID. Refused as `NoMemory` alone.
+fn members_within(world: &World, from: Place) -> Result<Vec<MountId>, Fault>
+    ensures members { IfOk result (λ ids. ids.items ≡ map id_of (filter (λ m. is_bound_along (world_view world.now) from m.id) world.now.forest.mounts)) }
+    ensures memory { IsOkUnless result Fault.NoMemory }
+{
+    let ids = world.forest.ids()?;
+    let mut members = Vec::new(*ids.allocator());
+    for id in &ids {
+        if is_bound_along(world, from, *id) {
+            members.push(*id)?;
+        }
+    }
+    Ok(members)
+}
+
+// A list of one mount, in the memory of the list of all. Refused as `NoMemory` alone.
+fn only(world: &World, id: MountId) -> Result<Vec<MountId>, Fault>
+    ensures only { IfOk result (λ ids. ids.items ≡ id ∷ []) }
+    ensures memory { IsOkUnless result Fault.NoMemory }
+{
+    let mut ids = world.forest.ids()?;
+    ids.clear();
+    ids.push(id)?;
+    Ok(ids)
+}
+
+// What a bind of a place copies: its mount alone, or with `deep` the tree of mounts below it.
+fn sources_at(world: &World, from: Place, deep: bool) -> Result<Sources, Fault>
+    requires well_formed { IsWellFormed (world_view world.now) }
+    ensures sources { IfOk result (λ sources. source_of (world_view world.now) sources ≡ cond deep (tree_within (world_view world.now) from) (alone (world_view world.now) from)) }
+    ensures memory { IsOkUnless result Fault.NoMemory }
+{
+    let members = if deep {
+        members_within(world, from)?
+    } else {
+        only(world, from.mount)?
+    };
+    Ok(Sources::Tree {
+        top: from.mount,
+        root: from.dir,
+        members,
+        moved: false,
+    })
+}
+
+// Binds with what stands below the source path's end where `deep`, or without.
+fn bind_from(
+    world: &mut World,
+    space: SpaceId,
+    deep: bool,
+    from: &[Name],
+    to: &[Name],
+) -> Result<MountId, Fault>
+    requires well_formed { IsWellFormed (world_view world.old) }
+    requires numbers { (world.old.next_mount < 2 ^ 63) × (world.old.peers.next < 2 ^ 63) }
+    ensures done { IfOk result (λ id. bound (world_view world.old) space deep from.now to.now ≡ Ok (world_view world.new, id)) }
+    ensures refused { IfErr result (λ fault. fault ≢ Fault.NoMemory → bound (world_view world.old) space deep from.now to.now ≡ Err fault) }
+    ensures unchanged { OnErr result (world_view world.new ≡ world_view world.old) }
+    ensures kept { IsWellFormed (world_view world.new) }
+{
+    let source = world.forest.walk(&world.skel, space, from)?;
+    let place = world.forest.walk(&world.skel, space, to)?;
+    if is_root_place(world, place) {
+        return Err(Fault::RootPlace);
+    }
+    if is_unbindable(world, source.mount) {
+        return Err(Fault::Unbindable);
+    }
+    // A copy comes at least to the place itself.
+    if world.forest.len() >= MOST_MOUNTS {
+        return Err(Fault::TooMany);
+    }
+    let sources = sources_at(world, source, deep)?;
+    let plan = make_plan(world, &sources, place)?;
+    ready(world, &plan)?;
+    Ok(carry_out(world, plan))
+}
+
+/// Copies the mount where one path ends, as seen from that directory on, without what stands on it,
+/// to where another path ends and to each propagation target of that place, and answers the ID of
+/// the copy at the place itself.
+///
+/// Refused as `NoNamespace`, `NoEntry` where a component of either path is not there, the source
+/// path first, `RootPlace` where the other path is `/`, `Unbindable` where the mount is, `TooMany`
+/// above 4,096 mounts, and as `NoMemory`; then nothing has changed.
+pub fn bind(world: &mut World, space: SpaceId, from: &[Name], to: &[Name]) -> Result<MountId, Fault>
+    requires well_formed { IsWellFormed (world_view world.old) }
+    requires numbers { (world.old.next_mount < 2 ^ 63) × (world.old.peers.next < 2 ^ 63) }
+    ensures done { IfOk result (λ id. bound (world_view world.old) space false from.now to.now ≡ Ok (world_view world.new, id)) }
+    ensures refused { IfErr result (λ fault. fault ≢ Fault.NoMemory → bound (world_view world.old) space false from.now to.now ≡ Err fault) }
+    ensures unchanged { OnErr result (world_view world.new ≡ world_view world.old) }
+    ensures kept { IsWellFormed (world_view world.new) }
+{
+    bind_from(world, space, false, from, to)
+}
+
+/// Copies the mount where one path ends, as seen from that directory on, and all that stand on it
+/// within the directory, at whatever height, as one tree to where another path ends and to each
+/// propagation target of that place, and answers the ID of the topmost copy at the place itself.
+/// An unbindable mount is left out, with all that stand on it.
+///
+/// Refused as [`bind`] is; then nothing has changed.
+pub fn rbind(
+    world: &mut World,
+    space: SpaceId,
+    from: &[Name],
+    to: &[Name],
+) -> Result<MountId, Fault>
+    requires well_formed { IsWellFormed (world_view world.old) }
+    requires numbers { (world.old.next_mount < 2 ^ 63) × (world.old.peers.next < 2 ^ 63) }
+    ensures done { IfOk result (λ id. bound (world_view world.old) space true from.now to.now ≡ Ok (world_view world.new, id)) }
+    ensures refused { IfErr result (λ fault. fault ≢ Fault.NoMemory → bound (world_view world.old) space true from.now to.now ≡ Err fault) }
+    ensures unchanged { OnErr result (world_view world.new ≡ world_view world.old) }
+    ensures kept { IsWellFormed (world_view world.new) }
+{
+    bind_from(world, space, true, from, to)
+}
+
+#[cfg(test)]
+mod tests {
+    use super::*;
+    use crate::fixture::{add_mount, add_row, add_space, bare, path};
+    use mt_mounts::mount::{Attrs, Mount};
+    use mt_peers::state::{GroupId, State};
+    use std::alloc::Global;
+    use std::test::Fail;
+
+    fn at(mount: MountId, dir: Dir) -> Option<Place> {
+        Some(Place { mount, dir })
+    }
+
+    // The ID of a copy, or the fault.
+    fn add_bind(
+        alloc: Global,
+        world: &mut World,
+        space: SpaceId,
+        deep: bool,
+        from: &[u8],
+        to: &[u8],
+    ) -> Result<MountId, Fault>
+        requires { IsWellFormed (world_view world.old) }
+        ensures { IsWellFormed (world_view world.new) }
+    {
+        if world.next_mount > 100 || world.peers.next_group() > 100 {
+            return Err(Fault::TooMany);
+        }
+        let from = path(alloc, from)?;
+        let to = path(alloc, to)?;
+        if deep {
+            rbind(world, space, &from, &to)
+        } else {
+            bind(world, space, &from, &to)
+        }
+    }
+
+    // Whether a mount of namespace 1 stands at this place and shows this directory.
+    fn stands(world: &World, id: MountId, place: Option<Place>, root: Dir) -> bool {
+        let wanted = Mount {
+            id,
+            space: 1,
+            place,
+            root,
+            attrs: Attrs::new(),
+        };
+        world.forest.get(id) == Some(wanted)
+    }
+
+    #[test]
+    fn binds_a_directory(rt: HostRuntime) -> Result<(), Fail> {
+        let alloc = rt.alloc();
+        let mut world = bare(alloc)?;
+        let space = add_space(alloc, &mut world)?;
+        for (from, to, wanted) in [
+            (b"a/b".as_slice(), b"c".as_slice(), Ok(2)),
+            (b"c", b"a/b", Ok(3)),
+            (b"a", b"a", Ok(4)),
+            (b"b", b"", Err(Fault::NoEntry)),
+            (b"a", b"", Err(Fault::RootPlace)),
+            (b"a", b"b", Err(Fault::NoEntry)),
+        ] {
+            let answer = add_bind(alloc, &mut world, space, false, from, to);
+            assert!(rt; answer == wanted);
+        }
+        let answer = add_bind(alloc, &mut world, 9, false, b"a", b"c");
+        assert!(rt; answer == Err(Fault::NoNamespace));
+        for (id, place, root) in [(2, at(1, 3), 2), (3, at(1, 2), 2), (4, at(1, 1), 1)] {
+            assert!(rt; stands(&world, id, place, root));
+        }
+        Ok(())
+    }
+
+    #[test]
+    fn binds_a_tree(rt: HostRuntime) -> Result<(), Fail> {
+        let alloc = rt.alloc();
+        let mut world = bare(alloc)?;
+        let space = add_space(alloc, &mut world)?;
+        for to in [b"a".as_slice(), b"a/a/b", b"a/c"] {
+            add_mount(alloc, &mut world, space, b"ext", to)?;
+        }
+        let answer = add_bind(alloc, &mut world, space, true, b"a", b"c");
+        assert!(rt; answer == Ok(5));
+        let answer = add_bind(alloc, &mut world, space, true, b"a/a", b"c/a");
+        assert!(rt; answer == Ok(8));
+        for (id, place, root) in [
+            (5, at(1, 3), 0),
+            (6, at(5, 2), 0),
+            (7, at(5, 3), 0),
+            (8, at(5, 1), 1),
+            (9, at(8, 2), 0),
+        ] {
+            assert!(rt; stands(&world, id, place, root));
+        }
+        assert_eq!(rt; world.forest.len(), 9);
+        Ok(())
+    }
+
+    fn state(group: Option<GroupId>, unbindable: bool) -> State {
+        State {
+            group,
+            master: None,
+            unbindable,
+        }
+    }
+
+    // The root 10 is unbindable, and so is 40, which has the shared 50 on it.
+    fn pruned(alloc: Global) -> Result<World, Fault> {
+        let mut world = bare(alloc)?;
+        for (id, place, state) in [
+            (10, None, state(None, true)),
+            (20, at(10, 1), state(Some(1), false)),
+            (30, at(20, 2), state(None, false)),
+            (5, at(30, 3), state(None, false)),
+            (35, at(20, 3), state(None, false)),
+            (40, at(30, 1), state(None, true)),
+            (50, at(40, 1), state(Some(2), false)),
+        ] {
+            add_row(&mut world, id, place, state)?;
+        }
+        Ok(world)
+    }
+
+    fn has_members(
+        world: &World,
+        mount: MountId,
+        dir: Dir,
+        ids: &[MountId],
+    ) -> Result<bool, Fault> {
+        let members = members_within(world, Place { mount, dir })?;
+        Ok(members.as_slice() == ids)
+    }
+
+    #[test]
+    fn leaves_unbindable_mounts_out(rt: HostRuntime) -> Result<(), Fail> {
+        let world = pruned(rt.alloc())?;
+        for (mount, dir, ids) in [
+            (20, 0, [5, 20, 30, 35].as_slice()),
+            (20, 1, &[5, 20, 30]),
+            (20, 3, &[20, 35]),
+            (10, 1, &[5, 10, 20, 30, 35]),
+            (40, 0, &[40, 50]),
+            (50, 0, &[50]),
+            (99, 0, &[]),
+        ] {
+            assert!(rt; has_members(&world, mount, dir, ids)?, "at {mount} {dir}");
+        }
+        Ok(())
+    }
+}

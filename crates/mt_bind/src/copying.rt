@@ -1,0 +1,284 @@
+//! Namespaces that are copies of others.
+ghost use Rattle.std.specs.Prelude.{◌≡◌, ◌≢◌, ◌+◌, ◌<◌, ◌≤◌, ◌^◌, ◌||◌, false, map, length, nat_eq, IfOk, IfErr, OnOk, OnErr, IsOkUnless, Ok, Err};
+ghost use Rattle.mt_skel.specs.Keyed.{numbered};
+ghost use Rattle.mt_mounts.specs.Forest.{id_of};
+ghost use Rattle.mt_peers.specs.Peers.{peers_of};
+ghost use Rattle.mt_propagate.specs.World.{world_view, state_of};
+ghost use Rattle.mt_propagate.specs.Limits.{too_many_mounts, too_many_spaces};
+ghost use Rattle.mt_propagate.specs.WellFormed.{IsWellFormed};
+ghost use Rattle.mt_propagate.specs.Carried.{inserted, IsNew, joined, IsAbsent};
+ghost use Rattle.mt_bind.specs.Spaces.{originals, copy_space};
+ghost use Rattle.mt_bind.specs.Copying.{original_at, copy_of, peer_of};
+
+use crate::spaces::PRIVATE;
+use mt_mounts::mount::{Mount, MountId, Place, SpaceId};
+use mt_peers::state::State;
+use mt_propagate::carry::{insert_all, join_all};
+use mt_propagate::world::{MOST_MOUNTS, MOST_SPACES, World};
+use mt_skel::fault::Fault;
+use std::alloc::Global;
+
+// The mount with this ID, if it is in the namespace.
+fn original_at(world: &World, space: SpaceId, id: MountId) -> Option<Mount>
+    ensures { result ≡ original_at (world_view world.now) space id }
+{
+    let mount = world.forest.get(id)?;
+    if mount.space == space {
+        Some(mount)
+    } else {
+        None
+    }
+}
+
+// The mounts of a namespace, by rising ID.
+fn originals(world: &World, space: SpaceId) -> Result<Vec<Mount>, Fault>
+    requires { IsWellFormed (world_view world.now) }
+    ensures originals { IfOk result (λ mounts. mounts.items ≡ originals (world_view world.now) space) }
+    ensures memory { IsOkUnless result Fault.NoMemory }
+{
+    let ids = world.forest.ids()?;
+    let mut originals = Vec::new(*ids.allocator());
+    for id in &ids {
+        if let Some(mount) = original_at(world, space, *id) {
+            originals.push(mount)?;
+        }
+    }
+    Ok(originals)
+}
+
+// The number of the copy of a mount, where the copies of these mounts get the numbers from `next` on.
+fn number_of(next: MountId, originals: &[Mount], id: MountId) -> MountId
+    requires { next + length originals.now < 2 ^ 64 }
+    ensures { result ≡ numbered nat_eq next (map id_of originals.now) id }
+{
+    let mut number = next;
+    for original in originals {
+        if id == original.id {
+            return number;
+        }
+        number += 1;
+    }
+    number
+}
+
+// The copy of a mount, which stands on the copy of its parent.
+fn copy_of(world: &World, originals: &[Mount], mount: &Mount) -> Mount
+    requires { world.now.next_mount + length originals.now < 2 ^ 64 }
+    ensures { result ≡ copy_of (world_view world.now) (map id_of originals.now) mount.now }
+{
+    let place = match mount.place {
+        Some(place) => Some(Place {
+            mount: number_of(world.next_mount, originals, place.mount),
+            dir: place.dir,
+        }),
+        None => None,
+    };
+    Mount {
+        id: number_of(world.next_mount, originals, mount.id),
+        space: world.next_space,
+        place,
+        root: mount.root,
+        attrs: mount.attrs,
+    }
+}
+
+// The copies of the mounts of a namespace.
+fn copies(alloc: Global, world: &World, originals: &[Mount]) -> Result<Vec<Mount>, Fault>
+    requires { world.now.next_mount + length originals.now < 2 ^ 64 }
+    ensures copies { IfOk result (λ copies. copies.items ≡ map (copy_of (world_view world.now) (map id_of originals.now)) originals.now) }
+    ensures memory { IsOkUnless result Fault.NoMemory }
+{
+    let mut copies = Vec::new(alloc);
+    for mount in originals {
+        copies.push(copy_of(world, originals, mount))?;
+    }
+    Ok(copies)
+}
+
+// The state of a mount; one that is not there counts as private.
+fn state_of(world: &World, id: MountId) -> State
+    ensures { result ≡ state_of (world_view world.now) id }
+{
+    world.peers.state(id).unwrap_or(PRIVATE)
+}
+
+// The states of the copies of the mounts of a namespace.
+fn states(alloc: Global, world: &World, originals: &[Mount]) -> Result<Vec<(MountId, State)>, Fault>
+    requires { world.now.next_mount + length originals.now < 2 ^ 64 }
+    ensures states { IfOk result (λ states. peers_of states.items ≡ map (peer_of (world_view world.now) (map id_of originals.now)) originals.now) }
+    ensures memory { IsOkUnless result Fault.NoMemory }
+{
+    let mut states = Vec::new(alloc);
+    for mount in originals {
+        let id = number_of(world.next_mount, originals, mount.id);
+        states.push((id, state_of(world, mount.id)))?;
+    }
+    Ok(states)
+}
+
+// Whether one more namespace with so many mounts is too many.
+fn too_many(world: &World, more: usize) -> bool
+    ensures { result ≡ (too_many_spaces (world_view world.now) || too_many_mounts (world_view world.now) more) }
+{
+    let mounts = world.forest.len();
+    world.forest.spaces() >= MOST_SPACES || mounts > MOST_MOUNTS || more > MOST_MOUNTS - mounts
+}
+
+// Makes room for so many more mounts, and changes nothing.
+fn make_room(world: &mut World, more: usize) -> Result<(), Fault>
+    ensures room { OnOk result ((more ≤ world.new.forest.room) × (more ≤ world.new.peers.room)) }
+    ensures memory { IsOkUnless result Fault.NoMemory }
+    ensures world { world_view world.new ≡ world_view world.old }
+{
+    world.forest.reserve(more)?;
+    world.peers.reserve(more)?;
+    Ok(())
+}
+
+// Adds the mounts of one more namespace with their states, and answers its number.
+fn add_space(world: &mut World, mounts: &[Mount], states: &[(MountId, State)]) -> SpaceId
+    requires room { (length mounts.now ≤ world.old.forest.room) × (length states.now ≤ world.old.peers.room) }
+    requires new { IsNew mounts.now world.old.forest.mounts }
+    requires absent { IsAbsent states.now world.old.peers.peers }
+    requires numbers { (world.old.next_mount + length mounts.now < 2 ^ 64) × (world.old.next_space + 1 < 2 ^ 64) }
+    ensures forest { world.new.forest.mounts ≡ inserted mounts.now world.old.forest.mounts }
+    ensures peers { world.new.peers.peers ≡ joined states.now world.old.peers.peers }
+    ensures same { (world.new.skel ≡ world.old.skel) × (world.new.peers.next ≡ world.old.peers.next) }
+    ensures next { (world.new.next_mount ≡ world.old.next_mount + length mounts.now) × (world.new.next_space ≡ world.old.next_space + 1) }
+    ensures space { result ≡ world.old.next_space }
+{
+    let space = world.next_space;
+    insert_all(&mut world.forest, mounts);
+    join_all(&mut world.peers, states);
+    world.next_mount += mounts.len() as u64;
+    world.next_space += 1;
+    space
+}
+
+/// Adds a namespace whose mounts are copies of those of another one, each at the corresponding place
+/// with the same root and attributes, and answers its number. The copy of a shared mount is its peer,
+/// the copy of a slave has the same master.
+///
+/// Refused as `NoNamespace`, as `TooMany` at 64 namespaces or above 4,096 mounts, and as `NoMemory`;
+/// then nothing has changed.
+pub fn copy_space(world: &mut World, space: SpaceId) -> Result<SpaceId, Fault>
+    requires well_formed { IsWellFormed (world_view world.old) }
+    requires numbers { (world.old.next_mount < 2 ^ 63) × (world.old.next_space < 2 ^ 63) }
+    ensures done { IfOk result (λ copy. copy_space (world_view world.old) space false ≡ Ok (world_view world.new, copy)) }
+    ensures refused { IfErr result (λ fault. fault ≢ Fault.NoMemory → copy_space (world_view world.old) space false ≡ Err fault) }
+    ensures unchanged { OnErr result (world_view world.new ≡ world_view world.old) }
+    ensures kept { IsWellFormed (world_view world.new) }
+{
+    if world.forest.root(space).is_none() {
+        return Err(Fault::NoNamespace);
+    }
+    let originals = originals(world, space)?;
+    if too_many(world, originals.len()) {
+        return Err(Fault::TooMany);
+    }
+    let alloc = *originals.allocator();
+    let mounts = copies(alloc, world, &originals)?;
+    let states = states(alloc, world, &originals)?;
+    make_room(world, originals.len())?;
+    Ok(add_space(world, &mounts, &states))
+}
+
+#[cfg(test)]
+mod tests {
+    use super::*;
+    use crate::fixture::{add_mount, add_space, bare};
+    use mt_peers::state::{GroupId, Kind};
+    use mt_skel::skel::Dir;
+    use std::alloc::Global;
+    use std::test::Fail;
+
+    // The number of a copy of a namespace, or the fault.
+    fn copy(world: &mut World, space: SpaceId) -> Result<SpaceId, Fault>
+        requires { IsWellFormed (world_view world.old) }
+        ensures { IsWellFormed (world_view world.new) }
+    {
+        if world.next_mount > 100 || world.next_space > 100 {
+            return Err(Fault::TooMany);
+        }
+        copy_space(world, space)
+    }
+
+    // Makes a mount shared or a slave.
+    fn make(world: &mut World, id: MountId, kind: Kind) -> Result<(), Fault>
+        requires { IsWellFormed (world_view world.old) }
+        ensures { IsWellFormed (world_view world.new) }
+    {
+        if world.peers.next_group() > 100 {
+            return Err(Fault::TooMany);
+        }
+        world.peers.make(id, kind);
+        Ok(())
+    }
+
+    // Namespace 2 has the root mount 4 in group 2, 5 on it, whose master is group 1, and 6 on that.
+    fn family(alloc: Global) -> Result<World, Fault>
+        ensures { IfOk result (λ world. IsWellFormed (world_view world)) }
+    {
+        let mut world = bare(alloc)?;
+        add_space(alloc, &mut world)?;
+        add_mount(alloc, &mut world, 1, b"ext", b"a")?;
+        add_mount(alloc, &mut world, 1, b"ext", b"a")?;
+        make(&mut world, 2, Kind::Shared)?;
+        copy(&mut world, 1)?;
+        make(&mut world, 5, Kind::Slave)?;
+        make(&mut world, 4, Kind::Shared)?;
+        Ok(world)
+    }
+
+    // Whether a mount shows directory 0, and is at this place and in this state.
+    fn stands(
+        world: &World,
+        id: MountId,
+        space: SpaceId,
+        on: Option<(MountId, Dir)>,
+        group: Option<GroupId>,
+        master: Option<GroupId>,
+    ) -> bool {
+        let state = State {
+            group,
+            master,
+            unbindable: false,
+        };
+        let Some(mount) = world.forest.get(id) else {
+            return false;
+        };
+        let place = on.map(|on| Place {
+            mount: on.0,
+            dir: on.1,
+        });
+        mount.space == space
+            && mount.place == place
+            && mount.root == 0
+            && world.peers.state(id) == Some(state)
+    }
+
+    #[test]
+    fn copies_mounts_and_states(rt: HostRuntime) -> Result<(), Fail> {
+        let mut world = family(rt.alloc())?;
+        for (space, wanted) in [(2, Ok(3)), (9, Err(Fault::NoNamespace)), (2, Ok(4))] {
+            let answer = copy(&mut world, space);
+            assert!(rt; answer == wanted);
+        }
+        for (id, space, on, group, master) in [
+            (5, 2, Some((4, 1)), None, Some(1)),
+            (7, 3, None, Some(2), None),
+            (8, 3, Some((7, 1)), None, Some(1)),
+            (9, 3, Some((8, 0)), None, None),
+            (10, 4, None, Some(2), None),
+            (11, 4, Some((10, 1)), None, Some(1)),
+            (12, 4, Some((11, 0)), None, None),
+        ] {
+            assert!(rt; stands(&world, id, space, on, group, master), "{id}");
+        }
+        assert_eq!(rt;
+            (world.forest.len(), world.next_mount, world.next_space),
+            (12, 13, 5)
+        );
+        Ok(())
+    }
+}
