@@ -17,10 +17,10 @@ module _ {X : Type 0} (next : X → Option X) where
   last-some a [] p q = refl
   last-some a (x ∷ xs) p q = last-some x xs p q
 
-  last-stop : (n : ℕ) (x : X) → next x ≡ None → last_within n x ≡ x
+  pub last-stop : (n : ℕ) (x : X) → next x ≡ None → last_within n x ≡ x
   last-stop n x e = ap (λ xs. unwrap_or (last_or None xs) x) (chain-last next n x e)
 
-  last-step : (n : ℕ) (x y : X) → next x ≡ Some y → last_within (suc n) x ≡ last_within n y
+  pub last-step : (n : ℕ) (x y : X) → next x ≡ Some y → last_within (suc n) x ≡ last_within n y
   last-step n x y e = ap (λ o. unwrap_or (last_or (Some x) (option_map_or (λ y. chain next n y) o [])) x) e ∙ go n
     where
       go : (n : ℕ) → unwrap_or (last_or (Some x) (chain next n y)) x ≡ last_within n y

@@ -3,3 +3,7 @@ pub mod EndLaws
 pub mod SlideLaws
 pub mod UnmountTreeLaws
 pub mod UnmountLaws
+mod StayingLaws
+mod PlacedLaws
+mod PartedLaws
+mod UnmountedLaws

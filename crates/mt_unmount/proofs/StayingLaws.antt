@@ -1,0 +1,59 @@
+-- The mounts that stay, and all mounts, as lists.
+use Rattle.std.proofs.Common.{◌≡◌, ℕ, zero, suc, ◌+◌, ◌<◌, ◌≤◌, length, drop, get_or, arith, Bool, true, false, cond, not, ◌||◌, eqb, eqb-true, eq-eqb, List, [], ◌∷◌, ◌++◌, map, Option, Some, refl, sym, ap, ◌∙◌}
+use Rattle.std.specs.List.{cons_option, filter, filter_map, AllByRecursion}
+use Rattle.std.proofs.lemmas.List.{append-nil}
+use Rattle.mt_skel.specs.Keyed.{rises}
+use Rattle.mt_mounts.specs.declared.mount.Mount.{Mount}
+use Rattle.mt_mounts.specs.Forest.{id_of, mount_at}
+use Rattle.mt_mounts.specs.Table.{without_id}
+use Rattle.mt_peers.specs.Entries.{among}
+use Rattle.mt_propagate.proofs.RowLaws.{found-each}
+use Rattle.mt_unmount.specs.Parting.{staying}
+
+filter-all : {X : Type 0} (xs : List X) → filter (λ (x : X). true) xs ≡ xs
+filter-all [] = refl
+filter-all (x ∷ xs) = ap (λ l. x ∷ l) (filter-all xs)
+
+-- without one of them, and then without the others
+staying-one : (i : ℕ) (ids : List ℕ) (ms : List Mount) → staying ids (without_id i ms) ≡ staying (i ∷ ids) ms
+staying-one i ids [] = refl
+staying-one i ids (m ∷ ms) = go (eqb m.id i) (eqb i m.id) refl refl (staying-one i ids ms)
+  where
+    go : (a b : Bool) → eqb m.id i ≡ a → eqb i m.id ≡ b → staying ids (without_id i ms) ≡ staying (i ∷ ids) ms
+        → staying ids (cond (not a) (m ∷ without_id i ms) (without_id i ms)) ≡ cond (not (b || among ids m.id)) (m ∷ staying (i ∷ ids) ms) (staying (i ∷ ids) ms)
+    go true true ea eb ih = ih
+    go true false ea eb ih = absurd (let v : true ≡ false = sym (eq-eqb i m.id (sym (eqb-true m.id i ea))) ∙ eb in cc)
+    go false true ea eb ih = absurd (let v : true ≡ false = sym (eq-eqb m.id i (sym (eqb-true i m.id eb))) ∙ ea in cc)
+    go false false ea eb ih = ap (λ l. cond (not (among ids m.id)) (m ∷ l) l) ih
+
+drop-here : (ids : List ℕ) (k d : ℕ) → k < length ids → drop k ids ≡ get_or ids k d ∷ drop (suc k) ids
+drop-here [] k d l = absurd (omega (arith, l))
+drop-here (x ∷ ids) zero d l = refl
+drop-here (x ∷ ids) (suc k) d l = drop-here ids k d (omega (arith, l))
+
+drop-over : (ids : List ℕ) (k : ℕ) → length ids ≤ k → drop k ids ≡ []
+drop-over [] zero l = refl
+drop-over [] (suc k) l = refl
+drop-over (x ∷ ids) zero l = absurd (omega (arith, l))
+drop-over (x ∷ ids) (suc k) l = drop-over ids k (omega (arith, l))
+
+-- one after the other
+pub staying-step : (ids : List ℕ) (k d : ℕ) (ms ns all : List Mount) → k < length ids → staying (drop k ids) ms ≡ all → ns ≡ without_id (get_or ids k d) ms → staying (drop (k + 1) ids) ns ≡ all
+staying-step ids k d ms ns all l e is =
+    ap (λ n. staying (drop n ids) ns) (let more : k + 1 ≡ suc k = omega arith in more)
+    ∙ ap (staying (drop (suc k) ids)) is ∙ staying-one (get_or ids k d) (drop (suc k) ids) ms ∙ ap (λ js. staying js ms) (sym (drop-here ids k d l)) ∙ e
+
+pub staying-end : (ids : List ℕ) (k : ℕ) (ms all : List Mount) → length ids ≤ k → staying (drop k ids) ms ≡ all → ms ≡ all
+staying-end ids k ms all l e = sym (ap (λ js. staying js ms) (drop-over ids k l) ∙ filter-all ms) ∙ e
+
+-- the mounts that all IDs find are all mounts
+found-list : (f : ℕ → Option Mount) (xs : List Mount) → AllByRecursion (λ (x : Mount). f x.id ≡ Some x) xs → filter_map f (map id_of xs) ≡ xs
+found-list f [] h = refl
+found-list f (x ∷ xs) h = ap (λ o. cons_option o (filter_map f (map id_of xs))) h.0 ∙ ap (λ l. x ∷ l) (found-list f xs h.1)
+
+all-found : (ms : List Mount) → rises id_of ms ≡ true → filter_map (mount_at ms) (map id_of ms) ≡ ms
+all-found ms h = found-list (mount_at ms) ms (found-each id_of ms h)
+
+pub listed-end : (ms : List Mount) (ids : List ℕ) (k : ℕ) (out : List Mount) → rises id_of ms ≡ true → length ids ≤ k → out ++ filter_map (mount_at ms) (drop k ids) ≡ filter_map (mount_at ms) ids → ids ≡ map id_of ms → out ≡ ms
+listed-end ms ids k out h l e is =
+    sym (append-nil out) ∙ ap (λ js. out ++ filter_map (mount_at ms) js) (sym (drop-over ids k l)) ∙ e ∙ ap (filter_map (mount_at ms)) is ∙ all-found ms h

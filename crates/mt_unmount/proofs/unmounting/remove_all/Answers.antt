@@ -1,0 +1,9 @@
+use Rattle.mt_unmount.proofs.StayingLaws.{staying-step, staying-end}
+use Rattle.mt_unmount.proofs.unmounting.remove_all.Goals as goal
+
+pub loop-id-preserved : goal.loop-id-preserved
+loop-id-preserved c =
+    staying-step c.args.ids.now c.loop-id.id-index 0 c.loop-id.forest.mounts c.remove.new.self.mounts _ c.loop-id-test.true c.loop-id.invariant c.remove.ensures.mounts
+
+pub returns : goal.returns
+returns c = staying-end c.args.ids.now c.loop-id.id-index c.loop-id.forest.mounts _ c.loop-id-test.false c.loop-id.invariant

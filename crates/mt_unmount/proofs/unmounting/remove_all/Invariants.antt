@@ -1,0 +1,7 @@
+use Rattle.std.proofs.Common.{◌≡◌, drop}
+use Rattle.mt_unmount.specs.Parting.{staying}
+use Rattle.mt_unmount.proofs.unmounting.remove_all.Given as goal
+
+-- what is left to be taken away
+abbrev pub invariant-loop-id : goal.invariant-loop-id
+invariant-loop-id l = staying (drop l.id-index l.ids) l.forest.mounts ≡ staying l.ids l.initial.forest.mounts

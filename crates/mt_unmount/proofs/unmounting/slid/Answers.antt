@@ -1,0 +1,20 @@
+use Rattle.std.proofs.Common.{◌<◌, ap, ◌∙◌, sym, arith, length, ◌+◌, ◌-◌}
+use Rattle.mt_mounts.proofs.Walks.{fuel_step}
+use Rattle.mt_propagate.specs.World.{world_view}
+use Rattle.mt_unmount.specs.Parting.{slide_past}
+use Rattle.mt_unmount.proofs.EndLaws.{last_within, last-step}
+use Rattle.mt_unmount.proofs.unmounting.slid.Goals as goal
+
+pub sliding-preserved : goal.sliding-preserved
+sliding-preserved c =
+    let w = world_view c.args.world.now in
+    let ids = c.args.ids.now in
+    let n = length w.forest in
+    let more : c.sliding._step < n = omega (arith, c.sliding-test.true, c.len-step-end.ensures) in
+    let next = sym c.slide.ensures ∙ c.in-Some.is in
+    record {
+      within = omega arith;
+      leads = sym (last-step (slide_past w ids) (n - (c.sliding._step + 1)) c.sliding.here c.in-Some.next next)
+          ∙ ap (λ k. last_within (slide_past w ids) k c.sliding.here) (sym (fuel_step n c.sliding._step more))
+          ∙ c.sliding.invariant.leads;
+    }
