@@ -113,6 +113,45 @@ WORKLOADS = [
 ]
 
 
+def peers(count, source="/w"):
+    """A mount and so many peers of it, in one namespace, that show what a path leads to."""
+    lines = ["mkfs h tmpfs none", "mkfs a ext4 /dev/x", "mkfs d xfs /dev/y", "mkdir a /m", "mkdir a /x", "newns h", "mkdir h /w"]
+    lines += ["mount 1 a /w", "setattr 1 /w prop=shared"]
+    # Peers on a private mount, and copies of it and them.
+    wide = min(count, 50)
+    lines += ["mkfs t tmpfs none", "mkdir h /t", "mount 1 t /t"]
+    for n in range(wide):
+        lines += [f"mkdir t /p{n}", f"bind 1 {source} /t/p{n}"]
+    for n in range(count // wide - 1):
+        lines += [f"mkdir h /c{n}", f"rbind 1 /t /c{n}"]
+    return lines
+
+
+def crowd(count):
+    """So many private mounts in one namespace, and a mount at which others come."""
+    lines = ["mkfs h tmpfs none", "mkfs a ext4 /dev/x", "mkfs d xfs /dev/y", "mkdir a /m", "newns h", "mkdir h /w", "mount 1 a /w"]
+    lines += ["mkfs t tmpfs none", "mkdir h /t", "mount 1 t /t"]
+    wide = min(count, 50)
+    for n in range(wide):
+        lines += [f"mkdir t /p{n}", f"mount 1 d /t/p{n}"]
+    for n in range(count // wide - 1):
+        lines += [f"mkdir h /c{n}", f"rbind 1 /t /c{n}"]
+    return lines
+
+
+# A world, and the pairs of `mount` and `umount` that are timed in it.
+PAIRS = [
+    ("10 copies", peers(10), 100),
+    ("100 copies", peers(100), 50),
+    ("1,000 copies", peers(1_000), 5),
+    ("2,000 copies", peers(1_950), 3),
+    ("3,900 receivers without the directory", peers(3_900, "/w/x"), 5),
+    ("among 40 mounts", crowd(40), 100),
+    ("among 400 mounts", crowd(400), 50),
+    ("among 4,000 mounts", crowd(3_950), 5),
+]
+
+
 def most_memory(process, seen):
     """Keeps the most memory of a running process, in MB, in the first place of a list."""
     while process.poll() is None:
@@ -145,12 +184,25 @@ def run(program, lines):
         return seconds, answers.tell(), seen[0]
 
 
+def time_pairs(program):
+    """Prints how long one mount and one umount take together, in worlds of many mounts."""
+    print(f"{'mount and umount':40} {'pairs':>6} {'ms each':>8} {'set up s':>9}")
+    for name, lines, count in PAIRS:
+        before, _, _ = run(program, lines)
+        seconds, _, _ = run(program, lines + ["mount 1 d /w/m", "umount 1 /w/m"] * count)
+        print(f"{name:40} {count:6} {(seconds - before) * 1_000 / count:8.2f} {before:9.2f}")
+
+
 def main():
     parser = argparse.ArgumentParser(description=__doc__.splitlines()[0])
     parser.add_argument("--program", default=os.path.join(HERE, "crates/mt_server/out/mt_server"))
     parser.add_argument("--seed", type=int, default=1)
     parser.add_argument("--only", default="")
+    parser.add_argument("--pairs", action="store_true", help="time mount and umount in worlds of many mounts instead")
     words = parser.parse_args()
+    if words.pairs:
+        time_pairs(words.program)
+        return
     print(f"{'session':18} {'lines':>8} {'seconds':>8} {'lines/s':>10} {'answers MB':>10} {'memory MB':>10}")
     for workload in WORKLOADS:
         if words.only not in workload.__name__:

@@ -4,9 +4,10 @@
 Usage: checks/program.py PROGRAM
 
 - The sessions of cases/ are answered byte for byte.
-- With the Nth allocation refused, for N from 1 until a run meets none, the example of two
-  filesystems gives `no NoMemory` to one request, and every other answer is that of the session
-  without this request; or the session ends for want of memory before any line.
+- The table of a copied namespace is that of the one it was copied from, up to IDs.
+- With the Nth allocation refused, for N from 1 until a run meets none, each of some sessions, which
+  together have every command, gives `no NoMemory` to one request, and every other answer is that of
+  the session without this request; or the session ends for want of memory before any line.
 - No input and no closed stream ends the program by a signal, and its statuses are those that the
   README names.
 """
@@ -77,8 +78,29 @@ def is_allowed(program, requests, status, answers, complaint):
     return groups == wanted
 
 
+def twins(program):
+    """Compares the tables of namespaces with those of their copies."""
+    for name in ("copied-namespace", "five-masters", "occupied-place", "slave-namespace"):
+        lines = [line for line in read(os.path.join(TOP, "cases", name)).splitlines() if not line.startswith(b"show")]
+        _, answers, _ = run(program, b"".join(line + b"\n" for line in lines + [b"copyns 1"]))
+        spaces = int(answers.split()[-1]) - 1
+        for space in range(1, spaces + 1):
+            asked = lines + [b"copyns %d" % space, b"show %d" % space, b"show %d" % (spaces + 1)]
+            _, answers, _ = run(program, b"".join(line + b"\n" for line in asked))
+            old, new = ([row.split(b" ", 2) for row in group.splitlines()[1:]] for group in answer_groups(answers, asked)[-2:])
+            ids = {row[0]: twin[0] for row, twin in zip(old, new)}
+            mapped = [[ids[row[0]], ids[row[1]], row[2]] for row in old]
+            check(f"copy of namespace {space} of {name}", old != [] and mapped == new)
+
+
 def refused_memory(program):
-    requests = read(os.path.join(TOP, "cases", "two-filesystems")).splitlines()
+    for name in ("two-filesystems", "copies", "move-with-its-receiver", "rbind-around-unbindable", "slide-over-two"):
+        refuse_each(program, name)
+
+
+def refuse_each(program, name):
+    """Refuses each allocation of a session in turn."""
+    requests = read(os.path.join(TOP, "cases", name)).splitlines()
     text = b"".join(request + b"\n" for request in requests)
     plain = run(program, text)
     with tempfile.TemporaryDirectory() as folder:
@@ -86,13 +108,13 @@ def refused_memory(program):
         source = os.path.join(TOP, "checks", "refuse_nth.c")
         subprocess.run(["cc", "-shared", "-fPIC", "-O1", "-o", library, source, "-ldl"], check=True)
         unrefused = 0
-        for nth in range(1, 2_000):
+        for nth in range(1, 20_000):
             environment = {"LD_PRELOAD": library, "REFUSE_NTH": str(nth)}
             told = run(program, text, environment=environment)
-            check(f"allocation {nth} refused", is_allowed(program, requests, *told))
+            check(f"allocation {nth} of {name} refused", is_allowed(program, requests, *told))
             unrefused = unrefused + 1 if told == plain else 0
             if unrefused == 20:
-                print(f"allocations refused in turn: {nth - 20}")
+                print(f"{name}: allocations refused in turn: {nth - 20}")
                 return
         check("a run that meets no refusal", False)
 
@@ -144,7 +166,7 @@ def main():
     if len(sys.argv) != 2:
         raise SystemExit(__doc__)
     program = os.path.abspath(sys.argv[1])
-    for part in (cases, odd_input, closed_streams, arguments, refused_memory):
+    for part in (cases, twins, odd_input, closed_streams, arguments, refused_memory):
         part(program)
     if failures:
         raise SystemExit(f"checks of the program failed: {len(failures)}")

@@ -2,7 +2,6 @@ pub mod BookLaws
 pub mod StepLaws
 pub mod FaultLaws
 pub mod LineLemmas
-pub mod MountingLaws
 pub mod OptionLaws
 pub mod PathLaws
 pub mod StreamLemmas

@@ -1,92 +1,137 @@
 -- What an accepted command made.
-use Rattle.std.proofs.Common.{◌≡◌, ℕ, ◌-◌, ◌<◌, Bool, true, false, not, List, [], ◌∷◌, length, take, nat_lt, nat_le, Option, Some, None, Result, Ok, Err, refl, sym, ap, ◌∙◌, arith}
-use Rattle.std.specs.Option.{is_none, is_some, unwrap_or, option_map_or}
-use Rattle.std.proofs.lemmas.Bool.Decides.{nat_tests}
+use Rattle.std.proofs.Common.{◌≡◌, ℕ, ◌-◌, ◌+◌, ◌≤◌, Bool, true, false, cond, ◌&&◌, not, List, [], ◌∷◌, length, take, nat_lt, nat_le, Option, Some, None, Result, Ok, Err, sym, ap, subst, ◌∙◌, arith}
+use Rattle.std.specs.List.{filter, list_any}
+use Rattle.std.specs.Option.{is_none, is_some, unwrap_or, option_map, option_map_or}
+use Rattle.std.proofs.lemmas.List.{length-map}
 use Rattle.mt_skel.specs.declared.fault.Fault.{Fault}
-use Rattle.mt_skel.specs.declared.fault.Fault.TheVariants.{TooMany, NoFilesystem, RootPlace, SharedParent, NotMountRoot, BadAttr, FilesystemExists, NoEntry, EntryExists}
-use Rattle.mt_skel.specs.Outcome.{refuse_if, fault_of, first_fault, outcome}
+use Rattle.mt_skel.specs.declared.fault.Fault.TheVariants.{TooMany, NoFilesystem, NotMountRoot, RootPlace, Busy, BadAttr, FilesystemExists, NoEntry, EntryExists}
+use Rattle.mt_skel.specs.Outcome.{refuse_if, fault_of}
 use Rattle.mt_skel.specs.Skeleton.{Skeleton, Directory, Filesystem, added_fs, added_dir, with_fs, with_dir, fs_named, number_of, filesystem_limit, directory_limit, depth_limit}
-use Rattle.mt_mounts.specs.declared.mount.Place.{Place}
+use Rattle.mt_mounts.specs.declared.mount.Mount as M
+use Rattle.mt_mounts.specs.Forest.{id_of}
 use Rattle.mt_mounts.specs.Walk.{walk}
-use Rattle.mt_propagate.specs.World.{WorldView, group_of}
-use Rattle.mt_propagate.specs.Named.{place_or_nowhere, is_root_place, is_named_mount}
-use Rattle.mt_propagate.specs.Limits.{too_many_spaces, too_many_mounts}
-use Rattle.mt_bind.specs.Spaces.{new_space, with_space}
+use Rattle.mt_peers.specs.declared.state.Kind.{Kind}
+use Rattle.mt_peers.specs.Peers.{Peer, Peering, mount_of}
+use Rattle.mt_peers.specs.Making.{made, groupless, is_shared}
+use Rattle.mt_propagate.specs.World.{WorldView}
+use Rattle.mt_propagate.specs.Named.{place_or_nowhere, is_named_mount, is_root_mount}
+use Rattle.mt_propagate.specs.WellFormed.{IsWellFormed}
+use Rattle.mt_bind.proofs.MountLaws.{outcome_ok}
+use Rattle.mt_bind.proofs.SizeLaws.{IsSized, few_pass, space_sized, copy_sized, mount_sized, bind_sized, move_sized}
+use Rattle.mt_peers.specs.Loss.{left}
+use Rattle.mt_unmount.specs.Unmounting.{unmounted, without_mount, stands_on, is_removed, slid}
 use Rattle.mt_setattr.specs.declared.change.Change.{Change}
-use Rattle.mt_setattr.specs.Change.{attributed, clashes, with_change}
-use Rattle.mt_session.specs.Mounting.{mounted, with_mount}
-
--- an outcome that is a success: no refusal held, and this is the effect
-pub outcome-ok : {A : Type 0} (fs : List (Option Fault)) (a b : A) → outcome fs a ≡ Ok b → (b ≡ a) × (first_fault fs ≡ None)
-outcome-ok {A} fs a b e = by (first_fault fs) e
-  where
-    by : (o : Option Fault) → option_map_or (λ f. Err f) o (Ok a) ≡ Ok b → (b ≡ a) × (o ≡ None)
-    by None e = let same : a ≡ b = cc in (sym same, refl)
-    by (Some f) e = absurd (cc)
-
-pub first-none : (o : Option Fault) (fs : List (Option Fault)) → first_fault (o ∷ fs) ≡ None → (o ≡ None) × (first_fault fs ≡ None)
-first-none None fs e = (refl, e)
-first-none (Some f) fs e = absurd (cc)
-
-pub passed_if : (b : Bool) (f : Fault) → refuse_if b f ≡ None → b ≡ false
-passed_if false f e = refl
-passed_if true f e = absurd (cc)
+use Rattle.mt_setattr.specs.Change.{attributed, clashes, with_change, changed_mount, is_chosen}
+use Rattle.mt_session.specs.declared.early.command.Command.{Command}
+use Rattle.mt_session.specs.declared.early.command.Command.TheVariants.{MakeFs, MakeDir, NewSpace, CopySpace, Mount, Bind, Move, Unmount, SetAttr}
+use Rattle.mt_session.specs.declared.early.command.Reply.{Reply}
+use Rattle.mt_session.specs.declared.early.command.Reply.TheVariants.{Done, Number}
+use Rattle.mt_session.specs.Book.{with_skel, numbering, saying_done, step, keeps_tables, makes_space}
 
 pub fs_made : (s t : Skeleton) (f : Filesystem) → added_fs s f ≡ Ok t → t ≡ with_fs s f
 fs_made s t f e =
-    (outcome-ok (refuse_if (is_some (fs_named s f.name)) FilesystemExists ∷ refuse_if (nat_le filesystem_limit (length s.filesystems)) TooMany ∷ refuse_if (nat_le directory_limit (length s.directories)) TooMany ∷ []) (with_fs s f) t e).0
+    sym (outcome_ok (refuse_if (is_some (fs_named s f.name)) FilesystemExists ∷ refuse_if (nat_le filesystem_limit (length s.filesystems)) TooMany ∷ refuse_if (nat_le directory_limit (length s.directories)) TooMany ∷ []) (with_fs s f) t e).0
 
 pub dir_made : (s t : Skeleton) (name : List ℕ) (path : List (List ℕ)) → added_dir s name path ≡ Ok t → (d : Directory) × (t ≡ with_dir s d)
 dir_made s t name path e =
     let f = unwrap_or (fs_named s name) 0 in
     let d : Directory = record { fs = f; path = path } in (
       d,
-      (outcome-ok (refuse_if (is_none (fs_named s name)) NoFilesystem
+      sym (outcome_ok (refuse_if (is_none (fs_named s name)) NoFilesystem
           ∷ refuse_if (is_none (number_of s (record { fs = f; path = take (length path - 1) path }))) NoEntry
           ∷ refuse_if (is_some (number_of s d)) EntryExists
           ∷ refuse_if (nat_lt depth_limit (length path)) TooMany
           ∷ refuse_if (nat_le directory_limit (length s.directories)) TooMany ∷ []) (with_dir s d) t e).0,
     )
 
-fault_none : {A : Type 0} (r : Result A Fault) → fault_of r ≡ None → (a : A) × (r ≡ Ok a)
-fault_none (Ok a) e = (a, refl)
-fault_none (Err f) e = absurd (cc)
+ok_same : {A : Type 0} (x y : A) → ◌≡◌ {A = Result A Fault} (Ok x) (Ok y) → x ≡ y
+ok_same x y e = let same : x ≡ y = cc in same
 
--- a new namespace
-pub space_made : (w v : WorldView) (name : List ℕ) (n : ℕ) → new_space w name ≡ Ok (v, n) → (v ≡ with_space w (unwrap_or (fs_named w.skel name) 0)) × (length w.forest < 4096)
-space_made w v name n e =
-    let none = refuse_if (is_none (fs_named w.skel name)) NoFilesystem in
-    let spaces = refuse_if (too_many_spaces w) TooMany in
-    let mounts = refuse_if (too_many_mounts w 1) TooMany in
-    let ok = outcome-ok (none ∷ spaces ∷ mounts ∷ []) (with_space w (unwrap_or (fs_named w.skel name) 0), w.next_space) (v, n) e in
-    let one = first-none none (spaces ∷ mounts ∷ []) ok.1 in
-    let two = first-none spaces (mounts ∷ []) one.1 in
-    let three = first-none mounts [] two.1 in
-    let few = passed_if (too_many_mounts w 1) TooMany three.0 in
-    (ap (λ p. p.0) ok.0, grind (arith, nat_tests))
+-- a call that answers a reply is a call that was accepted
+skel_done : (w : WorldView) (reply : Skeleton → Reply) (q : Result Skeleton Fault) (v : WorldView) (r : Reply) → with_skel w reply q ≡ Ok (v, r) → (t : Skeleton) × (v ≡ record w { skel = t })
+skel_done w reply (Ok t) v r e = (t, ap (λ x. x.0) (sym (ok_same (record w { skel = t }, reply t) (v, r) e)))
+skel_done w reply (Err f) v r e = absurd (cc)
 
--- a new mount: the walk ended at a place
-pub mount_made : (w v : WorldView) (n : ℕ) (name : List ℕ) (path : List (List ℕ)) (i : ℕ) → mounted w n name path ≡ Ok (v, i)
-    → (p : Place) × (walk w.skel w.forest n path ≡ Ok p) × (v ≡ with_mount w n p (unwrap_or (fs_named w.skel name) 0)) × (length w.forest < 4096)
-mount_made w v n name path i e =
+number_done : (q : Result (WorldView × ℕ) Fault) (v : WorldView) (r : Reply) → numbering q ≡ Ok (v, r) → (i : ℕ) × (q ≡ Ok (v, i))
+number_done (Ok p) v r e = (p.1, ap (λ (x : WorldView). Ok (x, p.1)) (ap (λ x. x.0) (ok_same (p.0, Number p.1) (v, r) e)))
+number_done (Err f) v r e = absurd (cc)
+
+world_done : (q : Result WorldView Fault) (v : WorldView) (r : Reply) → saying_done q ≡ Ok (v, r) → q ≡ Ok v
+world_done (Ok u) v r e = ap (λ (x : WorldView). Ok x) (ap (λ x. x.0) (ok_same (u, Done) (v, r) e))
+world_done (Err f) v r e = absurd (cc)
+
+-- directories alone are made
+pub grown : (w v : WorldView) (c : Command) (r : Reply) → keeps_tables c ≡ true → step w c ≡ Ok (v, r) → (t : Skeleton) × (v ≡ record w { skel = t })
+grown w v (MakeFs name kind source) r k e = skel_done w _ (added_fs w.skel (record { name = name; kind = kind; source = source })) v r e
+grown w v (MakeDir fs path) r k e = skel_done w _ (added_dir w.skel fs path) v r e
+grown w v (NewSpace fs) r k e = absurd (cc)
+grown w v (CopySpace n) r k e = absurd (cc)
+grown w v (Mount n fs path) r k e = absurd (cc)
+grown w v (Bind n src dst deep) r k e = absurd (cc)
+grown w v (Move n src dst) r k e = absurd (cc)
+grown w v (Unmount n path) r k e = absurd (cc)
+grown w v (SetAttr n path change) r k e = absurd (cc)
+
+-- a change gives at most as many groups as there are mounts
+few_groups : (k : Kind) (chosen : ℕ → Bool) (p : Peering) → (made k chosen p).next ≤ p.next + length p.peers
+unfolding made
+few_groups k chosen p =
+    let few = few_pass (λ (e : Peer). chosen e.mount && is_none e.state.group) p.peers in
+    let same = length-map (filter (λ (e : Peer). chosen e.mount && is_none e.state.group) p.peers) mount_of in
+    elim (is_shared k) as (λ b. cond b (p.next + length (groupless chosen p.peers)) p.next ≤ p.next + length p.peers) [
+      | true ↦ omega (arith, few, same)
+      | false ↦ omega arith
+    ]
+
+changed_groups : (k : Option Kind) (chosen : ℕ → Bool) (p : Peering) → (option_map_or (λ k. made k chosen p) k p).next ≤ p.next + length p.peers
+changed_groups None chosen p = omega arith
+changed_groups (Some k) chosen p = few_groups k chosen p
+
+-- a change of mounts
+changed_sized : (w : WorldView) (c : Change) (i : ℕ) → IsWellFormed w → length w.forest ≤ 4096 → IsSized w (with_change w c i) 0
+unfolding with_change
+changed_sized w c i h few =
+    let groups = changed_groups c.prop (is_chosen w c i) w.peering in
+    let as_many : length w.peering.peers ≡ length w.forest = sym (length-map w.peering.peers mount_of) ∙ ap length (sym h.same_mounts) ∙ length-map w.forest id_of in
+    record {
+      spaces = omega arith;
+      mounts = omega arith;
+      groups = omega (arith, groups, as_many, few);
+      within = omega (arith, few, length-map w.forest (changed_mount c (is_chosen w c i)));
+    }
+
+attr_sized : (w v : WorldView) (n : ℕ) (path : List (List ℕ)) (c : Change) → IsWellFormed w → length w.forest ≤ 4096 → attributed w n path c ≡ Ok v → IsSized w v 0
+attr_sized w v n path c h few e =
     let p = place_or_nowhere (walk w.skel w.forest n path) in
-    let none = refuse_if (is_none (fs_named w.skel name)) NoFilesystem in
-    let lost = fault_of (walk w.skel w.forest n path) in
-    let root = refuse_if (is_root_place w p) RootPlace in
-    let shared = refuse_if (is_some (group_of w p.mount)) SharedParent in
-    let mounts = refuse_if (too_many_mounts w 1) TooMany in
-    let ok = outcome-ok (none ∷ lost ∷ root ∷ shared ∷ mounts ∷ []) (with_mount w n p (unwrap_or (fs_named w.skel name) 0), w.next_mount) (v, i) e in
-    let one = first-none none (lost ∷ root ∷ shared ∷ mounts ∷ []) ok.1 in
-    let two = first-none lost (root ∷ shared ∷ mounts ∷ []) one.1 in
-    let three = first-none root (shared ∷ mounts ∷ []) two.1 in
-    let four = first-none shared (mounts ∷ []) three.1 in
-    let five = first-none mounts [] four.1 in
-    let few = passed_if (too_many_mounts w 1) TooMany five.0 in
-    let end = fault_none (walk w.skel w.forest n path) two.0 in
-    (end.0, end.1, ap (λ q. q.0) ok.0 ∙ ap (λ r. with_mount w n (place_or_nowhere r) (unwrap_or (fs_named w.skel name) 0)) end.1, grind (arith, nat_tests))
+    let same = (outcome_ok (fault_of (walk w.skel w.forest n path) ∷ refuse_if (not (is_named_mount w p)) NotMountRoot ∷ refuse_if (clashes c) BadAttr ∷ []) (with_change w c p.mount) v e).0 in
+    subst (λ (x : WorldView). IsSized w x 0) same (changed_sized w c p.mount h few)
 
--- a change of mounts: it is of the mount where the walk ended
-pub set_made : (w v : WorldView) (n : ℕ) (path : List (List ℕ)) (c : Change) → attributed w n path c ≡ Ok v → v ≡ with_change w c (place_or_nowhere (walk w.skel w.forest n path)).mount
-set_made w v n path c e =
+-- an unmount
+gone_sized : (w v : WorldView) (n : ℕ) (path : List (List ℕ)) → length w.forest ≤ 4096 → unmounted w n path ≡ Ok v → IsSized w v 0
+unfolding without_mount left
+gone_sized w v n path few e =
     let p = place_or_nowhere (walk w.skel w.forest n path) in
-    (outcome-ok (fault_of (walk w.skel w.forest n path) ∷ refuse_if (not (is_named_mount w p)) NotMountRoot ∷ refuse_if (clashes c) BadAttr ∷ []) (with_change w c p.mount) v e).0
+    let same = (outcome_ok (fault_of (walk w.skel w.forest n path)
+    ∷ refuse_if (not (is_named_mount w p)) NotMountRoot
+    ∷ refuse_if (is_root_mount w p) RootPlace
+    ∷ refuse_if (list_any (stands_on p.mount) w.forest) Busy ∷ []) (without_mount w p.mount) v e).0 in
+    let stays : M.Mount → Bool = λ m. not (is_removed w p.mount m.id) in
+    let slide : M.Mount → M.Mount = λ m. record m { place = option_map (slid w p.mount) m.place } in
+    subst (λ (x : WorldView). IsSized w x 0) same (record {
+      spaces = omega arith;
+      mounts = omega arith;
+      groups = omega arith;
+      within = omega (arith, few, few_pass stays w.forest, length-map (filter stays w.forest) slide);
+    })
+
+-- how much a command adds that may change tables
+pub step_sized : (w v : WorldView) (c : Command) (r : Reply) → IsWellFormed w → length w.forest ≤ 4096 → keeps_tables c ≡ false → step w c ≡ Ok (v, r) → IsSized w v (cond (makes_space c) 1 0)
+step_sized w v (MakeFs name kind source) r h few k e = absurd (cc)
+step_sized w v (MakeDir fs path) r h few k e = absurd (cc)
+step_sized w v (NewSpace fs) r h few k e = let made = number_done _ v r e in space_sized w v fs made.0 made.1
+step_sized w v (CopySpace n) r h few k e = let made = number_done _ v r e in copy_sized w v n made.0 made.1
+step_sized w v (Mount n fs path) r h few k e = let made = number_done _ v r e in mount_sized w v n fs path made.0 made.1
+step_sized w v (Bind n src dst deep) r h few k e = let made = number_done _ v r e in bind_sized w v n deep src dst made.0 few made.1
+step_sized w v (Move n src dst) r h few k e = move_sized w v n src dst few (world_done _ v r e)
+step_sized w v (Unmount n path) r h few k e = gone_sized w v n path few (world_done _ v r e)
+step_sized w v (SetAttr n path change) r h few k e = attr_sized w v n path change h few (world_done _ v r e)

@@ -4,18 +4,18 @@ use Rattle.std.specs.List.{flat_map}
 use Rattle.mt_skel.specs.declared.fault.Fault.{Fault}
 use Rattle.mt_skel.specs.declared.fault.Fault.TheVariants.{NoNamespace}
 use Rattle.mt_skel.specs.Fault.{name_of}
-use Rattle.mt_session.specs.declared.early.book.Reply.{Reply}
-use Rattle.mt_session.specs.declared.early.book.Reply.TheVariants.{Done, Number}
+use Rattle.mt_session.specs.declared.early.command.Reply.{Reply}
+use Rattle.mt_session.specs.declared.early.command.Reply.TheVariants.{Done, Number}
 use Rattle.mt_session.specs.declared.early.floor.Answer.{Answer}
 use Rattle.mt_session.specs.declared.early.floor.Answer.TheVariants.{Replied}
 use Rattle.mt_session.specs.declared.early.floor.Event.TheVariants.{Apply}
 use Rattle.mt_info.specs.declared.row.Row.{Row}
 use Rattle.mt_session.specs.declared.request.Request.{Request}
-use Rattle.mt_session.specs.declared.request.Request.TheVariants.{Run, Show, Quit}
+use Rattle.mt_session.specs.declared.request.Request.TheVariants.{Run, Show, Find, Quit}
 use Rattle.mt_propagate.specs.World.{is_space}
 use Rattle.mt_info.specs.Table.{table_of}
-use Rattle.mt_info.specs.RowLine.{line}
-use Rattle.mt_session.specs.Book.{BookView, number_of}
+use Rattle.mt_info.specs.RowLine.{line, path_text}
+use Rattle.mt_session.specs.Book.{BookView, number_of, found_at}
 use Rattle.mt_session.specs.Floor.{stepped}
 
 -- the line of a refusal
@@ -46,14 +46,24 @@ table_text number rows = codes "ok " ++ decimal (length rows) ++ codes " " ++ de
 abbrev pub shown_text : BookView → ℕ → List ℕ
 shown_text b n = cond (is_space b.world n) (table_text (number_of b n) (table_of b.world n)) (refusal NoNamespace)
 
+-- `ok`, the mount where the path ends, and the path of the directory in the mount's filesystem
+abbrev pub place_text : ℕ → List (List ℕ) → List ℕ
+place_text mount names = codes "ok " ++ decimal mount ++ codes " " ++ path_text names ++ 10 ∷ []
+
+abbrev pub found_text : Result (ℕ × List (List ℕ)) Fault → List ℕ
+found_text (Ok p) = place_text p.0 p.1
+found_text (Err f) = refusal f
+
 -- the text that a request is answered with
 unfoldable pub answer_to : BookView → Request → List ℕ
 answer_to b (Run c) = answered_text (stepped b (Apply c))
 answer_to b (Show n) = shown_text b n
+answer_to b (Find n path) = found_text (found_at b.world n path)
 answer_to b Quit = codes "ok\n"
 
 -- the book after a request
 unfoldable pub book_to : BookView → Request → BookView
 book_to b (Run c) = answered_book b (stepped b (Apply c))
 book_to b (Show n) = b
+book_to b (Find n path) = b
 book_to b Quit = b

@@ -1,7 +1,7 @@
 -- One event of a floor.
 use Rattle.std.specs.Prelude.{Result, Ok, Err}
 use Rattle.mt_skel.specs.declared.fault.Fault.{Fault}
-use Rattle.mt_session.specs.declared.early.book.Reply.{Reply}
+use Rattle.mt_session.specs.declared.early.command.Reply.{Reply}
 use Rattle.mt_session.specs.declared.early.floor.Event.{Event}
 use Rattle.mt_session.specs.declared.early.floor.Event.TheVariants.{Apply}
 use Rattle.mt_session.specs.declared.early.floor.Answer.{Answer}

@@ -2,7 +2,6 @@ pub mod Answers
 pub mod Book
 pub mod Floor
 pub mod Lines
-pub mod Mounting
 pub mod Options
 pub mod Reading
 pub mod Requests

@@ -10,7 +10,7 @@ use Rattle.mt_skel.specs.Names.{is_name}
 use Rattle.mt_skel.specs.Outcome.{refuse_if, first_fault}
 use Rattle.mt_session.specs.Words.{pieces, words, number_of}
 use Rattle.mt_session.specs.Options.{change_of}
-use Rattle.mt_session.specs.declared.early.book.Command.TheVariants as command
+use Rattle.mt_session.specs.declared.early.command.Command.TheVariants as command
 use Rattle.mt_session.specs.declared.request.Request.{Request}
 use Rattle.mt_session.specs.declared.request.Request.TheVariants as request
 
@@ -94,12 +94,36 @@ abbrev pub newns_of : List (List ℕ) → Result Request Fault
 newns_of (fs ∷ []) = unless (label_fault fs) (request.Run (command.NewSpace (label_bytes fs)))
 newns_of _ = Err BadLine
 
+-- `copyns NS` makes a namespace that is a copy of another
+abbrev pub copyns_of : List (List ℕ) → Result Request Fault
+copyns_of (space ∷ []) = option_map_or (λ n. Ok (request.Run (command.CopySpace n))) (number_of space) (Err BadLine)
+copyns_of _ = Err BadLine
+
 -- `mount NS FS PATH` mounts a filesystem in a namespace; a bad number is a bad line, and so comes before every other fault
 abbrev pub mount_of : List (List ℕ) → Result Request Fault
 mount_of (space ∷ fs ∷ path ∷ []) =
     option_map_or (λ n. unless (worst (label_fault fs ∷ path_fault path ∷ [])) (request.Run (command.Mount n (label_bytes fs) (path_names path))))
     (number_of space) (Err BadLine)
 mount_of _ = Err BadLine
+
+-- `bind NS SRC DST` binds a mount, and `rbind NS SRC DST` a tree of mounts
+abbrev pub bind_of : Bool → List (List ℕ) → Result Request Fault
+bind_of deep (space ∷ src ∷ dst ∷ []) =
+    option_map_or (λ n. unless (worst (path_fault src ∷ path_fault dst ∷ [])) (request.Run (command.Bind n (path_names src) (path_names dst) deep)))
+    (number_of space) (Err BadLine)
+bind_of deep _ = Err BadLine
+
+-- `move NS SRC DST` moves a tree of mounts
+abbrev pub move_of : List (List ℕ) → Result Request Fault
+move_of (space ∷ src ∷ dst ∷ []) =
+    option_map_or (λ n. unless (worst (path_fault src ∷ path_fault dst ∷ [])) (request.Run (command.Move n (path_names src) (path_names dst))))
+    (number_of space) (Err BadLine)
+move_of _ = Err BadLine
+
+-- `umount NS PATH` unmounts
+abbrev pub umount_of : List (List ℕ) → Result Request Fault
+umount_of (space ∷ path ∷ []) = option_map_or (λ n. unless (path_fault path) (request.Run (command.Unmount n (path_names path)))) (number_of space) (Err BadLine)
+umount_of _ = Err BadLine
 
 -- `setattr NS PATH [rec] [set=W,..] [clr=W,..] [prop=K]` changes a mount, or all below it too; the options come in any order
 abbrev pub setattr_of : List (List ℕ) → Result Request Fault
@@ -113,6 +137,11 @@ abbrev pub show_of : List (List ℕ) → Result Request Fault
 show_of (space ∷ []) = option_map_or (λ n. Ok (request.Show n)) (number_of space) (Err BadLine)
 show_of _ = Err BadLine
 
+-- `find NS PATH` says where a path ends
+abbrev pub find_of : List (List ℕ) → Result Request Fault
+find_of (space ∷ path ∷ []) = option_map_or (λ n. unless (path_fault path) (request.Find n (path_names path))) (number_of space) (Err BadLine)
+find_of _ = Err BadLine
+
 -- `quit` ends the session
 abbrev pub quit_of : List (List ℕ) → Result Request Fault
 quit_of [] = Ok request.Quit
@@ -125,10 +154,16 @@ by_words (word ∷ rest) =
     if bytes_eq word (codes "mkfs") then mkfs_of rest
     else (if bytes_eq word (codes "mkdir") then mkdir_of rest
     else (if bytes_eq word (codes "newns") then newns_of rest
+    else (if bytes_eq word (codes "copyns") then copyns_of rest
     else (if bytes_eq word (codes "mount") then mount_of rest
+    else (if bytes_eq word (codes "bind") then bind_of false rest
+    else (if bytes_eq word (codes "rbind") then bind_of true rest
+    else (if bytes_eq word (codes "move") then move_of rest
+    else (if bytes_eq word (codes "umount") then umount_of rest
     else (if bytes_eq word (codes "setattr") then setattr_of rest
     else (if bytes_eq word (codes "show") then show_of rest
-    else (if bytes_eq word (codes "quit") then quit_of rest else Err BadLine))))))
+    else (if bytes_eq word (codes "find") then find_of rest
+    else (if bytes_eq word (codes "quit") then quit_of rest else Err BadLine))))))))))))
 
 -- what a line asks for, or why it is refused
 unfoldable pub request_of : List ℕ → Result Request Fault
@@ -138,6 +173,7 @@ request_of line = by_words (words line)
 abbrev pub may_want_memory : Result Request Fault → Bool
 may_want_memory (Ok (request.Run c)) = true
 may_want_memory (Ok (request.Show n)) = true
+may_want_memory (Ok (request.Find n path)) = true
 may_want_memory (Ok request.Quit) = false
 may_want_memory (Err f) = false
 

@@ -3,7 +3,7 @@ use Rattle.std.specs.Prelude.{◌≡◌, ℕ, ◌<◌, ◌≤◌, List, [], ◌�
 use Rattle.mt_skel.specs.declared.fault.Fault.{Fault}
 use Rattle.mt_skel.specs.declared.fault.Fault.TheVariants.{BadLine, TooLong as LineTooLong, NoMemory as WantsMemory}
 use Rattle.mt_session.specs.declared.request.Request.{Request}
-use Rattle.mt_session.specs.declared.request.Request.TheVariants.{Run, Show, Quit as AsksQuit}
+use Rattle.mt_session.specs.declared.request.Request.TheVariants.{Run, Show, Find, Quit as AsksQuit}
 use Rattle.mt_session.specs.declared.line.ReadFault.TheVariants.{Device, Interrupted, Endless as NeverEnds, NoMemory as NoRoom}
 use Rattle.mt_session.specs.declared.session.End.{End}
 use Rattle.mt_session.specs.declared.session.End.TheVariants.{Quit, Input, Read, Cut as CutOff, Memory, Spent}
@@ -64,6 +64,7 @@ after state turn = state_of state (done turn)
 abbrev pub ends_by : Result Request Fault → Bool
 ends_by (Ok AsksQuit) = true
 ends_by (Ok (Show n)) = false
+ends_by (Ok (Find n path)) = false
 ends_by (Ok (Run c)) = false
 ends_by (Err f) = false
 

@@ -1,13 +1,14 @@
 //! Requests, as lines say them.
 ghost use Rattle.std.specs.Prelude.{◌≡◌, None, Some};
-ghost use Rattle.mt_session.specs.Requests.{ReadsAs, request_of, HasNoFault, worse, worst, mkfs_of, mkdir_of, newns_of, mount_of, setattr_of, show_of, quit_of};
+ghost use Rattle.mt_session.specs.Requests.{ReadsAs, request_of, HasNoFault, worse, worst, mkfs_of, mkdir_of, newns_of, copyns_of, mount_of, bind_of, move_of, umount_of, setattr_of, show_of, find_of, quit_of};
 
-use crate::early::book::Command;
+use crate::early::command::Command;
 use crate::label::{label_fault, label_of};
 use crate::options::change_of;
 use crate::path::{path_fault, path_of};
 use crate::words::{Words, number, words};
 use mt_skel::fault::Fault;
+use mt_skel::name::Names;
 use std::alloc::Global;
 
 /// What a line asks for.
@@ -17,6 +18,8 @@ pub enum Request {
     Run(Command),
     /// `show NS` shows the table of a namespace.
     Show(u64),
+    /// `find NS PATH` says where a path ends in a namespace.
+    Find { space: u64, path: Names },
     /// `quit` ends the session.
     Quit,
 }
@@ -97,6 +100,17 @@ fn read_newns(alloc: Global, words: &mut Words<'_>) -> Result<Request, Fault>
     Ok(Request::Run(Command::NewSpace { fs }))
 }
 
+/// The request of a line `copyns NS`, behind the first word.
+fn read_copyns(words: &mut Words<'_>) -> Result<Request, Fault>
+    ensures { result ≡ copyns_of words.old }
+{
+    let (Some(space), None) = (words.next(), words.next()) else {
+        return Err(Fault::BadLine);
+    };
+    let space = number(space).ok_or(Fault::BadLine)?;
+    Ok(Request::Run(Command::CopySpace { space }))
+}
+
 /// The request of a line `mount NS FS PATH`, behind the first word.
 fn read_mount(alloc: Global, words: &mut Words<'_>) -> Result<Request, Fault>
     ensures { ReadsAs (mount_of words.old) result }
@@ -118,6 +132,73 @@ fn read_mount(alloc: Global, words: &mut Words<'_>) -> Result<Request, Fault>
     let fs = label_of(alloc, fs)?;
     let path = path_of(alloc, path)?;
     Ok(Request::Run(Command::Mount { space, fs, path }))
+}
+
+/// The request of a line `bind NS SRC DST`, or with `deep` of a line `rbind NS SRC DST`, behind the
+/// first word.
+fn read_bind(alloc: Global, words: &mut Words<'_>, deep: bool) -> Result<Request, Fault>
+    ensures { ReadsAs (bind_of deep words.old) result }
+{
+    let (Some(space), Some(src), Some(dst), None) = (
+        words.next(),
+        words.next(),
+        words.next(),
+        words.next(),
+    ) else {
+        return Err(Fault::BadLine);
+    };
+    let Some(space) = number(space) else {
+        return Err(Fault::BadLine);
+    };
+    if let Some(fault) = worst(&[path_fault(src), path_fault(dst)]) {
+        return Err(fault);
+    }
+    let src = path_of(alloc, src)?;
+    let dst = path_of(alloc, dst)?;
+    Ok(Request::Run(Command::Bind {
+        space,
+        src,
+        dst,
+        deep,
+    }))
+}
+
+/// The request of a line `move NS SRC DST`, behind the first word.
+fn read_move(alloc: Global, words: &mut Words<'_>) -> Result<Request, Fault>
+    ensures { ReadsAs (move_of words.old) result }
+{
+    let (Some(space), Some(src), Some(dst), None) = (
+        words.next(),
+        words.next(),
+        words.next(),
+        words.next(),
+    ) else {
+        return Err(Fault::BadLine);
+    };
+    let Some(space) = number(space) else {
+        return Err(Fault::BadLine);
+    };
+    if let Some(fault) = worst(&[path_fault(src), path_fault(dst)]) {
+        return Err(fault);
+    }
+    let src = path_of(alloc, src)?;
+    let dst = path_of(alloc, dst)?;
+    Ok(Request::Run(Command::Move { space, src, dst }))
+}
+
+/// The request of a line `umount NS PATH`, behind the first word.
+fn read_umount(alloc: Global, words: &mut Words<'_>) -> Result<Request, Fault>
+    ensures { ReadsAs (umount_of words.old) result }
+{
+    let (Some(space), Some(path), None) = (words.next(), words.next(), words.next()) else {
+        return Err(Fault::BadLine);
+    };
+    let space = number(space).ok_or(Fault::BadLine)?;
+    if let Some(fault) = path_fault(path) {
+        return Err(fault);
+    }
+    let path = path_of(alloc, path)?;
+    Ok(Request::Run(Command::Unmount { space, path }))
 }
 
 /// The request of a line `setattr NS PATH` with its options, behind the first word.
@@ -151,6 +232,21 @@ fn read_show(words: &mut Words<'_>) -> Result<Request, Fault>
     Ok(Request::Show(space))
 }
 
+/// The request of a line `find NS PATH`, behind the first word.
+fn read_find(alloc: Global, words: &mut Words<'_>) -> Result<Request, Fault>
+    ensures { ReadsAs (find_of words.old) result }
+{
+    let (Some(space), Some(path), None) = (words.next(), words.next(), words.next()) else {
+        return Err(Fault::BadLine);
+    };
+    let space = number(space).ok_or(Fault::BadLine)?;
+    if let Some(fault) = path_fault(path) {
+        return Err(fault);
+    }
+    let path = path_of(alloc, path)?;
+    Ok(Request::Find { space, path })
+}
+
 /// The request of a line `quit`, behind the first word.
 fn read_quit(words: &mut Words<'_>) -> Result<Request, Fault>
     ensures { result ≡ quit_of words.old }
@@ -182,12 +278,24 @@ pub fn read_request(alloc: Global, line: &[u8]) -> Result<Request, Fault>
         read_mkdir(alloc, &mut words)
     } else if command == b"newns".as_slice() {
         read_newns(alloc, &mut words)
+    } else if command == b"copyns".as_slice() {
+        read_copyns(&mut words)
     } else if command == b"mount".as_slice() {
         read_mount(alloc, &mut words)
+    } else if command == b"bind".as_slice() {
+        read_bind(alloc, &mut words, false)
+    } else if command == b"rbind".as_slice() {
+        read_bind(alloc, &mut words, true)
+    } else if command == b"move".as_slice() {
+        read_move(alloc, &mut words)
+    } else if command == b"umount".as_slice() {
+        read_umount(alloc, &mut words)
     } else if command == b"setattr".as_slice() {
         read_setattr(alloc, &mut words)
     } else if command == b"show".as_slice() {
         read_show(&mut words)
+    } else if command == b"find".as_slice() {
+        read_find(alloc, &mut words)
     } else if command == b"quit".as_slice() {
         read_quit(&mut words)
     } else {
@@ -198,7 +306,6 @@ pub fn read_request(alloc: Global, line: &[u8]) -> Result<Request, Fault>
 #[cfg(test)]
 mod tests {
     use super::*;
-    use mt_skel::name::Names;
     use std::test::Fail;
 
     /// The request of a line as a text, each part behind a bar.
@@ -240,6 +347,45 @@ mod tests {
             }
             Request::Show(space) => {
                 text.extend_from_slice(if space == 7 { b"Show 7" } else { b"Show ?" })?
+            }
+            Request::Run(
+                Command::Bind {
+                    space,
+                    src,
+                    dst,
+                    deep,
+                },
+            ) => {
+                text.extend_from_slice(if space == 7 { b"Bind 7" } else { b"Bind ?" })?;
+                text.extend_from_slice(if deep { b"|rec" } else { b"|one" })?;
+                push_path(&mut text, &src)?;
+                text.extend_from_slice(b"|to")?;
+                push_path(&mut text, &dst)?;
+            }
+            Request::Run(Command::Move { space, src, dst }) => {
+                text.extend_from_slice(if space == 7 { b"Move 7" } else { b"Move ?" })?;
+                push_path(&mut text, &src)?;
+                text.extend_from_slice(b"|to")?;
+                push_path(&mut text, &dst)?;
+            }
+            Request::Run(Command::Unmount { space, path }) => {
+                text.extend_from_slice(if space == 7 {
+                    b"Unmount 7"
+                } else {
+                    b"Unmount ?"
+                })?;
+                push_path(&mut text, &path)?;
+            }
+            Request::Run(Command::CopySpace { space }) => {
+                text.extend_from_slice(if space == 7 {
+                    b"CopySpace 7"
+                } else {
+                    b"CopySpace ?"
+                })?
+            }
+            Request::Find { space, path } => {
+                text.extend_from_slice(if space == 7 { b"Find 7" } else { b"Find ?" })?;
+                push_path(&mut text, &path)?;
             }
             Request::Quit => text.extend_from_slice(b"Quit")?,
         }
@@ -287,6 +433,17 @@ mod tests {
                 b"MakeDir|home|...|.a".as_slice(),
             ),
             (b"newns home".as_slice(), b"NewSpace|home".as_slice()),
+            (b"bind 7 /a /b".as_slice(), b"Bind 7|one|a|to|b".as_slice()),
+            (
+                b"rbind 7 / /b/c".as_slice(),
+                b"Bind 7|rec|to|b|c".as_slice(),
+            ),
+            (b"move 7 /a /b/c".as_slice(), b"Move 7|a|to|b|c".as_slice()),
+            (b"umount 7 /a/b".as_slice(), b"Unmount 7|a|b".as_slice()),
+            (b"copyns 7".as_slice(), b"CopySpace 7".as_slice()),
+            (b"copyns 8".as_slice(), b"CopySpace ?".as_slice()),
+            (b"find 7 /a/b".as_slice(), b"Find 7|a|b".as_slice()),
+            (b"find 7 /".as_slice(), b"Find 7".as_slice()),
             (b"mount 7 home /a".as_slice(), b"Mount 7|home|a".as_slice()),
             (b"mount 7 home /".as_slice(), b"Mount 7|home".as_slice()),
             (
@@ -330,6 +487,19 @@ mod tests {
             b"mkdir a /x\\".as_slice(),
             b"mkdir a x\\057".as_slice(),
             b"mkdir a /\0".as_slice(),
+            b"bind 1 /a".as_slice(),
+            b"bind 1 /a /b /c".as_slice(),
+            b"rbind x /a /b".as_slice(),
+            b"move 1 /a".as_slice(),
+            b"move 01 a b".as_slice(),
+            b"umount 1".as_slice(),
+            b"umount 1 /a /b".as_slice(),
+            b"copyns".as_slice(),
+            b"copyns 01".as_slice(),
+            b"copyns 1 less".as_slice(),
+            b"find 1".as_slice(),
+            b"find x /a".as_slice(),
+            b"find 1 /a b".as_slice(),
             b"mount 1 a".as_slice(),
             b"mount x a /b".as_slice(),
             b"mount 01 a b".as_slice(),
@@ -363,6 +533,10 @@ mod tests {
             b"mkdir a /x/../y".as_slice(),
             b"mount 1 a \\040/x".as_slice(),
             b"mount 1 a /./x".as_slice(),
+            b"bind 1 a /b".as_slice(),
+            b"rbind 1 /a b".as_slice(),
+            b"move 1 /a /b/".as_slice(),
+            b"umount 1 /..".as_slice(),
         ] {
             let fault = read_request(rt.alloc(), line).err();
             assert_eq!(rt; fault, Some(Fault::BadPath), "{line:?}");

@@ -1,20 +1,22 @@
 //! A plain session: lines in, answers out.
 ghost use Rattle.std.specs.Prelude.{◌≡◌, ◌≢◌, ℕ, ◌+◌, ◌<◌, ◌≤◌, List, [], ◌∷◌, ◌++◌, length, Bool, true, false, IsTrue, IfOk, IfErr, OnErr, OnOk, IsNone, IfNone, IfSome, None, Some, Ok, Err};
 ghost use Rattle.std.specs.Option.{ForSome};
-ghost use Rattle.mt_session.specs.Answers.{answer_to, book_to, shown_text};
+ghost use Rattle.mt_session.specs.Answers.{answer_to, book_to, shown_text, found_text};
+ghost use Rattle.mt_session.specs.Book.{found_at};
 ghost use Rattle.mt_session.specs.Lines.{Text as text_item};
 ghost use Rattle.mt_session.specs.Reading.{bytes_left, limit_of, fault_of};
 ghost use Rattle.mt_session.specs.Requests.{may_want_memory};
 ghost use Rattle.mt_session.specs.Session.{session_at, ends_by, Served, line_limit, IsCutCause};
 ghost use Rattle.mt_session.specs.Serving.{Answered, IsSent, quit_end_of, ServedLine, is_cut};
 
-use crate::early::book::Reply;
+use crate::early::command::Reply;
 use crate::early::floor::{Answer, Event, Floor};
 use crate::line::{Line, LineReader, ReadFault};
 use crate::request::{Request, read_request};
 use crate::stream::{Cut, Input, Output, send};
 use crate::text::Text;
 use mt_skel::fault::Fault;
+use mt_skel::name::Names;
 use std::alloc::{AllocError, Global};
 
 /// Why a session ended.
@@ -53,6 +55,18 @@ fn show(alloc: Global, floor: &Floor, space: u64) -> Result<Text, Fault>
     Ok(Text::table(alloc, number, &table)?)
 }
 
+/// The line that says where a path ends.
+fn find(alloc: Global, floor: &Floor, space: u64, path: &Names) -> Result<Text, Fault>
+    ensures ok { IfOk result (λ text. text ≡ found_text (found_at floor.now.world space path.now)) }
+    ensures memory { IfErr result (λ fault. fault ≡ Fault.NoMemory) }
+{
+    match floor.book().find(space, path.as_slice()) {
+        Ok((mount, names)) => Ok(Text::place(alloc, mount, &names)?),
+        Err(Fault::NoMemory) => Err(Fault::NoMemory),
+        Err(fault) => Ok(Text::refusal(fault)),
+    }
+}
+
 /// Does a request. Want of memory is its only refusal here, and then nothing has changed.
 #[tactic(auto, unfolding(crate::specs::Answers::answer_to, crate::specs::Answers::book_to))]
 fn turn(alloc: Global, floor: &mut Floor, request: Request) -> Result<Text, Fault>
@@ -63,6 +77,7 @@ fn turn(alloc: Global, floor: &mut Floor, request: Request) -> Result<Text, Faul
     match request {
         Request::Quit => Ok(Text::reply(Reply::Done)),
         Request::Show(space) => show(alloc, floor, space),
+        Request::Find { space, path } => find(alloc, floor, space, &path),
         Request::Run(command) => match floor.step(Event::Apply(command)) {
             Ok(Answer::Replied(reply)) => Ok(Text::reply(reply)),
             Err(Fault::NoMemory) => Err(Fault::NoMemory),
@@ -77,7 +92,7 @@ fn quits_by(request: &Request) -> bool
 {
     match request {
         Request::Quit => true,
-        Request::Show(_) | Request::Run(_) => false,
+        Request::Show(_) | Request::Find { .. } | Request::Run(_) => false,
     }
 }
 

@@ -25,7 +25,7 @@ const ANSWERS: &[u8] =
     b"ok 1\nok 2\nok\nok 1\nok 2\nok 2 2\n1 1 0:1 / / rw,relatime - tmpfs none rw\n2 1 0:2 / /m rw,relatime - ext4 /dev/x rw\n";
 
 /// Lines behind the start, and what they are answered.
-const LINES: [(&[u8], &[u8], End); 15] = [
+const LINES: [(&[u8], &[u8], End); 20] = [
     (b"", b"", End::Input),
     (b"show 2\n", b"no NoNamespace\n", End::Input),
     (b"show 1", b"no BadLine\n", End::Input),
@@ -62,7 +62,7 @@ const LINES: [(&[u8], &[u8], End); 15] = [
     ),
     (
         b"setattr 1 / prop=shared\nmount 1 d /m\nmount 1 q /m\nmount 1 d /\nshow 1\nsetattr 1 / prop=unbindable\nshow 1\n",
-        b"ok\nno SharedParent\nno NoFilesystem\nno RootPlace\nok 1 2\n1 1 0:1 / / rw,relatime shared:1 - tmpfs none rw\nok\nok 1 3\n1 1 0:1 / / rw,relatime unbindable - tmpfs none rw\n",
+        b"ok\nok 2\nno NoFilesystem\nno RootPlace\nok 2 3\n1 1 0:1 / / rw,relatime shared:1 - tmpfs none rw\n2 1 0:2 / /m rw,relatime shared:2 - ext4 /dev/x rw\nok\nok 2 4\n1 1 0:1 / / rw,relatime unbindable - tmpfs none rw\n2 1 0:2 / /m rw,relatime shared:2 - ext4 /dev/x rw\n",
         End::Input,
     ),
     (
@@ -78,6 +78,31 @@ const LINES: [(&[u8], &[u8], End); 15] = [
     (
         b"setattr 1\nsetattr 1 / all\nsetattr 1 / recs\nsetattr 1 / rec rec\nsetattr 1 / set=\nsetattr 1 / set=ro,\nsetattr 1 / set=atime\nsetattr 1 / clr=noatime\nsetattr 1 / set=ro set=nodev\nsetattr 1 / prop=\nsetattr 1 / prop=peer\nsetattr 1 / set=r\\157\nsetattr 1  rec\nsetattr 01 /\n",
         b"no BadLine\nno BadLine\nno BadLine\nno BadLine\nno BadLine\nno BadLine\nno BadLine\nno BadLine\nno BadLine\nno BadLine\nno BadLine\nno BadLine\nno BadLine\nno BadLine\n",
+        End::Input,
+    ),
+    (
+        b"setattr 1 / prop=shared\ncopyns 1\ncopyns 3\nmount 1 d /m\nshow 1\nshow 2\nfind 2 /m\nfind 2 /\nfind 2 /q\nfind 3 /\n",
+        b"ok\nok 2\nno NoNamespace\nok 3\nok 2 3\n1 1 0:1 / / rw,relatime shared:1 - tmpfs none rw\n3 1 0:2 / /m rw,relatime shared:2 - ext4 /dev/x rw\nok 2 2\n2 2 0:1 / / rw,relatime shared:1 - tmpfs none rw\n4 2 0:2 / /m rw,relatime shared:2 - ext4 /dev/x rw\nok 4 /\nok 2 /\nno NoEntry\nno NoNamespace\n",
+        End::Input,
+    ),
+    (
+        b"mkdir a /m/n\nmkdir a /t\nmount 1 d /m\nbind 1 / /t\nbind 1 /t/m/n /m\nfind 1 /m\nrbind 1 / /t\nbind 9 / /q\nbind 1 /q /\nbind 1 / /q\nbind 1 / /\nsetattr 1 / prop=unbindable\nrbind 1 /t /m\nrbind 1 / /m\nshow 1\n",
+        b"ok\nok\nok 2\nok 3\nok 4\nok 4 /m/n\nok 5\nno NoNamespace\nno NoEntry\nno NoEntry\nno RootPlace\nok\nok 9\nno Unbindable\nok 12 7\n1 1 0:1 / / rw,relatime unbindable - tmpfs none rw\n2 1 0:2 / /m rw,relatime - ext4 /dev/x rw\n3 1 0:1 / /t rw,relatime - tmpfs none rw\n4 2 0:1 /m/n /m rw,relatime - tmpfs none rw\n5 3 0:1 / /t rw,relatime - tmpfs none rw\n6 5 0:2 / /t/m rw,relatime - ext4 /dev/x rw\n7 5 0:1 / /t/t rw,relatime - tmpfs none rw\n8 6 0:1 /m/n /t/m rw,relatime - tmpfs none rw\n9 4 0:1 / /m rw,relatime - tmpfs none rw\n10 9 0:2 / /m/m rw,relatime - ext4 /dev/x rw\n11 9 0:1 / /m/t rw,relatime - tmpfs none rw\n12 10 0:1 /m/n /m/m rw,relatime - tmpfs none rw\n",
+        End::Input,
+    ),
+    (
+        b"mkdir a /t\nmkdir d /u\nmount 1 d /m\nmount 1 a /m/u\nmove 1 /m/u/t /t\nmove 1 / /t\nmove 1 /m /q\nmove 1 /q /m\nmove 1 /m /\nmove 1 /m /m/u/t\nmove 1 /m /t\nshow 1\n",
+        b"ok\nok\nok 2\nok 3\nno NotMountRoot\nno RootPlace\nno NoEntry\nno NoEntry\nno RootPlace\nno IntoItself\nok\nok 3 4\n1 1 0:1 / / rw,relatime - tmpfs none rw\n2 1 0:2 / /t rw,relatime - ext4 /dev/x rw\n3 2 0:1 / /t/u rw,relatime - tmpfs none rw\n",
+        End::Input,
+    ),
+    (
+        b"setattr 1 / prop=shared\nmkdir a /t\nmount 1 d /m\nmove 1 /m /t\nsetattr 1 /m prop=unbindable\nmount 1 d /m\nmount 1 a /t\nsetattr 1 /m prop=shared\nmove 1 /m /t/m\n",
+        b"ok\nok\nok 2\nno SharedParent\nok\nok 3\nok 4\nok\nok\n",
+        End::Input,
+    ),
+    (
+        b"mkdir d /u\numount 1 /m\numount 1 /\numount 1 /q\numount 9 /m\nmount 1 d /m\nmount 1 d /m/u\numount 1 /m\numount 1 /m/u\numount 1 /m\nshow 1\n",
+        b"ok\nno NotMountRoot\nno RootPlace\nno NoEntry\nno NoNamespace\nok 2\nok 3\nno Busy\nok\nok\nok 1 5\n1 1 0:1 / / rw,relatime - tmpfs none rw\n",
         End::Input,
     ),
     (

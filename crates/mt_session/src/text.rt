@@ -1,14 +1,16 @@
 //! The lines of an answer.
 ghost use Rattle.std.specs.Prelude.{◌≡◌, ◌+◌, ◌≤◌, ◌++◌, length, codes, flat_map, OnOk, IfOk};
-ghost use Rattle.mt_session.specs.Answers.{refusal, reply_text, table_text, row_line};
+ghost use Rattle.mt_session.specs.Answers.{refusal, reply_text, table_text, row_line, place_text};
 
-use crate::early::book::Reply;
+use crate::early::command::Reply;
 use arrayvec::ArrayVec;
 use itoa::Buffer;
-use mt_info::print::{push_number, push_row};
+use mt_info::print::{push_number, push_path, push_row};
 use mt_info::row::Row;
 use mt_info::table::Table;
+use mt_mounts::mount::MountId;
 use mt_skel::fault::Fault;
+use mt_skel::name::Name;
 use std::alloc::{AllocError, Global};
 use std::marker::Model;
 
@@ -90,6 +92,22 @@ impl Text {
         push_rows(&mut lines, table.rows())?;
         Ok(Text {
             body: Body::Long(lines),
+        })
+    }
+
+    /// The line that says where a path ends: `ok`, the ID of the mount, and the path of the directory
+    /// in the mount's filesystem. Fails for want of memory alone.
+    pub fn place(alloc: Global, mount: MountId, names: &[Name]) -> Result<Text, AllocError>
+        ensures { IfOk result (λ text. text ≡ place_text mount names.now) }
+    {
+        let mut line = Vec::new(alloc);
+        line.extend_from_slice(b"ok ")?;
+        push_number(&mut line, mount)?;
+        line.extend_from_slice(b" ")?;
+        push_path(&mut line, names)?;
+        line.extend_from_slice(b"\n")?;
+        Ok(Text {
+            body: Body::Long(line),
         })
     }
 

@@ -1,64 +1,20 @@
 //! Commands, and the world that they lead to.
-ghost use Rattle.std.specs.Prelude.{◌≡◌, ◌≢◌, ℕ, IfOk, IfErr, OnErr, IsOkUnless, Ok, Err, true, false, not, cond, ◌+◌, ◌<◌, ◌≤◌, ◌^◌, length, slice_index_or};
+ghost use Rattle.std.specs.Prelude.{◌≡◌, ◌≢◌, ℕ, IfOk, IfErr, OnErr, IsOkUnless, Ok, Err, true, false, not, cond, ◌+◌, ◌<◌, ◌≤◌, ◌^◌, [], ◌∷◌, ◌++◌, slice_index_or};
 ghost use Rattle.mt_propagate.specs.World.{world_view, is_space};
 ghost use Rattle.mt_propagate.specs.WellFormed.{IsWellFormed};
-ghost use Rattle.mt_setattr.specs.Change.{attributed};
 ghost use Rattle.mt_info.specs.Table.{table_of};
 ghost use Rattle.mt_info.specs.SameRow.{rows_eq};
-ghost use Rattle.mt_session.specs.Book.{empty_book, applied, counted, number_of, command_limit, IsBook};
-ghost use Rattle.mt_session.specs.declared.early.book.Command.TheVariants as command;
+ghost use Rattle.mt_session.specs.Book.{empty_book, step as step_of, applied, counted, found_at, keeps_tables, number_of, command_limit};
 
-use crate::early::mounting::mount;
-use mt_bind::spaces::new_space;
+use crate::early::command::{Command, Reply};
+use crate::early::step::step;
 use mt_info::table::{Table, table_of, table_or_empty};
-use mt_mounts::mount::SpaceId;
+use mt_mounts::mount::{MountId, SpaceId};
 use mt_propagate::world::World;
-use mt_setattr::change::Change;
-use mt_setattr::setting::set_attr;
 use mt_skel::fault::Fault;
-use mt_skel::name::{Label, Names};
+use mt_skel::name::Name;
 use std::alloc::Global;
 use std::marker::Model;
-
-/// A change of the world.
-#[derive(Drop)]
-pub enum Command {
-    /// A new filesystem, whose root directory is there at once.
-    MakeFs {
-        name: Label,
-        kind: Label,
-        source: Label,
-    },
-    /// A new directory, whose parent has to be there.
-    MakeDir {
-        fs: Label,
-        path: Names,
-    },
-    /// A new namespace, whose root mount shows the root of a filesystem.
-    NewSpace {
-        fs: Label,
-    },
-    /// A new mount of a filesystem where a path leads.
-    Mount {
-        space: SpaceId,
-        fs: Label,
-        path: Names,
-    },
-    /// A change of the mount where a path leads, or of it and all below it.
-    SetAttr {
-        space: SpaceId,
-        path: Names,
-        change: Change,
-    },
-}
-
-/// What an accepted command answers.
-#[derive(Clone, Copy, Debug, PartialEq, Eq)]
-pub enum Reply {
-    Done,
-    /// The number of what was made.
-    Number(u64),
-}
 
 /// The most commands that are accepted.
 const MOST_COMMANDS: u64 = 1_048_576;
@@ -109,86 +65,44 @@ impl Book {
         if self.accepted >= MOST_COMMANDS {
             return Err(Fault::JournalFull);
         }
-        match command {
-            Command::MakeFs { name, kind, source } => self.make_fs(name, kind, source),
-            Command::MakeDir { fs, path } => self.make_dir(fs, path),
-            Command::NewSpace { fs } => self.new_space(fs),
-            Command::Mount { space, fs, path } => self.mount(*space, fs, path),
-            Command::SetAttr {
-                space,
-                path,
-                change,
-            } => self.set_attr(*space, path, change),
+        if command.keeps_tables() {
+            self.grow(command)
+        } else {
+            self.change(command)
         }
     }
 
+    /// Does a command that changes no table: on the world itself.
     #[tactic(auto, unfolding(crate::specs::Book::applied))]
-    fn make_fs(&mut self, name: &Label, kind: &Label, source: &Label) -> Result<Reply, Fault>
+    fn grow(&mut self, command: &Command) -> Result<Reply, Fault>
         requires accepts { self.old.accepted < command_limit }
-        ensures done { IfOk result (λ reply. applied self.old (command.MakeFs name.now kind.now source.now) ≡ Ok (self.new, reply)) }
-        ensures refused { IfErr result (λ fault. fault ≢ Fault.NoMemory → applied self.old (command.MakeFs name.now kind.now source.now) ≡ Err fault) }
+        requires tables { keeps_tables command.now ≡ true }
+        ensures done { IfOk result (λ reply. applied self.old command.now ≡ Ok (self.new, reply)) }
+        ensures refused { IfErr result (λ fault. fault ≢ Fault.NoMemory → applied self.old command.now ≡ Err fault) }
         ensures unchanged { OnErr result (self.new ≡ self.old) }
     {
-        let name = name.copy()?;
-        let kind = kind.copy()?;
-        let source = source.copy()?;
-        let fs = self.world.skel.add_fs(name, kind, source)?;
+        let reply = step(&mut self.world, command)?;
         self.accepted += 1;
-        Ok(Reply::Number(fs))
+        Ok(reply)
     }
 
+    /// Does a command that may change tables: on a copy of the world, which is compared with the
+    /// world before.
     #[tactic(auto, unfolding(crate::specs::Book::applied))]
-    fn make_dir(&mut self, fs: &Label, path: &Names) -> Result<Reply, Fault>
+    fn change(&mut self, command: &Command) -> Result<Reply, Fault>
         requires accepts { self.old.accepted < command_limit }
-        ensures done { IfOk result (λ reply. applied self.old (command.MakeDir fs.now path.now) ≡ Ok (self.new, reply)) }
-        ensures refused { IfErr result (λ fault. fault ≢ Fault.NoMemory → applied self.old (command.MakeDir fs.now path.now) ≡ Err fault) }
+        requires tables { keeps_tables command.now ≡ false }
+        ensures done { IfOk result (λ reply. applied self.old command.now ≡ Ok (self.new, reply)) }
+        ensures refused { IfErr result (λ fault. fault ≢ Fault.NoMemory → applied self.old command.now ≡ Err fault) }
         ensures unchanged { OnErr result (self.new ≡ self.old) }
     {
-        self.world.skel.add_dir(fs, path.as_slice())?;
-        self.accepted += 1;
-        Ok(Reply::Done)
-    }
-
-    #[tactic(auto, unfolding(crate::specs::Book::applied))]
-    fn new_space(&mut self, fs: &Label) -> Result<Reply, Fault>
-        requires accepts { self.old.accepted < command_limit }
-        ensures done { IfOk result (λ reply. applied self.old (command.NewSpace fs.now) ≡ Ok (self.new, reply)) }
-        ensures refused { IfErr result (λ fault. fault ≢ Fault.NoMemory → applied self.old (command.NewSpace fs.now) ≡ Err fault) }
-        ensures unchanged { OnErr result (self.new ≡ self.old) }
-    {
-        self.numbers.reserve(1)?;
-        let space = new_space(&mut self.world, fs)?;
-        self.numbers.push(1).unwrap();
-        self.accepted += 1;
-        Ok(Reply::Number(space))
-    }
-
-    #[tactic(auto, unfolding(crate::specs::Book::applied))]
-    fn mount(&mut self, space: SpaceId, fs: &Label, path: &Names) -> Result<Reply, Fault>
-        requires accepts { self.old.accepted < command_limit }
-        ensures done { IfOk result (λ reply. applied self.old (command.Mount space fs.now path.now) ≡ Ok (self.new, reply)) }
-        ensures refused { IfErr result (λ fault. fault ≢ Fault.NoMemory → applied self.old (command.Mount space fs.now path.now) ≡ Err fault) }
-        ensures unchanged { OnErr result (self.new ≡ self.old) }
-    {
-        let id = mount(&mut self.world, space, fs, path.as_slice())?;
-        self.numbers[(space - 1) as usize] += 1;
-        self.accepted += 1;
-        Ok(Reply::Number(id))
-    }
-
-    #[tactic(auto, unfolding(crate::specs::Book::applied))]
-    fn set_attr(&mut self, space: SpaceId, path: &Names, change: &Change) -> Result<Reply, Fault>
-        requires accepts { self.old.accepted < command_limit }
-        ensures done { IfOk result (λ reply. applied self.old (command.SetAttr space path.now change.now) ≡ Ok (self.new, reply)) }
-        ensures refused { IfErr result (λ fault. fault ≢ Fault.NoMemory → applied self.old (command.SetAttr space path.now change.now) ≡ Err fault) }
-        ensures unchanged { OnErr result (self.new ≡ self.old) }
-    {
-        let world = world_after(&self.world, space, path, change)?;
-        let numbers = numbers_between(self.alloc, &self.world, &world, &self.numbers)?;
-        self.world = world;
+        let made = world_after(&self.world, command)?;
+        let before = numbers_before(self.alloc, &self.numbers, command.makes_space())?;
+        let numbers = numbers_between(self.alloc, &self.world, &made.world, &before)?;
+        self.world = made.world;
         self.numbers = numbers;
         self.accepted += 1;
-        Ok(Reply::Done)
+        Ok(made.reply)
     }
 
     /// The table of a namespace. Refused as `NoNamespace` and as `NoMemory`.
@@ -209,19 +123,54 @@ impl Book {
         }
         Ok(self.numbers[(space - 1) as usize])
     }
+
+    /// Where the walk along a path ends in a namespace: the mount, and the names from its
+    /// filesystem's root down to the directory. Refused as `NoNamespace`, as `NoEntry` where a
+    /// component is not there, and as `NoMemory`.
+    pub fn find(&self, space: SpaceId, path: &[Name]) -> Result<(MountId, Vec<Name>), Fault>
+        ensures done { IfOk result (λ found. found_at self.now.world space path.now ≡ Ok (found.0, found.1.items)) }
+        ensures refused { IfErr result (λ fault. fault ≢ Fault.NoMemory → found_at self.now.world space path.now ≡ Err fault) }
+    {
+        let place = self.world.forest.walk(&self.world.skel, space, path)?;
+        let names = self.world.skel.path_of(place.dir)?;
+        Ok((place.mount, names))
+    }
 }
 
-/// A copy of the world in which mounts are changed. Refused as [`set_attr`] refuses.
-fn world_after(world: &World, space: SpaceId, path: &Names, change: &Change) -> Result<World, Fault>
-    requires numbered { world.now.peers.next < 2 ^ 63 }
+/// A world that a command has led to, and what the command answers.
+#[derive(Drop)]
+struct Made {
+    world: World,
+    reply: Reply,
+}
+
+/// A copy of the world on which a command was done. Refused as the command is, and as `NoMemory`.
+fn world_after(world: &World, command: &Command) -> Result<Made, Fault>
+    requires numbers { (world.now.next_mount < 2 ^ 63) × (world.now.peers.next < 2 ^ 63) × (world.now.next_space < 2 ^ 63) }
     requires well_formed { IsWellFormed (world_view world.now) }
-    ensures done { IfOk result (λ after. attributed (world_view world.now) space path.now change.now ≡ Ok (world_view after)) }
-    ensures refused { IfErr result (λ fault. fault ≢ Fault.NoMemory → attributed (world_view world.now) space path.now change.now ≡ Err fault) }
-    ensures kept { IfOk result (λ after. IsWellFormed (world_view after)) }
+    ensures done { IfOk result (λ made. step_of (world_view world.now) command.now ≡ Ok (world_view made.world, made.reply)) }
+    ensures refused { IfErr result (λ fault. fault ≢ Fault.NoMemory → step_of (world_view world.now) command.now ≡ Err fault) }
+    ensures kept { IfOk result (λ made. IsWellFormed (world_view made.world)) }
 {
     let mut after = world.copy()?;
-    set_attr(&mut after, space, path.as_slice(), change)?;
-    Ok(after)
+    let reply = step(&mut after, command)?;
+    Ok(Made {
+        world: after,
+        reply,
+    })
+}
+
+/// The numbers of all namespaces before a command, which may make one more. Refused as `NoMemory`
+/// alone.
+fn numbers_before(alloc: Global, numbers: &[u64], more: bool) -> Result<Vec<u64>, Fault>
+    ensures numbers { IfOk result (λ before. before.items ≡ numbers.now ++ cond more (0 ∷ []) []) }
+    ensures memory { IsOkUnless result Fault.NoMemory }
+{
+    let mut before = Vec::from_slice(alloc, numbers)?;
+    if more {
+        before.push(0)?;
+    }
+    Ok(before)
 }
 
 /// Whether the table of a namespace is not the same in two worlds. Refused as `NoMemory` alone.

@@ -3,7 +3,8 @@ ghost use Rattle.std.specs.Prelude.{◌≡◌, ◌≢◌, IfOk, IfErr, OnErr, Ok
 ghost use Rattle.mt_session.specs.Book.{empty_book};
 ghost use Rattle.mt_session.specs.Floor.{stepped};
 
-use crate::early::book::{Book, Command, Reply};
+use crate::early::book::Book;
+use crate::early::command::{Command, Reply};
 use mt_skel::fault::Fault;
 use std::alloc::Global;
 use std::marker::Model;
