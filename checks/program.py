@@ -16,6 +16,9 @@ import subprocess
 import sys
 import tempfile
 
+# Sessions that together have every line that may want memory.
+REFUSED = ["two-filesystems", "copied-namespace", "move-with-its-receiver", "rbind-around-unbindable", "slide-over-two"]
+
 TOP = os.path.dirname(os.path.dirname(os.path.abspath(__file__)))
 failures = []
 
@@ -94,7 +97,7 @@ def twins(program):
 
 
 def refused_memory(program):
-    for name in ("two-filesystems", "copies", "move-with-its-receiver", "rbind-around-unbindable", "slide-over-two"):
+    for name in REFUSED:
         refuse_each(program, name)
 
 
