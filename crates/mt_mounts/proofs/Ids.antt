@@ -1,14 +1,15 @@
--- The IDs of a forest, sorted, are those of its rows.
-use Rattle.std.proofs.Common.{◌≡◌, ◌≢◌, ℕ, suc, ◌+◌, ◌<◌, true, false, cond, eqb, List, [], ◌∷◌, map, Option, Some, None, refl, sym, ap, subst, ◌∙◌, inl, inr, arith, Contains, IsPermutation}
+-- The IDs of a forest, sorted, are those of its rows, and its mounts, sorted, are its rows.
+use Rattle.std.proofs.Common.{◌≡◌, ◌≢◌, ℕ, suc, ◌+◌, ◌<◌, true, false, cond, eqb, List, [], ◌∷◌, map, Option, Some, None, refl, sym, ap, subst, ◌∙◌, inl, inr, arith, length, eq-eqb, Contains, IsPermutation}
 use Rattle.std.specs.Prelude.{nat_lt, slice_index}
 use Rattle.std.specs.List.{AllByRecursion, IsDistinct, list_all}
-use Rattle.std.specs.List.Sorted.{IsSorted, IsStrictlyIncreasing}
+use Rattle.std.specs.List.Sorted.{IsSorted, IsStrictlyIncreasing, IsNonDecreasing, IsNonDecreasingBy}
 use Rattle.std.specs.Ordering.{nat_cmp}
 use Rattle.std.specs.Option.{option_map}
 use Rattle.std.specs.Cmp.{nat_eq_equiv}
 use Rattle.std.proofs.lemmas.Bool.{cases_eq, ne_eqb}
 use Rattle.std.proofs.lemmas.Bool.Decides.{nat_tests}
-use Rattle.std.proofs.lemmas.List.Sorted.{Contains-permutation, IsPermutation-sym, IsNonDecreasingBy-from_sort}
+use Rattle.std.proofs.lemmas.List.Sorted.{Contains-permutation, IsPermutation-sym, IsPermutation-map, IsNonDecreasingBy-from_sort}
+use Rattle.std.proofs.lemmas.List.{get_or-map, length-map}
 use Rattle.std.proofs.lemmas.Map.Keys.{IsDistinct-IsPermutation, IsStrictlyIncreasing-from_distinct}
 use Rattle.slab.specs.Slab.{Slab, entries, entries_from}
 use Rattle.slab.proofs.SlabLemmas.{Contains-cons, Contains-cons_cases}
@@ -94,3 +95,56 @@ sorted_ids s ws vs ids is p sorted =
     same_rows (λ n. n) vs (map id_of (table_of s)) (rises_of vs up) (rises_ids (table_of s) ∙ rises_table s) (λ q.
     same_options _ _ (λ x e. within vs ws q x (Contains-permutation vs ws q (IsPermutation-sym ws vs p)) e) (λ x e. within ws vs q x (Contains-permutation ws vs q p) e)
     ∙ ap (row_at (λ n. n) q) is ∙ row_of_ids (vals (entries s)) q ∙ ap (option_map id_of) (sym (table_rows s q)) ∙ sym (row_of_ids (table_of s) q))
+
+-- mounts that differ in their IDs are found by these
+apart_from : (k : ℕ) (xs : List Mount) (m : Mount) → AllByRecursion (λ y. eqb k y ≡ false) (map id_of xs) → Contains xs m → eqb k m.id ≡ false
+apart_from k [] m all c = absurd (omega (arith, c.1))
+apart_from k (x ∷ xs) m all c = elim (Contains-cons_cases _ _ _ c) [
+  | inl here ↦ let e : x ≡ m = here in ap (λ y. eqb k y.id) (sym e) ∙ all.0
+  | inr there ↦ apart_from k xs m all.1 there
+]
+
+row_of_mount : (ms : List Mount) (m : Mount) → IsDistinct eqb (map id_of ms) → Contains ms m → row_at id_of m.id ms ≡ Some m
+unfolding IsDistinct
+row_of_mount [] m differ c = absurd (omega (arith, c.1))
+row_of_mount (x ∷ xs) m differ c = elim (Contains-cons_cases _ _ _ c) [
+  | inl here ↦
+      let e : x ≡ m = here in
+      ap (λ b. cond b (Some x) (row_at id_of m.id xs)) (eq-eqb m.id x.id (ap (λ y. y.id) (sym e))) ∙ ap (λ y. Some y) e
+  | inr there ↦
+      ap (λ b. cond b (Some x) (row_at id_of m.id xs)) (nat_eq_equiv.symm m.id x.id ∙ apart_from x.id xs m differ.0 there) ∙ row_of_mount xs m differ.1 there
+]
+
+mount_of_row : (ms : List Mount) (q : ℕ) (m : Mount) → row_at id_of q ms ≡ Some m → Contains ms m
+mount_of_row [] q m e = absurd (cc)
+mount_of_row (x ∷ xs) q m e = elim (cases_eq q x.id) [
+  | inl here ↦
+      let is : Some x ≡ Some m = sym (ap (λ b. cond b (Some x) (row_at id_of q xs)) (eq-eqb q x.id here)) ∙ e in
+      let same : x ≡ m = cc in
+      (0, omega arith, same)
+  | inr off ↦ Contains-cons _ _ _ (mount_of_row xs q m (sym (ap (λ b. cond b (Some x) (row_at id_of q xs)) (ne_eqb q x.id off)) ∙ e))
+]
+
+found_in : (xs ys : List Mount) (q : ℕ) (m : Mount) → IsDistinct eqb (map id_of ys) → (Contains xs m → Contains ys m) → row_at id_of q xs ≡ Some m → row_at id_of q ys ≡ Some m
+found_in xs ys q m differ f e = ap (λ k. row_at id_of k ys) (sym (row_at-key id_of q xs m e)) ∙ row_of_mount ys m differ (f (mount_of_row xs q m e))
+
+-- mounts that do not fall by their IDs are listed by numbers that do not
+ids_rise : (ms : List Mount) → IsNonDecreasingBy id_of ms → IsNonDecreasing (map id_of ms)
+ids_rise [] h = λ i j d le lt. absurd (omega (arith, lt))
+ids_rise (m ∷ ms) h =
+    λ i j d le lt.
+    let within : j < length (m ∷ ms) = omega (arith, lt, length-map (m ∷ ms) id_of) in
+    let low = get_or-map id_of (m ∷ ms) i m d (omega (arith, le, within)) in
+    let high = get_or-map id_of (m ∷ ms) j m d within in
+    let order = h i j m le within in
+    omega (arith, low, high, order)
+
+-- sorted, the slab's mounts are the rows
+pub sorted_mounts : (s : Slab Mount) (ws vs : List Mount) → HasDistinctIds s → ws ≡ vals (entries s) → IsPermutation ws vs → IsNonDecreasingBy id_of vs → vs ≡ table_of s
+sorted_mounts s ws vs ids is p sorted =
+    let before : IsDistinct eqb (map id_of ws) = rw is (distinct_from 0 s.slots (entries_differ s ids)) in
+    let after = IsDistinct-IsPermutation eqb nat_eq_equiv.symm (map id_of ws) (map id_of vs) (IsPermutation-map id_of ws vs p) before in
+    let up = IsStrictlyIncreasing-from_distinct (map id_of vs) (ids_rise vs sorted) after in
+    same_rows id_of vs (table_of s) (sym (rises_ids vs) ∙ rises_of (map id_of vs) up) (rises_table s) (λ q.
+    same_options _ _ (λ m e. found_in vs ws q m before (Contains-permutation vs ws m (IsPermutation-sym ws vs p)) e) (λ m e. found_in ws vs q m after (Contains-permutation ws vs m p) e)
+    ∙ ap (row_at id_of q) is ∙ sym (table_rows s q))

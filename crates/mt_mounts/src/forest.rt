@@ -276,6 +276,19 @@ impl Forest {
         Ok(ids)
     }
 
+    /// All mounts, by rising ID. Refused as `NoMemory` alone.
+    pub fn mounts(&self) -> Result<Vec<Mount>, Fault>
+        ensures mounts { IfOk result (λ mounts. mounts.items ≡ self.now.mounts) }
+        ensures memory { IsOkUnless result Fault.NoMemory }
+    {
+        let mut mounts = Vec::with_capacity(self.alloc, self.len())?;
+        for (_, mount) in self.slots.iter() {
+            mounts.push(*mount)?;
+        }
+        mounts.sort_unstable_by_key(|mount| mount.id);
+        Ok(mounts)
+    }
+
     /// The IDs of the mount with this ID, if it is there, and of all that stand on it, at whatever
     /// height, rising. Refused as `NoMemory` alone.
     pub fn subtree(&self, id: MountId) -> Result<Vec<MountId>, Fault>
@@ -348,6 +361,21 @@ mod tests {
         Ok(forest.ids()?.as_slice() == ids)
     }
 
+    // Whether all mounts are those with these IDs.
+    fn has_mounts(forest: &Forest, ids: &[MountId]) -> Result<bool, Fault> {
+        let mounts = forest.mounts()?;
+        let mut wanted = ids.iter();
+        for mount in &mounts {
+            let Some(id) = wanted.next() else {
+                return Ok(false);
+            };
+            if forest.get(*id) != Some(*mount) {
+                return Ok(false);
+            }
+        }
+        Ok(wanted.next().is_none())
+    }
+
     fn has_subtree(forest: &Forest, id: MountId, ids: &[MountId]) -> Result<bool, Fault> {
         Ok(forest.subtree(id)?.as_slice() == ids)
     }
@@ -401,8 +429,11 @@ mod tests {
         forest.remove(99);
         add(&mut forest, 35, 1, Some(at(30, 2)), 0)?;
         assert!(rt; has_ids(&forest, &[20, 25, 30, 35, 40])?);
+        assert!(rt; has_mounts(&forest, &[20, 25, 30, 35, 40])?);
+        assert!(rt; !has_mounts(&forest, &[20, 25, 30, 40, 35])?);
         assert!(rt; has_subtree(&forest, 30, &[30, 35])?);
         assert!(rt; has_ids(&before, &[10, 20, 25, 30, 40])?);
+        assert!(rt; has_mounts(&before, &[10, 20, 25, 30, 40])?);
         Ok(())
     }
 
