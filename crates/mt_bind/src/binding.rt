@@ -188,9 +188,9 @@ pub fn rbind(
 #[cfg(test)]
 mod tests {
     use super::*;
-    use crate::fixture::{add_mount, add_row, add_space, bare, path};
+    use crate::fixture::{add_mount, add_row, add_space, bare, make, path};
     use mt_mounts::mount::{Attrs, Mount};
-    use mt_peers::state::{GroupId, State};
+    use mt_peers::state::{GroupId, Kind, State};
     use std::alloc::Global;
     use std::test::Fail;
 
@@ -280,6 +280,33 @@ mod tests {
             assert!(rt; stands(&world, id, place, root));
         }
         assert_eq!(rt; world.forest.len(), 9);
+        Ok(())
+    }
+
+    // The root mount is unbindable, and mount 2 at "a" is not.
+    #[test]
+    fn binds_no_unbindable_mount(rt: HostRuntime) -> Result<(), Fail> {
+        let alloc = rt.alloc();
+        let mut world = bare(alloc)?;
+        let space = add_space(alloc, &mut world)?;
+        add_mount(alloc, &mut world, space, b"ext", b"a")?;
+        make(&mut world, 1, Kind::Unbindable)?;
+        for (from, to, deep, wanted) in [
+            (
+                b"c".as_slice(),
+                b"a/c".as_slice(),
+                false,
+                Err(Fault::Unbindable),
+            ),
+            (b"", b"c", true, Err(Fault::Unbindable)),
+            (b"c", b"", false, Err(Fault::RootPlace)),
+            (b"a", b"c", false, Ok(3)),
+            (b"a/a", b"c/a", true, Ok(4)),
+        ] {
+            let answer = add_bind(alloc, &mut world, space, deep, from, to);
+            assert!(rt; answer == wanted);
+        }
+        assert_eq!(rt; world.forest.len(), 4);
         Ok(())
     }
 

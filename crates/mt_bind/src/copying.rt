@@ -186,7 +186,7 @@ pub fn copy_space(world: &mut World, space: SpaceId) -> Result<SpaceId, Fault>
 #[cfg(test)]
 mod tests {
     use super::*;
-    use crate::fixture::{add_mount, add_space, bare};
+    use crate::fixture::{add_mount, add_space, bare, make};
     use mt_peers::state::{GroupId, Kind};
     use mt_skel::skel::Dir;
     use std::alloc::Global;
@@ -201,18 +201,6 @@ mod tests {
             return Err(Fault::TooMany);
         }
         copy_space(world, space)
-    }
-
-    // Makes a mount shared or a slave.
-    fn make(world: &mut World, id: MountId, kind: Kind) -> Result<(), Fault>
-        requires { IsWellFormed (world_view world.old) }
-        ensures { IsWellFormed (world_view world.new) }
-    {
-        if world.peers.next_group() > 100 {
-            return Err(Fault::TooMany);
-        }
-        world.peers.make(id, kind);
-        Ok(())
     }
 
     // Namespace 2 has the root mount 4 in group 2, 5 on it, whose master is group 1, and 6 on that.

@@ -8,7 +8,7 @@ use crate::spaces::new_space;
 use mt_mounts::forest::Forest;
 use mt_mounts::mount::{Attrs, Mount, MountId, Place, SpaceId};
 use mt_peers::peers::Peers;
-use mt_peers::state::State;
+use mt_peers::state::{Kind, State};
 use mt_propagate::world::World;
 use mt_skel::fault::Fault;
 use mt_skel::name::{Label, Name};
@@ -84,6 +84,18 @@ pub(crate) fn add_mount(
         return Err(Fault::TooMany);
     }
     mount(world, space, &label(alloc, fs)?, &path(alloc, to)?)
+}
+
+/// Makes a mount shared, private, a slave or unbindable.
+pub(crate) fn make(world: &mut World, id: MountId, kind: Kind) -> Result<(), Fault>
+    requires { IsWellFormed (world_view world.old) }
+    ensures { IsWellFormed (world_view world.new) }
+{
+    if world.peers.next_group() > 100 {
+        return Err(Fault::TooMany);
+    }
+    world.peers.make(id, kind);
+    Ok(())
 }
 
 /// Adds a mount of "ext" with this state to namespace 1, if its ID is new and its place is free.

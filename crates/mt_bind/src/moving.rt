@@ -145,7 +145,8 @@ pub fn move_mount(
 #[cfg(test)]
 mod tests {
     use super::*;
-    use crate::fixture::{add_mount, add_space, bare, path};
+    use crate::fixture::{add_mount, add_space, bare, make, path};
+    use mt_peers::state::Kind;
     use mt_skel::skel::Dir;
     use std::alloc::Global;
     use std::test::Fail;
@@ -202,6 +203,62 @@ mod tests {
         assert!(rt; stands_at(&world, 2, 1, 3));
         assert!(rt; stands_at(&world, 3, 2, 3));
         assert_eq!(rt; world.forest.len(), 3);
+        Ok(())
+    }
+
+    // Mount 2 stands at "a" of the shared root mount.
+    #[test]
+    fn moves_no_mount_off_a_shared_one(rt: HostRuntime) -> Result<(), Fail> {
+        let alloc = rt.alloc();
+        let mut world = bare(alloc)?;
+        let space = add_space(alloc, &mut world)?;
+        add_mount(alloc, &mut world, space, b"ext", b"a")?;
+        make(&mut world, 1, Kind::Shared)?;
+        for (from, to, wanted) in [
+            (b"a".as_slice(), b"c".as_slice(), Err(Fault::SharedParent)),
+            (b"a", b"a/c", Err(Fault::SharedParent)),
+            (b"a", b"", Err(Fault::RootPlace)),
+            (b"a", b"b", Err(Fault::NoEntry)),
+        ] {
+            let answer = try_move(alloc, &mut world, space, from, to);
+            assert!(rt; answer == wanted);
+        }
+        assert!(rt; stands_at(&world, 2, 1, 1));
+        make(&mut world, 1, Kind::Slave)?;
+        let answer = try_move(alloc, &mut world, space, b"a", b"c");
+        assert!(rt; answer == Ok(()));
+        assert!(rt; stands_at(&world, 2, 1, 3));
+        Ok(())
+    }
+
+    // Mount 2 at "a" is shared, and mount 4 on 3 at "c" is unbindable.
+    #[test]
+    fn moves_no_unbindable_mount_to_a_shared_one(rt: HostRuntime) -> Result<(), Fail> {
+        let alloc = rt.alloc();
+        let mut world = bare(alloc)?;
+        let space = add_space(alloc, &mut world)?;
+        for to in [b"a".as_slice(), b"c", b"c/a"] {
+            add_mount(alloc, &mut world, space, b"ext", to)?;
+        }
+        make(&mut world, 2, Kind::Shared)?;
+        make(&mut world, 4, Kind::Unbindable)?;
+        for (from, to, wanted) in [
+            (
+                b"c".as_slice(),
+                b"a/c".as_slice(),
+                Err(Fault::UnbindableInside),
+            ),
+            (b"c/a", b"a", Err(Fault::UnbindableInside)),
+            (b"c", b"c/c", Err(Fault::IntoItself)),
+            (b"c/a", b"c/c", Ok(())),
+            (b"a", b"c/a", Ok(())),
+        ] {
+            let answer = try_move(alloc, &mut world, space, from, to);
+            assert!(rt; answer == wanted);
+        }
+        for (id, mount, dir) in [(2, 3, 1), (3, 1, 3), (4, 3, 3)] {
+            assert!(rt; stands_at(&world, id, mount, dir));
+        }
         Ok(())
     }
 }

@@ -1,9 +1,10 @@
 -- Options of a `setattr` line that are given twice, and lists of words.
-use Rattle.std.proofs.Common.{arith, suc, ◌≡◌, ℕ, Bool, true, false, nat_lt, List, [], ◌∷◌, length, cond, ◌||◌, codes, Some, refl, ◌∙◌}
+use Rattle.std.proofs.Common.{arith, suc, ◌≡◌, ℕ, Bool, true, false, nat_lt, List, [], ◌∷◌, length, drop, cond, ◌||◌, codes, Option, Some, None, refl, ◌∙◌}
 use Rattle.std.proofs.lemmas.Bool.Decides.{nat_tests}
-use Rattle.std.specs.List.{filter, list_all, list_any}
+use Rattle.std.specs.List.{filter, find, list_all, list_any}
+use Rattle.std.specs.Option.{option_map_or}
 use Rattle.mt_session.specs.Words.{pieces}
-use Rattle.mt_session.specs.Options.{has_key, is_repeated, is_set_word, lists, set_words}
+use Rattle.mt_session.specs.Options.{has_key, is_repeated, is_set_word, lists, set_words, said}
 
 -- something passes a test where the list of all that do is not empty
 any_filtered : {A : Type 0} (test : A → Bool) (xs : List A) → list_any test xs ≡ nat_lt 0 (length (filter test xs))
@@ -34,3 +35,11 @@ pub set_words_found : (list : List ℕ) (ro nosuid nodev noexec nosymfollow nodi
     → Some (record { ro = ro; nosuid = nosuid; nodev = nodev; noexec = noexec; nosymfollow = nosymfollow; nodiratime = nodiratime; relatime = relatime; noatime = noatime; strictatime = strictatime })
     ≡ set_words list
 set_words_found list a b c d e f g h i all e1 e2 e3 e4 e5 e6 e7 e8 e9 = rw (all, e1, e2, e3, e4, e5, e6, e7, e8, e9) refl
+
+-- what is read of the options is read of what the key's option says, if there is one
+pub read_said : {A : Type 0} (key : List ℕ) (absent : Option A) (read : List ℕ → Option A) (options : List (List ℕ)) → said key absent read options ≡ option_map_or read (said key None (λ text. Some text) options) absent
+read_said {A} key absent read options = go (find (has_key key) options)
+  where
+    go : (found : Option (List ℕ)) → option_map_or (λ option. read (drop (length key) option)) found absent ≡ option_map_or read (option_map_or (λ option. Some (drop (length key) option)) found None) absent
+    go None = refl
+    go (Some option) = refl

@@ -1,5 +1,5 @@
 -- The request that a line says, or why it is refused (the lines are this project's rule).
-use Rattle.std.specs.Prelude.{◌≡◌, ◌⊎◌, ℕ, Bool, true, false, not, ◌&&◌, ◌||◌, ◌==◌, nat_eq, nat_lt, if◌then◌else◌, List, [], ◌∷◌, length, drop, fold, Option, Some, None, unwrap_or, Result, Ok, Err, codes}
+use Rattle.std.specs.Prelude.{◌≡◌, ◌⊎◌, ℕ, Bool, true, false, not, ◌&&◌, ◌||◌, ◌==◌, nat_eq, nat_lt, if◌then◌else◌, List, [], ◌∷◌, length, drop, fold, Option, Some, None, unwrap_or, Result, Ok, Err, is_ok, codes}
 use Rattle.std.specs.List.{list_all, list_any, starts_with}
 use Rattle.std.specs.Option.{option_map, option_map_or, option_or}
 use Rattle.std.specs.Str.{bytes_eq}
@@ -72,9 +72,18 @@ abbrev pub HasNoFault : List (Option Fault) → Type 0
 HasNoFault [] = Unit {0}
 HasNoFault (f ∷ fs) = (f ≡ None) × HasNoFault fs
 
--- a request, unless there is a fault
-abbrev pub unless : Option Fault → Request → Result Request Fault
-unless fault asked = option_map_or (λ f. Err f) fault (Ok asked)
+-- what a line says, unless there is a fault
+abbrev pub unless : {A : Type 0} → Option Fault → A → Result A Fault
+unless fault said = option_map_or (λ f. Err f) fault (Ok said)
+
+-- the request that is made of what a line says, unless that is refused
+abbrev pub asked : {A : Type 0} → (A → Request) → Result A Fault → Result Request Fault
+asked make (Ok said) = Ok (make said)
+asked make (Err f) = Err f
+
+-- what was read is what a line says, or want of memory in place of what is not refused
+abbrev pub Reads : {A : Type 0} → Result A Fault → Result A Fault → Type 0
+Reads said read = (read ≡ said) ⊎ ((read ≡ Err NoMemory) × (is_ok said ≡ true))
 
 -- `mkfs NAME TYPE SOURCE` makes a filesystem
 abbrev pub mkfs_of : List (List ℕ) → Result Request Fault
@@ -106,19 +115,19 @@ mount_of (space ∷ fs ∷ path ∷ []) =
     (number_of space) (Err BadLine)
 mount_of _ = Err BadLine
 
+-- the namespace and the two paths that a line says; a bad number is a bad line, and so comes before every other fault
+abbrev pub two_paths_of : List (List ℕ) → Result (ℕ × List (List ℕ) × List (List ℕ)) Fault
+two_paths_of (space ∷ src ∷ dst ∷ []) =
+    option_map_or (λ n. unless (worst (path_fault src ∷ path_fault dst ∷ [])) (n, path_names src, path_names dst)) (number_of space) (Err BadLine)
+two_paths_of _ = Err BadLine
+
 -- `bind NS SRC DST` binds a mount, and `rbind NS SRC DST` a tree of mounts
 abbrev pub bind_of : Bool → List (List ℕ) → Result Request Fault
-bind_of deep (space ∷ src ∷ dst ∷ []) =
-    option_map_or (λ n. unless (worst (path_fault src ∷ path_fault dst ∷ [])) (request.Run (command.Bind n (path_names src) (path_names dst) deep)))
-    (number_of space) (Err BadLine)
-bind_of deep _ = Err BadLine
+bind_of deep words = asked (λ (space, src, dst). request.Run (command.Bind space src dst deep)) (two_paths_of words)
 
 -- `move NS SRC DST` moves a tree of mounts
 abbrev pub move_of : List (List ℕ) → Result Request Fault
-move_of (space ∷ src ∷ dst ∷ []) =
-    option_map_or (λ n. unless (worst (path_fault src ∷ path_fault dst ∷ [])) (request.Run (command.Move n (path_names src) (path_names dst))))
-    (number_of space) (Err BadLine)
-move_of _ = Err BadLine
+move_of words = asked (λ (space, src, dst). request.Run (command.Move space src dst)) (two_paths_of words)
 
 -- `umount NS PATH` unmounts
 abbrev pub umount_of : List (List ℕ) → Result Request Fault

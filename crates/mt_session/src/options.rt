@@ -153,15 +153,26 @@ fn kind_of(word: &[u8]) -> Option<Kind>
     }
 }
 
-/// What the options set, if they do so rightly.
-fn set_of(words: Words<'_>) -> Option<SetWords>
-    ensures { result ≡ said (codes "set=") (Some nothing_set) set_words words.entry }
+/// What the first option that has the key says behind it.
+fn said<'a>(words: Words<'a>, key: &[u8]) -> Option<&'a [u8]>
+    ensures { option_map (λ text. text.now) result ≡ said key.now None (λ text. Some text) words.entry }
 {
     let mut words = words;
     'words: while let Some(word) = words.next() {
-        if let Some(list) = word.strip_prefix(b"set=") {
-            return set_words(list);
+        if let Some(text) = word.strip_prefix(key) {
+            return Some(text);
         }
+    }
+    None
+}
+
+/// What the options set, if they do so rightly.
+#[tactic(auto, using(crate::proofs::OptionLaws::read_said))]
+fn set_of(words: Words<'_>) -> Option<SetWords>
+    ensures { result ≡ said (codes "set=") (Some nothing_set) set_words words.entry }
+{
+    if let Some(list) = said(words, b"set=") {
+        return set_words(list);
     }
     Some(SetWords {
         ro: false,
@@ -177,14 +188,12 @@ fn set_of(words: Words<'_>) -> Option<SetWords>
 }
 
 /// What the options clear, if they do so rightly.
+#[tactic(auto, using(crate::proofs::OptionLaws::read_said))]
 fn clr_of(words: Words<'_>) -> Option<ClrWords>
     ensures { result ≡ said (codes "clr=") (Some nothing_cleared) clr_words words.entry }
 {
-    let mut words = words;
-    'words: while let Some(word) = words.next() {
-        if let Some(list) = word.strip_prefix(b"clr=") {
-            return clr_words(list);
-        }
+    if let Some(list) = said(words, b"clr=") {
+        return clr_words(list);
     }
     Some(ClrWords {
         ro: false,
@@ -197,24 +206,15 @@ fn clr_of(words: Words<'_>) -> Option<ClrWords>
     })
 }
 
-/// What mounts are made by a word that has to say so.
-fn made(word: &[u8]) -> Option<Option<Kind>>
-    ensures { result ≡ option_map (λ kind. Some kind) (kind_of word.now) }
-{
-    Some(Some(kind_of(word)?))
-}
-
 /// What the options make mounts, if they do so rightly.
+#[tactic(auto, using(crate::proofs::OptionLaws::read_said))]
 fn prop_of(words: Words<'_>) -> Option<Option<Kind>>
     ensures { result ≡ said (codes "prop=") (Some None) (λ word. option_map (λ kind. Some kind) (kind_of word)) words.entry }
 {
-    let mut words = words;
-    'words: while let Some(word) = words.next() {
-        if let Some(kind) = word.strip_prefix(b"prop=") {
-            return made(kind);
-        }
+    match said(words, b"prop=") {
+        Some(word) => Some(Some(kind_of(word)?)),
+        None => Some(None),
     }
-    Some(None)
 }
 
 /// The change that the options of a `setattr` line say, or `None` where a word is none of them, one

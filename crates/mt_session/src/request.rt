@@ -1,6 +1,6 @@
 //! Requests, as lines say them.
 ghost use Rattle.std.specs.Prelude.{◌≡◌, None, Some};
-ghost use Rattle.mt_session.specs.Requests.{ReadsAs, request_of, HasNoFault, worse, worst, mkfs_of, mkdir_of, newns_of, copyns_of, mount_of, bind_of, move_of, umount_of, setattr_of, show_of, find_of, quit_of};
+ghost use Rattle.mt_session.specs.Requests.{ReadsAs, request_of, HasNoFault, worse, worst, Reads, two_paths_of, mkfs_of, mkdir_of, newns_of, copyns_of, mount_of, bind_of, move_of, umount_of, setattr_of, show_of, find_of, quit_of};
 
 use crate::early::command::Command;
 use crate::label::{label_fault, label_of};
@@ -134,10 +134,9 @@ fn read_mount(alloc: Global, words: &mut Words<'_>) -> Result<Request, Fault>
     Ok(Request::Run(Command::Mount { space, fs, path }))
 }
 
-/// The request of a line `bind NS SRC DST`, or with `deep` of a line `rbind NS SRC DST`, behind the
-/// first word.
-fn read_bind(alloc: Global, words: &mut Words<'_>, deep: bool) -> Result<Request, Fault>
-    ensures { ReadsAs (bind_of deep words.old) result }
+/// The namespace and the two paths of a line, behind its first word.
+fn read_two_paths(alloc: Global, words: &mut Words<'_>) -> Result<(u64, Names, Names), Fault>
+    ensures { Reads (two_paths_of words.old) result }
 {
     let (Some(space), Some(src), Some(dst), None) = (
         words.next(),
@@ -155,6 +154,15 @@ fn read_bind(alloc: Global, words: &mut Words<'_>, deep: bool) -> Result<Request
     }
     let src = path_of(alloc, src)?;
     let dst = path_of(alloc, dst)?;
+    Ok((space, src, dst))
+}
+
+/// The request of a line `bind NS SRC DST`, or with `deep` of a line `rbind NS SRC DST`, behind the
+/// first word.
+fn read_bind(alloc: Global, words: &mut Words<'_>, deep: bool) -> Result<Request, Fault>
+    ensures { ReadsAs (bind_of deep words.old) result }
+{
+    let (space, src, dst) = read_two_paths(alloc, words)?;
     Ok(Request::Run(Command::Bind {
         space,
         src,
@@ -167,22 +175,7 @@ fn read_bind(alloc: Global, words: &mut Words<'_>, deep: bool) -> Result<Request
 fn read_move(alloc: Global, words: &mut Words<'_>) -> Result<Request, Fault>
     ensures { ReadsAs (move_of words.old) result }
 {
-    let (Some(space), Some(src), Some(dst), None) = (
-        words.next(),
-        words.next(),
-        words.next(),
-        words.next(),
-    ) else {
-        return Err(Fault::BadLine);
-    };
-    let Some(space) = number(space) else {
-        return Err(Fault::BadLine);
-    };
-    if let Some(fault) = worst(&[path_fault(src), path_fault(dst)]) {
-        return Err(fault);
-    }
-    let src = path_of(alloc, src)?;
-    let dst = path_of(alloc, dst)?;
+    let (space, src, dst) = read_two_paths(alloc, words)?;
     Ok(Request::Run(Command::Move { space, src, dst }))
 }
 
