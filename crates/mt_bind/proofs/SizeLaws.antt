@@ -1,111 +1,26 @@
 -- How much new namespaces, copies of namespaces, mounts, binds and moves add to a world.
-use Rattle.std.proofs.Common.{◌≡◌, ℕ, ◌+◌, ◌*◌, ◌≤◌, Bool, true, false, cond, not, ◌&&◌, ◌==◌, List, [], ◌∷◌, ◌++◌, map, length, Option, Some, None, Ok, refl, ap, subst, arith, length-append}
+use Rattle.std.proofs.Common.{◌≡◌, ℕ, ◌+◌, ◌≤◌, Bool, true, false, cond, not, ◌&&◌, ◌==◌, List, [], ◌∷◌, map, length, None, Ok, ap, subst, arith, length-append}
 use Rattle.std.specs.Prelude.{unwrap_or, is_none, is_some}
-use Rattle.std.specs.List.{filter, flat_map, list_any}
-use Rattle.std.specs.Option.{option_to_list, option_map_or}
+use Rattle.std.specs.List.{filter, list_any}
+use Rattle.std.specs.Option.{option_map_or}
 use Rattle.std.proofs.lemmas.Bool.Decides.{nat_tests}
 use Rattle.std.proofs.lemmas.List.{length-map}
 use Rattle.mt_skel.specs.declared.fault.Fault.TheVariants.{NoFilesystem, NoNamespace, RootPlace, TooMany, Unbindable, NotMountRoot, SharedParent, IntoItself, UnbindableInside}
-use Rattle.mt_skel.specs.Keyed.{firsts}
 use Rattle.mt_skel.specs.Outcome.{refuse_if}
 use Rattle.mt_skel.specs.Skeleton.{fs_named, root_of}
 use Rattle.mt_mounts.specs.declared.mount.Mount.{Mount}
-use Rattle.mt_mounts.specs.declared.mount.Place.{Place}
 use Rattle.mt_mounts.specs.Attrs.{new_attrs}
 use Rattle.mt_mounts.specs.Forest.{parent, is_below}
 use Rattle.mt_propagate.specs.World.{WorldView, is_space, state_of, group_of}
 use Rattle.mt_propagate.specs.Named.{is_root_place, is_root_mount, is_named_mount}
 use Rattle.mt_propagate.specs.Limits.{too_many_mounts, too_many_spaces}
-use Rattle.mt_propagate.specs.Receivers.{hits}
-use Rattle.mt_propagate.specs.Copies.{Source, Copy, targets, new_copies, all_copies, copies_at, copy_id}
-use Rattle.mt_propagate.specs.Groups.{key_eq, group_key, master_key, is_new_key, new_keys}
-use Rattle.mt_propagate.specs.Places.{copy_of, new_mounts, relocated}
+use Rattle.mt_propagate.specs.Copies.{new_copies, copy_id}
 use Rattle.mt_propagate.specs.Copied.{copied}
+use Rattle.mt_propagate.proofs.SizeLaws.{IsSized, few_pass, copied_sized}
 use Rattle.mt_bind.specs.Spaces.{originals, twin_of, new_space, with_space, copy_space, with_copy}
 use Rattle.mt_bind.specs.Sources.{fresh, top_at, alone, is_bound_along, tree_within, tree_of}
 use Rattle.mt_bind.specs.Mounting.{mounted, bound, moved, ended, no_end, too_many}
 use Rattle.mt_bind.proofs.MountLaws.{outcome_ok, first_none, not_refused}
-
--- a world and one that a command has led to, in which there are so many more namespaces
-pub record IsSized (w v : WorldView) (more : ℕ) : Type 0 where
-  pub spaces : v.next_space ≡ w.next_space + more
-  pub mounts : v.next_mount ≤ w.next_mount + 4096
-  pub groups : v.peering.next ≤ w.peering.next + 16384
-  pub within : length v.forest ≤ 4096
-
-pub few_pass : {X : Type 0} (p : X → Bool) (xs : List X) → length (filter p xs) ≤ length xs
-few_pass p [] = omega arith
-few_pass {X} p (x ∷ xs) =
-    let ih = few_pass p xs in
-    elim (p x) as (λ b. length (cond {A = List X} b (x ∷ filter p xs) (filter p xs)) ≤ length (x ∷ xs)) [
-      | true ↦ omega (arith, ih)
-      | false ↦ omega (arith, ih)
-    ]
-
-few_firsts : {X : Type 0} (eq : X → X → Bool) (xs : List X) → length (firsts eq xs) ≤ length xs
-few_firsts eq [] = omega arith
-few_firsts eq (x ∷ xs) = let ih = few_firsts eq xs in let f = few_pass (λ y. not (eq x y)) (firsts eq xs) in omega (arith, ih, f)
-
-one_at_most : {Y : Type 0} (o : Option Y) → length (option_to_list o) ≤ 1
-one_at_most None = omega arith
-one_at_most (Some y) = omega arith
-
-two_each : {X Y : Type 0} (f g : X → Option Y) (xs : List X) → length (flat_map (λ x. option_to_list (f x) ++ option_to_list (g x)) xs) ≤ 2 * length xs
-two_each f g [] = omega arith
-two_each f g (x ∷ xs) =
-    let ih = two_each f g xs in
-    let pair = option_to_list (f x) ++ option_to_list (g x) in
-    let rest = flat_map (λ x. option_to_list (f x) ++ option_to_list (g x)) xs in
-    omega (arith, ih, one_at_most (f x), one_at_most (g x), length-append (option_to_list (f x)) (option_to_list (g x)), length-append pair rest)
-
--- at most two new groups for each copy
-keys_few : (w : WorldView) (src : Source) (dest : Place) → length (new_keys w src dest) ≤ 2 * length (all_copies w src dest)
-keys_few w src dest =
-    let cs = all_copies w src dest in
-    let all = flat_map (λ (c : Copy). option_to_list (group_key w src dest c) ++ option_to_list (master_key w src dest c)) cs in
-    few (length (new_keys w src dest)) (length (filter (is_new_key w src dest) all)) (length all) (length cs) (few_firsts key_eq (filter (is_new_key w src dest) all)) (few_pass (is_new_key w src dest) all)
-    (two_each (group_key w src dest) (master_key w src dest) cs)
-  where
-    few : (n k l c : ℕ) → n ≤ k → k ≤ l → l ≤ 2 * c → n ≤ 2 * c
-    few n k l c p q r = omega arith
-
--- lists of one length at each target
-as_many : {X Y Z : Type 0} (f : ℕ → X → Y) (g : ℕ → X → Z) (xs : List X) (ts : List ℕ) → length (flat_map (λ t. map (f t) xs) ts) ≡ length (flat_map (λ t. map (g t) xs) ts)
-as_many f g xs [] = refl
-as_many f g xs (t ∷ ts) =
-    let ih = as_many f g xs ts in
-    omega (
-      arith,
-      ih,
-      length-append (map (f t) xs) (flat_map (λ t. map (f t) xs) ts),
-      length-append (map (g t) xs) (flat_map (λ t. map (g t) xs) ts),
-      length-map xs (f t),
-      length-map xs (g t),
-    )
-
--- a source tree and copies of it, which are not too many
-pub copied_sized : (w : WorldView) (src : Source) (dest : Place) → length src.mounts ≤ 4096 → too_many_mounts w (length (new_copies w src dest)) ≡ false → IsSized w (copied w src dest) 0
-unfolding copied
-copied_sized w src dest small few =
-    let keys = keys_few w src dest in
-    let many = all_many src.moved refl in
-    let mounts : length (new_mounts w src dest) ≡ length (new_copies w src dest) = as_many (copy_of w src dest) (λ t (m : Mount). record { target = t; source = m.id }) src.mounts (cond src.moved (hits w dest) (targets w src dest)) in
-    let room : length w.forest + length (new_copies w src dest) ≤ 4096 = grind (arith, nat_tests) in
-    record {
-      spaces = omega arith;
-      mounts = omega (arith, room);
-      groups = omega (arith, room, keys, many, small);
-      within = omega (arith, room, mounts, length-append (map (relocated w src dest) w.forest) (new_mounts w src dest), length-map w.forest (relocated w src dest));
-    }
-  where
-    all_many : (b : Bool) → src.moved ≡ b → length (all_copies w src dest) ≤ length (new_copies w src dest) + length src.mounts
-    all_many true e =
-        let here : Mount → Copy = λ m. record { target = dest.mount; source = m.id } in
-        let same : new_copies w src dest ≡ copies_at w src dest (hits w dest) = ap (λ b. copies_at w src dest (cond b (hits w dest) (targets w src dest))) e in
-        omega (arith, ap length same, length-append (map here src.mounts) (copies_at w src dest (hits w dest)), length-map src.mounts here)
-    all_many false e =
-        let same : new_copies w src dest ≡ all_copies w src dest = ap (λ b. copies_at w src dest (cond b (hits w dest) (targets w src dest))) e in
-        omega (arith, ap length same)
 
 -- a new namespace
 pub space_sized : (w v : WorldView) (name : List ℕ) (i : ℕ) → new_space w name ≡ Ok (v, i) → IsSized w v 1

@@ -9,8 +9,8 @@ ghost use Rattle.mt_bind.specs.Sources.{alone, is_bound_along, tree_within};
 ghost use Rattle.mt_bind.specs.Along.{stands_in};
 ghost use Rattle.mt_bind.specs.Mounting.{bound};
 
-use crate::mounting::is_root_place;
 use mt_mounts::mount::{MountId, Place, SpaceId};
+use mt_propagate::named::is_root_place;
 use mt_propagate::plan::{Sources, carry_out, make_plan, ready};
 use mt_propagate::world::{MOST_MOUNTS, World};
 use mt_skel::fault::Fault;

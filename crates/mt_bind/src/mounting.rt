@@ -1,25 +1,15 @@
 //! Mounts of filesystems.
 ghost use Rattle.std.specs.Prelude.{◌≡◌, ◌≢◌, ◌^◌, ◌<◌, IfOk, IfErr, OnErr, Ok, Err};
 ghost use Rattle.mt_propagate.specs.World.{world_view};
-ghost use Rattle.mt_propagate.specs.Named.{is_root_place};
 ghost use Rattle.mt_propagate.specs.WellFormed.{IsWellFormed};
 ghost use Rattle.mt_bind.specs.Mounting.{mounted};
 
-use mt_mounts::mount::{MountId, Place, SpaceId};
+use mt_mounts::mount::{MountId, SpaceId};
+use mt_propagate::named::is_root_place;
 use mt_propagate::plan::{Sources, carry_out, make_plan, ready};
 use mt_propagate::world::World;
 use mt_skel::fault::Fault;
 use mt_skel::name::{Label, Name};
-
-/// Whether this is the root directory of a root mount.
-pub(crate) fn is_root_place(world: &World, place: Place) -> bool
-    ensures { result ≡ is_root_place (world_view world.now) place }
-{
-    match world.forest.get(place.mount) {
-        Some(mount) => mount.place.is_none() && place.dir == mount.root,
-        None => place.dir == 0,
-    }
-}
 
 /// Mounts the filesystem of this name where the path leads in a namespace, and at each propagation
 /// target of that place, and answers the ID of the mount at the place itself.

@@ -4,37 +4,16 @@ ghost use Rattle.std.specs.List.{list_any};
 ghost use Rattle.std.specs.Option.{option_map_or};
 ghost use Rattle.mt_mounts.specs.Forest.{parent};
 ghost use Rattle.mt_propagate.specs.World.{world_view, group_of, state_of};
-ghost use Rattle.mt_propagate.specs.Named.{is_named_mount, is_root_mount};
 ghost use Rattle.mt_propagate.specs.WellFormed.{IsWellFormed};
 ghost use Rattle.mt_bind.specs.Mounting.{moved};
 
 use crate::binding::is_unbindable;
-use crate::mounting::is_root_place;
 use mt_mounts::mount::{MountId, Place, SpaceId};
+use mt_propagate::named::{is_named_mount, is_root_mount, is_root_place};
 use mt_propagate::plan::{Sources, carry_out, make_plan, ready};
 use mt_propagate::world::World;
 use mt_skel::fault::Fault;
 use mt_skel::name::Name;
-
-// Whether a path that ends at this place names the mount there.
-fn is_named_mount(world: &World, place: Place) -> bool
-    ensures { result ≡ is_named_mount (world_view world.now) place }
-{
-    match world.forest.get(place.mount) {
-        Some(mount) => place.dir == mount.root,
-        None => place.dir == 0,
-    }
-}
-
-// Whether a place is on the root mount of a namespace.
-fn is_root_mount(world: &World, place: Place) -> bool
-    ensures { result ≡ is_root_mount (world_view world.now) place }
-{
-    match world.forest.get(place.mount) {
-        Some(mount) => mount.place.is_none(),
-        None => true,
-    }
-}
 
 // Whether a mount is in a peer group.
 fn is_shared(world: &World, id: MountId) -> bool

@@ -29,3 +29,4 @@ pub mod MovesLaws
 pub mod PlansLaws
 pub mod CarryLaws
 pub mod BelowSourceLaws
+pub mod SizeLaws

@@ -1,27 +1,17 @@
 -- What an accepted command made.
-use Rattle.std.proofs.Common.{◌≡◌, ℕ, ◌-◌, ◌+◌, ◌≤◌, Bool, true, false, cond, ◌&&◌, not, List, [], ◌∷◌, length, take, nat_lt, nat_le, Option, Some, None, Result, Ok, Err, sym, ap, subst, ◌∙◌, arith}
-use Rattle.std.specs.List.{filter, list_any}
-use Rattle.std.specs.Option.{is_none, is_some, unwrap_or, option_map, option_map_or}
-use Rattle.std.proofs.lemmas.List.{length-map}
+use Rattle.std.proofs.Common.{◌≡◌, ℕ, ◌-◌, ◌≤◌, true, false, cond, List, [], ◌∷◌, length, take, nat_lt, nat_le, Result, Ok, Err, sym, ap}
+use Rattle.std.specs.Option.{is_none, is_some, unwrap_or}
 use Rattle.mt_skel.specs.declared.fault.Fault.{Fault}
-use Rattle.mt_skel.specs.declared.fault.Fault.TheVariants.{TooMany, NoFilesystem, NotMountRoot, RootPlace, Busy, BadAttr, FilesystemExists, NoEntry, EntryExists}
-use Rattle.mt_skel.specs.Outcome.{refuse_if, fault_of}
+use Rattle.mt_skel.specs.declared.fault.Fault.TheVariants.{TooMany, NoFilesystem, FilesystemExists, NoEntry, EntryExists}
+use Rattle.mt_skel.specs.Outcome.{refuse_if}
 use Rattle.mt_skel.specs.Skeleton.{Skeleton, Directory, Filesystem, added_fs, added_dir, with_fs, with_dir, fs_named, number_of, filesystem_limit, directory_limit, depth_limit}
-use Rattle.mt_mounts.specs.declared.mount.Mount as M
-use Rattle.mt_mounts.specs.Forest.{id_of}
-use Rattle.mt_mounts.specs.Walk.{walk}
-use Rattle.mt_peers.specs.declared.state.Kind.{Kind}
-use Rattle.mt_peers.specs.Peers.{Peer, Peering, mount_of}
-use Rattle.mt_peers.specs.Making.{made, groupless, is_shared}
 use Rattle.mt_propagate.specs.World.{WorldView}
-use Rattle.mt_propagate.specs.Named.{place_or_nowhere, is_named_mount, is_root_mount}
 use Rattle.mt_propagate.specs.WellFormed.{IsWellFormed}
+use Rattle.mt_propagate.proofs.SizeLaws.{IsSized}
 use Rattle.mt_bind.proofs.MountLaws.{outcome_ok}
-use Rattle.mt_bind.proofs.SizeLaws.{IsSized, few_pass, space_sized, copy_sized, mount_sized, bind_sized, move_sized}
-use Rattle.mt_peers.specs.Loss.{left}
-use Rattle.mt_unmount.specs.Unmounting.{unmounted, without_mount, stands_on, is_removed, slid}
-use Rattle.mt_setattr.specs.declared.change.Change.{Change}
-use Rattle.mt_setattr.specs.Change.{attributed, clashes, with_change, changed_mount, is_chosen}
+use Rattle.mt_bind.proofs.SizeLaws.{space_sized, copy_sized, mount_sized, bind_sized, move_sized}
+use Rattle.mt_unmount.proofs.SizeLaws.{gone_sized}
+use Rattle.mt_setattr.proofs.SizeLaws.{attr_sized}
 use Rattle.mt_session.specs.declared.early.command.Command.{Command}
 use Rattle.mt_session.specs.declared.early.command.Command.TheVariants.{MakeFs, MakeDir, NewSpace, CopySpace, Mount, Bind, Move, Unmount, SetAttr}
 use Rattle.mt_session.specs.declared.early.command.Reply.{Reply}
@@ -71,58 +61,6 @@ grown w v (Bind n src dst deep) r k e = absurd (cc)
 grown w v (Move n src dst) r k e = absurd (cc)
 grown w v (Unmount n path) r k e = absurd (cc)
 grown w v (SetAttr n path change) r k e = absurd (cc)
-
--- a change gives at most as many groups as there are mounts
-few_groups : (k : Kind) (chosen : ℕ → Bool) (p : Peering) → (made k chosen p).next ≤ p.next + length p.peers
-unfolding made
-few_groups k chosen p =
-    let few = few_pass (λ (e : Peer). chosen e.mount && is_none e.state.group) p.peers in
-    let same = length-map (filter (λ (e : Peer). chosen e.mount && is_none e.state.group) p.peers) mount_of in
-    elim (is_shared k) as (λ b. cond b (p.next + length (groupless chosen p.peers)) p.next ≤ p.next + length p.peers) [
-      | true ↦ omega (arith, few, same)
-      | false ↦ omega arith
-    ]
-
-changed_groups : (k : Option Kind) (chosen : ℕ → Bool) (p : Peering) → (option_map_or (λ k. made k chosen p) k p).next ≤ p.next + length p.peers
-changed_groups None chosen p = omega arith
-changed_groups (Some k) chosen p = few_groups k chosen p
-
--- a change of mounts
-changed_sized : (w : WorldView) (c : Change) (i : ℕ) → IsWellFormed w → length w.forest ≤ 4096 → IsSized w (with_change w c i) 0
-unfolding with_change
-changed_sized w c i h few =
-    let groups = changed_groups c.prop (is_chosen w c i) w.peering in
-    let as_many : length w.peering.peers ≡ length w.forest = sym (length-map w.peering.peers mount_of) ∙ ap length (sym h.same_mounts) ∙ length-map w.forest id_of in
-    record {
-      spaces = omega arith;
-      mounts = omega arith;
-      groups = omega (arith, groups, as_many, few);
-      within = omega (arith, few, length-map w.forest (changed_mount c (is_chosen w c i)));
-    }
-
-attr_sized : (w v : WorldView) (n : ℕ) (path : List (List ℕ)) (c : Change) → IsWellFormed w → length w.forest ≤ 4096 → attributed w n path c ≡ Ok v → IsSized w v 0
-attr_sized w v n path c h few e =
-    let p = place_or_nowhere (walk w.skel w.forest n path) in
-    let same = (outcome_ok (fault_of (walk w.skel w.forest n path) ∷ refuse_if (not (is_named_mount w p)) NotMountRoot ∷ refuse_if (clashes c) BadAttr ∷ []) (with_change w c p.mount) v e).0 in
-    subst (λ (x : WorldView). IsSized w x 0) same (changed_sized w c p.mount h few)
-
--- an unmount
-gone_sized : (w v : WorldView) (n : ℕ) (path : List (List ℕ)) → length w.forest ≤ 4096 → unmounted w n path ≡ Ok v → IsSized w v 0
-unfolding without_mount left
-gone_sized w v n path few e =
-    let p = place_or_nowhere (walk w.skel w.forest n path) in
-    let same = (outcome_ok (fault_of (walk w.skel w.forest n path)
-    ∷ refuse_if (not (is_named_mount w p)) NotMountRoot
-    ∷ refuse_if (is_root_mount w p) RootPlace
-    ∷ refuse_if (list_any (stands_on p.mount) w.forest) Busy ∷ []) (without_mount w p.mount) v e).0 in
-    let stays : M.Mount → Bool = λ m. not (is_removed w p.mount m.id) in
-    let slide : M.Mount → M.Mount = λ m. record m { place = option_map (slid w p.mount) m.place } in
-    subst (λ (x : WorldView). IsSized w x 0) same (record {
-      spaces = omega arith;
-      mounts = omega arith;
-      groups = omega arith;
-      within = omega (arith, few, few_pass stays w.forest, length-map (filter stays w.forest) slide);
-    })
 
 -- how much a command adds that may change tables
 pub step_sized : (w v : WorldView) (c : Command) (r : Reply) → IsWellFormed w → length w.forest ≤ 4096 → keeps_tables c ≡ false → step w c ≡ Ok (v, r) → IsSized w v (cond (makes_space c) 1 0)

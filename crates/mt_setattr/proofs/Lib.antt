@@ -2,3 +2,4 @@ pub mod ChangeLaws
 pub mod SettingLaws
 pub mod ChosenLaws
 pub mod WalkedLaws
+pub mod SizeLaws

@@ -6,13 +6,13 @@ ghost use Rattle.mt_mounts.specs.Forest.{id_of};
 ghost use Rattle.mt_peers.specs.Entries.{among};
 ghost use Rattle.mt_peers.specs.Making.{made};
 ghost use Rattle.mt_propagate.specs.World.{world_view};
-ghost use Rattle.mt_propagate.specs.Named.{is_named_mount};
 ghost use Rattle.mt_propagate.specs.WellFormed.{IsWellFormed};
 ghost use Rattle.mt_setattr.specs.Change.{clashes, changed_atime, changed_attrs, changed_mount, with_change, attributed};
 
 use crate::change::Change;
 use mt_mounts::forest::Forest;
-use mt_mounts::mount::{Atime, Attrs, MountId, Place, SpaceId};
+use mt_mounts::mount::{Atime, Attrs, MountId, SpaceId};
+use mt_propagate::named::is_named_mount;
 use mt_propagate::world::World;
 use mt_skel::fault::Fault;
 use mt_skel::name::Name;
@@ -105,16 +105,6 @@ fn change_from(world: &mut World, top: MountId, change: &Change) -> Result<(), F
     Ok(())
 }
 
-// Whether a place is the root directory of its mount.
-fn is_named(world: &World, place: Place) -> bool
-    ensures { result ≡ is_named_mount (world_view world.now) place }
-{
-    match world.forest.get(place.mount) {
-        Some(mount) => place.dir == mount.root,
-        None => place.dir == 0,
-    }
-}
-
 /// Changes the mount that a path names in a namespace, and if the change is recursive all mounts
 /// below it, all at once. It may be a root mount. An empty change changes nothing.
 ///
@@ -136,7 +126,7 @@ pub fn set_attr(
     ensures kept { IsWellFormed (world_view world.old) → IsWellFormed (world_view world.new) }
 {
     let place = world.forest.walk(&world.skel, space, path)?;
-    if !is_named(world, place) {
+    if !is_named_mount(world, place) {
         return Err(Fault::NotMountRoot);
     }
     if clashes(change) {
@@ -149,7 +139,7 @@ pub fn set_attr(
 mod tests {
     use super::*;
     use crate::change::{ClrWords, SetWords};
-    use mt_mounts::mount::Mount;
+    use mt_mounts::mount::{Mount, Place};
     use mt_peers::peers::Peers;
     use mt_peers::state::{GroupId, Kind, State};
     use mt_skel::name::Label;

@@ -3,6 +3,7 @@ pub mod EndLaws
 pub mod SlideLaws
 pub mod UnmountTreeLaws
 pub mod UnmountLaws
+pub mod SizeLaws
 mod StayingLaws
 mod PlacedLaws
 mod PartedLaws

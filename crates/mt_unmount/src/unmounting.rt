@@ -5,7 +5,6 @@ ghost use Rattle.std.specs.Option.{option_map_or};
 ghost use Rattle.mt_mounts.specs.Forest.{on};
 ghost use Rattle.mt_peers.specs.Entries.{among};
 ghost use Rattle.mt_propagate.specs.World.{world_view};
-ghost use Rattle.mt_propagate.specs.Named.{is_named_mount, is_root_mount, is_root_place};
 ghost use Rattle.mt_propagate.specs.WellFormed.{IsWellFormed};
 ghost use Rattle.mt_propagate.specs.Carried.{IsFree};
 ghost use Rattle.mt_unmount.specs.Unmounting.{place_of, stands_on, removed, unmounted};
@@ -14,6 +13,7 @@ ghost use Rattle.mt_unmount.specs.Parting.{is_in_dir, may_go_of, going_at, slide
 use mt_mounts::forest::Forest;
 use mt_mounts::mount::{Mount, MountId, Place, SpaceId};
 use mt_propagate::carry::move_all;
+use mt_propagate::named::{is_named_mount, is_root_mount};
 use mt_propagate::receivers::receivers;
 use mt_propagate::world::World;
 use mt_skel::fault::Fault;
@@ -32,23 +32,6 @@ fn place_of(world: &World, id: MountId) -> Option<Place>
     ensures { result ≡ place_of (world_view world.now) id }
 {
     world.forest.get(id)?.place
-}
-
-// Whether this is the root directory of a mount.
-fn is_named_mount(world: &World, place: Place) -> bool
-    ensures { result ≡ is_named_mount (world_view world.now) place }
-{
-    match world.forest.get(place.mount) {
-        Some(mount) => place.dir == mount.root,
-        None => place.dir == 0,
-    }
-}
-
-// Whether this is a place on the root mount of a namespace.
-fn is_root_mount(world: &World, place: Place) -> bool
-    ensures { result ≡ is_root_mount (world_view world.now) place }
-{
-    place_of(world, place.mount).is_none()
 }
 
 // All mounts, by rising ID.
@@ -273,6 +256,7 @@ mod tests {
     use mt_mounts::mount::Attrs;
     use mt_peers::peers::Peers;
     use mt_peers::state::State;
+    use mt_propagate::named::is_root_place;
     use mt_skel::name::Label;
     use mt_skel::skel::Skel;
     use std::test::Fail;
@@ -347,12 +331,6 @@ mod tests {
         world.next_mount += 1;
         world.next_space += 1;
         Ok(())
-    }
-
-    fn is_root_place(world: &World, place: Place) -> bool
-        ensures { result ≡ is_root_place (world_view world.now) place }
-    {
-        is_root_mount(world, place) && is_named_mount(world, place)
     }
 
     // A private mount that shows this filesystem, where a path leads.
