@@ -2,3 +2,4 @@ pub mod SkelLaws
 pub mod EffectLaws
 pub mod StepLaws
 pub mod RiseLaws
+pub mod DirectoryLaws

@@ -6,3 +6,4 @@ pub mod TableLaws
 pub mod PrintLaws
 pub mod SmallWorld
 pub mod SameRowLaws
+pub mod GrownTables

@@ -1,15 +1,25 @@
 -- A book stays a book.
-use Rattle.std.proofs.Common.{◌≡◌, ℕ, zero, suc, ◌+◌, ◌-◌, ◌<◌, ◌≤◌, Bool, true, false, cond, List, [], ◌∷◌, ◌++◌, length, slice_index_or, Option, Some, None, Ok, refl, sym, ap, ◌∙◌, arith, length-append}
+use Rattle.std.proofs.Common.{◌≡◌, ℕ, zero, suc, ◌+◌, ◌-◌, ◌<◌, ◌≤◌, Bool, true, false, cond, List, [], ◌∷◌, ◌++◌, length, slice_index_or, Option, Some, None, Result, Ok, Err, refl, sym, ap, ◌∙◌, arith, length-append, append-nil}
+use Rattle.std.specs.Prelude.{if◌then◌else◌}
 use Rattle.std.specs.Option.{is_some, option_map}
+use Rattle.std.proofs.lemmas.Bool.{lt-leb}
+use Rattle.mt_skel.specs.declared.fault.Fault.{Fault}
+use Rattle.mt_skel.specs.declared.fault.Fault.TheVariants.{JournalFull}
 use Rattle.mt_mounts.specs.declared.mount.Mount.{Mount}
 use Rattle.mt_mounts.specs.Forest.{id_of, is_root, root_mount}
 use Rattle.mt_mounts.proofs.ForestLaws.{find_row, find_passes}
+use Rattle.mt_skel.specs.Skeleton.{IsSkeleton}
 use Rattle.mt_propagate.specs.World.{WorldView, is_space}
 use Rattle.mt_propagate.specs.WellFormed.{IsWellFormed}
 use Rattle.mt_propagate.proofs.WalkLaws.{root_here}
+use Rattle.mt_info.specs.Table.{table_of}
+use Rattle.mt_info.specs.SameRow.{rows_eq}
+use Rattle.mt_info.proofs.SameRowLaws.{rows_eq-decides}
+use Rattle.mt_info.proofs.GrownTables.{table_grown}
 use Rattle.mt_session.specs.declared.early.command.Command.{Command}
+use Rattle.mt_session.specs.declared.early.command.Command.TheVariants.{MakeFs, MakeDir, NewSpace, CopySpace, Mount as MountFs, Bind, Move, Unmount, SetAttr}
 use Rattle.mt_session.specs.declared.early.command.Reply.{Reply}
-use Rattle.mt_session.specs.Book.{BookView, IsBook, step, counted, keeps_tables, makes_space, command_limit}
+use Rattle.mt_session.specs.Book.{BookView, IsBook, step, counted, numbers_after, booked, applied, keeps_tables, makes_space, command_limit}
 use Rattle.mt_session.proofs.StepLaws.{grown, step_sized}
 
 -- the numbers after a command are as many, and none rose by more than one
@@ -57,11 +67,49 @@ space_numbered b n o h e some = by (root_mount b.world.forest n) refl (ap is_som
         let low = h.well_formed.below r.id r row in
         (omega (arith, low.1, root.1), omega (arith, low.1, low.2, root.1, h.spaces), ap is_some at)
 
+-- no number rises where the tables are the same
+counted-same : (w v : WorldView) (n : ℕ) (ks : List ℕ) → ((i : ℕ) → table_of v i ≡ table_of w i) → counted w v n ks ≡ ks
+counted-same w v n [] same = refl
+counted-same w v n (k ∷ ks) same =
+    let equal : rows_eq (table_of w n) (table_of v n) ≡ true = (rows_eq-decides (table_of w n) (table_of v n)).1 (sym (same n)) in
+    let later = counted-same w v (n + 1) ks same in
+    λ i. cond (equal i) k (k + 1) ∷ later i
+
+makes_none : (c : Command) → keeps_tables c ≡ true → makes_space c ≡ false
+makes_none (MakeFs name kind source) k = refl
+makes_none (MakeDir fs path) k = refl
+makes_none (NewSpace fs) k = absurd (cc)
+makes_none (CopySpace n) k = absurd (cc)
+makes_none (MountFs n fs path) k = absurd (cc)
+makes_none (Bind n src dst deep) k = absurd (cc)
+makes_none (Move n src dst) k = absurd (cc)
+makes_none (Unmount n path) k = absurd (cc)
+makes_none (SetAttr n path change) k = absurd (cc)
+
+-- so no number rises where directories are made
+pub numbers_kept : (w v : WorldView) (c : Command) (r : Reply) (ks : List ℕ) → IsWellFormed w → IsSkeleton w.skel → keeps_tables c ≡ true → step w c ≡ Ok (v, r) → numbers_after w v ks c ≡ ks
+numbers_kept w v c r ks h s keeps e =
+    let g = grown w v c r keeps e in
+    let same : (i : ℕ) → table_of v i ≡ table_of w i = λ i. ap (λ (x : WorldView). table_of x i) g.2 ∙ table_grown w g.0 h s g.1 i in
+    ap (λ (more : Bool). counted w v 1 (ks ++ newborn more)) (makes_none c keeps) ∙ ap (counted w v 1) (append-nil ks) ∙ counted-same w v 1 ks same
+
+abbrev booked_with : WorldView → ℕ → Reply → List ℕ → Result (BookView × Reply) Fault
+booked_with v accepted r ks = Ok (record { world = v; numbers = ks; accepted = accepted }, r)
+
+-- a book that is not full keeps its numbers where directories are made
+pub applied_grown : (b : BookView) (v : WorldView) (c : Command) (r : Reply) → b.accepted < command_limit → IsBook b → IsSkeleton b.world.skel → keeps_tables c ≡ true → step b.world c ≡ Ok (v, r)
+    → applied b c ≡ Ok (record { world = v; numbers = b.numbers; accepted = b.accepted + 1 }, r)
+unfolding applied
+applied_grown b v c r few h s keeps e =
+    ap (λ (full : Bool). if full then Err JournalFull else booked b c (step b.world c)) (lt-leb command_limit b.accepted few)
+    ∙ ap (booked b c) e
+    ∙ ap (booked_with v (b.accepted + 1) r) (numbers_kept b.world v c r b.numbers h.well_formed s keeps e)
+
 -- a book stays one where directories are made
 pub book_grown : (b : BookView) (v : WorldView) (c : Command) (r : Reply) → b.accepted < command_limit → IsBook b → keeps_tables c ≡ true → step b.world c ≡ Ok (v, r) → IsWellFormed v
     → IsBook (record { world = v; numbers = b.numbers; accepted = b.accepted + 1 })
 book_grown b v c r few h keeps e well =
-    let made = (grown b.world v c r keeps e).1 in
+    let made = (grown b.world v c r keeps e).2 in
     record {
       well_formed = well;
       spaces = omega (arith, h.spaces, ap (λ x. x.next_space) made);

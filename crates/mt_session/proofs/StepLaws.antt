@@ -1,5 +1,5 @@
 -- What an accepted command made.
-use Rattle.std.proofs.Common.{◌≡◌, ℕ, ◌-◌, ◌≤◌, true, false, cond, List, [], ◌∷◌, length, take, nat_lt, nat_le, Result, Ok, Err, sym, ap}
+use Rattle.std.proofs.Common.{◌≡◌, ℕ, ◌-◌, ◌≤◌, true, false, cond, List, [], ◌∷◌, length, take, nat_lt, nat_le, Result, Ok, Err, refl, sym, ap}
 use Rattle.std.specs.Option.{is_none, is_some, unwrap_or}
 use Rattle.mt_skel.specs.declared.fault.Fault.{Fault}
 use Rattle.mt_skel.specs.declared.fault.Fault.TheVariants.{TooMany, NoFilesystem, FilesystemExists, NoEntry, EntryExists}
@@ -12,6 +12,8 @@ use Rattle.mt_bind.proofs.MountLaws.{outcome_ok}
 use Rattle.mt_bind.proofs.SizeLaws.{space_sized, copy_sized, mount_sized, bind_sized, move_sized}
 use Rattle.mt_unmount.proofs.SizeLaws.{gone_sized}
 use Rattle.mt_setattr.proofs.SizeLaws.{attr_sized}
+use Rattle.mt_info.specs.Laws.{Grows}
+use Rattle.mt_info.proofs.GrownTables.{fs_grows, dir_grows}
 use Rattle.mt_session.specs.declared.early.command.Command.{Command}
 use Rattle.mt_session.specs.declared.early.command.Command.TheVariants.{MakeFs, MakeDir, NewSpace, CopySpace, Mount, Bind, Move, Unmount, SetAttr}
 use Rattle.mt_session.specs.declared.early.command.Reply.{Reply}
@@ -38,8 +40,8 @@ ok_same : {A : Type 0} (x y : A) → ◌≡◌ {A = Result A Fault} (Ok x) (Ok y
 ok_same x y e = let same : x ≡ y = cc in same
 
 -- a call that answers a reply is a call that was accepted
-skel_done : (w : WorldView) (reply : Skeleton → Reply) (q : Result Skeleton Fault) (v : WorldView) (r : Reply) → with_skel w reply q ≡ Ok (v, r) → (t : Skeleton) × (v ≡ record w { skel = t })
-skel_done w reply (Ok t) v r e = (t, ap (λ x. x.0) (sym (ok_same (record w { skel = t }, reply t) (v, r) e)))
+skel_done : (w : WorldView) (reply : Skeleton → Reply) (q : Result Skeleton Fault) (v : WorldView) (r : Reply) → with_skel w reply q ≡ Ok (v, r) → (t : Skeleton) × (q ≡ Ok t) × (v ≡ record w { skel = t })
+skel_done w reply (Ok t) v r e = (t, refl, ap (λ x. x.0) (sym (ok_same (record w { skel = t }, reply t) (v, r) e)))
 skel_done w reply (Err f) v r e = absurd (cc)
 
 number_done : (q : Result (WorldView × ℕ) Fault) (v : WorldView) (r : Reply) → numbering q ≡ Ok (v, r) → (i : ℕ) × (q ≡ Ok (v, i))
@@ -51,9 +53,15 @@ world_done (Ok u) v r e = ap (λ (x : WorldView). Ok x) (ap (λ x. x.0) (ok_same
 world_done (Err f) v r e = absurd (cc)
 
 -- directories alone are made
-pub grown : (w v : WorldView) (c : Command) (r : Reply) → keeps_tables c ≡ true → step w c ≡ Ok (v, r) → (t : Skeleton) × (v ≡ record w { skel = t })
-grown w v (MakeFs name kind source) r k e = skel_done w _ (added_fs w.skel (record { name = name; kind = kind; source = source })) v r e
-grown w v (MakeDir fs path) r k e = skel_done w _ (added_dir w.skel fs path) v r e
+pub grown : (w v : WorldView) (c : Command) (r : Reply) → keeps_tables c ≡ true → step w c ≡ Ok (v, r) → (t : Skeleton) × Grows w.skel t × (v ≡ record w { skel = t })
+grown w v (MakeFs name kind source) r k e =
+    let f : Filesystem = record { name = name; kind = kind; source = source } in
+    let q = skel_done w _ (added_fs w.skel f) v r e in
+    (q.0, fs_grows w.skel q.0 f (fs_made w.skel q.0 f q.1), q.2)
+grown w v (MakeDir fs path) r k e =
+    let q = skel_done w _ (added_dir w.skel fs path) v r e in
+    let m = dir_made w.skel q.0 fs path q.1 in
+    (q.0, dir_grows w.skel q.0 m.0 m.1, q.2)
 grown w v (NewSpace fs) r k e = absurd (cc)
 grown w v (CopySpace n) r k e = absurd (cc)
 grown w v (Mount n fs path) r k e = absurd (cc)

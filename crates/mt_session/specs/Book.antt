@@ -61,7 +61,7 @@ abbrev pub counted : WorldView → WorldView → ℕ → List ℕ → List ℕ
 counted w v n [] = []
 counted w v n (k ∷ ks) = cond (rows_eq (table_of w n) (table_of v n)) k (k + 1) ∷ counted w v (n + 1) ks
 
--- directories show in no table before a mount shows them
+-- the command makes a filesystem or a directory; no public clause cites it
 abbrev pub keeps_tables : Command → Bool
 keeps_tables (MakeFs name kind source) = true
 keeps_tables (MakeDir fs path) = true
@@ -87,7 +87,7 @@ makes_space (SetAttr n path change) = false
 
 -- a namespace that is not there yet has number 0 and the empty table; each table that is not as it was has one number more
 abbrev pub numbers_after : WorldView → WorldView → List ℕ → Command → List ℕ
-numbers_after w v ks c = cond (keeps_tables c) ks (counted w v 1 (ks ++ cond (makes_space c) (0 ∷ []) []))
+numbers_after w v ks c = counted w v 1 (ks ++ cond (makes_space c) (0 ∷ []) [])
 
 -- the book after a command: a refused one changes nothing
 abbrev pub booked : BookView → Command → Result (WorldView × Reply) Fault → Result (BookView × Reply) Fault

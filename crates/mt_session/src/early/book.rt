@@ -72,7 +72,7 @@ impl Book {
         }
     }
 
-    /// Does a command that changes no table: on the world itself.
+    /// Does a command that makes directories alone: on the world itself, since no table changes.
     #[tactic(auto, unfolding(crate::specs::Book::applied))]
     fn grow(&mut self, command: &Command) -> Result<Reply, Fault>
         requires accepts { self.old.accepted < command_limit }
@@ -81,6 +81,8 @@ impl Book {
         ensures refused { IfErr result (λ fault. fault ≢ Fault.NoMemory → applied self.old command.now ≡ Err fault) }
         ensures unchanged { OnErr result (self.new ≡ self.old) }
     {
+        // tells the proof what is always true of the directories
+        let _known = self.world.skel.directories();
         let reply = step(&mut self.world, command)?;
         self.accepted += 1;
         Ok(reply)
