@@ -3,6 +3,7 @@ pub mod LineLaws
 pub mod OptionLaws
 pub mod RowLineLaws
 pub mod TableLaws
+pub mod SearchLaws
 pub mod PrintLaws
 pub mod SmallWorld
 pub mod SameRowLaws
