@@ -1,6 +1,7 @@
 //! The mounts of one namespace.
-ghost use Rattle.std.specs.Prelude.{◌≡◌, ◌≢◌, ◌++◌, false, true, IfErr, IfOk, IsOkUnless, OnOk, Err, Some, drop};
-ghost use Rattle.mt_mounts.specs.Forest.{mount_at, parents_up};
+ghost use Rattle.std.specs.Prelude.{◌≡◌, ◌≢◌, ◌++◌, false, true, IfErr, IfOk, IsOkUnless, IsTrue, OnOk, Err, Some, drop};
+ghost use Rattle.mt_skel.specs.Keyed.{rises};
+ghost use Rattle.mt_mounts.specs.Forest.{id_of, mount_at, parent, parents_up};
 ghost use Rattle.mt_propagate.specs.World.{world_view, is_space, state_of};
 ghost use Rattle.mt_propagate.specs.WellFormed.{IsWellFormed};
 ghost use Rattle.mt_info.specs.Table.{table_of, row_of, mount_point, own_names};
@@ -88,11 +89,12 @@ pub fn table_or_empty(world: &World, space: SpaceId) -> Result<Table, Fault>
     ensures table { IfOk result (λ table. table ≡ table_of (world_view world.now) space) }
     ensures memory { IsOkUnless result Fault.NoMemory }
 {
-    let ids = world.forest.ids()?;
-    let alloc = *ids.allocator();
+    let mounts = world.forest.mounts()?;
+    let alloc = *mounts.allocator();
+    let all = mounts.as_slice();
     let mut rows = Vec::new(alloc);
-    for id in &ids {
-        push_row_of(alloc, &mut rows, world, space, *id)?;
+    for mount in all {
+        push_row_of(alloc, &mut rows, world, all, space, mount)?;
     }
     Ok(Table { rows })
 }
@@ -102,26 +104,27 @@ fn push_row_of(
     alloc: Global,
     rows: &mut Vec<Row>,
     world: &World,
+    mounts: &[Mount],
     space: SpaceId,
-    id: MountId,
+    mount: &Mount,
 ) -> Result<(), Fault>
-    requires { IsWellFormed (world_view world.now) }
-    ensures rows { OnOk result (rows.new.items ≡ rows.old.items ++ rows_at (world_view world.now) space id) }
+    requires well_formed { IsWellFormed (world_view world.now) }
+    requires all { mounts.now ≡ world.now.forest.mounts }
+    requires there { mount_at world.now.forest.mounts mount.now.id ≡ Some mount.now }
+    ensures rows { OnOk result (rows.new.items ≡ rows.old.items ++ rows_at (world_view world.now) space mount.now) }
     ensures memory { IsOkUnless result Fault.NoMemory }
 {
-    let Some(mount) = world.forest.get(id) else {
-        return Ok(());
-    };
     if mount.space != space {
         return Ok(());
     }
-    rows.push(row_of(alloc, world, &mount)?)?;
+    rows.push(row_of(alloc, world, mounts, mount)?)?;
     Ok(())
 }
 
-/// The row of a mount.
-fn row_of(alloc: Global, world: &World, mount: &Mount) -> Result<Row, Fault>
+/// The row of a mount, given all mounts of the world.
+fn row_of(alloc: Global, world: &World, mounts: &[Mount], mount: &Mount) -> Result<Row, Fault>
     requires well_formed { IsWellFormed (world_view world.now) }
+    requires all { mounts.now ≡ world.now.forest.mounts }
     requires there { mount_at world.now.forest.mounts mount.now.id ≡ Some mount.now }
     ensures row { IfOk result (λ row. row ≡ row_of (world_view world.now) mount.now) }
     ensures memory { IsOkUnless result Fault.NoMemory }
@@ -137,7 +140,7 @@ fn row_of(alloc: Global, world: &World, mount: &Mount) -> Result<Row, Fault>
         parent,
         minor,
         root: Names::new(world.skel.path_of(mount.root)?),
-        point: mount_point(alloc, world, mount.id)?,
+        point: mount_point(alloc, world, mounts, mount.id)?,
         attrs: mount.attrs,
         shared: state.group,
         master: state.master,
@@ -158,31 +161,53 @@ fn state_of(world: &World, id: MountId) -> State
     })
 }
 
-/// Where a mount stands, from the root of its namespace down.
-fn mount_point(alloc: Global, world: &World, id: MountId) -> Result<Names, Fault>
-    requires { IsWellFormed (world_view world.now) }
+/// Where a mount stands, from the root of its namespace down, given all mounts of the world.
+fn mount_point(alloc: Global, world: &World, mounts: &[Mount], id: MountId) -> Result<Names, Fault>
+    requires well_formed { IsWellFormed (world_view world.now) }
+    requires all { mounts.now ≡ world.now.forest.mounts }
     ensures point { IfOk result (λ point. point ≡ mount_point (world_view world.now) id) }
     ensures memory { IsOkUnless result Fault.NoMemory }
 {
-    let mut above = parents_up(alloc, world, id)?;
+    let mut above = parents_up(alloc, mounts, id)?;
     above.reverse();
     let mut point = Vec::new(alloc);
     for mount in &above {
-        push_own_names(&mut point, world, *mount)?;
+        push_own_names(&mut point, world, mounts, *mount)?;
     }
     Ok(Names::new(point))
 }
 
+/// The mount with this ID, found by halving the list.
+fn mount_at(mounts: &[Mount], id: MountId) -> Option<Mount>
+    requires { IsTrue (rises id_of mounts.now) }
+    ensures { result ≡ mount_at mounts.now id }
+{
+    match mounts.binary_search_by_key(&id, |mount| mount.id) {
+        Ok(at) => Some(mounts[at]),
+        Err(_) => None,
+    }
+}
+
+/// The mount that a mount stands on.
+fn parent(mounts: &[Mount], id: MountId) -> Option<MountId>
+    requires { IsTrue (rises id_of mounts.now) }
+    ensures { result ≡ parent mounts.now id }
+{
+    let place = mount_at(mounts, id)?.place?;
+    Some(place.mount)
+}
+
 /// A mount, its parent, and so on.
-fn parents_up(alloc: Global, world: &World, id: MountId) -> Result<Vec<MountId>, Fault>
-    ensures above { IfOk result (λ above. above.items ≡ parents_up world.now.forest.mounts id) }
+fn parents_up(alloc: Global, mounts: &[Mount], id: MountId) -> Result<Vec<MountId>, Fault>
+    requires { IsTrue (rises id_of mounts.now) }
+    ensures above { IfOk result (λ above. above.items ≡ parents_up mounts.now id) }
     ensures memory { IsOkUnless result Fault.NoMemory }
 {
     let mut above = Vec::new(alloc);
     let mut here = id;
-    'steps: for _step in 0..world.forest.len() {
+    'steps: for _step in 0..mounts.len() {
         above.push(here)?;
-        let Some(parent) = world.forest.parent(here) else {
+        let Some(parent) = parent(mounts, here) else {
             return Ok(above);
         };
         here = parent;
@@ -192,18 +217,24 @@ fn parents_up(alloc: Global, world: &World, id: MountId) -> Result<Vec<MountId>,
 }
 
 /// Appends the names that a mount adds to the mount point of its parent.
-fn push_own_names(point: &mut Vec<Name>, world: &World, id: MountId) -> Result<(), Fault>
-    requires { IsWellFormed (world_view world.now) }
+fn push_own_names(
+    point: &mut Vec<Name>,
+    world: &World,
+    mounts: &[Mount],
+    id: MountId,
+) -> Result<(), Fault>
+    requires well_formed { IsWellFormed (world_view world.now) }
+    requires all { mounts.now ≡ world.now.forest.mounts }
     ensures names { OnOk result (point.new.items ≡ point.old.items ++ own_names (world_view world.now) id) }
     ensures memory { IsOkUnless result Fault.NoMemory }
 {
-    let Some(mount) = world.forest.get(id) else {
+    let Some(mount) = mount_at(mounts, id) else {
         return Ok(());
     };
     let Some(place) = mount.place else {
         return Ok(());
     };
-    let Some(parent) = world.forest.get(place.mount) else {
+    let Some(parent) = mount_at(mounts, place.mount) else {
         return Ok(());
     };
     let depth = world.skel.path_of(parent.root)?.len();

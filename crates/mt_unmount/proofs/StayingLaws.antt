@@ -1,13 +1,9 @@
--- The mounts that stay, and all mounts, as lists.
-use Rattle.std.proofs.Common.{◌≡◌, ℕ, zero, suc, ◌+◌, ◌<◌, ◌≤◌, length, drop, get_or, arith, Bool, true, false, cond, not, ◌||◌, eqb, eqb-true, eq-eqb, List, [], ◌∷◌, ◌++◌, map, Option, Some, refl, sym, ap, ◌∙◌}
-use Rattle.std.specs.List.{cons_option, filter, filter_map, AllByRecursion}
-use Rattle.std.proofs.lemmas.List.{append-nil}
-use Rattle.mt_skel.specs.Keyed.{rises}
+-- The mounts that stay, as a list.
+use Rattle.std.proofs.Common.{◌≡◌, ℕ, zero, suc, ◌+◌, ◌<◌, ◌≤◌, length, drop, get_or, arith, Bool, true, false, cond, not, ◌||◌, eqb, eqb-true, eq-eqb, List, [], ◌∷◌, refl, sym, ap, ◌∙◌}
+use Rattle.std.specs.List.{filter}
 use Rattle.mt_mounts.specs.declared.mount.Mount.{Mount}
-use Rattle.mt_mounts.specs.Forest.{id_of, mount_at}
 use Rattle.mt_mounts.specs.Table.{without_id}
 use Rattle.mt_peers.specs.Entries.{among}
-use Rattle.mt_propagate.proofs.RowLaws.{found-each}
 use Rattle.mt_unmount.specs.Parting.{staying}
 
 filter-all : {X : Type 0} (xs : List X) → filter (λ (x : X). true) xs ≡ xs
@@ -45,15 +41,3 @@ staying-step ids k d ms ns all l e is =
 
 pub staying-end : (ids : List ℕ) (k : ℕ) (ms all : List Mount) → length ids ≤ k → staying (drop k ids) ms ≡ all → ms ≡ all
 staying-end ids k ms all l e = sym (ap (λ js. staying js ms) (drop-over ids k l) ∙ filter-all ms) ∙ e
-
--- the mounts that all IDs find are all mounts
-found-list : (f : ℕ → Option Mount) (xs : List Mount) → AllByRecursion (λ (x : Mount). f x.id ≡ Some x) xs → filter_map f (map id_of xs) ≡ xs
-found-list f [] h = refl
-found-list f (x ∷ xs) h = ap (λ o. cons_option o (filter_map f (map id_of xs))) h.0 ∙ ap (λ l. x ∷ l) (found-list f xs h.1)
-
-all-found : (ms : List Mount) → rises id_of ms ≡ true → filter_map (mount_at ms) (map id_of ms) ≡ ms
-all-found ms h = found-list (mount_at ms) ms (found-each id_of ms h)
-
-pub listed-end : (ms : List Mount) (ids : List ℕ) (k : ℕ) (out : List Mount) → rises id_of ms ≡ true → length ids ≤ k → out ++ filter_map (mount_at ms) (drop k ids) ≡ filter_map (mount_at ms) ids → ids ≡ map id_of ms → out ≡ ms
-listed-end ms ids k out h l e is =
-    sym (append-nil out) ∙ ap (λ js. out ++ filter_map (mount_at ms) js) (sym (drop-over ids k l)) ∙ e ∙ ap (filter_map (mount_at ms)) is ∙ all-found ms h

@@ -34,22 +34,6 @@ fn place_of(world: &World, id: MountId) -> Option<Place>
     world.forest.get(id)?.place
 }
 
-// All mounts, by rising ID.
-fn all_mounts(world: &World) -> Result<Vec<Mount>, Fault>
-    requires { IsWellFormed (world_view world.now) }
-    ensures mounts { IfOk result (λ mounts. mounts.items ≡ world.now.forest.mounts) }
-    ensures memory { IsOkUnless result Fault.NoMemory }
-{
-    let ids = world.forest.ids()?;
-    let mut mounts = Vec::with_capacity(*ids.allocator(), ids.len())?;
-    for id in &ids {
-        if let Some(mount) = world.forest.get(*id) {
-            mounts.push(mount)?;
-        }
-    }
-    Ok(mounts)
-}
-
 // The mount that stands at a place.
 fn standing_at(mounts: &[Mount], place: Place) -> Option<Mount>
     ensures { result ≡ on mounts.now place }
@@ -239,7 +223,7 @@ pub fn unmount(world: &mut World, space: SpaceId, path: &[Name]) -> Result<(), F
     if is_root_mount(world, place) {
         return Err(Fault::RootPlace);
     }
-    let mounts = all_mounts(world)?;
+    let mounts = world.forest.mounts()?;
     if has_child(&mounts, place.mount) {
         return Err(Fault::Busy);
     }
