@@ -11,13 +11,11 @@ use Rattle.mt_skel.specs.Outcome.{refuse_if, outcome}
 use Rattle.mt_mounts.specs.declared.mount.Mount.{Mount}
 use Rattle.mt_mounts.specs.Forest.{id_of, mount_at}
 use Rattle.mt_peers.specs.declared.state.State.{State}
-use Rattle.mt_peers.specs.Peers.{Peer, mount_of, peers_of}
+use Rattle.mt_peers.specs.Peers.{mount_of, peers_of}
 use Rattle.mt_propagate.specs.World.{WorldView, is_space}
 use Rattle.mt_propagate.specs.Limits.{too_many_mounts, too_many_spaces}
-use Rattle.mt_propagate.specs.WellFormed.{IsWellFormed}
-use Rattle.mt_propagate.specs.Carried.{inserted, IsNew, joined, IsAbsent}
+use Rattle.mt_propagate.specs.WellFormed.{IsForest, IsWellFormed}
 use Rattle.mt_propagate.proofs.RowLaws.{found-each}
-use Rattle.mt_propagate.proofs.CarriedLaws.{inserted-end, joined-end}
 use Rattle.mt_bind.specs.Spaces.{originals, twin_of, with_copy, copy_space}
 use Rattle.mt_bind.specs.Copying.{original_at, copy_of, peer_of}
 use Rattle.mt_bind.proofs.TwinLaws.{copies}
@@ -40,14 +38,6 @@ pub originals-listed : (w : WorldView) (n : ℕ) → IsWellFormed w → filter_m
 originals-listed w n h = by-id w n w.forest (found-each id_of w.forest h.forest.rising)
 
 module _ (w : WorldView) (h : IsWellFormed w) (n : ℕ) where
-  mounts-done : IsNew (copies w h n) w.forest × (inserted (copies w h n) w.forest ≡ w.forest ++ copies w h n)
-  mounts-done = let g = grown-forest w h n in inserted-end (copies w h n) w.forest g.rising g.apart g.one_root
-
-  states-done : (rs : List (ℕ × State)) → peers_of rs ≡ new_peers w h n false → IsAbsent rs w.peering.peers × (joined rs w.peering.peers ≡ w.peering.peers ++ new_peers w h n false)
-  states-done rs e =
-      let r = joined-end rs w.peering.peers (ap (λ (es : List Peer). rises mount_of (w.peering.peers ++ es)) e ∙ peers-rise w h n false) in
-      (r.0, r.1 ∙ ap (λ (es : List Peer). w.peering.peers ++ es) e)
-
   -- the lists that were made of the mounts that were found
   module _ (ms : List Mount) (found : ms ≡ originals w n) where
     pub copies-are : (cs : List Mount) → cs ≡ map (copy_of w (map id_of ms)) ms → cs ≡ copies w h n
@@ -58,19 +48,25 @@ module _ (w : WorldView) (h : IsWellFormed w) (n : ℕ) where
 
   -- each has its turn in a world that is still the same
   module _ (u : WorldView) (still : u ≡ w) (cs : List Mount) (mounts : cs ≡ copies w h n) (rs : List (ℕ × State)) (peers : peers_of rs ≡ new_peers w h n false) where
-    pub copies-new : IsNew cs u.forest
-    copies-new = subst (λ (v : WorldView). IsNew cs v.forest) (sym still) (subst (λ (l : List Mount). IsNew l w.forest) (sym mounts) mounts-done.0)
+    all-mounts : u.forest ++ cs ≡ w.forest ++ copies w h n
+    all-mounts = λ i. (still i).forest ++ mounts i
 
-    pub states-absent : IsAbsent rs u.peering.peers
-    states-absent = subst (λ (v : WorldView). IsAbsent rs v.peering.peers) (sym still) (states-done rs peers).0
+    all-states : u.peering.peers ++ peers_of rs ≡ w.peering.peers ++ new_peers w h n false
+    all-states = λ i. (still i).peering.peers ++ peers i
+
+    pub added-forest : IsForest w.skel (u.forest ++ cs)
+    added-forest = subst (IsForest w.skel) (sym all-mounts) (grown-forest w h n)
+
+    pub added-rise : rises mount_of (u.peering.peers ++ peers_of rs) ≡ true
+    added-rise = ap (rises mount_of) all-states ∙ peers-rise w h n false
 
     -- and together they make the copy
-    pub copy-made : (v : WorldView) → v.forest ≡ inserted cs u.forest → v.peering.peers ≡ joined rs u.peering.peers → (v.skel ≡ u.skel) × (v.peering.next ≡ u.peering.next)
+    pub copy-made : (v : WorldView) → v.forest ≡ u.forest ++ cs → v.peering.peers ≡ u.peering.peers ++ peers_of rs → (v.skel ≡ u.skel) × (v.peering.next ≡ u.peering.next)
         → (v.next_mount ≡ u.next_mount + length cs) × (v.next_space ≡ u.next_space + 1) → v ≡ with_copy w n false
     unfolding with_copy
     copy-made v forest states same next =
-        let all : v.forest ≡ w.forest ++ copies w h n = forest ∙ ap (λ (x : WorldView). inserted cs x.forest) still ∙ ap (λ (l : List Mount). inserted l w.forest) mounts ∙ mounts-done.1 in
-        let stated : v.peering.peers ≡ w.peering.peers ++ new_peers w h n false = states ∙ ap (λ (x : WorldView). joined rs x.peering.peers) still ∙ (states-done rs peers).1 in
+        let all : v.forest ≡ w.forest ++ copies w h n = forest ∙ all-mounts in
+        let stated : v.peering.peers ≡ w.peering.peers ++ new_peers w h n false = states ∙ all-states in
         let skel : v.skel ≡ w.skel = same.0 ∙ ap (λ (x : WorldView). x.skel) still in
         let groups : v.peering.next ≡ w.peering.next = same.1 ∙ ap (λ (x : WorldView). x.peering.next) still in
         let count : length cs ≡ length (originals w n) = ap length mounts ∙ length-map (originals w n) (twin_of w n) in

@@ -1,12 +1,11 @@
 //! Namespaces that are copies of others.
-ghost use Rattle.std.specs.Prelude.{◌≡◌, ◌≢◌, ◌+◌, ◌<◌, ◌≤◌, ◌^◌, ◌||◌, false, map, length, nat_eq, IfOk, IfErr, OnOk, OnErr, IsOkUnless, Ok, Err};
-ghost use Rattle.mt_skel.specs.Keyed.{numbered};
+ghost use Rattle.std.specs.Prelude.{◌≡◌, ◌≢◌, ◌+◌, ◌<◌, ◌≤◌, ◌^◌, ◌++◌, ◌||◌, false, map, length, nat_eq, IsTrue, IfOk, IfErr, OnOk, OnErr, IsOkUnless, Ok, Err};
+ghost use Rattle.mt_skel.specs.Keyed.{numbered, rises};
 ghost use Rattle.mt_mounts.specs.Forest.{id_of};
-ghost use Rattle.mt_peers.specs.Peers.{peers_of};
+ghost use Rattle.mt_peers.specs.Peers.{mount_of, peers_of};
 ghost use Rattle.mt_propagate.specs.World.{world_view, state_of};
 ghost use Rattle.mt_propagate.specs.Limits.{too_many_mounts, too_many_spaces};
-ghost use Rattle.mt_propagate.specs.WellFormed.{IsWellFormed};
-ghost use Rattle.mt_propagate.specs.Carried.{inserted, IsNew, joined, IsAbsent};
+ghost use Rattle.mt_propagate.specs.WellFormed.{HasDistinctPlaces, HasOneRoot, IsWellFormed};
 ghost use Rattle.mt_bind.specs.Spaces.{originals, copy_space};
 ghost use Rattle.mt_bind.specs.Copying.{original_at, copy_of, peer_of};
 
@@ -138,11 +137,13 @@ fn make_room(world: &mut World, more: usize) -> Result<(), Fault>
 // Adds the mounts of one more namespace with their states, and answers its number.
 fn add_space(world: &mut World, mounts: &[Mount], states: &[(MountId, State)]) -> SpaceId
     requires room { (length mounts.now ≤ world.old.forest.room) × (length states.now ≤ world.old.peers.room) }
-    requires new { IsNew mounts.now world.old.forest.mounts }
-    requires absent { IsAbsent states.now world.old.peers.peers }
+    requires rising { IsTrue (rises id_of (world.old.forest.mounts ++ mounts.now)) }
+    requires apart { HasDistinctPlaces (world.old.forest.mounts ++ mounts.now) }
+    requires roots { HasOneRoot (world.old.forest.mounts ++ mounts.now) }
+    requires states { IsTrue (rises mount_of (world.old.peers.peers ++ peers_of states.now)) }
     requires numbers { (world.old.next_mount + length mounts.now < 2 ^ 64) × (world.old.next_space + 1 < 2 ^ 64) }
-    ensures forest { world.new.forest.mounts ≡ inserted mounts.now world.old.forest.mounts }
-    ensures peers { world.new.peers.peers ≡ joined states.now world.old.peers.peers }
+    ensures forest { world.new.forest.mounts ≡ world.old.forest.mounts ++ mounts.now }
+    ensures peers { world.new.peers.peers ≡ world.old.peers.peers ++ peers_of states.now }
     ensures same { (world.new.skel ≡ world.old.skel) × (world.new.peers.next ≡ world.old.peers.next) }
     ensures next { (world.new.next_mount ≡ world.old.next_mount + length mounts.now) × (world.new.next_space ≡ world.old.next_space + 1) }
     ensures space { result ≡ world.old.next_space }

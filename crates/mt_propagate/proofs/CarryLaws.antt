@@ -8,16 +8,15 @@ use Rattle.mt_mounts.specs.declared.mount.Place.{Place}
 use Rattle.mt_peers.specs.declared.state.State.{State}
 use Rattle.mt_peers.specs.Peers.{Peer, mount_of, peers_of, with_state}
 use Rattle.mt_propagate.specs.World.{WorldView}
-use Rattle.mt_propagate.specs.WellFormed.{IsWellFormed}
+use Rattle.mt_propagate.specs.WellFormed.{IsForest, IsWellFormed}
 use Rattle.mt_propagate.specs.Copies.{Source, Copy, new_copies, copy_id}
 use Rattle.mt_propagate.specs.Groups.{copy_state, new_keys}
 use Rattle.mt_propagate.specs.Places.{relocated, new_mounts}
 use Rattle.mt_propagate.specs.Copied.{copied, regrouped}
 use Rattle.mt_propagate.specs.Sound.{IsSource, IsDestination}
 use Rattle.mt_propagate.specs.Plans.{moves, moved_states}
-use Rattle.mt_propagate.specs.Carried.{placed, IsFree, inserted, IsNew, joined, IsAbsent, stated}
+use Rattle.mt_propagate.specs.Carried.{placed, IsFree, stated}
 use Rattle.mt_propagate.proofs.ListedLaws.{map-map}
-use Rattle.mt_propagate.proofs.CarriedLaws.{inserted-end, joined-end}
 use Rattle.mt_propagate.proofs.MovesLaws.{moves-done}
 use Rattle.mt_propagate.proofs.MovedLaws.{source_kept}
 
@@ -65,10 +64,9 @@ module _ (w : WorldView) (h : IsWellFormed w) (src : Source) (dest : Place) (s :
   abbrev out : List Mount
   out = map (relocated w src dest) w.forest ++ new_mounts w src dest
 
-  mounts-done : IsNew (new_mounts w src dest) (map (relocated w src dest) w.forest) × (inserted (new_mounts w src dest) (map (relocated w src dest) w.forest) ≡ out)
+  out-is-forest : IsForest w.skel out
   unfolding copied
-  mounts-done =
-      inserted-end (new_mounts w src dest) (map (relocated w src dest) w.forest) after.forest.rising after.forest.apart after.forest.one_root
+  out-is-forest = after.forest
 
   -- the copies with their states, and the states of those that were there
   abbrev pub new_peers : List Peer
@@ -89,12 +87,11 @@ module _ (w : WorldView) (h : IsWellFormed w) (src : Source) (dest : Place) (s :
     moved-are : forest ≡ map (relocated w src dest) w.forest
     moved-are = moved ∙ ap (λ (l : List (ℕ × Place)). placed l w.forest) listed ∙ (moves-done w h src dest s d).1
 
-    pub new-given : (news : List Mount) → news ≡ new_mounts w src dest → IsNew news forest
-    new-given news e =
-        subst (λ (l : List Mount). IsNew l forest) (sym e) (subst (λ (l : List Mount). IsNew (new_mounts w src dest) l) (sym moved-are) mounts-done.0)
+    pub forest-given : (news : List Mount) → news ≡ new_mounts w src dest → forest ++ news ≡ out
+    forest-given news e = λ i. moved-are i ++ e i
 
-    pub forest-given : (news after_all : List Mount) → news ≡ new_mounts w src dest → after_all ≡ inserted news forest → after_all ≡ out
-    forest-given news after_all e f = f ∙ ap (λ (l : List Mount). inserted l forest) e ∙ ap (inserted (new_mounts w src dest)) moved-are ∙ mounts-done.1
+    pub added-forest : (news : List Mount) → news ≡ new_mounts w src dest → IsForest w.skel (forest ++ news)
+    added-forest news e = subst (IsForest w.skel) (sym (forest-given news e)) out-is-forest
 
   -- first those that move get their states
   module _ (changes : List (ℕ × State)) (listed : peers_of changes ≡ moved_states w src dest) (es : List Peer) (changed : es ≡ stated changes w.peering.peers) where
@@ -109,15 +106,11 @@ module _ (w : WorldView) (h : IsWellFormed w) (src : Source) (dest : Place) (s :
         by true e = stated-given (state_by true) changes src.mounts w.peering.peers e
         by false e = stated-given (state_by false) changes [] w.peering.peers e
 
-    module _ (rs : List (ℕ × State)) (news : peers_of rs ≡ new_peers) where
-      added : IsAbsent rs old_peers × (joined rs old_peers ≡ old_peers ++ peers_of rs)
-      added = joined-end rs old_peers (ap (λ (l : List Peer). rises mount_of (old_peers ++ l)) news ∙ peers_rise)
+    pub peers-given : (news : List (ℕ × State)) → peers_of news ≡ new_peers → es ++ peers_of news ≡ old_peers ++ new_peers
+    peers-given news e = λ i. changed-are i ++ e i
 
-      pub absent-given : IsAbsent rs es
-      absent-given = subst (IsAbsent rs) (sym changed-are) added.0
-
-      pub peers-given : (after_all : List Peer) → after_all ≡ joined rs es → after_all ≡ old_peers ++ new_peers
-      peers-given after_all f = f ∙ ap (joined rs) changed-are ∙ added.1 ∙ ap (λ (l : List Peer). old_peers ++ l) news
+    pub added-rise : (news : List (ℕ × State)) → peers_of news ≡ new_peers → rises mount_of (es ++ peers_of news) ≡ true
+    added-rise news e = ap (rises mount_of) (peers-given news e) ∙ peers_rise
 
   -- the world that these make
   pub world-done : (forest : List Mount) (es : List Peer) (next more : ℕ) → forest ≡ out → es ≡ old_peers ++ new_peers → next ≡ w.peering.next + length (new_keys w src dest)

@@ -9,10 +9,10 @@ use Rattle.mt_mounts.specs.declared.mount.Place.{Place}
 use Rattle.mt_mounts.specs.Forest.{id_of, on, is_at, place_eq}
 use Rattle.mt_mounts.specs.Table.{with_place}
 use Rattle.mt_mounts.proofs.ForestLaws.{find_row, find_passes, find_none}
+use Rattle.mt_propagate.specs.WellFormed.{HasDistinctPlaces}
 use Rattle.mt_propagate.specs.Carried.{placed, IsFree}
 use Rattle.mt_propagate.proofs.WalkLaws.{stands_at}
 use Rattle.mt_propagate.proofs.RowLaws.{all-each, found-each}
-use Rattle.mt_propagate.proofs.CarriedLaws.{Apart}
 
 map-each : {X Y : Type 0} (f g : X → Y) (xs : List X) → AllByRecursion (λ x. f x ≡ g x) xs → map f xs ≡ map g xs
 map-each f g [] h = refl
@@ -37,7 +37,7 @@ on-moved p q i (m ∷ ms) e off = go (m.id == i) (is_at p m) refl e (on-moved p 
     go true false is e ih = by (place_eq p q) off (on (with_place i q ms) p) (record m { place = Some q }) (ih e off)
     go false false is e ih = by (is_at p m) is (on (with_place i q ms) p) m (ih e off)
 
-module _ (base : List Mount) (rising : rises id_of base ≡ true) (apart : Apart base) (end : ℕ → Place) (dir : ℕ) where
+module _ (base : List Mount) (rising : rises id_of base ≡ true) (apart : HasDistinctPlaces base) (end : ℕ → Place) (dir : ℕ) where
   abbrev pub spot : ℕ → Place
   spot t = record { mount = t; dir = dir }
 

@@ -1,6 +1,10 @@
 //! Changes of a forest and of states that need no memory.
-ghost use Rattle.std.specs.Prelude.{◌≡◌, ◌≢◌, ◌+◌, ◌<◌, ◌≤◌, ◌^◌, length, None};
-ghost use Rattle.mt_propagate.specs.Carried.{placed, IsFree, inserted, IsNew, joined, IsAbsent, stated};
+ghost use Rattle.std.specs.Prelude.{◌≡◌, ◌+◌, ◌<◌, ◌≤◌, ◌^◌, ◌++◌, length, IsTrue};
+ghost use Rattle.mt_skel.specs.Keyed.{rises};
+ghost use Rattle.mt_mounts.specs.Forest.{id_of};
+ghost use Rattle.mt_peers.specs.Peers.{mount_of, peers_of};
+ghost use Rattle.mt_propagate.specs.WellFormed.{HasDistinctPlaces, HasOneRoot};
+ghost use Rattle.mt_propagate.specs.Carried.{placed, IsFree, stated};
 
 use mt_mounts::forest::Forest;
 use mt_mounts::mount::{Mount, MountId, Place};
@@ -19,14 +23,16 @@ pub fn move_all(forest: &mut Forest, ways: &[(MountId, Place)])
     }
 }
 
-/// Adds these mounts, one after the other. It needs no memory: `Forest::reserve` has made room.
+/// Adds these mounts behind all that are there. It needs no memory: `Forest::reserve` has made room.
 ///
-/// When its turn comes, a mount's ID has to be new and its place free, or its namespace without a
-/// root mount where it has no place.
+/// Their IDs have to rise, above all that are there. No two mounts of all may have one place then,
+/// and no namespace may get a second root mount.
 pub fn insert_all(forest: &mut Forest, mounts: &[Mount])
     requires room { length mounts.now ≤ forest.old.room }
-    requires new { IsNew mounts.now forest.old.mounts }
-    ensures { forest.new.mounts ≡ inserted mounts.now forest.old.mounts }
+    requires rising { IsTrue (rises id_of (forest.old.mounts ++ mounts.now)) }
+    requires apart { HasDistinctPlaces (forest.old.mounts ++ mounts.now) }
+    requires roots { HasOneRoot (forest.old.mounts ++ mounts.now) }
+    ensures { forest.new.mounts ≡ forest.old.mounts ++ mounts.now }
 {
     for mount in mounts {
         forest.insert(*mount);
@@ -45,12 +51,14 @@ pub(crate) fn take_groups(peers: &mut Peers, count: usize)
     }
 }
 
-/// Adds the states of these mounts, one after the other. It needs no memory: `Peers::reserve` has made
-/// room. None of the mounts may have a state yet when its turn comes.
+/// Adds the states of these mounts behind all that are there. It needs no memory: `Peers::reserve`
+/// has made room.
+///
+/// The IDs of the mounts have to rise, above those of all mounts that have a state already.
 pub fn join_all(peers: &mut Peers, states: &[(MountId, State)])
     requires room { length states.now ≤ peers.old.room }
-    requires absent { IsAbsent states.now peers.old.peers }
-    ensures peers { peers.new.peers ≡ joined states.now peers.old.peers }
+    requires rising { IsTrue (rises mount_of (peers.old.peers ++ peers_of states.now)) }
+    ensures peers { peers.new.peers ≡ peers.old.peers ++ peers_of states.now }
     ensures next { peers.new.next ≡ peers.old.next }
 {
     for state in states {

@@ -1,31 +1,41 @@
-use Rattle.std.proofs.Common.{◌≡◌, ◌||◌, ℕ, false, length, Ok, sym, ap, ◌∙◌, subst}
+use Rattle.std.proofs.Common.{◌≡◌, ◌||◌, ◌++◌, ℕ, false, length, Ok, sym, ap, ◌∙◌, subst}
 use Rattle.mt_mounts.specs.Forest.{root_mount}
 use Rattle.mt_peers.specs.Peers.{peers_of}
 use Rattle.mt_propagate.specs.World.{WorldView, world_view}
 use Rattle.mt_propagate.specs.Limits.{too_many_mounts, too_many_spaces}
-use Rattle.mt_propagate.specs.WellFormed.{IsWellFormed}
+use Rattle.mt_propagate.specs.WellFormed.{IsForest, IsWellFormed}
 use Rattle.mt_bind.specs.Spaces.{with_copy}
 use Rattle.mt_bind.proofs.CopyLaws.{copy-kept}
-use Rattle.mt_bind.proofs.CopyingLaws.{copies-are, peers-are, copies-new, states-absent, copy-made, space-there, copy-done}
+use Rattle.mt_bind.proofs.CopyingLaws.{copies-are, peers-are, added-forest, added-rise, copy-made, space-there, copy-done}
 use Rattle.mt_bind.proofs.copying.copy_space.Goals as goal
 
-pub add_space-requires-clause-new : goal.add_space-requires-clause-new
-add_space-requires-clause-new c =
+-- the mounts once the copies are added
+added : (c : goal.After-deref-4) → IsForest c.args.world.now.skel (c.make_room.new.world.forest.mounts ++ c.deref-3.result.now)
+added c =
     let w = world_view c.args.world.now in
     let h = c.requires.well_formed in
     let n = c.args.space in
     let mounts = copies-are w h n c.deref.result.now (c.deref.ensures.value ∙ c.in_ok-originals.ensures.originals) c.deref-3.result.now (c.deref-3.ensures.value ∙ c.in_ok-mounts.ensures.copies) in
     let peers = peers-are w h n c.deref-2.result.now (c.deref-2.ensures.value ∙ c.in_ok-originals.ensures.originals) c.deref-4.result.now (ap peers_of c.deref-4.ensures.value ∙ c.in_ok-states.ensures.states) in
-    copies-new w h n (world_view c.make_room.new.world) c.in_ok-make_room.ensures.world c.deref-3.result.now mounts c.deref-4.result.now peers
+    added-forest w h n (world_view c.make_room.new.world) c.in_ok-make_room.ensures.world c.deref-3.result.now mounts c.deref-4.result.now peers
 
-pub add_space-requires-clause-absent : goal.add_space-requires-clause-absent
-add_space-requires-clause-absent c =
+pub add_space-requires-clause-rising : goal.add_space-requires-clause-rising
+add_space-requires-clause-rising c = (added c).rising
+
+pub add_space-requires-clause-apart : goal.add_space-requires-clause-apart
+add_space-requires-clause-apart c = (added c).apart
+
+pub add_space-requires-clause-roots : goal.add_space-requires-clause-roots
+add_space-requires-clause-roots c = (added c).one_root
+
+pub add_space-requires-clause-states : goal.add_space-requires-clause-states
+add_space-requires-clause-states c =
     let w = world_view c.args.world.now in
     let h = c.requires.well_formed in
     let n = c.args.space in
     let mounts = copies-are w h n c.deref.result.now (c.deref.ensures.value ∙ c.in_ok-originals.ensures.originals) c.deref-3.result.now (c.deref-3.ensures.value ∙ c.in_ok-mounts.ensures.copies) in
     let peers = peers-are w h n c.deref-2.result.now (c.deref-2.ensures.value ∙ c.in_ok-originals.ensures.originals) c.deref-4.result.now (ap peers_of c.deref-4.ensures.value ∙ c.in_ok-states.ensures.states) in
-    states-absent w h n (world_view c.make_room.new.world) c.in_ok-make_room.ensures.world c.deref-3.result.now mounts c.deref-4.result.now peers
+    added-rise w h n (world_view c.make_room.new.world) c.in_ok-make_room.ensures.world c.deref-3.result.now mounts c.deref-4.result.now peers
 
 -- the world after the call
 is_copy : (c : goal.After-drop-originals-2) → world_view c.add_space.new.world ≡ with_copy (world_view c.args.world.now) c.args.space false
