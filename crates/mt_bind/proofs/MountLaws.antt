@@ -1,11 +1,12 @@
 -- A world stays well-formed through a mount, a bind and a move.
-use Rattle.std.proofs.Common.{◌≡◌, ℕ, Bool, true, false, cond, List, [], ◌∷◌, Option, Some, None, Result, Ok, Err, refl, sym, ap, ◌∙◌, subst, arith}
+use Rattle.std.proofs.Common.{◌≡◌, ℕ, Bool, true, false, cond, List, [], ◌∷◌, Some, None, Result, Ok, Err, refl, sym, ap, ◌∙◌, subst, arith}
 use Rattle.std.specs.Prelude.{unwrap_or, is_none, is_some, not, ◌&&◌}
 use Rattle.std.specs.List.{list_any}
 use Rattle.std.specs.Option.{option_map_or}
 use Rattle.mt_skel.specs.declared.fault.Fault.{Fault}
 use Rattle.mt_skel.specs.declared.fault.Fault.TheVariants.{NoFilesystem, RootPlace, Unbindable, NotMountRoot, SharedParent, IntoItself, UnbindableInside}
-use Rattle.mt_skel.specs.Outcome.{refuse_if, fault_of, first_fault, outcome}
+use Rattle.mt_skel.specs.Outcome.{refuse_if, fault_of}
+use Rattle.mt_skel.proofs.OutcomeLaws.{outcome_ok, first_none, not_refused}
 use Rattle.mt_skel.specs.Skeleton.{fs_named}
 use Rattle.mt_mounts.specs.declared.mount.Mount.{Mount}
 use Rattle.mt_mounts.specs.declared.mount.Place.{Place}
@@ -24,22 +25,6 @@ use Rattle.mt_bind.specs.Mounting.{mounted, bound, moved, ended, no_end, too_man
 use Rattle.mt_bind.proofs.SourceLaws.{fresh_source, alone_source, holds_there}
 use Rattle.mt_bind.proofs.WithinLaws.{within_source}
 use Rattle.mt_bind.proofs.TreeOfLaws.{tree_source}
-
--- what an accepted command tells: its effect, and that no refusal held
-pub outcome_ok : {A : Type 0} (fs : List (Option Fault)) (a b : A) → outcome fs a ≡ Ok b → (a ≡ b) × (first_fault fs ≡ None)
-outcome_ok {A} fs a b e = by (first_fault fs) e
-  where
-    by : (o : Option Fault) → option_map_or (λ f. Err f) o (Ok a) ≡ Ok b → (a ≡ b) × (o ≡ None)
-    by None f = let same : a ≡ b = cc in (same, refl)
-    by (Some g) f = absurd (cc)
-
-pub first_none : (o : Option Fault) (fs : List (Option Fault)) → first_fault (o ∷ fs) ≡ None → (o ≡ None) × (first_fault fs ≡ None)
-first_none None fs e = (refl, e)
-first_none (Some f) fs e = absurd (cc)
-
-pub not_refused : (b : Bool) (f : Fault) → refuse_if b f ≡ None → b ≡ false
-not_refused false f e = refl
-not_refused true f e = absurd (cc)
 
 pub has_ended : (r : Result Place Fault) → fault_of r ≡ None → r ≡ Ok (place_or_nowhere r)
 has_ended (Ok p) e = refl

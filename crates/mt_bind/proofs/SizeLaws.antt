@@ -7,6 +7,7 @@ use Rattle.std.proofs.lemmas.Bool.Decides.{nat_tests}
 use Rattle.std.proofs.lemmas.List.{length-map}
 use Rattle.mt_skel.specs.declared.fault.Fault.TheVariants.{NoFilesystem, NoNamespace, RootPlace, TooMany, Unbindable, NotMountRoot, SharedParent, IntoItself, UnbindableInside}
 use Rattle.mt_skel.specs.Outcome.{refuse_if}
+use Rattle.mt_skel.proofs.OutcomeLaws.{outcome_ok, first_none, not_refused}
 use Rattle.mt_skel.specs.Skeleton.{fs_named, root_of}
 use Rattle.mt_mounts.specs.declared.mount.Mount.{Mount}
 use Rattle.mt_mounts.specs.Attrs.{new_attrs}
@@ -20,7 +21,6 @@ use Rattle.mt_propagate.proofs.SizeLaws.{IsSized, few_pass, copied_sized}
 use Rattle.mt_bind.specs.Spaces.{originals, twin_of, new_space, with_space, copy_space, with_copy}
 use Rattle.mt_bind.specs.Sources.{fresh, top_at, alone, is_bound_along, tree_within, tree_of}
 use Rattle.mt_bind.specs.Mounting.{mounted, bound, moved, ended, no_end, too_many}
-use Rattle.mt_bind.proofs.MountLaws.{outcome_ok, first_none, not_refused}
 
 -- a new namespace
 pub space_sized : (w v : WorldView) (name : List ℕ) (i : ℕ) → new_space w name ≡ Ok (v, i) → IsSized w v 1

@@ -4,11 +4,11 @@ use Rattle.std.specs.Option.{is_none, is_some, unwrap_or}
 use Rattle.mt_skel.specs.declared.fault.Fault.{Fault}
 use Rattle.mt_skel.specs.declared.fault.Fault.TheVariants.{TooMany, NoFilesystem, FilesystemExists, NoEntry, EntryExists}
 use Rattle.mt_skel.specs.Outcome.{refuse_if}
+use Rattle.mt_skel.proofs.OutcomeLaws.{outcome_ok}
 use Rattle.mt_skel.specs.Skeleton.{Skeleton, Directory, Filesystem, added_fs, added_dir, with_fs, with_dir, fs_named, number_of, filesystem_limit, directory_limit, depth_limit}
 use Rattle.mt_propagate.specs.World.{WorldView}
 use Rattle.mt_propagate.specs.WellFormed.{IsWellFormed}
 use Rattle.mt_propagate.proofs.SizeLaws.{IsSized}
-use Rattle.mt_bind.proofs.MountLaws.{outcome_ok}
 use Rattle.mt_bind.proofs.SizeLaws.{space_sized, copy_sized, mount_sized, bind_sized, move_sized}
 use Rattle.mt_unmount.proofs.SizeLaws.{gone_sized}
 use Rattle.mt_setattr.proofs.SizeLaws.{attr_sized}

@@ -7,6 +7,7 @@ use Rattle.std.specs.Option.{option_map, option_map_or}
 use Rattle.std.specs.List.{list_all, list_any}
 use Rattle.mt_skel.specs.declared.fault.Fault.TheVariants.{BadLine, TooLong}
 use Rattle.mt_skel.specs.Outcome.{refuse_if}
+use Rattle.mt_skel.proofs.OutcomeLaws.{not_refused}
 use Rattle.mt_skel.specs.Names.{is_label}
 use Rattle.mt_skel.specs.Escapes.{unescaped, cons_to, byte_of_digits}
 use Rattle.mt_skel.proofs.EscapeLaws.{unescaped-plain, unescaped-short, unescaped-nil, unescaped-escape}
@@ -174,15 +175,11 @@ label_is bytes some short nonzero =
 pub good_label : (word bytes : List ℕ) → label_fault word ≡ None → unescaped word ≡ Some bytes → is_label bytes ≡ true
 good_label word bytes h e = go (text_length word) refl h
   where
-    short : (b : Bool) → refuse_if b TooLong ≡ None → b ≡ false
-    short true h = cc
-    short false h = refl
-
     go : (o : Option ℕ) → text_length word ≡ o → option_map_or (λ n. refuse_if (nat_lt 255 n) TooLong) o (Some BadLine) ≡ None → is_label bytes ≡ true
     go None is good = cc
     go (Some n) is good =
         let r = text word n is in
         let t = r.1 in
         let same : r.0 ≡ bytes = cc (t.stands, e) in
-        let none : nat_lt 255 (length r.0) ≡ false = rw r.2 (short (nat_lt 255 n) good) in
+        let none : nat_lt 255 (length r.0) ≡ false = rw r.2 (not_refused (nat_lt 255 n) TooLong good) in
         subst (λ b. is_label b ≡ true) same (label_is r.0 t.nonempty none t.nonzero)

@@ -1,11 +1,11 @@
 -- How much a change of mounts adds to a world.
-use Rattle.std.proofs.Common.{◌≡◌, ℕ, ◌+◌, ◌≤◌, Bool, true, false, cond, ◌&&◌, not, List, [], ◌∷◌, length, Option, Some, None, Ok, Err, sym, ap, subst, ◌∙◌, arith}
+use Rattle.std.proofs.Common.{◌≡◌, ℕ, ◌+◌, ◌≤◌, Bool, true, false, cond, ◌&&◌, not, List, [], ◌∷◌, length, Option, Some, None, Ok, sym, ap, subst, ◌∙◌, arith}
 use Rattle.std.specs.List.{filter}
 use Rattle.std.specs.Option.{is_none, option_map_or}
 use Rattle.std.proofs.lemmas.List.{length-map}
-use Rattle.mt_skel.specs.declared.fault.Fault.{Fault}
 use Rattle.mt_skel.specs.declared.fault.Fault.TheVariants.{NotMountRoot, BadAttr}
-use Rattle.mt_skel.specs.Outcome.{refuse_if, fault_of, first_fault}
+use Rattle.mt_skel.specs.Outcome.{refuse_if, fault_of}
+use Rattle.mt_skel.proofs.OutcomeLaws.{outcome_ok}
 use Rattle.mt_mounts.specs.Forest.{id_of}
 use Rattle.mt_mounts.specs.Walk.{walk}
 use Rattle.mt_peers.specs.declared.state.Kind.{Kind}
@@ -49,8 +49,5 @@ changed_sized w c i h few =
 pub attr_sized : (w v : WorldView) (n : ℕ) (path : List (List ℕ)) (c : Change) → IsWellFormed w → length w.forest ≤ 4096 → attributed w n path c ≡ Ok v → IsSized w v 0
 attr_sized w v n path c h few e =
     let p = place_or_nowhere (walk w.skel w.forest n path) in
-    by p.mount (first_fault (fault_of (walk w.skel w.forest n path) ∷ refuse_if (not (is_named_mount w p)) NotMountRoot ∷ refuse_if (clashes c) BadAttr ∷ [])) e
-  where
-    by : (i : ℕ) (o : Option Fault) → option_map_or (λ f. Err f) o (Ok (with_change w c i)) ≡ Ok v → IsSized w v 0
-    by i None f = let same : with_change w c i ≡ v = cc in subst (λ (x : WorldView). IsSized w x 0) same (changed_sized w c i h few)
-    by i (Some g) f = absurd (cc)
+    let same = (outcome_ok (fault_of (walk w.skel w.forest n path) ∷ refuse_if (not (is_named_mount w p)) NotMountRoot ∷ refuse_if (clashes c) BadAttr ∷ []) (with_change w c p.mount) v e).0 in
+    subst (λ (x : WorldView). IsSized w x 0) same (changed_sized w c p.mount h few)

@@ -1,11 +1,11 @@
 -- An unmount adds nothing to a world.
-use Rattle.std.proofs.Common.{◌≡◌, ℕ, ◌≤◌, Bool, not, List, [], ◌∷◌, length, Option, Some, None, Ok, Err, subst, arith}
+use Rattle.std.proofs.Common.{◌≡◌, ℕ, ◌≤◌, Bool, not, List, [], ◌∷◌, length, Ok, subst, arith}
 use Rattle.std.specs.List.{filter, list_any}
-use Rattle.std.specs.Option.{option_map, option_map_or}
+use Rattle.std.specs.Option.{option_map}
 use Rattle.std.proofs.lemmas.List.{length-map}
-use Rattle.mt_skel.specs.declared.fault.Fault.{Fault}
 use Rattle.mt_skel.specs.declared.fault.Fault.TheVariants.{NotMountRoot, RootPlace, Busy}
-use Rattle.mt_skel.specs.Outcome.{refuse_if, fault_of, first_fault}
+use Rattle.mt_skel.specs.Outcome.{refuse_if, fault_of}
+use Rattle.mt_skel.proofs.OutcomeLaws.{outcome_ok}
 use Rattle.mt_mounts.specs.declared.mount.Mount.{Mount}
 use Rattle.mt_mounts.specs.Walk.{walk}
 use Rattle.mt_peers.specs.Loss.{left}
@@ -14,26 +14,19 @@ use Rattle.mt_propagate.specs.Named.{place_or_nowhere, is_named_mount, is_root_m
 use Rattle.mt_propagate.proofs.SizeLaws.{IsSized, few_pass}
 use Rattle.mt_unmount.specs.Unmounting.{unmounted, without_mount, stands_on, is_removed, slid}
 
-fewer : (w : WorldView) (i : ℕ) → length w.forest ≤ 4096 → IsSized w (without_mount w i) 0
+pub gone_sized : (w v : WorldView) (n : ℕ) (path : List (List ℕ)) → length w.forest ≤ 4096 → unmounted w n path ≡ Ok v → IsSized w v 0
 unfolding without_mount left
-fewer w i few =
-    let stays : Mount → Bool = λ m. not (is_removed w i m.id) in
-    let slide : Mount → Mount = λ m. record m { place = option_map (slid w i) m.place } in
-    record {
+gone_sized w v n path few e =
+    let p = place_or_nowhere (walk w.skel w.forest n path) in
+    let same = (outcome_ok (fault_of (walk w.skel w.forest n path)
+    ∷ refuse_if (not (is_named_mount w p)) NotMountRoot
+    ∷ refuse_if (is_root_mount w p) RootPlace
+    ∷ refuse_if (list_any (stands_on p.mount) w.forest) Busy ∷ []) (without_mount w p.mount) v e).0 in
+    let stays : Mount → Bool = λ m. not (is_removed w p.mount m.id) in
+    let slide : Mount → Mount = λ m. record m { place = option_map (slid w p.mount) m.place } in
+    subst (λ (x : WorldView). IsSized w x 0) same (record {
       spaces = omega arith;
       mounts = omega arith;
       groups = omega arith;
       within = omega (arith, few, few_pass stays w.forest, length-map (filter stays w.forest) slide);
-    }
-
-pub gone_sized : (w v : WorldView) (n : ℕ) (path : List (List ℕ)) → length w.forest ≤ 4096 → unmounted w n path ≡ Ok v → IsSized w v 0
-gone_sized w v n path few e =
-    let p = place_or_nowhere (walk w.skel w.forest n path) in
-    by p.mount (first_fault (fault_of (walk w.skel w.forest n path)
-    ∷ refuse_if (not (is_named_mount w p)) NotMountRoot
-    ∷ refuse_if (is_root_mount w p) RootPlace
-    ∷ refuse_if (list_any (stands_on p.mount) w.forest) Busy ∷ [])) e
-  where
-    by : (i : ℕ) (o : Option Fault) → option_map_or (λ f. Err f) o (Ok (without_mount w i)) ≡ Ok v → IsSized w v 0
-    by i None f = let same : without_mount w i ≡ v = cc in subst (λ (x : WorldView). IsSized w x 0) same (fewer w i few)
-    by i (Some g) f = absurd (cc)
+    })

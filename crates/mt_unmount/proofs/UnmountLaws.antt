@@ -1,12 +1,11 @@
 -- A well-formed world stays so where a mount is unmounted.
-use Rattle.std.proofs.Common.{◌≡◌, ℕ, ◌<◌, ◌≤◌, Bool, true, false, not, List, [], ◌∷◌, map, length, Option, Some, Ok, Err, refl, sym, ap, subst, ◌∙◌}
-use Rattle.std.specs.Prelude.{Result}
+use Rattle.std.proofs.Common.{◌≡◌, ℕ, ◌<◌, ◌≤◌, false, not, List, [], ◌∷◌, map, length, Some, Ok, refl, sym, ap, subst, ◌∙◌}
 use Rattle.std.specs.List.{filter, list_any}
 use Rattle.std.specs.Option.{option_map, is_none, unwrap_or}
-use Rattle.mt_skel.specs.declared.fault.Fault.{Fault}
 use Rattle.mt_skel.specs.declared.fault.Fault.TheVariants.{NotMountRoot, RootPlace, Busy}
 use Rattle.mt_skel.specs.Keyed.{without}
-use Rattle.mt_skel.specs.Outcome.{refuse_if, fault_of, outcome}
+use Rattle.mt_skel.specs.Outcome.{refuse_if, fault_of}
+use Rattle.mt_skel.proofs.OutcomeLaws.{outcome_ok, first_none, not_refused}
 use Rattle.mt_skel.specs.Skeleton.{directory}
 use Rattle.mt_mounts.specs.declared.mount.Mount.{Mount}
 use Rattle.mt_mounts.specs.Forest.{id_of}
@@ -67,27 +66,19 @@ module _ (w : WorldView) (h : IsWellFormed w) (i : ℕ) where
     master_fs = masters-show (without_mount w i) alike;
   }
 
--- a success is none of the refusals
-not-refused : {A : Type 0} (b : Bool) (f : Fault) (fs : List (Option Fault)) (x y : A) → outcome (refuse_if b f ∷ fs) x ≡ Ok y → (b ≡ false) × (outcome fs x ≡ Ok y)
-not-refused true f fs x y e = absurd (cc)
-not-refused false f fs x y e = (refl, e)
-
-not-faulty : {A B : Type 0} (r : Result B Fault) (fs : List (Option Fault)) (x y : A) → outcome (fault_of r ∷ fs) x ≡ Ok y → outcome fs x ≡ Ok y
-not-faulty (Ok b) fs x y e = e
-not-faulty (Err f) fs x y e = absurd (cc)
-
-effect-is : {A : Type 0} (x y : A) → outcome {A = A} [] x ≡ Ok y → x ≡ y
-effect-is x y e = cc
-
 -- an accepted unmount keeps a world well-formed
 pub unmounted-kept : (w : WorldView) → IsWellFormed w → (n : ℕ) (path : List (List ℕ)) (v : WorldView) → unmounted w n path ≡ Ok v → IsWellFormed v
 unmounted-kept w h n path v e =
     let p = place_or_nowhere (walk w.skel w.forest n path) in
+    let lost = fault_of (walk w.skel w.forest n path) in
     let unnamed = refuse_if (not (is_named_mount w p)) NotMountRoot in
     let root = refuse_if (is_root_mount w p) RootPlace in
     let busy = refuse_if (list_any (stands_on p.mount) w.forest) Busy in
-    let walked = not-faulty (walk w.skel w.forest n path) (unnamed ∷ root ∷ busy ∷ []) (without_mount w p.mount) v e in
-    let named = not-refused (not (is_named_mount w p)) NotMountRoot (root ∷ busy ∷ []) (without_mount w p.mount) v walked in
-    let placed = not-refused (is_root_mount w p) RootPlace (busy ∷ []) (without_mount w p.mount) v named.1 in
-    let bare = not-refused (list_any (stands_on p.mount) w.forest) Busy [] (without_mount w p.mount) v placed.1 in
-    subst IsWellFormed (effect-is (without_mount w p.mount) v bare.1) (unmount-kept w h p.mount placed.0 bare.0)
+    let ok = outcome_ok (lost ∷ unnamed ∷ root ∷ busy ∷ []) (without_mount w p.mount) v e in
+    let one = first_none lost (unnamed ∷ root ∷ busy ∷ []) ok.1 in
+    let two = first_none unnamed (root ∷ busy ∷ []) one.1 in
+    let three = first_none root (busy ∷ []) two.1 in
+    let four = first_none busy [] three.1 in
+    let rooted = not_refused (is_root_mount w p) RootPlace three.0 in
+    let bare = not_refused (list_any (stands_on p.mount) w.forest) Busy four.0 in
+    subst IsWellFormed ok.0 (unmount-kept w h p.mount rooted bare)
