@@ -6,5 +6,5 @@ pub mod UnmountLaws
 pub mod SizeLaws
 mod StayingLaws
 mod PlacedLaws
-mod PartedLaws
+mod DetachedLaws
 mod UnmountedLaws

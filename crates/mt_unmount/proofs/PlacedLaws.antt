@@ -48,8 +48,8 @@ module _ (gone : ℕ → Bool) (to : Place → Place) where
   sent m = record m { place = option_map to m.place }
 
   -- a mount moves where it stands on one that goes
-  abbrev pub way : Mount → Option (ℕ × Place)
-  way m = option_and_then (λ p. cond (gone p.mount) (Some (m.id, to p)) None) m.place
+  abbrev pub relocation : Mount → Option (ℕ × Place)
+  relocation m = option_and_then (λ p. cond (gone p.mount) (Some (m.id, to p)) None) m.place
 
   -- what is needed of the mounts that stay
   pub record Fits (ms : List Mount) : Type 0 where
@@ -120,43 +120,43 @@ module _ (gone : ℕ → Bool) (to : Place → Place) where
             elim (in_append z ps (y ∷ ys) f.0) [ inl old ↦ absurd (sent-one z old there) | inr new ↦ absurd (rest-one z (s.rest z new) there) ]
 
     placed-next : (ps : List Mount) (y : Mount) (ys : List Mount) → Split ps (y ∷ ys)
-        → IsFree (filter_map way ys) ((ps ++ sent y ∷ []) ++ ys) × (placed (filter_map way ys) ((ps ++ sent y ∷ []) ++ ys) ≡ (ps ++ sent y ∷ []) ++ map sent ys)
-        → IsFree (filter_map way (y ∷ ys)) (ps ++ y ∷ ys) × (placed (filter_map way (y ∷ ys)) (ps ++ y ∷ ys) ≡ ps ++ sent y ∷ map sent ys)
+        → IsFree (filter_map relocation ys) ((ps ++ sent y ∷ []) ++ ys) × (placed (filter_map relocation ys) ((ps ++ sent y ∷ []) ++ ys) ≡ (ps ++ sent y ∷ []) ++ map sent ys)
+        → IsFree (filter_map relocation (y ∷ ys)) (ps ++ y ∷ ys) × (placed (filter_map relocation (y ∷ ys)) (ps ++ y ∷ ys) ≡ ps ++ sent y ∷ map sent ys)
     placed-next ps y ys s ih = go y.place refl
       where
-        after : IsFree (filter_map way ys) (ps ++ sent y ∷ ys) × (placed (filter_map way ys) (ps ++ sent y ∷ ys) ≡ ps ++ sent y ∷ map sent ys)
+        after : IsFree (filter_map relocation ys) (ps ++ sent y ∷ ys) × (placed (filter_map relocation ys) (ps ++ sent y ∷ ys) ≡ ps ++ sent y ∷ map sent ys)
         after =
             let joined = append_assoc ps (sent y ∷ []) ys in (
-              subst (IsFree (filter_map way ys)) joined ih.0,
-              ap (placed (filter_map way ys)) (sym joined) ∙ ih.1 ∙ append_assoc ps (sent y ∷ []) (map sent ys),
+              subst (IsFree (filter_map relocation ys)) joined ih.0,
+              ap (placed (filter_map relocation ys)) (sym joined) ∙ ih.1 ∙ append_assoc ps (sent y ∷ []) (map sent ys),
             )
 
-        still : y ≡ sent y → IsFree (filter_map way ys) (ps ++ y ∷ ys) × (placed (filter_map way ys) (ps ++ y ∷ ys) ≡ ps ++ sent y ∷ map sent ys)
-        still same = subst (λ (z : Mount). IsFree (filter_map way ys) (ps ++ z ∷ ys) × (placed (filter_map way ys) (ps ++ z ∷ ys) ≡ ps ++ sent y ∷ map sent ys)) (sym same) after
+        still : y ≡ sent y → IsFree (filter_map relocation ys) (ps ++ y ∷ ys) × (placed (filter_map relocation ys) (ps ++ y ∷ ys) ≡ ps ++ sent y ∷ map sent ys)
+        still same = subst (λ (z : Mount). IsFree (filter_map relocation ys) (ps ++ z ∷ ys) × (placed (filter_map relocation ys) (ps ++ z ∷ ys) ≡ ps ++ sent y ∷ map sent ys)) (sym same) after
 
         by : (p : Place) → y.place ≡ Some p → (b : Bool) → gone p.mount ≡ b
-            → IsFree (cons_option (cond b (Some (y.id, to p)) None) (filter_map way ys)) (ps ++ y ∷ ys) × (placed (cons_option (cond b (Some (y.id, to p)) None) (filter_map way ys)) (ps ++ y ∷ ys) ≡ ps ++ sent y ∷ map sent ys)
+            → IsFree (cons_option (cond b (Some (y.id, to p)) None) (filter_map relocation ys)) (ps ++ y ∷ ys) × (placed (cons_option (cond b (Some (y.id, to p)) None) (filter_map relocation ys)) (ps ++ y ∷ ys) ≡ ps ++ sent y ∷ map sent ys)
         by p at false on = still (λ i. record y { place = (at ∙ ap (λ (q : Place). Some q) (sym (fits.stays p on)) ∙ sym (ap (option_map to) at)) i })
         by p at true off =
             let here : put_at (to p) y ≡ sent y = λ i. record y { place = (sym (ap (option_map to) at)) i } in
             let moves : with_place y.id (to p) (ps ++ y ∷ ys) ≡ ps ++ sent y ∷ ys =
             one-moved y (to p) ps ys (λ m e same. let low = s.before m y e (inl refl) in absurd (omega (arith, same, low))) (λ m e same. let high = later m e in absurd (omega (arith, same, high)))
             ∙ ap (λ (z : Mount). ps ++ z ∷ ys) here in
-            ((free ps y ys s p at off, subst (IsFree (filter_map way ys)) (sym moves) after.0), ap (placed (filter_map way ys)) moves ∙ after.1)
+            ((free ps y ys s p at off, subst (IsFree (filter_map relocation ys)) (sym moves) after.0), ap (placed (filter_map relocation ys)) moves ∙ after.1)
           where
             later : (m : Mount) → In m ys → y.id < m.id
             later m e = greater y ys (let r = s.rising in grind (arith, nat_tests)) m e
 
         go : (o : Option Place) → y.place ≡ o
-            → IsFree (cons_option (option_and_then (λ p. cond (gone p.mount) (Some (y.id, to p)) None) o) (filter_map way ys)) (ps ++ y ∷ ys)
-            × (placed (cons_option (option_and_then (λ p. cond (gone p.mount) (Some (y.id, to p)) None) o) (filter_map way ys)) (ps ++ y ∷ ys) ≡ ps ++ sent y ∷ map sent ys)
+            → IsFree (cons_option (option_and_then (λ p. cond (gone p.mount) (Some (y.id, to p)) None) o) (filter_map relocation ys)) (ps ++ y ∷ ys)
+            × (placed (cons_option (option_and_then (λ p. cond (gone p.mount) (Some (y.id, to p)) None) o) (filter_map relocation ys)) (ps ++ y ∷ ys) ≡ ps ++ sent y ∷ map sent ys)
         go None at = still (λ i. record y { place = (at ∙ sym (ap (option_map to) at)) i })
         go (Some p) at = by p at (gone p.mount) refl
 
-    pub placed-all : (ps ys : List Mount) → Split ps ys → IsFree (filter_map way ys) (ps ++ ys) × (placed (filter_map way ys) (ps ++ ys) ≡ ps ++ map sent ys)
+    pub placed-all : (ps ys : List Mount) → Split ps ys → IsFree (filter_map relocation ys) (ps ++ ys) × (placed (filter_map relocation ys) (ps ++ ys) ≡ ps ++ map sent ys)
     placed-all ps [] s = (tt, refl)
     placed-all ps (y ∷ ys) s = placed-next ps y ys s (placed-all (ps ++ sent y ∷ []) ys (next ps y ys s))
 
     -- all mounts that stay
-    pub placed-each : IsFree (filter_map way ms) ms × (placed (filter_map way ms) ms ≡ map sent ms)
+    pub placed-each : IsFree (filter_map relocation ms) ms × (placed (filter_map relocation ms) ms ≡ map sent ms)
     placed-each = placed-all [] ms (record { sent_ones = λ z e. absurd e; rest = λ m e. e; before = λ z m e f. absurd e; rising = fits.rising })

@@ -8,7 +8,7 @@ ghost use Rattle.mt_propagate.specs.World.{world_view};
 ghost use Rattle.mt_propagate.specs.WellFormed.{IsWellFormed};
 ghost use Rattle.mt_propagate.specs.Carried.{IsFree};
 ghost use Rattle.mt_unmount.specs.Unmounting.{place_of, stands_on, removed, unmounted};
-ghost use Rattle.mt_unmount.specs.Parting.{is_in_dir, may_go_of, going_at, slide_past, slid_past, way_past, staying, parted};
+ghost use Rattle.mt_unmount.specs.Detaching.{is_in_dir, may_go_of, going_at, slide_past, slid_past, relocation_past, staying, detached};
 
 use mt_mounts::forest::Forest;
 use mt_mounts::mount::{Mount, MountId, Place, SpaceId};
@@ -153,9 +153,9 @@ fn slid(world: &World, ids: &[MountId], place: Place) -> Place
     here
 }
 
-// The way of a mount that stays and stands on one that goes.
-fn way(world: &World, ids: &[MountId], mount: &Mount) -> Option<(MountId, Place)>
-    ensures { result ≡ way_past (world_view world.now) ids.now mount.now }
+// A mount that stays and stands on one that goes, and its new place.
+fn relocation(world: &World, ids: &[MountId], mount: &Mount) -> Option<(MountId, Place)>
+    ensures { result ≡ relocation_past (world_view world.now) ids.now mount.now }
 {
     let place = mount.place?;
     if is_among(ids, mount.id) || !is_among(ids, place.mount) {
@@ -164,23 +164,23 @@ fn way(world: &World, ids: &[MountId], mount: &Mount) -> Option<(MountId, Place)
     Some((mount.id, slid(world, ids, place)))
 }
 
-// The ways of all mounts that stay and stand on one that goes.
-fn ways(
+// All mounts that stay and stand on one that goes, and their new places.
+fn relocations(
     alloc: Global,
     world: &World,
     ids: &[MountId],
     mounts: &[Mount],
 ) -> Result<Vec<(MountId, Place)>, Fault>
-    ensures ways { IfOk result (λ ways. ways.items ≡ filter_map (way_past (world_view world.now) ids.now) mounts.now) }
+    ensures relocations { IfOk result (λ relocations. relocations.items ≡ filter_map (relocation_past (world_view world.now) ids.now) mounts.now) }
     ensures memory { IsOkUnless result Fault.NoMemory }
 {
-    let mut ways = Vec::new(alloc);
+    let mut relocations = Vec::new(alloc);
     for mount in mounts {
-        if let Some(way) = way(world, ids, mount) {
-            ways.push(way)?;
+        if let Some(relocation) = relocation(world, ids, mount) {
+            relocations.push(relocation)?;
         }
     }
-    Ok(ways)
+    Ok(relocations)
 }
 
 // Takes these mounts away, one after the other.
@@ -193,13 +193,13 @@ fn remove_all(forest: &mut Forest, ids: &[MountId])
 }
 
 // Takes these mounts away, and moves others to the places that get free.
-fn part(world: &mut World, ids: &[MountId], ways: &[(MountId, Place)])
-    requires { IsFree ways.now (staying ids.now world.old.forest.mounts) }
-    ensures { world_view world.new ≡ parted ids.now ways.now (world_view world.old) }
+fn detach(world: &mut World, ids: &[MountId], relocations: &[(MountId, Place)])
+    requires { IsFree relocations.now (staying ids.now world.old.forest.mounts) }
+    ensures { world_view world.new ≡ detached ids.now relocations.now (world_view world.old) }
 {
     remove_all(&mut world.forest, ids);
     world.peers.leave_all(ids);
-    move_all(&mut world.forest, ways);
+    move_all(&mut world.forest, relocations);
 }
 
 /// Unmounts the mount that the path names in a namespace, and at each propagation target of its
@@ -229,8 +229,8 @@ pub fn unmount(world: &mut World, space: SpaceId, path: &[Name]) -> Result<(), F
     }
     let alloc = *mounts.allocator();
     let ids = removed(alloc, world, &mounts, place.mount)?;
-    let ways = ways(alloc, world, &ids, &mounts)?;
-    part(world, &ids, &ways);
+    let relocations = relocations(alloc, world, &ids, &mounts)?;
+    detach(world, &ids, &relocations);
     Ok(())
 }
 

@@ -1,7 +1,7 @@
 use Rattle.std.proofs.Common.{◌≡◌, drop}
 use Rattle.std.specs.List.{filter, list_all}
 use Rattle.mt_unmount.specs.Unmounting.{stands_on}
-use Rattle.mt_unmount.specs.Parting.{is_in_dir}
+use Rattle.mt_unmount.specs.Detaching.{is_in_dir}
 use Rattle.mt_unmount.proofs.unmounting.may_go.Given as goal
 
 -- each child that was passed stands at the root directory

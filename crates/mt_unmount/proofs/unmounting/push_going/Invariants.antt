@@ -1,5 +1,5 @@
 use Rattle.std.proofs.Common.{◌≡◌, ◌++◌, drop}
-use Rattle.mt_unmount.specs.Parting.{going_at}
+use Rattle.mt_unmount.specs.Detaching.{going_at}
 use Rattle.mt_unmount.proofs.unmounting.push_going.Given as goal
 
 -- the targets passed have what goes there

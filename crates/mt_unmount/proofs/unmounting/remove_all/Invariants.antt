@@ -1,5 +1,5 @@
 use Rattle.std.proofs.Common.{◌≡◌, drop}
-use Rattle.mt_unmount.specs.Parting.{staying}
+use Rattle.mt_unmount.specs.Detaching.{staying}
 use Rattle.mt_unmount.proofs.unmounting.remove_all.Given as goal
 
 -- what is left to be taken away

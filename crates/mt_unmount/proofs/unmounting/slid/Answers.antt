@@ -1,7 +1,7 @@
 use Rattle.std.proofs.Common.{◌<◌, ap, ◌∙◌, sym, arith, length, ◌+◌, ◌-◌}
 use Rattle.mt_mounts.proofs.Walks.{fuel_step}
 use Rattle.mt_propagate.specs.World.{world_view}
-use Rattle.mt_unmount.specs.Parting.{slide_past}
+use Rattle.mt_unmount.specs.Detaching.{slide_past}
 use Rattle.mt_unmount.proofs.EndLaws.{last_within, last-step}
 use Rattle.mt_unmount.proofs.unmounting.slid.Goals as goal
 

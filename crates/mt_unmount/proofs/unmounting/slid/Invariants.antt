@@ -1,6 +1,6 @@
 use Rattle.std.proofs.Common.{◌≡◌, ◌-◌, ◌≤◌, length}
 use Rattle.mt_propagate.specs.World.{world_view}
-use Rattle.mt_unmount.specs.Parting.{slide_past, slid_past}
+use Rattle.mt_unmount.specs.Detaching.{slide_past, slid_past}
 use Rattle.mt_unmount.proofs.EndLaws.{last_within}
 use Rattle.mt_unmount.proofs.unmounting.slid.Given as goal
 

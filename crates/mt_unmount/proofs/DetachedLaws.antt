@@ -13,11 +13,11 @@ use Rattle.mt_propagate.specs.WellFormed.{IsWellFormed}
 use Rattle.mt_propagate.specs.Carried.{IsFree}
 use Rattle.mt_propagate.proofs.ElementLaws.{In, in_filter, in_row}
 use Rattle.mt_unmount.specs.Unmounting.{place_of, stands_on, removed, is_removed, slid, without_mount}
-use Rattle.mt_unmount.specs.Parting.{way_past, staying, parted}
+use Rattle.mt_unmount.specs.Detaching.{relocation_past, staying, detached}
 use Rattle.mt_unmount.proofs.EndLaws.{last-stop}
 use Rattle.mt_unmount.proofs.SlideLaws.{slide, heir_at, slid-there, heir-single}
 use Rattle.mt_unmount.proofs.UnmountTreeLaws.{goes}
-use Rattle.mt_unmount.proofs.PlacedLaws.{way, Fits, placed-each}
+use Rattle.mt_unmount.proofs.PlacedLaws.{relocation, Fits, placed-each}
 
 stays-not : (b : Bool) → not b ≡ true → b ≡ false
 stays-not false e = refl
@@ -48,41 +48,41 @@ module _ (w : WorldView) (h : IsWellFormed w) (i : ℕ) (rooted : is_none (place
         ap id_of (heir-single w i x.0.steps y.0.steps (slid w i p) a b x.0.leads (subst (λ r. heir_at w i y.0.steps r ≡ Some b) (sym same) y.0.leads));
   }
 
-  -- a mount that goes has no way
-  no-way : (f : Place → Option (ℕ × Place)) (o : Option Place) → option_and_then (λ p. cond true None (f p)) o ≡ None
-  no-way f None = refl
-  no-way f (Some p) = refl
+  -- a mount that goes has no new place
+  no-relocation : (f : Place → Option (ℕ × Place)) (o : Option Place) → option_and_then (λ p. cond true None (f p)) o ≡ None
+  no-relocation f None = refl
+  no-relocation f (Some p) = refl
 
-  ways-kept : (xs : List Mount) → filter_map (way_past w (removed w i)) xs ≡ filter_map (way (is_removed w i) (slid w i)) (without (goes w i) xs)
-  ways-kept [] = refl
-  ways-kept (x ∷ xs) = go (is_removed w i x.id) (ways-kept xs)
+  relocations-kept : (xs : List Mount) → filter_map (relocation_past w (removed w i)) xs ≡ filter_map (relocation (is_removed w i) (slid w i)) (without (goes w i) xs)
+  relocations-kept [] = refl
+  relocations-kept (x ∷ xs) = go (is_removed w i x.id) (relocations-kept xs)
     where
       f : Place → Option (ℕ × Place)
       f p = cond (is_removed w i p.mount) (Some (x.id, slid w i p)) None
 
-      go : (b : Bool) → filter_map (way_past w (removed w i)) xs ≡ filter_map (way (is_removed w i) (slid w i)) (without (goes w i) xs)
-          → cons_option (option_and_then (λ p. cond b None (f p)) x.place) (filter_map (way_past w (removed w i)) xs)
-          ≡ filter_map (way (is_removed w i) (slid w i)) (cond (not b) (x ∷ without (goes w i) xs) (without (goes w i) xs))
-      go true ih = ap (λ o. cons_option o (filter_map (way_past w (removed w i)) xs)) (no-way f x.place) ∙ ih
+      go : (b : Bool) → filter_map (relocation_past w (removed w i)) xs ≡ filter_map (relocation (is_removed w i) (slid w i)) (without (goes w i) xs)
+          → cons_option (option_and_then (λ p. cond b None (f p)) x.place) (filter_map (relocation_past w (removed w i)) xs)
+          ≡ filter_map (relocation (is_removed w i) (slid w i)) (cond (not b) (x ∷ without (goes w i) xs) (without (goes w i) xs))
+      go true ih = ap (λ o. cons_option o (filter_map (relocation_past w (removed w i)) xs)) (no-relocation f x.place) ∙ ih
       go false ih = ap (λ l. cons_option (option_and_then f x.place) l) ih
 
-  all-parted : IsFree (filter_map (way_past w (removed w i)) w.forest) (staying (removed w i) w.forest) × (parted (removed w i) (filter_map (way_past w (removed w i)) w.forest) w ≡ without_mount w i)
+  all-detached : IsFree (filter_map (relocation_past w (removed w i)) w.forest) (staying (removed w i) w.forest) × (detached (removed w i) (filter_map (relocation_past w (removed w i)) w.forest) w ≡ without_mount w i)
   unfolding without_mount
-  all-parted =
+  all-detached =
       let e = placed-each (is_removed w i) (slid w i) rest fits in
-      subst (λ (ws : List (ℕ × Place)). IsFree ws rest × (parted (removed w i) ws w ≡ without_mount w i)) (sym (ways-kept w.forest)) (e.0, ap with_forest e.1)
+      subst (λ (ws : List (ℕ × Place)). IsFree ws rest × (detached (removed w i) ws w ≡ without_mount w i)) (sym (relocations-kept w.forest)) (e.0, ap with_forest e.1)
     where
       with_forest : List Mount → WorldView
       with_forest l = record w { forest = l; peering = left (is_removed w i) w.peering }
 
-  is-parted : (ids : List ℕ) (ways : List (ℕ × Place)) → ids ≡ removed w i → ways ≡ filter_map (way_past w ids) w.forest → IsFree ways (staying ids w.forest) × (parted ids ways w ≡ without_mount w i)
-  is-parted ids ways same found =
-      subst (λ (js : List ℕ). ways ≡ filter_map (way_past w js) w.forest → IsFree ways (staying js w.forest) × (parted js ways w ≡ without_mount w i)) (sym same)
-      (λ f. subst (λ (ws : List (ℕ × Place)). IsFree ws (staying (removed w i) w.forest) × (parted (removed w i) ws w ≡ without_mount w i)) (sym f) all-parted)
+  is-detached : (ids : List ℕ) (relocations : List (ℕ × Place)) → ids ≡ removed w i → relocations ≡ filter_map (relocation_past w ids) w.forest → IsFree relocations (staying ids w.forest) × (detached ids relocations w ≡ without_mount w i)
+  is-detached ids relocations same found =
+      subst (λ (js : List ℕ). relocations ≡ filter_map (relocation_past w js) w.forest → IsFree relocations (staying js w.forest) × (detached js relocations w ≡ without_mount w i)) (sym same)
+      (λ f. subst (λ (ws : List (ℕ × Place)). IsFree ws (staying (removed w i) w.forest) × (detached (removed w i) ws w ≡ without_mount w i)) (sym f) all-detached)
       found
 
   -- from lists that are read through other names
-  pub parts : (ids js : List ℕ) (ms : List Mount) (ways : List (ℕ × Place)) → ids ≡ removed w i → js ≡ ids → ms ≡ w.forest → ways ≡ filter_map (way_past w js) ms
-      → IsFree ways (staying ids w.forest) × (parted ids ways w ≡ without_mount w i)
-  parts ids js ms ways gone same all found =
-      is-parted ids ways gone (found ∙ ap (λ (l : List ℕ). filter_map (way_past w l) ms) same ∙ ap (filter_map (way_past w ids)) all)
+  pub detaches : (ids js : List ℕ) (ms : List Mount) (relocations : List (ℕ × Place)) → ids ≡ removed w i → js ≡ ids → ms ≡ w.forest → relocations ≡ filter_map (relocation_past w js) ms
+      → IsFree relocations (staying ids w.forest) × (detached ids relocations w ≡ without_mount w i)
+  detaches ids js ms relocations gone same all found =
+      is-detached ids relocations gone (found ∙ ap (λ (l : List ℕ). filter_map (relocation_past w l) ms) same ∙ ap (filter_map (relocation_past w ids)) all)

@@ -34,8 +34,8 @@ abbrev pub slid_past : WorldView → List ℕ → Place → Place
 slid_past w ids p = unwrap_or (last_or None (chain (slide_past w ids) (length w.forest) p)) p
 
 -- a mount that stays and stands on one that goes, with its new place (this project's rule)
-abbrev pub way_past : WorldView → List ℕ → Mount → Option (ℕ × Place)
-way_past w ids m =
+abbrev pub relocation_past : WorldView → List ℕ → Mount → Option (ℕ × Place)
+relocation_past w ids m =
     option_and_then (λ p. cond (among ids m.id) None (cond (among ids p.mount) (Some (m.id, slid_past w ids p)) None)) m.place
 
 -- the mounts that stay (this project's rule)
@@ -43,5 +43,5 @@ abbrev pub staying : List ℕ → List Mount → List Mount
 staying ids ms = without (λ (m : Mount). among ids m.id) ms
 
 -- the world without some mounts, and with others at new places (this project's rule)
-abbrev pub parted : List ℕ → List (ℕ × Place) → WorldView → WorldView
-parted ids ways w = record w { forest = placed ways (staying ids w.forest); peering = left (among ids) w.peering }
+abbrev pub detached : List ℕ → List (ℕ × Place) → WorldView → WorldView
+detached ids relocations w = record w { forest = placed relocations (staying ids w.forest); peering = left (among ids) w.peering }

@@ -1,9 +1,0 @@
-use Rattle.std.proofs.Common.{◌≡◌, ◌++◌, drop}
-use Rattle.std.specs.List.{filter_map}
-use Rattle.mt_propagate.specs.World.{world_view}
-use Rattle.mt_unmount.specs.Parting.{way_past}
-use Rattle.mt_unmount.proofs.unmounting.ways.Given as goal
-
--- the mounts passed have their ways
-abbrev pub invariant-loop-mount : goal.invariant-loop-mount
-invariant-loop-mount l = l.ways.items ++ filter_map (way_past (world_view l.world) l.ids) (drop l.mount-index l.mounts) ≡ filter_map (way_past (world_view l.world) l.ids) l.mounts
