@@ -1,7 +1,6 @@
 -- What the copy of a namespace, done mount by mount, makes of a world.
-use Rattle.std.proofs.Common.{◌≡◌, ℕ, ◌+◌, ◌==◌, Bool, true, false, cond, ◌||◌, List, [], ◌∷◌, ◌++◌, map, length, Option, Some, None, Result, Ok, not, refl, sym, ap, ◌∙◌, subst, arith}
-use Rattle.std.specs.List.{filter, filter_map, cons_option, AllByRecursion}
-use Rattle.std.specs.Option.{is_some, option_map, option_and_then}
+use Rattle.std.proofs.Common.{◌≡◌, ℕ, ◌+◌, Bool, true, false, ◌||◌, List, [], ◌∷◌, ◌++◌, map, length, Option, Some, None, Result, Ok, not, refl, sym, ap, ◌∙◌, subst, arith}
+use Rattle.std.specs.Option.{is_some, option_map}
 use Rattle.std.proofs.lemmas.Bool.Decides.{nat_tests}
 use Rattle.std.proofs.lemmas.List.{length-map}
 use Rattle.mt_skel.specs.declared.fault.Fault.{Fault}
@@ -9,33 +8,17 @@ use Rattle.mt_skel.specs.declared.fault.Fault.TheVariants.{NoNamespace, TooMany}
 use Rattle.mt_skel.specs.Keyed.{rises}
 use Rattle.mt_skel.specs.Outcome.{refuse_if, outcome}
 use Rattle.mt_mounts.specs.declared.mount.Mount.{Mount}
-use Rattle.mt_mounts.specs.Forest.{id_of, mount_at}
+use Rattle.mt_mounts.specs.Forest.{id_of}
 use Rattle.mt_peers.specs.declared.state.State.{State}
 use Rattle.mt_peers.specs.Peers.{mount_of, peers_of}
 use Rattle.mt_propagate.specs.World.{WorldView, is_space}
 use Rattle.mt_propagate.specs.Limits.{too_many_mounts, too_many_spaces}
 use Rattle.mt_propagate.specs.WellFormed.{IsForest, IsWellFormed}
-use Rattle.mt_propagate.proofs.RowLaws.{found-each}
 use Rattle.mt_bind.specs.Spaces.{originals, twin_of, with_copy, copy_space}
-use Rattle.mt_bind.specs.Copying.{original_at, copy_of, peer_of}
+use Rattle.mt_bind.specs.Copying.{copy_of, peer_of}
 use Rattle.mt_bind.proofs.TwinLaws.{copies}
 use Rattle.mt_bind.proofs.CopyTreeLaws.{grown-forest}
 use Rattle.mt_bind.proofs.CopyLaws.{new_peers, peers-rise}
-
-picked : (b : Bool) (y : Mount) (rest : List Mount) → cons_option (cond b (Some y) None) rest ≡ cond b (y ∷ rest) rest
-picked true y rest = refl
-picked false y rest = refl
-
-by-id : (w : WorldView) (n : ℕ) (ys : List Mount) → AllByRecursion (λ y. mount_at w.forest y.id ≡ Some y) ys → filter_map (original_at w n) (map id_of ys) ≡ filter (λ m. m.space == n) ys
-by-id w n [] found = refl
-by-id w n (y ∷ ys) found =
-    ap (λ o. cons_option o (filter_map (original_at w n) (map id_of ys))) (ap (option_and_then (λ (m : Mount). cond (m.space == n) (Some m) None)) found.0)
-    ∙ ap (cons_option (cond (y.space == n) (Some y) None)) (by-id w n ys found.1)
-    ∙ picked (y.space == n) y (filter (λ m. m.space == n) ys)
-
--- the mounts of a namespace, looked up one after the other
-pub originals-listed : (w : WorldView) (n : ℕ) → IsWellFormed w → filter_map (original_at w n) (map id_of w.forest) ≡ originals w n
-originals-listed w n h = by-id w n w.forest (found-each id_of w.forest h.forest.rising)
 
 module _ (w : WorldView) (h : IsWellFormed w) (n : ℕ) where
   -- the lists that were made of the mounts that were found

@@ -1,15 +1,10 @@
 -- The copy of a namespace, mount by mount, given the IDs of the mounts that are copied.
-use Rattle.std.specs.Prelude.{ℕ, cond, ◌==◌, List, Option, Some, None, nat_eq}
-use Rattle.std.specs.Option.{option_map, option_and_then}
+use Rattle.std.specs.Prelude.{ℕ, List, nat_eq}
+use Rattle.std.specs.Option.{option_map}
 use Rattle.mt_skel.specs.Keyed.{numbered}
 use Rattle.mt_mounts.specs.declared.mount.Mount.{Mount}
-use Rattle.mt_mounts.specs.Forest.{mount_at}
 use Rattle.mt_peers.specs.Peers.{Peer}
 use Rattle.mt_propagate.specs.World.{WorldView, state_of}
-
--- the mount with this ID, if it is in a namespace (mount_namespaces(7): each mount is in the mount list of one namespace)
-abbrev pub original_at : WorldView → ℕ → ℕ → Option Mount
-original_at w n i = option_and_then (λ m. cond (m.space == n) (Some m) None) (mount_at w.forest i)
 
 module _ (w : WorldView) (ids : List ℕ) where
   -- copies are numbered in the order of the mounts (this project's rule)

@@ -7,7 +7,7 @@ ghost use Rattle.mt_propagate.specs.World.{world_view, state_of};
 ghost use Rattle.mt_propagate.specs.Limits.{too_many_mounts, too_many_spaces};
 ghost use Rattle.mt_propagate.specs.WellFormed.{HasDistinctPlaces, HasOneRoot, IsWellFormed};
 ghost use Rattle.mt_bind.specs.Spaces.{originals, copy_space};
-ghost use Rattle.mt_bind.specs.Copying.{original_at, copy_of, peer_of};
+ghost use Rattle.mt_bind.specs.Copying.{copy_of, peer_of};
 
 use crate::spaces::PRIVATE;
 use mt_mounts::mount::{Mount, MountId, Place, SpaceId};
@@ -17,32 +17,14 @@ use mt_propagate::world::{MOST_MOUNTS, MOST_SPACES, World};
 use mt_skel::fault::Fault;
 use std::alloc::Global;
 
-// The mount with this ID, if it is in the namespace.
-fn original_at(world: &World, space: SpaceId, id: MountId) -> Option<Mount>
-    ensures { result ≡ original_at (world_view world.now) space id }
-{
-    let mount = world.forest.get(id)?;
-    if mount.space == space {
-        Some(mount)
-    } else {
-        None
-    }
-}
-
 // The mounts of a namespace, by rising ID.
 fn originals(world: &World, space: SpaceId) -> Result<Vec<Mount>, Fault>
-    requires { IsWellFormed (world_view world.now) }
     ensures originals { IfOk result (λ mounts. mounts.items ≡ originals (world_view world.now) space) }
     ensures memory { IsOkUnless result Fault.NoMemory }
 {
-    let ids = world.forest.ids()?;
-    let mut originals = Vec::new(*ids.allocator());
-    for id in &ids {
-        if let Some(mount) = original_at(world, space, *id) {
-            originals.push(mount)?;
-        }
-    }
-    Ok(originals)
+    let mut mounts = world.forest.mounts()?;
+    mounts.retain(|mount| mount.space == space);
+    Ok(mounts)
 }
 
 // The number of the copy of a mount, where the copies of these mounts get the numbers from `next` on.
