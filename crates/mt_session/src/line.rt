@@ -1,5 +1,5 @@
 //! Lines of a stream, the same however the stream cuts its bytes.
-ghost use Rattle.std.specs.Prelude.{◌≡◌, ◌≢◌, ℕ, ◌+◌, ◌^◌, ◌<◌, ◌≤◌, List, [], ◌∷◌, ◌++◌, length, take, drop, Bool, IsTrue, IfOk, IfErr, OnErr, OnOk, IfSome, MatchResult, MatchOption, MatchBool, IsNone, None, Some, vec_capacity, vec_len, min};
+ghost use Rattle.std.specs.Prelude.{◌≡◌, ◌≢◌, ℕ, ◌+◌, ◌^◌, ◌<◌, ◌≤◌, List, [], ◌∷◌, ◌++◌, length, take, drop, IsTrue, IfOk, IfErr, OnErr, OnOk, IfSome, MatchResult, MatchOption, MatchBool, IsNone, None, Some, vec_capacity, vec_len, min};
 ghost use Rattle.mt_session.specs.Lines.{Unbroken, line_end, slack};
 ghost use Rattle.mt_session.specs.declared.line.TheConstants.{CHUNK, MOST_RESERVED};
 

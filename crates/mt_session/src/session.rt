@@ -1,5 +1,5 @@
 //! A plain session: lines in, answers out.
-ghost use Rattle.std.specs.Prelude.{◌≡◌, ◌≢◌, ℕ, ◌+◌, ◌<◌, ◌≤◌, List, [], ◌∷◌, ◌++◌, length, Bool, true, false, IsTrue, IfOk, IfErr, OnErr, OnOk, IsNone, IfNone, IfSome, None, Some, Ok, Err};
+ghost use Rattle.std.specs.Prelude.{◌≡◌, ◌+◌, ◌<◌, true, false, IsTrue, IfOk, IfErr, OnErr, IfNone, None, Some, Ok, Err};
 ghost use Rattle.std.specs.Option.{ForSome};
 ghost use Rattle.mt_session.specs.Answers.{answer_to, book_to, shown_text, found_text};
 ghost use Rattle.mt_session.specs.Book.{found_at};

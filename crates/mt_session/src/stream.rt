@@ -1,5 +1,5 @@
 //! Streams of bytes, and a send that says how much went out.
-ghost use Rattle.std.specs.Prelude.{◌≡◌, ◌↔◌, ℕ, ◌+◌, ◌<◌, ◌≤◌, List, ◌++◌, length, take, Bool, IsTrue, IfOk, IfErr, OnErr, OnOk, Result, true, false, []};
+ghost use Rattle.std.specs.Prelude.{◌≡◌, ◌↔◌, ℕ, ◌+◌, ◌<◌, ◌≤◌, List, ◌++◌, length, take, Bool, IsTrue, IfOk, IfErr, OnErr, OnOk, Result, false, []};
 ghost use Rattle.std.specs.IoError.{error_kind};
 ghost use Rattle.mt_session.specs.Stream.{bytes_taken, failed_writes, failed_reads, Gives};
 

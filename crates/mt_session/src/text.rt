@@ -1,5 +1,5 @@
 //! The lines of an answer.
-ghost use Rattle.std.specs.Prelude.{◌≡◌, ◌+◌, ◌≤◌, ◌++◌, length, codes, flat_map, OnOk, IfOk};
+ghost use Rattle.std.specs.Prelude.{◌≡◌, ◌+◌, ◌≤◌, ◌++◌, length, flat_map, OnOk, IfOk};
 ghost use Rattle.mt_session.specs.Answers.{refusal, reply_text, table_text, row_line, place_text};
 
 use crate::early::command::Reply;

@@ -1,7 +1,6 @@
 //! Unmounts.
-ghost use Rattle.std.specs.Prelude.{◌≡◌, ◌≢◌, ◌++◌, ◌==◌, map, is_none, Ok, Err, IfOk, IfErr, OnOk, OnErr, IsOkUnless};
+ghost use Rattle.std.specs.Prelude.{◌≡◌, ◌≢◌, ◌++◌, ◌==◌, Ok, Err, IfOk, IfErr, OnOk, OnErr, IsOkUnless};
 ghost use Rattle.std.specs.List.{list_any, filter_map};
-ghost use Rattle.std.specs.Option.{option_map_or};
 ghost use Rattle.mt_mounts.specs.Forest.{on};
 ghost use Rattle.mt_peers.specs.Entries.{among};
 ghost use Rattle.mt_propagate.specs.World.{world_view};
