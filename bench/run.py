@@ -82,6 +82,12 @@ def wide_changes(rng):
     return lines + ["setattr 1 / rec prop=shared", "setattr 1 / rec prop=slave"] * 5
 
 
+def full_journal(rng):
+    """Commands that change nothing until the journal is full, and one more: 1,048,577 lines."""
+    lines = start()
+    return lines + ["setattr 1 /"] * (1_048_577 - len(lines))
+
+
 def mixed(rng):
     """200,000 lines of mkdir, mount and show in a namespace of few mounts."""
     lines = start()
@@ -109,6 +115,7 @@ WORKLOADS = [
     small_shows,
     small_changes,
     wide_changes,
+    full_journal,
     mixed,
 ]
 
@@ -193,13 +200,28 @@ def time_pairs(program):
         print(f"{name:40} {count:6} {(seconds - before) * 1_000 / count:8.2f} {before:9.2f}")
 
 
+def time_directories(program):
+    """Prints how long commands take that look for no directory, among few and among many directories."""
+    print(f"{'command':20} {'directories':>11} {'us each':>8}")
+    for name, lines in (("setattr 1 /", ["setattr 1 / set=ro", "setattr 1 / clr=ro"]), ("umount 1 /", ["umount 1 /"] * 2)):
+        for count in (10, 16_000):
+            world = start() + [f"mkdir a /x{n}" for n in range(count)]
+            before, _, _ = run(program, world)
+            seconds, _, _ = run(program, world + lines * 10_000)
+            print(f"{name:20} {count:11} {(seconds - before) * 1e6 / (2 * 10_000):8.2f}")
+
+
 def main():
     parser = argparse.ArgumentParser(description=__doc__.splitlines()[0])
     parser.add_argument("--program", default=os.path.join(HERE, "crates/mt_server/out/mt_server"))
     parser.add_argument("--seed", type=int, default=1)
     parser.add_argument("--only", default="")
     parser.add_argument("--pairs", action="store_true", help="time mount and umount in worlds of many mounts instead")
+    parser.add_argument("--directories", action="store_true", help="time commands among 10 and 16,000 directories instead")
     words = parser.parse_args()
+    if words.directories:
+        time_directories(words.program)
+        return
     if words.pairs:
         time_pairs(words.program)
         return

@@ -1,30 +1,45 @@
-/* Loaded before a program (LD_PRELOAD), refuses its allocation number REFUSE_NTH, counted from 1. */
+/*
+ * Loaded before a program (LD_PRELOAD), refuses its allocation number REFUSE_NTH, counted from 1; and
+ * writes the number of its allocations to the file COUNT_TO as it ends.
+ */
 #define _GNU_SOURCE
 #include <dlfcn.h>
 #include <stddef.h>
+#include <stdio.h>
 #include <stdlib.h>
 
-static long left;
+static long refused;
+static long asked;
 
 __attribute__((constructor)) static void start(void) {
     const char *text = getenv("REFUSE_NTH");
-    left = text ? atol(text) : 0;
+    refused = text ? atol(text) : 0;
 }
 
-static int refused(void) {
-    return left > 0 && --left == 0;
+__attribute__((destructor)) static void end(void) {
+    const char *name = getenv("COUNT_TO");
+    long count = asked;
+    FILE *file = name ? fopen(name, "w") : NULL;
+    if (file) {
+        fprintf(file, "%ld\n", count);
+        fclose(file);
+    }
+}
+
+static int is_refused(void) {
+    return ++asked == refused;
 }
 
 void *malloc(size_t size) {
     static void *(*real)(size_t);
     if (!real)
         real = (void *(*)(size_t))dlsym(RTLD_NEXT, "malloc");
-    return refused() ? NULL : real(size);
+    return is_refused() ? NULL : real(size);
 }
 
 void *realloc(void *old, size_t size) {
     static void *(*real)(void *, size_t);
     if (!real)
         real = (void *(*)(void *, size_t))dlsym(RTLD_NEXT, "realloc");
-    return refused() ? NULL : real(old, size);
+    return is_refused() ? NULL : real(old, size);
 }

@@ -3,3 +3,12 @@ pub mod EffectLaws
 pub mod StepLaws
 pub mod RiseLaws
 pub mod DirectoryLaws
+pub mod GrowthLaws
+pub mod HistoryLaws
+pub mod SpaceLaws
+pub mod CountLaws
+pub mod NextLaws
+pub mod NumberLaws
+pub mod BookLaws
+pub mod ReadingLaws
+pub mod MirrorLaws

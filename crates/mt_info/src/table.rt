@@ -1,11 +1,11 @@
 //! The mounts of one namespace.
-ghost use Rattle.std.specs.Prelude.{◌≡◌, ◌≢◌, ◌++◌, false, true, IfErr, IfOk, IsOkUnless, IsTrue, OnOk, Err, Some, drop};
-ghost use Rattle.mt_skel.specs.Keyed.{rises};
+ghost use Rattle.std.specs.Prelude.{◌≡◌, ◌≢◌, ◌↔◌, ◌++◌, IsSome, IfSome, false, true, IfErr, IfOk, IsOkUnless, IsTrue, OnOk, MatchOption, Err, Some, None, drop};
+ghost use Rattle.mt_skel.specs.Keyed.{rises, row_at};
 ghost use Rattle.mt_mounts.specs.Forest.{id_of, mount_at, parent, parents_up};
 ghost use Rattle.mt_propagate.specs.World.{world_view, is_space, state_of};
 ghost use Rattle.mt_propagate.specs.WellFormed.{IsWellFormed};
-ghost use Rattle.mt_info.specs.Table.{table_of, row_of, mount_point, own_names};
-ghost use Rattle.mt_info.specs.Pieces.{rows_at};
+ghost use Rattle.mt_info.specs.Table.{row_id, table_of, row_of, mount_point, own_names};
+ghost use Rattle.mt_info.specs.Pieces.{is_above, rows_at};
 ghost use Rattle.mt_info.specs.SameRow.{rows_eq};
 
 use crate::row::Row;
@@ -25,7 +25,7 @@ pub struct Table {
 
 impl Model for Table {
     ghost use Rattle.std.specs.Prelude.{List, IsTrue};
-    ghost use Rattle.mt_skel.specs.Keyed.{rises};
+    ghost use Rattle.mt_skel.specs.Keyed.{rises, row_at};
     ghost use Rattle.mt_info.specs.declared.row.Row.{Row};
     ghost use Rattle.mt_info.specs.Table.{row_id};
 
@@ -37,11 +37,37 @@ impl Model for Table {
 }
 
 impl Table {
+    /// The table of these rows, or `None` exactly where their IDs do not strictly rise. Takes no memory.
+    pub fn from_rows(rows: Vec<Row>) -> Option<Table>
+        ensures rising { IsSome result ↔ IsTrue (rises row_id rows.items) }
+        ensures table { IfSome result (λ table. table ≡ rows.items) }
+    {
+        if is_rising(rows.as_slice()) {
+            Some(Table { rows })
+        } else {
+            None
+        }
+    }
+
+    /// The table of these rows. Their IDs strictly rise, and so this is not refused. Takes no memory.
+    pub fn new(rows: Vec<Row>) -> Table
+        requires rising { IsTrue (rises row_id rows.items) }
+        ensures table { result ≡ rows.items }
+    {
+        Table { rows }
+    }
+
     /// The rows, by rising ID.
     pub fn rows(&self) -> &[Row]
-        ensures { result.now ≡ self.now }
+        ensures rows { result.now ≡ self.now }
+        ensures rising { IsTrue (rises row_id self.now) }
     {
         self.rows.as_slice()
+    }
+
+    /// The allocator of the rows.
+    pub fn allocator(&self) -> Global {
+        *self.rows.allocator()
     }
 
     /// Whether two tables have equal rows. Takes no memory.
@@ -49,6 +75,42 @@ impl Table {
         ensures { result ≡ rows_eq self.now other.now }
     {
         same_rows(&self.rows, &other.rows)
+    }
+}
+
+/// Whether an ID is behind the last one, if there was one.
+fn is_above(last: Option<MountId>, id: MountId) -> bool
+    ensures { result ≡ is_above last id }
+{
+    match last {
+        Some(last) => last < id,
+        None => true,
+    }
+}
+
+/// Whether the IDs of rows strictly rise. Takes no memory.
+pub fn is_rising(rows: &[Row]) -> bool
+    ensures { result ≡ rises row_id rows.now }
+{
+    let mut last = None;
+    'rows: for row in rows {
+        if !is_above(last, row.id) {
+            return false;
+        }
+        last = Some(row.id);
+    }
+    true
+}
+
+/// The row with this ID among rows of which the IDs strictly rise, found by halving the list; `None` where there
+/// is none. Takes no memory.
+pub fn find_row(rows: &[Row], id: MountId) -> Option<&Row>
+    requires { IsTrue (rises row_id rows.now) }
+    ensures { MatchOption result (row_at row_id id rows.now ≡ None) (λ row. row_at row_id id rows.now ≡ Some row.now) }
+{
+    match rows.binary_search_by_key(&id, |row| row.id) {
+        Ok(at) => Some(&rows[at]),
+        Err(_) => None,
     }
 }
 

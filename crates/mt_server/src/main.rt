@@ -3,7 +3,7 @@
 
 use clap::error::ErrorKind;
 use clap::{Arg, ArgAction, Command, Error};
-use mt_session::early::floor::Floor;
+use mt_session::early::Floor;
 use mt_session::line::ReadFault;
 use mt_session::session::{End, serve_plain};
 use mt_session::stream::{Reading, Writing};
@@ -91,9 +91,20 @@ fn run(rt: &HostRuntime) -> io::Result<ExitCode> {
     }
 }
 
+/// Says why the arguments could not be read: there was no memory for them, or one is no text.
+fn explain_arguments(rt: &HostRuntime, error: &io::Error) -> ExitCode {
+    match error.kind() {
+        io::ErrorKind::OutOfMemory => fail(rt, "mountd: out of memory"),
+        _ => {
+            let _ = rt.eprintln("mountd: an argument is not UTF-8");
+            ExitCode::from(2)
+        }
+    }
+}
+
 fn main(rt: HostRuntime) -> ExitCode {
     match run(&rt) {
         Ok(code) => code,
-        Err(_) => fail(&rt, "mountd: out of memory"),
+        Err(error) => explain_arguments(&rt, &error),
     }
 }

@@ -1,10 +1,1 @@
-pub mod BookLaws
-pub mod StepLaws
-pub mod FaultLaws
-pub mod LineLemmas
-pub mod OptionLaws
-pub mod PathLaws
-pub mod StreamLemmas
-pub mod TextLaws
-pub mod WordLaws
 pub mod SessionLaws

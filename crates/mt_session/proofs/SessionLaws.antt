@@ -1,34 +1,36 @@
 -- What a session has served, line by line.
-use Rattle.std.proofs.Common.{subst, ◌≡◌, ◌≢◌, ℕ, ◌<◌, ◌≤◌, List, [], ◌∷◌, ◌++◌, take, map, refl, ap, sym, ◌∙◌, inl, inr, Bool, true, false, Ok, Err, Option, Some, None, append_assoc, arith, length}
+use Rattle.std.proofs.Common.{subst, ◌≡◌, ◌≢◌, ℕ, ◌+◌, ◌<◌, ◌≤◌, List, [], ◌∷◌, ◌++◌, take, map, refl, ap, sym, ◌∙◌, inl, inr, Bool, true, false, Ok, Err, Option, Some, None, append_assoc, arith, length}
 use Rattle.std.proofs.lemmas.List.{append-nil}
 use Rattle.std.specs.Option.{ForSome}
 use Rattle.mt_skel.specs.declared.fault.Fault.{Fault}
 use Rattle.mt_skel.specs.declared.fault.Fault.TheVariants.{NoMemory as WantsMemory}
-use Rattle.mt_session.specs.declared.request.Request.{Request}
+use Rattle.mt_requests.specs.declared.request.Request.{Request}
+use Rattle.mt_requests.specs.Requests.{request_of, may_want_memory, ReadsAs}
+use Rattle.mt_lines.specs.declared.stream.StreamFault.{StreamFault}
+use Rattle.mt_lines.specs.declared.stream.Cut.{Cut}
+use Rattle.mt_lines.specs.declared.line.ReadFault.{ReadFault}
+use Rattle.mt_lines.specs.declared.line.ReadFault.TheVariants.{Device, Interrupted, Endless as NeverEnds, NoMemory as NoRoom}
+use Rattle.mt_lines.specs.Lines.{Item, Unended, Endless, lines_of}
+use Rattle.mt_lines.specs.Reading.{IsNext}
 use Rattle.mt_session.specs.declared.session.End.{End}
 use Rattle.mt_session.specs.declared.session.End.TheVariants.{Quit, Input, Read, Cut as CutOff, Memory, Spent}
-use Rattle.mt_session.specs.declared.line.ReadFault.{ReadFault}
-use Rattle.mt_session.specs.declared.line.ReadFault.TheVariants.{Device, Interrupted, Endless as NeverEnds, NoMemory as NoRoom}
-use Rattle.mt_session.specs.Requests.{request_of, may_want_memory, ReadsAs}
-use Rattle.mt_session.specs.Lines.{Item, Text, Unended, Endless, lines_of}
-use Rattle.mt_session.specs.Reading.{IsNext}
-use Rattle.mt_session.specs.Answers.{answer_to, book_to, refusal}
-use Rattle.mt_session.specs.Session.{SessionState, session_at, Granted, Refused, Turn, asked, answer, after, quits, ends_by, text_of, state_after, AllGoOn, Going, Served, IsCause, sent_by, line_limit, IsSpent, IsCutCause}
-use Rattle.mt_session.specs.Serving.{the_turn, Answered, IsSent, quit_end_of, ServedLine, is_cut}
-use Rattle.mt_session.specs.Book.{BookView}
+use Rattle.mt_session.specs.Answers.{answer_to, journal_to, refusal}
+use Rattle.mt_session.specs.Session.{SessionState, session_at, Granted, Refused, Asking, Whole, Overlong, Broken, item_of, items_of, has_end, Turn, asked, answer, after, quits, ends_by, text_of, state_after, AllGoOn, Going, Served, IsCause, sent_by, line_limit, IsReadEnd, IsReadEndRun, IsCutCause, IsCutRun}
+use Rattle.mt_session.specs.Serving.{the_turn, Answered, IsSent, quit_end_of, ends_by_line, ServedLine, ends_whole, ends_by_answer}
+use Rattle.mt_book.specs.declared.command.Command.{Command}
 
 -- a request that was read and done, one that found no memory, and a line that is none
-pub answered_ok : (old new : BookView) (bytes text : List ℕ) (r : Request) (q : Bool) → ReadsAs (request_of bytes) (Ok r) → text ≡ answer_to old r → new ≡ book_to old r → q ≡ ends_by (Ok r) → Answered (session_at old) (session_at new) (Text bytes) text q
+pub answered_ok : (old new : List Command) (bytes text : List ℕ) (r : Request) (q : Bool) → ReadsAs (request_of bytes) (Ok r) → text ≡ answer_to old r → new ≡ journal_to old r → q ≡ ends_by (Ok r) → Answered (session_at old) (session_at new) (Whole bytes) text q
 unfolding answer after quits
 answered_ok old new bytes text r q (inl e) t n k = (Granted, rw (← e) t, rw (← e) (ap session_at n), rw (← e) k)
 answered_ok old new bytes text r q (inr e) t n k = cc
 
-pub answered_none : (old new : BookView) (bytes text : List ℕ) (r : Request) (q : Bool) → ReadsAs (request_of bytes) (Ok r) → may_want_memory (Ok r) ≡ true → text ≡ refusal WantsMemory → new ≡ old → Answered (session_at old) (session_at new) (Text bytes) text false
+pub answered_none : (old new : List Command) (bytes text : List ℕ) (r : Request) (q : Bool) → ReadsAs (request_of bytes) (Ok r) → may_want_memory (Ok r) ≡ true → text ≡ refusal WantsMemory → new ≡ old → Answered (session_at old) (session_at new) (Whole bytes) text false
 unfolding answer after quits
 answered_none old new bytes text r q (inl e) m t n = (Refused, rw (← e, m) t, rw (← e, m) (ap session_at n), rw (← e, m) refl)
 answered_none old new bytes text r q (inr e) m t n = cc
 
-pub answered_err : (old : BookView) (bytes text : List ℕ) (f : Fault) → ReadsAs (request_of bytes) (Err f) → text ≡ refusal f → Answered (session_at old) (session_at old) (Text bytes) text false
+pub answered_err : (old : List Command) (bytes text : List ℕ) (f : Fault) → ReadsAs (request_of bytes) (Err f) → text ≡ refusal f → Answered (session_at old) (session_at old) (Whole bytes) text false
 unfolding answer after quits
 answered_err old bytes text f (inl e) t = (Granted, rw (← e) t, rw (← e) refl, rw (← e) refl)
 answered_err old bytes text f (inr (e, m)) t =
@@ -36,87 +38,111 @@ answered_err old bytes text f (inr (e, m)) t =
     (Refused, rw m (rw same at t), rw m refl, rw m refl)
 
 -- a line that is too long, or has no end
-pub answered_fixed : (old : SessionState) (line : Item) (f : Fault) → asked line ≡ Err f → Answered old old line (refusal f) false
+pub answered_fixed : (old : SessionState) (line : Asking) (f : Fault) → asked line ≡ Err f → Answered old old line (refusal f) false
 unfolding answer after quits
 answered_fixed old line f e = (Granted, rw e refl, rw e refl, rw e refl)
 
--- the last answer stands alone
-served_last : (before later : List ℕ) (turn : Turn) (old new : SessionState) (sent written : List ℕ) (by : End) → lines_of line_limit before ≡ turn.line ∷ lines_of line_limit later → new ≡ after old turn → written ≡ sent ++ sent_by by (answer old turn) → IsCause by (turn ∷ []) (lines_of line_limit later) → IsSpent by 0 → Served before old new sent written by
-served_last before later turn old new sent written by lines state out cause spent = record {
-  turns = [];
-  last = turn ∷ [];
-  later = lines_of line_limit later;
-  lines = lines;
-  state = state;
-  out = out ∙ ap (λ x. sent ++ sent_by by x) (sym (append-nil (answer old turn)));
-  goes = tt;
-  cause = cause;
-  spent = spent;
-}
+-- at most one line was served
+abbrev ServedOne : List ℕ → SessionState → SessionState → List ℕ → List ℕ → End → Type 0
+ServedOne before old new sent written by = (served : Served before old new sent written by) × (length served.turns + length served.last ≤ 1)
 
-pub after_text : (before later : List ℕ) (line : Item) (old new : SessionState) (sent written text : List ℕ) (q : Bool) (result : Option End) → lines_of line_limit before ≡ line ∷ lines_of line_limit later → Answered old new line text q → IsSent sent written text (quit_end_of q) result → ServedLine before later old new sent written result
-after_text before later line old new sent written text true result lines a (inl s) =
-    rw s.0 (served_last before later (the_turn line a.0) old new sent written Quit lines a.2 (s.1 ∙ ap (λ x. sent ++ x) a.1) (the_turn line a.0, refl, sym a.3) tt, tt)
-after_text before later line old new sent written text false result lines a (inl s) =
+-- the last answer stands alone
+served_last : (before later : List ℕ) (turn : Turn) (old new : SessionState) (sent written : List ℕ) (by : End) → lines_of line_limit before ≡ item_of turn.line ∷ lines_of line_limit later → new ≡ after old turn → written ≡ sent ++ sent_by by (answer old turn) → IsCause by [] (turn ∷ []) (answer old turn) (lines_of line_limit later) → ServedOne before old new sent written by
+served_last before later turn old new sent written by lines state out cause = (
+  record {
+    turns = [];
+    last = turn ∷ [];
+    later = lines_of line_limit later;
+    lines = lines;
+    state = state;
+    out = out ∙ ap (λ x. sent ++ sent_by by x) (sym (append-nil (answer old turn)));
+    goes = tt;
+    cause = subst (λ x. IsCause by [] (turn ∷ []) x (lines_of line_limit later)) (sym (append-nil (answer old turn))) cause;
+    count = omega arith;
+  },
+  omega arith,
+)
+
+-- the last answer was cut
+served_cut : (before later : List ℕ) (line : Asking) (old new : SessionState) (sent written text : List ℕ) (q : Bool) (result : Option End) → lines_of line_limit before ≡ item_of line ∷ lines_of line_limit later → Answered old new line text q → (cut : Cut) → result ≡ Some (CutOff cut) → written ≡ sent ++ take cut.sent text → cut.sent < length text → ServedLine before later old new sent written result
+served_cut before later line old new sent written text q result lines a cut is out within =
+    let one = served_last before later (the_turn line a.0) old new sent written (CutOff cut) lines a.2 (out ∙ ap (λ x. sent ++ take cut.sent x) a.1) (the_turn line a.0, refl, subst (λ x. cut.sent < length x) a.1 within) in
+    rw is one
+
+-- a line with its line end
+pub after_text : (before later : List ℕ) (line : Asking) (old new : SessionState) (sent written text : List ℕ) (q : Bool) (result : Option End) → lines_of line_limit before ≡ item_of line ∷ lines_of line_limit later → has_end line ≡ true → Answered old new line text q → IsSent sent written text (quit_end_of q) result → ServedLine before later old new sent written result
+after_text before later line old new sent written text true result lines ends a (inl s) =
+    let one = served_last before later (the_turn line a.0) old new sent written Quit lines a.2 (s.1 ∙ ap (λ x. sent ++ x) a.1) (the_turn line a.0, refl, sym a.3) in
+    rw s.0 one
+after_text before later line old new sent written text false result lines ends a (inl s) =
     rw s.0 (
       the_turn line a.0,
       record {
         lines = lines;
         state = a.2;
         out = s.1 ∙ ap (λ x. sent ++ x) (a.1 ∙ sym (append-nil (answer old (the_turn line a.0))));
-        goes = (sym a.3, tt);
+        goes = (ends, sym a.3, tt);
       },
     )
-after_text before later line old new sent written text q result lines a (inr s) =
-    rw s.1 (served_last before later (the_turn line a.0) old new sent written (CutOff s.0) lines a.2 (s.2 ∙ ap (λ x. sent ++ take s.0.sent x) a.1) (the_turn line a.0, refl) tt, tt)
+after_text before later line old new sent written text q result lines ends a (inr s) =
+    served_cut before later line old new sent written text q result lines a s.0 s.1 s.2 s.3
 
 lines_of-nil : (limit : ℕ) → lines_of limit [] ≡ []
 unfolding lines_of
 lines_of-nil limit = refl
 
 -- the last line has no line end
-pub after_unended : (before later : List ℕ) (old : SessionState) (sent written text : List ℕ) (result : Option End) → lines_of line_limit before ≡ Unended ∷ [] → later ≡ [] → Answered old old Unended text false → IsSent sent written text (Some Input) result → ServedLine before later old old sent written result
+pub after_unended : (before later : List ℕ) (old : SessionState) (sent written text : List ℕ) (result : Option End) → lines_of line_limit before ≡ Unended ∷ [] → later ≡ [] → Answered old old Broken text false → IsSent sent written text (Some Input) result → ServedLine before later old old sent written result
 after_unended before later old sent written text result lines none a (inl s) =
     let empty : lines_of line_limit later ≡ [] = rw none (lines_of-nil line_limit) in
-    rw s.0 (served_last before later (the_turn Unended a.0) old old sent written Input (rw empty lines) a.2 (s.1 ∙ ap (λ x. sent ++ x) a.1) (empty, inr (the_turn Unended a.0, refl, refl)) tt, tt)
+    let one = served_last before later (the_turn Broken a.0) old old sent written Input (rw empty lines) a.2 (s.1 ∙ ap (λ x. sent ++ x) a.1) (empty, inr (the_turn Broken a.0, refl, refl)) in
+    rw s.0 one
 after_unended before later old sent written text result lines none a (inr s) =
     let empty : lines_of line_limit later ≡ [] = rw none (lines_of-nil line_limit) in
-    rw s.1 (served_last before later (the_turn Unended a.0) old old sent written (CutOff s.0) (rw empty lines) a.2 (s.2 ∙ ap (λ x. sent ++ take s.0.sent x) a.1) (the_turn Unended a.0, refl) tt, tt)
+    served_cut before later Broken old old sent written text false result (rw empty lines) a s.0 s.1 s.2 s.3
 
 -- nothing more was served
-served_none : (before : List ℕ) (later : List Item) (old : SessionState) (sent : List ℕ) (by : End) → lines_of line_limit before ≡ later → sent_by by [] ≡ [] → IsCause by [] later → IsSpent by 0 → Served before old old sent sent by
-served_none before later old sent by lines nothing cause spent = record {
-  turns = [];
-  last = [];
-  later = later;
-  lines = lines;
-  state = refl;
-  out = rw nothing (sym (append-nil sent));
-  goes = tt;
-  cause = cause;
-  spent = spent;
-}
+served_none : (before : List ℕ) (later : List Item) (old : SessionState) (sent : List ℕ) (by : End) → lines_of line_limit before ≡ later → sent_by by [] ≡ [] → IsCause by [] [] [] later → ServedOne before old old sent sent by
+served_none before later old sent by lines nothing cause = (
+  record {
+    turns = [];
+    last = [];
+    later = later;
+    lines = lines;
+    state = refl;
+    out = rw nothing (sym (append-nil sent));
+    goes = tt;
+    cause = cause;
+    count = omega arith;
+  },
+  omega arith,
+)
 
-pub after_end : (before : List ℕ) (old : SessionState) (sent : List ℕ) → lines_of line_limit before ≡ [] → Served before old old sent sent Input
-after_end before old sent lines = served_none before [] old sent Input lines refl (refl, inl refl) tt
+-- the same of one line
+none_served : (before later : List ℕ) (items : List Item) (old : SessionState) (sent : List ℕ) (by : End) → lines_of line_limit before ≡ items → sent_by by [] ≡ [] → IsCause by [] [] [] items → ServedLine before later old old sent sent (Some by)
+none_served before later items old sent by lines nothing cause = served_none before items old sent by lines nothing cause
+
+pub after_end : (before later : List ℕ) (old : SessionState) (sent : List ℕ) → lines_of line_limit before ≡ [] → ServedLine before later old old sent sent (Some Input)
+after_end before later old sent lines = none_served before later [] old sent Input lines refl (refl, inl refl)
 
 -- a reader with the limit of sessions never wants memory
-pub after_fault : (before later kept : List ℕ) (f : ReadFault) (old : SessionState) (sent : List ℕ) → f ≢ NoRoom → IsNext line_limit before (Err f) kept later → Served before old old sent sent (Read f)
-after_fault before later kept NeverEnds old sent m n = served_none before (Endless ∷ n.0) old sent (Read NeverEnds) n.1 refl (refl, n.0, refl) tt
-after_fault before later kept Device old sent m n = served_none before (lines_of line_limit before) old sent (Read Device) refl refl refl tt
-after_fault before later kept Interrupted old sent m n = served_none before (lines_of line_limit before) old sent (Read Interrupted) refl refl refl tt
+after_fault : (before later kept : List ℕ) (f : ReadFault) (old : SessionState) (sent : List ℕ) → f ≢ NoRoom → IsNext line_limit before (Err f) kept later → ServedLine before later old old sent sent (Some (Read f))
+after_fault before later kept NeverEnds old sent m n = none_served before later (Endless ∷ n.0) old sent (Read NeverEnds) n.1 refl (refl, n.0, refl)
+after_fault before later kept Device old sent m n = none_served before later (lines_of line_limit before) old sent (Read Device) refl refl refl
+after_fault before later kept Interrupted old sent m n = none_served before later (lines_of line_limit before) old sent (Read Interrupted) refl refl refl
 after_fault before later kept NoRoom old sent m n = absurd (m refl)
 
-pub after_fault_at : (limit : ℕ) (before later kept : List ℕ) (f : ReadFault) (old : SessionState) (sent : List ℕ) → limit ≡ line_limit → (f ≡ NoRoom → 8192 < limit) → IsNext limit before (Err f) kept later → Served before old old sent sent (Read f)
+pub after_fault_at : (limit : ℕ) (before later kept : List ℕ) (f : ReadFault) (old : SessionState) (sent : List ℕ) → limit ≡ line_limit → (f ≡ NoRoom → 8192 < limit) → IsNext limit before (Err f) kept later → ServedLine before later old old sent sent (Some (Read f))
 after_fault_at limit before later kept f old sent e m n =
     after_fault before later kept f old sent (λ none. absurd (let over = m none in omega (arith, over, e))) (subst (λ x. IsNext x before (Err f) kept later) e n)
 
+-- there was no memory for the session
 pub not_served : (before : List ℕ) (old : SessionState) (sent : List ℕ) → Served before old old sent sent Memory
-not_served before old sent = served_none before (lines_of line_limit before) old sent Memory refl refl refl tt
+not_served before old sent = (served_none before (lines_of line_limit before) old sent Memory refl refl (refl, refl)).0
 
-map-append-turns : (xs ys : List Turn) → map (λ t. t.line) (xs ++ ys) ≡ map (λ t. t.line) xs ++ map (λ t. t.line) ys
-map-append-turns [] ys = refl
-map-append-turns (x ∷ xs) ys = ap (λ z. x.line ∷ z) (map-append-turns xs ys)
+items_of-append : (xs ys : List Turn) → items_of (xs ++ ys) ≡ items_of xs ++ items_of ys
+items_of-append [] ys = refl
+items_of-append (x ∷ xs) ys = ap (λ z. item_of x.line ∷ z) (items_of-append xs ys)
 
 state_after-append : (xs ys : List Turn) (w : SessionState) → state_after (xs ++ ys) w ≡ state_after ys (state_after xs w)
 state_after-append [] ys w = refl
@@ -128,29 +154,41 @@ text_of-append (x ∷ xs) ys w = ap (λ z. answer w x ++ z) (text_of-append xs y
 
 AllGoOn-append : (xs ys : List Turn) → AllGoOn xs → AllGoOn ys → AllGoOn (xs ++ ys)
 AllGoOn-append [] ys h k = k
-AllGoOn-append (x ∷ xs) ys h k = (h.0, AllGoOn-append xs ys h.1 k)
+AllGoOn-append (x ∷ xs) ys h k = (h.0, h.1, AllGoOn-append xs ys h.2 k)
 
 -- lines served, and then more
 pub Going-more : (turns more : List Turn) (before mid later : List ℕ) (old now new : SessionState) (sent so_far written : List ℕ) → Going turns before mid old now sent so_far → Going more mid later now new so_far written → Going (turns ++ more) before later old new sent written
 Going-more turns more before mid later old now new sent so_far written a b = record {
-  lines = a.lines ∙ ap (λ x. map (λ t. t.line) turns ++ x) b.lines ∙ sym (ap (λ x. x ++ lines_of line_limit later) (map-append-turns turns more) ∙ append_assoc (map (λ t. t.line) turns) (map (λ t. t.line) more) (lines_of line_limit later));
+  lines = a.lines ∙ ap (λ x. items_of turns ++ x) b.lines ∙ sym (ap (λ x. x ++ lines_of line_limit later) (items_of-append turns more) ∙ append_assoc (items_of turns) (items_of more) (lines_of line_limit later));
   state = b.state ∙ ap (state_after more) a.state ∙ sym (state_after-append turns more old);
   out = b.out ∙ ap (λ x. x ++ text_of more now) a.out ∙ ap (λ w. (sent ++ text_of turns old) ++ text_of more w) a.state ∙ append_assoc sent (text_of turns old) (text_of more (state_after turns old)) ∙ ap (λ x. sent ++ x) (sym (text_of-append turns more old));
   goes = AllGoOn-append turns more a.goes b.goes;
 }
 
+-- the cause of an end that a line brings is that of the whole session
+cause_more : (by : End) (turns more last : List Turn) (text whole : List ℕ) (later : List Item) → ends_by_line by ≡ true → text ≡ whole → IsCause by more last text later → IsCause by (turns ++ more) last whole later
+cause_more Quit turns more last text whole later h e c = c
+cause_more Input turns more last text whole later h e c = c
+cause_more (Read NeverEnds) turns more last text whole later h e c = c
+cause_more (Read Device) turns more last text whole later h e c = c
+cause_more (Read Interrupted) turns more last text whole later h e c = c
+cause_more (Read NoRoom) turns more last text whole later h e c = c
+cause_more (CutOff cut) turns more last text whole later h e c = (c.0, c.1, subst (λ x. cut.sent < length x) e c.2)
+cause_more Memory turns more last text whole later h e c = cc
+cause_more Spent turns more last text whole later h e c = cc
+
 -- lines served, and then the last
-pub Served-more : (turns : List Turn) (before mid : List ℕ) (old now new : SessionState) (sent so_far written : List ℕ) (by : End) → Going turns before mid old now sent so_far → (b : Served mid now new so_far written by) → IsSpent by (length (turns ++ b.turns)) → Served before old new sent written by
-Served-more turns before mid old now new sent so_far written by a b spent = record {
+pub Served-more : (turns : List Turn) (before mid : List ℕ) (old now new : SessionState) (sent so_far written : List ℕ) (by : End) → Going turns before mid old now sent so_far → (b : Served mid now new so_far written by) → ends_by_line by ≡ true → length (turns ++ b.turns) + length b.last ≤ 16777216 → Served before old new sent written by
+Served-more turns before mid old now new sent so_far written by a b ended count = record {
   turns = turns ++ b.turns;
   last = b.last;
   later = b.later;
-  lines = a.lines ∙ ap (λ x. map (λ t. t.line) turns ++ x) b.lines ∙ sym (ap (λ x. x ++ (map (λ t. t.line) b.last ++ b.later)) (map-append-turns turns b.turns) ∙ append_assoc (map (λ t. t.line) turns) (map (λ t. t.line) b.turns) (map (λ t. t.line) b.last ++ b.later));
+  lines = a.lines ∙ ap (λ x. items_of turns ++ x) b.lines ∙ sym (ap (λ x. x ++ (items_of b.last ++ b.later)) (items_of-append turns b.turns) ∙ append_assoc (items_of turns) (items_of b.turns) (items_of b.last ++ b.later));
   state = b.state ∙ ap (λ w. state_after b.last (state_after b.turns w)) a.state ∙ ap (state_after b.last) (sym (state_after-append turns b.turns old));
   out = b.out ∙ ap (λ x. x ++ (text_of b.turns now ++ sent_by by (text_of b.last (state_after b.turns now)))) a.out ∙ ap (λ w. (sent ++ text_of turns old) ++ (text_of b.turns w ++ sent_by by (text_of b.last (state_after b.turns w)))) a.state ∙ rw (text_of-append turns b.turns old, state_after-append turns b.turns old) (simp append_assoc);
   goes = AllGoOn-append turns b.turns a.goes b.goes;
-  cause = b.cause;
-  spent = spent;
+  cause = cause_more by turns b.turns b.last _ _ b.later ended (ap (text_of b.last) (ap (state_after b.turns) a.state ∙ sym (state_after-append turns b.turns old))) b.cause;
+  count = count;
 }
 
 pub Going-none : (before : List ℕ) (old : SessionState) (sent : List ℕ) → Going [] before before old old sent sent
@@ -166,24 +204,63 @@ served_spent turns before later old new sent written a count = record {
   state = a.state;
   out = a.out ∙ ap (λ x. sent ++ x) (sym (append-nil (text_of turns old)));
   goes = a.goes;
-  cause = refl;
-  spent = count;
+  cause = (refl, count);
+  count = omega (arith, count);
 }
 
--- one line's end is no end of the count
-pub not_spent : (by : End) (n : ℕ) → IsSpent by 0 → IsSpent by n
-not_spent Quit n h = tt
-not_spent Input n h = tt
-not_spent (Read f) n h = tt
-not_spent (CutOff c) n h = tt
-not_spent Memory n h = tt
-not_spent Spent n h = absurd (omega arith)
+-- an answer that went out whole leaves no fault of the writer
+pub cause_whole : (by : Option End) (old new : ℕ) → ForSome by (λ e. ends_whole e ≡ true) → old ≤ new → IsCutCause by old new
+cause_whole None old new h le = le
+cause_whole (Some Quit) old new h le = le
+cause_whole (Some Input) old new h le = le
+cause_whole (Some (Read f)) old new h le = let e : ends_whole (Read f) ≡ true = h _ refl in cc
+cause_whole (Some (CutOff c)) old new h le = let e : ends_whole (CutOff c) ≡ true = h _ refl in cc
+cause_whole (Some Memory) old new h le = let e : ends_whole Memory ≡ true = h _ refl in cc
+cause_whole (Some Spent) old new h le = let e : ends_whole Spent ≡ true = h _ refl in cc
 
-pub cause_uncut : (by : Option End) (old new : ℕ) → ForSome by (λ e. is_cut e ≡ false) → old ≤ new → IsCutCause by old new
-cause_uncut None old new h le = le
-cause_uncut (Some Quit) old new h le = le
-cause_uncut (Some Input) old new h le = le
-cause_uncut (Some (Read f)) old new h le = le
-cause_uncut (Some (CutOff c)) old new h le = let e : is_cut (CutOff c) ≡ false = h _ refl in cc
-cause_uncut (Some Memory) old new h le = le
-cause_uncut (Some Spent) old new h le = le
+pub run_whole : (by : Option End) (faults : List StreamFault) → ForSome by (λ e. ends_whole e ≡ true) → faults ≡ [] → IsCutRun by faults
+run_whole None faults h none = none
+run_whole (Some Quit) faults h none = none
+run_whole (Some Input) faults h none = none
+run_whole (Some (Read f)) faults h none = none
+run_whole (Some (CutOff c)) faults h none = let e : ends_whole (CutOff c) ≡ true = h _ refl in cc
+run_whole (Some Memory) faults h none = none
+run_whole (Some Spent) faults h none = none
+
+-- the answer to a line brings no end by the reader
+pub read_answered : (by : Option End) (old new : ℕ) → ForSome by (λ e. ends_by_answer e ≡ true) → old ≤ new → IsReadEnd by old new
+read_answered None old new h le = le
+read_answered (Some Quit) old new h le = le
+read_answered (Some Input) old new h le = le
+read_answered (Some (Read f)) old new h le = let e : ends_by_answer (Read f) ≡ true = h _ refl in cc
+read_answered (Some (CutOff c)) old new h le = le
+read_answered (Some Memory) old new h le = le
+read_answered (Some Spent) old new h le = le
+
+pub run_answered : (by : Option End) (faults : List StreamFault) → ForSome by (λ e. ends_by_answer e ≡ true) → faults ≡ [] → IsReadEndRun by faults
+run_answered None faults h none = none
+run_answered (Some Quit) faults h none = none
+run_answered (Some Input) faults h none = none
+run_answered (Some (Read f)) faults h none = let e : ends_by_answer (Read f) ≡ true = h _ refl in cc
+run_answered (Some (CutOff c)) faults h none = none
+run_answered (Some Memory) faults h none = none
+run_answered (Some Spent) faults h none = none
+
+pub answer_ends : (by : End) → ends_whole by ≡ true → ends_by_answer by ≡ true
+answer_ends Quit h = refl
+answer_ends Input h = refl
+answer_ends (Read f) h = cc
+answer_ends (CutOff c) h = refl
+answer_ends Memory h = cc
+answer_ends Spent h = cc
+
+pub line_answered : (by : End) → ends_by_answer by ≡ true → ends_by_line by ≡ true
+line_answered Quit h = refl
+line_answered Input h = refl
+line_answered (Read f) h = refl
+line_answered (CutOff c) h = refl
+line_answered Memory h = cc
+line_answered Spent h = cc
+
+pub not_memory : (by : End) → ends_by_line by ≡ true → by ≢ Memory
+not_memory by h e = let none : ends_by_line Memory ≡ true = subst (λ x. ends_by_line x ≡ true) e h in cc

@@ -1,12 +1,5 @@
 pub mod Answers
-pub mod Book
 pub mod Floor
-pub mod Lines
-pub mod Options
-pub mod Reading
-pub mod Requests
 pub mod Serving
 pub mod Session
-pub mod Stream
 pub mod Text
-pub mod Words

@@ -5,15 +5,10 @@
 #![tactic(auto)]
 
 pub mod early;
-mod label;
-pub mod line;
-pub mod memory;
-mod options;
-mod path;
-pub mod request;
 pub mod session;
-pub mod stream;
 #[cfg(test)]
 mod tests;
 pub mod text;
-pub mod words;
+
+pub use mt_lines::{line, memory, stream};
+pub use mt_requests::request;

@@ -2,9 +2,9 @@
 ghost use Rattle.std.specs.Prelude.{◌≡◌, ◌+◌, ◌≤◌, ◌++◌, length, flat_map, OnOk, IfOk};
 ghost use Rattle.mt_session.specs.Answers.{refusal, reply_text, table_text, row_line, place_text};
 
-use crate::early::command::Reply;
 use arrayvec::ArrayVec;
 use itoa::Buffer;
+use mt_book::command::Reply;
 use mt_info::print::{push_number, push_path, push_row};
 use mt_info::row::Row;
 use mt_info::table::Table;

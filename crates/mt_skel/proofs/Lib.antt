@@ -8,3 +8,4 @@ pub mod ListLaws
 pub mod NodeLaws
 pub mod OutcomeLaws
 pub mod SkeletonLaws
+pub mod UnescapeLaws

@@ -1,0 +1,64 @@
+#!/usr/bin/env -S python3 -B
+"""Proves everything once, from nothing, and checks the program that was built from outside.
+
+First `rt ci`, then README's commands (checks/readme.py), then checks/program.py, each with all that it
+prints. Then how long each took; then the last line of `rt ci`, `N passed, M failed`, once more. The
+status is 0 where all of them passed.
+
+`rt ci` keeps no library that `rt run` would take, so that README's `rt run` would prove everything a
+second time. It does leave the program that it has proved, built and run, and --built takes that one.
+"""
+import contextlib
+import os
+import resource
+import subprocess
+import sys
+import time
+
+TOP = os.path.dirname(os.path.dirname(os.path.abspath(__file__)))
+PROGRAM = os.path.join(TOP, "crates", "mt_server", "out", "mt_server")
+
+
+def spent():
+    """The processor seconds of all commands that have ended."""
+    used = resource.getrusage(resource.RUSAGE_CHILDREN)
+    return used.ru_utime + used.ru_stime
+
+
+def run(name, *words):
+    """Runs a command at the top, and answers whether it passed, its last line and how long it took."""
+    start, before, last = time.monotonic(), spent(), ""
+    print(f"== {name}", flush=True)
+    with subprocess.Popen(words, cwd=TOP, stdout=subprocess.PIPE, text=True, errors="replace") as command:
+        for line in command.stdout:
+            print(line, end="", flush=True)
+            last = line.strip() or last
+    wall, processor = (time.monotonic() - start) / 60, (spent() - before) / 60
+    passed = command.returncode == 0
+    took = f"{name}: {'passed' if passed else 'FAILED'}, {processor:.1f} processor minutes, {wall:.1f} wall minutes"
+    return passed, last, took
+
+
+def main():
+    # What is there afterwards is what rt ci has built.
+    with contextlib.suppress(FileNotFoundError):
+        os.remove(PROGRAM)
+    passed, verdict, took = run("rt ci", "rt", "ci")
+    all_took, all_passed = [took], [passed]
+    if os.path.isfile(PROGRAM):
+        for name, *words in (
+            ("README's commands", "checks/readme.py", "--built"),
+            ("checks of the program", "checks/program.py", PROGRAM),
+        ):
+            passed, _, took = run(name, *words)
+            all_took.append(took)
+            all_passed.append(passed)
+    else:
+        print("rt ci built no program, so nothing was checked from outside")
+        all_passed.append(False)
+    print("==", *all_took, verdict, sep="\n", flush=True)
+    sys.exit(0 if all(all_passed) else 1)
+
+
+if __name__ == "__main__":
+    main()

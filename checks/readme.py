@@ -1,0 +1,97 @@
+#!/usr/bin/env -S python3 -B
+"""README.md says what is so: its example is a case, and its commands print what they should.
+
+Usage: checks/readme.py [--built]
+
+Runs the commands of README.md from the top of the repository. Directly before the fence of a block of
+commands stands a line that says whether it is run, and a block marked `sh` has to have one:
+
+    <!-- run -->          it is run, and has to print crates/mt_server/stdout
+    <!-- run: NAME -->    it is run, and has to print the answers of the case NAME
+    <!-- not run -->      it is not run
+
+With --built the program that is built already, crates/NAME/out/NAME, takes the place of `rt run --` in
+crates/NAME, which would prove everything to build it: this is for .ci/run, where `rt ci` has just
+proved and built it from nothing.
+
+A fenced block directly behind a line `<!-- case: NAME -->` is the case NAME without its comments.
+"""
+import re
+import subprocess
+import sys
+
+import cases
+from running import TOP, check, difference, failures, read, shown, write
+
+# The case of which crates/mt_server/stdin and stdout are the input and the answers.
+EXAMPLE = "two-filesystems"
+STREAMS = ("crates", "mt_server")
+
+CASE_BLOCK = re.compile(rb"(?m)^(<!-- case: (.*) -->\n```.*\n)((?:(?!```).*\n)*?)(```)$")
+BLOCK = re.compile(rb"(?m)^(?:<!-- (.*) -->\n)?```(.*)\n((?:(?!```).*\n)*?)```$")
+PROVED_RUN = re.compile(rb"cd crates/(\w+) && rt run -- ")
+
+
+def block_of(name):
+    return cases.load(name).text(commented=False)
+
+
+def check_example(_program):
+    """README.md's blocks of cases, and the files stdin and stdout of the program, are those cases."""
+    blocks = CASE_BLOCK.findall(read("README.md"))
+    check("README.md has a block <!-- case: NAME -->", blocks != [])
+    for _, name, text, _ in blocks:
+        name = shown(name)
+        if name not in cases.names():
+            check(f"case {name} of README.md is there", False)
+            continue
+        check(f"case {name} in README.md", text == block_of(name), difference(block_of(name), text, "README.md"))
+    example = cases.load(EXAMPLE)
+    for file, text in (("stdin", example.input()), ("stdout", example.output())):
+        found = read(*STREAMS, file)
+        check(f"crates/mt_server/{file}", found == text, difference(text, found, file))
+
+
+def update_example():
+    """Writes these blocks and files from the cases."""
+    text = CASE_BLOCK.sub(lambda it: it[1] + block_of(shown(it[2])) + it[4], read("README.md"))
+    write(text, "README.md")
+    example = cases.load(EXAMPLE)
+    write(example.input(), *STREAMS, "stdin")
+    write(example.output(), *STREAMS, "stdout")
+
+
+def check_command(command, case):
+    """Runs a command, which has to print the answers of a case."""
+    print(f"running: {shown(command).strip()}", flush=True)
+    done = subprocess.run(["sh", "-ec", command], cwd=TOP, stdin=subprocess.DEVNULL, stdout=subprocess.PIPE)
+    name, wanted = f"README.md's command {shown(command).strip()}", cases.load(case).output()
+    check(f"{name} ends well", done.returncode == 0, f"status {done.returncode}")
+    check(f"what {name} prints", done.stdout == wanted, difference(wanted, done.stdout, case))
+
+
+def check_commands(is_built):
+    ran = 0
+    for mark, language, command in BLOCK.findall(read("README.md")):
+        word, _, name = mark.partition(b": ")
+        if word == b"run":
+            if is_built:
+                command = PROVED_RUN.sub(rb"cd crates/\1 && out/\1 ", command)
+            check_command(command, shown(name) or EXAMPLE)
+            ran += 1
+        elif language == b"sh" and mark != b"not run":
+            check(f"a mark before {shown(command).strip()}", False, "<!-- run --> or <!-- not run -->")
+    check("README.md has a command that is run", ran > 0)
+
+
+def main():
+    if sys.argv[1:] not in ([], ["--built"]):
+        raise SystemExit(__doc__)
+    check_commands(sys.argv[1:] == ["--built"])
+    if failures:
+        raise SystemExit(f"checks of README.md's commands failed: {len(failures)}")
+    print("README.md's commands print what they should")
+
+
+if __name__ == "__main__":
+    main()

@@ -1,0 +1,76 @@
+"""Odd input, closed streams and the program's arguments.
+
+A real stream tells the proofs nothing, and a program has no contract: this says that no input and no
+closed stream ends it by a signal, and that its statuses and messages are those that README.md names.
+"""
+import socket
+import subprocess
+
+import cases
+from running import MOST_SECONDS, check, run, shown
+
+
+def check_input(program):
+    fault = (1, b"", b"mountd: read fault\n")
+    check("a line of 2,000,000 bytes", run(program, b"x" * 2_000_000) == fault)
+    check("a line of 1,056,769 bytes without end", run(program, b"x" * 1_056_769) == fault)
+    long = b"x" * 1_056_768 + b"\nshow 1\n"
+    check("a line of 1,056,768 bytes", run(program, long) == (0, b"no TooLong\nno NoNamespace\n", b""))
+    check("zero bytes", run(program, b"\0" * 100 + b"\n") == (0, b"no BadLine\n", b""))
+    check("a zero byte in a name", run(program, b"mkfs a\0b c d\n") == (0, b"no BadLine\n", b""))
+    every = bytes(range(256)) * 40
+    status, answers, _ = run(program, every + b"\n")
+    check("every byte", status == 0 and set(answers.splitlines()) <= {b"no BadLine", b"no TooLong"})
+
+
+def in_pieces(program, text, most):
+    """The answers to an input of which each read gives at most so many bytes, as a packet of its own."""
+    ours, theirs = socket.socketpair(socket.AF_UNIX, socket.SOCK_SEQPACKET)
+    ours.settimeout(MOST_SECONDS)
+    with subprocess.Popen([program, "-"], stdin=theirs, stdout=subprocess.PIPE) as served, ours:
+        theirs.close()
+        try:
+            for at in range(0, len(text), most):
+                ours.send(text[at : at + most])
+        except BrokenPipeError:
+            pass
+        ours.close()
+        return served.communicate(timeout=MOST_SECONDS)[0]
+
+
+def check_pieces(program):
+    """Each case is answered the same however its input comes in pieces."""
+    for name in cases.names():
+        case = cases.load(name)
+        for most in (1, 7):
+            check(f"case {name} in pieces of {most}", in_pieces(program, case.input(), most) == case.output())
+
+
+def check_closed(program):
+    session = subprocess.Popen(
+        [program, "-"], stdin=subprocess.PIPE, stdout=subprocess.PIPE, stderr=subprocess.PIPE
+    )
+    session.stdout.close()
+    try:
+        session.stdin.write(b"show 1\n" * 100_000)
+        session.stdin.close()
+    except BrokenPipeError:
+        pass
+    complaint = session.stderr.read()
+    check("a closed pipe", (session.wait(MOST_SECONDS), complaint) == (1, b"mountd: write fault\n"), shown(complaint))
+    for closed, wanted in [("0<&-", b"mountd: read fault\n"), ("1>&-", b"mountd: write fault\n")]:
+        done = subprocess.run(
+            ["sh", "-c", f'exec "$0" - {closed}', program], input=b"show 1\n", capture_output=True, timeout=MOST_SECONDS
+        )
+        check(f"a stream closed by {closed}", (done.returncode, done.stderr) == (1, wanted), shown(done.stderr))
+
+
+def check_arguments(program):
+    check("a socket", run(program, b"", "socket") == (1, b"", b"mountd: cannot listen\n"))
+    check("two words", run(program, b"", "a", "b")[0] == 2)
+    check("an unknown option", run(program, b"", "--frobnicate")[0] == 2)
+    check("a word that is no text", run(program, b"", b"\xff") == (2, b"", b"mountd: an argument is not UTF-8\n"))
+    none = subprocess.run([program], input=b"", capture_output=True, timeout=MOST_SECONDS)
+    check("no word", none.returncode == 2 and none.stdout == b"")
+    status, text, complaint = run(program, b"", "--help")
+    check("help", status == 0 and text.startswith(b"Usage: mountd") and complaint == b"")

@@ -1,0 +1,131 @@
+"""The tables of the cases, read by others.
+
+`findmnt` of util-linux, where it is there, reads each table of cases/ as the file it is made after,
+/proc/pid/mountinfo, and finds the columns that its lines have: that another program understands the
+lines is no matter of a proof here. And the table of each copied namespace is that of the namespace it
+was copied from, up to the mounts' numbers.
+"""
+import json
+import os
+import re
+import shutil
+import subprocess
+import tempfile
+
+import cases
+from running import answer_groups, check, session, shown
+
+COLUMNS = {
+    "id": "ID",
+    "parent": "PARENT",
+    "maj:min": "MAJ:MIN",
+    "fsroot": "FSROOT",
+    "target": "TARGET",
+    "vfs-options": "VFS-OPTIONS",
+    "opt-fields": "OPT-FIELDS",
+    "propagation": "PROPAGATION",
+    "fstype": "FSTYPE",
+    "source": "SOURCE",
+    "fs-options": "FS-OPTIONS",
+}
+
+# The bytes behind the escapes, as the text of one character for each byte.
+ESCAPE = re.compile(r"\\(040|011|012|134)")
+
+
+def unescaped(word):
+    return ESCAPE.sub(lambda found: chr(int(found[1], 8)), word)
+
+
+def propagation(tags):
+    """What findmnt calls the state that the optional fields tell."""
+    kinds = [tag.partition(":")[0] for tag in tags]
+    said = ["shared" if "shared" in kinds else "private"]
+    return ",".join(said + ["slave"] * ("master" in kinds) + ["unbindable"] * ("unbindable" in kinds))
+
+
+def row_of(line):
+    """The columns that a line of a table has."""
+    front, _, back = line.decode("latin-1").partition(" - ")
+    number, parent, device, root, point, options, *tags = front.split(" ")
+    kind, source, rest = back.split(" ")
+    return {
+        "id": int(number),
+        "parent": int(parent),
+        "maj:min": device,
+        "fsroot": unescaped(root),
+        "target": unescaped(point),
+        "vfs-options": options,
+        "opt-fields": " ".join(tags) or None,
+        "propagation": propagation(tags),
+        "fstype": unescaped(kind),
+        "source": unescaped(source),
+        "fs-options": rest,
+    }
+
+
+def found_rows(file):
+    """The columns that findmnt finds in a file."""
+    words = ["--json", "--list", "--nofsroot", "--tab-file", file, "--output", ",".join(COLUMNS.values())]
+    done = subprocess.run(["findmnt", *words], capture_output=True, timeout=60)
+    if done.returncode:
+        return f"status {done.returncode}: {shown(done.stderr)}"
+    return json.loads(done.stdout.decode("latin-1"))["filesystems"]
+
+
+def tables_of(case):
+    """The tables among the answers of a case, each with the line that asked for it."""
+    for turn in case.turns:
+        if turn.sent().startswith(b"show ") and len(turn.answers) > 1:
+            yield turn.written, turn.answers[1:]
+
+
+def check_findmnt(_program):
+    if not shutil.which("findmnt"):
+        print("findmnt is not there, so it reads no table")
+        return
+    read = 0
+    with tempfile.TemporaryDirectory() as folder:
+        file = os.path.join(folder, "mountinfo")
+        for name in cases.names():
+            for asked, lines in tables_of(cases.load(name)):
+                with open(file, "wb") as made:
+                    made.write(b"".join(line + b"\n" for line in lines))
+                wanted, found = [row_of(line) for line in lines], found_rows(file)
+                check(f"findmnt of {shown(asked)} of {name}", found == wanted, f"wanted {wanted}\nfound  {found}")
+                read += 1
+    check("findmnt read a table", read > 0)
+    print(f"{read} tables read by findmnt")
+
+
+def renumbered(rows, numbers):
+    return [[numbers[row[0]], numbers[row[1]], row[2]] for row in rows]
+
+
+def check_copies(program):
+    """Copies each namespace of each case that ends with one, and compares the two tables."""
+    compared = 0
+    for name in cases.names():
+        lines = cases.load(name).requests()
+        if b"quit" in lines:
+            continue
+        spaces = last_namespace(program, lines)
+        for space in range(1, spaces + 1):
+            asked = [*lines, b"copyns %d" % space, b"show %d" % space, b"show %d" % (spaces + 1)]
+            *_, made, old, new = answer_groups(session(program, asked)[1], asked)
+            if made == [b"no TooMany"]:
+                continue
+            rows, twins = ([row.split(b" ", 2) for row in group[1:]] for group in (old, new))
+            numbers = {row[0]: twin[0] for row, twin in zip(rows, twins)}
+            good = rows != [] and renumbered(rows, numbers) == twins
+            check(f"copy of namespace {space} of {name}", good, shown(b"\n".join(old + new)))
+            compared += 1
+    print(f"{compared} namespaces compared with their copies")
+
+
+def last_namespace(program, lines):
+    """How many namespaces there are behind these lines."""
+    shows = [b"show %d" % space for space in range(1, 65)]
+    asked = lines + shows
+    groups = answer_groups(session(program, asked)[1], asked)[len(lines) :]
+    return sum(group != [b"no NoNamespace"] for group in groups)

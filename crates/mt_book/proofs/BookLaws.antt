@@ -1,0 +1,132 @@
+-- A book stays a book.
+use Rattle.std.proofs.Common.{◌≡◌, ℕ, ◌<◌, ◌≤◌, ◌^◌, List, [], ◌∷◌, ◌++◌, length, refl, sym, ap, ◌∙◌, subst, arith, length-append, Ok, Err}
+use Rattle.std.specs.Prelude.{if◌then◌else◌, slice_index_or, Bool}
+use Rattle.std.proofs.lemmas.Bool.{lt-leb}
+use Rattle.mt_skel.specs.declared.fault.Fault.TheVariants.{JournalFull}
+use Rattle.mt_propagate.specs.World.{WorldView, world_view, empty_world}
+use Rattle.mt_propagate.specs.declared.world.World.{World}
+use Rattle.mt_propagate.specs.WellFormed.{IsWellFormed}
+use Rattle.mt_book.specs.declared.command.Command.{Command}
+use Rattle.mt_book.specs.declared.command.Reply.{Reply}
+use Rattle.mt_book.specs.declared.spare.Spare.{Spare}
+use Rattle.mt_book.specs.declared.spare.Spare.TheVariants.{Level, Behind}
+use Rattle.mt_book.specs.declared.prepared.Prepared.{Prepared}
+use Rattle.mt_book.specs.Step.{step, makes_space, after}
+use Rattle.mt_book.specs.History.{posts_of}
+use Rattle.mt_book.specs.Book.{command_limit, numbers_of, counted, posted, with_newborn, answer, reply_of}
+use Rattle.mt_book.specs.Kept.{IsBehind, IsSpare, IsPrepared, IsBook}
+use Rattle.mt_book.proofs.GrowthLaws.{IsReached, reached}
+use Rattle.mt_book.proofs.NextLaws.{after-accepted, accepts-next, numbers-next, posts-next, numbers-few}
+
+-- the numbers that come next are far from the greatest
+pub record IsSmall (w : WorldView) : Type 0 where
+  pub well_formed : IsWellFormed w
+  pub numbers : (w.next_mount < 2 ^ 63) × (w.peering.next < 2 ^ 63) × (w.next_space < 2 ^ 63)
+
+reached_small : (w : WorldView) (k : ℕ) → k ≤ 1048576 → IsReached w k → IsSmall w
+reached_small w k few h = record {
+  well_formed = h.well_formed;
+  numbers = (omega (arith, few, h.mounts), omega (arith, few, h.groups), omega (arith, few, h.spaces));
+}
+
+pub after_small : (cs : List Command) → length cs ≤ command_limit → IsSmall (after cs)
+after_small cs few = reached_small (after cs) (length cs) few (reached cs)
+
+pub behind_small : (cs : List Command) (w : WorldView) → IsBehind cs w → length cs ≤ command_limit → IsSmall w
+behind_small cs w h few =
+    let shorter : length h.before ≤ 1048576 = omega (arith, few, ap (λ (l : List Command). length l) h.all, length-append h.before (h.last ∷ [])) in
+    subst IsSmall (sym h.world) (reached_small (after h.before) (length h.before) shorter (reached h.before))
+
+pub book_new : (w : World) → world_view w ≡ empty_world → IsBook empty_world (Level w) [] []
+unfolding after numbers_of
+book_new w e = record {
+  world = refl;
+  lags = e;
+  counts = refl;
+  accepted = refl;
+  few = omega arith;
+}
+
+-- another spare world
+pub book_spare : (w : WorldView) (spare other : Spare) (ks : List ℕ) (cs : List Command) → IsBook w spare ks cs → IsSpare cs other → IsBook w other ks cs
+book_spare w spare other ks cs h s = record {
+  world = h.world;
+  lags = s;
+  counts = h.counts;
+  accepted = h.accepted;
+  few = h.few;
+}
+
+-- a command more: the world that was shown is behind
+pub book_committed : (old : World) (spare : Spare) (ks : List ℕ) (cs : List Command) (p : Prepared) → IsBook (world_view old) spare ks cs → IsPrepared cs p
+    → IsBook (world_view p.world) (Behind old) p.numbers.items (cs ++ p.command ∷ [])
+book_committed old spare ks cs p h q =
+    let v = world_view p.world in
+    let e = after-accepted cs p.command v p.reply q.accepted in
+    record {
+      world = sym e;
+      lags = record {
+        before = cs;
+        last = p.command;
+        reply = p.reply;
+        all = refl;
+        world = h.world;
+        accepted = ap (λ (x : WorldView). step x p.command) h.world ∙ q.accepted ∙ ap (λ (x : WorldView). Ok (x, p.reply)) (sym e);
+      };
+      counts = q.numbers;
+      accepted = accepts-next cs p.command v p.reply h.accepted q.accepted;
+      few = omega (arith, q.few, length-append cs (p.command ∷ []));
+    }
+
+-- the same, where the book has taken what was prepared
+pub book_taken : (old shown new : World) (spare : Spare) (ks : List ℕ) (cs js : List Command) (p : Prepared) → shown ≡ old → new ≡ p.world → js ≡ cs ++ p.command ∷ []
+    → IsBook (world_view old) spare ks cs → IsPrepared cs p → IsBook (world_view new) (Behind shown) p.numbers.items js
+book_taken old shown new spare ks cs js p s n j h q =
+    subst (λ (x : World). IsBook (world_view new) (Behind x) p.numbers.items js) (sym s)
+    (subst (λ (x : World). IsBook (world_view x) (Behind old) p.numbers.items js) (sym n)
+    (subst (λ (l : List Command). IsBook (world_view p.world) (Behind old) p.numbers.items l) (sym j) (book_committed old spare ks cs p h q)))
+
+-- the world after a command is well-formed
+pub accepted_kept : (cs : List Command) (world v : WorldView) (c : Command) (r : Reply) → world ≡ after cs → step world c ≡ Ok (v, r) → IsWellFormed v
+accepted_kept cs world v c r w e =
+    subst IsWellFormed (after-accepted cs c v r (ap (λ (x : WorldView). step x c) (sym w) ∙ e)) (reached (cs ++ c ∷ [])).well_formed
+
+pub book_few : (w : WorldView) (spare : Spare) (ks : List ℕ) (cs : List Command) → IsBook w spare ks cs → (i : ℕ) → slice_index_or ks i 0 ≤ command_limit
+book_few w spare ks cs h i =
+    subst (λ (l : List ℕ). slice_index_or l i 0 ≤ command_limit) (sym h.counts) (le_through (slice_index_or (numbers_of cs) i 0) (length cs) command_limit (numbers-few cs i) h.few)
+  where
+    le_through : (a b c : ℕ) → a ≤ b → b ≤ c → a ≤ c
+    le_through a b c p q = omega arith
+
+-- a command that was done on an equal world is prepared for the book
+pub prepared_for : (shown world : WorldView) (spare : Spare) (ks : List ℕ) (cs : List Command) (c : Command) (p : Prepared) → IsBook shown spare ks cs → length cs < command_limit → world ≡ after cs
+    → step world c ≡ Ok (world_view p.world, p.reply) → p.command ≡ c → p.numbers.items ≡ counted shown (world_view p.world) 1 (with_newborn ks (makes_space c))
+    → p.posts ≡ posted shown (world_view p.world) 1 (with_newborn ks (makes_space c)) → IsPrepared cs p
+prepared_for shown world spare ks cs c p h few w e same numbers posts =
+    let v = world_view p.world in
+    let done = ap (λ (x : WorldView). step x c) (sym w) ∙ e in
+    record {
+      few = few;
+      accepted = ap (step (after cs)) same ∙ done;
+      numbers =
+          numbers
+          ∙ ap (λ (x : WorldView). counted x v 1 (with_newborn ks (makes_space c))) h.world
+          ∙ ap (λ (l : List ℕ). counted (after cs) v 1 (with_newborn l (makes_space c))) h.counts
+          ∙ numbers-next cs c v p.reply done
+          ∙ ap (λ (x : Command). numbers_of (cs ++ x ∷ [])) (sym same);
+      posts =
+          posts
+          ∙ ap (λ (x : WorldView). posted x v 1 (with_newborn ks (makes_space c))) h.world
+          ∙ ap (λ (l : List ℕ). posted (after cs) v 1 (with_newborn l (makes_space c))) h.counts
+          ∙ posts-next cs c v p.reply done
+          ∙ ap (posts_of cs) (sym same);
+    }
+
+-- what was prepared is answered
+pub prepared_answer : (cs : List Command) (p : Prepared) (c : Command) (r : Reply) → IsPrepared cs p → p.command ≡ c → r ≡ p.reply → answer cs c ≡ Ok r
+unfolding answer
+prepared_answer cs p c r q same reply =
+    ap (λ (full : Bool). if full then Err JournalFull else reply_of (step (after cs) c)) (lt-leb command_limit (length cs) q.few)
+    ∙ ap (λ (x : Command). reply_of (step (after cs) x)) (sym same)
+    ∙ ap reply_of q.accepted
+    ∙ ap (λ (x : Reply). Ok x) (sym reply)

@@ -1,0 +1,16 @@
+use Rattle.mt_book.proofs.CountLaws.{posts_few}
+use Rattle.mt_book.proofs.HistoryLaws.{posts_events, numbers_up}
+use Rattle.mt_book.proofs.SpaceLaws.{number_none}
+use Rattle.mt_book.proofs.laws.posts_are_events.Goals as goal
+
+pub returns-clause-events : goal.returns-clause-events
+returns-clause-events c = posts_events
+
+pub returns-clause-numbers : goal.returns-clause-numbers
+returns-clause-numbers c = numbers_up
+
+pub returns-clause-none : goal.returns-clause-none
+returns-clause-none c = number_none
+
+pub returns-clause-few : goal.returns-clause-few
+returns-clause-few c = posts_few

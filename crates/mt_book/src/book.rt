@@ -1,0 +1,255 @@
+//! The commands that were accepted, and the world that they lead to.
+ghost use Rattle.std.specs.Prelude.{◌≡◌, ◌≢◌, ℕ, IfOk, IfErr, OnErr, OnOk, IsOkUnless, Ok, Err, true, false, ◌+◌, ◌<◌, ◌^◌, [], ◌∷◌, ◌++◌, length, IsTrue, ◌≤◌};
+ghost use Rattle.std.specs.List.{filter};
+ghost use Rattle.mt_propagate.specs.World.{world_view, empty_world, is_space};
+ghost use Rattle.mt_propagate.specs.WellFormed.{IsWellFormed};
+ghost use Rattle.mt_info.specs.Table.{table_of};
+ghost use Rattle.mt_book.specs.Step.{after};
+ghost use Rattle.mt_book.specs.History.{number_of, posts_of};
+ghost use Rattle.mt_book.specs.Book.{answer, accepts, command_limit, found_at, spaces_of, AreAnswered};
+ghost use Rattle.mt_book.specs.Kept.{IsPrepared};
+
+use crate::changes::changes_after;
+use crate::command::{Command, Reply};
+use crate::prepared::Prepared;
+use crate::spare::{Spare, Tried, level, try_on};
+use mt_events::shared::SharedPosts;
+use mt_info::table::{Table, table_of};
+use mt_mounts::mount::{MountId, SpaceId};
+use mt_propagate::world::World;
+use mt_skel::fault::Fault;
+use mt_skel::name::Name;
+use std::alloc::Global;
+use std::marker::Model;
+use std::mem;
+
+/// The most commands that are accepted.
+const MOST_COMMANDS: usize = 1_048_576;
+
+/// The commands that were accepted, the world that they lead to, and how many posts each namespace has had.
+///
+/// A second world is kept beside the one that is shown, never more than one command behind. The next command is
+/// tried on it, and shown by exchanging both, so that no command copies a world, also not a refused one. A copy is
+/// made only after a `Prepared` was dropped, or where there was no memory for what a command changed.
+#[derive(Drop)]
+pub struct Book {
+    world: World,
+    spare: Spare,
+    numbers: Vec<u64>,
+    journal: Vec<Command>,
+    alloc: Global,
+}
+
+impl Model for Book {
+    ghost use Rattle.std.specs.Prelude.{◌-◌, vec_capacity, vec_len};
+    ghost use Rattle.mt_propagate.specs.World.{world_view};
+    ghost use Rattle.mt_book.specs.Book.{BookView};
+    ghost use Rattle.mt_book.specs.Kept.{IsBook};
+
+    ghost Value = { BookView };
+
+    ghost view = { λ b. record { journal = b.journal.items; room = vec_capacity b.journal - vec_len b.journal } };
+
+    ghost invariant = { λ b. IsBook (world_view b.world) b.spare b.numbers.items b.journal.items };
+}
+
+impl Book {
+    /// A book that has accepted no command: its world has no filesystem and no namespace. Its memory comes from
+    /// `alloc`, and none is taken yet.
+    pub fn new(alloc: Global) -> Book
+        ensures { result.journal ≡ [] }
+    {
+        Book {
+            world: World::new(alloc),
+            spare: Spare::Level(World::new(alloc)),
+            numbers: Vec::new(alloc),
+            journal: Vec::new(alloc),
+            alloc,
+        }
+    }
+
+    /// The commands that were accepted, in their order: 1,048,576 at most, and each was accepted where it stands.
+    pub fn journal(&self) -> &[Command]
+        ensures journal { result.now ≡ self.now.journal }
+        ensures accepted { IsTrue (accepts empty_world self.now.journal) }
+        ensures few { length self.now.journal ≤ command_limit }
+    {
+        self.journal.as_slice()
+    }
+
+    /// Does a command beside the world that is shown, and takes all the memory that showing it needs: `commit`
+    /// shows it, and a `Prepared` that is dropped was never done. The book answers as before, whether the command
+    /// is refused or not.
+    ///
+    /// Refused as `JournalFull` after 1,048,576 accepted commands, else with the first of the command's own
+    /// refusals that holds, and as `NoMemory`.
+    #[tactic(auto, unfolding(crate::specs::Book::answer))]
+    pub fn prepare(&mut self, command: &Command) -> Result<Prepared, Fault>
+        ensures prepared { IfOk result (λ prepared. IsPrepared self.old.journal prepared) }
+        ensures command { IfOk result (λ prepared. prepared.command ≡ command.now) }
+        ensures room { OnOk result (0 < self.new.room) }
+        ensures refused { IfErr result (λ fault. fault ≢ Fault.NoMemory → answer self.old.journal command.now ≡ Err fault) }
+        ensures unchanged { self.new.journal ≡ self.old.journal }
+    {
+        if self.journal.len() >= MOST_COMMANDS {
+            return Err(Fault::JournalFull);
+        }
+        self.journal.reserve(1)?;
+        let copy = command.copy()?;
+        let spare = mem::replace(&mut self.spare, Spare::Gone);
+        let world = level(spare, &self.world, &self.journal)?;
+        match try_on(world, command) {
+            Tried::Refused(world, fault) => {
+                self.spare = Spare::Level(world);
+                Err(fault)
+            }
+            Tried::Changed(world, reply) => {
+                let changes = changes_after(
+                    self.alloc,
+                    &self.world,
+                    &world,
+                    &self.numbers,
+                    command,
+                )?;
+                Ok(Prepared {
+                    world,
+                    command: copy,
+                    reply,
+                    numbers: changes.numbers,
+                    posts: changes.posts,
+                })
+            }
+        }
+    }
+
+    /// Shows what was prepared, and answers the command's reply and its posts, by rising namespace. Not refused,
+    /// and takes no memory: what is shown was prepared for the commands that the book has now, and there is room
+    /// for one more.
+    pub fn commit(&mut self, prepared: Prepared) -> (Reply, SharedPosts)
+        requires prepared { IsPrepared self.old.journal prepared }
+        requires room { 0 < self.old.room }
+        ensures journal { self.new.journal ≡ self.old.journal ++ prepared.command ∷ [] }
+        ensures reply { result.0 ≡ prepared.reply }
+        ensures posts { result.1 ≡ prepared.posts }
+    {
+        let Prepared {
+            world,
+            command,
+            reply,
+            numbers,
+            posts,
+        } = prepared;
+        let shown = mem::replace(&mut self.world, world);
+        self.spare = Spare::Behind(shown);
+        self.numbers = numbers;
+        self.journal.push(command).unwrap();
+        (reply, posts)
+    }
+
+    /// Does a command, and answers its reply and its posts, by rising namespace: one for each namespace whose
+    /// table it changed.
+    ///
+    /// Refused as `JournalFull` after 1,048,576 accepted commands, else with the first of the command's own
+    /// refusals that holds, and as `NoMemory`; then nothing has changed.
+    pub fn apply(&mut self, command: &Command) -> Result<(Reply, SharedPosts), Fault>
+        ensures done { IfOk result (λ done. answer self.old.journal command.now ≡ Ok done.0) }
+        ensures posts { IfOk result (λ done. done.1 ≡ posts_of self.old.journal command.now) }
+        ensures journal { OnOk result (self.new.journal ≡ self.old.journal ++ command.now ∷ []) }
+        ensures refused { IfErr result (λ fault. fault ≢ Fault.NoMemory → answer self.old.journal command.now ≡ Err fault) }
+        ensures unchanged { OnErr result (self.new.journal ≡ self.old.journal) }
+    {
+        let prepared = self.prepare(command)?;
+        Ok(self.commit(prepared))
+    }
+
+    /// The table of a namespace. Refused as `NoNamespace` where there is no such namespace, and as `NoMemory`.
+    pub fn table(&self, space: SpaceId) -> Result<Table, Fault>
+        ensures done { IfOk result (λ table. (is_space (after self.now.journal) space ≡ true) × (table ≡ table_of (after self.now.journal) space)) }
+        ensures refused { IfErr result (λ fault. fault ≢ Fault.NoMemory → (fault ≡ Fault.NoNamespace) × (is_space (after self.now.journal) space ≡ false)) }
+    {
+        table_of(&self.world, space)
+    }
+
+    /// How many posts a namespace has had: the number of the last one, or 0. Refused as `NoNamespace` exactly where
+    /// there is no such namespace.
+    pub fn number(&self, space: SpaceId) -> Result<u64, Fault>
+        ensures done { IfOk result (λ number. (is_space (after self.now.journal) space ≡ true) × (number ≡ number_of space self.now.journal)) }
+        ensures refused { IfErr result (λ fault. (fault ≡ Fault.NoNamespace) × (is_space (after self.now.journal) space ≡ false)) }
+    {
+        if self.world.forest.root(space).is_none() {
+            return Err(Fault::NoNamespace);
+        }
+        Ok(self.numbers[(space - 1) as usize])
+    }
+
+    /// The namespaces, by rising number. Refused as `NoMemory` alone.
+    pub fn spaces(&self) -> Result<Vec<SpaceId>, Fault>
+        ensures spaces { IfOk result (λ spaces. spaces.items ≡ spaces_of (after self.now.journal)) }
+        ensures memory { IsOkUnless result Fault.NoMemory }
+    {
+        spaces_in(self.alloc, &self.world)
+    }
+
+    /// Where the walk along a path ends in a namespace: the mount, and the names from its
+    /// filesystem's root down to the directory. Refused as `NoNamespace`, as `NoEntry` where a
+    /// component is not there, and as `NoMemory`.
+    pub fn find(&self, space: SpaceId, path: &[Name]) -> Result<(MountId, Vec<Name>), Fault>
+        ensures done { IfOk result (λ found. found_at (after self.now.journal) space path.now ≡ Ok (found.0, found.1.items)) }
+        ensures refused { IfErr result (λ fault. fault ≢ Fault.NoMemory → found_at (after self.now.journal) space path.now ≡ Err fault) }
+    {
+        found_in(&self.world, space, path)
+    }
+
+    /// Does commands one after another, and answers each as `apply` does, also those that it refuses. Refused as
+    /// `NoMemory` alone, where there is no room for the answers, and then nothing has changed.
+    pub fn run(
+        &mut self,
+        commands: &[Command],
+    ) -> Result<Vec<Result<(Reply, SharedPosts), Fault>>, Fault>
+        ensures done { IfOk result (λ answers. AreAnswered self.old.journal commands.now answers.items self.new.journal) }
+        ensures memory { IsOkUnless result Fault.NoMemory }
+        ensures unchanged { OnErr result (self.new.journal ≡ self.old.journal) }
+    {
+        let mut answers = Vec::with_capacity(self.alloc, commands.len())?;
+        'commands: for i in 0..commands.len() {
+            let answer = self.apply(&commands[i]);
+            answers.push(answer).unwrap();
+        }
+        Ok(answers)
+    }
+}
+
+/// The namespaces of a world, by rising number. Refused as `NoMemory` alone.
+fn spaces_in(alloc: Global, world: &World) -> Result<Vec<SpaceId>, Fault>
+    requires few { (world.now.next_space < 2 ^ 63) }
+    ensures spaces { IfOk result (λ spaces. spaces.items ≡ spaces_of (world_view world.now)) }
+    ensures memory { IsOkUnless result Fault.NoMemory }
+{
+    let mut spaces = Vec::new(alloc);
+    'spaces: for space in 1..world.next_space {
+        push_space(&mut spaces, world, space)?;
+    }
+    Ok(spaces)
+}
+
+/// Appends a namespace, if it is there. Refused as `NoMemory` alone.
+fn push_space(spaces: &mut Vec<SpaceId>, world: &World, space: SpaceId) -> Result<(), Fault>
+    ensures spaces { OnOk result (spaces.new.items ≡ spaces.old.items ++ filter (is_space (world_view world.now)) (space ∷ [])) }
+    ensures memory { IsOkUnless result Fault.NoMemory }
+{
+    if world.forest.root(space).is_some() {
+        spaces.push(space)?;
+    }
+    Ok(())
+}
+
+/// Where the walk along a path ends in a world, as `Book::find` says.
+fn found_in(world: &World, space: SpaceId, path: &[Name]) -> Result<(MountId, Vec<Name>), Fault>
+    requires well_formed { IsWellFormed (world_view world.now) }
+    ensures done { IfOk result (λ found. found_at (world_view world.now) space path.now ≡ Ok (found.0, found.1.items)) }
+    ensures refused { IfErr result (λ fault. fault ≢ Fault.NoMemory → found_at (world_view world.now) space path.now ≡ Err fault) }
+{
+    let place = world.forest.walk(&world.skel, space, path)?;
+    let names = world.skel.path_of(place.dir)?;
+    Ok((place.mount, names))
+}

@@ -1,0 +1,155 @@
+//! What a command changes in the tables of namespaces.
+ghost use Rattle.std.specs.Prelude.{◌≡◌, ℕ, ◌+◌, ◌++◌, ◌≤◌, IfOk, OnOk, IsOkUnless, map, length, slice_index_or};
+ghost use Rattle.std.specs.Option.{option_to_list};
+ghost use Rattle.std.specs.Arc.{arc_value};
+ghost use Rattle.mt_skel.specs.Skeleton.{IsSkeleton};
+ghost use Rattle.mt_propagate.specs.World.{world_view};
+ghost use Rattle.mt_propagate.specs.WellFormed.{IsWellFormed};
+ghost use Rattle.mt_book.specs.Step.{next_world, makes_space};
+ghost use Rattle.mt_book.specs.Book.{next_number, next_post, counted, posted, with_newborn, command_limit};
+
+use crate::command::Command;
+use mt_events::change::change;
+use mt_events::post::Post;
+use mt_events::shared::SharedPosts;
+use mt_info::table::table_or_empty;
+use mt_mounts::mount::SpaceId;
+use mt_propagate::world::World;
+use mt_skel::fault::Fault;
+use std::alloc::Global;
+use std::sync::Arc;
+
+/// The numbers of all namespaces after a command, and its posts.
+#[derive(Drop)]
+pub(crate) struct Changes {
+    pub(crate) numbers: Vec<u64>,
+    pub(crate) posts: SharedPosts,
+}
+
+/// The numbers of all namespaces before a command, which may make one more. Refused as `NoMemory`
+/// alone.
+fn numbers_before(alloc: Global, numbers: &[u64], more: bool) -> Result<Vec<u64>, Fault>
+    ensures numbers { IfOk result (λ before. before.items ≡ with_newborn numbers.now more) }
+    ensures memory { IsOkUnless result Fault.NoMemory }
+{
+    let mut before = Vec::from_slice(alloc, numbers)?;
+    if more {
+        before.push(0)?;
+    }
+    Ok(before)
+}
+
+/// The post of a namespace that had this number, if its table is not the same in two worlds. Refused
+/// as `NoMemory` alone.
+fn post_between(
+    alloc: Global,
+    old: &World,
+    new: &World,
+    space: SpaceId,
+    number: u64,
+) -> Result<Option<Post>, Fault>
+    requires old { IsWellFormed (world_view old.now) }
+    requires new { IsWellFormed (world_view new.now) }
+    requires few { number ≤ command_limit }
+    ensures post { IfOk result (λ post. post ≡ next_post (world_view old.now) (world_view new.now) space number) }
+    ensures memory { IsOkUnless result Fault.NoMemory }
+{
+    let before = table_or_empty(old, space)?;
+    let after = table_or_empty(new, space)?;
+    let Some(delta) = change(alloc, &before, &after)? else {
+        return Ok(None);
+    };
+    Ok(Some(Post::telling(space, number + 1, delta)))
+}
+
+/// Appends a post, if there is one, and says how many there are. Refused as `NoMemory` alone.
+fn push_post(alloc: Global, posts: &mut Vec<Arc<Post>>, post: Option<Post>) -> Result<u64, Fault>
+    ensures posts { OnOk result (map (λ p. arc_value p) posts.new.items ≡ map (λ p. arc_value p) posts.old.items ++ option_to_list post) }
+    ensures count { IfOk result (λ count. count ≡ length (option_to_list post)) }
+    ensures memory { IsOkUnless result Fault.NoMemory }
+{
+    let Some(post) = post else {
+        return Ok(0);
+    };
+    let shared = Arc::new(alloc, post)?;
+    posts.push(shared)?;
+    Ok(1)
+}
+
+/// Appends the post of a namespace that had this number, if there is one, and answers the number that
+/// it has now. Refused as `NoMemory` alone.
+fn push_change(
+    alloc: Global,
+    posts: &mut Vec<Arc<Post>>,
+    old: &World,
+    new: &World,
+    space: SpaceId,
+    number: u64,
+) -> Result<u64, Fault>
+    requires old { IsWellFormed (world_view old.now) }
+    requires new { IsWellFormed (world_view new.now) }
+    requires few { number ≤ command_limit }
+    ensures posts { OnOk result (map (λ p. arc_value p) posts.new.items ≡ map (λ p. arc_value p) posts.old.items ++ option_to_list (next_post (world_view old.now) (world_view new.now) space number)) }
+    ensures number { IfOk result (λ k. k ≡ next_number (world_view old.now) (world_view new.now) space number) }
+    ensures memory { IsOkUnless result Fault.NoMemory }
+{
+    let post = post_between(alloc, old, new, space, number)?;
+    let count = push_post(alloc, posts, post)?;
+    Ok(number + count)
+}
+
+/// What changes between two worlds for namespaces that had these numbers. Refused as `NoMemory`
+/// alone.
+fn changes_between(
+    alloc: Global,
+    old: &World,
+    new: &World,
+    numbers: &[u64],
+) -> Result<Changes, Fault>
+    requires old { IsWellFormed (world_view old.now) }
+    requires new { IsWellFormed (world_view new.now) }
+    requires few { (i : ℕ) → slice_index_or numbers.now i 0 ≤ command_limit }
+    ensures numbers { IfOk result (λ changes. changes.numbers.items ≡ counted (world_view old.now) (world_view new.now) 1 numbers.now) }
+    ensures posts { IfOk result (λ changes. changes.posts ≡ posted (world_view old.now) (world_view new.now) 1 numbers.now) }
+    ensures memory { IsOkUnless result Fault.NoMemory }
+{
+    let mut after = Vec::with_capacity(alloc, numbers.len())?;
+    let mut posts = Vec::new(alloc);
+    'spaces: for i in 0..numbers.len() {
+        let number = push_change(alloc, &mut posts, old, new, i as u64 + 1, numbers[i])?;
+        after.push(number)?;
+    }
+    Ok(Changes {
+        numbers: after,
+        posts: SharedPosts::new(posts),
+    })
+}
+
+/// What a command changes for namespaces that had these numbers. Refused as `NoMemory` alone.
+///
+/// A command that makes directories changes no table, and so none is looked at.
+pub(crate) fn changes_after(
+    alloc: Global,
+    old: &World,
+    new: &World,
+    numbers: &[u64],
+    command: &Command,
+) -> Result<Changes, Fault>
+    requires old { IsWellFormed (world_view old.now) }
+    requires skeleton { IsSkeleton (world_view old.now).skel }
+    requires new { IsWellFormed (world_view new.now) }
+    requires next { world_view new.now ≡ next_world (world_view old.now) command.now }
+    requires few { (i : ℕ) → slice_index_or numbers.now i 0 ≤ command_limit }
+    ensures numbers { IfOk result (λ changes. changes.numbers.items ≡ counted (world_view old.now) (world_view new.now) 1 (with_newborn numbers.now (makes_space command.now))) }
+    ensures posts { IfOk result (λ changes. changes.posts ≡ posted (world_view old.now) (world_view new.now) 1 (with_newborn numbers.now (makes_space command.now))) }
+    ensures memory { IsOkUnless result Fault.NoMemory }
+{
+    let before = numbers_before(alloc, numbers, command.makes_space())?;
+    if command.makes_directories() {
+        return Ok(Changes {
+            numbers: before,
+            posts: SharedPosts::new(Vec::new(alloc)),
+        });
+    }
+    changes_between(alloc, old, new, &before)
+}

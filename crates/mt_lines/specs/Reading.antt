@@ -1,0 +1,82 @@
+-- What one call of a line reader means, and what its clauses see of a reader.
+use Rattle.std.specs.Prelude.{◌≡◌, ℕ, ◌+◌, ◌<◌, ◌≤◌, List, [], ◌∷◌, ◌++◌, Result, Ok, Err, Option, is_some, if◌then◌else◌, vec_capacity}
+use Rattle.mt_lines.specs.Lines.{Item, lines_of, Text, TooLong, Unended, Endless}
+use Rattle.mt_lines.specs.declared.line.Line.{Line}
+use Rattle.mt_lines.specs.declared.line.Line.TheVariants as line
+use Rattle.mt_lines.specs.declared.line.LineReader.{LineReader}
+use Rattle.mt_lines.specs.declared.line.ReadFault.{ReadFault}
+use Rattle.mt_lines.specs.declared.line.ReadFault.TheVariants as fault
+use Rattle.mt_lines.specs.declared.stream.Input.{Ghosts}
+use Rattle.mt_lines.specs.declared.stream.StreamFault.{StreamFault}
+use Rattle.mt_lines.specs.Stream.{HasFailed, IsInterrupted, most_interruptions}
+
+-- the bytes that the reader has still to serve: those that it has read ahead, and those that its
+-- input has left
+abbrev pub bytes_left : {R : Type 0} {g : Ghosts R} → LineReader R g → List ℕ
+bytes_left {R} {g} r = r.chunk ++ g.left r.reader
+
+-- how many calls of the reader's input have failed
+abbrev pub failed_calls : {R : Type 0} {g : Ghosts R} → LineReader R g → ℕ
+failed_calls {R} {g} r = g.failed r.reader
+
+-- the faults of the last calls of the reader's input, back to the last that succeeded
+abbrev pub last_faults : {R : Type 0} {g : Ghosts R} → LineReader R g → List StreamFault
+last_faults {R} {g} r = g.faults r.reader
+
+-- the most bytes of a line that the reader serves, its line end not counted
+abbrev pub limit_of : {R : Type 0} {g : Ghosts R} → LineReader R g → ℕ
+limit_of r = r.limit
+
+-- the fault that ended the reading, if one did
+abbrev pub fault_of : {R : Type 0} {g : Ghosts R} → LineReader R g → Option ReadFault
+fault_of r = r.fault
+
+-- the bytes of the last line, if it was a text, and else none
+abbrev pub last_line : {R : Type 0} {g : Ghosts R} → LineReader R g → List ℕ
+last_line r = if is_some r.fault then [] else r.line.items
+
+-- how many bytes of a line the reader has memory for
+abbrev pub line_room : {R : Type 0} {g : Ghosts R} → LineReader R g → ℕ
+line_room r = vec_capacity r.line
+
+-- how many bytes a reader reserves for a line at most, this project's rule
+abbrev pub most_reserved : ℕ
+most_reserved = 8192
+
+-- one call took a reader from the bytes before to the bytes after: it answered their first line,
+-- its text if it was one, or that there is none; of a fault other than Endless it says nothing
+abbrev pub IsNext : ℕ → List ℕ → Result Line ReadFault → List ℕ → List ℕ → Type 0
+IsNext limit before (Ok line.Text) text after = lines_of limit before ≡ Text text ∷ lines_of limit after
+IsNext limit before (Ok line.TooLong) text after = lines_of limit before ≡ TooLong ∷ lines_of limit after
+IsNext limit before (Ok line.Unended) text after = (lines_of limit before ≡ Unended ∷ []) × (after ≡ [])
+IsNext limit before (Ok line.End) text after = (lines_of limit before ≡ []) × (after ≡ [])
+IsNext limit before (Err fault.Endless) text after = (more : List Item) × (lines_of limit before ≡ Endless ∷ more)
+IsNext limit before (Err fault.Device) text after = Unit {0}
+IsNext limit before (Err fault.Interrupted) text after = Unit {0}
+IsNext limit before (Err fault.NoMemory) text after = Unit {0}
+
+-- how far the count of failed calls rose in a call that answered this fault: by one at least for
+-- Device, and by the most interruptions for Interrupted
+abbrev pub IsFaultCause : ReadFault → ℕ → ℕ → Type 0
+IsFaultCause fault.Device old new = old < new
+IsFaultCause fault.Interrupted old new = old + most_interruptions ≤ new
+IsFaultCause fault.Endless old new = old ≤ new
+IsFaultCause fault.NoMemory old new = old ≤ new
+
+-- the same of a call that may have answered a line, in which the count does not fall
+abbrev pub IsReadCause : Result Line ReadFault → ℕ → ℕ → Type 0
+IsReadCause (Ok l) old new = old ≤ new
+IsReadCause (Err e) old new = IsFaultCause e old new
+
+-- what the last calls of the input were where a call answered this fault, and had begun behind a call
+-- that succeeded: one failure for Device, and as many interruptions as end a read for Interrupted
+abbrev pub IsFaultRun : ReadFault → List StreamFault → Type 0
+IsFaultRun fault.Device faults = HasFailed faults
+IsFaultRun fault.Interrupted faults = IsInterrupted faults
+IsFaultRun fault.Endless faults = faults ≡ []
+IsFaultRun fault.NoMemory faults = faults ≡ []
+
+-- the same of a call that may have answered a line: its last call of the input succeeded
+abbrev pub IsReadRun : Result Line ReadFault → List StreamFault → Type 0
+IsReadRun (Ok l) faults = faults ≡ []
+IsReadRun (Err e) faults = IsFaultRun e faults

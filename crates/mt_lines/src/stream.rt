@@ -1,0 +1,317 @@
+//! Streams of bytes, and a send that says how much went out.
+ghost use Rattle.std.specs.Prelude.{◌≡◌, ◌↔◌, ℕ, ◌+◌, ◌<◌, ◌≤◌, List, ◌++◌, length, take, Bool, IsTrue, IfOk, IfErr, OnErr, OnOk, Result, ◌⊎◌, false, []};
+ghost use Rattle.std.specs.IoError.{error_kind};
+ghost use Rattle.mt_lines.specs.Stream.{bytes_taken, failed_writes, failed_reads, faults_after_read, faults_after_write, Gives, HasFailed, IsInterrupted};
+
+use std::io::{Error, ErrorKind, Read, Write};
+
+/// How many interrupted calls of a stream in succession end a read or a send, this project's rule.
+pub const MOST_INTERRUPTIONS: u32 = 1_000;
+
+/// Why a call of a stream failed.
+#[derive(Clone, Copy, Debug, PartialEq, Eq)]
+pub enum StreamFault {
+    /// The call was interrupted: the same call may be made again.
+    Interrupted,
+    /// The stream failed.
+    Failed,
+}
+
+/// What bytes come from.
+///
+/// An implementation says of its type whether it `tells` its bytes, and whether it `counts` its
+/// failed calls. Where it does not, it owes nothing but the bound. `left` is what it has still to
+/// give, up to the end of the input. `failed` is how many of its calls have failed, and `faults` are
+/// the faults of its last calls, the latest first, back to the last call that succeeded.
+pub trait Input {
+    ghost use Rattle.mt_lines.specs.declared.stream.StreamFault.{StreamFault};
+
+    ghost tells: { Bool };
+
+    ghost counts: { Bool };
+
+    ghost left: { Self → List ℕ };
+
+    ghost failed: { Self → ℕ };
+
+    ghost faults: { Self → List StreamFault };
+
+    /// Moves the next bytes to the front of the buffer, which is not empty, and answers how many:
+    /// 0 at the end of the input. A call that answers a fault moves nothing.
+    fn read(&mut self, buffer: &mut [u8]) -> Result<usize, StreamFault>
+        requires { 0 < length buffer.old }
+        ensures bound { IfOk result (λ n. n ≤ length buffer.new) }
+        ensures given { IsTrue tells → Gives (left self.old) (left self.new) buffer.new result }
+        ensures counted { IsTrue counts → failed self.new ≡ failed self.old + failed_reads result }
+        ensures faults { IsTrue counts → faults self.new ≡ faults_after_read (faults self.old) result };
+}
+
+/// What bytes go to.
+///
+/// An implementation says of its type whether it `tells` its bytes, and whether it `counts` its
+/// failed calls. Where it does not, it owes nothing but the bound. `written` is what it has taken
+/// so far. `failed` is how many of its calls have failed, and `faults` are the faults of its last
+/// calls, the latest first, back to the last call that succeeded. A call that takes none of some
+/// bytes has failed.
+pub trait Output {
+    ghost use Rattle.mt_lines.specs.declared.stream.StreamFault.{StreamFault};
+
+    ghost tells: { Bool };
+
+    ghost counts: { Bool };
+
+    ghost written: { Self → List ℕ };
+
+    ghost failed: { Self → ℕ };
+
+    ghost faults: { Self → List StreamFault };
+
+    /// Takes some of the bytes, from the first one on, and answers how many. A call that answers
+    /// a fault takes nothing.
+    fn write(&mut self, bytes: &[u8]) -> Result<usize, StreamFault>
+        ensures bound { IfOk result (λ n. n ≤ length bytes.now) }
+        ensures sent { IsTrue tells
+            → written self.new ≡ written self.old ++ take (bytes_taken result) bytes.now }
+        ensures counted { IsTrue counts → failed self.new ≡ failed self.old + failed_writes bytes.now result }
+        ensures faults { IsTrue counts → faults self.new ≡ faults_after_write bytes.now (faults self.old) result };
+}
+
+/// A send went out in part.
+#[derive(Clone, Copy, Debug, PartialEq, Eq)]
+pub struct Cut {
+    /// How many bytes went out, from the first one on.
+    pub sent: usize,
+}
+
+/// Sends all the bytes, in as many writes as it takes.
+///
+/// Answers `Cut` at a write that fails or takes nothing, and, by this project's rule, at the
+/// 1,000th interrupted write in succession. Then only the bytes that it tells went out, fewer than
+/// all.
+pub fn send<W: Output>(writer: &mut W, bytes: &[u8]) -> Result<(), Cut>
+    ensures whole { OnOk result (IsTrue W.tells
+        → W.written writer.new ≡ W.written writer.old ++ bytes.now) }
+
+    // After a cut, a prefix of the bytes went out, and not all of them.
+    ensures within { IfErr result (λ cut. cut.sent < length bytes.now) }
+    ensures cut { IfErr result (λ cut. IsTrue W.tells
+        → W.written writer.new ≡ W.written writer.old ++ take cut.sent bytes.now) }
+
+    // A cut comes only where a call failed: where the last call did, with fewer interruptions in
+    // succession before it than end a send, or where so many calls were interrupted in succession.
+    ensures cause { OnErr result (IsTrue W.counts → W.failed writer.old < W.failed writer.new) }
+    ensures counted { IsTrue W.counts → W.failed writer.old ≤ W.failed writer.new }
+    ensures faults { OnErr result (IsTrue W.counts → W.faults writer.old ≡ []
+        → HasFailed (W.faults writer.new) ⊎ IsInterrupted (W.faults writer.new)) }
+    ensures served { OnOk result (IsTrue W.counts → W.faults writer.old ≡ []
+        → W.faults writer.new ≡ []) }
+{
+    let mut sent = 0usize;
+    let mut interruptions = 0u32;
+    'sending: while sent < bytes.len() {
+        match writer.write(&bytes[sent..]) {
+            Ok(0) => return Err(Cut { sent }),
+            Ok(count) => {
+                sent += count;
+                interruptions = 0;
+            }
+            Err(StreamFault::Interrupted) => {
+                interruptions += 1;
+                if interruptions == MOST_INTERRUPTIONS {
+                    return Err(Cut { sent });
+                }
+            }
+            Err(StreamFault::Failed) => return Err(Cut { sent }),
+        }
+    }
+    Ok(())
+}
+
+/// What an error of the standard library's streams is here.
+fn stream_fault(error: &Error) -> StreamFault
+    ensures { (result ≡ StreamFault.Interrupted) ↔ (error_kind error.now ≡ ErrorKind.Interrupted) }
+{
+    match error.kind() {
+        ErrorKind::Interrupted => StreamFault::Interrupted,
+        _ => StreamFault::Failed,
+    }
+}
+
+/// A reader of the standard library as an `Input`, which tells no bytes and counts no failures.
+#[derive(Drop)]
+pub struct Reading<R> {
+    inner: R,
+}
+
+impl<R> Reading<R> {
+    ghost use Rattle.mt_lines.specs.Stream.{reading_inner};
+
+    /// Takes the reader, as a socket or the standard input.
+    pub fn new(inner: R) -> Reading<R>
+        ensures { reading_inner result ≡ inner }
+    {
+        Reading { inner }
+    }
+}
+
+impl<R: Read + Drop> Input for Reading<R> {
+    ghost use Rattle.std.specs.Prelude.{ℕ, ◌≤◌, List, [], length, IfOk, false};
+    ghost use Rattle.std.specs.Io.KnownBytes.{ReadConsumes};
+    ghost use Rattle.mt_lines.specs.Stream.{reading_inner};
+
+    ghost tells = { false };
+
+    ghost counts = { false };
+
+    ghost left = { λ r. [] };
+
+    ghost failed = { λ r. 0 };
+
+    ghost faults = { λ r. [] };
+
+    /// Reads once. An interrupted read is `Interrupted`, and every other error `Failed`.
+    fn read(&mut self, buffer: &mut [u8]) -> Result<usize, StreamFault>
+        ensures bound { IfOk result (λ n. n ≤ length buffer.new) }
+        ensures bytes { ReadConsumes (R.remaining (reading_inner self.old)) (R.remaining (reading_inner self.new)) result buffer.new }
+    {
+        match self.inner.read(buffer) {
+            Ok(count) => Ok(count),
+            Err(error) => Err(stream_fault(&error)),
+        }
+    }
+}
+
+/// A writer of the standard library as an `Output`, which tells no bytes and counts no failures.
+#[derive(Drop)]
+pub struct Writing<W> {
+    inner: W,
+}
+
+impl<W> Writing<W> {
+    ghost use Rattle.mt_lines.specs.Stream.{writing_inner};
+
+    /// Takes the writer, as a socket or the standard output.
+    pub fn new(inner: W) -> Writing<W>
+        ensures { writing_inner result ≡ inner }
+    {
+        Writing { inner }
+    }
+}
+
+impl<W: Write + Drop> Writing<W> {
+    ghost use Rattle.std.specs.Io.KnownBytes.{Keeps};
+    ghost use Rattle.mt_lines.specs.Stream.{writing_inner};
+
+    /// Flushes, over interruptions. A flush that does not come through is `Failed`, and never
+    /// `Interrupted`: its bytes were taken, and who writes them again sends them twice.
+    fn flush(&mut self) -> Result<(), StreamFault>
+        ensures err { IfErr result (λ e. e ≡ StreamFault.Failed) }
+        ensures bytes { Keeps (W.contents (writing_inner self.old)) (W.contents (writing_inner self.new)) }
+    {
+        'flushing: for _flushes in 0..MOST_INTERRUPTIONS {
+            match self.inner.flush() {
+                Ok(()) => return Ok(()),
+                Err(error) => {
+                    if stream_fault(&error) == StreamFault::Failed {
+                        return Err(StreamFault::Failed);
+                    }
+                }
+            }
+        }
+        Err(StreamFault::Failed)
+    }
+}
+
+impl<W: Write + Drop> Output for Writing<W> {
+    ghost use Rattle.std.specs.Prelude.{◌≡◌, ℕ, ◌≤◌, List, [], length, take, IfOk, Err, false};
+    ghost use Rattle.std.specs.Io.KnownBytes.{Appends, Keeps};
+    ghost use Rattle.mt_lines.specs.Stream.{writing_inner};
+
+    ghost tells = { false };
+
+    ghost counts = { false };
+
+    ghost written = { λ w. [] };
+
+    ghost failed = { λ w. 0 };
+
+    ghost faults = { λ w. [] };
+
+    /// Writes once and flushes. An interrupted write is `Interrupted`, and every other error
+    /// `Failed`, after which some of the bytes may have gone out all the same.
+    fn write(&mut self, bytes: &[u8]) -> Result<usize, StreamFault>
+        ensures bound { IfOk result (λ n. n ≤ length bytes.now) }
+        ensures bytes { IfOk result
+            (λ n. Appends (W.contents (writing_inner self.old)) (W.contents (writing_inner self.new)) (take n bytes.now)) }
+        ensures interrupted { result ≡ Err StreamFault.Interrupted
+            → Keeps (W.contents (writing_inner self.old)) (W.contents (writing_inner self.new)) }
+    {
+        match self.inner.write(bytes) {
+            Ok(count) => {
+                self.flush()?;
+                Ok(count)
+            }
+            Err(error) => Err(stream_fault(&error)),
+        }
+    }
+}
+
+#[cfg(test)]
+mod tests {
+    use super::*;
+    use crate::memory::{Faltering, Sink};
+    use std::io::Cursor;
+    use std::test::Fail;
+
+    #[test]
+    fn sends_a_prefix_up_to_the_fault(rt: HostRuntime) -> Result<(), Fail> {
+        let bytes = b"abcdef";
+        for most in [1, 2, 6] {
+            for room in 0..=6usize {
+                let mut sink = Sink::new(rt.alloc(), most, room)?;
+                let wanted = if room < 6 {
+                    Err(Cut { sent: room })
+                } else {
+                    Ok(())
+                };
+                assert_eq!(rt;
+                    send(&mut sink, bytes),
+                    wanted,
+                    "{most} a call, room {room}"
+                );
+                assert_eq!(rt; sink.bytes(), &bytes[..room], "{most} a call, room {room}");
+            }
+        }
+        Ok(())
+    }
+
+    #[test]
+    fn sends_over_interruptions(rt: HostRuntime) -> Result<(), Fail> {
+        let table = [
+            (StreamFault::Interrupted, 999, Ok(())),
+            (StreamFault::Interrupted, 1_000, Err(Cut { sent: 0 })),
+            (StreamFault::Failed, 1, Err(Cut { sent: 0 })),
+        ];
+        for (fault, times, wanted) in table {
+            let mut writer = Faltering::new(fault, times);
+            assert_eq!(rt; send(&mut writer, b"abc"), wanted, "{times} times");
+            assert_eq!(rt; send(&mut writer, b"abc"), Ok(()), "after {times} times");
+        }
+        Ok(())
+    }
+
+    #[test]
+    fn passes_bytes_of_the_standard_library(rt: HostRuntime) -> Result<(), Fail> {
+        let mut buffer = [0u8; 4];
+        let mut reader = Reading::new(b"abc".as_slice());
+        assert_eq!(rt; reader.read(&mut buffer), Ok(3));
+        assert_eq!(rt; buffer, [b'a', b'b', b'c', 0]);
+        assert_eq!(rt; reader.read(&mut buffer), Ok(0));
+        let mut kept = Vec::new(rt.alloc());
+        let mut writer = Writing::new(Cursor::new(&mut kept));
+        assert_eq!(rt; send(&mut writer, b"abc"), Ok(()));
+        drop(writer);
+        assert_eq!(rt; kept.as_slice(), b"abc".as_slice());
+        Ok(())
+    }
+}

@@ -1,0 +1,4 @@
+pub mod FaultLaws
+pub mod OptionLaws
+pub mod PathLaws
+pub mod TextLaws

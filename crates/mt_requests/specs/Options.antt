@@ -1,0 +1,102 @@
+-- The options of a `setattr` line (their words: mount_setattr(2); how a line writes them: this project's rule).
+use Rattle.std.specs.Prelude.{ℕ, Bool, false, not, ◌||◌, nat_eq, nat_lt, if◌then◌else◌, List, length, drop, Option, Some, None, codes}
+use Rattle.std.specs.List.{filter, find, list_all, list_any, starts_with}
+use Rattle.std.specs.Option.{option_map, option_map_or, option_and_then}
+use Rattle.std.specs.Str.{bytes_eq}
+use Rattle.mt_peers.specs.declared.state.Kind.{Kind}
+use Rattle.mt_peers.specs.declared.state.Kind.TheVariants.{Shared, Private, Slave, Unbindable}
+use Rattle.mt_setattr.specs.declared.change.Change.{Change}
+use Rattle.mt_setattr.specs.declared.change.SetWords.{SetWords}
+use Rattle.mt_setattr.specs.declared.change.ClrWords.{ClrWords}
+use Rattle.mt_words.specs.Words.{pieces}
+
+-- an option begins with its key
+abbrev pub has_key : List ℕ → List ℕ → Bool
+has_key key option = starts_with nat_eq option key
+
+-- `rec`, or a key with what stands behind it
+abbrev pub is_option : List ℕ → Bool
+is_option option =
+    bytes_eq option (codes "rec") || has_key (codes "set=") option || has_key (codes "clr=") option || has_key (codes "prop=") option
+
+-- more than one option has the key
+abbrev pub is_repeated : List ℕ → List (List ℕ) → Bool
+is_repeated key options = nat_lt 1 (length (filter (has_key key) options))
+
+-- a word is one of a list that is written with commas
+abbrev pub lists : List ℕ → List ℕ → Bool
+lists list word = list_any (λ w. bytes_eq w word) (pieces 44 list)
+
+-- an attribute that can be set (mount_setattr(2), attr_set)
+abbrev pub is_set_word : List ℕ → Bool
+is_set_word w =
+    bytes_eq w (codes "ro") || bytes_eq w (codes "nosuid") || bytes_eq w (codes "nodev") || bytes_eq w (codes "noexec") || bytes_eq w (codes "nosymfollow")
+    || bytes_eq w (codes "nodiratime") || bytes_eq w (codes "relatime") || bytes_eq w (codes "noatime") || bytes_eq w (codes "strictatime")
+
+-- an attribute that can be cleared (mount_setattr(2), attr_clr)
+abbrev pub is_clr_word : List ℕ → Bool
+is_clr_word w =
+    bytes_eq w (codes "ro") || bytes_eq w (codes "nosuid") || bytes_eq w (codes "nodev") || bytes_eq w (codes "noexec") || bytes_eq w (codes "nosymfollow")
+    || bytes_eq w (codes "nodiratime") || bytes_eq w (codes "atime")
+
+-- nothing is set
+abbrev pub nothing_set : SetWords
+nothing_set = record { ro = false; nosuid = false; nodev = false; noexec = false; nosymfollow = false; nodiratime = false; relatime = false; noatime = false; strictatime = false }
+
+-- nothing is cleared
+abbrev pub nothing_cleared : ClrWords
+nothing_cleared = record { ro = false; nosuid = false; nodev = false; noexec = false; nosymfollow = false; nodiratime = false; atime = false }
+
+-- the attributes that are set (mount_setattr(2), attr_set); none where another word is in the list
+abbrev pub set_words : List ℕ → Option SetWords
+set_words list =
+    if list_all is_set_word (pieces 44 list)
+    then Some (record {
+      ro = lists list (codes "ro");
+      nosuid = lists list (codes "nosuid");
+      nodev = lists list (codes "nodev");
+      noexec = lists list (codes "noexec");
+      nosymfollow = lists list (codes "nosymfollow");
+      nodiratime = lists list (codes "nodiratime");
+      relatime = lists list (codes "relatime");
+      noatime = lists list (codes "noatime");
+      strictatime = lists list (codes "strictatime");
+    })
+    else None
+
+-- the attributes that are cleared (mount_setattr(2), attr_clr); none where another word is in the list
+abbrev pub clr_words : List ℕ → Option ClrWords
+clr_words list =
+    if list_all is_clr_word (pieces 44 list)
+    then Some (record {
+      ro = lists list (codes "ro");
+      nosuid = lists list (codes "nosuid");
+      nodev = lists list (codes "nodev");
+      noexec = lists list (codes "noexec");
+      nosymfollow = lists list (codes "nosymfollow");
+      nodiratime = lists list (codes "nodiratime");
+      atime = lists list (codes "atime");
+    })
+    else None
+
+-- what mounts are made (mount_setattr(2), propagation)
+abbrev pub kind_of : List ℕ → Option Kind
+kind_of word =
+    if bytes_eq word (codes "shared") then Some Shared
+    else (if bytes_eq word (codes "private") then Some Private
+    else (if bytes_eq word (codes "slave") then Some Slave
+    else (if bytes_eq word (codes "unbindable") then Some Unbindable else None)))
+
+-- what the option of a key says behind it, and what stands where no option has the key
+abbrev pub said : {A : Type 0} → List ℕ → Option A → (List ℕ → Option A) → List (List ℕ) → Option A
+said key absent read options = option_map_or (λ option. read (drop (length key) option)) (find (has_key key) options) absent
+
+-- the change that the options say: each is one of the four, none has its key twice, and each list holds words of its own alone
+abbrev pub change_of : List (List ℕ) → Option Change
+change_of options =
+    if not (list_all is_option options) || is_repeated (codes "rec") options || is_repeated (codes "set=") options || is_repeated (codes "clr=") options || is_repeated (codes "prop=") options
+    then None
+    else option_and_then (λ set. option_and_then (λ clr. option_map (λ prop. record { set = set; clr = clr; prop = prop; recursive = list_any (has_key (codes "rec")) options })
+    (said (codes "prop=") (Some None) (λ word. option_map (λ kind. Some kind) (kind_of word)) options))
+    (said (codes "clr=") (Some nothing_cleared) clr_words options))
+    (said (codes "set=") (Some nothing_set) set_words options)

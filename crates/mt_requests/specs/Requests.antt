@@ -1,0 +1,191 @@
+-- The request that a line says, or why it is refused (the lines are this project's rule).
+use Rattle.std.specs.Prelude.{◌≡◌, ◌⊎◌, ℕ, Bool, true, false, not, ◌&&◌, ◌||◌, ◌==◌, nat_eq, nat_lt, if◌then◌else◌, List, [], ◌∷◌, length, drop, fold, Option, Some, None, unwrap_or, Result, Ok, Err, is_ok, codes}
+use Rattle.std.specs.List.{list_all, list_any, starts_with}
+use Rattle.std.specs.Option.{option_map, option_map_or, option_or}
+use Rattle.std.specs.Str.{bytes_eq}
+use Rattle.mt_skel.specs.declared.fault.Fault.{Fault}
+use Rattle.mt_skel.specs.declared.fault.Fault.TheVariants.{BadLine, TooLong, BadPath, NoMemory}
+use Rattle.mt_skel.specs.Escapes.{unescaped}
+use Rattle.mt_skel.specs.Names.{is_name}
+use Rattle.mt_skel.specs.Outcome.{refuse_if, first_fault}
+use Rattle.mt_words.specs.Words.{pieces, words, number_of}
+use Rattle.mt_requests.specs.Options.{change_of}
+use Rattle.mt_book.specs.declared.command.Command.TheVariants as command
+use Rattle.mt_requests.specs.declared.request.Request.{Request}
+use Rattle.mt_requests.specs.declared.request.Request.TheVariants as request
+
+-- how many bytes a word stands for; none where it is empty, has a zero byte, or has a backslash that begins no escape
+abbrev pub text_length : List ℕ → Option ℕ
+text_length word =
+    if nat_eq (length word) 0 || list_any (λ b. b == 0) word then None else option_map (λ bytes. length bytes) (unescaped word)
+
+-- a word that stands for no text is a bad line, and a label of more than 255 bytes is too long
+abbrev pub label_fault : List ℕ → Option Fault
+label_fault word = option_map_or (λ n. refuse_if (nat_lt 255 n) TooLong) (text_length word) (Some BadLine)
+
+-- the bytes that a word stands for
+abbrev pub label_bytes : List ℕ → List ℕ
+label_bytes word = unwrap_or (unescaped word) []
+
+-- the components of a path stand between its slashes, behind the first; `/` alone has none
+abbrev pub components : List ℕ → List (List ℕ)
+components path = if bytes_eq path (codes "/") then [] else drop 1 (pieces 47 path)
+
+-- a path begins with a slash, and each of its components is a name
+abbrev pub is_path : List ℕ → Bool
+is_path path = starts_with nat_eq path (codes "/") && list_all is_name (components path)
+
+-- whether a piece between slashes, in front of them or behind them has more than 255 bytes
+abbrev pub has_long_piece : List ℕ → Bool
+has_long_piece path = list_any (λ piece. nat_lt 255 (length piece)) (pieces 47 path)
+
+-- a word that stands for no text is a bad line, one of more than 4,095 bytes or with a long piece is too long, and any other is to be a path
+abbrev pub path_fault : List ℕ → Option Fault
+path_fault word =
+    option_map_or (λ n. first_fault (refuse_if (nat_lt 4095 n || has_long_piece (label_bytes word)) TooLong
+    ∷ refuse_if (not (is_path (label_bytes word))) BadPath ∷ []))
+    (text_length word) (Some BadLine)
+
+-- the names that a path word says, from the root down
+abbrev pub path_names : List ℕ → List (List ℕ)
+path_names word = components (label_bytes word)
+
+-- whether a word is a reason to refuse the line as bad, or as too long
+abbrev pub is_bad_line : Option Fault → Bool
+is_bad_line (Some BadLine) = true
+is_bad_line _ = false
+
+abbrev pub is_too_long : Option Fault → Bool
+is_too_long (Some TooLong) = true
+is_too_long _ = false
+
+-- of two faults a BadLine comes first, then a TooLong, and then the first that is there
+abbrev pub worse : Option Fault → Option Fault → Option Fault
+worse a b = if is_bad_line a then a else (if is_bad_line b then b else (if is_too_long a then a else (if is_too_long b then b else option_or a b)))
+
+-- the fault among those of a line's words that comes first
+abbrev pub worst : List (Option Fault) → Option Fault
+worst faults = fold worse None faults
+
+-- none of a line's words has a fault
+abbrev pub HasNoFault : List (Option Fault) → Type 0
+HasNoFault [] = Unit {0}
+HasNoFault (f ∷ fs) = (f ≡ None) × HasNoFault fs
+
+-- what a line says, unless there is a fault
+abbrev pub unless : {A : Type 0} → Option Fault → A → Result A Fault
+unless fault said = option_map_or (λ f. Err f) fault (Ok said)
+
+-- the request that is made of what a line says, unless that is refused
+abbrev pub asked : {A : Type 0} → (A → Request) → Result A Fault → Result Request Fault
+asked make (Ok said) = Ok (make said)
+asked make (Err f) = Err f
+
+-- what was read is what a line says, or want of memory in place of what is not refused
+abbrev pub Reads : {A : Type 0} → Result A Fault → Result A Fault → Type 0
+Reads said read = (read ≡ said) ⊎ ((read ≡ Err NoMemory) × (is_ok said ≡ true))
+
+-- `mkfs NAME TYPE SOURCE` makes a filesystem
+abbrev pub mkfs_of : List (List ℕ) → Result Request Fault
+mkfs_of (name ∷ kind ∷ source ∷ []) =
+    unless (worst (label_fault name ∷ label_fault kind ∷ label_fault source ∷ []))
+    (request.Run (command.MakeFs (label_bytes name) (label_bytes kind) (label_bytes source)))
+mkfs_of _ = Err BadLine
+
+-- `mkdir FS DIR` makes a directory of a filesystem
+abbrev pub mkdir_of : List (List ℕ) → Result Request Fault
+mkdir_of (fs ∷ dir ∷ []) =
+    unless (worst (label_fault fs ∷ path_fault dir ∷ [])) (request.Run (command.MakeDir (label_bytes fs) (path_names dir)))
+mkdir_of _ = Err BadLine
+
+-- `newns FS` makes a namespace
+abbrev pub newns_of : List (List ℕ) → Result Request Fault
+newns_of (fs ∷ []) = unless (label_fault fs) (request.Run (command.NewSpace (label_bytes fs)))
+newns_of _ = Err BadLine
+
+-- `copyns NS` makes a namespace that is a copy of another
+abbrev pub copyns_of : List (List ℕ) → Result Request Fault
+copyns_of (space ∷ []) = option_map_or (λ n. Ok (request.Run (command.CopySpace n))) (number_of space) (Err BadLine)
+copyns_of _ = Err BadLine
+
+-- `mount NS FS PATH` mounts a filesystem in a namespace; a bad number is a bad line, and so comes before every other fault
+abbrev pub mount_of : List (List ℕ) → Result Request Fault
+mount_of (space ∷ fs ∷ path ∷ []) =
+    option_map_or (λ n. unless (worst (label_fault fs ∷ path_fault path ∷ [])) (request.Run (command.Mount n (label_bytes fs) (path_names path))))
+    (number_of space) (Err BadLine)
+mount_of _ = Err BadLine
+
+-- the namespace and the two paths that a line says; a bad number is a bad line, and so comes before every other fault
+abbrev pub two_paths_of : List (List ℕ) → Result (ℕ × List (List ℕ) × List (List ℕ)) Fault
+two_paths_of (space ∷ src ∷ dst ∷ []) =
+    option_map_or (λ n. unless (worst (path_fault src ∷ path_fault dst ∷ [])) (n, path_names src, path_names dst)) (number_of space) (Err BadLine)
+two_paths_of _ = Err BadLine
+
+-- `bind NS SRC DST` binds a mount, and `rbind NS SRC DST` a tree of mounts
+abbrev pub bind_of : Bool → List (List ℕ) → Result Request Fault
+bind_of deep words = asked (λ (space, src, dst). request.Run (command.Bind space src dst deep)) (two_paths_of words)
+
+-- `move NS SRC DST` moves a tree of mounts
+abbrev pub move_of : List (List ℕ) → Result Request Fault
+move_of words = asked (λ (space, src, dst). request.Run (command.Move space src dst)) (two_paths_of words)
+
+-- `umount NS PATH` unmounts
+abbrev pub umount_of : List (List ℕ) → Result Request Fault
+umount_of (space ∷ path ∷ []) = option_map_or (λ n. unless (path_fault path) (request.Run (command.Unmount n (path_names path)))) (number_of space) (Err BadLine)
+umount_of _ = Err BadLine
+
+-- `setattr NS PATH [rec] [set=W,..] [clr=W,..] [prop=K]` changes a mount, or all below it too; the options come in any order
+abbrev pub setattr_of : List (List ℕ) → Result Request Fault
+setattr_of (space ∷ path ∷ options) =
+    option_map_or (λ n. option_map_or (λ change. unless (path_fault path) (request.Run (command.SetAttr n (path_names path) change))) (change_of options) (Err BadLine))
+    (number_of space) (Err BadLine)
+setattr_of _ = Err BadLine
+
+-- `show NS` shows a namespace
+abbrev pub show_of : List (List ℕ) → Result Request Fault
+show_of (space ∷ []) = option_map_or (λ n. Ok (request.Show n)) (number_of space) (Err BadLine)
+show_of _ = Err BadLine
+
+-- `find NS PATH` says where a path ends
+abbrev pub find_of : List (List ℕ) → Result Request Fault
+find_of (space ∷ path ∷ []) = option_map_or (λ n. unless (path_fault path) (request.Find n (path_names path))) (number_of space) (Err BadLine)
+find_of _ = Err BadLine
+
+-- `quit` ends the session
+abbrev pub quit_of : List (List ℕ) → Result Request Fault
+quit_of [] = Ok request.Quit
+quit_of _ = Err BadLine
+
+-- the first word of a line chooses how the others are read
+abbrev pub by_words : List (List ℕ) → Result Request Fault
+by_words [] = Err BadLine
+by_words (word ∷ rest) =
+    if bytes_eq word (codes "mkfs") then mkfs_of rest
+    else (if bytes_eq word (codes "mkdir") then mkdir_of rest
+    else (if bytes_eq word (codes "newns") then newns_of rest
+    else (if bytes_eq word (codes "copyns") then copyns_of rest
+    else (if bytes_eq word (codes "mount") then mount_of rest
+    else (if bytes_eq word (codes "bind") then bind_of false rest
+    else (if bytes_eq word (codes "rbind") then bind_of true rest
+    else (if bytes_eq word (codes "move") then move_of rest
+    else (if bytes_eq word (codes "umount") then umount_of rest
+    else (if bytes_eq word (codes "setattr") then setattr_of rest
+    else (if bytes_eq word (codes "show") then show_of rest
+    else (if bytes_eq word (codes "find") then find_of rest
+    else (if bytes_eq word (codes "quit") then quit_of rest else Err BadLine))))))))))))
+
+-- what a line asks for, or why it is refused
+unfoldable pub request_of : List ℕ → Result Request Fault
+request_of line = by_words (words line)
+
+-- every refusal of a line, and `quit`, is found without memory; every other answer may fail for want of it
+abbrev pub may_want_memory : Result Request Fault → Bool
+may_want_memory (Ok (request.Run c)) = true
+may_want_memory (Ok (request.Show n)) = true
+may_want_memory (Ok (request.Find n path)) = true
+may_want_memory (Ok request.Quit) = false
+may_want_memory (Err f) = false
+
+-- what was read is what the line asks for, or want of memory where that may be
+abbrev pub ReadsAs : Result Request Fault → Result Request Fault → Type 0
+ReadsAs asked read = (read ≡ asked) ⊎ ((read ≡ Err NoMemory) × (may_want_memory asked ≡ true))

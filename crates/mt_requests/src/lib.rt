@@ -1,0 +1,10 @@
+//! Requests, as the lines of a session say them.
+//!
+//! [`request::read_request`] takes the words of a line apart and makes a [`request::Request`] of
+//! them, or says why there is none.
+#![tactic(auto)]
+
+mod label;
+mod options;
+mod path;
+pub mod request;

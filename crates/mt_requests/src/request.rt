@@ -1,0 +1,325 @@
+//! Requests, as lines say them.
+ghost use Rattle.std.specs.Prelude.{◌≡◌, None, Some};
+ghost use Rattle.mt_requests.specs.Requests.{ReadsAs, request_of, HasNoFault, worse, worst, Reads, two_paths_of, mkfs_of, mkdir_of, newns_of, copyns_of, mount_of, bind_of, move_of, umount_of, setattr_of, show_of, find_of, quit_of};
+
+use crate::label::{label_fault, label_of};
+use crate::options::change_of;
+use crate::path::{path_fault, path_of};
+use mt_book::command::Command;
+use mt_skel::fault::Fault;
+use mt_skel::name::Names;
+use mt_words::words::{Words, number, words};
+use std::alloc::Global;
+
+/// What a line asks for.
+#[derive(Drop)]
+pub enum Request {
+    /// A change of the tables.
+    Run(Command),
+    /// `show NS` shows the table of a namespace.
+    Show(u64),
+    /// `find NS PATH` says where a path ends in a namespace.
+    Find { space: u64, path: Names },
+    /// `quit` ends the session.
+    Quit,
+}
+
+/// The fault of two words that is refused first.
+fn worse(first: Option<Fault>, second: Option<Fault>) -> Option<Fault>
+    ensures { result ≡ worse first second }
+{
+    match (first, second) {
+        (Some(Fault::BadLine), _) => first,
+        (_, Some(Fault::BadLine)) => second,
+        (Some(Fault::TooLong), _) => first,
+        (_, Some(Fault::TooLong)) => second,
+        (Some(_), _) => first,
+        (None, _) => second,
+    }
+}
+
+/// The fault among those of a line's words that is refused first.
+fn worst(faults: &[Option<Fault>]) -> Option<Fault>
+    ensures worst { result ≡ worst faults.now }
+    ensures none { result ≡ None → HasNoFault faults.now }
+{
+    let mut worst = None;
+    for fault in faults {
+        worst = worse(worst, *fault);
+    }
+    worst
+}
+
+/// The request of a line `mkfs NAME TYPE SOURCE`, behind the first word.
+fn read_mkfs(alloc: Global, words: &mut Words<'_>) -> Result<Request, Fault>
+    ensures { ReadsAs (mkfs_of words.old) result }
+{
+    let (Some(name), Some(kind), Some(source), None) = (
+        words.next(),
+        words.next(),
+        words.next(),
+        words.next(),
+    ) else {
+        return Err(Fault::BadLine);
+    };
+    if let Some(fault) = worst(&[label_fault(name), label_fault(kind), label_fault(source)]) {
+        return Err(fault);
+    }
+    let name = label_of(alloc, name)?;
+    let kind = label_of(alloc, kind)?;
+    let source = label_of(alloc, source)?;
+    Ok(Request::Run(Command::MakeFs { name, kind, source }))
+}
+
+/// The request of a line `mkdir FS DIR`, behind the first word.
+fn read_mkdir(alloc: Global, words: &mut Words<'_>) -> Result<Request, Fault>
+    ensures { ReadsAs (mkdir_of words.old) result }
+{
+    let (Some(fs), Some(path), None) = (words.next(), words.next(), words.next()) else {
+        return Err(Fault::BadLine);
+    };
+    if let Some(fault) = worst(&[label_fault(fs), path_fault(path)]) {
+        return Err(fault);
+    }
+    let fs = label_of(alloc, fs)?;
+    let path = path_of(alloc, path)?;
+    Ok(Request::Run(Command::MakeDir { fs, path }))
+}
+
+/// The request of a line `newns FS`, behind the first word.
+fn read_newns(alloc: Global, words: &mut Words<'_>) -> Result<Request, Fault>
+    ensures { ReadsAs (newns_of words.old) result }
+{
+    let (Some(fs), None) = (words.next(), words.next()) else {
+        return Err(Fault::BadLine);
+    };
+    if let Some(fault) = label_fault(fs) {
+        return Err(fault);
+    }
+    let fs = label_of(alloc, fs)?;
+    Ok(Request::Run(Command::NewSpace { fs }))
+}
+
+/// The request of a line `copyns NS`, behind the first word.
+fn read_copyns(words: &mut Words<'_>) -> Result<Request, Fault>
+    ensures { result ≡ copyns_of words.old }
+{
+    let (Some(space), None) = (words.next(), words.next()) else {
+        return Err(Fault::BadLine);
+    };
+    let space = number(space).ok_or(Fault::BadLine)?;
+    Ok(Request::Run(Command::CopySpace { space }))
+}
+
+/// The request of a line `mount NS FS PATH`, behind the first word.
+fn read_mount(alloc: Global, words: &mut Words<'_>) -> Result<Request, Fault>
+    ensures { ReadsAs (mount_of words.old) result }
+{
+    let (Some(space), Some(fs), Some(path), None) = (
+        words.next(),
+        words.next(),
+        words.next(),
+        words.next(),
+    ) else {
+        return Err(Fault::BadLine);
+    };
+    let Some(space) = number(space) else {
+        return Err(Fault::BadLine);
+    };
+    if let Some(fault) = worst(&[label_fault(fs), path_fault(path)]) {
+        return Err(fault);
+    }
+    let fs = label_of(alloc, fs)?;
+    let path = path_of(alloc, path)?;
+    Ok(Request::Run(Command::Mount { space, fs, path }))
+}
+
+/// The namespace and the two paths of a line, behind its first word.
+fn read_two_paths(alloc: Global, words: &mut Words<'_>) -> Result<(u64, Names, Names), Fault>
+    ensures { Reads (two_paths_of words.old) result }
+{
+    let (Some(space), Some(src), Some(dst), None) = (
+        words.next(),
+        words.next(),
+        words.next(),
+        words.next(),
+    ) else {
+        return Err(Fault::BadLine);
+    };
+    let Some(space) = number(space) else {
+        return Err(Fault::BadLine);
+    };
+    if let Some(fault) = worst(&[path_fault(src), path_fault(dst)]) {
+        return Err(fault);
+    }
+    let src = path_of(alloc, src)?;
+    let dst = path_of(alloc, dst)?;
+    Ok((space, src, dst))
+}
+
+/// The request of a line `bind NS SRC DST`, or with `deep` of a line `rbind NS SRC DST`, behind the
+/// first word.
+fn read_bind(alloc: Global, words: &mut Words<'_>, deep: bool) -> Result<Request, Fault>
+    ensures { ReadsAs (bind_of deep words.old) result }
+{
+    let (space, src, dst) = read_two_paths(alloc, words)?;
+    Ok(Request::Run(Command::Bind {
+        space,
+        src,
+        dst,
+        deep,
+    }))
+}
+
+/// The request of a line `move NS SRC DST`, behind the first word.
+fn read_move(alloc: Global, words: &mut Words<'_>) -> Result<Request, Fault>
+    ensures { ReadsAs (move_of words.old) result }
+{
+    let (space, src, dst) = read_two_paths(alloc, words)?;
+    Ok(Request::Run(Command::Move { space, src, dst }))
+}
+
+/// The request of a line `umount NS PATH`, behind the first word.
+fn read_umount(alloc: Global, words: &mut Words<'_>) -> Result<Request, Fault>
+    ensures { ReadsAs (umount_of words.old) result }
+{
+    let (Some(space), Some(path), None) = (words.next(), words.next(), words.next()) else {
+        return Err(Fault::BadLine);
+    };
+    let space = number(space).ok_or(Fault::BadLine)?;
+    if let Some(fault) = path_fault(path) {
+        return Err(fault);
+    }
+    let path = path_of(alloc, path)?;
+    Ok(Request::Run(Command::Unmount { space, path }))
+}
+
+/// The request of a line `setattr NS PATH` with its options, behind the first word.
+fn read_setattr(alloc: Global, words: &mut Words<'_>) -> Result<Request, Fault>
+    ensures { ReadsAs (setattr_of words.old) result }
+{
+    let (Some(space), Some(path)) = (words.next(), words.next()) else {
+        return Err(Fault::BadLine);
+    };
+    let space = number(space).ok_or(Fault::BadLine)?;
+    let change = change_of(words).ok_or(Fault::BadLine)?;
+    if let Some(fault) = path_fault(path) {
+        return Err(fault);
+    }
+    let path = path_of(alloc, path)?;
+    Ok(Request::Run(Command::SetAttr {
+        space,
+        path,
+        change,
+    }))
+}
+
+/// The request of a line `show NS`, behind the first word.
+fn read_show(words: &mut Words<'_>) -> Result<Request, Fault>
+    ensures { result ≡ show_of words.old }
+{
+    let (Some(space), None) = (words.next(), words.next()) else {
+        return Err(Fault::BadLine);
+    };
+    let space = number(space).ok_or(Fault::BadLine)?;
+    Ok(Request::Show(space))
+}
+
+/// The request of a line `find NS PATH`, behind the first word.
+fn read_find(alloc: Global, words: &mut Words<'_>) -> Result<Request, Fault>
+    ensures { ReadsAs (find_of words.old) result }
+{
+    let (Some(space), Some(path), None) = (words.next(), words.next(), words.next()) else {
+        return Err(Fault::BadLine);
+    };
+    let space = number(space).ok_or(Fault::BadLine)?;
+    if let Some(fault) = path_fault(path) {
+        return Err(fault);
+    }
+    let path = path_of(alloc, path)?;
+    Ok(Request::Find { space, path })
+}
+
+/// The request of a line `quit`, behind the first word.
+fn read_quit(words: &mut Words<'_>) -> Result<Request, Fault>
+    ensures { result ≡ quit_of words.old }
+{
+    match words.next() {
+        Some(_) => Err(Fault::BadLine),
+        None => Ok(Request::Quit),
+    }
+}
+
+/// The request that a line says. The line is without its end.
+///
+/// Refused as `BadLine` where the line is none of the requests, or one of its words cannot stand
+/// there; else as `TooLong` where a label or a component of a path has more than 255 bytes, or a
+/// path more than 4,095; else as `BadPath` where a path does not begin with `/`, or has a component
+/// that is empty, `.` or `..`. Refusals and `quit` are found without memory; every other request may
+/// be `NoMemory` in its place.
+#[tactic(auto, unfolding(crate::specs::Requests::request_of))]
+pub fn read_request(alloc: Global, line: &[u8]) -> Result<Request, Fault>
+    ensures { ReadsAs (request_of line.now) result }
+{
+    let mut words = words(line);
+    let Some(command) = words.next() else {
+        return Err(Fault::BadLine);
+    };
+    if command == b"mkfs".as_slice() {
+        read_mkfs(alloc, &mut words)
+    } else if command == b"mkdir".as_slice() {
+        read_mkdir(alloc, &mut words)
+    } else if command == b"newns".as_slice() {
+        read_newns(alloc, &mut words)
+    } else if command == b"copyns".as_slice() {
+        read_copyns(&mut words)
+    } else if command == b"mount".as_slice() {
+        read_mount(alloc, &mut words)
+    } else if command == b"bind".as_slice() {
+        read_bind(alloc, &mut words, false)
+    } else if command == b"rbind".as_slice() {
+        read_bind(alloc, &mut words, true)
+    } else if command == b"move".as_slice() {
+        read_move(alloc, &mut words)
+    } else if command == b"umount".as_slice() {
+        read_umount(alloc, &mut words)
+    } else if command == b"setattr".as_slice() {
+        read_setattr(alloc, &mut words)
+    } else if command == b"show".as_slice() {
+        read_show(&mut words)
+    } else if command == b"find".as_slice() {
+        read_find(alloc, &mut words)
+    } else if command == b"quit".as_slice() {
+        read_quit(&mut words)
+    } else {
+        Err(Fault::BadLine)
+    }
+}
+
+#[cfg(test)]
+mod tests {
+    use super::*;
+
+    #[test]
+    fn reads_a_line_with_a_path(rt: HostRuntime) {
+        let request = read_request(rt.alloc(), b"rbind 7 /a\\040b /c");
+        assert!(rt;
+            matches!(
+                request,
+                Ok(Request::Run(Command::Bind {
+                    space: 7,
+                    deep: true,
+                    ..
+                },))
+            )
+        );
+    }
+
+    #[test]
+    fn reads_the_greatest_number_and_no_greater_one(rt: HostRuntime) {
+        let greatest = read_request(rt.alloc(), b"show 18446744073709551615");
+        assert!(rt; matches!(greatest, Ok(Request::Show(u64::MAX))));
+        let greater = read_request(rt.alloc(), b"show 18446744073709551616");
+        assert_eq!(rt; greater.err(), Some(Fault::BadLine));
+    }
+}

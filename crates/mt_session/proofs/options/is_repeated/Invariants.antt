@@ -1,9 +1,0 @@
-use Rattle.std.proofs.Common.{◌≡◌, length}
-use Rattle.mt_session.specs.Options.{is_repeated}
-use Rattle.mt_session.proofs.options.is_repeated.Given as goal
-
-abbrev pub invariant-words : goal.invariant-words
-invariant-words l = is_repeated l.key l.words ≡ is_repeated l.key l.initial.words
-
-abbrev pub decreases-words : goal.decreases-words
-decreases-words l = length l.words

@@ -1,6 +1,0 @@
-use Rattle.std.proofs.Common.{◌≡◌, drop, Some}
-use Rattle.mt_session.specs.Words.{number_from}
-use Rattle.mt_session.proofs.words.digits.Given as goal
-
-abbrev pub invariant-loop-digit : goal.invariant-loop-digit
-invariant-loop-digit l = number_from (Some l.n) (drop l.digit-index l.word) ≡ number_from (Some 0) l.word
