@@ -7,7 +7,7 @@ ghost use Rattle.mt_info.specs.Table.{table_of};
 ghost use Rattle.mt_book.specs.Step.{after};
 ghost use Rattle.mt_book.specs.History.{number_of, posts_of};
 ghost use Rattle.mt_book.specs.Book.{answer, accepts, command_limit, found_at, spaces_of, AreAnswered};
-ghost use Rattle.mt_book.specs.Kept.{IsPrepared};
+ghost use Rattle.mt_book.specs.Kept.{IsPrepared, prepared_command, prepared_reply, prepared_posts};
 
 use crate::changes::changes_after;
 use crate::command::{Command, Reply};
@@ -86,7 +86,7 @@ impl Book {
     #[tactic(auto, unfolding(crate::specs::Book::answer))]
     pub fn prepare(&mut self, command: &Command) -> Result<Prepared, Fault>
         ensures prepared { IfOk result (λ prepared. IsPrepared self.old.journal prepared) }
-        ensures command { IfOk result (λ prepared. prepared.command ≡ command.now) }
+        ensures command { IfOk result (λ prepared. prepared_command prepared ≡ command.now) }
         ensures room { OnOk result (0 < self.new.room) }
         ensures refused { IfErr result (λ fault. fault ≢ Fault.NoMemory → answer self.old.journal command.now ≡ Err fault) }
         ensures unchanged { self.new.journal ≡ self.old.journal }
@@ -128,9 +128,9 @@ impl Book {
     pub fn commit(&mut self, prepared: Prepared) -> (Reply, SharedPosts)
         requires prepared { IsPrepared self.old.journal prepared }
         requires room { 0 < self.old.room }
-        ensures journal { self.new.journal ≡ self.old.journal ++ prepared.command ∷ [] }
-        ensures reply { result.0 ≡ prepared.reply }
-        ensures posts { result.1 ≡ prepared.posts }
+        ensures journal { self.new.journal ≡ self.old.journal ++ prepared_command prepared ∷ [] }
+        ensures reply { result.0 ≡ prepared_reply prepared }
+        ensures posts { result.1 ≡ prepared_posts prepared }
     {
         let Prepared {
             world,

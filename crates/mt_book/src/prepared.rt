@@ -1,6 +1,7 @@
 //! A command that was done, but not yet shown.
 ghost use Rattle.std.specs.Prelude.{◌≡◌, map};
 ghost use Rattle.std.specs.Arc.{arc_value};
+ghost use Rattle.mt_book.specs.Kept.{prepared_posts};
 
 use crate::command::{Command, Reply};
 use mt_events::post::Post;
@@ -22,7 +23,7 @@ pub struct Prepared {
 impl Prepared {
     /// The posts that the command will give, by rising namespace.
     pub fn posts(&self) -> &[Arc<Post>]
-        ensures { map (λ p. arc_value p) result.now ≡ self.now.posts }
+        ensures { map (λ p. arc_value p) result.now ≡ prepared_posts self.now }
     {
         self.posts.as_slice()
     }

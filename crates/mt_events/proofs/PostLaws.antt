@@ -143,10 +143,10 @@ post_split text p h e =
     ∙ pieces_joined 10 (event_line p) ((map gone_line p.gone ++ map row_line p.rows) ++ [] ∷ []) lacking
     ∙ ap (λ ls. event_line p ∷ ls) (append_assoc (map gone_line p.gone) (map row_line p.rows) ([] ∷ []))
 
-pub post_is : (text : List ℕ) (p : PostView) (count : ℕ) (w0 w1 w2 w3 : List (List ℕ)) → w0 ≡ pieces 10 text → w0 ≡ join_with_byte 32 (event_words p.space p.number count) ∷ w1 → count ≡ length p.gone + length p.rows
-    → w1 ≡ map gone_line p.gone ++ w2 → w2 ≡ map row_line p.rows ++ w3 → w3 ≡ [] ∷ [] → text ≡ post_text p
+pub post_is : (text : List ℕ) (p : PostView) (count : ℕ) (whole past_event past_gone past_rows : List (List ℕ)) → whole ≡ pieces 10 text → whole ≡ join_with_byte 32 (event_words p.space p.number count) ∷ past_event → count ≡ length p.gone + length p.rows
+    → past_event ≡ map gone_line p.gone ++ past_gone → past_gone ≡ map row_line p.rows ++ past_rows → past_rows ≡ [] ∷ [] → text ≡ post_text p
 unfolding post_text
-post_is text p count w0 w1 w2 w3 is e n g r end =
+post_is text p count whole past_event past_gone past_rows is e n g r end =
     let lines : pieces 10 text ≡ event_line p ∷ (map gone_line p.gone ++ (map row_line p.rows ++ [] ∷ [])) =
     sym is ∙ e ∙ (λ k. join_with_byte 32 (event_words p.space p.number (n k)) ∷ (g ∙ ap (λ w. map gone_line p.gone ++ w) (r ∙ ap (λ w. map row_line p.rows ++ w) end)) k) in
     sym (joined_pieces 10 text)
@@ -154,16 +154,16 @@ post_is text p count w0 w1 w2 w3 is e n g r end =
     ∙ sym (ended_lines (post_lines p))
 
 -- what is left behind each part
-module _ (text : List ℕ) (p : PostView) (h : IsPost p) (e : text ≡ post_text p) (w0 w1 w2 w3 : List (List ℕ)) (is : w0 ≡ pieces 10 text) (first : List ℕ) (begun : w0 ≡ first ∷ w1) where
-  pub behind_event : w1 ≡ map gone_line p.gone ++ (map row_line p.rows ++ [] ∷ [])
+module _ (text : List ℕ) (p : PostView) (h : IsPost p) (e : text ≡ post_text p) (whole past_event past_gone past_rows : List (List ℕ)) (is : whole ≡ pieces 10 text) (first : List ℕ) (begun : whole ≡ first ∷ past_event) where
+  pub behind_event : past_event ≡ map gone_line p.gone ++ (map row_line p.rows ++ [] ∷ [])
   behind_event =
-      let both : first ∷ w1 ≡ event_line p ∷ (map gone_line p.gone ++ (map row_line p.rows ++ [] ∷ [])) = sym begun ∙ is ∙ post_split text p h e in cc
+      let both : first ∷ past_event ≡ event_line p ∷ (map gone_line p.gone ++ (map row_line p.rows ++ [] ∷ [])) = sym begun ∙ is ∙ post_split text p h e in cc
 
-  pub behind_gone : (gone : List ℕ) → w1 ≡ map gone_line gone ++ w2 → begins minus w2 ≡ false → w2 ≡ map row_line p.rows ++ [] ∷ []
-  behind_gone gone g none = same_behind gone_line minus gone_begins gone p.gone w2 (map row_line p.rows ++ [] ∷ []) (sym g ∙ behind_event) none (rows_end p.rows)
+  pub behind_gone : (gone : List ℕ) → past_event ≡ map gone_line gone ++ past_gone → begins minus past_gone ≡ false → past_gone ≡ map row_line p.rows ++ [] ∷ []
+  behind_gone gone g none = same_behind gone_line minus gone_begins gone p.gone past_gone (map row_line p.rows ++ [] ∷ []) (sym g ∙ behind_event) none (rows_end p.rows)
 
-  pub behind_rows : (gone : List ℕ) (rows : List Row) → w1 ≡ map gone_line gone ++ w2 → begins minus w2 ≡ false → w2 ≡ map row_line rows ++ w3 → begins equals w3 ≡ false → w3 ≡ [] ∷ []
-  behind_rows gone rows g none r after = same_behind row_line equals row_begins rows p.rows w3 ([] ∷ []) (sym r ∙ behind_gone gone g none) after refl
+  pub behind_rows : (gone : List ℕ) (rows : List Row) → past_event ≡ map gone_line gone ++ past_gone → begins minus past_gone ≡ false → past_gone ≡ map row_line rows ++ past_rows → begins equals past_rows ≡ false → past_rows ≡ [] ∷ []
+  behind_rows gone rows g none r after = same_behind row_line equals row_begins rows p.rows past_rows ([] ∷ []) (sym r ∙ behind_gone gone g none) after refl
 
 -- a line tells what it is of
 gone_tells : (i j : ℕ) → i < 2 ^ 64 → j < 2 ^ 64 → gone_line i ≡ gone_line j → i ≡ j
@@ -194,18 +194,18 @@ event_tells space number count space_2 number_2 count_2 a b d a_2 b_2 d_2 e =
 -- what is read of the text of a post can be one
 pub can_be_post : (text : List ℕ) (p : PostView) → IsPost p → text ≡ post_text p → (space number count : ℕ) → space < 2 ^ 64 → number < 2 ^ 64 → count < 2 ^ 64
     → (gone : List ℕ) (rows : List Row) → AllByRecursion (λ i. i < 2 ^ 64) gone → AllByRecursion IsRow rows
-    → (w0 w1 w2 w3 : List (List ℕ)) → w0 ≡ pieces 10 text → w0 ≡ join_with_byte 32 (event_words space number count) ∷ w1
-    → w1 ≡ map gone_line gone ++ w2 → begins minus w2 ≡ false → w2 ≡ map row_line rows ++ w3 → begins equals w3 ≡ false
+    → (whole past_event past_gone past_rows : List (List ℕ)) → whole ≡ pieces 10 text → whole ≡ join_with_byte 32 (event_words space number count) ∷ past_event
+    → past_event ≡ map gone_line gone ++ past_gone → begins minus past_gone ≡ false → past_gone ≡ map row_line rows ++ past_rows → begins equals past_rows ≡ false
     → IsTrue (rises itself gone && rises row_id rows && is_change gone rows && (count == length gone + length rows))
-can_be_post text p h e space number count a b d gone rows small valid w0 w1 w2 w3 is begun g none r after =
+can_be_post text p h e space number count a b d gone rows small valid whole past_event past_gone past_rows is begun g none r after =
     let tail : List (List ℕ) = map row_line p.rows ++ [] ∷ [] in
-    let behind = behind_event text p h e w0 w1 w2 w3 is (join_with_byte 32 (event_words space number count)) begun in
-    let both : join_with_byte 32 (event_words space number count) ∷ w1 ≡ event_line p ∷ (map gone_line p.gone ++ tail) = sym begun ∙ is ∙ post_split text p h e in
+    let behind = behind_event text p h e whole past_event past_gone past_rows is (join_with_byte 32 (event_words space number count)) begun in
+    let both : join_with_byte 32 (event_words space number count) ∷ past_event ≡ event_line p ∷ (map gone_line p.gone ++ tail) = sym begun ∙ is ∙ post_split text p h e in
     let first : join_with_byte 32 (event_words space number count) ≡ event_line p = cc in
     let n : count ≡ length p.gone + length p.rows = (event_tells space number count p.space p.number (length p.gone + length p.rows) a b d h.space h.number h.counted first).2 in
-    let left : gone ≡ p.gone = same_lines gone_line minus gone_begins {Valid = λ i. i < 2 ^ 64} gone_tells gone p.gone w2 tail (sym g ∙ behind) none (rows_end p.rows) small h.gone in
-    let rest : w2 ≡ tail = behind_gone text p h e w0 w1 w2 w3 is (join_with_byte 32 (event_words space number count)) begun gone g none in
-    let news : rows ≡ p.rows = same_lines row_line equals row_begins {Valid = IsRow} row_tells rows p.rows w3 ([] ∷ []) (sym r ∙ rest) after refl valid h.rows in
+    let left : gone ≡ p.gone = same_lines gone_line minus gone_begins {Valid = λ i. i < 2 ^ 64} gone_tells gone p.gone past_gone tail (sym g ∙ behind) none (rows_end p.rows) small h.gone in
+    let rest : past_gone ≡ tail = behind_gone text p h e whole past_event past_gone past_rows is (join_with_byte 32 (event_words space number count)) begun gone g none in
+    let news : rows ≡ p.rows = same_lines row_line equals row_begins {Valid = IsRow} row_tells rows p.rows past_rows ([] ∷ []) (sym r ∙ rest) after refl valid h.rows in
     let counted : (length p.gone + length p.rows == length p.gone + length p.rows) ≡ true = grind (arith, nat_tests) in
     let all : (rises itself p.gone && rises row_id p.rows && is_change p.gone p.rows && (length p.gone + length p.rows == length p.gone + length p.rows)) ≡ true =
     and-true _ _ (and-true _ _ (and-true _ _ h.rising_gone h.rising_rows) h.change) counted in

@@ -78,8 +78,8 @@ impl Table {
     }
 }
 
-/// Whether an ID is behind the last one, if there was one.
-fn is_above(last: Option<MountId>, id: MountId) -> bool
+/// Whether an ID is above the last one, if there was one.
+pub fn is_above(last: Option<MountId>, id: MountId) -> bool
     ensures { result ≡ is_above last id }
 {
     match last {
