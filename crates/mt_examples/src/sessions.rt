@@ -1,0 +1,82 @@
+//! A whole session, cut by its writer after each byte and failed by its reader at each read.
+use mt_lines::line::ReadFault;
+use mt_lines::memory::{Faulty, Pieces, Sink};
+use mt_lines::stream::{Cut, StreamFault};
+use mt_session::early::Floor;
+use mt_session::session::{End, serve_plain};
+use mt_skel::fault::Fault;
+use std::alloc::Global;
+use std::test::Fail;
+
+/// A session with two filesystems, and its answers.
+const EXAMPLE: &[u8] = b"mkfs a tmpfs none
+mkfs d ext4 /dev/x
+mkdir a /m
+newns a
+mount 1 d /m
+show 1
+";
+
+const ANSWERS: &[u8] = b"ok 1
+ok 2
+ok
+ok 1
+ok 2
+ok 2 2
+1 1 0:1 / / rw,relatime - tmpfs none rw
+2 1 0:2 / /m rw,relatime - ext4 /dev/x rw
+";
+/// Whether the example, cut after so many bytes of its answers, lets exactly these out.
+fn is_cut_after(alloc: Global, room: usize) -> Result<bool, Fault> {
+    let mut floor = Floor::new(alloc);
+    let mut sink = Sink::new(alloc, 4_096, room)?;
+    let end = serve_plain(alloc, Pieces::new(EXAMPLE, 4_096), &mut sink, &mut floor);
+    let whole = room >= ANSWERS.len();
+    let wanted = if whole { ANSWERS } else { &ANSWERS[..room] };
+    let ended = match end {
+        End::Cut(Cut { sent }) => !whole && sent <= room,
+        _ => whole && end == End::Input,
+    };
+    Ok(ended && sink.bytes() == wanted)
+}
+
+#[test]
+fn lets_out_what_the_writer_took(rt: HostRuntime) -> Result<(), Fail> {
+    for room in 0..ANSWERS.len() + 1 {
+        let good = is_cut_after(rt.alloc(), room)?;
+        assert!(rt; good, "after {room} bytes");
+    }
+    Ok(())
+}
+
+/// How a session ends of which the reader fails at one read, and how much it had answered.
+fn fails_at(alloc: Global, at: u64, fault: StreamFault, times: u32) -> Result<(End, usize), Fault> {
+    let mut floor = Floor::new(alloc);
+    let mut sink = Sink::new(alloc, 4_096, 65_536)?;
+    let reader = Faulty::new(EXAMPLE, 9, at, fault, times);
+    let end = serve_plain(alloc, reader, &mut sink, &mut floor);
+    let answered = sink.bytes().len();
+    let begins = answered <= ANSWERS.len() && sink.bytes() == &ANSWERS[..answered];
+    if begins {
+        Ok((end, answered))
+    } else {
+        Err(Fault::BadLine)
+    }
+}
+
+#[test]
+fn keeps_what_it_answered_before_a_failing_read(rt: HostRuntime) -> Result<(), Fail> {
+    let mut most = 0usize;
+    for at in 0..9u64 {
+        let (end, answered) = fails_at(rt.alloc(), at, StreamFault::Failed, 1)?;
+        assert_eq!(rt; end, End::Read(ReadFault::Device), "at read {at}");
+        assert!(rt; most <= answered, "at read {at}");
+        most = answered;
+        let (served, whole) = fails_at(rt.alloc(), at, StreamFault::Interrupted, 999)?;
+        assert_eq!(rt; served, End::Input, "interrupted at read {at}");
+        assert_eq!(rt; whole, ANSWERS.len());
+        let (given_up, _) = fails_at(rt.alloc(), at, StreamFault::Interrupted, 1_000)?;
+        assert_eq!(rt; given_up, End::Read(ReadFault::Interrupted), "at read {at}");
+    }
+    Ok(())
+}
