@@ -12,7 +12,6 @@ pub mod TreeOfLaws
 pub mod MountedLaws
 pub mod SizeLaws
 pub mod CopyingLaws
-pub mod MadeLaws
 pub mod AlongLaws
 pub mod MemberLaws
 pub mod BoundLaws

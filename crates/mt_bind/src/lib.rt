@@ -3,8 +3,6 @@
 
 pub mod binding;
 pub mod copying;
-#[cfg(test)]
-mod fixture;
 pub mod laws;
 pub mod mounting;
 pub mod moving;

@@ -36,30 +36,3 @@ pub fn mount(world: &mut World, space: SpaceId, fs: &Label, path: &[Name]) -> Re
     ready(world, &plan)?;
     Ok(carry_out(world, plan))
 }
-
-#[cfg(test)]
-mod tests {
-    use super::*;
-    use crate::fixture::{add_mount, add_space, bare};
-    use std::test::Fail;
-
-    #[test]
-    fn mounts_one_over_another(rt: HostRuntime) -> Result<(), Fail> {
-        let alloc = rt.alloc();
-        let mut world = bare(alloc)?;
-        let space = add_space(alloc, &mut world)?;
-        for (fs, to, wanted) in [
-            (b"ext".as_slice(), b"a".as_slice(), Ok(2)),
-            (b"ext", b"a", Ok(3)),
-            (b"ext", b"a/a", Ok(4)),
-            (b"none", b"a", Err(Fault::NoFilesystem)),
-            (b"ext", b"b", Err(Fault::NoEntry)),
-        ] {
-            let answer = add_mount(alloc, &mut world, space, fs, to);
-            assert!(rt; answer == wanted);
-        }
-        let answer = add_mount(alloc, &mut world, 9, b"ext", b"a");
-        assert!(rt; answer == Err(Fault::NoNamespace));
-        Ok(())
-    }
-}

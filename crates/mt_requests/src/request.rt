@@ -295,31 +295,3 @@ pub fn read_request(alloc: Global, line: &[u8]) -> Result<Request, Fault>
         Err(Fault::BadLine)
     }
 }
-
-#[cfg(test)]
-mod tests {
-    use super::*;
-
-    #[test]
-    fn reads_a_line_with_a_path(rt: HostRuntime) {
-        let request = read_request(rt.alloc(), b"rbind 7 /a\\040b /c");
-        assert!(rt;
-            matches!(
-                request,
-                Ok(Request::Run(Command::Bind {
-                    space: 7,
-                    deep: true,
-                    ..
-                },))
-            )
-        );
-    }
-
-    #[test]
-    fn reads_the_greatest_number_and_no_greater_one(rt: HostRuntime) {
-        let greatest = read_request(rt.alloc(), b"show 18446744073709551615");
-        assert!(rt; matches!(greatest, Ok(Request::Show(u64::MAX))));
-        let greater = read_request(rt.alloc(), b"show 18446744073709551616");
-        assert_eq!(rt; greater.err(), Some(Fault::BadLine));
-    }
-}

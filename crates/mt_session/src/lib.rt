@@ -6,8 +6,6 @@
 
 pub mod early;
 pub mod session;
-#[cfg(test)]
-mod tests;
 pub mod text;
 
 pub use mt_lines::{line, memory, stream};

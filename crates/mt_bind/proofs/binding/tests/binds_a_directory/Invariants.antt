@@ -1,7 +1,0 @@
-use Rattle.mt_propagate.specs.World.{world_view}
-use Rattle.mt_propagate.specs.WellFormed.{IsWellFormed}
-use Rattle.mt_bind.proofs.binding.tests.binds_a_directory.Given as goal
-
--- whatever is bound
-abbrev pub invariant-loop-from : goal.invariant-loop-from
-invariant-loop-from g l = IsWellFormed (world_view l.world)

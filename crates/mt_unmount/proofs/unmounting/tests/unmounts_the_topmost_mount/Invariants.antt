@@ -1,7 +1,0 @@
-use Rattle.mt_propagate.specs.World.{world_view}
-use Rattle.mt_propagate.specs.WellFormed.{IsWellFormed}
-use Rattle.mt_unmount.proofs.unmounting.tests.unmounts_the_topmost_mount.Given as goal
-
--- whatever is unmounted
-abbrev pub invariant-loop-text : goal.invariant-loop-text
-invariant-loop-text g l = IsWellFormed (world_view l.world)
