@@ -9,6 +9,7 @@ use mt_info::table::Table;
 use mt_requests::request::{Request, read_request};
 use mt_session::text::Text;
 use mt_skel::fault::Fault;
+use mt_words::words::Pieces;
 use std::alloc::Global;
 
 /// The command that a line says.
@@ -22,7 +23,7 @@ pub(crate) fn command_of(alloc: Global, line: &[u8]) -> Result<Command, Fault> {
 /// The commands that lines say.
 pub(crate) fn commands_of(alloc: Global, lines: &[u8]) -> Result<Vec<Command>, Fault> {
     let mut commands = Vec::new(alloc);
-    for line in lines.split(|byte| *byte == b'\n') {
+    for line in Pieces::new(b'\n', lines) {
         commands.push(command_of(alloc, line)?)?;
     }
     Ok(commands)
@@ -67,7 +68,7 @@ fn push_turn(alloc: Global, text: &mut Vec<u8>, book: &mut Book, line: &[u8]) ->
 /// answer and its posts. Other lines of the text are not read.
 pub(crate) fn played(alloc: Global, book: &mut Book, text: &[u8]) -> Result<Vec<u8>, Fault> {
     let mut told = Vec::new(alloc);
-    for line in text.split(|byte| *byte == b'\n') {
+    for line in Pieces::new(b'\n', text) {
         if let [b'>', b' ', command @ ..] = line {
             push_turn(alloc, &mut told, book, command)?;
         }
@@ -78,7 +79,7 @@ pub(crate) fn played(alloc: Global, book: &mut Book, text: &[u8]) -> Result<Vec<
 /// The table of which these are the lines.
 pub(crate) fn table_of(alloc: Global, lines: &[u8]) -> Result<Table, Fault> {
     let mut rows = Vec::new(alloc);
-    for line in lines.split(|byte| *byte == b'\n') {
+    for line in Pieces::new(b'\n', lines) {
         if !line.is_empty() {
             rows.push(read_row(alloc, line)?)?;
         }

@@ -37,6 +37,16 @@ fn told<R: Input + Drop>(
     Ok(told)
 }
 
+/// Whether a text has these lines in pieces of each size.
+fn is_told(alloc: Global, text: &[u8], limit: u32, wanted: &[u8]) -> Result<bool, AllocError> {
+    let mut same = true;
+    for most in [1, 3, 1000] {
+        let found = told(alloc, Pieces::new(text, most), limit, 4)?;
+        same = same && found.as_slice() == wanted;
+    }
+    Ok(same)
+}
+
 #[test]
 fn reads_the_same_lines_in_any_pieces(rt: HostRuntime) -> Result<(), Fail> {
     let table: [(&[u8], u32, &[u8]); 6] = [
@@ -47,25 +57,40 @@ fn reads_the_same_lines_in_any_pieces(rt: HostRuntime) -> Result<(), Fail> {
         (b"\na\n", 0, b"text ;too long;end;end;"),
         (b"", 2, b"end;end;end;end;"),
     ];
-    for (input, limit, wanted) in table {
-        for most in [1, 3, 1000] {
-            let told = told(rt.alloc(), Pieces::new(input, most), limit, 4)?;
-            assert_eq!(rt; told.as_slice(), wanted, "in pieces of {most}");
-        }
+    for (text, limit, wanted) in table {
+        let same = is_told(rt.alloc(), text, limit, wanted)?;
+        assert!(rt; same, "{text:?}");
     }
     Ok(())
+}
+
+/// Whether these bytes have these first lines, of at most 8,192 bytes.
+fn has_lines(alloc: Global, bytes: &[u8], calls: usize, wanted: &[u8]) -> Result<bool, AllocError> {
+    let found = told(alloc, Pieces::new(bytes, 5_000), 8_192, calls)?;
+    Ok(found.as_slice() == wanted)
 }
 
 #[test]
 fn looks_for_a_line_end_so_far_and_no_further(rt: HostRuntime) -> Result<(), Fail> {
     let mut bytes = vec![in rt.alloc(); b'x'; 1_056_769]?;
-    let endless = told(rt.alloc(), Pieces::new(bytes.as_slice(), 5_000), 8_192, 2)?;
-    assert_eq!(rt; endless.as_slice(), b"endless;endless;".as_slice());
+    let endless = has_lines(rt.alloc(), &bytes, 2, b"endless;endless;")?;
     bytes.truncate(1_056_768);
     bytes.extend_from_slice(b"\nab\n")?;
-    let too_long = told(rt.alloc(), Pieces::new(bytes.as_slice(), 5_000), 8_192, 3)?;
-    assert_eq!(rt; too_long.as_slice(), b"too long;text ab;end;".as_slice());
+    let too_long = has_lines(rt.alloc(), &bytes, 3, b"too long;text ab;end;")?;
+    assert!(rt; endless && too_long);
     Ok(())
+}
+
+/// Whether a reader that fails so often in succession behind its first read gives these lines.
+fn is_kept(
+    alloc: Global,
+    fault: StreamFault,
+    times: u32,
+    wanted: &[u8],
+) -> Result<bool, AllocError> {
+    let reader = Faulty::new(b"ab\ncd\n", 3, 1, fault, times);
+    let found = told(alloc, reader, 8_192, 3)?;
+    Ok(found.as_slice() == wanted)
 }
 
 #[test]
@@ -80,61 +105,79 @@ fn keeps_a_fault(rt: HostRuntime) -> Result<(), Fail> {
         ),
     ];
     for (fault, times, wanted) in table {
-        let reader = Faulty::new(b"ab\ncd\n", 3, 1, fault, times);
-        let told = told(rt.alloc(), reader, 8_192, 3)?;
-        assert_eq!(rt; told.as_slice(), wanted, "after {times} faults");
+        let kept = is_kept(rt.alloc(), fault, times, wanted)?;
+        assert!(rt; kept, "after {times} faults");
     }
     Ok(())
+}
+
+/// Whether a send of six bytes lets as many out as the sink has room for.
+fn is_sent(alloc: Global, most: usize, room: usize) -> Result<bool, AllocError> {
+    let bytes = b"abcdef".as_slice();
+    let mut sink = Sink::new(alloc, most, room)?;
+    let sent = match send(&mut sink, bytes) {
+        Ok(()) => bytes.len(),
+        Err(Cut { sent }) => sent,
+    };
+    let kept = sink.bytes();
+    Ok(sent == room && kept.len() == room && bytes.starts_with(kept))
+}
+
+/// Whether that is so for each room, with at most so many bytes a call.
+fn are_sent(alloc: Global, most: usize) -> Result<bool, AllocError> {
+    let mut all = true;
+    for room in 0..=6usize {
+        let sent = is_sent(alloc, most, room)?;
+        all = all && sent;
+    }
+    Ok(all)
 }
 
 #[test]
 fn sends_a_prefix_up_to_the_fault(rt: HostRuntime) -> Result<(), Fail> {
-    let bytes = b"abcdef";
     for most in [1, 2, 6] {
-        for room in 0..=6usize {
-            let mut sink = Sink::new(rt.alloc(), most, room)?;
-            let wanted = if room < 6 {
-                Err(Cut { sent: room })
-            } else {
-                Ok(())
-            };
-            assert_eq!(rt;
-                send(&mut sink, bytes),
-                wanted,
-                "{most} a call, room {room}"
-            );
-            assert_eq!(rt; sink.bytes(), &bytes[..room], "{most} a call, room {room}");
-        }
+        let sent = are_sent(rt.alloc(), most)?;
+        assert!(rt; sent, "{most} a call");
     }
     Ok(())
+}
+
+/// Whether a send to a writer that fails so often ends so, and the next one succeeds.
+fn is_sent_over(fault: StreamFault, times: u32, wanted: Result<(), Cut>) -> bool {
+    let mut writer = Faltering::new(fault, times);
+    let first = send(&mut writer, b"abc");
+    let second = send(&mut writer, b"abc");
+    first == wanted && second == Ok(())
 }
 
 #[test]
 fn sends_over_interruptions(rt: HostRuntime) -> Result<(), Fail> {
-    let table = [
+    for (fault, times, wanted) in [
         (StreamFault::Interrupted, 999, Ok(())),
         (StreamFault::Interrupted, 1_000, Err(Cut { sent: 0 })),
         (StreamFault::Failed, 1, Err(Cut { sent: 0 })),
-    ];
-    for (fault, times, wanted) in table {
-        let mut writer = Faltering::new(fault, times);
-        assert_eq!(rt; send(&mut writer, b"abc"), wanted, "{times} times");
-        assert_eq!(rt; send(&mut writer, b"abc"), Ok(()), "after {times} times");
+    ] {
+        let good = is_sent_over(fault, times, wanted);
+        assert!(rt; good, "{times} times");
     }
     Ok(())
 }
 
 #[test]
-fn passes_bytes_of_the_standard_library(rt: HostRuntime) -> Result<(), Fail> {
+fn reads_bytes_of_the_standard_library(rt: HostRuntime) {
     let mut buffer = [0u8; 4];
     let mut reader = Reading::new(b"abc".as_slice());
-    assert_eq!(rt; reader.read(&mut buffer), Ok(3));
-    assert_eq!(rt; buffer, [b'a', b'b', b'c', 0]);
-    assert_eq!(rt; reader.read(&mut buffer), Ok(0));
+    let first = reader.read(&mut buffer);
+    let second = reader.read(&mut buffer);
+    assert!(rt; first == Ok(3) && second == Ok(0));
+    assert!(rt; buffer == [b'a', b'b', b'c', 0]);
+}
+
+#[test]
+fn writes_bytes_of_the_standard_library(rt: HostRuntime) {
     let mut kept = Vec::new(rt.alloc());
     let mut writer = Writing::new(Cursor::new(&mut kept));
-    assert_eq!(rt; send(&mut writer, b"abc"), Ok(()));
+    let sent = send(&mut writer, b"abc");
     drop(writer);
-    assert_eq!(rt; kept.as_slice(), b"abc".as_slice());
-    Ok(())
+    assert!(rt; sent == Ok(()) && kept.as_slice() == b"abc".as_slice());
 }

@@ -6,6 +6,7 @@ use mt_info::table::Table;
 use mt_skel::escape::{escape, unescape, unescaped_len};
 use mt_skel::fault::Fault;
 use mt_skel::name::{Label, Name};
+use mt_words::words::Pieces;
 use std::alloc::{AllocError, Global};
 use std::test::Fail;
 
@@ -63,12 +64,17 @@ fn every_byte_comes_back(rt: HostRuntime) -> Result<(), Fail> {
     Ok(())
 }
 
+/// Whether bytes have this text.
+fn has_text(alloc: Global, bytes: &[u8], wanted: &[u8]) -> Result<bool, Fault> {
+    let text = escape(alloc, bytes)?;
+    Ok(text.as_slice() == wanted)
+}
+
 #[test]
 fn four_bytes_have_escapes(rt: HostRuntime) -> Result<(), Fail> {
-    let text = escape(rt.alloc(), b"a b\tc\nd\\e")?;
-    assert_eq!(rt; text.as_slice(), b"a\\040b\\011c\\012d\\134e".as_slice());
-    let whole = unescape(rt.alloc(), b"\\134040")?;
-    assert_eq!(rt; whole.as_slice(), b"\\040".as_slice());
+    let each = has_text(rt.alloc(), b" \t\n\\", b"\\040\\011\\012\\134")?;
+    let whole = has_text(rt.alloc(), b"\\040", b"\\134040")?;
+    assert!(rt; each && whole);
     Ok(())
 }
 
@@ -84,12 +90,16 @@ a\\
 \\\\134
 \\04 0";
 
+/// Whether a text is refused.
+fn is_bad(alloc: Global, text: &[u8]) -> bool {
+    unescaped_len(text).is_none() && matches!(unescape(alloc, text), Err(Fault::BadLine))
+}
+
 #[test]
 fn other_escapes_are_bad(rt: HostRuntime) -> Result<(), Fail> {
-    for text in NO_ESCAPES.split(|byte| *byte == b'\n') {
-        assert_eq!(rt; unescaped_len(text), None, "{text:?}");
-        let bytes = unescape(rt.alloc(), text);
-        assert_eq!(rt; bytes.err(), Some(Fault::BadLine), "{text:?}");
+    for text in Pieces::new(b'\n', NO_ESCAPES) {
+        let bad = is_bad(rt.alloc(), text);
+        assert!(rt; bad, "{text:?}");
     }
     Ok(())
 }
@@ -145,7 +155,7 @@ fn is_read(alloc: Global, text: &[u8]) -> Result<bool, Fault> {
 
 #[test]
 fn rows_are_read_back(rt: HostRuntime) -> Result<(), Fail> {
-    for line in ROWS.split(|byte| *byte == b'\n') {
+    for line in Pieces::new(b'\n', ROWS) {
         let read = is_read(rt.alloc(), line)?;
         assert!(rt; read, "{line:?}");
     }
@@ -154,7 +164,7 @@ fn rows_are_read_back(rt: HostRuntime) -> Result<(), Fail> {
 
 #[test]
 fn other_texts_are_no_rows(rt: HostRuntime) -> Result<(), Fail> {
-    for line in NO_ROWS.split(|byte| *byte == b'\n') {
+    for line in Pieces::new(b'\n', NO_ROWS) {
         let read = is_read(rt.alloc(), line)?;
         assert!(rt; !read, "{line:?}");
     }
@@ -193,7 +203,7 @@ const TABLES: &[u8] = b";
 /// The tables, in their order.
 fn tables(alloc: Global) -> Result<Vec<Table>, Fault> {
     let mut tables = Vec::new(alloc);
-    for lines in TABLES.split(|byte| *byte == b';') {
+    for lines in Pieces::new(b';', TABLES) {
         tables.push(table_of(alloc, lines)?)?;
     }
     Ok(tables)
