@@ -1,9 +1,8 @@
 //! Lines of streams in memory in any pieces, and what is sent to streams that fail.
 use mt_lines::line::{Line, LineReader, ReadFault};
 use mt_lines::memory::{Faltering, Faulty, Pieces, Sink};
-use mt_lines::stream::{Cut, Input, Reading, StreamFault, Writing, send};
+use mt_lines::stream::{Cut, Input, StreamFault, send};
 use std::alloc::{AllocError, Global};
-use std::io::Cursor;
 use std::test::Fail;
 
 /// A word for an answer.
@@ -161,23 +160,4 @@ fn sends_over_interruptions(rt: HostRuntime) -> Result<(), Fail> {
         assert!(rt; good, "{times} times");
     }
     Ok(())
-}
-
-#[test]
-fn reads_bytes_of_the_standard_library(rt: HostRuntime) {
-    let mut buffer = [0u8; 4];
-    let mut reader = Reading::new(b"abc".as_slice());
-    let first = reader.read(&mut buffer);
-    let second = reader.read(&mut buffer);
-    assert!(rt; first == Ok(3) && second == Ok(0));
-    assert!(rt; buffer == [b'a', b'b', b'c', 0]);
-}
-
-#[test]
-fn writes_bytes_of_the_standard_library(rt: HostRuntime) {
-    let mut kept = Vec::new(rt.alloc());
-    let mut writer = Writing::new(Cursor::new(&mut kept));
-    let sent = send(&mut writer, b"abc");
-    drop(writer);
-    assert!(rt; sent == Ok(()) && kept.as_slice() == b"abc".as_slice());
 }
