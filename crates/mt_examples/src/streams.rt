@@ -110,16 +110,23 @@ fn keeps_a_fault(rt: HostRuntime) -> Result<(), Fail> {
     Ok(())
 }
 
-/// Whether a send of six bytes lets as many out as the sink has room for.
+/// What is sent.
+const BYTES: &[u8] = b"abcdef";
+
+/// How a send to a sink with so much room has to end.
+fn wanted(room: usize) -> Result<(), Cut> {
+    if room < BYTES.len() {
+        Err(Cut { sent: room })
+    } else {
+        Ok(())
+    }
+}
+
+/// Whether a send to such a sink ends so, and lets as many bytes out as there is room for.
 fn is_sent(alloc: Global, most: usize, room: usize) -> Result<bool, AllocError> {
-    let bytes = b"abcdef".as_slice();
     let mut sink = Sink::new(alloc, most, room)?;
-    let sent = match send(&mut sink, bytes) {
-        Ok(()) => bytes.len(),
-        Err(Cut { sent }) => sent,
-    };
-    let kept = sink.bytes();
-    Ok(sent == room && kept.len() == room && bytes.starts_with(kept))
+    let same = send(&mut sink, BYTES) == wanted(room);
+    Ok(same && sink.bytes().len() == room && BYTES.starts_with(sink.bytes()))
 }
 
 /// Whether that is so for each room, with at most so many bytes a call.
