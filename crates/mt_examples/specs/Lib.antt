@@ -20,6 +20,7 @@ pub mod GroupLeavesTogether
 pub mod MovedSubtree
 pub mod LaggingWatcher
 pub mod WatchersInTime
+pub mod WhatAnswersTell
 pub mod AfterStop
 pub mod ManyWatchers
 pub mod ManyMounts

@@ -1,2 +1,7 @@
 pub mod Watcher
 pub mod Schedule
+pub mod Headline
+pub mod WellFormed
+pub mod Rows
+pub mod Finding
+pub mod Laws

@@ -1,0 +1,95 @@
+-- The posts that are due to one watcher.
+use Rattle.std.proofs.Common.{◌≡◌, ℕ, Bool, true, false, cond, not, ◌&&◌, eqb, ltb, List, [], ◌∷◌, ◌++◌, map, Option, Some, None, refl, sym, ap, ◌∙◌}
+use Rattle.std.specs.List.{filter, list_all}
+use Rattle.std.specs.Option.{option_map_or}
+use Rattle.mt_skel.specs.Keyed.{row_at, rises}
+use Rattle.mt_skel.proofs.KeyedLaws.{row_at-below, row_at-filter, rises-filter, passing}
+use Rattle.mt_info.proofs.WordLaws.{and_first, and_second}
+use Rattle.mt_events.specs.Posts.{PostView}
+use Rattle.mt_events.specs.Following.{names_space}
+use Rattle.mt_floor.specs.Watcher.{Watcher, Due, key_of, is_open, follows, due_for, due_pairs}
+use Rattle.mt_floor.proofs.RowLaws.{same_key, is_key, turned}
+
+due_for-append : (key : ℕ) (xs ys : List Due) → due_for key (xs ++ ys) ≡ due_for key xs ++ due_for key ys
+due_for-append key [] ys = refl
+due_for-append key (x ∷ xs) ys = by (eqb x.key key) (due_for-append key xs ys)
+  where
+    by : (b : Bool) → due_for key (xs ++ ys) ≡ due_for key xs ++ due_for key ys → cond b (x.post ∷ due_for key (xs ++ ys)) (due_for key (xs ++ ys)) ≡ cond b (x.post ∷ due_for key xs) (due_for key xs) ++ due_for key ys
+    by true e = ap (λ l. x.post ∷ l) e
+    by false e = e
+
+-- a post that is due to these watchers
+abbrev for_each : PostView → List Watcher → List Due
+for_each p rs = map (λ (r : Watcher). record { post = p; key = r.key }) rs
+
+abbrev one_if : PostView → Option Watcher → List PostView
+one_if p o = option_map_or (λ (r : Watcher). p ∷ []) o []
+
+once : (key : ℕ) (p : PostView) (rs : List Watcher) → rises key_of rs ≡ true → due_for key (for_each p rs) ≡ one_if p (row_at key_of key rs)
+once key p [] h = refl
+once key p (r ∷ rs) h = by (eqb r.key key) refl (once key p rs (and_second _ _ h))
+  where
+    by : (b : Bool) → eqb r.key key ≡ b → due_for key (for_each p rs) ≡ one_if p (row_at key_of key rs)
+        → cond b (p ∷ due_for key (for_each p rs)) (due_for key (for_each p rs)) ≡ one_if p (cond (eqb key r.key) (Some r) (row_at key_of key rs))
+    by true e ih =
+        let none = row_at-below key_of key rs (ap (λ k. list_all (λ y. ltb k (key_of y)) rs) (sym (is_key r.key key e)) ∙ and_first _ _ h) in
+        ap (λ l. p ∷ l) (ih ∙ ap (one_if p) none) ∙ sym (ap (λ b. one_if p (cond b (Some r) (row_at key_of key rs))) (same_key key r.key (sym (is_key r.key key e))))
+    by false e ih = ih ∙ sym (ap (λ b. one_if p (cond b (Some r) (row_at key_of key rs))) (turned r.key key e))
+
+-- what of some posts is due to a watcher
+abbrev pub due_row : List PostView → Option Watcher → List PostView
+due_row ps o = option_map_or (λ (r : Watcher). cond (is_open r.phase) (filter (λ (p : PostView). names_space r.scope p.space) ps) []) o []
+
+passed : (p : PostView) (o : Option Watcher) → one_if p (passing (follows p) o) ≡ option_map_or (λ r. cond (follows p r) (p ∷ []) []) o []
+passed p None = refl
+passed p (Some r) = by (follows p r)
+  where
+    by : (b : Bool) → one_if p (cond b (Some r) None) ≡ cond b (p ∷ []) []
+    by true = refl
+    by false = refl
+
+both : (p : PostView) (ps : List PostView) (o : Option Watcher) → option_map_or (λ r. cond (follows p r) (p ∷ []) []) o [] ++ due_row ps o ≡ due_row (p ∷ ps) o
+both p ps None = refl
+both p ps (Some r) = by (is_open r.phase) (names_space r.scope p.space)
+  where
+    by : (a b : Bool) → cond (a && b) (p ∷ []) [] ++ cond a (filter (λ (q : PostView). names_space r.scope q.space) ps) [] ≡ cond a (cond b (p ∷ filter (λ (q : PostView). names_space r.scope q.space) ps) (filter (λ (q : PostView). names_space r.scope q.space) ps)) []
+    by true true = refl
+    by true false = refl
+    by false b = refl
+
+none_due : (o : Option Watcher) → ◌≡◌ {A = List PostView} [] (due_row [] o)
+none_due None = refl
+none_due (Some r) = by (is_open r.phase)
+  where
+    by : (b : Bool) → ◌≡◌ {A = List PostView} [] (cond b [] [])
+    by true = refl
+    by false = refl
+
+-- to an open watcher those are due that its scope names, to another none
+pub due_all : (key : ℕ) (ps : List PostView) (rs : List Watcher) → rises key_of rs ≡ true → due_for key (due_pairs ps rs) ≡ due_row ps (row_at key_of key rs)
+due_all key [] rs h = none_due (row_at key_of key rs)
+due_all key (p ∷ ps) rs h =
+    due_for-append key (for_each p (filter (follows p) rs)) (due_pairs ps rs)
+    ∙ (λ i. (once key p (filter (follows p) rs) (rises-filter key_of (follows p) rs h) ∙ ap (one_if p) (row_at-filter key_of (follows p) key rs h) ∙ passed p (row_at key_of key rs)) i ++ due_all key ps rs h i)
+    ∙ both p ps (row_at key_of key rs)
+
+abbrev pub but : ℕ → List Due → List Due
+but key ds = filter (λ (e : Due). not (eqb e.key key)) ds
+
+-- nothing is due to a watcher whose posts were taken out
+pub but_same : (key : ℕ) (ds : List Due) → due_for key (but key ds) ≡ []
+but_same key [] = refl
+but_same key (e ∷ ds) = by (eqb e.key key) refl (but_same key ds)
+  where
+    by : (b : Bool) → eqb e.key key ≡ b → due_for key (but key ds) ≡ [] → due_for key (cond (not b) (e ∷ but key ds) (but key ds)) ≡ []
+    by true is h = h
+    by false is h = ap (λ b. cond b (e.post ∷ due_for key (but key ds)) (due_for key (but key ds))) is ∙ h
+
+pub but_other : (key other : ℕ) (ds : List Due) → eqb key other ≡ false → due_for other (but key ds) ≡ due_for other ds
+but_other key other [] ne = refl
+but_other key other (e ∷ ds) ne = by (eqb e.key key) refl (but_other key other ds ne)
+  where
+    by : (b : Bool) → eqb e.key key ≡ b → due_for other (but key ds) ≡ due_for other ds
+        → due_for other (cond (not b) (e ∷ but key ds) (but key ds)) ≡ cond (eqb e.key other) (e.post ∷ due_for other ds) (due_for other ds)
+    by true is h = h ∙ sym (ap (λ b. cond b (e.post ∷ due_for other ds) (due_for other ds)) (ap (λ k. eqb k other) (is_key e.key key is) ∙ ne))
+    by false is h = ap (λ l. cond (eqb e.key other) (e.post ∷ l) l) h

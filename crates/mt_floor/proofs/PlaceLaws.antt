@@ -1,0 +1,191 @@
+-- A row among the others: the place where it stands, and what changes or leaves there.
+use Rattle.std.proofs.Common.{◌≡◌, ℕ, ◌+◌, Bool, true, false, cond, not, eqb, ltb, List, [], ◌∷◌, ◌++◌, map, length, set, get_or, Option, Some, None, slice_get, refl, sym, ap, ◌∙◌, subst, arith, length-append, ◌<◌}
+use Rattle.std.specs.List.{filter, list_all, position_from, remove, AllByRecursion}
+use Rattle.std.proofs.lemmas.Bool.Decides.{nat_tests}
+use Rattle.std.proofs.lemmas.List.{map-append}
+use Rattle.std.proofs.lemmas.Option.{slice_get_read}
+use Rattle.mt_skel.specs.Keyed.{row_at, put, rises}
+use Rattle.mt_info.proofs.WordLaws.{and_first, and_second}
+use Rattle.mt_book.specs.declared.command.Command.{Command}
+use Rattle.mt_floor.specs.Watcher.{Watcher, key_of}
+use Rattle.mt_floor.specs.Rows.{RowView, watcher_of}
+use Rattle.mt_floor.proofs.RowLaws.{same_key, is_key, turned}
+
+module _ {X : Type 0} (key : X → ℕ) where
+  all_mid : (t : X → Bool) (front back : List X) (x : X) → list_all t (front ++ x ∷ back) ≡ true → t x ≡ true
+  all_mid t [] back x h = and_first _ _ h
+  all_mid t (z ∷ front) back x h = all_mid t front back x (and_second _ _ h)
+
+  below_mid : (front back : List X) (z x : X) → rises key (z ∷ (front ++ x ∷ back)) ≡ true → ltb (key z) (key x) ≡ true
+  below_mid front back z x h = all_mid (λ y. ltb (key z) (key y)) front back x (and_first _ _ h)
+
+  pub row_mid : (front back : List X) (x : X) → rises key (front ++ x ∷ back) ≡ true → row_at key (key x) (front ++ x ∷ back) ≡ Some x
+  row_mid [] back x h = ap (λ b. cond b (Some x) (row_at key (key x) back)) (same_key (key x) (key x) refl)
+  row_mid (z ∷ front) back x h =
+      let low = below_mid front back z x h in
+      let other : eqb (key x) (key z) ≡ false = grind (arith, nat_tests) in
+      ap (λ b. cond b (Some z) (row_at key (key x) (front ++ x ∷ back))) other ∙ row_mid front back x (and_second _ _ h)
+
+  pub put_mid : (front back : List X) (x y : X) → key y ≡ key x → rises key (front ++ x ∷ back) ≡ true → put key y (front ++ x ∷ back) ≡ front ++ y ∷ back
+  put_mid [] back x y e h =
+      let no_less : ltb (key y) (key x) ≡ false = grind (arith, nat_tests) in
+      ap (λ b. cond b (y ∷ x ∷ back) (cond (eqb (key y) (key x)) (y ∷ back) (x ∷ put key y back))) no_less
+      ∙ ap (λ b. cond b (y ∷ back) (x ∷ put key y back)) (same_key (key y) (key x) e)
+  put_mid (z ∷ front) back x y e h =
+      let low = below_mid front back z x h in
+      let no_less : ltb (key y) (key z) ≡ false = grind (arith, nat_tests) in
+      let other : eqb (key y) (key z) ≡ false = grind (arith, nat_tests) in
+      ap (λ b. cond b (y ∷ z ∷ (front ++ x ∷ back)) (cond (eqb (key y) (key z)) (y ∷ (front ++ x ∷ back)) (z ∷ put key y (front ++ x ∷ back)))) no_less
+      ∙ ap (λ b. cond b (y ∷ (front ++ x ∷ back)) (z ∷ put key y (front ++ x ∷ back))) other
+      ∙ ap (λ l. z ∷ l) (put_mid front back x y e (and_second _ _ h))
+
+  none_above : (k : ℕ) (ys : List X) → list_all (λ y. ltb k (key y)) ys ≡ true → filter (λ y. not (eqb (key y) k)) ys ≡ ys
+  none_above k [] h = refl
+  none_above k (y ∷ ys) h =
+      let here = and_first (ltb k (key y)) _ h in
+      let other : eqb (key y) k ≡ false = grind (arith, nat_tests) in
+      ap (λ b. cond (not b) (y ∷ filter (λ z. not (eqb (key z) k)) ys) (filter (λ z. not (eqb (key z) k)) ys)) other ∙ ap (λ l. y ∷ l) (none_above k ys (and_second _ _ h))
+
+  pub without_mid : (front back : List X) (x : X) → rises key (front ++ x ∷ back) ≡ true → filter (λ y. not (eqb (key y) (key x))) (front ++ x ∷ back) ≡ front ++ back
+  without_mid [] back x h =
+      ap (λ b. cond (not b) (x ∷ filter (λ y. not (eqb (key y) (key x))) back) (filter (λ y. not (eqb (key y) (key x))) back)) (same_key (key x) (key x) refl) ∙ none_above (key x) back (and_first _ _ h)
+  without_mid (z ∷ front) back x h =
+      let low = below_mid front back z x h in
+      let other : eqb (key z) (key x) ≡ false = grind (arith, nat_tests) in
+      ap (λ b. cond (not b) (z ∷ filter (λ y. not (eqb (key y) (key x))) (front ++ x ∷ back)) (filter (λ y. not (eqb (key y) (key x))) (front ++ x ∷ back))) other
+      ∙ ap (λ l. z ∷ l) (without_mid front back x (and_second _ _ h))
+
+pub set_mid : {X : Type 0} (front back : List X) (x y : X) → set (front ++ x ∷ back) (length front) y ≡ front ++ y ∷ back
+set_mid [] back x y = refl
+set_mid (z ∷ front) back x y = ap (λ l. z ∷ l) (set_mid front back x y)
+
+pub remove_mid : {X : Type 0} (front back : List X) (x : X) → remove (front ++ x ∷ back) (length front) ≡ front ++ back
+remove_mid [] back x = refl
+remove_mid (z ∷ front) back x = ap (λ l. z ∷ l) (remove_mid front back x)
+
+pub get_mid : {X : Type 0} (front back : List X) (x : X) → slice_get (front ++ x ∷ back) (length front) ≡ Some x
+get_mid [] back x = refl
+get_mid (z ∷ front) back x = get_mid front back x
+
+module _ {X : Type 0} (P : X → Type 0) where
+  pub each_mid : (front back : List X) (x : X) → AllByRecursion P (front ++ x ∷ back) → P x
+  each_mid [] back x h = h.0
+  each_mid (z ∷ front) back x h = each_mid front back x h.1
+
+  pub each_with : (front back : List X) (x y : X) → AllByRecursion P (front ++ x ∷ back) → P y → AllByRecursion P (front ++ y ∷ back)
+  each_with [] back x y h p = (p, h.1)
+  each_with (z ∷ front) back x y h p = (h.0, each_with front back x y h.1 p)
+
+  pub each_without : (front back : List X) (x : X) → AllByRecursion P (front ++ x ∷ back) → AllByRecursion P (front ++ back)
+  each_without [] back x h = h.1
+  each_without (z ∷ front) back x h = (h.0, each_without front back x h.1)
+
+  pub each_last : (xs : List X) (y : X) → AllByRecursion P xs → P y → AllByRecursion P (xs ++ y ∷ [])
+  each_last [] y h p = (p, tt)
+  each_last (x ∷ xs) y h p = (h.0, each_last xs y h.1 p)
+
+pub each_map : {X : Type 0} (P Q : X → Type 0) (f : X → X) → ((x : X) → P x → Q (f x)) → (xs : List X) → AllByRecursion P xs → AllByRecursion Q (map f xs)
+each_map P Q f go [] h = tt
+each_map P Q f go (x ∷ xs) h = (go x h.0, each_map P Q f go xs h.1)
+
+pub each_still : {X : Type 0} (P Q : X → Type 0) → ((x : X) → P x → Q x) → (xs : List X) → AllByRecursion P xs → AllByRecursion Q xs
+each_still P Q go [] h = tt
+each_still P Q go (x ∷ xs) h = (go x h.0, each_still P Q go xs h.1)
+
+-- the row of a key, with those before it and those behind it
+pub record IsAt (q i : ℕ) (rows : List RowView) (row : RowView) : Type 0 where
+  pub front : List RowView
+  pub back : List RowView
+  pub split : rows ≡ front ++ row ∷ back
+  pub place : i ≡ length front
+  pub is : row.key ≡ q
+
+abbrev pub is_of : ℕ → RowView → Bool
+is_of q r = eqb r.key q
+
+found_from : (q n i : ℕ) (rows : List RowView) → position_from (is_of q) n rows ≡ Some i → (j : ℕ) × (row : RowView) × (i ≡ n + j) × IsAt q j rows row
+found_from q n i [] e = absurd (cc)
+found_from q n i (r ∷ rows) e = by (eqb r.key q) refl e (found_from q (n + 1) i rows)
+  where
+    by : (b : Bool) → eqb r.key q ≡ b → cond b (Some n) (position_from (is_of q) (n + 1) rows) ≡ Some i
+        → (position_from (is_of q) (n + 1) rows ≡ Some i → (j : ℕ) × (row : RowView) × (i ≡ n + 1 + j) × IsAt q j rows row)
+        → (j : ℕ) × (row : RowView) × (i ≡ n + j) × IsAt q j (r ∷ rows) row
+    by true is e ih =
+        let same : n ≡ i = cc in
+        (0, r, omega (arith, same), record { front = []; back = rows; split = refl; place = refl; is = is_key r.key q is })
+    by false is e ih =
+        let f = ih e in
+        let at = f.3 in
+        (f.0 + 1, f.1, omega (arith, f.2), record { front = r ∷ at.front; back = at.back; split = ap (λ l. r ∷ l) at.split; place = omega (arith, at.place); is = at.is })
+
+pub found_at : (q i : ℕ) (rows : List RowView) → position_from (is_of q) 0 rows ≡ Some i → (row : RowView) × IsAt q i rows row
+found_at q i rows e =
+    let f = found_from q 0 i rows e in
+    let same : f.0 ≡ i = omega (arith, f.2) in
+    (f.1, subst (λ n. IsAt q n rows f.1) same f.3)
+
+pub got_at : (q i : ℕ) (rows : List RowView) (row : RowView) → IsAt q i rows row → slice_get rows i ≡ Some row
+got_at q i rows row at = ap (λ l. slice_get l i) at.split ∙ ap (slice_get (at.front ++ row ∷ at.back)) at.place ∙ get_mid at.front at.back row
+
+pub within_at : (q i : ℕ) (rows : List RowView) (row : RowView) → IsAt q i rows row → i < length rows
+within_at q i rows row at = omega (arith, at.place, ap (λ (l : List RowView). length l) at.split, length-append at.front (row ∷ at.back))
+
+-- the row that stands there
+pub row_there : (q i : ℕ) (rows : List RowView) (row : RowView) → position_from (is_of q) 0 rows ≡ Some i → slice_get rows i ≡ Some row → IsAt q i rows row
+row_there q i rows row e got =
+    let f = found_at q i rows e in
+    let two : ◌≡◌ {A = Option RowView} (Some f.0) (Some row) = sym (got_at q i rows f.0 f.1) ∙ got in
+    let same : f.0 ≡ row = cc in
+    subst (IsAt q i rows) same f.1
+
+-- the one that is read there
+pub row_read : (q i : ℕ) (rows : List RowView) (row : RowView) → position_from (is_of q) 0 rows ≡ Some i → row ≡ get_or rows i row → IsAt q i rows row
+row_read q i rows row e is =
+    let f = found_at q i rows e in
+    row_there q i rows row e (slice_get_read rows (length rows) i row refl (within_at q i rows f.0 f.1) is)
+
+-- a key without a row has no watcher
+pub no_watcher : (journal : List Command) (q n : ℕ) (rows : List RowView) → position_from (is_of q) n rows ≡ None → row_at key_of q (map (watcher_of journal) rows) ≡ None
+no_watcher journal q n [] e = refl
+no_watcher journal q n (r ∷ rows) e = by (eqb r.key q) refl e (no_watcher journal q (n + 1) rows)
+  where
+    by : (b : Bool) → eqb r.key q ≡ b → cond b (Some n) (position_from (is_of q) (n + 1) rows) ≡ None
+        → (position_from (is_of q) (n + 1) rows ≡ None → row_at key_of q (map (watcher_of journal) rows) ≡ None)
+        → cond (eqb q r.key) (Some (watcher_of journal r)) (row_at key_of q (map (watcher_of journal) rows)) ≡ None
+    by true is e ih = absurd (cc)
+    by false is e ih = ap (λ b. cond b (Some (watcher_of journal r)) (row_at key_of q (map (watcher_of journal) rows))) (turned r.key q is) ∙ ih e
+
+-- the watchers of rows, around one
+pub watchers_mid : (journal : List Command) (front back : List RowView) (row : RowView)
+    → map (watcher_of journal) (front ++ row ∷ back) ≡ map (watcher_of journal) front ++ watcher_of journal row ∷ map (watcher_of journal) back
+watchers_mid journal front back row = map-append (watcher_of journal) front (row ∷ back)
+
+module _ (journal : List Command) (q i : ℕ) (rows : List RowView) (row : RowView) (at : IsAt q i rows row) (rising : rises key_of (map (watcher_of journal) rows) ≡ true) where
+  mid_rises : rises key_of (map (watcher_of journal) at.front ++ watcher_of journal row ∷ map (watcher_of journal) at.back) ≡ true
+  mid_rises = ap (rises key_of) (sym (ap (map (watcher_of journal)) at.split ∙ watchers_mid journal at.front at.back row)) ∙ rising
+
+  pub watcher_at : row_at key_of q (map (watcher_of journal) rows) ≡ Some (watcher_of journal row)
+  watcher_at =
+      (λ j. row_at key_of (sym at.is j) ((ap (map (watcher_of journal)) at.split ∙ watchers_mid journal at.front at.back row) j))
+      ∙ row_mid key_of (map (watcher_of journal) at.front) (map (watcher_of journal) at.back) (watcher_of journal row) mid_rises
+
+  -- a row that changes is put in its place
+  pub changed_at : (new : RowView) (w : Watcher) → watcher_of journal new ≡ w → w.key ≡ row.key → put key_of w (map (watcher_of journal) rows) ≡ map (watcher_of journal) (set rows i new)
+  changed_at new w is same =
+      ap (put key_of w) (ap (map (watcher_of journal)) at.split ∙ watchers_mid journal at.front at.back row)
+      ∙ put_mid key_of (map (watcher_of journal) at.front) (map (watcher_of journal) at.back) (watcher_of journal row) w same mid_rises
+      ∙ ap (λ x. map (watcher_of journal) at.front ++ x ∷ map (watcher_of journal) at.back) (sym is)
+      ∙ sym (watchers_mid journal at.front at.back new)
+      ∙ ap (map (watcher_of journal)) (sym (set_mid at.front at.back row new) ∙ (λ j. set (sym at.split j) (sym at.place j) new))
+
+  -- and one that leaves
+  pub without_at : filter (λ (x : Watcher). not (eqb x.key row.key)) (map (watcher_of journal) rows) ≡ map (watcher_of journal) (remove rows i)
+  without_at =
+      ap (filter (λ (x : Watcher). not (eqb x.key row.key))) (ap (map (watcher_of journal)) at.split ∙ watchers_mid journal at.front at.back row)
+      ∙ without_mid key_of (map (watcher_of journal) at.front) (map (watcher_of journal) at.back) (watcher_of journal row) mid_rises
+      ∙ sym (map-append (watcher_of journal) at.front at.back)
+      ∙ ap (map (watcher_of journal)) (sym (remove_mid at.front at.back row) ∙ (λ j. remove (sym at.split j) (sym at.place j)))
+
+-- what a search for a key says
+pub sought : (q : ℕ) (rows now : List RowView) (o p : Option ℕ) → now ≡ rows → o ≡ position_from (is_of q) 0 now → o ≡ p → position_from (is_of q) 0 rows ≡ p
+sought q rows now o p same is what = ap (position_from (is_of q) 0) (sym same) ∙ sym is ∙ what

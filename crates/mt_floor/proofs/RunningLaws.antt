@@ -1,0 +1,66 @@
+-- Events that are done one after another.
+use Rattle.std.proofs.Common.{◌≡◌, ◌≢◌, Bool, true, false, cond, List, [], ◌∷◌, ◌++◌, length, Ok, Err, refl, sym, ap, ◌∙◌, arith}
+use Rattle.std.specs.Prelude.{Result, IfOk, IfErr, OnErr}
+use Rattle.mt_skel.specs.declared.fault.Fault.{Fault}
+use Rattle.mt_skel.specs.declared.fault.Fault.TheVariants.{NoMemory}
+use Rattle.mt_floor.specs.declared.event.Event.{Event}
+use Rattle.mt_floor.specs.declared.event.Answer.{Answer}
+use Rattle.mt_floor.specs.Schedule.{FloorView, floor_step, run, takes_memory, lacked, done_events, done_answers}
+use Rattle.mt_floor.proofs.RunLaws.{run_state, run_told}
+
+abbrev Ran : Type 0
+Ran = FloorView × List (Result Answer Fault)
+
+-- one event
+one_done : (s now : FloorView) (e : Event) (a : Result Answer Fault) → IfOk a (λ x. floor_step s e ≡ (now, Ok x)) → IfErr a (λ f. f ≢ NoMemory → floor_step s e ≡ (now, Err f))
+    → IfErr a (λ f. f ≡ NoMemory → takes_memory e ≡ true) → OnErr a (now ≡ s) → run s (cond (lacked e a) [] (e ∷ [])) ≡ (now, cond (lacked e a) [] (a ∷ []))
+one_done s now e (Ok x) done refused memory still = λ k. ((done k).0, (done k).1 ∷ [])
+one_done s now e (Err f) done refused memory still = by (lacked e (Err f)) refl
+  where
+    by : (b : Bool) → lacked e (Err f) ≡ b → run s (cond b [] (e ∷ [])) ≡ (now, cond b [] (Err f ∷ []))
+    by true is = λ k. (sym still k, [])
+    by false is =
+        let other : f ≢ NoMemory = λ same. (let bad : true ≡ false = sym (memory same) ∙ ap (λ x. lacked e (Err x)) (sym same) ∙ is in cc) in
+        let step = refused other in
+        λ k. ((step k).0, (step k).1 ∷ [])
+
+events_last : (es : List Event) (ans : List (Result Answer Fault)) (e : Event) (a : Result Answer Fault) → length ans ≡ length es
+    → done_events (es ++ e ∷ []) (ans ++ a ∷ []) ≡ done_events es ans ++ cond (lacked e a) [] (e ∷ [])
+events_last [] [] e a l = refl
+events_last [] (b ∷ ans) e a l = absurd (omega (arith, l))
+events_last (x ∷ es) [] e a l = absurd (omega (arith, l))
+events_last (x ∷ es) (b ∷ ans) e a l = by (lacked x b) (events_last es ans e a (omega (arith, l)))
+  where
+    by : (t : Bool) → done_events (es ++ e ∷ []) (ans ++ a ∷ []) ≡ done_events es ans ++ cond (lacked e a) [] (e ∷ [])
+        → cond t (done_events (es ++ e ∷ []) (ans ++ a ∷ [])) (x ∷ done_events (es ++ e ∷ []) (ans ++ a ∷ [])) ≡ cond t (done_events es ans) (x ∷ done_events es ans) ++ cond (lacked e a) [] (e ∷ [])
+    by true ih = ih
+    by false ih = ap (λ r. x ∷ r) ih
+
+answers_last : (es : List Event) (ans : List (Result Answer Fault)) (e : Event) (a : Result Answer Fault) → length ans ≡ length es
+    → done_answers (es ++ e ∷ []) (ans ++ a ∷ []) ≡ done_answers es ans ++ cond (lacked e a) [] (a ∷ [])
+answers_last [] [] e a l = refl
+answers_last [] (b ∷ ans) e a l = absurd (omega (arith, l))
+answers_last (x ∷ es) [] e a l = absurd (omega (arith, l))
+answers_last (x ∷ es) (b ∷ ans) e a l = by (lacked x b) (answers_last es ans e a (omega (arith, l)))
+  where
+    by : (t : Bool) → done_answers (es ++ e ∷ []) (ans ++ a ∷ []) ≡ done_answers es ans ++ cond (lacked e a) [] (a ∷ [])
+        → cond t (done_answers (es ++ e ∷ []) (ans ++ a ∷ [])) (b ∷ done_answers (es ++ e ∷ []) (ans ++ a ∷ [])) ≡ cond t (done_answers es ans) (b ∷ done_answers es ans) ++ cond (lacked e a) [] (a ∷ [])
+    by true ih = ih
+    by false ih = ap (λ r. b ∷ r) ih
+
+joined : (s now : FloorView) (xs ys : List Event) (told more : List (Result Answer Fault)) (mid : FloorView) → run s xs ≡ (mid, told) → run mid ys ≡ (now, more) → run s (xs ++ ys) ≡ (now, told ++ more)
+joined s now xs ys told more mid e f = pair (run s (xs ++ ys)) (run_state s xs ys ∙ ap (λ (x : Ran). (run x.0 ys).0) e ∙ ap (λ (x : Ran). x.0) f)
+    (run_told s xs ys ∙ (λ k. (e k).1 ++ (run (e k).0 ys).1) ∙ ap (λ (x : Ran). told ++ x.1) f)
+  where
+    pair : (x : Ran) → x.0 ≡ now → x.1 ≡ told ++ more → x ≡ (now, told ++ more)
+    pair x a b = λ k. (a k, b k)
+
+-- one event more
+pub run_next : (s mid now : FloorView) (es : List Event) (ans ans' : List (Result Answer Fault)) (e : Event) (a : Result Answer Fault) → length ans ≡ length es
+    → run s (done_events es ans) ≡ (mid, done_answers es ans) → ans' ≡ ans ++ a ∷ [] → IfOk a (λ x. floor_step mid e ≡ (now, Ok x)) → IfErr a (λ f. f ≢ NoMemory → floor_step mid e ≡ (now, Err f))
+    → IfErr a (λ f. f ≡ NoMemory → takes_memory e ≡ true) → OnErr a (now ≡ mid) → run s (done_events (es ++ e ∷ []) ans') ≡ (now, done_answers (es ++ e ∷ []) ans')
+run_next s mid now es ans ans' e a l before new done refused memory still =
+    ap (λ r. run s (done_events (es ++ e ∷ []) r)) new
+    ∙ ap (run s) (events_last es ans e a l)
+    ∙ joined s now (done_events es ans) (cond (lacked e a) [] (e ∷ [])) (done_answers es ans) (cond (lacked e a) [] (a ∷ [])) mid before (one_done mid now e a done refused memory still)
+    ∙ ap (λ r. (now, r)) (sym (answers_last es ans e a l) ∙ ap (done_answers (es ++ e ∷ [])) (sym new))

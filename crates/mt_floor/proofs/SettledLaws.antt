@@ -1,0 +1,151 @@
+-- Floors on which nothing is due: how they are reached, and what keeps them so.
+use Rattle.std.proofs.Common.{◌≡◌, ℕ, zero, suc, ◌-◌, ◌≤◌, Bool, true, false, cond, not, eqb, List, [], ◌∷◌, ◌++◌, length, replicate, Option, Some, None, slice_get, Ok, Err, refl, sym, ap, ◌∙◌, subst, arith}
+use Rattle.std.specs.Prelude.{Result}
+use Rattle.std.specs.List.{filter}
+use Rattle.std.specs.Option.{option_map_or}
+use Rattle.mt_skel.specs.declared.fault.Fault.{Fault}
+use Rattle.mt_skel.specs.declared.fault.Fault.TheVariants.{NoWatcher, Stopped, NoNamespace, TooManyWatchers}
+use Rattle.mt_skel.specs.Keyed.{row_at}
+use Rattle.mt_skel.specs.Outcome.{refuse_if, first_fault}
+use Rattle.mt_events.specs.Posts.{PostView}
+use Rattle.mt_events.specs.declared.opening.Scope.{Scope}
+use Rattle.mt_floor.specs.declared.event.Event.{Event}
+use Rattle.mt_floor.specs.declared.event.Event.TheVariants.{PostNext, Open, Take, Meet, Close, Stop}
+use Rattle.mt_floor.specs.declared.event.Answer.{Answer}
+use Rattle.mt_floor.specs.declared.event.Answer.TheVariants.{Opened, Took, NotNow}
+use Rattle.mt_floor.specs.Watcher.{Watcher, Due, key_of, is_open, due_for, opening_of, is_missing}
+use Rattle.mt_floor.specs.Schedule.{FloorView, Stepped, floor_step, run, settled, unless, if_idle, at_row, changed, sent_to, is_full, posted, nothing_left, took, met, closed, halted, opened, too_many_watchers}
+use Rattle.mt_floor.specs.WellFormed.{IsFloor}
+use Rattle.mt_floor.proofs.RowLaws.{same_key}
+use Rattle.mt_floor.proofs.BeginLaws.{opens}
+use Rattle.mt_floor.proofs.StandingLaws.{stays}
+
+-- ---- Events one after another
+
+pub run_step : (s : FloorView) (e : Event) (es : List Event) → (run s (e ∷ es)).0 ≡ (run (floor_step s e).0 es).0
+run_step s e es = refl
+
+pub settled_idle : (s : FloorView) → s.due ≡ [] → settled s ≡ s
+unfolding settled
+settled_idle s none = ap (λ (ds : List Due). (run s (replicate (length ds) PostNext)).0) none
+
+-- ---- What keeps a floor idle
+
+-- where nothing is due, an event that may be put off is not
+idle_so : (s : FloorView) (done : Stepped) → s.due ≡ [] → done.0.due ≡ [] → (if_idle s.due s done).0.due ≡ []
+idle_so s done none go = by s.due
+  where
+    by : (ds : List Due) → (if_idle ds s done).0.due ≡ []
+    by [] = go
+    by (d ∷ ds) = none
+
+row_so : (s : FloorView) (key : ℕ) (f : Watcher → Stepped) → s.due ≡ [] → ((r : Watcher) → (f r).0.due ≡ []) → (at_row s key f).0.due ≡ []
+row_so s key f none go = by (row_at key_of key s.watchers)
+  where
+    by : (o : Option Watcher) → (option_map_or f o (s, Err NoWatcher)).0.due ≡ []
+    by None = none
+    by (Some r) = go r
+
+pub take_idle : (s : FloorView) (key : ℕ) → s.due ≡ [] → (floor_step s (Take key)).0.due ≡ []
+unfolding floor_step
+take_idle s key none = row_so s key (took s) none (λ r. by r (slice_get r.sent (length r.taken)))
+  where
+    by : (r : Watcher) (o : Option PostView) → (option_map_or {U = Stepped} (λ p. (changed s (record r { taken = r.taken ++ p ∷ [] }), Ok (Took (Some p)))) o (s, nothing_left r.phase)).0.due ≡ []
+    by r None = none
+    by r (Some p) = none
+
+pub close_idle : (s : FloorView) (key : ℕ) → s.due ≡ [] → (floor_step s (Close key)).0.due ≡ []
+unfolding floor_step
+close_idle s key none = idle_so s (at_row s key (closed s)) none (row_so s key (closed s) none (λ r. none))
+
+pub stop_idle : (s : FloorView) → s.due ≡ [] → (floor_step s Stop).0.due ≡ []
+unfolding floor_step
+stop_idle s none = idle_so s (halted s) none none
+
+pub open_idle : (s : FloorView) (scope : Scope) → s.due ≡ [] → (floor_step s (Open scope)).0.due ≡ []
+unfolding floor_step
+open_idle s scope none = idle_so s (opened s scope) none (by (first_fault (refuse_if (is_missing s.journal scope) NoNamespace ∷ refuse_if (too_many_watchers s) TooManyWatchers ∷ refuse_if s.stopped Stopped ∷ [])))
+  where
+    by : (o : Option Fault) → (unless o s (opens s scope, Ok (Opened s.next_key (opening_of s.journal scope)))).0.due ≡ []
+    by None = none
+    by (Some f) = none
+
+pub meet_same : (s : FloorView) (key : ℕ) → (floor_step s (Meet key)).0 ≡ s
+unfolding floor_step
+meet_same s key = by s.due (row_at key_of key s.watchers)
+  where
+    by : (ds : List Due) (o : Option Watcher) → (if_idle ds s (option_map_or (met s) o (s, Err NoWatcher))).0 ≡ s
+    by (d ∷ ds) o = refl
+    by [] None = refl
+    by [] (Some r) = refl
+
+-- ---- How a floor settles
+
+no_more : (key : ℕ) (ds : List Due) → length (filter (λ (e : Due). not (eqb e.key key)) ds) ≤ length ds
+no_more key [] = omega arith
+no_more key (d ∷ ds) = by (eqb d.key key) (no_more key ds)
+  where
+    by : (b : Bool) → length (filter (λ (e : Due). not (eqb e.key key)) ds) ≤ length ds
+        → length (cond (not b) (d ∷ filter (λ (e : Due). not (eqb e.key key)) ds) (filter (λ (e : Due). not (eqb e.key key)) ds)) ≤ suc (length ds)
+    by true e = omega (arith, e)
+    by false e = omega (arith, e)
+
+-- what is due first is due to a watcher that is there, so each `PostNext` leaves fewer due
+pub post_fewer : (s : FloorView) → IsFloor s → length (floor_step s PostNext).0.due ≤ length s.due - 1
+unfolding floor_step
+post_fewer s h = by s.due refl
+  where
+    sent : (d : Due) (ds : List Due) (r : Watcher) (b : Bool) → length (sent_to s d ds b r).0.due ≤ length ds
+    sent d ds r true = no_more d.key ds
+    sent d ds r false = omega arith
+
+    to : (d : Due) (ds : List Due) → s.due ≡ d ∷ ds → (o : Option Watcher) → row_at key_of d.key s.watchers ≡ o
+        → length (option_map_or (λ r. sent_to s d ds (is_full s.capacity r) r) o (s, Ok NotNow)).0.due ≤ length ds
+    to d ds is None none =
+        let shut = h.idle d.key (ap (λ o. option_map_or (λ (x : Watcher). is_open x.phase) o false) none) in
+        let bad : ◌≡◌ {A = List PostView} (d.post ∷ due_for d.key ds) [] =
+        sym (ap (λ b. cond b (d.post ∷ due_for d.key ds) (due_for d.key ds)) (same_key d.key d.key refl)) ∙ sym (ap (due_for d.key) is) ∙ shut in
+        absurd (cc)
+    to d ds is (Some r) at = sent d ds r (is_full s.capacity r)
+
+    by : (ds : List Due) → s.due ≡ ds → length (posted s ds).0.due ≤ length ds - 1
+    by [] none = omega (arith, ap (λ (l : List Due). length l) none)
+    by (d ∷ ds) is = let more = to d ds is (row_at key_of d.key s.watchers) refl in omega (arith, more)
+
+abbrev posts : ℕ → FloorView → FloorView
+posts n s = (run s (replicate n PostNext)).0
+
+pub none_due : (s : FloorView) → length s.due ≤ 0 → s.due ≡ []
+none_due s low = by s.due low
+  where
+    by : (ds : List Due) → length ds ≤ 0 → ds ≡ []
+    by [] l = refl
+    by (d ∷ ds) l = absurd (omega (arith, l))
+
+-- where nothing is due, there is nothing to be sent
+post_still : (s : FloorView) → s.due ≡ [] → (floor_step s PostNext).0 ≡ s
+unfolding floor_step
+post_still s none = ap (λ ds. (posted s ds).0) none
+
+posts_still : (n : ℕ) (s : FloorView) → s.due ≡ [] → posts n s ≡ s
+posts_still zero s none = refl
+posts_still (suc n) s none = ap (posts n) (post_still s none) ∙ posts_still n s none
+
+-- as many as are due are enough
+enough : (m n : ℕ) (s : FloorView) → IsFloor s → length s.due ≤ m → length s.due ≤ n → posts m s ≡ posts n s
+enough zero n s h l k = sym (posts_still n s (none_due s l))
+enough (suc m) zero s h l k = posts_still (suc m) s (none_due s k)
+enough (suc m) (suc n) s h l k =
+    let fewer = post_fewer s h in
+    enough m n (floor_step s PostNext).0 (stays s PostNext h) (omega (arith, fewer, l)) (omega (arith, fewer, k))
+
+pub settled_step : (s : FloorView) → IsFloor s → settled (floor_step s PostNext).0 ≡ settled s
+unfolding settled
+settled_step s h =
+    let after = (floor_step s PostNext).0 in
+    let fewer = post_fewer s h in
+    enough (length after.due) (length s.due) after (stays s PostNext h) (omega arith) (omega (arith, fewer)) ∙ enough (suc (length s.due)) (length s.due) s h (omega arith) (omega arith)
+
+-- both, as a `PostNext` tells it
+pub post_told : (s now : FloorView) (a : Result Answer Fault) → IsFloor s → floor_step s PostNext ≡ (now, a) → (length now.due ≤ length s.due - 1) × (settled now ≡ settled s)
+post_told s now a h is = subst (λ (x : Stepped). (length x.0.due ≤ length s.due - 1) × (settled x.0 ≡ settled s)) is (post_fewer s h, settled_step s h)

@@ -1,0 +1,71 @@
+//! What the book shows to a watcher that begins.
+ghost use Rattle.std.specs.Prelude.{◌≡◌, ◌≢◌, ◌++◌, IfOk, IfErr, OnOk};
+ghost use Rattle.std.specs.List.{flat_map};
+ghost use Rattle.mt_floor.specs.Watcher.{opening_of, is_missing};
+ghost use Rattle.mt_floor.specs.Finding.{part_if};
+
+use mt_book::book::Book;
+use mt_events::opening::{Opening, Part, Parts, Scope};
+use mt_mounts::mount::SpaceId;
+use mt_skel::fault::Fault;
+use std::alloc::Global;
+
+/// Whether the one namespace of a scope is not there.
+pub(crate) fn is_missing(book: &Book, scope: Scope) -> bool
+    ensures { result ≡ is_missing book.now.journal scope }
+{
+    match scope {
+        Scope::One(space) => book.number(space).is_err(),
+        Scope::All => false,
+    }
+}
+
+/// Appends the number and the table of a namespace, if it is there and followed. Refused as `NoMemory` alone.
+fn push_part(parts: &mut Vec<Part>, book: &Book, scope: Scope, space: SpaceId) -> Result<(), Fault>
+    ensures part { OnOk result (parts.new.items ≡ parts.old.items ++ part_if book.now.journal scope space) }
+    ensures memory { IfErr result (λ fault. fault ≢ Fault.NoMemory → ⊥) }
+{
+    if !scope.names(space) {
+        return Ok(());
+    }
+    let Ok(number) = book.number(space) else {
+        return Ok(());
+    };
+    let table = book.table(space)?;
+    parts.push(Part {
+        space,
+        number,
+        table,
+    })?;
+    Ok(())
+}
+
+/// The numbers and the tables of those of these namespaces that are there and followed. Refused as `NoMemory` alone.
+fn parts_of(
+    alloc: Global,
+    book: &Book,
+    scope: Scope,
+    spaces: &[SpaceId],
+) -> Result<Vec<Part>, Fault>
+    ensures parts { IfOk result (λ parts. parts.items ≡ flat_map (part_if book.now.journal scope) spaces.now) }
+    ensures memory { IfErr result (λ fault. fault ≢ Fault.NoMemory → ⊥) }
+{
+    let mut parts = Vec::new(alloc);
+    'spaces: for space in spaces {
+        push_part(&mut parts, book, scope, *space)?;
+    }
+    Ok(parts)
+}
+
+/// What a watcher of this scope finds now. Refused as `NoMemory` alone.
+pub(crate) fn found(alloc: Global, book: &Book, scope: Scope) -> Result<Opening, Fault>
+    ensures opening { IfOk result (λ opening. opening ≡ opening_of book.now.journal scope) }
+    ensures memory { IfErr result (λ fault. fault ≢ Fault.NoMemory → ⊥) }
+{
+    let spaces = book.spaces()?;
+    let parts = parts_of(alloc, book, scope, &spaces)?;
+    Ok(Opening {
+        scope,
+        parts: Parts::new(parts),
+    })
+}
