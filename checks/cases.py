@@ -16,6 +16,10 @@ An input line begins with `>`:
     >* TEXT      TEXT with a line end, in which {N WORD} stands for WORD written N times
     >*. TEXT     both
 
+A line that begins with `$`, right above the first input line, has further arguments of the program:
+
+    $ --queue 2
+
 Directly under an input line stand its answers, as they come; an input line that the session no
 longer reads has none. A comment begins with `#`. It stands above an input line or at the end, and a
 case begins with one. No answer of the server is empty or begins with `>` or `#`, so each line is of
@@ -52,14 +56,19 @@ class Turn(NamedTuple):
 
 
 class Case(NamedTuple):
-    """A session, and the comments at the end of its file."""
+    """A session, the comments at the end of its file, and further arguments of the program."""
 
     turns: list
     comments: list
+    arguments: list
 
     def requests(self):
         """The input lines without their line ends."""
         return [turn.sent().removesuffix(b"\n") for turn in self.turns]
+
+    def plain_arguments(self):
+        """All arguments of the program: `-`, and what the case adds."""
+        return [b"-", *self.arguments]
 
     def input(self):
         return b"".join(turn.sent() for turn in self.turns)
@@ -71,7 +80,8 @@ class Case(NamedTuple):
         """The case as its file has it, with its comments or without."""
         lines = []
         for turn in self.turns:
-            lines += [*(turn.comments if commented else []), turn.written, *turn.answers]
+            said = [b"$ " + b" ".join(self.arguments)] if self.arguments and turn is self.turns[0] else []
+            lines += [*(turn.comments if commented else []), *said, turn.written, *turn.answers]
         return b"".join(line + b"\n" for line in lines + (self.comments if commented else []))
 
     def answered(self, output):
@@ -83,7 +93,7 @@ class Case(NamedTuple):
         groups = answer_groups(output, self.requests())
         for line in sum(groups, []):
             refuse_answer(line)
-        return Case([turn._replace(answers=group) for turn, group in zip(self.turns, groups)], self.comments)
+        return self._replace(turns=[turn._replace(answers=group) for turn, group in zip(self.turns, groups)])
 
 
 def refuse_answer(line):
@@ -111,10 +121,12 @@ def parse(text):
     *lines, last = text.split(b"\n")
     if last != b"":
         raise Bad("the last line has no end")
-    turns, comments = [], []
+    turns, comments, arguments = [], [], []
     for line in lines:
-        if line.startswith(b"#"):
+        if line.startswith(b"#") and not (arguments and not turns):
             comments.append(line)
+        elif line.startswith(b"$ ") and not turns and not arguments:
+            arguments = line[2:].split(b" ")
         elif line.startswith(b">"):
             turns.append(Turn(comments, line, []))
             comments = []
@@ -124,7 +136,9 @@ def parse(text):
             turns[-1].answers.append(line)
     for at, turn in enumerate(turns):
         refuse_line(turn.written, at == len(turns) - 1)
-    return Case(turns, comments)
+    if arguments and not turns:
+        raise Bad("arguments of no session")
+    return Case(turns, comments, arguments)
 
 
 def names():
@@ -142,7 +156,7 @@ def load(name):
 
 def answers_of(program, case):
     """The case with the program's answers, and how else than silently with status 0 the session ended."""
-    status, output, complaint = run(program, case.input())
+    status, output, complaint = run(program, case.input(), *case.plain_arguments())
     ended = "" if (status, complaint) == (0, b"") else f"status {status}, standard error: {shown(complaint)}"
     return case.answered(output), ended
 

@@ -17,12 +17,13 @@ import cases
 from running import TOP, answer_groups, check, run, shown
 
 # The lines that may want memory; each is accepted in one of the sessions.
-WORDS = b"mkfs mkdir newns copyns mount bind rbind move umount setattr show find".split()
+WORDS = b"mkfs mkdir newns copyns mount bind rbind move umount setattr show find watch take follow close".split()
 
 # Sessions of more allocations are left out: they have the lines of others many times over.
 MOST_ALLOCATIONS = 5_000
 
 NO_MEMORY = [b"no NoMemory"]
+FOUND_WITHOUT_MEMORY = [], [b"no BadLine"], [b"no TooLong"], [b"no NoWatcher"], [b"no WatcherOpen"]
 OUT_OF_MEMORY = (1, b"", b"mountd: out of memory\n")
 
 
@@ -34,7 +35,8 @@ class Session:
         self.lines = [turn.sent() for turn in case.turns]
         self.requests = case.requests()
         self.input = case.input()
-        self.plain = run(program, self.input)
+        self.arguments = case.plain_arguments()
+        self.plain = run(program, self.input, *self.arguments)
         self.groups = answer_groups(self.plain[1], self.requests)
         self.known = {}
 
@@ -43,13 +45,14 @@ class Session:
         if left_out not in self.known:
             rest = [line for at, line in enumerate(self.lines) if at != left_out]
             requests = [request for at, request in enumerate(self.requests) if at != left_out]
-            groups = answer_groups(run(self.program, b"".join(rest))[1], requests)
+            groups = answer_groups(run(self.program, b"".join(rest), *self.arguments)[1], requests)
             self.known[left_out] = [*groups[:left_out], NO_MEMORY, *groups[left_out:]]
         return self.known[left_out]
 
     def may_want_memory(self, at):
-        """Whether memory can be missing for a request: not where its line is bad, and not to quit."""
-        return self.groups[at] not in ([b"no BadLine"], [b"no TooLong"], []) and self.requests[at] != b"quit"
+        """Whether memory can be missing for a request: not where its line is bad or asks for a watcher in vain, and
+        not to quit or to stop."""
+        return self.groups[at] not in FOUND_WITHOUT_MEMORY and self.requests[at] not in (b"quit", b"stop")
 
     def allows(self, status, answers, complaint):
         """Whether the session may go so where one allocation was refused."""
@@ -73,7 +76,7 @@ def library(folder):
 def allocations(asked, preloaded, folder):
     """How many allocations a session makes."""
     told = os.path.join(folder, "count")
-    answers = run(asked.program, asked.input, environment={"LD_PRELOAD": preloaded, "COUNT_TO": told})
+    answers = run(asked.program, asked.input, *asked.arguments, environment={"LD_PRELOAD": preloaded, "COUNT_TO": told})
     check("a session whose allocations are counted", answers == asked.plain)
     with open(told) as file:
         return int(file.read())
@@ -83,7 +86,7 @@ def refuse_each(asked, name, preloaded, count):
     """Refuses each allocation of a session in turn; behind the last one there is none to refuse."""
 
     def refusing(nth):
-        return run(asked.program, asked.input, environment={"LD_PRELOAD": preloaded, "REFUSE_NTH": str(nth)})
+        return run(asked.program, asked.input, *asked.arguments, environment={"LD_PRELOAD": preloaded, "REFUSE_NTH": str(nth)})
 
     def refuse(nth):
         told = refusing(nth)

@@ -9,6 +9,10 @@ TOP = os.path.dirname(os.path.dirname(os.path.abspath(__file__)))
 # How long a run may take, in seconds.
 MOST_SECONDS = 120
 
+# The first lines of answers that count the lines behind them, by the first word of the request.
+COUNTS = {b"show": rb"ok (\d+) \d+", b"watch": rb"ok (\d+)", b"take": rb"ok (\d+)", b"close": rb"ok (\d+)"}
+NO_COUNT = rb"()(?!)"
+
 failures = []
 
 
@@ -46,8 +50,18 @@ def session(program, lines):
     return run(program, b"".join(line + b"\n" for line in lines))
 
 
+def group_end(lines, at, request):
+    """Where the answer to a request ends that begins at a line."""
+    word = request.split(b" ")[0]
+    if word == b"follow":
+        ends = (end for end in range(at, len(lines)) if lines[end].startswith((b"ok", b"no ")))
+        return next(ends, len(lines)) + 1
+    counted = re.fullmatch(COUNTS.get(word, NO_COUNT), b"".join(lines[at : at + 1]))
+    return at + 1 + (int(counted[1]) if counted else 0)
+
+
 def answer_groups(answers, requests):
-    """The answer to each request as its list of lines: a table goes with the line that counts it.
+    """The answer to each request as its list of lines: a table, and posts, go with the line that counts them.
 
     Requests behind the last answer have empty lists, and what is left over goes to the last request.
     """
@@ -56,8 +70,7 @@ def answer_groups(answers, requests):
         lines.pop()
     groups, at = [], 0
     for request in requests:
-        counted = re.fullmatch(rb"ok (\d+) \d+", b"".join(lines[at : at + 1]))
-        end = at + 1 + (int(counted[1]) if counted and request.startswith(b"show ") else 0)
+        end = group_end(lines, at, request)
         groups.append(lines[at:end])
         at = end
     if groups:

@@ -23,11 +23,12 @@ def check_input(program):
     check("every byte", status == 0 and set(answers.splitlines()) <= {b"no BadLine", b"no TooLong"})
 
 
-def in_pieces(program, text, most):
-    """The answers to an input of which each read gives at most so many bytes, as a packet of its own."""
+def in_pieces(program, case, most):
+    """The answers to a case of which each read gives at most so many bytes, as a packet of its own."""
     ours, theirs = socket.socketpair(socket.AF_UNIX, socket.SOCK_SEQPACKET)
     ours.settimeout(MOST_SECONDS)
-    with subprocess.Popen([program, "-"], stdin=theirs, stdout=subprocess.PIPE) as served, ours:
+    text = case.input()
+    with subprocess.Popen([program, *case.plain_arguments()], stdin=theirs, stdout=subprocess.PIPE) as served, ours:
         theirs.close()
         try:
             for at in range(0, len(text), most):
@@ -43,7 +44,7 @@ def check_pieces(program):
     for name in cases.names():
         case = cases.load(name)
         for most in (1, 7):
-            check(f"case {name} in pieces of {most}", in_pieces(program, case.input(), most) == case.output())
+            check(f"case {name} in pieces of {most}", in_pieces(program, case, most) == case.output())
 
 
 def check_closed(program):
@@ -69,6 +70,14 @@ def check_arguments(program):
     check("a socket", run(program, b"", "socket") == (1, b"", b"mountd: cannot listen\n"))
     check("two words", run(program, b"", "a", "b")[0] == 2)
     check("an unknown option", run(program, b"", "--frobnicate")[0] == 2)
+    for option, most in ("--queue", 1024), ("--sessions", 32):
+        for number in "0", str(most + 1), "-1", "x", "99999999999999999999":
+            status, text, complaint = run(program, b"", "-", f"{option}={number}")
+            check(f"{option} {number}", (status, text) == (2, b""), shown(complaint))
+        bounds = run(program, b"", "-", option, "0")[2]
+        check(f"the bounds of {option}", b"1" in bounds and str(most).encode() in bounds, shown(bounds))
+        for number in "1", str(most):
+            check(f"{option} {number}", run(program, b"quit\n", "-", option, number) == (0, b"ok\n", b""))
     check("a word that is no text", run(program, b"", b"\xff") == (2, b"", b"mountd: an argument is not UTF-8\n"))
     none = subprocess.run([program], input=b"", capture_output=True, timeout=MOST_SECONDS)
     check("no word", none.returncode == 2 and none.stdout == b"")

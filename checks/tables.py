@@ -107,7 +107,7 @@ def check_copies(program):
     compared = 0
     for name in cases.names():
         lines = cases.load(name).requests()
-        if b"quit" in lines:
+        if b"quit" in lines or b"stop" in lines:
             continue
         spaces = last_namespace(program, lines)
         for space in range(1, spaces + 1):

@@ -16,7 +16,7 @@ use std::alloc::Global;
 pub(crate) fn command_of(alloc: Global, line: &[u8]) -> Result<Command, Fault> {
     match read_request(alloc, line)? {
         Request::Run(command) => Ok(command),
-        Request::Show(_) | Request::Find { .. } | Request::Quit => Err(Fault::BadLine),
+        _ => Err(Fault::BadLine),
     }
 }
 

@@ -1,34 +1,49 @@
 //! A whole session, cut by its writer after each byte and failed by its reader at each read.
+use mt_floor::floor::Floor;
 use mt_lines::line::ReadFault;
 use mt_lines::memory::{Faulty, Pieces, Sink};
 use mt_lines::stream::{Cut, StreamFault};
-use mt_session::early::Floor;
 use mt_session::session::{End, serve_plain};
 use mt_skel::fault::Fault;
 use std::alloc::Global;
 use std::test::Fail;
 
-/// A session with two filesystems, and its answers.
+/// A session with a watcher that takes the posts of a mount in two namespaces, and its answers.
 const EXAMPLE: &[u8] = b"mkfs a tmpfs none
 mkfs d ext4 /dev/x
 mkdir a /m
 newns a
+setattr 1 / prop=shared
+copyns 1
+watch all
 mount 1 d /m
-show 1
+take 8
+take 8
 ";
 
 const ANSWERS: &[u8] = b"ok 1
 ok 2
 ok
 ok 1
+ok
 ok 2
-ok 2 2
-1 1 0:1 / / rw,relatime - tmpfs none rw
-2 1 0:2 / /m rw,relatime - ext4 /dev/x rw
+ok 4
+space 1 2 1
+1 1 0:1 / / rw,relatime shared:1 - tmpfs none rw
+space 2 1 1
+2 2 0:1 / / rw,relatime shared:1 - tmpfs none rw
+ok 3
+ok 4
+event 1 3 1
+= 3 1 0:2 / /m rw,relatime shared:2 - ext4 /dev/x rw
+event 2 2 1
+= 4 2 0:2 / /m rw,relatime shared:2 - ext4 /dev/x rw
+ok 0
 ";
+
 /// Whether the example, cut after so many bytes of its answers, lets exactly these out.
 fn is_cut_after(alloc: Global, room: usize) -> Result<bool, Fault> {
-    let mut floor = Floor::new(alloc);
+    let mut floor = Floor::new(alloc, 256);
     let mut sink = Sink::new(alloc, 4_096, room)?;
     let end = serve_plain(alloc, Pieces::new(EXAMPLE, 4_096), &mut sink, &mut floor);
     let whole = room >= ANSWERS.len();
@@ -51,7 +66,7 @@ fn lets_out_what_the_writer_took(rt: HostRuntime) -> Result<(), Fail> {
 
 /// How a session ends of which the reader fails at one read, and how much it had answered.
 fn fails_at(alloc: Global, at: u64, fault: StreamFault, times: u32) -> Result<(End, usize), Fault> {
-    let mut floor = Floor::new(alloc);
+    let mut floor = Floor::new(alloc, 256);
     let mut sink = Sink::new(alloc, 4_096, 65_536)?;
     let reader = Faulty::new(EXAMPLE, 9, at, fault, times);
     let end = serve_plain(alloc, reader, &mut sink, &mut floor);

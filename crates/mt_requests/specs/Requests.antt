@@ -1,5 +1,5 @@
 -- The request that a line says, or why it is refused (the lines are this project's rule).
-use Rattle.std.specs.Prelude.{◌≡◌, ◌⊎◌, ℕ, Bool, true, false, not, ◌&&◌, ◌||◌, ◌==◌, nat_eq, nat_lt, if◌then◌else◌, List, [], ◌∷◌, length, drop, fold, Option, Some, None, unwrap_or, Result, Ok, Err, is_ok, codes}
+use Rattle.std.specs.Prelude.{◌≡◌, ◌⊎◌, ℕ, Bool, true, false, not, ◌&&◌, ◌||◌, ◌==◌, nat_eq, nat_lt, nat_le, if◌then◌else◌, List, [], ◌∷◌, length, drop, fold, Option, Some, None, unwrap_or, Result, Ok, Err, is_ok, codes}
 use Rattle.std.specs.List.{list_all, list_any, starts_with}
 use Rattle.std.specs.Option.{option_map, option_map_or, option_or}
 use Rattle.std.specs.Str.{bytes_eq}
@@ -9,6 +9,7 @@ use Rattle.mt_skel.specs.Escapes.{unescaped}
 use Rattle.mt_skel.specs.Names.{is_name}
 use Rattle.mt_skel.specs.Outcome.{refuse_if, first_fault}
 use Rattle.mt_words.specs.Words.{pieces, words, number_of}
+use Rattle.mt_events.specs.declared.opening.Scope.TheVariants.{One, All}
 use Rattle.mt_requests.specs.Options.{change_of}
 use Rattle.mt_book.specs.declared.command.Command.TheVariants as command
 use Rattle.mt_requests.specs.declared.request.Request.{Request}
@@ -156,6 +157,52 @@ abbrev pub quit_of : List (List ℕ) → Result Request Fault
 quit_of [] = Ok request.Quit
 quit_of _ = Err BadLine
 
+-- `stop` stops the server
+abbrev pub stop_of : List (List ℕ) → Result Request Fault
+stop_of [] = Ok request.Stop
+stop_of _ = Err BadLine
+
+-- `watch NS` watches a namespace, and `watch all` all of them
+abbrev pub watch_of : List (List ℕ) → Result Request Fault
+watch_of (space ∷ []) =
+    if bytes_eq space (codes "all") then Ok (request.Watch All)
+    else option_map_or (λ n. Ok (request.Watch (One n))) (number_of space) (Err BadLine)
+watch_of _ = Err BadLine
+
+-- the most posts of one `take`, and of one `follow`
+abbrev pub most_taken : ℕ
+most_taken = 1024
+
+abbrev pub most_followed : ℕ
+most_followed = 1048576
+
+-- how many posts a word asks for, of at most so many and at least one
+abbrev pub count_of : ℕ → List ℕ → Option ℕ
+count_of most word = option_map_or (λ n. if nat_lt 0 n && nat_le n most then Some n else None) (number_of word) None
+
+-- `take K` takes posts
+abbrev pub take_of : List (List ℕ) → Result Request Fault
+take_of (count ∷ []) = option_map_or (λ n. Ok (request.Take n)) (count_of most_taken count) (Err BadLine)
+take_of _ = Err BadLine
+
+-- `follow K` takes posts as they come
+abbrev pub follow_of : List (List ℕ) → Result Request Fault
+follow_of (count ∷ []) = option_map_or (λ n. Ok (request.Follow n)) (count_of most_followed count) (Err BadLine)
+follow_of _ = Err BadLine
+
+-- `close` ends the watcher
+abbrev pub close_of : List (List ℕ) → Result Request Fault
+close_of [] = Ok request.Close
+close_of _ = Err BadLine
+
+-- the lines of watchers
+abbrev pub by_watching_words : List ℕ → List (List ℕ) → Result Request Fault
+by_watching_words word rest =
+    if bytes_eq word (codes "watch") then watch_of rest
+    else (if bytes_eq word (codes "take") then take_of rest
+    else (if bytes_eq word (codes "follow") then follow_of rest
+    else (if bytes_eq word (codes "close") then close_of rest else Err BadLine)))
+
 -- the first word of a line chooses how the others are read
 abbrev pub by_words : List (List ℕ) → Result Request Fault
 by_words [] = Err BadLine
@@ -172,18 +219,24 @@ by_words (word ∷ rest) =
     else (if bytes_eq word (codes "setattr") then setattr_of rest
     else (if bytes_eq word (codes "show") then show_of rest
     else (if bytes_eq word (codes "find") then find_of rest
-    else (if bytes_eq word (codes "quit") then quit_of rest else Err BadLine))))))))))))
+    else (if bytes_eq word (codes "quit") then quit_of rest
+    else (if bytes_eq word (codes "stop") then stop_of rest else by_watching_words word rest)))))))))))))
 
 -- what a line asks for, or why it is refused
 unfoldable pub request_of : List ℕ → Result Request Fault
 request_of line = by_words (words line)
 
--- every refusal of a line, and `quit`, is found without memory; every other answer may fail for want of it
+-- every refusal of a line, `quit`, `stop` and the lines of watchers are read without memory; every other may fail for want of it
 abbrev pub may_want_memory : Result Request Fault → Bool
 may_want_memory (Ok (request.Run c)) = true
 may_want_memory (Ok (request.Show n)) = true
 may_want_memory (Ok (request.Find n path)) = true
 may_want_memory (Ok request.Quit) = false
+may_want_memory (Ok request.Stop) = false
+may_want_memory (Ok (request.Watch scope)) = false
+may_want_memory (Ok (request.Take k)) = false
+may_want_memory (Ok (request.Follow k)) = false
+may_want_memory (Ok request.Close) = false
 may_want_memory (Err f) = false
 
 -- what was read is what the line asks for, or want of memory where that may be

@@ -1,11 +1,12 @@
 //! Requests, as lines say them.
 ghost use Rattle.std.specs.Prelude.{◌≡◌, None, Some};
-ghost use Rattle.mt_requests.specs.Requests.{ReadsAs, request_of, HasNoFault, worse, worst, Reads, two_paths_of, mkfs_of, mkdir_of, newns_of, copyns_of, mount_of, bind_of, move_of, umount_of, setattr_of, show_of, find_of, quit_of};
+ghost use Rattle.mt_requests.specs.Requests.{ReadsAs, request_of, HasNoFault, worse, worst, Reads, two_paths_of, mkfs_of, mkdir_of, newns_of, copyns_of, mount_of, bind_of, move_of, umount_of, setattr_of, show_of, find_of, quit_of, stop_of, watch_of, count_of, take_of, follow_of, close_of, by_watching_words};
 
 use crate::label::{label_fault, label_of};
 use crate::options::change_of;
 use crate::path::{path_fault, path_of};
 use mt_book::command::Command;
+use mt_events::opening::Scope;
 use mt_skel::fault::Fault;
 use mt_skel::name::Names;
 use mt_words::words::{Words, number, words};
@@ -20,9 +21,25 @@ pub enum Request {
     Show(u64),
     /// `find NS PATH` says where a path ends in a namespace.
     Find { space: u64, path: Names },
+    /// `watch NS` begins a watcher of a namespace, and `watch all` one of all.
+    Watch(Scope),
+    /// `take K` takes up to so many posts of the watcher, 1 to 1,024.
+    Take(u64),
+    /// `follow K` takes so many posts of the watcher as they come, 1 to 1,048,576.
+    Follow(u64),
+    /// `close` ends the watcher.
+    Close,
     /// `quit` ends the session.
     Quit,
+    /// `stop` stops the server, and ends the session.
+    Stop,
 }
+
+/// The most posts of one `take`.
+const MOST_TAKEN: u64 = 1_024;
+
+/// The most posts of one `follow`.
+const MOST_FOLLOWED: u64 = 1_048_576;
 
 /// The fault of two words that is refused first.
 fn worse(first: Option<Fault>, second: Option<Fault>) -> Option<Fault>
@@ -250,13 +267,98 @@ fn read_quit(words: &mut Words<'_>) -> Result<Request, Fault>
     }
 }
 
+/// The request of a line `stop`, behind the first word.
+fn read_stop(words: &mut Words<'_>) -> Result<Request, Fault>
+    ensures { result ≡ stop_of words.old }
+{
+    match words.next() {
+        Some(_) => Err(Fault::BadLine),
+        None => Ok(Request::Stop),
+    }
+}
+
+/// The request of a line `watch NS` or `watch all`, behind the first word.
+fn read_watch(words: &mut Words<'_>) -> Result<Request, Fault>
+    ensures { result ≡ watch_of words.old }
+{
+    let (Some(space), None) = (words.next(), words.next()) else {
+        return Err(Fault::BadLine);
+    };
+    if space == b"all".as_slice() {
+        return Ok(Request::Watch(Scope::All));
+    }
+    let space = number(space).ok_or(Fault::BadLine)?;
+    Ok(Request::Watch(Scope::One(space)))
+}
+
+/// How many posts a word asks for, of at most so many and at least one.
+fn count_of(word: &[u8], most: u64) -> Option<u64>
+    ensures { result ≡ count_of most word.now }
+{
+    let count = number(word)?;
+    if 0 < count && count <= most {
+        Some(count)
+    } else {
+        None
+    }
+}
+
+/// The request of a line `take K`, behind the first word.
+fn read_take(words: &mut Words<'_>) -> Result<Request, Fault>
+    ensures { result ≡ take_of words.old }
+{
+    let (Some(count), None) = (words.next(), words.next()) else {
+        return Err(Fault::BadLine);
+    };
+    let count = count_of(count, MOST_TAKEN).ok_or(Fault::BadLine)?;
+    Ok(Request::Take(count))
+}
+
+/// The request of a line `follow K`, behind the first word.
+fn read_follow(words: &mut Words<'_>) -> Result<Request, Fault>
+    ensures { result ≡ follow_of words.old }
+{
+    let (Some(count), None) = (words.next(), words.next()) else {
+        return Err(Fault::BadLine);
+    };
+    let count = count_of(count, MOST_FOLLOWED).ok_or(Fault::BadLine)?;
+    Ok(Request::Follow(count))
+}
+
+/// The request of a line `close`, behind the first word.
+fn read_close(words: &mut Words<'_>) -> Result<Request, Fault>
+    ensures { result ≡ close_of words.old }
+{
+    match words.next() {
+        Some(_) => Err(Fault::BadLine),
+        None => Ok(Request::Close),
+    }
+}
+
+/// The request of a line of a watcher, of which this is the first word.
+fn read_watching(command: &[u8], words: &mut Words<'_>) -> Result<Request, Fault>
+    ensures { result ≡ by_watching_words command.now words.old }
+{
+    if command == b"watch".as_slice() {
+        read_watch(words)
+    } else if command == b"take".as_slice() {
+        read_take(words)
+    } else if command == b"follow".as_slice() {
+        read_follow(words)
+    } else if command == b"close".as_slice() {
+        read_close(words)
+    } else {
+        Err(Fault::BadLine)
+    }
+}
+
 /// The request that a line says. The line is without its end.
 ///
 /// Refused as `BadLine` where the line is none of the requests, or one of its words cannot stand
 /// there; else as `TooLong` where a label or a component of a path has more than 255 bytes, or a
 /// path more than 4,095; else as `BadPath` where a path does not begin with `/`, or has a component
-/// that is empty, `.` or `..`. Refusals and `quit` are found without memory; every other request may
-/// be `NoMemory` in its place.
+/// that is empty, `.` or `..`. Refusals, `quit`, `stop` and the lines of watchers are found without memory; every
+/// other request may be `NoMemory` in its place.
 #[tactic(auto, unfolding(crate::specs::Requests::request_of))]
 pub fn read_request(alloc: Global, line: &[u8]) -> Result<Request, Fault>
     ensures { ReadsAs (request_of line.now) result }
@@ -291,7 +393,9 @@ pub fn read_request(alloc: Global, line: &[u8]) -> Result<Request, Fault>
         read_find(alloc, &mut words)
     } else if command == b"quit".as_slice() {
         read_quit(&mut words)
+    } else if command == b"stop".as_slice() {
+        read_stop(&mut words)
     } else {
-        Err(Fault::BadLine)
+        read_watching(command, &mut words)
     }
 }

@@ -2,8 +2,8 @@
 #![tactic(auto)]
 
 use clap::error::ErrorKind;
-use clap::{Arg, ArgAction, Command, Error};
-use mt_session::early::Floor;
+use clap::{Arg, ArgAction, Command, Error, value_parser};
+use mt_session::floor::Floor;
 use mt_session::line::ReadFault;
 use mt_session::session::{End, serve_plain};
 use mt_session::stream::{Reading, Writing};
@@ -17,21 +17,56 @@ const STANDARD: &str = "-";
 /// The name that the program goes by in its messages.
 const PROGRAM: &str = "mountd";
 
-/// Whether the arguments ask for a session on standard input and output.
-fn asks_for_plain(alloc: Global, words: &[&str]) -> Result<bool, Error> {
+/// How many posts the queue of a watcher holds, if the arguments do not say.
+const QUEUE: usize = 256;
+
+/// What the arguments ask for.
+#[derive(Clone, Copy)]
+struct Options {
+    /// A session on standard input and output, and no socket.
+    is_plain: bool,
+    /// How many posts the queue of a watcher holds.
+    queue: usize,
+}
+
+/// What the program takes: a socket or `-`, how long queues are, and how many sessions there may be.
+fn parser<'a>(alloc: Global) -> Result<Command<'a>, Error> {
     let socket = Arg::new(alloc, "SOCKET")
         .help("The socket to listen on, or - for one session on standard input and output")
         .required(true)
         .action(ArgAction::Set);
-    let command = Command::new(alloc, PROGRAM).arg(socket)?;
-    let matches = command.try_get_matches_from(words)?;
-    Ok(matches.get_str("SOCKET") == Some(STANDARD))
+    let queue = Arg::new(alloc, "queue")
+        .long("queue")
+        .value_name("N")
+        .help("How many posts the queue of a watcher holds, from 1 to 1024")
+        .value_parser(value_parser!(u16).range(1..=1024))
+        .default_value("256");
+    let sessions = Arg::new(alloc, "sessions")
+        .long("sessions")
+        .value_name("N")
+        .help("How many sessions there may be at once, from 1 to 32")
+        .value_parser(value_parser!(u16).range(1..=32))
+        .default_value("32");
+    let command = Command::new(alloc, PROGRAM)
+        .arg(socket)?
+        .arg(queue)?
+        .arg(sessions)?;
+    Ok(command)
+}
+
+/// Reads the arguments.
+fn read_options(alloc: Global, words: &[&str]) -> Result<Options, Error> {
+    let matches = parser(alloc)?.try_get_matches_from(words)?;
+    Ok(Options {
+        is_plain: matches.get_str("SOCKET") == Some(STANDARD),
+        queue: matches.get_one::<usize>("queue").unwrap_or(QUEUE),
+    })
 }
 
 /// The line on standard error for the end of a session, if that is a fault.
 fn complaint(end: End) -> Option<&'static str> {
     match end {
-        End::Quit | End::Input => None,
+        End::Quit | End::Stop | End::Input => None,
         End::Read(ReadFault::NoMemory) | End::Memory => Some("mountd: out of memory"),
         End::Read(_) => Some("mountd: read fault"),
         End::Cut(_) => Some("mountd: write fault"),
@@ -46,10 +81,10 @@ fn fail(rt: &HostRuntime, line: &str) -> ExitCode {
 }
 
 /// Serves one session on standard input and output.
-fn serve_standard(rt: &HostRuntime) -> ExitCode {
+fn serve_standard(rt: &HostRuntime, queue: usize) -> ExitCode {
     let reader = Reading::new(rt.reader());
     let mut writer = Writing::new(io::writer(rt));
-    let mut floor = Floor::new(rt.alloc());
+    let mut floor = Floor::new(rt.alloc(), queue);
     let end = serve_plain(rt.alloc(), reader, &mut writer, &mut floor);
     match complaint(end) {
         None => ExitCode::SUCCESS,
@@ -84,9 +119,9 @@ fn run(rt: &HostRuntime) -> io::Result<ExitCode> {
     for argument in arguments.iter().skip(1) {
         words.push(argument.as_str())?;
     }
-    match asks_for_plain(rt.alloc(), words.as_slice()) {
-        Ok(true) => Ok(serve_standard(rt)),
-        Ok(false) => Ok(fail(rt, "mountd: cannot listen")),
+    match read_options(rt.alloc(), words.as_slice()) {
+        Ok(options) if options.is_plain => Ok(serve_standard(rt, options.queue)),
+        Ok(_) => Ok(fail(rt, "mountd: cannot listen")),
         Err(error) => Ok(explain(rt, &error)),
     }
 }

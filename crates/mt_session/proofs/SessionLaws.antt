@@ -1,10 +1,11 @@
 -- What a session has served, line by line.
-use Rattle.std.proofs.Common.{subst, ◌≡◌, ◌≢◌, ℕ, ◌+◌, ◌<◌, ◌≤◌, List, [], ◌∷◌, ◌++◌, take, map, refl, ap, sym, ◌∙◌, inl, inr, Bool, true, false, Ok, Err, Option, Some, None, append_assoc, arith, length}
+use Rattle.std.proofs.Common.{subst, ◌≡◌, ◌≢◌, ℕ, ◌+◌, ◌<◌, ◌≤◌, List, [], ◌∷◌, ◌++◌, take, refl, ap, sym, ◌∙◌, inl, inr, true, false, not, ◌&&◌, is_some, Result, Ok, Err, Option, Some, None, ◌⊎◌, append_assoc, arith, length}
 use Rattle.std.proofs.lemmas.List.{append-nil}
 use Rattle.std.specs.Option.{ForSome}
 use Rattle.mt_skel.specs.declared.fault.Fault.{Fault}
 use Rattle.mt_skel.specs.declared.fault.Fault.TheVariants.{NoMemory as WantsMemory}
 use Rattle.mt_requests.specs.declared.request.Request.{Request}
+use Rattle.mt_requests.specs.declared.request.Request.TheVariants.{Run, Show, Find, Watch, Take, Follow, Close, Quit as AsksQuit, Stop as AsksStop}
 use Rattle.mt_requests.specs.Requests.{request_of, may_want_memory, ReadsAs}
 use Rattle.mt_lines.specs.declared.stream.StreamFault.{StreamFault}
 use Rattle.mt_lines.specs.declared.stream.Cut.{Cut}
@@ -13,38 +14,113 @@ use Rattle.mt_lines.specs.declared.line.ReadFault.TheVariants.{Device, Interrupt
 use Rattle.mt_lines.specs.Lines.{Item, Unended, Endless, lines_of}
 use Rattle.mt_lines.specs.Reading.{IsNext}
 use Rattle.mt_session.specs.declared.session.End.{End}
-use Rattle.mt_session.specs.declared.session.End.TheVariants.{Quit, Input, Read, Cut as CutOff, Memory, Spent}
-use Rattle.mt_session.specs.Answers.{answer_to, journal_to, refusal}
-use Rattle.mt_session.specs.Session.{SessionState, session_at, Granted, Refused, Asking, Whole, Overlong, Broken, item_of, items_of, has_end, Turn, asked, answer, after, quits, ends_by, text_of, state_after, AllGoOn, Going, Served, IsCause, sent_by, line_limit, IsReadEnd, IsReadEndRun, IsCutCause, IsCutRun}
-use Rattle.mt_session.specs.Serving.{the_turn, Answered, IsSent, quit_end_of, ends_by_line, ServedLine, ends_whole, ends_by_answer}
-use Rattle.mt_book.specs.declared.command.Command.{Command}
+use Rattle.mt_session.specs.declared.session.End.TheVariants.{Quit, Stop, Input, Read, Cut as CutOff, Memory, Spent}
+use Rattle.mt_floor.specs.Schedule.{FloorView, settled}
+use Rattle.mt_floor.proofs.SettledLaws.{settled_idle}
+use Rattle.mt_session.specs.Answers.{refusal}
+use Rattle.mt_session.specs.Requests.{SessionState, state_at, session_at, answer_to, state_to, begins, left}
+use Rattle.mt_session.specs.Session.{Granted, Refused, Unshown, Asking, Whole, Broken, item_of, items_of, has_end, Turn, asked, may_fail, answer, after, ends, ends_by, text_of, state_after, AllGoOn, Going, Served, IsCause, sent_by, line_limit, IsReadEnd, IsReadEndRun, IsCutCause, IsCutRun}
+use Rattle.mt_session.specs.Serving.{the_turn, Answered, IsUndone, Ran, IsSent, ends_by_line, ServedLine, ends_whole, ends_by_answer}
+
+-- a line that may want memory to be read wants it to be done, and ends no session
+reading_fails : (s : SessionState) (x : Result Request Fault) → may_want_memory x ≡ true → may_fail s x ≡ true
+reading_fails s (Ok (Run c)) m = refl
+reading_fails s (Ok (Show n)) m = refl
+reading_fails s (Ok (Find n path)) m = refl
+reading_fails s (Ok (Watch scope)) m = cc
+reading_fails s (Ok (Take k)) m = cc
+reading_fails s (Ok (Follow k)) m = cc
+reading_fails s (Ok Close) m = cc
+reading_fails s (Ok AsksQuit) m = cc
+reading_fails s (Ok AsksStop) m = cc
+reading_fails s (Err f) m = cc
+
+failing_goes_on : (s : SessionState) (x : Result Request Fault) → may_fail s x ≡ true → ends_by x ≡ None
+failing_goes_on s (Ok (Run c)) m = refl
+failing_goes_on s (Ok (Show n)) m = refl
+failing_goes_on s (Ok (Find n path)) m = refl
+failing_goes_on s (Ok (Watch scope)) m = refl
+failing_goes_on s (Ok (Take k)) m = refl
+failing_goes_on s (Ok (Follow k)) m = refl
+failing_goes_on s (Ok Close) m = refl
+failing_goes_on s (Ok AsksQuit) m = cc
+failing_goes_on s (Ok AsksStop) m = cc
+failing_goes_on s (Err f) m = cc
+
+none_begins : (w : Option ℕ) → (not (is_some w) && is_some w) ≡ false
+none_begins None = refl
+none_begins (Some k) = refl
+
+beginning_goes_on : (s : SessionState) (r : Request) → begins s r ≡ true → ends_by (Ok r) ≡ None
+unfolding state_to
+beginning_goes_on s (Run c) m = refl
+beginning_goes_on s (Show n) m = refl
+beginning_goes_on s (Find n path) m = refl
+beginning_goes_on s (Watch scope) m = refl
+beginning_goes_on s (Take k) m = refl
+beginning_goes_on s (Follow k) m = refl
+beginning_goes_on s Close m = refl
+beginning_goes_on s AsksQuit m = absurd (let none = none_begins s.watcher in cc)
+beginning_goes_on s AsksStop m = absurd (let none = none_begins s.watcher in cc)
+
+-- a line ends a session as `quit` does, or as `stop`
+ends_two : (x : Result Request Fault) (by : End) → Some by ≡ ends_by x → (by ≡ Quit) ⊎ (by ≡ Stop)
+ends_two (Ok (Run c)) by e = cc
+ends_two (Ok (Show n)) by e = cc
+ends_two (Ok (Find n path)) by e = cc
+ends_two (Ok (Watch scope)) by e = cc
+ends_two (Ok (Take k)) by e = cc
+ends_two (Ok (Follow k)) by e = cc
+ends_two (Ok Close) by e = cc
+ends_two (Ok AsksQuit) by e = inl (let same : by ≡ Quit = cc in same)
+ends_two (Ok AsksStop) by e = inr (let same : by ≡ Stop = cc in same)
+ends_two (Err f) by e = cc
 
 -- a request that was read and done, one that found no memory, and a line that is none
-pub answered_ok : (old new : List Command) (bytes text : List ℕ) (r : Request) (q : Bool) → ReadsAs (request_of bytes) (Ok r) → text ≡ answer_to old r → new ≡ journal_to old r → q ≡ ends_by (Ok r) → Answered (session_at old) (session_at new) (Whole bytes) text q
-unfolding answer after quits
-answered_ok old new bytes text r q (inl e) t n k = (Granted, rw (← e) t, rw (← e) (ap session_at n), rw (← e) k)
-answered_ok old new bytes text r q (inr e) t n k = cc
+pub answered_ok : (old new : SessionState) (bytes text : List ℕ) (r : Request) (end : Option End) → ReadsAs (request_of bytes) (Ok r) → text ≡ answer_to old r → new ≡ state_to old r → end ≡ ends_by (Ok r) → Answered old new (Whole bytes) text end
+unfolding answer after ends
+answered_ok old new bytes text r end (inl e) t n k = (Granted, rw (← e) t, rw (← e) n, rw (← e) k)
+answered_ok old new bytes text r end (inr e) t n k = cc
 
-pub answered_none : (old new : List Command) (bytes text : List ℕ) (r : Request) (q : Bool) → ReadsAs (request_of bytes) (Ok r) → may_want_memory (Ok r) ≡ true → text ≡ refusal WantsMemory → new ≡ old → Answered (session_at old) (session_at new) (Whole bytes) text false
-unfolding answer after quits
-answered_none old new bytes text r q (inl e) m t n = (Refused, rw (← e, m) t, rw (← e, m) (ap session_at n), rw (← e, m) refl)
-answered_none old new bytes text r q (inr e) m t n = cc
+pub answered_none : (old new : SessionState) (bytes text : List ℕ) (r : Request) (end : Option End) → ReadsAs (request_of bytes) (Ok r) → text ≡ refusal WantsMemory → end ≡ None → IsUndone old r new → Answered old new (Whole bytes) text end
+unfolding answer after ends
+answered_none old new bytes text r end (inl e) t k (inl (n, m)) = (Refused, rw (← e, m) t, rw (← e, m) n, k ∙ rw (← e) (sym (failing_goes_on old (Ok r) m)))
+answered_none old new bytes text r end (inl e) t k (inr (n, m)) = (Unshown, rw (← e, m) t, rw (← e, m) n, k ∙ rw (← e) (sym (beginning_goes_on old r m)))
+answered_none old new bytes text r end (inr e) t k u = cc
 
-pub answered_err : (old : List Command) (bytes text : List ℕ) (f : Fault) → ReadsAs (request_of bytes) (Err f) → text ≡ refusal f → Answered (session_at old) (session_at old) (Whole bytes) text false
-unfolding answer after quits
-answered_err old bytes text f (inl e) t = (Granted, rw (← e) t, rw (← e) refl, rw (← e) refl)
-answered_err old bytes text f (inr (e, m)) t =
+pub answered_err : (old : SessionState) (bytes text : List ℕ) (f : Fault) (end : Option End) → ReadsAs (request_of bytes) (Err f) → text ≡ refusal f → end ≡ None → Answered old old (Whole bytes) text end
+unfolding answer after ends
+answered_err old bytes text f end (inl e) t k = (Granted, rw (← e) t, rw (← e) refl, rw (← e) k)
+answered_err old bytes text f end (inr (e, m)) t k =
     let same : f ≡ WantsMemory = cc in
-    (Refused, rw m (rw same at t), rw m refl, rw m refl)
+    let fails = reading_fails old (request_of bytes) m in
+    (Refused, rw fails (rw same at t), rw fails refl, k ∙ sym (failing_goes_on old (request_of bytes) fails))
 
 -- a line that is too long, or has no end
-pub answered_fixed : (old : SessionState) (line : Asking) (f : Fault) → asked line ≡ Err f → Answered old old line (refusal f) false
-unfolding answer after quits
+pub answered_fixed : (old : SessionState) (line : Asking) (f : Fault) → asked line ≡ Err f → Answered old old line (refusal f) None
+unfolding answer after ends
 answered_fixed old line f e = (Granted, rw e refl, rw e refl, rw e refl)
+
+-- how a line that ends a session ends it
+cause_of : (turn : Turn) (text : List ℕ) (later : List Item) (by : End) → Some by ≡ ends turn → IsCause by [] (turn ∷ []) text later
+unfolding ends
+cause_of turn text later by e = elim (ends_two (asked turn.line) by e) [
+  | inl q ↦ rw q (turn, refl, sym (rw q at e))
+  | inr q ↦ rw q (turn, refl, sym (rw q at e))
+]
+
+whole_sent : (by : End) (text : List ℕ) → ends_whole by ≡ true → sent_by by text ≡ text
+whole_sent Quit text h = refl
+whole_sent Stop text h = refl
+whole_sent Input text h = refl
+whole_sent (Read f) text h = cc
+whole_sent (CutOff cut) text h = cc
+whole_sent Memory text h = cc
+whole_sent Spent text h = cc
 
 -- at most one line was served
 abbrev ServedOne : List ℕ → SessionState → SessionState → List ℕ → List ℕ → End → Type 0
-ServedOne before old new sent written by = (served : Served before old new sent written by) × (length served.turns + length served.last ≤ 1)
+ServedOne before old new sent written by = (ran : Ran before old new sent written by) × (length ran.turns + length ran.last ≤ 1)
 
 -- the last answer stands alone
 served_last : (before later : List ℕ) (turn : Turn) (old new : SessionState) (sent written : List ℕ) (by : End) → lines_of line_limit before ≡ item_of turn.line ∷ lines_of line_limit later → new ≡ after old turn → written ≡ sent ++ sent_by by (answer old turn) → IsCause by [] (turn ∷ []) (answer old turn) (lines_of line_limit later) → ServedOne before old new sent written by
@@ -64,17 +140,18 @@ served_last before later turn old new sent written by lines state out cause = (
 )
 
 -- the last answer was cut
-served_cut : (before later : List ℕ) (line : Asking) (old new : SessionState) (sent written text : List ℕ) (q : Bool) (result : Option End) → lines_of line_limit before ≡ item_of line ∷ lines_of line_limit later → Answered old new line text q → (cut : Cut) → result ≡ Some (CutOff cut) → written ≡ sent ++ take cut.sent text → cut.sent < length text → ServedLine before later old new sent written result
-served_cut before later line old new sent written text q result lines a cut is out within =
+served_cut : (before later : List ℕ) (line : Asking) (old new : SessionState) (sent written text : List ℕ) (end : Option End) (result : Option End) → lines_of line_limit before ≡ item_of line ∷ lines_of line_limit later → Answered old new line text end → (cut : Cut) → result ≡ Some (CutOff cut) → written ≡ sent ++ take cut.sent text → cut.sent < length text → ServedLine before later old new sent written result
+served_cut before later line old new sent written text end result lines a cut is out within =
     let one = served_last before later (the_turn line a.0) old new sent written (CutOff cut) lines a.2 (out ∙ ap (λ x. sent ++ take cut.sent x) a.1) (the_turn line a.0, refl, subst (λ x. cut.sent < length x) a.1 within) in
     rw is one
 
 -- a line with its line end
-pub after_text : (before later : List ℕ) (line : Asking) (old new : SessionState) (sent written text : List ℕ) (q : Bool) (result : Option End) → lines_of line_limit before ≡ item_of line ∷ lines_of line_limit later → has_end line ≡ true → Answered old new line text q → IsSent sent written text (quit_end_of q) result → ServedLine before later old new sent written result
-after_text before later line old new sent written text true result lines ends a (inl s) =
-    let one = served_last before later (the_turn line a.0) old new sent written Quit lines a.2 (s.1 ∙ ap (λ x. sent ++ x) a.1) (the_turn line a.0, refl, sym a.3) in
+pub after_text : (before later : List ℕ) (line : Asking) (old new : SessionState) (sent written text : List ℕ) (end : Option End) (result : Option End) → lines_of line_limit before ≡ item_of line ∷ lines_of line_limit later → has_end line ≡ true → Answered old new line text end → ForSome end (λ e. ends_whole e ≡ true) → IsSent sent written text end result → ServedLine before later old new sent written result
+after_text before later line old new sent written text (Some by) result lines ends a h (inl s) =
+    let whole = whole_sent by (answer old (the_turn line a.0)) (h by refl) in
+    let one = served_last before later (the_turn line a.0) old new sent written by lines a.2 (s.1 ∙ ap (λ x. sent ++ x) (a.1 ∙ sym whole)) (cause_of (the_turn line a.0) _ _ by a.3) in
     rw s.0 one
-after_text before later line old new sent written text false result lines ends a (inl s) =
+after_text before later line old new sent written text None result lines ends a h (inl s) =
     rw s.0 (
       the_turn line a.0,
       record {
@@ -84,22 +161,22 @@ after_text before later line old new sent written text false result lines ends a
         goes = (ends, sym a.3, tt);
       },
     )
-after_text before later line old new sent written text q result lines ends a (inr s) =
-    served_cut before later line old new sent written text q result lines a s.0 s.1 s.2 s.3
+after_text before later line old new sent written text end result lines ends a h (inr s) =
+    served_cut before later line old new sent written text end result lines a s.0 s.1 s.2 s.3
 
 lines_of-nil : (limit : ℕ) → lines_of limit [] ≡ []
 unfolding lines_of
 lines_of-nil limit = refl
 
 -- the last line has no line end
-pub after_unended : (before later : List ℕ) (old : SessionState) (sent written text : List ℕ) (result : Option End) → lines_of line_limit before ≡ Unended ∷ [] → later ≡ [] → Answered old old Broken text false → IsSent sent written text (Some Input) result → ServedLine before later old old sent written result
+pub after_unended : (before later : List ℕ) (old : SessionState) (sent written text : List ℕ) (result : Option End) → lines_of line_limit before ≡ Unended ∷ [] → later ≡ [] → Answered old old Broken text None → IsSent sent written text (Some Input) result → ServedLine before later old old sent written result
 after_unended before later old sent written text result lines none a (inl s) =
     let empty : lines_of line_limit later ≡ [] = rw none (lines_of-nil line_limit) in
     let one = served_last before later (the_turn Broken a.0) old old sent written Input (rw empty lines) a.2 (s.1 ∙ ap (λ x. sent ++ x) a.1) (empty, inr (the_turn Broken a.0, refl, refl)) in
     rw s.0 one
 after_unended before later old sent written text result lines none a (inr s) =
     let empty : lines_of line_limit later ≡ [] = rw none (lines_of-nil line_limit) in
-    served_cut before later Broken old old sent written text false result (rw empty lines) a s.0 s.1 s.2 s.3
+    served_cut before later Broken old old sent written text None result (rw empty lines) a s.0 s.1 s.2 s.3
 
 -- nothing more was served
 served_none : (before : List ℕ) (later : List Item) (old : SessionState) (sent : List ℕ) (by : End) → lines_of line_limit before ≡ later → sent_by by [] ≡ [] → IsCause by [] [] [] later → ServedOne before old old sent sent by
@@ -136,9 +213,36 @@ pub after_fault_at : (limit : ℕ) (before later kept : List ℕ) (f : ReadFault
 after_fault_at limit before later kept f old sent e m n =
     after_fault before later kept f old sent (λ none. absurd (let over = m none in omega (arith, over, e))) (subst (λ x. IsNext x before (Err f) kept later) e n)
 
+-- its watcher was closed behind its lines
+pub served_left : (before : List ℕ) (old ran new : SessionState) (sent written : List ℕ) (by : End) → Ran before old ran sent written by → new ≡ left ran → Served before old new sent written by
+served_left before old ran new sent written by r e = record {
+  turns = r.turns;
+  last = r.last;
+  later = r.later;
+  lines = r.lines;
+  state = e ∙ ap left r.state;
+  out = r.out;
+  goes = r.goes;
+  cause = r.cause;
+  count = r.count;
+}
+
+-- where nothing is due, nothing has to be sent first
+pub at_rest : (floor : FloorView) (watcher : Option ℕ) → floor.due ≡ [] → session_at floor watcher ≡ state_at floor watcher
+at_rest floor watcher idle = ap (λ (f : FloorView). state_at f watcher) (settled_idle floor idle)
+
+-- a session from what was due before it to its watcher's close
+pub session_served : (before : List ℕ) (floor rested ran new : FloorView) (none mine left_over : Option ℕ) (sent written : List ℕ) (by : End)
+    → rested ≡ settled floor → none ≡ None → Ran before (state_at rested none) (state_at ran mine) sent written by → ran.due ≡ []
+    → state_at new left_over ≡ left (session_at ran mine) → left_over ≡ None → Served before (session_at floor None) (state_at new None) sent written by
+session_served before floor rested ran new none mine left_over sent written by rests begins served idle leaves gone =
+    let old : state_at rested none ≡ session_at floor None = (λ i. state_at (rests i) (begins i)) in
+    let after_leave : state_at new None ≡ left (state_at ran mine) = sym (ap (state_at new) gone) ∙ leaves ∙ ap left (at_rest ran mine idle) in
+    served_left before (session_at floor None) (state_at ran mine) (state_at new None) sent written by (subst (λ (o : SessionState). Ran before o (state_at ran mine) sent written by) old served) after_leave
+
 -- there was no memory for the session
-pub not_served : (before : List ℕ) (old : SessionState) (sent : List ℕ) → Served before old old sent sent Memory
-not_served before old sent = (served_none before (lines_of line_limit before) old sent Memory refl refl (refl, refl)).0
+pub not_served : (before : List ℕ) (floor : FloorView) (sent : List ℕ) → Served before (session_at floor None) (session_at floor None) sent sent Memory
+not_served before floor sent = served_left before _ _ _ sent sent Memory (served_none before (lines_of line_limit before) (session_at floor None) sent Memory refl refl (refl, refl)).0 refl
 
 items_of-append : (xs ys : List Turn) → items_of (xs ++ ys) ≡ items_of xs ++ items_of ys
 items_of-append [] ys = refl
@@ -168,6 +272,7 @@ Going-more turns more before mid later old now new sent so_far written a b = rec
 -- the cause of an end that a line brings is that of the whole session
 cause_more : (by : End) (turns more last : List Turn) (text whole : List ℕ) (later : List Item) → ends_by_line by ≡ true → text ≡ whole → IsCause by more last text later → IsCause by (turns ++ more) last whole later
 cause_more Quit turns more last text whole later h e c = c
+cause_more Stop turns more last text whole later h e c = c
 cause_more Input turns more last text whole later h e c = c
 cause_more (Read NeverEnds) turns more last text whole later h e c = c
 cause_more (Read Device) turns more last text whole later h e c = c
@@ -178,7 +283,7 @@ cause_more Memory turns more last text whole later h e c = cc
 cause_more Spent turns more last text whole later h e c = cc
 
 -- lines served, and then the last
-pub Served-more : (turns : List Turn) (before mid : List ℕ) (old now new : SessionState) (sent so_far written : List ℕ) (by : End) → Going turns before mid old now sent so_far → (b : Served mid now new so_far written by) → ends_by_line by ≡ true → length (turns ++ b.turns) + length b.last ≤ 16777216 → Served before old new sent written by
+pub Served-more : (turns : List Turn) (before mid : List ℕ) (old now new : SessionState) (sent so_far written : List ℕ) (by : End) → Going turns before mid old now sent so_far → (b : Ran mid now new so_far written by) → ends_by_line by ≡ true → length (turns ++ b.turns) + length b.last ≤ 16777216 → Ran before old new sent written by
 Served-more turns before mid old now new sent so_far written by a b ended count = record {
   turns = turns ++ b.turns;
   last = b.last;
@@ -195,7 +300,7 @@ pub Going-none : (before : List ℕ) (old : SessionState) (sent : List ℕ) → 
 Going-none before old sent = record { lines = refl; state = refl; out = sym (append-nil sent); goes = tt }
 
 -- the count of lines was reached
-pub served_spent : (turns : List Turn) (before later : List ℕ) (old new : SessionState) (sent written : List ℕ) → Going turns before later old new sent written → length turns ≡ 16777216 → Served before old new sent written Spent
+pub served_spent : (turns : List Turn) (before later : List ℕ) (old new : SessionState) (sent written : List ℕ) → Going turns before later old new sent written → length turns ≡ 16777216 → Ran before old new sent written Spent
 served_spent turns before later old new sent written a count = record {
   turns = turns;
   last = [];
@@ -212,6 +317,7 @@ served_spent turns before later old new sent written a count = record {
 pub cause_whole : (by : Option End) (old new : ℕ) → ForSome by (λ e. ends_whole e ≡ true) → old ≤ new → IsCutCause by old new
 cause_whole None old new h le = le
 cause_whole (Some Quit) old new h le = le
+cause_whole (Some Stop) old new h le = le
 cause_whole (Some Input) old new h le = le
 cause_whole (Some (Read f)) old new h le = let e : ends_whole (Read f) ≡ true = h _ refl in cc
 cause_whole (Some (CutOff c)) old new h le = let e : ends_whole (CutOff c) ≡ true = h _ refl in cc
@@ -221,6 +327,7 @@ cause_whole (Some Spent) old new h le = let e : ends_whole Spent ≡ true = h _ 
 pub run_whole : (by : Option End) (faults : List StreamFault) → ForSome by (λ e. ends_whole e ≡ true) → faults ≡ [] → IsCutRun by faults
 run_whole None faults h none = none
 run_whole (Some Quit) faults h none = none
+run_whole (Some Stop) faults h none = none
 run_whole (Some Input) faults h none = none
 run_whole (Some (Read f)) faults h none = none
 run_whole (Some (CutOff c)) faults h none = let e : ends_whole (CutOff c) ≡ true = h _ refl in cc
@@ -231,6 +338,7 @@ run_whole (Some Spent) faults h none = none
 pub read_answered : (by : Option End) (old new : ℕ) → ForSome by (λ e. ends_by_answer e ≡ true) → old ≤ new → IsReadEnd by old new
 read_answered None old new h le = le
 read_answered (Some Quit) old new h le = le
+read_answered (Some Stop) old new h le = le
 read_answered (Some Input) old new h le = le
 read_answered (Some (Read f)) old new h le = let e : ends_by_answer (Read f) ≡ true = h _ refl in cc
 read_answered (Some (CutOff c)) old new h le = le
@@ -240,6 +348,7 @@ read_answered (Some Spent) old new h le = le
 pub run_answered : (by : Option End) (faults : List StreamFault) → ForSome by (λ e. ends_by_answer e ≡ true) → faults ≡ [] → IsReadEndRun by faults
 run_answered None faults h none = none
 run_answered (Some Quit) faults h none = none
+run_answered (Some Stop) faults h none = none
 run_answered (Some Input) faults h none = none
 run_answered (Some (Read f)) faults h none = let e : ends_by_answer (Read f) ≡ true = h _ refl in cc
 run_answered (Some (CutOff c)) faults h none = none
@@ -248,6 +357,7 @@ run_answered (Some Spent) faults h none = none
 
 pub answer_ends : (by : End) → ends_whole by ≡ true → ends_by_answer by ≡ true
 answer_ends Quit h = refl
+answer_ends Stop h = refl
 answer_ends Input h = refl
 answer_ends (Read f) h = cc
 answer_ends (CutOff c) h = refl
@@ -256,6 +366,7 @@ answer_ends Spent h = cc
 
 pub line_answered : (by : End) → ends_by_answer by ≡ true → ends_by_line by ≡ true
 line_answered Quit h = refl
+line_answered Stop h = refl
 line_answered Input h = refl
 line_answered (Read f) h = refl
 line_answered (CutOff c) h = refl

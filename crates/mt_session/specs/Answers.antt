@@ -1,5 +1,5 @@
--- The text that answers a request (this project's rule; the lines of a table are those of proc_pid_mountinfo(5)).
-use Rattle.std.specs.Prelude.{ℕ, List, [], ◌∷◌, ◌++◌, Result, Ok, Err, codes, decimal, cond, length}
+-- The texts of answers. The words are this project's rule; the lines of a table are those of proc_pid_mountinfo(5).
+use Rattle.std.specs.Prelude.{ℕ, ◌+◌, List, [], ◌∷◌, ◌++◌, Result, Ok, Err, codes, decimal, cond, length, fold}
 use Rattle.std.specs.List.{flat_map}
 use Rattle.mt_skel.specs.declared.fault.Fault.{Fault}
 use Rattle.mt_skel.specs.declared.fault.Fault.TheVariants.{NoNamespace}
@@ -8,32 +8,29 @@ use Rattle.mt_propagate.specs.World.{is_space}
 use Rattle.mt_info.specs.declared.row.Row.{Row}
 use Rattle.mt_info.specs.Table.{table_of}
 use Rattle.mt_info.specs.RowLine.{line, path_text}
+use Rattle.mt_events.specs.Posts.{PostView, post_lines, post_text}
+use Rattle.mt_events.specs.declared.opening.Part.{Part}
+use Rattle.mt_events.specs.declared.opening.Opening.{Opening}
 use Rattle.mt_book.specs.declared.command.Command.{Command}
 use Rattle.mt_book.specs.declared.command.Reply.{Reply}
 use Rattle.mt_book.specs.declared.command.Reply.TheVariants.{Done, Number}
 use Rattle.mt_book.specs.Step.{after}
 use Rattle.mt_book.specs.History.{number_of}
-use Rattle.mt_book.specs.Book.{found_at}
-use Rattle.mt_requests.specs.declared.request.Request.{Request}
-use Rattle.mt_requests.specs.declared.request.Request.TheVariants.{Run, Show, Find, Quit}
-use Rattle.mt_session.specs.declared.early.Answer.{Answer}
-use Rattle.mt_session.specs.declared.early.Answer.TheVariants.{Replied}
-use Rattle.mt_session.specs.declared.early.Event.TheVariants.{Apply}
-use Rattle.mt_session.specs.Floor.{stepped, journal_after}
 
 -- the line of a refusal
 abbrev pub refusal : Fault → List ℕ
 refusal f = codes "no " ++ name_of f ++ 10 ∷ []
 
 -- the line `ok`, and `ok` with a number
-abbrev pub reply_text : Reply → List ℕ
-reply_text Done = codes "ok\n"
-reply_text (Number n) = codes "ok " ++ decimal n ++ 10 ∷ []
+abbrev pub done_text : List ℕ
+done_text = codes "ok\n"
 
--- what a command is answered
-abbrev pub answered_text : Result Answer Fault → List ℕ
-answered_text (Ok (Replied r)) = reply_text r
-answered_text (Err f) = refusal f
+abbrev pub count_text : ℕ → List ℕ
+count_text n = codes "ok " ++ decimal n ++ 10 ∷ []
+
+abbrev pub reply_text : Reply → List ℕ
+reply_text Done = done_text
+reply_text (Number n) = count_text n
 
 abbrev pub row_line : Row → List ℕ
 row_line r = line r ++ 10 ∷ []
@@ -54,16 +51,25 @@ abbrev pub found_text : Result (ℕ × List (List ℕ)) Fault → List ℕ
 found_text (Ok p) = place_text p.0 p.1
 found_text (Err f) = refusal f
 
--- the text that a request is answered with, after these accepted commands
-unfoldable pub answer_to : List Command → Request → List ℕ
-answer_to journal (Run c) = answered_text (stepped journal (Apply c))
-answer_to journal (Show n) = shown_text journal n
-answer_to journal (Find n path) = found_text (found_at (after journal) n path)
-answer_to journal Quit = codes "ok\n"
+-- a namespace that a watcher found: the number of its last post, how many rows its table has, and a line for each row
+abbrev pub part_text : Part → List ℕ
+part_text p = codes "space " ++ decimal p.space ++ codes " " ++ decimal p.number ++ codes " " ++ decimal (length p.table) ++ 10 ∷ [] ++ flat_map row_line p.table
 
--- the accepted commands after a request
-unfoldable pub journal_to : List Command → Request → List Command
-journal_to journal (Run c) = journal_after journal (Apply c)
-journal_to journal (Show n) = journal
-journal_to journal (Find n path) = journal
-journal_to journal Quit = journal
+-- how many lines come for the namespaces that a watcher found, and for posts
+abbrev pub lines_of_parts : List Part → ℕ
+lines_of_parts parts = fold (λ n (p : Part). n + (1 + length p.table)) 0 parts
+
+abbrev pub lines_of_posts : List PostView → ℕ
+lines_of_posts posts = fold (λ n p. n + length (post_lines p)) 0 posts
+
+-- what a watcher finds: `ok`, how many lines follow, and then these
+abbrev pub opening_text : Opening → List ℕ
+opening_text o = count_text (lines_of_parts o.parts) ++ flat_map part_text o.parts
+
+-- posts: `ok`, how many lines follow, and then the posts
+abbrev pub posts_text : List PostView → List ℕ
+posts_text posts = count_text (lines_of_posts posts) ++ flat_map post_text posts
+
+-- posts that are followed: the posts, and then another text
+abbrev pub followed_text : List PostView → List ℕ → List ℕ
+followed_text posts text = flat_map post_text posts ++ text

@@ -1,5 +1,5 @@
 pub mod Answers
-pub mod Floor
+pub mod Requests
 pub mod Serving
 pub mod Session
 pub mod Text

@@ -1,19 +1,23 @@
 -- One line of a session, as its steps see it. No public clause cites this module.
-use Rattle.std.specs.Prelude.{◌≡◌, ◌≢◌, ℕ, ◌+◌, ◌<◌, ◌≤◌, List, [], ◌∷◌, ◌++◌, length, take, Bool, true, false, Option, None, Some, ◌⊎◌}
+use Rattle.std.specs.Prelude.{◌≡◌, ℕ, ◌+◌, ◌<◌, ◌≤◌, List, [], ◌∷◌, ◌++◌, length, take, Bool, true, false, Option, None, Some, ◌⊎◌}
 use Rattle.mt_lines.specs.declared.stream.Cut.{Cut}
 use Rattle.mt_session.specs.declared.session.End.{End}
-use Rattle.mt_session.specs.declared.session.End.TheVariants.{Quit, Input, Cut as CutOff, Memory, Spent}
-use Rattle.mt_session.specs.Session.{SessionState, Growth, Asking, Turn, answer, after, quits, Going, Served}
+use Rattle.mt_session.specs.declared.session.End.TheVariants.{Quit, Stop, Input, Cut as CutOff, Memory, Spent}
+use Rattle.mt_requests.specs.declared.request.Request.{Request}
+use Rattle.mt_session.specs.Requests.{SessionState, state_to, wants_memory, begins, left}
+use Rattle.mt_session.specs.Session.{Growth, Asking, Turn, answer, after, ends, Going, ServedThen}
 
 -- an end that a line brings once its answer is out whole
 abbrev pub ends_whole : End → Bool
 ends_whole Quit = true
+ends_whole Stop = true
 ends_whole Input = true
 ends_whole _ = false
 
 -- an end that the answer to a line brings
 abbrev pub ends_by_answer : End → Bool
 ends_by_answer Quit = true
+ends_by_answer Stop = true
 ends_by_answer Input = true
 ends_by_answer (CutOff cut) = true
 ends_by_answer _ = false
@@ -27,10 +31,18 @@ ends_by_line _ = true
 abbrev pub the_turn : Asking → Growth → Turn
 the_turn line growth = record { line = line; growth = growth }
 
--- a line was answered with this text, which ends the session or does not
-abbrev pub Answered : SessionState → SessionState → Asking → List ℕ → Bool → Type 0
-Answered old new line text quits_now =
-    (growth : Growth) × (text ≡ answer old (the_turn line growth)) × (new ≡ after old (the_turn line growth)) × (quits_now ≡ quits (the_turn line growth))
+-- a line was answered with this text, which ends the session so, or does not
+abbrev pub Answered : SessionState → SessionState → Asking → List ℕ → Option End → Type 0
+Answered old new line text end =
+    (growth : Growth) × (text ≡ answer old (the_turn line growth)) × (new ≡ after old (the_turn line growth)) × (end ≡ ends (the_turn line growth))
+
+-- want of memory left the state of a request as it was, or closed a watcher again that had begun
+abbrev pub IsUndone : SessionState → Request → SessionState → Type 0
+IsUndone old r new = ((new ≡ old) × (wants_memory old r ≡ true)) ⊎ ((new ≡ left (state_to old r)) × (begins old r ≡ true))
+
+-- a session's lines, with its watcher as they left it
+abbrev pub Ran : List ℕ → SessionState → SessionState → List ℕ → List ℕ → End → Type 0
+Ran before old new sent written by = ServedThen (λ state. state) before old new sent written by
 
 -- the text went out whole, and the session ends as it would, or it was cut
 abbrev pub IsSent : List ℕ → List ℕ → List ℕ → Option End → Option End → Type 0
@@ -38,13 +50,8 @@ IsSent sent written text wanted result =
     ((result ≡ wanted) × (written ≡ sent ++ text))
     ⊎ ((cut : Cut) × (result ≡ Some (CutOff cut)) × (written ≡ sent ++ take cut.sent text) × (cut.sent < length text))
 
--- how a request that ends the session ends it
-abbrev pub quit_end_of : Bool → Option End
-quit_end_of true = Some Quit
-quit_end_of false = None
-
 -- a line was served: the session goes on, or has ended with it
 abbrev pub ServedLine : List ℕ → List ℕ → SessionState → SessionState → List ℕ → List ℕ → Option End → Type 0
 ServedLine before later old new sent written None = (turn : Turn) × Going (turn ∷ []) before later old new sent written
 ServedLine before later old new sent written (Some by) =
-    (served : Served before old new sent written by) × (length served.turns + length served.last ≤ 1)
+    (ran : Ran before old new sent written by) × (length ran.turns + length ran.last ≤ 1)

@@ -1,32 +1,26 @@
--- What a plain session writes and does: the fold of its lines over the floor (this project's rule).
-use Rattle.std.specs.Prelude.{◌≡◌, ℕ, ◌+◌, ◌<◌, ◌≤◌, List, [], ◌∷◌, ◌++◌, take, map, length, Result, Ok, Err, Bool, true, false, if◌then◌else◌, Option, Some, ◌⊎◌}
+-- What a plain session writes and does: the fold of its lines over a floor and its watcher (this project's rule).
+use Rattle.std.specs.Prelude.{◌≡◌, ℕ, ◌+◌, ◌<◌, ◌≤◌, List, [], ◌∷◌, ◌++◌, take, map, length, Result, Ok, Err, Bool, true, false, if◌then◌else◌, Option, Some, None, ◌⊎◌}
 use Rattle.mt_skel.specs.declared.fault.Fault.{Fault}
 use Rattle.mt_skel.specs.declared.fault.Fault.TheVariants.{BadLine, TooLong as LineTooLong, NoMemory as WantsMemory}
 use Rattle.mt_requests.specs.declared.request.Request.{Request}
-use Rattle.mt_requests.specs.declared.request.Request.TheVariants.{Run, Show, Find, Quit as AsksQuit}
+use Rattle.mt_requests.specs.declared.request.Request.TheVariants.{Quit as AsksQuit, Stop as AsksStop}
 use Rattle.mt_lines.specs.declared.stream.StreamFault.{StreamFault}
 use Rattle.mt_lines.specs.declared.line.ReadFault.TheVariants.{Device, Interrupted, Endless as NeverEnds, NoMemory as NoRoom}
 use Rattle.mt_session.specs.declared.session.End.{End}
-use Rattle.mt_session.specs.declared.session.End.TheVariants.{Quit, Input, Read, Cut as CutOff, Memory, Spent}
-use Rattle.mt_requests.specs.Requests.{request_of, may_want_memory}
+use Rattle.mt_session.specs.declared.session.End.TheVariants.{Quit, Stop, Input, Read, Cut as CutOff, Memory, Spent}
+use Rattle.mt_requests.specs.Requests.{request_of}
 use Rattle.mt_lines.specs.Lines.{Item, Text, TooLong, Unended, Endless, lines_of}
 use Rattle.mt_lines.specs.Stream.{HasFailed, IsInterrupted}
 use Rattle.mt_lines.specs.Reading.{IsFaultCause, IsFaultRun}
-use Rattle.mt_book.specs.declared.command.Command.{Command}
-use Rattle.mt_session.specs.Answers.{answer_to, journal_to, refusal}
+use Rattle.mt_session.specs.Answers.{refusal}
+use Rattle.mt_session.specs.Requests.{SessionState, answer_to, state_to, wants_memory, begins, left}
 
--- what the lines of a session are folded over
-pub record SessionState : Type 0 where
-  -- the commands that were accepted
-  pub journal : List Command
-
-abbrev pub session_at : List Command → SessionState
-session_at journal = record { journal = journal }
-
--- whether every growth that a request asked for was granted
+-- whether every growth that a line asked for was granted, or one was refused: for its request or its answer, or for what a
+-- watcher found that had begun and was then closed again
 pub data Growth : Type 0 where
   Granted : Growth
   Refused : Growth
+  Unshown : Growth
 
 -- a line that is answered
 pub data Asking : Type 0 where
@@ -58,40 +52,51 @@ asked (Whole bytes) = request_of bytes
 asked Overlong = Err LineTooLong
 asked Broken = Err BadLine
 
--- a refused growth can stand in place of any answer but those that are found without memory
-abbrev pub granted : Growth → Result Request Fault → Result Request Fault
-granted Granted r = r
-granted Refused r = if may_want_memory r then Err WantsMemory else r
+-- a refused growth can stand in place of an answer that is not found without memory
+abbrev pub may_fail : SessionState → Result Request Fault → Bool
+may_fail state (Ok r) = wants_memory state r
+may_fail state (Err f) = false
 
--- what is done for the line
-abbrev pub done : Turn → Result Request Fault
-done turn = granted turn.growth (asked turn.line)
+abbrev pub may_be_unshown : SessionState → Result Request Fault → Bool
+may_be_unshown state (Ok r) = begins state r
+may_be_unshown state (Err f) = false
 
+-- the answer where every growth was granted, and the state after it
 abbrev pub answer_of : SessionState → Result Request Fault → List ℕ
-answer_of state (Ok r) = answer_to state.journal r
+answer_of state (Ok r) = answer_to state r
 answer_of state (Err f) = refusal f
 
 abbrev pub state_of : SessionState → Result Request Fault → SessionState
-state_of state (Ok r) = session_at (journal_to state.journal r)
+state_of state (Ok r) = state_to state r
 state_of state (Err f) = state
+
+-- the answer, and the state after it: a refused growth changes nothing, but that a watcher may have been given a key
+abbrev pub answer_with : SessionState → Growth → Result Request Fault → List ℕ
+answer_with state Granted r = answer_of state r
+answer_with state Refused r = if may_fail state r then refusal WantsMemory else answer_of state r
+answer_with state Unshown r = if may_be_unshown state r then refusal WantsMemory else answer_of state r
+
+abbrev pub state_with : SessionState → Growth → Result Request Fault → SessionState
+state_with state Granted r = state_of state r
+state_with state Refused r = if may_fail state r then state else state_of state r
+state_with state Unshown r = if may_be_unshown state r then left (state_of state r) else state_of state r
 
 -- the text that answers a line, and the state after it
 unfoldable pub answer : SessionState → Turn → List ℕ
-answer state turn = answer_of state (done turn)
+answer state turn = answer_with state turn.growth (asked turn.line)
 
 unfoldable pub after : SessionState → Turn → SessionState
-after state turn = state_of state (done turn)
+after state turn = state_with state turn.growth (asked turn.line)
 
--- the line ends the session
-abbrev pub ends_by : Result Request Fault → Bool
-ends_by (Ok AsksQuit) = true
-ends_by (Ok (Show n)) = false
-ends_by (Ok (Find n path)) = false
-ends_by (Ok (Run c)) = false
-ends_by (Err f) = false
+-- how the line ends the session, if it does
+abbrev pub ends_by : Result Request Fault → Option End
+ends_by (Ok AsksQuit) = Some Quit
+ends_by (Ok AsksStop) = Some Stop
+ends_by (Ok r) = None
+ends_by (Err f) = None
 
-unfoldable pub quits : Turn → Bool
-quits turn = ends_by (done turn)
+unfoldable pub ends : Turn → Option End
+ends turn = ends_by (asked turn.line)
 
 -- the stated text: the answers of the lines, one after another
 abbrev pub text_of : List Turn → SessionState → List ℕ
@@ -111,7 +116,7 @@ has_end Broken = false
 -- none of the lines ends the session
 abbrev pub AllGoOn : List Turn → Type 0
 AllGoOn [] = Unit {0}
-AllGoOn (turn ∷ turns) = (has_end turn.line ≡ true) × (quits turn ≡ false) × AllGoOn turns
+AllGoOn (turn ∷ turns) = (has_end turn.line ≡ true) × (ends turn ≡ None) × AllGoOn turns
 
 -- the longest line, in bytes before its line end, and the most lines of a session
 abbrev pub line_limit : ℕ
@@ -135,7 +140,8 @@ sent_by _ text = text
 -- why the session ended, by the lines served whole, the last line and its answer's text, and the lines not
 -- read: Memory before any line, a cut within the last answer; a line of this limit never wants memory
 abbrev pub IsCause : End → List Turn → List Turn → List ℕ → List Item → Type 0
-IsCause Quit turns last text later = (turn : Turn) × (last ≡ turn ∷ []) × (quits turn ≡ true)
+IsCause Quit turns last text later = (turn : Turn) × (last ≡ turn ∷ []) × (ends turn ≡ Some Quit)
+IsCause Stop turns last text later = (turn : Turn) × (last ≡ turn ∷ []) × (ends turn ≡ Some Stop)
 IsCause Input turns last text later = (later ≡ []) × ((last ≡ []) ⊎ ((turn : Turn) × (last ≡ turn ∷ []) × (turn.line ≡ Broken)))
 IsCause (Read NeverEnds) turns last text later = (last ≡ []) × (more : List Item) × (later ≡ Endless ∷ more)
 IsCause (Read Device) turns last text later = last ≡ []
@@ -145,18 +151,22 @@ IsCause (CutOff cut) turns last text later = (turn : Turn) × (last ≡ turn ∷
 IsCause Memory turns last text later = (turns ≡ []) × (last ≡ [])
 IsCause Spent turns last text later = (last ≡ []) × (length turns ≡ most_lines)
 
--- a whole session: the lines served whole, the line that ended it, if one did, and the lines not read;
--- what was written is their text, of the last as much as the end says
-pub record Served (before : List ℕ) (old new : SessionState) (sent written : List ℕ) (by : End) : Type 0 where
+-- the lines of a session: those served whole, the line that ended it, if one did, and those not read; what was written is their
+-- text, of the last as much as the end says; and then this was done
+pub record ServedThen (done : SessionState → SessionState) (before : List ℕ) (old new : SessionState) (sent written : List ℕ) (by : End) : Type 0 where
   pub turns : List Turn
   pub last : List Turn
   pub later : List Item
   pub lines : lines_of line_limit before ≡ items_of turns ++ (items_of last ++ later)
-  pub state : new ≡ state_after last (state_after turns old)
+  pub state : new ≡ done (state_after last (state_after turns old))
   pub out : written ≡ sent ++ (text_of turns old ++ sent_by by (text_of last (state_after turns old)))
   pub goes : AllGoOn turns
   pub cause : IsCause by turns last (text_of last (state_after turns old)) later
   pub count : length turns + length last ≤ most_lines
+
+-- a whole session: its lines are served, and then its watcher is closed
+abbrev pub Served : List ℕ → SessionState → SessionState → List ℕ → List ℕ → End → Type 0
+Served before old new sent written by = ServedThen left before old new sent written by
 
 -- how far the reader's count of failed calls rose until a session ended so, or went on
 abbrev pub IsReadEnd : Option End → ℕ → ℕ → Type 0

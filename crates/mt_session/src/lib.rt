@@ -1,12 +1,13 @@
 //! Sessions of the mount server: lines in, answers out.
 //!
-//! A session reads lines ([`line`]), makes requests of them ([`request`]), does these on the floor
-//! ([`early`]), and sends the text of the answers ([`text`], [`stream`]).
+//! A session reads lines ([`line`]), makes requests of them ([`request`]), does these on a floor
+//! ([`turn`]), and sends the text of the answers ([`text`], [`stream`]).
 #![tactic(auto)]
 
-pub mod early;
 pub mod session;
 pub mod text;
+pub mod turn;
 
+pub use mt_floor::floor;
 pub use mt_lines::{line, memory, stream};
 pub use mt_requests::request;

@@ -1,10 +1,11 @@
 //! The lines of an answer.
-ghost use Rattle.std.specs.Prelude.{◌≡◌, ◌+◌, ◌≤◌, ◌++◌, length, flat_map, OnOk, IfOk};
-ghost use Rattle.mt_session.specs.Answers.{refusal, reply_text, table_text, row_line, place_text};
+ghost use Rattle.std.specs.Prelude.{◌≡◌, ◌+◌, ◌≤◌, ◌++◌, length, flat_map, OnOk, IfOk, IsOkUnless};
+ghost use Rattle.mt_session.specs.Answers.{refusal, reply_text, count_text, table_text, row_line, place_text, part_text, opening_text};
 
 use arrayvec::ArrayVec;
 use itoa::Buffer;
 use mt_book::command::Reply;
+use mt_events::opening::{Opening, Part};
 use mt_info::print::{push_number, push_path, push_row};
 use mt_info::row::Row;
 use mt_info::table::Table;
@@ -111,6 +112,43 @@ impl Text {
         })
     }
 
+    /// These lines.
+    pub fn lines(lines: Vec<u8>) -> Text
+        ensures { result ≡ lines.items }
+    {
+        Text {
+            body: Body::Long(lines),
+        }
+    }
+
+    /// Lines behind `ok` and how many they are. Fails for want of memory alone.
+    pub fn counted(alloc: Global, count: u64, lines: &[u8]) -> Result<Text, AllocError>
+        ensures { IfOk result (λ text. text ≡ count_text count ++ lines.now) }
+    {
+        let mut text = Vec::new(alloc);
+        text.extend_from_slice(b"ok ")?;
+        push_number(&mut text, count)?;
+        text.extend_from_slice(b"\n")?;
+        text.extend_from_slice(lines)?;
+        Ok(Text::lines(text))
+    }
+
+    /// The lines that tell what a watcher finds: `ok`, how many lines follow, and for each namespace a line `space`
+    /// with its number, that of its last post and the count of its rows, and the line of each row. Refused as
+    /// `NoMemory` alone.
+    pub fn opening(alloc: Global, opening: &Opening) -> Result<Text, Fault>
+        ensures text { IfOk result (λ text. text ≡ opening_text opening.now) }
+        ensures memory { IsOkUnless result Fault.NoMemory }
+    {
+        let mut lines = Vec::new(alloc);
+        let mut count = 0u64;
+        'parts: for part in opening.parts.as_slice() {
+            count = lines_with(count, part)?;
+            push_part(&mut lines, part)?;
+        }
+        Ok(Text::counted(alloc, count, &lines)?)
+    }
+
     /// The bytes of the lines.
     pub fn bytes(&self) -> &[u8]
         ensures { result.now ≡ self.now }
@@ -120,6 +158,35 @@ impl Text {
             Body::Long(bytes) => bytes.as_slice(),
         }
     }
+}
+
+/// A count of lines with those of a namespace that a watcher found. Refused as `NoMemory` alone: no memory holds
+/// 2^64 lines.
+fn lines_with(lines: u64, part: &Part) -> Result<u64, Fault>
+    ensures lines { IfOk result (λ sum. sum ≡ lines + (1 + length part.now.table)) }
+    ensures memory { IsOkUnless result Fault.NoMemory }
+{
+    let rows = part.table.rows().len() as u64;
+    lines
+        .checked_add(1)
+        .and_then(|more| more.checked_add(rows))
+        .ok_or(Fault::NoMemory)
+}
+
+/// Appends the lines of a namespace that a watcher found.
+fn push_part(lines: &mut Vec<u8>, part: &Part) -> Result<(), AllocError>
+    ensures { OnOk result (lines.new.items ≡ lines.old.items ++ part_text part.now) }
+{
+    let rows = part.table.rows();
+    lines.extend_from_slice(b"space ")?;
+    push_number(lines, part.space)?;
+    lines.extend_from_slice(b" ")?;
+    push_number(lines, part.number)?;
+    lines.extend_from_slice(b" ")?;
+    push_number(lines, rows.len() as u64)?;
+    lines.extend_from_slice(b"\n")?;
+    push_rows(lines, rows)?;
+    Ok(())
 }
 
 /// Appends the lines of rows.

@@ -1,14 +1,24 @@
-use Rattle.mt_session.proofs.SessionLaws.{answered_ok, answered_none, answered_err}
+use Rattle.std.proofs.Common.{◌∙◌, ap, subst}
+use Rattle.mt_session.specs.Requests.{SessionState, state_at, answer_to, state_to}
+use Rattle.mt_session.specs.Serving.{IsUndone}
+use Rattle.mt_session.proofs.SessionLaws.{at_rest, answered_ok, answered_none, answered_err}
 use Rattle.mt_session.proofs.session.answer_line.Goals as goal
 
-pub returns-in-Err : goal.returns-in-Err
-returns-in-Err c = answered_err c.args.floor.now c.args.line.now _ c.in-Err.fault c.in-Err.ensures c.refusal.ensures
+pub returns-in-Err-clause-answered : goal.returns-in-Err-clause-answered
+returns-in-Err-clause-answered c =
+    answered_err (state_at c.args.floor.now c.args.session.now) c.args.line.now c.refused.result.text c.in-Err.fault c.refused.result.end c.in-Err.ensures c.refused.ensures.0 c.refused.ensures.1
 
-pub returns-in-Ok-turn : goal.returns-in-Ok-turn
-returns-in-Ok-turn c =
-    answered_ok c.args.floor.now c.turn.new.floor c.args.line.now _ c.in-Ok.request _ c.in-Ok.ensures c.in-Ok-turn.ensures.ok.0 c.in-Ok-turn.ensures.ok.1 c.quits_by-quits.ensures
+pub returns-in-Ok-turn-clause-answered : goal.returns-in-Ok-turn-clause-answered
+returns-in-Ok-turn-clause-answered c =
+    let rest = at_rest c.args.floor.now c.args.session.now c.requires.idle in
+    let e = c.in-Ok-turn.ensures in
+    answered_ok (state_at c.args.floor.now c.args.session.now) (state_at c.turn.new.floor c.turn.new.self) c.args.line.now c.in-Ok-turn.text c.in-Ok.request c.end_of.result c.in-Ok.ensures
+    (e.text ∙ ap (λ (s : SessionState). answer_to s c.in-Ok.request) rest) (e.state ∙ ap (λ (s : SessionState). state_to s c.in-Ok.request) rest) c.end_of.ensures
 
-pub returns-in-Err-turn : goal.returns-in-Err-turn
-returns-in-Err-turn c =
+pub returns-clause-answered : goal.returns-clause-answered
+returns-clause-answered c =
+    let rest = at_rest c.args.floor.now c.args.session.now c.requires.idle in
     let e = c.in-Err-turn.ensures in
-    answered_none c.args.floor.now c.turn.new.floor c.args.line.now _ c.in-Ok.request c.quits_by-quits.result c.in-Ok.ensures e.wants (rw e.memory.0 at c.refusal-in-Err-turn.ensures) e.memory.1
+    let r = c.refused-in-Err-turn in
+    answered_none (state_at c.args.floor.now c.args.session.now) (state_at c.turn.new.floor c.turn.new.self) c.args.line.now r.result.text c.in-Ok.request r.result.end c.in-Ok.ensures
+    (rw e.memory at r.ensures.0) r.ensures.1 (subst (λ (s : SessionState). IsUndone s c.in-Ok.request (state_at c.turn.new.floor c.turn.new.self)) rest e.undone)

@@ -8,13 +8,13 @@ use Rattle.mt_session.proofs.session.serve_line.Goals as goal
 pub returns-in-Ok-Text-clause-served : goal.returns-in-Ok-Text-clause-served
 returns-in-Ok-Text-clause-served g c t u =
     let n = rw (c.in-Ok-Text.field-0-is, c.requires.limit) at c.in-Ok-Text.ensures.next in
-    let a = rw c.line.ensures at c.answer_line-reply.ensures in
-    after_text _ _ _ _ _ _ _ _ _ _ (n (rw c.requires.fresh refl) t) refl a (rw c.quit_end.ensures at c.answer_with.ensures.sent u)
+    let a = rw c.line.ensures at c.answer_line-reply.ensures.answered in
+    after_text _ _ _ _ _ _ _ _ _ _ (n (rw c.requires.fresh refl) t) refl a c.answer_line-reply.ensures.whole (c.answer_with.ensures.sent u)
 
 pub returns-in-Ok-TooLong-clause-served : goal.returns-in-Ok-TooLong-clause-served
 returns-in-Ok-TooLong-clause-served g c t u =
     let n = rw (c.in-Ok-TooLong.field-0-is, c.requires.limit) at c.in-Ok-TooLong.ensures.next in
-    after_text _ _ _ _ _ _ _ _ _ _ (n (rw c.requires.fresh refl) t) refl (answered_fixed _ Overlong fault.TooLong refl) (rw c.refusal.ensures at c.answer_with-in-Ok-TooLong-2.ensures.sent u)
+    after_text _ _ _ _ _ _ _ _ _ _ (n (rw c.requires.fresh refl) t) refl (answered_fixed _ Overlong fault.TooLong refl) (λ e is. cc) (rw c.refusal.ensures at c.answer_with-in-Ok-TooLong-2.ensures.sent u)
 
 pub returns-in-Ok-Unended-clause-served : goal.returns-in-Ok-Unended-clause-served
 returns-in-Ok-Unended-clause-served g c t u =

@@ -1,0 +1,138 @@
+-- What a request does to a floor and to the watcher of a session, and what it is answered. All of it is this project's rule.
+use Rattle.std.specs.Prelude.{ℕ, Bool, true, false, cond, not, ◌&&◌, ◌==◌, List, [], ◌∷◌, length, take, replicate, is_some, Option, Some, None, Result, Ok, Err}
+use Rattle.std.specs.Option.{option_map_or, option_map}
+use Rattle.mt_skel.specs.declared.fault.Fault.{Fault}
+use Rattle.mt_skel.specs.declared.fault.Fault.TheVariants.{WatcherOpen, NoWatcher, Lagged as WasLagged, Stopped}
+use Rattle.mt_events.specs.Posts.{PostView}
+use Rattle.mt_events.specs.declared.opening.Opening.{Opening}
+use Rattle.mt_book.specs.Step.{after}
+use Rattle.mt_book.specs.Book.{found_at}
+use Rattle.mt_floor.specs.declared.watch.Phase.{Phase}
+use Rattle.mt_floor.specs.declared.watch.Phase.TheVariants.{Open as IsOpen, Lagged, Ended}
+use Rattle.mt_floor.specs.declared.event.Event.TheVariants.{Apply, Open, Take as TakePost, Meet, Close as CloseWatcher, Stop as StopFloor}
+use Rattle.mt_floor.specs.declared.event.Answer.{Answer}
+use Rattle.mt_floor.specs.declared.event.Answer.TheVariants.{Replied, Opened, Met}
+use Rattle.mt_floor.specs.Schedule.{FloorView, Stepped, floor_step, run, settled, waiting}
+use Rattle.mt_requests.specs.declared.request.Request.{Request}
+use Rattle.mt_requests.specs.declared.request.Request.TheVariants.{Run, Show, Find, Watch, Take, Follow, Close, Quit, Stop}
+use Rattle.mt_session.specs.Answers.{refusal, done_text, count_text, reply_text, shown_text, found_text, opening_text, posts_text, followed_text}
+
+-- what the lines of a session are folded over: a floor on which nothing is due, and the key of the session's watcher, if it has one
+pub record SessionState : Type 0 where
+  pub floor : FloorView
+  pub watcher : Option ℕ
+
+abbrev pub state_at : FloorView → Option ℕ → SessionState
+state_at floor watcher = record { floor = floor; watcher = watcher }
+
+-- the posts that are due are sent before the next request is done
+abbrev pub session_at : FloorView → Option ℕ → SessionState
+session_at floor watcher = state_at (settled floor) watcher
+
+-- a command's answer
+abbrev pub replied_text : Result Answer Fault → List ℕ
+replied_text (Ok (Replied r)) = reply_text r
+replied_text (Ok a) = done_text
+replied_text (Err f) = refusal f
+
+-- the watcher that has begun, by an answer, and what it found
+abbrev pub begun_by : Answer → Option (ℕ × Opening)
+begun_by (Opened key o) = Some (key, o)
+begun_by a = None
+
+-- what it is told
+abbrev pub opened_text : Result Answer Fault → List ℕ
+opened_text (Ok a) = option_map_or (λ p. opening_text p.1) (begun_by a) done_text
+opened_text (Err f) = refusal f
+
+-- where no post waits: this text for a watcher that is still posted to, and why there will be no more for another
+abbrev pub by_phase : List ℕ → Phase → List ℕ
+by_phase text IsOpen = text
+by_phase text Lagged = refusal WasLagged
+by_phase text Ended = refusal Stopped
+
+abbrev pub rest_text : List ℕ → Result Answer Fault → List ℕ
+rest_text text (Ok (Met m)) = by_phase text m.state
+rest_text text (Ok a) = text
+rest_text text (Err f) = refusal f
+
+-- `take`: the posts, or where there are none `ok 0` or why
+abbrev pub taken_text : FloorView → ℕ → List PostView → List ℕ
+taken_text s key [] = rest_text (count_text 0) (floor_step s (Meet key)).1
+taken_text s key (p ∷ ps) = posts_text (p ∷ ps)
+
+-- `follow`: the posts, then how many they are, or why there will be no more where there are fewer than were asked for
+abbrev pub end_of_followed : FloorView → ℕ → ℕ → ℕ → List ℕ
+end_of_followed s key k n = cond (n == k) (count_text n) (rest_text (count_text n) (floor_step s (Meet key)).1)
+
+-- `close`: the posts that were not taken
+abbrev pub closed_text : List PostView → Result Answer Fault → List ℕ
+closed_text posts (Ok a) = posts_text posts
+closed_text posts (Err f) = refusal f
+
+-- the floor once so many posts of a watcher were taken
+abbrev pub taken : FloorView → ℕ → ℕ → FloorView
+taken s key n = (run s (replicate n (TakePost key))).0
+
+-- the posts that a request for so many takes
+abbrev pub next_posts : FloorView → ℕ → ℕ → List PostView
+next_posts s key k = take k (waiting s key)
+
+-- what is done with the session's watcher, or else, where it has none
+abbrev pub with_watcher : {A : Type 0} → SessionState → (ℕ → A) → A → A
+with_watcher s f a = option_map_or f s.watcher a
+
+-- the text that a request is answered with
+unfoldable pub answer_to : SessionState → Request → List ℕ
+answer_to s (Run c) = replied_text (floor_step s.floor (Apply c)).1
+answer_to s (Show n) = shown_text s.floor.journal n
+answer_to s (Find n path) = found_text (found_at (after s.floor.journal) n path)
+answer_to s (Watch scope) = with_watcher s (λ key. refusal WatcherOpen) (opened_text (floor_step s.floor (Open scope)).1)
+answer_to s (Take k) = with_watcher s (λ key. taken_text s.floor key (next_posts s.floor key k)) (refusal NoWatcher)
+answer_to s (Follow k) =
+    with_watcher s (λ key. let posts : List PostView = next_posts s.floor key k in followed_text posts (end_of_followed s.floor key k (length posts)))
+    (refusal NoWatcher)
+answer_to s Close = with_watcher s (λ key. closed_text (waiting s.floor key) (floor_step s.floor (CloseWatcher key)).1) (refusal NoWatcher)
+answer_to s Quit = done_text
+answer_to s Stop = done_text
+
+-- a watcher that began is the session's
+abbrev pub begun : Stepped → SessionState
+begun (s, Ok a) = record { floor = s; watcher = option_map (λ p. p.0) (begun_by a) }
+begun (s, Err f) = record { floor = s; watcher = None }
+
+-- the session's watcher has taken so many posts
+abbrev pub with_taken : SessionState → ℕ → SessionState
+with_taken s k = with_watcher s (λ key. record s { floor = taken s.floor key (length (next_posts s.floor key k)) }) s
+
+-- the session's watcher, if it has one, was closed
+abbrev pub left : SessionState → SessionState
+left s = with_watcher s (λ key. record { floor = (floor_step s.floor (CloseWatcher key)).0; watcher = None }) s
+
+-- the state after a request
+unfoldable pub state_to : SessionState → Request → SessionState
+state_to s (Run c) = session_at (floor_step s.floor (Apply c)).0 s.watcher
+state_to s (Show n) = s
+state_to s (Find n path) = s
+state_to s (Watch scope) = with_watcher s (λ key. s) (begun (floor_step s.floor (Open scope)))
+state_to s (Take k) = with_taken s k
+state_to s (Follow k) = with_taken s k
+state_to s Close = left s
+state_to s Quit = s
+state_to s Stop = record s { floor = (floor_step s.floor StopFloor).0 }
+
+-- the answer may fail for want of memory; the others are found without any
+abbrev pub wants_memory : SessionState → Request → Bool
+wants_memory s (Run c) = true
+wants_memory s (Show n) = true
+wants_memory s (Find n path) = true
+wants_memory s (Watch scope) = not (is_some s.watcher)
+wants_memory s (Take k) = is_some s.watcher
+wants_memory s (Follow k) = is_some s.watcher
+wants_memory s Close = is_some s.watcher
+wants_memory s Quit = false
+wants_memory s Stop = false
+
+-- the request begins a watcher
+abbrev pub begins : SessionState → Request → Bool
+begins s r = not (is_some s.watcher) && is_some (state_to s r).watcher

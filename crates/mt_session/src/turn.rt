@@ -1,0 +1,330 @@
+//! What a session does for a request.
+ghost use Rattle.std.specs.Prelude.{◌≡◌, ◌≢◌, ◌+◌, ◌++◌, ◌<◌, ◌≤◌, cond, length, take, flat_map, IfOk, IfErr, OnOk, OnErr, IsOkUnless, Ok, Err, None, Some, []};
+ghost use Rattle.mt_events.specs.Posts.{post_lines, post_text};
+ghost use Rattle.mt_book.specs.Step.{after};
+ghost use Rattle.mt_book.specs.Book.{found_at};
+ghost use Rattle.mt_floor.specs.Schedule.{floor_step, settled, waiting};
+ghost use Rattle.mt_session.specs.Answers.{shown_text, found_text, count_text, lines_of_posts, posts_text, followed_text};
+ghost use Rattle.mt_session.specs.Requests.{state_at, session_at, answer_to, state_to, left, begun, begun_by, replied_text, opened_text, rest_text, taken_text, end_of_followed, closed_text, taken, next_posts};
+ghost use Rattle.mt_session.specs.Serving.{IsUndone};
+
+use crate::text::Text;
+use mt_book::command::{Command, Reply};
+use mt_events::opening::{Opening, Scope};
+use mt_events::post::Post;
+use mt_events::print::push_post;
+use mt_floor::event::{Answer, Event};
+use mt_floor::floor::Floor;
+use mt_floor::watch::{Phase, WatchKey};
+use mt_requests::request::Request;
+use mt_skel::fault::Fault;
+use mt_skel::name::Names;
+use std::alloc::Global;
+use std::marker::Model;
+
+/// A session on a floor: the key of its watcher, if it has one.
+#[derive(Drop)]
+pub struct Session {
+    watcher: Option<WatchKey>,
+    alloc: Global,
+}
+
+impl Model for Session {
+    ghost use Rattle.std.specs.Prelude.{ℕ, Option};
+
+    ghost Value = { Option ℕ };
+
+    ghost view = { λ s. s.watcher };
+}
+
+/// The lines that show a namespace's table.
+fn show(alloc: Global, floor: &Floor, space: u64) -> Result<Text, Fault>
+    ensures ok { IfOk result (λ text. text ≡ shown_text floor.now.journal space) }
+    ensures memory { IfErr result (λ fault. fault ≡ Fault.NoMemory) }
+{
+    let number = match floor.book().number(space) {
+        Ok(number) => number,
+        Err(fault) => return Ok(Text::refusal(fault)),
+    };
+    let table = floor.book().table(space)?;
+    Ok(Text::table(alloc, number, &table)?)
+}
+
+/// The line that says where a path ends.
+fn find(alloc: Global, floor: &Floor, space: u64, path: &Names) -> Result<Text, Fault>
+    ensures ok { IfOk result (λ text. text ≡ found_text (found_at (after floor.now.journal) space path.now)) }
+    ensures memory { IfErr result (λ fault. fault ≡ Fault.NoMemory) }
+{
+    match floor.book().find(space, path.as_slice()) {
+        Ok((mount, names)) => Ok(Text::place(alloc, mount, &names)?),
+        Err(Fault::NoMemory) => Err(Fault::NoMemory),
+        Err(fault) => Ok(Text::refusal(fault)),
+    }
+}
+
+/// Applies a command, and sends its posts to the watchers.
+fn run(floor: &mut Floor, command: &Command) -> Result<Text, Fault>
+    requires idle { floor.old.due ≡ [] }
+    ensures ok { IfOk result (λ text. (text ≡ replied_text (floor_step floor.old (Event.Apply command.now)).1) × (floor.new ≡ settled (floor_step floor.old (Event.Apply command.now)).0)) }
+    ensures memory { IfErr result (λ fault. (fault ≡ Fault.NoMemory) × (floor.new ≡ floor.old)) }
+    ensures idle { floor.new.due ≡ [] }
+{
+    let command = command.copy()?;
+    let text = match floor.step(Event::Apply(command)) {
+        Ok(Answer::Replied(reply)) => Text::reply(reply),
+        Ok(_) => Text::reply(Reply::Done),
+        Err(Fault::NoMemory) => return Err(Fault::NoMemory),
+        Err(fault) => Text::refusal(fault),
+    };
+    floor.settle();
+    Ok(text)
+}
+
+/// What is said where no post waits for a watcher of which so many were told, and this is how far it is.
+fn rest_of(told: u64, met: Result<Answer, Fault>) -> Text
+    ensures { result ≡ rest_text (count_text told) met }
+{
+    match met {
+        Ok(Answer::Met(meeting)) => match meeting.state {
+            Phase::Open => Text::reply(Reply::Number(told)),
+            Phase::Lagged => Text::refusal(Fault::Lagged),
+            Phase::Ended => Text::refusal(Fault::Stopped),
+        },
+        Ok(_) => Text::reply(Reply::Number(told)),
+        Err(fault) => Text::refusal(fault),
+    }
+}
+
+/// What is said where no post waits for a watcher of which so many were told.
+fn rest(floor: &mut Floor, key: WatchKey, told: u64) -> Text
+    ensures text { result ≡ rest_text (count_text told) (floor_step floor.old (Event.Meet key)).1 }
+    ensures floor { floor.new ≡ floor.old }
+{
+    let met = floor.step(Event::Meet(key));
+    rest_of(told, met)
+}
+
+/// Posts as they are sent to a client.
+#[derive(Drop)]
+struct Printed {
+    text: Vec<u8>,
+    lines: u64,
+}
+
+/// A count of lines with those of a post. Refused as `NoMemory` alone: no memory holds 2^64 lines.
+fn lines_with(lines: u64, post: &Post) -> Result<u64, Fault>
+    ensures lines { IfOk result (λ sum. sum ≡ lines + length (post_lines post.now)) }
+    ensures memory { IsOkUnless result Fault.NoMemory }
+{
+    let gone = post.gone.as_slice().len() as u64;
+    let rows = post.rows.as_slice().len() as u64;
+    let more = gone
+        .checked_add(rows)
+        .and_then(|more| more.checked_add(1))
+        .ok_or(Fault::NoMemory)?;
+    lines.checked_add(more).ok_or(Fault::NoMemory)
+}
+
+/// The next posts of a watcher as they are sent to a client, so many of them.
+fn print_next(alloc: Global, floor: &Floor, key: WatchKey, count: usize) -> Result<Printed, Fault>
+    ensures text { IfOk result (λ printed. printed.text.items ≡ flat_map post_text (next_posts floor.now key count)) }
+    ensures lines { IfOk result (λ printed. printed.lines ≡ lines_of_posts (next_posts floor.now key count)) }
+    ensures memory { IfErr result (λ fault. fault ≡ Fault.NoMemory) }
+{
+    let mut text = Vec::new(alloc);
+    let mut lines = 0u64;
+    'posts: for index in 0..count {
+        let Some(post) = floor.waiting_post(key, index) else {
+            return Ok(Printed { text, lines });
+        };
+        lines = lines_with(lines, post)?;
+        push_post(&mut text, post)?;
+    }
+    Ok(Printed { text, lines })
+}
+
+/// Takes so many posts of a watcher, which were told.
+fn take_told(floor: &mut Floor, key: WatchKey, count: usize)
+    requires idle { floor.old.due ≡ [] }
+    ensures floor { floor.new ≡ taken floor.old key count }
+    ensures idle { floor.new.due ≡ [] }
+{
+    'posts: for _index in 0..count {
+        let _ = floor.step(Event::Take(key));
+    }
+}
+
+/// Takes up to so many posts of a watcher. They are printed first, so that none is lost for want of memory.
+fn take(alloc: Global, floor: &mut Floor, key: WatchKey, most: u64) -> Result<Text, Fault>
+    requires idle { floor.old.due ≡ [] }
+    ensures ok { IfOk result (λ text. (text ≡ taken_text floor.old key (next_posts floor.old key most)) × (floor.new ≡ taken floor.old key (length (next_posts floor.old key most)))) }
+    ensures memory { IfErr result (λ fault. (fault ≡ Fault.NoMemory) × (floor.new ≡ floor.old)) }
+    ensures idle { floor.new.due ≡ [] }
+{
+    let count = floor.waiting_count(key).min(most as usize);
+    if count == 0 {
+        return Ok(rest(floor, key, 0));
+    }
+    let printed = print_next(alloc, floor, key, count)?;
+    let text = Text::counted(alloc, printed.lines, &printed.text)?;
+    take_told(floor, key, count);
+    Ok(text)
+}
+
+/// How a client is told of the end of posts that it followed, of which there were so many.
+fn end_of_followed(floor: &mut Floor, key: WatchKey, most: u64, told: u64) -> Text
+    ensures text { result ≡ end_of_followed floor.old key most told }
+    ensures floor { floor.new ≡ floor.old }
+{
+    if told == most {
+        Text::reply(Reply::Number(told))
+    } else {
+        rest(floor, key, told)
+    }
+}
+
+/// Takes the posts of a watcher that are there, up to so many, as they are followed.
+fn follow(alloc: Global, floor: &mut Floor, key: WatchKey, most: u64) -> Result<Text, Fault>
+    requires idle { floor.old.due ≡ [] }
+    ensures ok { IfOk result (λ text. (text ≡ followed_text (next_posts floor.old key most) (end_of_followed floor.old key most (length (next_posts floor.old key most)))) × (floor.new ≡ taken floor.old key (length (next_posts floor.old key most)))) }
+    ensures memory { IfErr result (λ fault. (fault ≡ Fault.NoMemory) × (floor.new ≡ floor.old)) }
+    ensures idle { floor.new.due ≡ [] }
+{
+    let count = floor.waiting_count(key).min(most as usize);
+    let mut printed = print_next(alloc, floor, key, count)?;
+    let end = end_of_followed(floor, key, most, count as u64);
+    printed.text.extend_from_slice(end.bytes())?;
+    take_told(floor, key, count);
+    Ok(Text::lines(printed.text))
+}
+
+/// Stops the floor.
+fn stop(floor: &mut Floor)
+    requires idle { floor.old.due ≡ [] }
+    ensures floor { floor.new ≡ (floor_step floor.old Event.Stop).0 }
+    ensures idle { floor.new.due ≡ [] }
+{
+    let _ = floor.step(Event::Stop);
+}
+
+/// Closes a watcher, and tells what it has not taken.
+fn close(alloc: Global, floor: &mut Floor, key: WatchKey) -> Result<Text, Fault>
+    requires idle { floor.old.due ≡ [] }
+    ensures ok { IfOk result (λ text. (text ≡ closed_text (waiting floor.old key) (floor_step floor.old (Event.Close key)).1) × (floor.new ≡ (floor_step floor.old (Event.Close key)).0)) }
+    ensures memory { IfErr result (λ fault. (fault ≡ Fault.NoMemory) × (floor.new ≡ floor.old)) }
+    ensures idle { floor.new.due ≡ [] }
+{
+    let count = floor.waiting_count(key);
+    let printed = print_next(alloc, floor, key, count)?;
+    let text = Text::counted(alloc, printed.lines, &printed.text)?;
+    match floor.step(Event::Close(key)) {
+        Ok(_) => Ok(text),
+        Err(fault) => Ok(Text::refusal(fault)),
+    }
+}
+
+/// The watcher that has begun, by this answer, and what it found.
+fn begun_by(answer: Answer) -> Option<(WatchKey, Opening)>
+    ensures { result ≡ begun_by answer }
+{
+    match answer {
+        Answer::Opened { key, opening } => Some((key, opening)),
+        _ => None,
+    }
+}
+
+impl Session {
+    /// A session with no watcher. Memory for its answers will come from `alloc`.
+    pub fn new(alloc: Global) -> Session
+        ensures { result ≡ None }
+    {
+        Session {
+            watcher: None,
+            alloc,
+        }
+    }
+
+    /// Begins a watcher, and tells what it finds. Where there is no memory to tell it, the watcher is closed again.
+    fn watch(&mut self, floor: &mut Floor, scope: Scope) -> Result<Text, Fault>
+        requires none { self.old ≡ None }
+        requires idle { floor.old.due ≡ [] }
+        ensures ok { IfOk result (λ text. (text ≡ opened_text (floor_step floor.old (Event.Open scope)).1) × (state_at floor.new self.new ≡ begun (floor_step floor.old (Event.Open scope)))) }
+        ensures memory { IfErr result (λ fault. (fault ≡ Fault.NoMemory) × IsUndone (state_at floor.old self.old) (Request.Watch scope) (state_at floor.new self.new)) }
+        ensures idle { floor.new.due ≡ [] }
+    {
+        let answer = match floor.step(Event::Open(scope)) {
+            Ok(answer) => answer,
+            Err(Fault::NoMemory) => return Err(Fault::NoMemory),
+            Err(fault) => return Ok(Text::refusal(fault)),
+        };
+        let Some((key, opening)) = begun_by(answer) else {
+            return Ok(Text::reply(Reply::Done));
+        };
+        match Text::opening(self.alloc, &opening) {
+            Ok(text) => {
+                self.watcher = Some(key);
+                Ok(text)
+            }
+            Err(fault) => {
+                let _ = floor.step(Event::Close(key));
+                Err(fault)
+            }
+        }
+    }
+
+    /// Does a request, and answers the lines that are sent for it, those of a refusal too: `no` and its name. Before it
+    /// and after a command the posts that are due are sent to their watchers.
+    ///
+    /// `watch` is refused as `WatcherOpen` where the session has a watcher, else as the floor refuses it; `take`,
+    /// `follow` and `close` as `NoWatcher` where it has none. `take` and `follow` tell the posts that are there, up to
+    /// as many as are asked for; where `take` finds none, and where `follow` finds fewer, a watcher that lags is told
+    /// `no Lagged`, and one that a stop has ended `no Stopped`.
+    ///
+    /// Want of memory is the only refusal here. Then nothing has changed, but that a watcher may have begun that could
+    /// not be told what it found, and was closed again.
+    #[tactic(auto, unfolding(crate::specs::Requests::answer_to, crate::specs::Requests::state_to))]
+    pub fn turn(&mut self, floor: &mut Floor, request: &Request) -> Result<Text, Fault>
+        ensures text { IfOk result (λ text. text ≡ answer_to (session_at floor.old self.old) request.now) }
+        ensures state { OnOk result (state_at floor.new self.new ≡ state_to (session_at floor.old self.old) request.now) }
+        ensures memory { IsOkUnless result Fault.NoMemory }
+        ensures undone { OnErr result (IsUndone (session_at floor.old self.old) request.now (state_at floor.new self.new)) }
+        ensures idle { floor.new.due ≡ [] }
+    {
+        floor.settle();
+        match (request, self.watcher) {
+            (Request::Run(command), _) => run(floor, command),
+            (Request::Show(space), _) => show(self.alloc, floor, *space),
+            (Request::Find { space, path }, _) => find(self.alloc, floor, *space, path),
+            (Request::Watch(scope), None) => self.watch(floor, *scope),
+            (Request::Watch(_), Some(_)) => Ok(Text::refusal(Fault::WatcherOpen)),
+            (Request::Take(most), Some(key)) => take(self.alloc, floor, key, *most),
+            (Request::Follow(most), Some(key)) => follow(self.alloc, floor, key, *most),
+            (Request::Close, Some(key)) => {
+                let text = close(self.alloc, floor, key)?;
+                self.watcher = None;
+                Ok(text)
+            }
+            (Request::Take(_) | Request::Follow(_) | Request::Close, None) => {
+                Ok(Text::refusal(Fault::NoWatcher))
+            }
+            (Request::Quit, _) => Ok(Text::reply(Reply::Done)),
+            (Request::Stop, _) => {
+                stop(floor);
+                Ok(Text::reply(Reply::Done))
+            }
+        }
+    }
+
+    /// Closes the session's watcher, if it has one, and sends the posts that are due. Takes no memory.
+    pub fn leave(&mut self, floor: &mut Floor)
+        ensures state { state_at floor.new self.new ≡ left (session_at floor.old self.old) }
+        ensures none { self.new ≡ None }
+        ensures idle { floor.new.due ≡ [] }
+    {
+        floor.settle();
+        if let Some(key) = self.watcher {
+            let _ = floor.step(Event::Close(key));
+            self.watcher = None;
+        }
+    }
+}
