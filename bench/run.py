@@ -106,6 +106,53 @@ def mixed(rng):
     return lines
 
 
+def peers_of_one(spaces):
+    """So many namespaces, of which each gets what is mounted in the first."""
+    return start() + ["setattr 1 / prop=shared"] + ["copyns 1"] * (spaces - 1)
+
+
+def watched(spaces, times):
+    """Mounts and unmounts that so many namespaces get, and their posts taken after each."""
+    lines = peers_of_one(spaces) + ["watch all"]
+    for _ in range(times):
+        lines += ["mount 1 d /m", "take 64", "umount 1 /m", "take 64"]
+    return lines
+
+
+def watched_one(rng):
+    """20,000 commands and takes in turn with a watcher of 1 namespace."""
+    return watched(1, 5_000)
+
+
+def watched_many(rng):
+    """2,000 commands and takes in turn with a watcher of 64 namespaces: 64,000 posts."""
+    return watched(64, 500)
+
+
+def unwatched_many(rng):
+    """The commands of watched_many with no watcher."""
+    return [line for line in watched(64, 500) if line.split()[0] not in ("watch", "take")]
+
+
+def never_taken(rng):
+    """10,000 commands with a watcher that never takes, and lags."""
+    return start() + ["watch 1"] + ["setattr 1 / set=ro", "setattr 1 / clr=ro"] * 5_000
+
+
+def never_watched(rng):
+    """The same 10,000 commands with no watcher."""
+    return [line for line in never_taken(rng) if line != "watch 1"]
+
+
+def many_openings(rng):
+    """100 watchers of 64 namespaces with 61 mounts each, one after another, and as many tables shown."""
+    lines = peers_of_one(64)
+    for n in range(60):
+        lines += [f"mkdir a /w{n}", f"mount 1 d /w{n}"]
+    shown = [f"show {space}" for space in range(1, 65)]
+    return lines + (["watch all", "close"] + shown) * 100
+
+
 WORKLOADS = [
     cheap_commands,
     deep_directories,
@@ -117,6 +164,12 @@ WORKLOADS = [
     wide_changes,
     full_journal,
     mixed,
+    watched_one,
+    watched_many,
+    unwatched_many,
+    never_taken,
+    never_watched,
+    many_openings,
 ]
 
 

@@ -33,7 +33,7 @@ def in_pieces(program, case, most):
         try:
             for at in range(0, len(text), most):
                 ours.send(text[at : at + most])
-        except BrokenPipeError:
+        except ConnectionError:
             pass
         ours.close()
         return served.communicate(timeout=MOST_SECONDS)[0]

@@ -89,3 +89,23 @@ fn a_schedule_is_answered_in_order(rt: HostRuntime) -> Result<(), Fail> {
     assert!(rt; is_told(rt.alloc())?);
     Ok(())
 }
+
+/// How many of so many watchers begin on a floor, and why the next one does not.
+fn begun(alloc: Global, watchers: usize) -> Result<(usize, Option<Fault>), Fault> {
+    let mut floor = Floor::new(alloc, 1);
+    for count in 0..watchers {
+        match floor.step(Event::Open(Scope::All)) {
+            Ok(_) => {}
+            Err(Fault::NoMemory) => return Err(Fault::NoMemory),
+            Err(fault) => return Ok((count, Some(fault))),
+        }
+    }
+    Ok((watchers, None))
+}
+
+#[test]
+fn sixty_four_watchers_begin_at_most(rt: HostRuntime) -> Result<(), Fail> {
+    assert!(rt; begun(rt.alloc(), 64)? == (64, None));
+    assert!(rt; begun(rt.alloc(), 65)? == (64, Some(Fault::TooManyWatchers)));
+    Ok(())
+}

@@ -1,4 +1,5 @@
 //! A whole session, cut by its writer after each byte and failed by its reader at each read.
+use mt_floor::event::Event;
 use mt_floor::floor::Floor;
 use mt_lines::line::ReadFault;
 use mt_lines::memory::{Faulty, Pieces, Sink};
@@ -41,7 +42,7 @@ event 2 2 1
 ok 0
 ";
 
-/// Whether the example, cut after so many bytes of its answers, lets exactly these out.
+/// Whether the example, cut after so many bytes of its answers, lets exactly these out, and has closed its watcher.
 fn is_cut_after(alloc: Global, room: usize) -> Result<bool, Fault> {
     let mut floor = Floor::new(alloc, 256);
     let mut sink = Sink::new(alloc, 4_096, room)?;
@@ -52,7 +53,8 @@ fn is_cut_after(alloc: Global, room: usize) -> Result<bool, Fault> {
         End::Cut(Cut { sent }) => !whole && sent <= room,
         _ => whole && end == End::Input,
     };
-    Ok(ended && sink.bytes() == wanted)
+    let closed = matches!(floor.step(Event::Meet(1)), Err(Fault::NoWatcher));
+    Ok(ended && closed && sink.bytes() == wanted)
 }
 
 #[test]
@@ -93,5 +95,55 @@ fn keeps_what_it_answered_before_a_failing_read(rt: HostRuntime) -> Result<(), F
         let (given_up, _) = fails_at(rt.alloc(), at, StreamFault::Interrupted, 1_000)?;
         assert_eq!(rt; given_up, End::Read(ReadFault::Interrupted), "at read {at}");
     }
+    Ok(())
+}
+
+/// A session that stops the server, and its answers.
+const STOPS: &[u8] = b"mkfs a tmpfs none
+newns a
+watch 1
+stop
+show 1
+";
+
+const STOPPED: &[u8] = b"ok 1
+ok 1
+ok 2
+space 1 1 1
+1 1 0:1 / / rw,relatime - tmpfs none rw
+ok
+";
+
+/// A session after it, and its answers.
+const COMES_LATER: &[u8] = b"mkfs z z z
+watch 1
+show 1
+";
+
+const REFUSED: &[u8] = b"no Stopped
+no Stopped
+ok 1 1
+1 1 0:1 / / rw,relatime - tmpfs none rw
+";
+
+/// Whether a session on a floor is answered so, and ends so.
+fn is_served(
+    alloc: Global,
+    floor: &mut Floor,
+    input: &'static [u8],
+    wanted: &[u8],
+    wanted_end: End,
+) -> Result<bool, Fault> {
+    let mut sink = Sink::new(alloc, 4_096, 65_536)?;
+    let end = serve_plain(alloc, Pieces::new(input, 4_096), &mut sink, floor);
+    Ok(end == wanted_end && sink.bytes() == wanted)
+}
+
+#[test]
+fn a_stop_is_for_later_sessions_too(rt: HostRuntime) -> Result<(), Fail> {
+    let alloc = rt.alloc();
+    let mut floor = Floor::new(alloc, 256);
+    assert!(rt; is_served(alloc, &mut floor, STOPS, STOPPED, End::Stop)?);
+    assert!(rt; is_served(alloc, &mut floor, COMES_LATER, REFUSED, End::Input)?);
     Ok(())
 }

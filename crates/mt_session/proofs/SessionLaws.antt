@@ -18,9 +18,9 @@ use Rattle.mt_session.specs.declared.session.End.TheVariants.{Quit, Stop, Input,
 use Rattle.mt_floor.specs.Schedule.{FloorView, settled}
 use Rattle.mt_floor.proofs.SettledLaws.{settled_idle}
 use Rattle.mt_session.specs.Answers.{refusal}
-use Rattle.mt_session.specs.Requests.{SessionState, state_at, session_at, answer_to, state_to, begins, left}
+use Rattle.mt_session.specs.Requests.{SessionState, state_at, session_at, answer_to, state_to, begins, left, IsUndone}
 use Rattle.mt_session.specs.Session.{Granted, Refused, Unshown, Asking, Whole, Broken, item_of, items_of, has_end, Turn, asked, may_fail, answer, after, ends, ends_by, text_of, state_after, AllGoOn, Going, Served, IsCause, sent_by, line_limit, IsReadEnd, IsReadEndRun, IsCutCause, IsCutRun}
-use Rattle.mt_session.specs.Serving.{the_turn, Answered, IsUndone, Ran, IsSent, ends_by_line, ServedLine, ends_whole, ends_by_answer}
+use Rattle.mt_session.specs.Serving.{the_turn, Answered, Ran, IsSent, ends_by_line, ServedLine, ends_whole, ends_by_answer}
 
 -- a line that may want memory to be read wants it to be done, and ends no session
 reading_fails : (s : SessionState) (x : Result Request Fault) → may_want_memory x ≡ true → may_fail s x ≡ true

@@ -15,8 +15,7 @@ use Rattle.mt_floor.specs.declared.event.Event.TheVariants.{Take, Open, Close}
 use Rattle.mt_floor.specs.declared.event.Answer.{Answer}
 use Rattle.mt_floor.specs.Schedule.{FloorView, Stepped, floor_step, takes_memory}
 use Rattle.mt_session.specs.Answers.{lines_of_posts}
-use Rattle.mt_session.specs.Requests.{SessionState, state_at, state_to, taken, begun, begun_by, left}
-use Rattle.mt_session.specs.Serving.{IsUndone}
+use Rattle.mt_session.specs.Requests.{SessionState, state_at, state_to, taken, begun, begun_by, left, IsUndone}
 
 -- an event that takes no memory was done, whatever it was answered
 pub step_is : (s n : FloorView) (e : Event) (r : Result Answer Fault) → takes_memory e ≡ false → IfOk r (λ a. floor_step s e ≡ (n, Ok a))

@@ -1,5 +1,5 @@
 -- What a request does to a floor and to the watcher of a session, and what it is answered. All of it is this project's rule.
-use Rattle.std.specs.Prelude.{ℕ, Bool, true, false, cond, not, ◌&&◌, ◌==◌, List, [], ◌∷◌, length, take, replicate, is_some, Option, Some, None, Result, Ok, Err}
+use Rattle.std.specs.Prelude.{◌≡◌, ◌⊎◌, ℕ, Bool, true, false, cond, not, ◌&&◌, ◌==◌, List, [], ◌∷◌, length, take, replicate, is_some, Option, Some, None, Result, Ok, Err}
 use Rattle.std.specs.Option.{option_map_or, option_map}
 use Rattle.mt_skel.specs.declared.fault.Fault.{Fault}
 use Rattle.mt_skel.specs.declared.fault.Fault.TheVariants.{WatcherOpen, NoWatcher, Lagged as WasLagged, Stopped}
@@ -136,3 +136,7 @@ wants_memory s Stop = false
 -- the request begins a watcher
 abbrev pub begins : SessionState → Request → Bool
 begins s r = not (is_some s.watcher) && is_some (state_to s r).watcher
+
+-- want of memory left the state of a request as it was, or closed a watcher again that had begun
+abbrev pub IsUndone : SessionState → Request → SessionState → Type 0
+IsUndone old r new = ((new ≡ old) × (wants_memory old r ≡ true)) ⊎ ((new ≡ left (state_to old r)) × (begins old r ≡ true))

@@ -3,8 +3,7 @@ use Rattle.std.specs.Prelude.{◌≡◌, ℕ, ◌+◌, ◌<◌, ◌≤◌, List,
 use Rattle.mt_lines.specs.declared.stream.Cut.{Cut}
 use Rattle.mt_session.specs.declared.session.End.{End}
 use Rattle.mt_session.specs.declared.session.End.TheVariants.{Quit, Stop, Input, Cut as CutOff, Memory, Spent}
-use Rattle.mt_requests.specs.declared.request.Request.{Request}
-use Rattle.mt_session.specs.Requests.{SessionState, state_to, wants_memory, begins, left}
+use Rattle.mt_session.specs.Requests.{SessionState}
 use Rattle.mt_session.specs.Session.{Growth, Asking, Turn, answer, after, ends, Going, ServedThen}
 
 -- an end that a line brings once its answer is out whole
@@ -35,10 +34,6 @@ the_turn line growth = record { line = line; growth = growth }
 abbrev pub Answered : SessionState → SessionState → Asking → List ℕ → Option End → Type 0
 Answered old new line text end =
     (growth : Growth) × (text ≡ answer old (the_turn line growth)) × (new ≡ after old (the_turn line growth)) × (end ≡ ends (the_turn line growth))
-
--- want of memory left the state of a request as it was, or closed a watcher again that had begun
-abbrev pub IsUndone : SessionState → Request → SessionState → Type 0
-IsUndone old r new = ((new ≡ old) × (wants_memory old r ≡ true)) ⊎ ((new ≡ left (state_to old r)) × (begins old r ≡ true))
 
 -- a session's lines, with its watcher as they left it
 abbrev pub Ran : List ℕ → SessionState → SessionState → List ℕ → List ℕ → End → Type 0

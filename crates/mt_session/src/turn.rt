@@ -5,8 +5,7 @@ ghost use Rattle.mt_book.specs.Step.{after};
 ghost use Rattle.mt_book.specs.Book.{found_at};
 ghost use Rattle.mt_floor.specs.Schedule.{floor_step, settled, waiting};
 ghost use Rattle.mt_session.specs.Answers.{shown_text, found_text, count_text, lines_of_posts, posts_text, followed_text};
-ghost use Rattle.mt_session.specs.Requests.{state_at, session_at, answer_to, state_to, left, begun, begun_by, replied_text, opened_text, rest_text, taken_text, end_of_followed, closed_text, taken, next_posts};
-ghost use Rattle.mt_session.specs.Serving.{IsUndone};
+ghost use Rattle.mt_session.specs.Requests.{state_at, session_at, answer_to, state_to, left, begun, begun_by, replied_text, opened_text, rest_text, taken_text, end_of_followed, closed_text, taken, next_posts, IsUndone};
 
 use crate::text::Text;
 use mt_book::command::{Command, Reply};

@@ -1,6 +1,5 @@
 use Rattle.std.proofs.Common.{◌∙◌, ap, subst}
-use Rattle.mt_session.specs.Requests.{SessionState, state_at, answer_to, state_to}
-use Rattle.mt_session.specs.Serving.{IsUndone}
+use Rattle.mt_session.specs.Requests.{SessionState, state_at, answer_to, state_to, IsUndone}
 use Rattle.mt_session.proofs.SessionLaws.{at_rest, answered_ok, answered_none, answered_err}
 use Rattle.mt_session.proofs.session.answer_line.Goals as goal
 
