@@ -1,8 +1,8 @@
 #!/usr/bin/env -S python3 -B
 """Proves everything once, from nothing, and checks the program that was built from outside.
 
-First `rt ci`, then README's commands (checks/readme.py), then checks/program.py, each with all that it
-prints. Then how long each took; then the last line of `rt ci`, `N passed, M failed`, once more. The
+First checks/words.py, then `rt ci`, then README's commands (checks/readme.py), then checks/program.py, each
+with all that it prints. Then how long each took; then the last line of `rt ci`, `N passed, M failed`, once more. The
 status is 0 where all of them passed.
 
 `rt ci` keeps no library that `rt run` would take, so that README's `rt run` would prove everything a
@@ -43,8 +43,10 @@ def main():
     # What is there afterwards is what rt ci has built.
     with contextlib.suppress(FileNotFoundError):
         os.remove(PROGRAM)
+    words_passed, _, words_took = run("self-test of words.py", "checks/words.py", "--self-test")
+    named, _, named_took = run("one word, one meaning; each thing once", "checks/words.py")
     passed, verdict, took = run("rt ci", "rt", "ci")
-    all_took, all_passed = [took], [passed]
+    all_took, all_passed = [words_took, named_took, took], [words_passed, named, passed]
     if os.path.isfile(PROGRAM):
         for name, *words in (
             ("README's commands", "checks/readme.py", "--built"),

@@ -115,9 +115,9 @@ def check_copies(program):
             *_, made, old, new = answer_groups(session(program, asked)[1], asked)
             if made == [b"no TooMany"]:
                 continue
-            rows, twins = ([row.split(b" ", 2) for row in group[1:]] for group in (old, new))
-            numbers = {row[0]: twin[0] for row, twin in zip(rows, twins)}
-            good = rows != [] and renumbered(rows, numbers) == twins
+            rows, copies = ([row.split(b" ", 2) for row in group[1:]] for group in (old, new))
+            numbers = {row[0]: copy[0] for row, copy in zip(rows, copies)}
+            good = rows != [] and renumbered(rows, numbers) == copies
             check(f"copy of namespace {space} of {name}", good, shown(b"\n".join(old + new)))
             compared += 1
     print(f"{compared} namespaces compared with their copies")

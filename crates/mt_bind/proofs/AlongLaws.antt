@@ -9,7 +9,7 @@ use Rattle.mt_mounts.specs.declared.mount.Place.{Place}
 use Rattle.mt_mounts.specs.Forest.{parent}
 use Rattle.mt_mounts.proofs.Walks.{below_within, below_here, below_stop, below_step}
 use Rattle.mt_propagate.specs.World.{WorldView, state_of}
-use Rattle.mt_bind.specs.Along.{stands_in}
+use Rattle.mt_bind.specs.Sources.{leads_within}
 
 and_false : (b c : Bool) → (b && false && c) ≡ false
 and_false true c = refl
@@ -29,7 +29,7 @@ module _ (w : WorldView) (p : Place) where
   -- whether so many steps from j lead to the top, past no unbindable mount and within the directory; the mount passed last
   -- stands in it
   abbrev pub taken : ℕ → Option ℕ → ℕ → Bool
-  taken n passed j = below_within w.forest p.mount n j && list_all unbound (way n j) && stands_in w p.dir (last_or passed (way n j))
+  taken n passed j = below_within w.forest p.mount n j && list_all unbound (way n j) && leads_within w p.dir (last_or passed (way n j))
 
   stop : (j : ℕ) (rest : List ℕ) → j ≡ p.mount → take_while off_top (j ∷ rest) ≡ []
   stop j rest e = take_while-cons off_top j rest ∙ ap (λ b. cond (not b) (j ∷ take_while off_top rest) []) (eq-eqb j p.mount e)
@@ -48,33 +48,33 @@ module _ (w : WorldView) (p : Place) where
       (take_while off_top rest, more j rest e)
 
   -- at the top it is decided
-  pub taken_here : (n : ℕ) (passed : Option ℕ) (j : ℕ) → j ≡ p.mount → taken n passed j ≡ stands_in w p.dir passed
+  pub taken_here : (n : ℕ) (passed : Option ℕ) (j : ℕ) → j ≡ p.mount → taken n passed j ≡ leads_within w p.dir passed
   taken_here n passed j e =
-      ap (λ b. b && list_all unbound (way n j) && stands_in w p.dir (last_or passed (way n j))) (below_here w.forest p.mount n j e)
-      ∙ ap (λ (ks : List ℕ). true && list_all unbound ks && stands_in w p.dir (last_or passed ks)) (way_here n j e)
+      ap (λ b. b && list_all unbound (way n j) && leads_within w p.dir (last_or passed (way n j))) (below_here w.forest p.mount n j e)
+      ∙ ap (λ (ks : List ℕ). true && list_all unbound ks && leads_within w p.dir (last_or passed ks)) (way_here n j e)
 
   -- no mount is taken along with an unbindable one below the top
   pub taken_unbindable : (n : ℕ) (passed : Option ℕ) (j : ℕ) → j ≢ p.mount → (state_of w j).unbindable ≡ true → taken n passed j ≡ false
   taken_unbindable n passed j ne e =
       let rest = way_more n j ne in
       let none : list_all unbound (way n j) ≡ false = ap (list_all unbound) rest.1 ∙ ap (λ b. not b && list_all unbound rest.0) e in
-      ap (λ b. below_within w.forest p.mount n j && b && stands_in w p.dir (last_or passed (way n j))) none
-      ∙ and_false (below_within w.forest p.mount n j) (stands_in w p.dir (last_or passed (way n j)))
+      ap (λ b. below_within w.forest p.mount n j && b && leads_within w p.dir (last_or passed (way n j))) none
+      ∙ and_false (below_within w.forest p.mount n j) (leads_within w p.dir (last_or passed (way n j)))
 
   -- nor one whose way ends elsewhere
   pub taken_root : (n : ℕ) (passed : Option ℕ) (j : ℕ) → j ≢ p.mount → parent w.forest j ≡ None → taken n passed j ≡ false
   taken_root n passed j ne e =
-      ap (λ b. b && list_all unbound (way n j) && stands_in w p.dir (last_or passed (way n j))) (below_stop w.forest p.mount n j e ∙ ap (λ b. b || false) (ne_eqb p.mount j (λ s. ne (sym s))))
+      ap (λ b. b && list_all unbound (way n j) && leads_within w p.dir (last_or passed (way n j))) (below_stop w.forest p.mount n j e ∙ ap (λ b. b || false) (ne_eqb p.mount j (λ s. ne (sym s))))
 
   pub taken_off : (passed : Option ℕ) (j : ℕ) → j ≢ p.mount → taken zero passed j ≡ false
   taken_off passed j ne =
-      ap (λ b. (b || false) && list_all unbound (way zero j) && stands_in w p.dir (last_or passed (way zero j))) (ne_eqb p.mount j (λ s. ne (sym s)))
+      ap (λ b. (b || false) && list_all unbound (way zero j) && leads_within w p.dir (last_or passed (way zero j))) (ne_eqb p.mount j (λ s. ne (sym s)))
 
   -- elsewhere the parent decides
   pub taken_step : (n : ℕ) (passed : Option ℕ) (j q : ℕ) → j ≢ p.mount → (state_of w j).unbindable ≡ false → parent w.forest j ≡ Some q → taken (suc n) passed j ≡ taken n (Some j) q
   taken_step n passed j q ne e up =
       let rest = option_map_or (λ y. chain (parent w.forest) n y) (parent w.forest j) [] in
       let longer : way (suc n) j ≡ j ∷ way n q = more j rest ne ∙ ap (λ (o : Option ℕ). j ∷ take_while off_top (option_map_or (λ y. chain (parent w.forest) n y) o [])) up in
-      ap (λ b. b && list_all unbound (way (suc n) j) && stands_in w p.dir (last_or passed (way (suc n) j))) (below_step w.forest p.mount n j q ne up)
-      ∙ ap (λ (ks : List ℕ). below_within w.forest p.mount n q && list_all unbound ks && stands_in w p.dir (last_or passed ks)) longer
-      ∙ ap (λ b. below_within w.forest p.mount n q && (not b && list_all unbound (way n q)) && stands_in w p.dir (last_or (Some j) (way n q))) e
+      ap (λ b. b && list_all unbound (way (suc n) j) && leads_within w p.dir (last_or passed (way (suc n) j))) (below_step w.forest p.mount n j q ne up)
+      ∙ ap (λ (ks : List ℕ). below_within w.forest p.mount n q && list_all unbound ks && leads_within w p.dir (last_or passed ks)) longer
+      ∙ ap (λ b. below_within w.forest p.mount n q && (not b && list_all unbound (way n q)) && leads_within w p.dir (last_or (Some j) (way n q))) e

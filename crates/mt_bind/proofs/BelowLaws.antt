@@ -14,7 +14,7 @@ use Rattle.mt_mounts.proofs.Walks.{below_here, below_stop}
 use Rattle.mt_mounts.proofs.CycleLaws.{above_of, rank_of, rank_falls}
 use Rattle.mt_propagate.specs.World.{WorldView}
 use Rattle.mt_propagate.specs.WellFormed.{IsWellFormed}
-use Rattle.mt_propagate.proofs.ElementLaws.{in_any, chain_low}
+use Rattle.mt_skel.proofs.ElementLaws.{in_any, chain_low}
 use Rattle.mt_propagate.proofs.CopyForestLaws.{parent_is}
 use Rattle.mt_bind.specs.Sources.{path_to}
 

@@ -18,10 +18,10 @@ use Rattle.mt_bind.specs.Mounting.{bound}
 abbrev pub effect : WorldView → Source → Place → WorldView × ℕ
 effect w src p = (copied w src p, copy_id w src p p.mount src.top.id)
 
-module _ (w : WorldView) (n : ℕ) (deep : Bool) (from to : List (List ℕ)) where
+module _ (w : WorldView) (n : ℕ) (recursive : Bool) (from to : List (List ℕ)) where
   -- what is copied from a place
   abbrev source_at : Place → Source
-  source_at s = cond deep (tree_within w s) (alone w s)
+  source_at s = cond recursive (tree_within w s) (alone w s)
 
   -- what a bind answers with its paths walked
   abbrev answer : Result Place Fault → Result Place Fault → Result (WorldView × ℕ) Fault
@@ -34,15 +34,15 @@ module _ (w : WorldView) (n : ℕ) (deep : Bool) (from to : List (List ℕ)) whe
       (effect w (source_at (place_or_nowhere q)) (place_or_nowhere r))
 
   module _ (s : Place) (began : walk w.skel w.forest n from ≡ Ok s) (p : Place) (ended : walk w.skel w.forest n to ≡ Ok p) (off : is_root_place w p ≡ false) (may : (state_of w s.mount).unbindable ≡ false) where
-    late : bound w n deep from to ≡ outcome (refuse_if (too_many_mounts w (length (new_copies w (source_at s) p))) TooMany ∷ []) (effect w (source_at s) p)
+    late : bound w n recursive from to ≡ outcome (refuse_if (too_many_mounts w (length (new_copies w (source_at s) p))) TooMany ∷ []) (effect w (source_at s) p)
     late =
         ap (λ q. answer q (walk w.skel w.forest n to)) began
         ∙ ap (answer (Ok s)) ended
         ∙ passed (is_root_place w p) RootPlace _ _ off
         ∙ passed (state_of w s.mount).unbindable Unbindable _ _ may
 
-    pub bound_done : too_many_mounts w (length (new_copies w (source_at s) p)) ≡ false → bound w n deep from to ≡ Ok (effect w (source_at s) p)
+    pub bound_done : too_many_mounts w (length (new_copies w (source_at s) p)) ≡ false → bound w n recursive from to ≡ Ok (effect w (source_at s) p)
     bound_done few = late ∙ passed (too_many_mounts w (length (new_copies w (source_at s) p))) TooMany [] _ few
 
-    pub bound_full : too_many_mounts w (length (new_copies w (source_at s) p)) ≡ true → bound w n deep from to ≡ Err TooMany
+    pub bound_full : too_many_mounts w (length (new_copies w (source_at s) p)) ≡ true → bound w n recursive from to ≡ Err TooMany
     bound_full many = late ∙ stopped (too_many_mounts w (length (new_copies w (source_at s) p))) TooMany [] _ many

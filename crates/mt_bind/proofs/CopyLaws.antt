@@ -18,46 +18,47 @@ use Rattle.mt_propagate.proofs.ListedLaws.{rises-keys, map-append, map-map}
 use Rattle.mt_propagate.proofs.NumberLaws.{climbs}
 use Rattle.mt_propagate.proofs.RowLaws.{renamed-row, appended-row}
 use Rattle.mt_propagate.proofs.ShownLaws.{shown-alike, groups-show, masters-show, mount-state, state-mount, state-row}
-use Rattle.mt_bind.specs.Spaces.{originals, twin, twin_of, twin_state, with_copy}
-use Rattle.mt_bind.proofs.TwinLaws.{copies, order, was-original, among, twin-high, twin-low, old-in, copy-in, row-of}
+use Rattle.mt_bind.specs.Spaces.{originals, with_copy}
+use Rattle.mt_bind.specs.Copying.{copy_number, copy_of, state_of_copy}
+use Rattle.mt_bind.proofs.NamespaceCopyLaws.{copies, order, was-original, among, copy-high, copy-low, old-in, copy-in, row-of}
 use Rattle.mt_bind.proofs.CopyTreeLaws.{grown, grown-ids, grown-forest}
 
 -- what a copy's state has of its original's
 module _ (w : WorldView) (n : ℕ) where
-  twin-group : (less : Bool) (s : State) (g : ℕ) → (twin_state w n less s).group ≡ Some g → (s.group ≡ Some g) × ((twin_state w n less s).master ≡ s.master)
-  twin-group true s g e = absurd (let v : None ≡ Some g = e in cc)
-  twin-group false s g e = (e, refl)
+  copy-group : (less : Bool) (s : State) (g : ℕ) → (state_of_copy less s).group ≡ Some g → (s.group ≡ Some g) × ((state_of_copy less s).master ≡ s.master)
+  copy-group true s g e = absurd (let v : None ≡ Some g = e in cc)
+  copy-group false s g e = (e, refl)
 
-  twin-master : (less : Bool) (s : State) (g : ℕ) → (twin_state w n less s).master ≡ Some g → (s.master ≡ Some g) ⊎ (s.group ≡ Some g)
-  twin-master false s g e = inl e
-  twin-master true s g e = elim s.group as (λ o. option_or o s.master ≡ Some g → (s.master ≡ Some g) ⊎ (o ≡ Some g)) [ None ↦ λ x. inl x | Some q ↦ λ x. inr x ] e
+  copy-master : (less : Bool) (s : State) (g : ℕ) → (state_of_copy less s).master ≡ Some g → (s.master ≡ Some g) ⊎ (s.group ≡ Some g)
+  copy-master false s g e = inl e
+  copy-master true s g e = elim s.group as (λ o. option_or o s.master ≡ Some g → (s.master ≡ Some g) ⊎ (o ≡ Some g)) [ None ↦ λ x. inl x | Some q ↦ λ x. inr x ] e
 
-  twin-alone : (less : Bool) (s : State) → (IsTrue s.unbindable → (s.group ≡ None) × (s.master ≡ None)) → IsTrue (twin_state w n less s).unbindable
-      → ((twin_state w n less s).group ≡ None) × ((twin_state w n less s).master ≡ None)
-  twin-alone false s a u = a u
-  twin-alone true s a u = let b = a u in (refl, ap (λ o. option_or o s.master) b.0 ∙ b.1)
+  copy-alone : (less : Bool) (s : State) → (IsTrue s.unbindable → (s.group ≡ None) × (s.master ≡ None)) → IsTrue (state_of_copy less s).unbindable
+      → ((state_of_copy less s).group ≡ None) × ((state_of_copy less s).master ≡ None)
+  copy-alone false s a u = a u
+  copy-alone true s a u = let b = a u in (refl, ap (λ o. option_or o s.master) b.0 ∙ b.1)
 
 module _ (w : WorldView) (h : IsWellFormed w) (n : ℕ) (less : Bool) where
-  abbrev pub twin_peer : Mount → Peer
-  twin_peer m = record { mount = twin w n m.id; state = twin_state w n less (state_of w m.id) }
+  abbrev pub peer_of_copy : Mount → Peer
+  peer_of_copy m = record { mount = copy_number w (map id_of (originals w n)) m.id; state = state_of_copy less (state_of w m.id) }
 
   abbrev pub new_peers : List Peer
-  new_peers = map twin_peer (originals w n)
+  new_peers = map peer_of_copy (originals w n)
 
   -- the mount and the state that a new state is of
-  record IsTwin (i : ℕ) (t : State) : Type 0 where
+  record IsStateOfCopy (i : ℕ) (t : State) : Type 0 where
     pub source : Mount
     pub state : State
     pub there : mount_at w.forest source.id ≡ Some source
     pub space : source.space ≡ n
-    pub number : i ≡ twin w n source.id
+    pub number : i ≡ copy_number w (map id_of (originals w n)) source.id
     pub stated : state_at w.peering.peers source.id ≡ Some state
-    pub made : t ≡ twin_state w n less state
+    pub made : t ≡ state_of_copy less state
 
-  twin-from : (i : ℕ) (t : State) → state_at new_peers i ≡ Some t → IsTwin i t
-  twin-from i t e =
+  copy-from : (i : ℕ) (t : State) → state_at new_peers i ≡ Some t → IsStateOfCopy i t
+  copy-from i t e =
       let row = state-row new_peers i t e in
-      let r = renamed-row id_of mount_of twin_peer (twin w n) (λ m. refl) (originals w n) (order w h n) i row.0 row.1 in
+      let r = renamed-row id_of mount_of peer_of_copy (copy_number w (map id_of (originals w n))) (λ m. refl) (originals w n) (order w h n) i row.0 row.1 in
       let o = was-original w h n r.0.id r.0 r.1 in
       let s = mount-state w.forest w.peering.peers r.0.id r.0 h.same_mounts o.0 in
       record {
@@ -67,13 +68,13 @@ module _ (w : WorldView) (h : IsWellFormed w) (n : ℕ) (less : Bool) where
         space = o.1;
         number = r.3;
         stated = s.1;
-        made = sym row.2 ∙ ap (λ (e : Peer). e.state) r.2 ∙ ap (λ o. twin_state w n less (unwrap_or o private)) s.1;
+        made = sym row.2 ∙ ap (λ (e : Peer). e.state) r.2 ∙ ap (λ o. state_of_copy less (unwrap_or o private)) s.1;
       }
 
   peer-ids : map id_of (copies w h n) ≡ map mount_of new_peers
   peer-ids =
-      map-map (twin_of w n) id_of (λ (m : Mount). twin w n m.id) (λ m. refl) (originals w n)
-      ∙ sym (map-map twin_peer mount_of (λ (m : Mount). twin w n m.id) (λ m. refl) (originals w n))
+      map-map (copy_of w (map id_of (originals w n))) id_of (λ (m : Mount). copy_number w (map id_of (originals w n)) m.id) (λ m. refl) (originals w n)
+      ∙ sym (map-map peer_of_copy mount_of (λ (m : Mount). copy_number w (map id_of (originals w n)) m.id) (λ m. refl) (originals w n))
 
   same_ids : map id_of (grown w h n) ≡ map mount_of (w.peering.peers ++ new_peers)
   same_ids = grown-ids w h n ∙ (λ i. h.same_mounts i ++ peer-ids i) ∙ sym (map-append mount_of w.peering.peers new_peers)
@@ -87,19 +88,19 @@ module _ (w : WorldView) (h : IsWellFormed w) (n : ℕ) (less : Bool) where
   peered =
       added-IsPeering w.peering h.peering new_peers peers-rise
       (λ i t g e is.
-      let c = twin-from i t e in
-      let s = twin-group w n less c.state g (ap (λ (s : State). s.group) (sym c.made) ∙ is) in
+      let c = copy-from i t e in
+      let s = copy-group w n less c.state g (ap (λ (s : State). s.group) (sym c.made) ∙ is) in
       (c.source.id, c.state, c.stated, s.0, sym s.1 ∙ ap (λ (s : State). s.master) (sym c.made)))
       (λ i t m e is.
-      let c = twin-from i t e in
-      elim (twin-master w n less c.state m (ap (λ (s : State). s.master) (sym c.made) ∙ is)) [
+      let c = copy-from i t e in
+      elim (copy-master w n less c.state m (ap (λ (s : State). s.master) (sym c.made) ∙ is)) [
         | inl master ↦ h.peering.master_lives c.source.id c.state m c.stated master
         | inr group ↦ member-there m w.peering.peers c.source.id c.state c.stated group
       ])
       (λ i t e u.
-      let c = twin-from i t e in
+      let c = copy-from i t e in
       subst (λ (s : State). (s.group ≡ None) × (s.master ≡ None)) (sym c.made)
-      (twin-alone w n less c.state (h.peering.unbindable_alone c.source.id c.state c.stated) (subst (λ (s : State). IsTrue s.unbindable) c.made u)))
+      (copy-alone w n less c.state (h.peering.unbindable_alone c.source.id c.state c.stated) (subst (λ (s : State). IsTrue s.unbindable) c.made u)))
 
   abbrev fs_of : Option Mount → ℕ
   fs_of o = (directory w.skel (unwrap_or (option_map (λ (m : Mount). m.root) o) 0)).fs
@@ -109,7 +110,7 @@ module _ (w : WorldView) (h : IsWellFormed w) (n : ℕ) (less : Bool) where
   unfolding with_copy
   old-fs i m e = ap fs_of (old-in w h n i m e ∙ sym e)
 
-  copy-fs : (i : ℕ) (m : Mount) → mount_at w.forest i ≡ Some m → m.space ≡ n → fs_at (with_copy w n less) (twin w n i) ≡ fs_at w i
+  copy-fs : (i : ℕ) (m : Mount) → mount_at w.forest i ≡ Some m → m.space ≡ n → fs_at (with_copy w n less) (copy_number w (map id_of (originals w n)) i) ≡ fs_at w i
   unfolding with_copy
   copy-fs i m e same = ap fs_of (copy-in w h n i m e same) ∙ ap fs_of (sym e)
 
@@ -124,13 +125,13 @@ module _ (w : WorldView) (h : IsWellFormed w) (n : ℕ) (less : Bool) where
             let m = state-mount w.forest w.peering.peers i t h.same_mounts was in
             (i, t, was, old-fs i m.0 m.1, λ g is. is, λ g is. inl is)
         | inr new ↦
-            let c = twin-from i t (ap (option_map (λ (e : Peer). e.state)) new ∙ ap (λ s. Some s) row.2) in (
+            let c = copy-from i t (ap (option_map (λ (e : Peer). e.state)) new ∙ ap (λ s. Some s) row.2) in (
               c.source.id,
               c.state,
               c.stated,
               ap (fs_at (with_copy w n less)) c.number ∙ copy-fs c.source.id c.source c.there c.space,
-              λ g is. (twin-group w n less c.state g (ap (λ (s : State). s.group) (sym c.made) ∙ is)).0,
-              λ g is. twin-master w n less c.state g (ap (λ (s : State). s.master) (sym c.made) ∙ is),
+              λ g is. (copy-group w n less c.state g (ap (λ (s : State). s.group) (sym c.made) ∙ is)).0,
+              λ g is. copy-master w n less c.state g (ap (λ (s : State). s.master) (sym c.made) ∙ is),
             )
       ])
 
@@ -140,8 +141,8 @@ module _ (w : WorldView) (h : IsWellFormed w) (n : ℕ) (less : Bool) where
     | inl old ↦ let b = h.below i m old in (b.0, omega (arith, b.1), b.2, omega (arith, b.3), b.4)
     | inr c ↦
         let b = h.below c.source.id c.source c.there in
-        let high = twin-high w h n c.source.id in
-        let low = twin-low w h n c.source.id (among w h n c.source.id c.source c.there c.space) in
+        let high = copy-high w h n c.source.id in
+        let low = copy-low w h n c.source.id (among w h n c.source.id c.source c.there c.space) in
         let is : m.space ≡ w.next_space = ap (λ (m : Mount). m.space) c.made in (
           omega (arith, high, c.number, h.from_one.0),
           omega (arith, low, c.number),

@@ -13,8 +13,9 @@ use Rattle.mt_propagate.proofs.AddedLaws.{parent_id}
 use Rattle.mt_propagate.proofs.ListedLaws.{rises-keys, map-append, below-all, climbs-append}
 use Rattle.mt_propagate.proofs.NumberLaws.{climbs}
 use Rattle.mt_propagate.proofs.TreeLaws.{parent-from, ends-like, ends-more, ends-none}
-use Rattle.mt_bind.specs.Spaces.{originals, twin, twin_of}
-use Rattle.mt_bind.proofs.TwinLaws.{copies, twin-high, twin-single, twin-ids, among, old-in, copy-in, IsCopy, row-of, placed-copy, unplaced-copy}
+use Rattle.mt_bind.specs.Spaces.{originals}
+use Rattle.mt_bind.specs.Copying.{copy_number, copy_of}
+use Rattle.mt_bind.proofs.NamespaceCopyLaws.{copies, copy-high, copy-single, copy-ids, among, old-in, copy-in, IsCopy, row-of, placed-copy, unplaced-copy}
 
 module _ (w : WorldView) (h : IsWellFormed w) (n : ℕ) where
   abbrev pub grown : List Mount
@@ -25,7 +26,7 @@ module _ (w : WorldView) (h : IsWellFormed w) (n : ℕ) where
 
   grown-rises : rises id_of grown ≡ true
   grown-rises =
-      sym (rises-keys id_of grown) ∙ ap climbs (grown-ids ∙ ap (λ l. map id_of w.forest ++ l) (twin-ids w h n))
+      sym (rises-keys id_of grown) ∙ ap climbs (grown-ids ∙ ap (λ l. map id_of w.forest ++ l) (copy-ids w h n))
       ∙ climbs-append w.next_mount (length (originals w n)) (map id_of w.forest) (rises-keys id_of w.forest ∙ h.forest.rising)
       (below-all id_of w.next_mount w.forest h.forest.rising (λ i x e. let b = h.below i x e in b.1))
 
@@ -37,7 +38,7 @@ module _ (w : WorldView) (h : IsWellFormed w) (n : ℕ) where
   mixed-places i j a b p e c pa pb =
       let low = old-placed i a p e pa in
       let q = placed-copy w h n c.source p (ap (λ (m : Mount). m.place) (sym c.made) ∙ pb) in
-      let high = twin-high w h n q.0.mount in
+      let high = copy-high w h n q.0.mount in
       omega (arith, q.2)
 
   -- and none is the root of an old namespace
@@ -48,14 +49,14 @@ module _ (w : WorldView) (h : IsWellFormed w) (n : ℕ) where
       omega (arith, low.3, same, is)
 
   same-copy : (i j : ℕ) (a b : Mount) (c : IsCopy w h n i a) (d : IsCopy w h n j b) → c.source.id ≡ d.source.id → i ≡ j
-  same-copy i j a b c d e = c.number ∙ ap (twin w n) e ∙ sym d.number
+  same-copy i j a b c d e = c.number ∙ ap (copy_number w (map id_of (originals w n))) e ∙ sym d.number
 
   copy-places : (i j : ℕ) (a b : Mount) (p : Place) (c : IsCopy w h n i a) (d : IsCopy w h n j b) → a.place ≡ Some p → b.place ≡ Some p → i ≡ j
   copy-places i j a b p c d pa pb =
       let qa = placed-copy w h n c.source p (ap (λ (m : Mount). m.place) (sym c.made) ∙ pa) in
       let qb = placed-copy w h n d.source p (ap (λ (m : Mount). m.place) (sym d.made) ∙ pb) in
       let on = h.forest.placed c.source.id c.source qa.0 c.there qa.1 in
-      let mounts : qa.0.mount ≡ qb.0.mount = twin-single w h n qa.0.mount qb.0.mount (among w h n qa.0.mount on.0 on.1 (on.2 ∙ c.space)) (sym qa.2 ∙ qb.2) in
+      let mounts : qa.0.mount ≡ qb.0.mount = copy-single w h n qa.0.mount qb.0.mount (among w h n qa.0.mount on.0 on.1 (on.2 ∙ c.space)) (sym qa.2 ∙ qb.2) in
       let dirs : qa.0.dir ≡ qb.0.dir = sym qa.3 ∙ qb.3 in
       let same : qa.0 ≡ qb.0 = λ i. record { mount = mounts i; dir = dirs i } in
       same-copy i j a b c d (h.forest.apart c.source.id d.source.id c.source d.source qb.0 c.there d.there (qa.1 ∙ ap (λ q. Some q) same) qb.1)
@@ -64,10 +65,10 @@ module _ (w : WorldView) (h : IsWellFormed w) (n : ℕ) where
   old-up : (x : ℕ) → (m : Mount) × (mount_at w.forest x ≡ Some m) → parent grown x ≡ parent w.forest x
   old-up x m = ap (option_and_then parent_id) (old-in w h n x m.0 m.1 ∙ sym m.1)
 
-  copy-up : (x : ℕ) → (m : Mount) × (mount_at w.forest x ≡ Some m) × (m.space ≡ n) → parent grown (twin w n x) ≡ option_map (twin w n) (parent w.forest x)
-  copy-up x m = ap (option_and_then parent_id) (copy-in w h n x m.0 m.1 m.2) ∙ go m.0.place ∙ ap (λ o. option_map (twin w n) (option_and_then parent_id o)) (sym m.1)
+  copy-up : (x : ℕ) → (m : Mount) × (mount_at w.forest x ≡ Some m) × (m.space ≡ n) → parent grown (copy_number w (map id_of (originals w n)) x) ≡ option_map (copy_number w (map id_of (originals w n))) (parent w.forest x)
+  copy-up x m = ap (option_and_then parent_id) (copy-in w h n x m.0 m.1 m.2) ∙ go m.0.place ∙ ap (λ o. option_map (copy_number w (map id_of (originals w n))) (option_and_then parent_id o)) (sym m.1)
     where
-      go : (o : Option Place) → option_map (λ (p : Place). p.mount) (option_map {U = Place} (λ (q : Place). record { mount = twin w n q.mount; dir = q.dir }) o) ≡ option_map (twin w n) (option_map (λ (p : Place). p.mount) o)
+      go : (o : Option Place) → option_map (λ (p : Place). p.mount) (option_map {U = Place} (λ (q : Place). record { mount = copy_number w (map id_of (originals w n)) q.mount; dir = q.dir }) o) ≡ option_map (copy_number w (map id_of (originals w n))) (option_map (λ (p : Place). p.mount) o)
       go None = refl
       go (Some p) = refl
 
@@ -84,16 +85,16 @@ module _ (w : WorldView) (h : IsWellFormed w) (n : ℕ) where
       (old-up x m ∙ e, (q.0, ap (mount_at w.forest) (sym p.4) ∙ q.1)))
       (length w.forest) x m (h.forest.no_cycle x)
 
-  copy-ends : (x : ℕ) → (m : Mount) × (mount_at w.forest x ≡ Some m) × (m.space ≡ n) → ends (parent grown) (length w.forest) (twin w n x) ≡ true
+  copy-ends : (x : ℕ) → (m : Mount) × (mount_at w.forest x ≡ Some m) × (m.space ≡ n) → ends (parent grown) (length w.forest) (copy_number w (map id_of (originals w n)) x) ≡ true
   copy-ends x m =
-      ends-like (parent w.forest) (parent grown) (twin w n) (λ x. (m : Mount) × (mount_at w.forest x ≡ Some m) × (m.space ≡ n))
-      (λ x m e. copy-up x m ∙ ap (option_map (twin w n)) e)
+      ends-like (parent w.forest) (parent grown) (copy_number w (map id_of (originals w n))) (λ x. (m : Mount) × (mount_at w.forest x ≡ Some m) × (m.space ≡ n))
+      (λ x m e. copy-up x m ∙ ap (option_map (copy_number w (map id_of (originals w n)))) e)
       (λ x y m e.
       let p = parent-from w.forest x y e in
       let q = h.forest.placed x p.0 p.1 p.2 p.3 in
       let v : Some p.0 ≡ Some m.0 = sym p.2 ∙ m.1 in
       let same : p.0 ≡ m.0 = cc in
-      (copy-up x m ∙ ap (option_map (twin w n)) e, (q.0, ap (mount_at w.forest) (sym p.4) ∙ q.1, q.2 ∙ ap (λ (m : Mount). m.space) same ∙ m.2)))
+      (copy-up x m ∙ ap (option_map (copy_number w (map id_of (originals w n)))) e, (q.0, ap (mount_at w.forest) (sym p.4) ∙ q.1, q.2 ∙ ap (λ (m : Mount). m.space) same ∙ m.2)))
       (length w.forest) x m (h.forest.no_cycle x)
 
   all-end : (i : ℕ) → ends (parent grown) (length grown) i ≡ true
@@ -114,7 +115,7 @@ module _ (w : WorldView) (h : IsWellFormed w) (n : ℕ) where
       | inr c ↦
           let p_0 = placed-copy w h n c.source p (ap (λ (m : Mount). m.place) (sym c.made) ∙ at) in
           let q = h.forest.placed c.source.id c.source p_0.0 c.there p_0.1 in (
-            twin_of w n q.0,
+            copy_of w (map id_of (originals w n)) q.0,
             ap (mount_at grown) p_0.2 ∙ copy-in w h n p_0.0.mount q.0 q.1 (q.2 ∙ c.space),
             ap (λ (m : Mount). m.space) (sym c.made),
             ap (holds w.skel q.0.root) p_0.3 ∙ q.3,
@@ -128,10 +129,10 @@ module _ (w : WorldView) (h : IsWellFormed w) (n : ℕ) where
       | inl old ↦ let r = h.forest.rooted i m old in (r.0, r.1, old-in w h n r.0 r.1 r.2, r.3, r.4)
       | inr c ↦
           let r = h.forest.rooted c.source.id c.source c.there in (
-            twin w n r.0,
-            twin_of w n r.1,
+            copy_number w (map id_of (originals w n)) r.0,
+            copy_of w (map id_of (originals w n)) r.1,
             copy-in w h n r.0 r.1 r.2 (r.4 ∙ c.space),
-            ap (option_map {U = Place} (λ (q : Place). record { mount = twin w n q.mount; dir = q.dir })) r.3,
+            ap (option_map {U = Place} (λ (q : Place). record { mount = copy_number w (map id_of (originals w n)) q.mount; dir = q.dir })) r.3,
             ap (λ (m : Mount). m.space) (sym c.made),
           )
     ];

@@ -14,9 +14,9 @@ use Rattle.mt_peers.specs.Peers.{mount_of, peers_of}
 use Rattle.mt_propagate.specs.World.{WorldView, is_space}
 use Rattle.mt_propagate.specs.Limits.{too_many_mounts, too_many_spaces}
 use Rattle.mt_propagate.specs.WellFormed.{IsForest, IsWellFormed}
-use Rattle.mt_bind.specs.Spaces.{originals, twin_of, with_copy, copy_space}
+use Rattle.mt_bind.specs.Spaces.{originals, with_copy, copy_space}
 use Rattle.mt_bind.specs.Copying.{copy_of, peer_of}
-use Rattle.mt_bind.proofs.TwinLaws.{copies}
+use Rattle.mt_bind.proofs.NamespaceCopyLaws.{copies}
 use Rattle.mt_bind.proofs.CopyTreeLaws.{grown-forest}
 use Rattle.mt_bind.proofs.CopyLaws.{new_peers, peers-rise}
 
@@ -52,7 +52,7 @@ module _ (w : WorldView) (h : IsWellFormed w) (n : ℕ) where
         let stated : v.peering.peers ≡ w.peering.peers ++ new_peers w h n false = states ∙ all-states in
         let skel : v.skel ≡ w.skel = same.0 ∙ ap (λ (x : WorldView). x.skel) still in
         let groups : v.peering.next ≡ w.peering.next = same.1 ∙ ap (λ (x : WorldView). x.peering.next) still in
-        let count : length cs ≡ length (originals w n) = ap length mounts ∙ length-map (originals w n) (twin_of w n) in
+        let count : length cs ≡ length (originals w n) = ap length mounts ∙ length-map (originals w n) (copy_of w (map id_of (originals w n))) in
         let numbers : v.next_mount ≡ w.next_mount + length (originals w n) = next.0 ∙ ap (λ (x : WorldView). x.next_mount + length cs) still ∙ ap (λ (k : ℕ). w.next_mount + k) count in
         let spaces : v.next_space ≡ w.next_space + 1 = next.1 ∙ ap (λ (x : WorldView). x.next_space + 1) still in
         λ i. record { skel = skel i; forest = all i; peering = record { peers = stated i; next = groups i }; next_mount = numbers i; next_space = spaces i }

@@ -1,6 +1,6 @@
 pub mod SpaceLaws
 pub mod GoneLaws
-pub mod TwinLaws
+pub mod NamespaceCopyLaws
 pub mod CopyTreeLaws
 pub mod CopyLaws
 pub mod SourceLaws

@@ -11,11 +11,11 @@ use Rattle.mt_mounts.specs.Forest.{id_of, mount_at}
 use Rattle.mt_propagate.specs.World.{WorldView}
 use Rattle.mt_propagate.specs.Named.{unknown, mount_or_unknown}
 use Rattle.mt_propagate.specs.Limits.{too_many_mounts}
-use Rattle.mt_propagate.specs.Copies.{Source, Copy, copies_at, new_copies}
+use Rattle.mt_propagate.specs.Copies.{Source, MountCopy, copies_at, new_copies}
 use Rattle.mt_propagate.specs.Receivers.{hits}
 use Rattle.mt_propagate.specs.Sound.{IsSource}
 use Rattle.mt_propagate.specs.Plans.{member_of, copied_source}
-use Rattle.mt_propagate.proofs.ElementLaws.{In, in_filter, in_row}
+use Rattle.mt_skel.proofs.ElementLaws.{In, in_filter, in_row}
 use Rattle.mt_bind.specs.Sources.{top_at, alone, tree_within, is_bound_along}
 
 -- the IDs that pass a test are those of the mounts that pass it
@@ -54,21 +54,21 @@ module _ (w : WorldView) (p : Place) where
   alone_is ids e = ap (λ (l : List ℕ). copied_source w p.mount p.dir l false) e ∙ ap (λ b. with_mounts (cond b (top_at w p) (mount_or_unknown w p.mount) ∷ [])) (eq-eqb p.mount p.mount refl)
 
   -- neither moves
-  pub stays : (deep : Bool) → (cond deep (tree_within w p) (alone w p)).moved ≡ false
+  pub stays : (recursive : Bool) → (cond recursive (tree_within w p) (alone w p)).moved ≡ false
   stays true = refl
   stays false = refl
 
 -- copies that are made at the place itself
 module _ (w : WorldView) (src : Source) (dest : Place) (still : src.moved ≡ false) where
-  abbrev twin : ℕ → Mount → Copy
-  twin t m = record { target = t; source = m.id }
+  abbrev copy_to : ℕ → Mount → MountCopy
+  copy_to t m = record { target = t; source = m.id }
 
   copies_many : length src.mounts ≤ length (new_copies w src dest)
   copies_many =
-      let later = flat_map (λ t. map (twin t) src.mounts) (hits w dest) in
-      let all = ap (λ b. length (copies_at w src dest (cond b (hits w dest) (dest.mount ∷ hits w dest)))) still in
-      let parts = length-append (map (twin dest.mount) src.mounts) later in
-      let own = length-map src.mounts (twin dest.mount) in
+      let later = flat_map (λ t. map (copy_to t) src.mounts) (hits w dest) in
+      let all = ap (λ b. length (copies_at src.mounts (cond b (hits w dest) (dest.mount ∷ hits w dest)))) still in
+      let parts = length-append (map (copy_to dest.mount) src.mounts) later in
+      let own = length-map src.mounts (copy_to dest.mount) in
       omega (arith, all, parts, own)
 
   some_there : (ms : List Mount) (i : ℕ) (m : Mount) → mount_at ms i ≡ Some m → 1 ≤ length ms

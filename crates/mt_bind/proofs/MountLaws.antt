@@ -13,7 +13,7 @@ use Rattle.mt_mounts.specs.declared.mount.Place.{Place}
 use Rattle.mt_mounts.specs.Forest.{mount_at, parent, is_below}
 use Rattle.mt_mounts.specs.Walk.{walk}
 use Rattle.mt_propagate.specs.World.{WorldView, state_of, group_of}
-use Rattle.mt_propagate.specs.Named.{place_or_nowhere, is_root_place, is_root_mount, is_named_mount}
+use Rattle.mt_propagate.specs.Named.{place_or_nowhere, is_root_place, is_root_mount, is_mount_root}
 use Rattle.mt_propagate.specs.WellFormed.{IsWellFormed}
 use Rattle.mt_propagate.specs.Copies.{copy_id}
 use Rattle.mt_propagate.specs.Copied.{copied}
@@ -22,7 +22,7 @@ use Rattle.mt_propagate.proofs.WalkLaws.{walked}
 use Rattle.mt_propagate.proofs.MovedLaws.{source_kept}
 use Rattle.mt_bind.specs.Sources.{fresh, alone, tree_within, tree_of}
 use Rattle.mt_bind.specs.Mounting.{mounted, bound, moved, ended, no_end, too_many}
-use Rattle.mt_bind.proofs.SourceLaws.{fresh_source, alone_source, holds_there}
+use Rattle.mt_bind.proofs.SourceLaws.{fresh_is_source, alone_is_source, holds_there}
 use Rattle.mt_bind.proofs.WithinLaws.{within_source}
 use Rattle.mt_bind.proofs.TreeOfLaws.{tree_source}
 
@@ -51,17 +51,17 @@ mount_keeps w n name path v i h e =
     let three = first_none root (many ∷ []) two.1 in
     let d = destination w n path p h (has_ended (walk w.skel w.forest n path) two.0) (not_refused (is_root_place w p) RootPlace three.0) in
     let low = holds_there w.skel d.there.0.root p.dir d.there.2 in
-    subst IsWellFormed (ap (λ x. x.0) ok.0) (source_kept w h src p (fresh_source w h fs p (omega (arith, low))) d)
+    subst IsWellFormed (ap (λ x. x.0) ok.0) (source_kept w h src p (fresh_is_source w h fs p (omega (arith, low))) d)
 
 -- what is bound from the end of a walk is a source tree
-pub bound_source : (w : WorldView) (n : ℕ) (from : List (List ℕ)) (deep : Bool) (p dest : Place) → IsWellFormed w → walk w.skel w.forest n from ≡ Ok p → IsSource w (cond deep (tree_within w p) (alone w p)) dest
+pub bound_source : (w : WorldView) (n : ℕ) (from : List (List ℕ)) (recursive : Bool) (p dest : Place) → IsWellFormed w → walk w.skel w.forest n from ≡ Ok p → IsSource w (cond recursive (tree_within w p) (alone w p)) dest
 bound_source w n from true p dest h e = let r = (walked w n h from p e).0 in within_source w h p r.0 r.1 r.3 dest
-bound_source w n from false p dest h e = let r = (walked w n h from p e).0 in alone_source w h p r.0 r.1 r.3 dest
+bound_source w n from false p dest h e = let r = (walked w n h from p e).0 in alone_is_source w h p r.0 r.1 r.3 dest
 
-pub bind_keeps : (w : WorldView) (n : ℕ) (deep : Bool) (from to : List (List ℕ)) (v : WorldView) (i : ℕ) → IsWellFormed w → bound w n deep from to ≡ Ok (v, i) → IsWellFormed v
-bind_keeps w n deep from to v i h e =
+pub bind_keeps : (w : WorldView) (n : ℕ) (recursive : Bool) (from to : List (List ℕ)) (v : WorldView) (i : ℕ) → IsWellFormed w → bound w n recursive from to ≡ Ok (v, i) → IsWellFormed v
+bind_keeps w n recursive from to v i h e =
     let p = ended w n to in
-    let src = cond deep (tree_within w (ended w n from)) (alone w (ended w n from)) in
+    let src = cond recursive (tree_within w (ended w n from)) (alone w (ended w n from)) in
     let lost_from = no_end w n from in
     let lost_to = no_end w n to in
     let root = refuse_if (is_root_place w p) RootPlace in
@@ -72,7 +72,7 @@ bind_keeps w n deep from to v i h e =
     let two = first_none lost_to (root ∷ unbindable ∷ many ∷ []) one.1 in
     let three = first_none root (unbindable ∷ many ∷ []) two.1 in
     let d = destination w n to p h (has_ended (walk w.skel w.forest n to) two.0) (not_refused (is_root_place w p) RootPlace three.0) in
-    let s = bound_source w n from deep (ended w n from) p h (has_ended (walk w.skel w.forest n from) one.0) in
+    let s = bound_source w n from recursive (ended w n from) p h (has_ended (walk w.skel w.forest n from) one.0) in
     subst IsWellFormed (ap (λ x. x.0) ok.0) (source_kept w h src p s d)
 
 pub move_keeps : (w : WorldView) (n : ℕ) (from to : List (List ℕ)) (v : WorldView) → IsWellFormed w → moved w n from to ≡ Ok v → IsWellFormed v
@@ -81,7 +81,7 @@ move_keeps w n from to v h e =
     let i = (ended w n from).mount in
     let src = tree_of w i in
     let lost_from = no_end w n from in
-    let named = refuse_if (not (is_named_mount w (ended w n from))) NotMountRoot in
+    let named = refuse_if (not (is_mount_root w (ended w n from))) NotMountRoot in
     let root = refuse_if (is_root_mount w (ended w n from)) RootPlace in
     let lost_to = no_end w n to in
     let root_to = refuse_if (is_root_place w p) RootPlace in

@@ -13,7 +13,7 @@ use Rattle.mt_mounts.specs.declared.mount.Place.{Place}
 use Rattle.mt_mounts.specs.Forest.{id_of, mount_at, parent, is_below, subtree}
 use Rattle.mt_mounts.specs.Walk.{walk}
 use Rattle.mt_propagate.specs.World.{WorldView, state_of, group_of, root_dir}
-use Rattle.mt_propagate.specs.Named.{unknown, place_or_nowhere, is_root_place, is_root_mount, is_named_mount}
+use Rattle.mt_propagate.specs.Named.{unknown, place_or_nowhere, is_root_place, is_root_mount, is_mount_root}
 use Rattle.mt_propagate.specs.Limits.{too_many_mounts}
 use Rattle.mt_propagate.specs.Copies.{new_copies}
 use Rattle.mt_propagate.specs.Copied.{copied}
@@ -54,7 +54,7 @@ module _ (w : WorldView) (n : ℕ) (from to : List (List ℕ)) where
   abbrev answer : Result Place Fault → Result Place Fault → Result WorldView Fault
   answer q r =
       outcome (fault_of q
-      ∷ refuse_if (not (is_named_mount w (place_or_nowhere q))) NotMountRoot
+      ∷ refuse_if (not (is_mount_root w (place_or_nowhere q))) NotMountRoot
       ∷ refuse_if (is_root_mount w (place_or_nowhere q)) RootPlace
       ∷ fault_of r ∷ behind (place_or_nowhere q) (place_or_nowhere r))
       (effect (place_or_nowhere q) (place_or_nowhere r))
@@ -63,16 +63,16 @@ module _ (w : WorldView) (n : ℕ) (from to : List (List ℕ)) where
     pub begun : moved w n from to ≡ answer (Ok s) (walk w.skel w.forest n to)
     begun = ap (λ q. answer q (walk w.skel w.forest n to)) began
 
-    pub not_named : is_named_mount w s ≡ false → moved w n from to ≡ Err NotMountRoot
-    not_named off = begun ∙ stopped (not (is_named_mount w s)) NotMountRoot _ _ (ap not off)
+    pub not_named : is_mount_root w s ≡ false → moved w n from to ≡ Err NotMountRoot
+    not_named off = begun ∙ stopped (not (is_mount_root w s)) NotMountRoot _ _ (ap not off)
 
-    module _ (named : is_named_mount w s ≡ true) where
+    module _ (named : is_mount_root w s ≡ true) where
       pub is_root : is_root_mount w s ≡ true → moved w n from to ≡ Err RootPlace
-      is_root at = begun ∙ passed (not (is_named_mount w s)) NotMountRoot _ _ (ap not named) ∙ stopped (is_root_mount w s) RootPlace _ _ at
+      is_root at = begun ∙ passed (not (is_mount_root w s)) NotMountRoot _ _ (ap not named) ∙ stopped (is_root_mount w s) RootPlace _ _ at
 
       module _ (placed : is_root_mount w s ≡ false) where
         rooted : (r : Result Place Fault) → walk w.skel w.forest n to ≡ r → moved w n from to ≡ outcome (fault_of r ∷ behind s (place_or_nowhere r)) (effect s (place_or_nowhere r))
-        rooted r e = begun ∙ ap (answer (Ok s)) e ∙ passed (not (is_named_mount w s)) NotMountRoot _ _ (ap not named) ∙ passed (is_root_mount w s) RootPlace _ _ placed
+        rooted r e = begun ∙ ap (answer (Ok s)) e ∙ passed (not (is_mount_root w s)) NotMountRoot _ _ (ap not named) ∙ passed (is_root_mount w s) RootPlace _ _ placed
 
         pub no_end : (f : Fault) → walk w.skel w.forest n to ≡ Err f → moved w n from to ≡ Err f
         no_end f e = rooted (Err f) e
@@ -161,7 +161,7 @@ below_among w i j m ids e there =
     ap (list_any (λ k. k == j)) e ∙ among_passing (is_below w.forest i) j (map id_of w.forest) (there_among w.forest j m there)
 
 -- the tree that moves, by its mounts' IDs
-pub moved_tree : (w : WorldView) (s : Place) → rises id_of w.forest ≡ true → is_named_mount w s ≡ true → (ids : List ℕ) → ids ≡ subtree w.forest s.mount → copied_source w s.mount s.dir ids true ≡ tree_of w s.mount
+pub moved_tree : (w : WorldView) (s : Place) → rises id_of w.forest ≡ true → is_mount_root w s ≡ true → (ids : List ℕ) → ids ≡ subtree w.forest s.mount → copied_source w s.mount s.dir ids true ≡ tree_of w s.mount
 moved_tree w s rising named ids e = below-source w rising s.mount s.dir (the_root (mount_at w.forest s.mount) (eqb-true s.dir (root_dir w s.mount) named)) ids e
   where
     the_root : (o : Option Mount) → s.dir ≡ unwrap_or (option_map (λ (m : Mount). m.root) o) 0 → s.dir ≡ (unwrap_or o unknown).root

@@ -11,14 +11,15 @@ use Rattle.mt_skel.proofs.OutcomeLaws.{outcome_ok, first_none, not_refused}
 use Rattle.mt_skel.specs.Skeleton.{fs_named, root_of}
 use Rattle.mt_mounts.specs.declared.mount.Mount.{Mount}
 use Rattle.mt_mounts.specs.Attrs.{new_attrs}
-use Rattle.mt_mounts.specs.Forest.{parent, is_below}
+use Rattle.mt_mounts.specs.Forest.{id_of, parent, is_below}
 use Rattle.mt_propagate.specs.World.{WorldView, is_space, state_of, group_of}
-use Rattle.mt_propagate.specs.Named.{is_root_place, is_root_mount, is_named_mount}
+use Rattle.mt_propagate.specs.Named.{is_root_place, is_root_mount, is_mount_root}
 use Rattle.mt_propagate.specs.Limits.{too_many_mounts, too_many_spaces}
 use Rattle.mt_propagate.specs.Copies.{new_copies, copy_id}
 use Rattle.mt_propagate.specs.Copied.{copied}
 use Rattle.mt_propagate.proofs.SizeLaws.{IsSized, few_pass, copied_sized}
-use Rattle.mt_bind.specs.Spaces.{originals, twin_of, new_space, with_space, copy_space, with_copy}
+use Rattle.mt_bind.specs.Spaces.{originals, new_space, with_space, copy_space, with_copy}
+use Rattle.mt_bind.specs.Copying.{copy_of}
 use Rattle.mt_bind.specs.Sources.{fresh, top_at, alone, is_bound_along, tree_within, tree_of}
 use Rattle.mt_bind.specs.Mounting.{mounted, bound, moved, ended, no_end, too_many}
 
@@ -63,7 +64,7 @@ copy_sized w v n i e =
       spaces = omega (arith, ap (λ x. x.next_space) same);
       mounts = omega (arith, room, ap (λ x. x.next_mount) same);
       groups = omega (arith, ap (λ x. x.peering.next) same);
-      within = omega (arith, room, ap (λ x. length x.forest) same, length-append w.forest (map (twin_of w n) (originals w n)), length-map (originals w n) (twin_of w n));
+      within = omega (arith, room, ap (λ x. length x.forest) same, length-append w.forest (map (copy_of w (map id_of (originals w n))) (originals w n)), length-map (originals w n) (copy_of w (map id_of (originals w n))));
     }
 
 -- a mount
@@ -83,10 +84,10 @@ mount_sized w v n name path i e =
     subst (λ (x : WorldView). IsSized w x 0) (ap (λ x. x.0) ok.0) (copied_sized w src p (omega arith) (not_refused (too_many_mounts w (length (new_copies w src p))) TooMany four.0))
 
 -- a bind
-pub bind_sized : (w v : WorldView) (n : ℕ) (deep : Bool) (from to : List (List ℕ)) (i : ℕ) → length w.forest ≤ 4096 → bound w n deep from to ≡ Ok (v, i) → IsSized w v 0
-bind_sized w v n deep from to i few e =
+pub bind_sized : (w v : WorldView) (n : ℕ) (recursive : Bool) (from to : List (List ℕ)) (i : ℕ) → length w.forest ≤ 4096 → bound w n recursive from to ≡ Ok (v, i) → IsSized w v 0
+bind_sized w v n recursive from to i few e =
     let p = ended w n to in
-    let src = cond deep (tree_within w (ended w n from)) (alone w (ended w n from)) in
+    let src = cond recursive (tree_within w (ended w n from)) (alone w (ended w n from)) in
     let lost_from = no_end w n from in
     let lost_to = no_end w n to in
     let root = refuse_if (is_root_place w p) RootPlace in
@@ -98,7 +99,7 @@ bind_sized w v n deep from to i few e =
     let three = first_none root (unbindable ∷ many ∷ []) two.1 in
     let four = first_none unbindable (many ∷ []) three.1 in
     let five = first_none many [] four.1 in
-    subst (λ (x : WorldView). IsSized w x 0) (ap (λ x. x.0) ok.0) (copied_sized w src p (small deep) (not_refused (too_many_mounts w (length (new_copies w src p))) TooMany five.0))
+    subst (λ (x : WorldView). IsSized w x 0) (ap (λ x. x.0) ok.0) (copied_sized w src p (small recursive) (not_refused (too_many_mounts w (length (new_copies w src p))) TooMany five.0))
   where
     small : (b : Bool) → length (cond b (tree_within w (ended w n from)) (alone w (ended w n from))).mounts ≤ 4096
     small true =
@@ -114,7 +115,7 @@ move_sized w v n from to few e =
     let i = (ended w n from).mount in
     let src = tree_of w i in
     let lost_from = no_end w n from in
-    let named = refuse_if (not (is_named_mount w (ended w n from))) NotMountRoot in
+    let named = refuse_if (not (is_mount_root w (ended w n from))) NotMountRoot in
     let root = refuse_if (is_root_mount w (ended w n from)) RootPlace in
     let lost_to = no_end w n to in
     let root_to = refuse_if (is_root_place w p) RootPlace in

@@ -3,7 +3,7 @@ use Rattle.std.proofs.Common.{◌≡◌, ◌≢◌, ℕ, ◌<◌, Bool, true, fa
 use Rattle.std.specs.Prelude.{unwrap_or}
 use Rattle.std.proofs.lemmas.Bool.{ne_eqb}
 use Rattle.std.proofs.lemmas.Option.{slice_get_within}
-use Rattle.mt_skel.specs.Skeleton.{Skeleton, Directory, directory, holds, number_of, root_of}
+use Rattle.mt_skel.specs.Skeleton.{Skeleton, Directory, directory, holds, directory_number, root_of}
 use Rattle.mt_skel.proofs.KeyedLaws.{row_at-key}
 use Rattle.mt_skel.proofs.SkeletonLaws.{at_number, holds-Decides}
 use Rattle.mt_mounts.specs.declared.mount.Mount.{Mount}
@@ -28,9 +28,9 @@ holds_there s outer inner e = let a = (holds-Decides s outer inner).0 e in a.the
 
 -- where a directory is there, the root of any filesystem is one that is there
 pub root_there : (s : Skeleton) (fs : ℕ) → 0 < length s.directories → root_of s fs < length s.directories
-root_there s fs some = go (number_of s (record { fs = fs; path = [] })) refl
+root_there s fs some = go (directory_number s (record { fs = fs; path = [] })) refl
   where
-    go : (o : Option ℕ) → number_of s (record { fs = fs; path = [] }) ≡ o → unwrap_or o 0 < length s.directories
+    go : (o : Option ℕ) → directory_number s (record { fs = fs; path = [] }) ≡ o → unwrap_or o 0 < length s.directories
     go None is = some
     go (Some i) is = let d : Directory = record { fs = fs; path = [] } in slice_get_within s.directories i d (at_number s d i is)
 
@@ -85,8 +85,8 @@ module _ (w : WorldView) (h : IsWellFormed w) where
   zero_master i g z e = let q = state_at_mount w h i (state_of w i) (master_known w i g e) in no_zero q.0 (ap (mount_at w.forest) (sym z) ∙ q.1)
 
   -- a fresh mount
-  pub fresh_source : (fs : ℕ) (dest : Place) → 0 < length w.skel.directories → IsSource w (fresh w fs) dest
-  fresh_source fs dest some =
+  pub fresh_is_source : (fs : ℕ) (dest : Place) → 0 < length w.skel.directories → IsSource w (fresh w fs) dest
+  fresh_is_source fs dest some =
       let m : Mount = record unknown { root = root_of w.skel fs } in
       record {
         tree = one_tree w.skel m (λ p e. let v : None ≡ Some p = e in absurd (cc)) (root_there w.skel fs some);
@@ -115,8 +115,8 @@ module _ (w : WorldView) (h : IsWellFormed w) where
     pub shows_same : (directory w.skel p.dir).fs ≡ fs_at w p.mount
     shows_same = holds_fs w.skel q.root p.dir held ∙ ap (λ r. (directory w.skel r).fs) (sym (root_is w p.mount q row))
 
-    pub alone_source : (dest : Place) → IsSource w (alone w p) dest
-    alone_source dest =
+    pub alone_is_source : (dest : Place) → IsSource w (alone w p) dest
+    alone_is_source dest =
         let m : Mount = record q { root = p.dir } in
         let plain : IsTree w.skel (m ∷ []) m = one_tree w.skel m off_itself (holds_there w.skel q.root p.dir held) in
         record {

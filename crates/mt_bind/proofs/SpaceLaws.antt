@@ -1,14 +1,13 @@
 -- What a new namespace leads to, and that a well-formed world stays so.
-use Rattle.std.proofs.Common.{◌≡◌, ℕ, ◌+◌, ◌<◌, List, [], ◌∷◌, length, Some, None, Ok, refl, ap, ◌∙◌, arith}
+use Rattle.std.proofs.Common.{◌≡◌, ℕ, ◌+◌, ◌<◌, true, false, ◌||◌, List, [], ◌∷◌, length, Some, None, Ok, refl, ap, ◌∙◌, arith}
+use Rattle.std.specs.Prelude.{Bool}
 use Rattle.std.specs.Option.{is_none, unwrap_or}
-use Rattle.std.proofs.lemmas.Bool.Decides.{nat_tests}
 use Rattle.mt_skel.specs.declared.fault.Fault.TheVariants.{NoFilesystem, TooMany}
 use Rattle.mt_skel.specs.Outcome.{refuse_if, outcome}
 use Rattle.mt_skel.proofs.OutcomeLaws.{passed}
 use Rattle.mt_skel.specs.Skeleton.{root_of, fs_named}
 use Rattle.mt_mounts.specs.declared.mount.Mount.{Mount}
 use Rattle.mt_mounts.specs.Attrs.{new_attrs}
-use Rattle.mt_mounts.specs.Forest.{roots}
 use Rattle.mt_propagate.specs.Limits.{too_many_spaces, too_many_mounts}
 use Rattle.mt_propagate.specs.World.{WorldView}
 use Rattle.mt_propagate.specs.WellFormed.{IsWellFormed}
@@ -26,11 +25,17 @@ unfolding with_space
 space-kept w fs h there =
     private-kept w (new_root w fs) (w.next_space + 1) h (root_fits w (new_root w fs) h refl refl refl) refl h.from_one.1 (omega arith) (omega arith) there
 
+neither : (a b : Bool) → (a || b) ≡ false → (a ≡ false) × (b ≡ false)
+neither true b e = absurd (cc)
+neither false b e = (refl, e)
+
 -- a new namespace where no refusal holds
-pub new_space_done : (w : WorldView) (name : List ℕ) (f : ℕ) → fs_named w.skel name ≡ Some f → length (roots w.forest) < 64 → length w.forest < 4096 → new_space w name ≡ Ok (with_space w f, w.next_space)
-new_space_done w name f e spaces mounts =
+pub new_space_done : (w : WorldView) (name : List ℕ) (f : ℕ) → fs_named w.skel name ≡ Some f → (too_many_spaces w || too_many_mounts w 1) ≡ false
+    → new_space w name ≡ Ok (with_space w f, w.next_space)
+new_space_done w name f e few =
+    let both = neither (too_many_spaces w) (too_many_mounts w 1) few in
     ap (λ o. outcome (refuse_if (is_none o) NoFilesystem ∷ refuse_if (too_many_spaces w) TooMany ∷ refuse_if (too_many_mounts w 1) TooMany ∷ []) (with_space w (unwrap_or o 0), w.next_space)) e
-    ∙ passed (too_many_spaces w) TooMany _ _ (grind (arith, nat_tests)) ∙ passed (too_many_mounts w 1) TooMany _ _ (grind (arith, nat_tests))
+    ∙ passed (too_many_spaces w) TooMany _ _ both.0 ∙ passed (too_many_mounts w 1) TooMany _ _ both.1
 
 -- a world with the new root mount is the one with the namespace
 pub with_space_is : (w : WorldView) (fs : ℕ) → with_private w (new_root w fs) (w.next_space + 1) ≡ with_space w fs

@@ -1,4 +1,5 @@
 -- What the laws of this crate say.
+-- A word with no source is this project's rule.
 use Rattle.std.specs.Prelude.{◌≡◌, ℕ, Bool, List, Ok}
 use Rattle.mt_propagate.specs.World.{WorldView}
 use Rattle.mt_propagate.specs.WellFormed.{IsWellFormed}
@@ -6,11 +7,11 @@ use Rattle.mt_bind.specs.Spaces.{with_copy, without_space}
 use Rattle.mt_bind.specs.Mounting.{mounted, bound, moved}
 
 -- a world stays well-formed when a namespace is copied, whether into one less privileged or not; where the namespace has no
--- mounts, nothing is copied (this project's rule)
+-- mounts, nothing is copied
 abbrev pub CopyingKeeps : Type 0
 CopyingKeeps = (w : WorldView) → IsWellFormed w → (n : ℕ) (less : Bool) → IsWellFormed (with_copy w n less)
 
--- a world stays well-formed when all mounts of a namespace vanish (this project's rule)
+-- a world stays well-formed when all mounts of a namespace vanish
 abbrev pub EndingKeeps : Type 0
 EndingKeeps = (w : WorldView) → IsWellFormed w → (n : ℕ) → IsWellFormed (without_space w n)
 
@@ -21,7 +22,7 @@ MountKeeps = (w : WorldView) (n : ℕ) (name : List ℕ) (path : List (List ℕ)
 -- and through a bind, of one mount or of a tree (`sharedsubtree`, bind and rbind semantics)
 abbrev pub BindKeeps : Type 0
 BindKeeps =
-    (w : WorldView) (n : ℕ) (deep : Bool) (from to : List (List ℕ)) (v : WorldView) (i : ℕ) → IsWellFormed w → bound w n deep from to ≡ Ok (v, i) → IsWellFormed v
+    (w : WorldView) (n : ℕ) (recursive : Bool) (from to : List (List ℕ)) (v : WorldView) (i : ℕ) → IsWellFormed w → bound w n recursive from to ≡ Ok (v, i) → IsWellFormed v
 
 -- and through a move (`sharedsubtree`, move semantics)
 abbrev pub MoveKeeps : Type 0

@@ -1,6 +1,5 @@
-pub mod Spaces
 pub mod Copying
+pub mod Spaces
 pub mod Sources
-pub mod Along
 pub mod Mounting
 pub mod Laws

@@ -1,4 +1,5 @@
 -- mount, bind, rbind and move: the world after the call, or the first refusal whose condition holds.
+-- A word with no source is this project's rule.
 use Rattle.std.specs.Prelude.{ℕ, Bool, false, cond, not, ◌&&◌, List, [], ◌∷◌, length, Option, is_some, is_none, Result}
 use Rattle.std.specs.List.{list_any}
 use Rattle.std.specs.Option.{unwrap_or, option_map_or}
@@ -11,22 +12,22 @@ use Rattle.mt_mounts.specs.declared.mount.Place.{Place}
 use Rattle.mt_mounts.specs.Forest.{parent, is_below}
 use Rattle.mt_mounts.specs.Walk.{walk}
 use Rattle.mt_propagate.specs.World.{WorldView, state_of, group_of}
-use Rattle.mt_propagate.specs.Named.{place_or_nowhere, is_root_place, is_root_mount, is_named_mount}
+use Rattle.mt_propagate.specs.Named.{place_or_nowhere, is_root_place, is_root_mount, is_mount_root}
 use Rattle.mt_propagate.specs.Limits.{too_many_mounts}
 use Rattle.mt_propagate.specs.Copies.{Source, new_copies, copy_id}
 use Rattle.mt_propagate.specs.Copied.{copied}
 use Rattle.mt_bind.specs.Sources.{fresh, alone, tree_within, tree_of}
 
 module _ (w : WorldView) (n : ℕ) where
-  -- the place where a path ends in the namespace n (this project's rule)
+  -- the place where a path ends in the namespace n
   abbrev pub ended : List (List ℕ) → Place
   ended path = place_or_nowhere (walk w.skel w.forest n path)
 
-  -- the refusal of a path that ends nowhere (this project's rule)
+  -- the refusal of a path that ends nowhere
   abbrev pub no_end : List (List ℕ) → Option Fault
   no_end path = fault_of (walk w.skel w.forest n path)
 
-  -- the copies are too many (this project's rule)
+  -- the copies are too many
   abbrev pub too_many : Source → Place → Option Fault
   too_many src p = refuse_if (too_many_mounts w (length (new_copies w src p))) TooMany
 
@@ -45,9 +46,9 @@ module _ (w : WorldView) (n : ℕ) where
   -- a copy of a mount, or with `deep` of the tree below a directory, where a path ends, and its ID (`sharedsubtree`, bind and
   -- rbind semantics)
   abbrev pub bound : Bool → List (List ℕ) → List (List ℕ) → Result (WorldView × ℕ) Fault
-  bound deep from to =
+  bound recursive from to =
       let p = ended to in
-      let src = cond deep (tree_within w (ended from)) (alone w (ended from)) in
+      let src = cond recursive (tree_within w (ended from)) (alone w (ended from)) in
       outcome (no_end from
       ∷ no_end to
       ∷ refuse_if (is_root_place w p) RootPlace
@@ -63,7 +64,7 @@ module _ (w : WorldView) (n : ℕ) where
       let i = (ended from).mount in
       let src = tree_of w i in
       outcome (no_end from
-      ∷ refuse_if (not (is_named_mount w (ended from))) NotMountRoot
+      ∷ refuse_if (not (is_mount_root w (ended from))) NotMountRoot
       ∷ refuse_if (is_root_mount w (ended from)) RootPlace
       ∷ no_end to
       ∷ refuse_if (is_root_place w p) RootPlace

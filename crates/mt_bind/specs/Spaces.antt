@@ -1,21 +1,22 @@
 -- New namespaces: with one private mount, and as a copy of another; and the end of a namespace.
-use Rattle.std.specs.Prelude.{ℕ, ◌+◌, Bool, cond, not, ◌==◌, List, [], ◌∷◌, ◌++◌, map, length, None, is_none, Result, nat_eq}
+-- A word with no source is this project's rule.
+use Rattle.std.specs.Prelude.{ℕ, ◌+◌, Bool, not, ◌==◌, List, [], ◌∷◌, ◌++◌, map, length, None, is_none, Result}
 use Rattle.std.specs.List.{filter}
-use Rattle.std.specs.Option.{option_map, unwrap_or, option_or}
+use Rattle.std.specs.Option.{unwrap_or}
 use Rattle.mt_skel.specs.declared.fault.Fault.{Fault}
 use Rattle.mt_skel.specs.declared.fault.Fault.TheVariants.{NoFilesystem, NoNamespace, TooMany}
-use Rattle.mt_skel.specs.Keyed.{numbered, without}
+use Rattle.mt_skel.specs.Keyed.{without}
 use Rattle.mt_skel.specs.Outcome.{refuse_if, outcome}
 use Rattle.mt_skel.specs.Skeleton.{fs_named, root_of}
 use Rattle.mt_mounts.specs.declared.mount.Mount.{Mount}
 use Rattle.mt_mounts.specs.Attrs.{new_attrs}
 use Rattle.mt_mounts.specs.Forest.{id_of}
-use Rattle.mt_peers.specs.declared.state.State.{State}
 use Rattle.mt_peers.specs.Loss.{left}
 use Rattle.mt_propagate.specs.World.{WorldView, is_space, private, state_of, space_of}
 use Rattle.mt_propagate.specs.Limits.{too_many_mounts, too_many_spaces}
+use Rattle.mt_bind.specs.Copying.{copy_number, copy_of, state_of_copy}
 
--- one namespace more, whose root mount is private and shows the root of a filesystem (this project's rule)
+-- one namespace more, whose root mount is private and shows the root of a filesystem
 unfoldable pub with_space : WorldView → ℕ → WorldView
 with_space w fs = record w {
   forest = w.forest ++ record { id = w.next_mount; space = w.next_space; place = None; root = root_of w.skel fs; attrs = new_attrs } ∷ [];
@@ -24,7 +25,7 @@ with_space w fs = record w {
   next_space = w.next_space + 1;
 }
 
--- a new namespace of a filesystem, and its number (this project's rule)
+-- a new namespace of a filesystem, and its number
 abbrev pub new_space : WorldView → List ℕ → Result (WorldView × ℕ) Fault
 new_space w name =
     outcome (refuse_if (is_none (fs_named w.skel name)) NoFilesystem
@@ -37,25 +38,11 @@ module _ (w : WorldView) (n : ℕ) where
   abbrev pub originals : List Mount
   originals = filter (λ m. m.space == n) w.forest
 
-  -- their copies are numbered in this order (this project's rule)
-  abbrev pub twin : ℕ → ℕ
-  twin i = numbered nat_eq w.next_mount (map id_of originals) i
-
-  -- a copy stands in the new namespace at the corresponding place, with the same root and attributes (mount_namespaces(7): the
-  -- mount list of the new namespace is a copy)
-  abbrev pub twin_of : Mount → Mount
-  twin_of m = record m { id = twin m.id; space = w.next_space; place = option_map (λ p. record { mount = twin p.mount; dir = p.dir }) m.place }
-
-  -- a copy is a peer of its original or a slave of its master (`sharedsubtree`, clone namespace); in a less privileged
-  -- namespace a copy of a shared mount is a slave of its group (mount_namespaces(7), restrictions on mount namespaces)
-  abbrev pub twin_state : Bool → State → State
-  twin_state less s = cond less (record s { group = None; master = option_or s.group s.master }) s
-
   -- a copy of each mount of a namespace, in a new one (`sharedsubtree`, clone namespace)
   unfoldable pub with_copy : Bool → WorldView
   with_copy less = record w {
-    forest = w.forest ++ map twin_of originals;
-    peering = record w.peering { peers = w.peering.peers ++ map (λ m. record { mount = twin m.id; state = twin_state less (state_of w m.id) }) originals };
+    forest = w.forest ++ map (copy_of w (map id_of originals)) originals;
+    peering = record w.peering { peers = w.peering.peers ++ map (λ m. record { mount = copy_number w (map id_of originals) m.id; state = state_of_copy less (state_of w m.id) }) originals };
     next_mount = w.next_mount + length originals;
     next_space = w.next_space + 1;
   }

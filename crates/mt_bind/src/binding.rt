@@ -5,14 +5,14 @@ ghost use Rattle.mt_mounts.specs.Forest.{id_of};
 ghost use Rattle.mt_propagate.specs.World.{world_view, state_of};
 ghost use Rattle.mt_propagate.specs.WellFormed.{IsWellFormed};
 ghost use Rattle.mt_propagate.specs.Plans.{source_of};
-ghost use Rattle.mt_bind.specs.Sources.{alone, is_bound_along, tree_within};
-ghost use Rattle.mt_bind.specs.Along.{stands_in};
+ghost use Rattle.mt_bind.specs.Sources.{alone, leads_within, is_bound_along, tree_within};
 ghost use Rattle.mt_bind.specs.Mounting.{bound};
 
 use mt_mounts::mount::{MountId, Place, SpaceId};
+use mt_propagate::limits::too_many_mounts;
 use mt_propagate::named::is_root_place;
 use mt_propagate::plan::{Sources, carry_out, make_plan, ready};
-use mt_propagate::world::{MOST_MOUNTS, World};
+use mt_propagate::world::{World, state_of};
 use mt_skel::fault::Fault;
 use mt_skel::name::Name;
 use mt_skel::skel::Dir;
@@ -21,15 +21,12 @@ use mt_skel::skel::Dir;
 pub(crate) fn is_unbindable(world: &World, id: MountId) -> bool
     ensures { result ≡ (state_of (world_view world.now) id).unbindable }
 {
-    match world.peers.state(id) {
-        Some(state) => state.unbindable,
-        None => false,
-    }
+    state_of(world, id).unbindable
 }
 
-// Whether a mount stands within a directory. True where there is no mount to ask for.
-fn stands_in(world: &World, dir: Dir, mount: Option<MountId>) -> bool
-    ensures { result ≡ stands_in (world_view world.now) dir mount }
+/// Whether a mount stands at a directory or below it. True where there is no mount to ask for.
+fn leads_within(world: &World, dir: Dir, mount: Option<MountId>) -> bool
+    ensures { result ≡ leads_within (world_view world.now) dir mount }
 {
     let Some(id) = mount else {
         return true;
@@ -43,9 +40,9 @@ fn stands_in(world: &World, dir: Dir, mount: Option<MountId>) -> bool
     }
 }
 
-// Whether a recursive bind of a directory copies a mount: it is the directory's own mount, or it
-// stands on that one at whatever height, within the directory, and neither it nor a mount between
-// the two is unbindable.
+/// Whether a recursive bind of a directory copies a mount: it is the directory's own mount, or it
+/// stands on that one at whatever height, within the directory, and neither it nor a mount between
+/// the two is unbindable.
 fn is_bound_along(world: &World, from: Place, id: MountId) -> bool
     ensures { result ≡ is_bound_along (world_view world.now) from id }
 {
@@ -53,7 +50,7 @@ fn is_bound_along(world: &World, from: Place, id: MountId) -> bool
     let mut passed = None;
     'parents: for _step in 0..world.forest.len() {
         if here == from.mount {
-            return stands_in(world, from.dir, passed);
+            return leads_within(world, from.dir, passed);
         }
         if is_unbindable(world, here) {
             return false;
@@ -64,10 +61,10 @@ fn is_bound_along(world: &World, from: Place, id: MountId) -> bool
         passed = Some(here);
         here = parent;
     }
-    here == from.mount && stands_in(world, from.dir, passed)
+    here == from.mount && leads_within(world, from.dir, passed)
 }
 
-// The mounts that a recursive bind of a directory copies, by rising ID. Refused as `NoMemory` alone.
+/// The mounts that a recursive bind of a directory copies, by rising ID. Refused as `NoMemory` alone.
 fn members_within(world: &World, from: Place) -> Result<Vec<MountId>, Fault>
     ensures members { IfOk result (λ ids. ids.items ≡ map id_of (filter (λ m. is_bound_along (world_view world.now) from m.id) world.now.forest.mounts)) }
     ensures memory { IsOkUnless result Fault.NoMemory }
@@ -82,7 +79,7 @@ fn members_within(world: &World, from: Place) -> Result<Vec<MountId>, Fault>
     Ok(members)
 }
 
-// A list of one mount, in the memory of the list of all. Refused as `NoMemory` alone.
+/// A list of one mount, in the memory of the list of all. Refused as `NoMemory` alone.
 fn only(world: &World, id: MountId) -> Result<Vec<MountId>, Fault>
     ensures only { IfOk result (λ ids. ids.items ≡ id ∷ []) }
     ensures memory { IsOkUnless result Fault.NoMemory }
@@ -93,13 +90,13 @@ fn only(world: &World, id: MountId) -> Result<Vec<MountId>, Fault>
     Ok(ids)
 }
 
-// What a bind of a place copies: its mount alone, or with `deep` the tree of mounts below it.
-fn sources_at(world: &World, from: Place, deep: bool) -> Result<Sources, Fault>
+/// What a bind of a place copies: its mount alone, or with `recursive` the tree of mounts below it.
+fn sources_at(world: &World, from: Place, recursive: bool) -> Result<Sources, Fault>
     requires well_formed { IsWellFormed (world_view world.now) }
-    ensures sources { IfOk result (λ sources. source_of (world_view world.now) sources ≡ cond deep (tree_within (world_view world.now) from) (alone (world_view world.now) from)) }
+    ensures sources { IfOk result (λ sources. source_of (world_view world.now) sources ≡ cond recursive (tree_within (world_view world.now) from) (alone (world_view world.now) from)) }
     ensures memory { IsOkUnless result Fault.NoMemory }
 {
-    let members = if deep {
+    let members = if recursive {
         members_within(world, from)?
     } else {
         only(world, from.mount)?
@@ -112,18 +109,18 @@ fn sources_at(world: &World, from: Place, deep: bool) -> Result<Sources, Fault>
     })
 }
 
-// Binds with what stands below the source path's end where `deep`, or without.
+/// Binds with what stands below the source path's end where `recursive`, or without.
 fn bind_from(
     world: &mut World,
     space: SpaceId,
-    deep: bool,
+    recursive: bool,
     from: &[Name],
     to: &[Name],
 ) -> Result<MountId, Fault>
     requires well_formed { IsWellFormed (world_view world.old) }
     requires numbers { (world.old.next_mount < 2 ^ 63) × (world.old.peers.next < 2 ^ 63) }
-    ensures done { IfOk result (λ id. bound (world_view world.old) space deep from.now to.now ≡ Ok (world_view world.new, id)) }
-    ensures refused { IfErr result (λ fault. fault ≢ Fault.NoMemory → bound (world_view world.old) space deep from.now to.now ≡ Err fault) }
+    ensures done { IfOk result (λ id. bound (world_view world.old) space recursive from.now to.now ≡ Ok (world_view world.new, id)) }
+    ensures refused { IfErr result (λ fault. fault ≢ Fault.NoMemory → bound (world_view world.old) space recursive from.now to.now ≡ Err fault) }
     ensures unchanged { OnErr result (world_view world.new ≡ world_view world.old) }
     ensures kept { IsWellFormed (world_view world.new) }
 {
@@ -136,10 +133,10 @@ fn bind_from(
         return Err(Fault::Unbindable);
     }
     // A copy comes at least to the place itself.
-    if world.forest.len() >= MOST_MOUNTS {
+    if too_many_mounts(world, 1) {
         return Err(Fault::TooMany);
     }
-    let sources = sources_at(world, source, deep)?;
+    let sources = sources_at(world, source, recursive)?;
     let plan = make_plan(world, &sources, place)?;
     ready(world, &plan)?;
     Ok(carry_out(world, plan))

@@ -1,23 +1,22 @@
 //! Namespaces that are copies of others.
-ghost use Rattle.std.specs.Prelude.{◌≡◌, ◌≢◌, ◌+◌, ◌<◌, ◌≤◌, ◌^◌, ◌++◌, ◌||◌, false, map, length, nat_eq, IsTrue, IfOk, IfErr, OnOk, OnErr, IsOkUnless, Ok, Err};
+ghost use Rattle.std.specs.Prelude.{◌≡◌, ◌≢◌, ◌+◌, ◌<◌, ◌≤◌, ◌^◌, ◌++◌, false, map, length, nat_eq, IsTrue, IfOk, IfErr, OnOk, OnErr, IsOkUnless, Ok, Err};
 ghost use Rattle.mt_skel.specs.Keyed.{numbered, rises};
 ghost use Rattle.mt_mounts.specs.Forest.{id_of};
 ghost use Rattle.mt_peers.specs.Peers.{mount_of, peers_of};
-ghost use Rattle.mt_propagate.specs.World.{world_view, state_of};
-ghost use Rattle.mt_propagate.specs.Limits.{too_many_mounts, too_many_spaces};
+ghost use Rattle.mt_propagate.specs.World.{world_view};
 ghost use Rattle.mt_propagate.specs.WellFormed.{HasDistinctPlaces, HasOneRoot, IsWellFormed};
 ghost use Rattle.mt_bind.specs.Spaces.{originals, copy_space};
 ghost use Rattle.mt_bind.specs.Copying.{copy_of, peer_of};
 
-use crate::spaces::PRIVATE;
+use crate::spaces::too_many;
 use mt_mounts::mount::{Mount, MountId, Place, SpaceId};
 use mt_peers::state::State;
 use mt_propagate::carry::{insert_all, join_all};
-use mt_propagate::world::{MOST_MOUNTS, MOST_SPACES, World};
+use mt_propagate::world::{World, state_of};
 use mt_skel::fault::Fault;
 use std::alloc::Global;
 
-// The mounts of a namespace, by rising ID.
+/// The mounts of a namespace, by rising ID.
 fn originals(world: &World, space: SpaceId) -> Result<Vec<Mount>, Fault>
     ensures originals { IfOk result (λ mounts. mounts.items ≡ originals (world_view world.now) space) }
     ensures memory { IsOkUnless result Fault.NoMemory }
@@ -27,8 +26,8 @@ fn originals(world: &World, space: SpaceId) -> Result<Vec<Mount>, Fault>
     Ok(mounts)
 }
 
-// The number of the copy of a mount, where the copies of these mounts get the numbers from `next` on.
-fn number_of(next: MountId, originals: &[Mount], id: MountId) -> MountId
+/// The number of the copy of a mount, where the copies of these mounts get the numbers from `next` on.
+fn copy_number(next: MountId, originals: &[Mount], id: MountId) -> MountId
     requires { next + length originals.now < 2 ^ 64 }
     ensures { result ≡ numbered nat_eq next (map id_of originals.now) id }
 {
@@ -42,20 +41,20 @@ fn number_of(next: MountId, originals: &[Mount], id: MountId) -> MountId
     number
 }
 
-// The copy of a mount, which stands on the copy of its parent.
+/// The copy of a mount, which stands on the copy of its parent.
 fn copy_of(world: &World, originals: &[Mount], mount: &Mount) -> Mount
     requires { world.now.next_mount + length originals.now < 2 ^ 64 }
     ensures { result ≡ copy_of (world_view world.now) (map id_of originals.now) mount.now }
 {
     let place = match mount.place {
         Some(place) => Some(Place {
-            mount: number_of(world.next_mount, originals, place.mount),
+            mount: copy_number(world.next_mount, originals, place.mount),
             dir: place.dir,
         }),
         None => None,
     };
     Mount {
-        id: number_of(world.next_mount, originals, mount.id),
+        id: copy_number(world.next_mount, originals, mount.id),
         space: world.next_space,
         place,
         root: mount.root,
@@ -63,7 +62,7 @@ fn copy_of(world: &World, originals: &[Mount], mount: &Mount) -> Mount
     }
 }
 
-// The copies of the mounts of a namespace.
+/// The copies of the mounts of a namespace.
 fn copies(alloc: Global, world: &World, originals: &[Mount]) -> Result<Vec<Mount>, Fault>
     requires { world.now.next_mount + length originals.now < 2 ^ 64 }
     ensures copies { IfOk result (λ copies. copies.items ≡ map (copy_of (world_view world.now) (map id_of originals.now)) originals.now) }
@@ -76,14 +75,7 @@ fn copies(alloc: Global, world: &World, originals: &[Mount]) -> Result<Vec<Mount
     Ok(copies)
 }
 
-// The state of a mount; one that is not there counts as private.
-fn state_of(world: &World, id: MountId) -> State
-    ensures { result ≡ state_of (world_view world.now) id }
-{
-    world.peers.state(id).unwrap_or(PRIVATE)
-}
-
-// The states of the copies of the mounts of a namespace.
+/// The states of the copies of the mounts of a namespace.
 fn states(alloc: Global, world: &World, originals: &[Mount]) -> Result<Vec<(MountId, State)>, Fault>
     requires { world.now.next_mount + length originals.now < 2 ^ 64 }
     ensures states { IfOk result (λ states. peers_of states.items ≡ map (peer_of (world_view world.now) (map id_of originals.now)) originals.now) }
@@ -91,21 +83,13 @@ fn states(alloc: Global, world: &World, originals: &[Mount]) -> Result<Vec<(Moun
 {
     let mut states = Vec::new(alloc);
     for mount in originals {
-        let id = number_of(world.next_mount, originals, mount.id);
+        let id = copy_number(world.next_mount, originals, mount.id);
         states.push((id, state_of(world, mount.id)))?;
     }
     Ok(states)
 }
 
-// Whether one more namespace with so many mounts is too many.
-fn too_many(world: &World, more: usize) -> bool
-    ensures { result ≡ (too_many_spaces (world_view world.now) || too_many_mounts (world_view world.now) more) }
-{
-    let mounts = world.forest.len();
-    world.forest.spaces() >= MOST_SPACES || mounts > MOST_MOUNTS || more > MOST_MOUNTS - mounts
-}
-
-// Makes room for so many more mounts, and changes nothing.
+/// Makes room for so many more mounts, and changes nothing.
 fn make_room(world: &mut World, more: usize) -> Result<(), Fault>
     ensures room { OnOk result ((more ≤ world.new.forest.room) × (more ≤ world.new.peers.room)) }
     ensures memory { IsOkUnless result Fault.NoMemory }
@@ -116,7 +100,7 @@ fn make_room(world: &mut World, more: usize) -> Result<(), Fault>
     Ok(())
 }
 
-// Adds the mounts of one more namespace with their states, and answers its number.
+/// Adds the mounts of one more namespace with their states, and answers its number.
 fn add_space(world: &mut World, mounts: &[Mount], states: &[(MountId, State)]) -> SpaceId
     requires room { (length mounts.now ≤ world.old.forest.room) × (length states.now ≤ world.old.peers.room) }
     requires rising { IsTrue (rises id_of (world.old.forest.mounts ++ mounts.now)) }

@@ -9,23 +9,21 @@ ghost use Rattle.mt_bind.specs.Mounting.{moved};
 
 use crate::binding::is_unbindable;
 use mt_mounts::mount::{MountId, Place, SpaceId};
-use mt_propagate::named::{is_named_mount, is_root_mount, is_root_place};
+use mt_propagate::named::{is_mount_root, is_root_mount, is_root_place};
 use mt_propagate::plan::{Sources, carry_out, make_plan, ready};
-use mt_propagate::world::World;
+use mt_propagate::world::{World, state_of};
 use mt_skel::fault::Fault;
+use mt_skel::list::is_among;
 use mt_skel::name::Name;
 
-// Whether a mount is in a peer group.
+/// Whether a mount is in a peer group.
 fn is_shared(world: &World, id: MountId) -> bool
     ensures { result ≡ is_some (group_of (world_view world.now) id) }
 {
-    match world.peers.state(id) {
-        Some(state) => state.group.is_some(),
-        None => false,
-    }
+    state_of(world, id).group.is_some()
 }
 
-// Whether the mount on which a mount stands is in a peer group.
+/// Whether the mount on which a mount stands is in a peer group.
 fn has_shared_parent(world: &World, id: MountId) -> bool
     ensures { result ≡ option_map_or (λ k. is_some (group_of (world_view world.now) k)) (parent world.now.forest.mounts id) false }
 {
@@ -35,19 +33,7 @@ fn has_shared_parent(world: &World, id: MountId) -> bool
     }
 }
 
-// Whether this is one of the mounts.
-fn is_among(ids: &[MountId], id: MountId) -> bool
-    ensures { result ≡ list_any (λ k. k == id) ids.now }
-{
-    for other in ids {
-        if *other == id {
-            return true;
-        }
-    }
-    false
-}
-
-// Whether one of these mounts is unbindable.
+/// Whether one of these mounts is unbindable.
 fn has_unbindable(world: &World, ids: &[MountId]) -> bool
     ensures { result ≡ list_any (λ k. (state_of (world_view world.now) k).unbindable) ids.now }
 {
@@ -59,7 +45,7 @@ fn has_unbindable(world: &World, ids: &[MountId]) -> bool
     false
 }
 
-// Whether one of these mounts is unbindable and the place where they go is on a shared mount.
+/// Whether one of these mounts is unbindable and the place where they go is on a shared mount.
 fn is_unbindable_inside(world: &World, place: Place, ids: &[MountId]) -> bool
     ensures { result ≡ is_some (group_of (world_view world.now) place.mount) && list_any (λ k. (state_of (world_view world.now) k).unbindable) ids.now }
 {
@@ -89,7 +75,7 @@ pub fn move_mount(
     ensures kept { IsWellFormed (world_view world.new) }
 {
     let source = world.forest.walk(&world.skel, space, from)?;
-    if !is_named_mount(world, source) {
+    if !is_mount_root(world, source) {
         return Err(Fault::NotMountRoot);
     }
     if is_root_mount(world, source) {

@@ -1,21 +1,22 @@
 //! New namespaces.
-ghost use Rattle.std.specs.Prelude.{◌≡◌, ◌≢◌, ◌^◌, ◌<◌, IfOk, IfErr, OnErr, Ok, Err};
+ghost use Rattle.std.specs.Prelude.{◌≡◌, ◌≢◌, ◌^◌, ◌<◌, ◌||◌, IfOk, IfErr, OnErr, Ok, Err};
 ghost use Rattle.mt_propagate.specs.World.{world_view};
+ghost use Rattle.mt_propagate.specs.Limits.{too_many_mounts, too_many_spaces};
 ghost use Rattle.mt_propagate.specs.WellFormed.{IsWellFormed};
 ghost use Rattle.mt_bind.specs.Spaces.{new_space};
 
 use mt_mounts::mount::{Attrs, Mount, SpaceId};
-use mt_peers::state::State;
-use mt_propagate::world::{MOST_MOUNTS, MOST_SPACES, World};
+use mt_propagate::limits::{too_many_mounts, too_many_spaces};
+use mt_propagate::world::{PRIVATE, World};
 use mt_skel::fault::Fault;
 use mt_skel::name::Label;
 
-/// The state of a mount that neither gives nor gets, and may be bound.
-pub(crate) const PRIVATE: State = State {
-    group: None,
-    master: None,
-    unbindable: false,
-};
+/// Whether one more namespace with so many mounts is too many.
+pub(crate) fn too_many(world: &World, more: usize) -> bool
+    ensures { result ≡ (too_many_spaces (world_view world.now) || too_many_mounts (world_view world.now) more) }
+{
+    too_many_spaces(world) || too_many_mounts(world, more)
+}
 
 /// Adds a namespace whose root mount is private and shows the root of the filesystem of this name,
 /// and answers its number.
@@ -33,7 +34,7 @@ pub fn new_space(world: &mut World, fs: &Label) -> Result<SpaceId, Fault>
     let Some(fs) = world.skel.fs(fs) else {
         return Err(Fault::NoFilesystem);
     };
-    if world.forest.spaces() >= MOST_SPACES || world.forest.len() >= MOST_MOUNTS {
+    if too_many(world, 1) {
         return Err(Fault::TooMany);
     }
     world.forest.reserve(1)?;

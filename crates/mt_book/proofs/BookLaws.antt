@@ -13,7 +13,7 @@ use Rattle.mt_book.specs.declared.spare.Spare.TheVariants.{Level, Behind}
 use Rattle.mt_book.specs.declared.prepared.Prepared.{Prepared}
 use Rattle.mt_book.specs.Step.{step, makes_space, after}
 use Rattle.mt_book.specs.History.{posts_of}
-use Rattle.mt_book.specs.Book.{command_limit, numbers_of, counted, posted, with_newborn, answer, reply_of}
+use Rattle.mt_book.specs.Book.{command_limit, space_numbers, counted, posted, with_newborn, answer, reply_of}
 use Rattle.mt_book.specs.Kept.{IsBehind, IsSpare, IsPrepared, IsBook}
 use Rattle.mt_book.proofs.GrowthLaws.{IsReached, reached}
 use Rattle.mt_book.proofs.NextLaws.{after-accepted, accepts-next, numbers-next, posts-next, numbers-few}
@@ -38,7 +38,7 @@ behind_small cs w h few =
     subst IsSmall (sym h.world) (reached_small (after h.before) (length h.before) shorter (reached h.before))
 
 pub book_new : (w : World) → world_view w ≡ empty_world → IsBook empty_world (Level w) [] []
-unfolding after numbers_of
+unfolding after space_numbers
 book_new w e = record {
   world = refl;
   lags = e;
@@ -93,7 +93,7 @@ accepted_kept cs world v c r w e =
 
 pub book_few : (w : WorldView) (spare : Spare) (ks : List ℕ) (cs : List Command) → IsBook w spare ks cs → (i : ℕ) → slice_index_or ks i 0 ≤ command_limit
 book_few w spare ks cs h i =
-    subst (λ (l : List ℕ). slice_index_or l i 0 ≤ command_limit) (sym h.counts) (le_through (slice_index_or (numbers_of cs) i 0) (length cs) command_limit (numbers-few cs i) h.few)
+    subst (λ (l : List ℕ). slice_index_or l i 0 ≤ command_limit) (sym h.counts) (le_through (slice_index_or (space_numbers cs) i 0) (length cs) command_limit (numbers-few cs i) h.few)
   where
     le_through : (a b c : ℕ) → a ≤ b → b ≤ c → a ≤ c
     le_through a b c p q = omega arith
@@ -113,7 +113,7 @@ prepared_for shown world spare ks cs c p h few w e same numbers posts =
           ∙ ap (λ (x : WorldView). counted x v 1 (with_newborn ks (makes_space c))) h.world
           ∙ ap (λ (l : List ℕ). counted (after cs) v 1 (with_newborn l (makes_space c))) h.counts
           ∙ numbers-next cs c v p.reply done
-          ∙ ap (λ (x : Command). numbers_of (cs ++ x ∷ [])) (sym same);
+          ∙ ap (λ (x : Command). space_numbers (cs ++ x ∷ [])) (sym same);
       posts =
           posts
           ∙ ap (λ (x : WorldView). posted x v 1 (with_newborn ks (makes_space c))) h.world

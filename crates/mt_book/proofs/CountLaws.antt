@@ -4,7 +4,7 @@ use Rattle.std.specs.List.{filter_map, cons_option, range_with_len}
 use Rattle.mt_events.specs.Posts.{PostView}
 use Rattle.mt_book.specs.declared.command.Command.{Command}
 use Rattle.mt_book.specs.Step.{next_world, after}
-use Rattle.mt_book.specs.History.{number_of, posts_of, posts_from}
+use Rattle.mt_book.specs.History.{space_number, posts_of, posts_from}
 use Rattle.mt_book.proofs.GrowthLaws.{reached, next_reached}
 use Rattle.mt_book.proofs.HistoryLaws.{given}
 
@@ -19,7 +19,7 @@ few_given f a (suc n) = by (f a) (few_given f (a + 1) n)
 pub few_posts : (cs : List Command) (c : Command) → length (posts_of cs c) ≤ length cs + 1
 unfolding posts_of
 few_posts cs c =
-    omega (arith, few_given (λ n. given n (number_of n cs + 1) (after cs) c) 1 ((next_world (after cs) c).next_space - 1), (next_reached (after cs) c (length cs) (reached cs)).spaces)
+    omega (arith, few_given (λ n. given n (space_number n cs + 1) (after cs) c) 1 ((next_world (after cs) c).next_space - 1), (next_reached (after cs) c (length cs) (reached cs)).spaces)
 
 pub posts_few : (before cs : List Command) (m : ℕ) → length before + length cs ≤ m → length (posts_from before cs) ≤ length cs * m
 posts_few before [] m l = omega arith

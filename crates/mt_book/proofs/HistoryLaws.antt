@@ -12,10 +12,10 @@ use Rattle.mt_mounts.specs.declared.mount.Mount.{Mount}
 use Rattle.mt_mounts.specs.Forest.{id_of, is_root}
 use Rattle.mt_propagate.specs.World.{WorldView, empty_world, is_space}
 use Rattle.mt_propagate.specs.WellFormed.{IsWellFormed}
-use Rattle.mt_propagate.proofs.ElementLaws.{In, in_row, row_in, in_found}
+use Rattle.mt_skel.proofs.ElementLaws.{In, in_row, row_in, in_found}
 use Rattle.mt_info.specs.Table.{row_of, table_of}
 use Rattle.mt_info.proofs.TableLaws.{table_rises}
-use Rattle.mt_info.proofs.WordLaws.{and-true}
+use Rattle.mt_skel.proofs.MiddleLaws.{and-true}
 use Rattle.mt_events.specs.Posts.{PostView}
 use Rattle.mt_events.specs.declared.post.Delta.{Delta}
 use Rattle.mt_events.specs.Difference.{difference, applied, is_empty, delta_of, post_of, with_posts}
@@ -25,7 +25,7 @@ use Rattle.mt_events.proofs.EmptyLaws.{empty-equal}
 use Rattle.mt_book.specs.declared.command.Command.{Command}
 use Rattle.mt_book.specs.declared.command.Reply.{Reply}
 use Rattle.mt_book.specs.Step.{step, world_or, next_world, after_from, after}
-use Rattle.mt_book.specs.History.{events_from, events, number_of, posts_of, posts_from}
+use Rattle.mt_book.specs.History.{events_from, events, space_number, posts_of, posts_from}
 use Rattle.mt_book.specs.Laws.{IsTableAsOf}
 use Rattle.mt_book.proofs.SkelLaws.{none_there}
 use Rattle.mt_book.proofs.StepLaws.{next_kept, empty_kept}
@@ -186,33 +186,33 @@ given_out n number w c g out =
     let low = next_higher w c in
     no_post n number w (next_world w c) g v (table_outside w n g.formed (elim out [ inl z ↦ inl z | inr l ↦ inr (omega (arith, l, low)) ]) ∙ sym (table_outside (next_world w c) n v.formed out))
 
-pub posts_of_space : (cs : List Command) (c : Command) (n : ℕ) → filter (of_space n) (posts_of cs c) ≡ option_to_list (given n (number_of n cs + 1) (after cs) c)
+pub posts_of_space : (cs : List Command) (c : Command) (n : ℕ) → filter (of_space n) (posts_of cs c) ≡ option_to_list (given n (space_number n cs + 1) (after cs) c)
 unfolding posts_of
 posts_of_space cs c n = by (eqb n 0) (ltb n (next_world (after cs) c).next_space) refl refl
   where
     f : ℕ → Option PostView
-    f m = given m (number_of m cs + 1) (after cs) c
+    f m = given m (space_number m cs + 1) (after cs) c
 
-    each : (m : ℕ) (p : PostView) → given m (number_of m cs + 1) (after cs) c ≡ Some p → p.space ≡ m
-    each m p e = (post_is m (number_of m cs + 1) (difference (table_of (after cs) m) (table_of (next_world (after cs) c) m)) p e).space_is
+    each : (m : ℕ) (p : PostView) → given m (space_number m cs + 1) (after cs) c ≡ Some p → p.space ≡ m
+    each m p e = (post_is m (space_number m cs + 1) (difference (table_of (after cs) m) (table_of (next_world (after cs) c) m)) p e).space_is
 
     one : 1 ≤ (next_world (after cs) c).next_space
     one = (next_good (after cs) c (after_good cs)).formed.from_one.1
 
     by : (a b : Bool) → eqb n 0 ≡ a → ltb n (next_world (after cs) c).next_space ≡ b
-        → filter (of_space n) (filter_map (λ m. given m (number_of m cs + 1) (after cs) c) (range_with_len 1 ((next_world (after cs) c).next_space - 1))) ≡ option_to_list (given n (number_of n cs + 1) (after cs) c)
+        → filter (of_space n) (filter_map (λ m. given m (space_number m cs + 1) (after cs) c) (range_with_len 1 ((next_world (after cs) c).next_space - 1))) ≡ option_to_list (given n (space_number n cs + 1) (after cs) c)
     by true b z l =
         let zero_is : n ≡ 0 = grind (arith, nat_tests) in
-        pick_out (λ m. given m (number_of m cs + 1) (after cs) c) each n 1 ((next_world (after cs) c).next_space - 1) (inl (omega (arith, zero_is)))
-        ∙ sym (ap option_to_list (given_out n (number_of n cs + 1) (after cs) c (after_good cs) (inl zero_is)))
+        pick_out (λ m. given m (space_number m cs + 1) (after cs) c) each n 1 ((next_world (after cs) c).next_space - 1) (inl (omega (arith, zero_is)))
+        ∙ sym (ap option_to_list (given_out n (space_number n cs + 1) (after cs) c (after_good cs) (inl zero_is)))
     by false false z l =
         let above : (next_world (after cs) c).next_space ≤ n = grind (arith, nat_tests) in
-        pick_out (λ m. given m (number_of m cs + 1) (after cs) c) each n 1 ((next_world (after cs) c).next_space - 1) (inr (omega (arith, above, one)))
-        ∙ sym (ap option_to_list (given_out n (number_of n cs + 1) (after cs) c (after_good cs) (inr above)))
+        pick_out (λ m. given m (space_number m cs + 1) (after cs) c) each n 1 ((next_world (after cs) c).next_space - 1) (inr (omega (arith, above, one)))
+        ∙ sym (ap option_to_list (given_out n (space_number n cs + 1) (after cs) c (after_good cs) (inr above)))
     by false true z l =
         let low : 1 ≤ n = grind (arith, nat_tests) in
         let high : n < (next_world (after cs) c).next_space = grind (arith, nat_tests) in
-        pick_in (λ m. given m (number_of m cs + 1) (after cs) c) each n 1 ((next_world (after cs) c).next_space - 1) low (omega (arith, high, one))
+        pick_in (λ m. given m (space_number m cs + 1) (after cs) c) each n 1 ((next_world (after cs) c).next_space - 1) low (omega (arith, high, one))
 
 -- ---- the events of one namespace
 
@@ -228,18 +228,18 @@ events_from-append n number w (x ∷ xs) ys =
     ap (λ l. post ++ l) (events_from-append n (number + length post) w' xs ys ∙ ap (λ k. front ++ events_from n k (after_from w' xs) ys) count)
     ∙ sym (append_assoc post front (events_from n (number + length (post ++ front)) (after_from w' xs) ys))
 
-pub events-append : (n : ℕ) (xs ys : List Command) → events n (xs ++ ys) ≡ events n xs ++ events_from n (number_of n xs + 1) (after xs) ys
+pub events-append : (n : ℕ) (xs ys : List Command) → events n (xs ++ ys) ≡ events n xs ++ events_from n (space_number n xs + 1) (after xs) ys
 unfolding events after
 events-append n xs ys =
     let count : 1 + length (events_from n 1 empty_world xs) ≡ length (events_from n 1 empty_world xs) + 1 = omega arith in
     events_from-append n 1 empty_world xs ys ∙ ap (λ k. events_from n 1 empty_world xs ++ events_from n k (after_from empty_world xs) ys) count
 
 -- the posts of namespace n among those of some commands are its events
-pub space_events : (n : ℕ) (before cs : List Command) → filter (of_space n) (posts_from before cs) ≡ events_from n (number_of n before + 1) (after before) cs
+pub space_events : (n : ℕ) (before cs : List Command) → filter (of_space n) (posts_from before cs) ≡ events_from n (space_number n before + 1) (after before) cs
 space_events n before [] = refl
 space_events n before (c ∷ cs) =
-    let post = option_to_list (given n (number_of n before + 1) (after before) c) in
-    let number : number_of n (before ++ c ∷ []) + 1 ≡ number_of n before + 1 + length post =
+    let post = option_to_list (given n (space_number n before + 1) (after before) c) in
+    let number : space_number n (before ++ c ∷ []) + 1 ≡ space_number n before + 1 + length post =
     omega (arith, ap length (events-append n before (c ∷ [])), length-append (events n before) (post ++ []), ap length (append-nil post)) in
     filter-append (of_space n) (posts_of before c) (posts_from (before ++ c ∷ []) cs)
     ∙ (λ i. posts_of_space before c n i ++ space_events n (before ++ c ∷ []) cs i)
@@ -332,7 +332,7 @@ numbers_up n cs k p e = let r = numbers n 1 empty_world cs k p e in (r.0, omega 
 
 pub tables_made : (n : ℕ) (before cs : List Command) → with_posts (table_of (after before) n) (space_posts n (posts_from before cs)) ≡ table_of (after (before ++ cs)) n
 tables_made n before cs =
-    ap (with_posts (table_of (after before) n)) (space_events n before cs) ∙ tables_go n (number_of n before + 1) (after before) cs (after_good before) ∙ ap (λ w. table_of w n) (sym (after-append before cs))
+    ap (with_posts (table_of (after before) n)) (space_events n before cs) ∙ tables_go n (space_number n before + 1) (after before) cs (after_good before) ∙ ap (λ w. table_of w n) (sym (after-append before cs))
 
 pub tables_told :
     (n : ℕ) (before cs : List Command) (front : List PostView) (p : PostView) (rest : List PostView) → space_posts n (posts_from before cs) ≡ (front ++ p ∷ []) ++ rest
@@ -343,24 +343,24 @@ tables_told n before cs front p rest e = record {
   later = g.later;
   split = ap (λ l. before ++ l) g.split ∙ sym (append_assoc before g.before (g.command ∷ g.later));
   gave = posts_of_space (before ++ g.before) g.command n ∙ ap option_to_list gave;
-  number = ap length (events-append n (before ++ g.before) (g.command ∷ [])) ∙ length-append (events n (before ++ g.before)) (option_to_list (given n (number_of n (before ++ g.before) + 1) (after (before ++ g.before)) g.command) ++ [])
-      ∙ ap (λ o. number_of n (before ++ g.before) + length (option_to_list o ++ [])) gave
-      ∙ sym (post_is n (number_of n (before ++ g.before) + 1) (difference (table_of (after (before ++ g.before)) n) (table_of (next_world (after (before ++ g.before)) g.command) n)) p gave).number_is;
-  table = ap (with_posts (table_of (after before) n)) (sym upto) ∙ tables_go n (number_of n before + 1) (after before) (g.before ++ g.command ∷ []) (after_good before)
+  number = ap length (events-append n (before ++ g.before) (g.command ∷ [])) ∙ length-append (events n (before ++ g.before)) (option_to_list (given n (space_number n (before ++ g.before) + 1) (after (before ++ g.before)) g.command) ++ [])
+      ∙ ap (λ o. space_number n (before ++ g.before) + length (option_to_list o ++ [])) gave
+      ∙ sym (post_is n (space_number n (before ++ g.before) + 1) (difference (table_of (after (before ++ g.before)) n) (table_of (next_world (after (before ++ g.before)) g.command) n)) p gave).number_is;
+  table = ap (with_posts (table_of (after before) n)) (sym upto) ∙ tables_go n (space_number n before + 1) (after before) (g.before ++ g.command ∷ []) (after_good before)
       ∙ ap (λ w. table_of w n) (sym (after-append before (g.before ++ g.command ∷ []))) ∙ ap (λ l. table_of (after l) n) (sym (append_assoc before g.before (g.command ∷ [])));
 }
   where
-    g : Gave n (number_of n before + 1) (after before) cs front p
-    g = giver n (number_of n before + 1) (after before) cs front p rest (sym (space_events n before cs) ∙ e ∙ append_assoc front (p ∷ []) rest)
+    g : Gave n (space_number n before + 1) (after before) cs front p
+    g = giver n (space_number n before + 1) (after before) cs front p rest (sym (space_events n before cs) ∙ e ∙ append_assoc front (p ∷ []) rest)
 
-    so_far : number_of n (before ++ g.before) ≡ number_of n before + length front
-    so_far = ap length (events-append n before g.before) ∙ length-append (events n before) (events_from n (number_of n before + 1) (after before) g.before) ∙ ap (λ l. number_of n before + length l) g.front_is
+    so_far : space_number n (before ++ g.before) ≡ space_number n before + length front
+    so_far = ap length (events-append n before g.before) ∙ length-append (events n before) (events_from n (space_number n before + 1) (after before) g.before) ∙ ap (λ l. space_number n before + length l) g.front_is
 
-    gave : given n (number_of n (before ++ g.before) + 1) (after (before ++ g.before)) g.command ≡ Some p
-    gave = (λ i. given n (number_of n (before ++ g.before) + 1) (after-append before g.before i) g.command) ∙ ap (λ k. given n k (after_from (after before) g.before) g.command) (omega (arith, so_far)) ∙ g.gave
+    gave : given n (space_number n (before ++ g.before) + 1) (after (before ++ g.before)) g.command ≡ Some p
+    gave = (λ i. given n (space_number n (before ++ g.before) + 1) (after-append before g.before i) g.command) ∙ ap (λ k. given n k (after_from (after before) g.before) g.command) (omega (arith, so_far)) ∙ g.gave
 
-    upto : events_from n (number_of n before + 1) (after before) (g.before ++ g.command ∷ []) ≡ front ++ p ∷ []
+    upto : events_from n (space_number n before + 1) (after before) (g.before ++ g.command ∷ []) ≡ front ++ p ∷ []
     upto =
-        events_from-append n (number_of n before + 1) (after before) g.before (g.command ∷ [])
-        ∙ (λ i. g.front_is i ++ (option_to_list (given n (number_of n before + 1 + length (g.front_is i)) (after_from (after before) g.before) g.command) ++ []))
+        events_from-append n (space_number n before + 1) (after before) g.before (g.command ∷ [])
+        ∙ (λ i. g.front_is i ++ (option_to_list (given n (space_number n before + 1 + length (g.front_is i)) (after_from (after before) g.before) g.command) ++ []))
         ∙ ap (λ o. front ++ (option_to_list o ++ [])) g.gave

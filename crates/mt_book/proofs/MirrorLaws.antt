@@ -8,7 +8,7 @@ use Rattle.mt_events.proofs.PostLaws.{texts_tell}
 use Rattle.mt_events.proofs.MirrorLaws.{mirror_same, mirror_followed}
 use Rattle.mt_book.specs.declared.command.Command.{Command}
 use Rattle.mt_book.specs.Step.{after}
-use Rattle.mt_book.specs.History.{events, number_of, posts_from}
+use Rattle.mt_book.specs.History.{events, space_number, posts_from}
 use Rattle.mt_book.specs.Laws.{mirror_of}
 use Rattle.mt_book.proofs.HistoryLaws.{space_events, numbers, posts_events, tables_made}
 
@@ -18,11 +18,11 @@ pub mirrors_followed : (n : ℕ) (before cs : List Command) (told : List PostVie
 mirrors_followed n before cs told valid read same =
     let posts : List PostView = space_posts n (posts_from before cs) in
     let is : told ≡ posts = texts_tell told posts read valid same in
-    let each : (k : ℕ) (p : PostView) → slice_get posts k ≡ Some p → (p.space ≡ n) × (p.number ≡ number_of n before + k + 1) = λ k p e.
-    let r = numbers n (number_of n before + 1) (after before) cs k p (ap (λ (l : List PostView). slice_get l k) (sym (space_events n before cs)) ∙ e) in
+    let each : (k : ℕ) (p : PostView) → slice_get posts k ≡ Some p → (p.space ≡ n) × (p.number ≡ space_number n before + k + 1) = λ k p e.
+    let r = numbers n (space_number n before + 1) (after before) cs k p (ap (λ (l : List PostView). slice_get l k) (sym (space_events n before cs)) ∙ e) in
     (r.0, omega (arith, r.1)) in
     let followed = mirror_followed (mirror_of n before) posts each in
-    let count : number_of n before + length posts ≡ number_of n (before ++ cs) =
+    let count : space_number n before + length posts ≡ space_number n (before ++ cs) =
     sym (ap (λ (l : List PostView). length l) (posts_events n before cs) ∙ length-append (events n before) posts) in (
       ap (are_next (mirror_of n before)) is ∙ followed.0,
       ap (mirrored_by (mirror_of n before)) is ∙ followed.1 ∙ mirror_same n count (tables_made n before cs),

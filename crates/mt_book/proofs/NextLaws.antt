@@ -6,14 +6,14 @@ use Rattle.std.specs.Result.{is_ok}
 use Rattle.std.proofs.lemmas.List.FromFn.{length-map-range_with_len, map-range_with_len_more}
 use Rattle.mt_propagate.specs.World.{WorldView, empty_world}
 use Rattle.mt_info.specs.Table.{table_of}
-use Rattle.mt_info.proofs.WordLaws.{and_first, and_second, and-true}
+use Rattle.mt_skel.proofs.MiddleLaws.{and_first, and_second, and-true}
 use Rattle.mt_events.specs.Posts.{PostView}
 use Rattle.mt_events.specs.Difference.{difference, is_empty}
 use Rattle.mt_book.specs.declared.command.Command.{Command}
 use Rattle.mt_book.specs.declared.command.Reply.{Reply}
 use Rattle.mt_book.specs.Step.{step, makes_space, world_or, next_world, after_from, after}
-use Rattle.mt_book.specs.History.{events_from, events, number_of, posts_of}
-use Rattle.mt_book.specs.Book.{accepts, numbers_of, next_number, next_post, counted, posted, with_newborn}
+use Rattle.mt_book.specs.History.{events_from, events, space_number, posts_of}
+use Rattle.mt_book.specs.Book.{accepts, space_numbers, next_number, next_post, counted, posted, with_newborn}
 use Rattle.mt_book.proofs.GrowthLaws.{reached, step_spaces}
 use Rattle.mt_book.proofs.HistoryLaws.{after-append, events-append, given}
 use Rattle.mt_book.proofs.SpaceLaws.{late_nowhere, number_none}
@@ -30,20 +30,20 @@ add-one-or-none : (b : Bool) (k : ℕ) → k + cond b 0 1 ≡ cond b k (k + 1)
 add-one-or-none true k = omega arith
 add-one-or-none false k = omega arith
 
-number-more : (n : ℕ) (cs : List Command) (c : Command) → number_of n (cs ++ c ∷ []) ≡ next_number (after cs) (next_world (after cs) c) n (number_of n cs)
+number-more : (n : ℕ) (cs : List Command) (c : Command) → space_number n (cs ++ c ∷ []) ≡ next_number (after cs) (next_world (after cs) c) n (space_number n cs)
 number-more n cs c =
     let w = after cs in
     let d = difference (table_of w n) (table_of (next_world w c) n) in
-    let here = option_to_list (given n (number_of n cs + 1) w c) in
-    let post : PostView = record { space = n; number = number_of n cs + 1; gone = d.gone; rows = d.rows } in
+    let here = option_to_list (given n (space_number n cs + 1) w c) in
+    let post : PostView = record { space = n; number = space_number n cs + 1; gone = d.gone; rows = d.rows } in
     ap (λ (l : List PostView). length l) (events-append n cs (c ∷ []))
     ∙ length-append (events n cs) (here ++ [])
-    ∙ ap (λ (l : List PostView). number_of n cs + length l) (append-nil here)
-    ∙ ap (λ x. number_of n cs + x) (given-few (is_empty d) post)
-    ∙ add-one-or-none (is_empty d) (number_of n cs)
+    ∙ ap (λ (l : List PostView). space_number n cs + length l) (append-nil here)
+    ∙ ap (λ x. space_number n cs + x) (given-few (is_empty d) post)
+    ∙ add-one-or-none (is_empty d) (space_number n cs)
 
-pub number-next : (n : ℕ) (cs : List Command) (c : Command) (v : WorldView) (r : Reply) → step (after cs) c ≡ Ok (v, r) → next_number (after cs) v n (number_of n cs) ≡ number_of n (cs ++ c ∷ [])
-number-next n cs c v r e = ap (λ (x : WorldView). next_number (after cs) x n (number_of n cs)) (sym (ap (world_or (after cs)) e)) ∙ sym (number-more n cs c)
+pub number-next : (n : ℕ) (cs : List Command) (c : Command) (v : WorldView) (r : Reply) → step (after cs) c ≡ Ok (v, r) → next_number (after cs) v n (space_number n cs) ≡ space_number n (cs ++ c ∷ [])
+number-next n cs c v r e = ap (λ (x : WorldView). next_number (after cs) x n (space_number n cs)) (sym (ap (world_or (after cs)) e)) ∙ sym (number-more n cs c)
 
 -- no number rises above the count of commands
 from-few : (n k : ℕ) (w : WorldView) (cs : List Command) → length (events_from n k w cs) ≤ length cs
@@ -59,11 +59,11 @@ from-few n k w (c ∷ cs) =
     one_at_most true = omega arith
     one_at_most false = omega arith
 
-pub number-few : (n : ℕ) (cs : List Command) → number_of n cs ≤ length cs
+pub number-few : (n : ℕ) (cs : List Command) → space_number n cs ≤ length cs
 unfolding events
 number-few n cs = from-few n 1 empty_world cs
 
-pub number-newborn : (n : ℕ) (cs : List Command) → (after cs).next_space ≤ n → number_of n cs ≡ 0
+pub number-newborn : (n : ℕ) (cs : List Command) → (after cs).next_space ≤ n → space_number n cs ≡ 0
 number-newborn n cs late = number_none n cs (late_nowhere (after cs) n (reached cs).well_formed late)
 
 -- the numbers of all namespaces
@@ -76,16 +76,16 @@ newborn-range f true m s e z = ap (λ x. map f (range_with_len 1 m) ++ x ∷ [])
 newborn-range f false m s e z = append-nil (map f (range_with_len 1 m)) ∙ ap (λ k. map f (range_with_len 1 k)) (omega arith)
 
 pub numbers-next : (cs : List Command) (c : Command) (v : WorldView) (r : Reply) → step (after cs) c ≡ Ok (v, r)
-    → counted (after cs) v 1 (with_newborn (numbers_of cs) (makes_space c)) ≡ numbers_of (cs ++ c ∷ [])
-unfolding numbers_of
+    → counted (after cs) v 1 (with_newborn (space_numbers cs) (makes_space c)) ≡ space_numbers (cs ++ c ∷ [])
+unfolding space_numbers
 numbers-next cs c v r e =
     let w = after cs in
     let h = reached cs in
     let spaces = step_spaces w c v r (length cs) h e in
     let m = w.next_space - 1 in
     let from = h.well_formed.from_one.1 in
-    let f : ℕ → ℕ = λ n. number_of n cs in
-    let g : ℕ → ℕ = λ n. number_of n (cs ++ c ∷ []) in
+    let f : ℕ → ℕ = λ n. space_number n cs in
+    let g : ℕ → ℕ = λ n. space_number n (cs ++ c ∷ []) in
     ap (counted w v 1) (newborn-range f (makes_space c) m w.next_space (omega (arith, from)) (number-newborn w.next_space cs (omega arith)))
     ∙ counted-range w v f g (λ n. number-next n cs c v r e) 1 (m + cond (makes_space c) 1 0)
     ∙ ap (λ k. map g (range_with_len 1 k)) (omega (arith, spaces, from))
@@ -102,15 +102,15 @@ posted-range w v f a (suc k) =
     list-cons (Some x) xs = refl
 
 pub posts-next : (cs : List Command) (c : Command) (v : WorldView) (r : Reply) → step (after cs) c ≡ Ok (v, r)
-    → posted (after cs) v 1 (with_newborn (numbers_of cs) (makes_space c)) ≡ posts_of cs c
-unfolding numbers_of posts_of
+    → posted (after cs) v 1 (with_newborn (space_numbers cs) (makes_space c)) ≡ posts_of cs c
+unfolding space_numbers posts_of
 posts-next cs c v r e =
     let w = after cs in
     let h = reached cs in
     let spaces = step_spaces w c v r (length cs) h e in
     let m = w.next_space - 1 in
     let from = h.well_formed.from_one.1 in
-    let f : ℕ → ℕ = λ n. number_of n cs in
+    let f : ℕ → ℕ = λ n. space_number n cs in
     ap (posted w v 1) (newborn-range f (makes_space c) m w.next_space (omega (arith, from)) (number-newborn w.next_space cs (omega arith)))
     ∙ posted-range w v f 1 (m + cond (makes_space c) 1 0)
     ∙ ap (λ k. filter_map (λ n. next_post w v n (f n)) (range_with_len 1 k)) (omega (arith, spaces, from))
@@ -121,13 +121,13 @@ get-few f l few [] i = omega arith
 get-few f l few (x ∷ xs) zero = few x
 get-few f l few (x ∷ xs) (suc i) = get-few f l few xs i
 
-pub numbers-few : (cs : List Command) (i : ℕ) → slice_index_or (numbers_of cs) i 0 ≤ length cs
-unfolding numbers_of
-numbers-few cs i = get-few (λ n. number_of n cs) (length cs) (λ n. number-few n cs) (range_with_len 1 ((after cs).next_space - 1)) i
+pub numbers-few : (cs : List Command) (i : ℕ) → slice_index_or (space_numbers cs) i 0 ≤ length cs
+unfolding space_numbers
+numbers-few cs i = get-few (λ n. space_number n cs) (length cs) (λ n. number-few n cs) (range_with_len 1 ((after cs).next_space - 1)) i
 
-pub numbers-length : (cs : List Command) → length (numbers_of cs) ≡ (after cs).next_space - 1
-unfolding numbers_of
-numbers-length cs = length-map-range_with_len (λ n. number_of n cs) 1 ((after cs).next_space - 1)
+pub numbers-length : (cs : List Command) → length (space_numbers cs) ≡ (after cs).next_space - 1
+unfolding space_numbers
+numbers-length cs = length-map-range_with_len (λ n. space_number n cs) 1 ((after cs).next_space - 1)
 
 -- a journal stays one of accepted commands
 accepts-from : (w : WorldView) (cs : List Command) (c : Command) → accepts w cs ≡ true → is_ok (step (after_from w cs) c) ≡ true → accepts w (cs ++ c ∷ []) ≡ true

@@ -17,8 +17,8 @@ use Rattle.mt_book.specs.declared.command.Command.{Command}
 use Rattle.mt_book.specs.declared.command.Reply.{Reply}
 use Rattle.mt_book.specs.declared.spare.Spare.{Spare}
 use Rattle.mt_book.specs.Step.{after}
-use Rattle.mt_book.specs.History.{number_of, posts_of}
-use Rattle.mt_book.specs.Book.{numbers_of, answer, AreAnswered}
+use Rattle.mt_book.specs.History.{space_number, posts_of}
+use Rattle.mt_book.specs.Book.{space_numbers, answer, AreAnswered}
 use Rattle.mt_book.specs.Kept.{IsBook}
 use Rattle.mt_book.proofs.NextLaws.{numbers-length}
 use Rattle.mt_book.proofs.BookLaws.{IsSmall, after_small}
@@ -46,12 +46,12 @@ number_within w spare ks cs n h low high =
 range_read : (f : ℕ → ℕ) (m n x : ℕ) → 1 ≤ n → n - 1 < m → slice_index_or (map f (range_with_len 1 m)) (n - 1) x ≡ f n
 range_read f m n x low high = get_or-map-range_with_len f 1 m (n - 1) n x high (omega (arith, low))
 
-pub number_read : (w : WorldView) (spare : Spare) (ks : List ℕ) (cs : List Command) (n x : ℕ) → IsBook w spare ks cs → 1 ≤ n → n < w.next_space → x ≡ slice_index_or ks (n - 1) x → x ≡ number_of n cs
-unfolding numbers_of
+pub number_read : (w : WorldView) (spare : Spare) (ks : List ℕ) (cs : List Command) (n x : ℕ) → IsBook w spare ks cs → 1 ≤ n → n < w.next_space → x ≡ slice_index_or ks (n - 1) x → x ≡ space_number n cs
+unfolding space_numbers
 number_read w spare ks cs n x h low high at =
     at
     ∙ ap (λ (l : List ℕ). slice_index_or l (n - 1) x) h.counts
-    ∙ range_read (λ k. number_of k cs) ((after cs).next_space - 1) n x low (omega (arith, low, high, ap (λ (v : WorldView). v.next_space) h.world))
+    ∙ range_read (λ k. space_number k cs) ((after cs).next_space - 1) n x low (omega (arith, low, high, ap (λ (v : WorldView). v.next_space) h.world))
 
 -- the namespaces one after another
 range_next : (a b : ℕ) → a < b → range_with_len a (b - a) ≡ a ∷ range_with_len (a + 1) (b - (a + 1))

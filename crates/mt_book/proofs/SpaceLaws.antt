@@ -15,15 +15,16 @@ use Rattle.mt_mounts.specs.Forest.{id_of, mount_at, is_root, root_mount}
 use Rattle.mt_mounts.specs.Walk.{walk}
 use Rattle.mt_propagate.specs.World.{WorldView, is_space}
 use Rattle.mt_propagate.specs.WellFormed.{IsWellFormed}
-use Rattle.mt_propagate.specs.Named.{place_or_nowhere, is_named_mount, is_root_mount}
+use Rattle.mt_propagate.specs.Named.{place_or_nowhere, is_mount_root, is_root_mount}
 use Rattle.mt_propagate.specs.Copies.{Source}
 use Rattle.mt_propagate.specs.Places.{relocated, made_way, stack_end, new_mounts}
 use Rattle.mt_propagate.specs.Copied.{copied}
 use Rattle.mt_propagate.proofs.RowLaws.{row-mapped, row-first}
 use Rattle.mt_propagate.proofs.ListedLaws.{relocated-id}
-use Rattle.mt_propagate.proofs.ElementLaws.{in_row, row_in, in_found, find_in}
-use Rattle.mt_info.proofs.WordLaws.{and_second, and-true}
-use Rattle.mt_bind.specs.Spaces.{with_space, new_space, with_copy, copy_space, originals, twin_of}
+use Rattle.mt_skel.proofs.ElementLaws.{in_row, row_in, in_found, find_in}
+use Rattle.mt_skel.proofs.MiddleLaws.{and_second, and-true}
+use Rattle.mt_bind.specs.Spaces.{with_space, new_space, with_copy, copy_space, originals}
+use Rattle.mt_bind.specs.Copying.{copy_of}
 use Rattle.mt_bind.specs.Mounting.{mounted, bound, moved}
 use Rattle.mt_unmount.specs.Unmounting.{is_removed, stands_on, without_mount, unmounted, place_of}
 use Rattle.mt_unmount.proofs.RemovedLaws.{removed-cases, place-at}
@@ -35,7 +36,7 @@ use Rattle.mt_book.specs.declared.command.Command.TheVariants.{MakeFs, MakeDir, 
 use Rattle.mt_book.specs.declared.command.Reply.{Reply}
 use Rattle.mt_book.specs.declared.command.Reply.TheVariants.{Done, Number}
 use Rattle.mt_book.specs.Step.{step, world_or, next_world, after_from, after}
-use Rattle.mt_book.specs.History.{events_from, events, number_of}
+use Rattle.mt_book.specs.History.{events_from, events, space_number}
 use Rattle.mt_book.proofs.EffectLaws.{skel_ok, number_ok, done_ok, space_made, copy_made, mount_made, bind_made, move_made, change_made}
 use Rattle.mt_book.proofs.StepLaws.{step_kept}
 use Rattle.mt_book.proofs.HistoryLaws.{IsGood, next_good, empty_good, no_post, table_nowhere}
@@ -72,7 +73,7 @@ space_forest : (w : WorldView) (f : ℕ) → (more : List Mount) × ((with_space
 unfolding with_space
 space_forest w f = (_, refl)
 
-copy_forest : (w : WorldView) (n : ℕ) (less : Bool) → (with_copy w n less).forest ≡ w.forest ++ map (twin_of w n) (originals w n)
+copy_forest : (w : WorldView) (n : ℕ) (less : Bool) → (with_copy w n less).forest ≡ w.forest ++ map (copy_of w (map id_of (originals w n))) (originals w n)
 unfolding with_copy
 copy_forest w n less = refl
 
@@ -134,14 +135,14 @@ step_has n w (NewSpace fs) v r g e h =
     more_mounts n w v f.0 (ap (λ x. x.forest) m.2 ∙ f.1) h
 step_has n w (CopySpace k) v r g e h =
     let q = number_ok (copy_space w k false) v r e in
-    more_mounts n w v (map (twin_of w k) (originals w k)) (ap (λ x. x.forest) (copy_made w v k false q.0 q.1) ∙ copy_forest w k false) h
+    more_mounts n w v (map (copy_of w (map id_of (originals w k))) (originals w k)) (ap (λ x. x.forest) (copy_made w v k false q.0 q.1) ∙ copy_forest w k false) h
 step_has n w (Mounting k fs path) v r g e h =
     let q = number_ok (mounted w k fs path) v r e in
     let m = mount_made w v k fs path q.0 q.1 in
     copied_has n w v m.0 m.1 m.2 h
-step_has n w (Bind k src dst deep) v r g e h =
-    let q = number_ok (bound w k deep src dst) v r e in
-    let m = bind_made w v k deep src dst q.0 q.1 in
+step_has n w (Bind k src dst recursive) v r g e h =
+    let q = number_ok (bound w k recursive src dst) v r e in
+    let m = bind_made w v k recursive src dst q.0 q.1 in
     copied_has n w v m.0 m.1 m.2 h
 step_has n w (Move k src dst) v r g e h =
     let m = move_made w v k src dst (done_ok (moved w k src dst) v r e) in
@@ -149,7 +150,7 @@ step_has n w (Move k src dst) v r g e h =
 step_has n w (Unmount k path) v r g e h =
     let p = place_or_nowhere (walk w.skel w.forest k path) in
     let lost = fault_of (walk w.skel w.forest k path) in
-    let unnamed = refuse_if (not (is_named_mount w p)) NotMountRoot in
+    let unnamed = refuse_if (not (is_mount_root w p)) NotMountRoot in
     let root = refuse_if (is_root_mount w p) RootPlace in
     let busy = refuse_if (list_any (stands_on p.mount) w.forest) Busy in
     let ok = outcome_ok (lost ∷ unnamed ∷ root ∷ busy ∷ []) (without_mount w p.mount) v (done_ok (unmounted w k path) v r e) in
@@ -210,7 +211,7 @@ none_yet n number w (c ∷ cs) g gone =
     before false e off v = e
     before true e off v = absurd (true≢false (sym (space_stays n w c g.formed v e) ∙ off))
 
-pub number_none : (n : ℕ) (cs : List Command) → is_space (after cs) n ≡ false → number_of n cs ≡ 0
+pub number_none : (n : ℕ) (cs : List Command) → is_space (after cs) n ≡ false → space_number n cs ≡ 0
 unfolding after events
 number_none n cs gone = ap length (none_yet n 1 empty_world cs empty_good gone).1
 

@@ -1,4 +1,5 @@
 -- The journal of a book, and what is answered from it.
+-- A word with no source is this project's rule.
 use Rattle.std.specs.Prelude.{◌≡◌, ◌≢◌, ℕ, ◌+◌, ◌-◌, nat_le, if◌then◌else◌, cond, Bool, true, List, [], ◌∷◌, ◌++◌, map, length, Option, Result, Ok, Err}
 use Rattle.std.specs.List.{range_with_len, filter}
 use Rattle.std.specs.Option.{option_to_list}
@@ -16,58 +17,58 @@ use Rattle.mt_events.specs.Difference.{difference, is_empty, post_of}
 use Rattle.mt_book.specs.declared.command.Command.{Command}
 use Rattle.mt_book.specs.declared.command.Reply.{Reply}
 use Rattle.mt_book.specs.Step.{step, next_world, after}
-use Rattle.mt_book.specs.History.{number_of, posts_of}
+use Rattle.mt_book.specs.History.{space_number, posts_of}
 
--- what contracts see of a book: the commands that were accepted, and how many more it can take with no more memory (this project's rule)
+-- what contracts see of a book: the commands that were accepted, and how many more it can take with no more memory
 pub record BookView : Type 0 where
   pub journal : List Command
   pub room : ℕ
 
--- the most commands that are accepted (this project's rule)
+-- the most commands that are accepted
 abbrev pub command_limit : ℕ
 command_limit = 1048576
 
--- the answer alone (this project's rule)
+-- the answer alone
 abbrev pub reply_of : Result (WorldView × Reply) Fault → Result Reply Fault
 reply_of (Ok p) = Ok p.1
 reply_of (Err f) = Err f
 
--- what a command is answered after these: a full journal takes no other (this project's rule)
+-- what a command is answered after these: a full journal takes no other
 unfoldable pub answer : List Command → Command → Result Reply Fault
 answer cs c = if nat_le command_limit (length cs) then Err JournalFull else reply_of (step (after cs) c)
 
--- each command is accepted where it stands (this project's rule)
+-- each command is accepted where it stands
 abbrev pub accepts : WorldView → List Command → Bool
 accepts w [] = true
 accepts w (c ∷ cs) = is_ok (step w c) && accepts (next_world w c) cs
 
--- the numbers of the namespaces 1, 2, .. (this project's rule)
-unfoldable pub numbers_of : List Command → List ℕ
-numbers_of cs = map (λ n. number_of n cs) (range_with_len 1 ((after cs).next_space - 1))
+-- the numbers of the namespaces 1, 2, ..
+unfoldable pub space_numbers : List Command → List ℕ
+space_numbers cs = map (λ n. space_number n cs) (range_with_len 1 ((after cs).next_space - 1))
 
--- the number of a namespace, which is one more where its table is not as it was (this project's rule)
+-- the number of a namespace, which is one more where its table is not as it was
 abbrev pub next_number : WorldView → WorldView → ℕ → ℕ → ℕ
 next_number w v n k = cond (is_empty (difference (table_of w n) (table_of v n))) k (k + 1)
 
--- the post of a namespace that had this number, if its table is not as it was (this project's rule)
+-- the post of a namespace that had this number, if its table is not as it was
 abbrev pub next_post : WorldView → WorldView → ℕ → ℕ → Option PostView
 next_post w v n k = post_of n (k + 1) (difference (table_of w n) (table_of v n))
 
--- the numbers of the namespaces n, n + 1, .. after a change (this project's rule)
+-- the numbers of the namespaces n, n + 1, .. after a change
 abbrev pub counted : WorldView → WorldView → ℕ → List ℕ → List ℕ
 counted w v n [] = []
 counted w v n (k ∷ ks) = next_number w v n k ∷ counted w v (n + 1) ks
 
--- the posts of the namespaces n, n + 1, .. at a change (this project's rule)
+-- the posts of the namespaces n, n + 1, .. at a change
 abbrev pub posted : WorldView → WorldView → ℕ → List ℕ → List PostView
 posted w v n [] = []
 posted w v n (k ∷ ks) = option_to_list (next_post w v n k) ++ posted w v (n + 1) ks
 
--- a namespace that is not there yet has number 0 (this project's rule)
+-- a namespace that is not there yet has number 0
 abbrev pub with_newborn : List ℕ → Bool → List ℕ
 with_newborn ks more = ks ++ cond more (0 ∷ []) []
 
--- the mount where a walk has ended, and the names from its filesystem's root down to the directory (this project's rule)
+-- the mount where a walk has ended, and the names from its filesystem's root down to the directory
 abbrev pub found_by : Skeleton → Result Place Fault → Result (ℕ × List (List ℕ)) Fault
 found_by s (Ok p) = Ok (p.mount, (directory s p.dir).path)
 found_by s (Err f) = Err f
@@ -76,11 +77,11 @@ found_by s (Err f) = Err f
 abbrev pub found_at : WorldView → ℕ → List (List ℕ) → Result (ℕ × List (List ℕ)) Fault
 found_at w n path = found_by w.skel (walk w.skel w.forest n path)
 
--- the namespaces that are there, by rising number (this project's rule)
+-- the namespaces that are there, by rising number
 abbrev pub spaces_of : WorldView → List ℕ
 spaces_of w = filter (is_space w) (range_with_len 1 (w.next_space - 1))
 
--- commands were done one after another, and each answered so, with its posts (this project's rule)
+-- commands were done one after another, and each answered so, with its posts
 abbrev pub AreAnswered : List Command → List Command → List (Result (Reply × List PostView) Fault) → List Command → Type 0
 AreAnswered cs [] [] end = end ≡ cs
 AreAnswered cs (c ∷ more) (Ok p ∷ answers) end = (answer cs c ≡ Ok p.0) × (p.1 ≡ posts_of cs c) × AreAnswered (cs ++ c ∷ []) more answers end

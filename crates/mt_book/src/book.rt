@@ -5,7 +5,7 @@ ghost use Rattle.mt_propagate.specs.World.{world_view, empty_world, is_space};
 ghost use Rattle.mt_propagate.specs.WellFormed.{IsWellFormed};
 ghost use Rattle.mt_info.specs.Table.{table_of};
 ghost use Rattle.mt_book.specs.Step.{after};
-ghost use Rattle.mt_book.specs.History.{number_of, posts_of};
+ghost use Rattle.mt_book.specs.History.{space_number, posts_of};
 ghost use Rattle.mt_book.specs.Book.{answer, accepts, command_limit, found_at, spaces_of, AreAnswered};
 ghost use Rattle.mt_book.specs.Kept.{IsPrepared, prepared_command, prepared_reply, prepared_posts};
 
@@ -173,7 +173,7 @@ impl Book {
     /// How many posts a namespace has had: the number of the last one, or 0. Refused as `NoNamespace` exactly where
     /// there is no such namespace.
     pub fn number(&self, space: SpaceId) -> Result<u64, Fault>
-        ensures done { IfOk result (λ number. (is_space (after self.now.journal) space ≡ true) × (number ≡ number_of space self.now.journal)) }
+        ensures done { IfOk result (λ number. (is_space (after self.now.journal) space ≡ true) × (number ≡ space_number space self.now.journal)) }
         ensures refused { IfErr result (λ fault. (fault ≡ Fault.NoNamespace) × (is_space (after self.now.journal) space ≡ false)) }
     {
         if self.world.forest.root(space).is_none() {

@@ -2,7 +2,7 @@
 use Rattle.std.proofs.Common.{◌≡◌, ℕ, suc, ◌+◌, true, ◌==◌, List, [], ◌∷◌, length, Some, slice_get, IsTrue, refl, ◌∙◌, arith}
 use Rattle.std.proofs.lemmas.Bool.Decides.{nat_tests}
 use Rattle.mt_info.specs.declared.row.Row.{Row}
-use Rattle.mt_info.proofs.WordLaws.{and-true}
+use Rattle.mt_skel.proofs.MiddleLaws.{and-true}
 use Rattle.mt_events.specs.Posts.{PostView}
 use Rattle.mt_events.specs.Difference.{with_posts}
 use Rattle.mt_events.specs.Mirrors.{MirrorView, is_next, mirrored, are_next, mirrored_by}

@@ -11,7 +11,8 @@ use Rattle.mt_info.proofs.RowLineLaws.{line-injective}
 use Rattle.mt_info.specs.declared.row.Row.{Row}
 use Rattle.mt_info.specs.RowLine.{line}
 use Rattle.mt_info.specs.Laws.{IsRow}
-use Rattle.mt_info.proofs.WordLaws.{lacks, and-true, all-append, decimal-lacks}
+use Rattle.mt_info.proofs.WordLaws.{lacks, all-append, decimal-lacks}
+use Rattle.mt_skel.proofs.MiddleLaws.{and-true}
 use Rattle.mt_info.proofs.LineEndLaws.{decimal-lacks-end, line-lacks-end, joined-lacks-end}
 use Rattle.mt_words.specs.Words.{pieces, words, begins}
 use Rattle.mt_words.proofs.PieceLaws.{pieces_joined, joined_pieces}

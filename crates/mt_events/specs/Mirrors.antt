@@ -1,4 +1,5 @@
--- What a mirror holds, and what a post does to it (this project's rule).
+-- What a mirror holds, and what a post does to it.
+-- A word with no source is this project's rule.
 use Rattle.std.specs.Prelude.{ℕ, ◌+◌, Bool, true, ◌&&◌, ◌==◌, List, [], ◌∷◌, cond, refl}
 use Rattle.std.specs.List.{list_any, fold}
 use Rattle.std.specs.Coded.{Coded, code_by, coded×, coded_ℕ, coded_list}

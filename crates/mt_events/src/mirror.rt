@@ -8,11 +8,12 @@ ghost use Rattle.mt_info.specs.Table.{row_id};
 ghost use Rattle.mt_events.specs.Difference.{applied, delta_of};
 ghost use Rattle.mt_events.specs.Mirrors.{MirrorView, is_next, kept_of, mirrored};
 
-use crate::post::{Post, has_id};
+use crate::post::Post;
 use mt_info::row::Row;
 use mt_info::table::Table;
 use mt_mounts::mount::{MountId, SpaceId};
 use mt_skel::fault::Fault;
+use mt_skel::list::is_among;
 use std::alloc::Global;
 use std::marker::Model;
 
@@ -79,7 +80,7 @@ fn push_kept(kept: &mut Vec<Row>, gone: &[MountId], row: &Row) -> Result<(), Fau
     ensures kept { OnOk result (kept.new.items ≡ kept.old.items ++ kept_of gone.now row.now) }
     ensures memory { IsOkUnless result Fault.NoMemory }
 {
-    if has_id(gone, row.id) {
+    if is_among(gone, row.id) {
         return Ok(());
     }
     kept.push(row.copy()?)?;

@@ -2,6 +2,7 @@ pub mod Commands
 pub mod Floors
 pub mod Computing
 pub mod Starts
+pub mod Prelude
 pub mod FirstMount
 pub mod EscapedNames
 pub mod LoneSlave
@@ -29,3 +30,4 @@ pub mod FirstGroupSeen
 pub mod LessPrivilegedCopy
 pub mod DroppedNamespace
 pub mod StateTransitions
+pub mod Sending

@@ -1,6 +1,7 @@
 -- What the answers tell of a watcher that lags: it has taken what was posted to it, a prefix of what it follows, and has the table
 -- as of that (this project's rule).
 use Rattle.std.specs.Prelude.{◌≡◌, refl, ℕ, false, List, [], ◌∷◌, ◌++◌, map}
+use Rattle.mt_examples.specs.Prelude.{private_root, computed}
 use Rattle.mt_info.specs.Table.{table_of}
 use Rattle.mt_events.specs.Posts.{PostView}
 use Rattle.mt_events.specs.declared.opening.Scope.TheVariants.{All}
@@ -11,9 +12,7 @@ use Rattle.mt_floor.specs.declared.event.Event.TheVariants.{Apply, PostNext, Ope
 use Rattle.mt_floor.specs.Watcher.{opening_of}
 use Rattle.mt_floor.specs.Schedule.{has_open}
 use Rattle.mt_floor.specs.Headline.{floor_after, accepted_before, taken_since, posted_since, followed_since}
-use Rattle.mt_examples.specs.Starts.{private_root}
 use Rattle.mt_examples.specs.WatchersInTime.{ro, rw}
-use Rattle.mt_examples.specs.Computing.{computed}
 
 -- the watcher begins at event 4
 abbrev pub schedule : List Event

@@ -2,7 +2,7 @@
 use mt_floor::event::Event;
 use mt_floor::floor::Floor;
 use mt_lines::line::ReadFault;
-use mt_lines::memory::{Faulty, Pieces, Sink};
+use mt_lines::memory::{Faulty, Portions, Sink};
 use mt_lines::stream::{Cut, StreamFault};
 use mt_session::session::{End, serve_plain};
 use mt_skel::fault::Fault;
@@ -46,7 +46,7 @@ ok 0
 fn is_cut_after(alloc: Global, room: usize) -> Result<bool, Fault> {
     let mut floor = Floor::new(alloc, 256);
     let mut sink = Sink::new(alloc, 4_096, room)?;
-    let end = serve_plain(alloc, Pieces::new(EXAMPLE, 4_096), &mut sink, &mut floor);
+    let end = serve_plain(alloc, Portions::new(EXAMPLE, 4_096), &mut sink, &mut floor);
     let whole = room >= ANSWERS.len();
     let wanted = if whole { ANSWERS } else { &ANSWERS[..room] };
     let ended = match end {
@@ -135,7 +135,7 @@ fn is_served(
     wanted_end: End,
 ) -> Result<bool, Fault> {
     let mut sink = Sink::new(alloc, 4_096, 65_536)?;
-    let end = serve_plain(alloc, Pieces::new(input, 4_096), &mut sink, floor);
+    let end = serve_plain(alloc, Portions::new(input, 4_096), &mut sink, floor);
     Ok(end == wanted_end && sink.bytes() == wanted)
 }
 

@@ -1,6 +1,6 @@
 //! Lines of streams in memory in any pieces, and what is sent to streams that fail.
 use mt_lines::line::{Line, LineReader, ReadFault};
-use mt_lines::memory::{Faltering, Faulty, Pieces, Sink};
+use mt_lines::memory::{Faltering, Faulty, Portions, Sink};
 use mt_lines::stream::{Cut, Input, StreamFault, send};
 use std::alloc::{AllocError, Global};
 use std::test::Fail;
@@ -40,7 +40,7 @@ fn told<R: Input + Drop>(
 fn is_told(alloc: Global, text: &[u8], limit: u32, wanted: &[u8]) -> Result<bool, AllocError> {
     let mut same = true;
     for most in [1, 3, 1000] {
-        let found = told(alloc, Pieces::new(text, most), limit, 4)?;
+        let found = told(alloc, Portions::new(text, most), limit, 4)?;
         same = same && found.as_slice() == wanted;
     }
     Ok(same)
@@ -65,7 +65,7 @@ fn reads_the_same_lines_in_any_pieces(rt: HostRuntime) -> Result<(), Fail> {
 
 /// Whether these bytes have these first lines, of at most 8,192 bytes.
 fn has_lines(alloc: Global, bytes: &[u8], calls: usize, wanted: &[u8]) -> Result<bool, AllocError> {
-    let found = told(alloc, Pieces::new(bytes, 5_000), 8_192, calls)?;
+    let found = told(alloc, Portions::new(bytes, 5_000), 8_192, calls)?;
     Ok(found.as_slice() == wanted)
 }
 

@@ -24,11 +24,11 @@ use Rattle.mt_floor.specs.declared.watch.Phase.TheVariants.{Open as IsOpen}
 use Rattle.mt_floor.specs.declared.event.Event.TheVariants.{Apply, Open}
 use Rattle.mt_floor.specs.declared.event.Answer.TheVariants.{Replied, Opened}
 use Rattle.mt_floor.specs.Watcher.{Watcher, Due, follows, due_pairs, opening_of, followed_posts}
-use Rattle.mt_floor.specs.Schedule.{Stepped, journal_limit, floor_step, unless, if_idle, replied, applied, opened, opening_refusal}
+use Rattle.mt_floor.specs.Schedule.{Stepped, floor_step, unless, if_idle, replied, applied, opened, opening_refusal}
 use Rattle.mt_floor.specs.Rows.{RowView, new_row, row_follows, due_if, watcher_of, floor_of, IsRow, IsKept}
 use Rattle.mt_floor.proofs.FloorLaws.{followed_more, newcomer}
 use Rattle.mt_floor.proofs.BeginLaws.{opens}
-use Rattle.mt_floor.proofs.PlaceLaws.{each_last, each_still}
+use Rattle.mt_skel.proofs.MiddleLaws.{each_last, each_still}
 use Rattle.mt_floor.proofs.KeptLaws.{follows_all}
 
 -- ---- what is due
@@ -90,13 +90,13 @@ module _ (c : ℕ) (j : List Command) (l : ℕ) (st : Bool) (rows : List RowView
   unfolding floor_step
   apply_stopped x e =
       ap (λ ds. if_idle ds (floor_of c j l st rows due) (applied (floor_of c j l st rows due) x)) idle
-      ∙ ap (λ b. unless (first_fault (refuse_if b Stopped ∷ refuse_if (nat_le journal_limit (length j)) JournalFull ∷ [])) (floor_of c j l st rows due) (replied (floor_of c j l st rows due) x (step (after j) x))) e
+      ∙ ap (λ b. unless (first_fault (refuse_if b Stopped ∷ refuse_if (nat_le command_limit (length j)) JournalFull ∷ [])) (floor_of c j l st rows due) (replied (floor_of c j l st rows due) x (step (after j) x))) e
 
   pub apply_refused : (x : Command) (f : Fault) → st ≡ false → answer j x ≡ Err f → floor_step (floor_of c j l st rows due) (Apply x) ≡ (floor_of c j l st rows due, Err f)
   unfolding floor_step answer
   apply_refused x f e is =
       ap (λ ds. if_idle ds (floor_of c j l st rows due) (applied (floor_of c j l st rows due) x)) idle
-      ∙ ap (λ b. unless (first_fault (refuse_if b Stopped ∷ refuse_if (nat_le journal_limit (length j)) JournalFull ∷ [])) (floor_of c j l st rows due) (replied (floor_of c j l st rows due) x (step (after j) x))) e
+      ∙ ap (λ b. unless (first_fault (refuse_if b Stopped ∷ refuse_if (nat_le command_limit (length j)) JournalFull ∷ [])) (floor_of c j l st rows due) (replied (floor_of c j l st rows due) x (step (after j) x))) e
       ∙ by (nat_le command_limit (length j)) is
     where
       turned_down : (q : Result (WorldView × Reply) Fault) → reply_of q ≡ Err f → replied (floor_of c j l st rows due) x q ≡ (floor_of c j l st rows due, Err f)
@@ -114,8 +114,8 @@ module _ (c : ℕ) (j : List Command) (l : ℕ) (st : Bool) (rows : List RowView
   unfolding floor_step
   apply_done x p j' due' reply e q same journal new is = (
     ap (λ ds. if_idle ds (floor_of c j l st rows due) (applied (floor_of c j l st rows due) x)) idle
-        ∙ ap (λ b. unless (first_fault (refuse_if b Stopped ∷ refuse_if (nat_le journal_limit (length j)) JournalFull ∷ [])) (floor_of c j l st rows due) (replied (floor_of c j l st rows due) x (step (after j) x))) e
-        ∙ ap (λ b. unless (first_fault (None ∷ refuse_if b JournalFull ∷ [])) (floor_of c j l st rows due) (replied (floor_of c j l st rows due) x (step (after j) x))) (lt-leb journal_limit (length j) q.few)
+        ∙ ap (λ b. unless (first_fault (refuse_if b Stopped ∷ refuse_if (nat_le command_limit (length j)) JournalFull ∷ [])) (floor_of c j l st rows due) (replied (floor_of c j l st rows due) x (step (after j) x))) e
+        ∙ ap (λ b. unless (first_fault (None ∷ refuse_if b JournalFull ∷ [])) (floor_of c j l st rows due) (replied (floor_of c j l st rows due) x (step (after j) x))) (lt-leb command_limit (length j) q.few)
         ∙ ap (replied (floor_of c j l st rows due) x) (ap (step (after j)) (sym same) ∙ q.accepted)
         ∙ answered (sym more) (ap (λ ps. due_pairs ps (map (watcher_of j) rows)) (ap (posts_of j) (sym same) ∙ sym q.posts) ∙ sym new)
         (sym (watchers_more c j x rows h.each) ∙ ap (λ js. map (watcher_of js) rows) (sym more)),

@@ -23,7 +23,8 @@ use Rattle.mt_floor.specs.declared.event.Event.TheVariants.{Apply, PostNext, Ope
 use Rattle.mt_floor.specs.declared.event.Answer.{Answer}
 use Rattle.mt_floor.specs.declared.event.Answer.TheVariants.{Opened, Took, NotNow}
 use Rattle.mt_floor.specs.Watcher.{Watcher, Due, key_of, due_for, opening_of, is_missing}
-use Rattle.mt_floor.specs.Schedule.{FloorView, Stepped, floor_step, unless, if_idle, at_row, changed, sent_to, is_full, posted, applied, replied, nothing_left, took, met, closed, halted, opened, journal_limit, too_many_watchers, has_open}
+use Rattle.mt_floor.specs.Schedule.{FloorView, Stepped, floor_step, unless, if_idle, at_row, changed, sent_to, is_full, posted, applied, replied, nothing_left, took, met, closed, halted, opened, too_many_watchers, has_open}
+use Rattle.mt_book.specs.Book.{command_limit}
 use Rattle.mt_floor.proofs.RowLaws.{same_key, fresh}
 use Rattle.mt_floor.proofs.FloorLaws.{Kept, IsRowFor, Held, newcomer, newcomer_kept, nothing}
 
@@ -128,7 +129,7 @@ open_begins s sc k none there k' key o e =
 
 pub begins : (s : FloorView) (e : Event) → Kept s → Begins s (floor_step s e)
 unfolding floor_step
-begins s (Apply c) k = idle s (applied s c) (λ none. refused s (first_fault (refuse_if s.stopped Stopped ∷ refuse_if (nat_le journal_limit (length s.journal)) JournalFull ∷ [])) (replied s c (step (after s.journal) c)) (λ q. no_apply s c (step (after s.journal) c)))
+begins s (Apply c) k = idle s (applied s c) (λ none. refused s (first_fault (refuse_if s.stopped Stopped ∷ refuse_if (nat_le command_limit (length s.journal)) JournalFull ∷ [])) (replied s c (step (after s.journal) c)) (λ q. no_apply s c (step (after s.journal) c)))
 begins s PostNext k = no_post s s.due
 begins s (Open sc) k =
     idle s (opened s sc) (λ none. refused s (first_fault (refuse_if (is_missing s.journal sc) NoNamespace ∷ refuse_if (too_many_watchers s) TooManyWatchers ∷ refuse_if s.stopped Stopped ∷ []))
@@ -192,7 +193,7 @@ take_counts s r = by (slice_get r.sent (length r.taken))
 
 pub counts : (s : FloorView) (e : Event) → Counts s (floor_step s e)
 unfolding floor_step
-counts s (Apply c) = idle_counts s (applied s c) (refused_counts s (first_fault (refuse_if s.stopped Stopped ∷ refuse_if (nat_le journal_limit (length s.journal)) JournalFull ∷ [])) (replied s c (step (after s.journal) c)) (apply_counts s c (step (after s.journal) c)))
+counts s (Apply c) = idle_counts s (applied s c) (refused_counts s (first_fault (refuse_if s.stopped Stopped ∷ refuse_if (nat_le command_limit (length s.journal)) JournalFull ∷ [])) (replied s c (step (after s.journal) c)) (apply_counts s c (step (after s.journal) c)))
 counts s PostNext = post_counts s s.due
 counts s (Open sc) =
     idle_counts s (opened s sc) (refused_counts s (first_fault (refuse_if (is_missing s.journal sc) NoNamespace ∷ refuse_if (too_many_watchers s) TooManyWatchers ∷ refuse_if s.stopped Stopped ∷ []))

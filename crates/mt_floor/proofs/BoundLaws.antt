@@ -13,7 +13,7 @@ use Rattle.mt_skel.specs.Keyed.{row_at, put, rises}
 use Rattle.mt_skel.proofs.KeyedLaws.{row_at-key, row_at-below}
 use Rattle.mt_propagate.specs.World.{WorldView}
 use Rattle.mt_propagate.proofs.SizeLaws.{few_pass}
-use Rattle.mt_info.proofs.WordLaws.{and_first, and_second, and-true}
+use Rattle.mt_skel.proofs.MiddleLaws.{and_first, and_second, and-true}
 use Rattle.mt_events.specs.Posts.{PostView}
 use Rattle.mt_events.specs.declared.opening.Scope.{Scope}
 use Rattle.mt_events.specs.Following.{names_space}
@@ -27,7 +27,8 @@ use Rattle.mt_floor.specs.declared.event.Event.{Event}
 use Rattle.mt_floor.specs.declared.event.Event.TheVariants.{Apply, PostNext, Open, Take, Meet, Close, Stop}
 use Rattle.mt_floor.specs.declared.event.Answer.TheVariants.{Opened, Took, NotNow}
 use Rattle.mt_floor.specs.Watcher.{Watcher, Due, key_of, is_open, opening_of, is_missing}
-use Rattle.mt_floor.specs.Schedule.{FloorView, Stepped, journal_limit, watcher_limit, floor_step, unless, if_idle, at_row, changed, sent_to, is_full, posted, applied, replied, nothing_left, took, met, closed, halted, opened, too_many_watchers}
+use Rattle.mt_floor.specs.Schedule.{FloorView, Stepped, watcher_limit, floor_step, unless, if_idle, at_row, changed, sent_to, is_full, posted, applied, replied, nothing_left, took, met, closed, halted, opened, too_many_watchers}
+use Rattle.mt_book.specs.Book.{command_limit}
 use Rattle.mt_floor.specs.WellFormed.{IsFollower, IsBounded}
 use Rattle.mt_floor.proofs.RowLaws.{is_low}
 use Rattle.mt_floor.proofs.FloorLaws.{newcomer}
@@ -86,7 +87,7 @@ module _ (s : FloorView) (h : IsBounded s) (order : rises key_of s.watchers ≡ 
       let len = length-put key_of r' s.watchers r order (ap (λ k. row_at key_of k s.watchers) key ∙ at) in
       record { journal = h.journal; watchers = omega (arith, len, h.watchers); keys = h.keys }
 
-  apply_bounded : (c : Command) (q : Result (WorldView × Reply) Fault) → length s.journal + 1 ≤ journal_limit → IsBounded (replied s c q).0
+  apply_bounded : (c : Command) (q : Result (WorldView × Reply) Fault) → length s.journal + 1 ≤ command_limit → IsBounded (replied s c q).0
   apply_bounded c (Ok p) l = record { journal = omega (arith, l, length-append s.journal (c ∷ [])); watchers = h.watchers; keys = h.keys }
   apply_bounded c (Err f) l = h
 
@@ -125,11 +126,11 @@ pub bounded : (s : FloorView) (e : Event) → IsBounded s → rises key_of s.wat
 unfolding floor_step
 bounded s (Apply c) h order =
     let stop = refuse_if s.stopped Stopped in
-    let full = refuse_if (nat_le journal_limit (length s.journal)) JournalFull in
+    let full = refuse_if (nat_le command_limit (length s.journal)) JournalFull in
     idle s h order (applied s c) (refused s h order (first_fault (stop ∷ full ∷ [])) (replied s c (step (after s.journal) c)) (λ none.
     let one = first_none stop (full ∷ []) none in
     let two = first_none full [] one.1 in
-    apply_bounded s h order c (step (after s.journal) c) (room journal_limit (length s.journal) (not_refused (nat_le journal_limit (length s.journal)) JournalFull two.0))))
+    apply_bounded s h order c (step (after s.journal) c) (room command_limit (length s.journal) (not_refused (nat_le command_limit (length s.journal)) JournalFull two.0))))
 bounded s PostNext h order = post_bounded s h order s.due
 bounded s (Open sc) h order =
     let missing = refuse_if (is_missing s.journal sc) NoNamespace in

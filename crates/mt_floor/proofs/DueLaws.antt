@@ -4,7 +4,7 @@ use Rattle.std.specs.List.{filter, list_all}
 use Rattle.std.specs.Option.{option_map_or}
 use Rattle.mt_skel.specs.Keyed.{row_at, rises}
 use Rattle.mt_skel.proofs.KeyedLaws.{row_at-below, row_at-filter, rises-filter, passing}
-use Rattle.mt_info.proofs.WordLaws.{and_first, and_second}
+use Rattle.mt_skel.proofs.MiddleLaws.{and_first, and_second}
 use Rattle.mt_events.specs.Posts.{PostView}
 use Rattle.mt_events.specs.Following.{names_space}
 use Rattle.mt_floor.specs.Watcher.{Watcher, Due, key_of, is_open, follows, due_for, due_pairs}

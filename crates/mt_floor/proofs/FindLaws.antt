@@ -13,8 +13,8 @@ use Rattle.mt_events.specs.Following.{names_space, part_space}
 use Rattle.mt_book.specs.declared.command.Command.{Command}
 use Rattle.mt_book.specs.Step.{after}
 use Rattle.mt_book.specs.Book.{spaces_of}
-use Rattle.mt_floor.specs.Watcher.{opening_of}
-use Rattle.mt_floor.specs.Finding.{part_of, part_if, made}
+use Rattle.mt_floor.specs.Watcher.{opening_of, part_of}
+use Rattle.mt_floor.specs.Finding.{part_if, made}
 
 parts_found : (cs : List Command) (scope : Scope) (ns : List ℕ)
     → flat_map (part_if cs scope) (filter (is_space (after cs)) ns) ≡ map (part_of cs) (filter (λ n. is_space (after cs) n && names_space scope n) ns)

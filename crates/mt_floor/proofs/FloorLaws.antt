@@ -27,7 +27,8 @@ use Rattle.mt_floor.specs.declared.event.Event.TheVariants.{Apply, PostNext, Ope
 use Rattle.mt_floor.specs.declared.event.Answer.{Answer}
 use Rattle.mt_floor.specs.declared.event.Answer.TheVariants.{Opened, Took, NotNow}
 use Rattle.mt_floor.specs.Watcher.{Watcher, Due, key_of, is_open, due_for, due_pairs, opening_of, is_missing, followed_posts}
-use Rattle.mt_floor.specs.Schedule.{FloorView, Stepped, floor_step, unless, if_idle, at_row, changed, sent_to, is_full, posted, replied, nothing_left, took, met, closed, halted, opened, journal_limit, too_many_watchers, has_open}
+use Rattle.mt_floor.specs.Schedule.{FloorView, Stepped, floor_step, unless, if_idle, at_row, changed, sent_to, is_full, posted, replied, nothing_left, took, met, closed, halted, opened, too_many_watchers, has_open}
+use Rattle.mt_book.specs.Book.{command_limit}
 use Rattle.mt_floor.specs.Headline.{accepted_by, taken_by, first_due, posted_by, posts_to, ends_watcher}
 use Rattle.mt_floor.proofs.RowLaws.{differs, same_key, is_key, low_test, put_same, put_other, other_last, all_put, all_filter, all_higher, all_last, rises-last}
 use Rattle.mt_floor.proofs.DueLaws.{due_row, due_all, but, but_same, but_other}
@@ -555,8 +556,8 @@ pub goes :
     → Goes key scope before since sent taken s e (floor_step s e)
 unfolding floor_step
 goes key scope before since sent taken s k h (Apply c) =
-    idle key scope before since sent taken s k h (Apply c) (unless (first_fault (refuse_if s.stopped Stopped ∷ refuse_if (nat_le journal_limit (length s.journal)) JournalFull ∷ [])) s (replied s c (step (after s.journal) c)))
-    (λ none. refused key scope before since sent taken s k h (Apply c) (first_fault (refuse_if s.stopped Stopped ∷ refuse_if (nat_le journal_limit (length s.journal)) JournalFull ∷ [])) (replied s c (step (after s.journal) c)) (by none (step (after s.journal) c)))
+    idle key scope before since sent taken s k h (Apply c) (unless (first_fault (refuse_if s.stopped Stopped ∷ refuse_if (nat_le command_limit (length s.journal)) JournalFull ∷ [])) s (replied s c (step (after s.journal) c)))
+    (λ none. refused key scope before since sent taken s k h (Apply c) (first_fault (refuse_if s.stopped Stopped ∷ refuse_if (nat_le command_limit (length s.journal)) JournalFull ∷ [])) (replied s c (step (after s.journal) c)) (by none (step (after s.journal) c)))
   where
     by : s.due ≡ [] → (q : Result (WorldView × Reply) Fault) → Goes key scope before since sent taken s (Apply c) (replied s c q)
     by none (Ok p) = apply_goes key scope before since sent taken s k h c p none

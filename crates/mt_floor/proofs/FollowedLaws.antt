@@ -3,13 +3,13 @@ use Rattle.std.proofs.Common.{◌≡◌, ℕ, zero, suc, ◌+◌, Bool, true, fa
 use Rattle.std.specs.List.{filter}
 use Rattle.std.proofs.lemmas.Bool.Decides.{nat_tests}
 use Rattle.std.proofs.lemmas.List.Elements.{filter-append}
-use Rattle.mt_propagate.proofs.ElementLaws.{in_filter, get_in}
+use Rattle.mt_skel.proofs.ElementLaws.{in_filter, get_in}
 use Rattle.mt_events.specs.Posts.{PostView}
 use Rattle.mt_events.specs.declared.opening.Scope.{Scope}
 use Rattle.mt_events.specs.Following.{names_space, start_of, posts_in, space_posts, IsRun}
 use Rattle.mt_book.specs.declared.command.Command.{Command}
 use Rattle.mt_book.specs.Step.{after}
-use Rattle.mt_book.specs.History.{number_of, posts_from, events_from}
+use Rattle.mt_book.specs.History.{space_number, posts_from, events_from}
 use Rattle.mt_book.proofs.HistoryLaws.{space_events, numbers}
 use Rattle.mt_floor.specs.Watcher.{opening_of, followed_posts}
 use Rattle.mt_floor.proofs.OpeningLaws.{numbers_found}
@@ -58,8 +58,8 @@ is_run scope before since ps rest split = record { each = each }
         let there : slice_get (followed_posts scope before since) k ≡ Some p = ap (λ l. slice_get l k) split ∙ get_left ps rest k p e in
         let named = (in_filter (λ (q : PostView). names_space scope q.space) p (posts_from before since) (get_in (followed_posts scope before since) k p there)).1 in
         let n = p.space in
-        let all : space_posts n ps ++ space_posts n rest ≡ events_from n (number_of n before + 1) (after before) since =
+        let all : space_posts n ps ++ space_posts n rest ≡ events_from n (space_number n before + 1) (after before) since =
         sym (filter-append (λ (q : PostView). q.space == n) ps rest) ∙ ap (space_posts n) (sym split) ∙ space_followed scope n named (posts_from before since) ∙ space_events n before since in
         let at = ap (λ l. slice_get l (posts_in n (take k ps))) (sym all) ∙ get_left (space_posts n ps) (space_posts n rest) (posts_in n (take k ps)) p (place_of_space n ps k p e refl) in
-        let number = (numbers n (number_of n before + 1) (after before) since (posts_in n (take k ps)) p at).1 in
+        let number = (numbers n (space_number n before + 1) (after before) since (posts_in n (take k ps)) p at).1 in
         (named, omega (arith, number, numbers_found before scope n named))

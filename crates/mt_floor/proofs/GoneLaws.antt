@@ -16,7 +16,8 @@ use Rattle.mt_floor.specs.declared.event.Event.{Event}
 use Rattle.mt_floor.specs.declared.event.Event.TheVariants.{Apply, PostNext, Open, Take, Meet, Close, Stop}
 use Rattle.mt_floor.specs.declared.event.Answer.TheVariants.{Opened, Took, NotNow}
 use Rattle.mt_floor.specs.Watcher.{Watcher, Due, key_of, due_for, opening_of, is_missing}
-use Rattle.mt_floor.specs.Schedule.{FloorView, Stepped, floor_step, unless, if_idle, at_row, changed, sent_to, is_full, posted, replied, nothing_left, took, met, closed, halted, opened, journal_limit, too_many_watchers}
+use Rattle.mt_floor.specs.Schedule.{FloorView, Stepped, floor_step, unless, if_idle, at_row, changed, sent_to, is_full, posted, replied, nothing_left, took, met, closed, halted, opened, too_many_watchers}
+use Rattle.mt_book.specs.Book.{command_limit}
 use Rattle.mt_floor.proofs.DueLaws.{due_row, due_all, but_other}
 use Rattle.mt_floor.proofs.BeginLaws.{opens}
 
@@ -72,8 +73,8 @@ module _ (s : FloorView) (key : ℕ) (order : rises key_of s.watchers ≡ true) 
   pub none_stays : (e : Event) → Still (floor_step s e)
   unfolding floor_step
   none_stays (Apply c) =
-      idle (unless (first_fault (refuse_if s.stopped Stopped ∷ refuse_if (nat_le journal_limit (length s.journal)) JournalFull ∷ [])) s (replied s c (step (after s.journal) c)))
-      (refused (first_fault (refuse_if s.stopped Stopped ∷ refuse_if (nat_le journal_limit (length s.journal)) JournalFull ∷ [])) (replied s c (step (after s.journal) c)) (after_reply c (step (after s.journal) c)))
+      idle (unless (first_fault (refuse_if s.stopped Stopped ∷ refuse_if (nat_le command_limit (length s.journal)) JournalFull ∷ [])) s (replied s c (step (after s.journal) c)))
+      (refused (first_fault (refuse_if s.stopped Stopped ∷ refuse_if (nat_le command_limit (length s.journal)) JournalFull ∷ [])) (replied s c (step (after s.journal) c)) (after_reply c (step (after s.journal) c)))
   none_stays PostNext = after_post s.due h
   none_stays (Open scope) =
       idle (opened s scope) (refused (first_fault (refuse_if (is_missing s.journal scope) NoNamespace ∷ refuse_if (too_many_watchers s) TooManyWatchers ∷ refuse_if s.stopped Stopped ∷ [])) (opens s scope, Ok (Opened s.next_key (opening_of s.journal scope))) h)

@@ -21,7 +21,8 @@ use Rattle.mt_floor.specs.Schedule.{FloorView, Stepped, floor_step, if_idle, at_
 use Rattle.mt_floor.specs.WellFormed.{IsFloor}
 use Rattle.mt_floor.specs.Rows.{RowView, ended, next_taken, watcher_of, floor_of, IsRow, IsKept}
 use Rattle.mt_floor.proofs.StandingLaws.{stays, begins_well, lists_short}
-use Rattle.mt_floor.proofs.PlaceLaws.{IsAt, is_of, found_at, got_at, within_at, row_read, watcher_at, changed_at, without_at, no_watcher, each_mid, each_with, each_without, each_map, set_mid, remove_mid}
+use Rattle.mt_floor.proofs.PlaceLaws.{IsAt, is_of, found_at, got_at, within_at, row_read, watcher_at, changed_at, without_at, no_watcher}
+use Rattle.mt_skel.proofs.MiddleLaws.{each_mid, each_with, each_without, each_map, set_mid, remove_mid}
 
 pub kept_new : (c : ℕ) → IsKept c [] 0 false [] []
 kept_new c = record { floor = begins_well c; each = tt }

@@ -1,18 +1,14 @@
--- What a watcher finds when it begins, one namespace after the other. All of it is this project's rule.
+-- What a watcher finds when it begins, one namespace after the other.
+-- A word with no source is this project's rule.
 use Rattle.std.specs.Prelude.{ℕ, cond, ◌&&◌, List, [], ◌∷◌}
 use Rattle.mt_propagate.specs.World.{is_space}
-use Rattle.mt_info.specs.Table.{table_of}
 use Rattle.mt_events.specs.declared.opening.Scope.{Scope}
 use Rattle.mt_events.specs.declared.opening.Part.{Part}
 use Rattle.mt_events.specs.declared.opening.Opening.{Opening}
 use Rattle.mt_events.specs.Following.{names_space}
 use Rattle.mt_book.specs.declared.command.Command.{Command}
 use Rattle.mt_book.specs.Step.{after}
-use Rattle.mt_book.specs.History.{number_of}
-
--- the number and the table of a namespace
-abbrev pub part_of : List Command → ℕ → Part
-part_of cs n = record { space = n; number = number_of n cs; table = table_of (after cs) n }
+use Rattle.mt_floor.specs.Watcher.{part_of}
 
 -- those of a namespace that is there and followed
 abbrev pub part_if : List Command → Scope → ℕ → List Part

@@ -1,4 +1,5 @@
--- The headline, of every list of events from a floor with nothing done. Its words are this project's rule.
+-- The headline, of every list of events from a floor with nothing done.
+-- A word with no source is this project's rule.
 --
 -- In every schedule, the events that a watcher has taken are a prefix of those posted for the namespaces it follows since its opening,
 -- each once and in order, none posted after its close or lag (TakenInOrder). Applied to its opening tables, they give each namespace's

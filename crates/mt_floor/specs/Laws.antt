@@ -1,4 +1,5 @@
--- What else is true of every list of events. All of it is this project's rule.
+-- What else is true of every list of events.
+-- A word with no source is this project's rule.
 use Rattle.std.specs.Prelude.{◌≡◌, ℕ, ◌<◌, List, ◌++◌, length, take, Some, slice_get, Ok}
 use Rattle.mt_events.specs.Posts.{PostView}
 use Rattle.mt_events.specs.declared.opening.Opening.{Opening}

@@ -1,4 +1,5 @@
--- What a floor keeps of its watchers, and what it is read as. All of it is this project's rule.
+-- What a floor keeps of its watchers, and what it is read as.
+-- A word with no source is this project's rule.
 use Rattle.std.specs.Prelude.{ℕ, ◌+◌, ◌-◌, ◌≤◌, cond, ◌&&◌, List, [], ◌∷◌, ◌++◌, map, length, take, drop, Bool}
 use Rattle.std.specs.List.{AllByRecursion}
 use Rattle.mt_events.specs.Posts.{PostView}

@@ -1,4 +1,5 @@
--- The effect of each event, and of a list of them. All of it is this project's rule.
+-- The effect of each event, and of a list of them.
+-- A word with no source is this project's rule.
 use Rattle.std.specs.Prelude.{ℕ, ◌+◌, ◌^◌, Bool, true, false, cond, not, ◌||◌, ◌==◌, nat_le, List, [], ◌∷◌, ◌++◌, map, length, drop, replicate, Option, Some, None, slice_get, Result, Ok, Err}
 use Rattle.std.specs.List.{filter}
 use Rattle.std.specs.Option.{option_map_or}
@@ -9,6 +10,7 @@ use Rattle.mt_skel.specs.Outcome.{refuse_if, first_fault}
 use Rattle.mt_propagate.specs.World.{WorldView}
 use Rattle.mt_events.specs.Posts.{PostView}
 use Rattle.mt_events.specs.declared.opening.Scope.{Scope}
+use Rattle.mt_book.specs.Book.{command_limit}
 use Rattle.mt_book.specs.declared.command.Command.{Command}
 use Rattle.mt_book.specs.declared.command.Reply.{Reply}
 use Rattle.mt_book.specs.Step.{step, after}
@@ -37,10 +39,6 @@ Stepped = FloorView × Result Answer Fault
 -- a floor with nothing done
 abbrev pub empty_floor : ℕ → FloorView
 empty_floor capacity = record { capacity = capacity; journal = []; next_key = 1; stopped = false; watchers = []; due = [] }
-
--- the most accepted commands
-abbrev pub journal_limit : ℕ
-journal_limit = 1048576
 
 -- the most watchers at once
 abbrev pub watcher_limit : ℕ
@@ -98,11 +96,13 @@ abbrev pub replied : FloorView → Command → Result (WorldView × Reply) Fault
 replied s c (Ok p) = (record s { journal = s.journal ++ c ∷ []; due = due_pairs (posts_of s.journal c) s.watchers }, Ok (Replied p.1))
 replied s c (Err f) = (s, Err f)
 
--- a command is refused after a stop, then where the journal is full, then by its own refusals
+-- why no command is accepted: the server has stopped, or the journal is full
+abbrev pub command_refusal : FloorView → Option Fault
+command_refusal s = first_fault (refuse_if s.stopped Stopped ∷ refuse_if (nat_le command_limit (length s.journal)) JournalFull ∷ [])
+
+-- a command is refused where none is accepted, and then by its own refusals
 abbrev pub applied : FloorView → Command → Stepped
-applied s c =
-    unless (first_fault (refuse_if s.stopped Stopped ∷ refuse_if (nat_le journal_limit (length s.journal)) JournalFull ∷ [])) s
-    (replied s c (step (after s.journal) c))
+applied s c = unless (command_refusal s) s (replied s c (step (after s.journal) c))
 
 -- a watcher more, where there is room for it and a key is left
 abbrev pub too_many_watchers : FloorView → Bool

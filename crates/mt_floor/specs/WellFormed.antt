@@ -1,11 +1,13 @@
--- What is always true of a floor. All of it is this project's rule.
+-- What is always true of a floor.
+-- A word with no source is this project's rule.
 use Rattle.std.specs.Prelude.{◌≡◌, ℕ, ◌^◌, ◌≤◌, false, cond, nat_lt, List, [], ◌++◌, length, take, Some, IsTrue}
 use Rattle.std.specs.List.{list_all}
 use Rattle.mt_skel.specs.Keyed.{row_at, rises}
 use Rattle.mt_events.specs.Posts.{PostView}
 use Rattle.mt_floor.specs.declared.event.Event.{Event}
 use Rattle.mt_floor.specs.Watcher.{Watcher, key_of, is_open, due_for, opening_of, followed}
-use Rattle.mt_floor.specs.Schedule.{FloorView, journal_limit, watcher_limit, empty_floor, has_open, floor_step}
+use Rattle.mt_floor.specs.Schedule.{FloorView, watcher_limit, empty_floor, has_open, floor_step}
+use Rattle.mt_book.specs.Book.{command_limit}
 
 -- what is always true of a watcher on a floor
 pub record IsFollower (s : FloorView) (r : Watcher) : Type 0 where
@@ -22,7 +24,7 @@ pub record IsFollower (s : FloorView) (r : Watcher) : Type 0 where
 
 -- how large a floor can be
 pub record IsBounded (s : FloorView) : Type 0 where
-  pub journal : length s.journal ≤ journal_limit
+  pub journal : length s.journal ≤ command_limit
   pub watchers : length s.watchers ≤ watcher_limit
   pub keys : s.next_key ≤ 2 ^ 64
 

@@ -10,8 +10,8 @@ use mt_mounts::mount::SpaceId;
 use mt_skel::fault::Fault;
 use std::alloc::Global;
 
-/// Whether the one namespace of a scope is not there.
-pub(crate) fn is_missing(book: &Book, scope: Scope) -> bool
+/// Whether the one namespace of a scope is not there. Where the scope names all namespaces, it is not missing.
+pub fn is_missing(book: &Book, scope: Scope) -> bool
     ensures { result ≡ is_missing book.now.journal scope }
 {
     match scope {
@@ -57,8 +57,9 @@ fn parts_of(
     Ok(parts)
 }
 
-/// What a watcher of this scope finds now. Refused as `NoMemory` alone.
-pub(crate) fn found(alloc: Global, book: &Book, scope: Scope) -> Result<Opening, Fault>
+/// What a watcher of this scope finds in a book now: the number and the table of each namespace that is there and that
+/// the scope names, by rising namespace. Refused as `NoMemory` alone.
+pub fn found(alloc: Global, book: &Book, scope: Scope) -> Result<Opening, Fault>
     ensures opening { IfOk result (λ opening. opening ≡ opening_of book.now.journal scope) }
     ensures memory { IfErr result (λ fault. fault ≢ Fault.NoMemory → ⊥) }
 {

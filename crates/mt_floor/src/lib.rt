@@ -3,7 +3,7 @@
 
 mod due;
 pub mod event;
-mod finding;
+pub mod finding;
 pub mod floor;
 pub mod laws;
 mod row;

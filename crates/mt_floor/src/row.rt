@@ -78,7 +78,7 @@ impl Row {
     pub(crate) fn follows(&self, post: &Post) -> bool
         ensures { result ≡ row_follows post.now self.now }
     {
-        matches!(self.phase, Phase::Open) && self.scope.names(post.space)
+        self.phase.follows(self.scope, post)
     }
 
     /// Whether its queue holds this many posts.
@@ -122,9 +122,7 @@ impl Row {
     pub(crate) fn end(&mut self)
         ensures { self.new ≡ ended self.old }
     {
-        if matches!(self.phase, Phase::Open) {
-            self.phase = Phase::Ended;
-        }
+        self.phase.end();
     }
 
     /// Gives away the next post that was sent, if there is one.

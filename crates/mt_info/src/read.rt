@@ -6,13 +6,13 @@ ghost use Rattle.mt_skel.specs.Names.{is_label};
 ghost use Rattle.mt_skel.specs.Escapes.{escaped};
 ghost use Rattle.mt_mounts.specs.declared.mount.Attrs.{Attrs};
 ghost use Rattle.mt_mounts.specs.declared.mount.Atime.{Atime};
-ghost use Rattle.mt_words.specs.Words.{pieces};
+ghost use Rattle.mt_words.specs.Words.{pieces, begins};
 ghost use Rattle.mt_info.specs.declared.row.Row.{Row};
 ghost use Rattle.mt_info.specs.declared.read.Tail.{Tail};
 ghost use Rattle.mt_info.specs.declared.read.Head.{Head};
 ghost use Rattle.mt_info.specs.RowLine.{line, tag, word_if, option_words, is_noatime, is_relatime};
 ghost use Rattle.mt_info.specs.Laws.{IsRow};
-ghost use Rattle.mt_info.specs.Reading.{begins, is_first, IsTail, tail_words, end_words, IsHead, head_words};
+ghost use Rattle.mt_info.specs.Reading.{is_first, IsTail, tail_words, end_words, IsHead, head_words};
 
 use crate::fields::{read_label, read_minor, read_number, read_path};
 use crate::row::Row;

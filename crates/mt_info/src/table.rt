@@ -5,13 +5,12 @@ ghost use Rattle.mt_mounts.specs.Forest.{id_of, mount_at, parent, parents_up};
 ghost use Rattle.mt_propagate.specs.World.{world_view, is_space, state_of};
 ghost use Rattle.mt_propagate.specs.WellFormed.{IsWellFormed};
 ghost use Rattle.mt_info.specs.Table.{row_id, table_of, row_of, mount_point, own_names};
-ghost use Rattle.mt_info.specs.Pieces.{is_above, rows_at};
+ghost use Rattle.mt_info.specs.Building.{is_above, rows_at};
 ghost use Rattle.mt_info.specs.SameRow.{rows_eq};
 
 use crate::row::Row;
 use mt_mounts::mount::{Mount, MountId, SpaceId};
-use mt_peers::state::State;
-use mt_propagate::world::World;
+use mt_propagate::world::{World, state_of};
 use mt_skel::fault::Fault;
 use mt_skel::name::{Name, Names};
 use std::alloc::Global;
@@ -209,17 +208,6 @@ fn row_of(alloc: Global, world: &World, mounts: &[Mount], mount: &Mount) -> Resu
         unbindable: state.unbindable,
         kind: world.skel.kind(minor).copy()?,
         source: world.skel.source(minor).copy()?,
-    })
-}
-
-/// The state of a mount; one that is not there counts as private.
-fn state_of(world: &World, id: MountId) -> State
-    ensures { result ≡ state_of (world_view world.now) id }
-{
-    world.peers.state(id).unwrap_or(State {
-        group: None,
-        master: None,
-        unbindable: false,
     })
 }
 

@@ -12,7 +12,7 @@ use Rattle.mt_lines.specs.Reading.{IsNext}
 use Rattle.std.proofs.Common.{Result, Ok, Err, inl, inr, IsTrue, Option, Some, None, MatchOption, MatchBool, add-one, append_assoc, zero, slice_index, eq-eqb, length-append, ◌≡◌, ℕ, suc, ◌+◌, ◌<◌, ◌≤◌, ◌==◌, if◌then◌else◌, List, [], ◌∷◌, ◌++◌, length, take, drop, refl, ap, sym, ◌∙◌, arith, Bool, true, false, eqb}
 use Rattle.std.proofs.lemmas.Bool.{ne_eqb, eqb-true}
 use Rattle.std.proofs.lemmas.Bool.Decides.{nat_tests}
-use Rattle.mt_lines.specs.Lines.{Item, lines_of, Unbroken, slack, Text, TooLong, Unended, Endless, pieces, items, cons_first, by_length, last_items}
+use Rattle.mt_lines.specs.Lines.{Item, lines_of, Unbroken, slack, Text, TooLong, Unended, Endless, between_line_ends, items, cons_first, by_length, last_items}
 
 -- a line of which so many bytes were seen, and as many kept as the limit allows
 pub record Consumed (limit seen : ℕ) (kept : List ℕ) (told : Bool) (before after : List ℕ) : Type 0 where
@@ -23,27 +23,27 @@ pub record Consumed (limit seen : ℕ) (kept : List ℕ) (told : Bool) (before a
   pub split : IsTrue told → before ≡ text ++ after
 
 -- a first line that is whole is the first piece
-pub pieces-line : (text rest : List ℕ) → Unbroken text → pieces (text ++ 10 ∷ rest) ≡ text ∷ pieces rest
+pub pieces-line : (text rest : List ℕ) → Unbroken text → between_line_ends (text ++ 10 ∷ rest) ≡ text ∷ between_line_ends rest
 pieces-line [] rest h = refl
 pieces-line (b ∷ text) rest h = rw (ne_eqb b 10 h.0, pieces-line text rest h.1) refl
 
 -- bytes with no line end are one piece
-pub pieces-unbroken : (text : List ℕ) → Unbroken text → pieces text ≡ text ∷ []
+pub pieces-unbroken : (text : List ℕ) → Unbroken text → between_line_ends text ≡ text ∷ []
 pieces-unbroken [] h = refl
 pieces-unbroken (b ∷ text) h = rw (ne_eqb b 10 h.0, pieces-unbroken text h.1) refl
 
 -- there is a first piece
-pub pieces-cons : (bytes : List ℕ) → (p : List ℕ) × (ps : List (List ℕ)) × (pieces bytes ≡ p ∷ ps)
+pub pieces-cons : (bytes : List ℕ) → (p : List ℕ) × (ps : List (List ℕ)) × (between_line_ends bytes ≡ p ∷ ps)
 pieces-cons [] = ([], [], refl)
 pieces-cons (b ∷ bs) =
     let r = pieces-cons bs in
-    elim (eqb b 10) as (λ t. (p : List ℕ) × (ps : List (List ℕ)) × ((if t then [] ∷ pieces bs else cons_first b (pieces bs)) ≡ p ∷ ps)) [
-      | true ↦ ([], pieces bs, refl)
+    elim (eqb b 10) as (λ t. (p : List ℕ) × (ps : List (List ℕ)) × ((if t then [] ∷ between_line_ends bs else cons_first b (between_line_ends bs)) ≡ p ∷ ps)) [
+      | true ↦ ([], between_line_ends bs, refl)
       | false ↦ (b ∷ r.0, r.1, rw r.2 refl)
     ]
 
 -- the first piece begins with an unbroken front
-pub pieces-front : (text rest : List ℕ) → Unbroken text → (p : List ℕ) × (ps : List (List ℕ)) × (pieces (text ++ rest) ≡ (text ++ p) ∷ ps)
+pub pieces-front : (text rest : List ℕ) → Unbroken text → (p : List ℕ) × (ps : List (List ℕ)) × (between_line_ends (text ++ rest) ≡ (text ++ p) ∷ ps)
 pieces-front [] rest h = pieces-cons rest
 pieces-front (b ∷ text) rest h =
     let r = pieces-front text rest h.1 in (r.0, r.1, rw (ne_eqb b 10 h.0, r.2) refl)

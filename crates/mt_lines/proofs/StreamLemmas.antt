@@ -5,10 +5,10 @@ use Rattle.mt_lines.specs.declared.stream.StreamFault.TheVariants.{Interrupted}
 use Rattle.mt_lines.specs.Stream.{Gives, faults_after_write, interruptions, IsInterrupted}
 
 -- a piece of a size that is 0 only where no bytes are left
-pub Gives-piece : (left rest buffer : List ℕ) (room most n : ℕ) → n ≡ min (min (length left) room) most → 0 < room → 0 < most → left ≡ take n buffer ++ rest → Gives left rest buffer (Ok n)
-Gives-piece left rest buffer room most (suc n) size some any split = split
-Gives-piece [] rest buffer room most zero size some any split = (refl, sym split)
-Gives-piece (b ∷ left) rest buffer room most zero size some any split = absurd (omega arith)
+pub Gives-portion : (left rest buffer : List ℕ) (room most n : ℕ) → n ≡ min (min (length left) room) most → 0 < room → 0 < most → left ≡ take n buffer ++ rest → Gives left rest buffer (Ok n)
+Gives-portion left rest buffer room most (suc n) size some any split = split
+Gives-portion [] rest buffer room most zero size some any split = (refl, sym split)
+Gives-portion (b ∷ left) rest buffer room most zero size some any split = absurd (omega arith)
 
 -- a write that takes bytes leaves no fault
 pub write-served : (n : ℕ) (bytes : List ℕ) (old new : List StreamFault) → 0 < n → new ≡ faults_after_write bytes old (Ok n) → new ≡ []

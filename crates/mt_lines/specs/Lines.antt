@@ -1,4 +1,5 @@
 -- The lines of a list of bytes, as a reader with a limit serves them.
+-- A word with no source is this project's rule.
 use Rattle.std.specs.Prelude.{◌≢◌, ℕ, ◌+◌, nat_le, ◌==◌, if◌then◌else◌, List, [], ◌∷◌, length}
 
 -- what a reader with a limit makes of the bytes up to a line end, or behind the last one
@@ -26,9 +27,9 @@ cons_first b [] = (b ∷ []) ∷ []
 cons_first b (p ∷ ps) = (b ∷ p) ∷ ps
 
 -- the pieces between the line ends, one more than there are line ends
-abbrev pub pieces : List ℕ → List (List ℕ)
-pieces [] = [] ∷ []
-pieces (b ∷ bs) = if b == line_end then [] ∷ pieces bs else cons_first b (pieces bs)
+abbrev pub between_line_ends : List ℕ → List (List ℕ)
+between_line_ends [] = [] ∷ []
+between_line_ends (b ∷ bs) = if b == line_end then [] ∷ between_line_ends bs else cons_first b (between_line_ends bs)
 
 -- what a line of n bytes is, where a short one is known: this, TooLong over the limit, or Endless
 -- more than the slack over the limit
@@ -49,7 +50,7 @@ items limit (p ∷ q ∷ ps) = by_length limit (length p) (Text p) ∷ items lim
 
 -- the lines of the bytes, as a reader with this limit serves them
 unfoldable pub lines_of : ℕ → List ℕ → List Item
-lines_of limit bytes = items limit (pieces bytes)
+lines_of limit bytes = items limit (between_line_ends bytes)
 
 -- no byte of the list is a line end
 abbrev pub Unbroken : List ℕ → Type 0

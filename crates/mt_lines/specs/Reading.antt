@@ -1,4 +1,5 @@
 -- What one call of a line reader means, and what its clauses see of a reader.
+-- A word with no source is this project's rule.
 use Rattle.std.specs.Prelude.{◌≡◌, ℕ, ◌+◌, ◌<◌, ◌≤◌, List, [], ◌∷◌, ◌++◌, Result, Ok, Err, Option, is_some, if◌then◌else◌, vec_capacity}
 use Rattle.mt_lines.specs.Lines.{Item, lines_of, Text, TooLong, Unended, Endless}
 use Rattle.mt_lines.specs.declared.line.Line.{Line}

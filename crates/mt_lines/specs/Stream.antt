@@ -1,10 +1,11 @@
 -- What one call of a stream gives, takes and counts, and what the streams in memory hold.
-use Rattle.std.specs.Prelude.{◌≡◌, ℕ, ◌-◌, ◌<◌, suc, zero, min, List, [], ◌∷◌, ◌++◌, length, replicate, take, Result, Ok, Err, ◌⊎◌}
+-- A word with no source is this project's rule.
+use Rattle.std.specs.Prelude.{◌≡◌, ℕ, ◌-◌, ◌<◌, suc, zero, min, List, [], ◌∷◌, ◌++◌, length, replicate, take, Result, Ok, Err}
 use Rattle.mt_lines.specs.declared.stream.StreamFault.{StreamFault}
 use Rattle.mt_lines.specs.declared.stream.StreamFault.TheVariants.{Interrupted, Failed}
 use Rattle.mt_lines.specs.declared.stream.Reading.{Reading}
 use Rattle.mt_lines.specs.declared.stream.Writing.{Writing}
-use Rattle.mt_lines.specs.declared.memory.Pieces.{Pieces}
+use Rattle.mt_lines.specs.declared.memory.Portions.{Portions}
 use Rattle.mt_lines.specs.declared.memory.Faulty.{Faulty}
 use Rattle.mt_lines.specs.declared.memory.Faltering.{Faltering}
 use Rattle.mt_lines.specs.declared.memory.Sink.{Sink}
@@ -76,24 +77,24 @@ writing_inner w = w.inner
 
 -- how many bytes a read of bytes in memory gives: as many as are left, fit the buffer and may go in
 -- one call
-abbrev pub piece_size : List ℕ → ℕ → ℕ → ℕ
-piece_size left room most = min (min (length left) room) most
+abbrev pub portion_size : List ℕ → ℕ → ℕ → ℕ
+portion_size left room most = min (min (length left) room) most
 
 -- the bytes that are still to be read of bytes in memory
-abbrev pub pieces_left : Pieces → List ℕ
-pieces_left p = p.bytes.now
+abbrev pub portions_left : Portions → List ℕ
+portions_left p = p.bytes.now
 
 -- the most bytes that one read of bytes in memory gives
-abbrev pub pieces_most : Pieces → ℕ
-pieces_most p = p.most
+abbrev pub portions_most : Portions → ℕ
+portions_most p = p.most
 
 -- the bytes that are still to be read of a reader that fails
 abbrev pub faulty_left : Faulty → List ℕ
-faulty_left f = f.pieces.bytes.now
+faulty_left f = f.portions.bytes.now
 
 -- the most bytes that one read of a reader that fails gives
 abbrev pub faulty_most : Faulty → ℕ
-faulty_most f = f.pieces.most
+faulty_most f = f.portions.most
 
 -- how many reads are served before the first that fails
 abbrev pub faulty_before : Faulty → ℕ

@@ -9,34 +9,34 @@ use std::alloc::{AllocError, Global};
 ///
 /// As an `Input` it tells its bytes and counts its failed calls, of which there are none.
 #[derive(Drop)]
-pub struct Pieces<'a> {
+pub struct Portions<'a> {
     bytes: &'a [u8],
     most: usize,
     ghost some: { 0 < most },
 }
 
-impl<'a> Pieces<'a> {
-    ghost use Rattle.mt_lines.specs.Stream.{Gives, piece_size, pieces_left, pieces_most};
+impl<'a> Portions<'a> {
+    ghost use Rattle.mt_lines.specs.Stream.{Gives, portion_size, portions_left, portions_most};
 
     /// Takes the bytes to give, and the most bytes that one read gives; 0 stands for 1.
-    pub fn new(bytes: &'a [u8], most: usize) -> Pieces<'a>
-        ensures left { pieces_left result ≡ bytes.entry.now }
-        ensures most { pieces_most result ≡ max most 1 }
+    pub fn new(bytes: &'a [u8], most: usize) -> Portions<'a>
+        ensures left { portions_left result ≡ bytes.entry.now }
+        ensures most { portions_most result ≡ max most 1 }
     {
-        Pieces {
+        Portions {
             bytes,
             most: most.max(1),
         }
     }
 
     /// Moves the next bytes to the front of the buffer, and answers how many.
-    fn move_piece(&mut self, buffer: &mut [u8]) -> usize
+    fn move_portion(&mut self, buffer: &mut [u8]) -> usize
         requires { 0 < length buffer.old }
         ensures count { result
-            ≡ piece_size (pieces_left self.old) (length buffer.old) (pieces_most self.old) }
+            ≡ portion_size (portions_left self.old) (length buffer.old) (portions_most self.old) }
         ensures bound { result ≤ length buffer.new }
-        ensures given { Gives (pieces_left self.old) (pieces_left self.new) buffer.new (Ok result) }
-        ensures most { pieces_most self.new ≡ pieces_most self.old }
+        ensures given { Gives (portions_left self.old) (portions_left self.new) buffer.new (Ok result) }
+        ensures most { portions_most self.new ≡ portions_most self.old }
     {
         let count = self.bytes.len().min(buffer.len()).min(self.most);
         buffer[..count].copy_from_slice(&self.bytes[..count]);
@@ -45,15 +45,15 @@ impl<'a> Pieces<'a> {
     }
 }
 
-impl Input for Pieces<'_> {
+impl Input for Portions<'_> {
     ghost use Rattle.std.specs.Prelude.{◌≡◌, ℕ, ◌+◌, ◌<◌, ◌≤◌, [], length, IfOk, Ok, true};
-    ghost use Rattle.mt_lines.specs.Stream.{Gives, failed_reads, faults_after_read, piece_size, pieces_left, pieces_most};
+    ghost use Rattle.mt_lines.specs.Stream.{Gives, failed_reads, faults_after_read, portion_size, portions_left, portions_most};
 
     ghost tells = { true };
 
     ghost counts = { true };
 
-    ghost left = { pieces_left };
+    ghost left = { portions_left };
 
     ghost failed = { λ p. 0 };
 
@@ -63,17 +63,17 @@ impl Input for Pieces<'_> {
     fn read(&mut self, buffer: &mut [u8]) -> Result<usize, StreamFault>
         requires { 0 < length buffer.old }
         ensures bound { IfOk result (λ n. n ≤ length buffer.new) }
-        ensures given { Gives (pieces_left self.old) (pieces_left self.new) buffer.new result }
+        ensures given { Gives (portions_left self.old) (portions_left self.new) buffer.new result }
 
         // No call fails, so that the count of failed calls stays 0.
         ensures counted { 0 ≡ 0 + failed_reads result }
         ensures faults { [] ≡ faults_after_read [] result }
 
         ensures count { result
-            ≡ Ok (piece_size (pieces_left self.old) (length buffer.old) (pieces_most self.old)) }
-        ensures most { pieces_most self.new ≡ pieces_most self.old }
+            ≡ Ok (portion_size (portions_left self.old) (length buffer.old) (portions_most self.old)) }
+        ensures most { portions_most self.new ≡ portions_most self.old }
     {
-        Ok(self.move_piece(buffer))
+        Ok(self.move_portion(buffer))
     }
 }
 
@@ -82,7 +82,7 @@ impl Input for Pieces<'_> {
 /// As an `Input` it tells its bytes and counts its failed calls.
 #[derive(Drop)]
 pub struct Faulty<'a> {
-    pieces: Pieces<'a>,
+    portions: Portions<'a>,
     before: u64,
     fault: StreamFault,
     times: u32,
@@ -107,7 +107,7 @@ impl<'a> Faulty<'a> {
         ensures faults { faulty_faults result ≡ [] }
     {
         Faulty {
-            pieces: Pieces::new(bytes, most),
+            portions: Portions::new(bytes, most),
             before: at,
             fault,
             times,
@@ -119,7 +119,7 @@ impl<'a> Faulty<'a> {
 
 impl Input for Faulty<'_> {
     ghost use Rattle.std.specs.Prelude.{◌≡◌, ℕ, ◌+◌, ◌-◌, ◌<◌, ◌≤◌, length, IfOk, Ok, Err, true};
-    ghost use Rattle.mt_lines.specs.Stream.{Gives, failed_reads, faults_after_read, piece_size, faulty_left, faulty_most, faulty_before, faulty_pending, faulty_failed, faulty_faults, faulty_fault};
+    ghost use Rattle.mt_lines.specs.Stream.{Gives, failed_reads, faults_after_read, portion_size, faulty_left, faulty_most, faulty_before, faulty_pending, faulty_failed, faulty_faults, faulty_fault};
 
     ghost tells = { true };
 
@@ -142,12 +142,12 @@ impl Input for Faulty<'_> {
         // Which call answers what.
         ensures before { 0 < faulty_before self.old
             → result
-            ≡ Ok (piece_size (faulty_left self.old) (length buffer.old) (faulty_most self.old)) }
+            ≡ Ok (portion_size (faulty_left self.old) (length buffer.old) (faulty_most self.old)) }
         ensures fails { faulty_before self.old ≡ 0 → 0 < faulty_pending self.old
             → result ≡ Err (faulty_fault self.old) }
         ensures behind { faulty_before self.old ≡ 0 → faulty_pending self.old ≡ 0
             → result
-            ≡ Ok (piece_size (faulty_left self.old) (length buffer.old) (faulty_most self.old)) }
+            ≡ Ok (portion_size (faulty_left self.old) (length buffer.old) (faulty_most self.old)) }
 
         // What it leaves to later calls.
         ensures turn { faulty_before self.new ≡ faulty_before self.old - 1 }
@@ -163,7 +163,7 @@ impl Input for Faulty<'_> {
             return Err(self.fault);
         }
         self.run = 0;
-        Ok(self.pieces.move_piece(buffer))
+        Ok(self.portions.move_portion(buffer))
     }
 }
 

@@ -7,8 +7,8 @@ use Rattle.mt_mounts.specs.declared.mount.Mount.{Mount}
 use Rattle.mt_mounts.specs.declared.mount.Place.{Place}
 use Rattle.mt_mounts.specs.declared.mount.Attrs.{Attrs}
 use Rattle.mt_mounts.specs.Forest.{id_of, on}
-use Rattle.mt_mounts.specs.Table.{with_attrs, with_place}
-use Rattle.mt_mounts.specs.Slots.{table_of, HoldsAt, IsForest}
+use Rattle.mt_mounts.specs.ForestView.{with_attrs, with_place}
+use Rattle.mt_mounts.specs.Slots.{slab_mounts, HoldsAt, IsForest}
 use Rattle.mt_mounts.proofs.SlotLaws.{rises_table, row_absent, row_at_slot}
 use Rattle.mt_mounts.proofs.ForestLaws.{single_put, single_same, row_was, table_written, forest_written, map_one, map_none, key_fits}
 
@@ -27,25 +27,25 @@ place_other i p x ne = ap (λ b. record x { place = cond b (Some p) x.place }) (
 
 -- a change of a mount that is not there changes nothing
 module _ (s : Slab Mount) (i : ℕ) (absent : (key : ℕ) → ¬ (HoldsAt s i key)) where
-  pub attrs_absent : (a : Attrs) → table_of s ≡ with_attrs i a (table_of s)
-  attrs_absent a = map_none (attrs_of i a) (λ x. refl) i (attrs_other i a) (table_of s) (rises_table s) (row_absent s i absent)
+  pub attrs_absent : (a : Attrs) → slab_mounts s ≡ with_attrs i a (slab_mounts s)
+  attrs_absent a = map_none (attrs_of i a) (λ x. refl) i (attrs_other i a) (slab_mounts s) (rises_table s) (row_absent s i absent)
 
-  pub place_absent : (p : Place) → table_of s ≡ with_place i p (table_of s)
-  place_absent p = map_none (place_of i p) (λ x. refl) i (place_other i p) (table_of s) (rises_table s) (row_absent s i absent)
+  pub place_absent : (p : Place) → slab_mounts s ≡ with_place i p (slab_mounts s)
+  place_absent p = map_none (place_of i p) (λ x. refl) i (place_other i p) (slab_mounts s) (rises_table s) (row_absent s i absent)
 
 module _ (s : Slab Mount) (key : ℕ) (f : IsForest s) (was : Mount) (there : get s key ≡ Some was) where
   -- other attributes leave a forest
   pub forest_attrs : (a : Attrs) → IsForest (with_value s key (record was { attrs = a }))
   forest_attrs a =
       let m : Mount = record was { attrs = a } in
-      forest_written s key f was m there refl (single_same (table_of s) m f.single was (row_was s key f was m there refl) refl refl)
+      forest_written s key f was m there refl (single_same (slab_mounts s) m f.single was (row_was s key f was m there refl) refl refl)
 
   -- a free place leaves a forest
-  pub forest_place : (p : Place) → on (table_of s) p ≡ None → IsForest (with_value s key (record was { place = Some p }))
+  pub forest_place : (p : Place) → on (slab_mounts s) p ≡ None → IsForest (with_value s key (record was { place = Some p }))
   forest_place p free =
       let m : Mount = record was { place = Some p } in
-      forest_written s key f was m there refl (single_put (table_of s) m f.single
-      (λ q e. let pq : p ≡ q = cc in ap (on (table_of s)) (sym pq) ∙ free)
+      forest_written s key f was m there refl (single_put (slab_mounts s) m f.single
+      (λ q e. let pq : p ≡ q = cc in ap (on (slab_mounts s)) (sym pq) ∙ free)
       (λ e. absurd (let v : Some p ≡ None = e in cc)))
 
   -- a change of the mount under a key is one of the row with its ID
@@ -53,19 +53,19 @@ module _ (s : Slab Mount) (key : ℕ) (f : IsForest s) (was : Mount) (there : ge
     fits : was.id ≡ i
     fits = key_fits s i key was holds there
 
-    row : row_at id_of i (table_of s) ≡ Some was
+    row : row_at id_of i (slab_mounts s) ≡ Some was
     row = row_at_slot s key i was f.ids there fits
 
-    pub attrs_written : (a : Attrs) → table_of (with_value s key (record was { attrs = a })) ≡ with_attrs i a (table_of s)
+    pub attrs_written : (a : Attrs) → slab_mounts (with_value s key (record was { attrs = a })) ≡ with_attrs i a (slab_mounts s)
     attrs_written a =
         let same : attrs_of i a was ≡ record was { attrs = a } = ap (λ b. record was { attrs = cond b a was.attrs }) (eq-eqb was.id i fits) in
         table_written s key f was (record was { attrs = a }) there refl
-        ∙ ap (λ m. put id_of m (table_of s)) (sym same)
-        ∙ map_one (attrs_of i a) (λ x. refl) i (attrs_other i a) (table_of s) (rises_table s) was row
+        ∙ ap (λ m. put id_of m (slab_mounts s)) (sym same)
+        ∙ map_one (attrs_of i a) (λ x. refl) i (attrs_other i a) (slab_mounts s) (rises_table s) was row
 
-    pub place_written : (p : Place) → table_of (with_value s key (record was { place = Some p })) ≡ with_place i p (table_of s)
+    pub place_written : (p : Place) → slab_mounts (with_value s key (record was { place = Some p })) ≡ with_place i p (slab_mounts s)
     place_written p =
         let same : place_of i p was ≡ record was { place = Some p } = ap (λ b. record was { place = cond b (Some p) was.place }) (eq-eqb was.id i fits) in
         table_written s key f was (record was { place = Some p }) there refl
-        ∙ ap (λ m. put id_of m (table_of s)) (sym same)
-        ∙ map_one (place_of i p) (λ x. refl) i (place_other i p) (table_of s) (rises_table s) was row
+        ∙ ap (λ m. put id_of m (slab_mounts s)) (sym same)
+        ∙ map_one (place_of i p) (λ x. refl) i (place_other i p) (slab_mounts s) (rises_table s) was row

@@ -7,21 +7,21 @@
 --     top_is_free        the place that `top` answers is free
 use Rattle.std.proofs.Common.{◌≡◌, ◌≢◌, ℕ, zero, suc, ◌+◌, ◌-◌, ◌<◌, ◌≤◌, Bool, true, false, cond, ◌||◌, eqb, eqb-true, eq-eqb, List, [], ◌∷◌, map, length, Option, Some, None, refl, sym, ap, ◌∙◌, ◌⊎◌, inl, inr, arith}
 use Rattle.std.specs.List.{list_any}
-use Rattle.std.specs.Option.{option_map, option_map_or, option_and_then, is_none}
+use Rattle.std.specs.Option.{option_map, option_map_or, option_and_then}
 use Rattle.std.proofs.lemmas.Bool.{cases_eq, ne_eqb, true≢false}
 use Rattle.std.proofs.lemmas.Bool.Decides.{nat_tests}
 use Rattle.mt_skel.specs.Keyed.{row_at, put, rises}
 use Rattle.mt_skel.specs.Chain.{chain, ends}
 use Rattle.mt_skel.proofs.KeyedLaws.{row_at-map, row_at-key}
-use Rattle.mt_skel.proofs.ChainLaws.{chain-step, length-chain, ends-within, ends-rank}
+use Rattle.mt_skel.proofs.ChainLaws.{chain-step, length-chain, ends-within, ends-rank, chain-some, follow-holds}
 use Rattle.mt_mounts.specs.declared.mount.Mount.{Mount}
 use Rattle.mt_mounts.specs.declared.mount.Place.{Place}
 use Rattle.mt_mounts.specs.declared.mount.Attrs.{Attrs}
 use Rattle.mt_mounts.specs.Forest.{id_of, mount_at, parent, is_below, on, is_at, place_eq, root_place, top}
 use Rattle.mt_mounts.specs.Tree.{HasNoCycle, HasParents}
-use Rattle.mt_mounts.specs.Table.{with_attrs, with_place, without_id}
+use Rattle.mt_mounts.specs.ForestView.{with_attrs, with_place, without_id}
 use Rattle.mt_mounts.proofs.ForestLaws.{find_row, find_passes}
-use Rattle.mt_mounts.proofs.Walks.{stacked, top_within, top_stop, top_step}
+use Rattle.mt_mounts.proofs.Walks.{stacked}
 use Rattle.mt_mounts.proofs.SlotLaws.{row_put_here, row_put_later, row_kept}
 
 -- the parent of a mount, if there is one
@@ -170,10 +170,6 @@ length_within {X} next (suc n) x = go (next x) (λ y. length_within next n y)
     go None ih = omega arith
     go (Some y) ih = let l = ih y in omega arith
 
-length_some : {X : Type 0} (next : X → Option X) (n : ℕ) (x : X) → 0 < length (chain next n x)
-length_some next zero x = omega arith
-length_some next (suc n) x = omega arith
-
 module _ (ms : List Mount) (r : rises id_of ms ≡ true) (h : HasNoCycle ms) where
   parent_here : (p : Place) (m : Mount) → on ms p ≡ Some m → parent ms m.id ≡ Some p.mount
   parent_here p m e = ap above_of (find_row (is_at p) ms m r e) ∙ go m.place (find_passes (is_at p) ms m e)
@@ -200,22 +196,10 @@ module _ (ms : List Mount) (r : rises id_of ms ≡ true) (h : HasNoCycle ms) whe
 
   pub stack_ends : (p : Place) → ends (stacked ms) (length ms) p ≡ true
   unfolding place_rank
-  stack_ends p = ends-rank (stacked ms) place_rank place_falls (length ms) p (let some = length_some (parent ms) (length ms) p.mount in omega arith)
-
-  top_ends : (n : ℕ) (p : Place) → ends (stacked ms) n p ≡ true → stacked ms (top_within ms n p) ≡ None
-  top_ends zero p e = go (stacked ms p) e
-    where
-      go : (o : Option Place) → is_none o ≡ true → o ≡ None
-      go None e = refl
-      go (Some q) e = absurd (cc)
-  top_ends (suc n) p e = go (stacked ms p) refl (λ q. top_ends n q) e
-    where
-      go : (o : Option Place) → stacked ms p ≡ o → ((q : Place) → ends (stacked ms) n q ≡ true → stacked ms (top_within ms n q) ≡ None) → option_map_or (λ y. ends (stacked ms) n y) o true ≡ true → stacked ms (top_within ms (suc n) p) ≡ None
-      go None is ih e = ap (stacked ms) (top_stop ms (suc n) p is) ∙ is
-      go (Some q) is ih e = ap (stacked ms) (top_step ms n p q is) ∙ ih q e
+  stack_ends p = ends-rank (stacked ms) place_rank place_falls (length ms) p (let some = chain-some (parent ms) (length ms) p.mount in omega arith)
 
   pub top_is_free : (p : Place) → on ms (top ms p) ≡ None
-  top_is_free p = go (on ms (top ms p)) (top_ends (length ms) p (stack_ends p))
+  top_is_free p = go (on ms (top ms p)) (follow-holds (stacked ms) (λ q. Unit {0}) (λ q r h e. tt) (length ms) p tt (stack_ends p)).1
     where
       go : (o : Option Mount) → option_map root_place o ≡ None → o ≡ None
       go None e = refl

@@ -14,13 +14,13 @@ use Rattle.mt_mounts.specs.declared.mount.Mount.{Mount}
 use Rattle.mt_mounts.specs.declared.mount.Place.{Place}
 use Rattle.mt_mounts.specs.Forest.{id_of, mount_at, on, is_at, is_root, root_mount, place_eq}
 use Rattle.mt_mounts.specs.Tree.{AtMostOne, IsSingle}
-use Rattle.mt_mounts.specs.Table.{without_id}
-use Rattle.mt_mounts.specs.Slots.{by_id, table_of, HasDistinctIds, HoldsAt, IsForest}
+use Rattle.mt_mounts.specs.ForestView.{without_id}
+use Rattle.mt_mounts.specs.Slots.{by_id, slab_mounts, HasDistinctIds, HoldsAt, IsForest}
 use Rattle.mt_mounts.proofs.SlotLaws.{vals, row_vals, rises_table, same_options, slot_of_row, row_of_slot, row_at_slot, row_put_here, row_put_later, row_kept, row_without, row_absent, none_found, listed_of_row, entries_differ, ids_put, ids_gone, table_put, table_gone}
 
 -- the same slots make the same forest
-pub table_same : (s new : Slab Mount) → new.slots ≡ s.slots → table_of new ≡ table_of s
-unfolding table_of
+pub table_same : (s new : Slab Mount) → new.slots ≡ s.slots → slab_mounts new ≡ slab_mounts s
+unfolding slab_mounts
 table_same s new e = ap (λ x. by_id (entries_from 0 x)) e
 
 pub forest_same : (s new : Slab Mount) → new.slots ≡ s.slots → IsForest s → IsForest new
@@ -30,8 +30,8 @@ forest_same s new e f = record {
 }
 
 -- no slots make a forest without mounts
-pub table_none : (s : Slab Mount) → s.slots ≡ [] → table_of s ≡ []
-unfolding table_of
+pub table_none : (s : Slab Mount) → s.slots ≡ [] → slab_mounts s ≡ []
+unfolding slab_mounts
 table_none s e = ap (λ x. by_id (entries_from 0 x)) e
 
 no_row : (ms : List Mount) → ms ≡ [] → (i : ℕ) (m : Mount) → mount_at ms i ≡ Some m → ⊥
@@ -41,8 +41,8 @@ pub forest_none : (s : Slab Mount) → s.slots ≡ [] → IsForest s
 forest_none s e = record {
   ids = λ i j a b ga gb. let v : None ≡ Some a = rw e at ga in absurd (cc);
   single = record {
-    places = λ p i j m n gm. absurd (no_row (table_of s) (table_none s e) i m gm);
-    roots = λ k i j m n gm. absurd (no_row (table_of s) (table_none s e) i m gm);
+    places = λ p i j m n gm. absurd (no_row (slab_mounts s) (table_none s e) i m gm);
+    roots = λ k i j m n gm. absurd (no_row (slab_mounts s) (table_none s e) i m gm);
   };
 }
 
@@ -92,29 +92,29 @@ listed_none t ((j, a) ∷ es) e k m c = go (t a) refl (λ h there. listed_none t
     go true is ih h = absurd (let v : Some a ≡ None = h in cc)
     go false is ih h = elim (Contains-cons_cases _ _ _ c) [ inl here ↦ ap (λ p. t p.1) (sym here) ∙ is | inr there ↦ ih h there ]
 
-pub find_scan : (t : Mount → Bool) (s : Slab Mount) → HasDistinctIds s → AtMostOne t (table_of s) → find t (table_of s) ≡ find t (vals (entries s))
+pub find_scan : (t : Mount → Bool) (s : Slab Mount) → HasDistinctIds s → AtMostOne t (slab_mounts s) → find t (slab_mounts s) ≡ find t (vals (entries s))
 find_scan t s ids one = go (find t (vals (entries s))) refl
   where
-    some : (m : Mount) → find t (vals (entries s)) ≡ Some m → (o : Option Mount) → find t (table_of s) ≡ o → find t (table_of s) ≡ Some m
+    some : (m : Mount) → find t (vals (entries s)) ≡ Some m → (o : Option Mount) → find t (slab_mounts s) ≡ o → find t (slab_mounts s) ≡ Some m
     some m e None is =
         let l = listed_found t (entries s) m e in
         let row = row_of_slot s l.0 m ids ((Contains-entries s l.0 m).0 l.1) in
-        absurd (true≢false (sym (find_passes t (vals (entries s)) m e) ∙ find_none t (table_of s) is m.id m row))
+        absurd (true≢false (sym (find_passes t (vals (entries s)) m e) ∙ find_none t (slab_mounts s) is m.id m row))
     some m e (Some x) is =
         let l = listed_found t (entries s) m e in
         let row = row_of_slot s l.0 m ids ((Contains-entries s l.0 m).0 l.1) in
-        let row_x = find_row t (table_of s) x (rises_table s) is in
-        let same : x.id ≡ m.id = one x.id m.id x m row_x row (find_passes t (table_of s) x is) (find_passes t (vals (entries s)) m e) in
-        is ∙ sym row_x ∙ ap (λ i. row_at id_of i (table_of s)) same ∙ row
+        let row_x = find_row t (slab_mounts s) x (rises_table s) is in
+        let same : x.id ≡ m.id = one x.id m.id x m row_x row (find_passes t (slab_mounts s) x is) (find_passes t (vals (entries s)) m e) in
+        is ∙ sym row_x ∙ ap (λ i. row_at id_of i (slab_mounts s)) same ∙ row
 
-    go : (o : Option Mount) → find t (vals (entries s)) ≡ o → find t (table_of s) ≡ o
+    go : (o : Option Mount) → find t (vals (entries s)) ≡ o → find t (slab_mounts s) ≡ o
     go None e = none_found _ (λ x is.
-        let f = slot_of_row s x.id x (find_row t (table_of s) x (rises_table s) is) in
-        true≢false (sym (find_passes t (table_of s) x is) ∙ listed_none t (entries s) e f.0 x ((Contains-entries s f.0 x).1 f.1)))
-    go (Some m) e = some m e (find t (table_of s)) refl
+        let f = slot_of_row s x.id x (find_row t (slab_mounts s) x (rises_table s) is) in
+        true≢false (sym (find_passes t (slab_mounts s) x is) ∙ listed_none t (entries s) e f.0 x ((Contains-entries s f.0 x).1 f.1)))
+    go (Some m) e = some m e (find t (slab_mounts s)) refl
 
 -- a scan of the slab from its first entry on
-pub find_entries : (t : Mount → Bool) (s : Slab Mount) (es : List (ℕ × Mount)) → HasDistinctIds s → AtMostOne t (table_of s) → es ≡ entries s → find t (vals es) ≡ find t (table_of s)
+pub find_entries : (t : Mount → Bool) (s : Slab Mount) (es : List (ℕ × Mount)) → HasDistinctIds s → AtMostOne t (slab_mounts s) → es ≡ entries s → find t (vals es) ≡ find t (slab_mounts s)
 find_entries t s es ids one first = ap (λ x. find t (vals x)) first ∙ sym (find_scan t s ids one)
 
 -- there are as many rows as entries
@@ -151,8 +151,8 @@ length_from first (Some m ∷ rest) unique =
     let step = length_put m (by_id es) absent in
     omega (arith, step, later)
 
-pub length_table : (s : Slab Mount) → HasDistinctIds s → length (table_of s) ≡ slab_len s
-unfolding table_of
+pub length_table : (s : Slab Mount) → HasDistinctIds s → length (slab_mounts s) ≡ slab_len s
+unfolding slab_mounts
 length_table s ids = length_from 0 s.slots (entries_differ s ids) ∙ length-entries s
 
 -- what each change keeps of IsSingle
@@ -225,30 +225,30 @@ single_without ms i r f = record {
 
 -- a slot filled and a slot emptied
 module _ (s new : Slab Mount) (key : ℕ) (f : IsForest s) where
-  put_elsewhere : (m : Mount) → get s key ≡ None → row_at id_of m.id (table_of s) ≡ None → (k : ℕ) (a : Mount) → get s k ≡ Some a → (k ≡ key) ↔ (a.id ≡ m.id)
+  put_elsewhere : (m : Mount) → get s key ≡ None → row_at id_of m.id (slab_mounts s) ≡ None → (k : ℕ) (a : Mount) → get s k ≡ Some a → (k ≡ key) ↔ (a.id ≡ m.id)
   put_elsewhere m vacant absent k a g = (
     λ (e : k ≡ key). (let v : Some a ≡ None = sym g ∙ ap (get s) e ∙ vacant in absurd (cc)),
     λ (e : a.id ≡ m.id). (let v : Some a ≡ None = sym (row_at_slot s k m.id a f.ids g e) ∙ absent in absurd (cc)),
   )
 
-  pub table_inserted : (m : Mount) → get s key ≡ None → Updates s new key (Some m) → row_at id_of m.id (table_of s) ≡ None → table_of new ≡ put id_of m (table_of s)
+  pub table_inserted : (m : Mount) → get s key ≡ None → Updates s new key (Some m) → row_at id_of m.id (slab_mounts s) ≡ None → slab_mounts new ≡ put id_of m (slab_mounts s)
   table_inserted m vacant u absent =
       table_put s new key f.ids m u (put_elsewhere m vacant absent) (ids_put s new key f.ids m u (λ k a g. (put_elsewhere m vacant absent k a g).1))
 
-  pub forest_inserted : (m : Mount) → get s key ≡ None → Updates s new key (Some m) → row_at id_of m.id (table_of s) ≡ None
-      → ForSome m.place (λ p. on (table_of s) p ≡ None) → (m.place ≡ None → root_mount (table_of s) m.space ≡ None) → IsForest new
+  pub forest_inserted : (m : Mount) → get s key ≡ None → Updates s new key (Some m) → row_at id_of m.id (slab_mounts s) ≡ None
+      → ForSome m.place (λ p. on (slab_mounts s) p ≡ None) → (m.place ≡ None → root_mount (slab_mounts s) m.space ≡ None) → IsForest new
   forest_inserted m vacant u absent free rootless = record {
     ids = ids_put s new key f.ids m u (λ k a g. (put_elsewhere m vacant absent k a g).1);
-    single = rw (table_inserted m vacant u absent) (single_put (table_of s) m f.single free rootless);
+    single = rw (table_inserted m vacant u absent) (single_put (slab_mounts s) m f.single free rootless);
   }
 
-  pub table_removed : (m : Mount) → get s key ≡ Some m → Updates s new key None → table_of new ≡ without_id m.id (table_of s)
+  pub table_removed : (m : Mount) → get s key ≡ Some m → Updates s new key None → slab_mounts new ≡ without_id m.id (slab_mounts s)
   table_removed m was u = table_gone s new key f.ids m was u (ids_gone s new key f.ids u)
 
   pub forest_removed : (m : Mount) → get s key ≡ Some m → Updates s new key None → IsForest new
   forest_removed m was u = record {
     ids = ids_gone s new key f.ids u;
-    single = rw (table_removed m was u) (single_without (table_of s) m.id (rises_table s) f.single);
+    single = rw (table_removed m was u) (single_without (slab_mounts s) m.id (rises_table s) f.single);
   }
 
 -- a write to the mount under a key
@@ -265,13 +265,13 @@ module _ (s : Slab Mount) (key : ℕ) (f : IsForest s) (was m : Mount) (there : 
   pub ids_written : HasDistinctIds (with_value s key m)
   ids_written = ids_put s (with_value s key m) key f.ids m written (λ k a g. (kept_key k a g).1)
 
-  pub table_written : table_of (with_value s key m) ≡ put id_of m (table_of s)
+  pub table_written : slab_mounts (with_value s key m) ≡ put id_of m (slab_mounts s)
   table_written = table_put s (with_value s key m) key f.ids m written kept_key ids_written
 
-  pub row_was : row_at id_of m.id (table_of s) ≡ Some was
+  pub row_was : row_at id_of m.id (slab_mounts s) ≡ Some was
   row_was = row_at_slot s key m.id was f.ids there (sym same)
 
-  pub forest_written : IsSingle (put id_of m (table_of s)) → IsForest (with_value s key m)
+  pub forest_written : IsSingle (put id_of m (slab_mounts s)) → IsForest (with_value s key m)
   forest_written h = record { ids = ids_written; single = rw table_written h }
 
 -- one row changed, as a change of all rows
@@ -303,13 +303,13 @@ module _ (f : Mount → Mount) (keeps : (x : Mount) → (f x).id ≡ x.id) (i : 
       ])
 
 -- to take away a mount that is not there changes nothing
-pub without_none : (s : Slab Mount) (id : ℕ) → ((key : ℕ) → ¬ (HoldsAt s id key)) → table_of s ≡ without_id id (table_of s)
+pub without_none : (s : Slab Mount) (id : ℕ) → ((key : ℕ) → ¬ (HoldsAt s id key)) → slab_mounts s ≡ without_id id (slab_mounts s)
 without_none s id none =
     let absent = row_absent s id none in
-    same_rows id_of _ _ (rises_table s) (rises-filter id_of (λ x. not (eqb x.id id)) (table_of s) (rises_table s)) (λ q. same_options _ _
-    (λ x e. row_without (table_of s) id q x (rises_table s) e (λ at.
-    (let v : None ≡ Some x = sym absent ∙ ap (λ k. row_at id_of k (table_of s)) (sym at ∙ row_at-key id_of q (table_of s) x e) ∙ e in absurd (cc))))
-    (λ x e. (row_kept (table_of s) id q x (rises_table s) e).0))
+    same_rows id_of _ _ (rises_table s) (rises-filter id_of (λ x. not (eqb x.id id)) (slab_mounts s) (rises_table s)) (λ q. same_options _ _
+    (λ x e. row_without (slab_mounts s) id q x (rises_table s) e (λ at.
+    (let v : None ≡ Some x = sym absent ∙ ap (λ k. row_at id_of k (slab_mounts s)) (sym at ∙ row_at-key id_of q (slab_mounts s) x e) ∙ e in absurd (cc))))
+    (λ x e. (row_kept (slab_mounts s) id q x (rises_table s) e).0))
 
 -- the first entry passes
 pub find_first : (t : Mount → Bool) (es rest : List (ℕ × Mount)) (e : ℕ × Mount) → es ≡ e ∷ rest → t e.1 ≡ true → find t (vals es) ≡ Some e.1

@@ -17,7 +17,7 @@ use Rattle.mt_skel.specs.Keyed.{row_at, rises}
 use Rattle.mt_skel.proofs.KeyedLaws.{row_at-key, same_rows}
 use Rattle.mt_mounts.specs.declared.mount.Mount.{Mount}
 use Rattle.mt_mounts.specs.Forest.{id_of}
-use Rattle.mt_mounts.specs.Slots.{table_of, HasDistinctIds}
+use Rattle.mt_mounts.specs.Slots.{slab_mounts, HasDistinctIds}
 use Rattle.mt_mounts.proofs.SlotLaws.{vals, row_vals, rises_table, same_options, entries_differ}
 use Rattle.mt_mounts.proofs.ForestLaws.{AreApart, absent_later}
 
@@ -83,18 +83,18 @@ rises_ids : (ms : List Mount) → rises (λ n. n) (map id_of ms) ≡ rises id_of
 rises_ids [] = refl
 rises_ids (m ∷ ms) = rw (above_ids m.id ms, rises_ids ms) refl
 
-table_rows : (s : Slab Mount) (q : ℕ) → row_at id_of q (table_of s) ≡ row_at id_of q (vals (entries s))
-unfolding table_of
+table_rows : (s : Slab Mount) (q : ℕ) → row_at id_of q (slab_mounts s) ≡ row_at id_of q (vals (entries s))
+unfolding slab_mounts
 table_rows s q = row_vals (entries s) q
 
 -- sorted, the slab's IDs are the rows'
-pub sorted_ids : (s : Slab Mount) (ws vs : List ℕ) → HasDistinctIds s → ws ≡ ids_of (entries s) → IsPermutation ws vs → IsSorted nat_cmp vs → vs ≡ map id_of (table_of s)
+pub sorted_ids : (s : Slab Mount) (ws vs : List ℕ) → HasDistinctIds s → ws ≡ ids_of (entries s) → IsPermutation ws vs → IsSorted nat_cmp vs → vs ≡ map id_of (slab_mounts s)
 sorted_ids s ws vs ids is p sorted =
     let distinct : IsDistinct eqb ws = rw is (distinct_from 0 s.slots (entries_differ s ids)) in
     let up = IsStrictlyIncreasing-from_distinct vs (IsNonDecreasingBy-from_sort (λ x. x) vs sorted) (IsDistinct-IsPermutation eqb nat_eq_equiv.symm ws vs p distinct) in
-    same_rows (λ n. n) vs (map id_of (table_of s)) (rises_of vs up) (rises_ids (table_of s) ∙ rises_table s) (λ q.
+    same_rows (λ n. n) vs (map id_of (slab_mounts s)) (rises_of vs up) (rises_ids (slab_mounts s) ∙ rises_table s) (λ q.
     same_options _ _ (λ x e. within vs ws q x (Contains-permutation vs ws q (IsPermutation-sym ws vs p)) e) (λ x e. within ws vs q x (Contains-permutation ws vs q p) e)
-    ∙ ap (row_at (λ n. n) q) is ∙ row_of_ids (vals (entries s)) q ∙ ap (option_map id_of) (sym (table_rows s q)) ∙ sym (row_of_ids (table_of s) q))
+    ∙ ap (row_at (λ n. n) q) is ∙ row_of_ids (vals (entries s)) q ∙ ap (option_map id_of) (sym (table_rows s q)) ∙ sym (row_of_ids (slab_mounts s) q))
 
 -- mounts that differ in their IDs are found by these
 apart_from : (k : ℕ) (xs : List Mount) (m : Mount) → AllByRecursion (λ y. eqb k y ≡ false) (map id_of xs) → Contains xs m → eqb k m.id ≡ false
@@ -140,11 +140,11 @@ ids_rise (m ∷ ms) h =
     omega (arith, low, high, order)
 
 -- sorted, the slab's mounts are the rows
-pub sorted_mounts : (s : Slab Mount) (ws vs : List Mount) → HasDistinctIds s → ws ≡ vals (entries s) → IsPermutation ws vs → IsNonDecreasingBy id_of vs → vs ≡ table_of s
+pub sorted_mounts : (s : Slab Mount) (ws vs : List Mount) → HasDistinctIds s → ws ≡ vals (entries s) → IsPermutation ws vs → IsNonDecreasingBy id_of vs → vs ≡ slab_mounts s
 sorted_mounts s ws vs ids is p sorted =
     let before : IsDistinct eqb (map id_of ws) = rw is (distinct_from 0 s.slots (entries_differ s ids)) in
     let after = IsDistinct-IsPermutation eqb nat_eq_equiv.symm (map id_of ws) (map id_of vs) (IsPermutation-map id_of ws vs p) before in
     let up = IsStrictlyIncreasing-from_distinct (map id_of vs) (ids_rise vs sorted) after in
-    same_rows id_of vs (table_of s) (sym (rises_ids vs) ∙ rises_of (map id_of vs) up) (rises_table s) (λ q.
+    same_rows id_of vs (slab_mounts s) (sym (rises_ids vs) ∙ rises_of (map id_of vs) up) (rises_table s) (λ q.
     same_options _ _ (λ m e. found_in vs ws q m before (Contains-permutation vs ws m (IsPermutation-sym ws vs p)) e) (λ m e. found_in ws vs q m after (Contains-permutation ws vs m p) e)
     ∙ ap (row_at id_of q) is ∙ sym (table_rows s q))

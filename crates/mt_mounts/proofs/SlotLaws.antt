@@ -7,8 +7,8 @@ use Rattle.mt_skel.specs.Keyed.{row_at, put, rises}
 use Rattle.mt_skel.proofs.KeyedLaws.{row_at-put, rises-put, rises-filter, row_at-filter, same_rows, passing}
 use Rattle.mt_mounts.specs.declared.mount.Mount.{Mount}
 use Rattle.mt_mounts.specs.Forest.{id_of}
-use Rattle.mt_mounts.specs.Table.{without_id}
-use Rattle.mt_mounts.specs.Slots.{by_id, table_of, HasDistinctIds, HoldsAt}
+use Rattle.mt_mounts.specs.ForestView.{without_id}
+use Rattle.mt_mounts.specs.Slots.{by_id, slab_mounts, HasDistinctIds, HoldsAt}
 
 -- the mounts of these entries, in the order of the slab
 abbrev pub vals : List (ℕ × Mount) → List Mount
@@ -24,8 +24,8 @@ rises_by_id [] = refl
 rises_by_id (e ∷ es) = rises-put id_of e.1 (by_id es) (rises_by_id es)
 
 -- the rows rise
-pub rises_table : (s : Slab Mount) → rises id_of (table_of s) ≡ true
-unfolding table_of
+pub rises_table : (s : Slab Mount) → rises id_of (slab_mounts s) ≡ true
+unfolding slab_mounts
 rises_table s = rises_by_id (entries s)
 
 -- two options with the same values are equal
@@ -82,8 +82,8 @@ row_of_listed ((k, a) ∷ es) key m unique c =
     ]
 
 -- a row is the mount of a slot, and the mount of a slot is a row
-pub slot_of_row : (s : Slab Mount) (q : ℕ) (m : Mount) → row_at id_of q (table_of s) ≡ Some m → (key : ℕ) × (get s key ≡ Some m) × (m.id ≡ q)
-unfolding table_of
+pub slot_of_row : (s : Slab Mount) (q : ℕ) (m : Mount) → row_at id_of q (slab_mounts s) ≡ Some m → (key : ℕ) × (get s key ≡ Some m) × (m.id ≡ q)
+unfolding slab_mounts
 slot_of_row s q m e =
     let l = listed_of_row (entries s) q m (sym (row_vals (entries s) q) ∙ e) in
     (l.0, (Contains-entries s l.0 m).0 l.1, l.2)
@@ -98,13 +98,13 @@ entries_differ s ids a b ca cb same =
     let w : a.1 ≡ b.1 = cc in
     λ i. (k i, w i)
 
-pub row_of_slot : (s : Slab Mount) (key : ℕ) (m : Mount) → HasDistinctIds s → get s key ≡ Some m → row_at id_of m.id (table_of s) ≡ Some m
-unfolding table_of
+pub row_of_slot : (s : Slab Mount) (key : ℕ) (m : Mount) → HasDistinctIds s → get s key ≡ Some m → row_at id_of m.id (slab_mounts s) ≡ Some m
+unfolding slab_mounts
 row_of_slot s key m ids e =
     row_vals (entries s) m.id ∙ row_of_listed (entries s) key m (entries_differ s ids) ((Contains-entries s key m).1 e)
 
-pub row_at_slot : (s : Slab Mount) (key q : ℕ) (m : Mount) → HasDistinctIds s → get s key ≡ Some m → m.id ≡ q → row_at id_of q (table_of s) ≡ Some m
-row_at_slot s key q m ids e same = ap (λ i. row_at id_of i (table_of s)) (sym same) ∙ row_of_slot s key m ids e
+pub row_at_slot : (s : Slab Mount) (key q : ℕ) (m : Mount) → HasDistinctIds s → get s key ≡ Some m → m.id ≡ q → row_at id_of q (slab_mounts s) ≡ Some m
+row_at_slot s key q m ids e same = ap (λ i. row_at id_of i (slab_mounts s)) (sym same) ∙ row_of_slot s key m ids e
 
 -- the rows without one of them
 module _ (ms : List Mount) (i q : ℕ) (x : Mount) (r : rises id_of ms ≡ true) where
@@ -153,7 +153,7 @@ module _ (s new : Slab Mount) (key : ℕ) (ids : HasDistinctIds s) where
       ids i j a b (sym (u.others i (here i a ga)) ∙ ga) (sym (u.others j (here j b gb)) ∙ gb) same
 
   -- the rows with that mount
-  pub table_put : (m : Mount) → Updates s new key (Some m) → ((k : ℕ) (a : Mount) → get s k ≡ Some a → (k ≡ key) ↔ (a.id ≡ m.id)) → HasDistinctIds new → table_of new ≡ put id_of m (table_of s)
+  pub table_put : (m : Mount) → Updates s new key (Some m) → ((k : ℕ) (a : Mount) → get s k ≡ Some a → (k ≡ key) ↔ (a.id ≡ m.id)) → HasDistinctIds new → slab_mounts new ≡ put id_of m (slab_mounts s)
   table_put m u other ids' =
       same_rows id_of _ _ (rises_table new) (rises-put id_of m _ (rises_table s)) (λ q.
       same_options _ _
@@ -163,40 +163,40 @@ module _ (s new : Slab Mount) (key : ℕ) (ids : HasDistinctIds s) where
         | inl at ↦
             let v : Some x ≡ Some m = sym f.1 ∙ ap (get new) at ∙ u.changed in
             let xm : x ≡ m = cc in
-            row_put_here (table_of s) m q (sym (ap (λ y. y.id) xm) ∙ f.2) ∙ sym v
+            row_put_here (slab_mounts s) m q (sym (ap (λ y. y.id) xm) ∙ f.2) ∙ sym v
         | inr off ↦
             let g : get s f.0 ≡ Some x = sym (u.others f.0 off) ∙ f.1 in
-            row_put_later (table_of s) m q (λ e'. off ((other f.0 x g).1 (f.2 ∙ sym e'))) ∙ row_at_slot s f.0 q x ids g f.2
+            row_put_later (slab_mounts s) m q (λ e'. off ((other f.0 x g).1 (f.2 ∙ sym e'))) ∙ row_at_slot s f.0 q x ids g f.2
       ])
       (λ x e.
       elim (cases_eq m.id q) [
         | inl at ↦
-            let v : Some m ≡ Some x = sym (row_put_here (table_of s) m q at) ∙ e in
+            let v : Some m ≡ Some x = sym (row_put_here (slab_mounts s) m q at) ∙ e in
             row_at_slot new key q m ids' u.changed at ∙ v
         | inr off ↦
-            let v : row_at id_of q (table_of s) ≡ Some x = sym (row_put_later (table_of s) m q off) ∙ e in
+            let v : row_at id_of q (slab_mounts s) ≡ Some x = sym (row_put_later (slab_mounts s) m q off) ∙ e in
             let f = slot_of_row s q x v in
             let apart : f.0 ≢ key = λ (k : f.0 ≡ key). off (sym ((other f.0 x f.1).0 k) ∙ f.2) in
             row_at_slot new f.0 q x ids' (u.others f.0 apart ∙ f.1) f.2
       ]))
 
   -- the rows without the mount of the key
-  pub table_gone : (m : Mount) → get s key ≡ Some m → Updates s new key None → HasDistinctIds new → table_of new ≡ without_id m.id (table_of s)
+  pub table_gone : (m : Mount) → get s key ≡ Some m → Updates s new key None → HasDistinctIds new → slab_mounts new ≡ without_id m.id (slab_mounts s)
   table_gone m was u ids' =
-      same_rows id_of _ _ (rises_table new) (rises-filter id_of (λ x. not (eqb x.id m.id)) (table_of s) (rises_table s)) (λ q.
+      same_rows id_of _ _ (rises_table new) (rises-filter id_of (λ x. not (eqb x.id m.id)) (slab_mounts s) (rises_table s)) (λ q.
       same_options _ _
       (λ x e.
       let f = slot_of_row new q x e in
       let off : f.0 ≢ key = λ (k : f.0 ≡ key). (let v : Some x ≡ None = sym f.1 ∙ ap (get new) k ∙ u.changed in absurd (cc)) in
       let g : get s f.0 ≡ Some x = sym (u.others f.0 off) ∙ f.1 in
-      row_without (table_of s) m.id q x (rises_table s) (row_at_slot s f.0 q x ids g f.2) (λ e'. off (ids f.0 key x m g was e')))
+      row_without (slab_mounts s) m.id q x (rises_table s) (row_at_slot s f.0 q x ids g f.2) (λ e'. off (ids f.0 key x m g was e')))
       (λ x e.
-      let w = row_kept (table_of s) m.id q x (rises_table s) e in
+      let w = row_kept (slab_mounts s) m.id q x (rises_table s) e in
       let f = slot_of_row s q x w.0 in
       let apart : f.0 ≢ key = λ (k : f.0 ≡ key).
       (let v : Some x ≡ Some m = sym f.1 ∙ ap (get s) k ∙ was in let xm : x ≡ m = cc in w.1 (ap (λ y. y.id) xm)) in
       row_at_slot new f.0 q x ids' (u.others f.0 apart ∙ f.1) f.2))
 
 -- an ID that no slot has is that of no row
-pub row_absent : (s : Slab Mount) (id : ℕ) → ((key : ℕ) → ¬ (HoldsAt s id key)) → row_at id_of id (table_of s) ≡ None
+pub row_absent : (s : Slab Mount) (id : ℕ) → ((key : ℕ) → ¬ (HoldsAt s id key)) → row_at id_of id (slab_mounts s) ≡ None
 row_absent s id none = none_found _ (λ m g. let f = slot_of_row s id m g in none f.0 (record { mount = m; there = f.1; fits = f.2 }))

@@ -7,7 +7,7 @@ use Rattle.slab.specs.Slab.{Slab, entries, entries_from}
 use Rattle.mt_skel.specs.Keyed.{row_at, put}
 use Rattle.mt_mounts.specs.declared.mount.Mount.{Mount}
 use Rattle.mt_mounts.specs.Forest.{id_of, roots}
-use Rattle.mt_mounts.specs.Slots.{by_id, table_of, HasDistinctIds}
+use Rattle.mt_mounts.specs.Slots.{by_id, slab_mounts, HasDistinctIds}
 use Rattle.mt_mounts.proofs.SlotLaws.{row_vals, listed_of_row, none_found, entries_differ}
 use Rattle.mt_mounts.proofs.ForestLaws.{AreApart, absent_later}
 use Rattle.slab.proofs.SlabLemmas.{Contains-cons}
@@ -37,6 +37,6 @@ roots_from first (Some m ∷ rest) unique =
     step ∙ counted (placeless m) (length (roots (by_id es))) (count_by (λ e. placeless e.1) es) later ∙ sym (sum_by-cons (λ e. cond (placeless e.1) 1 0) (first, m) es)
 
 -- the root mounts of the table are counted in the slab
-pub roots_table : (s : Slab Mount) → HasDistinctIds s → length (roots (table_of s)) ≡ count_by (λ e. placeless e.1) (entries s)
-unfolding table_of
+pub roots_table : (s : Slab Mount) → HasDistinctIds s → length (roots (slab_mounts s)) ≡ count_by (λ e. placeless e.1) (entries s)
+unfolding slab_mounts
 roots_table s ids = roots_from 0 s.slots (entries_differ s ids)

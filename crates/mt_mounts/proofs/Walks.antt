@@ -1,11 +1,11 @@
 -- The words `top` and `is_below`, step by step.
-use Rattle.std.proofs.Common.{◌≡◌, ◌≢◌, ℕ, zero, suc, ◌+◌, ◌-◌, ◌<◌, ◌≤◌, Bool, true, false, ◌||◌, eqb, eq-eqb, List, [], ◌∷◌, Option, Some, None, refl, sym, ap, ◌∙◌, arith}
-use Rattle.std.specs.List.{last_or, list_any}
-use Rattle.std.specs.Option.{option_map, option_map_or, unwrap_or}
+use Rattle.std.proofs.Common.{◌≡◌, ◌≢◌, ℕ, zero, suc, ◌+◌, ◌-◌, ◌<◌, ◌≤◌, Bool, true, false, ◌||◌, eqb, eq-eqb, List, [], ◌∷◌, Option, Some, None, sym, ap, ◌∙◌, arith}
+use Rattle.std.specs.List.{list_any}
+use Rattle.std.specs.Option.{option_map, option_map_or}
 use Rattle.std.proofs.lemmas.Bool.{ne_eqb}
 use Rattle.std.proofs.lemmas.Bool.Decides.{nat_tests}
-use Rattle.mt_skel.specs.Chain.{chain}
-use Rattle.mt_skel.proofs.ChainLaws.{chain-last}
+use Rattle.mt_skel.specs.Chain.{chain, follow}
+use Rattle.mt_skel.proofs.ChainLaws.{chain-last, follow-stop, follow-step}
 use Rattle.mt_mounts.specs.declared.mount.Place.{Place}
 use Rattle.mt_mounts.specs.declared.mount.Mount.{Mount}
 use Rattle.mt_mounts.specs.Forest.{on, parent, root_place}
@@ -15,23 +15,14 @@ stacked ms q = option_map root_place (on ms q)
 
 -- the place that so many steps lead to
 abbrev pub top_within : List Mount → ℕ → Place → Place
-top_within ms n p = unwrap_or (last_or None (chain (stacked ms) n p)) p
-
--- what is found after a first place does not depend on the default
-last_of_some : (a : Place) (xs : List Place) (p q : Place) → unwrap_or (last_or (Some a) xs) p ≡ unwrap_or (last_or (Some a) xs) q
-last_of_some a [] p q = refl
-last_of_some a (x ∷ xs) p q = last_of_some x xs p q
+top_within ms n p = follow (stacked ms) n p
 
 -- `top` ends at a free place, and else goes on from the root of the mount that stands there
 pub top_stop : (ms : List Mount) (n : ℕ) (p : Place) → stacked ms p ≡ None → top_within ms n p ≡ p
-top_stop ms n p e = ap (λ xs. unwrap_or (last_or None xs) p) (chain-last (stacked ms) n p e)
+top_stop ms n p e = follow-stop (stacked ms) n p e
 
 pub top_step : (ms : List Mount) (n : ℕ) (p q : Place) → stacked ms p ≡ Some q → top_within ms (suc n) p ≡ top_within ms n q
-top_step ms n p q e = ap (λ o. unwrap_or (last_or (Some p) (option_map_or (λ y. chain (stacked ms) n y) o [])) p) e ∙ go n
-  where
-    go : (n : ℕ) → unwrap_or (last_or (Some p) (chain (stacked ms) n q)) p ≡ top_within ms n q
-    go zero = refl
-    go (suc n) = last_of_some q (option_map_or (λ y. chain (stacked ms) n y) (stacked ms q) []) p q
+top_step ms n p q e = follow-step (stacked ms) n p q e
 
 -- whether so many steps from j meet i
 abbrev pub below_within : List Mount → ℕ → ℕ → ℕ → Bool

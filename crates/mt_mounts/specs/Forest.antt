@@ -1,17 +1,18 @@
 -- The mounts of all namespaces as the list of them by rising ID: places, parents and stacks.
+-- A word with no source is this project's rule.
 use Rattle.std.specs.Prelude.{ℕ, Bool, false, ◌&&◌, ◌==◌, List, map, length, Option, None, is_none}
-use Rattle.std.specs.List.{filter, find, last_or, list_any}
-use Rattle.std.specs.Option.{option_map, option_map_or, unwrap_or, option_and_then}
+use Rattle.std.specs.List.{filter, find, list_any}
+use Rattle.std.specs.Option.{option_map, option_map_or, option_and_then}
 use Rattle.mt_skel.specs.Keyed.{row_at}
-use Rattle.mt_skel.specs.Chain.{chain}
+use Rattle.mt_skel.specs.Chain.{chain, follow}
 use Rattle.mt_mounts.specs.declared.mount.Place.{Place}
 use Rattle.mt_mounts.specs.declared.mount.Mount.{Mount}
 
--- A mount goes by its ID, and mounts are listed by rising ID (this project's rule).
+-- A mount goes by its ID, and mounts are listed by rising ID.
 abbrev pub id_of : Mount → ℕ
 id_of m = m.id
 
--- Two mounts never have one ID, so an ID finds one mount or none (this project's rule).
+-- Two mounts never have one ID, so an ID finds one mount or none.
 abbrev pub mount_at : List Mount → ℕ → Option Mount
 mount_at ms i = row_at id_of i ms
 
@@ -23,28 +24,28 @@ place_eq p q = (p.mount == q.mount) && (p.dir == q.dir)
 abbrev pub is_at : Place → Mount → Bool
 is_at p m = option_map_or (place_eq p) m.place false
 
--- At most one mount is mounted at a place, since the next one goes on top of it (this project's rule).
+-- At most one mount is mounted at a place, since the next one goes on top of it.
 abbrev pub on : List Mount → Place → Option Mount
 on ms p = find (is_at p) ms
 
--- The root dentry of a mount is the place where another mount can be stacked on it (this project's rule).
+-- The root dentry of a mount is the place where another mount can be stacked on it.
 abbrev pub root_place : Mount → Place
 root_place m = record { mount = m.id; dir = m.root }
 
 -- A new mount goes on the root of the most recently mounted mount of the stack at its mount point,
 -- or on that mount point where nothing is mounted (the kernel's sharedsubtree document has the most recently mounted one).
 abbrev pub top : List Mount → Place → Place
-top ms p = unwrap_or (last_or None (chain (λ q. option_map root_place (on ms q)) (length ms) p)) p
+top ms p = follow (λ q. option_map root_place (on ms q)) (length ms) p
 
--- The parent of a mount is the mount that it is mounted on; a root mount has none (this project's rule).
+-- The parent of a mount is the mount that it is mounted on; a root mount has none.
 abbrev pub parent : List Mount → ℕ → Option ℕ
 parent ms i = option_and_then (λ m. option_map (λ (p : Place). p.mount) m.place) (mount_at ms i)
 
--- From a mount up: the mount, its parent, and so on to the root mount (this project's rule).
+-- From a mount up: the mount, its parent, and so on to the root mount.
 abbrev pub parents_up : List Mount → ℕ → List ℕ
 parents_up ms i = chain (parent ms) (length ms) i
 
--- A mount is in the tree of mount i where i is on its way up, or is the mount itself (this project's rule).
+-- A mount is in the tree of mount i where i is on its way up, or is the mount itself.
 abbrev pub is_below : List Mount → ℕ → ℕ → Bool
 is_below ms i j = list_any (λ k. i == k) (parents_up ms j)
 
@@ -57,7 +58,7 @@ subtree ms i = filter (is_below ms i) (map id_of ms)
 abbrev pub is_root : ℕ → Mount → Bool
 is_root n m = is_none m.place && (m.space == n)
 
--- A namespace is there exactly where its root mount is (this project's rule).
+-- A namespace is there exactly where its root mount is.
 abbrev pub root_mount : List Mount → ℕ → Option Mount
 root_mount ms n = find (is_root n) ms
 

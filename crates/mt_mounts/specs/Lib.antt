@@ -2,5 +2,5 @@ pub mod Attrs
 pub mod Forest
 pub mod Walk
 pub mod Tree
-pub mod Table
+pub mod ForestView
 pub mod Slots

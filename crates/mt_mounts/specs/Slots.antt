@@ -1,4 +1,5 @@
--- How a `Forest` lies in its slab (this project's rule). No public clause cites this module.
+-- How a `Forest` lies in its slab. No public clause cites this module.
+-- A word with no source is this project's rule.
 use Rattle.std.specs.Prelude.{◌≡◌, ℕ, Some, List, [], ◌∷◌}
 use Rattle.slab.specs.Slab.{Slab, get, entries}
 use Rattle.mt_skel.specs.Keyed.{put}
@@ -12,8 +13,8 @@ by_id [] = []
 by_id (e ∷ es) = put id_of e.1 (by_id es)
 
 -- The mounts of a slab, by rising ID.
-unfoldable pub table_of : Slab Mount → List Mount
-table_of s = by_id (entries s)
+unfoldable pub slab_mounts : Slab Mount → List Mount
+slab_mounts s = by_id (entries s)
 
 -- No two keys of the slab have mounts of one ID.
 abbrev pub HasDistinctIds : Slab Mount → Type 0
@@ -22,7 +23,7 @@ HasDistinctIds s = (i j : ℕ) (a b : Mount) → get s i ≡ Some a → get s j 
 -- The slab holds each mount once, no two at one place and no two roots of one namespace.
 pub record IsForest (s : Slab Mount) : Type 0 where
   pub ids : HasDistinctIds s
-  pub single : IsSingle (table_of s)
+  pub single : IsSingle (slab_mounts s)
 
 -- The slab has a mount with this ID under the key.
 pub record HoldsAt (s : Slab Mount) (id : ℕ) (key : ℕ) : Type 0 where

@@ -3,7 +3,7 @@ ghost use Rattle.std.specs.Prelude.{◌≡◌, ℕ, ◌+◌, ◌<◌, ◌≤◌,
 ghost use Rattle.std.specs.Option.{ForSome, option_map};
 ghost use Rattle.mt_skel.specs.Keyed.{put, rises};
 ghost use Rattle.mt_mounts.specs.Forest.{id_of, mount_at, on, is_at, is_root, root_mount, roots, parent, top, subtree, is_below};
-ghost use Rattle.mt_mounts.specs.Table.{with_attrs, with_place, without_id};
+ghost use Rattle.mt_mounts.specs.ForestView.{with_attrs, with_place, without_id};
 ghost use Rattle.mt_mounts.specs.Slots.{HoldsAt};
 
 use crate::mount::{Attrs, Mount, MountId, Place, SpaceId};
@@ -27,23 +27,23 @@ pub struct Forest {
 
 impl Model for Forest {
     ghost use Rattle.std.specs.Prelude.{◌-◌};
-    ghost use Rattle.mt_mounts.specs.Table.{Table, table_code};
+    ghost use Rattle.mt_mounts.specs.ForestView.{ForestView, forest_code};
     ghost use Rattle.slab.specs.Slab.{slab_len};
 
-    ghost Value = { Table };
+    ghost Value = { ForestView };
 
     ghost use Rattle.mt_mounts.specs.contracts.mount.Mount as mount;
 
-    ghost coded = { table_code mount.the_row.coded };
+    ghost coded = { forest_code mount.the_row.coded };
 
-    ghost use Rattle.mt_mounts.specs.Slots.{table_of, IsForest};
+    ghost use Rattle.mt_mounts.specs.Slots.{slab_mounts, IsForest};
 
-    ghost view = { λ f. record { mounts = table_of f.slots; room = f.slots.capacity - slab_len f.slots } };
+    ghost view = { λ f. record { mounts = slab_mounts f.slots; room = f.slots.capacity - slab_len f.slots } };
 
     ghost invariant = { λ f. IsForest f.slots };
 }
 
-// The slab's key of the mount with this ID.
+/// The slab's key of the mount with this ID.
 fn key_of(slots: &Slab<Mount>, id: MountId) -> Option<usize>
     ensures found { IfSome result (HoldsAt slots.now id) }
     ensures absent { IfNone result ((key : ℕ) → ¬ (HoldsAt slots.now id key)) }
@@ -166,7 +166,7 @@ impl Forest {
         }
     }
 
-    // The mount that stands at a place.
+    /// The mount that stands at a place.
     fn standing_at(&self, place: Place) -> Option<Mount>
         ensures { result ≡ on self.now.mounts place }
     {
@@ -178,7 +178,7 @@ impl Forest {
         None
     }
 
-    // The root mount of a namespace.
+    /// The root mount of a namespace.
     pub(crate) fn root_mount(&self, space: SpaceId) -> Option<Mount>
         ensures { result ≡ root_mount self.now.mounts space }
     {
@@ -246,7 +246,7 @@ impl Forest {
         here
     }
 
-    // Whether the mount is `above` or stands on it, at whatever height.
+    /// Whether the mount is `above` or stands on it, at whatever height.
     fn is_within(&self, id: MountId, above: MountId) -> bool
         ensures { result ≡ is_below self.now.mounts above id }
     {

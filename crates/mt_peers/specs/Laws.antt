@@ -1,4 +1,5 @@
 -- What the laws of this crate say.
+-- A word with no source is this project's rule.
 use Rattle.std.specs.Prelude.{◌≡◌, ℕ, Bool, List, Some, IsTrue}
 use Rattle.mt_peers.specs.declared.state.Kind.{Kind}
 use Rattle.mt_peers.specs.Peers.{Peer, Peering}
@@ -16,10 +17,10 @@ ClosureIsReach =
     → ((h : ℕ) → IsTrue (found h) → IsTrue (reaches es h g))
     → (h : ℕ) → found h ≡ reaches es h g
 
--- groups and masters stay in order when any mounts are made of any kind (this project's rule)
+-- groups and masters stay in order when any mounts are made of any kind
 abbrev pub MakingKeeps : Type 0
 MakingKeeps = (p : Peering) → IsPeering p → (k : Kind) (chosen : ℕ → Bool) → IsPeering (made k chosen p)
 
--- groups and masters stay in order when any mounts leave (this project's rule)
+-- groups and masters stay in order when any mounts leave
 abbrev pub LeavingKeeps : Type 0
 LeavingKeeps = (p : Peering) → IsPeering p → (gone : ℕ → Bool) → IsPeering (left gone p)

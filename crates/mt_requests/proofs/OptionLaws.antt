@@ -23,7 +23,7 @@ one_more_listed : {A : Type 0} (x : A) (xs : List A) → nat_lt 0 (length xs) �
 one_more_listed x xs = one_more (length xs)
 
 -- where the first option has the key, it is repeated if another has it
-pub repeated_first : (key word : List ℕ) (rest : List (List ℕ)) → has_key key word ≡ true → list_any (has_key key) rest ≡ is_repeated key (word ∷ rest)
+pub repeated_first : (key word : List ℕ) (rest : List (List ℕ)) → has_key key word ≡ true → list_any (has_key key) rest ≡ is_repeated (word ∷ rest) key
 repeated_first key word rest h = rw h (any_filtered (has_key key) rest ∙ one_more_listed word (filter (has_key key) rest))
 
 -- the attributes that are set, one by one
@@ -37,7 +37,7 @@ pub set_words_found : (list : List ℕ) (ro nosuid nodev noexec nosymfollow nodi
 set_words_found list a b c d e f g h i all e1 e2 e3 e4 e5 e6 e7 e8 e9 = rw (all, e1, e2, e3, e4, e5, e6, e7, e8, e9) refl
 
 -- what is read of the options is read of what the key's option says, if there is one
-pub read_said : {A : Type 0} (key : List ℕ) (absent : Option A) (read : List ℕ → Option A) (options : List (List ℕ)) → said key absent read options ≡ option_map_or read (said key None (λ text. Some text) options) absent
+pub read_said : {A : Type 0} (key : List ℕ) (absent : A) (read : List ℕ → A) (options : List (List ℕ)) → said key absent read options ≡ option_map_or read (said key None (λ text. Some text) options) absent
 read_said {A} key absent read options = go (find (has_key key) options)
   where
     go : (found : Option (List ℕ)) → option_map_or (λ option. read (drop (length key) option)) found absent ≡ option_map_or read (option_map_or (λ option. Some (drop (length key) option)) found None) absent

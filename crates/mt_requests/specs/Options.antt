@@ -1,7 +1,8 @@
 -- The options of a `setattr` line (their words: mount_setattr(2); how a line writes them: this project's rule).
-use Rattle.std.specs.Prelude.{ℕ, Bool, false, not, ◌||◌, nat_eq, nat_lt, if◌then◌else◌, List, length, drop, Option, Some, None, codes}
+-- A word with no source is this project's rule.
+use Rattle.std.specs.Prelude.{ℕ, Bool, true, false, not, ◌&&◌, ◌||◌, nat_eq, nat_lt, if◌then◌else◌, List, [], ◌∷◌, length, drop, Option, Some, None, codes}
 use Rattle.std.specs.List.{filter, find, list_all, list_any, starts_with}
-use Rattle.std.specs.Option.{option_map, option_map_or, option_and_then}
+use Rattle.std.specs.Option.{option_map, option_map_or}
 use Rattle.std.specs.Str.{bytes_eq}
 use Rattle.mt_peers.specs.declared.state.Kind.{Kind}
 use Rattle.mt_peers.specs.declared.state.Kind.TheVariants.{Shared, Private, Slave, Unbindable}
@@ -9,6 +10,10 @@ use Rattle.mt_setattr.specs.declared.change.Change.{Change}
 use Rattle.mt_setattr.specs.declared.change.SetWords.{SetWords}
 use Rattle.mt_setattr.specs.declared.change.ClrWords.{ClrWords}
 use Rattle.mt_words.specs.Words.{pieces}
+
+-- the keys of the options
+abbrev pub option_keys : List (List ℕ)
+option_keys = codes "rec" ∷ codes "set=" ∷ codes "clr=" ∷ codes "prop=" ∷ []
 
 -- an option begins with its key
 abbrev pub has_key : List ℕ → List ℕ → Bool
@@ -20,8 +25,12 @@ is_option option =
     bytes_eq option (codes "rec") || has_key (codes "set=") option || has_key (codes "clr=") option || has_key (codes "prop=") option
 
 -- more than one option has the key
-abbrev pub is_repeated : List ℕ → List (List ℕ) → Bool
-is_repeated key options = nat_lt 1 (length (filter (has_key key) options))
+abbrev pub is_repeated : List (List ℕ) → List ℕ → Bool
+is_repeated options key = nat_lt 1 (length (filter (has_key key) options))
+
+-- each is one of the four, and none has its key twice
+abbrev pub are_options : List (List ℕ) → Bool
+are_options options = list_all is_option options && not (list_any (is_repeated options) option_keys)
 
 -- a word is one of a list that is written with commas
 abbrev pub lists : List ℕ → List ℕ → Bool
@@ -87,16 +96,31 @@ kind_of word =
     else (if bytes_eq word (codes "slave") then Some Slave
     else (if bytes_eq word (codes "unbindable") then Some Unbindable else None)))
 
--- what the option of a key says behind it, and what stands where no option has the key
-abbrev pub said : {A : Type 0} → List ℕ → Option A → (List ℕ → Option A) → List (List ℕ) → Option A
+-- what is read behind the key of an option, or what stands where no option has the key
+abbrev pub said : {A : Type 0} → List ℕ → A → (List ℕ → A) → List (List ℕ) → A
 said key absent read options = option_map_or (λ option. read (drop (length key) option)) (find (has_key key) options) absent
 
--- the change that the options say: each is one of the four, none has its key twice, and each list holds words of its own alone
+-- `set=W,..` and `clr=W,..`; none where a word of the list is no word of its own
+abbrev pub set_of : List (List ℕ) → Option SetWords
+set_of options = said (codes "set=") (Some nothing_set) set_words options
+
+abbrev pub clr_of : List (List ℕ) → Option ClrWords
+clr_of options = said (codes "clr=") (Some nothing_cleared) clr_words options
+
+-- `prop=K`; mounts keep their propagation where it is not there, and none where K is no such word
+abbrev pub prop_of : List (List ℕ) → Option (Option Kind)
+prop_of options = said (codes "prop=") (Some None) (λ word. option_map (λ kind. Some kind) (kind_of word)) options
+
+-- `rec`: all mounts below change too
+abbrev pub is_recursive : List (List ℕ) → Bool
+is_recursive options = said (codes "rec") false (λ rest. true) options
+
+-- a change of these parts, if each was said rightly
+abbrev pub change_with : Option SetWords → Option ClrWords → Option (Option Kind) → Bool → Option Change
+change_with (Some set) (Some clr) (Some prop) recursive = Some (record { set = set; clr = clr; prop = prop; recursive = recursive })
+change_with set clr prop recursive = None
+
+-- the change that the options of a line say
 abbrev pub change_of : List (List ℕ) → Option Change
 change_of options =
-    if not (list_all is_option options) || is_repeated (codes "rec") options || is_repeated (codes "set=") options || is_repeated (codes "clr=") options || is_repeated (codes "prop=") options
-    then None
-    else option_and_then (λ set. option_and_then (λ clr. option_map (λ prop. record { set = set; clr = clr; prop = prop; recursive = list_any (has_key (codes "rec")) options })
-    (said (codes "prop=") (Some None) (λ word. option_map (λ kind. Some kind) (kind_of word)) options))
-    (said (codes "clr=") (Some nothing_cleared) clr_words options))
-    (said (codes "set=") (Some nothing_set) set_words options)
+    if are_options options then change_with (set_of options) (clr_of options) (prop_of options) (is_recursive options) else None

@@ -1,4 +1,5 @@
 -- The request that a line says, or why it is refused (the lines are this project's rule).
+-- A word with no source is this project's rule.
 use Rattle.std.specs.Prelude.{◌≡◌, ◌⊎◌, ℕ, Bool, true, false, not, ◌&&◌, ◌||◌, ◌==◌, nat_eq, nat_lt, nat_le, if◌then◌else◌, List, [], ◌∷◌, length, drop, fold, Option, Some, None, unwrap_or, Result, Ok, Err, is_ok, codes}
 use Rattle.std.specs.List.{list_all, list_any, starts_with}
 use Rattle.std.specs.Option.{option_map, option_map_or, option_or}
@@ -8,7 +9,7 @@ use Rattle.mt_skel.specs.declared.fault.Fault.TheVariants.{BadLine, TooLong, Bad
 use Rattle.mt_skel.specs.Escapes.{unescaped}
 use Rattle.mt_skel.specs.Names.{is_name}
 use Rattle.mt_skel.specs.Outcome.{refuse_if, first_fault}
-use Rattle.mt_words.specs.Words.{pieces, words, number_of}
+use Rattle.mt_words.specs.Words.{pieces, words, number_in_text}
 use Rattle.mt_events.specs.declared.opening.Scope.TheVariants.{One, All}
 use Rattle.mt_requests.specs.Options.{change_of}
 use Rattle.mt_book.specs.declared.command.Command.TheVariants as command
@@ -61,12 +62,12 @@ is_too_long (Some TooLong) = true
 is_too_long _ = false
 
 -- of two faults a BadLine comes first, then a TooLong, and then the first that is there
-abbrev pub worse : Option Fault → Option Fault → Option Fault
-worse a b = if is_bad_line a then a else (if is_bad_line b then b else (if is_too_long a then a else (if is_too_long b then b else option_or a b)))
+abbrev pub prior_of_two : Option Fault → Option Fault → Option Fault
+prior_of_two a b = if is_bad_line a then a else (if is_bad_line b then b else (if is_too_long a then a else (if is_too_long b then b else option_or a b)))
 
 -- the fault among those of a line's words that comes first
-abbrev pub worst : List (Option Fault) → Option Fault
-worst faults = fold worse None faults
+abbrev pub prior_fault : List (Option Fault) → Option Fault
+prior_fault faults = fold prior_of_two None faults
 
 -- none of a line's words has a fault
 abbrev pub HasNoFault : List (Option Fault) → Type 0
@@ -78,9 +79,9 @@ abbrev pub unless : {A : Type 0} → Option Fault → A → Result A Fault
 unless fault said = option_map_or (λ f. Err f) fault (Ok said)
 
 -- the request that is made of what a line says, unless that is refused
-abbrev pub asked : {A : Type 0} → (A → Request) → Result A Fault → Result Request Fault
-asked make (Ok said) = Ok (make said)
-asked make (Err f) = Err f
+abbrev pub request_from : {A : Type 0} → (A → Request) → Result A Fault → Result Request Fault
+request_from make (Ok said) = Ok (make said)
+request_from make (Err f) = Err f
 
 -- what was read is what a line says, or want of memory in place of what is not refused
 abbrev pub Reads : {A : Type 0} → Result A Fault → Result A Fault → Type 0
@@ -89,14 +90,14 @@ Reads said read = (read ≡ said) ⊎ ((read ≡ Err NoMemory) × (is_ok said �
 -- `mkfs NAME TYPE SOURCE` makes a filesystem
 abbrev pub mkfs_of : List (List ℕ) → Result Request Fault
 mkfs_of (name ∷ kind ∷ source ∷ []) =
-    unless (worst (label_fault name ∷ label_fault kind ∷ label_fault source ∷ []))
+    unless (prior_fault (label_fault name ∷ label_fault kind ∷ label_fault source ∷ []))
     (request.Run (command.MakeFs (label_bytes name) (label_bytes kind) (label_bytes source)))
 mkfs_of _ = Err BadLine
 
 -- `mkdir FS DIR` makes a directory of a filesystem
 abbrev pub mkdir_of : List (List ℕ) → Result Request Fault
 mkdir_of (fs ∷ dir ∷ []) =
-    unless (worst (label_fault fs ∷ path_fault dir ∷ [])) (request.Run (command.MakeDir (label_bytes fs) (path_names dir)))
+    unless (prior_fault (label_fault fs ∷ path_fault dir ∷ [])) (request.Run (command.MakeDir (label_bytes fs) (path_names dir)))
 mkdir_of _ = Err BadLine
 
 -- `newns FS` makes a namespace
@@ -106,50 +107,50 @@ newns_of _ = Err BadLine
 
 -- `copyns NS` makes a namespace that is a copy of another
 abbrev pub copyns_of : List (List ℕ) → Result Request Fault
-copyns_of (space ∷ []) = option_map_or (λ n. Ok (request.Run (command.CopySpace n))) (number_of space) (Err BadLine)
+copyns_of (space ∷ []) = option_map_or (λ n. Ok (request.Run (command.CopySpace n))) (number_in_text space) (Err BadLine)
 copyns_of _ = Err BadLine
 
 -- `mount NS FS PATH` mounts a filesystem in a namespace; a bad number is a bad line, and so comes before every other fault
 abbrev pub mount_of : List (List ℕ) → Result Request Fault
 mount_of (space ∷ fs ∷ path ∷ []) =
-    option_map_or (λ n. unless (worst (label_fault fs ∷ path_fault path ∷ [])) (request.Run (command.Mount n (label_bytes fs) (path_names path))))
-    (number_of space) (Err BadLine)
+    option_map_or (λ n. unless (prior_fault (label_fault fs ∷ path_fault path ∷ [])) (request.Run (command.Mount n (label_bytes fs) (path_names path))))
+    (number_in_text space) (Err BadLine)
 mount_of _ = Err BadLine
 
 -- the namespace and the two paths that a line says; a bad number is a bad line, and so comes before every other fault
 abbrev pub two_paths_of : List (List ℕ) → Result (ℕ × List (List ℕ) × List (List ℕ)) Fault
 two_paths_of (space ∷ src ∷ dst ∷ []) =
-    option_map_or (λ n. unless (worst (path_fault src ∷ path_fault dst ∷ [])) (n, path_names src, path_names dst)) (number_of space) (Err BadLine)
+    option_map_or (λ n. unless (prior_fault (path_fault src ∷ path_fault dst ∷ [])) (n, path_names src, path_names dst)) (number_in_text space) (Err BadLine)
 two_paths_of _ = Err BadLine
 
 -- `bind NS SRC DST` binds a mount, and `rbind NS SRC DST` a tree of mounts
 abbrev pub bind_of : Bool → List (List ℕ) → Result Request Fault
-bind_of deep words = asked (λ (space, src, dst). request.Run (command.Bind space src dst deep)) (two_paths_of words)
+bind_of recursive words = request_from (λ (space, src, dst). request.Run (command.Bind space src dst recursive)) (two_paths_of words)
 
 -- `move NS SRC DST` moves a tree of mounts
 abbrev pub move_of : List (List ℕ) → Result Request Fault
-move_of words = asked (λ (space, src, dst). request.Run (command.Move space src dst)) (two_paths_of words)
+move_of words = request_from (λ (space, src, dst). request.Run (command.Move space src dst)) (two_paths_of words)
 
 -- `umount NS PATH` unmounts
 abbrev pub umount_of : List (List ℕ) → Result Request Fault
-umount_of (space ∷ path ∷ []) = option_map_or (λ n. unless (path_fault path) (request.Run (command.Unmount n (path_names path)))) (number_of space) (Err BadLine)
+umount_of (space ∷ path ∷ []) = option_map_or (λ n. unless (path_fault path) (request.Run (command.Unmount n (path_names path)))) (number_in_text space) (Err BadLine)
 umount_of _ = Err BadLine
 
 -- `setattr NS PATH [rec] [set=W,..] [clr=W,..] [prop=K]` changes a mount, or all below it too; the options come in any order
 abbrev pub setattr_of : List (List ℕ) → Result Request Fault
 setattr_of (space ∷ path ∷ options) =
     option_map_or (λ n. option_map_or (λ change. unless (path_fault path) (request.Run (command.SetAttr n (path_names path) change))) (change_of options) (Err BadLine))
-    (number_of space) (Err BadLine)
+    (number_in_text space) (Err BadLine)
 setattr_of _ = Err BadLine
 
 -- `show NS` shows a namespace
 abbrev pub show_of : List (List ℕ) → Result Request Fault
-show_of (space ∷ []) = option_map_or (λ n. Ok (request.Show n)) (number_of space) (Err BadLine)
+show_of (space ∷ []) = option_map_or (λ n. Ok (request.Show n)) (number_in_text space) (Err BadLine)
 show_of _ = Err BadLine
 
 -- `find NS PATH` says where a path ends
 abbrev pub find_of : List (List ℕ) → Result Request Fault
-find_of (space ∷ path ∷ []) = option_map_or (λ n. unless (path_fault path) (request.Find n (path_names path))) (number_of space) (Err BadLine)
+find_of (space ∷ path ∷ []) = option_map_or (λ n. unless (path_fault path) (request.Find n (path_names path))) (number_in_text space) (Err BadLine)
 find_of _ = Err BadLine
 
 -- `quit` ends the session
@@ -166,7 +167,7 @@ stop_of _ = Err BadLine
 abbrev pub watch_of : List (List ℕ) → Result Request Fault
 watch_of (space ∷ []) =
     if bytes_eq space (codes "all") then Ok (request.Watch All)
-    else option_map_or (λ n. Ok (request.Watch (One n))) (number_of space) (Err BadLine)
+    else option_map_or (λ n. Ok (request.Watch (One n))) (number_in_text space) (Err BadLine)
 watch_of _ = Err BadLine
 
 -- the most posts of one `take`, and of one `follow`
@@ -178,7 +179,7 @@ most_followed = 1048576
 
 -- how many posts a word asks for, of at most so many and at least one
 abbrev pub count_of : ℕ → List ℕ → Option ℕ
-count_of most word = option_map_or (λ n. if nat_lt 0 n && nat_le n most then Some n else None) (number_of word) None
+count_of most word = option_map_or (λ n. if nat_lt 0 n && nat_le n most then Some n else None) (number_in_text word) None
 
 -- `take K` takes posts
 abbrev pub take_of : List (List ℕ) → Result Request Fault
@@ -195,32 +196,41 @@ abbrev pub close_of : List (List ℕ) → Result Request Fault
 close_of [] = Ok request.Close
 close_of _ = Err BadLine
 
--- the lines of watchers
-abbrev pub by_watching_words : List ℕ → List (List ℕ) → Result Request Fault
-by_watching_words word rest =
-    if bytes_eq word (codes "watch") then watch_of rest
-    else (if bytes_eq word (codes "take") then take_of rest
-    else (if bytes_eq word (codes "follow") then follow_of rest
-    else (if bytes_eq word (codes "close") then close_of rest else Err BadLine)))
+-- how the words behind the first are read
+abbrev pub Reader : Type 0
+Reader = List (List ℕ) → Result Request Fault
+
+-- the first words of the lines, each with its reader: those of watchers, and all
+abbrev pub watching_lines : List (List ℕ × Reader)
+watching_lines = (codes "watch", watch_of) ∷ (codes "take", take_of) ∷ (codes "follow", follow_of) ∷ (codes "close", close_of) ∷ []
+
+abbrev pub lines : List (List ℕ × Reader)
+lines =
+    (codes "mkfs", mkfs_of)
+    ∷ (codes "mkdir", mkdir_of)
+    ∷ (codes "newns", newns_of)
+    ∷ (codes "copyns", copyns_of)
+    ∷ (codes "mount", mount_of)
+    ∷ (codes "bind", bind_of false)
+    ∷ (codes "rbind", bind_of true)
+    ∷ (codes "move", move_of)
+    ∷ (codes "umount", umount_of)
+    ∷ (codes "setattr", setattr_of)
+    ∷ (codes "show", show_of)
+    ∷ (codes "find", find_of)
+    ∷ (codes "quit", quit_of)
+    ∷ (codes "stop", stop_of)
+    ∷ watching_lines
+
+-- the reader of a first word reads the others; no other first word has one
+abbrev pub read_by : List (List ℕ × Reader) → List ℕ → List (List ℕ) → Result Request Fault
+read_by [] word rest = Err BadLine
+read_by (l ∷ ls) word rest = if bytes_eq word l.0 then l.1 rest else read_by ls word rest
 
 -- the first word of a line chooses how the others are read
 abbrev pub by_words : List (List ℕ) → Result Request Fault
 by_words [] = Err BadLine
-by_words (word ∷ rest) =
-    if bytes_eq word (codes "mkfs") then mkfs_of rest
-    else (if bytes_eq word (codes "mkdir") then mkdir_of rest
-    else (if bytes_eq word (codes "newns") then newns_of rest
-    else (if bytes_eq word (codes "copyns") then copyns_of rest
-    else (if bytes_eq word (codes "mount") then mount_of rest
-    else (if bytes_eq word (codes "bind") then bind_of false rest
-    else (if bytes_eq word (codes "rbind") then bind_of true rest
-    else (if bytes_eq word (codes "move") then move_of rest
-    else (if bytes_eq word (codes "umount") then umount_of rest
-    else (if bytes_eq word (codes "setattr") then setattr_of rest
-    else (if bytes_eq word (codes "show") then show_of rest
-    else (if bytes_eq word (codes "find") then find_of rest
-    else (if bytes_eq word (codes "quit") then quit_of rest
-    else (if bytes_eq word (codes "stop") then stop_of rest else by_watching_words word rest)))))))))))))
+by_words (word ∷ rest) = read_by lines word rest
 
 -- what a line asks for, or why it is refused
 unfoldable pub request_of : List ℕ → Result Request Fault
@@ -231,14 +241,8 @@ abbrev pub may_want_memory : Result Request Fault → Bool
 may_want_memory (Ok (request.Run c)) = true
 may_want_memory (Ok (request.Show n)) = true
 may_want_memory (Ok (request.Find n path)) = true
-may_want_memory (Ok request.Quit) = false
-may_want_memory (Ok request.Stop) = false
-may_want_memory (Ok (request.Watch scope)) = false
-may_want_memory (Ok (request.Take k)) = false
-may_want_memory (Ok (request.Follow k)) = false
-may_want_memory (Ok request.Close) = false
-may_want_memory (Err f) = false
+may_want_memory asked = false
 
 -- what was read is what the line asks for, or want of memory where that may be
 abbrev pub ReadsAs : Result Request Fault → Result Request Fault → Type 0
-ReadsAs asked read = (read ≡ asked) ⊎ ((read ≡ Err NoMemory) × (may_want_memory asked ≡ true))
+ReadsAs said read = (read ≡ said) ⊎ ((read ≡ Err NoMemory) × (may_want_memory said ≡ true))

@@ -1,9 +1,9 @@
 //! The options of a `setattr` line.
-ghost use Rattle.std.specs.Prelude.{◌≡◌, codes, Some, None};
+ghost use Rattle.std.specs.Prelude.{◌≡◌, Some, None};
 ghost use Rattle.std.specs.List.{list_all, list_any};
 ghost use Rattle.std.specs.Option.{option_map};
 ghost use Rattle.mt_words.specs.Words.{pieces};
-ghost use Rattle.mt_requests.specs.Options.{has_key, is_option, is_repeated, is_set_word, is_clr_word, lists, set_words, clr_words, kind_of, said, change_of, nothing_set, nothing_cleared};
+ghost use Rattle.mt_requests.specs.Options.{has_key, is_option, is_repeated, are_options, is_set_word, is_clr_word, lists, set_words, clr_words, kind_of, said, set_of, clr_of, prop_of, is_recursive, change_of};
 
 use mt_peers::state::Kind;
 use mt_setattr::change::{Change, ClrWords, SetWords};
@@ -20,7 +20,7 @@ fn is_option(word: &[u8]) -> bool
 }
 
 /// Whether all words are options.
-fn are_options(words: Words<'_>) -> bool
+fn all_options(words: Words<'_>) -> bool
     ensures { result ≡ list_all is_option words.entry }
 {
     let mut words = words;
@@ -38,7 +38,7 @@ fn has_option(words: Words<'_>, key: &[u8]) -> bool
 /// Whether more than one option has the key.
 #[tactic(auto, using(crate::proofs::OptionLaws::repeated_first))]
 fn is_repeated(words: Words<'_>, key: &[u8]) -> bool
-    ensures { result ≡ is_repeated key.now words.entry }
+    ensures { result ≡ is_repeated words.entry key.now }
 {
     let mut words = words;
     'words: while let Some(word) = words.next() {
@@ -47,6 +47,17 @@ fn is_repeated(words: Words<'_>, key: &[u8]) -> bool
         }
     }
     false
+}
+
+/// Whether all words are options, and none has its key twice.
+fn are_options(words: &Words<'_>) -> bool
+    ensures { result ≡ are_options words.now }
+{
+    all_options(words.again())
+        && !is_repeated(words.again(), b"rec")
+        && !is_repeated(words.again(), b"set=")
+        && !is_repeated(words.again(), b"clr=")
+        && !is_repeated(words.again(), b"prop=")
 }
 
 /// Whether a list that is written with commas has the word.
@@ -169,7 +180,7 @@ fn said<'a>(words: Words<'a>, key: &[u8]) -> Option<&'a [u8]>
 /// What the options set, if they do so rightly.
 #[tactic(auto, using(crate::proofs::OptionLaws::read_said))]
 fn set_of(words: Words<'_>) -> Option<SetWords>
-    ensures { result ≡ said (codes "set=") (Some nothing_set) set_words words.entry }
+    ensures { result ≡ set_of words.entry }
 {
     if let Some(list) = said(words, b"set=") {
         return set_words(list);
@@ -190,7 +201,7 @@ fn set_of(words: Words<'_>) -> Option<SetWords>
 /// What the options clear, if they do so rightly.
 #[tactic(auto, using(crate::proofs::OptionLaws::read_said))]
 fn clr_of(words: Words<'_>) -> Option<ClrWords>
-    ensures { result ≡ said (codes "clr=") (Some nothing_cleared) clr_words words.entry }
+    ensures { result ≡ clr_of words.entry }
 {
     if let Some(list) = said(words, b"clr=") {
         return clr_words(list);
@@ -209,7 +220,7 @@ fn clr_of(words: Words<'_>) -> Option<ClrWords>
 /// What the options make mounts, if they do so rightly.
 #[tactic(auto, using(crate::proofs::OptionLaws::read_said))]
 fn prop_of(words: Words<'_>) -> Option<Option<Kind>>
-    ensures { result ≡ said (codes "prop=") (Some None) (λ word. option_map (λ kind. Some kind) (kind_of word)) words.entry }
+    ensures { result ≡ prop_of words.entry }
 {
     match said(words, b"prop=") {
         Some(word) => Some(Some(kind_of(word)?)),
@@ -217,17 +228,20 @@ fn prop_of(words: Words<'_>) -> Option<Option<Kind>>
     }
 }
 
+/// Whether the options ask for a change of all mounts below too.
+#[tactic(auto, using(crate::proofs::OptionLaws::read_said))]
+fn is_recursive(words: Words<'_>) -> bool
+    ensures { result ≡ is_recursive words.entry }
+{
+    said(words, b"rec").is_some()
+}
+
 /// The change that the options of a `setattr` line say, or `None` where a word is none of them, one
 /// is there twice, or a list is empty or has a word that is not its own.
 pub fn change_of(words: &Words<'_>) -> Option<Change>
     ensures { result ≡ change_of words.now }
 {
-    if !are_options(words.again())
-        || is_repeated(words.again(), b"rec")
-        || is_repeated(words.again(), b"set=")
-        || is_repeated(words.again(), b"clr=")
-        || is_repeated(words.again(), b"prop=")
-    {
+    if !are_options(words) {
         return None;
     }
     let set = set_of(words.again())?;
@@ -237,6 +251,6 @@ pub fn change_of(words: &Words<'_>) -> Option<Change>
         set,
         clr,
         prop,
-        recursive: has_option(words.again(), b"rec"),
+        recursive: is_recursive(words.again()),
     })
 }

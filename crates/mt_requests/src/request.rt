@@ -1,6 +1,6 @@
 //! Requests, as lines say them.
 ghost use Rattle.std.specs.Prelude.{◌≡◌, None, Some};
-ghost use Rattle.mt_requests.specs.Requests.{ReadsAs, request_of, HasNoFault, worse, worst, Reads, two_paths_of, mkfs_of, mkdir_of, newns_of, copyns_of, mount_of, bind_of, move_of, umount_of, setattr_of, show_of, find_of, quit_of, stop_of, watch_of, count_of, take_of, follow_of, close_of, by_watching_words};
+ghost use Rattle.mt_requests.specs.Requests.{ReadsAs, request_of, HasNoFault, prior_of_two, prior_fault, Reads, two_paths_of, mkfs_of, mkdir_of, newns_of, copyns_of, mount_of, bind_of, move_of, umount_of, setattr_of, show_of, find_of, quit_of, stop_of, watch_of, count_of, take_of, follow_of, close_of, watching_lines, read_by};
 
 use crate::label::{label_fault, label_of};
 use crate::options::change_of;
@@ -42,8 +42,8 @@ const MOST_TAKEN: u64 = 1_024;
 const MOST_FOLLOWED: u64 = 1_048_576;
 
 /// The fault of two words that is refused first.
-fn worse(first: Option<Fault>, second: Option<Fault>) -> Option<Fault>
-    ensures { result ≡ worse first second }
+fn prior_of_two(first: Option<Fault>, second: Option<Fault>) -> Option<Fault>
+    ensures { result ≡ prior_of_two first second }
 {
     match (first, second) {
         (Some(Fault::BadLine), _) => first,
@@ -56,15 +56,15 @@ fn worse(first: Option<Fault>, second: Option<Fault>) -> Option<Fault>
 }
 
 /// The fault among those of a line's words that is refused first.
-fn worst(faults: &[Option<Fault>]) -> Option<Fault>
-    ensures worst { result ≡ worst faults.now }
+fn prior_fault(faults: &[Option<Fault>]) -> Option<Fault>
+    ensures prior_fault { result ≡ prior_fault faults.now }
     ensures none { result ≡ None → HasNoFault faults.now }
 {
-    let mut worst = None;
+    let mut prior_fault = None;
     for fault in faults {
-        worst = worse(worst, *fault);
+        prior_fault = prior_of_two(prior_fault, *fault);
     }
-    worst
+    prior_fault
 }
 
 /// The request of a line `mkfs NAME TYPE SOURCE`, behind the first word.
@@ -79,7 +79,7 @@ fn read_mkfs(alloc: Global, words: &mut Words<'_>) -> Result<Request, Fault>
     ) else {
         return Err(Fault::BadLine);
     };
-    if let Some(fault) = worst(&[label_fault(name), label_fault(kind), label_fault(source)]) {
+    if let Some(fault) = prior_fault(&[label_fault(name), label_fault(kind), label_fault(source)]) {
         return Err(fault);
     }
     let name = label_of(alloc, name)?;
@@ -95,7 +95,7 @@ fn read_mkdir(alloc: Global, words: &mut Words<'_>) -> Result<Request, Fault>
     let (Some(fs), Some(path), None) = (words.next(), words.next(), words.next()) else {
         return Err(Fault::BadLine);
     };
-    if let Some(fault) = worst(&[label_fault(fs), path_fault(path)]) {
+    if let Some(fault) = prior_fault(&[label_fault(fs), path_fault(path)]) {
         return Err(fault);
     }
     let fs = label_of(alloc, fs)?;
@@ -143,7 +143,7 @@ fn read_mount(alloc: Global, words: &mut Words<'_>) -> Result<Request, Fault>
     let Some(space) = number(space) else {
         return Err(Fault::BadLine);
     };
-    if let Some(fault) = worst(&[label_fault(fs), path_fault(path)]) {
+    if let Some(fault) = prior_fault(&[label_fault(fs), path_fault(path)]) {
         return Err(fault);
     }
     let fs = label_of(alloc, fs)?;
@@ -166,7 +166,7 @@ fn read_two_paths(alloc: Global, words: &mut Words<'_>) -> Result<(u64, Names, N
     let Some(space) = number(space) else {
         return Err(Fault::BadLine);
     };
-    if let Some(fault) = worst(&[path_fault(src), path_fault(dst)]) {
+    if let Some(fault) = prior_fault(&[path_fault(src), path_fault(dst)]) {
         return Err(fault);
     }
     let src = path_of(alloc, src)?;
@@ -337,7 +337,7 @@ fn read_close(words: &mut Words<'_>) -> Result<Request, Fault>
 
 /// The request of a line of a watcher, of which this is the first word.
 fn read_watching(command: &[u8], words: &mut Words<'_>) -> Result<Request, Fault>
-    ensures { result ≡ by_watching_words command.now words.old }
+    ensures { result ≡ read_by watching_lines command.now words.old }
 {
     if command == b"watch".as_slice() {
         read_watch(words)

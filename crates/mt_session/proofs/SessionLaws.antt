@@ -19,7 +19,7 @@ use Rattle.mt_floor.specs.Schedule.{FloorView, settled}
 use Rattle.mt_floor.proofs.SettledLaws.{settled_idle}
 use Rattle.mt_session.specs.Answers.{refusal}
 use Rattle.mt_session.specs.Requests.{SessionState, state_at, session_at, answer_to, state_to, begins, left, IsUndone}
-use Rattle.mt_session.specs.Session.{Granted, Refused, Unshown, Asking, Whole, Broken, item_of, items_of, has_end, Turn, asked, may_fail, answer, after, ends, ends_by, text_of, state_after, AllGoOn, Going, Served, IsCause, sent_by, line_limit, IsReadEnd, IsReadEndRun, IsCutCause, IsCutRun}
+use Rattle.mt_session.specs.Session.{Granted, Refused, Unshown, Asking, Whole, Broken, item_of, items_of, has_end, Turn, request_of_line, may_fail, answer, after, ends, ends_by, text_of, state_after, AllGoOn, Going, Served, IsCause, sent_by, line_limit, IsReadEnd, IsReadEndRun, IsCutCause, IsCutRun}
 use Rattle.mt_session.specs.Serving.{the_turn, Answered, Ran, IsSent, ends_by_line, ServedLine, ends_whole, ends_by_answer}
 
 -- a line that may want memory to be read wants it to be done, and ends no session
@@ -97,14 +97,14 @@ answered_err old bytes text f end (inr (e, m)) t k =
     (Refused, rw fails (rw same at t), rw fails refl, k ∙ sym (failing_goes_on old (request_of bytes) fails))
 
 -- a line that is too long, or has no end
-pub answered_fixed : (old : SessionState) (line : Asking) (f : Fault) → asked line ≡ Err f → Answered old old line (refusal f) None
+pub answered_fixed : (old : SessionState) (line : Asking) (f : Fault) → request_of_line line ≡ Err f → Answered old old line (refusal f) None
 unfolding answer after ends
 answered_fixed old line f e = (Granted, rw e refl, rw e refl, rw e refl)
 
 -- how a line that ends a session ends it
 cause_of : (turn : Turn) (text : List ℕ) (later : List Item) (by : End) → Some by ≡ ends turn → IsCause by [] (turn ∷ []) text later
 unfolding ends
-cause_of turn text later by e = elim (ends_two (asked turn.line) by e) [
+cause_of turn text later by e = elim (ends_two (request_of_line turn.line) by e) [
   | inl q ↦ rw q (turn, refl, sym (rw q at e))
   | inr q ↦ rw q (turn, refl, sym (rw q at e))
 ]

@@ -1,12 +1,13 @@
 -- What the events of a turn leave of a floor, and posts told one after another.
-use Rattle.std.proofs.Common.{◌≡◌, ◌≢◌, ◌∙◌, ℕ, zero, suc, ◌+◌, ◌-◌, ◌<◌, ◌≤◌, true, false, List, [], ◌∷◌, ◌++◌, length, take, Option, Some, None, slice_get, is_some, Ok, Err, refl, sym, ap, subst, inr, arith}
+use Rattle.std.proofs.Common.{◌≡◌, ◌≢◌, ◌∙◌, ℕ, suc, ◌+◌, ◌-◌, ◌<◌, true, false, List, [], ◌∷◌, ◌++◌, length, take, Option, Some, None, slice_get, is_some, Ok, Err, refl, sym, ap, subst, inr, arith}
 use Rattle.std.specs.Prelude.{Result, IfOk, IfErr, fold}
 use Rattle.std.specs.List.{flat_map}
+use Rattle.std.proofs.Math.Seq.{take-length}
 use Rattle.std.proofs.lemmas.List.Concat.{flat_map-append}
 use Rattle.mt_skel.specs.declared.fault.Fault.{Fault}
 use Rattle.mt_skel.specs.declared.fault.Fault.TheVariants.{NoMemory}
+use Rattle.mt_skel.proofs.ListLaws.{take_found}
 use Rattle.mt_events.specs.Posts.{PostView, post_lines, post_text}
-use Rattle.std.specs.Option.{option_map}
 use Rattle.mt_events.specs.declared.opening.Scope.{Scope}
 use Rattle.mt_events.specs.declared.opening.Opening.{Opening}
 use Rattle.mt_requests.specs.declared.request.Request.TheVariants.{Watch}
@@ -14,8 +15,10 @@ use Rattle.mt_floor.specs.declared.event.Event.{Event}
 use Rattle.mt_floor.specs.declared.event.Event.TheVariants.{Take, Open, Close}
 use Rattle.mt_floor.specs.declared.event.Answer.{Answer}
 use Rattle.mt_floor.specs.Schedule.{FloorView, Stepped, floor_step, takes_memory}
-use Rattle.mt_session.specs.Answers.{lines_of_posts}
-use Rattle.mt_session.specs.Requests.{SessionState, state_at, state_to, taken, begun, begun_by, left, IsUndone}
+use Rattle.mt_session.specs.Answers.{refusal, count_text, lines_of_posts, posts_text}
+use Rattle.mt_session.specs.Requests.{SessionState, state_at, state_to, opened_text, taken, begun, left, IsUndone}
+use Rattle.mt_session.specs.Serving.{begun_in}
+use Rattle.mt_session.proofs.IdleLaws.{open_told, open_refused}
 
 -- an event that takes no memory was done, whatever it was answered
 pub step_is : (s n : FloorView) (e : Event) (r : Result Answer Fault) → takes_memory e ≡ false → IfOk r (λ a. floor_step s e ≡ (n, Ok a))
@@ -35,28 +38,6 @@ taken_next s n key i k is h =
     let one : k - i ≡ suc (k - (i + 1)) = omega (arith, h) in
     ap (λ (t : FloorView). taken t key (k - (i + 1))) is ∙ sym (ap (taken s key) one)
 
--- a list of the first of others, and one more
-take_suc : {A : Type 0} (w : List A) (i : ℕ) (x : A) → slice_get w i ≡ Some x → take (suc i) w ≡ take i w ++ x ∷ []
-take_suc [] zero x e = cc
-take_suc [] (suc i) x e = cc
-take_suc (y ∷ w) zero x e = let same : y ≡ x = cc in ap (λ z. z ∷ []) same
-take_suc (y ∷ w) (suc i) x e = ap (λ l. y ∷ l) (take_suc w i x e)
-
-pub take_next : {A : Type 0} (w : List A) (i : ℕ) (x : A) → slice_get w i ≡ Some x → take (i + 1) w ≡ take i w ++ x ∷ []
-take_next w i x e =
-    let next : i + 1 ≡ suc i = omega arith in
-    ap (λ n. take n w) next ∙ take_suc w i x e
-
--- none behind the last
-pub take_past : {A : Type 0} (w : List A) (i n : ℕ) → slice_get w i ≡ None → i ≤ n → take i w ≡ take n w
-take_past [] zero zero e h = refl
-take_past [] zero (suc n) e h = refl
-take_past [] (suc i) zero e h = refl
-take_past [] (suc i) (suc n) e h = refl
-take_past (y ∷ w) zero n e h = cc
-take_past (y ∷ w) (suc i) zero e h = absurd (omega (arith, h))
-take_past (y ∷ w) (suc i) (suc n) e h = ap (λ l. y ∷ l) (take_past w i n e (omega (arith, h)))
-
 lines-append : (n : ℕ) (ps : List PostView) (p : PostView) → fold (λ m q. m + length (post_lines q)) n (ps ++ p ∷ []) ≡ fold (λ m q. m + length (post_lines q)) n ps + length (post_lines p)
 lines-append n [] p = refl
 lines-append n (q ∷ ps) p = lines-append (n + length (post_lines q)) ps p
@@ -65,7 +46,7 @@ lines-append n (q ∷ ps) p = lines-append (n + length (post_lines q)) ps p
 pub told_next : (w : List PostView) (i : ℕ) (p : PostView) (text more : List ℕ) → slice_get w i ≡ Some p → text ≡ flat_map post_text (take i w) → more ≡ text ++ post_text p
     → more ≡ flat_map post_text (take (i + 1) w)
 told_next w i p text more at e m =
-    m ∙ ap (λ t. t ++ post_text p) e ∙ sym (ap (flat_map post_text) (take_next w i p at) ∙ flat_map-append post_text (take i w) (p ∷ []) ∙ ap (λ t. flat_map post_text (take i w) ++ t) (last (post_text p)))
+    m ∙ ap (λ t. t ++ post_text p) e ∙ sym (ap (flat_map post_text) (take_found w i p at) ∙ flat_map-append post_text (take i w) (p ∷ []) ∙ ap (λ t. flat_map post_text (take i w) ++ t) (last (post_text p)))
   where
     last : (t : List ℕ) → t ++ [] ≡ t
     last [] = refl
@@ -74,12 +55,28 @@ told_next w i p text more at e m =
 pub counted_next : (w : List PostView) (i : ℕ) (p : PostView) (lines more : ℕ) → slice_get w i ≡ Some p → lines ≡ lines_of_posts (take i w) → more ≡ lines + length (post_lines p)
     → more ≡ lines_of_posts (take (i + 1) w)
 counted_next w i p lines more at e m =
-    m ∙ ap (λ n. n + length (post_lines p)) e ∙ sym (ap lines_of_posts (take_next w i p at) ∙ lines-append 0 (take i w) p)
+    m ∙ ap (λ n. n + length (post_lines p)) e ∙ sym (ap lines_of_posts (take_found w i p at) ∙ lines-append 0 (take i w) p)
+
+-- all posts told
+pub all_told : (w : List PostView) (count lines : ℕ) (rows text : List ℕ) → count ≡ length w → lines ≡ lines_of_posts (take count w) → rows ≡ flat_map post_text (take count w)
+    → text ≡ count_text lines ++ rows → text ≡ posts_text w
+all_told w count lines rows text is counted printed told =
+    let all : take count w ≡ w = ap (λ k. take k w) is ∙ take-length w in
+    told ∙ ap (λ n. count_text n ++ rows) (counted ∙ ap lines_of_posts all) ∙ ap (λ t. count_text (lines_of_posts w) ++ t) (printed ∙ ap (flat_map post_text) all)
+
+-- no watcher began, and why is told
+pub refused_watch : (s n : FloorView) (idle : s.due ≡ []) (scope : Scope) (f : Fault) (own : Option ℕ) (r : Result (List ℕ) Fault) → own ≡ None
+    → (f ≢ NoMemory → floor_step s (Open scope) ≡ (n, Err f)) → IfOk r (λ text. (text ≡ refusal f) × (f ≢ NoMemory))
+    → IfOk r (λ text. (text ≡ opened_text s scope) × (state_at n own ≡ begun s scope))
+refused_watch s n idle scope f own (Ok text) none step told =
+    let is = open_refused s n idle scope f (step told.1) in
+    (told.0 ∙ sym is.0, ap (state_at n) none ∙ sym is.1)
+refused_watch s n idle scope f own (Err g) none step told = told
 
 -- a watcher that began and was closed again
-module _ (s begun_floor closed : FloorView) (scope : Scope) (a : Answer) (key : ℕ) (o : Opening) (is : floor_step s (Open scope) ≡ (begun_floor, Ok a)) (by : begun_by a ≡ Some (key, o)) where
-  begun_is : begun (floor_step s (Open scope)) ≡ state_at begun_floor (Some key)
-  begun_is = ap begun is ∙ ap (λ (b : Option (ℕ × Opening)). state_at begun_floor (option_map (λ p. p.0) b)) by
+module _ (s begun_floor closed : FloorView) (scope : Scope) (a : Answer) (key : ℕ) (o : Opening) (idle : s.due ≡ []) (is : floor_step s (Open scope) ≡ (begun_floor, Ok a)) (by : begun_in a ≡ Some (key, o)) where
+  begun_is : begun s scope ≡ state_at begun_floor (Some key)
+  begun_is = (open_told s begun_floor idle scope a key o is by).1
 
   undone_none : closed ≡ (floor_step begun_floor (Close key)).0 → IsUndone (state_at s None) (Watch scope) (state_at closed None)
   unfolding state_to

@@ -1,4 +1,5 @@
 -- The texts of answers. The words are this project's rule; the lines of a table are those of proc_pid_mountinfo(5).
+-- A word with no source is this project's rule.
 use Rattle.std.specs.Prelude.{ℕ, ◌+◌, List, [], ◌∷◌, ◌++◌, Result, Ok, Err, codes, decimal, cond, length, fold}
 use Rattle.std.specs.List.{flat_map}
 use Rattle.mt_skel.specs.declared.fault.Fault.{Fault}
@@ -15,7 +16,7 @@ use Rattle.mt_book.specs.declared.command.Command.{Command}
 use Rattle.mt_book.specs.declared.command.Reply.{Reply}
 use Rattle.mt_book.specs.declared.command.Reply.TheVariants.{Done, Number}
 use Rattle.mt_book.specs.Step.{after}
-use Rattle.mt_book.specs.History.{number_of}
+use Rattle.mt_book.specs.History.{space_number}
 
 -- the line of a refusal
 abbrev pub refusal : Fault → List ℕ
@@ -41,7 +42,7 @@ table_text number rows = codes "ok " ++ decimal (length rows) ++ codes " " ++ de
 
 -- the table of a namespace after these commands, and how many posts it has had
 abbrev pub shown_text : List Command → ℕ → List ℕ
-shown_text journal n = cond (is_space (after journal) n) (table_text (number_of n journal) (table_of (after journal) n)) (refusal NoNamespace)
+shown_text journal n = cond (is_space (after journal) n) (table_text (space_number n journal) (table_of (after journal) n)) (refusal NoNamespace)
 
 -- `ok`, the mount where the path ends, and the path of the directory in the mount's filesystem
 abbrev pub place_text : ℕ → List (List ℕ) → List ℕ

@@ -1,18 +1,22 @@
--- What a request does to a floor and to the watcher of a session, and what it is answered. All of it is this project's rule.
+-- What a request does to a floor and to the watcher of a session, and what it is answered.
+-- A word with no source is this project's rule.
 use Rattle.std.specs.Prelude.{◌≡◌, ◌⊎◌, ℕ, Bool, true, false, cond, not, ◌&&◌, ◌==◌, List, [], ◌∷◌, length, take, replicate, is_some, Option, Some, None, Result, Ok, Err}
-use Rattle.std.specs.Option.{option_map_or, option_map}
+use Rattle.std.specs.Option.{option_map_or}
 use Rattle.mt_skel.specs.declared.fault.Fault.{Fault}
 use Rattle.mt_skel.specs.declared.fault.Fault.TheVariants.{WatcherOpen, NoWatcher, Lagged as WasLagged, Stopped}
+use Rattle.mt_skel.specs.Keyed.{row_at}
+use Rattle.mt_propagate.specs.World.{WorldView}
 use Rattle.mt_events.specs.Posts.{PostView}
-use Rattle.mt_events.specs.declared.opening.Opening.{Opening}
-use Rattle.mt_book.specs.Step.{after}
+use Rattle.mt_events.specs.declared.opening.Scope.{Scope}
+use Rattle.mt_book.specs.declared.command.Command.{Command}
+use Rattle.mt_book.specs.declared.command.Reply.{Reply}
+use Rattle.mt_book.specs.Step.{step, after}
 use Rattle.mt_book.specs.Book.{found_at}
 use Rattle.mt_floor.specs.declared.watch.Phase.{Phase}
 use Rattle.mt_floor.specs.declared.watch.Phase.TheVariants.{Open as IsOpen, Lagged, Ended}
-use Rattle.mt_floor.specs.declared.event.Event.TheVariants.{Apply, Open, Take as TakePost, Meet, Close as CloseWatcher, Stop as StopFloor}
-use Rattle.mt_floor.specs.declared.event.Answer.{Answer}
-use Rattle.mt_floor.specs.declared.event.Answer.TheVariants.{Replied, Opened, Met}
-use Rattle.mt_floor.specs.Schedule.{FloorView, Stepped, floor_step, run, settled, waiting}
+use Rattle.mt_floor.specs.declared.event.Event.TheVariants.{Apply, Open, Take as TakePost, Close as CloseWatcher, Stop as StopFloor}
+use Rattle.mt_floor.specs.Watcher.{Watcher, key_of, opening_of}
+use Rattle.mt_floor.specs.Schedule.{FloorView, command_refusal, opening_refusal, floor_step, run, settled, waiting}
 use Rattle.mt_requests.specs.declared.request.Request.{Request}
 use Rattle.mt_requests.specs.declared.request.Request.TheVariants.{Run, Show, Find, Watch, Take, Follow, Close, Quit, Stop}
 use Rattle.mt_session.specs.Answers.{refusal, done_text, count_text, reply_text, shown_text, found_text, opening_text, posts_text, followed_text}
@@ -29,21 +33,18 @@ state_at floor watcher = record { floor = floor; watcher = watcher }
 abbrev pub session_at : FloorView → Option ℕ → SessionState
 session_at floor watcher = state_at (settled floor) watcher
 
--- a command's answer
-abbrev pub replied_text : Result Answer Fault → List ℕ
-replied_text (Ok (Replied r)) = reply_text r
-replied_text (Ok a) = done_text
-replied_text (Err f) = refusal f
+-- what a command answers
+abbrev pub stepped_text : Result (WorldView × Reply) Fault → List ℕ
+stepped_text (Ok p) = reply_text p.1
+stepped_text (Err f) = refusal f
 
--- the watcher that has begun, by an answer, and what it found
-abbrev pub begun_by : Answer → Option (ℕ × Opening)
-begun_by (Opened key o) = Some (key, o)
-begun_by a = None
+-- a command's answer: why none is accepted, or else its own
+abbrev pub replied_text : FloorView → Command → List ℕ
+replied_text s c = option_map_or (λ f. refusal f) (command_refusal s) (stepped_text (step (after s.journal) c))
 
--- what it is told
-abbrev pub opened_text : Result Answer Fault → List ℕ
-opened_text (Ok a) = option_map_or (λ p. opening_text p.1) (begun_by a) done_text
-opened_text (Err f) = refusal f
+-- a new watcher's answer: why none begins, or else what it finds
+abbrev pub opened_text : FloorView → Scope → List ℕ
+opened_text s scope = option_map_or (λ f. refusal f) (opening_refusal s scope) (opening_text (opening_of s.journal scope))
 
 -- where no post waits: this text for a watcher that is still posted to, and why there will be no more for another
 abbrev pub by_phase : List ℕ → Phase → List ℕ
@@ -51,24 +52,21 @@ by_phase text IsOpen = text
 by_phase text Lagged = refusal WasLagged
 by_phase text Ended = refusal Stopped
 
-abbrev pub rest_text : List ℕ → Result Answer Fault → List ℕ
-rest_text text (Ok (Met m)) = by_phase text m.state
-rest_text text (Ok a) = text
-rest_text text (Err f) = refusal f
+abbrev pub rest_text : List ℕ → FloorView → ℕ → List ℕ
+rest_text text s key = option_map_or (λ (r : Watcher). by_phase text r.phase) (row_at key_of key s.watchers) (refusal NoWatcher)
 
 -- `take`: the posts, or where there are none `ok 0` or why
 abbrev pub taken_text : FloorView → ℕ → List PostView → List ℕ
-taken_text s key [] = rest_text (count_text 0) (floor_step s (Meet key)).1
+taken_text s key [] = rest_text (count_text 0) s key
 taken_text s key (p ∷ ps) = posts_text (p ∷ ps)
 
 -- `follow`: the posts, then how many they are, or why there will be no more where there are fewer than were asked for
 abbrev pub end_of_followed : FloorView → ℕ → ℕ → ℕ → List ℕ
-end_of_followed s key k n = cond (n == k) (count_text n) (rest_text (count_text n) (floor_step s (Meet key)).1)
+end_of_followed s key k n = cond (n == k) (count_text n) (rest_text (count_text n) s key)
 
 -- `close`: the posts that were not taken
-abbrev pub closed_text : List PostView → Result Answer Fault → List ℕ
-closed_text posts (Ok a) = posts_text posts
-closed_text posts (Err f) = refusal f
+abbrev pub closed_text : FloorView → ℕ → List ℕ
+closed_text s key = option_map_or (λ (r : Watcher). posts_text (waiting s key)) (row_at key_of key s.watchers) (refusal NoWatcher)
 
 -- the floor once so many posts of a watcher were taken
 abbrev pub taken : FloorView → ℕ → ℕ → FloorView
@@ -84,22 +82,21 @@ with_watcher s f a = option_map_or f s.watcher a
 
 -- the text that a request is answered with
 unfoldable pub answer_to : SessionState → Request → List ℕ
-answer_to s (Run c) = replied_text (floor_step s.floor (Apply c)).1
+answer_to s (Run c) = replied_text s.floor c
 answer_to s (Show n) = shown_text s.floor.journal n
 answer_to s (Find n path) = found_text (found_at (after s.floor.journal) n path)
-answer_to s (Watch scope) = with_watcher s (λ key. refusal WatcherOpen) (opened_text (floor_step s.floor (Open scope)).1)
+answer_to s (Watch scope) = with_watcher s (λ key. refusal WatcherOpen) (opened_text s.floor scope)
 answer_to s (Take k) = with_watcher s (λ key. taken_text s.floor key (next_posts s.floor key k)) (refusal NoWatcher)
 answer_to s (Follow k) =
     with_watcher s (λ key. let posts : List PostView = next_posts s.floor key k in followed_text posts (end_of_followed s.floor key k (length posts)))
     (refusal NoWatcher)
-answer_to s Close = with_watcher s (λ key. closed_text (waiting s.floor key) (floor_step s.floor (CloseWatcher key)).1) (refusal NoWatcher)
+answer_to s Close = with_watcher s (λ key. closed_text s.floor key) (refusal NoWatcher)
 answer_to s Quit = done_text
 answer_to s Stop = done_text
 
--- a watcher that began is the session's
-abbrev pub begun : Stepped → SessionState
-begun (s, Ok a) = record { floor = s; watcher = option_map (λ p. p.0) (begun_by a) }
-begun (s, Err f) = record { floor = s; watcher = None }
+-- a watcher that begins is the session's, and has the next key
+abbrev pub begun : FloorView → Scope → SessionState
+begun s scope = record { floor = (floor_step s (Open scope)).0; watcher = option_map_or (λ f. None) (opening_refusal s scope) (Some s.next_key) }
 
 -- the session's watcher has taken so many posts
 abbrev pub with_taken : SessionState → ℕ → SessionState
@@ -112,14 +109,12 @@ left s = with_watcher s (λ key. record { floor = (floor_step s.floor (CloseWatc
 -- the state after a request
 unfoldable pub state_to : SessionState → Request → SessionState
 state_to s (Run c) = session_at (floor_step s.floor (Apply c)).0 s.watcher
-state_to s (Show n) = s
-state_to s (Find n path) = s
-state_to s (Watch scope) = with_watcher s (λ key. s) (begun (floor_step s.floor (Open scope)))
+state_to s (Watch scope) = with_watcher s (λ key. s) (begun s.floor scope)
 state_to s (Take k) = with_taken s k
 state_to s (Follow k) = with_taken s k
 state_to s Close = left s
-state_to s Quit = s
 state_to s Stop = record s { floor = (floor_step s.floor StopFloor).0 }
+state_to s r = s
 
 -- the answer may fail for want of memory; the others are found without any
 abbrev pub wants_memory : SessionState → Request → Bool
@@ -130,8 +125,7 @@ wants_memory s (Watch scope) = not (is_some s.watcher)
 wants_memory s (Take k) = is_some s.watcher
 wants_memory s (Follow k) = is_some s.watcher
 wants_memory s Close = is_some s.watcher
-wants_memory s Quit = false
-wants_memory s Stop = false
+wants_memory s r = false
 
 -- the request begins a watcher
 abbrev pub begins : SessionState → Request → Bool

@@ -1,6 +1,12 @@
 -- One line of a session, as its steps see it. No public clause cites this module.
+-- A word with no source is this project's rule.
 use Rattle.std.specs.Prelude.{◌≡◌, ℕ, ◌+◌, ◌<◌, ◌≤◌, List, [], ◌∷◌, ◌++◌, length, take, Bool, true, false, Option, None, Some, ◌⊎◌}
 use Rattle.mt_lines.specs.declared.stream.Cut.{Cut}
+use Rattle.mt_events.specs.declared.opening.Opening.{Opening}
+use Rattle.mt_book.specs.declared.command.Reply.{Reply}
+use Rattle.mt_floor.specs.declared.watch.Phase.{Phase}
+use Rattle.mt_floor.specs.declared.event.Answer.{Answer}
+use Rattle.mt_floor.specs.declared.event.Answer.TheVariants.{Replied, Opened, Met}
 use Rattle.mt_session.specs.declared.session.End.{End}
 use Rattle.mt_session.specs.declared.session.End.TheVariants.{Quit, Stop, Input, Cut as CutOff, Memory, Spent}
 use Rattle.mt_session.specs.Requests.{SessionState}
@@ -50,3 +56,16 @@ abbrev pub ServedLine : List ℕ → List ℕ → SessionState → SessionState 
 ServedLine before later old new sent written None = (turn : Turn) × Going (turn ∷ []) before later old new sent written
 ServedLine before later old new sent written (Some by) =
     (ran : Ran before old new sent written by) × (length ran.turns + length ran.last ≤ 1)
+
+-- what an answer of the floor holds
+abbrev pub reply_in : Answer → Option Reply
+reply_in (Replied r) = Some r
+reply_in a = None
+
+abbrev pub begun_in : Answer → Option (ℕ × Opening)
+begun_in (Opened key o) = Some (key, o)
+begun_in a = None
+
+abbrev pub phase_in : Answer → Option Phase
+phase_in (Met m) = Some m.state
+phase_in a = None

@@ -1,4 +1,5 @@
--- What a plain session writes and does: the fold of its lines over a floor and its watcher (this project's rule).
+-- What a plain session writes and does: the fold of its lines over a floor and its watcher.
+-- A word with no source is this project's rule.
 use Rattle.std.specs.Prelude.{◌≡◌, ℕ, ◌+◌, ◌<◌, ◌≤◌, List, [], ◌∷◌, ◌++◌, take, map, length, Result, Ok, Err, Bool, true, false, if◌then◌else◌, Option, Some, None, ◌⊎◌}
 use Rattle.mt_skel.specs.declared.fault.Fault.{Fault}
 use Rattle.mt_skel.specs.declared.fault.Fault.TheVariants.{BadLine, TooLong as LineTooLong, NoMemory as WantsMemory}
@@ -47,10 +48,10 @@ abbrev pub items_of : List Turn → List Item
 items_of turns = map (λ turn. item_of turn.line) turns
 
 -- what a line asks for
-abbrev pub asked : Asking → Result Request Fault
-asked (Whole bytes) = request_of bytes
-asked Overlong = Err LineTooLong
-asked Broken = Err BadLine
+abbrev pub request_of_line : Asking → Result Request Fault
+request_of_line (Whole bytes) = request_of bytes
+request_of_line Overlong = Err LineTooLong
+request_of_line Broken = Err BadLine
 
 -- a refused growth can stand in place of an answer that is not found without memory
 abbrev pub may_fail : SessionState → Result Request Fault → Bool
@@ -83,20 +84,19 @@ state_with state Unshown r = if may_be_unshown state r then left (state_of state
 
 -- the text that answers a line, and the state after it
 unfoldable pub answer : SessionState → Turn → List ℕ
-answer state turn = answer_with state turn.growth (asked turn.line)
+answer state turn = answer_with state turn.growth (request_of_line turn.line)
 
 unfoldable pub after : SessionState → Turn → SessionState
-after state turn = state_with state turn.growth (asked turn.line)
+after state turn = state_with state turn.growth (request_of_line turn.line)
 
 -- how the line ends the session, if it does
 abbrev pub ends_by : Result Request Fault → Option End
 ends_by (Ok AsksQuit) = Some Quit
 ends_by (Ok AsksStop) = Some Stop
-ends_by (Ok r) = None
-ends_by (Err f) = None
+ends_by r = None
 
 unfoldable pub ends : Turn → Option End
-ends turn = ends_by (asked turn.line)
+ends turn = ends_by (request_of_line turn.line)
 
 -- the stated text: the answers of the lines, one after another
 abbrev pub text_of : List Turn → SessionState → List ℕ
@@ -152,13 +152,13 @@ IsCause Memory turns last text later = (turns ≡ []) × (last ≡ [])
 IsCause Spent turns last text later = (last ≡ []) × (length turns ≡ most_lines)
 
 -- the lines of a session: those served whole, the line that ended it, if one did, and those not read; what was written is their
--- text, of the last as much as the end says; and then this was done
-pub record ServedThen (done : SessionState → SessionState) (before : List ℕ) (old new : SessionState) (sent written : List ℕ) (by : End) : Type 0 where
+-- text, of the last as much as the end says; and so the session finishes
+pub record ServedThen (finish : SessionState → SessionState) (before : List ℕ) (old new : SessionState) (sent written : List ℕ) (by : End) : Type 0 where
   pub turns : List Turn
   pub last : List Turn
   pub later : List Item
   pub lines : lines_of line_limit before ≡ items_of turns ++ (items_of last ++ later)
-  pub state : new ≡ done (state_after last (state_after turns old))
+  pub state : new ≡ finish (state_after last (state_after turns old))
   pub out : written ≡ sent ++ (text_of turns old ++ sent_by by (text_of last (state_after turns old)))
   pub goes : AllGoOn turns
   pub cause : IsCause by turns last (text_of last (state_after turns old)) later

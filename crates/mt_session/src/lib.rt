@@ -8,6 +8,6 @@ pub mod session;
 pub mod text;
 pub mod turn;
 
-pub use mt_floor::floor;
+pub use mt_floor::{event, floor, watch};
 pub use mt_lines::{line, memory, stream};
 pub use mt_requests::request;

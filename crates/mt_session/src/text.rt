@@ -143,7 +143,7 @@ impl Text {
         let mut lines = Vec::new(alloc);
         let mut count = 0u64;
         'parts: for part in opening.parts.as_slice() {
-            count = lines_with(count, part)?;
+            count = lines_with(count, part.table.rows().len() as u64)?;
             push_part(&mut lines, part)?;
         }
         Ok(Text::counted(alloc, count, &lines)?)
@@ -160,16 +160,14 @@ impl Text {
     }
 }
 
-/// A count of lines with those of a namespace that a watcher found. Refused as `NoMemory` alone: no memory holds
-/// 2^64 lines.
-fn lines_with(lines: u64, part: &Part) -> Result<u64, Fault>
-    ensures lines { IfOk result (λ sum. sum ≡ lines + (1 + length part.now.table)) }
+/// A count of lines with one more and so many below it. Refused as `NoMemory` alone: no memory holds 2^64 lines.
+pub(crate) fn lines_with(lines: u64, below: u64) -> Result<u64, Fault>
+    ensures lines { IfOk result (λ sum. sum ≡ lines + (1 + below)) }
     ensures memory { IsOkUnless result Fault.NoMemory }
 {
-    let rows = part.table.rows().len() as u64;
     lines
         .checked_add(1)
-        .and_then(|more| more.checked_add(rows))
+        .and_then(|more| more.checked_add(below))
         .ok_or(Fault::NoMemory)
 }
 

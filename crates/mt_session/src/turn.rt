@@ -1,13 +1,16 @@
 //! What a session does for a request.
 ghost use Rattle.std.specs.Prelude.{◌≡◌, ◌≢◌, ◌+◌, ◌++◌, ◌<◌, ◌≤◌, cond, length, take, flat_map, IfOk, IfErr, OnOk, OnErr, IsOkUnless, Ok, Err, None, Some, []};
+ghost use Rattle.std.specs.Option.{ForSome};
+ghost use Rattle.std.specs.Prelude.{IsSome};
 ghost use Rattle.mt_events.specs.Posts.{post_lines, post_text};
 ghost use Rattle.mt_book.specs.Step.{after};
 ghost use Rattle.mt_book.specs.Book.{found_at};
 ghost use Rattle.mt_floor.specs.Schedule.{floor_step, settled, waiting};
-ghost use Rattle.mt_session.specs.Answers.{shown_text, found_text, count_text, lines_of_posts, posts_text, followed_text};
-ghost use Rattle.mt_session.specs.Requests.{state_at, session_at, answer_to, state_to, left, begun, begun_by, replied_text, opened_text, rest_text, taken_text, end_of_followed, closed_text, taken, next_posts, IsUndone};
+ghost use Rattle.mt_session.specs.Answers.{refusal, shown_text, found_text, count_text, reply_text, lines_of_posts, posts_text, followed_text};
+ghost use Rattle.mt_session.specs.Serving.{reply_in, begun_in, phase_in};
+ghost use Rattle.mt_session.specs.Requests.{state_at, session_at, answer_to, state_to, left, begun, replied_text, opened_text, by_phase, rest_text, taken_text, end_of_followed, closed_text, taken, next_posts, IsUndone};
 
-use crate::text::Text;
+use crate::text::{Text, lines_with};
 use mt_book::command::{Command, Reply};
 use mt_events::opening::{Opening, Scope};
 use mt_events::post::Post;
@@ -49,6 +52,17 @@ fn show(alloc: Global, floor: &Floor, space: u64) -> Result<Text, Fault>
     Ok(Text::table(alloc, number, &table)?)
 }
 
+/// The line of a refusal. Want of memory is handed on.
+fn told_refusal(fault: Fault) -> Result<Text, Fault>
+    ensures ok { IfOk result (λ text. (text ≡ refusal fault) × (fault ≢ Fault.NoMemory)) }
+    ensures memory { IfErr result (λ other. (other ≡ Fault.NoMemory) × (fault ≡ Fault.NoMemory)) }
+{
+    match fault {
+        Fault::NoMemory => Err(Fault::NoMemory),
+        _ => Ok(Text::refusal(fault)),
+    }
+}
+
 /// The line that says where a path ends.
 fn find(alloc: Global, floor: &Floor, space: u64, path: &Names) -> Result<Text, Fault>
     ensures ok { IfOk result (λ text. text ≡ found_text (found_at (after floor.now.journal) space path.now)) }
@@ -61,46 +75,58 @@ fn find(alloc: Global, floor: &Floor, space: u64, path: &Names) -> Result<Text, 
     }
 }
 
+/// What a command is answered that was not refused.
+fn told_reply(answer: Answer) -> Text
+    requires { IsSome (reply_in answer) }
+    ensures { ForSome (reply_in answer) (λ reply. result ≡ reply_text reply) }
+{
+    match answer {
+        Answer::Replied(reply) => Text::reply(reply),
+        _ => unreachable!(),
+    }
+}
+
 /// Applies a command, and sends its posts to the watchers.
 fn run(floor: &mut Floor, command: &Command) -> Result<Text, Fault>
     requires idle { floor.old.due ≡ [] }
-    ensures ok { IfOk result (λ text. (text ≡ replied_text (floor_step floor.old (Event.Apply command.now)).1) × (floor.new ≡ settled (floor_step floor.old (Event.Apply command.now)).0)) }
+    ensures ok { IfOk result (λ text. (text ≡ replied_text floor.old command.now) × (floor.new ≡ settled (floor_step floor.old (Event.Apply command.now)).0)) }
     ensures memory { IfErr result (λ fault. (fault ≡ Fault.NoMemory) × (floor.new ≡ floor.old)) }
     ensures idle { floor.new.due ≡ [] }
 {
     let command = command.copy()?;
     let text = match floor.step(Event::Apply(command)) {
-        Ok(Answer::Replied(reply)) => Text::reply(reply),
-        Ok(_) => Text::reply(Reply::Done),
-        Err(Fault::NoMemory) => return Err(Fault::NoMemory),
-        Err(fault) => Text::refusal(fault),
+        Ok(answer) => told_reply(answer),
+        Err(fault) => told_refusal(fault)?,
     };
     floor.settle();
     Ok(text)
 }
 
 /// What is said where no post waits for a watcher of which so many were told, and this is how far it is.
-fn rest_of(told: u64, met: Result<Answer, Fault>) -> Text
-    ensures { result ≡ rest_text (count_text told) met }
+fn rest_of(told: u64, met: Answer) -> Text
+    requires { IsSome (phase_in met) }
+    ensures { ForSome (phase_in met) (λ phase. result ≡ by_phase (count_text told) phase) }
 {
     match met {
-        Ok(Answer::Met(meeting)) => match meeting.state {
+        Answer::Met(meeting) => match meeting.state {
             Phase::Open => Text::reply(Reply::Number(told)),
             Phase::Lagged => Text::refusal(Fault::Lagged),
             Phase::Ended => Text::refusal(Fault::Stopped),
         },
-        Ok(_) => Text::reply(Reply::Number(told)),
-        Err(fault) => Text::refusal(fault),
+        _ => unreachable!(),
     }
 }
 
 /// What is said where no post waits for a watcher of which so many were told.
 fn rest(floor: &mut Floor, key: WatchKey, told: u64) -> Text
-    ensures text { result ≡ rest_text (count_text told) (floor_step floor.old (Event.Meet key)).1 }
+    requires idle { floor.old.due ≡ [] }
+    ensures text { result ≡ rest_text (count_text told) floor.old key }
     ensures floor { floor.new ≡ floor.old }
 {
-    let met = floor.step(Event::Meet(key));
-    rest_of(told, met)
+    match floor.step(Event::Meet(key)) {
+        Ok(met) => rest_of(told, met),
+        Err(fault) => Text::refusal(fault),
+    }
 }
 
 /// Posts as they are sent to a client.
@@ -111,17 +137,14 @@ struct Printed {
 }
 
 /// A count of lines with those of a post. Refused as `NoMemory` alone: no memory holds 2^64 lines.
-fn lines_with(lines: u64, post: &Post) -> Result<u64, Fault>
+fn lines_with_post(lines: u64, post: &Post) -> Result<u64, Fault>
     ensures lines { IfOk result (λ sum. sum ≡ lines + length (post_lines post.now)) }
     ensures memory { IsOkUnless result Fault.NoMemory }
 {
     let gone = post.gone.as_slice().len() as u64;
     let rows = post.rows.as_slice().len() as u64;
-    let more = gone
-        .checked_add(rows)
-        .and_then(|more| more.checked_add(1))
-        .ok_or(Fault::NoMemory)?;
-    lines.checked_add(more).ok_or(Fault::NoMemory)
+    let below = gone.checked_add(rows).ok_or(Fault::NoMemory)?;
+    lines_with(lines, below)
 }
 
 /// The next posts of a watcher as they are sent to a client, so many of them.
@@ -136,7 +159,7 @@ fn print_next(alloc: Global, floor: &Floor, key: WatchKey, count: usize) -> Resu
         let Some(post) = floor.waiting_post(key, index) else {
             return Ok(Printed { text, lines });
         };
-        lines = lines_with(lines, post)?;
+        lines = lines_with_post(lines, post)?;
         push_post(&mut text, post)?;
     }
     Ok(Printed { text, lines })
@@ -172,6 +195,7 @@ fn take(alloc: Global, floor: &mut Floor, key: WatchKey, most: u64) -> Result<Te
 
 /// How a client is told of the end of posts that it followed, of which there were so many.
 fn end_of_followed(floor: &mut Floor, key: WatchKey, most: u64, told: u64) -> Text
+    requires idle { floor.old.due ≡ [] }
     ensures text { result ≡ end_of_followed floor.old key most told }
     ensures floor { floor.new ≡ floor.old }
 {
@@ -209,7 +233,7 @@ fn stop(floor: &mut Floor)
 /// Closes a watcher, and tells what it has not taken.
 fn close(alloc: Global, floor: &mut Floor, key: WatchKey) -> Result<Text, Fault>
     requires idle { floor.old.due ≡ [] }
-    ensures ok { IfOk result (λ text. (text ≡ closed_text (waiting floor.old key) (floor_step floor.old (Event.Close key)).1) × (floor.new ≡ (floor_step floor.old (Event.Close key)).0)) }
+    ensures ok { IfOk result (λ text. (text ≡ closed_text floor.old key) × (floor.new ≡ (floor_step floor.old (Event.Close key)).0)) }
     ensures memory { IfErr result (λ fault. (fault ≡ Fault.NoMemory) × (floor.new ≡ floor.old)) }
     ensures idle { floor.new.due ≡ [] }
 {
@@ -223,12 +247,13 @@ fn close(alloc: Global, floor: &mut Floor, key: WatchKey) -> Result<Text, Fault>
 }
 
 /// The watcher that has begun, by this answer, and what it found.
-fn begun_by(answer: Answer) -> Option<(WatchKey, Opening)>
-    ensures { result ≡ begun_by answer }
+fn begun_by(answer: Answer) -> (WatchKey, Opening)
+    requires { IsSome (begun_in answer) }
+    ensures { begun_in answer ≡ Some result }
 {
     match answer {
-        Answer::Opened { key, opening } => Some((key, opening)),
-        _ => None,
+        Answer::Opened { key, opening } => (key, opening),
+        _ => unreachable!(),
     }
 }
 
@@ -247,18 +272,15 @@ impl Session {
     fn watch(&mut self, floor: &mut Floor, scope: Scope) -> Result<Text, Fault>
         requires none { self.old ≡ None }
         requires idle { floor.old.due ≡ [] }
-        ensures ok { IfOk result (λ text. (text ≡ opened_text (floor_step floor.old (Event.Open scope)).1) × (state_at floor.new self.new ≡ begun (floor_step floor.old (Event.Open scope)))) }
+        ensures ok { IfOk result (λ text. (text ≡ opened_text floor.old scope) × (state_at floor.new self.new ≡ begun floor.old scope)) }
         ensures memory { IfErr result (λ fault. (fault ≡ Fault.NoMemory) × IsUndone (state_at floor.old self.old) (Request.Watch scope) (state_at floor.new self.new)) }
         ensures idle { floor.new.due ≡ [] }
     {
         let answer = match floor.step(Event::Open(scope)) {
             Ok(answer) => answer,
-            Err(Fault::NoMemory) => return Err(Fault::NoMemory),
-            Err(fault) => return Ok(Text::refusal(fault)),
+            Err(fault) => return told_refusal(fault),
         };
-        let Some((key, opening)) = begun_by(answer) else {
-            return Ok(Text::reply(Reply::Done));
-        };
+        let (key, opening) = begun_by(answer);
         match Text::opening(self.alloc, &opening) {
             Ok(text) => {
                 self.watcher = Some(key);

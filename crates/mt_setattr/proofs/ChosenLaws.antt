@@ -3,13 +3,12 @@ use Rattle.std.proofs.Common.{◌≡◌, ℕ, zero, suc, Bool, true, false, ◌|
 use Rattle.std.specs.List.{list_any, filter}
 use Rattle.std.specs.Option.{is_some, option_map, option_map_or, option_and_then}
 use Rattle.std.proofs.lemmas.Bool.Decides.{nat_tests}
-use Rattle.mt_skel.specs.Keyed.{has}
+use Rattle.mt_skel.specs.Keyed.{has, among}
 use Rattle.mt_skel.specs.Chain.{chain}
 use Rattle.mt_mounts.specs.declared.mount.Mount.{Mount}
 use Rattle.mt_mounts.specs.declared.mount.Place.{Place}
 use Rattle.mt_mounts.specs.Forest.{id_of, mount_at, parent, subtree, is_below}
 use Rattle.mt_mounts.proofs.Walks.{below_stop}
-use Rattle.mt_peers.specs.Entries.{among}
 use Rattle.mt_peers.specs.Making.{made}
 use Rattle.mt_propagate.specs.World.{WorldView}
 use Rattle.mt_setattr.specs.declared.change.Change.{Change}

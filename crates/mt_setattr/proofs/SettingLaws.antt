@@ -2,15 +2,14 @@
 use Rattle.std.proofs.Common.{◌≡◌, ℕ, zero, suc, ◌+◌, ◌<◌, Bool, true, false, cond, not, ◌||◌, ◌&&◌, eqb, eqb-true, ltb, nat_eq, List, [], ◌∷◌, map, take, length, get_or, Some, None, refl, ap₂, sym, ap, ◌∙◌, subst, arith}
 use Rattle.std.specs.List.{list_all}
 use Rattle.std.proofs.lemmas.Bool.Decides.{nat_tests}
-use Rattle.mt_skel.specs.Keyed.{rises}
+use Rattle.mt_skel.specs.Keyed.{rises, among}
 use Rattle.mt_skel.proofs.KeyedLaws.{rises-map}
 use Rattle.mt_mounts.specs.declared.mount.Mount.{Mount}
 use Rattle.mt_mounts.specs.declared.mount.Attrs.{Attrs}
 use Rattle.mt_mounts.specs.declared.mount.Atime.{Atime}
 use Rattle.mt_mounts.specs.declared.mount.Atime.TheVariants.{Relatime, Noatime, Strictatime}
 use Rattle.mt_mounts.specs.Forest.{id_of, mount_at}
-use Rattle.mt_mounts.specs.Table.{with_attrs}
-use Rattle.mt_peers.specs.Entries.{among}
+use Rattle.mt_mounts.specs.ForestView.{with_attrs}
 use Rattle.mt_setattr.specs.declared.change.Change.{Change}
 use Rattle.mt_setattr.specs.Change.{changed_mount, changed_attrs, changed_atime}
 

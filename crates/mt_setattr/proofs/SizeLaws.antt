@@ -12,7 +12,7 @@ use Rattle.mt_peers.specs.declared.state.Kind.{Kind}
 use Rattle.mt_peers.specs.Peers.{Peer, Peering, mount_of}
 use Rattle.mt_peers.specs.Making.{made, groupless, is_shared}
 use Rattle.mt_propagate.specs.World.{WorldView}
-use Rattle.mt_propagate.specs.Named.{place_or_nowhere, is_named_mount}
+use Rattle.mt_propagate.specs.Named.{place_or_nowhere, is_mount_root}
 use Rattle.mt_propagate.specs.WellFormed.{IsWellFormed}
 use Rattle.mt_propagate.proofs.SizeLaws.{IsSized, few_pass}
 use Rattle.mt_setattr.specs.declared.change.Change.{Change}
@@ -49,5 +49,5 @@ changed_sized w c i h few =
 pub attr_sized : (w v : WorldView) (n : ℕ) (path : List (List ℕ)) (c : Change) → IsWellFormed w → length w.forest ≤ 4096 → attributed w n path c ≡ Ok v → IsSized w v 0
 attr_sized w v n path c h few e =
     let p = place_or_nowhere (walk w.skel w.forest n path) in
-    let same = (outcome_ok (fault_of (walk w.skel w.forest n path) ∷ refuse_if (not (is_named_mount w p)) NotMountRoot ∷ refuse_if (clashes c) BadAttr ∷ []) (with_change w c p.mount) v e).0 in
+    let same = (outcome_ok (fault_of (walk w.skel w.forest n path) ∷ refuse_if (not (is_mount_root w p)) NotMountRoot ∷ refuse_if (clashes c) BadAttr ∷ []) (with_change w c p.mount) v e).0 in
     subst (λ (x : WorldView). IsSized w x 0) same (changed_sized w c p.mount h few)

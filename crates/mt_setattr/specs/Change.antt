@@ -1,4 +1,5 @@
 -- setattr: the attributes of the chosen mounts and their propagation, all at once.
+-- A word with no source is this project's rule.
 use Rattle.std.specs.Prelude.{ℕ, Bool, cond, not, ◌&&◌, ◌||◌, ◌==◌, List, [], ◌∷◌, map, Result}
 use Rattle.std.specs.Option.{option_map_or}
 use Rattle.mt_skel.specs.declared.fault.Fault.{Fault}
@@ -12,7 +13,7 @@ use Rattle.mt_mounts.specs.Forest.{is_below}
 use Rattle.mt_mounts.specs.Walk.{walk}
 use Rattle.mt_peers.specs.Making.{made}
 use Rattle.mt_propagate.specs.World.{WorldView}
-use Rattle.mt_propagate.specs.Named.{place_or_nowhere, is_named_mount}
+use Rattle.mt_propagate.specs.Named.{place_or_nowhere, is_mount_root}
 use Rattle.mt_setattr.specs.declared.change.Change.{Change}
 
 -- two access times are set, or one that clr makes no room for (mount_setattr(2), MOUNT_ATTR__ATIME and EINVAL; that this holds
@@ -60,6 +61,6 @@ abbrev pub attributed : WorldView → ℕ → List (List ℕ) → Change → Res
 attributed w n path c =
     let p = place_or_nowhere (walk w.skel w.forest n path) in
     outcome (fault_of (walk w.skel w.forest n path)
-    ∷ refuse_if (not (is_named_mount w p)) NotMountRoot
+    ∷ refuse_if (not (is_mount_root w p)) NotMountRoot
     ∷ refuse_if (clashes c) BadAttr ∷ [])
     (with_change w c p.mount)

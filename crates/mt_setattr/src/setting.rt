@@ -1,9 +1,8 @@
 //! The change of mounts.
 ghost use Rattle.std.specs.Prelude.{◌≡◌, ◌≢◌, ◌<◌, ◌^◌, ◌||◌, ◌&&◌, not, map, IsTrue, OnOk, OnErr, IfOk, IfErr, IsOkUnless, Ok, Err};
 ghost use Rattle.std.specs.Option.{option_map_or};
-ghost use Rattle.mt_skel.specs.Keyed.{has};
+ghost use Rattle.mt_skel.specs.Keyed.{has, among};
 ghost use Rattle.mt_mounts.specs.Forest.{id_of};
-ghost use Rattle.mt_peers.specs.Entries.{among};
 ghost use Rattle.mt_peers.specs.Making.{made};
 ghost use Rattle.mt_propagate.specs.World.{world_view};
 ghost use Rattle.mt_propagate.specs.WellFormed.{IsWellFormed};
@@ -12,12 +11,12 @@ ghost use Rattle.mt_setattr.specs.Change.{clashes, changed_atime, changed_attrs,
 use crate::change::Change;
 use mt_mounts::forest::Forest;
 use mt_mounts::mount::{Atime, Attrs, MountId, SpaceId};
-use mt_propagate::named::is_named_mount;
+use mt_propagate::named::is_mount_root;
 use mt_propagate::world::World;
 use mt_skel::fault::Fault;
 use mt_skel::name::Name;
 
-// Whether a change sets two access times, or one that it makes no room for.
+/// Whether a change sets two access times, or one that it makes no room for.
 fn clashes(change: &Change) -> bool
     ensures { result ≡ clashes change.now }
 {
@@ -65,8 +64,8 @@ fn attrs_after(change: &Change, attrs: &Attrs) -> Attrs
     }
 }
 
-// Changes the attributes of these mounts. One that is listed twice is changed once, since a change
-// that comes again does nothing.
+/// Changes the attributes of these mounts. One that is listed twice is changed once, since a change
+/// that comes again does nothing.
 fn change_attrs(forest: &mut Forest, ids: &[MountId], change: &Change)
     ensures { forest.new.mounts ≡ map (changed_mount change.now (among ids.now)) forest.old.mounts }
 {
@@ -77,7 +76,7 @@ fn change_attrs(forest: &mut Forest, ids: &[MountId], change: &Change)
     }
 }
 
-// Changes these mounts, all at once.
+/// Changes these mounts, all at once.
 fn change_all(world: &mut World, ids: &[MountId], change: &Change)
     requires numbered { world.old.peers.next < 2 ^ 63 }
     ensures { world_view world.new ≡ record (world_view world.old) { forest = map (changed_mount change.now (among ids.now)) world.old.forest.mounts; peering = option_map_or (λ k. made k (among ids.now) (world_view world.old).peering) change.now.prop (world_view world.old).peering } }
@@ -88,7 +87,7 @@ fn change_all(world: &mut World, ids: &[MountId], change: &Change)
     }
 }
 
-// Changes a mount, and if the change is recursive all below it.
+/// Changes a mount, and if the change is recursive all below it.
 fn change_from(world: &mut World, top: MountId, change: &Change) -> Result<(), Fault>
     requires there { IsTrue (has id_of top world.old.forest.mounts) }
     requires numbered { world.old.peers.next < 2 ^ 63 }
@@ -126,7 +125,7 @@ pub fn set_attr(
     ensures kept { IsWellFormed (world_view world.old) → IsWellFormed (world_view world.new) }
 {
     let place = world.forest.walk(&world.skel, space, path)?;
-    if !is_named_mount(world, place) {
+    if !is_mount_root(world, place) {
         return Err(Fault::NotMountRoot);
     }
     if clashes(change) {

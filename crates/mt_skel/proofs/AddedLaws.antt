@@ -6,7 +6,7 @@ use Rattle.std.proofs.lemmas.Option.{slice_get_within}
 use Rattle.mt_skel.specs.declared.fault.Fault.{Fault}
 use Rattle.mt_skel.specs.declared.fault.Fault.TheVariants.{FilesystemExists, TooMany, NoFilesystem, NoEntry, EntryExists}
 use Rattle.mt_skel.specs.Outcome.{refuse_if, outcome}
-use Rattle.mt_skel.specs.Skeleton.{Skeleton, Directory, Filesystem, IsSkeleton, is_filesystem, is_directory, directory, fs_named, number_of, child, added_fs, added_dir, with_fs, with_dir, filesystem_limit, directory_limit, depth_limit}
+use Rattle.mt_skel.specs.Skeleton.{Skeleton, Directory, Filesystem, IsSkeleton, is_filesystem, is_directory, directory, fs_named, directory_number, child, added_fs, added_dir, with_fs, with_dir, filesystem_limit, directory_limit, depth_limit}
 use Rattle.mt_skel.proofs.ListLaws.{take_front}
 use Rattle.mt_skel.proofs.OutcomeLaws.{passed, stopped}
 use Rattle.mt_skel.proofs.SkeletonLaws.{at_number, number_at, at_directory, filesystem_within}
@@ -53,15 +53,15 @@ module _ (s : Skeleton) (is : IsSkeleton s) (name : List ℕ) (path : List (List
   abbrev above : Directory
   above = record { fs = f; path = take (length path - 1) path }
 
-  named_dir : added_dir s name path ≡ outcome (refuse_if (is_none (number_of s above)) NoEntry ∷ refuse_if (is_some (number_of s there)) EntryExists ∷ late) (with_dir s there)
+  named_dir : added_dir s name path ≡ outcome (refuse_if (is_none (directory_number s above)) NoEntry ∷ refuse_if (is_some (directory_number s there)) EntryExists ∷ late) (with_dir s there)
   named_dir =
       ap (λ o. outcome (refuse_if (is_none o) NoFilesystem
-      ∷ refuse_if (is_none (number_of s (record { fs = unwrap_or o 0; path = take (length path - 1) path }))) NoEntry
-      ∷ refuse_if (is_some (number_of s (record { fs = unwrap_or o 0; path = path }))) EntryExists ∷ late)
+      ∷ refuse_if (is_none (directory_number s (record { fs = unwrap_or o 0; path = take (length path - 1) path }))) NoEntry
+      ∷ refuse_if (is_some (directory_number s (record { fs = unwrap_or o 0; path = path }))) EntryExists ∷ late)
       (with_dir s (record { fs = unwrap_or o 0; path = path }))) fs
 
-  above_dir : (parent : ℕ) → number_of s above ≡ Some parent → added_dir s name path ≡ outcome (refuse_if (is_some (number_of s there)) EntryExists ∷ late) (with_dir s there)
-  above_dir parent e = named_dir ∙ passed (is_none (number_of s above)) NoEntry (refuse_if (is_some (number_of s there)) EntryExists ∷ late) (with_dir s there) (ap is_none e)
+  above_dir : (parent : ℕ) → directory_number s above ≡ Some parent → added_dir s name path ≡ outcome (refuse_if (is_some (directory_number s there)) EntryExists ∷ late) (with_dir s there)
+  above_dir parent e = named_dir ∙ passed (is_none (directory_number s above)) NoEntry (refuse_if (is_some (directory_number s there)) EntryExists ∷ late) (with_dir s there) (ap is_none e)
 
   -- a root is there
   pub root_exists : length path ≡ 0 → is_filesystem s f ≡ true → added_dir s name path ≡ Err EntryExists
@@ -72,12 +72,12 @@ module _ (s : Skeleton) (is : IsSkeleton s) (name : List ℕ) (path : List (List
       by [] e none =
           let within = filesystem_within s f valid in
           let root = is.rooted f within.0 within.1 in
-          let found : number_of s (record { fs = f; path = [] }) ≡ Some root.0 = number_at s is (record { fs = f; path = [] }) root.0 root.1 in
-          above_dir root.0 (ap (λ (p : List (List ℕ)). number_of s (record { fs = f; path = take (length p - 1) p })) e ∙ found)
-          ∙ stopped (is_some (number_of s there)) EntryExists late (with_dir s there) (ap (λ (p : List (List ℕ)). is_some (number_of s (record { fs = f; path = p }))) e ∙ ap is_some found)
+          let found : directory_number s (record { fs = f; path = [] }) ≡ Some root.0 = number_at s is (record { fs = f; path = [] }) root.0 root.1 in
+          above_dir root.0 (ap (λ (p : List (List ℕ)). directory_number s (record { fs = f; path = take (length p - 1) p })) e ∙ found)
+          ∙ stopped (is_some (directory_number s there)) EntryExists late (with_dir s there) (ap (λ (p : List (List ℕ)). is_some (directory_number s (record { fs = f; path = p }))) e ∙ ap is_some found)
 
   -- the directory's parent is there
-  module _ (front : List (List ℕ)) (last : List ℕ) (parent : ℕ) (split : path ≡ front ++ last ∷ []) (found : number_of s (record { fs = f; path = front }) ≡ Some parent) where
+  module _ (front : List (List ℕ)) (last : List ℕ) (parent : ℕ) (split : path ≡ front ++ last ∷ []) (found : directory_number s (record { fs = f; path = front }) ≡ Some parent) where
     pub parent_at : directory s parent ≡ record { fs = f; path = front }
     parent_at = at_directory s parent (record { fs = f; path = front }) (at_number s (record { fs = f; path = front }) parent found)
 
@@ -85,19 +85,19 @@ module _ (s : Skeleton) (is : IsSkeleton s) (name : List ℕ) (path : List (List
     parent_there =
         lt-ltb parent (length s.directories) (slice_get_within s.directories parent (record { fs = f; path = front }) (at_number s (record { fs = f; path = front }) parent found))
 
-    same_number : child s parent last ≡ number_of s there
+    same_number : child s parent last ≡ directory_number s there
     same_number =
-        ap (λ d. number_of s (record { fs = d.fs; path = d.path ++ last ∷ [] })) parent_at ∙ ap (λ (p : List (List ℕ)). number_of s (record { fs = f; path = p })) (sym split)
+        ap (λ d. directory_number s (record { fs = d.fs; path = d.path ++ last ∷ [] })) parent_at ∙ ap (λ (p : List (List ℕ)). directory_number s (record { fs = f; path = p })) (sym split)
 
-    below : added_dir s name path ≡ outcome (refuse_if (is_some (number_of s there)) EntryExists ∷ late) (with_dir s there)
-    below = above_dir parent (ap (λ (p : List (List ℕ)). number_of s (record { fs = f; path = p })) (take_front path front last split) ∙ found)
+    below : added_dir s name path ≡ outcome (refuse_if (is_some (directory_number s there)) EntryExists ∷ late) (with_dir s there)
+    below = above_dir parent (ap (λ (p : List (List ℕ)). directory_number s (record { fs = f; path = p })) (take_front path front last split) ∙ found)
 
     pub dir_exists : is_some (child s parent last) ≡ true → added_dir s name path ≡ Err EntryExists
-    dir_exists t = below ∙ stopped (is_some (number_of s there)) EntryExists late (with_dir s there) (ap is_some (sym same_number) ∙ t)
+    dir_exists t = below ∙ stopped (is_some (directory_number s there)) EntryExists late (with_dir s there) (ap is_some (sym same_number) ∙ t)
 
     module _ (free : child s parent last ≡ None) where
       new_dir : added_dir s name path ≡ outcome late (with_dir s there)
-      new_dir = below ∙ passed (is_some (number_of s there)) EntryExists late (with_dir s there) (ap is_some (sym same_number ∙ free))
+      new_dir = below ∙ passed (is_some (directory_number s there)) EntryExists late (with_dir s there) (ap is_some (sym same_number ∙ free))
 
       flat : length path ≤ 32 → added_dir s name path ≡ outcome (refuse_if (leb directory_limit (length s.directories)) TooMany ∷ []) (with_dir s there)
       flat l = new_dir ∙ passed (ltb depth_limit (length path)) TooMany (refuse_if (leb directory_limit (length s.directories)) TooMany ∷ []) (with_dir s there) (le-ltb depth_limit (length path) l)

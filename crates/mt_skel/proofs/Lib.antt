@@ -1,11 +1,14 @@
 pub mod AddedLaws
 pub mod ChainLaws
+pub mod ElementLaws
 pub mod EscapeLaws
 pub mod GrowthLaws
 pub mod HoldLaws
 pub mod KeyedLaws
 pub mod ListLaws
+pub mod MiddleLaws
 pub mod NodeLaws
 pub mod OutcomeLaws
+pub mod SearchLaws
 pub mod SkeletonLaws
 pub mod UnescapeLaws

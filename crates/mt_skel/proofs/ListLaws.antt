@@ -1,5 +1,5 @@
--- A list with one more element at its end.
-use Rattle.std.proofs.Common.{◌≡◌, ◌⊎◌, ℕ, zero, suc, ◌+◌, ◌-◌, ◌<◌, List, [], ◌∷◌, ◌++◌, length, get_or, take, drop, reverse, Some, slice_get, refl, sym, ap, ◌∙◌, inl, inr, arith, append_assoc}
+-- A list with one more element at its end, and its fronts.
+use Rattle.std.proofs.Common.{◌≡◌, ◌⊎◌, ℕ, zero, suc, ◌+◌, ◌-◌, ◌<◌, ◌≤◌, List, [], ◌∷◌, ◌++◌, length, get_or, take, drop, reverse, Some, None, slice_get, refl, sym, ap, ◌∙◌, inl, inr, arith, append_assoc}
 use Rattle.std.proofs.lemmas.List.{reverse-append, take_more, take-append-drop, length_push}
 use Rattle.std.proofs.Math.Seq.{take-append_seam}
 use Rattle.std.proofs.lemmas.Option.{slice_get_within}
@@ -58,6 +58,28 @@ take_next xs i x l e = take_more xs i x l ∙ ap (λ y. take i xs ++ y ∷ []) (
 
 pub split_next : {X : Type 0} (xs : List X) (i : ℕ) (x : X) → i < length xs → x ≡ get_or xs i x → xs ≡ (take i xs ++ x ∷ []) ++ drop (i + 1) xs
 split_next xs i x l e = sym (take-append-drop (i + 1) xs) ∙ ap (λ l. l ++ drop (i + 1) xs) (take_next xs i x l e)
+
+-- the front of a list with the element that was found behind it
+take_suc : {X : Type 0} (w : List X) (i : ℕ) (x : X) → slice_get w i ≡ Some x → take (suc i) w ≡ take i w ++ x ∷ []
+take_suc [] zero x e = cc
+take_suc [] (suc i) x e = cc
+take_suc (y ∷ w) zero x e = let same : y ≡ x = cc in ap (λ z. z ∷ []) same
+take_suc (y ∷ w) (suc i) x e = ap (λ l. y ∷ l) (take_suc w i x e)
+
+pub take_found : {X : Type 0} (w : List X) (i : ℕ) (x : X) → slice_get w i ≡ Some x → take (i + 1) w ≡ take i w ++ x ∷ []
+take_found w i x e =
+    let next : i + 1 ≡ suc i = omega arith in
+    ap (λ n. take n w) next ∙ take_suc w i x e
+
+-- none behind the last
+pub take_past : {X : Type 0} (w : List X) (i n : ℕ) → slice_get w i ≡ None → i ≤ n → take i w ≡ take n w
+take_past [] zero zero e h = refl
+take_past [] zero (suc n) e h = refl
+take_past [] (suc i) zero e h = refl
+take_past [] (suc i) (suc n) e h = refl
+take_past (y ∷ w) zero n e h = cc
+take_past (y ∷ w) (suc i) zero e h = absurd (omega (arith, h))
+take_past (y ∷ w) (suc i) (suc n) e h = ap (λ l. y ∷ l) (take_past w i n e (omega (arith, h)))
 
 -- all but the last element
 pub take_front : {X : Type 0} (xs front : List X) (x : X) → xs ≡ front ++ x ∷ [] → take (length xs - 1) xs ≡ front

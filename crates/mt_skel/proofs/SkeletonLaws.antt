@@ -7,7 +7,7 @@ use Rattle.std.proofs.lemmas.Bool.Decides.{Decides-eqb, Decides-and, Decides-lik
 use Rattle.std.proofs.lemmas.Slice.Eq.{slice_eq-Decides, bytes_eq-Decides, starts_is}
 use Rattle.std.proofs.lemmas.Option.{slice_get_within, get_or_from_slice_get, slice_get-get_or}
 use Rattle.mt_skel.proofs.ListLaws.{snoc_same, snoc_some, front_empty, last_of, pushed, kept, last_place}
-use Rattle.mt_skel.specs.Skeleton.{Skeleton, Directory, Filesystem, path_eq, directory_eq, is_directory, is_filesystem, directory, fs_named, number_of, child, holds, with_fs, with_dir, IsSkeleton}
+use Rattle.mt_skel.specs.Skeleton.{Skeleton, Directory, Filesystem, path_eq, directory_eq, is_directory, is_filesystem, directory, fs_named, directory_number, child, holds, with_fs, with_dir, IsSkeleton}
 
 -- the first place where a test passes
 module _ {X : Type 0} (p : X → Bool) where
@@ -63,21 +63,21 @@ directory_eq-Decides d e =
     Decides-like (directory_eq d e) (λ h i. record { fs = h.0 i; path = h.1 i }) (λ h. (ap (λ x. x.fs) h, ap (λ x. x.path) h)) (Decides-and (eqb d.fs e.fs) (path_eq d.path e.path) (Decides-eqb d.fs e.fs) (path_eq-Decides d.path e.path))
 
 -- a number is of a directory where the directory stands there
-pub at_number : (s : Skeleton) (d : Directory) (i : ℕ) → number_of s d ≡ Some i → slice_get s.directories i ≡ Some d
+pub at_number : (s : Skeleton) (d : Directory) (i : ℕ) → directory_number s d ≡ Some i → slice_get s.directories i ≡ Some d
 at_number s d i e =
     let h = place_found (directory_eq d) s.directories 0 i e in
     let same : d ≡ h.1 = (directory_eq-Decides d h.1).0 h.4 in
     ap (slice_get s.directories) (let z : i ≡ h.0 = omega (arith, h.2) in z) ∙ h.3 ∙ ap (λ x. Some x) (sym same)
 
-pub number_at : (s : Skeleton) → IsSkeleton s → (d : Directory) (i : ℕ) → slice_get s.directories i ≡ Some d → number_of s d ≡ Some i
+pub number_at : (s : Skeleton) → IsSkeleton s → (d : Directory) (i : ℕ) → slice_get s.directories i ≡ Some d → directory_number s d ≡ Some i
 number_at s is d i e =
     place_first (directory_eq d) s.directories 0 i i d e ((directory_eq-Decides d d).1 refl) (λ j y at t. is.once j i d (at ∙ ap (λ x. Some x) (sym ((directory_eq-Decides d y).0 t))) e) (omega arith)
 
-pub number_none : (s : Skeleton) (d : Directory) → ((i : ℕ) → ¬ (slice_get s.directories i ≡ Some d)) → number_of s d ≡ None
+pub number_none : (s : Skeleton) (d : Directory) → ((i : ℕ) → ¬ (slice_get s.directories i ≡ Some d)) → directory_number s d ≡ None
 number_none s d off =
     place_none (directory_eq d) s.directories 0 (λ j y at. false_from_ne_true (directory_eq d y) (λ t. off j (at ∙ ap (λ x. Some x) (sym ((directory_eq-Decides d y).0 t)))))
 
-pub none_number : (s : Skeleton) (d : Directory) (i : ℕ) → number_of s d ≡ None → ¬ (slice_get s.directories i ≡ Some d)
+pub none_number : (s : Skeleton) (d : Directory) (i : ℕ) → directory_number s d ≡ None → ¬ (slice_get s.directories i ≡ Some d)
 none_number s d i e at = true≢false (sym ((directory_eq-Decides d d).1 refl) ∙ no_place (directory_eq d) s.directories 0 e i d at)
 
 -- what the tests of numbers say
@@ -122,13 +122,13 @@ pub child_at : (s : Skeleton) (fs here below : ℕ) (front : List (List ℕ)) (n
     → slice_get s.directories below ≡ Some (record { fs = fs; path = front ++ name ∷ [] })
 child_at s fs here below front name e c =
     let at = at_directory s here (record { fs = fs; path = front }) e in
-    at_number s (record { fs = fs; path = front ++ name ∷ [] }) below (ap (λ d. number_of s (record { fs = d.fs; path = d.path ++ name ∷ [] })) (sym at) ∙ c)
+    at_number s (record { fs = fs; path = front ++ name ∷ [] }) below (ap (λ d. directory_number s (record { fs = d.fs; path = d.path ++ name ∷ [] })) (sym at) ∙ c)
 
 pub none_below : (s : Skeleton) → IsSkeleton s → (fs here : ℕ) (front rest path : List (List ℕ)) (name : List ℕ) → slice_get s.directories here ≡ Some (record { fs = fs; path = front }) → child s here name ≡ None
-    → path ≡ (front ++ name ∷ []) ++ rest → number_of s (record { fs = fs; path = path }) ≡ None
+    → path ≡ (front ++ name ∷ []) ++ rest → directory_number s (record { fs = fs; path = path }) ≡ None
 none_below s is fs here front rest path name e c split =
     let at = at_directory s here (record { fs = fs; path = front }) e in
-    let absent : number_of s (record { fs = fs; path = front ++ name ∷ [] }) ≡ None = ap (λ d. number_of s (record { fs = d.fs; path = d.path ++ name ∷ [] })) (sym at) ∙ c in
+    let absent : directory_number s (record { fs = fs; path = front ++ name ∷ [] }) ≡ None = ap (λ d. directory_number s (record { fs = d.fs; path = d.path ++ name ∷ [] })) (sym at) ∙ c in
     number_none s (record { fs = fs; path = path }) (λ i h.
     let above = above_there s is (length rest) fs (front ++ name ∷ []) rest i refl (h ∙ ap (λ (p : List (List ℕ)). Some (record { fs = fs; path = p })) split) in
     none_number s (record { fs = fs; path = front ++ name ∷ [] }) above.0 absent above.1)
@@ -218,7 +218,7 @@ pub holds_absent : (s : Skeleton) (outer inner : ℕ) → length s.directories �
 holds_absent s outer inner l = false_from_ne_true (holds s outer inner) (λ t. let a = (holds-Decides s outer inner).0 t in omega (arith, a.there))
 
 -- one directory more, below one that is there
-pub skeleton_with_dir : (s : Skeleton) → IsSkeleton s → (up : ℕ) (p : Directory) (name : List ℕ) → slice_get s.directories up ≡ Some p → number_of s (record { fs = p.fs; path = p.path ++ name ∷ [] }) ≡ None
+pub skeleton_with_dir : (s : Skeleton) → IsSkeleton s → (up : ℕ) (p : Directory) (name : List ℕ) → slice_get s.directories up ≡ Some p → directory_number s (record { fs = p.fs; path = p.path ++ name ∷ [] }) ≡ None
     → IsSkeleton (with_dir s (record { fs = p.fs; path = p.path ++ name ∷ [] }))
 skeleton_with_dir s is up p name u absent = record {
   names_once = is.names_once;

@@ -1,4 +1,5 @@
 -- The four escapes of names in lines (proc_pid_mountinfo(5); that no other byte is escaped is this project's rule).
+-- A word with no source is this project's rule.
 use Rattle.std.specs.Prelude.{ℕ, ◌==◌, ◌&&◌, if◌then◌else◌, List, [], ◌∷◌, Option, Some, None, codes}
 use Rattle.std.specs.List.{flat_map}
 

@@ -1,4 +1,5 @@
--- The names that refusals are printed by (this project's rule).
+-- The names that refusals are printed by.
+-- A word with no source is this project's rule.
 use Rattle.std.specs.Prelude.{ℕ, List, codes}
 use Rattle.mt_skel.specs.declared.fault.Fault.{Fault}
 use Rattle.mt_skel.specs.declared.fault.Fault.TheVariants.{BadLine, TooLong, BadPath, JournalFull, NoFilesystem, FilesystemExists, NoNamespace, NoEntry, EntryExists, NotMountRoot, RootPlace, Unbindable, SharedParent, IntoItself, UnbindableInside, Busy, BadAttr, TooMany, NoWatcher, WatcherOpen, TooManyWatchers, Lagged, Stopped, NoMemory}

@@ -1,4 +1,5 @@
--- What the labels and names of the server are (this project's rule).
+-- What the labels and names of the server are.
+-- A word with no source is this project's rule.
 use Rattle.std.specs.Prelude.{ℕ, Bool, not, ◌&&◌, ◌==◌, nat_le, List, length, codes}
 use Rattle.std.specs.List.{list_all}
 use Rattle.std.specs.Str.{bytes_eq}

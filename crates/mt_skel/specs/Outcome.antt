@@ -1,4 +1,5 @@
 -- What a call answers: the first refusal of a list whose condition holds, or else the effect.
+-- A word with no source is this project's rule.
 use Rattle.std.specs.Prelude.{Bool, cond, List, [], ◌∷◌, Option, Some, None, Result, Ok, Err}
 use Rattle.std.specs.Option.{option_map_or}
 use Rattle.mt_skel.specs.declared.fault.Fault.{Fault}

@@ -1,5 +1,6 @@
--- Directories: a skeleton is its filesystems and its directories, each in the order in which they were made.
--- A filesystem's number, the minor of its device, counts from 1 and a directory's from 0 (this project's rule).
+-- Directories: a skeleton is its filesystems and its directories, each in the order in which they were made. A filesystem's
+-- number, the minor of its device, counts from 1 and a directory's from 0.
+-- A word with no source is this project's rule.
 use Rattle.std.specs.Prelude.{◌≡◌, ℕ, ◌+◌, ◌-◌, ◌<◌, ◌≤◌, Bool, ◌&&◌, ◌==◌, nat_le, nat_lt, List, [], ◌∷◌, ◌++◌, length, take, drop, Option, Some, is_some, is_none, slice_index_or, slice_get, unwrap_or, Result}
 use Rattle.std.specs.List.{position_from, starts_with}
 use Rattle.mt_skel.specs.declared.fault.Fault.{Fault}
@@ -25,7 +26,7 @@ pub record Skeleton : Type 0 where
 abbrev pub empty_skeleton : Skeleton
 empty_skeleton = record { filesystems = []; directories = [] }
 
--- the limits of the server (this project's rule): filesystems, directories with the roots, and names from a root down
+-- the limits of the server: filesystems, directories with the roots, and names from a root down
 abbrev pub filesystem_limit : ℕ
 filesystem_limit = 256
 
@@ -59,16 +60,16 @@ directory s d = slice_index_or s.directories d (record { fs = 0; path = [] })
 abbrev pub fs_named : Skeleton → List ℕ → Option ℕ
 fs_named s name = position_from (λ f. bytes_eq f.name name) 1 s.filesystems
 
-abbrev pub number_of : Skeleton → Directory → Option ℕ
-number_of s d = position_from (directory_eq d) 0 s.directories
+abbrev pub directory_number : Skeleton → Directory → Option ℕ
+directory_number s d = position_from (directory_eq d) 0 s.directories
 
 -- the root directory of a filesystem
 abbrev pub root_of : Skeleton → ℕ → ℕ
-root_of s f = unwrap_or (number_of s (record { fs = f; path = [] })) 0
+root_of s f = unwrap_or (directory_number s (record { fs = f; path = [] })) 0
 
 -- the directory of this name in a directory
 abbrev pub child : Skeleton → ℕ → List ℕ → Option ℕ
-child s d name = number_of s (record { fs = (directory s d).fs; path = (directory s d).path ++ name ∷ [] })
+child s d name = directory_number s (record { fs = (directory s d).fs; path = (directory s d).path ++ name ∷ [] })
 
 -- one directory is the other, or above it: they are of one filesystem, and the names of the one begin those of the other
 abbrev pub holds : Skeleton → ℕ → ℕ → Bool
@@ -103,8 +104,8 @@ abbrev pub added_dir : Skeleton → List ℕ → List (List ℕ) → Result Skel
 added_dir s fs path =
     let f = unwrap_or (fs_named s fs) 0 in
     outcome (refuse_if (is_none (fs_named s fs)) NoFilesystem
-    ∷ refuse_if (is_none (number_of s (record { fs = f; path = take (length path - 1) path }))) NoEntry
-    ∷ refuse_if (is_some (number_of s (record { fs = f; path = path }))) EntryExists
+    ∷ refuse_if (is_none (directory_number s (record { fs = f; path = take (length path - 1) path }))) NoEntry
+    ∷ refuse_if (is_some (directory_number s (record { fs = f; path = path }))) EntryExists
     ∷ refuse_if (nat_lt depth_limit (length path)) TooMany
     ∷ refuse_if (nat_le directory_limit (length s.directories)) TooMany ∷ [])
     (with_dir s (record { fs = f; path = path }))

@@ -6,5 +6,6 @@
 
 pub mod escape;
 pub mod fault;
+pub mod list;
 pub mod name;
 pub mod skel;

@@ -184,14 +184,6 @@ impl Names {
         self.names.as_slice()
     }
 
-    /// The list back.
-    pub fn into_vec(self) -> Vec<Name>
-        ensures { result.items ≡ self }
-    {
-        let Self { names } = self;
-        names
-    }
-
     /// Equal names. Refused as `NoMemory` alone.
     pub fn copy(&self) -> Result<Names, Fault>
         ensures copy { IfOk result (λ names. names ≡ self.now) }

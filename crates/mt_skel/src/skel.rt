@@ -1,7 +1,7 @@
 //! The directories of all filesystems.
 ghost use Rattle.std.specs.Prelude.{◌≡◌, ◌≢◌, ◌↔◌, ◌<◌, ◌≤◌, [], ◌∷◌, ◌++◌, None, Bool, IsTrue, IfOk, IfErr, IfSome, OnErr, OnOk, IsOkUnless, Ok, Err, length};
 ghost use Rattle.mt_skel.specs.Nodes.{IsUp};
-ghost use Rattle.mt_skel.specs.Skeleton.{Skeleton, Directory, IsSkeleton, Filesystem as filesystem_of, empty_skeleton, is_filesystem, is_directory, filesystem, directory, fs_named, number_of, root_of, child, holds, added_fs, added_dir, with_dir};
+ghost use Rattle.mt_skel.specs.Skeleton.{Skeleton, Directory, IsSkeleton, Filesystem as filesystem_of, empty_skeleton, is_filesystem, is_directory, filesystem, directory, fs_named, directory_number, root_of, child, holds, added_fs, added_dir, with_dir};
 
 use crate::fault::Fault;
 use crate::name::{Label, Name};
@@ -77,6 +77,7 @@ impl Skel {
     /// An equal skeleton. Refused as `NoMemory` alone.
     pub fn copy(&self) -> Result<Skel, Fault>
         ensures copy { IfOk result (λ skel. skel ≡ self.now) }
+        ensures sound { IsSkeleton self.now }
         ensures memory { IsOkUnless result Fault.NoMemory }
     {
         Ok(Skel {
@@ -84,14 +85,6 @@ impl Skel {
             nodes: self.nodes.clone()?,
             alloc: self.alloc,
         })
-    }
-
-    /// How many directories there are, roots included.
-    pub fn directories(&self) -> usize
-        ensures count { result ≡ length self.now.directories }
-        ensures sound { IsSkeleton self.now }
-    {
-        self.nodes.len()
     }
 
     /// Adds a filesystem with its root directory, and answers its number.
@@ -248,7 +241,7 @@ impl Skel {
     /// The number of the directory with this path.
     fn find(&self, fs: FsId, path: &[Name]) -> Option<Dir>
         requires { IsTrue (is_filesystem self.now fs) }
-        ensures { result ≡ number_of self.now (record { fs = fs; path = path.now }) }
+        ensures { result ≡ directory_number self.now (record { fs = fs; path = path.now }) }
     {
         let mut here = self.filesystems[(fs - 1) as usize].root;
         for name in path {

@@ -3,6 +3,7 @@ use Rattle.std.proofs.Common.{◌≡◌, ℕ, Bool, true, false, cond, not, List
 use Rattle.std.specs.List.{cons_option, filter_map, list_any}
 use Rattle.std.specs.Option.{option_and_then, is_none}
 use Rattle.mt_skel.specs.Keyed.{without}
+use Rattle.mt_skel.proofs.ChainLaws.{follow-stop}
 use Rattle.mt_skel.proofs.KeyedLaws.{rises-filter}
 use Rattle.mt_mounts.specs.declared.mount.Mount.{Mount}
 use Rattle.mt_mounts.specs.declared.mount.Place.{Place}
@@ -11,11 +12,10 @@ use Rattle.mt_peers.specs.Loss.{left}
 use Rattle.mt_propagate.specs.World.{WorldView}
 use Rattle.mt_propagate.specs.WellFormed.{IsWellFormed}
 use Rattle.mt_propagate.specs.Carried.{IsFree}
-use Rattle.mt_propagate.proofs.ElementLaws.{In, in_filter, in_row}
-use Rattle.mt_unmount.specs.Unmounting.{place_of, stands_on, removed, is_removed, slid, without_mount}
+use Rattle.mt_skel.proofs.ElementLaws.{In, in_filter, in_row}
+use Rattle.mt_unmount.specs.Unmounting.{place_of, stands_on, removed, is_removed, slide, slid, without_mount}
 use Rattle.mt_unmount.specs.Detaching.{relocation_past, staying, detached}
-use Rattle.mt_unmount.proofs.EndLaws.{last-stop}
-use Rattle.mt_unmount.proofs.SlideLaws.{slide, heir_at, slid-there, heir-single}
+use Rattle.mt_unmount.proofs.SlideLaws.{heir_at, slid-there, heir-single}
 use Rattle.mt_unmount.proofs.UnmountTreeLaws.{goes}
 use Rattle.mt_unmount.proofs.PlacedLaws.{relocation, Fits, placed-each}
 
@@ -36,7 +36,7 @@ module _ (w : WorldView) (h : IsWellFormed w) (i : ℕ) (rooted : is_none (place
   fits : Fits (is_removed w i) (slid w i) rest
   fits = record {
     rising = rises-filter id_of (λ m. not (goes w i m)) w.forest h.forest.rising;
-    stays = λ p off. last-stop (slide w i) (length w.forest) p (ap (λ b. cond b (place_of w p.mount) None) off);
+    stays = λ p off. follow-stop (slide w i) (length w.forest) p (ap (λ b. cond b (place_of w p.mount) None) off);
     lands = λ m p e at.
         let k = known m e in
         (slid-there w h i rooted bare m.id m p k.0 at k.1).1;

@@ -1,5 +1,4 @@
 pub mod RemovedLaws
-pub mod EndLaws
 pub mod SlideLaws
 pub mod UnmountTreeLaws
 pub mod UnmountLaws

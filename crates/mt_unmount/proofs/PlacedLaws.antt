@@ -8,10 +8,10 @@ use Rattle.mt_skel.specs.Keyed.{rises}
 use Rattle.mt_mounts.specs.declared.mount.Mount.{Mount}
 use Rattle.mt_mounts.specs.declared.mount.Place.{Place}
 use Rattle.mt_mounts.specs.Forest.{id_of, mount_at, on, is_at}
-use Rattle.mt_mounts.specs.Table.{with_place}
+use Rattle.mt_mounts.specs.ForestView.{with_place}
 use Rattle.mt_peers.proofs.MemberLaws.{some-is}
 use Rattle.mt_propagate.specs.Carried.{placed, IsFree}
-use Rattle.mt_propagate.proofs.ElementLaws.{In, in_append, in_row, find_in}
+use Rattle.mt_skel.proofs.ElementLaws.{In, in_append, in_row, find_in}
 use Rattle.mt_propagate.proofs.WalkLaws.{stands_at}
 
 -- a mount at another place

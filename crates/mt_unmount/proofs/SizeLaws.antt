@@ -10,7 +10,7 @@ use Rattle.mt_mounts.specs.declared.mount.Mount.{Mount}
 use Rattle.mt_mounts.specs.Walk.{walk}
 use Rattle.mt_peers.specs.Loss.{left}
 use Rattle.mt_propagate.specs.World.{WorldView}
-use Rattle.mt_propagate.specs.Named.{place_or_nowhere, is_named_mount, is_root_mount}
+use Rattle.mt_propagate.specs.Named.{place_or_nowhere, is_mount_root, is_root_mount}
 use Rattle.mt_propagate.proofs.SizeLaws.{IsSized, few_pass}
 use Rattle.mt_unmount.specs.Unmounting.{unmounted, without_mount, stands_on, is_removed, slid}
 
@@ -19,7 +19,7 @@ unfolding without_mount left
 gone_sized w v n path few e =
     let p = place_or_nowhere (walk w.skel w.forest n path) in
     let same = (outcome_ok (fault_of (walk w.skel w.forest n path)
-    ∷ refuse_if (not (is_named_mount w p)) NotMountRoot
+    ∷ refuse_if (not (is_mount_root w p)) NotMountRoot
     ∷ refuse_if (is_root_mount w p) RootPlace
     ∷ refuse_if (list_any (stands_on p.mount) w.forest) Busy ∷ []) (without_mount w p.mount) v e).0 in
     let stays : Mount → Bool = λ m. not (is_removed w p.mount m.id) in

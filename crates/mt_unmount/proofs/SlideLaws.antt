@@ -5,7 +5,7 @@ use Rattle.std.specs.Option.{option_and_then, is_none}
 use Rattle.std.proofs.lemmas.Bool.{cases_lt}
 use Rattle.mt_skel.specs.Chain.{ends}
 use Rattle.mt_skel.proofs.KeyedLaws.{row_at-key}
-use Rattle.mt_skel.proofs.ChainLaws.{ends-rank}
+use Rattle.mt_skel.proofs.ChainLaws.{ends-rank, chain-some, follow-holds}
 use Rattle.mt_mounts.specs.declared.mount.Mount.{Mount}
 use Rattle.mt_mounts.specs.declared.mount.Place.{Place}
 use Rattle.mt_mounts.specs.Forest.{id_of, mount_at, on, parent, root_place}
@@ -14,16 +14,11 @@ use Rattle.mt_peers.proofs.MemberLaws.{some-is, length-chain-le}
 use Rattle.mt_propagate.specs.World.{WorldView}
 use Rattle.mt_propagate.specs.WellFormed.{IsWellFormed}
 use Rattle.mt_propagate.proofs.TreeLaws.{rank-fell, on-is}
-use Rattle.mt_unmount.specs.Unmounting.{place_of, stands_on, is_removed, slid}
-use Rattle.mt_unmount.proofs.EndLaws.{length-some, last-holds}
+use Rattle.mt_unmount.specs.Unmounting.{place_of, stands_on, is_removed, slide, slid}
 use Rattle.mt_unmount.proofs.RemovedLaws.{place-at, placed-mount, gap-below}
 
 module _ (w : WorldView) (i : ℕ) where
-  -- a place on a mount that goes slides to that mount's place
-  abbrev pub slide : Place → Option Place
-  slide q = cond (is_removed w i q.mount) (place_of w q.mount) None
-
-  slide-from : (x y : Place) → slide x ≡ Some y → (is_removed w i x.mount ≡ true) × (place_of w x.mount ≡ Some y)
+  slide-from : (x y : Place) → slide w i x ≡ Some y → (is_removed w i x.mount ≡ true) × (place_of w x.mount ≡ Some y)
   slide-from x y e = go (is_removed w i x.mount) refl e
     where
       go : (b : Bool) → is_removed w i x.mount ≡ b → cond b (place_of w x.mount) None ≡ Some y → (is_removed w i x.mount ≡ true) × (place_of w x.mount ≡ Some y)
@@ -72,7 +67,7 @@ module _ (w : WorldView) (h : IsWellFormed w) (i : ℕ) where
   slide-ends : (p : Place) → ends (slide w i) (length w.forest) p ≡ true
   slide-ends p =
       ends-rank (slide w i) (λ q. rank q.mount - 1)
-      (λ x y e. let f = falls x y e in let some = length-some (parent w.forest) (length w.forest) y.mount in omega arith)
+      (λ x y e. let f = falls x y e in let some = chain-some (parent w.forest) (length w.forest) y.mount in omega arith)
       (length w.forest) p (let l = length-chain-le (parent w.forest) (length w.forest) p.mount in omega arith)
 
   found : (k : ℕ) (m : Mount) (p : Place) → mount_at w.forest k ≡ Some m → m.place ≡ Some p → on w.forest p ≡ Some m
@@ -125,7 +120,7 @@ module _ (w : WorldView) (h : IsWellFormed w) (i : ℕ) where
     slid-there k m p e at stays =
         let start : Slides k m p =
         record { id = k; mount = m; there = e; stands = at; space = refl; lower = rank-fell w.skel w.forest h.forest k m p e at; steps = 1; leads = heir-here k m p e at stays } in
-        let end = last-holds (slide w i) (Slides k m) (slides-on k m) (length w.forest) p start (slide-ends p) in
+        let end = follow-holds (slide w i) (Slides k m) (slides-on k m) (length w.forest) p start (slide-ends p) in
         (end.0, by (slid w i p) end.0 end.1 (is_removed w i (slid w i p).mount) refl)
       where
         by : (q : Place) → Slides k m q → slide w i q ≡ None → (b : Bool) → is_removed w i q.mount ≡ b → b ≡ false

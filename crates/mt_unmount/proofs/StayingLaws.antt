@@ -2,8 +2,8 @@
 use Rattle.std.proofs.Common.{◌≡◌, ℕ, zero, suc, ◌+◌, ◌<◌, ◌≤◌, length, drop, get_or, arith, Bool, true, false, cond, not, ◌||◌, eqb, eqb-true, eq-eqb, List, [], ◌∷◌, refl, sym, ap, ◌∙◌}
 use Rattle.std.specs.List.{filter}
 use Rattle.mt_mounts.specs.declared.mount.Mount.{Mount}
-use Rattle.mt_mounts.specs.Table.{without_id}
-use Rattle.mt_peers.specs.Entries.{among}
+use Rattle.mt_mounts.specs.ForestView.{without_id}
+use Rattle.mt_skel.specs.Keyed.{among}
 use Rattle.mt_unmount.specs.Detaching.{staying}
 
 filter-all : {X : Type 0} (xs : List X) → filter (λ (x : X). true) xs ≡ xs

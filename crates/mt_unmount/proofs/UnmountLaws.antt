@@ -16,7 +16,7 @@ use Rattle.mt_peers.specs.Loss.{left}
 use Rattle.mt_peers.proofs.LeavingLaws.{left-IsPeering}
 use Rattle.mt_peers.proofs.AlikeLaws.{IsAlike, left-IsAlike, same-IsAlike}
 use Rattle.mt_propagate.specs.World.{WorldView}
-use Rattle.mt_propagate.specs.Named.{place_or_nowhere, is_named_mount, is_root_mount}
+use Rattle.mt_propagate.specs.Named.{place_or_nowhere, is_mount_root, is_root_mount}
 use Rattle.mt_propagate.specs.WellFormed.{IsWellFormed, fs_at}
 use Rattle.mt_propagate.proofs.RowLaws.{keys-map, keys-filter}
 use Rattle.mt_propagate.proofs.ShownLaws.{shown-alike, groups-show, masters-show, left-mounts, state-mount}
@@ -71,7 +71,7 @@ pub unmounted-kept : (w : WorldView) → IsWellFormed w → (n : ℕ) (path : Li
 unmounted-kept w h n path v e =
     let p = place_or_nowhere (walk w.skel w.forest n path) in
     let lost = fault_of (walk w.skel w.forest n path) in
-    let unnamed = refuse_if (not (is_named_mount w p)) NotMountRoot in
+    let unnamed = refuse_if (not (is_mount_root w p)) NotMountRoot in
     let root = refuse_if (is_root_mount w p) RootPlace in
     let busy = refuse_if (list_any (stands_on p.mount) w.forest) Busy in
     let ok = outcome_ok (lost ∷ unnamed ∷ root ∷ busy ∷ []) (without_mount w p.mount) v e in

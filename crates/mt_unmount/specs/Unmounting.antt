@@ -1,11 +1,12 @@
 -- umount: the world after the call, or the first refusal whose condition holds.
+-- A word with no source is this project's rule.
 use Rattle.std.specs.Prelude.{ℕ, Bool, false, cond, not, ◌==◌, List, [], ◌∷◌, map, length, Option, None, Result}
-use Rattle.std.specs.List.{filter, filter_map, list_any, list_all, last_or}
-use Rattle.std.specs.Option.{option_map, unwrap_or, option_map_or}
+use Rattle.std.specs.List.{filter, filter_map, list_any, list_all}
+use Rattle.std.specs.Option.{option_map, option_map_or}
 use Rattle.mt_skel.specs.declared.fault.Fault.{Fault}
 use Rattle.mt_skel.specs.declared.fault.Fault.TheVariants.{NotMountRoot, RootPlace, Busy}
 use Rattle.mt_skel.specs.Keyed.{without}
-use Rattle.mt_skel.specs.Chain.{chain}
+use Rattle.mt_skel.specs.Chain.{follow}
 use Rattle.mt_skel.specs.Outcome.{refuse_if, fault_of, outcome}
 use Rattle.mt_mounts.specs.declared.mount.Mount.{Mount}
 use Rattle.mt_mounts.specs.declared.mount.Place.{Place}
@@ -13,7 +14,7 @@ use Rattle.mt_mounts.specs.Forest.{on, id_of}
 use Rattle.mt_mounts.specs.Walk.{walk}
 use Rattle.mt_peers.specs.Loss.{left}
 use Rattle.mt_propagate.specs.World.{WorldView}
-use Rattle.mt_propagate.specs.Named.{place_or_nowhere, mount_or_unknown, is_named_mount, is_root_mount}
+use Rattle.mt_propagate.specs.Named.{place_or_nowhere, mount_or_unknown, is_mount_root, is_root_mount}
 use Rattle.mt_propagate.specs.Receivers.{hits}
 
 -- the place of a mount (proc_pid_mountinfo(5), fields 2 and 5)
@@ -29,7 +30,7 @@ abbrev pub children : WorldView → ℕ → List Mount
 children w i = filter (stands_on i) w.forest
 
 -- a propagated unmount spares a mount with children (`sharedsubtree`, unmount semantics), except for one that stands at its own
--- root directory (this project's rule)
+-- root directory
 abbrev pub may_go : WorldView → Mount → Bool
 may_go w m = list_all (λ c. option_map_or (λ p. p.dir == m.root) c.place false) (children w m.id)
 
@@ -43,10 +44,13 @@ removed w i =
 abbrev pub is_removed : WorldView → ℕ → ℕ → Bool
 is_removed w i j = list_any (λ k. k == j) (removed w i)
 
--- a mount that stays slides to the place of a removed parent, and on while the parent there goes too (this project's rule)
+-- a place on a mount that goes leads to the place of that mount
+abbrev pub slide : WorldView → ℕ → Place → Option Place
+slide w i p = cond (is_removed w i p.mount) (place_of w p.mount) None
+
+-- a mount that stays slides to the place of a removed parent, and on while the parent there goes too
 abbrev pub slid : WorldView → ℕ → Place → Place
-slid w i p =
-    unwrap_or (last_or None (chain (λ (q : Place). cond (is_removed w i q.mount) (place_of w q.mount) None) (length w.forest) p)) p
+slid w i p = follow (slide w i) (length w.forest) p
 
 -- the world once a mount is unmounted, there and wherever that propagates (`sharedsubtree`, unmount semantics; the masters after
 -- it: this project's rule)
@@ -62,7 +66,7 @@ abbrev pub unmounted : WorldView → ℕ → List (List ℕ) → Result WorldVie
 unmounted w n path =
     let p = place_or_nowhere (walk w.skel w.forest n path) in
     outcome (fault_of (walk w.skel w.forest n path)
-    ∷ refuse_if (not (is_named_mount w p)) NotMountRoot
+    ∷ refuse_if (not (is_mount_root w p)) NotMountRoot
     ∷ refuse_if (is_root_mount w p) RootPlace
     ∷ refuse_if (list_any (stands_on p.mount) w.forest) Busy ∷ [])
     (without_mount w p.mount)

@@ -2,7 +2,7 @@
 ghost use Rattle.std.specs.Prelude.{◌≡◌, ◌≢◌, ◌++◌, ◌==◌, Ok, Err, IfOk, IfErr, OnOk, OnErr, IsOkUnless};
 ghost use Rattle.std.specs.List.{list_any, filter_map};
 ghost use Rattle.mt_mounts.specs.Forest.{on};
-ghost use Rattle.mt_peers.specs.Entries.{among};
+ghost use Rattle.mt_skel.specs.Keyed.{among};
 ghost use Rattle.mt_propagate.specs.World.{world_view};
 ghost use Rattle.mt_propagate.specs.WellFormed.{IsWellFormed};
 ghost use Rattle.mt_propagate.specs.Carried.{IsFree};
@@ -10,39 +10,22 @@ ghost use Rattle.mt_unmount.specs.Unmounting.{place_of, stands_on, removed, unmo
 ghost use Rattle.mt_unmount.specs.Detaching.{is_in_dir, may_go_of, going_at, slide_past, slid_past, relocation_past, staying, detached};
 
 use mt_mounts::forest::Forest;
-use mt_mounts::mount::{Mount, MountId, Place, SpaceId};
+use mt_mounts::mount::{Mount, MountId, Place, SpaceId, standing_at};
 use mt_propagate::carry::move_all;
-use mt_propagate::named::{is_named_mount, is_root_mount};
+use mt_propagate::named::{is_mount_root, is_root_mount};
 use mt_propagate::receivers::receivers;
 use mt_propagate::world::World;
 use mt_skel::fault::Fault;
+use mt_skel::list::is_among;
 use mt_skel::name::Name;
 use mt_skel::skel::Dir;
 use std::alloc::Global;
 
-fn is_among(ids: &[MountId], id: MountId) -> bool
-    ensures { result ≡ among ids.now id }
-{
-    ids.iter().any(|other| *other == id)
-}
-
-// The place of a mount, if it is there and has one.
+/// The place of a mount, if it is there and has one.
 fn place_of(world: &World, id: MountId) -> Option<Place>
     ensures { result ≡ place_of (world_view world.now) id }
 {
     world.forest.get(id)?.place
-}
-
-// The mount that stands at a place.
-fn standing_at(mounts: &[Mount], place: Place) -> Option<Mount>
-    ensures { result ≡ on mounts.now place }
-{
-    for mount in mounts {
-        if mount.place == Some(place) {
-            return Some(*mount);
-        }
-    }
-    None
 }
 
 fn stands_on(mount: &Mount, id: MountId) -> bool
@@ -54,7 +37,7 @@ fn stands_on(mount: &Mount, id: MountId) -> bool
     }
 }
 
-// Whether a mount stands at this directory, of whatever mount.
+/// Whether a mount stands at this directory, of whatever mount.
 fn is_in_dir(mount: &Mount, dir: Dir) -> bool
     ensures { result ≡ is_in_dir dir mount.now }
 {
@@ -70,7 +53,7 @@ fn has_child(mounts: &[Mount], id: MountId) -> bool
     mounts.iter().any(|mount| stands_on(mount, id))
 }
 
-// Whether a mount goes with one at the same directory: what stands on it stands at its root.
+/// Whether a mount goes with one at the same directory: what stands on it stands at its root.
 fn may_go(mounts: &[Mount], mount: &Mount) -> bool
     ensures { result ≡ may_go_of mounts.now mount.now }
 {
@@ -82,7 +65,7 @@ fn may_go(mounts: &[Mount], mount: &Mount) -> bool
     true
 }
 
-// Appends the mounts that go at these targets, each of which stands at this directory.
+/// Appends the mounts that go at these targets, each of which stands at this directory.
 fn push_going(
     mounts: &[Mount],
     targets: &[MountId],
@@ -106,8 +89,8 @@ fn push_going(
     Ok(())
 }
 
-// The mounts that go with one: it, and at each target of its place the mount at the same directory,
-// if that may go.
+/// The mounts that go with one: it, and at each target of its place the mount at the same directory,
+/// if that may go.
 fn removed(
     alloc: Global,
     world: &World,
@@ -127,7 +110,7 @@ fn removed(
     Ok(ids)
 }
 
-// Where a place on a mount that goes leads: to that mount's place.
+/// Where a place on a mount that goes leads: to that mount's place.
 fn slide(world: &World, ids: &[MountId], place: Place) -> Option<Place>
     ensures { result ≡ slide_past (world_view world.now) ids.now place }
 {
@@ -138,7 +121,7 @@ fn slide(world: &World, ids: &[MountId], place: Place) -> Option<Place>
     }
 }
 
-// Where a mount of this place comes to stand: it slides on while the mount under it goes.
+/// Where a mount of this place comes to stand: it slides on while the mount under it goes.
 fn slid(world: &World, ids: &[MountId], place: Place) -> Place
     ensures { result ≡ slid_past (world_view world.now) ids.now place }
 {
@@ -152,7 +135,7 @@ fn slid(world: &World, ids: &[MountId], place: Place) -> Place
     here
 }
 
-// A mount that stays and stands on one that goes, and its new place.
+/// A mount that stays and stands on one that goes, and its new place.
 fn relocation(world: &World, ids: &[MountId], mount: &Mount) -> Option<(MountId, Place)>
     ensures { result ≡ relocation_past (world_view world.now) ids.now mount.now }
 {
@@ -163,7 +146,7 @@ fn relocation(world: &World, ids: &[MountId], mount: &Mount) -> Option<(MountId,
     Some((mount.id, slid(world, ids, place)))
 }
 
-// All mounts that stay and stand on one that goes, and their new places.
+/// All mounts that stay and stand on one that goes, and their new places.
 fn relocations(
     alloc: Global,
     world: &World,
@@ -182,7 +165,7 @@ fn relocations(
     Ok(relocations)
 }
 
-// Takes these mounts away, one after the other.
+/// Takes these mounts away, one after the other.
 fn remove_all(forest: &mut Forest, ids: &[MountId])
     ensures { forest.new.mounts ≡ staying ids.now forest.old.mounts }
 {
@@ -191,7 +174,7 @@ fn remove_all(forest: &mut Forest, ids: &[MountId])
     }
 }
 
-// Takes these mounts away, and moves others to the places that get free.
+/// Takes these mounts away, and moves others to the places that get free.
 fn detach(world: &mut World, ids: &[MountId], relocations: &[(MountId, Place)])
     requires { IsFree relocations.now (staying ids.now world.old.forest.mounts) }
     ensures { world_view world.new ≡ detached ids.now relocations.now (world_view world.old) }
@@ -216,7 +199,7 @@ pub fn unmount(world: &mut World, space: SpaceId, path: &[Name]) -> Result<(), F
     ensures kept { IsWellFormed (world_view world.new) }
 {
     let place = world.forest.walk(&world.skel, space, path)?;
-    if !is_named_mount(world, place) {
+    if !is_mount_root(world, place) {
         return Err(Fault::NotMountRoot);
     }
     if is_root_mount(world, place) {

@@ -1,9 +1,11 @@
-use Rattle.std.proofs.Common.{◌≡◌, ℕ, cond, length, Ok, Err, sym, ap, ◌∙◌, subst, arith}
+use Rattle.std.proofs.Common.{◌≡◌, ℕ, ◌+◌, ◌≤◌, true, cond, length, Ok, Err, sym, ap, ◌∙◌, subst, arith}
+use Rattle.std.specs.Prelude.{nat_lt}
+use Rattle.std.proofs.lemmas.Bool.Decides.{nat_tests}
 use Rattle.std.proofs.lemmas.Result.{err_from_is_err_and}
 use Rattle.mt_skel.specs.declared.fault.Fault.{Fault}
 use Rattle.mt_mounts.specs.declared.mount.Place.{Place}
 use Rattle.mt_propagate.specs.World.{WorldView, world_view}
-use Rattle.mt_propagate.specs.Limits.{too_many_mounts}
+use Rattle.mt_propagate.specs.Limits.{mount_limit, too_many_mounts}
 use Rattle.mt_propagate.specs.Copies.{Source, new_copies}
 use Rattle.mt_propagate.specs.Sound.{IsSource, IsDestination}
 use Rattle.mt_propagate.specs.Plans.{source_in, place_in}
@@ -13,20 +15,24 @@ use Rattle.mt_bind.proofs.MemberLaws.{stays, full}
 use Rattle.mt_bind.proofs.BoundLaws.{effect, bound_done, bound_full}
 use Rattle.mt_bind.proofs.binding.bind_from.Goals as goal
 
-pub returns-then-len-ge-MOST_MOUNTS-clause-refused : goal.returns-then-len-ge-MOST_MOUNTS-clause-refused
-returns-then-len-ge-MOST_MOUNTS-clause-refused c _ =
+-- where one more is too many, there are as many as there can be
+most : (n : ℕ) → nat_lt mount_limit (n + 1) ≡ true → mount_limit ≤ n
+most n e = grind (arith, nat_tests)
+
+pub returns-then-too_many_mounts-clause-refused : goal.returns-then-too_many_mounts-clause-refused
+returns-then-too_many_mounts-clause-refused c _ =
     let w = world_view c.args.world.now in
     let n = c.args.space in
-    let deep = c.args.deep in
+    let recursive = c.args.recursive in
     let s = c.in_ok-source.source in
     let p = c.in_ok-place.place in
     let began = sym c.walk.ensures ∙ c.in_ok-source.was in
-    let src = cond deep (tree_within w s) (alone w s) in
-    let tree = bound_source w n c.args.from.now deep s p c.requires.well_formed began in
-    bound_full w n deep c.args.from.now c.args.to.now s began p (sym c.walk-2.ensures ∙ c.in_ok-place.was)
+    let src = cond recursive (tree_within w s) (alone w s) in
+    let tree = bound_source w n c.args.from.now recursive s p c.requires.well_formed began in
+    bound_full w n recursive c.args.from.now c.args.to.now s began p (sym c.walk-2.ensures ∙ c.in_ok-place.was)
     (sym c.is_root_place.ensures ∙ c.if-is_root_place.false)
     (sym c.is_unbindable.ensures ∙ c.if-is_unbindable.false)
-    (full w src p (stays w s deep) tree (omega (arith, c.if-len-ge-MOST_MOUNTS.true, c.len.ensures)))
+    (full w src p (stays w s recursive) tree (most (length w.forest) (sym c.too_many_mounts.ensures ∙ c.if-too_many_mounts.true)))
 
 pub returns-in_err-plan-clause-refused : goal.returns-in_err-plan-clause-refused
 returns-in_err-plan-clause-refused c =
@@ -37,7 +43,7 @@ returns-in_err-plan-clause-refused c =
     let p = c.in_ok-place.place in
     let r = c.in_err-plan.ensures.refused ne in
     let many = ap (λ (src : Source). too_many_mounts w (length (new_copies w src p))) (sym c.in_ok-sources.ensures.sources) ∙ r.1 in
-    bound_full w c.args.space c.args.deep c.args.from.now c.args.to.now s (sym c.walk.ensures ∙ c.in_ok-source.was) p (sym c.walk-2.ensures ∙ c.in_ok-place.was)
+    bound_full w c.args.space c.args.recursive c.args.from.now c.args.to.now s (sym c.walk.ensures ∙ c.in_ok-source.was) p (sym c.walk-2.ensures ∙ c.in_ok-place.was)
     (sym c.is_root_place.ensures ∙ c.if-is_root_place.false)
     (sym c.is_unbindable.ensures ∙ c.if-is_unbindable.false)
     many
@@ -48,8 +54,8 @@ carry_out-requires-clause-source c =
     let w = world_view c.args.world.now in
     let s = c.in_ok-source.source in
     let p = place_in c.in_ok-plan.plan in
-    let source : source_in c.in_ok-plan.plan ≡ cond c.args.deep (tree_within w s) (alone w s) = c.in_ok-plan.ensures.given.0 ∙ c.in_ok-sources.ensures.sources in
-    let tree = bound_source w c.args.space c.args.from.now c.args.deep s p c.requires.well_formed (sym c.walk.ensures ∙ c.in_ok-source.was) in
+    let source : source_in c.in_ok-plan.plan ≡ cond c.args.recursive (tree_within w s) (alone w s) = c.in_ok-plan.ensures.given.0 ∙ c.in_ok-sources.ensures.sources in
+    let tree = bound_source w c.args.space c.args.from.now c.args.recursive s p c.requires.well_formed (sym c.walk.ensures ∙ c.in_ok-source.was) in
     subst (λ (v : WorldView). IsSource v (source_in c.in_ok-plan.plan) p) (sym c.in_ok-ready.ensures.world) (subst (λ (src : Source). IsSource w src p) (sym source) tree)
 
 pub carry_out-requires-clause-destination : goal.carry_out-requires-clause-destination
@@ -63,20 +69,20 @@ pub returns-clause-done : goal.returns-clause-done
 returns-clause-done c =
     let w = world_view c.args.world.now in
     let n = c.args.space in
-    let deep = c.args.deep in
+    let recursive = c.args.recursive in
     let from = c.args.from.now in
     let to = c.args.to.now in
     let s = c.in_ok-source.source in
     let p = c.in_ok-place.place in
     let plan = c.in_ok-plan.plan in
-    let src = cond deep (tree_within w s) (alone w s) in
+    let src = cond recursive (tree_within w s) (alone w s) in
     let source : source_in plan ≡ src = c.in_ok-plan.ensures.given.0 ∙ c.in_ok-sources.ensures.sources in
     let same : effect (world_view c.ready.new.world) (source_in plan) (place_in plan) ≡ effect w src p =
     ap (λ (v : WorldView). effect v (source_in plan) (place_in plan)) c.in_ok-ready.ensures.world
     ∙ ap (λ (t : Source). effect w t (place_in plan)) source
     ∙ ap (λ (q : Place). effect w src q) c.in_ok-plan.ensures.given.1 in
     let few = ap (λ (t : Source). too_many_mounts w (length (new_copies w t p))) (sym c.in_ok-sources.ensures.sources) ∙ c.in_ok-plan.ensures.few in
-    bound_done w n deep from to s (sym c.walk.ensures ∙ c.in_ok-source.was) p (sym c.walk-2.ensures ∙ c.in_ok-place.was)
+    bound_done w n recursive from to s (sym c.walk.ensures ∙ c.in_ok-source.was) p (sym c.walk-2.ensures ∙ c.in_ok-place.was)
     (sym c.is_root_place.ensures ∙ c.if-is_root_place.false)
     (sym c.is_unbindable.ensures ∙ c.if-is_unbindable.false)
     few

@@ -19,7 +19,7 @@ parents-preserved c =
 pub returns-then-here-from : goal.returns-then-here-from
 returns-then-here-from c =
     let w = world_view c.args.world.now in
-    c.stands_in.ensures
+    c.leads_within.ensures
     ∙ sym (taken_here w c.args.from (length w.forest - c.parents._step) c.parents.passed c.parents.here c.if-here-from.true)
     ∙ c.parents.invariant.answers
 
@@ -32,6 +32,6 @@ returns-then-is_unbindable c =
 pub returns-then-here-from-2 : goal.returns-then-here-from-2
 returns-then-here-from-2 c =
     let w = world_view c.args.world.now in
-    c.stands_in-then-here-from-2.ensures
+    c.leads_within-then-here-from-2.ensures
     ∙ sym (taken_here w c.args.from (length w.forest - c.parents._step) c.parents.passed c.parents.here c.if-here-from-2.true)
     ∙ c.parents.invariant.answers

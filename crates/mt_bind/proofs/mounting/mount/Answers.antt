@@ -11,7 +11,7 @@ use Rattle.mt_propagate.specs.Sound.{IsSource, IsDestination}
 use Rattle.mt_propagate.specs.Plans.{source_of, source_in, place_in}
 use Rattle.mt_propagate.specs.declared.plan.Sources.TheVariants.{Fresh}
 use Rattle.mt_bind.specs.Sources.{fresh}
-use Rattle.mt_bind.proofs.SourceLaws.{fresh_source}
+use Rattle.mt_bind.proofs.SourceLaws.{fresh_is_source}
 use Rattle.mt_bind.proofs.MountLaws.{destination}
 use Rattle.mt_bind.proofs.MountedLaws.{mounted_done, mounted_full}
 use Rattle.mt_bind.proofs.mounting.mount.Goals as goal
@@ -38,7 +38,7 @@ carry_out-requires-clause-source c =
     let p = place_in c.in_ok-plan.plan in
     let source : source_in c.in_ok-plan.plan ≡ fresh w c.in-Some.fs = c.in_ok-plan.ensures.given.0 ∙ ap (λ (root : ℕ). source_of w (Fresh root)) c.root-root.ensures.root in
     subst (λ (v : WorldView). IsSource v (source_in c.in_ok-plan.plan) p) (sym c.in_ok-ready.ensures.world)
-    (subst (λ (s : Source). IsSource w s p) (sym source) (fresh_source w c.requires.well_formed c.in-Some.fs p (omega (arith, low))))
+    (subst (λ (s : Source). IsSource w s p) (sym source) (fresh_is_source w c.requires.well_formed c.in-Some.fs p (omega (arith, low))))
 
 pub carry_out-requires-clause-destination : goal.carry_out-requires-clause-destination
 carry_out-requires-clause-destination c =

@@ -24,7 +24,7 @@ returns-then-is_among-clause-refused c _ =
     let off = sym c.is_root_place.ensures ∙ c.if-is_root_place.false in
     let d = destination w n c.args.to.now p c.requires.well_formed ended off in
     let ids = c.deref.ensures.value ∙ c.in_ok-members.ensures.subtree in
-    into_itself w n c.args.from.now c.args.to.now s (sym c.walk.ensures ∙ c.in_ok-source.was) (sym c.is_named_mount.ensures ∙ c.if-not-is_named_mount.false)
+    into_itself w n c.args.from.now c.args.to.now s (sym c.walk.ensures ∙ c.in_ok-source.was) (sym c.is_mount_root.ensures ∙ c.if-not-is_mount_root.false)
     (sym c.is_root_mount.ensures ∙ c.if-is_root_mount.false) p ended off (sym c.has_shared_parent.ensures ∙ c.if-has_shared_parent.false)
     (sym (below_among w s.mount p.mount d.there.0 c.deref.result.now ids d.there.1) ∙ sym c.is_among.ensures ∙ c.if-is_among.true)
 
@@ -39,7 +39,7 @@ returns-then-is_unbindable_inside-clause-refused c _ =
     let d = destination w n c.args.to.now p c.requires.well_formed ended off in
     let among = sym (below_among w s.mount p.mount d.there.0 c.deref.result.now (c.deref.ensures.value ∙ c.in_ok-members.ensures.subtree) d.there.1) ∙ sym c.is_among.ensures ∙ c.if-is_among.false in
     let inside = unbindable_ids w s.mount c.deref-2.result.now (c.deref-2.ensures.value ∙ c.in_ok-members.ensures.subtree) in
-    unbindable_inside w n c.args.from.now c.args.to.now s (sym c.walk.ensures ∙ c.in_ok-source.was) (sym c.is_named_mount.ensures ∙ c.if-not-is_named_mount.false)
+    unbindable_inside w n c.args.from.now c.args.to.now s (sym c.walk.ensures ∙ c.in_ok-source.was) (sym c.is_mount_root.ensures ∙ c.if-not-is_mount_root.false)
     (sym c.is_root_mount.ensures ∙ c.if-is_root_mount.false) p ended off (sym c.has_shared_parent.ensures ∙ c.if-has_shared_parent.false) among
     (ap (λ b. is_some (group_of w p.mount) && b) (sym inside) ∙ sym c.is_unbindable_inside.ensures ∙ c.if-is_unbindable_inside.true)
 
@@ -53,7 +53,7 @@ returns-in_err-plan-clause-refused c =
     let p = c.in_ok-place.place in
     let ended = sym c.walk-2.ensures ∙ c.in_ok-place.was in
     let off = sym c.is_root_place.ensures ∙ c.if-is_root_place.false in
-    let named = sym c.is_named_mount.ensures ∙ c.if-not-is_named_mount.false in
+    let named = sym c.is_mount_root.ensures ∙ c.if-not-is_mount_root.false in
     let d = destination w n c.args.to.now p c.requires.well_formed ended off in
     let among = sym (below_among w s.mount p.mount d.there.0 c.deref.result.now (c.deref.ensures.value ∙ c.in_ok-members.ensures.subtree) d.there.1) ∙ sym c.is_among.ensures ∙ c.if-is_among.false in
     let inside = unbindable_ids w s.mount c.deref-2.result.now (c.deref-2.ensures.value ∙ c.in_ok-members.ensures.subtree) in
@@ -74,7 +74,7 @@ carry_out-requires-clause-source c =
     let plan = c.in_ok-plan.plan in
     let ended = sym c.walk-2.ensures ∙ c.in_ok-place.was in
     let off = sym c.is_root_place.ensures ∙ c.if-is_root_place.false in
-    let named = sym c.is_named_mount.ensures ∙ c.if-not-is_named_mount.false in
+    let named = sym c.is_mount_root.ensures ∙ c.if-not-is_mount_root.false in
     let d = destination w n c.args.to.now p c.requires.well_formed ended off in
     let among = sym (below_among w s.mount p.mount d.there.0 c.deref.result.now (c.deref.ensures.value ∙ c.in_ok-members.ensures.subtree) d.there.1) ∙ sym c.is_among.ensures ∙ c.if-is_among.false in
     let source : source_in plan ≡ tree_of w s.mount = c.in_ok-plan.ensures.given.0 ∙ moved_tree w s c.requires.well_formed.forest.rising named c.in_ok-members.members.items c.in_ok-members.ensures.subtree in
@@ -98,7 +98,7 @@ returns-clause-done c =
     let plan = c.in_ok-plan.plan in
     let ended = sym c.walk-2.ensures ∙ c.in_ok-place.was in
     let off = sym c.is_root_place.ensures ∙ c.if-is_root_place.false in
-    let named = sym c.is_named_mount.ensures ∙ c.if-not-is_named_mount.false in
+    let named = sym c.is_mount_root.ensures ∙ c.if-not-is_mount_root.false in
     let d = destination w n c.args.to.now p c.requires.well_formed ended off in
     let among = sym (below_among w s.mount p.mount d.there.0 c.deref.result.now (c.deref.ensures.value ∙ c.in_ok-members.ensures.subtree) d.there.1) ∙ sym c.is_among.ensures ∙ c.if-is_among.false in
     let inside = unbindable_ids w s.mount c.deref-2.result.now (c.deref-2.ensures.value ∙ c.in_ok-members.ensures.subtree) in

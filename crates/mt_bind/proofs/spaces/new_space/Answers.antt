@@ -39,7 +39,7 @@ returns-clause-done c =
     private_world w v (new_root w c.in-Some.fs) (w.next_space + 1) refl
     (forest ∙ (λ i. w.forest ++ record { id = w.next_mount; space = w.next_space; place = None; root = c.root.ensures.root i; attrs = c.new.ensures i } ∷ [])) peers next refl refl
     ∙ with_space_is w c.in-Some.fs in
-    new_space_done w c.args.fs.now c.in-Some.fs (sym c.fs.ensures.number ∙ c.in-Some.is) (omega (arith, c.if-spaces-ge-MOST_SPACES.false, c.spaces.ensures)) (omega (arith, c.if-len-ge-MOST_MOUNTS.false, c.len.ensures))
+    new_space_done w c.args.fs.now c.in-Some.fs (sym c.fs.ensures.number ∙ c.in-Some.is) (sym c.too_many.ensures ∙ c.if-too_many.false)
     ∙ ap (λ v. Ok (v, w.next_space)) (sym same)
 
 pub returns-clause-kept : goal.returns-clause-kept

@@ -1,6 +1,6 @@
 use Rattle.std.proofs.Common.{ℕ, List, map, take, sym, ap, ◌∙◌, arith, length, ◌≡◌}
 use Rattle.std.proofs.Math.Seq.{take-length}
-use Rattle.mt_peers.specs.Entries.{among}
+use Rattle.mt_skel.specs.Keyed.{among}
 use Rattle.mt_setattr.specs.Change.{changed_mount}
 use Rattle.mt_setattr.proofs.SettingLaws.{none-changed, set-step, skip-step}
 use Rattle.mt_setattr.proofs.setting.change_attrs.Goals as goal

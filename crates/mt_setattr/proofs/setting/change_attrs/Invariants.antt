@@ -1,5 +1,5 @@
 use Rattle.std.proofs.Common.{◌≡◌, map, take}
-use Rattle.mt_peers.specs.Entries.{among}
+use Rattle.mt_skel.specs.Keyed.{among}
 use Rattle.mt_setattr.specs.Change.{changed_mount}
 use Rattle.mt_setattr.proofs.setting.change_attrs.Given as goal
 

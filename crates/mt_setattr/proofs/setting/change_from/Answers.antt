@@ -1,6 +1,6 @@
 use Rattle.std.proofs.Common.{ℕ, List, [], ◌∷◌, eqb, ◌||◌, ◌&&◌, sym, ap, ◌∙◌}
 use Rattle.mt_mounts.specs.Forest.{is_below}
-use Rattle.mt_peers.specs.Entries.{among}
+use Rattle.mt_skel.specs.Keyed.{among}
 use Rattle.mt_propagate.specs.World.{world_view}
 use Rattle.mt_setattr.proofs.ChosenLaws.{among-subtree, changed-from}
 use Rattle.mt_setattr.proofs.setting.change_from.Goals as goal

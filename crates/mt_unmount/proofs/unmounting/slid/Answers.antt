@@ -1,8 +1,9 @@
 use Rattle.std.proofs.Common.{◌<◌, ap, ◌∙◌, sym, arith, length, ◌+◌, ◌-◌}
+use Rattle.mt_skel.specs.Chain.{follow}
+use Rattle.mt_skel.proofs.ChainLaws.{follow-step}
 use Rattle.mt_mounts.proofs.Walks.{fuel_step}
 use Rattle.mt_propagate.specs.World.{world_view}
 use Rattle.mt_unmount.specs.Detaching.{slide_past}
-use Rattle.mt_unmount.proofs.EndLaws.{last_within, last-step}
 use Rattle.mt_unmount.proofs.unmounting.slid.Goals as goal
 
 pub sliding-preserved : goal.sliding-preserved
@@ -14,7 +15,7 @@ sliding-preserved c =
     let next = sym c.slide.ensures ∙ c.in-Some.is in
     record {
       within = omega arith;
-      leads = sym (last-step (slide_past w ids) (n - (c.sliding._step + 1)) c.sliding.here c.in-Some.next next)
-          ∙ ap (λ k. last_within (slide_past w ids) k c.sliding.here) (sym (fuel_step n c.sliding._step more))
+      leads = sym (follow-step (slide_past w ids) (n - (c.sliding._step + 1)) c.sliding.here c.in-Some.next next)
+          ∙ ap (λ k. follow (slide_past w ids) k c.sliding.here) (sym (fuel_step n c.sliding._step more))
           ∙ c.sliding.invariant.leads;
     }

@@ -1,12 +1,12 @@
 use Rattle.std.proofs.Common.{◌≡◌, ◌-◌, ◌≤◌, length}
+use Rattle.mt_skel.specs.Chain.{follow}
 use Rattle.mt_propagate.specs.World.{world_view}
 use Rattle.mt_unmount.specs.Detaching.{slide_past, slid_past}
-use Rattle.mt_unmount.proofs.EndLaws.{last_within}
 use Rattle.mt_unmount.proofs.unmounting.slid.Given as goal
 
 -- the steps that are left lead from here to the end
 abbrev pub invariant-sliding : goal.invariant-sliding
 invariant-sliding l = record {
   within : l._step ≤ length l.world.forest.mounts;
-  leads : last_within (slide_past (world_view l.world) l.ids) (length l.world.forest.mounts - l._step) l.here ≡ slid_past (world_view l.world) l.ids l.fn.place;
+  leads : follow (slide_past (world_view l.world) l.ids) (length l.world.forest.mounts - l._step) l.here ≡ slid_past (world_view l.world) l.ids l.fn.place;
 }

@@ -36,7 +36,7 @@ returns-clause-done c =
     (c.deref-3.ensures.value ∙ sym c.deref-5.ensures.value)
     (c.deref-4.ensures.value ∙ c.in_ok-mounts.ensures.mounts)
     (c.deref-6.ensures.value ∙ c.in_ok-relocations.ensures.relocations)).1 in
-    unmounted-done w c.args.space c.args.path.now p (sym c.walk.ensures ∙ c.in_ok-place.was) (sym c.is_named_mount.ensures ∙ c.if-not-is_named_mount.false) rooted free
+    unmounted-done w c.args.space c.args.path.now p (sym c.walk.ensures ∙ c.in_ok-place.was) (sym c.is_mount_root.ensures ∙ c.if-not-is_mount_root.false) rooted free
     ∙ ap (λ (v : WorldView). Ok v) (sym (c.detach.ensures ∙ same))
 
 pub returns-clause-kept : goal.returns-clause-kept

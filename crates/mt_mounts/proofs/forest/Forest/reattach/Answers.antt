@@ -1,6 +1,6 @@
 use Rattle.std.proofs.Common.{ap, ◌∙◌, sym}
 use Rattle.mt_mounts.specs.Forest.{on}
-use Rattle.mt_mounts.specs.Table.{with_place}
+use Rattle.mt_mounts.specs.ForestView.{with_place}
 use Rattle.mt_mounts.proofs.ChangeLaws.{place_absent, forest_place, place_written}
 use Rattle.mt_mounts.proofs.forest.Forest.reattach.Goals as goal
 

@@ -1,5 +1,5 @@
 use Rattle.std.proofs.Common.{◌≡◌, ap, ◌∙◌, sym, Some}
-use Rattle.mt_mounts.specs.Table.{without_id}
+use Rattle.mt_mounts.specs.ForestView.{without_id}
 use Rattle.mt_mounts.proofs.ForestLaws.{table_removed, forest_removed, without_none}
 use Rattle.mt_mounts.proofs.forest.Forest.remove.Goals as goal
 

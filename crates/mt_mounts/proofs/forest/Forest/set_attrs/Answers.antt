@@ -1,7 +1,7 @@
 use Rattle.std.proofs.Common.{◌≡◌, true, subst, ap, ◌∙◌, sym}
 use Rattle.mt_skel.specs.Keyed.{rises}
 use Rattle.mt_mounts.specs.Forest.{id_of}
-use Rattle.mt_mounts.specs.Table.{with_attrs}
+use Rattle.mt_mounts.specs.ForestView.{with_attrs}
 use Rattle.mt_mounts.proofs.SlotLaws.{rises_table}
 use Rattle.mt_mounts.proofs.ChangeLaws.{attrs_absent, forest_attrs, attrs_written}
 use Rattle.mt_mounts.proofs.forest.Forest.set_attrs.Goals as goal

@@ -1,0 +1,114 @@
+-- What is due to the row at a place, and what is left of a line.
+use Rattle.std.proofs.Common.{◌≡◌, ◌≢◌, ℕ, ◌+◌, ◌<◌, ◌≤◌, Bool, true, false, cond, eqb, List, [], ◌∷◌, ◌++◌, length, map, take, drop, set, get_or, Some, slice_get, inl, inr, sym, ap, ◌∙◌, subst, refl, arith, append_assoc, length-append}
+use Rattle.std.specs.Option.{option_map_or}
+use Rattle.std.specs.Arc.{arc_value}
+use Rattle.std.proofs.lemmas.Bool.Decides.{nat_tests}
+use Rattle.std.proofs.lemmas.List.{append-nil, length-set}
+use Rattle.std.proofs.lemmas.List.Edits.{map_over_more}
+use Rattle.std.proofs.lemmas.Option.{slice_get_read}
+use Rattle.mt_events.specs.Posts.{PostView}
+use Rattle.mt_events.specs.Following.{IsRun}
+use Rattle.mt_queue.specs.PassViews.{Item, values}
+use Rattle.mt_queue.proofs.RunLaws.{run_front}
+use Rattle.mt_floor.specs.declared.watch.Phase.{Phase}
+use Rattle.mt_floor.specs.declared.watch.Phase.TheVariants.{Open as IsOpen, Lagged, Ended}
+use Rattle.mt_desk.specs.Desk.{DeskRow}
+use Rattle.mt_desk.specs.Sent.{IsSentOneIn}
+use Rattle.mt_desk.specs.Rows.{MayBeSent}
+use Rattle.mt_desk.specs.declared.row.Slot.{Slot}
+use Rattle.mt_desk.specs.declared.row.Slot.TheVariants.{Parked, Used, Away}
+use Rattle.mt_desk.specs.Places.{ended_slot}
+use Rattle.mt_desk.specs.Sending.{PlaceDue, slot_follows, due_at, posts_at, AreDue, MaySend, SendsSlot, SendsAt}
+use Rattle.mt_desk.proofs.PlaceLaws.{get_set, each_so}
+
+-- nothing is due to a row that does not follow the post
+pub nothing_due : (due : List PlaceDue) (p : PostView) (slots : List Slot) (place : ℕ) (s : Slot) → place < length slots → s ≡ get_or slots place s → slot_follows p s ≡ false
+    → due ≡ due ++ due_at p slots place
+nothing_due due p slots place s within is not_followed =
+    let at = slice_get_read slots (length slots) place s refl within is in
+    sym (append-nil due) ∙ ap (λ b. due ++ cond b (record { place = place; post = p } ∷ []) []) (sym (ap (λ o. option_map_or (slot_follows p) o false) at ∙ not_followed))
+
+-- one row more has ended
+pub ended_next : (slots now : List Slot) (i : ℕ) (x new : Slot) → i < length slots → now ≡ map ended_slot (take i slots) ++ drop i slots → x ≡ get_or now i x → new ≡ ended_slot (get_or now i x)
+    → set now i new ≡ map ended_slot (take (i + 1) slots) ++ drop (i + 1) slots
+ended_next slots now i x new l inv is e = ap (set now i) (e ∙ ap ended_slot (sym is)) ∙ map_over_more ended_slot slots now i x l inv is
+
+pub values_more : (xs : List Item) (x : Item) → values (xs ++ x ∷ []) ≡ values xs ++ arc_value x ∷ []
+values_more [] x = refl
+values_more (y ∷ xs) x = ap (λ l. arc_value y ∷ l) (values_more xs x)
+
+-- one post more was taken out
+pub out_more : (start taken taken' : List PostView) (xs xs' : List Item) (x : Item) → start ++ values xs ≡ taken → xs' ≡ xs ++ x ∷ [] → taken' ≡ taken ++ arc_value x ∷ [] → start ++ values xs' ≡ taken'
+out_more start taken taken' xs xs' x so put got =
+    ap (λ l. start ++ values l) put ∙ ap (λ l. start ++ l) (values_more xs x) ∙ sym (append_assoc start (values xs) (arc_value x ∷ [])) ∙ ap (λ l. l ++ arc_value x ∷ []) so ∙ sym got
+
+pub room_left : (sent taken taken' rest rest' : List PostView) (xs xs' : List Item) (x : Item) (room : ℕ) → sent ≡ taken ++ rest → sent ≡ taken' ++ rest' → taken' ≡ taken ++ arc_value x ∷ [] → xs' ≡ xs ++ x ∷ []
+    → length xs + length rest ≤ room → length xs' + length rest' ≤ room
+room_left sent taken taken' rest rest' xs xs' x room before after got put fits =
+    omega (arith, fits, ap length before, ap length after, ap length got, ap (λ (l : List Item). length l) put, length-append taken rest, length-append taken' rest', length-append taken (arc_value x ∷ []), length-append xs (x ∷ []))
+
+-- ---- What is due may be sent
+
+may_front : (s : Slot) (ps qs : List PostView) → MaySend s (ps ++ qs) → MaySend s ps
+may_front (Parked l) ps qs h = tt
+may_front (Used r) ps qs h = λ is. run_front r.row.opening (r.row.sent ++ ps) qs (subst (IsRun r.row.opening) (sym (append_assoc r.row.sent ps qs)) (h is))
+may_front Away ps qs h = tt
+
+posts_front : (place : ℕ) (d : PlaceDue) (ds : List PlaceDue) → (rest : List PostView) × (posts_at place (d ∷ ds) ≡ posts_at place (d ∷ []) ++ rest)
+posts_front place d ds = by (eqb d.place place)
+  where
+    by : (b : Bool) → (rest : List PostView) × (cond b (d.post ∷ posts_at place ds) (posts_at place ds) ≡ cond b (d.post ∷ []) [] ++ rest)
+    by true = (posts_at place ds, refl)
+    by false = (posts_at place ds, refl)
+
+pub first_is_due : (slots : List Slot) (d : PlaceDue) (ds : List PlaceDue) → AreDue slots (d ∷ ds) → AreDue slots (d ∷ [])
+first_is_due slots d ds h = record {
+  places = (h.places.0, tt);
+  runs = λ place s at. let f = posts_front place d ds in may_front s (posts_at place (d ∷ [])) f.0 (subst (MaySend s) f.1 (h.runs place s at));
+}
+
+pub may_be_sent : (slots : List Slot) (d : PlaceDue) (place : ℕ) (p : PostView) (s : Slot) → AreDue slots (d ∷ []) → place ≡ d.place → p ≡ d.post → s ≡ get_or slots place s → MaySend s (p ∷ [])
+may_be_sent slots d place p s h here post is =
+    let within : place < length slots = omega (arith, h.places.0, here) in
+    let at = slice_get_read slots (length slots) place s refl within is in
+    let same : eqb d.place place ≡ true = grind (arith, nat_tests) in
+    subst (MaySend s) (ap (λ b. cond b (d.post ∷ []) []) same ∙ ap (λ q. q ∷ []) (sym post)) (h.runs place s at)
+
+pub sends_one : (slots : List Slot) (d : PlaceDue) (place : ℕ) (p : PostView) (s s' : Slot) → AreDue slots (d ∷ []) → place ≡ d.place → p ≡ d.post → s ≡ get_or slots place s → SendsSlot s p s' → SendsAt d slots (set slots place s')
+sends_one slots d place p s s' h here post is sends =
+    let within : place < length slots = omega (arith, h.places.0, here) in
+    let at = slice_get_read slots (length slots) place s refl within is in
+    record { slot = s; there = ap (slice_get slots) (sym here) ∙ at; slot' = s'; sends = subst (λ q. SendsSlot s q s') post sends; slots_are = ap (λ k. set slots k s') here }
+
+-- a post to the row at its place leaves the posts behind it due
+sent_may : (s s' : Slot) (p : PostView) (ps : List PostView) → SendsSlot s p s' → MaySend s (p ∷ ps) → MaySend s' ps
+sent_may (Parked l) s' p ps same may = subst (λ x. MaySend x ps) (sym same) tt
+sent_may Away s' p ps same may = subst (λ x. MaySend x ps) (sym same) tt
+sent_may (Used r) (Parked l) p ps sends may = tt
+sent_may (Used r) Away p ps sends may = tt
+sent_may (Used r) (Used now) p ps sends may = by r.row.phase refl sends.sent
+  where
+    by : (f : Phase) → r.row.phase ≡ f → IsSentOneIn f r.capacity p r.row now.row → MayBeSent now.row ps
+    by IsOpen is (inl same) = λ still. subst (λ (q : DeskRow). IsRun q.opening (q.sent ++ ps)) (sym same) (subst (IsRun r.row.opening) (sym (append_assoc r.row.sent (p ∷ []) ps)) (may is))
+    by IsOpen is (inr lags) = λ still. absurd (let bad : Lagged ≡ IsOpen = sym (ap (λ (q : DeskRow). q.phase) lags.1) ∙ still in cc)
+    by Lagged is same = λ still. absurd (let bad : Lagged ≡ IsOpen = sym is ∙ sym (ap (λ (q : DeskRow). q.phase) same) ∙ still in cc)
+    by Ended is same = λ still. absurd (let bad : Ended ≡ IsOpen = sym is ∙ sym (ap (λ (q : DeskRow). q.phase) same) ∙ still in cc)
+
+pub others_due : (slots slots' : List Slot) (d : PlaceDue) (ds : List PlaceDue) → AreDue slots (d ∷ ds) → SendsAt d slots slots' → AreDue slots' ds
+others_due slots slots' d ds h at = subst (λ l. AreDue l ds) (sym at.slots_are) (record { places = each_so (λ (e : PlaceDue). e.place < length slots) (λ (e : PlaceDue). e.place < length (set slots d.place at.slot')) (λ e low. omega (arith, low, length-set slots d.place at.slot')) ds h.places.1; runs = runs })
+  where
+    runs : (place : ℕ) (s : Slot) → slice_get (set slots d.place at.slot') place ≡ Some s → MaySend s (posts_at place ds)
+    runs place s e = elim (get_set slots d.place at.slot' place s e) [
+      | inl q ↦
+          let same : eqb d.place place ≡ true = (let k = q.0 in grind (arith, nat_tests)) in
+          let may : MaySend at.slot (d.post ∷ posts_at place ds) = subst (MaySend at.slot) (ap (λ b. cond b (d.post ∷ posts_at place ds) (posts_at place ds)) same) (h.runs place at.slot (ap (slice_get slots) q.0 ∙ at.there)) in
+          subst (λ x. MaySend x (posts_at place ds)) q.1 (sent_may at.slot at.slot' d.post (posts_at place ds) at.sends may)
+      | inr q ↦
+          let ne = q.0 in
+          let other : eqb d.place place ≡ false = by_test (eqb d.place place) refl ne in
+          subst (MaySend s) (ap (λ b. cond b (d.post ∷ posts_at place ds) (posts_at place ds)) other) (h.runs place s q.1)
+    ]
+      where
+        by_test : (b : Bool) → eqb d.place place ≡ b → place ≢ d.place → eqb d.place place ≡ false
+        by_test false f ne = f
+        by_test true f ne = absurd (ne (grind (arith, nat_tests)))

@@ -1,0 +1,12 @@
+pub mod RowsLaws
+pub mod LateLaws
+pub mod PutLaws
+pub mod RunLaws
+pub mod ScheduleLaws
+pub mod SendLaws
+pub mod ApplyLaws
+pub mod PlaceLaws
+pub mod DueLaws
+pub mod DeskLaws
+pub mod SendingLaws
+pub mod SentLaws

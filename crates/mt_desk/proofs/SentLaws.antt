@@ -1,0 +1,330 @@
+-- What a desk keeps while it sends the posts of a command.
+use Rattle.std.proofs.Common.{◌≡◌, ℕ, ◌+◌, ◌≤◌, Bool, true, false, cond, not, eqb, List, [], ◌∷◌, ◌++◌, map, length, take, drop, Option, Some, Ok, inl, inr, refl, sym, ap, ◌∙◌, subst, arith, append_assoc}
+use Rattle.std.specs.List.{filter, AllByRecursion}
+use Rattle.std.specs.Option.{option_map_or}
+use Rattle.std.proofs.lemmas.List.{append-nil}
+use Rattle.mt_skel.specs.Keyed.{row_at, put, rises}
+use Rattle.mt_skel.proofs.KeyedLaws.{row_at-put, row_at-key, rises-put}
+use Rattle.mt_skel.proofs.ElementLaws.{In, in_filter, in_map, in_flat, in_row}
+use Rattle.mt_skel.proofs.MiddleLaws.{and_first}
+use Rattle.mt_events.specs.Posts.{PostView}
+use Rattle.mt_events.specs.Following.{IsRun}
+use Rattle.mt_book.specs.declared.command.Command.{Command}
+use Rattle.mt_book.specs.declared.command.Reply.{Reply}
+use Rattle.mt_book.specs.History.{posts_of}
+use Rattle.mt_floor.specs.declared.watch.Phase.{Phase}
+use Rattle.mt_floor.specs.declared.watch.Phase.TheVariants.{Open as IsOpen, Lagged, Ended}
+use Rattle.mt_floor.specs.declared.event.Event.TheVariants.{Apply}
+use Rattle.mt_floor.specs.declared.event.Answer.TheVariants.{Replied}
+use Rattle.mt_floor.specs.Watcher.{Watcher, Due, key_of, is_open, follows, due_for, due_pairs}
+use Rattle.mt_floor.specs.Schedule.{FloorView, floor_step}
+use Rattle.mt_floor.specs.WellFormed.{IsFloor, IsFollower}
+use Rattle.mt_floor.proofs.RowLaws.{is_key, same_key, put_same, put_other}
+use Rattle.mt_floor.proofs.DueLaws.{due_row, due_all}
+use Rattle.mt_floor.proofs.FollowedLaws.{is_run}
+use Rattle.mt_desk.specs.Desk.{DeskRow, DeskView, IsDeskRow, IsDesk, row_key, late_watcher, floor_of_desk}
+use Rattle.mt_desk.specs.Calls.{IsSentIn, IsApplied, IsSend, IsDone, due_to}
+use Rattle.mt_desk.specs.Sent.{with_post, lagging, IsSentOne, IsSentOneIn, has_open_row, still_due, IsSentSoFarIn, RowSoFar, sending_floor, IsSending}
+use Rattle.mt_desk.proofs.RowsLaws.{watcher_there, put_watchers, each_at, each_put}
+use Rattle.mt_desk.proofs.PutLaws.{put_back}
+use Rattle.mt_desk.proofs.RunLaws.{run_cons, run_pair, floor_stays}
+use Rattle.mt_desk.proofs.ScheduleLaws.{rows_rise}
+use Rattle.mt_desk.proofs.SendLaws.{Sends, sent_floor, sent_step, full_sends, post_keeps, lag_rule}
+use Rattle.mt_desk.proofs.ApplyLaws.{first_due}
+
+-- ---- what is due still
+
+filter_same : {X : Type 0} (t : X → Bool) (xs : List X) → ((x : X) → In x xs → t x ≡ true) → filter t xs ≡ xs
+filter_same t [] all = refl
+filter_same t (x ∷ xs) all = ap (λ b. cond b (x ∷ filter t xs) (filter t xs)) (all x (inl refl)) ∙ ap (λ l. x ∷ l) (filter_same t xs (λ y m. all y (inr m)))
+
+filter_both : {X : Type 0} (t u v : X → Bool) → ((x : X) → v x ≡ cond (u x) (t x) false) → (xs : List X) → filter v xs ≡ filter u (filter t xs)
+filter_both t u v is [] = refl
+filter_both t u v is (x ∷ xs) = ap (λ b. cond b (x ∷ filter v xs) (filter v xs)) (is x) ∙ by (u x) refl (t x) (filter_both t u v is xs)
+  where
+    by : (a : Bool) → u x ≡ a → (b : Bool) → filter v xs ≡ filter u (filter t xs) → cond (cond a b false) (x ∷ filter v xs) (filter v xs) ≡ filter u (cond b (x ∷ filter t xs) (filter t xs))
+    by true e true ih = ap (λ l. x ∷ l) ih ∙ sym (ap (λ b. cond b (x ∷ filter u (filter t xs)) (filter u (filter t xs))) e)
+    by true e false ih = ih
+    by false e true ih = ih ∙ sym (ap (λ b. cond b (x ∷ filter u (filter t xs)) (filter u (filter t xs))) e)
+    by false e false ih = ih
+
+filter_alike : {X : Type 0} (t u : X → Bool) → ((x : X) → t x ≡ u x) → (xs : List X) → filter t xs ≡ filter u xs
+filter_alike t u is [] = refl
+filter_alike t u is (x ∷ xs) = λ i. cond (is x i) (x ∷ filter_alike t u is xs i) (filter_alike t u is xs i)
+
+abbrev open_in : Option DeskRow → Bool
+open_in o = option_map_or (λ (r : DeskRow). is_open r.phase) o false
+
+-- all that is due at first is due to open rows
+first_is_due : (c : ℕ) (ps : List PostView) (rows : List DeskRow) → rises row_key rows ≡ true → still_due rows (due_pairs ps (map (late_watcher c) rows)) ≡ due_pairs ps (map (late_watcher c) rows)
+first_is_due c ps rows rising = filter_same (λ (d : Due). has_open_row rows d.key) (due_pairs ps (map (late_watcher c) rows)) each
+  where
+    each : (e : Due) → In e (due_pairs ps (map (late_watcher c) rows)) → has_open_row rows e.key ≡ true
+    each e m =
+        let of_post = in_flat (λ p. map (λ (w : Watcher). record { post = p; key = w.key }) (filter (follows p) (map (late_watcher c) rows))) e ps m in
+        let p = of_post.0 in
+        let of_watcher = in_map (λ (w : Watcher). record { post = p; key = w.key }) e (filter (follows p) (map (late_watcher c) rows)) of_post.2 in
+        let w = of_watcher.0 in
+        let passed = in_filter (follows p) w (map (late_watcher c) rows) of_watcher.1 in
+        let of_row = in_map (late_watcher c) w rows passed.0 in
+        let r = of_row.0 in
+        let key_is : e.key ≡ r.key = ap (λ (d : Due). d.key) (sym of_watcher.2) ∙ ap key_of (sym of_row.2) in
+        let is : is_open r.phase ≡ true = ap (λ (v : Watcher). is_open v.phase) of_row.2 ∙ and_first (is_open w.phase) _ passed.1 in
+        ap (has_open_row rows) key_is ∙ ap open_in (in_row row_key rows r rising of_row.1) ∙ is
+
+-- a post leaves the rows open that are open
+open_posted : (rows : List DeskRow) (key : ℕ) (p : PostView) (q : DeskRow) → row_at row_key key rows ≡ Some q → (k : ℕ) → has_open_row rows k ≡ has_open_row (put row_key (with_post p q) rows) k
+open_posted rows key p q at k = by (eqb k q.key) refl ∙ sym (ap open_in (row_at-put row_key k (with_post p q) rows))
+  where
+    by : (b : Bool) → eqb k q.key ≡ b → has_open_row rows k ≡ open_in (cond b (Some (with_post p q)) (row_at row_key k rows))
+    by true e = ap (has_open_row rows) (is_key k q.key e ∙ row_at-key row_key key rows q at) ∙ ap open_in at
+    by false e = refl
+
+-- a row that lags is the only one that is open no more
+open_lagged : (rows : List DeskRow) (key : ℕ) (q : DeskRow) → row_at row_key key rows ≡ Some q
+    → (k : ℕ) → has_open_row (put row_key (lagging q) rows) k ≡ cond (not (eqb k key)) (has_open_row rows k) false
+open_lagged rows key q at k = ap open_in (row_at-put row_key k (lagging q) rows) ∙ ap (λ n. open_in (cond (eqb k n) (Some (lagging q)) (row_at row_key k rows))) (row_at-key row_key key rows q at) ∙ by (eqb k key)
+  where
+    by : (b : Bool) → open_in (cond b (Some (lagging q)) (row_at row_key k rows)) ≡ cond (not b) (has_open_row rows k) false
+    by true = refl
+    by false = refl
+
+-- of what is left for an open row, all is due still
+still_for : (rows : List DeskRow) (key : ℕ) → has_open_row rows key ≡ true → (ds : List Due) → due_for key (still_due rows ds) ≡ due_for key ds
+still_for rows key is [] = refl
+still_for rows key is (e ∷ ds) = by (has_open_row rows e.key) refl (still_for rows key is ds)
+  where
+    by : (b : Bool) → has_open_row rows e.key ≡ b → due_for key (still_due rows ds) ≡ due_for key ds
+        → due_for key (cond b (e ∷ still_due rows ds) (still_due rows ds)) ≡ cond (eqb e.key key) (e.post ∷ due_for key ds) (due_for key ds)
+    by true o ih = ap (λ l. cond (eqb e.key key) (e.post ∷ l) l) ih
+    by false o ih = ih ∙ sym (ap (λ b. cond b (e.post ∷ due_for key ds) (due_for key ds)) (other (eqb e.key key) refl))
+      where
+        other : (b : Bool) → eqb e.key key ≡ b → eqb e.key key ≡ false
+        other false q = q
+        other true q = absurd (let bad : true ≡ false = sym is ∙ ap (has_open_row rows) (sym (is_key e.key key q)) ∙ o in cc)
+
+-- ---- one row
+
+one_row : (o : Option DeskRow) (x y : DeskRow) → o ≡ Some x → o ≡ Some y → x ≡ y
+one_row o x y a b = let two : ◌≡◌ {A = Option DeskRow} (Some x) (Some y) = sym a ∙ b in let same : x ≡ y = cc in same
+
+is_not : IsOpen ≡ Lagged → ⊥
+is_not e = cc
+
+row_posted : (f : Phase) (c : ℕ) (all rest : List PostView) (p : PostView) (r q : DeskRow) → r.phase ≡ f → q.phase ≡ IsOpen → IsSentSoFarIn f c all (p ∷ rest) r q → IsSentSoFarIn f c all rest r (with_post p q)
+row_posted IsOpen c all rest p r q mine is (inl way) = inl (record {
+  front = way.front ++ p ∷ [];
+  split = way.split ∙ sym (append_assoc way.front (p ∷ []) rest);
+  row = ap (with_post p) way.row ∙ ap (λ (l : List PostView). record r { sent = l }) (append_assoc r.sent way.front (p ∷ []));
+})
+row_posted IsOpen c all rest p r q mine is (inr lags) = absurd (is_not (sym is ∙ ap (λ (x : DeskRow). x.phase) lags.row))
+row_posted Lagged c all rest p r q mine is same = absurd (is_not (sym is ∙ ap (λ (x : DeskRow). x.phase) same ∙ mine))
+row_posted Ended c all rest p r q mine is same = absurd (let bad : IsOpen ≡ Ended = sym is ∙ ap (λ (x : DeskRow). x.phase) same ∙ mine in cc)
+
+row_lagged : (f : Phase) (c : ℕ) (all rest : List PostView) (p : PostView) (r q : DeskRow) → r.phase ≡ f → q.phase ≡ IsOpen → q.met + c ≤ length q.sent
+    → IsSentSoFarIn f c all (p ∷ rest) r q → (left : List PostView) → IsSentSoFarIn f c all left r (lagging q)
+row_lagged IsOpen c all rest p r q mine is full (inl way) left = inr (record {
+  front = way.front;
+  refused = p;
+  behind = rest;
+  due_is = way.split;
+  full = omega (arith, full, ap (λ (x : DeskRow). x.met) way.row, ap (λ (x : DeskRow). length x.sent) way.row);
+  row = ap lagging way.row;
+})
+row_lagged IsOpen c all rest p r q mine is full (inr lags) left = absurd (is_not (sym is ∙ ap (λ (x : DeskRow). x.phase) lags.row))
+row_lagged Lagged c all rest p r q mine is full same left = absurd (is_not (sym is ∙ ap (λ (x : DeskRow). x.phase) same ∙ mine))
+row_lagged Ended c all rest p r q mine is full same left = absurd (let bad : IsOpen ≡ Ended = sym is ∙ ap (λ (x : DeskRow). x.phase) same ∙ mine in cc)
+
+row_skipped : (f : Phase) (c : ℕ) (all left : List PostView) (r q : DeskRow) → r.phase ≡ f → is_open q.phase ≡ false → IsSentSoFarIn f c all left r q → (rest : List PostView) → IsSentSoFarIn f c all rest r q
+row_skipped IsOpen c all left r q mine shut (inl way) rest = absurd (let bad : true ≡ false = sym (ap is_open mine) ∙ sym (ap (λ (x : DeskRow). is_open x.phase) way.row) ∙ shut in cc)
+row_skipped IsOpen c all left r q mine shut (inr lags) rest = inr lags
+row_skipped Lagged c all left r q mine shut same rest = same
+row_skipped Ended c all left r q mine shut same rest = same
+
+-- ---- all rows
+
+all_join : {X : Type 0} (P : X → Type 0) (xs ys : List X) → AllByRecursion P xs → AllByRecursion P ys → AllByRecursion P (xs ++ ys)
+all_join P [] ys a b = b
+all_join P (x ∷ xs) ys a b = (a.0, all_join P xs ys a.1 b)
+
+module _ (d : DeskView) (c : Command) (reply : Reply) (h : IsDesk d) where
+  -- a command was accepted, and nothing was sent
+  pub sent_first : floor_step (floor_of_desk d) (Apply c) ≡ (sending_floor d c d.rows (first_due d c), Ok (Replied reply)) → IsSending d c reply d.rows (first_due d c)
+  sent_first step = record {
+    sends = [];
+    told = [];
+    each = tt;
+    done = tt;
+    schedule =
+        run_cons (floor_of_desk d) _ _ (Apply c) [] (Ok (Replied reply)) [] step refl
+        ∙ ap (λ (ds : List Due). (sending_floor d c d.rows ds, Ok (Replied reply) ∷ [])) (sym (first_is_due d.capacity (posts_of d.journal c) d.rows (rows_rise d h)));
+    kept = h.rows;
+    rising = rows_rise d h;
+    so_far = λ key r at.
+        let ps = posts_of d.journal c in
+        let is : due_for key (first_due d c) ≡ cond (is_open r.phase) (due_to r.scope ps) [] =
+        due_all key ps (map (late_watcher d.capacity) d.rows) h.floor.rising ∙ ap (due_row ps) (watcher_there d.capacity key d.rows r at) in
+        record { now = r; there = at; sent = begun r.phase r (due_for key (first_due d c)) (due_to r.scope ps) is };
+  }
+    where
+      begun : (f : Phase) (r : DeskRow) (left all : List PostView) → left ≡ cond (is_open f) all [] → IsSentSoFarIn f d.capacity all left r r
+      begun IsOpen r left all is = inl (record { front = []; split = sym is; row = ap (λ (l : List PostView). record r { sent = l }) (sym (append-nil r.sent)) })
+      begun Lagged r left all is = refl
+      begun Ended r left all is = refl
+
+  -- the floor stays one while posts are sent
+  pub sent_is_floor : (rows : List DeskRow) (left : List Due) → IsSending d c reply rows left → IsFloor (sending_floor d c rows (still_due rows left))
+  sent_is_floor rows left k = floor_stays (floor_of_desk d) (sending_floor d c rows (still_due rows left)) (Apply c ∷ k.sends) (Ok (Replied reply) ∷ k.told) h.floor k.schedule
+
+  -- what is left for an open row are the next posts that its watcher follows
+  pub left_is_run : (rows : List DeskRow) (left : List Due) → IsSending d c reply rows left
+      → (key : ℕ) (q : DeskRow) → row_at row_key key rows ≡ Some q → q.phase ≡ IsOpen → IsRun q.opening (q.sent ++ due_for key left)
+  left_is_run rows left k key q at is =
+      let s : FloorView = sending_floor d c rows (still_due rows left) in
+      let w : Watcher = late_watcher d.capacity q in
+      let f : IsFollower s w = (sent_is_floor rows left k).rows key w (watcher_there d.capacity key rows q at) in
+      let journal : List Command = d.journal ++ c ∷ [] in
+      let next : f.not_posted ≡ due_for key left =
+      sym (ap (λ p. cond (is_open p) f.not_posted []) is) ∙ sym f.due ∙ ap (λ n. due_for n (still_due rows left)) (row_at-key row_key key rows q at) ∙ still_for rows key (ap open_in at ∙ ap is_open is) left in
+      subst (λ o. IsRun o (q.sent ++ due_for key left)) (sym f.opening)
+      (is_run q.scope (take q.since journal) (drop q.since journal) (q.sent ++ due_for key left) [] (f.posted ∙ ap (λ l. q.sent ++ l) next ∙ sym (append-nil (q.sent ++ due_for key left))))
+
+  -- what is sent next
+  module _ (rows : List DeskRow) (e : Due) (left : List Due) (q : DeskRow) (k : IsSending d c reply rows (e ∷ left)) (at : row_at row_key e.key rows ≡ Some q) where
+    abbrev before : FloorView
+    before = sending_floor d c rows (still_due rows (e ∷ left))
+
+    key_is : q.key ≡ e.key
+    key_is = row_at-key row_key e.key rows q at
+
+    -- more was sent
+    go_on : (rows' : List DeskRow) → Sends before (sending_floor d c rows' (still_due rows' left)) → AllByRecursion (IsDeskRow d.capacity) rows' → rises row_key rows' ≡ true
+        → ((key : ℕ) (r : DeskRow) → row_at row_key key d.rows ≡ Some r → RowSoFar d.capacity (posts_of d.journal c) key r rows' left) → IsSending d c reply rows' left
+    go_on rows' more kept rising so_far = record {
+      sends = k.sends ++ more.events;
+      told = k.told ++ more.told;
+      each = all_join IsSend k.sends more.events k.each more.each;
+      done = all_join IsDone k.told more.told k.done more.done;
+      schedule = run_pair (floor_of_desk d) before (sending_floor d c rows' (still_due rows' left)) (Apply c ∷ k.sends) more.events (Ok (Replied reply) ∷ k.told) more.told k.schedule more.schedule;
+      kept = kept;
+      rising = rising;
+      so_far = so_far;
+    }
+
+    -- the row of a key, once this one is another
+    so_far_put : (q' : DeskRow) → q'.key ≡ q.key
+        → ((f : Phase) (all : List PostView) (r : DeskRow) → r.phase ≡ f → IsSentSoFarIn f d.capacity all (e.post ∷ due_for e.key left) r q → IsSentSoFarIn f d.capacity all (due_for e.key left) r q')
+        → (key : ℕ) (r : DeskRow) → row_at row_key key d.rows ≡ Some r → RowSoFar d.capacity (posts_of d.journal c) key r (put row_key q' rows) left
+    so_far_put q' same go key r was = by (eqb e.key key) refl (k.so_far key r was)
+      where
+        all : List PostView
+        all = due_to r.scope (posts_of d.journal c)
+
+        by : (b : Bool) → eqb e.key key ≡ b → RowSoFar d.capacity (posts_of d.journal c) key r rows (e ∷ left) → RowSoFar d.capacity (posts_of d.journal c) key r (put row_key q' rows) left
+        by true mine old =
+            let here : e.key ≡ key = is_key e.key key mine in
+            let is_q : old.now ≡ q = one_row (row_at row_key key rows) old.now q old.there (ap (λ n. row_at row_key n rows) (sym here) ∙ at) in
+            let split : due_for key (e ∷ left) ≡ e.post ∷ due_for e.key left = ap (λ b. cond b (e.post ∷ due_for key left) (due_for key left)) mine ∙ ap (λ n. e.post ∷ due_for n left) (sym here) in
+            let sent : IsSentSoFarIn r.phase d.capacity all (e.post ∷ due_for e.key left) r q = subst (λ (l : List PostView). IsSentSoFarIn r.phase d.capacity all l r q) split (subst (λ (x : DeskRow). IsSentSoFarIn r.phase d.capacity all (due_for key (e ∷ left)) r x) is_q old.sent) in
+            record {
+              now = q';
+              there = put_same row_key key q' rows (sym here ∙ sym key_is ∙ sym same);
+              sent = subst (λ n. IsSentSoFarIn r.phase d.capacity all (due_for n left) r q') here (go r.phase all r refl sent);
+            }
+        by false other old =
+            let apart : eqb q'.key key ≡ false = ap (λ n. eqb n key) (same ∙ key_is) ∙ other in
+            record {
+              now = old.now;
+              there = put_other row_key key q' rows apart ∙ old.there;
+              sent = subst (λ (l : List PostView). IsSentSoFarIn r.phase d.capacity all l r old.now) (ap (λ b. cond b (e.post ∷ due_for key left) (due_for key left)) other) old.sent;
+            }
+
+    now_is : (q' : DeskRow) (ds ds' : List Due) → ds ≡ ds' → sent_floor before ds (late_watcher d.capacity q') ≡ sending_floor d c (put row_key q' rows) ds'
+    now_is q' ds ds' same = let watchers = sym (put_watchers d.capacity q' rows) in λ i. record before { due = same i; watchers = watchers i }
+
+    module _ (is : q.phase ≡ IsOpen) where
+      due_now : still_due rows (e ∷ left) ≡ e ∷ still_due rows left
+      due_now = ap (λ b. cond b (e ∷ still_due rows left) (still_due rows left)) (ap open_in at ∙ ap is_open is)
+
+      there : row_at key_of e.key (map (late_watcher d.capacity) rows) ≡ Some (late_watcher d.capacity q)
+      there = watcher_there d.capacity e.key rows q at
+
+      -- a push was done
+      pub sent_more : IsSending d c reply (put row_key (with_post e.post q) rows) left
+      sent_more =
+          let q' = with_post e.post q in
+          let sends = (sent_step before d.capacity e (still_due rows left) q due_now refl there h.room (each_at (IsDeskRow d.capacity) e.key rows q k.kept at).met).sends in
+          let same = filter_alike (λ (x : Due). has_open_row rows x.key) (λ (x : Due). has_open_row (put row_key q' rows) x.key) (λ x. open_posted rows e.key e.post q at x.key) left in
+          let now : sent_floor before (still_due rows left) (late_watcher d.capacity q') ≡ sending_floor d c (put row_key q' rows) (still_due (put row_key q' rows) left) =
+          now_is q' (still_due rows left) (still_due (put row_key q' rows) left) same in
+          go_on (put row_key q' rows) (subst (Sends before) now sends) (each_put (IsDeskRow d.capacity) q' rows k.kept (post_keeps d.capacity e.post q (each_at (IsDeskRow d.capacity) e.key rows q k.kept at)))
+          (rises-put row_key q' rows k.rising) (so_far_put q' refl (λ f all r mine sent. row_posted f d.capacity all (due_for e.key left) e.post r q mine is sent))
+
+      -- a push found the queue full
+      pub sent_lag : q.met + d.capacity ≤ length q.sent → IsSending d c reply (put row_key (lagging q) rows) left
+      sent_lag full =
+          let q' = lagging q in
+          let sends = full_sends before d.capacity e (still_due rows left) q due_now refl there full in
+          let same = filter_both (λ (x : Due). has_open_row rows x.key) (λ (x : Due). not (eqb x.key e.key)) (λ (x : Due). has_open_row (put row_key q' rows) x.key) (λ x. open_lagged rows e.key q at x.key) left in
+          let now = now_is q' (filter (λ (x : Due). not (eqb x.key e.key)) (still_due rows left)) (still_due (put row_key q' rows) left) (sym same) in
+          go_on (put row_key q' rows) (subst (Sends before) now sends) (each_put (IsDeskRow d.capacity) q' rows k.kept (lag_rule d.capacity q is full (each_at (IsDeskRow d.capacity) e.key rows q k.kept at)))
+          (rises-put row_key q' rows k.rising) (so_far_put q' refl (λ f all r mine sent. row_lagged f d.capacity all (due_for e.key left) e.post r q mine is full sent (due_for e.key left)))
+
+      -- the post may be sent: it is the next one that the watcher follows
+      pub next_is_run : IsRun q.opening (q.sent ++ e.post ∷ [])
+      next_is_run =
+          let w : Watcher = late_watcher d.capacity q in
+          let f : IsFollower before w = (sent_is_floor rows (e ∷ left) k).rows e.key w there in
+          let journal : List Command = d.journal ++ c ∷ [] in
+          let next : f.not_posted ≡ e.post ∷ due_for q.key (still_due rows left) =
+          sym (ap (λ p. cond (is_open p) f.not_posted []) is) ∙ sym f.due ∙ ap (due_for q.key) due_now ∙ ap (λ b. cond b (e.post ∷ due_for q.key (still_due rows left)) (due_for q.key (still_due rows left))) (same_key e.key q.key (sym key_is)) in
+          subst (λ o. IsRun o (q.sent ++ e.post ∷ [])) (sym f.opening)
+          (is_run q.scope (take q.since journal) (drop q.since journal) (q.sent ++ e.post ∷ []) (due_for q.key (still_due rows left))
+          (f.posted ∙ ap (λ l. q.sent ++ l) next ∙ sym (append_assoc q.sent (e.post ∷ []) (due_for q.key (still_due rows left)))))
+
+    -- nothing is sent to a row that is not open
+    pub sent_skip : is_open q.phase ≡ false → IsSending d c reply rows left
+    sent_skip shut =
+        let same : still_due rows (e ∷ left) ≡ still_due rows left = ap (λ b. cond b (e ∷ still_due rows left) (still_due rows left)) (ap open_in at ∙ shut) in
+        let back : put row_key q rows ≡ rows = put_back row_key e.key q rows k.rising at in
+        let nothing : Sends before (sending_floor d c rows (still_due rows left)) = record { events = []; told = []; each = tt; done = tt; schedule = ap (λ (ds : List Due). (sending_floor d c rows ds, [])) same } in
+        go_on rows nothing k.kept k.rising
+        (λ key r was. subst (λ l. RowSoFar d.capacity (posts_of d.journal c) key r l left) back
+        (so_far_put q refl (λ f all r mine sent. row_skipped f d.capacity all (e.post ∷ due_for e.key left) r q mine shut sent (due_for e.key left)) key r was))
+
+    -- whatever it was
+    pub sent_row : (q' : DeskRow) → IsSentOne d.capacity e.post q q' → IsSending d c reply (put row_key q' rows) left
+    sent_row q' was = by q.phase refl was
+      where
+        same_row : q' ≡ q → is_open q.phase ≡ false → IsSending d c reply (put row_key q' rows) left
+        same_row same shut = subst (λ l. IsSending d c reply l left) (sym (ap (λ x. put row_key x rows) same ∙ put_back row_key e.key q rows k.rising at)) (sent_skip shut)
+
+        by : (f : Phase) → q.phase ≡ f → IsSentOneIn f d.capacity e.post q q' → IsSending d c reply (put row_key q' rows) left
+        by IsOpen is (inl same) = subst (λ x. IsSending d c reply (put row_key x rows) left) (sym same) (sent_more is)
+        by IsOpen is (inr lags) = subst (λ x. IsSending d c reply (put row_key x rows) left) (sym lags.1) (sent_lag is lags.0)
+        by Lagged is same = same_row same (ap is_open is)
+        by Ended is same = same_row same (ap is_open is)
+
+  -- all was sent
+  module _ (rows : List DeskRow) (k : IsSending d c reply rows []) where
+    abbrev pub sent_desk : DeskView
+    sent_desk = record d { journal = d.journal ++ c ∷ []; rows = rows }
+
+    pub sent_stays : IsDesk sent_desk
+    sent_stays = record { floor = sent_is_floor rows [] k; room = h.room; rows = k.kept }
+
+    all_sent : (f : Phase) (all : List PostView) (r now : DeskRow) → IsSentSoFarIn f d.capacity all [] r now → IsSentIn f d.capacity all r now
+    all_sent IsOpen all r now (inl way) = inl (way.row ∙ ap (λ (l : List PostView). record r { sent = r.sent ++ l }) (sym (append-nil way.front) ∙ sym way.split))
+    all_sent IsOpen all r now (inr lags) = inr lags
+    all_sent Lagged all r now same = same
+    all_sent Ended all r now same = same
+
+    pub sent_all : IsApplied d c reply sent_desk
+    sent_all = record {
+      sends = k.sends;
+      told = k.told;
+      each = k.each;
+      done = k.done;
+      schedule = k.schedule;
+      rows = λ key r at. let now = k.so_far key r at in (now.now, now.there, all_sent r.phase (due_to r.scope (posts_of d.journal c)) r now.now now.sent);
+    }

@@ -1,0 +1,57 @@
+-- The posts of one command on their way to the rows of a desk. No public clause cites this module.
+-- A word with no source is this project's rule.
+use Rattle.std.specs.Prelude.{◌≡◌, ℕ, ◌<◌, Bool, false, cond, ◌==◌, List, [], ◌∷◌, length, set, Some, slice_get}
+use Rattle.std.specs.List.{AllByRecursion}
+use Rattle.std.specs.Option.{option_map_or}
+use Rattle.mt_events.specs.Posts.{PostView}
+use Rattle.mt_desk.specs.Rows.{SendsRow, MayBeSent, row_follows}
+use Rattle.mt_desk.specs.declared.row.Slot.{Slot}
+use Rattle.mt_desk.specs.declared.row.Slot.TheVariants.{Parked, Used, Away}
+
+-- a post that is due to the row at a place
+pub record PlaceDue : Type 0 where
+  pub place : ℕ
+  pub post : PostView
+
+-- what of a post is due to the row at a place
+abbrev pub slot_follows : PostView → Slot → Bool
+slot_follows p (Parked l) = false
+slot_follows p (Used r) = row_follows p r.row
+slot_follows p Away = false
+
+abbrev pub due_at : PostView → List Slot → ℕ → List PlaceDue
+due_at p slots place = cond (option_map_or (slot_follows p) (slice_get slots place) false) (record { place = place; post = p } ∷ []) []
+
+-- the posts that are due to the row at a place
+abbrev pub posts_at : ℕ → List PlaceDue → List PostView
+posts_at place [] = []
+posts_at place (d ∷ ds) = cond (d.place == place) (d.post ∷ posts_at place ds) (posts_at place ds)
+
+-- a row at a place may be sent posts
+abbrev pub MaySend : Slot → List PostView → Type 0
+MaySend (Parked l) ps = Unit {0}
+MaySend (Used r) ps = MayBeSent r.row ps
+MaySend Away ps = Unit {0}
+
+-- what is due is due to places of the desk, and keeps the order of their watchers' posts
+pub record AreDue (slots : List Slot) (ds : List PlaceDue) : Type 0 where
+  pub places : AllByRecursion (λ (d : PlaceDue). d.place < length slots) ds
+  pub runs : (place : ℕ) (s : Slot) → slice_get slots place ≡ Some s → MaySend s (posts_at place ds)
+
+-- a post is sent to what stands at a place
+abbrev pub SendsSlot : Slot → PostView → Slot → Type 0
+SendsSlot (Used r) p (Used now) = SendsRow r p now
+SendsSlot (Used r) p s = ⊥
+SendsSlot s p s' = s' ≡ s
+
+pub record SendsAt (d : PlaceDue) (slots slots' : List Slot) : Type 0 where
+  pub slot : Slot
+  pub there : slice_get slots d.place ≡ Some slot
+  pub slot' : Slot
+  pub sends : SendsSlot slot d.post slot'
+  pub slots_are : slots' ≡ set slots d.place slot'
+
+-- and all that is due, one after another
+abbrev pub SendsAll : List PlaceDue → List Slot → List Slot → Type 0
+SendsAll [] slots slots' = slots' ≡ slots
+SendsAll (d ∷ ds) slots slots' = (next : List Slot) × SendsAt d slots next × SendsAll ds next slots'

@@ -1,0 +1,16 @@
+//! The queue of one watcher: posts that wait to be taken, sent by one thread and taken by another, in order.
+//!
+//! A line is opened for a watcher, which makes its two halves: a sender and a receiver, each owned by one thread. The
+//! halves meet, and are put together at last; what is left is taken, and the line can be opened again. That all this
+//! keeps the order is a rule of the queue (`specs/Rule.antt`), which each step of either thread keeps, whatever the
+//! other one does in between.
+#![tactic(auto)]
+
+pub mod line;
+pub mod meeting;
+pub mod receiver;
+mod rule;
+pub mod sender;
+pub mod tail;
+
+pub use rule::Item;
