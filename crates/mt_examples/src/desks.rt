@@ -161,9 +161,7 @@ fn stops<J: Naming, R: Wait>(
         Ok(_) => false,
         Err(fault) => fault == Fault::Stopped,
     };
-    refused
-        && begins_not(desk, Fault::Stopped)
-        && meets(desk, watcher, 1, 0, Phase::Ended)
+    refused && begins_not(desk, Fault::Stopped) && meets(desk, watcher, 1, 0, Phase::Ended)
 }
 
 /// Whether a watcher of namespace 1 is refused so.
