@@ -1,7 +1,7 @@
 //! Watchers of a desk: one that lags, one that keeps up, those after a stop, and as many as there may be.
 ghost use Rattle.std.specs.Prelude.{◌≡◌};
 
-use crate::fixture::commands_of;
+use crate::fixture::{are_done, commands_of};
 use mt_book::command::Command;
 use mt_desk::desk::Desk;
 use mt_desk::lines::{Lines, Naming};
@@ -27,16 +27,6 @@ setattr 1 / clr=ro";
 
 /// How often both are done while a watcher keeps up.
 const ROUNDS: u64 = 500;
-
-/// Commands one after another: whether all were done.
-fn are_done<J: Naming, R: Wait>(rt: &R, desk: &mut Desk<J>, commands: &[Command]) -> bool {
-    'commands: for command in commands {
-        if desk.apply(rt, command).is_err() {
-            return false;
-        }
-    }
-    true
-}
 
 /// Whether a command is done.
 fn is_done<J: Naming, R: Wait>(rt: &R, desk: &mut Desk<J>, command: &Command) -> bool {

@@ -1,6 +1,9 @@
-//! What the tests share: lines of commands, what a book answers to them, and tables made of lines of rows.
+//! What the tests share: lines of commands, what a book answers to them, commands done at a desk, and tables made of
+//! lines of rows.
 use mt_book::book::Book;
 use mt_book::command::{Command, Reply};
+use mt_desk::desk::Desk;
+use mt_desk::lines::Naming;
 use mt_events::print::push_post;
 use mt_events::shared::SharedPosts;
 use mt_info::print::push_row;
@@ -11,6 +14,7 @@ use mt_session::text::Text;
 use mt_skel::fault::Fault;
 use mt_words::words::Pieces;
 use std::alloc::Global;
+use std::sync::Wait;
 
 /// The command that a line says.
 pub(crate) fn command_of(alloc: Global, line: &[u8]) -> Result<Command, Fault> {
@@ -27,6 +31,20 @@ pub(crate) fn commands_of(alloc: Global, lines: &[u8]) -> Result<Vec<Command>, F
         commands.push(command_of(alloc, line)?)?;
     }
     Ok(commands)
+}
+
+/// Does commands at a desk, one after another: whether all were done.
+pub(crate) fn are_done<J: Naming, R: Wait>(
+    rt: &R,
+    desk: &mut Desk<J>,
+    commands: &[Command],
+) -> bool {
+    'commands: for command in commands {
+        if desk.apply(rt, command).is_err() {
+            return false;
+        }
+    }
+    true
 }
 
 /// Appends the texts of posts.
