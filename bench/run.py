@@ -3,7 +3,7 @@
 
 Usage: bench/run.py [--program PATH] [--seed N] [--only WORD]
 
-The program is crates/mt_server/out/mt_server, which `rt run mt_server` builds. Nothing is judged:
+The program is crates/mountd/out/mountd, which `rt run mountd` builds. Nothing is judged:
 the figures are for docs/GATE.md. The same seed makes the same sessions.
 """
 import argparse
@@ -266,7 +266,7 @@ def time_directories(program):
 
 def main():
     parser = argparse.ArgumentParser(description=__doc__.splitlines()[0])
-    parser.add_argument("--program", default=os.path.join(HERE, "crates/mt_server/out/mt_server"))
+    parser.add_argument("--program", default=os.path.join(HERE, "crates/mountd/out/mountd"))
     parser.add_argument("--seed", type=int, default=1)
     parser.add_argument("--only", default="")
     parser.add_argument("--pairs", action="store_true", help="time mount and umount in worlds of many mounts instead")

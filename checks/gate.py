@@ -1,9 +1,9 @@
 #!/usr/bin/env -S python3 -B
 """Proves everything once, from nothing, and checks the program that was built from outside.
 
-First checks/words.py, then `rt ci`, then README's commands (checks/readme.py), then checks/program.py, each
-with all that it prints. Then how long each took; then the last line of `rt ci`, `N passed, M failed`, once more. The
-status is 0 where all of them passed.
+First checks/words.py, then `rt ci`, then README's commands (checks/readme.py), then checks/program.py and
+checks/server.py, each with all that it prints. Then how long each took; then the last line of `rt ci`, `N passed, M failed`,
+once more. The status is 0 where all of them passed.
 
 `rt ci` keeps no library that `rt run` would take, so that README's `rt run` would prove everything a
 second time. It does leave the program that it has proved, built and run, and --built takes that one.
@@ -16,7 +16,8 @@ import sys
 import time
 
 TOP = os.path.dirname(os.path.dirname(os.path.abspath(__file__)))
-PROGRAM = os.path.join(TOP, "crates", "mt_server", "out", "mt_server")
+PROGRAM = os.path.join(TOP, "crates", "mountd", "out", "mountd")
+CLIENT = os.path.join(TOP, "crates", "mountctl", "out", "mountctl")
 
 
 def spent():
@@ -41,22 +42,24 @@ def run(name, *words):
 
 def main():
     # What is there afterwards is what rt ci has built.
-    with contextlib.suppress(FileNotFoundError):
-        os.remove(PROGRAM)
+    for program in (PROGRAM, CLIENT):
+        with contextlib.suppress(FileNotFoundError):
+            os.remove(program)
     words_passed, _, words_took = run("self-test of words.py", "checks/words.py", "--self-test")
     named, _, named_took = run("one word, one meaning; each thing once", "checks/words.py")
     passed, verdict, took = run("rt ci", "rt", "ci")
     all_took, all_passed = [words_took, named_took, took], [words_passed, named, passed]
-    if os.path.isfile(PROGRAM):
+    if os.path.isfile(PROGRAM) and os.path.isfile(CLIENT):
         for name, *words in (
             ("README's commands", "checks/readme.py", "--built"),
             ("checks of the program", "checks/program.py", PROGRAM),
+            ("checks of the server", "checks/server.py", PROGRAM, CLIENT),
         ):
             passed, _, took = run(name, *words)
             all_took.append(took)
             all_passed.append(passed)
     else:
-        print("rt ci built no program, so nothing was checked from outside")
+        print("rt ci did not build both programs, so nothing was checked from outside")
         all_passed.append(False)
     print("==", *all_took, verdict, sep="\n", flush=True)
     sys.exit(0 if all(all_passed) else 1)

@@ -99,7 +99,7 @@ def refuse_each(asked, name, preloaded, count):
 
 def refuse_arguments(program, preloaded):
     """Refuses each allocation of runs with other arguments, which say what they say, or that memory is missing."""
-    for words in ("--help",), ("a", "b"), ("--frobnicate",), ("socket",):
+    for words in ("--help",), ("a", "b"), ("--frobnicate",), ("/",):
         plain = run(program, b"", *words)
         for nth in range(1, 100):
             told = run(program, b"", *words, environment={"LD_PRELOAD": preloaded, "REFUSE_NTH": str(nth)})

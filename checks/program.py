@@ -4,10 +4,10 @@
 The parts are those of the other modules here: the format of cases and the cases (cases.py), README's
 example (readme.py), the tables (tables.py), odd input, closed streams and arguments (streams.py), the
 limits (limits.py) and allocations that are refused (memory.py). A failure is printed with what shows
-why, and then the status is 1.
+why, and then the status is 1. The server on a socket is for server.py.
 
 --update checks nothing: it writes the program's answers into cases/, and from there README.md's example
-and the program's own crates/mt_server/stdin and stdout. What it has changed is to be read.
+and the program's own crates/mountd/stdin and stdout. What it has changed is to be read.
 """
 import argparse
 import os

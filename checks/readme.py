@@ -6,7 +6,7 @@ Usage: checks/readme.py [--built]
 Runs the commands of README.md from the top of the repository. Directly before the fence of a block of
 commands stands a line that says whether it is run, and a block marked `sh` has to have one:
 
-    <!-- run -->          it is run, and has to print crates/mt_server/stdout
+    <!-- run -->          it is run, and has to print crates/mountd/stdout
     <!-- run: NAME -->    it is run, and has to print the answers of the case NAME
     <!-- not run -->      it is not run
 
@@ -15,21 +15,33 @@ crates/NAME, which would prove everything to build it: this is for .ci/run, wher
 proved and built it from nothing.
 
 A fenced block directly behind a line `<!-- case: NAME -->` is the case NAME without its comments.
+
+The blocks behind `<!-- terminal 1 -->` and `<!-- terminal 2 -->` are what two terminals show: commands behind
+`$ `, and what each prints. The first command starts the server; the last one of terminal 1 runs while those of
+terminal 2 are done, once it has printed its first answer. With --built they are run too.
 """
+import os
 import re
 import subprocess
 import sys
+import tempfile
+import time
 
 import cases
 from running import TOP, check, difference, failures, read, shown, write
 
-# The case of which crates/mt_server/stdin and stdout are the input and the answers.
+# The case of which crates/mountd/stdin and stdout are the input and the answers.
 EXAMPLE = "two-filesystems"
-STREAMS = ("crates", "mt_server")
+STREAMS = ("crates", "mountd")
 
 CASE_BLOCK = re.compile(rb"(?m)^(<!-- case: (.*) -->\n```.*\n)((?:(?!```).*\n)*?)(```)$")
 BLOCK = re.compile(rb"(?m)^(?:<!-- (.*) -->\n)?```(.*)\n((?:(?!```).*\n)*?)```$")
 PROVED_RUN = re.compile(rb"cd crates/(\w+) && rt run -- ")
+TERMINAL = re.compile(rb"(?m)^<!-- terminal ([12]) -->\n```.*\n((?:(?!```).*\n)*?)```$")
+STEP = re.compile(rb"(?m)^\$ (.*)\n((?:(?!\$ ).*\n)*)")
+
+# How long the server may take to listen, and a command of a terminal to end, in seconds.
+MOST_SECONDS = 30
 
 
 def block_of(name):
@@ -49,7 +61,7 @@ def check_example(_program):
     example = cases.load(EXAMPLE)
     for file, text in (("stdin", example.input()), ("stdout", example.output())):
         found = read(*STREAMS, file)
-        check(f"crates/mt_server/{file}", found == text, difference(text, found, file))
+        check(f"crates/mountd/{file}", found == text, difference(text, found, file))
 
 
 def update_example():
@@ -84,10 +96,51 @@ def check_commands(is_built):
     check("README.md has a command that is run", ran > 0)
 
 
+def check_printed(command, wanted, found):
+    name = f"README.md's command {shown(command)}"
+    check(f"what {name} prints", found == wanted, difference(wanted, found, "README.md"))
+
+
+def wait_for_socket(folder):
+    """Waits until the server listens."""
+    end = time.monotonic() + MOST_SECONDS
+    while not any(name.endswith(".sock") for name in os.listdir(folder)) and time.monotonic() < end:
+        time.sleep(0.01)
+
+
+def first_answer(stream):
+    """The first line of an answer that counts the lines behind it, and these."""
+    first = stream.readline()
+    return first + b"".join(stream.readline() for _ in range(int(first.split()[1])))
+
+
+def check_terminals():
+    """What README.md's two terminals show is what the programs print."""
+    first, second = (STEP.findall(text) for _, text in sorted(TERMINAL.findall(read("README.md"))))
+    folders = [os.path.join(TOP, "crates", name, "out") for name in ("mountd", "mountctl")]
+    environment = dict(os.environ, PATH=os.pathsep.join([*folders, os.environ["PATH"]]))
+    (start, _), *made, (followed, posts) = first
+    with tempfile.TemporaryDirectory() as folder:
+        settings = {"cwd": folder, "env": environment, "stdout": subprocess.PIPE}
+        with subprocess.Popen(["sh", "-ec", b"exec " + start.rstrip(b"& ")], **settings) as server:
+            wait_for_socket(folder)
+            for command, wanted in made:
+                check_printed(command, wanted, subprocess.run(["sh", "-ec", command], **settings).stdout)
+            with subprocess.Popen(["sh", "-ec", followed], **settings) as follower:
+                found = first_answer(follower.stdout)
+                for command, wanted in second:
+                    check_printed(command, wanted, subprocess.run(["sh", "-ec", command], **settings).stdout)
+                check_printed(followed, posts, found + follower.stdout.read())
+            server.wait(MOST_SECONDS)
+            check("README.md's server ends well", server.returncode == 0, f"status {server.returncode}")
+
+
 def main():
     if sys.argv[1:] not in ([], ["--built"]):
         raise SystemExit(__doc__)
     check_commands(sys.argv[1:] == ["--built"])
+    if sys.argv[1:] == ["--built"]:
+        check_terminals()
     if failures:
         raise SystemExit(f"checks of README.md's commands failed: {len(failures)}")
     print("README.md's commands print what they should")

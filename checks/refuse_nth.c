@@ -7,6 +7,7 @@
 #include <stddef.h>
 #include <stdio.h>
 #include <stdlib.h>
+#include <unistd.h>
 
 static long refused;
 static long asked;
@@ -16,7 +17,7 @@ __attribute__((constructor)) static void start(void) {
     refused = text ? atol(text) : 0;
 }
 
-__attribute__((destructor)) static void end(void) {
+static void tell(void) {
     const char *name = getenv("COUNT_TO");
     long count = asked;
     FILE *file = name ? fopen(name, "w") : NULL;
@@ -24,6 +25,18 @@ __attribute__((destructor)) static void end(void) {
         fprintf(file, "%ld\n", count);
         fclose(file);
     }
+}
+
+__attribute__((destructor)) static void end(void) {
+    tell();
+}
+
+/* A program with threads ends so, and no destructor is called. */
+void _exit(int status) {
+    void (*real)(int) = (void (*)(int))dlsym(RTLD_NEXT, "_exit");
+    tell();
+    real(status);
+    __builtin_unreachable();
 }
 
 static int is_refused(void) {

@@ -67,7 +67,7 @@ def check_closed(program):
 
 
 def check_arguments(program):
-    check("a socket", run(program, b"", "socket") == (1, b"", b"mountd: cannot listen\n"))
+    check("a socket that cannot be", run(program, b"", "/") == (1, b"", b"mountd: cannot listen\n"))
     check("two words", run(program, b"", "a", "b")[0] == 2)
     check("an unknown option", run(program, b"", "--frobnicate")[0] == 2)
     for option, most in ("--queue", 1024), ("--sessions", 32):
@@ -83,3 +83,6 @@ def check_arguments(program):
     check("no word", none.returncode == 2 and none.stdout == b"")
     status, text, complaint = run(program, b"", "--help")
     check("help", status == 0 and text.startswith(b"Usage: mountd") and complaint == b"")
+    words = {line.split()[0] for line in text.split(b"Lines of a session:")[-1].splitlines() if line.startswith(b"  ")}
+    lines = b"mkfs mkdir newns copyns mount bind rbind move umount setattr show find watch take follow close quit stop"
+    check("help has the lines of a session", set(lines.split()) <= words, shown(text))

@@ -6,10 +6,12 @@ use Rattle.std.proofs.lemmas.Bool.Decides.{nat_tests}
 use Rattle.std.proofs.lemmas.List.{append-nil, length-set}
 use Rattle.std.proofs.lemmas.List.Edits.{map_over_more}
 use Rattle.std.proofs.lemmas.Option.{slice_get_read}
+use Rattle.mt_skel.proofs.MiddleLaws.{each_still}
 use Rattle.mt_events.specs.Posts.{PostView}
 use Rattle.mt_events.specs.Following.{IsRun}
 use Rattle.mt_queue.specs.PassViews.{Item, values}
 use Rattle.mt_queue.proofs.RunLaws.{run_front}
+use Rattle.mt_queue.proofs.ValueLaws.{values-append}
 use Rattle.mt_floor.specs.declared.watch.Phase.{Phase}
 use Rattle.mt_floor.specs.declared.watch.Phase.TheVariants.{Open as IsOpen, Lagged, Ended}
 use Rattle.mt_desk.specs.Desk.{DeskRow}
@@ -19,7 +21,7 @@ use Rattle.mt_desk.specs.declared.row.Slot.{Slot}
 use Rattle.mt_desk.specs.declared.row.Slot.TheVariants.{Parked, Used, Away}
 use Rattle.mt_desk.specs.Places.{ended_slot}
 use Rattle.mt_desk.specs.Sending.{PlaceDue, slot_follows, due_at, posts_at, AreDue, MaySend, SendsSlot, SendsAt}
-use Rattle.mt_desk.proofs.PlaceLaws.{get_set, each_so}
+use Rattle.mt_desk.proofs.PlaceLaws.{get_set}
 
 -- nothing is due to a row that does not follow the post
 pub nothing_due : (due : List PlaceDue) (p : PostView) (slots : List Slot) (place : ℕ) (s : Slot) → place < length slots → s ≡ get_or slots place s → slot_follows p s ≡ false
@@ -33,14 +35,10 @@ pub ended_next : (slots now : List Slot) (i : ℕ) (x new : Slot) → i < length
     → set now i new ≡ map ended_slot (take (i + 1) slots) ++ drop (i + 1) slots
 ended_next slots now i x new l inv is e = ap (set now i) (e ∙ ap ended_slot (sym is)) ∙ map_over_more ended_slot slots now i x l inv is
 
-pub values_more : (xs : List Item) (x : Item) → values (xs ++ x ∷ []) ≡ values xs ++ arc_value x ∷ []
-values_more [] x = refl
-values_more (y ∷ xs) x = ap (λ l. arc_value y ∷ l) (values_more xs x)
-
 -- one post more was taken out
 pub out_more : (start taken taken' : List PostView) (xs xs' : List Item) (x : Item) → start ++ values xs ≡ taken → xs' ≡ xs ++ x ∷ [] → taken' ≡ taken ++ arc_value x ∷ [] → start ++ values xs' ≡ taken'
 out_more start taken taken' xs xs' x so put got =
-    ap (λ l. start ++ values l) put ∙ ap (λ l. start ++ l) (values_more xs x) ∙ sym (append_assoc start (values xs) (arc_value x ∷ [])) ∙ ap (λ l. l ++ arc_value x ∷ []) so ∙ sym got
+    ap (λ l. start ++ values l) put ∙ ap (λ l. start ++ l) (values-append xs (x ∷ [])) ∙ sym (append_assoc start (values xs) (arc_value x ∷ [])) ∙ ap (λ l. l ++ arc_value x ∷ []) so ∙ sym got
 
 pub room_left : (sent taken taken' rest rest' : List PostView) (xs xs' : List Item) (x : Item) (room : ℕ) → sent ≡ taken ++ rest → sent ≡ taken' ++ rest' → taken' ≡ taken ++ arc_value x ∷ [] → xs' ≡ xs ++ x ∷ []
     → length xs + length rest ≤ room → length xs' + length rest' ≤ room
@@ -95,7 +93,7 @@ sent_may (Used r) (Used now) p ps sends may = by r.row.phase refl sends.sent
     by Ended is same = λ still. absurd (let bad : Ended ≡ IsOpen = sym is ∙ sym (ap (λ (q : DeskRow). q.phase) same) ∙ still in cc)
 
 pub others_due : (slots slots' : List Slot) (d : PlaceDue) (ds : List PlaceDue) → AreDue slots (d ∷ ds) → SendsAt d slots slots' → AreDue slots' ds
-others_due slots slots' d ds h at = subst (λ l. AreDue l ds) (sym at.slots_are) (record { places = each_so (λ (e : PlaceDue). e.place < length slots) (λ (e : PlaceDue). e.place < length (set slots d.place at.slot')) (λ e low. omega (arith, low, length-set slots d.place at.slot')) ds h.places.1; runs = runs })
+others_due slots slots' d ds h at = subst (λ l. AreDue l ds) (sym at.slots_are) (record { places = each_still (λ (e : PlaceDue). e.place < length slots) (λ (e : PlaceDue). e.place < length (set slots d.place at.slot')) (λ e low. omega (arith, low, length-set slots d.place at.slot')) ds h.places.1; runs = runs })
   where
     runs : (place : ℕ) (s : Slot) → slice_get (set slots d.place at.slot') place ≡ Some s → MaySend s (posts_at place ds)
     runs place s e = elim (get_set slots d.place at.slot' place s e) [

@@ -7,9 +7,8 @@ use Rattle.std.proofs.lemmas.Bool.Decides.{nat_tests}
 use Rattle.std.proofs.lemmas.List.{map-append, length-set}
 use Rattle.std.proofs.lemmas.List.Elements.{filter-append}
 use Rattle.mt_skel.specs.Keyed.{row_at, put, without, rises}
-use Rattle.mt_skel.proofs.MiddleLaws.{and_first, and_second}
 use Rattle.mt_queue.specs.Halves.{LineId, LineView}
-use Rattle.mt_skel.proofs.MiddleLaws.{row_mid, put_mid, without_mid}
+use Rattle.mt_skel.proofs.MiddleLaws.{and_first, and_second, row_mid, put_mid, without_mid, each_still}
 use Rattle.mt_desk.specs.Desk.{DeskRow, row_key, ended}
 use Rattle.mt_desk.specs.Rows.{RowView, ended_row}
 use Rattle.mt_desk.specs.declared.row.Slot.{Slot}
@@ -63,10 +62,6 @@ each_left P (x ∷ xs) ys a = (a.0, each_left P xs ys a.1)
 each_right : {X : Type 0} (P : X → Type 0) (xs ys : List X) → AllByRecursion P (xs ++ ys) → AllByRecursion P ys
 each_right P [] ys a = a
 each_right P (x ∷ xs) ys a = each_right P xs ys a.1
-
-pub each_so : {X : Type 0} (P Q : X → Type 0) → ((x : X) → P x → Q x) → (xs : List X) → AllByRecursion P xs → AllByRecursion Q xs
-each_so P Q go [] h = tt
-each_so P Q go (x ∷ xs) h = (go x h.0, each_so P Q go xs h.1)
 
 uses_set : (slots : List Slot) (p : ℕ) (s x : Slot) → slice_get slots p ≡ Some s → uses (set slots p x) + use_of s ≡ uses slots + use_of x
 uses_set [] p s x e = absurd cc
@@ -210,7 +205,7 @@ module _ (lines : List LineId) (c : ℕ) (slots : List Slot) (order : List ℕ) 
       lines_are = map_set line_of slots p (Used r) (Used now) at line ∙ places.lines_are;
       number = length-set slots p (Used now) ∙ places.number;
       each = each_set (IsLine c) slots p (Used now) places.each (record { here = tt; capacity_is = capacity ∙ (each_get (IsLine c) slots p (Used r) places.each at).capacity_is });
-      used = each_so (IsUsed slots) (IsUsed (set slots p (Used now))) (still_used slots p (Used r) now at) order places.used;
+      used = each_still (IsUsed slots) (IsUsed (set slots p (Used now))) (still_used slots p (Used r) now at) order places.used;
       ordered = λ k q e. elim (get_set slots p (Used now) k (Used q) e) [ inl h ↦ subst (λ n. IsAmong n order) (sym h.0) (places.ordered p r at) | inr h ↦ places.ordered k q h.1 ];
       count = omega (arith, places.count, uses_set slots p (Used r) (Used now) at);
     }
@@ -272,7 +267,7 @@ module _ (lines : List LineId) (c : ℕ) (slots : List Slot) (order : List ℕ) 
     each = each_set (IsLine c) slots p (Used now) places.each (record { here = tt; capacity_is = capacity ∙ (each_get (IsLine c) slots p (Parked l) places.each at).capacity_is });
     used =
         each_append (IsUsed (set slots p (Used now))) order (p ∷ [])
-        (each_so (IsUsed slots) (IsUsed (set slots p (Used now))) (still_used slots p (Parked l) now at) order places.used)
+        (each_still (IsUsed slots) (IsUsed (set slots p (Used now))) (still_used slots p (Parked l) now at) order places.used)
         (record { row = now; there = get_same slots p (Parked l) (Used now) at }, tt);
     ordered = λ k q e. elim (get_set slots p (Used now) k (Used q) e) [
       | inl h ↦ among_right k order (p ∷ []) (inl (sym h.0))
@@ -350,7 +345,7 @@ ended_places lines c slots order h = record {
   lines_are = ended_lines slots ∙ h.lines_are;
   number = ended_length slots ∙ h.number;
   each = ended_each c slots h.each;
-  used = each_so (IsUsed slots) (IsUsed (map ended_slot slots)) (λ k u. record { row = ended_row u.row; there = ended_get slots k u.row u.there }) order h.used;
+  used = each_still (IsUsed slots) (IsUsed (map ended_slot slots)) (λ k u. record { row = ended_row u.row; there = ended_get slots k u.row u.there }) order h.used;
   ordered = λ k r e. let q = was_used slots k r e in h.ordered k q.0 q.1;
   count = h.count ∙ sym (ended_uses slots);
 }

@@ -82,12 +82,3 @@ module _ (P : DeskRow → Type 0) where
       by : (b : Bool) → AllByRecursion P (without t rs) → AllByRecursion P (cond (not b) (r ∷ without t rs) (without t rs))
       by true ih = ih
       by false ih = (all.0, ih)
-
-  pub each_snoc : (rs : List DeskRow) (r : DeskRow) → AllByRecursion P rs → P r → AllByRecursion P (rs ++ r ∷ [])
-  each_snoc [] r all p = (p, tt)
-  each_snoc (q ∷ rs) r all p = (all.0, each_snoc rs r all.1 p)
-
--- rows that were changed one by one
-pub each_mapped : (P Q : DeskRow → Type 0) (f : DeskRow → DeskRow) → ((r : DeskRow) → P r → Q (f r)) → (rs : List DeskRow) → AllByRecursion P rs → AllByRecursion Q (map f rs)
-each_mapped P Q f go [] all = tt
-each_mapped P Q f go (r ∷ rs) all = (go r all.0, each_mapped P Q f go rs all.1)

@@ -8,6 +8,7 @@ use Rattle.mt_skel.specs.declared.fault.Fault.{Fault}
 use Rattle.mt_skel.specs.declared.fault.Fault.TheVariants.{NoWatcher}
 use Rattle.mt_skel.specs.Keyed.{row_at, without, rises}
 use Rattle.mt_skel.proofs.KeyedLaws.{row_at-key}
+use Rattle.mt_skel.proofs.MiddleLaws.{each_last, each_map}
 use Rattle.mt_events.specs.Posts.{PostView}
 use Rattle.mt_events.specs.declared.opening.Scope.{Scope}
 use Rattle.mt_queue.specs.Halves.{ReceiverView}
@@ -25,7 +26,7 @@ use Rattle.mt_floor.proofs.StandingLaws.{stays}
 use Rattle.mt_desk.specs.Late.{late, late_count}
 use Rattle.mt_desk.specs.Desk.{DeskRow, DeskView, IsDeskRow, IsInTime, IsDesk, row_key, late_watcher, floor_of_desk, new_row, with_watcher, ended, halted_desk}
 use Rattle.mt_desk.specs.Calls.{WatcherView, IsHalved, IsMet, IsClosed, unseen, in_time_after, met_row, with_row}
-use Rattle.mt_desk.proofs.RowsLaws.{watcher_there, put_watchers, without_watchers, rises_watchers, snoc_watchers, each_at, each_put, each_without, each_snoc, each_mapped}
+use Rattle.mt_desk.proofs.RowsLaws.{watcher_there, put_watchers, without_watchers, rises_watchers, snoc_watchers, each_at, each_put, each_without}
 use Rattle.mt_desk.proofs.LateLaws.{late_met, late_before}
 use Rattle.mt_desk.proofs.PutLaws.{without_put}
 use Rattle.mt_desk.proofs.RunLaws.{run_cons, run_pair, floor_stays, with_taken, takes_run}
@@ -173,7 +174,7 @@ pub stopped_stays : (d : DeskView) → IsDesk d → IsDesk (halted_desk d)
 stopped_stays d h = record {
   floor = subst IsFloor (ap (λ (x : Stepped). x.0) (stop_schedule d)) (stays (floor_of_desk d) Stop h.floor);
   room = h.room;
-  rows = each_mapped (IsDeskRow d.capacity) (IsDeskRow d.capacity) ended (ended_row d.capacity) d.rows h.rows;
+  rows = each_map (IsDeskRow d.capacity) (IsDeskRow d.capacity) ended (ended_row d.capacity) d.rows h.rows;
 }
 
 -- A watcher begins.
@@ -197,5 +198,5 @@ pub opened_stays : (d : DeskView) (scope : Scope) → IsDesk d → opening_refus
 opened_stays d scope h none = record {
   floor = subst IsFloor (ap (λ (x : Stepped). x.0) (open_schedule d scope none)) (stays (floor_of_desk d) (Open scope) h.floor);
   room = h.room;
-  rows = each_snoc (IsDeskRow d.capacity) d.rows (new_row d scope) h.rows (record { met = omega arith; in_time = refl });
+  rows = each_last (IsDeskRow d.capacity) d.rows (new_row d scope) h.rows (record { met = omega arith; in_time = refl });
 }

@@ -7,7 +7,7 @@ use Rattle.std.proofs.lemmas.Bool.Decides.{nat_tests}
 use Rattle.std.proofs.lemmas.List.{map-append}
 use Rattle.std.proofs.lemmas.Option.{slice_get_within}
 use Rattle.mt_skel.specs.Keyed.{row_at, rises}
-use Rattle.mt_skel.proofs.MiddleLaws.{and_first, and_second}
+use Rattle.mt_skel.proofs.MiddleLaws.{and_first, and_second, each_still}
 use Rattle.mt_events.specs.Posts.{PostView}
 use Rattle.mt_events.specs.Following.{IsRun}
 use Rattle.mt_book.specs.declared.command.Command.{Command}
@@ -31,7 +31,7 @@ use Rattle.mt_desk.specs.declared.row.Slot.{Slot}
 use Rattle.mt_desk.specs.declared.row.Slot.TheVariants.{Parked, Used, Away}
 use Rattle.mt_desk.specs.Places.{row_in, rows_of, desk_of, slot_row, no_row, IsLine, IsUsed, IsAmong, ArePlaces, IsKept}
 use Rattle.mt_desk.specs.Sending.{PlaceDue, slot_follows, due_at, posts_at, AreDue, MaySend, SendsSlot, SendsAt, SendsAll}
-use Rattle.mt_desk.proofs.PlaceLaws.{get_other, get_same, each_get, each_append, each_so, among_get, row_there, row_of_place, put_rows, put_places}
+use Rattle.mt_desk.proofs.PlaceLaws.{get_other, get_same, each_get, each_append, among_get, row_there, row_of_place, put_rows, put_places}
 use Rattle.mt_desk.proofs.ScheduleLaws.{rows_rise}
 use Rattle.mt_desk.proofs.ApplyLaws.{first_due, prepared_begins, row_is_due, due_rows, due_of_rows}
 use Rattle.mt_desk.proofs.SentLaws.{sent_first, left_is_run, sent_row, sent_all, sent_stays}
@@ -210,7 +210,7 @@ module _ (lines : List LineId) (c : ℕ) (journal : List Command) (last_key : �
   desk = desk_of c journal last_key stopped slots order
 
   pub low_places : AllByRecursion (λ place. place < length slots) order
-  low_places = each_so (IsUsed slots) (λ place. place < length slots) (λ k u. slice_get_within slots k (Used u.row) u.there) order h.places.used
+  low_places = each_still (IsUsed slots) (λ place. place < length slots) (λ k u. slice_get_within slots k (Used u.row) u.there) order h.places.used
 
   module _ (x : Command) (reply : Reply) (due : List PlaceDue) (due_is : due ≡ flat_map (λ p. flat_map (due_at p slots) order) (posts_of journal x))
       (begun : floor_step (floor_of_desk desk) (Apply x) ≡ (sending_floor desk x desk.rows (first_due desk x), Ok (Replied reply))) where
@@ -229,7 +229,7 @@ module _ (lines : List LineId) (c : ℕ) (journal : List Command) (last_key : �
     -- what is due may be sent
     pub are_due : AreDue slots due
     are_due = record {
-      places = each_so (λ (e : PlaceDue). IsAmong e.place order) (λ (e : PlaceDue). e.place < length slots) (λ e a. among_get (λ place. place < length slots) e.place order a low_places) due all_in_order;
+      places = each_still (λ (e : PlaceDue). IsAmong e.place order) (λ (e : PlaceDue). e.place < length slots) (λ e a. among_get (λ place. place < length slots) e.place order a low_places) due all_in_order;
       runs = may;
     }
       where

@@ -31,6 +31,7 @@ use Rattle.mt_desk.proofs.RunLaws.{run_cons, run_pair, floor_stays}
 use Rattle.mt_desk.proofs.ScheduleLaws.{rows_rise}
 use Rattle.mt_desk.proofs.SendLaws.{Sends, sent_floor, sent_step, full_sends, post_keeps, lag_rule}
 use Rattle.mt_desk.proofs.ApplyLaws.{first_due}
+use Rattle.mt_desk.proofs.PlaceLaws.{each_append}
 
 -- ---- what is due still
 
@@ -143,10 +144,6 @@ row_skipped Ended c all left r q mine shut same rest = same
 
 -- ---- all rows
 
-all_join : {X : Type 0} (P : X → Type 0) (xs ys : List X) → AllByRecursion P xs → AllByRecursion P ys → AllByRecursion P (xs ++ ys)
-all_join P [] ys a b = b
-all_join P (x ∷ xs) ys a b = (a.0, all_join P xs ys a.1 b)
-
 module _ (d : DeskView) (c : Command) (reply : Reply) (h : IsDesk d) where
   -- a command was accepted, and nothing was sent
   pub sent_first : floor_step (floor_of_desk d) (Apply c) ≡ (sending_floor d c d.rows (first_due d c), Ok (Replied reply)) → IsSending d c reply d.rows (first_due d c)
@@ -203,8 +200,8 @@ module _ (d : DeskView) (c : Command) (reply : Reply) (h : IsDesk d) where
     go_on rows' more kept rising so_far = record {
       sends = k.sends ++ more.events;
       told = k.told ++ more.told;
-      each = all_join IsSend k.sends more.events k.each more.each;
-      done = all_join IsDone k.told more.told k.done more.done;
+      each = each_append IsSend k.sends more.events k.each more.each;
+      done = each_append IsDone k.told more.told k.done more.done;
       schedule = run_pair (floor_of_desk d) before (sending_floor d c rows' (still_due rows' left)) (Apply c ∷ k.sends) more.events (Ok (Replied reply) ∷ k.told) more.told k.schedule more.schedule;
       kept = kept;
       rising = rising;

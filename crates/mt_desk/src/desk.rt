@@ -4,7 +4,7 @@ ghost use Rattle.std.specs.List.{filter};
 ghost use Rattle.mt_floor.specs.Schedule.{empty_floor, floor_step, opening_refusal};
 ghost use Rattle.mt_floor.specs.declared.event.Event.TheVariants.{Apply, Open, Stop};
 ghost use Rattle.mt_floor.specs.declared.event.Answer.TheVariants.{Opened, Halted};
-ghost use Rattle.mt_desk.specs.Desk.{floor_of_desk, with_watcher, halted_desk};
+ghost use Rattle.mt_desk.specs.Desk.{IsDesk, floor_of_desk, with_watcher, halted_desk};
 ghost use Rattle.mt_desk.specs.Calls.{IsApplied, IsMet, IsClosed};
 
 use crate::due::due_of;
@@ -75,7 +75,10 @@ impl<J: Naming> Desk<J> {
 
     /// The accepted commands, and what they have led to.
     pub fn book(&self) -> &Book
-        ensures { result.now.journal ≡ self.now.journal }
+        ensures journal { result.now.journal ≡ self.now.journal }
+
+        // What is always true of a desk.
+        ensures kept { IsDesk self.now }
     {
         &self.book
     }

@@ -1,10 +1,11 @@
 -- What a floor on which nothing is due answers.
-use Rattle.std.proofs.Common.{◌≡◌, ◌∙◌, ℕ, List, [], length, Option, Some, None, IsSome, is_some, Result, Ok, Err, refl, sym, ap}
+use Rattle.std.proofs.Common.{◌≡◌, ◌∙◌, ℕ, List, [], length, drop, Option, Some, None, IsSome, is_some, Result, Ok, Err, refl, sym, ap}
 use Rattle.std.specs.Option.{option_map_or}
 use Rattle.mt_skel.specs.declared.fault.Fault.{Fault}
 use Rattle.mt_skel.specs.declared.fault.Fault.TheVariants.{NoWatcher}
 use Rattle.mt_skel.specs.Keyed.{row_at}
 use Rattle.mt_propagate.specs.World.{WorldView}
+use Rattle.mt_events.specs.Posts.{PostView}
 use Rattle.mt_events.specs.declared.opening.Scope.{Scope}
 use Rattle.mt_events.specs.declared.opening.Opening.{Opening}
 use Rattle.mt_book.specs.declared.command.Command.{Command}
@@ -14,7 +15,7 @@ use Rattle.mt_floor.specs.declared.watch.Phase.{Phase}
 use Rattle.mt_floor.specs.declared.watch.Meeting.{Meeting}
 use Rattle.mt_floor.specs.declared.event.Event.TheVariants.{Apply, Open, Meet, Close}
 use Rattle.mt_floor.specs.declared.event.Answer.{Answer}
-use Rattle.mt_floor.specs.declared.event.Answer.TheVariants.{Opened, Met}
+use Rattle.mt_floor.specs.declared.event.Answer.TheVariants.{Opened, Met, Closed}
 use Rattle.mt_floor.specs.Watcher.{Watcher, key_of, opening_of}
 use Rattle.mt_floor.specs.Schedule.{FloorView, Stepped, if_idle, unless, at_row, applied, replied, opened, met, closed, command_refusal, opening_refusal, waiting, floor_step}
 use Rattle.mt_session.specs.Answers.{refusal, reply_text, opening_text, posts_text}
@@ -66,6 +67,9 @@ module _ (s n : FloorView) (idle : s.due ≡ []) where
 
   pub open_begins : (scope : Scope) (a : Answer) → floor_step s (Open scope) ≡ (n, Ok a) → IsSome (begun_in a)
   open_begins scope a e = ap (λ b. is_some (begun_in b)) (begins_as scope a e).1
+
+  pub open_found : (scope : Scope) (key : ℕ) (found : Opening) → floor_step s (Open scope) ≡ (n, Ok (Opened key found)) → (opening_refusal s scope ≡ None) × (found ≡ opening_of s.journal scope)
+  open_found scope key found e = let begins = begins_as scope (Opened key found) e in let is = begins.1 in (begins.0, cc)
 
   begun_as : (scope : Scope) (r : Result Answer Fault) (o : Option Fault) → floor_step s (Open scope) ≡ (n, r) → opening_refusal s scope ≡ o
       → begun s scope ≡ state_at n (option_map_or (λ f. None) o (Some s.next_key))
@@ -123,6 +127,17 @@ module _ (s n : FloorView) (idle : s.due ≡ []) where
           → option_map_or (λ (r : Watcher). posts_text (waiting s key)) o (refusal NoWatcher) ≡ posts_text (waiting s key)
       go None e = let v = ap (λ (q : Stepped). q.1) e in absurd (cc)
       go (Some r) e = refl
+
+  pub close_posts : (key : ℕ) (posts : List PostView) → floor_step s (Close key) ≡ (n, Ok (Closed posts)) → closed_text s key ≡ posts_text posts
+  close_posts key posts e = go (row_at key_of key s.watchers) (sym (close_step key) ∙ e)
+    where
+      go : (o : Option Watcher) → option_map_or (closed s) o (s, Err NoWatcher) ≡ (n, Ok (Closed posts))
+          → option_map_or (λ (r : Watcher). posts_text (option_map_or (λ (r : Watcher). drop (length r.taken) r.sent) o [])) o (refusal NoWatcher) ≡ posts_text posts
+      go None e = let v = ap (λ (q : Stepped). q.1) e in absurd (cc)
+      go (Some r) e =
+          let v : Ok (Closed (drop (length r.taken) r.sent)) ≡ Ok (Closed posts) = ap (λ (q : Stepped). q.1) e in
+          let is : drop (length r.taken) r.sent ≡ posts = cc in
+          ap posts_text is
 
   pub close_refused : (key : ℕ) (f : Fault) → floor_step s (Close key) ≡ (n, Err f) → closed_text s key ≡ refusal f
   close_refused key f e = go (row_at key_of key s.watchers) (sym (close_step key) ∙ e)

@@ -1,3 +1,6 @@
 pub mod IdleLaws
 pub mod SessionLaws
+pub mod SharedLaws
+pub mod SharedLineLaws
+pub mod SharedTakeLaws
 pub mod TurnLaws

@@ -42,15 +42,18 @@ lines-append : (n : ℕ) (ps : List PostView) (p : PostView) → fold (λ m q. m
 lines-append n [] p = refl
 lines-append n (q ∷ ps) p = lines-append (n + length (post_lines q)) ps p
 
--- a post told behind others
-pub told_next : (w : List PostView) (i : ℕ) (p : PostView) (text more : List ℕ) → slice_get w i ≡ Some p → text ≡ flat_map post_text (take i w) → more ≡ text ++ post_text p
-    → more ≡ flat_map post_text (take (i + 1) w)
-told_next w i p text more at e m =
-    m ∙ ap (λ t. t ++ post_text p) e ∙ sym (ap (flat_map post_text) (take_found w i p at) ∙ flat_map-append post_text (take i w) (p ∷ []) ∙ ap (λ t. flat_map post_text (take i w) ++ t) (last (post_text p)))
+text_more : (ps : List PostView) (p : PostView) → flat_map post_text (ps ++ p ∷ []) ≡ flat_map post_text ps ++ post_text p
+text_more ps p = flat_map-append post_text ps (p ∷ []) ∙ ap (λ t. flat_map post_text ps ++ t) (last (post_text p))
   where
     last : (t : List ℕ) → t ++ [] ≡ t
     last [] = refl
     last (x ∷ t) = ap (λ l. x ∷ l) (last t)
+
+-- a post told behind others
+pub told_next : (w : List PostView) (i : ℕ) (p : PostView) (text more : List ℕ) → slice_get w i ≡ Some p → text ≡ flat_map post_text (take i w) → more ≡ text ++ post_text p
+    → more ≡ flat_map post_text (take (i + 1) w)
+told_next w i p text more at e m =
+    m ∙ ap (λ t. t ++ post_text p) e ∙ sym (ap (flat_map post_text) (take_found w i p at) ∙ text_more (take i w) p)
 
 pub counted_next : (w : List PostView) (i : ℕ) (p : PostView) (lines more : ℕ) → slice_get w i ≡ Some p → lines ≡ lines_of_posts (take i w) → more ≡ lines + length (post_lines p)
     → more ≡ lines_of_posts (take (i + 1) w)

@@ -2,4 +2,8 @@ pub mod Answers
 pub mod Requests
 pub mod Serving
 pub mod Session
+pub mod SharedServing
+pub mod SharedSession
+pub mod SharedTurns
+pub mod Taking
 pub mod Text

@@ -36,13 +36,13 @@ pub enum End {
 }
 
 /// The longest line of a session, in bytes before its line end.
-const LINE_LIMIT: u32 = 8192;
+pub(crate) const LINE_LIMIT: u32 = 8192;
 
 /// The most lines that a session serves.
-const MOST_LINES: u32 = 16_777_216;
+pub(crate) const MOST_LINES: u32 = 16_777_216;
 
 /// How a request ends its session, if it does.
-fn end_of(request: &Request) -> Option<End>
+pub(crate) fn end_of(request: &Request) -> Option<End>
     ensures { result ≡ ends_by (Ok request.now) }
 {
     match request {
@@ -96,7 +96,7 @@ fn answer_line(alloc: Global, session: &mut Session, floor: &mut Floor, line: &[
 }
 
 /// Sends an answer: how the session ends by it, if it does.
-fn answer_with<W: Output>(writer: &mut W, text: &Text, end: Option<End>) -> Option<End>
+pub(crate) fn answer_with<W: Output>(writer: &mut W, text: &Text, end: Option<End>) -> Option<End>
     requires { ForSome end (λ e. ends_whole e ≡ true) }
     ensures sent { IsTrue W.tells → IsSent (W.written writer.old) (W.written writer.new) text.now end result }
     ensures cut { IsTrue W.counts → IsCutCause result (W.failed writer.old) (W.failed writer.new) }

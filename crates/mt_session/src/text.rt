@@ -1,11 +1,14 @@
 //! The lines of an answer.
-ghost use Rattle.std.specs.Prelude.{◌≡◌, ◌+◌, ◌≤◌, ◌++◌, length, flat_map, OnOk, IfOk, IsOkUnless};
+ghost use Rattle.std.specs.Prelude.{◌≡◌, ◌+◌, ◌≤◌, ◌++◌, [], length, flat_map, OnOk, IfOk, IsOkUnless};
+ghost use Rattle.mt_events.specs.Posts.{post_lines, post_text};
 ghost use Rattle.mt_session.specs.Answers.{refusal, reply_text, count_text, table_text, row_line, place_text, part_text, opening_text};
 
 use arrayvec::ArrayVec;
 use itoa::Buffer;
 use mt_book::command::Reply;
 use mt_events::opening::{Opening, Part};
+use mt_events::post::Post;
+use mt_events::print::push_post;
 use mt_info::print::{push_number, push_path, push_row};
 use mt_info::row::Row;
 use mt_info::table::Table;
@@ -161,7 +164,7 @@ impl Text {
 }
 
 /// A count of lines with one more and so many below it. Refused as `NoMemory` alone: no memory holds 2^64 lines.
-pub(crate) fn lines_with(lines: u64, below: u64) -> Result<u64, Fault>
+fn lines_with(lines: u64, below: u64) -> Result<u64, Fault>
     ensures lines { IfOk result (λ sum. sum ≡ lines + (1 + below)) }
     ensures memory { IsOkUnless result Fault.NoMemory }
 {
@@ -169,6 +172,58 @@ pub(crate) fn lines_with(lines: u64, below: u64) -> Result<u64, Fault>
         .checked_add(1)
         .and_then(|more| more.checked_add(below))
         .ok_or(Fault::NoMemory)
+}
+
+/// A count of lines with those of a post. Refused as `NoMemory` alone: no memory holds 2^64 lines.
+fn lines_with_post(lines: u64, post: &Post) -> Result<u64, Fault>
+    ensures lines { IfOk result (λ sum. sum ≡ lines + length (post_lines post.now)) }
+    ensures memory { IsOkUnless result Fault.NoMemory }
+{
+    let gone = post.gone.as_slice().len() as u64;
+    let rows = post.rows.as_slice().len() as u64;
+    let below = gone.checked_add(rows).ok_or(Fault::NoMemory)?;
+    lines_with(lines, below)
+}
+
+/// Posts as they are sent to a client.
+#[derive(Drop)]
+pub struct PrintedPosts {
+    /// Their lines, each with its line end.
+    pub text: Vec<u8>,
+    /// How many lines these are.
+    pub lines: u64,
+    /// How many posts these are.
+    pub posts: u64,
+}
+
+impl PrintedPosts {
+    /// No posts. Takes no memory; that for their text will come from `alloc`.
+    pub fn new(alloc: Global) -> PrintedPosts
+        ensures text { result.text.items ≡ [] }
+        ensures lines { result.lines ≡ 0 }
+        ensures posts { result.posts ≡ 0 }
+    {
+        PrintedPosts {
+            text: Vec::new(alloc),
+            lines: 0,
+            posts: 0,
+        }
+    }
+
+    /// Appends a post. Refused as `NoMemory` alone.
+    pub fn push(&mut self, post: &Post) -> Result<(), Fault>
+        ensures text { OnOk result (self.new.text.items ≡ self.old.text.items ++ post_text post.now) }
+        ensures lines { OnOk result (self.new.lines ≡ self.old.lines + length (post_lines post.now)) }
+        ensures posts { OnOk result (self.new.posts ≡ self.old.posts + 1) }
+        ensures memory { IsOkUnless result Fault.NoMemory }
+    {
+        let lines = lines_with_post(self.lines, post)?;
+        let posts = self.posts.checked_add(1).ok_or(Fault::NoMemory)?;
+        push_post(&mut self.text, post)?;
+        self.lines = lines;
+        self.posts = posts;
+        Ok(())
+    }
 }
 
 /// Appends the lines of a namespace that a watcher found.

@@ -1,26 +1,22 @@
 //! What a session does for a request.
-ghost use Rattle.std.specs.Prelude.{◌≡◌, ◌≢◌, ◌+◌, ◌++◌, ◌<◌, ◌≤◌, cond, length, take, flat_map, IfOk, IfErr, OnOk, OnErr, IsOkUnless, Ok, Err, None, Some, []};
+ghost use Rattle.std.specs.Prelude.{◌≡◌, length, flat_map, IfOk, IfErr, OnOk, OnErr, IsOkUnless, Ok, Err, None, Some, []};
 ghost use Rattle.std.specs.Option.{ForSome};
 ghost use Rattle.std.specs.Prelude.{IsSome};
-ghost use Rattle.mt_events.specs.Posts.{post_lines, post_text};
-ghost use Rattle.mt_book.specs.Step.{after};
-ghost use Rattle.mt_book.specs.Book.{found_at};
-ghost use Rattle.mt_floor.specs.Schedule.{floor_step, settled, waiting};
-ghost use Rattle.mt_session.specs.Answers.{refusal, shown_text, found_text, count_text, reply_text, lines_of_posts, posts_text, followed_text};
+ghost use Rattle.mt_events.specs.Posts.{post_text};
+ghost use Rattle.mt_floor.specs.Schedule.{floor_step, settled};
+ghost use Rattle.mt_session.specs.Answers.{count_text, reply_text, lines_of_posts, followed_text};
 ghost use Rattle.mt_session.specs.Serving.{reply_in, begun_in, phase_in};
 ghost use Rattle.mt_session.specs.Requests.{state_at, session_at, answer_to, state_to, left, begun, replied_text, opened_text, by_phase, rest_text, taken_text, end_of_followed, closed_text, taken, next_posts, IsUndone};
 
-use crate::text::{Text, lines_with};
+use crate::shown::{find, show, told_refusal};
+use crate::text::{PrintedPosts, Text};
 use mt_book::command::{Command, Reply};
 use mt_events::opening::{Opening, Scope};
-use mt_events::post::Post;
-use mt_events::print::push_post;
 use mt_floor::event::{Answer, Event};
 use mt_floor::floor::Floor;
 use mt_floor::watch::{Phase, WatchKey};
 use mt_requests::request::Request;
 use mt_skel::fault::Fault;
-use mt_skel::name::Names;
 use std::alloc::Global;
 use std::marker::Model;
 
@@ -37,42 +33,6 @@ impl Model for Session {
     ghost Value = { Option ℕ };
 
     ghost view = { λ s. s.watcher };
-}
-
-/// The lines that show a namespace's table.
-fn show(alloc: Global, floor: &Floor, space: u64) -> Result<Text, Fault>
-    ensures ok { IfOk result (λ text. text ≡ shown_text floor.now.journal space) }
-    ensures memory { IfErr result (λ fault. fault ≡ Fault.NoMemory) }
-{
-    let number = match floor.book().number(space) {
-        Ok(number) => number,
-        Err(fault) => return Ok(Text::refusal(fault)),
-    };
-    let table = floor.book().table(space)?;
-    Ok(Text::table(alloc, number, &table)?)
-}
-
-/// The line of a refusal. Want of memory is handed on.
-fn told_refusal(fault: Fault) -> Result<Text, Fault>
-    ensures ok { IfOk result (λ text. (text ≡ refusal fault) × (fault ≢ Fault.NoMemory)) }
-    ensures memory { IfErr result (λ other. (other ≡ Fault.NoMemory) × (fault ≡ Fault.NoMemory)) }
-{
-    match fault {
-        Fault::NoMemory => Err(Fault::NoMemory),
-        _ => Ok(Text::refusal(fault)),
-    }
-}
-
-/// The line that says where a path ends.
-fn find(alloc: Global, floor: &Floor, space: u64, path: &Names) -> Result<Text, Fault>
-    ensures ok { IfOk result (λ text. text ≡ found_text (found_at (after floor.now.journal) space path.now)) }
-    ensures memory { IfErr result (λ fault. fault ≡ Fault.NoMemory) }
-{
-    match floor.book().find(space, path.as_slice()) {
-        Ok((mount, names)) => Ok(Text::place(alloc, mount, &names)?),
-        Err(Fault::NoMemory) => Err(Fault::NoMemory),
-        Err(fault) => Ok(Text::refusal(fault)),
-    }
 }
 
 /// What a command is answered that was not refused.
@@ -102,17 +62,25 @@ fn run(floor: &mut Floor, command: &Command) -> Result<Text, Fault>
     Ok(text)
 }
 
-/// What is said where no post waits for a watcher of which so many were told, and this is how far it is.
+/// What is said where no post waits for a watcher of which so many were told, and this is how far it is. Takes no
+/// memory.
+pub(crate) fn phase_text(told: u64, phase: Phase) -> Text
+    ensures { result ≡ by_phase (count_text told) phase }
+{
+    match phase {
+        Phase::Open => Text::reply(Reply::Number(told)),
+        Phase::Lagged => Text::refusal(Fault::Lagged),
+        Phase::Ended => Text::refusal(Fault::Stopped),
+    }
+}
+
+/// The same, by how far a floor says that the watcher is.
 fn rest_of(told: u64, met: Answer) -> Text
     requires { IsSome (phase_in met) }
     ensures { ForSome (phase_in met) (λ phase. result ≡ by_phase (count_text told) phase) }
 {
     match met {
-        Answer::Met(meeting) => match meeting.state {
-            Phase::Open => Text::reply(Reply::Number(told)),
-            Phase::Lagged => Text::refusal(Fault::Lagged),
-            Phase::Ended => Text::refusal(Fault::Stopped),
-        },
+        Answer::Met(meeting) => phase_text(told, meeting.state),
         _ => unreachable!(),
     }
 }
@@ -129,40 +97,25 @@ fn rest(floor: &mut Floor, key: WatchKey, told: u64) -> Text
     }
 }
 
-/// Posts as they are sent to a client.
-#[derive(Drop)]
-struct Printed {
-    text: Vec<u8>,
-    lines: u64,
-}
-
-/// A count of lines with those of a post. Refused as `NoMemory` alone: no memory holds 2^64 lines.
-fn lines_with_post(lines: u64, post: &Post) -> Result<u64, Fault>
-    ensures lines { IfOk result (λ sum. sum ≡ lines + length (post_lines post.now)) }
-    ensures memory { IsOkUnless result Fault.NoMemory }
-{
-    let gone = post.gone.as_slice().len() as u64;
-    let rows = post.rows.as_slice().len() as u64;
-    let below = gone.checked_add(rows).ok_or(Fault::NoMemory)?;
-    lines_with(lines, below)
-}
-
 /// The next posts of a watcher as they are sent to a client, so many of them.
-fn print_next(alloc: Global, floor: &Floor, key: WatchKey, count: usize) -> Result<Printed, Fault>
+fn print_next(
+    alloc: Global,
+    floor: &Floor,
+    key: WatchKey,
+    count: usize,
+) -> Result<PrintedPosts, Fault>
     ensures text { IfOk result (λ printed. printed.text.items ≡ flat_map post_text (next_posts floor.now key count)) }
     ensures lines { IfOk result (λ printed. printed.lines ≡ lines_of_posts (next_posts floor.now key count)) }
     ensures memory { IfErr result (λ fault. fault ≡ Fault.NoMemory) }
 {
-    let mut text = Vec::new(alloc);
-    let mut lines = 0u64;
+    let mut printed = PrintedPosts::new(alloc);
     'posts: for index in 0..count {
         let Some(post) = floor.waiting_post(key, index) else {
-            return Ok(Printed { text, lines });
+            return Ok(printed);
         };
-        lines = lines_with_post(lines, post)?;
-        push_post(&mut text, post)?;
+        printed.push(post)?;
     }
-    Ok(Printed { text, lines })
+    Ok(printed)
 }
 
 /// Takes so many posts of a watcher, which were told.
@@ -314,8 +267,8 @@ impl Session {
         floor.settle();
         match (request, self.watcher) {
             (Request::Run(command), _) => run(floor, command),
-            (Request::Show(space), _) => show(self.alloc, floor, *space),
-            (Request::Find { space, path }, _) => find(self.alloc, floor, *space, path),
+            (Request::Show(space), _) => show(self.alloc, floor.book(), *space),
+            (Request::Find { space, path }, _) => find(self.alloc, floor.book(), *space, path),
             (Request::Watch(scope), None) => self.watch(floor, *scope),
             (Request::Watch(_), Some(_)) => Ok(Text::refusal(Fault::WatcherOpen)),
             (Request::Take(most), Some(key)) => take(self.alloc, floor, key, *most),

@@ -8,5 +8,5 @@ use Rattle.mt_session.proofs.turn.print_next.Given as goal
 -- the first posts are printed and counted
 abbrev pub invariant-posts : goal.invariant-posts
 invariant-posts l =
-    (l.text.items ≡ flat_map post_text (next_posts l.floor l.key l.index))
-    × (l.lines ≡ lines_of_posts (next_posts l.floor l.key l.index))
+    (l.printed.text.items ≡ flat_map post_text (next_posts l.floor l.key l.index))
+    × (l.printed.lines ≡ lines_of_posts (next_posts l.floor l.key l.index))

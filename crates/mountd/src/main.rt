@@ -1,5 +1,8 @@
-//! `mountd`: the mount server. `mountd -` serves one session on standard input and output.
+//! `mountd`: the mount server, for sessions on a Unix socket, or for one on standard input and output.
 #![tactic(auto)]
+
+mod help;
+mod socket;
 
 use clap::error::ErrorKind;
 use clap::{Arg, ArgAction, Command, Error, value_parser};
@@ -7,6 +10,7 @@ use mt_session::floor::Floor;
 use mt_session::line::ReadFault;
 use mt_session::session::{End, serve_plain};
 use mt_session::stream::{Reading, Writing};
+use socket::{Served, serve_socket};
 use std::alloc::Global;
 use std::process::ExitCode;
 use std::{env, io};
@@ -20,13 +24,18 @@ const PROGRAM: &str = "mountd";
 /// How many posts the queue of a watcher holds, if the arguments do not say.
 const QUEUE: usize = 256;
 
+/// How many sessions there may be at once, if the arguments do not say.
+const SESSIONS: usize = 32;
+
 /// What the arguments ask for.
-#[derive(Clone, Copy)]
+#[derive(Drop)]
 struct Options {
-    /// A session on standard input and output, and no socket.
-    is_plain: bool,
+    /// The path of the socket, or [`STANDARD`].
+    socket: String,
     /// How many posts the queue of a watcher holds.
     queue: usize,
+    /// How many sessions there may be at once.
+    sessions: usize,
 }
 
 /// What the program takes: a socket or `-`, how long queues are, and how many sessions there may be.
@@ -49,6 +58,7 @@ fn parser<'a>(alloc: Global) -> Result<Command<'a>, Error> {
         .default_value("32");
     let command = Command::new(alloc, PROGRAM)
         .arg(socket)?
+        .after_help(help::LINES)
         .arg(queue)?
         .arg(sessions)?;
     Ok(command)
@@ -57,9 +67,11 @@ fn parser<'a>(alloc: Global) -> Result<Command<'a>, Error> {
 /// Reads the arguments.
 fn read_options(alloc: Global, words: &[&str]) -> Result<Options, Error> {
     let matches = parser(alloc)?.try_get_matches_from(words)?;
+    let socket = matches.get_str("SOCKET").unwrap_or(STANDARD);
     Ok(Options {
-        is_plain: matches.get_str("SOCKET") == Some(STANDARD),
+        socket: String::from_str(alloc, socket)?,
         queue: matches.get_one::<usize>("queue").unwrap_or(QUEUE),
+        sessions: matches.get_one::<usize>("sessions").unwrap_or(SESSIONS),
     })
 }
 
@@ -92,6 +104,16 @@ fn serve_standard(rt: &HostRuntime, queue: usize) -> ExitCode {
     }
 }
 
+/// Says how a server on a socket has ended, if that is a fault.
+fn tell(rt: &HostRuntime, served: Served) -> ExitCode {
+    match served {
+        Served::Stopped => ExitCode::SUCCESS,
+        Served::NotListening => fail(rt, "mountd: cannot listen"),
+        Served::NotAccepting => fail(rt, "mountd: cannot accept"),
+        Served::NoMemory => fail(rt, "mountd: out of memory"),
+    }
+}
+
 /// Says what the parser of the arguments says: its help on standard output, its complaints on
 /// standard error.
 fn explain(rt: &HostRuntime, error: &Error) -> ExitCode {
@@ -108,8 +130,8 @@ fn explain(rt: &HostRuntime, error: &Error) -> ExitCode {
     }
 }
 
-/// Does what the arguments ask for.
-fn run(rt: &HostRuntime) -> io::Result<ExitCode> {
+/// What the arguments ask for, or the status with which the program ends at once.
+fn find_options(rt: &HostRuntime) -> io::Result<Result<Options, ExitCode>> {
     let mut arguments = Vec::new(rt.alloc());
     for argument in env::args(rt)? {
         arguments.push(argument)?;
@@ -120,9 +142,8 @@ fn run(rt: &HostRuntime) -> io::Result<ExitCode> {
         words.push(argument.as_str())?;
     }
     match read_options(rt.alloc(), words.as_slice()) {
-        Ok(options) if options.is_plain => Ok(serve_standard(rt, options.queue)),
-        Ok(_) => Ok(fail(rt, "mountd: cannot listen")),
-        Err(error) => Ok(explain(rt, &error)),
+        Ok(options) => Ok(Ok(options)),
+        Err(error) => Ok(Err(explain(rt, &error))),
     }
 }
 
@@ -138,8 +159,19 @@ fn explain_arguments(rt: &HostRuntime, error: &io::Error) -> ExitCode {
 }
 
 fn main(rt: HostRuntime) -> ExitCode {
-    match run(&rt) {
-        Ok(code) => code,
-        Err(error) => explain_arguments(&rt, &error),
+    let options = match find_options(&rt) {
+        Ok(Ok(options)) => options,
+        Ok(Err(status)) => return status,
+        Err(error) => return explain_arguments(&rt, &error),
+    };
+    if options.socket.as_str() == STANDARD {
+        return serve_standard(&rt, options.queue);
     }
+    let Options {
+        socket,
+        queue,
+        sessions,
+    } = options;
+    let served = serve_socket(&rt, rt.alloc(), &socket, queue, sessions);
+    tell(&rt, served)
 }

@@ -1,0 +1,649 @@
+#!/usr/bin/env -S python3 -B
+"""The server on a socket, from outside: what no proof says of it.
+
+Usage: checks/server.py MOUNTD [MOUNTCTL] [--seconds N]
+
+A plain client speaks with servers that are started here, each in a folder of its own: the cases
+without `follow`, sockets that cannot be made, the limit of sessions, a stop, clients that are gone or
+do not read, many connections, and then 32 sessions at once for N seconds, 20 if not said. With MOUNTCTL
+the cases are sent as its scripts too.
+"""
+import argparse
+import contextlib
+import os
+import random
+import re
+import shutil
+import signal
+import socket
+import stat
+import subprocess
+import sys
+import tempfile
+import threading
+import time
+
+import cases
+from running import MOST_SECONDS, NO_COUNT, COUNTS, check, difference, failures, shown
+
+# The most sessions at once, the limit of a line and what may follow it without a line end.
+SESSIONS = 32
+LINE = 8_192
+MOST_SKIPPED = 1_048_576
+
+# How long a stop may take, in seconds: sessions that do not end by themselves are cut off after one.
+STOP = 5
+
+# Two namespaces that are peers, so that a command in one posts to both.
+START = [
+    b"mkfs a tmpfs none",
+    b"mkfs d ext4 /dev/x",
+    b"mkdir a /m",
+    b"mkdir a /n",
+    b"newns a",
+    b"setattr 1 / prop=shared",
+    b"copyns 1",
+]
+
+
+# What a client of the soak does, and lines beside it: its namespace and its directory are its own.
+PAIRS = [
+    ("mount {space} d {path}", "umount {space} {path}"),
+    ("bind {space} {path} {path}", "umount {space} {path}"),
+    ("setattr {space} / set=ro", "setattr {space} / clr=ro"),
+]
+LINES = ["show {space}", "find {space} {path}", "mount 9 d {path}", "setattr 2 / set=nosuid", "frobnicate", "take 1", ""]
+
+
+class Broken(Exception):
+    """An answer of another form than its request has."""
+
+
+class Client:
+    """A connection, and the lines that came over it."""
+
+    def __init__(self, path):
+        self.socket = socket.socket(socket.AF_UNIX)
+        self.socket.settimeout(MOST_SECONDS)
+        self.socket.connect(path)
+        self.rest = b""
+
+    def __enter__(self):
+        return self
+
+    def __exit__(self, *_):
+        self.socket.close()
+
+    def send(self, *lines):
+        self.socket.sendall(b"".join(line + b"\n" for line in lines))
+
+    def line(self):
+        """The next line without its end, or nothing at the end."""
+        while b"\n" not in self.rest:
+            more = self.socket.recv(1 << 16)
+            if not more:
+                if self.rest:
+                    raise Broken(f"a line without end: {shown(self.rest[:200])}")
+                return None
+            self.rest += more
+        line, self.rest = self.rest.split(b"\n", 1)
+        return line
+
+    def all(self):
+        """All that comes up to the end, and whether the end was a plain one."""
+        parts = [self.rest]
+        try:
+            while parts[-1] or len(parts) == 1:
+                parts.append(self.socket.recv(1 << 16))
+        except ConnectionError:
+            return b"".join(parts), False
+        return b"".join(parts), True
+
+    def answer(self, request):
+        """The lines of the answer to a request that was sent."""
+        lines = [self.line()]
+        if request.startswith(b"follow"):
+            while not re.match(rb"ok \d+$|no [A-Za-z]+$", lines[-1] or b"no End"):
+                lines.append(self.line())
+            return lines
+        found = re.fullmatch(COUNTS.get(request.split(b" ")[0], NO_COUNT), lines[0] or b"")
+        lines += [self.line() for _ in range(int(found[1]) if found else 0)]
+        if None in lines:
+            raise Broken(f"the connection ended in the answer to {shown(request)}")
+        return lines
+
+    def ask(self, request):
+        self.send(request)
+        return self.answer(request)
+
+
+class Server:
+    """A server in a folder of its own, which ends with the block."""
+
+    def __init__(self, program, *arguments):
+        self.folder = tempfile.mkdtemp()
+        self.path = os.path.join(self.folder, "socket")
+        words = [program, self.path, *arguments]
+        self.process = subprocess.Popen(words, stdin=subprocess.DEVNULL, stdout=subprocess.PIPE, stderr=subprocess.PIPE)
+
+    def __enter__(self):
+        end = time.monotonic() + MOST_SECONDS
+        while time.monotonic() < end and self.process.poll() is None:
+            with contextlib.suppress(OSError), Client(self.path):
+                return self
+            time.sleep(0.005)
+        raise Broken("the server does not listen")
+
+    def __exit__(self, *_):
+        self.process.kill()
+        self.process.communicate()
+        shutil.rmtree(self.folder)
+
+    def client(self):
+        return Client(self.path)
+
+    def free(self):
+        """A client that has a session, as soon as there is one."""
+        end = time.monotonic() + MOST_SECONDS
+        while time.monotonic() < end:
+            client = self.client()
+            if client.ask(b"show 64") != [b"no TooMany"]:
+                return client
+            client.socket.close()
+            time.sleep(0.001)
+        raise Broken("no session is free")
+
+    def ends(self):
+        """Status and standard error of a server that ends now."""
+        _, complaint = self.process.communicate(timeout=STOP)
+        return self.process.returncode, complaint
+
+    def stop(self):
+        with self.free() as client:
+            client.send(b"stop")
+            client.all()
+        return self.ends()
+
+    def descriptors(self):
+        return len(os.listdir(f"/proc/{self.process.pid}/fd"))
+
+    def status(self, word):
+        with open(f"/proc/{self.process.pid}/status", encoding="ascii") as file:
+            return int(re.search(rf"^{word}:\s*(\d+)", file.read(), re.MULTILINE)[1])
+
+    def rests(self, threads, descriptors=None):
+        """Whether the server comes to this: so many threads, and descriptors if they are said."""
+        end = time.monotonic() + STOP
+        while time.monotonic() < end:
+            if self.status("Threads") == threads and descriptors in (None, self.descriptors()):
+                return True
+            time.sleep(0.01)
+        return False
+
+
+def check_stopped(name, server):
+    """A stop ends the server with status 0 and no word, and its socket is gone."""
+    ended = server.stop()
+    check(f"{name}: the end", ended == (0, b"") and not os.path.exists(server.path), repr(ended))
+
+
+def check_cases(program):
+    """Each case without `follow` is answered over a socket as its file says."""
+    for name in cases.names():
+        case = cases.load(name)
+        if any(line.startswith(b"follow") for line in case.requests()):
+            continue
+        with Server(program, *case.arguments) as server:
+            with server.client() as client:
+                sender = threading.Thread(target=send_input, args=(client, case.input()))
+                sender.start()
+                found, is_plain = client.all()
+                sender.join()
+            wanted = case.output()
+            check(f"case {name} on a socket", found == wanted, difference(wanted, found, name))
+            check(f"case {name} on a socket: a plain end", is_plain)
+            if b"stop" in case.requests():
+                check(f"case {name} on a socket: its stop", server.ends() == (0, b""))
+
+
+def check_scripts(program, mountctl):
+    """Each of these cases, as a script of the other program, is answered as its file says."""
+    for name in cases.names():
+        case = cases.load(name)
+        if any(line.startswith(b"follow") for line in case.requests()):
+            continue
+        with Server(program, *case.arguments) as server:
+            done = subprocess.run(
+                [mountctl, server.path, "-"], input=case.input(), capture_output=True, timeout=MOST_SECONDS
+            )
+        wanted = case.output()
+        check(f"case {name} as a script", done.stdout == wanted, difference(wanted, done.stdout, name))
+        refused = re.search(rb"(?m)^no ", wanted) is not None
+        found = done.returncode, done.stderr
+        check(f"case {name} as a script: its status", found == (int(refused), b""), repr(found))
+
+
+def send_input(client, text):
+    """Sends the whole input and its end; a session may end before."""
+    with contextlib.suppress(ConnectionError, OSError):
+        client.socket.sendall(text)
+        client.socket.shutdown(socket.SHUT_WR)
+
+
+def is_refused(program, path):
+    done = subprocess.run([program, path], stdin=subprocess.DEVNULL, capture_output=True, timeout=MOST_SECONDS)
+    return (done.returncode, done.stdout, done.stderr) == (1, b"", b"mountd: cannot listen\n")
+
+
+def check_paths(program):
+    with tempfile.TemporaryDirectory() as folder:
+        file = os.path.join(folder, "file")
+        with open(file, "w", encoding="ascii"):
+            pass
+        check("a path with a file", is_refused(program, file) and os.path.exists(file))
+        check("a folder as path", is_refused(program, folder))
+        check("a folder that is not there", is_refused(program, os.path.join(folder, "none", "socket")))
+        check("no path", is_refused(program, ""))
+        long = os.path.join(folder, "x" * (108 - len(folder) - 1))
+        check("a path of 108 bytes", len(long) == 108 and is_refused(program, long))
+    with Server(program) as server:
+        check("a path with a server", is_refused(program, server.path))
+        mode = stat.S_IMODE(os.stat(server.path).st_mode)
+        check("who may connect", mode == 0o600, oct(mode))
+        check_stopped("a second start", server)
+        with subprocess.Popen([program, server.path], stderr=subprocess.PIPE) as again:
+            time.sleep(0.2)
+            with Client(server.path) as client:
+                check("a second start on the same path", client.ask(b"stop") == [b"ok"])
+            check("its end", again.wait(STOP) == 0)
+    with Server(program) as server:
+        with server.free() as client:
+            os.remove(server.path)
+            check("a stop without its socket", client.ask(b"stop") == [b"ok"] and server.ends() == (0, b""))
+    with Server(program) as server:
+        with server.free() as client:
+            os.remove(server.path)
+            with open(server.path, "w", encoding="ascii"):
+                pass
+            check("a stop with a strange file", client.ask(b"stop") == [b"ok"] and server.ends() == (0, b""))
+            check("the strange file stays", os.path.isfile(server.path))
+
+
+def check_limit(program):
+    """One session more than there may be reads `no TooMany` and its end, whether it sends first or not."""
+    with Server(program, "--sessions", "2") as server, server.free() as first, server.free() as second:
+        for text in b"", b"show 1\n", b"show 1\n" * 1_000, b"x" * 200_000:
+            with server.client() as third:
+                with contextlib.suppress(ConnectionError):
+                    third.socket.sendall(text)
+                found = third.all()
+                check(f"a third session that sends {len(text)} bytes", found == (b"no TooMany\n", True), repr(found))
+        with contextlib.ExitStack() as stack:
+            silent = [stack.enter_context(server.client()) for _ in range(200)]
+            start = time.monotonic()
+            check("sessions beside those turned away", first.ask(b"show 1") == [b"no NoNamespace"])
+            found = {client.all() for client in silent}
+            check("many turned away", found == {(b"no TooMany\n", True)}, repr(found))
+            check("they do not wait for one another", time.monotonic() - start < 5)
+        for _ in range(100):
+            check("a session ends", second.ask(b"quit") == [b"ok"] and second.line() is None)
+            second.socket.close()
+            second = server.client()
+            check("its place is free when its client reads the end", second.ask(b"show 1") == [b"no NoNamespace"])
+        second.socket.close()
+        check_stopped_by("the limit", server, first)
+
+
+def check_stopped_by(name, server, client):
+    check(f"{name}: stop", client.ask(b"stop") == [b"ok"] and client.line() is None)
+    check(f"{name}: the end", server.ends() == (0, b""))
+
+
+def check_pipeline(program):
+    lines = [b"mkfs f%d tmpfs none" % n for n in range(256)] + [b"find 1 /"] * 744
+    with Server(program) as server, server.free() as client:
+        client.send(*lines)
+        found = [client.line() for _ in lines]
+        wanted = [b"ok %d" % (n + 1) for n in range(256)] + [b"no NoNamespace"] * 744
+        check("1,000 lines at once", found == wanted)
+        check_stopped_by("1,000 lines at once", server, client)
+
+
+def check_stop(program):
+    """A stop ends all sessions, those that wait for input, follow or do not read too."""
+    with Server(program) as server, contextlib.ExitStack() as stack:
+        clients = [stack.enter_context(server.free()) for _ in range(SESSIONS)]
+        check("32 sessions", server.status("Threads") == SESSIONS + 1, str(server.status("Threads")))
+        for line in START:
+            clients[0].ask(line)
+        clients[1].ask(b"watch all")
+        clients[1].send(b"follow 8")
+        clients[2].send(b"show 1", b"sho")
+        check("an answer before a stop", len(clients[2].answer(b"show 1")) == 2)
+        sender = threading.Thread(target=send_input, args=(clients[3], b"show 1\n" * 500_000))
+        sender.start()
+        time.sleep(0.3)
+        start = time.monotonic()
+        check_stopped_by("a stop", server, clients[0])
+        took = time.monotonic() - start
+        check("how long a stop takes", took < 3, f"{took:.2f} s")
+        sender.join(STOP)
+        check("a client that does not read", not sender.is_alive())
+        check("a follower at a stop", clients[1].all() == (b"no Stopped\n", True))
+        check("half a line at a stop", clients[2].all() == (b"no BadLine\n", True))
+        check("sessions that wait at a stop", {client.all() for client in clients[4:]} == {(b"", True)})
+        check("the socket is gone", not os.path.exists(server.path))
+
+
+def check_gone(program):
+    """Clients that are gone leave nothing behind, and end no server."""
+    with Server(program) as server, server.free() as client:
+        for line in START:
+            client.ask(line)
+        before = server.status("Threads"), server.descriptors()
+        for text in b"sho", b"show 1\n" * 5_000 + b"show", b"watch all\nfollow 4\n", b"x" * 10_000:
+            for _ in range(10):
+                with server.free() as other:
+                    with contextlib.suppress(ConnectionError):
+                        other.socket.sendall(text)
+            client.ask(b"setattr 1 / set=ro")
+            client.ask(b"setattr 1 / clr=ro")
+        check("clients that are gone", server.rests(*before), f"{server.descriptors()}, {server.status('Threads')}")
+        check("the server goes on", client.ask(b"show 2")[0].startswith(b"ok 1 "))
+        with server.free() as other:
+            sender = threading.Thread(target=send_input, args=(other, b"x" * 2_000_000))
+            sender.start()
+            found, _ = other.all()
+            sender.join()
+            check("2,000,000 bytes without a line end", found == b"", shown(found[:200]))
+        with server.free() as other:
+            other.send(b"x" * (LINE + MOST_SKIPPED), b"show 9", b"quit")
+            found = other.all()
+            check("a line as long as may be", found == (b"no TooLong\nno NoNamespace\nok\n", True), repr(found))
+        check("clients that are gone, again", server.rests(*before))
+        check_stopped_by("clients that are gone", server, client)
+
+
+def check_lag(program):
+    """A client that reads nothing while 10,000 posts are for it: it lags, and others do not wait."""
+    with Server(program, "--queue", "64") as server, server.free() as client, server.free() as other:
+        for line in START:
+            client.ask(line)
+        other.send(b"watch all", b"follow 1048576")
+        turns = [b"setattr 1 / set=ro", b"setattr 1 / clr=ro"] * 2_500
+        start = time.monotonic()
+        for turn in turns:
+            if client.ask(turn) != [b"ok"]:
+                check("a command beside a client that does not read", False)
+        took = time.monotonic() - start
+        check("5,000 commands beside it", took < 20, f"{took:.1f} s")
+        other.answer(b"watch all")
+        posts = other.answer(b"follow 1048576")
+        check("a client that does not read lags", posts[-1] == b"no Lagged", shown(posts[-1]))
+        check("posts before a lag", are_in_order(posts[:-1]))
+        check_stopped_by("a client that does not read", server, client)
+
+
+def are_in_order(lines):
+    """Whether the posts of each namespace have numbers without gap."""
+    last = {}
+    for line in lines:
+        found = re.fullmatch(rb"event (\d+) (\d+) \d+", line)
+        if found:
+            space, number = int(found[1]), int(found[2])
+            if last.get(space, number - 1) != number - 1:
+                return False
+            last[space] = number
+    return True
+
+
+def check_many(program):
+    """10,000 connections one after another leave descriptors, threads and memory as they were."""
+    with Server(program) as server:
+
+        def connect(count):
+            for _ in range(count):
+                with server.client() as client:
+                    if client.ask(b"show 1") != [b"no NoNamespace"]:
+                        check("one of many connections", False)
+                        return
+
+        connect(500)
+        check("one thread is left", server.rests(1))
+        before = server.descriptors(), server.status("VmRSS")
+        connect(10_000)
+        check("descriptors after 10,000 connections", server.rests(1, before[0]), str(server.descriptors()))
+        grown = server.status("VmRSS") - before[1]
+        check("memory after 10,000 connections", grown < 4_096, f"{grown} KiB more")
+        print(f"10,000 connections: {before[0]} descriptors, {grown} KiB more resident memory", flush=True)
+        check_stopped("10,000 connections", server)
+
+
+def check_signals(program):
+    """A client that closes while it is written to, again and again, does not end the server."""
+    with Server(program) as server:
+        for line in START:
+            with server.free() as client:
+                client.ask(line)
+        for _ in range(300):
+            with server.free() as client:
+                client.send(*[b"show 1"] * 20)
+        check("no signal ends the server", server.process.poll() is None)
+        check_stopped("no signal", server)
+
+
+class Mirror:
+    """The tables that a watcher has found, with its posts applied."""
+
+    def __init__(self, opening):
+        self.tables, self.numbers = {}, {}
+        rows = iter(opening)
+        for line in rows:
+            space, number, count = (int(word) for word in re.fullmatch(rb"space (\d+) (\d+) (\d+)", line).groups())
+            self.numbers[space] = number
+            self.tables[space] = {int(row.split(b" ")[0]): row for _, row in zip(range(count), rows)}
+
+    def apply(self, lines):
+        """Applies the posts that these lines are, and answers how many there were."""
+        rows, posts = iter(lines), 0
+        for line in rows:
+            space, number, count = (int(word) for word in re.fullmatch(rb"event (\d+) (\d+) (\d+)", line).groups())
+            if number != self.numbers.get(space, 0) + 1:
+                raise Broken(f"post {number} of namespace {space} behind {self.numbers.get(space)}")
+            self.numbers[space] = number
+            table = self.tables.setdefault(space, {})
+            for _ in range(count):
+                sign, row = next(rows).split(b" ", 1)
+                mount = int(row.split(b" ")[0])
+                if sign == b"-":
+                    del table[mount]
+                else:
+                    table[mount] = row
+            posts += 1
+        return posts
+
+    def shown(self, space):
+        """What `show` answers where nothing has come since."""
+        table = self.tables[space]
+        return [b"ok %d %d" % (len(table), self.numbers[space]), *(table[mount] for mount in sorted(table))]
+
+
+class Soak:
+    """32 sessions at once, and what they have done."""
+
+    def __init__(self, server, seconds):
+        self.server, self.end = server, time.monotonic() + seconds
+        self.counts = {"commands": 0, "posts": 0, "lags": 0}
+        self.lock = threading.Lock()
+
+    def add(self, word, count):
+        with self.lock:
+            self.counts[word] += count
+
+    def is_over(self):
+        return time.monotonic() > self.end
+
+    def command(self, seed):
+        """One client of mixed commands, which takes away again what it has mounted."""
+        chance = random.Random(seed)
+        paths = dict(space=chance.choice("12"), path=f"/m{seed}")
+        pairs = [self.lines(pair, paths) for pair in PAIRS]
+        lines = self.lines(LINES, paths)
+        with self.server.client() as client:
+            while not self.is_over():
+                first, last = chance.choice(pairs)
+                sent = [first, *(chance.choice(lines) for _ in range(chance.randint(0, 4))), last]
+                client.send(*sent)
+                for line in sent:
+                    if not re.match(rb"ok|no ", client.answer(line)[0]):
+                        raise Broken(f"the answer to {shown(line)}")
+                self.add("commands", len(sent))
+
+    @staticmethod
+    def lines(forms, words):
+        return [form.format(**words).encode() for form in forms]
+
+    def watch(self, seed):
+        """One client that watches, takes or follows, and begins anew where it lags."""
+        chance = random.Random(seed)
+        with self.server.client() as client:
+            while not self.is_over():
+                mirror = Mirror(client.ask(b"watch all")[1:])
+                while not self.is_over() and self.takes(client, mirror, chance):
+                    pass
+            self.compare(client, mirror)
+
+    def takes(self, client, mirror, chance):
+        """Takes once: whether the watcher goes on."""
+        if chance.random() < 0.1:
+            time.sleep(0.05)
+        request = chance.choice([b"take 16", b"take 1024"])
+        first, *lines = client.ask(request)
+        if first == b"no Lagged":
+            self.add("lags", 1)
+            client.ask(b"close")
+            return False
+        self.add("posts", mirror.apply(lines))
+        return True
+
+    def compare(self, client, mirror):
+        """Once no command comes any more, each table is the one that is shown, or the watcher lags."""
+        self.quiet.wait(MOST_SECONDS)
+        while True:
+            first, *lines = client.ask(b"take 1024")
+            if first == b"no Lagged":
+                self.add("lags", 1)
+                client.ask(b"close")
+                mirror = Mirror(client.ask(b"watch all")[1:])
+            elif first == b"no NoWatcher":
+                mirror = Mirror(client.ask(b"watch all")[1:])
+            elif first == b"ok 0":
+                break
+            elif first.startswith(b"ok "):
+                self.add("posts", mirror.apply(lines))
+            else:
+                raise Broken(f"a take is answered {shown(first)}")
+        for space in mirror.tables:
+            found = client.ask(b"show %d" % space)
+            if found != mirror.shown(space):
+                raise Broken(f"namespace {space} is not as its posts say")
+
+    def guarded(self, call, seed, barrier):
+        try:
+            call(seed)
+        except Exception as error:
+            check(f"soak, client {seed}", False, repr(error))
+        finally:
+            if barrier:
+                with self.lock:
+                    self.running -= 1
+                    if self.running == 0:
+                        self.quiet.set()
+
+    def run(self):
+        half = SESSIONS // 2
+        self.quiet, self.running = threading.Event(), half
+        threads = [threading.Thread(target=self.guarded, args=(self.command, n, True)) for n in range(half)]
+        threads += [threading.Thread(target=self.guarded, args=(self.watch, n, False)) for n in range(half, SESSIONS - 1)]
+        for thread in threads:
+            thread.start()
+        for thread in threads:
+            thread.join()
+
+
+def check_soak(program, seconds):
+    with Server(program, "--queue", "64") as server:
+        with server.free() as client:
+            for line in START + [b"mkdir a /m%d" % n for n in range(SESSIONS)]:
+                client.ask(line)
+        soak = Soak(server, seconds)
+        soak.run()
+        told = ", ".join(f"{count} {word}" for word, count in soak.counts.items())
+        print(f"soak of {seconds} s: {told}", flush=True)
+        check("a soak does something", min(soak.counts["commands"], soak.counts["posts"]) > 0, told)
+        check_stopped("soak", server)
+
+
+def check_client(program, mountctl):
+    """The other program asks this one."""
+
+    def run(server, *words):
+        done = subprocess.run([mountctl, server.path, *words], capture_output=True, timeout=MOST_SECONDS)
+        return done.returncode, done.stdout, done.stderr
+
+    with Server(program, "--sessions", "2") as server:
+        check("mountctl: ok", run(server, "mkfs", "a b", "tmpfs", "none") == (0, b"ok 1\n", b""))
+        check("mountctl: no", run(server, "show", "1") == (1, b"no NoNamespace\n", b""))
+        with server.free(), server.free():
+            for _ in range(50):
+                found = run(server, "show", "1")
+                check("mountctl beside as many sessions as may be", found == (1, b"no TooMany\n", b""), repr(found))
+        end = time.monotonic() + STOP
+        while (found := run(server, "stop"))[1] == b"no TooMany\n" and time.monotonic() < end:
+            time.sleep(0.01)
+        check("mountctl: stop", found == (0, b"ok\n", b"") and server.ends() == (0, b""), repr(found))
+
+
+PARTS = {
+    "paths": check_paths,
+    "limit": check_limit,
+    "cases": check_cases,
+    "pipeline": check_pipeline,
+    "stop": check_stop,
+    "gone": check_gone,
+    "lag": check_lag,
+    "many": check_many,
+    "signals": check_signals,
+}
+
+
+def check_server(program, seconds, mountctl, only):
+    """All parts, with a soak of so many seconds."""
+    parts = dict(PARTS, soak=lambda program: check_soak(program, seconds))
+    if mountctl:
+        parts["client"] = lambda program: check_client(program, mountctl)
+        parts["scripts"] = lambda program: check_scripts(program, mountctl)
+    for name in [only] if only else parts:
+        start = time.monotonic()
+        try:
+            parts[name](program)
+        except (Broken, OSError, subprocess.TimeoutExpired) as error:
+            check(f"server, {name}", False, repr(error))
+        print(f"server, {name}: {time.monotonic() - start:.1f} s", flush=True)
+
+
+def main():
+    parser = argparse.ArgumentParser(description=__doc__, formatter_class=argparse.RawDescriptionHelpFormatter)
+    parser.add_argument("program", metavar="MOUNTD", type=os.path.abspath)
+    parser.add_argument("mountctl", metavar="MOUNTCTL", nargs="?", type=os.path.abspath)
+    parser.add_argument("--seconds", type=int, default=20, help="how long the soak takes")
+    parser.add_argument("--only", help="this part alone")
+    words = parser.parse_args()
+    check_server(words.program, words.seconds, words.mountctl, words.only)
+    if failures:
+        raise SystemExit(f"checks of the server failed: {len(failures)}")
+    print("checks of the server passed")
+
+
+if __name__ == "__main__":
+    main()

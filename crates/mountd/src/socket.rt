@@ -1,0 +1,125 @@
+//! The server on a Unix socket that it makes, and takes away at its end.
+ghost use Rattle.std.specs.Prelude.{◌≡◌, ◌<◌, ◌≤◌};
+
+use mt_desk::desk::Desk;
+use mt_desk::lines::{Lines, Naming};
+use mt_server::server::{ServerFault, run_server};
+use mt_session::bell::Bell;
+use mt_session::gate::OpenGate;
+use std::alloc::Global;
+use std::fs;
+use std::fs::{Files, Permissions};
+use std::marker::Brand;
+use std::net::{Net, TcpListener, TcpStream};
+use std::os::unix::fs::{MetadataExt, PermissionsExt};
+use std::os::unix::net::UnixListener;
+use std::sync::{Mutex, Wait};
+use std::thread::Threads;
+use std::time::Clock;
+
+/// Who may connect: the user whose server it is.
+const MODE: u32 = 0o600;
+
+/// The most posts that a queue may hold.
+const MOST_POSTS: usize = 1_024;
+
+/// How a server on a socket ended.
+#[derive(Clone, Copy)]
+pub enum Served {
+    /// A session has stopped it.
+    Stopped,
+    /// There is something at the path, or no socket can be made there.
+    NotListening,
+    /// It could not accept connections.
+    NotAccepting,
+    /// There was no memory for the server's own.
+    NoMemory,
+}
+
+/// Which file a path names, by its device and its number there.
+fn file_at<R: Files>(rt: &R, path: &str) -> Option<(u64, u64)> {
+    match fs::symlink_metadata(rt, path) {
+        Ok(file) => Some((file.dev(), file.ino())),
+        Err(_) => None,
+    }
+}
+
+/// Serves at a desk on these lines.
+fn with_lines<J, R>(
+    rt: &R,
+    alloc: Global,
+    lines: Lines,
+    path: &String,
+    listener: &UnixListener,
+    sessions: usize,
+) -> Served
+where
+    J: Naming + Send + Sync,
+    R: Threads + Wait + Clock + Net<Listener = TcpListener, Stream = TcpStream> + Sync,
+    requires { lines.lines ≡ J.lines }
+{
+    let desk: Mutex<Desk<J>> = Mutex::new(Desk::new(lines));
+    let bell = Bell::new();
+    let ended = run_server(
+        rt,
+        alloc,
+        listener,
+        path.as_str(),
+        &desk,
+        &bell,
+        sessions,
+        &OpenGate,
+    );
+    match ended {
+        Ok(()) => Served::Stopped,
+        Err(ServerFault::Accept) => Served::NotAccepting,
+        Err(ServerFault::NoMemory) => Served::NoMemory,
+    }
+}
+
+/// Serves on a listener, for queues of so many posts, 1 to 1,024.
+fn serve_listener<R>(
+    rt: &R,
+    alloc: Global,
+    path: &String,
+    listener: &UnixListener,
+    queue: usize,
+    sessions: usize,
+) -> Served
+where
+    R: Threads + Wait + Clock + Net<Listener = TcpListener, Stream = TcpStream> + Sync,
+{
+    match Lines::new(alloc, queue.clamp(1, MOST_POSTS)) {
+        Ok(lines) => with_lines::<Brand, R>(rt, alloc, lines, path, listener, sessions),
+        Err(_) => Served::NoMemory,
+    }
+}
+
+/// Makes a socket at a path and serves sessions on it until one stops the server, `sessions` at
+/// once, with queues of `queue` posts.
+///
+/// There may be nothing at the path. Only the user whose server it is may connect, and who connects
+/// may do everything. At the end the socket is taken away, if it still is the one that was made.
+pub fn serve_socket<R>(
+    rt: &R,
+    alloc: Global,
+    path: &String,
+    queue: usize,
+    sessions: usize,
+) -> Served
+where
+    R: Threads + Wait + Clock + Files + Net<Listener = TcpListener, Stream = TcpStream> + Sync,
+{
+    let Ok(listener) = UnixListener::bind(rt, path.as_str()) else {
+        return Served::NotListening;
+    };
+    let made = file_at(rt, path.as_str());
+    let served = match fs::set_permissions(rt, path.as_str(), Permissions::from_mode(MODE)) {
+        Ok(()) => serve_listener(rt, alloc, path, &listener, queue, sessions),
+        Err(_) => Served::NotListening,
+    };
+    if made.is_some() && file_at(rt, path.as_str()) == made {
+        let _ = fs::remove_file(rt, path.as_str());
+    }
+    served
+}

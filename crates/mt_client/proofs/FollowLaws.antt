@@ -1,0 +1,268 @@
+-- What cannot come first where a post or the end of posts is refused, and what was read of posts.
+use Rattle.std.proofs.Common.{◌≡◌, ℕ, zero, suc, ◌+◌, ◌<◌, ◌≤◌, ◌^◌, true, false, ◌&&◌, ◌==◌, List, [], ◌∷◌, ◌++◌, map, length, refl, sym, ap, subst, ◌∙◌, arith, append_assoc, codes, decimal, Some, None, Option, inl, inr, Result, Ok, Err, OnOk}
+use Rattle.std.specs.List.{flat_map, join_with_byte, list_all, AllByRecursion}
+use Rattle.std.proofs.lemmas.List.{append_cancel_left}
+use Rattle.std.proofs.lemmas.Bool.Decides.{nat_tests}
+use Rattle.std.proofs.lemmas.Fmt.{decimal_injective}
+use Rattle.mt_skel.proofs.MiddleLaws.{and-true, and_first, and_second}
+use Rattle.mt_words.specs.Words.{words}
+use Rattle.mt_words.proofs.NumberLaws.{number_decimal}
+use Rattle.mt_words.proofs.PieceLaws.{pieces_joined}
+use Rattle.mt_lines.specs.Lines.{Item, Text}
+use Rattle.mt_info.proofs.WordLaws.{lacks, decimal-lacks, word_end}
+use Rattle.mt_info.specs.declared.row.Row.{Row}
+use Rattle.mt_events.specs.Posts.{PostView, IsPost, event_words, gone_line, row_line, post_lines, post_text, ended}
+use Rattle.mt_events.specs.Mirrors.{MirrorView, is_next, are_next, mirrored}
+use Rattle.mt_client.specs.Reading.{texts, printed, NoneFirst, AreSoMany}
+use Rattle.mt_client.specs.Mirroring.{IsRefusal, counted_line, opening_lines, Follows, HasOpened, HasFollowed}
+use Rattle.mt_client.specs.Awaited.{fourth_number, IsNumbered, IsOneRefusal, IsRefusedOr, IsOpening, IsNextPost, IsBehind, TakesPost, TakesBehind, IsLast, IsFollowing, IsEnd, IsMirroring}
+use Rattle.mt_client.proofs.OpeningLaws.{texts_split, needs_line, unrefused_or, opened_alike}
+
+pub on_ok : {A E : Type 0} {P : Type 0} (r : Result A E) → P → OnOk r P
+on_ok (Ok a) p = p
+on_ok (Err e) p = tt
+
+-- lists of lines of one length that come first are equal, and end in one place
+pub lines_alike : (xs ys : List (List ℕ)) (middle later : List Item) → length xs ≡ length ys → texts xs ++ middle ≡ texts ys ++ later → (xs ≡ ys) × (middle ≡ later)
+lines_alike [] [] middle later many e = (refl, e)
+lines_alike [] (y ∷ ys) middle later many e = absurd (omega (arith, many))
+lines_alike (x ∷ xs) [] middle later many e = absurd (omega (arith, many))
+lines_alike (x ∷ xs) (y ∷ ys) middle later many e =
+    let both : Text x ∷ (texts xs ++ middle) ≡ Text y ∷ (texts ys ++ later) = e in
+    let here : x ≡ y = cc in
+    let rest : texts xs ++ middle ≡ texts ys ++ later = cc in
+    let r = lines_alike xs ys middle later (omega (arith, many)) rest in
+    ((λ i. here i ∷ r.0 i), r.1)
+
+-- the number of lines in the first line of a post
+event_lacks : (space number count : ℕ) → space < 2 ^ 64 → number < 2 ^ 64 → count < 2 ^ 64 → list_all (lacks 32) (event_words space number count) ≡ true
+event_lacks space number count a b d =
+    and-true (lacks 32 (decimal space)) _ (decimal-lacks space a) (and-true (lacks 32 (decimal number)) _ (decimal-lacks number b) (and-true (lacks 32 (decimal count)) true (decimal-lacks count d) refl))
+
+-- the lines behind the first of a post are as many as it says
+lengths : (gone : List ℕ) (rows : List Row) → length (map gone_line gone ++ map row_line rows) ≡ length gone + length rows
+lengths [] [] = refl
+lengths [] (r ∷ rows) = let ih = lengths [] rows in omega (arith, ih)
+lengths (g ∷ gone) rows = let ih = lengths gone rows in omega (arith, ih)
+
+abbrev behind_lines : PostView → List (List ℕ)
+behind_lines p = map gone_line p.gone ++ map row_line p.rows
+
+abbrev event_line : PostView → List ℕ
+event_line p = join_with_byte 32 (event_words p.space p.number (length p.gone + length p.rows))
+
+first_is : (seen : List ℕ) (others : List (List ℕ)) (p : PostView) → seen ∷ others ≡ post_lines p → (seen ≡ event_line p) × (others ≡ behind_lines p)
+first_is seen others p all = let both : seen ∷ others ≡ event_line p ∷ behind_lines p = all in (cc, cc)
+
+event_counts : (seen : List ℕ) (p : PostView) → IsPost p → seen ≡ event_line p → fourth_number (words seen) ≡ Some (length p.gone + length p.rows)
+event_counts seen p valid e =
+    ap (λ l. fourth_number (words l)) e ∙ ap fourth_number (pieces_joined 32 (codes "event") (decimal p.space ∷ decimal p.number ∷ decimal (length p.gone + length p.rows) ∷ []) (event_lacks p.space p.number (length p.gone + length p.rows) valid.space valid.number valid.counted))
+    ∙ number_decimal (length p.gone + length p.rows) valid.counted
+
+some_same : (n m : ℕ) → Some n ≡ Some m → n ≡ m
+some_same n m e = cc
+
+pub event_many : (r : Option ℕ) (n : ℕ) (seen : List ℕ) (others : List (List ℕ)) (p : PostView) → r ≡ Some n
+    → r ≡ fourth_number (words seen)
+    → IsPost p → seen ∷ others ≡ post_lines p → length others ≡ n
+event_many r n seen others p is counts valid all =
+    let f = first_is seen others p all in
+    let m = counts ∙ event_counts seen p valid f.0 in
+    ap length f.1 ∙ lengths p.gone p.rows ∙ some_same (length p.gone + length p.rows) n (sym m ∙ is)
+
+pub behind_needs_event : (r : Option ℕ) (seen : List ℕ) (mirror : MirrorView) (before : List Item) → r ≡ None
+    → r ≡ fourth_number (words seen)
+    → NoneFirst (IsBehind seen mirror) before
+behind_needs_event r seen mirror before is counts lines later k e =
+    let f = first_is seen lines k.post k.all in
+    let m = counts ∙ event_counts seen k.post k.valid f.0 in
+    let no : None ≡ Some (length k.post.gone + length k.post.rows) = sym is ∙ m in cc
+
+pub behind_needs_lines : (r : Option ℕ) (n : ℕ) (seen : List ℕ) (mirror : MirrorView) (before : List Item) → r ≡ Some n
+    → r ≡ fourth_number (words seen)
+    → NoneFirst (AreSoMany n) before → NoneFirst (IsBehind seen mirror) before
+behind_needs_lines r n seen mirror before is counts none lines later k e = none lines later (event_many r n seen lines k.post is counts k.valid k.all) e
+
+printed_post : (lines : List (List ℕ)) (p : PostView) → lines ≡ post_lines p → printed lines ≡ post_text p
+unfolding post_text
+printed_post lines p e = ap printed e
+
+pub behind_needs_next : (r : Option ℕ) (n : ℕ) (seen : List ℕ) (mirror : MirrorView) (before after : List Item) (begun text : List ℕ) → r ≡ Some n
+    → r ≡ fourth_number (words seen)
+    → begun ≡ ended seen → ((all : List (List ℕ)) × (length all ≡ n) × (before ≡ texts all ++ after) × (text ≡ begun ++ printed all))
+    → ((post : PostView) → IsPost post → text ≡ post_text post → is_next mirror post ≡ false) → NoneFirst (IsBehind seen mirror) before
+behind_needs_next r n seen mirror before after begun text is counts began read refused lines later k e =
+    let many = event_many r n seen lines k.post is counts k.valid k.all in
+    let a = lines_alike read.0 lines after later (read.1 ∙ sym many) (sym read.2 ∙ e) in
+    let whole : text ≡ printed (seen ∷ lines) = read.3 ∙ (λ i. began i ++ printed (a.0 i)) in
+    let no : is_next mirror k.post ≡ false = refused k.post k.valid (whole ∙ printed_post (seen ∷ lines) k.post k.all) in
+    let yes : is_next mirror k.post ≡ true = k.next in
+    cc
+
+pub behind_taken : (r : Option ℕ) (n : ℕ) (seen : List ℕ) (before after : List Item) (begun text : List ℕ) → r ≡ Some n
+    → r ≡ fourth_number (words seen)
+    → ((all : List (List ℕ)) × (length all ≡ n) × (before ≡ texts all ++ after) × (text ≡ begun ++ printed all))
+    → TakesBehind seen before after
+behind_taken r n seen before after begun text is counts read post others rest valid all e =
+    (lines_alike read.0 others after rest (read.1 ∙ sym (event_many r n seen others post is counts valid all)) (sym read.2 ∙ e)).1
+
+-- the text of a post tells its namespace and its number
+grouped : (space number count rest : List ℕ)
+    → ended (join_with_byte 32 (codes "event" ∷ space ∷ number ∷ count ∷ [])) ++ rest ≡ codes "event " ++ (space ++ 32 ∷ (number ++ 32 ∷ (count ++ 10 ∷ rest)))
+grouped space number count rest = simp append_assoc refl
+
+abbrev later_text : PostView → List ℕ
+later_text p = decimal (length p.gone + length p.rows) ++ 10 ∷ flat_map ended (behind_lines p)
+
+post_grouped : (p : PostView) → post_text p ≡ codes "event " ++ (decimal p.space ++ 32 ∷ (decimal p.number ++ 32 ∷ later_text p))
+unfolding post_text
+post_grouped p = grouped (decimal p.space) (decimal p.number) (decimal (length p.gone + length p.rows)) (flat_map ended (behind_lines p))
+
+pub next_alike : (mirror : MirrorView) (p q : PostView) → p.space < 2 ^ 64 → p.number < 2 ^ 64 → q.space < 2 ^ 64 → q.number < 2 ^ 64 → post_text p ≡ post_text q → is_next mirror p ≡ is_next mirror q
+next_alike mirror p q a b d f e =
+    let s = append_cancel_left (codes "event ") (decimal p.space ++ 32 ∷ (decimal p.number ++ 32 ∷ later_text p)) (decimal q.space ++ 32 ∷ (decimal q.number ++ 32 ∷ later_text q)) (sym (post_grouped p) ∙ e ∙ post_grouped q) in
+    let w = word_end 32 (decimal p.space) (decimal q.space) (decimal p.number ++ 32 ∷ later_text p) (decimal q.number ++ 32 ∷ later_text q) (decimal-lacks p.space a) (decimal-lacks q.space d) s in
+    let v = word_end 32 (decimal p.number) (decimal q.number) (later_text p) (later_text q) (decimal-lacks p.number b) (decimal-lacks q.number f) w.1 in
+    let space = decimal_injective p.space q.space a d w.0 in
+    let number = decimal_injective p.number q.number b f v.0 in
+    λ i. (space i == mirror.space) && (number i == mirror.number + 1)
+
+-- a post, or a refusal in its place
+next_some : (mirror : MirrorView) (lines : List (List ℕ)) → IsRefusedOr (IsNextPost mirror) lines → (first : List ℕ) × (others : List (List ℕ)) × (lines ≡ first ∷ others)
+next_some mirror lines (inl r) = (r.0, [], r.2)
+next_some mirror lines (inr k) = (event_line k.post, behind_lines k.post, k.all)
+
+pub next_needs_line : (mirror : MirrorView) (before : List Item) → NoneFirst (AreSoMany 1) before → NoneFirst (IsRefusedOr (IsNextPost mirror)) before
+next_needs_line mirror before none = needs_line before (next_some mirror) none
+
+-- mirrors of one namespace and one number have the same posts next
+pub are_alike : (m n : MirrorView) (posts : List PostView) → m.space ≡ n.space → m.number ≡ n.number → are_next m posts ≡ are_next n posts
+are_alike m n [] space number = refl
+are_alike m n (p ∷ posts) space number =
+    let rest = are_alike (mirrored m p) (mirrored n p) posts space refl in
+    λ i. ((p.space == space i) && (p.number == number i + 1)) && rest i
+
+following_alike : (end : List ℕ) (count : ℕ) (m n : MirrorView) (lines : List (List ℕ)) → m.space ≡ n.space → m.number ≡ n.number → IsFollowing end count m lines → IsFollowing end count n lines
+following_alike end count m n lines space number f = record {
+  posts = f.posts;
+  last = f.last;
+  all = f.all;
+  valid = f.valid;
+  next = sym (are_alike m n f.posts space number) ∙ f.next;
+  ends = f.ends;
+}
+
+-- what comes first behind so many posts, where these lines did at the start
+abbrev pub Goes : List ℕ → ℕ → ℕ → MirrorView → MirrorView → List Item → List Item → Type 0
+Goes end count taken old now before middle =
+    (lines : List (List ℕ)) (later : List Item) → IsFollowing end count old lines → before ≡ texts lines ++ later
+    → (left : ℕ) × (rest : List (List ℕ)) × (taken + left ≡ count) × IsFollowing end left now rest × (middle ≡ texts rest ++ later)
+
+pub goes_at_first : (end : List ℕ) (count : ℕ) (mirror : MirrorView) (before : List Item) → Goes end count 0 mirror mirror before before
+goes_at_first end count mirror before lines later f e = (count, lines, omega arith, f, e)
+
+last_less : (end : List ℕ) (less : ℕ) (p : PostView) (posts : List PostView) (last : List ℕ) → IsLast end (suc less) (length (p ∷ posts)) last → IsLast end less (length posts) last
+last_less end less p posts last (inl s) = inl (omega (arith, s.0), s.1)
+last_less end less p posts last (inr s) = inr (omega (arith, s.0), s.1)
+
+last_refuses : (end : List ℕ) (count : ℕ) (last : List ℕ) → IsLast end (suc count) 0 last → IsRefusal last
+last_refuses end count last (inl s) = let no = s.0 in absurd (omega (arith, no))
+last_refuses end count last (inr s) = s.1
+
+joined_behind : (p : PostView) (posts : List PostView) (last : List ℕ) (rest : List (List ℕ)) (middle later : List Item) → rest ≡ flat_map post_lines (p ∷ posts) ++ last ∷ [] → middle ≡ texts rest ++ later
+    → middle ≡ texts (post_lines p) ++ (texts (flat_map post_lines posts ++ last ∷ []) ++ later)
+joined_behind p posts last rest middle later all e =
+    e ∙ ap (λ ls. texts ls ++ later) (all ∙ append_assoc (post_lines p) (flat_map post_lines posts) (last ∷ [])) ∙ texts_split (post_lines p) (flat_map post_lines posts ++ last ∷ []) later
+
+one_more : (end : List ℕ) (left : ℕ) (now new : MirrorView) (middle after later : List Item) (rest : List (List ℕ)) (posts : List PostView) (last : List ℕ) → rest ≡ flat_map post_lines posts ++ last ∷ [] → AllByRecursion IsPost posts
+    → are_next now posts ≡ true → IsLast end left (length posts) last → middle ≡ texts rest ++ later → 0 < left → NoneFirst IsOneRefusal middle → TakesPost middle after → new.space ≡ now.space → new.number ≡ now.number + 1
+    → (less : ℕ) × (more : List (List ℕ)) × (1 + less ≡ left) × IsFollowing end less new more × (after ≡ texts more ++ later)
+one_more end zero now new middle after later rest posts last all valid next ends e some none takes space number = absurd (omega (arith, some))
+one_more end (suc less) now new middle after later rest [] last all valid next ends e some none takes space number = absurd (none rest later (last, last_refuses end less last ends, all) e)
+one_more end (suc less) now new middle after later rest (p ∷ posts) last all valid next ends e some none takes space number =
+    let here : is_next now p ≡ true = and_first (is_next now p) (are_next (mirrored now p) posts) next in
+    let beyond : are_next (mirrored now p) posts ≡ true = and_second (is_next now p) (are_next (mirrored now p) posts) next in
+    let is : p.number ≡ now.number + 1 = grind (arith, nat_tests) in (
+      less,
+      flat_map post_lines posts ++ last ∷ [],
+      omega arith,
+      record {
+        posts = posts;
+        last = last;
+        all = refl;
+        valid = valid.1;
+        next = are_alike new (mirrored now p) posts space (number ∙ sym is) ∙ beyond;
+        ends = last_less end less p posts last ends;
+      },
+      takes p (texts (flat_map post_lines posts ++ last ∷ []) ++ later) valid.0 (joined_behind p posts last rest middle later all e),
+    )
+
+post_makes : (now new : MirrorView) (post : PostView) → Follows (post ∷ []) now new → (new.space ≡ now.space) × (new.number ≡ now.number + 1)
+post_makes now new post f =
+    let here : is_next now post ≡ true = and_first (is_next now post) true f.are in
+    let is : post.number ≡ now.number + 1 = grind (arith, nat_tests) in
+    (ap (λ m. m.space) f.make, ap (λ m. m.number) f.make ∙ is)
+
+pub goes_on : (end : List ℕ) (count taken : ℕ) (old now new : MirrorView) (before middle after : List Item) → taken < count → Goes end count taken old now before middle → NoneFirst IsOneRefusal middle → TakesPost middle after
+    → HasFollowed middle after now new → Goes end count (taken + 1) old new before after
+goes_on end count taken old now new before middle after lt goes none takes h lines later f e =
+    let g = goes lines later f e in
+    let m = post_makes now new h.post h.follows in
+    let k = g.3 in
+    let sum = g.2 in
+    let o = one_more end g.0 now new middle after later g.1 k.posts k.last k.all k.valid k.next k.ends g.4 (omega (arith, sum, lt)) none takes m.0 m.1 in
+    (o.0, o.1, (let more = o.2 in omega (arith, sum, more)), o.3, o.4)
+
+-- a post that does not come, or an end
+next_left : (end : List ℕ) (left : ℕ) (now : MirrorView) (middle later : List Item) (rest : List (List ℕ)) (posts : List PostView) (last : List ℕ) → rest ≡ flat_map post_lines posts ++ last ∷ [] → AllByRecursion IsPost posts
+    → are_next now posts ≡ true → IsLast end left (length posts) last → middle ≡ texts rest ++ later → 0 < left → NoneFirst (IsRefusedOr (IsNextPost now)) middle → ⊥
+next_left end zero now middle later rest posts last all valid next ends e some none = omega (arith, some)
+next_left end (suc less) now middle later rest [] last all valid next ends e some none = none rest later (inl (last, last_refuses end less last ends, all)) e
+next_left end (suc less) now middle later rest (p ∷ posts) last all valid next ends e some none =
+    none (post_lines p) (texts (flat_map post_lines posts ++ last ∷ []) ++ later)
+    (inr (record { post = p; valid = valid.0; next = and_first (is_next now p) (are_next (mirrored now p) posts) next; all = refl }))
+    (joined_behind p posts last rest middle later all e)
+
+pub goes_cut : (end : List ℕ) (count taken : ℕ) (old now : MirrorView) (before middle : List Item) → taken < count → Goes end count taken old now before middle → NoneFirst (IsRefusedOr (IsNextPost now)) middle
+    → NoneFirst (IsFollowing end count old) before
+goes_cut end count taken old now before middle lt goes none lines later f e =
+    let g = goes lines later f e in
+    let k = g.3 in
+    let sum = g.2 in
+    next_left end g.0 now middle later g.1 k.posts k.last k.all k.valid k.next k.ends g.4 (omega (arith, sum, lt)) none
+
+last_is : (count left : ℕ) (last : List ℕ) (lines : List (List ℕ)) → IsLast (counted_line count) left 0 last → lines ≡ last ∷ [] → IsRefusedOr (IsEnd count) lines
+last_is count left last lines (inl s) all = inr (all ∙ ap (λ l. l ∷ []) s.1)
+last_is count left last lines (inr s) all = inl (last, s.1, all)
+
+never_more : (end : List ℕ) (p : PostView) (posts : List PostView) (last : List ℕ) → IsLast end 0 (length (p ∷ posts)) last → ⊥
+never_more end p posts last (inl s) = let no = s.0 in omega (arith, no)
+never_more end p posts last (inr s) = let no = s.0 in omega (arith, no)
+
+end_left : (count left : ℕ) (middle later : List Item) (rest : List (List ℕ)) (posts : List PostView) (last : List ℕ) → left ≡ 0 → rest ≡ flat_map post_lines posts ++ last ∷ [] → IsLast (counted_line count) left (length posts) last
+    → middle ≡ texts rest ++ later → NoneFirst (IsRefusedOr (IsEnd count)) middle → ⊥
+end_left count left middle later rest [] last is all ends e none = none rest later (last_is count left last rest ends all) e
+end_left count left middle later rest (p ∷ posts) last is all ends e none =
+    never_more (counted_line count) p posts last (subst (λ n. IsLast (counted_line count) n (length (p ∷ posts)) last) is ends)
+
+pub goes_to_end : (count taken : ℕ) (old now : MirrorView) (before middle : List Item) → count ≤ taken → Goes (counted_line count) count taken old now before middle → NoneFirst (IsRefusedOr (IsEnd count)) middle
+    → NoneFirst (IsFollowing (counted_line count) count old) before
+goes_to_end count taken old now before middle all goes none lines later f e =
+    let g = goes lines later f e in
+    let k = g.3 in
+    let sum = g.2 in
+    end_left count g.0 middle later g.1 k.posts k.last (omega (arith, sum, all)) k.all k.ends g.4 none
+
+-- a whole mirroring
+pub mirroring_needs_opening : (space count : ℕ) (before : List Item) → NoneFirst (IsRefusedOr (IsOpening space)) before → NoneFirst (IsRefusedOr (IsMirroring space count)) before
+mirroring_needs_opening space count before none lines later (inl r) e = none lines later (inl r) e
+mirroring_needs_opening space count before none lines later (inr k) e =
+    none (opening_lines k.found) (texts k.others ++ later) (inr (record { found = k.found; shown = k.shown; of = k.of; all = refl }))
+    (e ∙ ap (λ ls. texts ls ++ later) k.all ∙ texts_split (opening_lines k.found) k.others later)
+
+pub mirroring_needs_posts : (space count : ℕ) (mirror : MirrorView) (before middle : List Item) → HasOpened space before middle mirror → IsNumbered mirror → NoneFirst IsOneRefusal before
+    → NoneFirst (IsFollowing (counted_line count) count mirror) middle → NoneFirst (IsRefusedOr (IsMirroring space count)) before
+mirroring_needs_posts space count mirror before middle o n refusal none =
+    unrefused_or before refusal (λ lines later k e.
+    let a = opened_alike space before middle (texts k.others ++ later) mirror k.found o n k.shown (e ∙ ap (λ ls. texts ls ++ later) k.all ∙ texts_split (opening_lines k.found) k.others later) in
+    none k.others later (following_alike (counted_line count) count k.found mirror k.others (k.of ∙ sym o.of) (sym a.0) k.following) a.1)

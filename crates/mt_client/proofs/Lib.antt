@@ -1,0 +1,5 @@
+pub mod RequestLaws
+pub mod RelayLaws
+pub mod MirrorLaws
+pub mod OpeningLaws
+pub mod FollowLaws

@@ -1,0 +1,154 @@
+-- What a mirror has read, line by line, and the texts that the lines are.
+use Rattle.std.proofs.Common.{◌≡◌, ◌≢◌, ℕ, ◌+◌, ◌<◌, ◌≤◌, ◌^◌, MatchOption, MatchBool, IfOk, Result, Ok, Err, Bool, true, false, List, [], ◌∷◌, ◌++◌, map, length, refl, sym, ap, subst, ◌∙◌, arith, append_assoc, length-append, codes, decimal, Some, None, Option}
+use Rattle.std.proofs.lemmas.List.{append-nil, map-append}
+use Rattle.std.proofs.lemmas.Grind.{flat_map-append}
+use Rattle.std.specs.List.{flat_map, join_with_byte, list_all}
+use Rattle.mt_words.specs.Words.{words}
+use Rattle.mt_words.proofs.PieceLaws.{pieces_joined, joined_pieces}
+use Rattle.mt_info.proofs.WordLaws.{lacks, decimal-lacks}
+use Rattle.mt_client.specs.declared.opening.Heading.{Heading}
+use Rattle.mt_client.specs.declared.fault.ClientFault.{ClientFault}
+use Rattle.mt_lines.specs.Lines.{Item, Text}
+use Rattle.mt_skel.proofs.MiddleLaws.{and-true, and_first, and_second}
+use Rattle.mt_info.specs.RowLine.{line}
+use Rattle.mt_info.specs.declared.row.Row.{Row}
+use Rattle.mt_events.specs.Posts.{PostView, post_text, ended}
+use Rattle.mt_events.specs.Mirrors.{MirrorView, is_next, are_next, mirrored, mirrored_by}
+use Rattle.mt_session.specs.Answers.{count_text, row_line, part_text, opening_text}
+use Rattle.mt_client.specs.Reading.{texts, printed}
+use Rattle.mt_client.specs.Mirroring.{counted_line, heading_words, heading_line, opening_lines, opening_with, Follows, HasOpened, HasPosted, HasFollowed, HasFollowedSome, HasFollowedAll, HasRefused, HasMirrored, IsLeft}
+use Rattle.mt_client.proofs.RelayLaws.{read_more, texts-append, printed-append}
+
+-- rows that came, and one more
+pub row_came : (rows : List Row) (row : Row) (before middle after : List Item) → before ≡ texts (map line rows) ++ middle → middle ≡ Text (line row) ∷ after → before ≡ texts (map line (rows ++ row ∷ [])) ++ after
+row_came rows row before middle after e f =
+    read_more (map line rows) (line row) before middle after e f ∙ ap (λ x. texts x ++ after) (sym (map-append line rows (row ∷ [])))
+
+-- lines that were appended, and one more
+pub line_came : (n : ℕ) (line : List ℕ) (before middle after : List Item) (begun text more : List ℕ)
+    → ((all : List (List ℕ)) × (length all ≡ n) × (before ≡ texts all ++ middle) × (text ≡ begun ++ printed all)) → middle ≡ Text line ∷ after → more ≡ text ++ ended line
+    → (all : List (List ℕ)) × (length all ≡ n + 1) × (before ≡ texts all ++ after) × (more ≡ begun ++ printed all)
+line_came n line before middle after begun text more h e f =
+    let l = length-append h.0 (line ∷ []) in (
+      h.0 ++ line ∷ [],
+      omega (arith, l, h.1),
+      read_more h.0 line before middle after h.2 e,
+      f ∙ ap (λ x. x ++ ended line) h.3 ∙ append_assoc begun (printed h.0) (ended line)
+          ∙ ap (λ x. begun ++ (printed h.0 ++ x)) (sym (append-nil (ended line))) ∙ ap (λ x. begun ++ x) (sym (printed-append h.0 (line ∷ []))),
+    )
+
+-- lines read in two runs
+pub runs_read : (ls ms : List (List ℕ)) (before middle after : List Item) → before ≡ texts ls ++ middle → middle ≡ texts ms ++ after → before ≡ texts (ls ++ ms) ++ after
+runs_read ls ms before middle after e f =
+    e ∙ ap (λ x. texts ls ++ x) f ∙ sym (append_assoc (texts ls) (texts ms) after) ∙ ap (λ x. x ++ after) (sym (texts-append ls ms))
+
+-- posts one after another
+next_more : (posts : List PostView) (post : PostView) (old : MirrorView) → are_next old posts ≡ true → are_next (mirrored_by old posts) (post ∷ []) ≡ true → are_next old (posts ++ post ∷ []) ≡ true
+next_more [] post old h k = k
+next_more (p ∷ posts) post old h k =
+    and-true (is_next old p) (are_next (mirrored old p) (posts ++ post ∷ [])) (and_first (is_next old p) (are_next (mirrored old p) posts) h)
+    (next_more posts post (mirrored old p) (and_second (is_next old p) (are_next (mirrored old p) posts) h) k)
+
+mirrored_more : (posts : List PostView) (post : PostView) (old : MirrorView) → mirrored_by old (posts ++ post ∷ []) ≡ mirrored (mirrored_by old posts) post
+mirrored_more [] post old = refl
+mirrored_more (p ∷ posts) post old = mirrored_more posts post (mirrored old p)
+
+follows_more : (posts : List PostView) (post : PostView) (old between new : MirrorView) → Follows posts old between → Follows (post ∷ []) between new → Follows (posts ++ post ∷ []) old new
+follows_more posts post old between new f h = record {
+  are = next_more posts post old f.are (subst (λ m. are_next m (post ∷ []) ≡ true) f.make h.are);
+  make = h.make ∙ ap (λ m. mirrored m post) f.make ∙ sym (mirrored_more posts post old);
+}
+
+pub none_followed : (before : List Item) (mirror : MirrorView) → HasFollowedSome 0 before before mirror mirror
+none_followed before mirror = record { lines = []; posts = []; read = refl; text = refl; many = refl; follows = record { are = refl; make = refl } }
+
+pub followed_more : (n : ℕ) (before middle after : List Item) (old between new : MirrorView) → HasFollowedSome n before middle old between → HasFollowed middle after between new → HasFollowedSome (n + 1) before after old new
+followed_more n before middle after old between new f h =
+    let l = length-append f.posts (h.post ∷ []) in
+    record {
+      lines = f.lines ++ h.lines;
+      posts = f.posts ++ h.post ∷ [];
+      read = runs_read f.lines h.lines before middle after f.read h.read;
+      text =
+          printed-append f.lines h.lines ∙ (λ k. f.text k ++ (h.text ∙ sym (append-nil (post_text h.post))) k)
+          ∙ sym (flat_map-append post_text f.posts (h.post ∷ []));
+      many = let m = f.many in omega (arith, l, m);
+      follows = follows_more f.posts h.post old between new f.follows h.follows;
+    }
+
+pub followed_all : (count : ℕ) (before middle after : List Item) (old new : MirrorView) → HasFollowedSome count before middle old new → middle ≡ texts (counted_line count ∷ []) ++ after → HasFollowedAll count before after old new
+followed_all count before middle after old new f e = record {
+  lines = f.lines ++ counted_line count ∷ [];
+  posts = f.posts;
+  read = runs_read f.lines (counted_line count ∷ []) before middle after f.read e;
+  text = printed-append f.lines (counted_line count ∷ []) ∙ (λ k. f.text k ++ append-nil (count_text count) k);
+  many = f.many;
+  follows = f.follows;
+}
+
+-- a refusal behind some posts
+pub left_behind : (count n : ℕ) (refusal : List ℕ) (before middle after : List Item) (old new : MirrorView) → n ≤ count → HasFollowedSome n before middle old new → HasRefused refusal middle after → IsLeft count refusal before after old new
+left_behind count n refusal before middle after old new le f r = record { taken = n; middle = middle; few = le; some = f; refused = r }
+
+-- the text of an opening
+rows_text : (rows : List Row) → printed (map line rows) ≡ flat_map row_line rows
+rows_text [] = refl
+rows_text (r ∷ rows) = ap (λ x. ended (line r) ++ x) (rows_text rows)
+
+heading_text : (space number count rest : List ℕ)
+    → ended (join_with_byte 32 (codes "space" ∷ space ∷ number ∷ count ∷ [])) ++ rest ≡ codes "space " ++ space ++ codes " " ++ number ++ codes " " ++ count ++ 10 ∷ [] ++ rest
+heading_text space number count rest = simp append_assoc refl
+
+pub opening_is : (m : MirrorView) → printed (opening_lines m) ≡ opening_text (opening_with m)
+opening_is m =
+    let n : 1 + length m.rows ≡ 0 + (1 + length m.rows) = omega arith in
+    let part = ap (λ x. ended (heading_line m) ++ x) (rows_text m.rows) ∙ heading_text (decimal m.space) (decimal m.number) (decimal (length m.rows)) (flat_map row_line m.rows) in
+    ap (λ x. ended (counted_line (1 + length m.rows)) ++ x) (part ∙ sym (append-nil _)) ∙ ap (λ x. count_text x ++ flat_map part_text (opening_with m).parts) n
+
+pub mirrored_whole : (space count : ℕ) (before middle after : List Item) (found made : MirrorView) → HasOpened space before middle found → HasFollowedAll count middle after found made → HasMirrored space count before after made
+mirrored_whole space count before middle after found made o f = record {
+  found = found;
+  posts = f.posts;
+  lines = opening_lines found ++ f.lines;
+  of = o.of;
+  read = runs_read (opening_lines found) f.lines before middle after o.read f.read;
+  text = printed-append (opening_lines found) f.lines ∙ (λ k. opening_is found k ++ f.text k);
+  many = f.many;
+  follows = f.follows;
+}
+
+-- the words of a first line
+pub heading_lacks : (space number count : ℕ) → space < 2 ^ 64 → number < 2 ^ 64 → count < 2 ^ 64 → list_all (lacks 32) (heading_words space number count) ≡ true
+heading_lacks space number count a b d =
+    and-true (lacks 32 (decimal space)) _ (decimal-lacks space a) (and-true (lacks 32 (decimal number)) _ (decimal-lacks number b) (and-true (lacks 32 (decimal count)) true (decimal-lacks count d) refl))
+
+pub heading_is : (r : Option Heading) (line : List ℕ) (ws : List (List ℕ)) → ws ≡ words line
+    → MatchOption r ((space number count : ℕ) → space < 2 ^ 64 → number < 2 ^ 64 → count < 2 ^ 64 → ws ≢ heading_words space number count) (λ h. ws ≡ heading_words h.space h.number h.count)
+    → MatchOption r ((space number count : ℕ) → space < 2 ^ 64 → number < 2 ^ 64 → count < 2 ^ 64 → line ≢ join_with_byte 32 (heading_words space number count)) (λ h. line ≡ join_with_byte 32 (heading_words h.space h.number h.count))
+heading_is (Some h) line ws is e = sym (joined_pieces 32 line) ∙ ap (join_with_byte 32) (sym is ∙ e)
+heading_is None line ws is none = λ space number count a b d e. none space number count a b d (is ∙ ap words e ∙ pieces_joined 32 _ _ (heading_lacks space number count a b d))
+
+-- a post behind its first line
+pub followed_by_post : (first : List ℕ) (before middle after : List Item) (old new : MirrorView) → before ≡ Text first ∷ middle → HasPosted first middle after old new → HasFollowed before after old new
+followed_by_post first before middle after old new e p = record {
+  lines = first ∷ p.others;
+  post = p.post;
+  read = e ∙ ap (λ x. Text first ∷ x) p.read;
+  text = p.text;
+  follows = p.follows;
+}
+
+pub when_true : (A B : Type 0) (b : Bool) → b ≡ true → MatchBool b A B → A
+when_true A B true e m = m
+when_true A B false e m = cc
+
+pub when_some : (A : Type 0) (P : MirrorView → Type 0) (o : Option MirrorView) (mirror : MirrorView) → o ≡ Some mirror → MatchOption o A P → P mirror
+when_some A P o mirror e m = subst (λ x. MatchOption x A P) e m
+
+-- the line behind so many posts
+pub all_followed : {T : Type 0} (r : Result Bool ClientFault) (count n : ℕ) (refusal : List ℕ) (before middle after : List Item) (old new : MirrorView) → n ≡ count → (T → HasFollowedSome n before middle old new)
+    → IfOk r (λ going. T → MatchBool going (middle ≡ texts (counted_line count ∷ []) ++ after) (HasRefused refusal middle after))
+    → IfOk r (λ going. T → MatchBool going (HasFollowedAll count before after old new) (IsLeft count refusal before after old new))
+all_followed (Ok true) count n refusal before middle after old new e f h = λ t. followed_all count before middle after old new (subst (λ x. HasFollowedSome x before middle old new) e (f t)) (h t)
+all_followed (Ok false) count n refusal before middle after old new e f h = λ t. left_behind count n refusal before middle after old new (omega (arith, e)) (f t) (h t)
+all_followed (Err k) count n refusal before middle after old new e f h = tt

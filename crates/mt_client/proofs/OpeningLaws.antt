@@ -1,0 +1,173 @@
+-- What cannot come first where an opening is refused, and what was read of one.
+use Rattle.std.proofs.Common.{◌≡◌, ◌≢◌, ◌==◌, Bool, MatchBool, ℕ, ◌+◌, ◌<◌, ◌^◌, true, false, List, [], ◌∷◌, ◌++◌, map, length, refl, sym, ap, subst, ◌∙◌, arith, append_assoc, codes, decimal, Some, inl, inr, IsTrue}
+use Rattle.std.specs.List.{join_with_byte, AllByRecursion}
+use Rattle.std.proofs.lemmas.List.{append_cancel_left}
+use Rattle.std.proofs.lemmas.Bool.Decides.{nat_tests}
+use Rattle.std.proofs.lemmas.Fmt.{decimal_injective}
+use Rattle.mt_skel.specs.Keyed.{rises}
+use Rattle.mt_words.specs.Words.{words}
+use Rattle.mt_words.proofs.PieceLaws.{pieces_joined}
+use Rattle.mt_lines.specs.Lines.{Item, Text}
+use Rattle.mt_info.specs.Table.{row_id}
+use Rattle.mt_info.specs.Laws.{IsRow}
+use Rattle.mt_info.specs.RowLine.{line}
+use Rattle.mt_info.specs.declared.row.Row.{Row}
+use Rattle.mt_info.proofs.RowLineLaws.{line-injective}
+use Rattle.mt_events.specs.Mirrors.{MirrorView}
+use Rattle.mt_client.specs.declared.opening.Heading.{Heading}
+use Rattle.mt_client.specs.Requests.{verdict}
+use Rattle.mt_client.specs.Reading.{texts, NoneFirst, AreSoMany}
+use Rattle.mt_client.specs.Mirroring.{counted_line, heading_words, heading_line, part_lines, opening_lines, HasOpened}
+use Rattle.mt_client.specs.Awaited.{IsShown, IsNumbered, IsOneRefusal, IsRefusedOr, IsRowLine, AreRowLines, IsShownPart, IsOpening}
+use Rattle.mt_client.proofs.MirrorLaws.{heading_lacks}
+use Rattle.mt_client.proofs.RelayLaws.{texts-append}
+
+-- the first of the lines that come first
+first_read : (seen first : List ℕ) (others : List (List ℕ)) (middle later : List Item) → Text seen ∷ middle ≡ Text first ∷ (texts others ++ later) → (first ≡ seen) × (middle ≡ texts others ++ later)
+first_read seen first others middle later e = (cc, cc)
+
+pub first_taken : (seen first : List ℕ) (lines others : List (List ℕ)) (before middle later : List Item) → before ≡ Text seen ∷ middle → lines ≡ first ∷ others → before ≡ texts lines ++ later → (first ≡ seen) × (middle ≡ texts others ++ later)
+first_taken seen first lines others before middle later there is e = first_read seen first others middle later (sym there ∙ e ∙ ap (λ ls. texts ls ++ later) is)
+
+pub texts_split : (xs ys : List (List ℕ)) (later : List Item) → texts (xs ++ ys) ++ later ≡ texts xs ++ (texts ys ++ later)
+texts_split xs ys later = ap (λ x. x ++ later) (texts-append xs ys) ∙ append_assoc (texts xs) (texts ys) later
+
+-- what cannot come first where no line does
+pub needs_line : {kind : List (List ℕ) → Type 0} (before : List Item) → ((lines : List (List ℕ)) → kind lines → (first : List ℕ) × (others : List (List ℕ)) × (lines ≡ first ∷ others)) → NoneFirst (AreSoMany 1) before → NoneFirst kind before
+needs_line before some none lines later k e =
+    let s = some lines k in
+    none (s.0 ∷ []) (texts s.1 ++ later) refl (e ∙ ap (λ ls. texts ls ++ later) s.2)
+
+refused_some : {kind : List (List ℕ) → Type 0} → ((lines : List (List ℕ)) → kind lines → (first : List ℕ) × (others : List (List ℕ)) × (lines ≡ first ∷ others)) → (lines : List (List ℕ)) → IsRefusedOr kind lines → (first : List ℕ) × (others : List (List ℕ)) × (lines ≡ first ∷ others)
+refused_some some lines (inl r) = (r.0, [], r.2)
+refused_some some lines (inr k) = some lines k
+
+-- a line that does not refuse
+pub no_refusal : (seen : List ℕ) (before middle : List Item) → before ≡ Text seen ∷ middle → verdict seen ≢ Some false → NoneFirst IsOneRefusal before
+no_refusal seen before middle there tells lines later r e =
+    let t = first_taken seen r.0 lines [] before middle later there r.2 e in
+    tells (ap verdict (sym t.0) ∙ r.1)
+
+pub unrefused_or : {kind : List (List ℕ) → Type 0} (before : List Item) → NoneFirst IsOneRefusal before → NoneFirst kind before → NoneFirst (IsRefusedOr kind) before
+unrefused_or before refusal none lines later (inl r) e = refusal lines later r e
+unrefused_or before refusal none lines later (inr k) e = none lines later k e
+
+-- a line that counts tells the number, and the first line of a namespace its numbers
+pub counted_tells : (n m : ℕ) → n < 2 ^ 64 → m < 2 ^ 64 → counted_line n ≡ counted_line m → n ≡ m
+counted_tells n m a b e = decimal_injective n m a b (append_cancel_left (codes "ok ") (decimal n) (decimal m) e)
+
+pub number_told : (number count : ℕ) (seen : List ℕ) → number < 2 ^ 64 → count < 2 ^ 64 → seen ≡ counted_line number → MatchBool (number == count) (seen ≡ counted_line count) (seen ≢ counted_line count)
+number_told number count seen a b is = go (number == count) refl
+  where
+    go : (same : Bool) → (number == count) ≡ same → MatchBool same (seen ≡ counted_line count) (seen ≢ counted_line count)
+    go true e = let n : number ≡ count = grind (arith, nat_tests) in is ∙ ap counted_line n
+    go false e = λ f. let n = counted_tells number count a b (sym is ∙ f) in grind (arith, nat_tests)
+
+abbrev second : List (List ℕ) → List ℕ
+second (a ∷ b ∷ rest) = b
+second _ = []
+
+abbrev third : List (List ℕ) → List ℕ
+third (a ∷ b ∷ c ∷ rest) = c
+third _ = []
+
+abbrev fourth : List (List ℕ) → List ℕ
+fourth (a ∷ b ∷ c ∷ d ∷ rest) = d
+fourth _ = []
+
+pub heading_tells : (space number count space_2 number_2 count_2 : ℕ) → space < 2 ^ 64 → number < 2 ^ 64 → count < 2 ^ 64 → space_2 < 2 ^ 64 → number_2 < 2 ^ 64 → count_2 < 2 ^ 64
+    → join_with_byte 32 (heading_words space number count) ≡ join_with_byte 32 (heading_words space_2 number_2 count_2) → (space ≡ space_2) × (number ≡ number_2) × (count ≡ count_2)
+heading_tells space number count space_2 number_2 count_2 a b d a_2 b_2 d_2 e =
+    let same : heading_words space number count ≡ heading_words space_2 number_2 count_2 =
+    sym (pieces_joined 32 _ _ (heading_lacks space number count a b d)) ∙ ap words e ∙ pieces_joined 32 _ _ (heading_lacks space_2 number_2 count_2 a_2 b_2 d_2) in
+    (decimal_injective space space_2 a a_2 (ap second same), decimal_injective number number_2 b b_2 (ap third same), decimal_injective count count_2 d d_2 (ap fourth same))
+
+-- rows and their lines
+row_behind : (rows news : List Row) (middle later : List Item) → AllByRecursion IsRow news → length rows < length news → texts (map line rows) ++ middle ≡ texts (map line news) ++ later
+    → (row : Row) × (rest : List Item) × IsRow row × (middle ≡ Text (line row) ∷ rest)
+row_behind [] [] middle later valid lt e = absurd (omega (arith, lt))
+row_behind [] (n ∷ news) middle later valid lt e = (n, texts (map line news) ++ later, valid.0, e)
+row_behind (r ∷ rows) [] middle later valid lt e = absurd (omega (arith, lt))
+row_behind (r ∷ rows) (n ∷ news) middle later valid lt e =
+    let both : Text (line r) ∷ (texts (map line rows) ++ middle) ≡ Text (line n) ∷ (texts (map line news) ++ later) = e in
+    let rest : texts (map line rows) ++ middle ≡ texts (map line news) ++ later = cc in
+    row_behind rows news middle later valid.1 (omega (arith, lt)) rest
+
+pub rows_cut : (n count : ℕ) (rows : List Row) (before middle : List Item) → before ≡ texts (map line rows) ++ middle → length rows ≡ n → n < count → NoneFirst IsRowLine middle → NoneFirst (AreRowLines count) before
+rows_cut n count rows before middle came many lt none lines later k e =
+    let l = k.many in
+    let r = row_behind rows k.rows middle later k.valid (omega (arith, l, many, lt)) (sym came ∙ e ∙ ap (λ ls. texts ls ++ later) k.all) in
+    none (line r.0 ∷ []) r.1 (r.0, r.2, refl) r.3
+
+pub rows_alike : (rows news : List Row) (middle later : List Item) → length rows ≡ length news → texts (map line rows) ++ middle ≡ texts (map line news) ++ later → AllByRecursion IsRow rows → AllByRecursion IsRow news → rows ≡ news
+rows_alike [] [] middle later many e p q = refl
+rows_alike [] (n ∷ news) middle later many e p q = absurd (omega (arith, many))
+rows_alike (r ∷ rows) [] middle later many e p q = absurd (omega (arith, many))
+rows_alike (r ∷ rows) (n ∷ news) middle later many e p q =
+    let both : Text (line r) ∷ (texts (map line rows) ++ middle) ≡ Text (line n) ∷ (texts (map line news) ++ later) = e in
+    let here : line r ≡ line n = cc in
+    let rest : texts (map line rows) ++ middle ≡ texts (map line news) ++ later = cc in
+    let same = line-injective r n p.0 q.0 here in
+    λ i. same i ∷ rows_alike rows news middle later (omega (arith, many)) rest p.1 q.1 i
+
+behind_rows : (rows news : List Row) (middle later : List Item) → length rows ≡ length news → texts (map line rows) ++ middle ≡ texts (map line news) ++ later → middle ≡ later
+behind_rows [] [] middle later many e = e
+behind_rows [] (n ∷ news) middle later many e = absurd (omega (arith, many))
+behind_rows (r ∷ rows) [] middle later many e = absurd (omega (arith, many))
+behind_rows (r ∷ rows) (n ∷ news) middle later many e =
+    let both : Text (line r) ∷ (texts (map line rows) ++ middle) ≡ Text (line n) ∷ (texts (map line news) ++ later) = e in
+    behind_rows rows news middle later (omega (arith, many)) (cc)
+
+-- a namespace behind the line that counts its lines
+pub part_needs_line : (space count : ℕ) (before : List Item) → NoneFirst (AreSoMany 1) before → NoneFirst (IsShownPart space count) before
+part_needs_line space count before none = needs_line before (λ lines k. (heading_line k.found, map line k.found.rows, k.all)) none
+
+few : (n : ℕ) → 1 + n < 2 ^ 64 → n < 2 ^ 64
+few n lt = omega (arith, lt)
+
+-- the numbers of a heading, and what is behind it, where the lines of a namespace come first
+part_told : (space count : ℕ) (h : Heading) (seen : List ℕ) (before middle later : List Item) (lines : List (List ℕ)) → before ≡ Text seen ∷ middle → seen ≡ join_with_byte 32 (heading_words h.space h.number h.count)
+    → h.space < 2 ^ 64 → h.number < 2 ^ 64 → h.count < 2 ^ 64 → (k : IsShownPart space count lines) → before ≡ texts lines ++ later
+    → (h.space ≡ k.found.space) × (h.count ≡ length k.found.rows) × (middle ≡ texts (map line k.found.rows) ++ later)
+part_told space count h seen before middle later lines there is a b d k e =
+    let t = first_taken seen (heading_line k.found) lines (map line k.found.rows) before middle later there k.all e in
+    let w = heading_tells h.space h.number h.count k.found.space k.found.number (length k.found.rows) a b d k.shown.space k.shown.number (few (length k.found.rows) k.shown.counted) (sym is ∙ sym t.0) in
+    (w.0, w.2, t.1)
+
+pub part_needs_space : (space count : ℕ) (h : Heading) (seen : List ℕ) (before middle : List Item) → before ≡ Text seen ∷ middle → seen ≡ join_with_byte 32 (heading_words h.space h.number h.count)
+    → (h.space < 2 ^ 64) × (h.number < 2 ^ 64) × (h.count < 2 ^ 64) → (h.space ≡ space → 1 + h.count ≡ count → ⊥) → NoneFirst (IsShownPart space count) before
+part_needs_space space count h seen before middle there is small other lines later k e =
+    let t = part_told space count h seen before middle later lines there is small.0 small.1 small.2 k e in
+    other (t.0 ∙ k.of) (ap (λ n. 1 + n) t.1 ∙ k.many)
+
+pub part_needs_rising : (space count : ℕ) (h : Heading) (seen : List ℕ) (rows : List Row) (before middle after : List Item) → before ≡ Text seen ∷ middle → seen ≡ join_with_byte 32 (heading_words h.space h.number h.count)
+    → (h.space < 2 ^ 64) × (h.number < 2 ^ 64) × (h.count < 2 ^ 64) → middle ≡ texts (map line rows) ++ after → length rows ≡ h.count → AllByRecursion IsRow rows → (IsTrue (rises row_id rows) → ⊥)
+    → NoneFirst (IsShownPart space count) before
+part_needs_rising space count h seen rows before middle after there is small came many valid falls lines later k e =
+    let t = part_told space count h seen before middle later lines there is small.0 small.1 small.2 k e in
+    let same = rows_alike rows k.found.rows after later (many ∙ t.1) (sym came ∙ t.2) valid k.shown.rows in
+    falls (subst (λ rs. IsTrue (rises row_id rs)) (sym same) k.shown.rising)
+
+-- an opening
+opening_some : (space : ℕ) (lines : List (List ℕ)) → IsOpening space lines → (first : List ℕ) × (others : List (List ℕ)) × (lines ≡ first ∷ others)
+opening_some space lines k = (counted_line (1 + length k.found.rows), part_lines k.found, k.all)
+
+pub opening_needs_line : (space : ℕ) (before : List Item) → NoneFirst (AreSoMany 1) before → NoneFirst (IsRefusedOr (IsOpening space)) before
+opening_needs_line space before none = needs_line before (refused_some (opening_some space)) none
+
+pub opening_needs_part : (space count : ℕ) (seen : List ℕ) (before middle : List Item) → before ≡ Text seen ∷ middle → verdict seen ≢ Some false → seen ≡ counted_line count → count < 2 ^ 64 → NoneFirst (IsShownPart space count) middle
+    → NoneFirst (IsRefusedOr (IsOpening space)) before
+opening_needs_part space count seen before middle there tells is small none =
+    unrefused_or before (no_refusal seen before middle there tells) (λ lines later k e.
+    let t = first_taken seen (counted_line (1 + length k.found.rows)) lines (part_lines k.found) before middle later there k.all e in
+    let n = counted_tells (1 + length k.found.rows) count k.shown.counted small (t.0 ∙ is) in
+    none (part_lines k.found) later (record { found = k.found; shown = k.shown; of = k.of; many = n; all = refl }) t.1)
+
+-- two openings that come first are of one number, and end in one place
+pub opened_alike : (space : ℕ) (before middle later : List Item) (mirror found : MirrorView) → HasOpened space before middle mirror → IsNumbered mirror → IsShown found → before ≡ texts (opening_lines found) ++ later
+    → (mirror.number ≡ found.number) × (middle ≡ later)
+opened_alike space before middle later mirror found o n s e =
+    let t = first_taken (counted_line (1 + length mirror.rows)) (counted_line (1 + length found.rows)) (opening_lines found) (part_lines found) before (texts (part_lines mirror) ++ middle) later o.read refl e in
+    let u = first_taken (heading_line mirror) (heading_line found) (part_lines found) (map line found.rows) (texts (part_lines mirror) ++ middle) (texts (map line mirror.rows) ++ middle) later refl refl t.1 in
+    let w = heading_tells mirror.space mirror.number (length mirror.rows) found.space found.number (length found.rows) n.space n.number (few (length mirror.rows) n.counted) s.space s.number (few (length found.rows) s.counted) (sym u.0) in
+    (w.1, behind_rows mirror.rows found.rows middle later w.2 u.1)

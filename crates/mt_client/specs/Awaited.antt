@@ -1,0 +1,112 @@
+-- Which lines a mirror waits for: an opening of one namespace, posts that follow it, and their end; or a refusal in the place of a line.
+-- A word with no source is this project's rule.
+use Rattle.std.specs.Prelude.{◌≡◌, ℕ, ◌+◌, ◌≤◌, ◌<◌, ◌^◌, true, List, [], ◌∷◌, ◌++◌, map, length, IsTrue, ◌⊎◌, Option, None}
+use Rattle.std.specs.List.{flat_map, AllByRecursion}
+use Rattle.mt_words.specs.Words.{number_in_text}
+use Rattle.mt_lines.specs.Lines.{Item}
+use Rattle.mt_skel.specs.Keyed.{rises}
+use Rattle.mt_info.specs.Table.{row_id}
+use Rattle.mt_info.specs.Laws.{IsRow}
+use Rattle.mt_info.specs.RowLine.{line}
+use Rattle.mt_info.specs.declared.row.Row.{Row}
+use Rattle.mt_events.specs.Posts.{PostView, IsPost, post_lines}
+use Rattle.mt_events.specs.Mirrors.{MirrorView, is_next, are_next}
+use Rattle.mt_client.specs.Reading.{texts}
+use Rattle.mt_client.specs.Mirroring.{IsRefusal, counted_line, part_lines, opening_lines}
+
+-- what is true of every namespace that a server shows: numbers of 64 bits, that of its lines too, and rows by rising ID
+pub record IsShown (m : MirrorView) : Type 0 where
+  pub space : m.space < 2 ^ 64
+  pub number : m.number < 2 ^ 64
+  pub counted : 1 + length m.rows < 2 ^ 64
+  pub rows : AllByRecursion IsRow m.rows
+  pub rising : IsTrue (rises row_id m.rows)
+
+-- the numbers of a mirror have 64 bits, and that of its lines too
+pub record IsNumbered (m : MirrorView) : Type 0 where
+  pub space : m.space < 2 ^ 64
+  pub number : m.number < 2 ^ 64
+  pub counted : 1 + length m.rows < 2 ^ 64
+
+-- the number that is the fourth of the words: how many lines stand behind the first line of a post
+abbrev pub fourth_number : List (List ℕ) → Option ℕ
+fourth_number (first ∷ second ∷ third ∷ fourth ∷ words) = number_in_text fourth
+fourth_number words = None
+
+-- one line, which refuses
+abbrev pub IsOneRefusal : List (List ℕ) → Type 0
+IsOneRefusal lines = (refusal : List ℕ) × IsRefusal refusal × (lines ≡ refusal ∷ [])
+
+-- one line that refuses, or lines of this kind
+abbrev pub IsRefusedOr : (List (List ℕ) → Type 0) → List (List ℕ) → Type 0
+IsRefusedOr kind lines = IsOneRefusal lines ⊎ kind lines
+
+-- the line of a row
+abbrev pub IsRowLine : List (List ℕ) → Type 0
+IsRowLine lines = (row : Row) × IsRow row × (lines ≡ line row ∷ [])
+
+-- the lines of so many rows
+pub record AreRowLines (count : ℕ) (lines : List (List ℕ)) : Type 0 where
+  pub rows : List Row
+  pub valid : AllByRecursion IsRow rows
+  pub many : length rows ≡ count
+  pub all : lines ≡ map line rows
+
+-- so many lines, which show this namespace
+pub record IsShownPart (space count : ℕ) (lines : List (List ℕ)) : Type 0 where
+  pub found : MirrorView
+  pub shown : IsShown found
+  pub of : found.space ≡ space
+  pub many : 1 + length found.rows ≡ count
+  pub all : lines ≡ part_lines found
+
+-- the lines of an opening of this namespace
+pub record IsOpening (space : ℕ) (lines : List (List ℕ)) : Type 0 where
+  pub found : MirrorView
+  pub shown : IsShown found
+  pub of : found.space ≡ space
+  pub all : lines ≡ opening_lines found
+
+-- the lines of a next post, and those that stand behind its first line
+pub record IsNextPost (mirror : MirrorView) (lines : List (List ℕ)) : Type 0 where
+  pub post : PostView
+  pub valid : IsPost post
+  pub next : is_next mirror post ≡ true
+  pub all : lines ≡ post_lines post
+
+abbrev pub IsBehind : List ℕ → MirrorView → List (List ℕ) → Type 0
+IsBehind first mirror others = IsNextPost mirror (first ∷ others)
+
+-- where the lines of a post come first, all of them are read, and no others
+abbrev pub TakesPost : List Item → List Item → Type 0
+TakesPost before after = (post : PostView) (rest : List Item) → IsPost post → before ≡ texts (post_lines post) ++ rest → after ≡ rest
+
+-- the same behind a first line
+abbrev pub TakesBehind : List ℕ → List Item → List Item → Type 0
+TakesBehind first before after = (post : PostView) (others : List (List ℕ)) (rest : List Item) → IsPost post → first ∷ others ≡ post_lines post → before ≡ texts others ++ rest → after ≡ rest
+
+-- the line behind so many posts: this end where all have come, or a refusal
+abbrev pub IsLast : List ℕ → ℕ → ℕ → List ℕ → Type 0
+IsLast end count taken last = ((taken ≡ count) × (last ≡ end)) ⊎ ((taken ≤ count) × IsRefusal last)
+
+-- the lines of so many posts of which each is the next one of the mirror that those before it have made, and this end; or of fewer, and a refusal
+pub record IsFollowing (end : List ℕ) (count : ℕ) (mirror : MirrorView) (lines : List (List ℕ)) : Type 0 where
+  pub posts : List PostView
+  pub last : List ℕ
+  pub all : lines ≡ flat_map post_lines posts ++ last ∷ []
+  pub valid : AllByRecursion IsPost posts
+  pub next : are_next mirror posts ≡ true
+  pub ends : IsLast end count (length posts) last
+
+-- the line that ends so many posts
+abbrev pub IsEnd : ℕ → List (List ℕ) → Type 0
+IsEnd count lines = lines ≡ counted_line count ∷ []
+
+-- the lines of an opening of this namespace and of so many posts that follow it, and their end; or a refusal behind the opening and some of the posts
+pub record IsMirroring (space count : ℕ) (lines : List (List ℕ)) : Type 0 where
+  pub found : MirrorView
+  pub others : List (List ℕ)
+  pub shown : IsShown found
+  pub of : found.space ≡ space
+  pub all : lines ≡ opening_lines found ++ others
+  pub following : IsFollowing (counted_line count) count found others

@@ -1,0 +1,118 @@
+-- What a mirror reads: the opening of a watcher of one namespace, posts that follow it, and their end.
+-- A word with no source is this project's rule.
+use Rattle.std.specs.Prelude.{◌≡◌, ℕ, ◌+◌, ◌≤◌, true, false, List, [], ◌∷◌, ◌++◌, map, length, Some, codes, decimal, ◌⊎◌}
+use Rattle.std.specs.List.{flat_map, join_with_byte}
+use Rattle.mt_lines.specs.Lines.{Item, Text}
+use Rattle.mt_info.specs.RowLine.{line}
+use Rattle.mt_events.specs.Posts.{PostView, post_text, ended}
+use Rattle.mt_events.specs.Mirrors.{MirrorView, are_next, mirrored_by}
+use Rattle.mt_events.specs.declared.opening.Opening.{Opening}
+use Rattle.mt_events.specs.declared.opening.Scope.TheVariants.{One}
+use Rattle.mt_session.specs.Answers.{count_text, opening_text, followed_text}
+use Rattle.mt_client.specs.Requests.{verdict, numbered_text}
+use Rattle.mt_client.specs.Reading.{texts, printed}
+
+-- the line of an answer `ok` with a number
+abbrev pub counted_line : ℕ → List ℕ
+counted_line n = codes "ok " ++ decimal n
+
+-- the words of the first line of a namespace: it, the number of its last post, and how many rows follow
+abbrev pub heading_words : ℕ → ℕ → ℕ → List (List ℕ)
+heading_words space number count = codes "space" ∷ decimal space ∷ decimal number ∷ decimal count ∷ []
+
+abbrev pub heading_line : MirrorView → List ℕ
+heading_line m = join_with_byte 32 (heading_words m.space m.number (length m.rows))
+
+-- the lines of a namespace
+abbrev pub part_lines : MirrorView → List (List ℕ)
+part_lines m = heading_line m ∷ map line m.rows
+
+-- the lines of what a watcher of one namespace finds
+abbrev pub opening_lines : MirrorView → List (List ℕ)
+opening_lines m = counted_line (1 + length m.rows) ∷ part_lines m
+
+-- the opening of a watcher of one namespace
+abbrev pub opening_with : MirrorView → Opening
+opening_with m = record { scope = One m.space; parts = record { space = m.space; number = m.number; table = m.rows } ∷ [] }
+
+-- a line that refuses
+abbrev pub IsRefusal : List ℕ → Type 0
+IsRefusal line = verdict line ≡ Some false
+
+-- posts of which each is the next one of the mirror that those before it have made, and the mirror that they make
+pub record Follows (posts : List PostView) (old new : MirrorView) : Type 0 where
+  pub are : are_next old posts ≡ true
+  pub make : new ≡ mirrored_by old posts
+
+-- these lines were read of an opening, and are its text
+pub record HasOpened (space : ℕ) (before after : List Item) (found : MirrorView) : Type 0 where
+  pub of : found.space ≡ space
+  pub read : before ≡ texts (opening_lines found) ++ after
+
+-- lines were read that are, behind a first line, the text of a next post
+pub record HasPosted (first : List ℕ) (before after : List Item) (old new : MirrorView) : Type 0 where
+  pub others : List (List ℕ)
+  pub post : PostView
+  pub read : before ≡ texts others ++ after
+  pub text : printed (first ∷ others) ≡ post_text post
+  pub follows : Follows (post ∷ []) old new
+
+-- lines were read that are the text of a next post
+pub record HasFollowed (before after : List Item) (old new : MirrorView) : Type 0 where
+  pub lines : List (List ℕ)
+  pub post : PostView
+  pub read : before ≡ texts lines ++ after
+  pub text : printed lines ≡ post_text post
+  pub follows : Follows (post ∷ []) old new
+
+-- lines were read that are the texts of so many next posts
+pub record HasFollowedSome (count : ℕ) (before after : List Item) (old new : MirrorView) : Type 0 where
+  pub lines : List (List ℕ)
+  pub posts : List PostView
+  pub read : before ≡ texts lines ++ after
+  pub text : printed lines ≡ flat_map post_text posts
+  pub many : length posts ≡ count
+  pub follows : Follows posts old new
+
+-- lines were read that are the texts of so many next posts, and their end
+pub record HasFollowedAll (count : ℕ) (before after : List Item) (old new : MirrorView) : Type 0 where
+  pub lines : List (List ℕ)
+  pub posts : List PostView
+  pub read : before ≡ texts lines ++ after
+  pub text : printed lines ≡ followed_text posts (count_text count)
+  pub many : length posts ≡ count
+  pub follows : Follows posts old new
+
+-- one line was read, which refuses
+pub record HasRefused (refusal : List ℕ) (before after : List Item) : Type 0 where
+  pub is : IsRefusal refusal
+  pub read : before ≡ Text refusal ∷ after
+
+-- lines were read that are the text of the opening of this namespace and of so many posts that follow it, and their end; the mirror that they make
+pub record HasMirrored (space count : ℕ) (before after : List Item) (made : MirrorView) : Type 0 where
+  pub found : MirrorView
+  pub posts : List PostView
+  pub lines : List (List ℕ)
+  pub of : found.space ≡ space
+  pub read : before ≡ texts lines ++ after
+  pub text : printed lines ≡ opening_text (opening_with found) ++ followed_text posts (count_text count)
+  pub many : length posts ≡ count
+  pub follows : Follows posts found made
+
+-- a refusal was read behind fewer posts than were to come
+pub record IsLeft (count : ℕ) (refusal : List ℕ) (before after : List Item) (old new : MirrorView) : Type 0 where
+  pub taken : ℕ
+  pub middle : List Item
+  pub few : taken ≤ count
+  pub some : HasFollowedSome taken before middle old new
+  pub refused : HasRefused refusal middle after
+
+-- a refusal was read in the place of an opening, or behind one and some of its posts
+abbrev pub IsRefused : ℕ → ℕ → List ℕ → List Item → List Item → Type 0
+IsRefused space count refusal before after =
+    HasRefused refusal before after
+    ⊎ ((found : MirrorView) × (made : MirrorView) × (middle : List Item) × HasOpened space before middle found × IsLeft count refusal middle after found made)
+
+-- the lines of the requests of a mirror
+abbrev pub requests_text : ℕ → ℕ → List ℕ
+requests_text space count = ended (numbered_text (codes "watch") space) ++ ended (numbered_text (codes "follow") count)

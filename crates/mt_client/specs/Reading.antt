@@ -1,0 +1,88 @@
+-- What a client has read of a connection, and what it has printed of it.
+-- A word with no source is this project's rule.
+use Rattle.std.specs.Prelude.{◌≡◌, ◌≢◌, ℕ, ◌<◌, List, ◌++◌, map, take, length, ◌⊎◌}
+use Rattle.std.specs.List.{flat_map}
+use Rattle.mt_lines.specs.Lines.{Item, Text, lines_of}
+use Rattle.mt_lines.specs.Reading.{bytes_left, limit_of}
+use Rattle.mt_lines.specs.declared.line.LineReader.{LineReader}
+use Rattle.mt_lines.specs.declared.line.ReadFault.{ReadFault}
+use Rattle.mt_lines.specs.declared.line.ReadFault.TheVariants.{Device, Interrupted, Endless, NoMemory as NoRoom}
+use Rattle.mt_lines.specs.declared.stream.Input.{Ghosts}
+use Rattle.mt_client.specs.declared.fault.ClientFault.{ClientFault}
+use Rattle.mt_client.specs.declared.fault.ClientFault.TheVariants.{Connection, Output, NoMemory}
+use Rattle.mt_events.specs.Posts.{ended}
+
+-- the lines that a reader has still to serve
+abbrev pub lines_left : {R : Type 0} {g : Ghosts R} → LineReader R g → List Item
+lines_left r = lines_of (limit_of r) (bytes_left r)
+
+-- a part of a text went out, or all of it
+pub record IsSentPart (text old new : List ℕ) : Type 0 where
+  pub count : ℕ
+  pub out : new ≡ old ++ take count text
+
+-- what a fault of a reader is to a client
+abbrev pub reading_fault : ReadFault → ClientFault
+reading_fault NoRoom = NoMemory
+reading_fault Device = Connection
+reading_fault Interrupted = Connection
+reading_fault Endless = Connection
+
+-- whole lines, as a reader serves them
+abbrev pub texts : List (List ℕ) → List Item
+texts lines = map Text lines
+
+-- lines as they are printed
+abbrev pub printed : List (List ℕ) → List ℕ
+printed lines = flat_map ended lines
+
+-- a text went out in part, and not all of it
+pub record IsCutOff (text old new : List ℕ) : Type 0 where
+  pub count : ℕ
+  pub out : new ≡ old ++ take count text
+  pub within : count < length text
+
+-- these lines were read, and printed
+pub record Passed (lines : List (List ℕ)) (before after : List Item) (old new : List ℕ) : Type 0 where
+  pub read : before ≡ texts lines ++ after
+  pub out : new ≡ old ++ printed lines
+
+-- lines of this kind were read
+abbrev pub HasRead : (List (List ℕ) → Type 0) → List Item → List Item → Type 0
+HasRead kind before after = (lines : List (List ℕ)) × kind lines × (before ≡ texts lines ++ after)
+
+-- lines of this kind were read, and printed
+abbrev pub HasPassed : (List (List ℕ) → Type 0) → List Item → List Item → List ℕ → List ℕ → Type 0
+HasPassed kind before after old new = (lines : List (List ℕ)) × kind lines × Passed lines before after old new
+
+-- whole lines were read and printed, as many as there were up to a fault
+pub record IsWhole (before : List Item) (old new : List ℕ) : Type 0 where
+  pub lines : List (List ℕ)
+  pub later : List Item
+  pub read : before ≡ texts lines ++ later
+  pub out : new ≡ old ++ printed lines
+
+-- a part of the lines that were read was printed, and not all of it
+pub record IsPart (before : List Item) (old new : List ℕ) : Type 0 where
+  pub lines : List (List ℕ)
+  pub later : List Item
+  pub read : before ≡ texts lines ++ later
+  pub out : IsCutOff (printed lines) old new
+
+-- what was printed up to a fault
+abbrev pub IsBroken : ClientFault → List Item → List ℕ → List ℕ → Type 0
+IsBroken Output before old new = IsPart before old new
+IsBroken Connection before old new = IsWhole before old new
+IsBroken NoMemory before old new = IsWhole before old new
+
+-- no lines of this kind come first
+abbrev pub NoneFirst : (List (List ℕ) → Type 0) → List Item → Type 0
+NoneFirst kind before = (lines : List (List ℕ)) (later : List Item) → kind lines → before ≢ texts lines ++ later
+
+-- so many lines
+abbrev pub AreSoMany : ℕ → List (List ℕ) → Type 0
+AreSoMany count lines = length lines ≡ count
+
+-- calls failed, or no lines of this kind come first
+abbrev pub IsCut : (List (List ℕ) → Type 0) → List Item → ℕ → ℕ → Type 0
+IsCut kind before old new = (old < new) ⊎ NoneFirst kind before

@@ -1,0 +1,104 @@
+//! One request and its answer.
+ghost use Rattle.std.specs.Prelude.{◌≡◌, Bool, ◌<◌, ◌++◌, ◌⊎◌, map, None, Err, IfOk, IfErr, OnOk, IsTrue};
+ghost use Rattle.mt_lines.specs.Reading.{failed_calls, fault_of, limit_of};
+ghost use Rattle.mt_events.specs.Posts.{ended};
+ghost use Rattle.mt_client.specs.Requests.{request_text, extent_of, IsAnswer};
+ghost use Rattle.mt_client.specs.Reading.{lines_left, HasPassed, IsBroken, IsSentPart, IsCut};
+
+use crate::answer::extent_of;
+use crate::fault::ClientFault;
+use crate::relay::pass_answer;
+use crate::request::{request_line, send_request};
+use mt_lines::line::LineReader;
+use mt_lines::stream::{Input, Output};
+use std::alloc::Global;
+
+/// Sends a line as it stands, with the line end that it is given without, and prints the lines that answer it.
+///
+/// The reader has met no fault, and serves what comes over the connection. As many lines are read as answer the
+/// request, and each is printed with its line end as it is read, a refusal too.
+///
+/// Answers whether the line that tells begins with `ok`, and not with `no`. Refused as `Connection` where the
+/// connection fails or ends early, or where what comes is no answer to the request, as `Output` where a line cannot
+/// be printed, and as `NoMemory` where there is none for a line of more than 8,192 bytes.
+pub fn ask_line<R: Input + Drop, W: Output, O: Output>(
+    lines: &mut LineReader<R>,
+    writer: &mut W,
+    line: &[u8],
+    out: &mut O,
+) -> Result<bool, ClientFault>
+    requires fresh { fault_of lines.old ≡ None }
+
+    // The whole line of the request went out, or a part of it up to a fault.
+    ensures sent { OnOk result (IsTrue W.tells
+        → W.written writer.new ≡ W.written writer.old ++ ended line.now) }
+    ensures part { IsTrue W.tells
+        → IsSentPart (ended line.now) (W.written writer.old) (W.written writer.new) }
+
+    // The lines that were read are a whole answer to the request, `ok` or `no` as is told, and these lines were
+    // printed. Up to a fault those that were read whole were printed, of the last a part where the output failed.
+    ensures answer { IfOk result (λ told. IsTrue R.tells → IsTrue O.tells
+        → HasPassed (λ all. IsAnswer (extent_of line.now) all told) (lines_left lines.old) (lines_left lines.new) (O.written out.old) (O.written out.new)) }
+    ensures broken { IsTrue R.tells → IsTrue O.tells → IfErr result
+        (λ fault. IsBroken fault (lines_left lines.old) (O.written out.old) (O.written out.new)) }
+
+    // `Connection` only where a call of the reader or the writer failed, or no whole answer to the request comes
+    // first, and `Output` only where a call of the output failed.
+    ensures connection { result ≡ Err ClientFault.Connection → IsTrue R.tells → IsTrue R.counts → IsTrue W.counts
+        → (W.failed writer.old < W.failed writer.new) ⊎ IsCut (λ all. (told : Bool) × IsAnswer (extent_of line.now) all told) (lines_left lines.old) (failed_calls lines.old) (failed_calls lines.new) }
+    ensures output { result ≡ Err ClientFault.Output → IsTrue O.counts
+        → O.failed out.old < O.failed out.new }
+
+    // What the next request finds.
+    ensures fresh { OnOk result (fault_of lines.new ≡ None) }
+    ensures limit { limit_of lines.new ≡ limit_of lines.old }
+{
+    send_request(writer, line)?;
+    pass_answer(lines, extent_of(line), out)
+}
+
+/// Sends the request of these words, each with its escapes, and prints the lines that answer it.
+///
+/// The reader has met no fault, and serves what comes over the connection. As many lines are read as answer the
+/// request, and each is printed with its line end as it is read, a refusal too.
+///
+/// Answers whether the line that tells begins with `ok`, and not with `no`. Refused as `Connection` where the
+/// connection fails or ends early, or where what comes is no answer to the request, as `Output` where a line cannot
+/// be printed, and as `NoMemory` where there is none for the request, or for a line of more
+/// than 8,192 bytes.
+pub fn ask<R: Input + Drop, W: Output, O: Output>(
+    alloc: Global,
+    lines: &mut LineReader<R>,
+    writer: &mut W,
+    words: &[&[u8]],
+    out: &mut O,
+) -> Result<bool, ClientFault>
+    requires fresh { fault_of lines.old ≡ None }
+
+    // The whole line of the request went out, or a part of it up to a fault.
+    ensures sent { OnOk result (IsTrue W.tells
+        → W.written writer.new ≡ W.written writer.old ++ ended (request_text (map (λ word. word.now) words.now))) }
+    ensures part { IsTrue W.tells
+        → IsSentPart (ended (request_text (map (λ word. word.now) words.now))) (W.written writer.old) (W.written writer.new) }
+
+    // The lines that were read are a whole answer to the request, `ok` or `no` as is told, and these lines were
+    // printed. Up to a fault those that were read whole were printed, of the last a part where the output failed.
+    ensures answer { IfOk result (λ told. IsTrue R.tells → IsTrue O.tells
+        → HasPassed (λ all. IsAnswer (extent_of (request_text (map (λ word. word.now) words.now))) all told) (lines_left lines.old) (lines_left lines.new) (O.written out.old) (O.written out.new)) }
+    ensures broken { IsTrue R.tells → IsTrue O.tells → IfErr result
+        (λ fault. IsBroken fault (lines_left lines.old) (O.written out.old) (O.written out.new)) }
+
+    // `Connection` only where a call of the reader or the writer failed, or no whole answer to the request comes
+    // first, and `Output` only where a call of the output failed.
+    ensures connection { result ≡ Err ClientFault.Connection → IsTrue R.tells → IsTrue R.counts → IsTrue W.counts
+        → (W.failed writer.old < W.failed writer.new) ⊎ IsCut (λ all. (told : Bool) × IsAnswer (extent_of (request_text (map (λ word. word.now) words.now))) all told) (lines_left lines.old) (failed_calls lines.old) (failed_calls lines.new) }
+    ensures output { result ≡ Err ClientFault.Output → IsTrue O.counts
+        → O.failed out.old < O.failed out.new }
+
+    // What the next request finds.
+    ensures fresh { OnOk result (fault_of lines.new ≡ None) }
+    ensures limit { limit_of lines.new ≡ limit_of lines.old }
+{
+    let line = request_line(alloc, words)?;
+    ask_line(lines, writer, line.as_slice(), out)
+}

@@ -1,0 +1,256 @@
+//! The table of a namespace, as its posts tell it to a client.
+ghost use Rattle.std.specs.Prelude.{◌≡◌, ◌≢◌, ◌⊎◌, ℕ, ◌+◌, ◌<◌, ◌≤◌, List, [], ◌∷◌, ◌++◌, true, false, Some, None, Ok, Err, IfOk, IfErr, IfSome, OnOk, OnErr, IsTrue, MatchBool, MatchOption};
+ghost use Rattle.mt_lines.specs.Reading.{failed_calls, fault_of, last_line, limit_of};
+ghost use Rattle.mt_session.specs.Answers.{table_text};
+ghost use Rattle.mt_events.specs.Mirrors.{MirrorView};
+ghost use Rattle.mt_events.specs.Posts.{ended};
+ghost use Rattle.mt_client.specs.Requests.{numbered_text, verdict};
+ghost use Rattle.mt_client.specs.Reading.{lines_left, texts, printed, IsSentPart, NoneFirst, IsCut};
+ghost use Rattle.mt_client.specs.Mirroring.{IsRefusal, counted_line, HasOpened, HasFollowed, HasFollowedAll, HasRefused, IsLeft, HasMirrored, requests_text, IsRefused};
+ghost use Rattle.mt_client.specs.Awaited.{IsNumbered, IsOneRefusal, IsRefusedOr, IsOpening, IsNextPost, TakesPost, IsFollowing, IsEnd, IsMirroring};
+
+use crate::answer::verdict;
+use crate::fault::ClientFault;
+use crate::opening::{read_count, read_part};
+use crate::posts::apply_post;
+use crate::relay::{next_text, print_line, print_text};
+use crate::request::send_request;
+use mt_events::mirror::Mirror;
+use mt_info::print::push_number;
+use mt_lines::line::LineReader;
+use mt_lines::stream::{Input, Output};
+use mt_session::text::Text;
+use std::alloc::{AllocError, Global};
+
+/// The line of a request that is a word and a number, without its line end. Fails for want of memory alone.
+fn numbered_line(alloc: Global, command: &[u8], number: u64) -> Result<Vec<u8>, AllocError>
+    ensures { IfOk result (λ line. line.items ≡ numbered_text command.now number) }
+{
+    let mut line = Vec::new(alloc);
+    line.extend_from_slice(command)?;
+    line.extend_from_slice(b" ")?;
+    push_number(&mut line, number)?;
+    Ok(line)
+}
+
+/// Sends a request that is a word and a number.
+fn send_numbered<W: Output>(
+    alloc: Global,
+    writer: &mut W,
+    command: &[u8],
+    number: u64,
+) -> Result<(), ClientFault>
+    ensures sent { OnOk result (IsTrue W.tells
+        → W.written writer.new ≡ W.written writer.old ++ ended (numbered_text command.now number)) }
+    ensures part { IsTrue W.tells
+        → IsSentPart (ended (numbered_text command.now number)) (W.written writer.old) (W.written writer.new) }
+    ensures kind { result ≢ Err ClientFault.Output }
+    ensures cause { result ≡ Err ClientFault.Connection → IsTrue W.counts → W.failed writer.old < W.failed writer.new }
+    ensures counted { IsTrue W.counts → W.failed writer.old ≤ W.failed writer.new }
+{
+    let line = numbered_line(alloc, command, number)?;
+    send_request(writer, line.as_slice())
+}
+
+/// Whether a line begins with `no`.
+fn is_refusal(line: &[u8]) -> bool
+    ensures { MatchBool result (IsRefusal line.now) (verdict line.now ≢ Some false) }
+{
+    matches!(verdict(line), Some(false))
+}
+
+/// What a watcher of one namespace found, or None where a refusal stands in its place, which the reader lends.
+fn read_opening<R: Input + Drop>(
+    alloc: Global,
+    lines: &mut LineReader<R>,
+    space: u64,
+) -> Result<Option<Mirror>, ClientFault>
+    requires fresh { fault_of lines.old ≡ None }
+    ensures found { IfOk result (λ found. IsTrue R.tells → MatchOption found
+        (HasRefused (last_line lines.new) (lines_left lines.old) (lines_left lines.new))
+        (λ mirror. HasOpened space (lines_left lines.old) (lines_left lines.new) mirror)) }
+    ensures fresh { OnOk result (fault_of lines.new ≡ None) }
+    ensures kind { result ≢ Err ClientFault.Output }
+    ensures numbered { IfOk result (λ found. IfSome found (λ mirror. IsNumbered mirror)) }
+    ensures unrefused { IfOk result (λ found. IsTrue R.tells → IfSome found (λ mirror. NoneFirst IsOneRefusal (lines_left lines.old))) }
+    ensures cut { result ≡ Err ClientFault.Connection → IsTrue R.tells → IsTrue R.counts
+        → IsCut (IsRefusedOr (IsOpening space)) (lines_left lines.old) (failed_calls lines.old) (failed_calls lines.new) }
+    ensures counted { IsTrue R.counts → failed_calls lines.old ≤ failed_calls lines.new }
+    ensures limit { limit_of lines.new ≡ limit_of lines.old }
+{
+    next_text(lines)?;
+    if is_refusal(lines.line()) {
+        return Ok(None);
+    }
+    match read_count(lines.line()) {
+        Some(count) => Ok(Some(read_part(alloc, lines, space, count)?)),
+        None => Err(ClientFault::Connection),
+    }
+}
+
+/// Applies the next post: false where a refusal stands in its place, which the reader lends.
+fn follow_post<R: Input + Drop>(
+    alloc: Global,
+    lines: &mut LineReader<R>,
+    mirror: &mut Mirror,
+) -> Result<bool, ClientFault>
+    requires fresh { fault_of lines.old ≡ None }
+    ensures followed { IfOk result (λ going. IsTrue R.tells → MatchBool going
+        (HasFollowed (lines_left lines.old) (lines_left lines.new) mirror.old mirror.new)
+        (HasRefused (last_line lines.new) (lines_left lines.old) (lines_left lines.new))) }
+    ensures unchanged { result ≡ Ok false → mirror.new ≡ mirror.old }
+    ensures fresh { OnOk result (fault_of lines.new ≡ None) }
+    ensures kind { result ≢ Err ClientFault.Output }
+    ensures taken { result ≡ Ok true → IsTrue R.tells → TakesPost (lines_left lines.old) (lines_left lines.new) }
+    ensures unrefused { result ≡ Ok true → IsTrue R.tells → NoneFirst IsOneRefusal (lines_left lines.old) }
+    ensures cut { result ≡ Err ClientFault.Connection → IsTrue R.tells → IsTrue R.counts
+        → IsCut (IsRefusedOr (IsNextPost mirror.old)) (lines_left lines.old) (failed_calls lines.old) (failed_calls lines.new) }
+    ensures counted { IsTrue R.counts → failed_calls lines.old ≤ failed_calls lines.new }
+    ensures limit { limit_of lines.new ≡ limit_of lines.old }
+{
+    next_text(lines)?;
+    if is_refusal(lines.line()) {
+        return Ok(false);
+    }
+    apply_post(alloc, lines, mirror)?;
+    Ok(true)
+}
+
+/// Whether a line is the end of so many posts.
+fn is_end(line: &[u8], count: u64) -> bool
+    ensures { MatchBool result (line.now ≡ counted_line count) (line.now ≢ counted_line count) }
+{
+    match read_count(line) {
+        Some(number) => number == count,
+        None => false,
+    }
+}
+
+/// Reads the line behind so many posts: false where it is a refusal, which the reader lends.
+fn read_end<R: Input + Drop>(lines: &mut LineReader<R>, count: u64) -> Result<bool, ClientFault>
+    requires fresh { fault_of lines.old ≡ None }
+    ensures ended { IfOk result (λ going. IsTrue R.tells → MatchBool going
+        (lines_left lines.old ≡ texts (counted_line count ∷ []) ++ lines_left lines.new)
+        (HasRefused (last_line lines.new) (lines_left lines.old) (lines_left lines.new))) }
+    ensures fresh { OnOk result (fault_of lines.new ≡ None) }
+    ensures kind { result ≢ Err ClientFault.Output }
+    ensures cut { result ≡ Err ClientFault.Connection → IsTrue R.tells → IsTrue R.counts
+        → IsCut (IsRefusedOr (IsEnd count)) (lines_left lines.old) (failed_calls lines.old) (failed_calls lines.new) }
+    ensures counted { IsTrue R.counts → failed_calls lines.old ≤ failed_calls lines.new }
+    ensures limit { limit_of lines.new ≡ limit_of lines.old }
+{
+    next_text(lines)?;
+    if is_refusal(lines.line()) {
+        return Ok(false);
+    }
+    if is_end(lines.line(), count) {
+        Ok(true)
+    } else {
+        Err(ClientFault::Connection)
+    }
+}
+
+/// Applies so many posts and reads the line behind them: false where a refusal stands in the place of a line, which
+/// the reader lends.
+fn follow_posts<R: Input + Drop>(
+    alloc: Global,
+    lines: &mut LineReader<R>,
+    mirror: &mut Mirror,
+    count: u64,
+) -> Result<bool, ClientFault>
+    requires fresh { fault_of lines.old ≡ None }
+    ensures followed { IfOk result (λ going. IsTrue R.tells → MatchBool going
+        (HasFollowedAll count (lines_left lines.old) (lines_left lines.new) mirror.old mirror.new)
+        (IsLeft count (last_line lines.new) (lines_left lines.old) (lines_left lines.new) mirror.old mirror.new)) }
+    ensures fresh { OnOk result (fault_of lines.new ≡ None) }
+    ensures kind { result ≢ Err ClientFault.Output }
+    ensures cut { result ≡ Err ClientFault.Connection → IsTrue R.tells → IsTrue R.counts
+        → IsCut (IsFollowing (counted_line count) count mirror.old) (lines_left lines.old) (failed_calls lines.old) (failed_calls lines.new) }
+    ensures counted { IsTrue R.counts → failed_calls lines.old ≤ failed_calls lines.new }
+    ensures limit { limit_of lines.new ≡ limit_of lines.old }
+{
+    'posts: for _post in 0..count {
+        if !follow_post(alloc, lines, mirror)? {
+            return Ok(false);
+        }
+    }
+    read_end(lines, count)
+}
+
+/// Prints the table of a mirror, as the server shows it.
+fn print_mirror<O: Output>(alloc: Global, out: &mut O, mirror: &Mirror) -> Result<(), ClientFault>
+    ensures printed { OnOk result (IsTrue O.tells
+        → O.written out.new ≡ O.written out.old ++ table_text mirror.now.number mirror.now.rows) }
+    ensures kept { OnErr result (result ≢ Err ClientFault.Output → IsTrue O.tells
+        → O.written out.new ≡ O.written out.old) }
+    ensures kind { result ≢ Err ClientFault.Connection }
+    ensures cause { result ≡ Err ClientFault.Output → IsTrue O.counts
+        → O.failed out.old < O.failed out.new }
+{
+    let text = Text::table(alloc, mirror.number(), mirror.table())?;
+    print_text(out, text.bytes())
+}
+
+/// Watches a namespace, follows so many posts of it, and prints `ok`, the count and the number of the table that they
+/// lead to, and its rows, as the server shows it.
+///
+/// The reader has met no fault, and serves what comes over the connection. Answers true where the table was printed,
+/// and false where a refusal was, that of the first request, or one that comes in the place of a post.
+///
+/// Refused as `Connection` where the connection fails or ends early, or where what comes is neither: the opening of
+/// another namespace, or of several, a post that is not the next one, or an end that counts other posts. Refused as
+/// `Output` where what was to be printed does not go out, and else as `NoMemory`. But for `Output` nothing was
+/// printed then.
+pub fn mirror<R: Input + Drop, W: Output, O: Output>(
+    alloc: Global,
+    lines: &mut LineReader<R>,
+    writer: &mut W,
+    space: u64,
+    count: u64,
+    out: &mut O,
+) -> Result<bool, ClientFault>
+    requires fresh { fault_of lines.old ≡ None }
+
+    // Where a table is printed, the lines that were read are the text of the namespace's opening and of so many
+    // posts that follow it; it is the table, and the number, that applying these posts to the opening gives.
+    ensures mirrored { result ≡ Ok true → IsTrue R.tells → IsTrue O.tells → (made : MirrorView)
+        × HasMirrored space count (lines_left lines.old) (lines_left lines.new) made
+        × (O.written out.new ≡ O.written out.old ++ table_text made.number made.rows) }
+
+    // Else a refusal was printed, that of the opening, or one behind some of the posts.
+    ensures refused { result ≡ Ok false → IsTrue R.tells → IsTrue O.tells → (refusal : List ℕ)
+        × IsRefused space count refusal (lines_left lines.old) (lines_left lines.new)
+        × (O.written out.new ≡ O.written out.old ++ ended refusal) }
+
+    // Both requests went out where a table is printed, and up to a refusal or a fault a part of them.
+    ensures sent { result ≡ Ok true → IsTrue W.tells
+        → W.written writer.new ≡ W.written writer.old ++ requests_text space count }
+    ensures part { IsTrue W.tells
+        → IsSentPart (requests_text space count) (W.written writer.old) (W.written writer.new) }
+
+    // `Connection` only where a call of the reader or the writer failed, or the lines do not begin with an opening of
+    // the namespace, so many posts that follow it, and their end, nor with a refusal in the place of one of these.
+    ensures connection { result ≡ Err ClientFault.Connection → IsTrue R.tells → IsTrue R.counts → IsTrue W.counts
+        → (W.failed writer.old < W.failed writer.new) ⊎ IsCut (IsRefusedOr (IsMirroring space count)) (lines_left lines.old) (failed_calls lines.old) (failed_calls lines.new) }
+
+    // Nothing was printed where the output did not fail, and `Output` comes only where a call of it failed.
+    ensures kept { IfErr result (λ fault. fault ≢ ClientFault.Output → IsTrue O.tells
+        → O.written out.new ≡ O.written out.old) }
+    ensures output { result ≡ Err ClientFault.Output → IsTrue O.counts
+        → O.failed out.old < O.failed out.new }
+    ensures fresh { OnOk result (fault_of lines.new ≡ None) }
+    ensures limit { limit_of lines.new ≡ limit_of lines.old }
+{
+    send_numbered(alloc, writer, b"watch", space)?;
+    let Some(mut mirror) = read_opening(alloc, lines, space)? else {
+        print_line(out, lines.line())?;
+        return Ok(false);
+    };
+    send_numbered(alloc, writer, b"follow", count)?;
+    if !follow_posts(alloc, lines, &mut mirror, count)? {
+        print_line(out, lines.line())?;
+        return Ok(false);
+    }
+    print_mirror(alloc, out, &mirror)?;
+    Ok(true)
+}

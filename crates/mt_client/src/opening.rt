@@ -1,0 +1,167 @@
+//! The table that a watcher of one namespace found.
+ghost use Rattle.std.specs.Prelude.{◌≡◌, ◌≢◌, ℕ, ◌+◌, ◌<◌, ◌≤◌, ◌^◌, ◌∷◌, ◌++◌, map, length, false, true, Some, None, Err, IfOk, IfSome, OnOk, IsTrue, MatchBool, MatchOption};
+ghost use Rattle.std.specs.List.{join_with_byte, AllByRecursion};
+ghost use Rattle.mt_lines.specs.Lines.{Text};
+ghost use Rattle.mt_lines.specs.Reading.{failed_calls, fault_of, limit_of};
+ghost use Rattle.mt_info.specs.Laws.{IsRow};
+ghost use Rattle.mt_info.specs.RowLine.{line};
+ghost use Rattle.mt_client.specs.Reading.{lines_left, texts, IsCut};
+ghost use Rattle.mt_client.specs.Mirroring.{counted_line, heading_words, part_lines};
+ghost use Rattle.mt_client.specs.Awaited.{IsNumbered, IsRowLine, AreRowLines, IsShownPart};
+
+use crate::fault::ClientFault;
+use crate::relay::next_text;
+use mt_events::mirror::Mirror;
+use mt_info::read::read_row;
+use mt_info::row::Row;
+use mt_info::table::Table;
+use mt_lines::line::LineReader;
+use mt_lines::stream::Input;
+use mt_mounts::mount::SpaceId;
+use mt_skel::fault::Fault;
+use mt_words::words::{Words, number, words};
+use std::alloc::Global;
+
+/// What the first line of a namespace says.
+#[derive(Clone, Copy)]
+struct Heading {
+    space: SpaceId,
+    number: u64,
+    count: u64,
+}
+
+/// The number of a line that is `ok` and a number.
+pub(crate) fn read_count(line: &[u8]) -> Option<u64>
+    ensures count { MatchOption result ((n : ℕ) → n < 2 ^ 64 → line.now ≢ counted_line n) (λ n. line.now ≡ counted_line n) }
+    ensures small { IfSome result (λ n. n < 2 ^ 64) }
+{
+    match line {
+        [b'o', b'k', b' ', digits @ ..] => number(digits),
+        _ => None,
+    }
+}
+
+/// The words of the first line of a namespace.
+fn read_heading_words(words: &mut Words<'_>) -> Option<Heading>
+    ensures heading { MatchOption result ((space number count : ℕ) → space < 2 ^ 64 → number < 2 ^ 64 → count < 2 ^ 64 → words.old ≢ heading_words space number count)
+        (λ heading. words.old ≡ heading_words heading.space heading.number heading.count) }
+    ensures small { IfSome result (λ heading. (heading.space < 2 ^ 64) × (heading.number < 2 ^ 64) × (heading.count < 2 ^ 64)) }
+{
+    let (Some(first), Some(space), Some(last), Some(count), None) = (
+        words.next(),
+        words.next(),
+        words.next(),
+        words.next(),
+        words.next(),
+    ) else {
+        return None;
+    };
+    if first != b"space".as_slice() {
+        return None;
+    }
+    Some(Heading {
+        space: number(space)?,
+        number: number(last)?,
+        count: number(count)?,
+    })
+}
+
+/// The first line of a namespace.
+fn read_heading(line: &[u8]) -> Option<Heading>
+    ensures heading { MatchOption result ((space number count : ℕ) → space < 2 ^ 64 → number < 2 ^ 64 → count < 2 ^ 64 → line.now ≢ join_with_byte 32 (heading_words space number count))
+        (λ heading. line.now ≡ join_with_byte 32 (heading_words heading.space heading.number heading.count)) }
+    ensures small { IfSome result (λ heading. (heading.space < 2 ^ 64) × (heading.number < 2 ^ 64) × (heading.count < 2 ^ 64)) }
+{
+    let mut words = words(line);
+    read_heading_words(&mut words)
+}
+
+/// The row that the next line says.
+fn read_row_line<R: Input + Drop>(
+    alloc: Global,
+    lines: &mut LineReader<R>,
+) -> Result<Row, ClientFault>
+    requires fresh { fault_of lines.old ≡ None }
+    ensures row { IfOk result (λ row. IsTrue R.tells
+        → lines_left lines.old ≡ Text (line row) ∷ lines_left lines.new) }
+    ensures fresh { OnOk result (fault_of lines.new ≡ None) }
+    ensures kind { result ≢ Err ClientFault.Output }
+    ensures valid { IfOk result (λ row. IsRow row) }
+    ensures cut { result ≡ Err ClientFault.Connection → IsTrue R.tells → IsTrue R.counts
+        → IsCut IsRowLine (lines_left lines.old) (failed_calls lines.old) (failed_calls lines.new) }
+    ensures counted { IsTrue R.counts → failed_calls lines.old ≤ failed_calls lines.new }
+    ensures limit { limit_of lines.new ≡ limit_of lines.old }
+{
+    next_text(lines)?;
+    match read_row(alloc, lines.line()) {
+        Ok(row) => Ok(row),
+        Err(Fault::NoMemory) => Err(ClientFault::NoMemory),
+        Err(_) => Err(ClientFault::Connection),
+    }
+}
+
+/// The rows that so many lines say.
+fn read_rows<R: Input + Drop>(
+    alloc: Global,
+    lines: &mut LineReader<R>,
+    count: u64,
+) -> Result<Vec<Row>, ClientFault>
+    requires fresh { fault_of lines.old ≡ None }
+    ensures rows { IfOk result (λ rows. IsTrue R.tells
+        → lines_left lines.old ≡ texts (map line rows.items) ++ lines_left lines.new) }
+    ensures many { IfOk result (λ rows. length rows.items ≡ count) }
+    ensures fresh { OnOk result (fault_of lines.new ≡ None) }
+    ensures kind { result ≢ Err ClientFault.Output }
+    ensures valid { IfOk result (λ rows. AllByRecursion IsRow rows.items) }
+    ensures cut { result ≡ Err ClientFault.Connection → IsTrue R.tells → IsTrue R.counts
+        → IsCut (AreRowLines count) (lines_left lines.old) (failed_calls lines.old) (failed_calls lines.new) }
+    ensures counted { IsTrue R.counts → failed_calls lines.old ≤ failed_calls lines.new }
+    ensures limit { limit_of lines.new ≡ limit_of lines.old }
+{
+    let mut rows = Vec::new(alloc);
+    'rows: for _row in 0..count {
+        rows.push(read_row_line(alloc, lines)?)?;
+    }
+    Ok(rows)
+}
+
+/// Whether the first line of a namespace is of this one, and is the first of so many lines.
+fn is_of(heading: Heading, space: SpaceId, count: u64) -> bool
+    ensures { MatchBool result ((heading.space ≡ space) × (1 + heading.count ≡ count)) (heading.space ≡ space → 1 + heading.count ≡ count → ⊥) }
+{
+    heading.space == space && heading.count.checked_add(1) == Some(count)
+}
+
+/// The namespace of a watcher, behind a first line that says how many lines it has.
+pub(crate) fn read_part<R: Input + Drop>(
+    alloc: Global,
+    lines: &mut LineReader<R>,
+    space: SpaceId,
+    count: u64,
+) -> Result<Mirror, ClientFault>
+    requires fresh { fault_of lines.old ≡ None }
+    ensures part { IfOk result (λ mirror. IsTrue R.tells
+        → lines_left lines.old ≡ texts (part_lines mirror) ++ lines_left lines.new) }
+    ensures space { IfOk result (λ mirror. mirror.space ≡ space) }
+    ensures many { IfOk result (λ mirror. 1 + length mirror.rows ≡ count) }
+    ensures fresh { OnOk result (fault_of lines.new ≡ None) }
+    ensures kind { result ≢ Err ClientFault.Output }
+    ensures numbered { IfOk result (λ mirror. IsNumbered mirror) }
+    ensures cut { result ≡ Err ClientFault.Connection → IsTrue R.tells → IsTrue R.counts
+        → IsCut (IsShownPart space count) (lines_left lines.old) (failed_calls lines.old) (failed_calls lines.new) }
+    ensures counted { IsTrue R.counts → failed_calls lines.old ≤ failed_calls lines.new }
+    ensures limit { limit_of lines.new ≡ limit_of lines.old }
+{
+    next_text(lines)?;
+    let Some(heading) = read_heading(lines.line()) else {
+        return Err(ClientFault::Connection);
+    };
+    if !is_of(heading, space, count) {
+        return Err(ClientFault::Connection);
+    }
+    let rows = read_rows(alloc, lines, heading.count)?;
+    match Table::from_rows(rows) {
+        Some(table) => Ok(Mirror::new(space, heading.number, table)),
+        None => Err(ClientFault::Connection),
+    }
+}

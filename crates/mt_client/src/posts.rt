@@ -1,0 +1,133 @@
+//! Posts as they are followed.
+ghost use Rattle.std.specs.Prelude.{◌≡◌, ◌≢◌, ℕ, ◌+◌, ◌<◌, ◌≤◌, ◌^◌, List, [], ◌∷◌, ◌++◌, length, false, Some, None, Err, OnOk, IsTrue};
+ghost use Rattle.mt_lines.specs.Reading.{failed_calls, fault_of, last_line, limit_of};
+ghost use Rattle.mt_words.specs.Words.{words};
+ghost use Rattle.mt_events.specs.Posts.{PostView, IsPost, post_text, ended};
+ghost use Rattle.mt_events.specs.Mirrors.{is_next};
+ghost use Rattle.mt_client.specs.Reading.{lines_left, texts, printed, AreSoMany, IsCut};
+ghost use Rattle.mt_client.specs.Mirroring.{Follows, HasPosted};
+ghost use Rattle.mt_client.specs.Awaited.{fourth_number, IsBehind, TakesBehind};
+
+use crate::fault::ClientFault;
+use crate::relay::next_text;
+use mt_events::mirror::Mirror;
+use mt_events::post::Post;
+use mt_events::read::read_post;
+use mt_lines::line::LineReader;
+use mt_lines::stream::Input;
+use mt_skel::fault::Fault;
+use mt_words::words::{number, words};
+use std::alloc::{AllocError, Global};
+
+/// How many lines follow the first line of a post: the number that is its fourth word.
+fn lines_of_event(line: &[u8]) -> Option<u64>
+    ensures { result ≡ fourth_number (words line.now) }
+{
+    let mut words = words(line);
+    let (Some(_), Some(_), Some(_), Some(count)) = (
+        words.next(),
+        words.next(),
+        words.next(),
+        words.next(),
+    ) else {
+        return None;
+    };
+    number(count)
+}
+
+/// Appends a line and its line end.
+fn push_line(text: &mut Vec<u8>, line: &[u8]) -> Result<(), AllocError>
+    ensures { OnOk result (text.new.items ≡ text.old.items ++ ended line.now) }
+{
+    text.extend_from_slice(line)?;
+    text.extend_from_slice(b"\n")?;
+    Ok(())
+}
+
+/// Appends so many lines that are read, each with its line end.
+fn push_lines<R: Input + Drop>(
+    text: &mut Vec<u8>,
+    lines: &mut LineReader<R>,
+    count: u64,
+) -> Result<(), ClientFault>
+    requires fresh { fault_of lines.old ≡ None }
+    ensures text { OnOk result (IsTrue R.tells → (all : List (List ℕ)) × (length all ≡ count)
+        × (lines_left lines.old ≡ texts all ++ lines_left lines.new)
+        × (text.new.items ≡ text.old.items ++ printed all)) }
+    ensures fresh { OnOk result (fault_of lines.new ≡ None) }
+    ensures kind { result ≢ Err ClientFault.Output }
+    ensures cut { result ≡ Err ClientFault.Connection → IsTrue R.tells → IsTrue R.counts
+        → IsCut (AreSoMany count) (lines_left lines.old) (failed_calls lines.old) (failed_calls lines.new) }
+    ensures counted { IsTrue R.counts → failed_calls lines.old ≤ failed_calls lines.new }
+    ensures limit { limit_of lines.new ≡ limit_of lines.old }
+{
+    'lines: for _line in 0..count {
+        next_text(lines)?;
+        push_line(text, lines.line())?;
+    }
+    Ok(())
+}
+
+/// What a fault of the mirror's calls is to a client.
+fn client_fault(fault: Fault) -> ClientFault
+    ensures kind { result ≢ ClientFault.Output }
+    ensures cause { result ≡ ClientFault.Connection → fault ≢ Fault.NoMemory }
+{
+    match fault {
+        Fault::NoMemory => ClientFault::NoMemory,
+        _ => ClientFault::Connection,
+    }
+}
+
+/// The namespace and the number of a post have 64 bits.
+fn know_numbers(post: &Post)
+    ensures space { post.now.space < 2 ^ 64 }
+    ensures number { post.now.number < 2 ^ 64 }
+{
+    let _space = post.space;
+    let _number = post.number;
+}
+
+/// Applies the post that a text says.
+fn apply_text(alloc: Global, mirror: &mut Mirror, text: &[u8]) -> Result<(), ClientFault>
+    ensures applied { OnOk result ((post : PostView) × (text.now ≡ post_text post) × Follows (post ∷ []) mirror.old mirror.new) }
+    ensures refused { result ≡ Err ClientFault.Connection → (post : PostView) → IsPost post → text.now ≡ post_text post → is_next mirror.old post ≡ false }
+    ensures kind { result ≢ Err ClientFault.Output }
+{
+    let post = match read_post(alloc, text) {
+        Ok(post) => post,
+        Err(fault) => return Err(client_fault(fault)),
+    };
+    know_numbers(&post);
+    match mirror.apply(&post) {
+        Ok(()) => Ok(()),
+        Err(fault) => Err(client_fault(fault)),
+    }
+}
+
+/// Applies the post of which the reader lends the first line.
+pub(crate) fn apply_post<R: Input + Drop>(
+    alloc: Global,
+    lines: &mut LineReader<R>,
+    mirror: &mut Mirror,
+) -> Result<(), ClientFault>
+    requires fresh { fault_of lines.old ≡ None }
+    ensures posted { OnOk result (IsTrue R.tells
+        → HasPosted (last_line lines.old) (lines_left lines.old) (lines_left lines.new) mirror.old mirror.new) }
+    ensures fresh { OnOk result (fault_of lines.new ≡ None) }
+    ensures kind { result ≢ Err ClientFault.Output }
+    ensures taken { OnOk result (IsTrue R.tells
+        → TakesBehind (last_line lines.old) (lines_left lines.old) (lines_left lines.new)) }
+    ensures cut { result ≡ Err ClientFault.Connection → IsTrue R.tells → IsTrue R.counts
+        → IsCut (IsBehind (last_line lines.old) mirror.old) (lines_left lines.old) (failed_calls lines.old) (failed_calls lines.new) }
+    ensures counted { IsTrue R.counts → failed_calls lines.old ≤ failed_calls lines.new }
+    ensures limit { limit_of lines.new ≡ limit_of lines.old }
+{
+    let Some(count) = lines_of_event(lines.line()) else {
+        return Err(ClientFault::Connection);
+    };
+    let mut text = Vec::new(alloc);
+    push_line(&mut text, lines.line())?;
+    push_lines(&mut text, lines, count)?;
+    apply_text(alloc, mirror, &text)
+}

@@ -1,0 +1,216 @@
+//! Lines of answers, printed as they are read.
+ghost use Rattle.std.specs.Prelude.{◌≡◌, ◌≢◌, Bool, ◌+◌, ◌<◌, ◌≤◌, [], ◌∷◌, ◌++◌, Some, None, Err, IfOk, IfErr, OnOk, OnErr, IsTrue};
+ghost use Rattle.mt_lines.specs.Lines.{Text};
+ghost use Rattle.mt_lines.specs.Reading.{failed_calls, fault_of, last_line, limit_of};
+ghost use Rattle.mt_events.specs.Posts.{ended};
+ghost use Rattle.mt_client.specs.Requests.{IsHeaded, IsFollowed, IsAnswer};
+ghost use Rattle.mt_client.specs.Reading.{lines_left, Passed, IsCutOff, IsBroken, AreSoMany, IsCut, HasPassed, reading_fault};
+
+use crate::answer::{Extent, lines_behind, verdict};
+use crate::fault::ClientFault;
+use crate::request::send_line;
+use mt_lines::line::{Line, LineReader, ReadFault};
+use mt_lines::stream::{Input, Output, send};
+
+/// The most lines of an answer that is followed, this project's rule.
+const MOST_LINES: u64 = u64::MAX;
+
+/// What a fault of the reader is to a client.
+fn reading_fault(fault: ReadFault) -> ClientFault
+    ensures { result ≡ reading_fault fault }
+{
+    match fault {
+        ReadFault::NoMemory => ClientFault::NoMemory,
+        ReadFault::Device | ReadFault::Interrupted | ReadFault::Endless => ClientFault::Connection,
+    }
+}
+
+/// Reads a whole line, which the reader then lends.
+pub(crate) fn next_text<R: Input + Drop>(lines: &mut LineReader<R>) -> Result<(), ClientFault>
+    requires fresh { fault_of lines.old ≡ None }
+    ensures text { OnOk result (IsTrue R.tells
+        → lines_left lines.old ≡ Text (last_line lines.new) ∷ lines_left lines.new) }
+    ensures fresh { OnOk result (fault_of lines.new ≡ None) }
+    ensures kind { result ≢ Err ClientFault.Output }
+    ensures cut { result ≡ Err ClientFault.Connection → IsTrue R.tells → IsTrue R.counts
+        → IsCut (AreSoMany 1) (lines_left lines.old) (failed_calls lines.old) (failed_calls lines.new) }
+    ensures counted { IsTrue R.counts → failed_calls lines.old ≤ failed_calls lines.new }
+    ensures limit { limit_of lines.new ≡ limit_of lines.old }
+{
+    match lines.next() {
+        Ok(Line::Text) => Ok(()),
+        Ok(Line::TooLong) => Err(ClientFault::Connection),
+        Ok(Line::Unended) => Err(ClientFault::Connection),
+        Ok(Line::End) => Err(ClientFault::Connection),
+        Err(fault) => Err(reading_fault(fault)),
+    }
+}
+
+/// Prints a text. Refused as `Output` where a write fails, and then a part of it, not all, is out.
+pub fn print_text<O: Output>(out: &mut O, text: &[u8]) -> Result<(), ClientFault>
+    ensures printed { OnOk result (IsTrue O.tells
+        → O.written out.new ≡ O.written out.old ++ text.now) }
+    ensures cut { OnErr result (IsTrue O.tells
+        → IsCutOff text.now (O.written out.old) (O.written out.new)) }
+    ensures kind { IfErr result (λ fault. fault ≡ ClientFault.Output) }
+    ensures cause { OnErr result (IsTrue O.counts → O.failed out.old < O.failed out.new) }
+    ensures counted { IsTrue O.counts → O.failed out.old ≤ O.failed out.new }
+{
+    match send(out, text) {
+        Ok(()) => Ok(()),
+        Err(_) => Err(ClientFault::Output),
+    }
+}
+
+/// Prints a line and its line end.
+pub(crate) fn print_line<O: Output>(out: &mut O, line: &[u8]) -> Result<(), ClientFault>
+    ensures printed { OnOk result (IsTrue O.tells
+        → O.written out.new ≡ O.written out.old ++ ended line.now) }
+    ensures cut { OnErr result (IsTrue O.tells
+        → IsCutOff (ended line.now) (O.written out.old) (O.written out.new)) }
+    ensures kind { IfErr result (λ fault. fault ≡ ClientFault.Output) }
+    ensures cause { OnErr result (IsTrue O.counts → O.failed out.old < O.failed out.new) }
+    ensures counted { IsTrue O.counts → O.failed out.old ≤ O.failed out.new }
+{
+    match send_line(out, line) {
+        Ok(()) => Ok(()),
+        Err(_) => Err(ClientFault::Output),
+    }
+}
+
+/// Reads a line and prints it.
+fn pass_line<R: Input + Drop, O: Output>(
+    lines: &mut LineReader<R>,
+    out: &mut O,
+) -> Result<(), ClientFault>
+    requires fresh { fault_of lines.old ≡ None }
+    ensures passed { OnOk result (IsTrue R.tells → IsTrue O.tells
+        → Passed (last_line lines.new ∷ []) (lines_left lines.old) (lines_left lines.new) (O.written out.old) (O.written out.new)) }
+    ensures came { OnOk result (IsTrue R.tells
+        → lines_left lines.old ≡ Text (last_line lines.new) ∷ lines_left lines.new) }
+    ensures fresh { OnOk result (fault_of lines.new ≡ None) }
+    ensures broken { IsTrue R.tells → IsTrue O.tells → IfErr result
+        (λ fault. IsBroken fault (lines_left lines.old) (O.written out.old) (O.written out.new)) }
+    ensures cut { result ≡ Err ClientFault.Connection → IsTrue R.tells → IsTrue R.counts
+        → IsCut (AreSoMany 1) (lines_left lines.old) (failed_calls lines.old) (failed_calls lines.new) }
+    ensures cause { result ≡ Err ClientFault.Output → IsTrue O.counts
+        → O.failed out.old < O.failed out.new }
+    ensures read { IsTrue R.counts → failed_calls lines.old ≤ failed_calls lines.new }
+    ensures printed { IsTrue O.counts → O.failed out.old ≤ O.failed out.new }
+    ensures limit { limit_of lines.new ≡ limit_of lines.old }
+{
+    next_text(lines)?;
+    print_line(out, lines.line())
+}
+
+/// Reads so many lines, and prints each.
+fn pass_lines<R: Input + Drop, O: Output>(
+    lines: &mut LineReader<R>,
+    out: &mut O,
+    count: u64,
+) -> Result<(), ClientFault>
+    requires fresh { fault_of lines.old ≡ None }
+    ensures passed { OnOk result (IsTrue R.tells → IsTrue O.tells
+        → HasPassed (AreSoMany count) (lines_left lines.old) (lines_left lines.new) (O.written out.old) (O.written out.new)) }
+    ensures fresh { OnOk result (fault_of lines.new ≡ None) }
+    ensures broken { IsTrue R.tells → IsTrue O.tells → IfErr result
+        (λ fault. IsBroken fault (lines_left lines.old) (O.written out.old) (O.written out.new)) }
+    ensures cut { result ≡ Err ClientFault.Connection → IsTrue R.tells → IsTrue R.counts
+        → IsCut (AreSoMany count) (lines_left lines.old) (failed_calls lines.old) (failed_calls lines.new) }
+    ensures cause { result ≡ Err ClientFault.Output → IsTrue O.counts
+        → O.failed out.old < O.failed out.new }
+    ensures read { IsTrue R.counts → failed_calls lines.old ≤ failed_calls lines.new }
+    ensures printed { IsTrue O.counts → O.failed out.old ≤ O.failed out.new }
+    ensures limit { limit_of lines.new ≡ limit_of lines.old }
+{
+    'passing: for _line in 0..count {
+        pass_line(lines, out)?;
+    }
+    Ok(())
+}
+
+/// Reads an answer of which the first line tells how many follow, and prints its lines.
+fn pass_headed<R: Input + Drop, O: Output>(
+    lines: &mut LineReader<R>,
+    extent: Extent,
+    out: &mut O,
+) -> Result<bool, ClientFault>
+    requires fresh { fault_of lines.old ≡ None }
+    ensures passed { IfOk result (λ told. IsTrue R.tells → IsTrue O.tells
+        → HasPassed (λ all. IsHeaded extent all told) (lines_left lines.old) (lines_left lines.new) (O.written out.old) (O.written out.new)) }
+    ensures fresh { OnOk result (fault_of lines.new ≡ None) }
+    ensures broken { IsTrue R.tells → IsTrue O.tells → IfErr result
+        (λ fault. IsBroken fault (lines_left lines.old) (O.written out.old) (O.written out.new)) }
+    ensures cut { result ≡ Err ClientFault.Connection → IsTrue R.tells → IsTrue R.counts
+        → IsCut (λ all. (told : Bool) × IsHeaded extent all told) (lines_left lines.old) (failed_calls lines.old) (failed_calls lines.new) }
+    ensures cause { result ≡ Err ClientFault.Output → IsTrue O.counts
+        → O.failed out.old < O.failed out.new }
+    ensures read { IsTrue R.counts → failed_calls lines.old ≤ failed_calls lines.new }
+    ensures printed { IsTrue O.counts → O.failed out.old ≤ O.failed out.new }
+    ensures limit { limit_of lines.new ≡ limit_of lines.old }
+{
+    next_text(lines)?;
+    let Some(told) = verdict(lines.line()) else {
+        return Err(ClientFault::Connection);
+    };
+    let Some(count) = lines_behind(extent, told, lines.line()) else {
+        return Err(ClientFault::Connection);
+    };
+    print_line(out, lines.line())?;
+    pass_lines(lines, out, count)?;
+    Ok(told)
+}
+
+/// Reads lines up to the first that begins with `ok` or `no`, and prints each.
+fn pass_followed<R: Input + Drop, O: Output>(
+    lines: &mut LineReader<R>,
+    out: &mut O,
+) -> Result<bool, ClientFault>
+    requires fresh { fault_of lines.old ≡ None }
+    ensures passed { IfOk result (λ told. IsTrue R.tells → IsTrue O.tells
+        → HasPassed (λ all. IsFollowed all told) (lines_left lines.old) (lines_left lines.new) (O.written out.old) (O.written out.new)) }
+    ensures fresh { OnOk result (fault_of lines.new ≡ None) }
+    ensures broken { IsTrue R.tells → IsTrue O.tells → IfErr result
+        (λ fault. IsBroken fault (lines_left lines.old) (O.written out.old) (O.written out.new)) }
+    ensures cut { result ≡ Err ClientFault.Connection → IsTrue R.tells → IsTrue R.counts
+        → IsCut (λ all. (told : Bool) × IsFollowed all told) (lines_left lines.old) (failed_calls lines.old) (failed_calls lines.new) }
+    ensures cause { result ≡ Err ClientFault.Output → IsTrue O.counts
+        → O.failed out.old < O.failed out.new }
+    ensures read { IsTrue R.counts → failed_calls lines.old ≤ failed_calls lines.new }
+    ensures printed { IsTrue O.counts → O.failed out.old ≤ O.failed out.new }
+    ensures limit { limit_of lines.new ≡ limit_of lines.old }
+{
+    'following: for _line in 0..MOST_LINES {
+        pass_line(lines, out)?;
+        if let Some(told) = verdict(lines.line()) {
+            return Ok(told);
+        }
+    }
+    Err(ClientFault::Connection)
+}
+
+/// Reads the answer to a request and prints its lines: whether it is `ok`.
+pub(crate) fn pass_answer<R: Input + Drop, O: Output>(
+    lines: &mut LineReader<R>,
+    extent: Extent,
+    out: &mut O,
+) -> Result<bool, ClientFault>
+    requires fresh { fault_of lines.old ≡ None }
+    ensures passed { IfOk result (λ told. IsTrue R.tells → IsTrue O.tells
+        → HasPassed (λ all. IsAnswer extent all told) (lines_left lines.old) (lines_left lines.new) (O.written out.old) (O.written out.new)) }
+    ensures fresh { OnOk result (fault_of lines.new ≡ None) }
+    ensures broken { IsTrue R.tells → IsTrue O.tells → IfErr result
+        (λ fault. IsBroken fault (lines_left lines.old) (O.written out.old) (O.written out.new)) }
+    ensures cut { result ≡ Err ClientFault.Connection → IsTrue R.tells → IsTrue R.counts
+        → IsCut (λ all. (told : Bool) × IsAnswer extent all told) (lines_left lines.old) (failed_calls lines.old) (failed_calls lines.new) }
+    ensures cause { result ≡ Err ClientFault.Output → IsTrue O.counts
+        → O.failed out.old < O.failed out.new }
+    ensures read { IsTrue R.counts → failed_calls lines.old ≤ failed_calls lines.new }
+    ensures printed { IsTrue O.counts → O.failed out.old ≤ O.failed out.new }
+    ensures limit { limit_of lines.new ≡ limit_of lines.old }
+{
+    match extent {
+        Extent::Followed => pass_followed(lines, out),
+        Extent::Lone | Extent::Counted => pass_headed(lines, extent, out),
+    }
+}

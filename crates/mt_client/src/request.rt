@@ -1,0 +1,75 @@
+//! The lines of requests, and sending them.
+ghost use Rattle.std.specs.Prelude.{◌≡◌, ◌≤◌, ◌<◌, ◌++◌, ◌∷◌, map, IfOk, IfErr, OnOk, OnErr, IsTrue};
+ghost use Rattle.std.specs.List.{flat_map};
+ghost use Rattle.mt_skel.specs.Escapes.{escaped};
+ghost use Rattle.mt_events.specs.Posts.{ended};
+ghost use Rattle.mt_client.specs.Requests.{request_text};
+ghost use Rattle.mt_client.specs.Reading.{IsCutOff};
+
+use crate::fault::ClientFault;
+use mt_lines::stream::{Cut, Output, send};
+use mt_skel::escape::push_escaped;
+use std::alloc::{AllocError, Global};
+
+/// Appends a word with its escapes behind a space.
+fn push_word(line: &mut Vec<u8>, word: &[u8]) -> Result<(), AllocError>
+    ensures { OnOk result (line.new.items ≡ line.old.items ++ 32 ∷ escaped word.now) }
+{
+    line.push(b' ')?;
+    push_escaped(line, word)?;
+    Ok(())
+}
+
+/// Appends words with their escapes, each behind a space.
+fn push_words(line: &mut Vec<u8>, words: &[&[u8]]) -> Result<(), AllocError>
+    ensures { OnOk result (line.new.items ≡ line.old.items ++ flat_map (λ word. 32 ∷ escaped word.now) words.now) }
+{
+    'words: for word in words {
+        push_word(line, word)?;
+    }
+    Ok(())
+}
+
+/// The line of a request, without its line end: its words, each with its escapes, between single spaces. Fails for
+/// want of memory alone.
+pub fn request_line(alloc: Global, words: &[&[u8]]) -> Result<Vec<u8>, AllocError>
+    ensures { IfOk result (λ line. line.items ≡ request_text (map (λ word. word.now) words.now)) }
+{
+    let mut line = Vec::new(alloc);
+    let Some((first, others)) = words.split_first() else {
+        return Ok(line);
+    };
+    push_escaped(&mut line, first)?;
+    push_words(&mut line, others)?;
+    Ok(line)
+}
+
+/// Sends a line and its line end. After a cut, a part of them went out, and not all.
+pub(crate) fn send_line<W: Output>(writer: &mut W, line: &[u8]) -> Result<(), Cut>
+    ensures sent { OnOk result (IsTrue W.tells
+        → W.written writer.new ≡ W.written writer.old ++ ended line.now) }
+    ensures cut { OnErr result (IsTrue W.tells
+        → IsCutOff (ended line.now) (W.written writer.old) (W.written writer.new)) }
+    ensures cause { OnErr result (IsTrue W.counts → W.failed writer.old < W.failed writer.new) }
+    ensures counted { IsTrue W.counts → W.failed writer.old ≤ W.failed writer.new }
+{
+    send(writer, line)?;
+    send(writer, b"\n")?;
+    Ok(())
+}
+
+/// Sends a line and its line end. After a fault, which is `Connection`, a part of them went out, and not all.
+pub fn send_request<W: Output>(writer: &mut W, line: &[u8]) -> Result<(), ClientFault>
+    ensures sent { OnOk result (IsTrue W.tells
+        → W.written writer.new ≡ W.written writer.old ++ ended line.now) }
+    ensures cut { OnErr result (IsTrue W.tells
+        → IsCutOff (ended line.now) (W.written writer.old) (W.written writer.new)) }
+    ensures kind { IfErr result (λ fault. fault ≡ ClientFault.Connection) }
+    ensures cause { OnErr result (IsTrue W.counts → W.failed writer.old < W.failed writer.new) }
+    ensures counted { IsTrue W.counts → W.failed writer.old ≤ W.failed writer.new }
+{
+    match send_line(writer, line) {
+        Ok(()) => Ok(()),
+        Err(_) => Err(ClientFault::Connection),
+    }
+}

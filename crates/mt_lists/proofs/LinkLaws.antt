@@ -1,0 +1,103 @@
+-- What the writes of a call make of the two tables.
+use Rattle.std.proofs.Common.{◌≡◌, ℕ, true, cond, not, eqb, nat_eq, List, [], ◌∷◌, Option, Some, None, refl, sym, ap, ◌∙◌, arith}
+use Rattle.std.specs.Option.{option_map, option_and_then}
+use Rattle.std.proofs.lemmas.Bool.Decides.{nat_tests}
+use Rattle.indexmap.specs.IndexMap.{get}
+use Rattle.mt_skel.specs.Keyed.{row_at, put, rises}
+use Rattle.mt_skel.proofs.KeyedLaws.{rises-put, rises-filter}
+use Rattle.mt_lists.specs.declared.entries.Entry.{Entry}
+use Rattle.mt_lists.specs.declared.heads.Head.{Head}
+use Rattle.mt_lists.specs.Lists.{ListRow, id_of, ids, above, without_id, names}
+use Rattle.mt_lists.specs.Links.{Index, row_of, rows_of, below, head_of, entry_of, entry_at, given_before, given_after, grown, shrunk, IsLinked}
+use Rattle.mt_lists.proofs.NeighbourLaws.{head-some}
+use Rattle.mt_lists.proofs.EntryLaws.{written, entry-put, heads-put, entry-less, heads-less, in-own}
+use Rattle.mt_lists.proofs.TableLaws.{rises-rows, row-rows, rows-told, rows-same, linked-told}
+
+written-told : (pb b pa a : Option ℕ) (f g e d : ℕ → Option Entry) → ((k : ℕ) → f k ≡ given_before pb b g k) → ((k : ℕ) → g k ≡ given_after pa a e k) → ((k : ℕ) → e k ≡ d k) → (q : ℕ) → f q ≡ written pb b pa a q d
+written-told pb b pa a f g e d w_b w_a same q =
+    w_b q ∙ ap (λ o. cond (names pb q) (option_map (λ (x : Entry). record x { before = b }) o) o)
+    (w_a q ∙ ap (λ o. cond (names pa q) (option_map (λ (x : Entry). record x { after = a }) o) o) (same q))
+
+-- an ID is put into the list of a number
+module _ (m : Index Entry) (heads : Index Head) (x : IsLinked m heads) (id n : ℕ) (absent : row_at id_of id (rows_of m) ≡ None) (b a : Option ℕ)
+    (low : b ≡ below id (ids (rows_of m) n)) (high : a ≡ above id (ids (rows_of m) n)) (put_m after_m before_m : Index Entry)
+    (puts : (k : ℕ) → get nat_eq put_m k ≡ cond (nat_eq id k) (Some (record { number = n; before = b; after = a })) (get nat_eq m k))
+    (sets_after : (k : ℕ) → get nat_eq after_m k ≡ given_after b (Some id) (get nat_eq put_m) k)
+    (sets_before : (k : ℕ) → get nat_eq before_m k ≡ given_before a (Some id) (get nat_eq after_m) k) where
+  new_entry : (k : ℕ) → get nat_eq put_m k ≡ cond (nat_eq id k) (Some (record { number = n; before = below id (ids (rows_of m) n); after = above id (ids (rows_of m) n) })) (entry_at (rows_of m) k)
+  new_entry k = puts k ∙ go (low) (high) ∙ ap (cond (nat_eq id k) (Some (record { number = n; before = below id (ids (rows_of m) n); after = above id (ids (rows_of m) n) }))) (x.entries_told k)
+    where
+      go : {b' a' : Option ℕ} → b ≡ b' → a ≡ a' → ◌≡◌ {A = Option Entry} (cond (nat_eq id k) (Some (record { number = n; before = b; after = a })) (get nat_eq m k)) (cond (nat_eq id k) (Some (record { number = n; before = b'; after = a' })) (get nat_eq m k))
+      go p q = λ i. cond (nat_eq id k) (Some (record { number = n; before = p i; after = q i })) (get nat_eq m k)
+
+  told-more : (q : ℕ) → get nat_eq before_m q ≡ entry_at (put id_of (record { id = id; number = n }) (rows_of m)) q
+  told-more q =
+      written-told a (Some id) b (Some id) (get nat_eq before_m) (get nat_eq after_m) (get nat_eq put_m) _ sets_before sets_after new_entry q
+      ∙ (λ i. written (high i) (Some id) (low i) (Some id) q (λ k. cond (nat_eq id k) (Some (record { number = n; before = below id (ids (rows_of m) n); after = above id (ids (rows_of m) n) })) (entry_at (rows_of m) k)))
+      ∙ sym (entry-put (rows_of m) (rises-rows m) (record { id = id; number = n }) absent q)
+
+  rises-more : rises id_of (put id_of (record { id = id; number = n }) (rows_of m)) ≡ true
+  rises-more = rises-put id_of (record { id = id; number = n }) (rows_of m) (rises-rows m)
+
+  pub rows-more : rows_of before_m ≡ put id_of (record { id = id; number = n }) (rows_of m)
+  rows-more = rows-told before_m (put id_of (record { id = id; number = n }) (rows_of m)) rises-more told-more
+
+  pub linked-more : (grown_heads : Index Head) → ((k : ℕ) → get nat_eq grown_heads k ≡ cond (nat_eq n k) (Some (grown id (get nat_eq heads n))) (get nat_eq heads k)) → IsLinked before_m grown_heads
+  linked-more grown_heads grows =
+      linked-told before_m (put id_of (record { id = id; number = n }) (rows_of m)) rises-more told-more grown_heads
+      (λ k. grows k ∙ (λ i. cond (nat_eq n k) (Some (grown id (x.heads_told n i))) (x.heads_told k i)) ∙ sym (heads-put (rows_of m) (rises-rows m) (record { id = id; number = n }) absent k))
+
+-- an ID is taken out of the list of its number
+module _ (m : Index Entry) (heads : Index Head) (x : IsLinked m heads) (id : ℕ) (entry : Entry) (there : get nat_eq m id ≡ Some entry) where
+  row-there : row_at id_of id (rows_of m) ≡ Some (row_of id entry)
+  row-there = row-rows m id ∙ ap (option_map (row_of id)) there
+
+  entry-is : Some entry ≡ Some (entry_of (rows_of m) (row_of id entry))
+  entry-is = sym there ∙ x.entries_told id ∙ ap (option_map (entry_of (rows_of m))) row-there
+
+  low-is : entry.before ≡ below id (ids (rows_of m) entry.number)
+  low-is = let e = entry-is in let v : entry ≡ entry_of (rows_of m) (row_of id entry) = cc in ap (λ (y : Entry). y.before) v
+
+  high-is : entry.after ≡ above id (ids (rows_of m) entry.number)
+  high-is = let e = entry-is in let v : entry ≡ entry_of (rows_of m) (row_of id entry) = cc in ap (λ (y : Entry). y.after) v
+
+  -- its list has a head
+  pub head-there : get nat_eq heads entry.number ≡ None → ⊥
+  head-there none = head-some id (ids (rows_of m) entry.number) (in-own (rows_of m) (rises-rows m) id (row_of id entry) row-there) (sym (x.heads_told entry.number) ∙ none)
+
+  module _ (cut_m after_m before_m : Index Entry)
+      (cuts : (k : ℕ) → get nat_eq cut_m k ≡ cond (nat_eq id k) None (get nat_eq m k))
+      (sets_after : (k : ℕ) → get nat_eq after_m k ≡ given_after entry.before entry.after (get nat_eq cut_m) k)
+      (sets_before : (k : ℕ) → get nat_eq before_m k ≡ given_before entry.after entry.before (get nat_eq after_m) k) where
+    told-less : (q : ℕ) → get nat_eq before_m q ≡ entry_at (without_id id (rows_of m)) q
+    told-less q =
+        written-told entry.after entry.before entry.before entry.after (get nat_eq before_m) (get nat_eq after_m) (get nat_eq cut_m) (λ k. cond (nat_eq id k) None (entry_at (rows_of m) k)) sets_before sets_after
+        (λ k. cuts k ∙ ap (cond (nat_eq id k) None) (x.entries_told k)) q
+        ∙ (λ i. written (high-is i) (low-is i) (low-is i) (high-is i) q (λ k. cond (nat_eq id k) None (entry_at (rows_of m) k)))
+        ∙ sym (entry-less (rows_of m) (rises-rows m) id (row_of id entry) row-there q)
+
+    rises-less : rises id_of (without_id id (rows_of m)) ≡ true
+    rises-less = rises-filter id_of (λ (r : ListRow). not (eqb id r.id)) (rows_of m) (rises-rows m)
+
+    pub rows-less : rows_of before_m ≡ without_id id (rows_of m)
+    rows-less = rows-told before_m (without_id id (rows_of m)) rises-less told-less
+
+    pub linked-less : (shrunk_heads : Index Head) (head : Head) → get nat_eq heads entry.number ≡ Some head
+        → ((k : ℕ) → get nat_eq shrunk_heads k ≡ cond (nat_eq entry.number k) (shrunk id entry.before entry.after head) (get nat_eq heads k)) → IsLinked before_m shrunk_heads
+    linked-less shrunk_heads head at shrinks =
+        linked-told before_m (without_id id (rows_of m)) rises-less told-less shrunk_heads
+        (λ k. shrinks k
+        ∙ (λ i. cond (nat_eq entry.number k) (shrunk id (low-is i) (high-is i) head) (x.heads_told k i))
+        ∙ ap (λ o. cond (nat_eq entry.number k) (option_and_then (shrunk id (below id (ids (rows_of m) entry.number)) (above id (ids (rows_of m) entry.number))) o) (head_of (ids (rows_of m) k))) (sym at ∙ x.heads_told entry.number)
+        ∙ sym (heads-less (rows_of m) (rises-rows m) id (row_of id entry) row-there k))
+
+without-absent : (id : ℕ) (rows : List ListRow) → row_at id_of id rows ≡ None → without_id id rows ≡ rows
+without-absent id [] n = refl
+without-absent id (r ∷ rs) n =
+    let ih = without-absent id rs in
+    grind (arith, nat_tests)
+
+-- an ID that is not there
+module _ (m : Index Entry) (id : ℕ) (none : get nat_eq m id ≡ None) (same_m : Index Entry) (same : same_m.entries ≡ m.entries) where
+  pub rows-none : rows_of same_m ≡ without_id id (rows_of m)
+  rows-none = rows-same m same_m same ∙ sym (without-absent id (rows_of m) (row-rows m id ∙ ap (option_map (row_of id)) none))

@@ -1,0 +1,36 @@
+use Rattle.std.proofs.Common.{refl, sym, ◌∙◌}
+use Rattle.mt_lists.proofs.LinkLaws.{rows-less, linked-less, head-there, rows-none}
+use Rattle.mt_lists.proofs.TableLaws.{linked-same}
+use Rattle.mt_lists.proofs.links.unlink.Goals as goal
+
+pub returns-in-Some-copied-clause-linked : goal.returns-in-Some-copied-clause-linked
+returns-in-Some-copied-clause-linked c =
+    let there = sym c.swap_remove.ensures.value ∙ c.in-Some.is in
+    linked-less c.args.entries.now c.args.heads.now c.requires.linked c.args.id c.in-Some.entry there c.swap_remove.new.self c.set_after.new.entries c.set_before.new.entries
+    c.swap_remove.ensures.updates.0 c.set_after.ensures.entries c.set_before.ensures.entries
+    c.put_head.new.heads c.in-Some-copied.head (sym c.get.ensures.value ∙ sym c.copied.ensures ∙ c.in-Some-copied.is) (rw c.shrunk-left.ensures at c.put_head.ensures.heads)
+
+pub returns-in-Some-copied-clause-rows : goal.returns-in-Some-copied-clause-rows
+returns-in-Some-copied-clause-rows c =
+    let there = sym c.swap_remove.ensures.value ∙ c.in-Some.is in
+    rows-less c.args.entries.now c.args.heads.now c.requires.linked c.args.id c.in-Some.entry there c.swap_remove.new.self c.set_after.new.entries c.set_before.new.entries
+    c.swap_remove.ensures.updates.0 c.set_after.ensures.entries c.set_before.ensures.entries
+
+pub returns-in_default-copied-clause-linked : goal.returns-in_default-copied-clause-linked
+returns-in_default-copied-clause-linked c =
+    let there = sym c.swap_remove.ensures.value ∙ c.in-Some.is in
+    absurd (head-there c.args.entries.now c.args.heads.now c.requires.linked c.args.id c.in-Some.entry there (sym c.get.ensures.value ∙ sym c.copied.ensures ∙ c.in_default-copied.is))
+
+pub returns-in_default-copied-clause-rows : goal.returns-in_default-copied-clause-rows
+returns-in_default-copied-clause-rows c =
+    let there = sym c.swap_remove.ensures.value ∙ c.in-Some.is in
+    rows-less c.args.entries.now c.args.heads.now c.requires.linked c.args.id c.in-Some.entry there c.swap_remove.new.self c.set_after.new.entries c.set_before.new.entries
+    c.swap_remove.ensures.updates.0 c.set_after.ensures.entries c.set_before.ensures.entries
+
+pub returns-in_default-clause-linked : goal.returns-in_default-clause-linked
+returns-in_default-clause-linked c =
+    linked-same c.args.entries.now c.swap_remove.new.self c.args.heads.now c.args.heads.now (let u = rw c.in_default.is at c.swap_remove.ensures.unchanged in u) refl c.requires.linked
+
+pub returns-in_default-clause-rows : goal.returns-in_default-clause-rows
+returns-in_default-clause-rows c =
+    rows-none c.args.entries.now c.args.id (sym c.swap_remove.ensures.value ∙ c.in_default.is) c.swap_remove.new.self (let u = rw c.in_default.is at c.swap_remove.ensures.unchanged in u)

@@ -1,0 +1,12 @@
+//! Rows with an ID and a number each, and for each number the list of the IDs that have it.
+//!
+//! A [`Lists`](lists::Lists) finds the number of an ID, the first ID of a number and the next ID of
+//! the same number, each without a scan. It is made to stand beside a table whose items have a key
+//! and may have a number, such as mounts with their parents, and to answer what a scan of that table
+//! would find (`specs/Numbered.antt`).
+#![tactic(auto)]
+
+mod entries;
+mod heads;
+mod links;
+pub mod lists;

@@ -1,0 +1,99 @@
+//! An ID comes into the list of its number, and goes out of it: what is written in both tables.
+ghost use Rattle.std.specs.Prelude.{◌≡◌, ◌+◌, ◌<◌, ◌≤◌, None};
+ghost use Rattle.indexmap.specs.IndexMap.{spare};
+ghost use Rattle.mt_skel.specs.Keyed.{row_at, put};
+ghost use Rattle.mt_lists.specs.Lists.{id_of, ids, above, without_id};
+ghost use Rattle.mt_lists.specs.Links.{below, rows_of, IsLinked};
+
+use crate::entries::{Entry, after_of, before_of, set_after, set_before};
+use crate::heads::{Head, first_of, grow, last_of, put_head, shrunk};
+use indexmap::IndexMap;
+
+/// The last of a number's IDs below this one, sought from the end of its list.
+fn place_for(
+    entries: &IndexMap<u64, Entry>,
+    heads: &IndexMap<u64, Head>,
+    id: u64,
+    number: u64,
+) -> Option<u64>
+    requires linked { IsLinked entries.now heads.now }
+    ensures { result ≡ below id (ids (rows_of entries.now) number) }
+{
+    let mut here = last_of(heads, number);
+    'walk: while let Some(other) = here {
+        if other < id {
+            return here;
+        }
+        here = before_of(entries, other);
+    }
+    here
+}
+
+/// The first of a number's IDs above this one, which is not there, where the last below it is
+/// known.
+fn follower(
+    entries: &IndexMap<u64, Entry>,
+    heads: &IndexMap<u64, Head>,
+    id: u64,
+    number: u64,
+    before: Option<u64>,
+) -> Option<u64>
+    requires linked { IsLinked entries.now heads.now }
+    requires absent { row_at id_of id (rows_of entries.now) ≡ None }
+    requires before { before ≡ below id (ids (rows_of entries.now) number) }
+    ensures { result ≡ above id (ids (rows_of entries.now) number) }
+{
+    match before {
+        Some(other) => after_of(entries, other),
+        None => first_of(heads, number),
+    }
+}
+
+/// Puts an ID that is not there into the list of a number.
+pub(crate) fn link(
+    entries: &mut IndexMap<u64, Entry>,
+    heads: &mut IndexMap<u64, Head>,
+    id: u64,
+    number: u64,
+)
+    requires linked { IsLinked entries.old heads.old }
+    requires absent { row_at id_of id (rows_of entries.old) ≡ None }
+    requires entries_room { 0 < spare entries.old }
+    requires heads_room { 0 < spare heads.old }
+    ensures linked { IsLinked entries.new heads.new }
+    ensures rows { rows_of entries.new ≡ put id_of (record { id = id; number = number }) (rows_of entries.old) }
+    ensures entries_room { spare entries.old ≤ spare entries.new + 1 }
+    ensures heads_room { spare heads.old ≤ spare heads.new + 1 }
+{
+    // Its proof needs that the IDs can be counted.
+    let _len = entries.len();
+    let before = place_for(entries, heads, id, number);
+    let after = follower(entries, heads, id, number, before);
+    grow(heads, number, id);
+    let entry = Entry {
+        number,
+        before,
+        after,
+    };
+    entries.insert(id, entry).unwrap();
+    set_after(entries, before, Some(id));
+    set_before(entries, after, Some(id));
+}
+
+/// Takes an ID, if it is there, out of the list of its number.
+pub(crate) fn unlink(entries: &mut IndexMap<u64, Entry>, heads: &mut IndexMap<u64, Head>, id: u64)
+    requires linked { IsLinked entries.old heads.old }
+    ensures linked { IsLinked entries.new heads.new }
+    ensures rows { rows_of entries.new ≡ without_id id (rows_of entries.old) }
+    ensures entries_room { spare entries.old ≤ spare entries.new }
+    ensures heads_room { spare heads.old ≤ spare heads.new }
+{
+    if let Some(entry) = entries.swap_remove(&id) {
+        set_after(entries, entry.before, entry.after);
+        set_before(entries, entry.after, entry.before);
+        if let Some(head) = heads.get(&entry.number).copied() {
+            let left = shrunk(id, entry.before, entry.after, head);
+            put_head(heads, entry.number, left);
+        }
+    }
+}

@@ -1,0 +1,160 @@
+//! Lists of IDs, one for each number.
+ghost use Rattle.std.specs.Prelude.{◌≡◌, ◌+◌, ◌<◌, ◌≤◌, [], length, None, OnOk, IfOk, IsTrue, IsOkUnless};
+ghost use Rattle.mt_skel.specs.Keyed.{put, rises};
+ghost use Rattle.mt_lists.specs.Lists.{id_of, number_at, ids, without_id, with_number, first, next_of};
+
+use crate::entries::{Entry, after_of};
+use crate::heads::{Head, first_of};
+use crate::links::{link, unlink};
+use indexmap::IndexMap;
+use mt_skel::fault::Fault;
+use std::alloc::Global;
+use std::marker::Model;
+
+/// IDs that have a number each. The IDs of one number form a list, by rising ID.
+///
+/// A look-up takes the time of a look-up in a hash table, and so does a change, but for an ID that
+/// comes among IDs of its number: its place is sought from the end of their list, so that a new ID
+/// above all others is put there at once.
+#[derive(Drop)]
+pub struct Lists {
+    entries: IndexMap<u64, Entry>,
+    heads: IndexMap<u64, Head>,
+}
+
+impl Model for Lists {
+    ghost use Rattle.std.specs.Prelude.{min};
+    ghost use Rattle.indexmap.specs.IndexMap.{spare};
+    ghost use Rattle.mt_lists.specs.Lists.{ListsView};
+
+    ghost Value = { ListsView };
+
+    ghost use Rattle.mt_lists.specs.Links.{rows_of, IsLinked};
+
+    ghost view = { λ s. record { rows = rows_of s.entries; room = min (spare s.entries) (spare s.heads) } };
+
+    ghost invariant = { λ s. IsLinked s.entries s.heads };
+}
+
+impl Lists {
+    /// No rows. Their memory will come from `alloc`.
+    pub fn new(alloc: Global) -> Self
+        ensures { result.rows ≡ [] }
+    {
+        Lists {
+            entries: IndexMap::new(alloc),
+            heads: IndexMap::new(alloc),
+        }
+    }
+
+    /// The same rows. Refused as `NoMemory` alone.
+    pub fn copy(&self) -> Result<Lists, Fault>
+        ensures copy { IfOk result (λ lists. lists.rows ≡ self.now.rows) }
+        ensures memory { IsOkUnless result Fault.NoMemory }
+    {
+        Ok(Lists {
+            entries: self.entries.clone()?,
+            heads: self.heads.clone()?,
+        })
+    }
+
+    /// Makes room for so many more rows, and changes none. Refused as `NoMemory` alone.
+    pub fn reserve(&mut self, additional: usize) -> Result<(), Fault>
+        ensures room { OnOk result (additional ≤ self.new.room) }
+        ensures memory { IsOkUnless result Fault.NoMemory }
+        ensures keeps { self.old.room ≤ self.new.room }
+        ensures rows { self.new.rows ≡ self.old.rows }
+    {
+        self.entries.reserve(additional)?;
+        self.heads.reserve(additional)?;
+        Ok(())
+    }
+
+    /// How many rows there are.
+    pub fn len(&self) -> usize
+        ensures len { result ≡ length self.now.rows }
+        ensures rising { IsTrue (rises id_of self.now.rows) }
+    {
+        self.entries.len()
+    }
+
+    /// The number of this ID, or `None` where it is not there.
+    pub fn number(&self, id: u64) -> Option<u64>
+        ensures number { result ≡ number_at self.now.rows id }
+        ensures rising { IsTrue (rises id_of self.now.rows) }
+    {
+        Some(self.entries.get(&id).copied()?.number)
+    }
+
+    /// The lowest ID of this number, or `None` where no ID has it.
+    pub fn first(&self, number: u64) -> Option<u64>
+        ensures first { result ≡ first (ids self.now.rows number) }
+        ensures rising { IsTrue (rises id_of self.now.rows) }
+    {
+        first_of(&self.heads, number)
+    }
+
+    /// The next higher ID of the same number, or `None` where this ID is not there or is the last.
+    pub fn after(&self, id: u64) -> Option<u64>
+        ensures { result ≡ next_of self.now.rows id }
+    {
+        after_of(&self.entries, id)
+    }
+
+    /// How many IDs have this number.
+    pub fn count(&self, number: u64) -> usize
+        ensures { result ≡ length (ids self.now.rows number) }
+    {
+        match self.heads.get(&number).copied() {
+            Some(head) => head.count,
+            None => 0,
+        }
+    }
+
+    /// The IDs of this number, rising, in memory of `alloc`. Refused as `NoMemory` alone.
+    pub fn ids(&self, alloc: Global, number: u64) -> Result<Vec<u64>, Fault>
+        ensures ids { IfOk result (λ found. found.items ≡ ids self.now.rows number) }
+        ensures memory { IsOkUnless result Fault.NoMemory }
+    {
+        let mut found = Vec::with_capacity(alloc, self.count(number))?;
+        let mut here = self.first(number);
+        'list: while let Some(id) = here {
+            found.push(id)?;
+            here = self.after(id);
+        }
+        Ok(found)
+    }
+
+    /// Gives a number to an ID that is not there. [`reserve`](Lists::reserve) has made room for it.
+    pub fn insert(&mut self, id: u64, number: u64)
+        requires room { 0 < self.old.room }
+        requires absent { number_at self.old.rows id ≡ None }
+        ensures rows { self.new.rows ≡ put id_of (record { id = id; number = number }) self.old.rows }
+        ensures room { self.old.room ≤ self.new.room + 1 }
+    {
+        link(&mut self.entries, &mut self.heads, id, number);
+    }
+
+    /// Takes this ID away, if it is there.
+    pub fn remove(&mut self, id: u64)
+        ensures rows { self.new.rows ≡ without_id id self.old.rows }
+        ensures room { self.old.room ≤ self.new.room }
+    {
+        unlink(&mut self.entries, &mut self.heads, id);
+    }
+
+    /// Gives this ID this number, or none, whether it is there or not. Room for one row is needed also
+    /// where the ID is there.
+    pub fn set(&mut self, id: u64, number: Option<u64>)
+        requires room { 0 < self.old.room }
+        ensures rows { self.new.rows ≡ with_number id number self.old.rows }
+        ensures room { self.old.room ≤ self.new.room + 1 }
+    {
+        if self.number(id) != number {
+            self.remove(id);
+            if let Some(number) = number {
+                self.insert(id, number);
+            }
+        }
+    }
+}

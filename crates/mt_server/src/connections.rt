@@ -1,0 +1,144 @@
+//! The connections that have a session, and whether the server stops.
+use mt_skel::fault::Fault;
+use std::alloc::{AllocError, Global};
+use std::net::Shutdown;
+use std::os::unix::net::UnixStream;
+use std::sync::{Condvar, CondvarTimeouts, Mutex, Wait};
+use std::time::{Clock, Duration};
+
+/// How often the end of all sessions is looked for, a tenth of a second apart, before those that
+/// are left are cut off.
+const MOST_LOOKS: u32 = 10;
+
+/// How long one look waits, in milliseconds.
+const LOOK: u64 = 100;
+
+/// A connection that has a session.
+#[derive(Drop)]
+struct Connection {
+    /// The number of its session.
+    number: u64,
+    /// Its stream, a second time.
+    stream: UnixStream,
+}
+
+/// What is known of all connections.
+#[derive(Drop)]
+struct State {
+    /// Those that have a session.
+    open: Vec<Connection>,
+    /// The number of the latest session.
+    last: u64,
+    /// How many are turned away at this moment, each in a thread of its own.
+    parting: usize,
+    /// A session has stopped the server.
+    stopping: bool,
+}
+
+/// The connections of a server.
+#[derive(Drop)]
+pub(crate) struct Connections {
+    state: Mutex<State>,
+    all_left: Condvar,
+    most: usize,
+}
+
+impl Connections {
+    /// None yet, and the room for `most`. Refused for want of memory alone.
+    pub(crate) fn new(alloc: Global, most: usize) -> Result<Connections, AllocError> {
+        let state = State {
+            open: Vec::with_capacity(alloc, most)?,
+            last: 0,
+            parting: 0,
+            stopping: false,
+        };
+        Ok(Connections {
+            state: Mutex::new(state),
+            all_left: Condvar::new(),
+            most,
+        })
+    }
+
+    /// Counts a connection as one that has a session, and answers the session's number. Sessions
+    /// count from 1. Refused as `TooMany` where as many have one as may, and as `NoMemory` where
+    /// the system has no second descriptor for the stream.
+    pub(crate) fn enter<R: Wait>(&self, rt: &R, stream: &UnixStream) -> Result<u64, Fault> {
+        let mut state = self.state.lock(rt);
+        if state.open.len() >= self.most {
+            return Err(Fault::TooMany);
+        }
+        let Ok(stream) = stream.try_clone() else {
+            return Err(Fault::NoMemory);
+        };
+        let number = state.last.saturating_add(1);
+        state.last = number;
+        state.open.push(Connection { number, stream })?;
+        Ok(number)
+    }
+
+    /// Counts the connection of a session no longer, and answers its stream.
+    pub(crate) fn leave<R: Wait>(&self, rt: &R, number: u64) -> Option<UnixStream> {
+        let mut state = self.state.lock(rt);
+        let left = remove(&mut state.open, number)?;
+        if state.open.is_empty() {
+            self.all_left.notify_all();
+        }
+        Some(left.stream)
+    }
+
+    /// Begins to turn one away in a thread of its own, unless as many are turned away as there may
+    /// be sessions.
+    pub(crate) fn begin_parting<R: Wait>(&self, rt: &R) -> bool {
+        let mut state = self.state.lock(rt);
+        if state.parting >= self.most {
+            return false;
+        }
+        state.parting += 1;
+        true
+    }
+
+    /// One was turned away.
+    pub(crate) fn end_parting<R: Wait>(&self, rt: &R) {
+        let mut state = self.state.lock(rt);
+        state.parting = state.parting.saturating_sub(1);
+    }
+
+    /// A session has stopped the server.
+    pub(crate) fn stop<R: Wait>(&self, rt: &R) {
+        self.state.lock(rt).stopping = true;
+    }
+
+    /// Whether a session has stopped the server.
+    pub(crate) fn are_stopping<R: Wait>(&self, rt: &R) -> bool {
+        self.state.lock(rt).stopping
+    }
+
+    /// Shuts the streams of all that have a session.
+    pub(crate) fn shut<R: Wait>(&self, rt: &R, how: Shutdown) {
+        let state = self.state.lock(rt);
+        for connection in state.open.iter() {
+            let _ = connection.stream.shutdown(how);
+        }
+    }
+
+    /// Waits until no connection has a session, a second at most.
+    pub(crate) fn wait<R: Wait + Clock>(&self, rt: &R) {
+        'looks: for _look in 0..MOST_LOOKS {
+            let state = self.state.lock(rt);
+            if state.open.is_empty() {
+                return;
+            }
+            let _ = self
+                .all_left
+                .wait_timeout(rt, state, Duration::from_millis(LOOK));
+        }
+    }
+}
+
+/// Takes the connection of a session out of those that have one.
+fn remove(open: &mut Vec<Connection>, number: u64) -> Option<Connection> {
+    let place = open
+        .iter()
+        .position(|connection| connection.number == number)?;
+    Some(open.swap_remove(place))
+}

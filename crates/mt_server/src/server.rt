@@ -1,0 +1,323 @@
+//! The loop that accepts connections, and a thread for each session.
+ghost use Rattle.std.specs.Prelude.{◌≡◌, ◌≤◌, ℕ, Bool, IsTrue, IsOk, Err, true, false};
+ghost use Rattle.mt_server.specs.Accepting.{failures_after, most_failures};
+
+use crate::connections::Connections;
+use crate::parting::{part, turn_away, turn_away_now};
+use mt_desk::desk::Desk;
+use mt_desk::lines::Naming;
+use mt_lines::stream::{Reading, Writing};
+use mt_session::bell::Bell;
+use mt_session::gate::Gate;
+use mt_session::session::End;
+use mt_session::shared_session::serve_shared;
+use mt_skel::fault::Fault;
+use std::alloc::Global;
+use std::net::{Net, Shutdown, TcpListener, TcpStream};
+use std::os::fd::OwnedFd;
+use std::os::unix::net::{UnixListener, UnixStream};
+use std::sync::{Mutex, Wait};
+use std::thread::{Scope, Threads};
+use std::time::{Clock, Duration};
+use std::{io, thread};
+use thiserror::Error;
+
+/// How many failed accepts in succession end a server.
+const MOST_FAILURES: u32 = 1_000;
+
+/// How long a server rests after a failed accept, in milliseconds.
+const REST: u64 = 1;
+
+/// Why a server ended, if no session stopped it.
+#[derive(Debug, Drop, Error)]
+pub enum ServerFault {
+    /// 1,000 accepts in succession failed.
+    #[error("1,000 accepts in succession failed")]
+    Accept,
+    /// There was no memory for the server's own.
+    #[error("out of memory")]
+    NoMemory,
+}
+
+/// Where connections come from.
+///
+/// An implementation says of its type whether it `counts` its failed accepts. Where it does,
+/// `failures` is how many failed since the last one that did not.
+pub trait Door {
+    ghost counts: { Bool };
+
+    ghost failures: { Self → ℕ };
+
+    /// Waits for the next connection.
+    fn accept(&mut self) -> io::Result<UnixStream>
+        ensures counted { IsTrue counts → failures self.new ≡ failures_after (failures self.old) result };
+}
+
+/// A listener as a `Door`, which counts no failures.
+#[derive(Drop)]
+struct Listening<'a> {
+    listener: &'a UnixListener,
+}
+
+impl<'a> Door for Listening<'a> {
+    ghost use Rattle.std.specs.Prelude.{ℕ, false};
+
+    ghost counts = { false };
+
+    ghost failures = { λ d. 0 };
+
+    fn accept(&mut self) -> io::Result<UnixStream> {
+        let (stream, _) = self.listener.accept()?;
+        Ok(stream)
+    }
+}
+
+/// Lets nobody in any more: an accept of this listener that waits, and each later one, returns.
+fn close(listener: &UnixListener) -> io::Result<()> {
+    let socket = UnixStream::from(OwnedFd::from(listener.try_clone()?));
+    socket.shutdown(Shutdown::Both)
+}
+
+/// What the threads of a server share.
+#[derive(Drop)]
+struct House<'a, J: Naming, G> {
+    listener: &'a UnixListener,
+    path: &'a str,
+    connections: Connections,
+    desk: &'a Mutex<Desk<J>>,
+    bell: &'a Bell,
+    gate: &'a G,
+}
+
+impl<'a, J: Naming, G: Gate> House<'a, J, G> {
+    /// Serves a connection, and stops the server where its session does.
+    fn serve<R>(&self, rt: &R, alloc: Global, number: u64, stream: UnixStream)
+    where
+        R: Wait + Clock + Net<Listener = TcpListener, Stream = TcpStream>,
+    {
+        let end = serve_shared(
+            rt,
+            alloc,
+            number,
+            Reading::new(&stream),
+            &mut Writing::new(&stream),
+            self.desk,
+            self.bell,
+            self.gate,
+        );
+        if end == End::Stop {
+            self.connections.stop(rt);
+        }
+        let again = self.connections.leave(rt, number);
+        part(&stream);
+        drop(again);
+        drop(stream);
+        if end == End::Stop {
+            self.wake(rt);
+        }
+    }
+
+    /// Wakes the loop that accepts: its listening socket is shut down, and where the system refuses
+    /// that, the server connects to its own path. No descriptor of the session is open any more, so
+    /// that there is one for this.
+    fn wake<R>(&self, rt: &R)
+    where
+        R: Net<Listener = TcpListener, Stream = TcpStream>,
+    {
+        if close(self.listener).is_err() {
+            let _ = UnixStream::connect(rt, self.path);
+        }
+    }
+
+    /// Turns a connection away, and counts it no longer.
+    fn dismiss<R: Wait>(&self, rt: &R, stream: UnixStream, fault: Fault) {
+        turn_away(&stream, fault);
+        self.connections.end_parting(rt);
+    }
+
+    /// Ends all sessions. The desk is stopped, so that those that follow end; those that read find
+    /// the end of their input; those that are not done after a second are cut off.
+    fn end_all<R: Wait + Clock>(&self, rt: &R) {
+        self.desk.lock(rt).stop();
+        self.bell.ring(rt);
+        self.connections.shut(rt, Shutdown::Read);
+        self.connections.wait(rt);
+        self.connections.shut(rt, Shutdown::Both);
+    }
+}
+
+/// Turns a connection away in a thread of its own, or at once where there may be no such thread.
+fn refuse<'s, E, J, G, R>(
+    scope: &Scope<'s, E>,
+    rt: &'s R,
+    house: &'s House<'s, J, G>,
+    stream: UnixStream,
+    fault: Fault,
+)
+where
+    J: Naming + Send + Sync,
+    G: Gate + Sync,
+    R: Wait + Sync,
+{
+    if !house.connections.begin_parting(rt) {
+        turn_away_now(&stream, fault);
+        return;
+    }
+    let again = stream.try_clone();
+    if scope
+        .spawn(move || house.dismiss(rt, stream, fault))
+        .is_ok()
+    {
+        return;
+    }
+    house.connections.end_parting(rt);
+    if let Ok(stream) = again {
+        turn_away_now(&stream, fault);
+    }
+}
+
+/// Gives a connection a session in a thread of its own, or turns it away.
+fn receive<'s, E, J, G, R>(
+    scope: &Scope<'s, E>,
+    rt: &'s R,
+    alloc: Global,
+    house: &'s House<'s, J, G>,
+    stream: UnixStream,
+)
+where
+    J: Naming + Send + Sync,
+    G: Gate + Sync,
+    R: Wait + Clock + Net<Listener = TcpListener, Stream = TcpStream> + Sync,
+{
+    let number = match house.connections.enter(rt, &stream) {
+        Ok(number) => number,
+        Err(fault) => return refuse(scope, rt, house, stream, fault),
+    };
+    if scope
+        .spawn(move || house.serve(rt, alloc, number, stream))
+        .is_ok()
+    {
+        return;
+    }
+    if let Some(stream) = house.connections.leave(rt, number) {
+        refuse(scope, rt, house, stream, Fault::NoMemory);
+    }
+}
+
+/// Accepts connections until a session stops the server: then true; false after 1,000 failed
+/// accepts in succession.
+fn accept_all<'s, E, D, J, G, R>(
+    scope: &Scope<'s, E>,
+    rt: &'s R,
+    alloc: Global,
+    door: &mut D,
+    house: &'s House<'s, J, G>,
+) -> bool
+where
+    D: Door,
+    J: Naming + Send + Sync,
+    G: Gate + Sync,
+    R: Wait + Clock + Net<Listener = TcpListener, Stream = TcpStream> + Sync,
+    ensures gives_up { IsTrue D.counts → D.failures door.old ≡ 0 → result ≡ false → D.failures door.new ≡ most_failures }
+    ensures goes_on { IsTrue D.counts → D.failures door.old ≡ 0 → result ≡ true → D.failures door.new ≤ most_failures }
+{
+    let mut failures = 0u32;
+    'accepting: for _count in 0..u64::MAX {
+        let arrived = door.accept();
+        if house.connections.are_stopping(rt) {
+            return true;
+        }
+        match arrived {
+            Ok(stream) => {
+                failures = 0;
+                receive(scope, rt, alloc, house, stream);
+            }
+            Err(_) => {
+                failures += 1;
+                if failures == MOST_FAILURES {
+                    return false;
+                }
+                thread::sleep(rt, Duration::from_millis(REST));
+            }
+        }
+    }
+    true
+}
+
+/// Accepts the connections of a door as [`run_server`] does those of a listener, and answers the
+/// door as it has left it. The listener is where the door's connections come from: a session that
+/// stops the server shuts it down.
+pub fn serve_door<'a, D, J, G, R>(
+    rt: &R,
+    alloc: Global,
+    door: D,
+    listener: &'a UnixListener,
+    path: &'a str,
+    desk: &'a Mutex<Desk<J>>,
+    bell: &'a Bell,
+    sessions: usize,
+    gate: &'a G,
+) -> (D, Result<(), ServerFault>)
+where
+    D: Door + Drop,
+    J: Naming + Send + Sync,
+    G: Gate + Sync,
+    R: Threads + Wait + Clock + Net<Listener = TcpListener, Stream = TcpStream> + Sync,
+    ensures accept { IsTrue D.counts → D.failures door ≡ 0 → result.1 ≡ Err ServerFault.Accept → D.failures result.0 ≡ most_failures }
+    ensures stopped { IsTrue D.counts → D.failures door ≡ 0 → IsOk result.1 → D.failures result.0 ≤ most_failures }
+    ensures memory { result.1 ≡ Err ServerFault.NoMemory → result.0 ≡ door }
+{
+    let Ok(connections) = Connections::new(alloc, sessions) else {
+        return (door, Err(ServerFault::NoMemory));
+    };
+    let house = House {
+        listener,
+        path,
+        connections,
+        desk,
+        bell,
+        gate,
+    };
+    let house = &house;
+    let (stopped, door) = thread::scope(thread::scope_env(), rt, move |scope| {
+        let mut door = door;
+        let stopped = accept_all(scope, rt, alloc, &mut door, house);
+        house.end_all(rt);
+        (stopped, door)
+    });
+    if stopped {
+        (door, Ok(()))
+    } else {
+        (door, Err(ServerFault::Accept))
+    }
+}
+
+/// Accepts connections and serves each in a thread of its own, until a session stops the server.
+///
+/// At most `sessions` have a session at once; the next one reads `no TooMany` and its end. One for
+/// which there is no thread or no second descriptor reads `no NoMemory` and its end. Sessions are
+/// numbered from 1. When a session ends, its connection is counted no longer before its client
+/// reads the end.
+///
+/// At a stop, and at a fault, the desk is stopped, no more connections are accepted, all sessions
+/// end, and their threads are joined. Refused as `Accept` after 1,000 failed accepts in succession,
+/// a millisecond apart; as `NoMemory` at once where there is none for the list of connections.
+pub fn run_server<'a, J, G, R>(
+    rt: &R,
+    alloc: Global,
+    listener: &'a UnixListener,
+    path: &'a str,
+    desk: &'a Mutex<Desk<J>>,
+    bell: &'a Bell,
+    sessions: usize,
+    gate: &'a G,
+) -> Result<(), ServerFault>
+where
+    J: Naming + Send + Sync,
+    G: Gate + Sync,
+    R: Threads + Wait + Clock + Net<Listener = TcpListener, Stream = TcpStream> + Sync,
+{
+    let door = Listening { listener };
+    let (_door, ended) = serve_door(rt, alloc, door, listener, path, desk, bell, sessions, gate);
+    ended
+}

@@ -1,0 +1,179 @@
+-- What a request finds at a desk whose watchers take, and what the calls of a desk answer to it.
+use Rattle.std.proofs.Common.{◌≡◌, ◌≢◌, ◌∙◌, ℕ, zero, suc, List, [], ◌∷◌, ◌++◌, length, replicate, Option, Some, None, slice_get, Ok, Err, refl, sym, ap, subst, arith, inr}
+use Rattle.std.specs.Prelude.{Result, IfOk}
+use Rattle.std.specs.Option.{ForSome, option_map_or}
+use Rattle.mt_skel.specs.declared.fault.Fault.{Fault}
+use Rattle.mt_skel.specs.declared.fault.Fault.TheVariants.{NoMemory, NoWatcher}
+use Rattle.mt_skel.specs.Keyed.{row_at, put}
+use Rattle.mt_skel.proofs.MiddleLaws.{row_mid}
+use Rattle.mt_events.specs.Posts.{PostView}
+use Rattle.mt_events.specs.declared.opening.Scope.{Scope}
+use Rattle.mt_book.specs.declared.command.Command.{Command}
+use Rattle.mt_book.specs.declared.command.Reply.{Reply}
+use Rattle.mt_book.specs.Step.{after}
+use Rattle.mt_book.specs.Book.{found_at}
+use Rattle.mt_requests.specs.declared.request.Request.{Request}
+use Rattle.mt_requests.specs.declared.request.Request.TheVariants.{Run, Show, Find, Watch}
+use Rattle.mt_floor.specs.declared.event.Event.{Event}
+use Rattle.mt_floor.specs.declared.event.Event.TheVariants.{Apply, Open, Take, Close}
+use Rattle.mt_floor.specs.declared.event.Answer.{Answer}
+use Rattle.mt_floor.specs.declared.event.Answer.TheVariants.{Replied, Opened, Took, Closed}
+use Rattle.mt_floor.specs.Watcher.{Watcher, key_of}
+use Rattle.mt_floor.specs.Schedule.{FloorView, Stepped, floor_step, run, changed, took, nothing_left, opening_refusal}
+use Rattle.mt_floor.proofs.RunLaws.{run_told}
+use Rattle.mt_desk.specs.Desk.{DeskRow, DeskView, IsDesk, row_key, floor_of_desk, new_row, with_watcher}
+use Rattle.mt_desk.specs.Calls.{WatcherView, IsApplied, IsClosed, unseen}
+use Rattle.mt_desk.proofs.ScheduleLaws.{rows_rise, opened_stays}
+use Rattle.mt_session.specs.Answers.{refusal, reply_text, shown_text, found_text, opening_text, posts_text}
+use Rattle.mt_session.specs.Requests.{replied_text, opened_text, closed_text, answer_to}
+use Rattle.mt_session.specs.SharedTurns.{floor_seen, found_state, with_posts, IsBegun, IsUndoneBy, HasTaken}
+use Rattle.mt_session.proofs.IdleLaws.{apply_told, apply_refused, open_told, open_found, open_refused, close_posts}
+
+-- ---- A floor that only takes
+
+took_watchers : (s : FloorView) (r : Watcher) (o : Option PostView)
+    → (ws : List Watcher) × ((option_map_or {U = Stepped} (λ p. (changed s (record r { taken = r.taken ++ p ∷ [] }), Ok (Took (Some p)))) o (s, nothing_left r.phase)).0 ≡ record s { watchers = ws })
+took_watchers s r None = (s.watchers, refl)
+took_watchers s r (Some p) = (put key_of (record r { taken = r.taken ++ p ∷ [] }) s.watchers, refl)
+
+take_watchers : (s : FloorView) (key : ℕ) → (ws : List Watcher) × ((floor_step s (Take key)).0 ≡ record s { watchers = ws })
+unfolding floor_step
+take_watchers s key = by (row_at key_of key s.watchers)
+  where
+    by : (o : Option Watcher) → (ws : List Watcher) × ((option_map_or (took s) o (s, Err NoWatcher)).0 ≡ record s { watchers = ws })
+    by None = (s.watchers, refl)
+    by (Some r) = took_watchers s r (slice_get r.sent (length r.taken))
+
+-- takes change the watchers alone
+takes_watchers : (s : FloorView) (key n : ℕ) → (ws : List Watcher) × ((run s (replicate n (Take key))).0 ≡ record s { watchers = ws })
+takes_watchers s key zero = (s.watchers, refl)
+takes_watchers s key (suc n) =
+    let one = take_watchers s key in
+    let more = takes_watchers (floor_step s (Take key)).0 key n in
+    (more.0, more.1 ∙ ap (λ (t : FloorView). record t { watchers = more.0 }) one.1)
+
+-- so the floor that a request finds is that of the desk but for its watchers
+pub seen_watchers : (d : DeskView) (w : Option WatcherView) → (ws : List Watcher) × (floor_seen d w ≡ record (floor_of_desk d) { watchers = ws })
+seen_watchers d None = ((floor_of_desk d).watchers, refl)
+seen_watchers d (Some w) = by (row_at row_key w.key d.rows)
+  where
+    by : (o : Option DeskRow)
+        → (ws : List Watcher) × (option_map_or (λ (r : DeskRow). (run (floor_of_desk d) (replicate (unseen d.capacity r w.half) (Take w.key))).0) o (floor_of_desk d) ≡ record (floor_of_desk d) { watchers = ws })
+    by None = ((floor_of_desk d).watchers, refl)
+    by (Some r) = takes_watchers (floor_of_desk d) w.key (unseen d.capacity r w.half)
+
+pub seen_journal : (d : DeskView) (w : Option WatcherView) → (floor_seen d w).journal ≡ d.journal
+seen_journal d w = ap (λ (s : FloorView). s.journal) (seen_watchers d w).1
+
+pub seen_replied : (d : DeskView) (w : Option WatcherView) (c : Command) → replied_text (floor_seen d w) c ≡ replied_text (floor_of_desk d) c
+seen_replied d w c = ap (λ (s : FloorView). replied_text s c) (seen_watchers d w).1
+
+seen_idle : (d : DeskView) (w : Option WatcherView) → (floor_seen d w).due ≡ []
+seen_idle d w = ap (λ (s : FloorView). s.due) (seen_watchers d w).1
+
+-- ---- Commands
+
+pub command_told : (d now : DeskView) (c : Command) (reply : Reply) (text : List ℕ) → IsApplied d c reply now → text ≡ reply_text reply → text ≡ replied_text (floor_of_desk d) c
+command_told d now c reply text a told =
+    let s : FloorView = floor_of_desk d in
+    let answers : ◌≡◌ {A = List (Result Answer Fault)} ((floor_step s (Apply c)).1 ∷ (run (floor_step s (Apply c)).0 a.sends).1) (Ok (Replied reply) ∷ a.told) = ap (λ (p : FloorView × List (Result Answer Fault)). p.1) a.schedule in
+    let first : (floor_step s (Apply c)).1 ≡ Ok (Replied reply) = cc in
+    let t = apply_told s (floor_step s (Apply c)).0 refl c (Replied reply) (ap (λ (r : Result Answer Fault). ((floor_step s (Apply c)).0, r)) first) in
+    let same : reply ≡ t.0 = let is = t.1 in cc in
+    told ∙ ap reply_text same ∙ sym t.2
+
+pub command_refused : (d : DeskView) (c : Command) (f : Fault) (r : Result (List ℕ) Fault) → (f ≢ NoMemory → floor_step (floor_of_desk d) (Apply c) ≡ (floor_of_desk d, Err f))
+    → IfOk r (λ text. (text ≡ refusal f) × (f ≢ NoMemory)) → IfOk r (λ text. text ≡ replied_text (floor_of_desk d) c)
+command_refused d c f (Ok text) step told = told.0 ∙ sym (apply_refused (floor_of_desk d) (floor_of_desk d) refl c f (step told.1))
+command_refused d c f (Err g) step told = told
+
+-- ---- Watchers that begin
+
+pub watch_told : (d now : DeskView) (scope : Scope) (w : WatcherView) (text : List ℕ) → floor_step (floor_of_desk d) (Open scope) ≡ (floor_of_desk now, Ok (Opened w.key w.half.opening))
+    → text ≡ opening_text w.half.opening → text ≡ opened_text (floor_of_desk d) scope
+watch_told d now scope w text step told = told ∙ sym (open_told (floor_of_desk d) (floor_of_desk now) refl scope (Opened w.key w.half.opening) w.key w.half.opening step refl).0
+
+pub watch_begun : (d now : DeskView) (scope : Scope) (w : WatcherView) → floor_step (floor_of_desk d) (Open scope) ≡ (floor_of_desk now, Ok (Opened w.key w.half.opening)) → now ≡ with_watcher d scope
+    → w.key ≡ d.next_key → w.half.taken ≡ [] → IsBegun d scope now (Some w)
+watch_begun d now scope w step desk key none = (desk, key, (open_found (floor_of_desk d) (floor_of_desk now) refl scope w.key w.half.opening step).1, none)
+
+pub watch_refused : (d : DeskView) (scope : Scope) (f : Fault) (r : Result (List ℕ) Fault) → (f ≢ NoMemory → floor_step (floor_of_desk d) (Open scope) ≡ (floor_of_desk d, Err f))
+    → IfOk r (λ text. (text ≡ refusal f) × (f ≢ NoMemory)) → IfOk r (λ text. text ≡ opened_text (floor_of_desk d) scope)
+watch_refused d scope f (Ok text) step told = told.0 ∙ sym (open_refused (floor_of_desk d) (floor_of_desk d) refl scope f (step told.1)).0
+watch_refused d scope f (Err g) step told = told
+
+-- a watcher that began and was closed again: no post was sent to it
+begun_closed : (d held now : DeskView) (scope : Scope) (w : WatcherView) (posts : List PostView) → IsDesk d → opening_refusal (floor_of_desk d) scope ≡ None → IsBegun d scope held (Some w) → IsClosed held w posts now
+    → IsClosed held w [] now
+begun_closed d held now scope w posts h accepts b c =
+    let after : DeskView = with_watcher d scope in
+    let last : row_at row_key d.next_key after.rows ≡ Some (new_row d scope) = row_mid row_key d.rows [] (new_row d scope) (rows_rise after (opened_stays d scope h accepts)) in
+    let there : row_at row_key d.next_key after.rows ≡ Some c.row = ap (λ k. row_at row_key k after.rows) (sym b.1) ∙ ap (λ (t : DeskView). row_at row_key w.key t.rows) (sym b.0) ∙ c.there in
+    let both : ◌≡◌ {A = Option DeskRow} (Some (new_row d scope)) (Some c.row) = sym last ∙ there in
+    let same : new_row d scope ≡ c.row = cc in
+    let none : [] ≡ posts = ap (λ (r : DeskRow). r.sent) same ∙ c.halved.split ∙ ap (λ (l : List PostView). l ++ posts) b.3 in
+    subst (λ (ps : List PostView). IsClosed held w ps now) (sym none) c
+
+pub watch_undone : (d held now : DeskView) (own : Option WatcherView) (scope : Scope) (w : WatcherView) (posts : List PostView) → own ≡ None → IsDesk d
+    → floor_step (floor_of_desk d) (Open scope) ≡ (floor_of_desk held, Ok (Opened w.key w.half.opening)) → held ≡ with_watcher d scope → w.key ≡ d.next_key → w.half.taken ≡ [] → IsClosed held w posts now
+    → IsUndoneBy d None (Watch scope) now own
+watch_undone d held now own scope w posts none h step desk key empty c =
+    let begun = watch_begun d held scope w step desk key empty in
+    let accepts = (open_found (floor_of_desk d) (floor_of_desk held) refl scope w.key w.half.opening step).0 in
+    (none, inr (held, w, begun, begun_closed d held now scope w posts h accepts begun c))
+
+-- ---- Watchers that go
+
+abbrev last_answer : Result Answer Fault → List (Result Answer Fault) → Result Answer Fault
+last_answer y [] = y
+last_answer y (x ∷ xs) = last_answer x xs
+
+last_of : (xs : List (Result Answer Fault)) (x y : Result Answer Fault) → last_answer y (xs ++ x ∷ []) ≡ x
+last_of [] x y = refl
+last_of (z ∷ xs) x y = last_of xs x z
+
+last_is : (xs ys : List (Result Answer Fault)) (x y : Result Answer Fault) → xs ++ x ∷ [] ≡ ys ++ y ∷ [] → x ≡ y
+last_is xs ys x y e = sym (last_of xs x x) ∙ ap (last_answer x) e ∙ last_of ys y x
+
+pub end_told : (d now : DeskView) (w : WatcherView) (posts : List PostView) → IsClosed d w posts now → closed_text (floor_seen d (Some w)) w.key ≡ posts_text posts
+end_told d now w posts c =
+    let s : FloorView = floor_of_desk d in
+    let takes : List Event = replicate (unseen d.capacity c.row w.half) (Take w.key) in
+    let before : FloorView = (run s takes).0 in
+    let seen : floor_seen d (Some w) ≡ before = ap (λ (o : Option DeskRow). option_map_or (λ (r : DeskRow). (run s (replicate (unseen d.capacity r w.half) (Take w.key))).0) o s) c.there in
+    let answers : (run s takes).1 ++ (floor_step before (Close w.key)).1 ∷ [] ≡ c.told ++ Ok (Closed posts) ∷ [] =
+    sym (run_told s takes (Close w.key ∷ [])) ∙ ap (λ (p : FloorView × List (Result Answer Fault)). p.1) c.schedule in
+    let last : (floor_step before (Close w.key)).1 ≡ Ok (Closed posts) = last_is (run s takes).1 c.told _ _ answers in
+    let idle : before.due ≡ [] = ap (λ (t : FloorView). t.due) (sym seen) ∙ seen_idle d (Some w) in
+    ap (λ (t : FloorView). closed_text t w.key) seen ∙ close_posts before (floor_step before (Close w.key)).0 idle w.key posts (ap (λ (r : Result Answer Fault). ((floor_step before (Close w.key)).0, r)) last)
+
+-- ---- Requests that ask for no watcher
+
+pub run_answered : (d : DeskView) (own : Option WatcherView) (q : Request) (c : Command) (r : Result (List ℕ) Fault) → q ≡ Run c → IfOk r (λ text. text ≡ replied_text (floor_of_desk d) c)
+    → IfOk r (λ text. text ≡ answer_to (found_state d own) q)
+unfolding answer_to
+run_answered d own q c r is told =
+    subst (λ (x : Request). IfOk r (λ text. text ≡ answer_to (found_state d own) x)) (sym is)
+    (subst (λ (t : List ℕ). IfOk r (λ text. text ≡ t)) (sym (seen_replied d own c)) told)
+
+pub show_answered : (d : DeskView) (own : Option WatcherView) (q : Request) (journal : List Command) (n : ℕ) (r : Result (List ℕ) Fault) → q ≡ Show n → journal ≡ d.journal
+    → IfOk r (λ text. text ≡ shown_text journal n) → IfOk r (λ text. text ≡ answer_to (found_state d own) q)
+unfolding answer_to
+show_answered d own q journal n r is same told =
+    subst (λ (x : Request). IfOk r (λ text. text ≡ answer_to (found_state d own) x)) (sym is)
+    (subst (λ (cs : List Command). IfOk r (λ text. text ≡ shown_text cs n)) (same ∙ sym (seen_journal d own)) told)
+
+pub find_answered : (d : DeskView) (own : Option WatcherView) (q : Request) (journal : List Command) (n : ℕ) (path : List (List ℕ)) (r : Result (List ℕ) Fault) → q ≡ Find n path → journal ≡ d.journal
+    → IfOk r (λ text. text ≡ found_text (found_at (after journal) n path)) → IfOk r (λ text. text ≡ answer_to (found_state d own) q)
+unfolding answer_to
+find_answered d own q journal n path r is same told =
+    subst (λ (x : Request). IfOk r (λ text. text ≡ answer_to (found_state d own) x)) (sym is)
+    (subst (λ (cs : List Command). IfOk r (λ text. text ≡ found_text (found_at (after cs) n path))) (same ∙ sym (seen_journal d own)) told)
+
+-- ---- Posts that were taken and could not be printed
+
+pub lost_posts : (own own' : Option WatcherView) (w w' : WatcherView) (posts : List PostView) → own ≡ Some w → own' ≡ Some w' → w' ≡ with_posts w posts
+    → ForSome own (λ (v : WatcherView). (lost : List PostView) × (v' : WatcherView) × HasTaken v lost v' × (own' ≡ Some v'))
+lost_posts own own' w w' posts is is' taken = λ v at.
+    let same : w ≡ v = let both = sym is ∙ at in cc in
+    subst (λ (x : WatcherView). (lost : List PostView) × (v' : WatcherView) × HasTaken x lost v' × (own' ≡ Some v')) same (posts, w', (w.half.told, omega arith, taken), is')

@@ -1,0 +1,29 @@
+use Rattle.std.proofs.Common.{[], arith, sym}
+use Rattle.std.proofs.lemmas.List.{append-nil}
+use Rattle.mt_session.proofs.SharedTakeLaws.{follows_start}
+use Rattle.mt_session.proofs.SharedLineLaws.{follow_served}
+use Rattle.mt_session.proofs.shared_answer.serve_follow.Goals as goal
+
+pub rounds-init : goal.rounds-init
+rounds-init g c = record {
+  within = omega arith;
+  failed = λ t. omega arith;
+  cut_run = λ t none. none;
+  followed = λ t. ([], sym (append-nil (g.O.Output.written c.args.writer.now)), follows_start c.args.session.now);
+}
+
+pub rounds-preserved : goal.rounds-preserved
+rounds-preserved g c = record {
+  within = c.in-Told.ensures.within;
+  failed = λ t. omega (arith, c.rounds.invariant.failed t, c.in-Told.ensures.cut t);
+  cut_run = λ t none. c.in-Told.ensures.cut_run t (c.rounds.invariant.cut_run t none);
+  followed = λ t.
+      let i = c.rounds.invariant.followed t in
+      let r = c.in-Told.ensures.followed t c.args.session.now (g.O.Output.written c.args.writer.now) i.0 i.1 i.2 in
+      (r.out, r.written_is, r.round);
+}
+
+pub returns-in-Over-clause-served : goal.returns-in-Over-clause-served
+returns-in-Over-clause-served g c t =
+    let i = c.rounds.invariant.followed t in
+    follow_served c.args.session.now _ c.args.most (g.O.Output.written c.args.writer.now) _ c.in-Over.end (c.in-Over.ensures.followed t c.args.session.now (g.O.Output.written c.args.writer.now) i.0 i.1 i.2)

@@ -1,0 +1,193 @@
+-- What a session in a thread of its own writes. What its requests find depends on the other sessions, so each answer is that of the request at a desk of which no
+-- more is said; what it tells of a watcher's posts is a run from the opening that it told.
+-- A word with no source is this project's rule.
+use Rattle.std.specs.Prelude.{◌≡◌, ◌≢◌, ◌⊎◌, ℕ, ◌<◌, ◌≤◌, Bool, true, false, List, [], ◌∷◌, ◌++◌, map, length, Option, Some, None, Result, Ok, Err}
+use Rattle.std.specs.List.{flat_map}
+use Rattle.mt_skel.specs.declared.fault.Fault.{Fault}
+use Rattle.mt_skel.specs.declared.fault.Fault.TheVariants.{BadLine, NoWatcher, NoMemory as WantsMemory}
+use Rattle.mt_lines.specs.declared.line.ReadFault.TheVariants.{Device, Interrupted, Endless as NeverEnds}
+use Rattle.mt_lines.specs.Lines.{Item, Unended, Endless, lines_of}
+use Rattle.mt_events.specs.Posts.{PostView, post_text}
+use Rattle.mt_floor.specs.declared.watch.Phase.{Phase}
+use Rattle.mt_floor.specs.declared.watch.Phase.TheVariants.{Open as IsOpen}
+use Rattle.mt_floor.specs.declared.watch.Meeting.{Meeting}
+use Rattle.mt_desk.specs.Desk.{DeskView, IsDesk}
+use Rattle.mt_desk.specs.Calls.{WatcherView, IsClosed, IsMet}
+use Rattle.mt_requests.specs.declared.request.Request.{Request}
+use Rattle.mt_requests.specs.declared.request.Request.TheVariants.{Take, Follow, Close, Quit as AsksQuit, Stop as AsksStop}
+use Rattle.mt_requests.specs.Requests.{may_want_memory}
+use Rattle.mt_session.specs.declared.session.End.{End}
+use Rattle.mt_session.specs.declared.session.End.TheVariants.{Quit, Stop, Input, Read, Cut as CutOff, Memory, Spent}
+use Rattle.mt_session.specs.Answers.{refusal, count_text, posts_text, followed_text}
+use Rattle.mt_session.specs.Requests.{answer_to, by_phase}
+use Rattle.mt_session.specs.Session.{Asking, item_of, has_end, request_of_line, ends_by, line_limit, most_lines}
+use Rattle.mt_session.specs.SharedTurns.{found_state, IsDoneBy, IsUndoneBy, HasTaken}
+
+-- a request is answered as it would be at some desk, whatever the others have done
+pub record IsAnsweredAt (w : Option WatcherView) (r : Request) (text : List ℕ) (w' : Option WatcherView) : Type 0 where
+  pub desk : DeskView
+  pub now : DeskView
+  pub kept : IsDesk desk
+  pub done : IsDoneBy desk w r now w'
+  pub answer : text ≡ answer_to (found_state desk w) r
+
+-- nothing waits for a watcher: at a meeting all that was sent was taken, and this is how far its row is
+pub record IsSpent (w : WatcherView) (phase : Phase) (w' : WatcherView) : Type 0 where
+  pub desk : DeskView
+  pub now : DeskView
+  pub meeting : Meeting
+  pub met : IsMet desk w meeting now w'
+  pub all : meeting.posted ≡ meeting.taken
+  pub phase_is : meeting.state ≡ phase
+
+-- `take`: some posts, up to so many; or none wait, and the answer says why
+pub record TakesSome (w : WatcherView) (most : ℕ) (text : List ℕ) (w' : Option WatcherView) : Type 0 where
+  pub posts : List PostView
+  pub after : WatcherView
+  pub taken : HasTaken w posts after
+  pub watcher : w' ≡ Some after
+  pub some : 0 < most → posts ≢ []
+  pub most_is : length posts ≤ most
+  pub text_is : text ≡ posts_text posts
+
+pub record TakesNone (w : WatcherView) (text : List ℕ) (w' : Option WatcherView) : Type 0 where
+  pub phase : Phase
+  pub after : WatcherView
+  pub spent : IsSpent w phase after
+  pub watcher : w' ≡ Some after
+  pub text_is : text ≡ by_phase (count_text 0) phase
+
+abbrev pub IsTaken : Option WatcherView → ℕ → List ℕ → Option WatcherView → Type 0
+IsTaken None most text w' = (text ≡ refusal NoWatcher) × (w' ≡ None)
+IsTaken (Some w) most text w' = TakesSome w most text w' ⊎ TakesNone w text w'
+
+-- `follow`: so many posts, and how many they are; or fewer, and why there will be no more
+pub record FollowsAll (w : WatcherView) (most : ℕ) (text : List ℕ) (w' : Option WatcherView) : Type 0 where
+  pub posts : List PostView
+  pub after : WatcherView
+  pub taken : HasTaken w posts after
+  pub watcher : w' ≡ Some after
+  pub count : length posts ≡ most
+  pub text_is : text ≡ followed_text posts (count_text most)
+
+pub record FollowsFewer (w : WatcherView) (most : ℕ) (text : List ℕ) (w' : Option WatcherView) : Type 0 where
+  pub posts : List PostView
+  pub before : WatcherView
+  pub taken : HasTaken w posts before
+  pub phase : Phase
+  pub after : WatcherView
+  pub spent : IsSpent before phase after
+  pub ended : phase ≢ IsOpen
+  pub watcher : w' ≡ Some after
+  pub most_is : length posts ≤ most
+  pub text_is : text ≡ followed_text posts (by_phase [] phase)
+
+abbrev pub IsFollowed : Option WatcherView → ℕ → List ℕ → Option WatcherView → Type 0
+IsFollowed None most text w' = (text ≡ refusal NoWatcher) × (w' ≡ None)
+IsFollowed (Some w) most text w' = FollowsAll w most text w' ⊎ FollowsFewer w most text w'
+
+-- what a line is answered, and what becomes of the session's watcher
+abbrev pub IsTold : Option WatcherView → Result Request Fault → List ℕ → Option WatcherView → Type 0
+IsTold w (Err f) text w' = (text ≡ refusal f) × (w' ≡ w)
+IsTold w (Ok (Take most)) text w' = IsTaken w most text w'
+IsTold w (Ok (Follow most)) text w' = IsFollowed w most text w'
+IsTold w (Ok r) text w' = IsAnsweredAt w r text w'
+
+-- a request that finds no memory only once posts were taken
+abbrev pub takes_posts : Request → Bool
+takes_posts (Take most) = true
+takes_posts (Follow most) = true
+takes_posts Close = true
+takes_posts r = false
+
+-- there was no memory to do a request
+abbrev pub IsNotDone : Option WatcherView → Result Request Fault → Option WatcherView → Type 0
+IsNotDone w (Ok r) w' = (takes_posts r ≡ false) × (desk : DeskView) × (now : DeskView) × IsUndoneBy desk w r now w'
+IsNotDone w (Err f) w' = ⊥
+
+-- there was no memory: to read a line, or to do its request
+abbrev pub WantsRoom : Option WatcherView → Result Request Fault → List ℕ → Option WatcherView → Type 0
+WantsRoom w asked text w' = (text ≡ refusal WantsMemory) × (((may_want_memory asked ≡ true) × (w' ≡ w)) ⊎ IsNotDone w asked w')
+
+-- what is asked, and its answer
+abbrev pub IsTurn : Option WatcherView → Result Request Fault → List ℕ → Option WatcherView → Type 0
+IsTurn w asked text w' = IsTold w asked text w' ⊎ WantsRoom w asked text w'
+
+-- posts were taken, and there was no memory to tell them
+abbrev pub IsLost : Option WatcherView → Result Request Fault → List ℕ → Type 0
+IsLost (Some w) (Ok (Take most)) text = (lost : List PostView) × (after : WatcherView) × HasTaken w lost after × (text ≡ refusal WantsMemory)
+IsLost (Some w) (Ok (Follow most)) text =
+    (told : List PostView) × (lost : List PostView) × (after : WatcherView) × HasTaken w (told ++ lost) after × (text ≡ followed_text told (refusal WantsMemory))
+IsLost (Some w) (Ok Close) text = (desk : DeskView) × (now : DeskView) × (posts : List PostView) × IsClosed desk w posts now × (text ≡ refusal WantsMemory)
+IsLost w asked text = ⊥
+
+-- a line, and the text that answered it
+pub record SharedTurn : Type 0 where
+  pub line : Asking
+  pub text : List ℕ
+
+-- the lines of a session, one after another
+abbrev pub AreTurns : Option WatcherView → List SharedTurn → Option WatcherView → Type 0
+AreTurns w [] w' = w' ≡ w
+AreTurns w (t ∷ turns) w' = (next : Option WatcherView) × IsTurn w (request_of_line t.line) t.text next × AreTurns next turns w'
+
+-- none of them ends the session
+abbrev pub TurnsGoOn : List SharedTurn → Type 0
+TurnsGoOn [] = Unit {0}
+TurnsGoOn (t ∷ turns) = (has_end t.line ≡ true) × (ends_by (request_of_line t.line) ≡ None) × TurnsGoOn turns
+
+-- the beginning of a text
+abbrev pub IsFront : List ℕ → List ℕ → Type 0
+IsFront front text = (rest : List ℕ) × (text ≡ front ++ rest)
+
+-- an answer that was cut: so much of it went out, of a `follow` of what was printed so far
+abbrev pub IsCutShort : Option WatcherView → Result Request Fault → List ℕ → Type 0
+IsCutShort w asked out =
+    ((text : List ℕ) × (w' : Option WatcherView) × (IsTurn w asked text w' ⊎ IsLost w asked text) × IsFront out text)
+    ⊎ ((most : ℕ) × (asked ≡ Ok (Follow most)) × (v : WatcherView) × (w ≡ Some v)
+    × (posts : List PostView) × (after : WatcherView) × HasTaken v posts after × IsFront out (flat_map post_text posts))
+
+-- an end that the answer to a line brings, and what was written of the answer
+abbrev pub EndsOfAnswer : End → Option WatcherView → Result Request Fault → List ℕ → Type 0
+EndsOfAnswer Quit w asked out = (asked ≡ Ok AsksQuit) × (w' : Option WatcherView) × IsTurn w asked out w'
+EndsOfAnswer Stop w asked out = (asked ≡ Ok AsksStop) × (w' : Option WatcherView) × IsTurn w asked out w'
+EndsOfAnswer (CutOff cut) w asked out = IsCutShort w asked out
+EndsOfAnswer Memory w asked out = IsLost w asked out
+EndsOfAnswer by w asked out = ⊥
+
+-- an end that the input brings behind its lines, and what is written for it
+abbrev pub EndsOfInput : End → List Item → List ℕ → Type 0
+EndsOfInput Input items out = ((items ≡ []) × (out ≡ [])) ⊎ ((items ≡ Unended ∷ []) × (out ≡ refusal BadLine))
+EndsOfInput (Read NeverEnds) items out = (more : List Item) × (items ≡ Endless ∷ more) × (out ≡ [])
+EndsOfInput (Read Device) items out = out ≡ []
+EndsOfInput (Read Interrupted) items out = out ≡ []
+EndsOfInput by items out = ⊥
+
+-- an end that comes before any line, or behind as many as a session serves
+abbrev pub EndsOfCount : End → List SharedTurn → List ℕ → Type 0
+EndsOfCount Memory turns out = (turns ≡ []) × (out ≡ [])
+EndsOfCount Spent turns out = (length turns ≡ most_lines) × (out ≡ [])
+EndsOfCount by turns out = ⊥
+
+-- an end by the next line that was not served, or by the input in its place
+abbrev pub EndsByNext : End → Option WatcherView → List Item → List ℕ → Type 0
+EndsByNext by w items out =
+    EndsOfInput by items out
+    ⊎ ((line : Asking) × (later : List Item) × (items ≡ item_of line ∷ later) × EndsOfAnswer by w (request_of_line line) out)
+
+-- How a session ends behind the lines that it served: by the watcher that it has then, the lines that it had not served, and what it wrote still.
+abbrev pub EndsSo : End → List SharedTurn → Option WatcherView → List Item → List ℕ → Type 0
+EndsSo by turns w items out = EndsByNext by w items out ⊎ EndsOfCount by turns out
+
+-- A session in a thread of its own: its lines in order, one answer each, then its end.
+pub record ServedShared (before sent written : List ℕ) (by : End) : Type 0 where
+  pub turns : List SharedTurn
+  pub watcher : Option WatcherView
+  pub items : List Item
+  pub out : List ℕ
+  pub lines : lines_of line_limit before ≡ map (λ (t : SharedTurn). item_of t.line) turns ++ items
+  pub told : AreTurns None turns watcher
+  pub goes : TurnsGoOn turns
+  pub written_is : written ≡ sent ++ (flat_map (λ (t : SharedTurn). t.text) turns ++ out)
+  pub ends : EndsSo by turns watcher items out
+  pub count : length turns ≤ most_lines

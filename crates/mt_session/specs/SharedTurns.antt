@@ -1,0 +1,87 @@
+-- What a request does to a desk and to the watcher of a session in a thread of its own.
+-- A word with no source is this project's rule.
+use Rattle.std.specs.Prelude.{◌≡◌, ◌⊎◌, ℕ, ◌+◌, ◌<◌, ◌≤◌, Bool, true, false, List, [], ◌++◌, length, replicate, Option, Some, None, Err}
+use Rattle.std.specs.List.{flat_map}
+use Rattle.std.specs.Option.{option_map, option_map_or}
+use Rattle.mt_skel.specs.declared.fault.Fault.{Fault}
+use Rattle.mt_skel.specs.Keyed.{row_at}
+use Rattle.mt_events.specs.Posts.{PostView, post_text}
+use Rattle.mt_events.specs.declared.opening.Scope.{Scope}
+use Rattle.mt_events.specs.Following.{IsRun}
+use Rattle.mt_book.specs.declared.command.Command.{Command}
+use Rattle.mt_book.specs.declared.command.Reply.{Reply}
+use Rattle.mt_floor.specs.declared.event.Event.TheVariants.{Apply, Open, Take as TakePost}
+use Rattle.mt_floor.specs.Watcher.{opening_of}
+use Rattle.mt_floor.specs.Schedule.{FloorView, floor_step, run}
+use Rattle.mt_desk.specs.Desk.{DeskRow, DeskView, row_key, floor_of_desk, with_watcher, halted_desk}
+use Rattle.mt_desk.specs.Calls.{WatcherView, unseen, IsApplied, IsClosed}
+use Rattle.mt_requests.specs.declared.request.Request.{Request}
+use Rattle.mt_requests.specs.declared.request.Request.TheVariants.{Run, Show, Find, Watch, Take, Follow, Close, Stop}
+use Rattle.mt_session.specs.Answers.{lines_of_posts}
+use Rattle.mt_session.specs.Requests.{SessionState, state_at}
+use Rattle.mt_session.specs.declared.text.PrintedPosts.{PrintedPosts}
+
+-- the floor of a desk once it has seen what the session's watcher took
+abbrev pub floor_seen : DeskView → Option WatcherView → FloorView
+floor_seen d None = floor_of_desk d
+floor_seen d (Some w) = option_map_or (λ (r : DeskRow). (run (floor_of_desk d) (replicate (unseen d.capacity r w.half) (TakePost w.key))).0) (row_at row_key w.key d.rows) (floor_of_desk d)
+
+-- what a request finds at a desk
+abbrev pub found_state : DeskView → Option WatcherView → SessionState
+found_state d w = state_at (floor_seen d w) (option_map (λ (v : WatcherView). v.key) w)
+
+-- a request is done while the desk is held; the others take posts, and hold it for a meeting alone
+abbrev pub is_under_lock : Request → Bool
+is_under_lock (Take k) = false
+is_under_lock (Follow k) = false
+is_under_lock r = true
+
+-- a command is accepted, or refused with nothing changed
+abbrev pub IsCommanded : DeskView → Command → DeskView → Type 0
+IsCommanded d c now =
+    ((reply : Reply) × IsApplied d c reply now)
+    ⊎ ((fault : Fault) × (floor_step (floor_of_desk d) (Apply c) ≡ (floor_of_desk d, Err fault)) × (now ≡ d))
+
+-- a watcher begins, or is refused with nothing changed
+abbrev pub IsBegun : DeskView → Scope → DeskView → Option WatcherView → Type 0
+IsBegun d scope now None = (fault : Fault) × (floor_step (floor_of_desk d) (Open scope) ≡ (floor_of_desk d, Err fault)) × (now ≡ d)
+IsBegun d scope now (Some w) = (now ≡ with_watcher d scope) × (w.key ≡ d.next_key) × (w.half.opening ≡ opening_of d.journal scope) × (w.half.taken ≡ [])
+
+-- what a request does to a desk and to the session's watcher
+abbrev pub IsDoneBy : DeskView → Option WatcherView → Request → DeskView → Option WatcherView → Type 0
+IsDoneBy d w (Run c) now w' = IsCommanded d c now × (w' ≡ w)
+IsDoneBy d None (Watch scope) now w' = IsBegun d scope now w'
+IsDoneBy d (Some w) Close now w' = (posts : List PostView) × IsClosed d w posts now × (w' ≡ None)
+IsDoneBy d w Stop now w' = (now ≡ halted_desk d) × (w' ≡ w)
+IsDoneBy d w r now w' = (now ≡ d) × (w' ≡ w)
+
+-- Want of memory leaves all as it was; but a watcher that has begun and could not be told what it found is closed again, and one that is closed is closed
+-- though its posts could not be told.
+abbrev pub IsUndoneBy : DeskView → Option WatcherView → Request → DeskView → Option WatcherView → Type 0
+IsUndoneBy d w (Run c) now w' = (now ≡ d) × (w' ≡ w)
+IsUndoneBy d w (Show n) now w' = (now ≡ d) × (w' ≡ w)
+IsUndoneBy d w (Find n path) now w' = (now ≡ d) × (w' ≡ w)
+IsUndoneBy d None (Watch scope) now w' =
+    (w' ≡ None)
+    × ((now ≡ d) ⊎ ((held : DeskView) × (begun : WatcherView) × IsBegun d scope held (Some begun) × IsClosed held begun [] now))
+IsUndoneBy d (Some w) Close now w' = (posts : List PostView) × IsClosed d w posts now × (w' ≡ None)
+IsUndoneBy d w r now w' = ⊥
+
+-- a watcher has taken posts, and may have met the desk
+abbrev pub HasTaken : WatcherView → List PostView → WatcherView → Type 0
+HasTaken w posts w' = (told : ℕ) × (w.half.told ≤ told) × (w' ≡ record w { half = record w.half { taken = w.half.taken ++ posts; told = told } })
+
+-- a watcher has taken posts, and has not met the desk
+abbrev pub with_posts : WatcherView → List PostView → WatcherView
+with_posts w posts = record w { half = record w.half { taken = w.half.taken ++ posts } }
+
+-- Up to so many posts were taken and printed, fewer only where none waited at one moment, and so not before as many were taken as the last meeting told.
+pub record IsPopped (w : WatcherView) (most : ℕ) (printed : PrintedPosts) (w' : Option WatcherView) : Type 0 where
+  pub posts : List PostView
+  pub watcher : w' ≡ Some (with_posts w posts)
+  pub text : printed.text.items ≡ flat_map post_text posts
+  pub lines : printed.lines ≡ lines_of_posts posts
+  pub count : printed.posts ≡ length posts
+  pub most_is : length posts ≤ most
+  pub fewer : length posts < most → w.half.told ≤ length w.half.taken + length posts
+  pub run : IsRun w.half.opening (w.half.taken ++ posts)

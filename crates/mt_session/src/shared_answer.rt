@@ -1,0 +1,464 @@
+//! How a session in a thread of its own answers a request.
+ghost use Rattle.std.specs.Prelude.{◌≡◌, ◌≢◌, ◌+◌, ◌++◌, ◌≤◌, ℕ, List, [], Option, true, IsTrue, IfOk, OnErr, IsOkUnless, Ok, Err, None, Some};
+ghost use Rattle.std.specs.Option.{ForSome};
+ghost use Rattle.mt_skel.specs.declared.fault.Fault.TheVariants.{NoMemory};
+ghost use Rattle.mt_desk.specs.Calls.{WatcherView};
+ghost use Rattle.mt_requests.specs.declared.request.Request.TheVariants.{Take, Follow};
+ghost use Rattle.mt_lines.specs.declared.stream.Cut.{Cut};
+ghost use Rattle.mt_session.specs.declared.session.End.TheVariants.{Memory, Cut as CutOff};
+ghost use Rattle.mt_session.specs.Answers.{refusal, count_text};
+ghost use Rattle.mt_session.specs.Serving.{IsSent};
+ghost use Rattle.mt_session.specs.Session.{IsCutCause, IsCutRun};
+ghost use Rattle.mt_session.specs.SharedTurns.{is_under_lock};
+ghost use Rattle.mt_session.specs.SharedSession.{IsAnsweredAt, IsTaken, IsLost};
+ghost use Rattle.mt_session.specs.SharedServing.{IsUndoneAt, HasMet, IsPortion, Follows, ServesAsked, FollowsOn, IsWithin, end_of_round, ends_by_request};
+
+use crate::bell::Bell;
+use crate::client::find_client;
+use crate::gate::Gate;
+use crate::session::{End, answer_with, end_of};
+use crate::shared_turn::SharedSession;
+use crate::shown::told_refusal;
+use crate::text::{PrintedPosts, Text};
+use crate::turn::phase_text;
+use mt_book::command::Reply;
+use mt_desk::desk::Desk;
+use mt_desk::lines::Naming;
+use mt_floor::watch::{Meeting, Phase};
+use mt_lines::stream::Output;
+use mt_requests::request::Request;
+use mt_skel::fault::Fault;
+use std::alloc::Global;
+use std::sync::{Mutex, Wait};
+use std::time::Clock;
+
+/// How many posts of a `follow` are sent at once at most.
+const MOST_AT_ONCE: u64 = 64;
+
+/// What a session shares with the others, and what is its own for all its requests.
+#[derive(Drop)]
+pub struct Shared<'a, J: Naming, G: Gate> {
+    /// The desk, which is held while a request is done.
+    pub desk: &'a Mutex<Desk<J>>,
+    /// Where a session that follows rests.
+    pub bell: &'a Bell,
+    /// What is called at moments of the session.
+    pub gate: &'a G,
+    /// The session's number.
+    pub number: u64,
+    /// What memory for answers comes from.
+    pub alloc: Global,
+}
+
+/// Does a request while the desk is held. Refused as `NoMemory` alone.
+fn do_locked<J: Naming, G: Gate, R: Wait>(
+    rt: &R,
+    shared: &Shared<'_, J, G>,
+    session: &mut SharedSession<J>,
+    request: &Request,
+) -> Result<Text, Fault>
+    requires { is_under_lock request.now ≡ true }
+    ensures answered { IfOk result (λ text. IsAnsweredAt session.old request.now text session.new) }
+    ensures memory { IsOkUnless result Fault.NoMemory }
+    ensures undone { OnErr result (IsUndoneAt session.old request.now session.new) }
+{
+    let mut desk = shared.desk.lock(rt);
+    let text = session.locked(rt, &mut *desk, request)?;
+    if matches!(request, Request::Run(_)) {
+        shared.gate.in_lock(rt, shared.number);
+    }
+    Ok(text)
+}
+
+/// Meets the desk while it is held.
+fn meet<J: Naming, G: Gate, R: Wait>(
+    rt: &R,
+    shared: &Shared<'_, J, G>,
+    session: &mut SharedSession<J>,
+) -> Option<Meeting>
+    ensures { HasMet session.old result session.new }
+{
+    let mut desk = shared.desk.lock(rt);
+    session.meet(&mut *desk)
+}
+
+/// Closes the session's watcher, if it has one, while the desk is held.
+pub fn leave<J: Naming, G: Gate, R: Wait>(
+    rt: &R,
+    shared: &Shared<'_, J, G>,
+    session: &mut SharedSession<J>,
+)
+    ensures { session.new ≡ None }
+{
+    let mut desk = shared.desk.lock(rt);
+    session.leave(rt, &mut *desk);
+}
+
+/// Says that there was no memory to tell posts that were taken, with which the session ends.
+fn tell_lost<O: Output>(writer: &mut O) -> Option<End>
+    ensures sent { IsTrue O.tells → IsSent (O.written writer.old) (O.written writer.new) (refusal NoMemory) (Some Memory) result }
+    ensures cut { IsTrue O.counts → IsCutCause result (O.failed writer.old) (O.failed writer.new) }
+    ensures cut_run { IsTrue O.counts → O.faults writer.old ≡ [] → IsCutRun result (O.faults writer.new) }
+    ensures ended { ForSome result (λ e. ends_by_request e ≡ true) }
+{
+    match answer_with(writer, &Text::refusal(Fault::NoMemory), None) {
+        Some(end) => Some(end),
+        None => Some(End::Memory),
+    }
+}
+
+/// Whether a request may give other sessions something to take, or end what they follow.
+fn wakes(request: &Request) -> bool {
+    matches!(request, Request::Run(_) | Request::Stop)
+}
+
+/// Says that there was no memory to do a request, with which the session ends where posts were lost with it.
+fn tell_undone<O: Output>(writer: &mut O, request: &Request) -> Option<End>
+    ensures close { request.now ≡ Request.Close → IsTrue O.tells → IsSent (O.written writer.old) (O.written writer.new) (refusal NoMemory) (Some Memory) result }
+    ensures others { request.now ≢ Request.Close → IsTrue O.tells → IsSent (O.written writer.old) (O.written writer.new) (refusal NoMemory) None result }
+    ensures cut { IsTrue O.counts → IsCutCause result (O.failed writer.old) (O.failed writer.new) }
+    ensures cut_run { IsTrue O.counts → O.faults writer.old ≡ [] → IsCutRun result (O.faults writer.new) }
+    ensures ended { ForSome result (λ e. ends_by_request e ≡ true) }
+{
+    if matches!(request, Request::Close) {
+        tell_lost(writer)
+    } else {
+        answer_with(writer, &Text::refusal(Fault::NoMemory), None)
+    }
+}
+
+/// Serves a request that is done while the desk is held: how the session ends by it, if it does.
+fn serve_locked<J: Naming, O: Output, G: Gate, R: Wait>(
+    rt: &R,
+    shared: &Shared<'_, J, G>,
+    session: &mut SharedSession<J>,
+    writer: &mut O,
+    request: &Request,
+) -> Option<End>
+    requires { is_under_lock request.now ≡ true }
+    ensures served { IsTrue O.tells → ServesAsked session.old (Ok request.now) (O.written writer.old) (O.written writer.new) result session.new }
+    ensures cut { IsTrue O.counts → IsCutCause result (O.failed writer.old) (O.failed writer.new) }
+    ensures cut_run { IsTrue O.counts → O.faults writer.old ≡ [] → IsCutRun result (O.faults writer.new) }
+    ensures ended { ForSome result (λ e. ends_by_request e ≡ true) }
+{
+    let answer = do_locked(rt, shared, session, request);
+    if wakes(request) {
+        shared.bell.ring(rt);
+    }
+    shared.gate.before_answer(rt, shared.number);
+    match answer {
+        Ok(text) => answer_with(writer, &text, end_of(request)),
+        Err(_) => tell_undone(writer, request),
+    }
+}
+
+/// What a `take` is answered, and whether it took posts.
+#[derive(Drop)]
+struct TakeAnswer {
+    text: Text,
+    took: bool,
+}
+
+/// The answer of a `take` that took no posts.
+fn took_none(text: Text) -> TakeAnswer
+    ensures { result.text ≡ text }
+{
+    TakeAnswer { text, took: false }
+}
+
+/// The answer of a `take` that took these posts. Refused as `NoMemory` alone.
+fn took_posts(alloc: Global, printed: &PrintedPosts) -> Result<TakeAnswer, Fault>
+    ensures { IfOk result (λ answer. answer.text ≡ count_text printed.now.lines ++ printed.now.text.items) }
+{
+    let text = Text::counted(alloc, printed.lines, &printed.text)?;
+    Ok(TakeAnswer { text, took: true })
+}
+
+/// The answer of a `take` that took none at first: the session meets the desk, and takes again if some have come.
+/// Refused as `NoMemory` alone, where the posts that were taken are lost.
+fn take_met<J: Naming, G: Gate, R: Wait>(
+    rt: &R,
+    shared: &Shared<'_, J, G>,
+    session: &mut SharedSession<J>,
+    most: u64,
+) -> Result<TakeAnswer, Fault>
+    ensures taken { IfOk result (λ answer. IsTaken session.old most answer.text session.new) }
+    ensures lost { OnErr result (IsLost session.old (Ok (Take most)) (refusal NoMemory)) }
+{
+    let Some(meeting) = meet(rt, shared, session) else {
+        return Ok(took_none(Text::refusal(Fault::NoWatcher)));
+    };
+    if meeting.posted > meeting.taken {
+        let printed = session.pops(rt, most)?;
+        return took_posts(shared.alloc, &printed);
+    }
+    Ok(took_none(phase_text(0, meeting.state)))
+}
+
+/// Takes up to so many posts. Refused as `NoMemory` alone, where the posts that were taken are lost.
+fn take<J: Naming, G: Gate, R: Wait>(
+    rt: &R,
+    shared: &Shared<'_, J, G>,
+    session: &mut SharedSession<J>,
+    most: u64,
+) -> Result<TakeAnswer, Fault>
+    ensures taken { IfOk result (λ answer. IsTaken session.old most answer.text session.new) }
+    ensures lost { OnErr result (IsLost session.old (Ok (Take most)) (refusal NoMemory)) }
+{
+    let printed = match session.pops(rt, most) {
+        Ok(printed) => printed,
+        Err(fault) => return Ok(took_none(told_refusal(fault)?)),
+    };
+    if printed.posts == 0 {
+        return take_met(rt, shared, session, most);
+    }
+    took_posts(shared.alloc, &printed)
+}
+
+/// Serves a `take`: how the session ends by it, if it does.
+fn serve_take<J: Naming, O: Output, G: Gate, R: Wait>(
+    rt: &R,
+    shared: &Shared<'_, J, G>,
+    session: &mut SharedSession<J>,
+    writer: &mut O,
+    most: u64,
+) -> Option<End>
+    ensures served { IsTrue O.tells → ServesAsked session.old (Ok (Take most)) (O.written writer.old) (O.written writer.new) result session.new }
+    ensures cut { IsTrue O.counts → IsCutCause result (O.failed writer.old) (O.failed writer.new) }
+    ensures cut_run { IsTrue O.counts → O.faults writer.old ≡ [] → IsCutRun result (O.faults writer.new) }
+    ensures ended { ForSome result (λ e. ends_by_request e ≡ true) }
+{
+    let answer = take(rt, shared, session, most);
+    shared.gate.before_answer(rt, shared.number);
+    let Ok(answer) = answer else {
+        return tell_lost(writer);
+    };
+    let end = answer_with(writer, &answer.text, None);
+    if end.is_none() && answer.took {
+        shared.gate.taken(rt, shared.number);
+    }
+    end
+}
+
+/// What a session that follows posts finds.
+#[derive(Drop)]
+enum Portion {
+    /// Posts, or none where some have come since.
+    Posts(PrintedPosts),
+    /// None wait, and there may be more.
+    Rest,
+    /// None wait, and there will be no more.
+    Over(Phase),
+    /// None could be taken, or they could not be told.
+    Refused(Fault),
+}
+
+/// What is found where none wait, and the watcher is so far.
+fn portion_of(phase: Phase) -> Portion
+    ensures rest { phase ≡ Phase.Open → result ≡ Portion.Rest }
+    ensures over { phase ≢ Phase.Open → result ≡ Portion.Over phase }
+{
+    if phase == Phase::Open {
+        Portion::Rest
+    } else {
+        Portion::Over(phase)
+    }
+}
+
+/// Takes the next posts that are followed, up to so many.
+fn next_portion<J: Naming, G: Gate, R: Wait>(
+    rt: &R,
+    shared: &Shared<'_, J, G>,
+    session: &mut SharedSession<J>,
+    most: u64,
+) -> Portion
+    ensures { IsPortion session.old most result session.new }
+{
+    let printed = match session.pops(rt, most.min(MOST_AT_ONCE)) {
+        Ok(printed) => printed,
+        Err(fault) => return Portion::Refused(fault),
+    };
+    if printed.posts > 0 || most == 0 {
+        return Portion::Posts(printed);
+    }
+    match meet(rt, shared, session) {
+        Some(meeting) => {
+            if meeting.posted > meeting.taken {
+                Portion::Posts(printed)
+            } else {
+                portion_of(meeting.state)
+            }
+        }
+        None => Portion::Refused(Fault::NoWatcher),
+    }
+}
+
+/// What a round of a `follow` comes to.
+#[derive(Clone, Copy)]
+enum Round {
+    /// So many posts were told in all, and it goes on.
+    Told(u64),
+    /// It is answered, and so the session ends by it, if it does.
+    Over(Option<End>),
+}
+
+/// Sends the last line of a `follow`, or the only one.
+fn close_follow<J: Naming, O: Output, G: Gate, R: Wait>(
+    rt: &R,
+    shared: &Shared<'_, J, G>,
+    writer: &mut O,
+    text: &Text,
+) -> Option<End>
+    ensures sent { IsTrue O.tells → IsSent (O.written writer.old) (O.written writer.new) text.now None result }
+    ensures cut { IsTrue O.counts → IsCutCause result (O.failed writer.old) (O.failed writer.new) }
+    ensures cut_run { IsTrue O.counts → O.faults writer.old ≡ [] → IsCutRun result (O.faults writer.new) }
+    ensures ended { ForSome result (λ e. ends_by_request e ≡ true) }
+{
+    shared.gate.before_answer(rt, shared.number);
+    answer_with(writer, text, None)
+}
+
+/// Sends posts that are followed, of which so many were told before.
+fn tell_portion<J: Naming, O: Output, G: Gate, R: Wait>(
+    rt: &R,
+    shared: &Shared<'_, J, G>,
+    writer: &mut O,
+    printed: PrintedPosts,
+    told: u64,
+    most: u64,
+) -> Round
+    requires { told + printed.posts ≤ most }
+    ensures followed { IsTrue O.tells → (w : WatcherView) (w' : Option WatcherView) (sent : List ℕ) (out : List ℕ)
+        → O.written writer.old ≡ sent ++ out → Follows (Some w) (out ++ printed.text.items) (told + printed.posts) w'
+        → FollowsOn (Some w) most sent (O.written writer.new) result w' }
+    ensures within { IsWithin most result }
+    ensures cut { IsTrue O.counts → IsCutCause (end_of_round result) (O.failed writer.old) (O.failed writer.new) }
+    ensures cut_run { IsTrue O.counts → O.faults writer.old ≡ [] → IsCutRun (end_of_round result) (O.faults writer.new) }
+    ensures ended { ForSome (end_of_round result) (λ e. ends_by_request e ≡ true) }
+{
+    let told = told + printed.posts;
+    let some = printed.posts > 0;
+    if let Some(end) = answer_with(writer, &Text::lines(printed.text), None) {
+        return Round::Over(Some(end));
+    }
+    if some {
+        shared.gate.taken(rt, shared.number);
+    }
+    if told == most {
+        return Round::Over(close_follow(rt, shared, writer, &Text::reply(Reply::Number(told))));
+    }
+    Round::Told(told)
+}
+
+/// Rests at the bell, and then finds out whether the client is still there: the end of the session, if it has gone.
+fn rest<J: Naming, O: Output, G: Gate, R: Wait + Clock>(
+    rt: &R,
+    shared: &Shared<'_, J, G>,
+    writer: &mut O,
+) -> Option<End>
+    ensures kept { IsTrue O.tells → O.written writer.new ≡ O.written writer.old }
+    ensures gone { ForSome result (λ e. (cut : Cut) × (e ≡ CutOff cut)) }
+    ensures cut { IsTrue O.counts → IsCutCause result (O.failed writer.old) (O.failed writer.new) }
+    ensures cut_run { IsTrue O.counts → O.faults writer.old ≡ [] → IsCutRun result (O.faults writer.new) }
+{
+    shared.bell.rest(rt);
+    match find_client(writer) {
+        Ok(()) => None,
+        Err(cut) => Some(End::Cut(cut)),
+    }
+}
+
+/// Says why no posts could be told of a `follow`, and how the session ends by it, if it does.
+fn refuse_follow<J: Naming, O: Output, G: Gate, R: Wait>(
+    rt: &R,
+    shared: &Shared<'_, J, G>,
+    writer: &mut O,
+    fault: Fault,
+) -> Option<End>
+    ensures memory { fault ≡ Fault.NoMemory → IsTrue O.tells → IsSent (O.written writer.old) (O.written writer.new) (refusal NoMemory) (Some Memory) result }
+    ensures others { fault ≢ Fault.NoMemory → IsTrue O.tells → IsSent (O.written writer.old) (O.written writer.new) (refusal fault) None result }
+    ensures cut { IsTrue O.counts → IsCutCause result (O.failed writer.old) (O.failed writer.new) }
+    ensures cut_run { IsTrue O.counts → O.faults writer.old ≡ [] → IsCutRun result (O.faults writer.new) }
+    ensures ended { ForSome result (λ e. ends_by_request e ≡ true) }
+{
+    match told_refusal(fault) {
+        Ok(text) => close_follow(rt, shared, writer, &text),
+        Err(_) => tell_lost(writer),
+    }
+}
+
+/// One round of a `follow` of which so many posts were told.
+fn follow_round<J: Naming, O: Output, G: Gate, R: Wait + Clock>(
+    rt: &R,
+    shared: &Shared<'_, J, G>,
+    session: &mut SharedSession<J>,
+    writer: &mut O,
+    told: u64,
+    most: u64,
+) -> Round
+    requires { told ≤ most }
+    ensures followed { IsTrue O.tells → (w : Option WatcherView) (sent : List ℕ) (out : List ℕ)
+        → O.written writer.old ≡ sent ++ out → Follows w out told session.old
+        → FollowsOn w most sent (O.written writer.new) result session.new }
+    ensures within { IsWithin most result }
+    ensures cut { IsTrue O.counts → IsCutCause (end_of_round result) (O.failed writer.old) (O.failed writer.new) }
+    ensures cut_run { IsTrue O.counts → O.faults writer.old ≡ [] → IsCutRun (end_of_round result) (O.faults writer.new) }
+    ensures ended { ForSome (end_of_round result) (λ e. ends_by_request e ≡ true) }
+{
+    match next_portion(rt, shared, session, most - told) {
+        Portion::Posts(printed) => tell_portion(rt, shared, writer, printed, told, most),
+        Portion::Rest => match rest(rt, shared, writer) {
+            None => Round::Told(told),
+            Some(end) => Round::Over(Some(end)),
+        },
+        Portion::Over(phase) => {
+            Round::Over(close_follow(rt, shared, writer, &phase_text(told, phase)))
+        }
+        Portion::Refused(fault) => Round::Over(refuse_follow(rt, shared, writer, fault)),
+    }
+}
+
+/// Serves a `follow`: how the session ends by it, if it does.
+fn serve_follow<J: Naming, O: Output, G: Gate, R: Wait + Clock>(
+    rt: &R,
+    shared: &Shared<'_, J, G>,
+    session: &mut SharedSession<J>,
+    writer: &mut O,
+    most: u64,
+) -> Option<End>
+    ensures served { IsTrue O.tells → ServesAsked session.old (Ok (Follow most)) (O.written writer.old) (O.written writer.new) result session.new }
+    ensures cut { IsTrue O.counts → IsCutCause result (O.failed writer.old) (O.failed writer.new) }
+    ensures cut_run { IsTrue O.counts → O.faults writer.old ≡ [] → IsCutRun result (O.faults writer.new) }
+    ensures ended { ForSome result (λ e. ends_by_request e ≡ true) }
+{
+    let mut told = 0u64;
+    'rounds: for _round in rt.forever() {
+        match follow_round(rt, shared, session, writer, told, most) {
+            Round::Told(count) => told = count,
+            Round::Over(end) => return end,
+        }
+    }
+    unreachable!()
+}
+
+/// Serves a request: how the session ends by it, if it does.
+pub fn serve_request<J: Naming, O: Output, G: Gate, R: Wait + Clock>(
+    rt: &R,
+    shared: &Shared<'_, J, G>,
+    session: &mut SharedSession<J>,
+    writer: &mut O,
+    request: &Request,
+) -> Option<End>
+    ensures served { IsTrue O.tells → ServesAsked session.old (Ok request.now) (O.written writer.old) (O.written writer.new) result session.new }
+    ensures cut { IsTrue O.counts → IsCutCause result (O.failed writer.old) (O.failed writer.new) }
+    ensures cut_run { IsTrue O.counts → O.faults writer.old ≡ [] → IsCutRun result (O.faults writer.new) }
+    ensures ended { ForSome result (λ e. ends_by_request e ≡ true) }
+{
+    if let Request::Take(most) = request {
+        return serve_take(rt, shared, session, writer, *most);
+    }
+    if let Request::Follow(most) = request {
+        return serve_follow(rt, shared, session, writer, *most);
+    }
+    serve_locked(rt, shared, session, writer, request)
+}

@@ -1,0 +1,278 @@
+//! What a session in a thread of its own does for a request.
+ghost use Rattle.std.specs.Prelude.{◌≡◌, ◌≢◌, List, map, true, IfOk, IfErr, OnOk, OnErr, IsOkUnless, IsSome, Ok, Err, None, Some};
+ghost use Rattle.std.specs.Option.{ForSome};
+ghost use Rattle.std.specs.Arc.{arc_value};
+ghost use Rattle.mt_events.specs.Posts.{PostView};
+ghost use Rattle.mt_events.specs.Following.{IsRun};
+ghost use Rattle.mt_desk.specs.Calls.{WatcherView, IsMet, IsClosed};
+ghost use Rattle.mt_desk.specs.Desk.{IsDesk, floor_of_desk};
+ghost use Rattle.mt_session.specs.Answers.{posts_text};
+ghost use Rattle.mt_session.specs.Requests.{answer_to, replied_text, opened_text, closed_text};
+ghost use Rattle.mt_session.specs.SharedTurns.{floor_seen, found_state, is_under_lock, with_posts, IsCommanded, IsBegun, IsDoneBy, IsUndoneBy, HasTaken, IsPopped};
+
+use crate::shown::{find, show, told_refusal};
+use crate::text::{PrintedPosts, Text};
+use mt_book::command::{Command, Reply};
+use mt_desk::desk::Desk;
+use mt_desk::lines::Naming;
+use mt_desk::watcher::Watcher;
+use mt_events::opening::Scope;
+use mt_events::post::Post;
+use mt_events::shared::SharedPosts;
+use mt_floor::watch::Meeting;
+use mt_requests::request::Request;
+use mt_skel::fault::Fault;
+use std::alloc::Global;
+use std::marker::Model;
+use std::sync::{Arc, Wait};
+
+/// A session at the desk of a name: its watcher, if it has one.
+#[derive(Drop)]
+pub struct SharedSession<J: Naming> {
+    watcher: Option<Watcher<J>>,
+    alloc: Global,
+}
+
+impl<J: Naming> Model for SharedSession<J> {
+    ghost use Rattle.std.specs.Prelude.{Option};
+    ghost use Rattle.mt_desk.specs.Calls.{WatcherView};
+    ghost use Rattle.mt_session.specs.Taking.{IsRunning};
+
+    ghost Value = { Option WatcherView };
+
+    ghost view = { λ s. s.watcher };
+
+    ghost invariant = { λ s. IsRunning s.watcher };
+}
+
+/// Applies a command, and answers its reply or refusal. Refused as `NoMemory` alone, with nothing changed.
+fn run<J: Naming, R: Wait>(rt: &R, desk: &mut Desk<J>, command: &Command) -> Result<Text, Fault>
+    ensures text { IfOk result (λ text. text ≡ replied_text (floor_of_desk desk.old) command.now) }
+    ensures done { OnOk result (IsCommanded desk.old command.now desk.new) }
+    ensures memory { IsOkUnless result Fault.NoMemory }
+    ensures unchanged { OnErr result (desk.new ≡ desk.old) }
+{
+    match desk.apply(rt, command) {
+        Ok(reply) => Ok(Text::reply(reply)),
+        Err(fault) => told_refusal(fault),
+    }
+}
+
+/// How far a watcher of the desk is.
+fn met<J: Naming>(desk: &mut Desk<J>, watcher: &mut Watcher<J>) -> Meeting
+    ensures { IsMet desk.old watcher.old result desk.new watcher.new }
+{
+    match desk.meet(watcher) {
+        Ok(meeting) => meeting,
+        Err(_) => unreachable!(),
+    }
+}
+
+/// Ends a watcher of the desk, and answers what was sent to it and not taken.
+fn closed<J: Naming, R: Wait>(rt: &R, desk: &mut Desk<J>, watcher: Watcher<J>) -> SharedPosts
+    ensures { IsClosed desk.old watcher result desk.new }
+{
+    match desk.close(rt, watcher) {
+        Ok(posts) => posts,
+        Err(_) => unreachable!(),
+    }
+}
+
+/// Posts behind how many lines they are. Refused as `NoMemory` alone.
+fn told(alloc: Global, posts: &[Arc<Post>]) -> Result<Text, Fault>
+    ensures text { IfOk result (λ text. text ≡ posts_text (map (λ p. arc_value p) posts.now)) }
+    ensures memory { IsOkUnless result Fault.NoMemory }
+{
+    let mut printed = PrintedPosts::new(alloc);
+    'posts: for post in posts {
+        printed.push(post)?;
+    }
+    Ok(Text::counted(alloc, printed.lines, &printed.text)?)
+}
+
+/// Ends a watcher of the desk, and tells what was sent to it and not taken. Refused as `NoMemory` alone: then the watcher
+/// has ended too, and that is lost.
+fn told_end<J: Naming, R: Wait>(
+    rt: &R,
+    alloc: Global,
+    desk: &mut Desk<J>,
+    watcher: Watcher<J>,
+) -> Result<Text, Fault>
+    ensures text { IfOk result (λ text. text ≡ closed_text (floor_seen desk.old (Some watcher)) watcher.key) }
+    ensures closed { (posts : List PostView) × IsClosed desk.old watcher posts desk.new }
+    ensures memory { IsOkUnless result Fault.NoMemory }
+{
+    let posts = closed(rt, desk, watcher);
+    told(alloc, posts.as_slice())
+}
+
+/// Takes up to so many posts of a watcher, and prints them. Refused as `NoMemory` alone, where those that were taken are
+/// lost.
+fn taken<J: Naming, R: Wait>(
+    rt: &R,
+    alloc: Global,
+    watcher: &mut Watcher<J>,
+    most: u64,
+) -> Result<PrintedPosts, Fault>
+    requires { IsRun watcher.old.half.opening watcher.old.half.taken }
+    ensures popped { IfOk result (λ printed. IsPopped watcher.old most printed (Some watcher.new)) }
+    ensures taken { (posts : List PostView) × (watcher.new ≡ with_posts watcher.old posts) }
+    ensures memory { IsOkUnless result Fault.NoMemory }
+    ensures run { IsRun watcher.new.half.opening watcher.new.half.taken }
+{
+    let mut printed = PrintedPosts::new(alloc);
+    'posts: for _count in 0..most {
+        let Some(post) = watcher.take(rt) else {
+            return Ok(printed);
+        };
+        printed.push(&post)?;
+    }
+    Ok(printed)
+}
+
+impl<J: Naming> SharedSession<J> {
+    /// A session with no watcher. Memory for its answers will come from `alloc`.
+    pub fn new(alloc: Global) -> SharedSession<J>
+        ensures { result ≡ None }
+    {
+        SharedSession {
+            watcher: None,
+            alloc,
+        }
+    }
+
+    /// Begins a watcher, and tells what it finds. Where there is no memory to tell it, the watcher is closed again.
+    fn begin<R: Wait>(&mut self, rt: &R, desk: &mut Desk<J>, scope: Scope) -> Result<Text, Fault>
+        requires none { self.old ≡ None }
+        requires desk { IsDesk desk.old }
+        ensures text { IfOk result (λ text. text ≡ opened_text (floor_of_desk desk.old) scope) }
+        ensures begun { OnOk result (IsBegun desk.old scope desk.new self.new) }
+        ensures memory { IsOkUnless result Fault.NoMemory }
+        ensures undone { OnErr result (IsUndoneBy desk.old None (Request.Watch scope) desk.new self.new) }
+    {
+        let watcher = match desk.open(scope) {
+            Ok(watcher) => watcher,
+            Err(fault) => return told_refusal(fault),
+        };
+        match Text::opening(self.alloc, watcher.opening()) {
+            Ok(text) => {
+                self.watcher = Some(watcher);
+                Ok(text)
+            }
+            Err(fault) => {
+                let _ = closed(rt, desk, watcher);
+                Err(fault)
+            }
+        }
+    }
+
+    /// Begins a watcher where the session has none.
+    #[tactic(auto, unfolding(crate::specs::Requests::answer_to))]
+    fn watch<R: Wait>(&mut self, rt: &R, desk: &mut Desk<J>, scope: Scope) -> Result<Text, Fault>
+        requires { IsDesk desk.old }
+        ensures text { IfOk result (λ text. text ≡ answer_to (found_state desk.old self.old) (Request.Watch scope)) }
+        ensures done { OnOk result (IsDoneBy desk.old self.old (Request.Watch scope) desk.new self.new) }
+        ensures memory { IsOkUnless result Fault.NoMemory }
+        ensures undone { OnErr result (IsUndoneBy desk.old self.old (Request.Watch scope) desk.new self.new) }
+    {
+        if self.watcher.is_some() {
+            return Ok(Text::refusal(Fault::WatcherOpen));
+        }
+        self.begin(rt, desk, scope)
+    }
+
+    /// Closes the session's watcher, if it has one, and tells what it has not taken.
+    #[tactic(auto, unfolding(crate::specs::Requests::answer_to))]
+    fn close<R: Wait>(&mut self, rt: &R, desk: &mut Desk<J>) -> Result<Text, Fault>
+        ensures text { IfOk result (λ text. text ≡ answer_to (found_state desk.old self.old) Request.Close) }
+        ensures done { OnOk result (IsDoneBy desk.old self.old Request.Close desk.new self.new) }
+        ensures memory { IsOkUnless result Fault.NoMemory }
+        ensures undone { OnErr result (IsUndoneBy desk.old self.old Request.Close desk.new self.new) }
+    {
+        match self.watcher.take() {
+            Some(watcher) => told_end(rt, self.alloc, desk, watcher),
+            None => Ok(Text::refusal(Fault::NoWatcher)),
+        }
+    }
+
+    /// Does a request while the desk is held, any but `take` and `follow`, and answers the lines that are sent for it,
+    /// those of a refusal too: `no` and its name.
+    ///
+    /// `watch` is refused as `WatcherOpen` where the session has a watcher, else as the desk refuses it; `close` as
+    /// `NoWatcher` where it has none.
+    ///
+    /// Want of memory is the only refusal here. Then nothing has changed; but a watcher that has begun and could not be
+    /// told what it found is closed again, and `close` has closed the watcher, whose posts are lost. It may wait for a
+    /// step of a watcher that takes.
+    #[tactic(auto, unfolding(crate::specs::Requests::answer_to))]
+    pub fn locked<R: Wait>(
+        &mut self,
+        rt: &R,
+        desk: &mut Desk<J>,
+        request: &Request,
+    ) -> Result<Text, Fault>
+        requires { is_under_lock request.now ≡ true }
+        ensures text { IfOk result (λ text. text ≡ answer_to (found_state desk.old self.old) request.now) }
+        ensures done { OnOk result (IsDoneBy desk.old self.old request.now desk.new self.new) }
+        ensures memory { IsOkUnless result Fault.NoMemory }
+        ensures undone { OnErr result (IsUndoneBy desk.old self.old request.now desk.new self.new) }
+
+        // What is always true of a desk.
+        ensures kept { IsDesk desk.old }
+    {
+        let book = desk.book();
+        match request {
+            Request::Run(command) => run(rt, desk, command),
+            Request::Show(space) => show(self.alloc, book, *space),
+            Request::Find { space, path } => find(self.alloc, book, *space, path),
+            Request::Watch(scope) => self.watch(rt, desk, *scope),
+            Request::Close => self.close(rt, desk),
+            Request::Quit => Ok(Text::reply(Reply::Done)),
+            Request::Stop => {
+                desk.stop();
+                Ok(Text::reply(Reply::Done))
+            }
+            Request::Take(_) | Request::Follow(_) => unreachable!(),
+        }
+    }
+
+    /// Takes up to so many posts of the session's watcher, without the desk, and prints them.
+    ///
+    /// Refused as `NoWatcher` where the session has none, with nothing changed, and as `NoMemory`, where the posts that
+    /// were taken are lost. It may wait for a step of the thread that sends.
+    pub fn pops<R: Wait>(&mut self, rt: &R, most: u64) -> Result<PrintedPosts, Fault>
+        ensures popped { IfOk result (λ printed. ForSome self.old (λ (w : WatcherView). IsPopped w most printed self.new)) }
+        ensures watched { OnOk result (IsSome self.old) }
+        ensures refused { IfErr result (λ fault. fault ≢ Fault.NoMemory → (fault ≡ Fault.NoWatcher) × (self.old ≡ None) × (self.new ≡ None)) }
+        ensures lost { result ≡ Err Fault.NoMemory → ForSome self.old (λ (w : WatcherView). (posts : List PostView) × (w' : WatcherView) × HasTaken w posts w' × (self.new ≡ Some w')) }
+        ensures refuses { self.old ≡ None → result ≡ Err Fault.NoWatcher }
+    {
+        let Some(watcher) = &mut self.watcher else {
+            return Err(Fault::NoWatcher);
+        };
+        taken(rt, self.alloc, watcher, most)
+    }
+
+    /// How many posts were sent to the session's watcher, how many of them it has taken, and whether it is still posted
+    /// to; none where the session has no watcher. Takes no memory, and waits for nothing.
+    pub fn meet(&mut self, desk: &mut Desk<J>) -> Option<Meeting>
+        ensures none { self.old ≡ None → (result ≡ None) × (self.new ≡ None) × (desk.new ≡ desk.old) }
+        ensures met { ForSome self.old (λ (w : WatcherView). (m : Meeting) × (w' : WatcherView) × IsMet desk.old w m desk.new w' × (result ≡ Some m) × (self.new ≡ Some w')) }
+    {
+        match &mut self.watcher {
+            Some(watcher) => Some(met(desk, watcher)),
+            None => None,
+        }
+    }
+
+    /// Closes the session's watcher, if it has one. Takes no memory. It may wait, as each call on a queue may.
+    pub fn leave<R: Wait>(&mut self, rt: &R, desk: &mut Desk<J>)
+        ensures none { self.new ≡ None }
+        ensures closed { ForSome self.old (λ (w : WatcherView). (posts : List PostView) × IsClosed desk.old w posts desk.new) }
+        ensures unwatched { self.old ≡ None → desk.new ≡ desk.old }
+    {
+        if let Some(watcher) = self.watcher.take() {
+            let _ = closed(rt, desk, watcher);
+        }
+    }
+}

@@ -1,0 +1,47 @@
+//! What a book shows, and why it shows nothing.
+ghost use Rattle.std.specs.Prelude.{◌≡◌, ◌≢◌, IfOk, IfErr};
+ghost use Rattle.mt_book.specs.Step.{after};
+ghost use Rattle.mt_book.specs.Book.{found_at};
+ghost use Rattle.mt_session.specs.Answers.{refusal, shown_text, found_text};
+
+use crate::text::Text;
+use mt_book::book::Book;
+use mt_skel::fault::Fault;
+use mt_skel::name::Names;
+use std::alloc::Global;
+
+/// The lines that show a namespace's table.
+pub(crate) fn show(alloc: Global, book: &Book, space: u64) -> Result<Text, Fault>
+    ensures ok { IfOk result (λ text. text ≡ shown_text book.now.journal space) }
+    ensures memory { IfErr result (λ fault. fault ≡ Fault.NoMemory) }
+{
+    let number = match book.number(space) {
+        Ok(number) => number,
+        Err(fault) => return Ok(Text::refusal(fault)),
+    };
+    let table = book.table(space)?;
+    Ok(Text::table(alloc, number, &table)?)
+}
+
+/// The line of a refusal. Want of memory is handed on.
+pub(crate) fn told_refusal(fault: Fault) -> Result<Text, Fault>
+    ensures ok { IfOk result (λ text. (text ≡ refusal fault) × (fault ≢ Fault.NoMemory)) }
+    ensures memory { IfErr result (λ other. (other ≡ Fault.NoMemory) × (fault ≡ Fault.NoMemory)) }
+{
+    match fault {
+        Fault::NoMemory => Err(Fault::NoMemory),
+        _ => Ok(Text::refusal(fault)),
+    }
+}
+
+/// The line that says where a path ends.
+pub(crate) fn find(alloc: Global, book: &Book, space: u64, path: &Names) -> Result<Text, Fault>
+    ensures ok { IfOk result (λ text. text ≡ found_text (found_at (after book.now.journal) space path.now)) }
+    ensures memory { IfErr result (λ fault. fault ≡ Fault.NoMemory) }
+{
+    match book.find(space, path.as_slice()) {
+        Ok((mount, names)) => Ok(Text::place(alloc, mount, &names)?),
+        Err(Fault::NoMemory) => Err(Fault::NoMemory),
+        Err(fault) => Ok(Text::refusal(fault)),
+    }
+}
