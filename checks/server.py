@@ -489,7 +489,7 @@ class Soak:
         paths = dict(space=chance.choice("12"), path=f"/m{seed}")
         pairs = [self.lines(pair, paths) for pair in PAIRS]
         lines = self.lines(LINES, paths)
-        with self.server.client() as client:
+        with self.server.free() as client:
             while not self.is_over():
                 first, last = chance.choice(pairs)
                 sent = [first, *(chance.choice(lines) for _ in range(chance.randint(0, 4))), last]
@@ -506,7 +506,7 @@ class Soak:
     def watch(self, seed):
         """One client that watches, takes or follows, and begins anew where it lags."""
         chance = random.Random(seed)
-        with self.server.client() as client:
+        with self.server.free() as client:
             while not self.is_over():
                 mirror = Mirror(client.ask(b"watch all")[1:])
                 while not self.is_over() and self.takes(client, mirror, chance):
@@ -564,7 +564,7 @@ class Soak:
         half = SESSIONS // 2
         self.quiet, self.running = threading.Event(), half
         threads = [threading.Thread(target=self.guarded, args=(self.command, n, True)) for n in range(half)]
-        threads += [threading.Thread(target=self.guarded, args=(self.watch, n, False)) for n in range(half, SESSIONS - 1)]
+        threads += [threading.Thread(target=self.guarded, args=(self.watch, n, False)) for n in range(half, SESSIONS)]
         for thread in threads:
             thread.start()
         for thread in threads:

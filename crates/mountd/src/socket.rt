@@ -25,7 +25,7 @@ const MOST_POSTS: usize = 1_024;
 
 /// How a server on a socket ended.
 #[derive(Clone, Copy)]
-pub enum Served {
+pub(crate) enum Served {
     /// A session has stopped it.
     Stopped,
     /// There is something at the path, or no socket can be made there.
@@ -100,7 +100,7 @@ where
 ///
 /// There may be nothing at the path. Only the user whose server it is may connect, and who connects
 /// may do everything. At the end the socket is taken away, if it still is the one that was made.
-pub fn serve_socket<R>(
+pub(crate) fn serve_socket<R>(
     rt: &R,
     alloc: Global,
     path: &String,
