@@ -3,182 +3,30 @@
 
 Usage: checks/server.py MOUNTD [MOUNTCTL] [--seconds N]
 
-A plain client speaks with servers that are started here, each in a folder of its own: the cases
-without `follow`, sockets that cannot be made, the limit of sessions, a stop, clients that are gone or
-do not read, many connections, and then 32 sessions at once for N seconds, 20 if not said. With MOUNTCTL
-the cases are sent as its scripts too.
+A plain client speaks with servers that are started here, each in a folder of its own: the cases,
+sockets that cannot be made, the limit of sessions, a stop, clients that are gone or do not read, many
+connections, and then 32 sessions at once for N seconds, 20 if not said. With MOUNTCTL the cases are
+sent as its scripts too, and a quarter of the 32 sessions are its mirrors.
 """
 import argparse
 import contextlib
 import os
-import random
 import re
-import shutil
-import signal
 import socket
 import stat
 import subprocess
-import sys
 import tempfile
 import threading
 import time
 
 import cases
-from running import MOST_SECONDS, NO_COUNT, COUNTS, check, difference, failures, shown
+from running import MOST_SECONDS, check, difference, failures, shown
+from serving import SESSIONS, START, STOP, Broken, Client, Server
+from soak import check_soak
 
-# The most sessions at once, the limit of a line and what may follow it without a line end.
-SESSIONS = 32
+# The limit of a line and what may follow it without a line end.
 LINE = 8_192
 MOST_SKIPPED = 1_048_576
-
-# How long a stop may take, in seconds: sessions that do not end by themselves are cut off after one.
-STOP = 5
-
-# Two namespaces that are peers, so that a command in one posts to both.
-START = [
-    b"mkfs a tmpfs none",
-    b"mkfs d ext4 /dev/x",
-    b"mkdir a /m",
-    b"mkdir a /n",
-    b"newns a",
-    b"setattr 1 / prop=shared",
-    b"copyns 1",
-]
-
-
-# What a client of the soak does, and lines beside it: its namespace and its directory are its own.
-PAIRS = [
-    ("mount {space} d {path}", "umount {space} {path}"),
-    ("bind {space} {path} {path}", "umount {space} {path}"),
-    ("setattr {space} / set=ro", "setattr {space} / clr=ro"),
-]
-LINES = ["show {space}", "find {space} {path}", "mount 9 d {path}", "setattr 2 / set=nosuid", "frobnicate", "take 1", ""]
-
-
-class Broken(Exception):
-    """An answer of another form than its request has."""
-
-
-class Client:
-    """A connection, and the lines that came over it."""
-
-    def __init__(self, path):
-        self.socket = socket.socket(socket.AF_UNIX)
-        self.socket.settimeout(MOST_SECONDS)
-        self.socket.connect(path)
-        self.rest = b""
-
-    def __enter__(self):
-        return self
-
-    def __exit__(self, *_):
-        self.socket.close()
-
-    def send(self, *lines):
-        self.socket.sendall(b"".join(line + b"\n" for line in lines))
-
-    def line(self):
-        """The next line without its end, or nothing at the end."""
-        while b"\n" not in self.rest:
-            more = self.socket.recv(1 << 16)
-            if not more:
-                if self.rest:
-                    raise Broken(f"a line without end: {shown(self.rest[:200])}")
-                return None
-            self.rest += more
-        line, self.rest = self.rest.split(b"\n", 1)
-        return line
-
-    def all(self):
-        """All that comes up to the end, and whether the end was a plain one."""
-        parts = [self.rest]
-        try:
-            while parts[-1] or len(parts) == 1:
-                parts.append(self.socket.recv(1 << 16))
-        except ConnectionError:
-            return b"".join(parts), False
-        return b"".join(parts), True
-
-    def answer(self, request):
-        """The lines of the answer to a request that was sent."""
-        lines = [self.line()]
-        if request.startswith(b"follow"):
-            while not re.match(rb"ok \d+$|no [A-Za-z]+$", lines[-1] or b"no End"):
-                lines.append(self.line())
-            return lines
-        found = re.fullmatch(COUNTS.get(request.split(b" ")[0], NO_COUNT), lines[0] or b"")
-        lines += [self.line() for _ in range(int(found[1]) if found else 0)]
-        if None in lines:
-            raise Broken(f"the connection ended in the answer to {shown(request)}")
-        return lines
-
-    def ask(self, request):
-        self.send(request)
-        return self.answer(request)
-
-
-class Server:
-    """A server in a folder of its own, which ends with the block."""
-
-    def __init__(self, program, *arguments):
-        self.folder = tempfile.mkdtemp()
-        self.path = os.path.join(self.folder, "socket")
-        words = [program, self.path, *arguments]
-        self.process = subprocess.Popen(words, stdin=subprocess.DEVNULL, stdout=subprocess.PIPE, stderr=subprocess.PIPE)
-
-    def __enter__(self):
-        end = time.monotonic() + MOST_SECONDS
-        while time.monotonic() < end and self.process.poll() is None:
-            with contextlib.suppress(OSError), Client(self.path):
-                return self
-            time.sleep(0.005)
-        raise Broken("the server does not listen")
-
-    def __exit__(self, *_):
-        self.process.kill()
-        self.process.communicate()
-        shutil.rmtree(self.folder)
-
-    def client(self):
-        return Client(self.path)
-
-    def free(self):
-        """A client that has a session, as soon as there is one."""
-        end = time.monotonic() + MOST_SECONDS
-        while time.monotonic() < end:
-            client = self.client()
-            if client.ask(b"show 64") != [b"no TooMany"]:
-                return client
-            client.socket.close()
-            time.sleep(0.001)
-        raise Broken("no session is free")
-
-    def ends(self):
-        """Status and standard error of a server that ends now."""
-        _, complaint = self.process.communicate(timeout=STOP)
-        return self.process.returncode, complaint
-
-    def stop(self):
-        with self.free() as client:
-            client.send(b"stop")
-            client.all()
-        return self.ends()
-
-    def descriptors(self):
-        return len(os.listdir(f"/proc/{self.process.pid}/fd"))
-
-    def status(self, word):
-        with open(f"/proc/{self.process.pid}/status", encoding="ascii") as file:
-            return int(re.search(rf"^{word}:\s*(\d+)", file.read(), re.MULTILINE)[1])
-
-    def rests(self, threads, descriptors=None):
-        """Whether the server comes to this: so many threads, and descriptors if they are said."""
-        end = time.monotonic() + STOP
-        while time.monotonic() < end:
-            if self.status("Threads") == threads and descriptors in (None, self.descriptors()):
-                return True
-            time.sleep(0.01)
-        return False
 
 
 def check_stopped(name, server):
@@ -187,22 +35,47 @@ def check_stopped(name, server):
     check(f"{name}: the end", ended == (0, b"") and not os.path.exists(server.path), repr(ended))
 
 
+def until_it_rests(case):
+    """The input of a case up to a `follow` that rests on a socket, what answers it, and whether one does.
+
+    In a plain session a `follow` that finds fewer posts than it asks for ends with them. On a socket it
+    waits for more, until a stop ends it here.
+    """
+    for at, turn in enumerate(case.turns):
+        asked = re.fullmatch(rb"follow (\d+)\n", turn.sent())
+        told = re.fullmatch(rb"ok (\d+)", turn.answers[-1]) if asked and turn.answers else None
+        if told and int(told[1]) < int(asked[1]):
+            begun = case._replace(turns=[*case.turns[:at], turn._replace(answers=turn.answers[:-1])])
+            return begun.input(), begun.output(), True
+    return case.input(), case.output(), False
+
+
+def stop_behind(server, lines, output):
+    """Stops a server once so many lines of an output have come, and answers them with the rest of it."""
+    begun = b"".join(output.readline() for _ in range(lines))
+    with server.free() as other:
+        other.ask(b"stop")
+    return begun + output.read()
+
+
 def check_cases(program):
-    """Each case without `follow` is answered over a socket as its file says."""
+    """Each case is answered over a socket as its file says, up to a `follow` that rests."""
     for name in cases.names():
         case = cases.load(name)
-        if any(line.startswith(b"follow") for line in case.requests()):
-            continue
-        with Server(program, *case.arguments) as server:
-            with server.client() as client:
-                sender = threading.Thread(target=send_input, args=(client, case.input()))
-                sender.start()
+        text, wanted, rests = until_it_rests(case)
+        with Server(program, *case.arguments) as server, server.client() as client:
+            sender = threading.Thread(target=send_input, args=(client, text, rests))
+            sender.start()
+            if rests:
+                with client.socket.makefile("rb") as output:
+                    found, is_plain = stop_behind(server, wanted.count(b"\n"), output), True
+                wanted += b"no Stopped\n"
+            else:
                 found, is_plain = client.all()
-                sender.join()
-            wanted = case.output()
+            sender.join()
             check(f"case {name} on a socket", found == wanted, difference(wanted, found, name))
             check(f"case {name} on a socket: a plain end", is_plain)
-            if b"stop" in case.requests():
+            if rests or b"stop" in case.requests():
                 check(f"case {name} on a socket: its stop", server.ends() == (0, b""))
 
 
@@ -210,24 +83,31 @@ def check_scripts(program, mountctl):
     """Each of these cases, as a script of the other program, is answered as its file says."""
     for name in cases.names():
         case = cases.load(name)
-        if any(line.startswith(b"follow") for line in case.requests()):
-            continue
+        text, wanted, rests = until_it_rests(case)
         with Server(program, *case.arguments) as server:
-            done = subprocess.run(
-                [mountctl, server.path, "-"], input=case.input(), capture_output=True, timeout=MOST_SECONDS
-            )
-        wanted = case.output()
-        check(f"case {name} as a script", done.stdout == wanted, difference(wanted, done.stdout, name))
+            words = [mountctl, server.path, "-"]
+            with subprocess.Popen(words, stdin=subprocess.PIPE, stdout=subprocess.PIPE, stderr=subprocess.PIPE) as script:
+                if rests:
+                    script.stdin.write(text)
+                    script.stdin.close()
+                    found = stop_behind(server, wanted.count(b"\n"), script.stdout)
+                    wanted += b"no Stopped\n"
+                    complaint = script.stderr.read()
+                    script.wait(MOST_SECONDS)
+                else:
+                    found, complaint = script.communicate(text, timeout=MOST_SECONDS)
+        check(f"case {name} as a script", found == wanted, difference(wanted, found, name))
         refused = re.search(rb"(?m)^no ", wanted) is not None
-        found = done.returncode, done.stderr
-        check(f"case {name} as a script: its status", found == (int(refused), b""), repr(found))
+        ended = script.returncode, complaint
+        check(f"case {name} as a script: its status", ended == (int(refused), b""), repr(ended))
 
 
-def send_input(client, text):
-    """Sends the whole input and its end; a session may end before."""
+def send_input(client, text, rests=False):
+    """Sends the whole input and its end, or no end where the session rests; a session may end before."""
     with contextlib.suppress(ConnectionError, OSError):
         client.socket.sendall(text)
-        client.socket.shutdown(socket.SHUT_WR)
+        if not rests:
+            client.socket.shutdown(socket.SHUT_WR)
 
 
 def is_refused(program, path):
@@ -432,158 +312,6 @@ def check_signals(program):
         check_stopped("no signal", server)
 
 
-class Mirror:
-    """The tables that a watcher has found, with its posts applied."""
-
-    def __init__(self, opening):
-        self.tables, self.numbers = {}, {}
-        rows = iter(opening)
-        for line in rows:
-            space, number, count = (int(word) for word in re.fullmatch(rb"space (\d+) (\d+) (\d+)", line).groups())
-            self.numbers[space] = number
-            self.tables[space] = {int(row.split(b" ")[0]): row for _, row in zip(range(count), rows)}
-
-    def apply(self, lines):
-        """Applies the posts that these lines are, and answers how many there were."""
-        rows, posts = iter(lines), 0
-        for line in rows:
-            space, number, count = (int(word) for word in re.fullmatch(rb"event (\d+) (\d+) (\d+)", line).groups())
-            if number != self.numbers.get(space, 0) + 1:
-                raise Broken(f"post {number} of namespace {space} behind {self.numbers.get(space)}")
-            self.numbers[space] = number
-            table = self.tables.setdefault(space, {})
-            for _ in range(count):
-                sign, row = next(rows).split(b" ", 1)
-                mount = int(row.split(b" ")[0])
-                if sign == b"-":
-                    del table[mount]
-                else:
-                    table[mount] = row
-            posts += 1
-        return posts
-
-    def shown(self, space):
-        """What `show` answers where nothing has come since."""
-        table = self.tables[space]
-        return [b"ok %d %d" % (len(table), self.numbers[space]), *(table[mount] for mount in sorted(table))]
-
-
-class Soak:
-    """32 sessions at once, and what they have done."""
-
-    def __init__(self, server, seconds):
-        self.server, self.end = server, time.monotonic() + seconds
-        self.counts = {"commands": 0, "posts": 0, "lags": 0}
-        self.lock = threading.Lock()
-
-    def add(self, word, count):
-        with self.lock:
-            self.counts[word] += count
-
-    def is_over(self):
-        return time.monotonic() > self.end
-
-    def command(self, seed):
-        """One client of mixed commands, which takes away again what it has mounted."""
-        chance = random.Random(seed)
-        paths = dict(space=chance.choice("12"), path=f"/m{seed}")
-        pairs = [self.lines(pair, paths) for pair in PAIRS]
-        lines = self.lines(LINES, paths)
-        with self.server.free() as client:
-            while not self.is_over():
-                first, last = chance.choice(pairs)
-                sent = [first, *(chance.choice(lines) for _ in range(chance.randint(0, 4))), last]
-                client.send(*sent)
-                for line in sent:
-                    if not re.match(rb"ok|no ", client.answer(line)[0]):
-                        raise Broken(f"the answer to {shown(line)}")
-                self.add("commands", len(sent))
-
-    @staticmethod
-    def lines(forms, words):
-        return [form.format(**words).encode() for form in forms]
-
-    def watch(self, seed):
-        """One client that watches, takes or follows, and begins anew where it lags."""
-        chance = random.Random(seed)
-        with self.server.free() as client:
-            while not self.is_over():
-                mirror = Mirror(client.ask(b"watch all")[1:])
-                while not self.is_over() and self.takes(client, mirror, chance):
-                    pass
-            self.compare(client, mirror)
-
-    def takes(self, client, mirror, chance):
-        """Takes once: whether the watcher goes on."""
-        if chance.random() < 0.1:
-            time.sleep(0.05)
-        request = chance.choice([b"take 16", b"take 1024"])
-        first, *lines = client.ask(request)
-        if first == b"no Lagged":
-            self.add("lags", 1)
-            client.ask(b"close")
-            return False
-        self.add("posts", mirror.apply(lines))
-        return True
-
-    def compare(self, client, mirror):
-        """Once no command comes any more, each table is the one that is shown, or the watcher lags."""
-        self.quiet.wait(MOST_SECONDS)
-        while True:
-            first, *lines = client.ask(b"take 1024")
-            if first == b"no Lagged":
-                self.add("lags", 1)
-                client.ask(b"close")
-                mirror = Mirror(client.ask(b"watch all")[1:])
-            elif first == b"no NoWatcher":
-                mirror = Mirror(client.ask(b"watch all")[1:])
-            elif first == b"ok 0":
-                break
-            elif first.startswith(b"ok "):
-                self.add("posts", mirror.apply(lines))
-            else:
-                raise Broken(f"a take is answered {shown(first)}")
-        for space in mirror.tables:
-            found = client.ask(b"show %d" % space)
-            if found != mirror.shown(space):
-                raise Broken(f"namespace {space} is not as its posts say")
-
-    def guarded(self, call, seed, barrier):
-        try:
-            call(seed)
-        except Exception as error:
-            check(f"soak, client {seed}", False, repr(error))
-        finally:
-            if barrier:
-                with self.lock:
-                    self.running -= 1
-                    if self.running == 0:
-                        self.quiet.set()
-
-    def run(self):
-        half = SESSIONS // 2
-        self.quiet, self.running = threading.Event(), half
-        threads = [threading.Thread(target=self.guarded, args=(self.command, n, True)) for n in range(half)]
-        threads += [threading.Thread(target=self.guarded, args=(self.watch, n, False)) for n in range(half, SESSIONS)]
-        for thread in threads:
-            thread.start()
-        for thread in threads:
-            thread.join()
-
-
-def check_soak(program, seconds):
-    with Server(program, "--queue", "64") as server:
-        with server.free() as client:
-            for line in START + [b"mkdir a /m%d" % n for n in range(SESSIONS)]:
-                client.ask(line)
-        soak = Soak(server, seconds)
-        soak.run()
-        told = ", ".join(f"{count} {word}" for word, count in soak.counts.items())
-        print(f"soak of {seconds} s: {told}", flush=True)
-        check("a soak does something", min(soak.counts["commands"], soak.counts["posts"]) > 0, told)
-        check_stopped("soak", server)
-
-
 def check_client(program, mountctl):
     """The other program asks this one."""
 
@@ -619,7 +347,7 @@ PARTS = {
 
 def check_server(program, seconds, mountctl, only):
     """All parts, with a soak of so many seconds."""
-    parts = dict(PARTS, soak=lambda program: check_soak(program, seconds))
+    parts = dict(PARTS, soak=lambda program: check_soak(program, seconds, mountctl))
     if mountctl:
         parts["client"] = lambda program: check_client(program, mountctl)
         parts["scripts"] = lambda program: check_scripts(program, mountctl)

@@ -1,0 +1,154 @@
+"""Servers that are started here, and plain clients that speak with them."""
+import contextlib
+import os
+import re
+import shutil
+import socket
+import subprocess
+import tempfile
+import time
+
+from running import MOST_SECONDS, NO_COUNT, COUNTS, shown
+
+# The most sessions at once.
+SESSIONS = 32
+
+# How long a stop may take, in seconds: sessions that do not end by themselves are cut off after one.
+STOP = 5
+
+# Two namespaces that are peers, so that a command in one posts to both.
+START = [
+    b"mkfs a tmpfs none",
+    b"mkfs d ext4 /dev/x",
+    b"mkdir a /m",
+    b"mkdir a /n",
+    b"newns a",
+    b"setattr 1 / prop=shared",
+    b"copyns 1",
+]
+
+
+class Broken(Exception):
+    """An answer of another form than its request has."""
+
+
+class Client:
+    """A connection, and the lines that came over it."""
+
+    def __init__(self, path):
+        self.socket = socket.socket(socket.AF_UNIX)
+        self.socket.settimeout(MOST_SECONDS)
+        self.socket.connect(path)
+        self.rest = b""
+
+    def __enter__(self):
+        return self
+
+    def __exit__(self, *_):
+        self.socket.close()
+
+    def send(self, *lines):
+        self.socket.sendall(b"".join(line + b"\n" for line in lines))
+
+    def line(self):
+        """The next line without its end, or nothing at the end."""
+        while b"\n" not in self.rest:
+            more = self.socket.recv(1 << 16)
+            if not more:
+                if self.rest:
+                    raise Broken(f"a line without end: {shown(self.rest[:200])}")
+                return None
+            self.rest += more
+        line, self.rest = self.rest.split(b"\n", 1)
+        return line
+
+    def all(self):
+        """All that comes up to the end, and whether the end was a plain one."""
+        parts = [self.rest]
+        try:
+            while parts[-1] or len(parts) == 1:
+                parts.append(self.socket.recv(1 << 16))
+        except ConnectionError:
+            return b"".join(parts), False
+        return b"".join(parts), True
+
+    def answer(self, request):
+        """The lines of the answer to a request that was sent."""
+        lines = [self.line()]
+        if request.startswith(b"follow"):
+            while not re.match(rb"ok \d+$|no [A-Za-z]+$", lines[-1] or b"no End"):
+                lines.append(self.line())
+            return lines
+        found = re.fullmatch(COUNTS.get(request.split(b" ")[0], NO_COUNT), lines[0] or b"")
+        lines += [self.line() for _ in range(int(found[1]) if found else 0)]
+        if None in lines:
+            raise Broken(f"the connection ended in the answer to {shown(request)}")
+        return lines
+
+    def ask(self, request):
+        self.send(request)
+        return self.answer(request)
+
+
+class Server:
+    """A server in a folder of its own, which ends with the block."""
+
+    def __init__(self, program, *arguments):
+        self.folder = tempfile.mkdtemp()
+        self.path = os.path.join(self.folder, "socket")
+        words = [program, self.path, *arguments]
+        self.process = subprocess.Popen(words, stdin=subprocess.DEVNULL, stdout=subprocess.PIPE, stderr=subprocess.PIPE)
+
+    def __enter__(self):
+        end = time.monotonic() + MOST_SECONDS
+        while time.monotonic() < end and self.process.poll() is None:
+            with contextlib.suppress(OSError), Client(self.path):
+                return self
+            time.sleep(0.005)
+        raise Broken("the server does not listen")
+
+    def __exit__(self, *_):
+        self.process.kill()
+        self.process.communicate()
+        shutil.rmtree(self.folder)
+
+    def client(self):
+        return Client(self.path)
+
+    def free(self):
+        """A client that has a session, as soon as there is one."""
+        end = time.monotonic() + MOST_SECONDS
+        while time.monotonic() < end:
+            client = self.client()
+            if client.ask(b"show 64") != [b"no TooMany"]:
+                return client
+            client.socket.close()
+            time.sleep(0.001)
+        raise Broken("no session is free")
+
+    def ends(self):
+        """Status and standard error of a server that ends now."""
+        _, complaint = self.process.communicate(timeout=STOP)
+        return self.process.returncode, complaint
+
+    def stop(self):
+        with self.free() as client:
+            client.send(b"stop")
+            client.all()
+        return self.ends()
+
+    def descriptors(self):
+        return len(os.listdir(f"/proc/{self.process.pid}/fd"))
+
+    def status(self, word):
+        with open(f"/proc/{self.process.pid}/status", encoding="ascii") as file:
+            return int(re.search(rf"^{word}:\s*(\d+)", file.read(), re.MULTILINE)[1])
+
+    def rests(self, threads, descriptors=None):
+        """Whether the server comes to this: so many threads, and descriptors if they are said."""
+        end = time.monotonic() + STOP
+        while time.monotonic() < end:
+            if self.status("Threads") == threads and descriptors in (None, self.descriptors()):
+                return True
+            time.sleep(0.01)
+        return False

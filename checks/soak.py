@@ -1,0 +1,234 @@
+"""Many sessions at once: commands, watchers, and mirrors of the other program."""
+import random
+import re
+import subprocess
+import threading
+import time
+
+from running import MOST_SECONDS, check, shown
+from serving import SESSIONS, START, Broken, Server
+
+# What a client does, and lines beside it: its namespace and its directory are its own.
+PAIRS = [
+    ("mount {space} d {path}", "umount {space} {path}"),
+    ("bind {space} {path} {path}", "umount {space} {path}"),
+    ("setattr {space} / set=ro", "setattr {space} / clr=ro"),
+]
+LINES = ["show {space}", "find {space} {path}", "mount 9 d {path}", "setattr 2 / set=nosuid", "frobnicate", "take 1", ""]
+
+# How many of the sessions send commands, and how many are mirrors where there is a program for them.
+COMMANDS = SESSIONS // 2
+MIRRORS = SESSIONS // 4
+
+# How many posts a last mirror follows, once all commands have come.
+LAST_POSTS = 50
+
+
+class Mirror:
+    """The tables that a watcher has found, with its posts applied."""
+
+    def __init__(self, opening):
+        self.tables, self.numbers = {}, {}
+        rows = iter(opening)
+        for line in rows:
+            space, number, count = (int(word) for word in re.fullmatch(rb"space (\d+) (\d+) (\d+)", line).groups())
+            self.numbers[space] = number
+            self.tables[space] = {int(row.split(b" ")[0]): row for _, row in zip(range(count), rows)}
+
+    def apply(self, lines):
+        """Applies the posts that these lines are, and answers how many there were."""
+        rows, posts = iter(lines), 0
+        for line in rows:
+            space, number, count = (int(word) for word in re.fullmatch(rb"event (\d+) (\d+) (\d+)", line).groups())
+            if number != self.numbers.get(space, 0) + 1:
+                raise Broken(f"post {number} of namespace {space} behind {self.numbers.get(space)}")
+            self.numbers[space] = number
+            table = self.tables.setdefault(space, {})
+            for _ in range(count):
+                sign, row = next(rows).split(b" ", 1)
+                mount = int(row.split(b" ")[0])
+                if sign == b"-":
+                    del table[mount]
+                else:
+                    table[mount] = row
+            posts += 1
+        return posts
+
+    def shown(self, space):
+        """What `show` answers where nothing has come since."""
+        table = self.tables[space]
+        return [b"ok %d %d" % (len(table), self.numbers[space]), *(table[mount] for mount in sorted(table))]
+
+
+class Soak:
+    """32 sessions at once, and what they have done."""
+
+    def __init__(self, server, seconds, mountctl):
+        self.server, self.end, self.mountctl = server, time.monotonic() + seconds, mountctl
+        self.counts = {"commands": 0, "posts": 0, "lags": 0, "mirrors": 0, "mirrors compared": 0}
+        self.lock = threading.Lock()
+        # Set once no client sends a command any more.
+        self.quiet, self.running = threading.Event(), COMMANDS
+        # The tables that the last mirrors printed, by namespace and number, and those that were shown.
+        self.printed, self.shown = [], {}
+
+    def add(self, word, count):
+        with self.lock:
+            self.counts[word] += count
+
+    def is_over(self):
+        return time.monotonic() > self.end
+
+    def command(self, seed):
+        """One client of mixed commands, which takes away again what it has mounted."""
+        chance = random.Random(seed)
+        paths = dict(space=chance.choice("12"), path=f"/m{seed}")
+        pairs = [self.lines(pair, paths) for pair in PAIRS]
+        lines = self.lines(LINES, paths)
+        with self.server.free() as client:
+            while not self.is_over():
+                first, last = chance.choice(pairs)
+                sent = [first, *(chance.choice(lines) for _ in range(chance.randint(0, 4))), last]
+                client.send(*sent)
+                for line in sent:
+                    if not re.match(rb"ok|no ", client.answer(line)[0]):
+                        raise Broken(f"the answer to {shown(line)}")
+                self.add("commands", len(sent))
+
+    @staticmethod
+    def lines(forms, words):
+        return [form.format(**words).encode() for form in forms]
+
+    def watch(self, seed):
+        """One client that watches, takes or follows, and begins anew where it lags."""
+        chance = random.Random(seed)
+        with self.server.free() as client:
+            while not self.is_over():
+                mirror = Mirror(client.ask(b"watch all")[1:])
+                while not self.is_over() and self.takes(client, mirror, chance):
+                    pass
+            self.compare(client, mirror)
+
+    def takes(self, client, mirror, chance):
+        """Takes once: whether the watcher goes on."""
+        if chance.random() < 0.1:
+            time.sleep(0.05)
+        request = chance.choice([b"take 16", b"take 1024"])
+        first, *lines = client.ask(request)
+        if first == b"no Lagged":
+            self.add("lags", 1)
+            client.ask(b"close")
+            return False
+        self.add("posts", mirror.apply(lines))
+        return True
+
+    def compare(self, client, mirror):
+        """Once no command comes any more, each table is the one that is shown, or the watcher lags."""
+        self.quiet.wait(MOST_SECONDS)
+        while True:
+            first, *lines = client.ask(b"take 1024")
+            if first == b"no Lagged":
+                self.add("lags", 1)
+                client.ask(b"close")
+                mirror = Mirror(client.ask(b"watch all")[1:])
+            elif first == b"no NoWatcher":
+                mirror = Mirror(client.ask(b"watch all")[1:])
+            elif first == b"ok 0":
+                break
+            elif first.startswith(b"ok "):
+                self.add("posts", mirror.apply(lines))
+            else:
+                raise Broken(f"a take is answered {shown(first)}")
+        for space in mirror.tables:
+            found = client.ask(b"show %d" % space)
+            if found != mirror.shown(space):
+                raise Broken(f"namespace {space} is not as its posts say")
+
+    def mirrored(self, space, count):
+        """The lines of a mirror that follows so many posts, or nothing where it lags or finds no session."""
+        words = [self.mountctl, self.server.path, "mirror", space, str(count)]
+        done = subprocess.run(words, capture_output=True, timeout=MOST_SECONDS)
+        if (done.returncode, done.stdout, done.stderr) in ((1, b"no Lagged\n", b""), (1, b"no TooMany\n", b"")):
+            self.add("lags", int(done.stdout == b"no Lagged\n"))
+            return None
+        lines = done.stdout.removesuffix(b"\n").split(b"\n")
+        found = re.fullmatch(rb"ok (\d+) (\d+)", lines[0])
+        if (done.returncode, done.stderr) != (0, b"") or not found or int(found[1]) != len(lines) - 1:
+            raise Broken(f"a mirror ended with status {done.returncode}: {shown(done.stdout + done.stderr)}")
+        self.add("mirrors", 1)
+        return lines
+
+    def mirror(self, seed):
+        """Mirrors one after another, each in a session of its own, and a last one behind all commands."""
+        chance = random.Random(seed)
+        space = chance.choice("12")
+        while not self.is_over():
+            self.mirrored(space, chance.randint(1, 64))
+        self.quiet.wait(MOST_SECONDS)
+        while (lines := self.mirrored(space, LAST_POSTS)) is None:
+            pass
+        with self.lock:
+            self.printed.append((int(space), lines))
+
+    def feed(self, mirrors):
+        """Posts to both namespaces while one of these threads waits for posts, and notes what is shown."""
+        with self.server.free() as client:
+            while any(thread.is_alive() for thread in mirrors):
+                for line in b"mount 1 d /n", b"umount 1 /n":
+                    client.ask(line)
+                    for space in 1, 2:
+                        lines = client.ask(b"show %d" % space)
+                        self.shown[space, lines[0].split(b" ")[2]] = lines
+
+    def compare_mirrors(self):
+        """Each last mirror has printed what was shown at its number."""
+        for space, lines in self.printed:
+            wanted = self.shown.get((space, lines[0].split(b" ")[2]))
+            check("a mirror's table is the one that was shown", lines == wanted, repr((space, lines, wanted)))
+            self.add("mirrors compared", 1)
+
+    def guarded(self, call, seed):
+        try:
+            call(seed)
+        except Exception as error:
+            check(f"soak, client {seed}", False, repr(error))
+
+    def counted(self, seed):
+        """Sends commands, and says so when no one does any more."""
+        try:
+            self.command(seed)
+        finally:
+            with self.lock:
+                self.running -= 1
+                if self.running == 0:
+                    self.quiet.set()
+
+    def run(self):
+        last = COMMANDS + (MIRRORS if self.mountctl else 0)
+        calls = [self.counted] * COMMANDS + [self.mirror] * (last - COMMANDS) + [self.watch] * (SESSIONS - last)
+        threads = [threading.Thread(target=self.guarded, args=(call, n)) for n, call in enumerate(calls)]
+        for thread in threads:
+            thread.start()
+        self.quiet.wait()
+        for thread in threads[last:]:
+            thread.join()
+        self.feed(threads[COMMANDS:last])
+        for thread in threads:
+            thread.join()
+        self.compare_mirrors()
+
+
+def check_soak(program, seconds, mountctl):
+    with Server(program, "--queue", "64") as server:
+        with server.free() as client:
+            for line in START + [b"mkdir a /m%d" % n for n in range(SESSIONS)]:
+                client.ask(line)
+        soak = Soak(server, seconds, mountctl)
+        soak.run()
+        told = ", ".join(f"{count} {word}" for word, count in soak.counts.items())
+        print(f"soak of {seconds} s: {told}", flush=True)
+        check("a soak does something", min(soak.counts["commands"], soak.counts["posts"]) > 0, told)
+        compared = soak.counts["mirrors compared"]
+        check("mirrors of a soak", compared == (MIRRORS if mountctl else 0), told)
+        ended = server.stop()
+        check("soak: the end", ended == (0, b""), repr(ended))
