@@ -3,11 +3,11 @@
 
 The parts are those of the other modules here: the format of cases and the cases (cases.py), README's
 example (readme.py), the tables (tables.py), odd input, closed streams and arguments (streams.py), the
-limits (limits.py) and allocations that are refused (memory.py). A failure is printed with what shows
-why, and then the status is 1. The server on a socket is for server.py.
+limits (limits.py), worlds of many mounts (shapes.py) and allocations that are refused (memory.py). A
+failure is printed with what shows why, and then the status is 1. The server on a socket is for server.py.
 
---update checks nothing: it writes the program's answers into cases/, and from there README.md's example
-and the program's own crates/mountd/stdin and stdout. What it has changed is to be read.
+--update checks nothing: it writes the program's answers into cases/ and checks/shapes.txt, and from there
+README.md's example and the program's own crates/mountd/stdin and stdout. What it has changed is to be read.
 """
 import argparse
 import os
@@ -17,6 +17,7 @@ import cases
 import limits
 import memory
 import readme
+import shapes
 import streams
 import tables
 from running import failures
@@ -32,6 +33,7 @@ PARTS = {
     "closed": streams.check_closed,
     "arguments": streams.check_arguments,
     "limits": limits.check_limits,
+    "shapes": shapes.check_shapes,
     "memory": memory.check_memory,
 }
 
@@ -49,6 +51,7 @@ def main():
     words = read_words()
     if words.update:
         cases.update(words.program)
+        shapes.update(words.program)
         readme.update_example()
         return
     for part in [words.only] if words.only else PARTS:

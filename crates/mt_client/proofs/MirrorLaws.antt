@@ -1,6 +1,6 @@
 -- What a mirror has read, line by line, and the texts that the lines are.
 use Rattle.std.proofs.Common.{◌≡◌, ◌≢◌, ℕ, ◌+◌, ◌<◌, ◌≤◌, ◌^◌, MatchOption, MatchBool, IfOk, Result, Ok, Err, Bool, true, false, List, [], ◌∷◌, ◌++◌, map, length, refl, sym, ap, subst, ◌∙◌, arith, append_assoc, length-append, codes, decimal, Some, None, Option}
-use Rattle.std.proofs.lemmas.List.{append-nil, map-append}
+use Rattle.std.proofs.lemmas.List.{append-nil}
 use Rattle.std.proofs.lemmas.Grind.{flat_map-append}
 use Rattle.std.specs.List.{flat_map, join_with_byte, list_all}
 use Rattle.mt_words.specs.Words.{words}
@@ -18,11 +18,6 @@ use Rattle.mt_session.specs.Answers.{count_text, row_line, part_text, opening_te
 use Rattle.mt_client.specs.Reading.{texts, printed}
 use Rattle.mt_client.specs.Mirroring.{counted_line, heading_words, heading_line, opening_lines, opening_with, Follows, HasOpened, HasPosted, HasFollowed, HasFollowedSome, HasFollowedAll, HasRefused, HasMirrored, IsLeft}
 use Rattle.mt_client.proofs.RelayLaws.{read_more, texts-append, printed-append}
-
--- rows that came, and one more
-pub row_came : (rows : List Row) (row : Row) (before middle after : List Item) → before ≡ texts (map line rows) ++ middle → middle ≡ Text (line row) ∷ after → before ≡ texts (map line (rows ++ row ∷ [])) ++ after
-row_came rows row before middle after e f =
-    read_more (map line rows) (line row) before middle after e f ∙ ap (λ x. texts x ++ after) (sym (map-append line rows (row ∷ [])))
 
 -- lines that were appended, and one more
 pub line_came : (n : ℕ) (line : List ℕ) (before middle after : List Item) (begun text more : List ℕ)

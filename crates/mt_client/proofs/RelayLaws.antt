@@ -55,9 +55,6 @@ passed_more ls ms before middle after old between new p q = record {
 pub one_passed : (line : List ℕ) (before after : List Item) (old new : List ℕ) → before ≡ Text line ∷ after → new ≡ old ++ ended line → Passed (line ∷ []) before after old new
 one_passed line before after old new e f = record { read = e; out = f ∙ ap (λ x. old ++ x) (sym (append-nil (ended line))) }
 
-pub none_passed : (before : List Item) (old : List ℕ) → Passed [] before before old old
-none_passed before old = record { read = refl; out = sym (append-nil old) }
-
 pub so_many_more : (n : ℕ) (line : List ℕ) (before middle after : List Item) (old between new : List ℕ) → HasPassed (AreSoMany n) before middle old between → Passed (line ∷ []) middle after between new
     → HasPassed (AreSoMany (n + 1)) before after old new
 so_many_more n line before middle after old between new h q =
@@ -83,13 +80,6 @@ broken_more f ls before middle old between new p b = go f b
       read = p.read ∙ ap (λ x. texts ls ++ x) w.read ∙ sym (append_assoc (texts ls) (texts w.lines) w.later) ∙ ap (λ x. x ++ w.later) (sym (texts-append ls w.lines));
       out = subst (λ x. IsCutOff x old new) (sym (printed-append ls w.lines)) (cut_second (printed ls) (printed w.lines) old between new w.out.count p.out w.out.within w.out.out);
     }
-
--- a fault of the reader, before which nothing was printed
-pub broken_reading : (r : Result (Unit {0}) ClientFault) (before : List Item) (old : List ℕ) → r ≢ Err Output → IfErr r (λ f. IsBroken f before old old)
-broken_reading (Ok u) before old ne = tt
-broken_reading (Err Connection) before old ne = record { lines = []; later = before; read = refl; out = sym (append-nil old) }
-broken_reading (Err NoMemory) before old ne = record { lines = []; later = before; read = refl; out = sym (append-nil old) }
-broken_reading (Err Output) before old ne = absurd (ne refl)
 
 -- a fault of the output within a line
 pub broken_printing : (r : Result (Unit {0}) ClientFault) (line : List ℕ) (before after : List Item) (old new : List ℕ) → before ≡ Text line ∷ after
@@ -152,38 +142,10 @@ headed_passed extent told count line before middle after old between new v n p h
   passed_more (line ∷ []) h.0 before middle after old between new p h.2,
 )
 
--- what cannot come first where its first line is not there, tells nothing, counts nothing, or counts lines that are not there
+-- what cannot come first where its first line is not there
 pub headed_needs_line : (extent : Extent) (before : List Item) → NoneFirst (AreSoMany 1) before → NoneFirst (λ all. (told : Bool) × IsHeaded extent all told) before
 headed_needs_line extent before none lines later h e =
     none (h.1.first ∷ []) (texts h.1.others ++ later) refl (e ∙ ap (λ ls. texts ls ++ later) h.1.all)
-
-same_first : (extent : Extent) (lines : List (List ℕ)) (told : Bool) (line : List ℕ) (before middle later : List Item) → before ≡ Text line ∷ middle → (h : IsHeaded extent lines told) → before ≡ texts lines ++ later
-    → (h.first ≡ line) × (middle ≡ texts h.others ++ later)
-same_first extent lines told line before middle later there h e =
-    let both : Text line ∷ middle ≡ Text h.first ∷ (texts h.others ++ later) = sym there ∙ e ∙ ap (λ ls. texts ls ++ later) h.all in
-    (cc, cc)
-
-pub headed_needs_verdict : (extent : Extent) (line : List ℕ) (before middle : List Item) → before ≡ Text line ∷ middle → None ≡ verdict line → NoneFirst (λ all. (told : Bool) × IsHeaded extent all told) before
-headed_needs_verdict extent line before middle there silent lines later h e =
-    let s = same_first extent lines h.0 line before middle later there h.1 e in
-    let v : verdict line ≡ Some h.0 = ap verdict (sym s.0) ∙ h.1.tells in
-    cc
-
-pub headed_needs_count : (extent : Extent) (told : Bool) (line : List ℕ) (before middle : List Item) → before ≡ Text line ∷ middle → Some told ≡ verdict line → None ≡ lines_behind extent told line
-    → NoneFirst (λ all. (told : Bool) × IsHeaded extent all told) before
-headed_needs_count extent told line before middle there v none lines later h e =
-    let s = same_first extent lines h.0 line before middle later there h.1 e in
-    let same : told ≡ h.0 = let w : Some told ≡ Some h.0 = v ∙ ap verdict (sym s.0) ∙ h.1.tells in cc in
-    let n : lines_behind extent told line ≡ Some (length h.1.others) = ap (λ b. lines_behind extent b line) same ∙ ap (lines_behind extent h.0) (sym s.0) ∙ h.1.count in
-    cc
-
-pub headed_needs_lines : (extent : Extent) (told : Bool) (count : ℕ) (line : List ℕ) (before middle : List Item) → before ≡ Text line ∷ middle → Some told ≡ verdict line → Some count ≡ lines_behind extent told line
-    → NoneFirst (AreSoMany count) middle → NoneFirst (λ all. (told : Bool) × IsHeaded extent all told) before
-headed_needs_lines extent told count line before middle there v n none lines later h e =
-    let s = same_first extent lines h.0 line before middle later there h.1 e in
-    let same : told ≡ h.0 = let w : Some told ≡ Some h.0 = v ∙ ap verdict (sym s.0) ∙ h.1.tells in cc in
-    let m : Some count ≡ Some (length h.1.others) = n ∙ ap (λ b. lines_behind extent b line) same ∙ ap (lines_behind extent h.0) (sym s.0) ∙ h.1.count in
-    none h.1.others later (let k : length h.1.others ≡ count = cc in k) s.1
 
 -- a fault that was handed on is the one that is answered
 pub same_fault : {A : Type 0} (r : Result A ClientFault) (e f k : ClientFault) → r ≡ Err e → e ≡ f → r ≡ Err k → f ≡ k

@@ -60,9 +60,6 @@ take_whole (b ∷ text) = ap (λ x. b ∷ x) (take_whole text)
 pub sent_whole : (text old new : List ℕ) → new ≡ old ++ text → IsSentPart text old new
 sent_whole text old new e = record { count = length text; out = e ∙ ap (λ x. old ++ x) (sym (take_whole text)) }
 
-pub sent_none : (text old : List ℕ) → IsSentPart text old old
-sent_none text old = record { count = 0; out = sym (append-nil old) }
-
 -- a part of a text, and of one that begins with it
 take_nothing : (n : ℕ) → take {A = ℕ} n [] ≡ []
 take_nothing zero = refl

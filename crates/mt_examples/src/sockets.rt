@@ -83,6 +83,8 @@ impl<'a> Door for Failing<'a> {
 
     ghost counts = { false };
 
+    ghost asked = { λ d. 0 };
+
     ghost failures = { λ d. 0 };
 
     fn accept(&mut self) -> io::Result<UnixStream> {

@@ -13,3 +13,11 @@ pub mod ChainLaws
 pub mod JoinLaws
 pub mod AlikeLaws
 pub mod GivenLaws
+pub mod CountLaws
+pub mod FirstLaws
+pub mod WorklistLaws
+pub mod ReceivedLaws
+pub mod SortedLaws
+pub mod ListLaws
+pub mod VisitLaws
+pub mod FreeLaws

@@ -6,3 +6,6 @@ pub mod WellFormed
 pub mod Entries
 pub mod Above
 pub mod Laws
+pub mod Counted
+pub mod Members
+pub mod Entered

@@ -1,3 +1,4 @@
+pub mod CountLaws
 pub mod FaultLaws
 pub mod OptionLaws
 pub mod PathLaws

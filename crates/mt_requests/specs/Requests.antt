@@ -1,6 +1,6 @@
 -- The request that a line says, or why it is refused (the lines are this project's rule).
 -- A word with no source is this project's rule.
-use Rattle.std.specs.Prelude.{◌≡◌, ◌⊎◌, ℕ, Bool, true, false, not, ◌&&◌, ◌||◌, ◌==◌, nat_eq, nat_lt, nat_le, if◌then◌else◌, List, [], ◌∷◌, length, drop, fold, Option, Some, None, unwrap_or, Result, Ok, Err, is_ok, codes}
+use Rattle.std.specs.Prelude.{◌≡◌, ◌⊎◌, ℕ, ◌<◌, ◌≤◌, Bool, true, false, not, ◌&&◌, ◌||◌, ◌==◌, nat_eq, nat_lt, nat_le, if◌then◌else◌, List, [], ◌∷◌, length, drop, fold, Option, Some, None, unwrap_or, Result, Ok, Err, is_ok, codes}
 use Rattle.std.specs.List.{list_all, list_any, starts_with}
 use Rattle.std.specs.Option.{option_map, option_map_or, option_or}
 use Rattle.std.specs.Str.{bytes_eq}
@@ -190,6 +190,12 @@ take_of _ = Err BadLine
 abbrev pub follow_of : List (List ℕ) → Result Request Fault
 follow_of (count ∷ []) = option_map_or (λ n. Ok (request.Follow n)) (count_of most_followed count) (Err BadLine)
 follow_of _ = Err BadLine
+
+-- a `take` asks for at least one post and for at most 1,024, and a `follow` for at least one and at most 1,048,576
+abbrev pub HasRightCount : Request → Type 0
+HasRightCount (request.Take k) = (0 < k) × (k ≤ most_taken)
+HasRightCount (request.Follow k) = (0 < k) × (k ≤ most_followed)
+HasRightCount r = Unit {0}
 
 -- `close` ends the watcher
 abbrev pub close_of : List (List ℕ) → Result Request Fault

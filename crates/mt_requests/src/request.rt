@@ -1,6 +1,6 @@
 //! Requests, as lines say them.
-ghost use Rattle.std.specs.Prelude.{◌≡◌, None, Some};
-ghost use Rattle.mt_requests.specs.Requests.{ReadsAs, request_of, HasNoFault, prior_of_two, prior_fault, Reads, two_paths_of, mkfs_of, mkdir_of, newns_of, copyns_of, mount_of, bind_of, move_of, umount_of, setattr_of, show_of, find_of, quit_of, stop_of, watch_of, count_of, take_of, follow_of, close_of, watching_lines, read_by};
+ghost use Rattle.std.specs.Prelude.{◌≡◌, IfOk, None, Some};
+ghost use Rattle.mt_requests.specs.Requests.{ReadsAs, request_of, HasNoFault, prior_of_two, prior_fault, Reads, two_paths_of, mkfs_of, mkdir_of, newns_of, copyns_of, mount_of, bind_of, move_of, umount_of, setattr_of, show_of, find_of, quit_of, stop_of, watch_of, count_of, take_of, follow_of, close_of, HasRightCount, watching_lines, read_by};
 
 use crate::label::{label_fault, label_of};
 use crate::options::change_of;
@@ -352,15 +352,9 @@ fn read_watching(command: &[u8], words: &mut Words<'_>) -> Result<Request, Fault
     }
 }
 
-/// The request that a line says. The line is without its end.
-///
-/// Refused as `BadLine` where the line is none of the requests, or one of its words cannot stand
-/// there; else as `TooLong` where a label or a component of a path has more than 255 bytes, or a
-/// path more than 4,095; else as `BadPath` where a path does not begin with `/`, or has a component
-/// that is empty, `.` or `..`. Refusals, `quit`, `stop` and the lines of watchers are found without memory; every
-/// other request may be `NoMemory` in its place.
+/// The request that a line says.
 #[tactic(auto, unfolding(crate::specs::Requests::request_of))]
-pub fn read_request(alloc: Global, line: &[u8]) -> Result<Request, Fault>
+fn read_line(alloc: Global, line: &[u8]) -> Result<Request, Fault>
     ensures { ReadsAs (request_of line.now) result }
 {
     let mut words = words(line);
@@ -398,4 +392,18 @@ pub fn read_request(alloc: Global, line: &[u8]) -> Result<Request, Fault>
     } else {
         read_watching(command, &mut words)
     }
+}
+
+/// The request that a line says. The line is without its end.
+///
+/// Refused as `BadLine` where the line is none of the requests, or one of its words cannot stand
+/// there; else as `TooLong` where a label or a component of a path has more than 255 bytes, or a
+/// path more than 4,095; else as `BadPath` where a path does not begin with `/`, or has a component
+/// that is empty, `.` or `..`. Refusals, `quit`, `stop` and the lines of watchers are found without memory; every
+/// other request may be `NoMemory` in its place.
+pub fn read_request(alloc: Global, line: &[u8]) -> Result<Request, Fault>
+    ensures read { ReadsAs (request_of line.now) result }
+    ensures counted { IfOk result HasRightCount }
+{
+    read_line(alloc, line)
 }

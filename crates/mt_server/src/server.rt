@@ -1,5 +1,5 @@
 //! The loop that accepts connections, and a thread for each session.
-ghost use Rattle.std.specs.Prelude.{◌≡◌, ◌≤◌, ℕ, Bool, IsTrue, IsOk, Err, true, false};
+ghost use Rattle.std.specs.Prelude.{◌≡◌, ◌+◌, ◌<◌, ◌≤◌, ℕ, Bool, IsTrue, IsOk, Err, true, false};
 ghost use Rattle.mt_server.specs.Accepting.{failures_after, most_failures};
 
 use crate::connections::Connections;
@@ -41,19 +41,22 @@ pub enum ServerFault {
 
 /// Where connections come from.
 ///
-/// An implementation says of its type whether it `counts` its failed accepts. Where it does,
-/// `failures` is how many failed since the last one that did not.
+/// An implementation says of its type whether it `counts` its accepts. Where it does, `asked` is how
+/// many there were, and `failures` how many failed since the last one that did not.
 pub trait Door {
     ghost counts: { Bool };
+
+    ghost asked: { Self → ℕ };
 
     ghost failures: { Self → ℕ };
 
     /// Waits for the next connection.
     fn accept(&mut self) -> io::Result<UnixStream>
+        ensures asked { IsTrue counts → asked self.new ≡ asked self.old + 1 }
         ensures counted { IsTrue counts → failures self.new ≡ failures_after (failures self.old) result };
 }
 
-/// A listener as a `Door`, which counts no failures.
+/// A listener as a `Door`, which counts nothing.
 #[derive(Drop)]
 struct Listening<'a> {
     listener: &'a UnixListener,
@@ -63,6 +66,8 @@ impl<'a> Door for Listening<'a> {
     ghost use Rattle.std.specs.Prelude.{ℕ, false};
 
     ghost counts = { false };
+
+    ghost asked = { λ d. 0 };
 
     ghost failures = { λ d. 0 };
 
@@ -220,9 +225,10 @@ where
     R: Wait + Clock + Net<Listener = TcpListener, Stream = TcpStream> + Sync,
     ensures gives_up { IsTrue D.counts → D.failures door.old ≡ 0 → result ≡ false → D.failures door.new ≡ most_failures }
     ensures goes_on { IsTrue D.counts → D.failures door.old ≡ 0 → result ≡ true → D.failures door.new ≤ most_failures }
+    ensures asked { IsTrue D.counts → D.asked door.old < D.asked door.new }
 {
     let mut failures = 0u32;
-    'accepting: for _count in 0..u64::MAX {
+    'accepting: for _accept in rt.forever() {
         let arrived = door.accept();
         if house.connections.are_stopping(rt) {
             return true;
@@ -241,12 +247,16 @@ where
             }
         }
     }
-    true
+    unreachable!()
 }
 
 /// Accepts the connections of a door as [`run_server`] does those of a listener, and answers the
 /// door as it has left it. The listener is where the door's connections come from: a session that
 /// stops the server shuts it down.
+///
+/// Whether a session has stopped it is looked for behind each accept, so that it is never answered
+/// before the door was asked. That it was a session is no clause: the threads of the sessions share
+/// it under a lock, and a value under a lock has no name outside.
 pub fn serve_door<'a, D, J, G, R>(
     rt: &R,
     alloc: Global,
@@ -265,6 +275,7 @@ where
     R: Threads + Wait + Clock + Net<Listener = TcpListener, Stream = TcpStream> + Sync,
     ensures accept { IsTrue D.counts → D.failures door ≡ 0 → result.1 ≡ Err ServerFault.Accept → D.failures result.0 ≡ most_failures }
     ensures stopped { IsTrue D.counts → D.failures door ≡ 0 → IsOk result.1 → D.failures result.0 ≤ most_failures }
+    ensures asked { IsTrue D.counts → IsOk result.1 → D.asked door < D.asked result.0 }
     ensures memory { result.1 ≡ Err ServerFault.NoMemory → result.0 ≡ door }
 {
     let Ok(connections) = Connections::new(alloc, sessions) else {
@@ -302,6 +313,10 @@ where
 /// At a stop, and at a fault, the desk is stopped, no more connections are accepted, all sessions
 /// end, and their threads are joined. Refused as `Accept` after 1,000 failed accepts in succession,
 /// a millisecond apart; as `NoMemory` at once where there is none for the list of connections.
+///
+/// It is [`serve_door`] over the listener. No clause stands here, since a listener tells nothing of
+/// its accepts and nothing is given back that a clause could name; those of [`serve_door`] hold of
+/// every door that counts, and both run the same body.
 pub fn run_server<'a, J, G, R>(
     rt: &R,
     alloc: Global,

@@ -81,7 +81,7 @@ met_some d w m now after most printed w' i more p some empty =
 
 -- `take` of some
 pub takes_some : (w mid : WatcherView) (most : ℕ) (printed : PrintedPosts) (text : List ℕ) (w' : Option WatcherView)
-    → HasTaken w [] mid → (p : IsPopped mid most printed w') → (0 < most → p.posts ≢ []) → text ≡ count_text printed.lines ++ printed.text.items → IsTaken (Some w) most text w'
+    → HasTaken w [] mid → (p : IsPopped mid most printed w') → p.posts ≢ [] → text ≡ count_text printed.lines ++ printed.text.items → IsTaken (Some w) most text w'
 takes_some w mid most printed text w' h p some told = inl record {
   posts = p.posts;
   after = with_posts mid p.posts;
@@ -200,7 +200,7 @@ pub took_at_once : (w w' : Option WatcherView) (most : ℕ) (printed : PrintedPo
 took_at_once w w' most printed text p some more told =
     let at = popped_at w w' most printed p some in
     subst (λ (x : Option WatcherView). IsTaken x most text w') (sym at.1)
-    (takes_some at.0 at.0 most printed text w' (takes_none at.0) at.2 (λ any. printed_some at.0 most printed w' at.2 more) told)
+    (takes_some at.0 at.0 most printed text w' (takes_none at.0) at.2 (printed_some at.0 most printed w' at.2 more) told)
 
 pub lost_at_once : (w w' : Option WatcherView) (most : ℕ) (printed : PrintedPosts)
     → ForSome w (λ (v : WatcherView). IsPopped v most printed w') → IsSome w → IsLost w (Ok (Take most)) (refusal WantsMemory)
@@ -211,13 +211,13 @@ lost_at_once w w' most printed p some =
 
 -- `take` tells what was printed behind a meeting
 pub took_met : (w mid w' : Option WatcherView) (m : Meeting) (most : ℕ) (printed : PrintedPosts) (text : List ℕ)
-    → HasMet w (Some m) mid → m.taken < m.posted → ForSome mid (λ (v : WatcherView). IsPopped v most printed w') → text ≡ count_text printed.lines ++ printed.text.items → IsTaken w most text w'
-took_met None mid w' m most printed text h more p told = cc
-took_met (Some w) mid w' m most printed text h more p told =
+    → 0 < most → HasMet w (Some m) mid → m.taken < m.posted → ForSome mid (λ (v : WatcherView). IsPopped v most printed w') → text ≡ count_text printed.lines ++ printed.text.items → IsTaken w most text w'
+took_met None mid w' m most printed text any h more p told = cc
+took_met (Some w) mid w' m most printed text any h more p told =
     let pop : IsPopped h.3 most printed w' = p h.3 h.6 in
     let same : h.2 ≡ m = cc in
     let more_then : h.2.taken < h.2.posted = rw same more in
-    takes_some w h.3 most printed text w' (met_taken h.0 w h.2 h.1 h.3 h.4) pop (λ any. met_some h.0 w h.2 h.1 h.3 most printed w' h.4 more_then pop any) told
+    takes_some w h.3 most printed text w' (met_taken h.0 w h.2 h.1 h.3 h.4) pop (met_some h.0 w h.2 h.1 h.3 most printed w' h.4 more_then pop any) told
 
 pub lost_met : (w mid w' : Option WatcherView) (m : Meeting) (most : ℕ) (printed : PrintedPosts)
     → HasMet w (Some m) mid → ForSome mid (λ (v : WatcherView). IsPopped v most printed w') → IsLost w (Ok (Take most)) (refusal WantsMemory)

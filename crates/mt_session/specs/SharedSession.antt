@@ -1,7 +1,7 @@
 -- What a session in a thread of its own writes. What its requests find depends on the other sessions, so each answer is that of the request at a desk of which no
 -- more is said; what it tells of a watcher's posts is a run from the opening that it told.
 -- A word with no source is this project's rule.
-use Rattle.std.specs.Prelude.{◌≡◌, ◌≢◌, ◌⊎◌, ℕ, ◌<◌, ◌≤◌, Bool, true, false, List, [], ◌∷◌, ◌++◌, map, length, Option, Some, None, Result, Ok, Err}
+use Rattle.std.specs.Prelude.{◌≡◌, ◌≢◌, ◌⊎◌, ℕ, ◌≤◌, Bool, true, false, List, [], ◌∷◌, ◌++◌, map, length, Option, Some, None, Result, Ok, Err}
 use Rattle.std.specs.List.{flat_map}
 use Rattle.mt_skel.specs.declared.fault.Fault.{Fault}
 use Rattle.mt_skel.specs.declared.fault.Fault.TheVariants.{BadLine, NoWatcher, NoMemory as WantsMemory}
@@ -40,13 +40,13 @@ pub record IsSpent (w : WatcherView) (phase : Phase) (w' : WatcherView) : Type 0
   pub all : meeting.posted ≡ meeting.taken
   pub phase_is : meeting.state ≡ phase
 
--- `take`: some posts, up to so many; or none wait, and the answer says why
+-- `take`: posts, at least one and up to so many; or none wait, and the answer says why
 pub record TakesSome (w : WatcherView) (most : ℕ) (text : List ℕ) (w' : Option WatcherView) : Type 0 where
   pub posts : List PostView
   pub after : WatcherView
   pub taken : HasTaken w posts after
   pub watcher : w' ≡ Some after
-  pub some : 0 < most → posts ≢ []
+  pub some : posts ≢ []
   pub most_is : length posts ≤ most
   pub text_is : text ≡ posts_text posts
 

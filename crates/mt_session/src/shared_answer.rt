@@ -1,9 +1,10 @@
 //! How a session in a thread of its own answers a request.
-ghost use Rattle.std.specs.Prelude.{◌≡◌, ◌≢◌, ◌+◌, ◌++◌, ◌≤◌, ℕ, List, [], Option, true, IsTrue, IfOk, OnErr, IsOkUnless, Ok, Err, None, Some};
+ghost use Rattle.std.specs.Prelude.{◌≡◌, ◌≢◌, ◌+◌, ◌++◌, ◌<◌, ◌≤◌, ℕ, List, [], Option, true, IsTrue, IfOk, OnErr, IsOkUnless, Ok, Err, None, Some};
 ghost use Rattle.std.specs.Option.{ForSome};
 ghost use Rattle.mt_skel.specs.declared.fault.Fault.TheVariants.{NoMemory};
 ghost use Rattle.mt_desk.specs.Calls.{WatcherView};
 ghost use Rattle.mt_requests.specs.declared.request.Request.TheVariants.{Take, Follow};
+ghost use Rattle.mt_requests.specs.Requests.{HasRightCount};
 ghost use Rattle.mt_lines.specs.declared.stream.Cut.{Cut};
 ghost use Rattle.mt_session.specs.declared.session.End.TheVariants.{Memory, Cut as CutOff};
 ghost use Rattle.mt_session.specs.Answers.{refusal, count_text};
@@ -168,7 +169,8 @@ fn took_none(text: Text) -> TakeAnswer
 
 /// The answer of a `take` that took these posts. Refused as `NoMemory` alone.
 fn took_posts(alloc: Global, printed: &PrintedPosts) -> Result<TakeAnswer, Fault>
-    ensures { IfOk result (λ answer. answer.text ≡ count_text printed.now.lines ++ printed.now.text.items) }
+    ensures told { IfOk result (λ answer. answer.text ≡ count_text printed.now.lines ++ printed.now.text.items) }
+    ensures memory { IsOkUnless result Fault.NoMemory }
 {
     let text = Text::counted(alloc, printed.lines, &printed.text)?;
     Ok(TakeAnswer { text, took: true })
@@ -182,6 +184,7 @@ fn take_met<J: Naming, G: Gate, R: Wait>(
     session: &mut SharedSession<J>,
     most: u64,
 ) -> Result<TakeAnswer, Fault>
+    requires { 0 < most }
     ensures taken { IfOk result (λ answer. IsTaken session.old most answer.text session.new) }
     ensures lost { OnErr result (IsLost session.old (Ok (Take most)) (refusal NoMemory)) }
 {
@@ -202,6 +205,7 @@ fn take<J: Naming, G: Gate, R: Wait>(
     session: &mut SharedSession<J>,
     most: u64,
 ) -> Result<TakeAnswer, Fault>
+    requires { 0 < most }
     ensures taken { IfOk result (λ answer. IsTaken session.old most answer.text session.new) }
     ensures lost { OnErr result (IsLost session.old (Ok (Take most)) (refusal NoMemory)) }
 {
@@ -223,6 +227,7 @@ fn serve_take<J: Naming, O: Output, G: Gate, R: Wait>(
     writer: &mut O,
     most: u64,
 ) -> Option<End>
+    requires { 0 < most }
     ensures served { IsTrue O.tells → ServesAsked session.old (Ok (Take most)) (O.written writer.old) (O.written writer.new) result session.new }
     ensures cut { IsTrue O.counts → IsCutCause result (O.failed writer.old) (O.failed writer.new) }
     ensures cut_run { IsTrue O.counts → O.faults writer.old ≡ [] → IsCutRun result (O.faults writer.new) }
@@ -449,6 +454,7 @@ pub fn serve_request<J: Naming, O: Output, G: Gate, R: Wait + Clock>(
     writer: &mut O,
     request: &Request,
 ) -> Option<End>
+    requires { HasRightCount request.now }
     ensures served { IsTrue O.tells → ServesAsked session.old (Ok request.now) (O.written writer.old) (O.written writer.new) result session.new }
     ensures cut { IsTrue O.counts → IsCutCause result (O.failed writer.old) (O.failed writer.new) }
     ensures cut_run { IsTrue O.counts → O.faults writer.old ≡ [] → IsCutRun result (O.faults writer.new) }

@@ -20,7 +20,7 @@ returns-then-printed-eq0-clause-lost g c =
 
 pub returns-clause-taken : goal.returns-clause-taken
 returns-clause-taken g c =
-    IfOk-weaker c.took_posts.result _ _ (λ answer told. took_at_once c.args.session.now c.pops.new.self c.args.most c.in-Ok.printed answer.text c.in-Ok.ensures.popped c.in-Ok.ensures.watched (λ none. absurd (omega (arith, none, c.if-printed-eq0.false))) told) c.took_posts.ensures
+    IfOk-weaker c.took_posts.result _ _ (λ answer told. took_at_once c.args.session.now c.pops.new.self c.args.most c.in-Ok.printed answer.text c.in-Ok.ensures.popped c.in-Ok.ensures.watched (λ none. absurd (omega (arith, none, c.if-printed-eq0.false))) told) c.took_posts.ensures.told
 
 pub returns-clause-lost : goal.returns-clause-lost
 returns-clause-lost g c =

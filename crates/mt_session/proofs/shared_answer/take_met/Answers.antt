@@ -4,7 +4,7 @@ use Rattle.mt_session.proofs.shared_answer.take_met.Goals as goal
 
 pub returns-then-meeting-clause-taken : goal.returns-then-meeting-clause-taken
 returns-then-meeting-clause-taken g c =
-    IfOk-weaker c.took_posts.result _ _ (λ answer told. took_met c.args.session.now c.meet.new.session c.pops.new.self c.in-Some.meeting c.args.most c.in_ok-printed.printed answer.text c.in-Some.ensures c.if-meeting.true c.in_ok-printed.ensures.popped told) c.took_posts.ensures
+    IfOk-weaker c.took_posts.result _ _ (λ answer told. took_met c.args.session.now c.meet.new.session c.pops.new.self c.in-Some.meeting c.args.most c.in_ok-printed.printed answer.text c.requires c.in-Some.ensures c.if-meeting.true c.in_ok-printed.ensures.popped told) c.took_posts.ensures.told
 
 pub returns-then-meeting-clause-lost : goal.returns-then-meeting-clause-lost
 returns-then-meeting-clause-lost g c =

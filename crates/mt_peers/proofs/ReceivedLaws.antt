@@ -1,0 +1,286 @@
+-- What a worklist collects and counts: the mounts that get what happens in a group.
+use Rattle.std.proofs.Common.{◌≡◌, ℕ, suc, ◌+◌, ◌*◌, ◌≤◌, ◌<◌, Bool, true, false, cond, not, ◌&&◌, ◌||◌, ◌==◌, eqb, eqb-true, ltb, List, [], ◌∷◌, ◌++◌, map, length, Option, Some, None, refl, sym, ap, subst, ◌∙◌, arith}
+use Rattle.std.specs.List.{list_all, list_any, filter, filter_map, cons_option, AllByRecursion}
+use Rattle.std.specs.Option.{option_map, option_map_or, option_and_then}
+use Rattle.std.proofs.lemmas.Bool.Decides.{nat_tests}
+use Rattle.mt_skel.specs.Keyed.{row_at, rises, among}
+use Rattle.mt_peers.specs.declared.state.State.{State}
+use Rattle.mt_peers.specs.Peers.{Peer, Peering, mount_of, names, in_group, has_master, state_at, slaves}
+use Rattle.mt_peers.specs.Masters.{master_of, groups_up, reaches}
+use Rattle.mt_peers.specs.Counted.{count, occ}
+use Rattle.mt_peers.specs.Members.{group_at}
+use Rattle.mt_peers.specs.Entered.{entered, entered_by, gets_above, collected, other_at}
+use Rattle.mt_peers.specs.WellFormed.{IsPeering}
+use Rattle.mt_peers.proofs.MemberLaws.{master_of-is, named}
+use Rattle.mt_peers.proofs.SettleLaws.{chain-rank}
+use Rattle.mt_peers.proofs.LeavingLaws.{up_rank, up_falls}
+use Rattle.mt_peers.proofs.CountLaws.{count-same, count-or, count-le-or, count-map, count-filter, length-filter, occ-filter_map}
+use Rattle.mt_peers.proofs.WorklistLaws.{IsWorklist, is_found, led_by, is_found-snoc, apart-new, worklist-sound, worklist-reach}
+
+-- a mount gets what happens in the group g
+abbrev pub gets : List Peer → ℕ → Peer → Bool
+gets es g e = in_group g e || gets_above es g e
+
+-- the receivers of a mount that is in the group g
+abbrev pub received : List Peer → ℕ → ℕ → List ℕ
+received es g p = filter (λ j. not (p == j)) (map mount_of (filter (gets es g) es))
+
+-- the group of each row is the one that is read at its mount
+abbrev HasRows : List Peer → List Peer → Type 0
+HasRows es xs = AllByRecursion (λ (e : Peer). group_at es e.mount ≡ e.state.group) xs
+
+rows-lift : (x : Peer) (es xs : List Peer) → list_all (λ y. ltb x.mount (mount_of y)) xs ≡ true → HasRows es xs → HasRows (x ∷ es) xs
+rows-lift x es [] up h = tt
+rows-lift x es (y ∷ xs) up h =
+    let apart : eqb y.mount x.mount ≡ false = grind (arith, nat_tests) in (
+      ap (λ b. option_and_then (λ (s : State). s.group) (option_map (λ (e : Peer). e.state) (cond b (Some x) (row_at mount_of y.mount es)))) apart ∙ h.0,
+      rows-lift x es xs (grind (arith, nat_tests)) h.1,
+    )
+
+pub rows-there : (es : List Peer) → rises mount_of es ≡ true → HasRows es es
+rows-there [] up = tt
+rows-there (x ∷ es) up =
+    let same : eqb x.mount x.mount ≡ true = grind (arith, nat_tests) in (
+      ap (λ b. option_and_then (λ (s : State). s.group) (option_map (λ (e : Peer). e.state) (cond b (Some x) (row_at mount_of x.mount es)))) same,
+      rows-lift x es es (grind (arith, nat_tests)) (rows-there es (grind (arith, nat_tests))),
+    )
+
+-- what is picked by mount and group may be read off the rows
+pub picked-rows : (es : List Peer) (f : ℕ → Option ℕ → Option ℕ) (s : Peer → Bool) (xs : List Peer) → HasRows es xs
+    → filter_map (λ i. f i (group_at es i)) (map mount_of (filter s xs)) ≡ filter_map (λ (e : Peer). f e.mount e.state.group) (filter s xs)
+picked-rows es f s [] h = refl
+picked-rows es f s (x ∷ xs) h = go (s x) (picked-rows es f s xs h.1)
+  where
+    go : (b : Bool) → filter_map (λ i. f i (group_at es i)) (map mount_of (filter s xs)) ≡ filter_map (λ (e : Peer). f e.mount e.state.group) (filter s xs)
+        → filter_map (λ i. f i (group_at es i)) (map mount_of (cond b (x ∷ filter s xs) (filter s xs))) ≡ filter_map (λ (e : Peer). f e.mount e.state.group) (cond b (x ∷ filter s xs) (filter s xs))
+    go true ih = ap (λ o. cons_option (f x.mount o) (filter_map (λ i. f i (group_at es i)) (map mount_of (filter s xs)))) h.0 ∙ ap (λ l. cons_option (f x.mount x.state.group) l) ih
+    go false ih = ih
+
+pub entered-rows : (es : List Peer) (g m : ℕ) → rises mount_of es ≡ true → filter_map (λ i. entered es g i (group_at es i)) (slaves es m) ≡ entered_by es g m
+entered-rows es g m up = picked-rows es (entered es g) (has_master m) es (rows-there es up)
+
+pub collected-rows : (es : List Peer) (t : ℕ → Bool) (g m q : ℕ) → rises mount_of es ≡ true
+    → occ q (filter_map (λ i. collected t g i (group_at es i)) (slaves es m)) ≡ count (λ e. has_master m e && other_at t g q e) es
+collected-rows es t g m q up =
+    ap (occ q) (picked-rows es (collected t g) (has_master m) es (rows-there es up))
+    ∙ occ-filter_map q (λ (e : Peer). collected t g e.mount e.state.group) (filter (has_master m) es)
+    ∙ count-filter (λ (e : Peer). names (collected t g e.mount e.state.group) q) (has_master m) es
+    ∙ count-same (λ (e : Peer). has_master m e && names (collected t g e.mount e.state.group) q) (λ e. has_master m e && other_at t g q e) (λ e. ap (λ b. has_master m e && b) (at (t e.mount && not (in_group g e)) e.mount)) es
+  where
+    at : (b : Bool) (i : ℕ) → names (cond b (Some i) None) q ≡ (b && (i == q))
+    at true i = refl
+    at false i = refl
+
+pub occ-filter : (es : List Peer) (t : ℕ → Bool) (s : Peer → Bool) (q : ℕ) → occ q (filter t (map mount_of (filter s es))) ≡ count (λ e. s e && (t e.mount && (e.mount == q))) es
+occ-filter es t s q =
+    count-filter (λ j. j == q) t (map mount_of (filter s es))
+    ∙ count-map (λ j. t j && (j == q)) mount_of (filter s es)
+    ∙ count-filter (λ (e : Peer). t e.mount && (e.mount == q)) s es
+
+-- the slaves of one group more
+pub other-more : (es : List Peer) (done : List ℕ) (m : ℕ) (s : Peer → Bool) → occ m done ≡ 0
+    → count (λ e. led_by (done ++ m ∷ []) e && s e) es ≡ count (λ e. led_by done e && s e) es + count (λ e. has_master m e && s e) es
+other-more es done m s new =
+    count-or (λ e. led_by (done ++ m ∷ []) e && s e) (λ e. led_by done e && s e) (λ e. has_master m e && s e)
+    (λ e. ap (λ b. b && s e) (is_found-snoc done m e.state.master) ∙ spread (led_by done e) (has_master m e) (s e))
+    (λ e. apart (led_by done e) (has_master m e) (s e) (apart-new done m new e.state.master)) es
+  where
+    spread : (a b c : Bool) → ((a || b) && c) ≡ ((a && c) || (b && c))
+    spread true true true = refl
+    spread true true false = refl
+    spread true false true = refl
+    spread true false false = refl
+    spread false b c = refl
+
+    apart : (a b c : Bool) → (a && b) ≡ false → ((a && c) && (b && c)) ≡ false
+    apart true true c e = absurd (cc)
+    apart true false true e = refl
+    apart true false false e = refl
+    apart false b c e = refl
+
+-- at the end, the slaves that were gone over are those that get what happens in the group
+pub led-all : (es : List Peer) (g : ℕ) (all : List ℕ) → IsWorklist es g all all → (e : Peer) → led_by all e ≡ gets_above es g e
+led-all es g all w e = go e.state.master
+  where
+    go : (o : Option ℕ) → is_found all o ≡ option_map_or (λ m. reaches es m g) o false
+    go None = refl
+    go (Some m) = worklist-reach es g all w m
+
+-- and at each time they are some of those
+pub led-gets : (es : List Peer) (g : ℕ) (done some all : List ℕ) → IsWorklist es g done all → ((h : ℕ) → among some h ≡ true → among all h ≡ true)
+    → (e : Peer) → led_by some e ≡ true → gets_above es g e ≡ true
+led-gets es g done some all w part e = go e.state.master
+  where
+    go : (o : Option ℕ) → is_found some o ≡ true → option_map_or (λ m. reaches es m g) o false ≡ true
+    go None f = f
+    go (Some m) f = worklist-sound es g done all w m (part m f)
+
+-- what was collected is what the receivers are
+pub all-collected : (es : List Peer) (g : ℕ) (t : ℕ → Bool) (q : ℕ)
+    → count (λ e. in_group g e && (t e.mount && (e.mount == q))) es + count (λ e. gets_above es g e && other_at t g q e) es ≡ occ q (filter t (map mount_of (filter (gets es g) es)))
+all-collected es g t q =
+    sym (count-or (λ e. gets es g e && (t e.mount && (e.mount == q))) (λ e. in_group g e && (t e.mount && (e.mount == q))) (λ e. gets_above es g e && other_at t g q e)
+    (λ e. either (in_group g e) (gets_above es g e) (t e.mount) (e.mount == q))
+    (λ e. apart (in_group g e) (gets_above es g e) (t e.mount) (e.mount == q)) es)
+    ∙ sym (occ-filter es t (gets es g) q)
+  where
+    either : (a b c d : Bool) → ((a || b) && (c && d)) ≡ ((a && (c && d)) || (b && ((c && not a) && d)))
+    either true true true true = refl
+    either true true true false = refl
+    either true true false d = refl
+    either true false true true = refl
+    either true false true false = refl
+    either true false false d = refl
+    either false true true true = refl
+    either false true true false = refl
+    either false true false d = refl
+    either false false c d = refl
+
+    apart : (a b c d : Bool) → ((a && (c && d)) && (b && ((c && not a) && d))) ≡ false
+    apart true true true true = refl
+    apart true true true false = refl
+    apart true true false d = refl
+    apart true false true true = refl
+    apart true false true false = refl
+    apart true false false d = refl
+    apart false b c d = refl
+
+-- how many receivers there are
+pub received-count : (es : List Peer) (g p : ℕ) → length (received es g p) ≡ count (λ e. gets es g e && not (p == e.mount)) es
+received-count es g p =
+    length-filter (λ j. not (p == j)) (map mount_of (filter (gets es g) es))
+    ∙ count-map (λ j. not (p == j)) mount_of (filter (gets es g) es)
+    ∙ count-filter (λ (e : Peer). not (p == e.mount)) (gets es g) es
+
+-- one mount is itself
+pub one-itself : (p : ℕ) (es : List Peer) → rises mount_of es ≡ true → count (λ e. p == e.mount) es ≤ 1
+one-itself p [] up = omega arith
+one-itself p (x ∷ es) up = go (p == x.mount) refl (one-itself p es (grind (arith, nat_tests)))
+  where
+    none : (q : ℕ) (xs : List Peer) → list_all (λ y. ltb q (mount_of y)) xs ≡ true → count (λ e. q == e.mount) xs ≡ 0
+    none q [] up = refl
+    none q (y ∷ ys) up =
+        let ih = none q ys (grind (arith, nat_tests)) in
+        let off : (q == y.mount) ≡ false = grind (arith, nat_tests) in
+        ap (λ b. cond b (suc (count (λ e. q == e.mount) ys)) (count (λ e. q == e.mount) ys)) off ∙ ih
+
+    go : (b : Bool) → (p == x.mount) ≡ b → count (λ e. p == e.mount) es ≤ 1 → cond b (suc (count (λ e. p == e.mount) es)) (count (λ e. p == e.mount) es) ≤ 1
+    go true e ih =
+        let is : p ≡ x.mount = eqb-true p x.mount e in
+        let z = none p es (subst (λ q. list_all (λ y. ltb q (mount_of y)) es ≡ true) (sym is) (grind (arith, nat_tests))) in
+        omega (arith, z)
+    go false e ih = ih
+
+-- the looks that a worklist takes: one at each member of the group, and one at each slave
+abbrev pub looks_at : List Peer → ℕ → ℕ
+looks_at es g = count (in_group g) es + count (gets_above es g) es
+
+pub looks-least : (es : List Peer) (g p : ℕ) → length (received es g p) ≤ looks_at es g
+looks-least es g p =
+    let n = received-count es g p in
+    let l = count-le-or (λ e. gets es g e && not (p == e.mount)) (in_group g) (gets_above es g) (λ e f. so (in_group g e) (gets_above es g e) (not (p == e.mount)) f) es in
+    omega arith
+  where
+    so : (a b d : Bool) → ((a || b) && d) ≡ true → (a || b) ≡ true
+    so true b d f = refl
+    so false true d f = refl
+    so false false d f = absurd (cc)
+
+pub looks-most : (es : List Peer) (g p : ℕ) → rises mount_of es ≡ true → looks_at es g ≤ 2 * length (received es g p) + 2
+looks-most es g p up =
+    let n = received-count es g p in
+    let one = one-itself p es up in
+    let a = count-le-or (in_group g) (λ e. gets es g e && not (p == e.mount)) (λ e. p == e.mount) (λ e f. in_so (in_group g e) (gets_above es g e) (p == e.mount) f) es in
+    let b = count-le-or (gets_above es g) (λ e. gets es g e && not (p == e.mount)) (λ e. p == e.mount) (λ e f. led_so (in_group g e) (gets_above es g e) (p == e.mount) f) es in
+    omega arith
+  where
+    in_so : (a b d : Bool) → a ≡ true → (((a || b) && not d) || d) ≡ true
+    in_so true b true e = refl
+    in_so true b false e = refl
+    in_so false b d e = absurd (cc)
+
+    led_so : (a b d : Bool) → b ≡ true → (((a || b) && not d) || d) ≡ true
+    led_so true true true e = refl
+    led_so true true false e = refl
+    led_so false true true e = refl
+    led_so false true false e = refl
+    led_so a false d e = absurd (cc)
+
+-- the state of each row is the one that is read at its mount
+abbrev pub HasStates : List Peer → List Peer → Type 0
+HasStates es xs = AllByRecursion (λ (e : Peer). state_at es e.mount ≡ Some e.state) xs
+
+states-lift : (x : Peer) (es xs : List Peer) → list_all (λ y. ltb x.mount (mount_of y)) xs ≡ true → HasStates es xs → HasStates (x ∷ es) xs
+states-lift x es [] up h = tt
+states-lift x es (y ∷ xs) up h =
+    let apart : eqb y.mount x.mount ≡ false = grind (arith, nat_tests) in (
+      ap (λ b. option_map (λ (e : Peer). e.state) (cond b (Some x) (row_at mount_of y.mount es))) apart ∙ h.0,
+      states-lift x es xs (grind (arith, nat_tests)) h.1,
+    )
+
+pub states-there : (es : List Peer) → rises mount_of es ≡ true → HasStates es es
+states-there [] up = tt
+states-there (x ∷ es) up =
+    let same : eqb x.mount x.mount ≡ true = grind (arith, nat_tests) in (
+      ap (λ b. option_map (λ (e : Peer). e.state) (cond b (Some x) (row_at mount_of x.mount es))) same,
+      states-lift x es es (grind (arith, nat_tests)) (states-there es (grind (arith, nat_tests))),
+    )
+
+-- in order, no member of the group is a slave of one that was gone over
+module _ (pg : Peering) (h : IsPeering pg) (g p : ℕ) where
+  abbrev both : Peer → Bool
+  both e = in_group g e && gets_above pg.peers g e
+
+  above-not : (m : ℕ) → master_of pg.peers g ≡ Some m → reaches pg.peers m g ≡ true → up_rank pg h g < up_rank pg h g
+  above-not m e r =
+      let low = up_falls pg h g m e in
+      let high = chain-rank (master_of pg.peers) (up_rank pg h) (up_falls pg h) (length pg.peers) m g (turned (groups_up pg.peers m) r) in
+      omega arith
+    where
+      turned : (xs : List ℕ) → list_any (λ k. k == g) xs ≡ true → list_any (eqb g) xs ≡ true
+      turned [] e = e
+      turned (x ∷ xs) e = let ih = turned xs in grind (arith, nat_tests)
+
+  not-both : (e : Peer) → state_at pg.peers e.mount ≡ Some e.state → in_group g e ≡ true → gets_above pg.peers g e ≡ true → up_rank pg h g < up_rank pg h g
+  not-both e at in_g led = go e.state.master refl led
+    where
+      go : (o : Option ℕ) → e.state.master ≡ o → option_map_or (λ m. reaches pg.peers m g) o false ≡ true → up_rank pg h g < up_rank pg h g
+      go None is f = absurd (cc)
+      go (Some m) is f = above-not m (master_of-is pg.peers h.rising h.one_master e.mount e.state g at (named e.state.group g in_g) ∙ is) f
+
+  none-both : (xs : List Peer) → HasStates pg.peers xs → count both xs ≡ 0
+  none-both [] s = refl
+  none-both (x ∷ xs) s = go (in_group g x) refl (gets_above pg.peers g x) refl (none-both xs s.1)
+    where
+      go : (a : Bool) → in_group g x ≡ a → (b : Bool) → gets_above pg.peers g x ≡ b → count both xs ≡ 0 → cond (a && b) (suc (count both xs)) (count both xs) ≡ 0
+      go true e true f ih = absurd (let l = not-both x s.0 e f in omega (arith, l))
+      go true e false f ih = ih
+      go false e b f ih = ih
+
+  either-count : (a b : Peer → Bool) (xs : List Peer) → count a xs + count b xs ≡ count (λ e. a e || b e) xs + count (λ e. a e && b e) xs
+  either-count a b [] = omega arith
+  either-count a b (x ∷ xs) = go (a x) (b x) (count a xs) (count b xs) (count (λ e. a e || b e) xs) (count (λ e. a e && b e) xs) (either-count a b xs)
+    where
+      go : (u v : Bool) (k l m n : ℕ) → k + l ≡ m + n → cond u (suc k) k + cond v (suc l) l ≡ cond (u || v) (suc m) m + cond (u && v) (suc n) n
+      go true true k l m n e = omega (arith, e)
+      go true false k l m n e = omega (arith, e)
+      go false true k l m n e = omega (arith, e)
+      go false false k l m n e = omega (arith, e)
+
+  pub looks-ordered : looks_at pg.peers g ≤ length (received pg.peers g p) + 1
+  looks-ordered =
+      let n = received-count pg.peers g p in
+      let one = one-itself p pg.peers h.rising in
+      let sum = either-count (in_group g) (gets_above pg.peers g) pg.peers in
+      let none = none-both pg.peers (states-there pg.peers h.rising) in
+      let a =
+      count-le-or (λ e. in_group g e || gets_above pg.peers g e) (λ e. gets pg.peers g e && not (p == e.mount)) (λ e. p == e.mount)
+      (λ e f. so (in_group g e) (gets_above pg.peers g e) (p == e.mount) f) pg.peers in
+      omega arith
+    where
+      so : (a b d : Bool) → (a || b) ≡ true → (((a || b) && not d) || d) ≡ true
+      so true b true e = refl
+      so true b false e = refl
+      so false true true e = refl
+      so false true false e = refl
+      so false false d e = absurd (cc)
