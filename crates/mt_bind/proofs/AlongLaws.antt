@@ -1,15 +1,17 @@
 -- Whether a mount is bound with a directory, step by step up to the top.
-use Rattle.std.proofs.Common.{◌≡◌, ◌≢◌, ℕ, zero, suc, ◌&&◌, ◌||◌, Bool, true, false, cond, not, ◌==◌, eq-eqb, List, [], ◌∷◌, Option, Some, None, refl, sym, ap, ◌∙◌}
-use Rattle.std.specs.List.{list_all, take_while, last_or}
+use Rattle.std.proofs.Common.{◌≡◌, ◌≢◌, ℕ, zero, suc, ◌&&◌, ◌||◌, Bool, true, false, cond, not, ◌==◌, eq-eqb, List, [], ◌∷◌, Option, Some, None, refl, sym, ap, ◌∙◌, ◌≤◌, length, inl, inr, arith}
+use Rattle.std.specs.List.{list_all, list_any, take_while, last_or}
 use Rattle.std.specs.Option.{option_map_or}
-use Rattle.std.proofs.lemmas.Bool.{ne_eqb}
+use Rattle.std.proofs.lemmas.Bool.{cases_lt, ne_eqb}
 use Rattle.std.proofs.lemmas.List.Sums.{take_while-cons}
-use Rattle.mt_skel.specs.Chain.{chain}
+use Rattle.mt_skel.specs.Chain.{chain, ends}
+use Rattle.mt_skel.proofs.ChainLaws.{chain-suc}
+use Rattle.mt_propagate.proofs.TreeLaws.{ends-more}
 use Rattle.mt_mounts.specs.declared.mount.Place.{Place}
 use Rattle.mt_mounts.specs.Forest.{parent}
 use Rattle.mt_mounts.proofs.Walks.{below_within, below_here, below_stop, below_step}
 use Rattle.mt_propagate.specs.World.{WorldView, state_of}
-use Rattle.mt_bind.specs.Sources.{leads_within}
+use Rattle.mt_bind.specs.Sources.{leads_within, is_bound_along}
 
 and_false : (b c : Bool) → (b && false && c) ≡ false
 and_false true c = refl
@@ -78,3 +80,26 @@ module _ (w : WorldView) (p : Place) where
       ap (λ b. b && list_all unbound (way (suc n) j) && leads_within w p.dir (last_or passed (way (suc n) j))) (below_step w.forest p.mount n j q ne up)
       ∙ ap (λ (ks : List ℕ). below_within w.forest p.mount n q && list_all unbound ks && leads_within w p.dir (last_or passed ks)) longer
       ∙ ap (λ b. below_within w.forest p.mount n q && (not b && list_all unbound (way n q)) && leads_within w p.dir (last_or (Some j) (way n q))) e
+
+  -- the directory that was passed last says nothing off the top, nor do more steps where the way ends
+  taken_passed : (n : ℕ) (passed : Option ℕ) (j : ℕ) → j ≢ p.mount → taken n passed j ≡ taken n None j
+  taken_passed n passed j ne =
+      let rest = way_more n j ne in
+      ap (λ (ks : List ℕ). below_within w.forest p.mount n j && list_all unbound (way n j) && leads_within w p.dir (last_or passed ks)) rest.1
+      ∙ sym (ap (λ (ks : List ℕ). below_within w.forest p.mount n j && list_all unbound (way n j) && leads_within w p.dir (last_or None ks)) rest.1)
+
+  longer_chain : (n k j : ℕ) → n ≤ k → ends (parent w.forest) n j ≡ true → chain (parent w.forest) k j ≡ chain (parent w.forest) n j
+  longer_chain n zero j l e = let same : n ≡ 0 = omega (arith, l) in ap (λ n. chain (parent w.forest) n j) (sym same)
+  longer_chain n (suc k) j l e = elim (cases_lt k n) [
+    | inl over ↦ let same : n ≡ suc k = omega (arith, l, over) in ap (λ n. chain (parent w.forest) n j) (sym same)
+    | inr more ↦ chain-suc (parent w.forest) k j (ends-more (parent w.forest) n k j more e) ∙ longer_chain n k j more e
+  ]
+
+  pub taken_before : (n : ℕ) (passed : Option ℕ) (j : ℕ) → j ≢ p.mount → n ≤ length w.forest → ends (parent w.forest) n j ≡ true → taken n passed j ≡ is_bound_along w p j
+  taken_before n passed j ne le e =
+      taken_passed n passed j ne
+      ∙ sym (ap (λ (c : List ℕ). list_any (λ k. p.mount == k) c && list_all unbound (take_while off_top c) && leads_within w p.dir (last_or None (take_while off_top c))) (longer_chain n (length w.forest) j le e))
+
+  -- a way that goes on ends behind its first step
+  pub ends_up : (n j q : ℕ) → parent w.forest j ≡ Some q → ends (parent w.forest) (suc n) j ≡ true → ends (parent w.forest) n q ≡ true
+  ends_up n j q up e = ap (λ (o : Option ℕ). option_map_or (λ y. ends (parent w.forest) n y) o true) (sym up) ∙ e

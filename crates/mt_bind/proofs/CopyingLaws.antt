@@ -16,13 +16,16 @@ use Rattle.mt_propagate.specs.Limits.{too_many_mounts, too_many_spaces}
 use Rattle.mt_propagate.specs.WellFormed.{IsForest, IsWellFormed}
 use Rattle.mt_bind.specs.Spaces.{originals, with_copy, copy_space}
 use Rattle.mt_bind.specs.Copying.{copy_of, peer_of}
-use Rattle.mt_bind.proofs.NamespaceCopyLaws.{copies}
+use Rattle.mt_bind.proofs.NamespaceCopyLaws.{copies, order}
 use Rattle.mt_bind.proofs.CopyTreeLaws.{grown-forest}
 use Rattle.mt_bind.proofs.CopyLaws.{new_peers, peers-rise}
 
 module _ (w : WorldView) (h : IsWellFormed w) (n : ℕ) where
   -- the lists that were made of the mounts that were found
   module _ (ms : List Mount) (found : ms ≡ originals w n) where
+    pub found-rise : rises id_of ms ≡ true
+    found-rise = ap (rises id_of) found ∙ order w h n
+
     pub copies-are : (cs : List Mount) → cs ≡ map (copy_of w (map id_of ms)) ms → cs ≡ copies w h n
     copies-are cs e = e ∙ ap (λ (l : List Mount). map (copy_of w (map id_of l)) l) found
 

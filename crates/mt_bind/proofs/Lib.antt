@@ -3,6 +3,7 @@ pub mod GoneLaws
 pub mod NamespaceCopyLaws
 pub mod CopyTreeLaws
 pub mod CopyLaws
+pub mod CopyNumberLaws
 pub mod SourceLaws
 pub mod MountLaws
 pub mod PartLaws
@@ -14,5 +15,6 @@ pub mod SizeLaws
 pub mod CopyingLaws
 pub mod AlongLaws
 pub mod MemberLaws
+pub mod JudgedLaws
 pub mod BoundLaws
 pub mod MovingLaws

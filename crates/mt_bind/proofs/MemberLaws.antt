@@ -1,13 +1,13 @@
 -- The source trees of binds as lists of IDs, and how many copies they make at least.
-use Rattle.std.proofs.Common.{◌≡◌, ℕ, ◌+◌, ◌≤◌, Bool, true, false, cond, ◌==◌, eq-eqb, List, [], ◌∷◌, map, length, Option, Some, refl, ap, ◌∙◌, inl, inr, arith, length-append}
+use Rattle.std.proofs.Common.{◌≡◌, ℕ, ◌+◌, ◌≤◌, Bool, true, false, cond, ◌==◌, eq-eqb, List, [], ◌∷◌, map, length, Option, Some, None, refl, sym, ap, ◌∙◌, ◌&&◌, ◌++◌, ◌<◌, drop, get_or, append_assoc, inl, inr, arith, length-append}
 use Rattle.std.specs.Prelude.{unwrap_or, nat_lt}
-use Rattle.std.specs.List.{filter, flat_map}
+use Rattle.std.specs.List.{filter, flat_map, list_all, last_or}
 use Rattle.std.proofs.lemmas.Bool.Decides.{nat_tests}
-use Rattle.std.proofs.lemmas.List.{length-map}
+use Rattle.std.proofs.lemmas.List.{drop_more, length-map}
 use Rattle.mt_skel.specs.Keyed.{rises}
 use Rattle.mt_mounts.specs.declared.mount.Mount.{Mount}
 use Rattle.mt_mounts.specs.declared.mount.Place.{Place}
-use Rattle.mt_mounts.specs.Forest.{id_of, mount_at}
+use Rattle.mt_mounts.specs.Forest.{id_of, mount_at, is_below, subtree}
 use Rattle.mt_propagate.specs.World.{WorldView}
 use Rattle.mt_propagate.specs.Named.{unknown, mount_or_unknown}
 use Rattle.mt_propagate.specs.Limits.{too_many_mounts}
@@ -16,7 +16,7 @@ use Rattle.mt_propagate.specs.Receivers.{hits}
 use Rattle.mt_propagate.specs.Sound.{IsSource}
 use Rattle.mt_propagate.specs.Plans.{member_of, copied_source}
 use Rattle.mt_skel.proofs.ElementLaws.{In, in_filter, in_row}
-use Rattle.mt_bind.specs.Sources.{top_at, alone, tree_within, is_bound_along}
+use Rattle.mt_bind.specs.Sources.{top_at, alone, tree_within, is_bindable, is_bound_along, leads_within, path_to}
 
 -- the IDs that pass a test are those of the mounts that pass it
 pub filter_ids : (t : ℕ → Bool) (ms : List Mount) → filter t (map id_of ms) ≡ map id_of (filter (λ m. t m.id) ms)
@@ -28,7 +28,40 @@ filter_ids t (m ∷ ms) = go (t m.id) (filter_ids t ms)
     go true ih = ap (λ (l : List ℕ). m.id ∷ l) ih
     go false ih = ih
 
+-- a test that asks for another one first passes the same where those that fail the other are left out
+module _ (inside after last : ℕ → Bool) where
+  abbrev all : ℕ → Bool
+  all k = inside k && after k && last k
+
+  filter_within : (ks : List ℕ) → filter all (filter inside ks) ≡ filter all ks
+  filter_within [] = refl
+  filter_within (k ∷ ks) = go (inside k) refl (filter_within ks)
+    where
+      go : (b : Bool) → inside k ≡ b → filter all (filter inside ks) ≡ filter all ks → filter all (cond b (k ∷ filter inside ks) (filter inside ks)) ≡ cond (all k) (k ∷ filter all ks) (filter all ks)
+      go true is ih = ap (λ (l : List ℕ). cond (all k) (k ∷ l) l) ih
+      go false is ih = ih ∙ sym (ap (λ b. cond (b && after k && last k) (k ∷ filter all ks) (filter all ks)) is)
+
+-- the elements that pass, one element further
+module _ (t : ℕ → Bool) (ks : List ℕ) (i x : ℕ) (there : i < length ks) (out more all : List ℕ) (before : out ++ filter t (drop i ks) ≡ all) where
+  abbrev later : List ℕ
+  later = filter t (drop (i + 1) ks)
+
+  next : (b : Bool) → t (get_or ks i x) ≡ b → out ++ cond b (get_or ks i x ∷ later) later ≡ all
+  next b e = sym (ap (λ v. out ++ v) (ap (filter t) (drop_more ks i x there) ∙ ap (λ b. cond b (get_or ks i x ∷ later) later) e)) ∙ before
+
+  pub passes : t (get_or ks i x) ≡ true → more ≡ out ++ get_or ks i x ∷ [] → more ++ filter t (drop (i + 1) ks) ≡ all
+  passes e is = ap (λ v. v ++ later) is ∙ append_assoc out (get_or ks i x ∷ []) later ∙ next true e
+
+  pub fails : t (get_or ks i x) ≡ false → more ≡ out → more ++ filter t (drop (i + 1) ks) ≡ all
+  fails e is = ap (λ v. v ++ later) is ∙ next false e
+
 module _ (w : WorldView) (p : Place) where
+  -- what is bound along stands in the tree of the directory's own mount
+  pub bound_below : filter (is_bound_along w p) (subtree w.forest p.mount) ≡ map id_of (filter (λ m. is_bound_along w p m.id) w.forest)
+  bound_below =
+      filter_within (is_below w.forest p.mount) (λ i. list_all (is_bindable w) (path_to w p.mount i)) (λ i. leads_within w p.dir (last_or None (path_to w p.mount i))) (map id_of w.forest)
+      ∙ filter_ids (is_bound_along w p) w.forest
+
   abbrev with_mounts : List Mount → Source
   with_mounts ms = record { mounts = ms; top = top_at w p; moved = false }
 

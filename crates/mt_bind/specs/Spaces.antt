@@ -1,7 +1,6 @@
 -- New namespaces: with one private mount, and as a copy of another; and the end of a namespace.
 -- A word with no source is this project's rule.
 use Rattle.std.specs.Prelude.{ℕ, ◌+◌, Bool, not, ◌==◌, List, [], ◌∷◌, ◌++◌, map, length, None, is_none, Result}
-use Rattle.std.specs.List.{filter}
 use Rattle.std.specs.Option.{unwrap_or}
 use Rattle.mt_skel.specs.declared.fault.Fault.{Fault}
 use Rattle.mt_skel.specs.declared.fault.Fault.TheVariants.{NoFilesystem, NoNamespace, TooMany}
@@ -10,7 +9,7 @@ use Rattle.mt_skel.specs.Outcome.{refuse_if, outcome}
 use Rattle.mt_skel.specs.Skeleton.{fs_named, root_of}
 use Rattle.mt_mounts.specs.declared.mount.Mount.{Mount}
 use Rattle.mt_mounts.specs.Attrs.{new_attrs}
-use Rattle.mt_mounts.specs.Forest.{id_of}
+use Rattle.mt_mounts.specs.Forest.{id_of, mounts_in}
 use Rattle.mt_peers.specs.Loss.{left}
 use Rattle.mt_propagate.specs.World.{WorldView, is_space, private, state_of, space_of}
 use Rattle.mt_propagate.specs.Limits.{too_many_mounts, too_many_spaces}
@@ -36,7 +35,7 @@ new_space w name =
 module _ (w : WorldView) (n : ℕ) where
   -- the mounts of a namespace, by rising ID (mount_namespaces(7))
   abbrev pub originals : List Mount
-  originals = filter (λ m. m.space == n) w.forest
+  originals = mounts_in w.forest n
 
   -- a copy of each mount of a namespace, in a new one (`sharedsubtree`, clone namespace)
   unfoldable pub with_copy : Bool → WorldView

@@ -1,13 +1,12 @@
 //! Binds: copies of one mount, or of the tree of mounts below a directory.
-ghost use Rattle.std.specs.Prelude.{◌≡◌, ◌≢◌, ◌^◌, ◌<◌, cond, true, false, map, IfOk, IfErr, OnErr, IsOkUnless, Ok, Err, [], ◌∷◌};
-ghost use Rattle.std.specs.List.{filter};
-ghost use Rattle.mt_mounts.specs.Forest.{id_of};
+ghost use Rattle.std.specs.Prelude.{◌≡◌, ◌≢◌, ◌^◌, ◌<◌, cond, true, false, IfOk, IfErr, OnErr, IsOkUnless, Ok, Err, [], ◌∷◌};
 ghost use Rattle.mt_propagate.specs.World.{world_view, state_of};
 ghost use Rattle.mt_propagate.specs.WellFormed.{IsWellFormed};
 ghost use Rattle.mt_propagate.specs.Plans.{source_of};
-ghost use Rattle.mt_bind.specs.Sources.{alone, leads_within, is_bound_along, tree_within};
+ghost use Rattle.mt_bind.specs.Sources.{alone, tree_within};
 ghost use Rattle.mt_bind.specs.Mounting.{bound};
 
+use crate::members::members_within;
 use mt_mounts::mount::{MountId, Place, SpaceId};
 use mt_propagate::limits::too_many_mounts;
 use mt_propagate::named::is_root_place;
@@ -15,7 +14,6 @@ use mt_propagate::plan::{Sources, carry_out, make_plan, ready};
 use mt_propagate::world::{World, state_of};
 use mt_skel::fault::Fault;
 use mt_skel::name::Name;
-use mt_skel::skel::Dir;
 
 /// Whether a mount is unbindable.
 pub(crate) fn is_unbindable(world: &World, id: MountId) -> bool
@@ -24,68 +22,12 @@ pub(crate) fn is_unbindable(world: &World, id: MountId) -> bool
     state_of(world, id).unbindable
 }
 
-/// Whether a mount stands at a directory or below it. True where there is no mount to ask for.
-fn leads_within(world: &World, dir: Dir, mount: Option<MountId>) -> bool
-    ensures { result ≡ leads_within (world_view world.now) dir mount }
-{
-    let Some(id) = mount else {
-        return true;
-    };
-    let Some(mount) = world.forest.get(id) else {
-        return false;
-    };
-    match mount.place {
-        Some(place) => world.skel.holds(dir, place.dir),
-        None => false,
-    }
-}
-
-/// Whether a recursive bind of a directory copies a mount: it is the directory's own mount, or it
-/// stands on that one at whatever height, within the directory, and neither it nor a mount between
-/// the two is unbindable.
-fn is_bound_along(world: &World, from: Place, id: MountId) -> bool
-    ensures { result ≡ is_bound_along (world_view world.now) from id }
-{
-    let mut here = id;
-    let mut passed = None;
-    'parents: for _step in 0..world.forest.len() {
-        if here == from.mount {
-            return leads_within(world, from.dir, passed);
-        }
-        if is_unbindable(world, here) {
-            return false;
-        }
-        let Some(parent) = world.forest.parent(here) else {
-            return false;
-        };
-        passed = Some(here);
-        here = parent;
-    }
-    here == from.mount && leads_within(world, from.dir, passed)
-}
-
-/// The mounts that a recursive bind of a directory copies, by rising ID. Refused as `NoMemory` alone.
-fn members_within(world: &World, from: Place) -> Result<Vec<MountId>, Fault>
-    ensures members { IfOk result (λ ids. ids.items ≡ map id_of (filter (λ m. is_bound_along (world_view world.now) from m.id) world.now.forest.mounts)) }
-    ensures memory { IsOkUnless result Fault.NoMemory }
-{
-    let ids = world.forest.ids()?;
-    let mut members = Vec::new(*ids.allocator());
-    for id in &ids {
-        if is_bound_along(world, from, *id) {
-            members.push(*id)?;
-        }
-    }
-    Ok(members)
-}
-
-/// A list of one mount, in the memory of the list of all. Refused as `NoMemory` alone.
+/// A list of one mount. Refused as `NoMemory` alone.
 fn only(world: &World, id: MountId) -> Result<Vec<MountId>, Fault>
     ensures only { IfOk result (λ ids. ids.items ≡ id ∷ []) }
     ensures memory { IsOkUnless result Fault.NoMemory }
 {
-    let mut ids = world.forest.ids()?;
-    ids.clear();
+    let mut ids = Vec::with_capacity(world.forest.allocator(), 1)?;
     ids.push(id)?;
     Ok(ids)
 }

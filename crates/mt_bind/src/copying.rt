@@ -5,7 +5,7 @@ ghost use Rattle.mt_mounts.specs.Forest.{id_of};
 ghost use Rattle.mt_peers.specs.Peers.{mount_of, peers_of};
 ghost use Rattle.mt_propagate.specs.World.{world_view};
 ghost use Rattle.mt_propagate.specs.WellFormed.{HasDistinctPlaces, HasOneRoot, IsWellFormed};
-ghost use Rattle.mt_bind.specs.Spaces.{originals, copy_space};
+ghost use Rattle.mt_bind.specs.Spaces.{copy_space};
 ghost use Rattle.mt_bind.specs.Copying.{copy_of, peer_of};
 
 use crate::spaces::too_many;
@@ -14,36 +14,24 @@ use mt_peers::state::State;
 use mt_propagate::carry::{insert_all, join_all};
 use mt_propagate::world::{World, state_of};
 use mt_skel::fault::Fault;
-use std::alloc::Global;
-
-/// The mounts of a namespace, by rising ID.
-fn originals(world: &World, space: SpaceId) -> Result<Vec<Mount>, Fault>
-    ensures originals { IfOk result (λ mounts. mounts.items ≡ originals (world_view world.now) space) }
-    ensures memory { IsOkUnless result Fault.NoMemory }
-{
-    let mut mounts = world.forest.mounts()?;
-    mounts.retain(|mount| mount.space == space);
-    Ok(mounts)
-}
 
 /// The number of the copy of a mount, where the copies of these mounts get the numbers from `next` on.
+/// The mount is found by halving the list, so their IDs have to rise.
 fn copy_number(next: MountId, originals: &[Mount], id: MountId) -> MountId
-    requires { next + length originals.now < 2 ^ 64 }
+    requires rising { IsTrue (rises id_of originals.now) }
+    requires numbers { next + length originals.now < 2 ^ 64 }
     ensures { result ≡ numbered nat_eq next (map id_of originals.now) id }
 {
-    let mut number = next;
-    for original in originals {
-        if id == original.id {
-            return number;
-        }
-        number += 1;
+    match originals.binary_search_by_key(&id, |original| original.id) {
+        Ok(at) => next + at as u64,
+        Err(_) => next + originals.len() as u64,
     }
-    number
 }
 
 /// The copy of a mount, which stands on the copy of its parent.
 fn copy_of(world: &World, originals: &[Mount], mount: &Mount) -> Mount
-    requires { world.now.next_mount + length originals.now < 2 ^ 64 }
+    requires rising { IsTrue (rises id_of originals.now) }
+    requires numbers { world.now.next_mount + length originals.now < 2 ^ 64 }
     ensures { result ≡ copy_of (world_view world.now) (map id_of originals.now) mount.now }
 {
     let place = match mount.place {
@@ -63,12 +51,13 @@ fn copy_of(world: &World, originals: &[Mount], mount: &Mount) -> Mount
 }
 
 /// The copies of the mounts of a namespace.
-fn copies(alloc: Global, world: &World, originals: &[Mount]) -> Result<Vec<Mount>, Fault>
-    requires { world.now.next_mount + length originals.now < 2 ^ 64 }
+fn copies(world: &World, originals: &[Mount]) -> Result<Vec<Mount>, Fault>
+    requires rising { IsTrue (rises id_of originals.now) }
+    requires numbers { world.now.next_mount + length originals.now < 2 ^ 64 }
     ensures copies { IfOk result (λ copies. copies.items ≡ map (copy_of (world_view world.now) (map id_of originals.now)) originals.now) }
     ensures memory { IsOkUnless result Fault.NoMemory }
 {
-    let mut copies = Vec::new(alloc);
+    let mut copies = Vec::with_capacity(world.forest.allocator(), originals.len())?;
     for mount in originals {
         copies.push(copy_of(world, originals, mount))?;
     }
@@ -76,12 +65,13 @@ fn copies(alloc: Global, world: &World, originals: &[Mount]) -> Result<Vec<Mount
 }
 
 /// The states of the copies of the mounts of a namespace.
-fn states(alloc: Global, world: &World, originals: &[Mount]) -> Result<Vec<(MountId, State)>, Fault>
-    requires { world.now.next_mount + length originals.now < 2 ^ 64 }
+fn states(world: &World, originals: &[Mount]) -> Result<Vec<(MountId, State)>, Fault>
+    requires rising { IsTrue (rises id_of originals.now) }
+    requires numbers { world.now.next_mount + length originals.now < 2 ^ 64 }
     ensures states { IfOk result (λ states. peers_of states.items ≡ map (peer_of (world_view world.now) (map id_of originals.now)) originals.now) }
     ensures memory { IsOkUnless result Fault.NoMemory }
 {
-    let mut states = Vec::new(alloc);
+    let mut states = Vec::with_capacity(world.forest.allocator(), originals.len())?;
     for mount in originals {
         let id = copy_number(world.next_mount, originals, mount.id);
         states.push((id, state_of(world, mount.id)))?;
@@ -139,13 +129,12 @@ pub fn copy_space(world: &mut World, space: SpaceId) -> Result<SpaceId, Fault>
     if world.forest.root(space).is_none() {
         return Err(Fault::NoNamespace);
     }
-    let originals = originals(world, space)?;
+    let originals = world.forest.mounts_in(space)?;
     if too_many(world, originals.len()) {
         return Err(Fault::TooMany);
     }
-    let alloc = *originals.allocator();
-    let mounts = copies(alloc, world, &originals)?;
-    let states = states(alloc, world, &originals)?;
+    let mounts = copies(world, &originals)?;
+    let states = states(world, &originals)?;
     make_room(world, originals.len())?;
     Ok(add_space(world, &mounts, &states))
 }

@@ -4,6 +4,7 @@
 pub mod binding;
 pub mod copying;
 pub mod laws;
+mod members;
 pub mod mounting;
 pub mod moving;
 pub mod spaces;

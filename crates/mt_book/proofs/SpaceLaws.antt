@@ -11,7 +11,7 @@ use Rattle.mt_skel.proofs.OutcomeLaws.{outcome_ok, first_none, not_refused}
 use Rattle.mt_skel.specs.Skeleton.{Filesystem, IsSkeleton, added_fs, added_dir}
 use Rattle.mt_mounts.specs.declared.mount.Mount.{Mount}
 use Rattle.mt_mounts.specs.declared.mount.Place.{Place}
-use Rattle.mt_mounts.specs.Forest.{id_of, mount_at, is_root, root_mount}
+use Rattle.mt_mounts.specs.Forest.{id_of, mount_at, is_root, root_mount, stands_on}
 use Rattle.mt_mounts.specs.Walk.{walk}
 use Rattle.mt_propagate.specs.World.{WorldView, is_space}
 use Rattle.mt_propagate.specs.WellFormed.{IsWellFormed}
@@ -26,7 +26,7 @@ use Rattle.mt_skel.proofs.MiddleLaws.{and_second, and-true}
 use Rattle.mt_bind.specs.Spaces.{with_space, new_space, with_copy, copy_space, originals}
 use Rattle.mt_bind.specs.Copying.{copy_of}
 use Rattle.mt_bind.specs.Mounting.{mounted, bound, moved}
-use Rattle.mt_unmount.specs.Unmounting.{is_removed, stands_on, without_mount, unmounted, place_of}
+use Rattle.mt_unmount.specs.Unmounting.{is_removed, without_mount, unmounted, place_of}
 use Rattle.mt_unmount.proofs.RemovedLaws.{removed-cases, place-at}
 use Rattle.mt_unmount.proofs.UnmountTreeLaws.{stays-in}
 use Rattle.mt_setattr.specs.declared.change.Change.{Change}

@@ -12,7 +12,7 @@ ghost use Rattle.mt_book.specs.Kept.{IsPrepared, prepared_command, prepared_repl
 use crate::changes::changes_after;
 use crate::command::{Command, Reply};
 use crate::prepared::Prepared;
-use crate::spare::{Spare, Tried, level, try_on};
+use crate::spare::{Spare, Tried, keep_level, level, try_on};
 use mt_events::shared::SharedPosts;
 use mt_info::table::{Table, table_of};
 use mt_mounts::mount::{MountId, SpaceId};
@@ -31,7 +31,6 @@ const MOST_COMMANDS: usize = 1_048_576;
 /// A second world is kept beside the one that is shown, never more than one command behind. The next command is
 /// tried on it, and shown by exchanging both, so that no command copies a world, also not a refused one. A copy is
 /// made only after a `Prepared` was dropped, or where there was no memory for what a command changed.
-#[derive(Drop)]
 pub struct Book {
     world: World,
     spare: Spare,
@@ -51,6 +50,20 @@ impl Model for Book {
     ghost view = { λ b. record { journal = b.journal.items; room = vec_capacity b.journal - vec_len b.journal } };
 
     ghost invariant = { λ b. IsBook (world_view b.world) b.spare b.numbers.items b.journal.items };
+}
+
+// Written out, so that whoever owns a book lets it go as one thing: with the derived one each function that lets a
+// floor or a desk go would be checked over every table of both worlds.
+impl Drop for Book {
+    fn drop(self) {
+        let Book {
+            world: _world,
+            spare: _spare,
+            numbers: _numbers,
+            journal: _journal,
+            alloc: _alloc,
+        } = self;
+    }
 }
 
 impl Book {
@@ -95,15 +108,15 @@ impl Book {
             return Err(Fault::JournalFull);
         }
         self.journal.reserve(1)?;
-        let copy = command.copy()?;
         let spare = mem::replace(&mut self.spare, Spare::Gone);
         let world = level(spare, &self.world, &self.journal)?;
         match try_on(world, command) {
             Tried::Refused(world, fault) => {
-                self.spare = Spare::Level(world);
+                keep_level(&mut self.spare, world);
                 Err(fault)
             }
             Tried::Changed(world, reply) => {
+                let copy = command.copy()?;
                 let changes = changes_after(
                     self.alloc,
                     &self.world,

@@ -78,6 +78,17 @@ fn delta(alloc: Global, before: &Table, after: &Table) -> Result<Delta, Fault>
     })
 }
 
+/// This difference, or `None` exactly where it is empty. Takes no memory.
+pub(crate) fn some_change(delta: Delta) -> Option<Delta>
+    ensures change { result ≡ some_change delta }
+    ensures same { IfSome result (λ some. (is_empty delta ≡ false) × (some ≡ delta)) }
+{
+    if delta.gone.as_slice().is_empty() && delta.rows.as_slice().is_empty() {
+        return None;
+    }
+    Some(delta)
+}
+
 /// What changed from one table to another, or `None` exactly where they are equal. Where something changed, it can
 /// be told by a post (`Post::new`).
 ///
@@ -88,8 +99,5 @@ pub fn change(alloc: Global, before: &Table, after: &Table) -> Result<Option<Del
     ensures memory { IsOkUnless result Fault.NoMemory }
 {
     let delta = delta(alloc, before, after)?;
-    if delta.gone.as_slice().is_empty() && delta.rows.as_slice().is_empty() {
-        return Ok(None);
-    }
-    Ok(Some(delta))
+    Ok(some_change(delta))
 }

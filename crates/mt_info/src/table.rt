@@ -1,14 +1,16 @@
 //! The mounts of one namespace.
 ghost use Rattle.std.specs.Prelude.{◌≡◌, ◌≢◌, ◌↔◌, ◌++◌, IsSome, IfSome, false, true, IfErr, IfOk, IsOkUnless, IsTrue, OnOk, MatchOption, Err, Some, None, drop};
 ghost use Rattle.mt_skel.specs.Keyed.{rises, row_at};
-ghost use Rattle.mt_mounts.specs.Forest.{id_of, mount_at, parent, parents_up};
+ghost use Rattle.mt_mounts.specs.Forest.{mount_at, parents_up};
 ghost use Rattle.mt_propagate.specs.World.{world_view, is_space, state_of};
+ghost use Rattle.mt_propagate.specs.Named.{mount_or_unknown};
 ghost use Rattle.mt_propagate.specs.WellFormed.{IsWellFormed};
 ghost use Rattle.mt_info.specs.Table.{row_id, table_of, row_of, mount_point, own_names};
-ghost use Rattle.mt_info.specs.Building.{is_above, rows_at};
+ghost use Rattle.mt_info.specs.Building.{is_above};
 ghost use Rattle.mt_info.specs.SameRow.{rows_eq};
 
 use crate::row::Row;
+use mt_mounts::forest::Forest;
 use mt_mounts::mount::{Mount, MountId, SpaceId};
 use mt_propagate::world::{World, state_of};
 use mt_skel::fault::Fault;
@@ -150,42 +152,28 @@ pub fn table_or_empty(world: &World, space: SpaceId) -> Result<Table, Fault>
     ensures table { IfOk result (λ table. table ≡ table_of (world_view world.now) space) }
     ensures memory { IsOkUnless result Fault.NoMemory }
 {
-    let mounts = world.forest.mounts()?;
-    let alloc = *mounts.allocator();
-    let all = mounts.as_slice();
-    let mut rows = Vec::new(alloc);
-    for mount in all {
-        push_row_of(alloc, &mut rows, world, all, space, mount)?;
+    let mounts = world.forest.mounts_in(space)?;
+    let mut rows = Vec::new(world.forest.allocator());
+    for mount in &mounts {
+        rows.push(row_of_mount(world, mount)?)?;
     }
     Ok(Table { rows })
 }
 
-/// Appends the row of a mount, if it is in the namespace.
-fn push_row_of(
-    alloc: Global,
-    rows: &mut Vec<Row>,
-    world: &World,
-    mounts: &[Mount],
-    space: SpaceId,
-    mount: &Mount,
-) -> Result<(), Fault>
+/// The row of the mount with this ID, which is there. Refused as `NoMemory` alone.
+pub fn row_of(world: &World, id: MountId) -> Result<Row, Fault>
     requires well_formed { IsWellFormed (world_view world.now) }
-    requires all { mounts.now ≡ world.now.forest.mounts }
-    requires there { mount_at world.now.forest.mounts mount.now.id ≡ Some mount.now }
-    ensures rows { OnOk result (rows.new.items ≡ rows.old.items ++ rows_at (world_view world.now) space mount.now) }
+    requires there { IsSome (mount_at world.now.forest.mounts id) }
+    ensures row { IfOk result (λ row. row ≡ row_of (world_view world.now) (mount_or_unknown (world_view world.now) id)) }
     ensures memory { IsOkUnless result Fault.NoMemory }
 {
-    if mount.space != space {
-        return Ok(());
-    }
-    rows.push(row_of(alloc, world, mounts, mount)?)?;
-    Ok(())
+    let mount = world.forest.get(id).unwrap();
+    row_of_mount(world, &mount)
 }
 
-/// The row of a mount, given all mounts of the world.
-fn row_of(alloc: Global, world: &World, mounts: &[Mount], mount: &Mount) -> Result<Row, Fault>
+/// The row of a mount of the world.
+fn row_of_mount(world: &World, mount: &Mount) -> Result<Row, Fault>
     requires well_formed { IsWellFormed (world_view world.now) }
-    requires all { mounts.now ≡ world.now.forest.mounts }
     requires there { mount_at world.now.forest.mounts mount.now.id ≡ Some mount.now }
     ensures row { IfOk result (λ row. row ≡ row_of (world_view world.now) mount.now) }
     ensures memory { IsOkUnless result Fault.NoMemory }
@@ -201,7 +189,7 @@ fn row_of(alloc: Global, world: &World, mounts: &[Mount], mount: &Mount) -> Resu
         parent,
         minor,
         root: Names::new(world.skel.path_of(mount.root)?),
-        point: mount_point(alloc, world, mounts, mount.id)?,
+        point: mount_point(world, mount.id)?,
         attrs: mount.attrs,
         shared: state.group,
         master: state.master,
@@ -211,53 +199,31 @@ fn row_of(alloc: Global, world: &World, mounts: &[Mount], mount: &Mount) -> Resu
     })
 }
 
-/// Where a mount stands, from the root of its namespace down, given all mounts of the world.
-fn mount_point(alloc: Global, world: &World, mounts: &[Mount], id: MountId) -> Result<Names, Fault>
+/// Where a mount stands, from the root of its namespace down.
+fn mount_point(world: &World, id: MountId) -> Result<Names, Fault>
     requires well_formed { IsWellFormed (world_view world.now) }
-    requires all { mounts.now ≡ world.now.forest.mounts }
     ensures point { IfOk result (λ point. point ≡ mount_point (world_view world.now) id) }
     ensures memory { IsOkUnless result Fault.NoMemory }
 {
-    let mut above = parents_up(alloc, mounts, id)?;
+    let mut above = parents_up(&world.forest, id)?;
     above.reverse();
-    let mut point = Vec::new(alloc);
+    let mut point = Vec::new(world.forest.allocator());
     for mount in &above {
-        push_own_names(&mut point, world, mounts, *mount)?;
+        push_own_names(&mut point, world, *mount)?;
     }
     Ok(Names::new(point))
 }
 
-/// The mount with this ID, found by halving the list.
-fn mount_at(mounts: &[Mount], id: MountId) -> Option<Mount>
-    requires { IsTrue (rises id_of mounts.now) }
-    ensures { result ≡ mount_at mounts.now id }
-{
-    match mounts.binary_search_by_key(&id, |mount| mount.id) {
-        Ok(at) => Some(mounts[at]),
-        Err(_) => None,
-    }
-}
-
-/// The mount that a mount stands on.
-fn parent(mounts: &[Mount], id: MountId) -> Option<MountId>
-    requires { IsTrue (rises id_of mounts.now) }
-    ensures { result ≡ parent mounts.now id }
-{
-    let place = mount_at(mounts, id)?.place?;
-    Some(place.mount)
-}
-
 /// A mount, its parent, and so on.
-fn parents_up(alloc: Global, mounts: &[Mount], id: MountId) -> Result<Vec<MountId>, Fault>
-    requires { IsTrue (rises id_of mounts.now) }
-    ensures above { IfOk result (λ above. above.items ≡ parents_up mounts.now id) }
+fn parents_up(forest: &Forest, id: MountId) -> Result<Vec<MountId>, Fault>
+    ensures above { IfOk result (λ above. above.items ≡ parents_up forest.now.mounts id) }
     ensures memory { IsOkUnless result Fault.NoMemory }
 {
-    let mut above = Vec::new(alloc);
+    let mut above = Vec::new(forest.allocator());
     let mut here = id;
-    'steps: for _step in 0..mounts.len() {
+    'steps: for _step in 0..forest.len() {
         above.push(here)?;
-        let Some(parent) = parent(mounts, here) else {
+        let Some(parent) = forest.parent(here) else {
             return Ok(above);
         };
         here = parent;
@@ -267,24 +233,18 @@ fn parents_up(alloc: Global, mounts: &[Mount], id: MountId) -> Result<Vec<MountI
 }
 
 /// Appends the names that a mount adds to the mount point of its parent.
-fn push_own_names(
-    point: &mut Vec<Name>,
-    world: &World,
-    mounts: &[Mount],
-    id: MountId,
-) -> Result<(), Fault>
+fn push_own_names(point: &mut Vec<Name>, world: &World, id: MountId) -> Result<(), Fault>
     requires well_formed { IsWellFormed (world_view world.now) }
-    requires all { mounts.now ≡ world.now.forest.mounts }
     ensures names { OnOk result (point.new.items ≡ point.old.items ++ own_names (world_view world.now) id) }
     ensures memory { IsOkUnless result Fault.NoMemory }
 {
-    let Some(mount) = mount_at(mounts, id) else {
+    let Some(mount) = world.forest.get(id) else {
         return Ok(());
     };
     let Some(place) = mount.place else {
         return Ok(());
     };
-    let Some(parent) = mount_at(mounts, place.mount) else {
+    let Some(parent) = world.forest.get(place.mount) else {
         return Ok(());
     };
     let depth = world.skel.path_of(parent.root)?.len();

@@ -1,16 +1,18 @@
 -- A mount that is changed in its slot is changed among the rows, and no other is.
 use Rattle.std.proofs.Common.{◌≡◌, ◌≢◌, ℕ, cond, eqb, eq-eqb, Some, None, refl, sym, ap, ◌∙◌}
 use Rattle.std.proofs.lemmas.Bool.{ne_eqb}
+use Rattle.std.specs.Option.{option_and_then}
 use Rattle.slab.specs.Slab.{Slab, get, with_value}
 use Rattle.mt_skel.specs.Keyed.{row_at, put}
 use Rattle.mt_mounts.specs.declared.mount.Mount.{Mount}
 use Rattle.mt_mounts.specs.declared.mount.Place.{Place}
 use Rattle.mt_mounts.specs.declared.mount.Attrs.{Attrs}
-use Rattle.mt_mounts.specs.Forest.{id_of, on}
+use Rattle.mt_mounts.specs.Forest.{id_of}
 use Rattle.mt_mounts.specs.ForestView.{with_attrs, with_place}
-use Rattle.mt_mounts.specs.Slots.{slab_mounts, HoldsAt, IsForest}
-use Rattle.mt_mounts.proofs.SlotLaws.{rises_table, row_absent, row_at_slot}
-use Rattle.mt_mounts.proofs.ForestLaws.{single_put, single_same, row_was, table_written, forest_written, map_one, map_none, key_fits}
+use Rattle.mt_mounts.specs.Slots.{slab_mounts, Keys, key_at, IsKeyed}
+use Rattle.mt_mounts.proofs.SlotLaws.{rises_table, row_at_slot}
+use Rattle.mt_mounts.proofs.ForestLaws.{map_one, map_none}
+use Rattle.mt_mounts.proofs.TableLaws.{distinct_ids, mount_keyed, key_fits, table_written}
 
 -- what `with_attrs` and `with_place` make of one mount
 abbrev pub attrs_of : ℕ → Attrs → Mount → Mount
@@ -22,50 +24,39 @@ place_of i p x = record x { place = cond (eqb x.id i) (Some p) x.place }
 attrs_other : (i : ℕ) (a : Attrs) (x : Mount) → x.id ≢ i → attrs_of i a x ≡ x
 attrs_other i a x ne = ap (λ b. record x { attrs = cond b a x.attrs }) (ne_eqb x.id i ne)
 
-place_other : (i : ℕ) (p : Place) (x : Mount) → x.id ≢ i → place_of i p x ≡ x
+pub place_other : (i : ℕ) (p : Place) (x : Mount) → x.id ≢ i → place_of i p x ≡ x
 place_other i p x ne = ap (λ b. record x { place = cond b (Some p) x.place }) (ne_eqb x.id i ne)
 
--- a change of a mount that is not there changes nothing
-module _ (s : Slab Mount) (i : ℕ) (absent : (key : ℕ) → ¬ (HoldsAt s i key)) where
-  pub attrs_absent : (a : Attrs) → slab_mounts s ≡ with_attrs i a (slab_mounts s)
-  attrs_absent a = map_none (attrs_of i a) (λ x. refl) i (attrs_other i a) (slab_mounts s) (rises_table s) (row_absent s i absent)
+module _ (s : Slab Mount) (keys : Keys) (k : IsKeyed s keys) (i : ℕ) where
+  -- a change of a mount that is not there changes nothing
+  module _ (absent : option_and_then (get s) (key_at keys i) ≡ None) where
+    no_row : row_at id_of i (slab_mounts s) ≡ None
+    no_row = mount_keyed s keys k i ∙ absent
 
-  pub place_absent : (p : Place) → slab_mounts s ≡ with_place i p (slab_mounts s)
-  place_absent p = map_none (place_of i p) (λ x. refl) i (place_other i p) (slab_mounts s) (rises_table s) (row_absent s i absent)
+    pub attrs_absent : (a : Attrs) → slab_mounts s ≡ with_attrs i a (slab_mounts s)
+    attrs_absent a = map_none (attrs_of i a) (λ x. refl) i (attrs_other i a) (slab_mounts s) (rises_table s) no_row
 
-module _ (s : Slab Mount) (key : ℕ) (f : IsForest s) (was : Mount) (there : get s key ≡ Some was) where
-  -- other attributes leave a forest
-  pub forest_attrs : (a : Attrs) → IsForest (with_value s key (record was { attrs = a }))
-  forest_attrs a =
-      let m : Mount = record was { attrs = a } in
-      forest_written s key f was m there refl (single_same (slab_mounts s) m f.single was (row_was s key f was m there refl) refl refl)
-
-  -- a free place leaves a forest
-  pub forest_place : (p : Place) → on (slab_mounts s) p ≡ None → IsForest (with_value s key (record was { place = Some p }))
-  forest_place p free =
-      let m : Mount = record was { place = Some p } in
-      forest_written s key f was m there refl (single_put (slab_mounts s) m f.single
-      (λ q e. let pq : p ≡ q = cc in ap (on (slab_mounts s)) (sym pq) ∙ free)
-      (λ e. absurd (let v : Some p ≡ None = e in cc)))
+    pub place_absent : (p : Place) → slab_mounts s ≡ with_place i p (slab_mounts s)
+    place_absent p = map_none (place_of i p) (λ x. refl) i (place_other i p) (slab_mounts s) (rises_table s) no_row
 
   -- a change of the mount under a key is one of the row with its ID
-  module _ (i : ℕ) (holds : HoldsAt s i key) where
+  module _ (key : ℕ) (was : Mount) (at_i : key_at keys i ≡ Some key) (there : get s key ≡ Some was) where
     fits : was.id ≡ i
-    fits = key_fits s i key was holds there
+    fits = key_fits s keys k i key was at_i there
 
     row : row_at id_of i (slab_mounts s) ≡ Some was
-    row = row_at_slot s key i was f.ids there fits
+    row = row_at_slot s key i was (distinct_ids s keys k) there fits
 
     pub attrs_written : (a : Attrs) → slab_mounts (with_value s key (record was { attrs = a })) ≡ with_attrs i a (slab_mounts s)
     attrs_written a =
         let same : attrs_of i a was ≡ record was { attrs = a } = ap (λ b. record was { attrs = cond b a was.attrs }) (eq-eqb was.id i fits) in
-        table_written s key f was (record was { attrs = a }) there refl
+        table_written s keys k key was (record was { attrs = a }) there refl
         ∙ ap (λ m. put id_of m (slab_mounts s)) (sym same)
         ∙ map_one (attrs_of i a) (λ x. refl) i (attrs_other i a) (slab_mounts s) (rises_table s) was row
 
     pub place_written : (p : Place) → slab_mounts (with_value s key (record was { place = Some p })) ≡ with_place i p (slab_mounts s)
     place_written p =
         let same : place_of i p was ≡ record was { place = Some p } = ap (λ b. record was { place = cond b (Some p) was.place }) (eq-eqb was.id i fits) in
-        table_written s key f was (record was { place = Some p }) there refl
+        table_written s keys k key was (record was { place = Some p }) there refl
         ∙ ap (λ m. put id_of m (slab_mounts s)) (sym same)
         ∙ map_one (place_of i p) (λ x. refl) i (place_other i p) (slab_mounts s) (rises_table s) was row

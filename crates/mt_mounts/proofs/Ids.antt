@@ -17,9 +17,9 @@ use Rattle.mt_skel.specs.Keyed.{row_at, rises}
 use Rattle.mt_skel.proofs.KeyedLaws.{row_at-key, same_rows}
 use Rattle.mt_mounts.specs.declared.mount.Mount.{Mount}
 use Rattle.mt_mounts.specs.Forest.{id_of}
-use Rattle.mt_mounts.specs.Slots.{slab_mounts, HasDistinctIds}
-use Rattle.mt_mounts.proofs.SlotLaws.{vals, row_vals, rises_table, same_options, entries_differ}
-use Rattle.mt_mounts.proofs.ForestLaws.{AreApart, absent_later}
+use Rattle.mt_mounts.specs.Slots.{slab_mounts}
+use Rattle.mt_mounts.proofs.SlotLaws.{HasDistinctIds, vals, row_vals, rises_table, same_options, entries_differ}
+use Rattle.mt_mounts.proofs.TableLaws.{AreApart, absent_later}
 
 -- the IDs of these entries, in the order of the slab
 abbrev pub ids_of : List (ℕ × Mount) → List ℕ

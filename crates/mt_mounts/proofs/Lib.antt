@@ -1,7 +1,12 @@
 pub mod SlotLaws
+pub mod TableLaws
 pub mod ForestLaws
 pub mod ChangeLaws
+pub mod PlaceLaws
+pub mod IndexLaws
+pub mod AnswerLaws
+pub mod KeptLaws
 pub mod Walks
 pub mod Ids
 pub mod CycleLaws
-pub mod SpaceLaws
+pub mod SubtreeLaws

@@ -8,7 +8,11 @@ use Rattle.mt_skel.proofs.KeyedLaws.{row_at-put, rises-put, rises-filter, row_at
 use Rattle.mt_mounts.specs.declared.mount.Mount.{Mount}
 use Rattle.mt_mounts.specs.Forest.{id_of}
 use Rattle.mt_mounts.specs.ForestView.{without_id}
-use Rattle.mt_mounts.specs.Slots.{by_id, slab_mounts, HasDistinctIds, HoldsAt}
+use Rattle.mt_mounts.specs.Slots.{by_id, slab_mounts}
+
+-- no two keys of the slab have mounts of one ID
+abbrev pub HasDistinctIds : Slab Mount → Type 0
+HasDistinctIds s = (i j : ℕ) (a b : Mount) → get s i ≡ Some a → get s j ≡ Some b → a.id ≡ b.id → i ≡ j
 
 -- the mounts of these entries, in the order of the slab
 abbrev pub vals : List (ℕ × Mount) → List Mount
@@ -196,7 +200,3 @@ module _ (s new : Slab Mount) (key : ℕ) (ids : HasDistinctIds s) where
       let apart : f.0 ≢ key = λ (k : f.0 ≡ key).
       (let v : Some x ≡ Some m = sym f.1 ∙ ap (get s) k ∙ was in let xm : x ≡ m = cc in w.1 (ap (λ y. y.id) xm)) in
       row_at_slot new f.0 q x ids' (u.others f.0 apart ∙ f.1) f.2))
-
--- an ID that no slot has is that of no row
-pub row_absent : (s : Slab Mount) (id : ℕ) → ((key : ℕ) → ¬ (HoldsAt s id key)) → row_at id_of id (slab_mounts s) ≡ None
-row_absent s id none = none_found _ (λ m g. let f = slot_of_row s id m g in none f.0 (record { mount = m; there = f.1; fits = f.2 }))

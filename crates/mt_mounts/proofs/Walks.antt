@@ -1,5 +1,5 @@
 -- The words `top` and `is_below`, step by step.
-use Rattle.std.proofs.Common.{◌≡◌, ◌≢◌, ℕ, zero, suc, ◌+◌, ◌-◌, ◌<◌, ◌≤◌, Bool, true, false, ◌||◌, eqb, eq-eqb, List, [], ◌∷◌, Option, Some, None, sym, ap, ◌∙◌, arith}
+use Rattle.std.proofs.Common.{◌≡◌, ◌≢◌, ℕ, zero, suc, ◌+◌, ◌-◌, ◌<◌, Bool, true, false, ◌||◌, eqb, eq-eqb, List, [], Option, Some, None, sym, ap, ◌∙◌, arith}
 use Rattle.std.specs.List.{list_any}
 use Rattle.std.specs.Option.{option_map, option_map_or}
 use Rattle.std.proofs.lemmas.Bool.{ne_eqb}
@@ -41,12 +41,6 @@ below_step ms i n j p ne e =
     ap (λ o. eqb i j || list_any (λ k. eqb i k) (option_map_or (λ y. chain (parent ms) n y) o [])) e
     ∙ ap (λ b. b || below_within ms i n p) (ne_eqb i j (λ s. ne (sym s)))
 
--- the fuel before and after a step
+-- the fuel before a step
 pub fuel_step : (n i : ℕ) → i < n → n - i ≡ suc (n - (i + 1))
 fuel_step n i l = omega arith
-
-pub fuel_start : (n : ℕ) → n - 0 ≡ n
-fuel_start n = omega arith
-
-pub fuel_end : (n i : ℕ) → i ≤ n → n ≤ i → n - i ≡ 0
-fuel_end n i a b = omega arith

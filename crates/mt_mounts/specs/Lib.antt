@@ -4,3 +4,4 @@ pub mod Walk
 pub mod Tree
 pub mod ForestView
 pub mod Slots
+pub mod Indexes

@@ -1,11 +1,14 @@
--- How a `Forest` lies in its slab. No public clause cites this module.
+-- How a `Table` lies in its slots and its keys. No public clause cites this module.
 -- A word with no source is this project's rule.
-use Rattle.std.specs.Prelude.{◌≡◌, ℕ, Some, List, [], ◌∷◌}
+use Rattle.std.specs.Prelude.{◌≡◌, ℕ, Some, Option, List, [], ◌∷◌, ◌++◌, nat_eq}
+use Rattle.std.specs.Option.{option_map_or}
+use Rattle.std.specs.declared.hash.FoldHasher.{FoldHasher}
+use Rattle.std.specs.declared.hash.BuildHasherDefault.{BuildHasherDefault}
 use Rattle.slab.specs.Slab.{Slab, get, entries}
+use Rattle.indexmap.specs.IndexMap.{IndexMap, get as key_in}
 use Rattle.mt_skel.specs.Keyed.{put}
 use Rattle.mt_mounts.specs.declared.mount.Mount.{Mount}
-use Rattle.mt_mounts.specs.Forest.{id_of}
-use Rattle.mt_mounts.specs.Tree.{IsSingle}
+use Rattle.mt_mounts.specs.Forest.{id_of, mount_at}
 
 -- The mounts of these entries, by rising ID.
 abbrev pub by_id : List (ℕ × Mount) → List Mount
@@ -16,17 +19,26 @@ by_id (e ∷ es) = put id_of e.1 (by_id es)
 unfoldable pub slab_mounts : Slab Mount → List Mount
 slab_mounts s = by_id (entries s)
 
--- No two keys of the slab have mounts of one ID.
-abbrev pub HasDistinctIds : Slab Mount → Type 0
-HasDistinctIds s = (i j : ℕ) (a b : Mount) → get s i ≡ Some a → get s j ≡ Some b → a.id ≡ b.id → i ≡ j
+-- The keys of the slab, each under the ID of its mount.
+abbrev pub Keys : Type 0
+Keys = IndexMap ℕ ℕ (BuildHasherDefault FoldHasher)
 
--- The slab holds each mount once, no two at one place and no two roots of one namespace.
-pub record IsForest (s : Slab Mount) : Type 0 where
-  pub ids : HasDistinctIds s
-  pub single : IsSingle (slab_mounts s)
+-- The key of this ID.
+abbrev pub key_at : Keys → ℕ → Option ℕ
+key_at keys i = key_in nat_eq keys i
 
 -- The slab has a mount with this ID under the key.
 pub record HoldsAt (s : Slab Mount) (id : ℕ) (key : ℕ) : Type 0 where
   pub mount : Mount
   pub there : get s key ≡ Some mount
   pub fits : mount.id ≡ id
+
+-- An ID has a key exactly where the slab has a mount with this ID under that key.
+pub record IsKeyed (s : Slab Mount) (keys : Keys) : Type 0 where
+  pub held : (i key : ℕ) → key_at keys i ≡ Some key → HoldsAt s i key
+  pub known : (key : ℕ) (m : Mount) → get s key ≡ Some m → key_at keys m.id ≡ Some key
+
+-- The mounts of these IDs, in their order.
+abbrev pub mounts_of : List Mount → List ℕ → List Mount
+mounts_of ms [] = []
+mounts_of ms (i ∷ is) = option_map_or (λ m. m ∷ []) (mount_at ms i) [] ++ mounts_of ms is

@@ -1,14 +1,15 @@
 //! The mounts of all namespaces.
-ghost use Rattle.std.specs.Prelude.{◌≡◌, ℕ, ◌+◌, ◌<◌, ◌≤◌, [], map, length, None, IsTrue, OnOk, IfSome, IfNone, IfOk, IsOkUnless};
+ghost use Rattle.std.specs.Prelude.{◌≡◌, ◌+◌, ◌<◌, ◌≤◌, [], map, length, None, IsTrue, OnOk, IfOk, IsOkUnless};
 ghost use Rattle.std.specs.Option.{ForSome, option_map};
 ghost use Rattle.mt_skel.specs.Keyed.{put, rises};
-ghost use Rattle.mt_mounts.specs.Forest.{id_of, mount_at, on, is_at, is_root, root_mount, roots, parent, top, subtree, is_below};
+ghost use Rattle.mt_lists.specs.Lists.{first};
+ghost use Rattle.mt_mounts.specs.Forest.{id_of, mount_at, on, root_mount, roots, parent, top, children, next_child, mounts_in, next_in};
 ghost use Rattle.mt_mounts.specs.ForestView.{with_attrs, with_place, without_id};
-ghost use Rattle.mt_mounts.specs.Slots.{HoldsAt};
 
+use crate::indexes::Indexes;
 use crate::mount::{Attrs, Mount, MountId, Place, SpaceId};
+use crate::table::Table;
 use mt_skel::fault::Fault;
-use slab::Slab;
 use std::alloc::Global;
 use std::marker::Model;
 
@@ -17,18 +18,21 @@ use std::marker::Model;
 /// At most one mount stands at a place, and at most one mount of a namespace stands nowhere: its
 /// root mount. That parents are there and have no cycle is left to the caller.
 ///
-/// Each call scans all mounts: `top` does so for each mount of a stack, and `subtree` for each mount
-/// and each one above it.
-#[derive(Drop)]
+/// Beside the table of mounts it keeps which mount stands at each place, and lists, by rising ID, of
+/// the children of each mount, of the mounts of each namespace, and of the root mounts, by which it
+/// finds the root mount of a namespace. So a call that names a mount, a place or a namespace
+/// takes the time of a few look-ups in hash tables, `top` that of one for each mount of the stack,
+/// and a list of mounts that of its own length, and of a sort where it is a list of all or a subtree.
+/// A mount that moves is put among the children of its new parent from the end of their list, past
+/// those with higher IDs. No change takes memory but `reserve`.
 pub struct Forest {
-    slots: Slab<Mount>,
-    alloc: Global,
+    table: Table,
+    indexes: Indexes,
 }
 
 impl Model for Forest {
-    ghost use Rattle.std.specs.Prelude.{◌-◌};
+    ghost use Rattle.std.specs.Prelude.{min};
     ghost use Rattle.mt_mounts.specs.ForestView.{ForestView, forest_code};
-    ghost use Rattle.slab.specs.Slab.{slab_len};
 
     ghost Value = { ForestView };
 
@@ -36,36 +40,21 @@ impl Model for Forest {
 
     ghost coded = { forest_code mount.the_row.coded };
 
-    ghost use Rattle.mt_mounts.specs.Slots.{slab_mounts, IsForest};
+    ghost use Rattle.mt_mounts.specs.Indexes.{room_of, IsForest};
 
-    ghost view = { λ f. record { mounts = slab_mounts f.slots; room = f.slots.capacity - slab_len f.slots } };
+    ghost view = { λ f. record { mounts = f.table.mounts; room = min f.table.room (room_of f.indexes) } };
 
-    ghost invariant = { λ f. IsForest f.slots };
+    ghost invariant = { λ f. IsForest f.table.mounts f.indexes };
 }
 
-/// The slab's key of the mount with this ID.
-fn key_of(slots: &Slab<Mount>, id: MountId) -> Option<usize>
-    ensures found { IfSome result (HoldsAt slots.now id) }
-    ensures absent { IfNone result ((key : ℕ) → ¬ (HoldsAt slots.now id key)) }
-{
-    for (key, mount) in slots.iter() {
-        if mount.id == id {
-            return Some(key);
-        }
+// Written out, so that whoever owns a forest lets it go as one thing.
+impl Drop for Forest {
+    fn drop(self) {
+        let Forest {
+            table: _table,
+            indexes: _indexes,
+        } = self;
     }
-    None
-}
-
-fn stands_at(mount: &Mount, place: Place) -> bool
-    ensures { result ≡ is_at place mount.now }
-{
-    mount.place == Some(place)
-}
-
-fn is_root_of(mount: &Mount, space: SpaceId) -> bool
-    ensures { result ≡ is_root space mount.now }
-{
-    mount.place.is_none() && mount.space == space
 }
 
 impl Forest {
@@ -74,8 +63,8 @@ impl Forest {
         ensures { result.mounts ≡ [] }
     {
         Forest {
-            slots: Slab::new(alloc),
-            alloc,
+            table: Table::new(alloc),
+            indexes: Indexes::new(alloc),
         }
     }
 
@@ -85,8 +74,8 @@ impl Forest {
         ensures memory { IsOkUnless result Fault.NoMemory }
     {
         Ok(Forest {
-            slots: self.slots.clone()?,
-            alloc: self.alloc,
+            table: self.table.copy()?,
+            indexes: self.indexes.copy()?,
         })
     }
 
@@ -97,23 +86,28 @@ impl Forest {
         ensures keeps { self.old.room ≤ self.new.room }
         ensures mounts { self.new.mounts ≡ self.old.mounts }
     {
-        self.slots.reserve(additional)?;
+        self.table.reserve(additional)?;
+        self.indexes.reserve(additional)?;
         Ok(())
+    }
+
+    /// The allocator of all its memory.
+    pub fn allocator(&self) -> Global {
+        self.table.allocator()
     }
 
     /// How many mounts there are.
     pub fn len(&self) -> usize
         ensures { result ≡ length self.now.mounts }
     {
-        self.slots.len()
+        self.table.len()
     }
 
     /// The mount with this ID.
     pub fn get(&self, id: MountId) -> Option<Mount>
         ensures { result ≡ mount_at self.now.mounts id }
     {
-        let key = key_of(&self.slots, id)?;
-        self.slots.get(key).copied()
+        self.table.get(id)
     }
 
     /// Adds a mount with a new ID, for which [`reserve`](Forest::reserve) has made room. Its place
@@ -126,7 +120,8 @@ impl Forest {
         ensures mounts { self.new.mounts ≡ put id_of mount self.old.mounts }
         ensures room { self.old.room ≤ self.new.room + 1 }
     {
-        self.slots.insert_reserved(mount);
+        self.indexes.insert(mount);
+        self.table.insert(mount);
     }
 
     /// Takes the mount with this ID away, if it is there. What is mounted on it stays.
@@ -134,8 +129,9 @@ impl Forest {
         ensures mounts { self.new.mounts ≡ without_id id self.old.mounts }
         ensures room { self.old.room ≤ self.new.room }
     {
-        if let Some(key) = key_of(&self.slots, id) {
-            self.slots.remove(key);
+        if let Some(mount) = self.table.get(id) {
+            self.indexes.remove(mount);
+            self.table.remove(id);
         }
     }
 
@@ -145,78 +141,59 @@ impl Forest {
         ensures room { self.old.room ≤ self.new.room }
         ensures rising { IsTrue (rises id_of self.old.mounts) }
     {
-        if let Some(key) = key_of(&self.slots, id) {
-            if let Some(mount) = self.slots.get_mut(key) {
-                mount.attrs = attrs;
-            }
-        }
+        self.table.set_attrs(id, attrs);
     }
 
     /// Moves the mount with this ID, if it is there, to a place that is free. What is mounted on it
     /// goes with it. To keep parents free of cycles, the place must not be on the mount or below it.
+    /// It needs no memory: [`reserve`](Forest::reserve) has made room, as for one more mount.
     pub fn reattach(&mut self, id: MountId, place: Place)
+        requires room { 0 < self.old.room }
         requires free { on self.old.mounts place ≡ None }
         ensures mounts { self.new.mounts ≡ with_place id place self.old.mounts }
-        ensures room { self.old.room ≤ self.new.room }
+        ensures room { self.old.room ≤ self.new.room + 1 }
     {
-        if let Some(key) = key_of(&self.slots, id) {
-            if let Some(mount) = self.slots.get_mut(key) {
-                mount.place = Some(place);
-            }
+        if let Some(mount) = self.table.get(id) {
+            self.indexes.set_place(mount, place);
+            self.table.set_place(id, place);
         }
     }
 
     /// The mount that stands at a place.
-    fn standing_at(&self, place: Place) -> Option<Mount>
+    pub fn standing_at(&self, place: Place) -> Option<Mount>
         ensures { result ≡ on self.now.mounts place }
     {
-        for (_, mount) in self.slots.iter() {
-            if stands_at(mount, place) {
-                return Some(*mount);
-            }
-        }
-        None
+        let id = self.indexes.at(place)?;
+        self.table.get(id)
     }
 
     /// The root mount of a namespace.
     pub(crate) fn root_mount(&self, space: SpaceId) -> Option<Mount>
         ensures { result ≡ root_mount self.now.mounts space }
     {
-        for (_, mount) in self.slots.iter() {
-            if is_root_of(mount, space) {
-                return Some(*mount);
-            }
-        }
-        None
+        let id = self.root(space)?;
+        self.table.get(id)
     }
 
     /// The ID of the mount that stands at a place.
     pub fn at(&self, place: Place) -> Option<MountId>
         ensures { result ≡ option_map id_of (on self.now.mounts place) }
     {
-        let mount = self.standing_at(place)?;
-        Some(mount.id)
+        self.indexes.at(place)
     }
 
     /// The ID of the root mount of a namespace.
     pub fn root(&self, space: SpaceId) -> Option<MountId>
         ensures { result ≡ option_map id_of (root_mount self.now.mounts space) }
     {
-        let mount = self.root_mount(space)?;
-        Some(mount.id)
+        self.indexes.roots.first(space)
     }
 
     /// How many namespaces there are: each has one mount that has no place.
     pub fn spaces(&self) -> usize
         ensures { result ≡ length (roots self.now.mounts) }
     {
-        let mut spaces = 0usize;
-        for (_, mount) in self.slots.iter() {
-            if mount.place.is_none() {
-                spaces += 1;
-            }
-        }
-        spaces
+        self.indexes.roots.len()
     }
 
     /// The ID of the mount that a mount stands on, or `None` for a root mount and for an ID that is
@@ -246,34 +223,12 @@ impl Forest {
         here
     }
 
-    /// Whether the mount is `above` or stands on it, at whatever height.
-    fn is_within(&self, id: MountId, above: MountId) -> bool
-        ensures { result ≡ is_below self.now.mounts above id }
-    {
-        let mut here = id;
-        'parents: for _step in 0..self.len() {
-            if here == above {
-                return true;
-            }
-            let Some(parent) = self.parent(here) else {
-                return false;
-            };
-            here = parent;
-        }
-        here == above
-    }
-
     /// The IDs of all mounts, rising. Refused as `NoMemory` alone.
     pub fn ids(&self) -> Result<Vec<MountId>, Fault>
         ensures ids { IfOk result (λ ids. ids.items ≡ map id_of self.now.mounts) }
         ensures memory { IsOkUnless result Fault.NoMemory }
     {
-        let mut ids = Vec::with_capacity(self.alloc, self.len())?;
-        for (_, mount) in self.slots.iter() {
-            ids.push(mount.id)?;
-        }
-        ids.sort()?;
-        Ok(ids)
+        self.table.ids()
     }
 
     /// All mounts, by rising ID. Refused as `NoMemory` alone.
@@ -281,27 +236,63 @@ impl Forest {
         ensures mounts { IfOk result (λ mounts. mounts.items ≡ self.now.mounts) }
         ensures memory { IsOkUnless result Fault.NoMemory }
     {
-        let mut mounts = Vec::with_capacity(self.alloc, self.len())?;
-        for (_, mount) in self.slots.iter() {
-            mounts.push(*mount)?;
-        }
-        mounts.sort_unstable_by_key(|mount| mount.id);
+        self.table.mounts()
+    }
+
+    /// The mounts of a namespace, by rising ID. Refused as `NoMemory` alone.
+    pub fn mounts_in(&self, space: SpaceId) -> Result<Vec<Mount>, Fault>
+        ensures mounts { IfOk result (λ mounts. mounts.items ≡ mounts_in self.now.mounts space) }
+        ensures memory { IsOkUnless result Fault.NoMemory }
+    {
+        let ids = self.indexes.spaces.ids(self.allocator(), space)?;
+        let mounts = self.table.mounts_of(&ids)?;
         Ok(mounts)
     }
 
-    /// The IDs of the mount with this ID, if it is there, and of all that stand on it, at whatever
-    /// height, rising. Refused as `NoMemory` alone.
-    pub fn subtree(&self, id: MountId) -> Result<Vec<MountId>, Fault>
-        ensures subtree { IfOk result (λ ids. ids.items ≡ subtree self.now.mounts id) }
+    /// How many mounts stand on a mount.
+    pub fn child_count(&self, id: MountId) -> usize
+        ensures { result ≡ length (children self.now.mounts id) }
+    {
+        self.indexes.children.count(id)
+    }
+
+    /// The first child of a mount: of the mounts that stand on it the one with the lowest ID.
+    pub fn first_child(&self, id: MountId) -> Option<MountId>
+        ensures { result ≡ first (children self.now.mounts id) }
+    {
+        self.indexes.children.first(id)
+    }
+
+    /// The child that follows this one, by rising ID, among those of its parent, or `None` for the last
+    /// of them, for a root mount and for an ID that is not there.
+    pub fn next_child(&self, id: MountId) -> Option<MountId>
+        ensures { result ≡ next_child self.now.mounts id }
+    {
+        self.indexes.children.after(id)
+    }
+
+    /// The first mount of a namespace, by rising ID.
+    pub fn first_in(&self, space: SpaceId) -> Option<MountId>
+        ensures { result ≡ first (map id_of (mounts_in self.now.mounts space)) }
+    {
+        self.indexes.spaces.first(space)
+    }
+
+    /// The mount that follows this one, by rising ID, among those of its namespace, or `None` for the
+    /// last of them and for an ID that is not there.
+    pub fn next_in(&self, id: MountId) -> Option<MountId>
+        ensures { result ≡ next_in self.now.mounts id }
+    {
+        self.indexes.spaces.after(id)
+    }
+
+    /// The IDs of the mounts that stand on a mount, rising. Refused as `NoMemory` alone.
+    pub(crate) fn children_of(&self, id: MountId) -> Result<Vec<MountId>, Fault>
+        ensures children { IfOk result (λ ids. ids.items ≡ children self.now.mounts id) }
+        ensures rising { IsTrue (rises id_of self.now.mounts) }
         ensures memory { IsOkUnless result Fault.NoMemory }
     {
-        let ids = self.ids()?;
-        let mut below = Vec::new(self.alloc);
-        for other in &ids {
-            if self.is_within(*other, id) {
-                below.push(*other)?;
-            }
-        }
-        Ok(below)
+        let ids = self.indexes.children.ids(self.allocator(), id)?;
+        Ok(ids)
     }
 }

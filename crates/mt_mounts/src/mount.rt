@@ -1,7 +1,6 @@
 //! What one mount is: its ID, its namespace, the place that it is mounted on and its attributes.
 ghost use Rattle.std.specs.Prelude.{◌≡◌};
 ghost use Rattle.mt_mounts.specs.Attrs.{new_attrs};
-ghost use Rattle.mt_mounts.specs.Forest.{on};
 
 use mt_skel::skel::Dir;
 
@@ -80,16 +79,4 @@ pub struct Mount {
     pub root: Dir,
     /// Its attributes.
     pub attrs: Attrs,
-}
-
-/// The one of these mounts that stands at a place.
-pub fn standing_at(mounts: &[Mount], place: Place) -> Option<Mount>
-    ensures { result ≡ on mounts.now place }
-{
-    for mount in mounts {
-        if mount.place == Some(place) {
-            return Some(*mount);
-        }
-    }
-    None
 }

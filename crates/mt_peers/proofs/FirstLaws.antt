@@ -9,8 +9,8 @@ use Rattle.mt_peers.specs.Masters.{master_of}
 use Rattle.mt_lists.specs.Lists.{first}
 use Rattle.mt_peers.specs.Members.{is_first}
 use Rattle.mt_peers.specs.Entered.{entered, entered_by}
-use Rattle.mt_peers.specs.Counted.{count, occ}
-use Rattle.mt_peers.proofs.CountLaws.{count-same, count-filter, occ-filter_map}
+use Rattle.mt_skel.specs.Counted.{count, occ}
+use Rattle.mt_skel.proofs.CountLaws.{count-same, count-filter, occ-filter_map}
 
 -- no mount of greater ID is this one
 none-above : (q : ℕ) (s t : Peer → Bool) (es : List Peer) → list_all (λ y. ltb q (mount_of y)) es ≡ true → count (λ e. (s e && (q == e.mount)) && t e) es ≡ 0

@@ -13,7 +13,6 @@ pub mod ChainLaws
 pub mod JoinLaws
 pub mod AlikeLaws
 pub mod GivenLaws
-pub mod CountLaws
 pub mod FirstLaws
 pub mod WorklistLaws
 pub mod ReceivedLaws
@@ -21,3 +20,8 @@ pub mod SortedLaws
 pub mod ListLaws
 pub mod VisitLaws
 pub mod FreeLaws
+pub mod ListedLaws
+pub mod ChosenLaws
+pub mod FoundLaws
+pub mod RelistLaws
+pub mod GoingLaws

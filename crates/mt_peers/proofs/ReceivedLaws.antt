@@ -7,15 +7,16 @@ use Rattle.mt_skel.specs.Keyed.{row_at, rises, among}
 use Rattle.mt_peers.specs.declared.state.State.{State}
 use Rattle.mt_peers.specs.Peers.{Peer, Peering, mount_of, names, in_group, has_master, state_at, slaves}
 use Rattle.mt_peers.specs.Masters.{master_of, groups_up, reaches}
-use Rattle.mt_peers.specs.Counted.{count, occ}
+use Rattle.mt_skel.specs.Counted.{count, occ}
 use Rattle.mt_peers.specs.Members.{group_at}
 use Rattle.mt_peers.specs.Entered.{entered, entered_by, gets_above, collected, other_at}
 use Rattle.mt_peers.specs.WellFormed.{IsPeering}
 use Rattle.mt_peers.proofs.MemberLaws.{master_of-is, named}
 use Rattle.mt_peers.proofs.SettleLaws.{chain-rank}
 use Rattle.mt_peers.proofs.LeavingLaws.{up_rank, up_falls}
-use Rattle.mt_peers.proofs.CountLaws.{count-same, count-or, count-le-or, count-map, count-filter, length-filter, occ-filter_map}
-use Rattle.mt_peers.proofs.WorklistLaws.{IsWorklist, is_found, led_by, is_found-snoc, apart-new, worklist-sound, worklist-reach}
+use Rattle.mt_skel.proofs.CountLaws.{count-same, count-or, count-le-or, count-map, count-filter, length-filter, occ-filter_map}
+use Rattle.mt_skel.proofs.WorklistLaws.{is_found, is_found-snoc, apart-new}
+use Rattle.mt_peers.proofs.WorklistLaws.{IsWorklist, led_by, worklist-sound, worklist-reach}
 
 -- a mount gets what happens in the group g
 abbrev pub gets : List Peer → ℕ → Peer → Bool

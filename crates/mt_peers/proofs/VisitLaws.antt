@@ -6,11 +6,13 @@ use Rattle.std.proofs.lemmas.List.{take-append-drop, take-append-le, take_all}
 use Rattle.std.proofs.Math.Seq.{take-suc}
 use Rattle.mt_skel.specs.Keyed.{rises, among}
 use Rattle.mt_peers.specs.Peers.{Peer, mount_of, in_group, has_master, members, slaves}
-use Rattle.mt_peers.specs.Counted.{count, occ}
+use Rattle.mt_skel.specs.Counted.{count, occ}
 use Rattle.mt_peers.specs.Members.{group_at}
 use Rattle.mt_peers.specs.Entered.{entered, entered_by, gets_above, collected, other_at}
-use Rattle.mt_peers.proofs.CountLaws.{count-same, count-le, count-length, length-filter, length-of-map}
-use Rattle.mt_peers.proofs.WorklistLaws.{IsWorklist, is_found, led_by, worklist-next, worklist-all, next-new, next-led}
+use Rattle.mt_skel.proofs.CountLaws.{count-same, count-le, count-length, length-filter, length-of-map}
+use Rattle.mt_skel.proofs.WorklistLaws.{is_found, next-new}
+use Rattle.mt_peers.specs.Masters.{master_of}
+use Rattle.mt_peers.proofs.WorklistLaws.{IsWorklist, led_by, worklist-next, worklist-all, next-led}
 use Rattle.mt_peers.proofs.ReceivedLaws.{entered-rows, collected-rows, other-more, led-gets, led-all}
 
 pub length-slaves : (es : List Peer) (m : ℕ) → length (slaves es m) ≡ count (has_master m) es
@@ -44,7 +46,7 @@ module _ (es : List Peer) (g i d m : ℕ) (all more : List ℕ) (up : rises moun
       ∙ ap (λ k. take i all ++ k ∷ []) is
 
   new : occ m (take i all) ≡ 0
-  new = ap (λ k. occ k (take i all)) (sym is) ∙ (next-new es g i d all up w in_all).0
+  new = ap (λ k. occ k (take i all)) (sym is) ∙ (next-new (master_of es) g i d all w.gathered in_all).0
 
   -- the targets
   pub visit-occ : (t : ℕ → Bool) (q : ℕ)

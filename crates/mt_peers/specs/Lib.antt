@@ -4,8 +4,9 @@ pub mod Loss
 pub mod Making
 pub mod WellFormed
 pub mod Entries
+pub mod Listed
+pub mod Going
 pub mod Above
 pub mod Laws
-pub mod Counted
 pub mod Members
 pub mod Entered

@@ -12,12 +12,13 @@ use Rattle.mt_peers.specs.declared.state.State.{State}
 use Rattle.mt_peers.specs.Members.{is_own_slave}
 use Rattle.mt_peers.proofs.FreeLaws.{looks-free}
 use Rattle.mt_peers.specs.WellFormed.{IsPeering}
-use Rattle.mt_peers.specs.Counted.{count, occ}
+use Rattle.mt_skel.specs.Counted.{count, occ}
 use Rattle.mt_peers.specs.Entered.{gets_above, other_at}
-use Rattle.mt_peers.proofs.CountLaws.{count-length}
+use Rattle.mt_skel.proofs.CountLaws.{count-length}
 use Rattle.mt_peers.proofs.ListLaws.{picked-filter}
 use Rattle.mt_peers.proofs.ReceivedLaws.{gets, received, looks_at, looks-least, looks-most, looks-ordered, occ-filter, all-collected}
-use Rattle.mt_peers.proofs.SortedLaws.{sorted-is, picked-rise}
+use Rattle.mt_skel.proofs.SortedLaws.{sorted-is}
+use Rattle.mt_peers.proofs.SortedLaws.{picked-rise}
 use Rattle.mt_peers.proofs.VisitLaws.{length-members}
 use Rattle.mt_propagate.specs.World.{WorldView, group_of, private, root_dir}
 use Rattle.mt_propagate.specs.Receivers.{gets_from, propagates_to, hits}

@@ -1,6 +1,6 @@
 //! The change of mounts.
-ghost use Rattle.std.specs.Prelude.{◌≡◌, ◌≢◌, ◌<◌, ◌^◌, ◌||◌, ◌&&◌, not, map, IsTrue, OnOk, OnErr, IfOk, IfErr, IsOkUnless, Ok, Err};
-ghost use Rattle.std.specs.Option.{option_map_or};
+ghost use Rattle.std.specs.Prelude.{◌≡◌, ◌≢◌, ◌<◌, ◌≤◌, ◌^◌, ◌||◌, ◌&&◌, not, map, length, IsTrue, OnOk, OnErr, IfOk, IfErr, IsOkUnless, Ok, Err};
+ghost use Rattle.std.specs.Option.{option_map_or, is_some};
 ghost use Rattle.mt_skel.specs.Keyed.{has, among};
 ghost use Rattle.mt_mounts.specs.Forest.{id_of};
 ghost use Rattle.mt_peers.specs.Making.{made};
@@ -76,8 +76,23 @@ fn change_attrs(forest: &mut Forest, ids: &[MountId], change: &Change)
     }
 }
 
-/// Changes these mounts, all at once.
+/// Makes room for a change of whichever mounts, and changes nothing: new attributes need none, and a
+/// new propagation needs it for as many mounts as there are. Refused as `NoMemory` alone.
+fn reserve_change(world: &mut World, change: &Change) -> Result<(), Fault>
+    ensures room { OnOk result (IsTrue (is_some change.now.prop) → length world.new.peers.peers ≤ world.new.peers.room) }
+    ensures memory { IsOkUnless result Fault.NoMemory }
+    ensures world { world_view world.new ≡ world_view world.old }
+{
+    if change.prop.is_some() {
+        world.reserve_states()?;
+    }
+    Ok(())
+}
+
+/// Changes these mounts, all at once. It takes no memory: [`reserve_change`] has made room where the
+/// change has a propagation.
 fn change_all(world: &mut World, ids: &[MountId], change: &Change)
+    requires room { IsTrue (is_some change.now.prop) → length world.old.peers.peers ≤ world.old.peers.room }
     requires numbered { world.old.peers.next < 2 ^ 63 }
     ensures { world_view world.new ≡ record (world_view world.old) { forest = map (changed_mount change.now (among ids.now)) world.old.forest.mounts; peering = option_map_or (λ k. made k (among ids.now) (world_view world.old).peering) change.now.prop (world_view world.old).peering } }
 {
@@ -95,6 +110,7 @@ fn change_from(world: &mut World, top: MountId, change: &Change) -> Result<(), F
     ensures memory { IsOkUnless result Fault.NoMemory }
     ensures unchanged { OnErr result (world_view world.new ≡ world_view world.old) }
 {
+    reserve_change(world, change)?;
     if change.recursive {
         let ids = world.forest.subtree(top)?;
         change_all(world, &ids, change);
@@ -110,7 +126,7 @@ fn change_from(world: &mut World, top: MountId, change: &Change) -> Result<(), F
 /// Refused as `NoNamespace` where the namespace is not there, `NoEntry` where a directory of the
 /// path is not, `NotMountRoot` where the path does not end at the root of a mount, `BadAttr` where
 /// two access times are set, or one while the access time is not taken away, and as `NoMemory`;
-/// then nothing has changed. Only a recursive change takes memory.
+/// then nothing has changed. Only a change that is recursive or has a propagation takes memory.
 #[tactic(auto, unfolding(crate::specs::Change::attributed))]
 pub fn set_attr(
     world: &mut World,

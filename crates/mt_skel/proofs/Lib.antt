@@ -1,9 +1,11 @@
 pub mod AddedLaws
 pub mod ChainLaws
+pub mod ChildrenLaws
 pub mod ElementLaws
 pub mod EscapeLaws
 pub mod GrowthLaws
 pub mod HoldLaws
+pub mod IndexLaws
 pub mod KeyedLaws
 pub mod ListLaws
 pub mod MiddleLaws
@@ -12,3 +14,6 @@ pub mod OutcomeLaws
 pub mod SearchLaws
 pub mod SkeletonLaws
 pub mod UnescapeLaws
+pub mod CountLaws
+pub mod SortedLaws
+pub mod WorklistLaws

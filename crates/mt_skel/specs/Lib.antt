@@ -1,8 +1,11 @@
 pub mod Keyed
 pub mod Chain
+pub mod Children
 pub mod Outcome
 pub mod Fault
+pub mod Kept
 pub mod Names
 pub mod Escapes
 pub mod Skeleton
 pub mod Nodes
+pub mod Counted

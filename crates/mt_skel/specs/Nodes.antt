@@ -1,6 +1,7 @@
 -- How a `Skel` lies in its nodes. No public clause cites this module.
 -- A word with no source is this project's rule.
-use Rattle.std.specs.Prelude.{◌≡◌, ℕ, ◌+◌, ◌<◌, List, [], ◌∷◌, ◌++◌, map, Option, Some, None, slice_get}
+use Rattle.std.specs.Prelude.{◌≡◌, ℕ, ◌+◌, ◌<◌, List, [], ◌∷◌, ◌++◌, length, map, Option, Some, None, slice_get}
+use Rattle.mt_skel.specs.Children.{child_in}
 use Rattle.mt_skel.specs.Skeleton.{Skeleton, Directory, Filesystem, IsSkeleton}
 use Rattle.mt_skel.specs.declared.skel.Filesystem.{Filesystem as FilesystemNode}
 use Rattle.mt_skel.specs.declared.skel.Link.{Link}
@@ -37,9 +38,20 @@ skeleton_of fs ns = record { filesystems = map shown_fs fs; directories = dirs_o
 abbrev pub IsUp : Node → ℕ → List ℕ → Type 0
 IsUp n dir name = (up : Link) × (n.up ≡ Some up) × (up.dir ≡ dir) × (up.name ≡ name)
 
--- what the type keeps: the skeleton's own facts, each parent before its children and of their filesystem, and each filesystem's root at its place
+-- how the nodes lie: the skeleton's own facts, each parent before its children and of their filesystem, and each filesystem's root at its place
 pub record IsLaidOut (fs : List FilesystemNode) (ns : List Node) : Type 0 where
   pub skeleton : IsSkeleton (skeleton_of fs ns)
   pub before : (d : ℕ) (n : Node) (up : Link) → slice_get ns d ≡ Some n → n.up ≡ Some up → up.dir < d
   pub one_fs : (d : ℕ) (n p : Node) (up : Link) → slice_get ns d ≡ Some n → n.up ≡ Some up → slice_get ns up.dir ≡ Some p → p.fs ≡ n.fs
   pub roots : (i : ℕ) (f : FilesystemNode) → slice_get fs i ≡ Some f → slice_get (dirs_of ns) f.root ≡ Some (record { fs = i + 1; path = [] })
+
+-- the directories that are found by their names are those of the nodes
+pub record IsIndexed (ns : List Node) (children : List (List (List ℕ × ℕ))) : Type 0 where
+  pub sized : length children ≡ length ns
+  pub found : (dir d : ℕ) (name : List ℕ) → child_in children dir name ≡ Some d → (n : Node) × (slice_get ns d ≡ Some n) × IsUp n dir name
+  pub all : (dir d : ℕ) (name : List ℕ) (n : Node) → slice_get ns d ≡ Some n → IsUp n dir name → child_in children dir name ≡ Some d
+
+-- what the type keeps
+pub record IsKept (fs : List FilesystemNode) (ns : List Node) (children : List (List (List ℕ × ℕ))) : Type 0 where
+  pub laid_out : IsLaidOut fs ns
+  pub indexed : IsIndexed ns children

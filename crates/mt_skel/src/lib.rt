@@ -4,8 +4,10 @@
 //! never change a directory.
 #![tactic(auto)]
 
+mod children;
 pub mod escape;
 pub mod fault;
+mod inline;
 pub mod list;
 pub mod name;
 pub mod skel;

@@ -4,13 +4,21 @@ ghost use Rattle.std.specs.List.{list_all};
 ghost use Rattle.mt_skel.specs.Names.{is_label, is_name};
 
 use crate::fault::Fault;
+use crate::inline::Bytes;
 use std::alloc::AllocError;
+use std::hash::{Hash, Hasher};
 use std::marker::Model;
 
-/// A label of a filesystem, a type or a source: 1 to 255 bytes, none of them zero.
-#[derive(Drop)]
+/// A label of a filesystem, a type or a source: 1 to 255 bytes, none of them zero. At most 24 bytes
+/// lie in the value itself, and then a copy takes no memory.
 pub struct Label {
-    bytes: Vec<u8>,
+    bytes: Bytes,
+}
+
+impl Drop for Label {
+    fn drop(self) {
+        let Label { bytes: _bytes } = self;
+    }
 }
 
 impl Model for Label {
@@ -19,9 +27,11 @@ impl Model for Label {
 
     ghost Value = { List ℕ };
 
-    ghost view = { λ l. l.bytes.items };
+    ghost use Rattle.mt_skel.specs.Kept.{bytes_of};
 
-    ghost invariant = { λ l. IsTrue (is_label l.bytes.items) };
+    ghost view = { λ l. bytes_of l.bytes };
+
+    ghost invariant = { λ l. IsTrue (is_label (bytes_of l.bytes)) };
 }
 
 /// Whether no byte is this one.
@@ -56,7 +66,9 @@ impl Label {
         ensures back { IfErr result (λ same. same ≡ bytes) }
     {
         if is_label(bytes.as_slice()) {
-            Ok(Label { bytes })
+            Ok(Label {
+                bytes: Bytes::new(bytes),
+            })
         } else {
             Err(bytes)
         }
@@ -93,9 +105,14 @@ impl Clone for Label {
 }
 
 /// A component of a path: a [`Label`] without `/` that is neither `.` nor `..`.
-#[derive(Drop)]
 pub struct Name {
     label: Label,
+}
+
+impl Drop for Name {
+    fn drop(self) {
+        let Name { label: _label } = self;
+    }
 }
 
 impl Model for Name {
@@ -118,7 +135,9 @@ impl Name {
     {
         if is_name(bytes.as_slice()) {
             Ok(Name {
-                label: Label { bytes },
+                label: Label {
+                    bytes: Bytes::new(bytes),
+                },
             })
         } else {
             Err(bytes)
@@ -155,10 +174,49 @@ impl Clone for Name {
     }
 }
 
+impl PartialEq for Name {
+    ghost use Rattle.std.specs.Prelude.{nat_eq};
+    ghost use Rattle.std.specs.Cmp as Cmp;
+    ghost use Rattle.std.specs.Cmp.Lexicographic.{pointwise, nat_list_eq_equiv};
+
+    ghost eq = { pointwise nat_eq };
+
+    ghost laws = { Cmp.partial_equiv_from_equiv nat_list_eq_equiv };
+
+    fn eq(&self, other: &Self) -> bool {
+        self.bytes() == other.bytes()
+    }
+}
+
+impl Eq for Name {
+    ghost use Rattle.std.specs.Cmp.Lexicographic.{nat_list_eq_equiv};
+
+    ghost laws = { nat_list_eq_equiv };
+}
+
+impl Hash for Name {
+    ghost use Rattle.std.specs.Hash as fed;
+    ghost use Rattle.std.specs.Cmp.Rules.{hashing};
+    ghost use Rattle.std.proofs.Common.{rules};
+
+    ghost hash_input = { fed.slice fed.u8 };
+
+    ghost respects_eq = { Prim.search (hashing, rules) };
+
+    fn hash<H: Hasher>(&self, state: &mut H) {
+        self.bytes().hash(state);
+    }
+}
+
 /// The components of a path from a root directory down; the root itself has none.
-#[derive(Drop)]
 pub struct Names {
     names: Vec<Name>,
+}
+
+impl Drop for Names {
+    fn drop(self) {
+        let Names { names: _names } = self;
+    }
 }
 
 impl Model for Names {

@@ -1,8 +1,8 @@
 //! The directories of all filesystems.
 ghost use Rattle.std.specs.Prelude.{◌≡◌, ◌≢◌, ◌↔◌, ◌<◌, ◌≤◌, [], ◌∷◌, ◌++◌, None, Bool, IsTrue, IfOk, IfErr, IfSome, OnErr, OnOk, IsOkUnless, Ok, Err, length};
-ghost use Rattle.mt_skel.specs.Nodes.{IsUp};
 ghost use Rattle.mt_skel.specs.Skeleton.{Skeleton, Directory, IsSkeleton, Filesystem as filesystem_of, empty_skeleton, is_filesystem, is_directory, filesystem, directory, fs_named, directory_number, root_of, child, holds, added_fs, added_dir, with_dir};
 
+use crate::children::Children;
 use crate::fault::Fault;
 use crate::name::{Label, Name};
 use std::alloc::{AllocError, Global};
@@ -44,22 +44,34 @@ struct Node {
 /// The filesystems and their directories, which are only added to.
 ///
 /// At most 256 filesystems, 16,384 directories in all with the roots, and 32 names from a root down.
-#[derive(Drop)]
+/// The directory of a name in another is found by a table of the names in that one.
 pub struct Skel {
     filesystems: Vec<Filesystem>,
     nodes: Vec<Node>,
+    children: Children,
     alloc: Global,
+}
+
+impl Drop for Skel {
+    fn drop(self) {
+        let Skel {
+            filesystems: _filesystems,
+            nodes: _nodes,
+            children: _children,
+            alloc: _alloc,
+        } = self;
+    }
 }
 
 impl Model for Skel {
     ghost use Rattle.mt_skel.specs.Skeleton.{Skeleton};
-    ghost use Rattle.mt_skel.specs.Nodes.{skeleton_of, IsLaidOut};
+    ghost use Rattle.mt_skel.specs.Nodes.{skeleton_of, IsKept};
 
     ghost Value = { Skeleton };
 
     ghost view = { λ s. skeleton_of s.filesystems.items s.nodes.items };
 
-    ghost invariant = { λ s. IsLaidOut s.filesystems.items s.nodes.items };
+    ghost invariant = { λ s. IsKept s.filesystems.items s.nodes.items s.children };
 }
 
 impl Skel {
@@ -70,6 +82,7 @@ impl Skel {
         Skel {
             filesystems: Vec::new(alloc),
             nodes: Vec::new(alloc),
+            children: Children::new(alloc),
             alloc,
         }
     }
@@ -83,6 +96,7 @@ impl Skel {
         Ok(Skel {
             filesystems: self.filesystems.clone()?,
             nodes: self.nodes.clone()?,
+            children: self.children.copy()?,
             alloc: self.alloc,
         })
     }
@@ -104,6 +118,7 @@ impl Skel {
         }
         self.nodes.reserve(1)?;
         self.filesystems.reserve(1)?;
+        self.children.push_root()?;
         let root = self.nodes.len() as u64;
         let fs = self.filesystems.len() as u64 + 1;
         self.nodes.push(Node { fs, up: None })?;
@@ -196,12 +211,7 @@ impl Skel {
         ensures child { result ≡ child self.now dir name.now }
         ensures there { IfSome result (λ below. IsTrue (is_directory self.now below)) }
     {
-        for i in 0..self.nodes.len() {
-            if is_child(&self.nodes[i], dir, name) {
-                return Some(i as u64);
-            }
-        }
-        None
+        self.children.child(dir, name)
     }
 
     /// Whether the outer directory is the inner one, or above it; false where the inner one is not
@@ -260,18 +270,10 @@ impl Skel {
         ensures unchanged { OnErr result (self.new ≡ self.old) }
     {
         let dir = self.nodes.len() as u64;
+        self.nodes.reserve(1)?;
+        self.children.push_child(parent, name.copy()?, dir)?;
         let up = Some(Link { dir: parent, name });
         self.nodes.push(Node { fs, up })?;
         Ok(dir)
-    }
-}
-
-/// Whether a node is the directory of this name in a directory.
-fn is_child(node: &Node, dir: Dir, name: &Name) -> bool
-    ensures { IsTrue result ↔ IsUp node.now dir name.now }
-{
-    match &node.up {
-        None => false,
-        Some(link) => link.dir == dir && link.name.bytes() == name.bytes(),
     }
 }

@@ -3,6 +3,8 @@ pub mod SlideLaws
 pub mod UnmountTreeLaws
 pub mod UnmountLaws
 pub mod SizeLaws
+mod GoneLaws
+mod MayGoLaws
 mod StayingLaws
 mod PlacedLaws
 mod DetachedLaws

@@ -1,55 +1,44 @@
 -- Mounts that stand on mounts that go come to their new places one after the other.
-use Rattle.std.proofs.Common.{◌≡◌, ◌≢◌, ℕ, ◌<◌, Bool, true, false, cond, eqb, ltb, eq-eqb, List, [], ◌∷◌, ◌++◌, map, Option, Some, None, refl, sym, ap, ap₂, ◌∙◌, subst, inl, inr, arith, append_assoc}
+use Rattle.std.proofs.Common.{◌≡◌, ℕ, Bool, true, false, cond, ◌||◌, ◌==◌, eqb, ltb, eqb-true, eq-eqb, List, [], ◌∷◌, map, Option, Some, None, refl, sym, ap, ap₂, ◌∙◌, subst, inl, inr, arith}
 use Rattle.std.specs.List.{cons_option, filter_map, list_all}
-use Rattle.std.specs.Option.{option_map, option_and_then}
-use Rattle.std.proofs.lemmas.Bool.{ne_eqb}
+use Rattle.std.specs.Option.{option_map}
+use Rattle.std.proofs.lemmas.Bool.{true≢false}
 use Rattle.std.proofs.lemmas.Bool.Decides.{nat_tests}
-use Rattle.mt_skel.specs.Keyed.{rises}
+use Rattle.mt_skel.specs.Keyed.{among, rises}
+use Rattle.mt_skel.proofs.ElementLaws.{In, in_row, in_map, find_in}
 use Rattle.mt_mounts.specs.declared.mount.Mount.{Mount}
 use Rattle.mt_mounts.specs.declared.mount.Place.{Place}
 use Rattle.mt_mounts.specs.Forest.{id_of, mount_at, on, is_at}
 use Rattle.mt_mounts.specs.ForestView.{with_place}
 use Rattle.mt_peers.proofs.MemberLaws.{some-is}
 use Rattle.mt_propagate.specs.Carried.{placed, IsFree}
-use Rattle.mt_skel.proofs.ElementLaws.{In, in_append, in_row, find_in}
 use Rattle.mt_propagate.proofs.WalkLaws.{stands_at}
 
--- a mount at another place
-abbrev put_at : Place → Mount → Mount
-put_at q m = record m { place = Some q }
+-- two changes that agree at each mount of a list
+map-alike : (f g : Mount → Mount) (xs : List Mount) → ((x : Mount) → In x xs → f x ≡ g x) → map f xs ≡ map g xs
+map-alike f g [] same = refl
+map-alike f g (x ∷ xs) same = ap₂ (λ (y : Mount) (l : List Mount). y ∷ l) (same x (inl refl)) (map-alike f g xs (λ y e. same y (inr e)))
 
--- where no mount has the ID, none moves
-none-moved : (i : ℕ) (q : Place) (ms : List Mount) → ((m : Mount) → In m ms → m.id ≢ i) → with_place i q ms ≡ ms
-none-moved i q [] other = refl
-none-moved i q (m ∷ ms) other =
-    let here : record m { place = cond (eqb m.id i) (Some q) m.place } ≡ m = λ j. record m { place = cond (ne_eqb m.id i (other m (inl refl)) j) (Some q) m.place } in
-    ap₂ (λ (x : Mount) (l : List Mount). x ∷ l) here (none-moved i q ms (λ x e. other x (inr e)))
+map-twice : (f g h : Mount → Mount) (xs : List Mount) → ((x : Mount) → In x xs → f (g x) ≡ h x) → map f (map g xs) ≡ map h xs
+map-twice f g h [] same = refl
+map-twice f g h (x ∷ xs) same = ap₂ (λ (y : Mount) (l : List Mount). y ∷ l) (same x (inl refl)) (map-twice f g h xs (λ y e. same y (inr e)))
 
--- where one has it, that one moves
-one-moved : (y : Mount) (q : Place) (ps ys : List Mount) → ((m : Mount) → In m ps → m.id ≢ y.id) → ((m : Mount) → In m ys → m.id ≢ y.id) → with_place y.id q (ps ++ y ∷ ys) ≡ ps ++ put_at q y ∷ ys
-one-moved y q [] ys before after =
-    let here : record y { place = cond (eqb y.id y.id) (Some q) y.place } ≡ put_at q y = λ j. record y { place = cond (eq-eqb y.id y.id refl j) (Some q) y.place } in
-    ap₂ (λ (x : Mount) (l : List Mount). x ∷ l) here (none-moved y.id q ys after)
-one-moved y q (x ∷ ps) ys before after =
-    let here : record x { place = cond (eqb x.id y.id) (Some q) x.place } ≡ x = λ j. record x { place = cond (ne_eqb x.id y.id (before x (inl refl)) j) (Some q) x.place } in
-    ap₂ (λ (x : Mount) (l : List Mount). x ∷ l) here (one-moved y q ps ys (λ m e. before m (inr e)) after)
+never-both : {X A : Type 0} (x : X) (o : Option X) → o ≡ None → o ≡ Some x → A
+never-both x o none some = absurd (let v : None ≡ Some x = sym none ∙ some in cc)
 
--- the others of a rising list have greater IDs
-greater : (y : Mount) (ys : List Mount) → list_all (λ z. ltb y.id (id_of z)) ys ≡ true → (m : Mount) → In m ys → y.id < m.id
-greater y [] h m e = absurd e
-greater y (z ∷ ys) h m e = elim e [
-  | inl here ↦ subst (λ (m : Mount). y.id < m.id) here (let v : ltb y.id z.id ≡ true = grind (arith, nat_tests) in grind (arith, nat_tests))
-  | inr later ↦ greater y ys (grind (arith, nat_tests)) m later
-]
+-- the first of numbers that rise is none of the others
+not-among : (k : ℕ) (ks : List ℕ) → list_all (λ j. ltb k j) ks ≡ true → among ks k ≡ false
+not-among k [] h = refl
+not-among k (j ∷ js) h = let ih = not-among k js in grind (arith, nat_tests)
 
 module _ (gone : ℕ → Bool) (to : Place → Place) where
   -- a mount at the place that its place leads to
   abbrev pub sent : Mount → Mount
   sent m = record m { place = option_map to m.place }
 
-  -- a mount moves where it stands on one that goes
-  abbrev pub relocation : Mount → Option (ℕ × Place)
-  relocation m = option_and_then (λ p. cond (gone p.mount) (Some (m.id, to p)) None) m.place
+  -- a mount whose place leads on from the mounts of a list alone
+  abbrev partly : List ℕ → Mount → Mount
+  partly done m = record m { place = option_map (λ (p : Place). cond (among done p.mount) (to p) p) m.place }
 
   -- what is needed of the mounts that stay
   pub record Fits (ms : List Mount) : Type 0 where
@@ -58,105 +47,173 @@ module _ (gone : ℕ → Bool) (to : Place → Place) where
     pub lands : (m : Mount) (p : Place) → In m ms → m.place ≡ Some p → gone (to p).mount ≡ false
     pub apart : (a b : Mount) (p q : Place) → In a ms → In b ms → a.place ≡ Some p → b.place ≡ Some q → to p ≡ to q → a.id ≡ b.id
 
-  module _ (ms : List Mount) (fits : Fits ms) where
-    -- mounts that were sent, and mounts that follow them
-    pub record Split (ps ys : List Mount) : Type 0 where
-      pub sent_ones : (z : Mount) → In z ps → (m : Mount) × In m ms × (z ≡ sent m)
-      pub rest : (m : Mount) → In m ys → In m ms
-      pub before : (z m : Mount) → In z ps → In m ys → z.id < m.id
-      pub rising : rises id_of ys ≡ true
+  -- the mount that moves from a mount that goes
+  pub record Moves (ms : List Mount) (k j : ℕ) (q : Place) : Type 0 where
+    pub mount : Mount
+    pub place : Place
+    pub there : In mount ms
+    pub stands : mount.place ≡ Some place
+    pub from : place.mount ≡ k
+    pub id : mount.id ≡ j
+    pub comes : to place ≡ q
 
-    next : (ps : List Mount) (y : Mount) (ys : List Mount) → Split ps (y ∷ ys) → Split (ps ++ sent y ∷ []) ys
-    next ps y ys s = record {
-      sent_ones = λ z e. elim (in_append z ps (sent y ∷ []) e) [
-        | inl old ↦ s.sent_ones z old
-        | inr new ↦ elim new [ inl here ↦ (y, s.rest y (inl refl), sym here) | inr never ↦ absurd never ]
-      ];
-      rest = λ m e. s.rest m (inr e);
-      before = λ z m e f. elim (in_append z ps (sent y ∷ []) e) [
-        | inl old ↦ s.before z m old (inr f)
-        | inr new ↦ elim new [ inl here ↦ subst (λ (z : Mount). z.id < m.id) here (after m f) | inr never ↦ absurd never ]
-      ];
-      rising = let r = s.rising in grind (arith, nat_tests);
-    }
+  -- one moves from each of them, if one stands on it
+  pub record Finds (ms : List Mount) (f : ℕ → Option (ℕ × Place)) : Type 0 where
+    pub each : (m : Mount) (p : Place) → In m ms → m.place ≡ Some p → gone p.mount ≡ true → f p.mount ≡ Some (m.id, to p)
+    pub only : (k j : ℕ) (q : Place) → gone k ≡ true → f k ≡ Some (j, q) → Moves ms k j q
+
+  module _ (ms : List Mount) (fits : Fits ms) (f : ℕ → Option (ℕ × Place)) (finds : Finds ms f) where
+    same-mount : (x y : Mount) → In x ms → In y ms → x.id ≡ y.id → x ≡ y
+    same-mount x y e g same = some-is x y (sym (in_row id_of ms x fits.rising e) ∙ ap (mount_at ms) same ∙ in_row id_of ms y fits.rising g)
+
+    -- once all have moved
+    partly-all : (done : List ℕ) → ((j : ℕ) → among done j ≡ gone j) → (o : Option Place) → option_map (λ (p : Place). cond (among done p.mount) (to p) p) o ≡ option_map to o
+    partly-all done all None = refl
+    partly-all done all (Some p) = ap (λ (q : Place). Some q) (ap (λ b. cond b (to p) p) (all p.mount) ∙ by (gone p.mount) refl)
       where
-        after : (m : Mount) → In m ys → y.id < m.id
-        after m f = greater y ys (let r = s.rising in grind (arith, nat_tests)) m f
+        by : (b : Bool) → gone p.mount ≡ b → cond b (to p) p ≡ to p
+        by true is = refl
+        by false is = sym (fits.stays p is)
 
-    from-sent : (o : Option Place) (q : Place) → option_map to o ≡ Some q → (r : Place) × (o ≡ Some r) × (to r ≡ q)
-    from-sent None q e = absurd (let v : None ≡ Some q = e in cc)
-    from-sent (Some r) q e = (r, refl, let v : Some (to r) ≡ Some q = e in let same : to r ≡ q = cc in same)
+    sent-all : (done : List ℕ) → ((j : ℕ) → among done j ≡ gone j) → map (partly done) ms ≡ map sent ms
+    sent-all done all = map-alike (partly done) sent ms (λ x e i. record x { place = partly-all done all x.place i })
 
-    -- the place that a mount comes to is free
-    free : (ps : List Mount) (y : Mount) (ys : List Mount) → Split ps (y ∷ ys) → (p : Place) → y.place ≡ Some p → gone p.mount ≡ true → on (ps ++ y ∷ ys) (to p) ≡ None
-    free ps y ys s p at off = go (on (ps ++ y ∷ ys) (to p)) refl
-      where
-        mine : In y ms
-        mine = s.rest y (inl refl)
+    module _ (done : List ℕ) (k : ℕ) (goes : gone k ≡ true) (fresh : among done k ≡ false) where
+      -- a mount that stands on another mount than k
+      further : (o : Option Place) → ((p : Place) → o ≡ Some p → eqb k p.mount ≡ false)
+          → option_map (λ (p : Place). cond (among done p.mount) (to p) p) o ≡ option_map (λ (p : Place). cond (among (k ∷ done) p.mount) (to p) p) o
+      further None other = refl
+      further (Some p) other = ap (λ b. Some (cond (b || among done p.mount) (to p) p)) (sym (other p refl))
 
-        sent-one : (z : Mount) → In z ps → z.place ≡ Some (to p) → ⊥
-        sent-one z e there =
-            let m = s.sent_ones z e in
-            let low = s.before z y e (inl refl) in
-            let r = from-sent m.0.place (to p) (sym (ap (λ (x : Mount). x.place) m.2) ∙ there) in
-            let same = fits.apart m.0 y r.0 p m.1 mine r.1 at r.2 in
-            let own = ap id_of m.2 in
-            absurd (omega (arith, low, same, own))
+      -- none stands on k
+      none-moves : f k ≡ None → map (partly done) ms ≡ map (partly (k ∷ done)) ms
+      none-moves none = map-alike (partly done) (partly (k ∷ done)) ms (λ x e i. record x { place = further x.place (other x e) i })
+        where
+          other : (x : Mount) → In x ms → (p : Place) → x.place ≡ Some p → eqb k p.mount ≡ false
+          other x e p at = by (eqb k p.mount) refl
+            where
+              by : (b : Bool) → eqb k p.mount ≡ b → b ≡ false
+              by false is = refl
+              by true is =
+                  let here = eqb-true k p.mount is in
+                  never-both (x.id, to p) (f k) none (ap f here ∙ finds.each x p e at (ap gone (sym here) ∙ goes))
 
-        rest-one : (z : Mount) → In z ms → z.place ≡ Some (to p) → ⊥
-        rest-one z e there =
-            let lands = fits.lands y p mine at in
-            let same = fits.apart z y (to p) p e mine there at (fits.stays (to p) lands) in
-            let one : z ≡ y = some-is z y (sym (in_row id_of ms z fits.rising e) ∙ ap (mount_at ms) same ∙ in_row id_of ms y fits.rising mine) in
-            let place : p ≡ to p = some-is p (to p) (sym at ∙ ap (λ (x : Mount). x.place) (sym one) ∙ there) in
-            let v : true ≡ false = sym off ∙ ap (λ (q : Place). gone q.mount) place ∙ lands in
-            absurd (cc)
-
-        go : (o : Option Mount) → on (ps ++ y ∷ ys) (to p) ≡ o → o ≡ None
-        go None e = refl
-        go (Some z) e =
-            let f = find_in (is_at (to p)) (ps ++ y ∷ ys) z e in
-            let there = stands_at (to p) z f.1 in
-            elim (in_append z ps (y ∷ ys) f.0) [ inl old ↦ absurd (sent-one z old there) | inr new ↦ absurd (rest-one z (s.rest z new) there) ]
-
-    placed-next : (ps : List Mount) (y : Mount) (ys : List Mount) → Split ps (y ∷ ys)
-        → IsFree (filter_map relocation ys) ((ps ++ sent y ∷ []) ++ ys) × (placed (filter_map relocation ys) ((ps ++ sent y ∷ []) ++ ys) ≡ (ps ++ sent y ∷ []) ++ map sent ys)
-        → IsFree (filter_map relocation (y ∷ ys)) (ps ++ y ∷ ys) × (placed (filter_map relocation (y ∷ ys)) (ps ++ y ∷ ys) ≡ ps ++ sent y ∷ map sent ys)
-    placed-next ps y ys s ih = go y.place refl
-      where
-        after : IsFree (filter_map relocation ys) (ps ++ sent y ∷ ys) × (placed (filter_map relocation ys) (ps ++ sent y ∷ ys) ≡ ps ++ sent y ∷ map sent ys)
-        after =
-            let joined = append_assoc ps (sent y ∷ []) ys in (
-              subst (IsFree (filter_map relocation ys)) joined ih.0,
-              ap (placed (filter_map relocation ys)) (sym joined) ∙ ih.1 ∙ append_assoc ps (sent y ∷ []) (map sent ys),
-            )
-
-        still : y ≡ sent y → IsFree (filter_map relocation ys) (ps ++ y ∷ ys) × (placed (filter_map relocation ys) (ps ++ y ∷ ys) ≡ ps ++ sent y ∷ map sent ys)
-        still same = subst (λ (z : Mount). IsFree (filter_map relocation ys) (ps ++ z ∷ ys) × (placed (filter_map relocation ys) (ps ++ z ∷ ys) ≡ ps ++ sent y ∷ map sent ys)) (sym same) after
-
-        by : (p : Place) → y.place ≡ Some p → (b : Bool) → gone p.mount ≡ b
-            → IsFree (cons_option (cond b (Some (y.id, to p)) None) (filter_map relocation ys)) (ps ++ y ∷ ys) × (placed (cons_option (cond b (Some (y.id, to p)) None) (filter_map relocation ys)) (ps ++ y ∷ ys) ≡ ps ++ sent y ∷ map sent ys)
-        by p at false on = still (λ i. record y { place = (at ∙ ap (λ (q : Place). Some q) (sym (fits.stays p on)) ∙ sym (ap (option_map to) at)) i })
-        by p at true off =
-            let here : put_at (to p) y ≡ sent y = λ i. record y { place = (sym (ap (option_map to) at)) i } in
-            let moves : with_place y.id (to p) (ps ++ y ∷ ys) ≡ ps ++ sent y ∷ ys =
-            one-moved y (to p) ps ys (λ m e same. let low = s.before m y e (inl refl) in absurd (omega (arith, same, low))) (λ m e same. let high = later m e in absurd (omega (arith, same, high)))
-            ∙ ap (λ (z : Mount). ps ++ z ∷ ys) here in
-            ((free ps y ys s p at off, subst (IsFree (filter_map relocation ys)) (sym moves) after.0), ap (placed (filter_map relocation ys)) moves ∙ after.1)
+      module _ (j : ℕ) (q : Place) (moves : Moves ms k j q) where
+        -- the place that it comes to is free
+        never-there : (x : Mount) (r : Place) → In x ms → x.place ≡ Some r → cond (among done r.mount) (to r) r ≡ q → ⊥
+        never-there x r e at same = by (among done r.mount) refl same
           where
-            later : (m : Mount) → In m ys → y.id < m.id
-            later m e = greater y ys (let r = s.rising in grind (arith, nat_tests)) m e
+            by : (b : Bool) → among done r.mount ≡ b → cond b (to r) r ≡ q → ⊥
+            by true is same =
+                let one = same-mount x moves.mount e moves.there (fits.apart x moves.mount r moves.place e moves.there at moves.stands (same ∙ sym moves.comes)) in
+                let place : r ≡ moves.place = some-is r moves.place (sym at ∙ ap (λ (m : Mount). m.place) one ∙ moves.stands) in
+                absurd (true≢false (sym is ∙ ap (λ (p : Place). among done p.mount) place ∙ ap (among done) moves.from ∙ fresh))
+            by false is same =
+                let lands = fits.lands moves.mount moves.place moves.there moves.stands in
+                let here : r ≡ to moves.place = same ∙ sym moves.comes in
+                let still : to r ≡ to moves.place = ap to here ∙ fits.stays (to moves.place) lands in
+                let one = same-mount x moves.mount e moves.there (fits.apart x moves.mount r moves.place e moves.there at moves.stands still) in
+                let place : moves.place ≡ to moves.place = sym (some-is r moves.place (sym at ∙ ap (λ (m : Mount). m.place) one ∙ moves.stands)) ∙ here in
+                absurd (true≢false (sym goes ∙ ap gone (sym moves.from) ∙ ap (λ (p : Place). gone p.mount) place ∙ lands))
 
-        go : (o : Option Place) → y.place ≡ o
-            → IsFree (cons_option (option_and_then (λ p. cond (gone p.mount) (Some (y.id, to p)) None) o) (filter_map relocation ys)) (ps ++ y ∷ ys)
-            × (placed (cons_option (option_and_then (λ p. cond (gone p.mount) (Some (y.id, to p)) None) o) (filter_map relocation ys)) (ps ++ y ∷ ys) ≡ ps ++ sent y ∷ map sent ys)
-        go None at = still (λ i. record y { place = (at ∙ sym (ap (option_map to) at)) i })
-        go (Some p) at = by p at (gone p.mount) refl
+        place-from : (o : Option Place) → option_map (λ (p : Place). cond (among done p.mount) (to p) p) o ≡ Some q → (r : Place) × (o ≡ Some r) × (cond (among done r.mount) (to r) r ≡ q)
+        place-from None e = absurd (let v : None ≡ Some q = e in cc)
+        place-from (Some r) e = (r, refl, let v : Some (cond (among done r.mount) (to r) r) ≡ Some q = e in some-is (cond (among done r.mount) (to r) r) q v)
 
-    pub placed-all : (ps ys : List Mount) → Split ps ys → IsFree (filter_map relocation ys) (ps ++ ys) × (placed (filter_map relocation ys) (ps ++ ys) ≡ ps ++ map sent ys)
-    placed-all ps [] s = (tt, refl)
-    placed-all ps (y ∷ ys) s = placed-next ps y ys s (placed-all (ps ++ sent y ∷ []) ys (next ps y ys s))
+        free : on (map (partly done) ms) q ≡ None
+        free = go (on (map (partly done) ms) q) refl
+          where
+            go : (o : Option Mount) → on (map (partly done) ms) q ≡ o → o ≡ None
+            go None e = refl
+            go (Some z) e =
+                let found = find_in (is_at q) (map (partly done) ms) z e in
+                let x = in_map (partly done) z ms found.0 in
+                let r = place-from x.0.place (ap (λ (m : Mount). m.place) x.2 ∙ stands_at q z found.1) in
+                absurd (never-there x.0 r.0 x.1 r.1 r.2)
+
+        -- it alone moves
+        moved : (x : Mount) → In x ms → cond (x.id == j) (Some q) (option_map (λ (p : Place). cond (among done p.mount) (to p) p) x.place) ≡ option_map (λ (p : Place). cond (among (k ∷ done) p.mount) (to p) p) x.place
+        moved x e = by (x.id == j) refl
+          where
+            other : (x.id == j) ≡ false → (p : Place) → x.place ≡ Some p → eqb k p.mount ≡ false
+            other off p at = on-k (eqb k p.mount) refl
+              where
+                on-k : (b : Bool) → eqb k p.mount ≡ b → b ≡ false
+                on-k false is = refl
+                on-k true is =
+                    let here = eqb-true k p.mount is in
+                    let mine = finds.each x p e at (ap gone (sym here) ∙ goes) in
+                    let yours = finds.each moves.mount moves.place moves.there moves.stands (ap gone moves.from ∙ goes) in
+                    let pair : (x.id, to p) ≡ (moves.mount.id, to moves.place) = some-is (x.id, to p) (moves.mount.id, to moves.place) (sym mine ∙ ap f (sym here ∙ sym moves.from) ∙ yours) in
+                    absurd (true≢false (sym (eq-eqb x.id j (ap (λ (r : ℕ × Place). r.0) pair ∙ moves.id)) ∙ off))
+
+            by : (b : Bool) → (x.id == j) ≡ b → cond b (Some q) (option_map (λ (p : Place). cond (among done p.mount) (to p) p) x.place) ≡ option_map (λ (p : Place). cond (among (k ∷ done) p.mount) (to p) p) x.place
+            by false is = further x.place (other is)
+            by true is =
+                let one = same-mount x moves.mount e moves.there (eqb-true x.id j is ∙ sym moves.id) in
+                let at : x.place ≡ Some moves.place = ap (λ (m : Mount). m.place) one ∙ moves.stands in
+                let here : among (k ∷ done) moves.place.mount ≡ true = ap (λ b. b || among done moves.place.mount) (eq-eqb k moves.place.mount (sym moves.from)) in
+                sym (ap (option_map (λ (p : Place). cond (among (k ∷ done) p.mount) (to p) p)) at ∙ ap (λ b. Some (cond b (to moves.place) moves.place)) here ∙ ap (λ (p : Place). Some p) moves.comes)
+
+        one-moves : with_place j q (map (partly done) ms) ≡ map (partly (k ∷ done)) ms
+        one-moves = map-twice (λ (m : Mount). record m { place = cond (m.id == j) (Some q) m.place }) (partly done) (partly (k ∷ done)) ms (λ x e i. record x { place = moved x e i })
+
+    -- all that are left move
+    abbrev Arrives : List (ℕ × Place) → List Mount → Type 0
+    Arrives ws l = IsFree ws l × (placed ws l ≡ map sent ms)
+
+    placed-rest : (done ks : List ℕ) → rises (λ j. j) ks ≡ true → ((j : ℕ) → (among done j || among ks j) ≡ gone j) → ((j : ℕ) → among ks j ≡ true → among done j ≡ false) → Arrives (filter_map f ks) (map (partly done) ms)
+    placed-rest done [] up all apart = (tt, sent-all done (λ j. or-false (among done j) ∙ all j))
+      where
+        or-false : (b : Bool) → b ≡ (b || false)
+        or-false true = refl
+        or-false false = refl
+    placed-rest done (k ∷ ks) up all apart =
+        go (f k) refl (placed-rest (k ∷ done) ks (grind (arith, nat_tests)) (λ j. swap (eqb k j) (among done j) (among ks j) ∙ all j) later)
+      where
+        swap : (a b c : Bool) → ((a || b) || c) ≡ (b || (a || c))
+        swap true true c = refl
+        swap true false c = refl
+        swap false b c = refl
+
+        here : among (k ∷ ks) k ≡ true
+        here = ap (λ b. b || among ks k) (eq-eqb k k refl)
+
+        or-true : (b : Bool) → (b || true) ≡ true
+        or-true true = refl
+        or-true false = refl
+
+        goes : gone k ≡ true
+        goes = sym (all k) ∙ ap (λ b. among done k || b) here ∙ or-true (among done k)
+
+        later : (j : ℕ) → among ks j ≡ true → among (k ∷ done) j ≡ false
+        later j e =
+            let old = apart j (ap (λ b. eqb k j || b) e ∙ or-true (eqb k j)) in
+            let off : eqb k j ≡ false = by (eqb k j) refl in
+            ap (λ b. b || among done j) off ∙ old
+          where
+            by : (b : Bool) → eqb k j ≡ b → b ≡ false
+            by false is = refl
+            by true is = absurd (true≢false (sym e ∙ ap (among ks) (sym (eqb-true k j is)) ∙ not-among k ks (grind (arith, nat_tests))))
+
+        go : (o : Option (ℕ × Place)) → f k ≡ o → Arrives (filter_map f ks) (map (partly (k ∷ done)) ms) → Arrives (cons_option o (filter_map f ks)) (map (partly done) ms)
+        go None is rest = subst (Arrives (filter_map f ks)) (sym (none-moves done k goes (apart k here) is)) rest
+        go (Some (j, q)) is rest =
+            let moves = finds.only k j q goes is in
+            let next = subst (Arrives (filter_map f ks)) (sym (one-moves done k goes (apart k here) j q moves)) rest in
+            ((free done k goes (apart k here) j q moves, next.0), next.1)
+
+    partly-none : map (partly []) ms ≡ ms
+    partly-none = map-id ms
+      where
+        still : (o : Option Place) → option_map (λ (p : Place). cond false (to p) p) o ≡ o
+        still None = refl
+        still (Some p) = refl
+
+        map-id : (xs : List Mount) → map (partly []) xs ≡ xs
+        map-id [] = refl
+        map-id (x ∷ xs) = ap₂ (λ (y : Mount) (l : List Mount). y ∷ l) (λ i. record x { place = still x.place i }) (map-id xs)
 
     -- all mounts that stay
-    pub placed-each : IsFree (filter_map relocation ms) ms × (placed (filter_map relocation ms) ms ≡ map sent ms)
-    placed-each = placed-all [] ms (record { sent_ones = λ z e. absurd e; rest = λ m e. e; before = λ z m e f. absurd e; rising = fits.rising })
+    pub placed-each : (ks : List ℕ) → rises (λ j. j) ks ≡ true → ((j : ℕ) → among ks j ≡ gone j) → IsFree (filter_map f ks) ms × (placed (filter_map f ks) ms ≡ map sent ms)
+    placed-each ks up all = subst (Arrives (filter_map f ks)) partly-none (placed-rest [] ks up all (λ j e. refl))

@@ -6,7 +6,7 @@ use Rattle.std.proofs.lemmas.Bool.{true≢false}
 use Rattle.mt_skel.proofs.KeyedLaws.{row_at-key}
 use Rattle.mt_mounts.specs.declared.mount.Mount.{Mount}
 use Rattle.mt_mounts.specs.declared.mount.Place.{Place}
-use Rattle.mt_mounts.specs.Forest.{id_of, mount_at, on, is_at, root_place}
+use Rattle.mt_mounts.specs.Forest.{id_of, mount_at, on, is_at, root_place, stands_on}
 use Rattle.mt_mounts.proofs.ForestLaws.{find_row, find_passes}
 use Rattle.mt_peers.proofs.MemberLaws.{some-is}
 use Rattle.mt_propagate.specs.World.{WorldView}
@@ -15,7 +15,7 @@ use Rattle.mt_propagate.specs.Receivers.{hits}
 use Rattle.mt_propagate.specs.WellFormed.{IsWellFormed}
 use Rattle.mt_propagate.proofs.RowLaws.{row-picked, all-row, any-row}
 use Rattle.mt_propagate.proofs.WalkLaws.{stands_at}
-use Rattle.mt_unmount.specs.Unmounting.{place_of, stands_on, children, may_go, is_removed}
+use Rattle.mt_unmount.specs.Unmounting.{place_of, may_go, is_removed}
 
 -- what a list of optional results holds are results
 each-result : {X Y : Type 0} (f : X → Option Y) (xs : List X) → AllByRecursion (λ y. (x : X) × (f x ≡ Some y)) (filter_map f xs)
@@ -94,7 +94,7 @@ module _ (w : WorldView) (h : IsWellFormed w) (i : ℕ) where
   child-at-root : (r : Mount) → may_go w r ≡ true → (k : ℕ) (m : Mount) (p : Place) → mount_at w.forest k ≡ Some m → m.place ≡ Some p → p.mount ≡ r.id → p.dir ≡ r.root
   child-at-root r may k m p e at on =
       let child = row-picked id_of (stands_on r.id) w.forest h.forest.rising k m (child-stands m p r.id at on) e in
-      let passes = all-row id_of (λ (c : Mount). option_map_or (λ (p : Place). p.dir == r.root) c.place false) (children w r.id) k m may child in
+      let passes = all-row id_of (λ (c : Mount). option_map_or (λ (p : Place). p.dir == r.root) c.place false) (filter (stands_on r.id) w.forest) k m may child in
       eqb-true p.dir r.root (ap (λ o. option_map_or (λ (p : Place). p.dir == r.root) o false) (sym at) ∙ passes)
 
   module _ (rooted : is_none (place_of w i) ≡ false) (bare : list_any (stands_on i) w.forest ≡ false) where

@@ -6,13 +6,14 @@ use Rattle.std.proofs.lemmas.List.{length-map}
 use Rattle.mt_skel.specs.declared.fault.Fault.TheVariants.{NotMountRoot, RootPlace, Busy}
 use Rattle.mt_skel.specs.Outcome.{refuse_if, fault_of}
 use Rattle.mt_skel.proofs.OutcomeLaws.{outcome_ok}
+use Rattle.mt_mounts.specs.Forest.{stands_on}
 use Rattle.mt_mounts.specs.declared.mount.Mount.{Mount}
 use Rattle.mt_mounts.specs.Walk.{walk}
 use Rattle.mt_peers.specs.Loss.{left}
 use Rattle.mt_propagate.specs.World.{WorldView}
 use Rattle.mt_propagate.specs.Named.{place_or_nowhere, is_mount_root, is_root_mount}
 use Rattle.mt_propagate.proofs.SizeLaws.{IsSized, few_pass}
-use Rattle.mt_unmount.specs.Unmounting.{unmounted, without_mount, stands_on, is_removed, slid}
+use Rattle.mt_unmount.specs.Unmounting.{unmounted, without_mount, is_removed, slid}
 
 pub gone_sized : (w v : WorldView) (n : ℕ) (path : List (List ℕ)) → length w.forest ≤ 4096 → unmounted w n path ≡ Ok v → IsSized w v 0
 unfolding without_mount left

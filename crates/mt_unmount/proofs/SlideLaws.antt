@@ -8,13 +8,13 @@ use Rattle.mt_skel.proofs.KeyedLaws.{row_at-key}
 use Rattle.mt_skel.proofs.ChainLaws.{ends-rank, chain-some, follow-holds}
 use Rattle.mt_mounts.specs.declared.mount.Mount.{Mount}
 use Rattle.mt_mounts.specs.declared.mount.Place.{Place}
-use Rattle.mt_mounts.specs.Forest.{id_of, mount_at, on, parent, root_place}
+use Rattle.mt_mounts.specs.Forest.{id_of, mount_at, on, parent, root_place, stands_on}
 use Rattle.mt_mounts.proofs.CycleLaws.{rank_of}
 use Rattle.mt_peers.proofs.MemberLaws.{some-is, length-chain-le}
 use Rattle.mt_propagate.specs.World.{WorldView}
 use Rattle.mt_propagate.specs.WellFormed.{IsWellFormed}
 use Rattle.mt_propagate.proofs.TreeLaws.{rank-fell, on-is}
-use Rattle.mt_unmount.specs.Unmounting.{place_of, stands_on, is_removed, slide, slid}
+use Rattle.mt_unmount.specs.Unmounting.{place_of, is_removed, slide, slid}
 use Rattle.mt_unmount.proofs.RemovedLaws.{place-at, placed-mount, gap-below}
 
 module _ (w : WorldView) (i : ℕ) where

@@ -8,7 +8,7 @@ use Rattle.mt_skel.specs.Outcome.{refuse_if, fault_of}
 use Rattle.mt_skel.proofs.OutcomeLaws.{outcome_ok, first_none, not_refused}
 use Rattle.mt_skel.specs.Skeleton.{directory}
 use Rattle.mt_mounts.specs.declared.mount.Mount.{Mount}
-use Rattle.mt_mounts.specs.Forest.{id_of}
+use Rattle.mt_mounts.specs.Forest.{id_of, stands_on}
 use Rattle.mt_mounts.specs.Walk.{walk}
 use Rattle.mt_peers.specs.declared.state.State.{State}
 use Rattle.mt_peers.specs.Peers.{mount_of, state_at}
@@ -20,7 +20,7 @@ use Rattle.mt_propagate.specs.Named.{place_or_nowhere, is_mount_root, is_root_mo
 use Rattle.mt_propagate.specs.WellFormed.{IsWellFormed, fs_at}
 use Rattle.mt_propagate.proofs.RowLaws.{keys-map, keys-filter}
 use Rattle.mt_propagate.proofs.ShownLaws.{shown-alike, groups-show, masters-show, left-mounts, state-mount}
-use Rattle.mt_unmount.specs.Unmounting.{place_of, stands_on, is_removed, without_mount, unmounted}
+use Rattle.mt_unmount.specs.Unmounting.{place_of, is_removed, without_mount, unmounted}
 use Rattle.mt_unmount.proofs.UnmountTreeLaws.{goes, moved, left_mounts, left-forest, row-of}
 
 module _ (w : WorldView) (h : IsWellFormed w) (i : ℕ) where

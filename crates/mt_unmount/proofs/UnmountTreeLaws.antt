@@ -7,13 +7,13 @@ use Rattle.mt_skel.specs.Skeleton.{holds}
 use Rattle.mt_skel.proofs.KeyedLaws.{row_at-key, rises-map, rises-filter}
 use Rattle.mt_mounts.specs.declared.mount.Mount.{Mount}
 use Rattle.mt_mounts.specs.declared.mount.Place.{Place}
-use Rattle.mt_mounts.specs.Forest.{id_of, mount_at}
+use Rattle.mt_mounts.specs.Forest.{id_of, mount_at, stands_on}
 use Rattle.mt_mounts.proofs.CycleLaws.{no_cycle, rank_of}
 use Rattle.mt_propagate.specs.World.{WorldView}
 use Rattle.mt_propagate.specs.WellFormed.{IsForest, IsWellFormed}
 use Rattle.mt_propagate.proofs.RowLaws.{mapped-row, row-mapped, kept-row, row-kept}
 use Rattle.mt_propagate.proofs.TreeLaws.{parent-from}
-use Rattle.mt_unmount.specs.Unmounting.{place_of, stands_on, is_removed, slid}
+use Rattle.mt_unmount.specs.Unmounting.{place_of, is_removed, slid}
 use Rattle.mt_unmount.proofs.RemovedLaws.{removed-placed}
 use Rattle.mt_unmount.proofs.SlideLaws.{heir_at, slid-there, heir-single}
 

@@ -1,15 +1,28 @@
 -- What an unmount leads to where its path names a mount that may go.
-use Rattle.std.proofs.Common.{◌≡◌, ℕ, true, false, not, List, [], ◌∷◌, Result, Ok, ap, ◌∙◌}
-use Rattle.std.specs.List.{list_any}
+use Rattle.std.proofs.Common.{◌≡◌, ℕ, Bool, true, false, cond, not, ◌||◌, List, [], ◌∷◌, map, length, Result, Ok, refl, ap, ◌∙◌, arith}
+use Rattle.std.specs.Prelude.{nat_lt}
+use Rattle.std.specs.List.{filter, list_any}
+use Rattle.std.proofs.lemmas.Bool.Decides.{nat_tests}
 use Rattle.mt_skel.specs.declared.fault.Fault.{Fault}
 use Rattle.mt_skel.specs.declared.fault.Fault.TheVariants.{NotMountRoot, RootPlace, Busy}
 use Rattle.mt_skel.specs.Outcome.{refuse_if, fault_of, outcome}
 use Rattle.mt_skel.proofs.OutcomeLaws.{passed}
+use Rattle.mt_mounts.specs.Forest.{id_of, stands_on}
+use Rattle.mt_mounts.specs.declared.mount.Mount.{Mount}
 use Rattle.mt_mounts.specs.declared.mount.Place.{Place}
 use Rattle.mt_mounts.specs.Walk.{walk}
 use Rattle.mt_propagate.specs.World.{WorldView}
 use Rattle.mt_propagate.specs.Named.{place_or_nowhere, is_mount_root, is_root_mount}
-use Rattle.mt_unmount.specs.Unmounting.{stands_on, without_mount, unmounted}
+use Rattle.mt_unmount.specs.Unmounting.{without_mount, unmounted}
+
+-- a mount stands on one where that has children
+pub some-child : (t : Mount → Bool) (ms : List Mount) → list_any t ms ≡ nat_lt 0 (length (map id_of (filter t ms)))
+some-child t [] = refl
+some-child t (m ∷ ms) = go (t m) (some-child t ms)
+  where
+    go : (b : Bool) → list_any t ms ≡ nat_lt 0 (length (map id_of (filter t ms))) → (b || list_any t ms) ≡ nat_lt 0 (length (map id_of (cond b (m ∷ filter t ms) (filter t ms))))
+    go true ih = grind (arith, nat_tests)
+    go false ih = ih
 
 module _ (w : WorldView) (n : ℕ) (path : List (List ℕ)) (p : Place) where
   -- what an unmount answers with its path walked

@@ -1,42 +1,42 @@
--- How an unmount is worked out: from the list of the mounts that go. No public clause cites this module.
+-- How an unmount is worked out: which mounts go, and where the mounts on them come to stand. No public clause cites this module.
 -- A word with no source is this project's rule.
-use Rattle.std.specs.Prelude.{ℕ, Bool, false, cond, ◌==◌, List, map, length, Option, Some, None}
-use Rattle.std.specs.List.{filter, filter_map, list_all}
-use Rattle.std.specs.Option.{option_map_or, option_and_then}
-use Rattle.mt_skel.specs.Keyed.{without, among}
+use Rattle.std.specs.Prelude.{◌≡◌, ℕ, Bool, cond, List, map, length, Option, Some, None, IsTrue}
+use Rattle.std.specs.List.{filter, filter_map}
+use Rattle.std.specs.Option.{option_and_then}
+use Rattle.mt_skel.specs.Keyed.{without, among, rises}
 use Rattle.mt_skel.specs.Chain.{follow}
 use Rattle.mt_mounts.specs.declared.mount.Mount.{Mount}
 use Rattle.mt_mounts.specs.declared.mount.Place.{Place}
-use Rattle.mt_mounts.specs.Forest.{id_of, on}
+use Rattle.mt_mounts.specs.Forest.{id_of, mount_at, on, root_place}
 use Rattle.mt_peers.specs.Loss.{left}
 use Rattle.mt_propagate.specs.World.{WorldView}
 use Rattle.mt_propagate.specs.Carried.{placed}
-use Rattle.mt_unmount.specs.Unmounting.{place_of, stands_on}
+use Rattle.mt_unmount.specs.Unmounting.{place_of, may_go, is_removed}
 
--- a mount stands at a directory, of whatever mount (proc_pid_mountinfo(5), field 5)
-abbrev pub is_in_dir : ℕ → Mount → Bool
-is_in_dir d m = option_map_or (λ p. p.dir == d) m.place false
-
--- a mount goes too: what stands on it stands at its root directory (`sharedsubtree`, unmount semantics)
-abbrev pub may_go_of : List Mount → Mount → Bool
-may_go_of ms m = list_all (is_in_dir m.root) (filter (stands_on m.id) ms)
+-- the mounts that go with a mount, by rising ID
+pub record AreRemoved (w : WorldView) (i : ℕ) (ids : List ℕ) : Type 0 where
+  pub rising : IsTrue (rises (λ k. k) ids)
+  pub each : (j : ℕ) → among ids j ≡ is_removed w i j
 
 -- the mounts that go at targets (`sharedsubtree`, unmount semantics)
-abbrev pub going_at : List Mount → List ℕ → ℕ → List ℕ
-going_at ms ts d = map id_of (filter (may_go_of ms) (filter_map (λ t. on ms (record { mount = t; dir = d })) ts))
+abbrev pub going_at : WorldView → List ℕ → ℕ → List ℕ
+going_at w ts d = map id_of (filter (may_go w) (filter_map (λ t. on w.forest (record { mount = t; dir = d })) ts))
 
 -- a place on a mount that goes leads to that mount's place
-abbrev pub slide_past : WorldView → List ℕ → Place → Option Place
-slide_past w ids p = cond (among ids p.mount) (place_of w p.mount) None
+abbrev pub slide_past : WorldView → (ℕ → Bool) → Place → Option Place
+slide_past w goes p = cond (goes p.mount) (place_of w p.mount) None
 
 -- the place where no mount goes any more that a place leads to
-abbrev pub slid_past : WorldView → List ℕ → Place → Place
-slid_past w ids p = follow (slide_past w ids) (length w.forest) p
+abbrev pub slid_past : WorldView → (ℕ → Bool) → Place → Place
+slid_past w goes p = follow (slide_past w goes) (length w.forest) p
 
--- a mount that stays and stands on one that goes, with its new place
-abbrev pub relocation_past : WorldView → List ℕ → Mount → Option (ℕ × Place)
-relocation_past w ids m =
-    option_and_then (λ p. cond (among ids m.id) None (cond (among ids p.mount) (Some (m.id, slid_past w ids p)) None)) m.place
+-- the mount at a place, if it stays, with its new place
+abbrev pub moved_from : WorldView → (ℕ → Bool) → Place → Option (ℕ × Place)
+moved_from w goes p = option_and_then (λ m. cond (goes m.id) None (Some (m.id, slid_past w goes p))) (on w.forest p)
+
+-- the mount that stays and stands at the root of a mount that goes, with its new place
+abbrev pub relocation_past : WorldView → (ℕ → Bool) → ℕ → Option (ℕ × Place)
+relocation_past w goes i = option_and_then (λ m. moved_from w goes (root_place m)) (mount_at w.forest i)
 
 -- the mounts that stay
 abbrev pub staying : List ℕ → List Mount → List Mount

@@ -10,7 +10,7 @@ use Rattle.mt_skel.specs.Chain.{follow}
 use Rattle.mt_skel.specs.Outcome.{refuse_if, fault_of, outcome}
 use Rattle.mt_mounts.specs.declared.mount.Mount.{Mount}
 use Rattle.mt_mounts.specs.declared.mount.Place.{Place}
-use Rattle.mt_mounts.specs.Forest.{on, id_of}
+use Rattle.mt_mounts.specs.Forest.{on, id_of, stands_on}
 use Rattle.mt_mounts.specs.Walk.{walk}
 use Rattle.mt_peers.specs.Loss.{left}
 use Rattle.mt_propagate.specs.World.{WorldView}
@@ -21,18 +21,10 @@ use Rattle.mt_propagate.specs.Receivers.{hits}
 abbrev pub place_of : WorldView → ℕ → Option Place
 place_of w i = (mount_or_unknown w i).place
 
--- a mount is a child of mount i (proc_pid_mountinfo(5), field 2)
-abbrev pub stands_on : ℕ → Mount → Bool
-stands_on i m = option_map_or (λ p. p.mount == i) m.place false
-
--- the children of a mount (proc_pid_mountinfo(5), field 2)
-abbrev pub children : WorldView → ℕ → List Mount
-children w i = filter (stands_on i) w.forest
-
 -- a propagated unmount spares a mount with children (`sharedsubtree`, unmount semantics), except for one that stands at its own
 -- root directory
 abbrev pub may_go : WorldView → Mount → Bool
-may_go w m = list_all (λ c. option_map_or (λ p. p.dir == m.root) c.place false) (children w m.id)
+may_go w m = list_all (λ c. option_map_or (λ p. p.dir == m.root) c.place false) (filter (stands_on m.id) w.forest)
 
 -- the named mount goes, and from each mount that its parent propagates to the mount at the same directory, if it may
 -- (`sharedsubtree`, unmount semantics)

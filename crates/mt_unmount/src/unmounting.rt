@@ -1,25 +1,26 @@
 //! Unmounts.
-ghost use Rattle.std.specs.Prelude.{◌≡◌, ◌≢◌, ◌++◌, ◌==◌, Ok, Err, IfOk, IfErr, OnOk, OnErr, IsOkUnless};
+ghost use Rattle.std.specs.Prelude.{◌≡◌, ◌≢◌, ◌++◌, ◌≤◌, length, Ok, Err, IfOk, IfErr, OnOk, OnErr, IsOkUnless};
 ghost use Rattle.std.specs.List.{list_any, filter_map};
-ghost use Rattle.mt_mounts.specs.Forest.{on};
+ghost use Rattle.mt_mounts.specs.Forest.{root_place, stands_on};
 ghost use Rattle.mt_skel.specs.Keyed.{among};
+ghost use Rattle.mt_peers.specs.Peers.{peering_of};
+ghost use Rattle.mt_peers.specs.WellFormed.{IsPeering};
 ghost use Rattle.mt_propagate.specs.World.{world_view};
 ghost use Rattle.mt_propagate.specs.WellFormed.{IsWellFormed};
 ghost use Rattle.mt_propagate.specs.Carried.{IsFree};
-ghost use Rattle.mt_unmount.specs.Unmounting.{place_of, stands_on, removed, unmounted};
-ghost use Rattle.mt_unmount.specs.Detaching.{is_in_dir, may_go_of, going_at, slide_past, slid_past, relocation_past, staying, detached};
+ghost use Rattle.mt_unmount.specs.Unmounting.{place_of, may_go, removed, unmounted};
+ghost use Rattle.mt_unmount.specs.Detaching.{AreRemoved, going_at, slide_past, slid_past, relocation_past, staying, detached};
 
+use crate::gone::Gone;
 use mt_mounts::forest::Forest;
-use mt_mounts::mount::{Mount, MountId, Place, SpaceId, standing_at};
+use mt_mounts::mount::{Mount, MountId, Place, SpaceId};
 use mt_propagate::carry::move_all;
 use mt_propagate::named::{is_mount_root, is_root_mount};
 use mt_propagate::receivers::receivers;
 use mt_propagate::world::World;
 use mt_skel::fault::Fault;
-use mt_skel::list::is_among;
 use mt_skel::name::Name;
 use mt_skel::skel::Dir;
-use std::alloc::Global;
 
 /// The place of a mount, if it is there and has one.
 fn place_of(world: &World, id: MountId) -> Option<Place>
@@ -28,51 +29,45 @@ fn place_of(world: &World, id: MountId) -> Option<Place>
     world.forest.get(id)?.place
 }
 
-fn stands_on(mount: &Mount, id: MountId) -> bool
-    ensures { result ≡ stands_on id mount.now }
+/// The place at the root of a mount.
+fn root_place(mount: &Mount) -> Place
+    ensures { result ≡ root_place mount.now }
 {
-    match mount.place {
-        Some(place) => place.mount == id,
-        None => false,
+    Place {
+        mount: mount.id,
+        dir: mount.root,
     }
 }
 
-/// Whether a mount stands at this directory, of whatever mount.
-fn is_in_dir(mount: &Mount, dir: Dir) -> bool
-    ensures { result ≡ is_in_dir dir mount.now }
+/// Whether a mount stands on this one.
+fn has_child(world: &World, id: MountId) -> bool
+    ensures { result ≡ list_any (stands_on id) world.now.forest.mounts }
 {
-    match mount.place {
-        Some(place) => place.dir == dir,
-        None => false,
-    }
+    world.forest.child_count(id) > 0
 }
 
-fn has_child(mounts: &[Mount], id: MountId) -> bool
-    ensures { result ≡ list_any (stands_on id) mounts.now }
+/// Whether a mount goes with one at the same directory: nothing stands on it, or one mount alone, at
+/// its root.
+fn may_go(world: &World, mount: &Mount) -> bool
+    requires well_formed { IsWellFormed (world_view world.now) }
+    ensures { result ≡ may_go (world_view world.now) mount.now }
 {
-    mounts.iter().any(|mount| stands_on(mount, id))
-}
-
-/// Whether a mount goes with one at the same directory: what stands on it stands at its root.
-fn may_go(mounts: &[Mount], mount: &Mount) -> bool
-    ensures { result ≡ may_go_of mounts.now mount.now }
-{
-    for child in mounts {
-        if stands_on(child, mount.id) && !is_in_dir(child, mount.root) {
-            return false;
-        }
+    let children = world.forest.child_count(mount.id);
+    if children > 1 {
+        return false;
     }
-    true
+    children == 0 || world.forest.standing_at(root_place(mount)).is_some()
 }
 
 /// Appends the mounts that go at these targets, each of which stands at this directory.
 fn push_going(
-    mounts: &[Mount],
+    world: &World,
     targets: &[MountId],
     dir: Dir,
     ids: &mut Vec<MountId>,
 ) -> Result<(), Fault>
-    ensures ids { OnOk result (ids.new.items ≡ ids.old.items ++ going_at mounts.now targets.now dir) }
+    requires well_formed { IsWellFormed (world_view world.now) }
+    ensures ids { OnOk result (ids.new.items ≡ ids.old.items ++ going_at (world_view world.now) targets.now dir) }
     ensures memory { IsOkUnless result Fault.NoMemory }
 {
     for target in targets {
@@ -80,8 +75,8 @@ fn push_going(
             mount: *target,
             dir,
         };
-        if let Some(mount) = standing_at(mounts, place) {
-            if may_go(mounts, &mount) {
+        if let Some(mount) = world.forest.standing_at(place) {
+            if may_go(world, &mount) {
                 ids.push(mount.id)?;
             }
         }
@@ -91,30 +86,35 @@ fn push_going(
 
 /// The mounts that go with one: it, and at each target of its place the mount at the same directory,
 /// if that may go.
-fn removed(
-    alloc: Global,
-    world: &World,
-    mounts: &[Mount],
-    id: MountId,
-) -> Result<Vec<MountId>, Fault>
-    requires { mounts.now ≡ world.now.forest.mounts }
+fn removed(world: &World, id: MountId) -> Result<Vec<MountId>, Fault>
+    requires well_formed { IsWellFormed (world_view world.now) }
     ensures removed { IfOk result (λ ids. ids.items ≡ removed (world_view world.now) id) }
     ensures memory { IsOkUnless result Fault.NoMemory }
 {
-    let mut ids = Vec::new(alloc);
+    let mut ids = Vec::new(world.forest.allocator());
     ids.push(id)?;
     if let Some(place) = place_of(world, id) {
         let targets = receivers(world, place)?;
-        push_going(mounts, &targets, place.dir, &mut ids)?;
+        push_going(world, &targets, place.dir, &mut ids)?;
     }
     Ok(ids)
 }
 
-/// Where a place on a mount that goes leads: to that mount's place.
-fn slide(world: &World, ids: &[MountId], place: Place) -> Option<Place>
-    ensures { result ≡ slide_past (world_view world.now) ids.now place }
+/// The same mounts, each once.
+fn gone(world: &World, id: MountId) -> Result<Gone, Fault>
+    requires well_formed { IsWellFormed (world_view world.now) }
+    ensures gone { IfOk result (AreRemoved (world_view world.now) id) }
+    ensures memory { IsOkUnless result Fault.NoMemory }
 {
-    if is_among(ids, place.mount) {
+    let ids = removed(world, id)?;
+    Ok(Gone::new(ids))
+}
+
+/// Where a place on a mount that goes leads: to that mount's place.
+fn slide(world: &World, gone: &Gone, place: Place) -> Option<Place>
+    ensures { result ≡ slide_past (world_view world.now) (among gone.now) place }
+{
+    if gone.has(place.mount) {
         place_of(world, place.mount)
     } else {
         None
@@ -122,12 +122,12 @@ fn slide(world: &World, ids: &[MountId], place: Place) -> Option<Place>
 }
 
 /// Where a mount of this place comes to stand: it slides on while the mount under it goes.
-fn slid(world: &World, ids: &[MountId], place: Place) -> Place
-    ensures { result ≡ slid_past (world_view world.now) ids.now place }
+fn slid(world: &World, gone: &Gone, place: Place) -> Place
+    ensures { result ≡ slid_past (world_view world.now) (among gone.now) place }
 {
     let mut here = place;
     'sliding: for _step in 0..world.forest.len() {
-        let Some(next) = slide(world, ids, here) else {
+        let Some(next) = slide(world, gone, here) else {
             return here;
         };
         here = next;
@@ -135,52 +135,65 @@ fn slid(world: &World, ids: &[MountId], place: Place) -> Place
     here
 }
 
-/// A mount that stays and stands on one that goes, and its new place.
-fn relocation(world: &World, ids: &[MountId], mount: &Mount) -> Option<(MountId, Place)>
-    ensures { result ≡ relocation_past (world_view world.now) ids.now mount.now }
+/// The mount that stands at the root of one that goes, if it stays, and its new place.
+fn relocation(world: &World, gone: &Gone, id: MountId) -> Option<(MountId, Place)>
+    ensures { result ≡ relocation_past (world_view world.now) (among gone.now) id }
 {
-    let place = mount.place?;
-    if is_among(ids, mount.id) || !is_among(ids, place.mount) {
+    let place = root_place(&world.forest.get(id)?);
+    let child = world.forest.standing_at(place)?;
+    if gone.has(child.id) {
         return None;
     }
-    Some((mount.id, slid(world, ids, place)))
+    Some((child.id, slid(world, gone, place)))
 }
 
-/// All mounts that stay and stand on one that goes, and their new places.
-fn relocations(
-    alloc: Global,
-    world: &World,
-    ids: &[MountId],
-    mounts: &[Mount],
-) -> Result<Vec<(MountId, Place)>, Fault>
-    ensures relocations { IfOk result (λ relocations. relocations.items ≡ filter_map (relocation_past (world_view world.now) ids.now) mounts.now) }
+/// All mounts that stay and stand at the root of one that goes, and their new places.
+fn relocations(world: &World, gone: &Gone) -> Result<Vec<(MountId, Place)>, Fault>
+    ensures relocations { IfOk result (λ relocations. relocations.items ≡ filter_map (relocation_past (world_view world.now) (among gone.now)) gone.now) }
     ensures memory { IsOkUnless result Fault.NoMemory }
 {
-    let mut relocations = Vec::new(alloc);
-    for mount in mounts {
-        if let Some(relocation) = relocation(world, ids, mount) {
+    let ids = gone.ids();
+    let mut relocations = Vec::new(world.forest.allocator());
+    for id in ids {
+        if let Some(relocation) = relocation(world, gone, *id) {
             relocations.push(relocation)?;
         }
     }
     Ok(relocations)
 }
 
+/// Makes room to move so many mounts and to change the states of all, and changes nothing. Refused as
+/// `NoMemory` alone.
+fn make_room(world: &mut World, moves: usize) -> Result<(), Fault>
+    ensures moves { OnOk result (moves ≤ world.new.forest.room) }
+    ensures states { OnOk result (length world.new.peers.peers ≤ world.new.peers.room) }
+    ensures memory { IsOkUnless result Fault.NoMemory }
+    ensures world { world_view world.new ≡ world_view world.old }
+{
+    world.forest.reserve(moves)?;
+    world.reserve_states()
+}
+
 /// Takes these mounts away, one after the other.
 fn remove_all(forest: &mut Forest, ids: &[MountId])
-    ensures { forest.new.mounts ≡ staying ids.now forest.old.mounts }
+    ensures mounts { forest.new.mounts ≡ staying ids.now forest.old.mounts }
+    ensures room { forest.old.room ≤ forest.new.room }
 {
     for id in ids {
         forest.remove(*id);
     }
 }
 
-/// Takes these mounts away, and moves others to the places that get free.
-fn detach(world: &mut World, ids: &[MountId], relocations: &[(MountId, Place)])
-    requires { IsFree relocations.now (staying ids.now world.old.forest.mounts) }
-    ensures { world_view world.new ≡ detached ids.now relocations.now (world_view world.old) }
+/// Takes these mounts away, and moves others to the places that get free. [`make_room`] has made room.
+fn detach(world: &mut World, gone: &Gone, relocations: &[(MountId, Place)])
+    requires order { IsPeering (peering_of world.old.peers) }
+    requires states { length world.old.peers.peers ≤ world.old.peers.room }
+    requires moves { length relocations.now ≤ world.old.forest.room }
+    requires free { IsFree relocations.now (staying gone.now world.old.forest.mounts) }
+    ensures { world_view world.new ≡ detached gone.now relocations.now (world_view world.old) }
 {
-    remove_all(&mut world.forest, ids);
-    world.peers.leave_all(ids);
+    remove_all(&mut world.forest, gone.ids());
+    world.peers.leave_in_order(gone.ids());
     move_all(&mut world.forest, relocations);
 }
 
@@ -205,13 +218,12 @@ pub fn unmount(world: &mut World, space: SpaceId, path: &[Name]) -> Result<(), F
     if is_root_mount(world, place) {
         return Err(Fault::RootPlace);
     }
-    let mounts = world.forest.mounts()?;
-    if has_child(&mounts, place.mount) {
+    if has_child(world, place.mount) {
         return Err(Fault::Busy);
     }
-    let alloc = *mounts.allocator();
-    let ids = removed(alloc, world, &mounts, place.mount)?;
-    let relocations = relocations(alloc, world, &ids, &mounts)?;
-    detach(world, &ids, &relocations);
+    let gone = gone(world, place.mount)?;
+    let relocations = relocations(world, &gone)?;
+    make_room(world, relocations.len())?;
+    detach(world, &gone, &relocations);
     Ok(())
 }

@@ -1,6 +1,6 @@
 use Rattle.std.proofs.Common.{ap, ◌∙◌}
 use Rattle.mt_propagate.specs.World.{world_view}
-use Rattle.mt_propagate.specs.Planned.{stands, groups_at, keys_of, needed_at, with_keys}
+use Rattle.mt_propagate.specs.Planned.{stands, groups_at, needed_at, with_keys}
 use Rattle.mt_propagate.proofs.PlansLaws.{keys-step}
 use Rattle.mt_propagate.proofs.groups.new_keys.Goals as goal
 
@@ -10,5 +10,5 @@ loop-target-preserved c =
     let home = c.args.standing.now.home in
     let p = stands c.args.standing.now in
     let ms = c.args.mounts.now in
-    keys-step w home (λ t. needed_at w home (groups_at w home p t) ms) c.args.targets.now c.loop-target.target-index 0 (keys_of c.loop-target.keys.items) (keys_of c.add_keys_at.new.keys.items) _ c.loop-target-test.true
-    c.loop-target.invariant (c.in_ok-add_keys_at.ensures.keys ∙ ap (λ g. with_keys w home (keys_of c.loop-target.keys.items) (needed_at w home g ms)) c.groups_at-groups.ensures)
+    keys-step w home (λ t. needed_at w home (groups_at w home p t) ms) c.args.targets.now c.loop-target.target-index 0 c.loop-target.keys c.add_keys_at.new.keys _ c.loop-target-test.true
+    c.loop-target.invariant (c.in_ok-add_keys_at.ensures.keys ∙ ap (λ g. with_keys w home c.loop-target.keys (needed_at w home g ms)) c.groups_at-groups.ensures)

@@ -2,9 +2,9 @@ use Rattle.std.proofs.Common.{◌≡◌, ℕ, ◌+◌, ◌≤◌, ◌<◌, ◌==
 use Rattle.std.specs.List.{filter_map}
 use Rattle.mt_peers.specs.Peers.{slaves}
 use Rattle.mt_peers.specs.Members.{group_at}
-use Rattle.mt_peers.specs.Counted.{occ}
+use Rattle.mt_skel.specs.Counted.{occ}
 use Rattle.mt_peers.specs.Entered.{collected, other_at}
-use Rattle.mt_peers.proofs.CountLaws.{count-append}
+use Rattle.mt_skel.proofs.CountLaws.{count-append}
 use Rattle.mt_peers.proofs.WorklistLaws.{IsWorklist, worklist-start}
 use Rattle.mt_peers.proofs.VisitLaws.{start-led, start-occ, visit-bound, visit-next, visit-occ, visit-room, visit-led, visited-led, visited-occ}
 use Rattle.mt_propagate.specs.World.{world_view}

@@ -1,5 +1,5 @@
 use Rattle.std.proofs.Common.{◌≡◌, ℕ, suc, ◌+◌, ◌-◌, ◌&&◌, take, length}
-use Rattle.mt_peers.specs.Counted.{count, occ}
+use Rattle.mt_skel.specs.Counted.{count, occ}
 use Rattle.mt_peers.specs.Entered.{other_at}
 use Rattle.mt_peers.proofs.WorklistLaws.{IsWorklist, led_by}
 use Rattle.mt_propagate.specs.World.{world_view}

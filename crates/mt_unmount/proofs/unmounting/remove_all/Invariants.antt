@@ -1,7 +1,10 @@
-use Rattle.std.proofs.Common.{◌≡◌, drop}
+use Rattle.std.proofs.Common.{◌≡◌, ◌≤◌, drop}
 use Rattle.mt_unmount.specs.Detaching.{staying}
 use Rattle.mt_unmount.proofs.unmounting.remove_all.Given as goal
 
 -- what is left to be taken away
 abbrev pub invariant-loop-id : goal.invariant-loop-id
-invariant-loop-id l = staying (drop l.id-index l.ids) l.forest.mounts ≡ staying l.ids l.initial.forest.mounts
+invariant-loop-id l = record {
+  left : staying (drop l.id-index l.ids) l.forest.mounts ≡ staying l.ids l.initial.forest.mounts;
+  room : l.initial.forest.room ≤ l.forest.room;
+}

@@ -1,4 +1,5 @@
 use Rattle.std.proofs.Common.{◌<◌, ap, ◌∙◌, sym, arith, length, ◌+◌, ◌-◌}
+use Rattle.mt_skel.specs.Keyed.{among}
 use Rattle.mt_skel.specs.Chain.{follow}
 use Rattle.mt_skel.proofs.ChainLaws.{follow-step}
 use Rattle.mt_mounts.proofs.Walks.{fuel_step}
@@ -9,13 +10,13 @@ use Rattle.mt_unmount.proofs.unmounting.slid.Goals as goal
 pub sliding-preserved : goal.sliding-preserved
 sliding-preserved c =
     let w = world_view c.args.world.now in
-    let ids = c.args.ids.now in
+    let goes = among c.args.gone.now in
     let n = length w.forest in
     let more : c.sliding._step < n = omega (arith, c.sliding-test.true, c.len-step-end.ensures) in
     let next = sym c.slide.ensures ∙ c.in-Some.is in
     record {
       within = omega arith;
-      leads = sym (follow-step (slide_past w ids) (n - (c.sliding._step + 1)) c.sliding.here c.in-Some.next next)
-          ∙ ap (λ k. follow (slide_past w ids) k c.sliding.here) (sym (fuel_step n c.sliding._step more))
+      leads = sym (follow-step (slide_past w goes) (n - (c.sliding._step + 1)) c.sliding.here c.in-Some.next next)
+          ∙ ap (λ k. follow (slide_past w goes) k c.sliding.here) (sym (fuel_step n c.sliding._step more))
           ∙ c.sliding.invariant.leads;
     }

@@ -1,12 +1,7 @@
-use Rattle.std.proofs.Common.{ap, ◌∙◌}
-use Rattle.mt_mounts.proofs.ForestLaws.{table_same, forest_same}
-use Rattle.mt_mounts.proofs.ForestLaws.{slots_same}
+use Rattle.mt_mounts.proofs.KeptLaws.{forest_copied}
 use Rattle.mt_mounts.proofs.forest.Forest.copy.Goals as goal
 
 pub invariant_of-result : goal.invariant_of-result
 invariant_of-result c =
-    forest_same c.self.inside.slots c.in_ok-clone.field-0 (slots_same _ (λ x y e. e) _ _ c.in_ok-clone.ensures.cases.slots) c.self.invariant
-
-pub returns-clause-copy : goal.returns-clause-copy
-returns-clause-copy c =
-    table_same c.self.inside.slots c.in_ok-clone.field-0 (slots_same _ (λ x y e. e) _ _ c.in_ok-clone.ensures.cases.slots) ∙ ap (λ t. t.mounts) c.self.view_is
+    forest_copied c.self.inside.table.mounts c.self.inside.indexes c.in_ok-copy-2.field-0 c.in_ok-copy.field-0.mounts c.in_ok-copy.ensures.copy
+    (c.in_ok-copy-2.ensures.copy c.self.inside.table.mounts c.self.invariant.indexed) c.self.invariant

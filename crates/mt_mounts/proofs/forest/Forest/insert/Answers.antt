@@ -1,17 +1,11 @@
-use Rattle.std.proofs.Common.{ap, ◌∙◌}
-use Rattle.mt_skel.specs.Keyed.{put}
-use Rattle.mt_mounts.specs.Forest.{id_of}
-use Rattle.mt_mounts.proofs.ForestLaws.{table_inserted, forest_inserted}
+use Rattle.std.proofs.Common.{ap}
+use Rattle.mt_mounts.proofs.KeptLaws.{forest_put}
 use Rattle.mt_mounts.proofs.forest.Forest.insert.Goals as goal
 
 pub invariant_of-self : goal.invariant_of-self
 invariant_of-self c =
-    let e = ap (λ t. t.mounts) c.self.view_is in
-    forest_inserted c.self.inside.slots _ _ c.self.invariant c.args.mount c.insert_reserved.ensures.was_vacant c.insert_reserved.ensures.updates
-    (rw e c.requires.absent) (rw e c.requires.free) (rw e c.requires.rootless)
-
-pub returns-clause-mounts : goal.returns-clause-mounts
-returns-clause-mounts c =
-    let e = ap (λ t. t.mounts) c.self.view_is in
-    table_inserted c.self.inside.slots _ _ c.self.invariant c.args.mount c.insert_reserved.ensures.was_vacant c.insert_reserved.ensures.updates (rw e c.requires.absent)
-    ∙ ap (put id_of c.args.mount) e
+    let e = ap (λ f. f.mounts) c.self.view_is in
+    let f = c.self.invariant in
+    forest_put c.self.inside.table.mounts c.self.inside.indexes c.insert.new.self f c.insert-2.new.self.mounts c.args.mount c.insert-2.ensures.mounts
+    (rw e c.requires.free) (rw e c.requires.rootless)
+    (c.insert.ensures.indexed c.self.inside.table.mounts f.rising f.single (rw e c.requires.absent) (rw e c.requires.free) f.indexed)

@@ -1,21 +1,26 @@
-use Rattle.std.proofs.Common.{ap, ◌∙◌, sym}
-use Rattle.mt_mounts.specs.Forest.{on}
+use Rattle.std.proofs.Common.{ap, sym, ◌∙◌, refl}
+use Rattle.mt_mounts.specs.Forest.{mount_at}
 use Rattle.mt_mounts.specs.ForestView.{with_place}
-use Rattle.mt_mounts.proofs.ChangeLaws.{place_absent, forest_place, place_written}
+use Rattle.mt_mounts.proofs.ForestLaws.{map_none}
+use Rattle.mt_mounts.proofs.ChangeLaws.{place_of, place_other}
+use Rattle.mt_mounts.proofs.KeptLaws.{forest_moved, mount_fits}
 use Rattle.mt_mounts.proofs.forest.Forest.reattach.Goals as goal
 
 pub invariant_of-self : goal.invariant_of-self
 invariant_of-self c =
-    forest_place c.self.inside.slots c.in-Some.key c.self.invariant c.in-Some-get_mut.mount.now (sym c.in-Some-get_mut.ensures.value)
-    c.args.place (ap (λ t. on t.mounts c.args.place) c.self.view_is ∙ c.requires.free)
+    let e = ap (λ f. f.mounts) c.self.view_is in
+    let f = c.self.invariant in
+    let there = sym c.in-Some.ensures in
+    let fits = mount_fits c.self.inside.table.mounts c.args.id c.in-Some.mount there in
+    let at_id = ap (mount_at c.self.inside.table.mounts) fits ∙ there in
+    forest_moved c.self.inside.table.mounts c.self.inside.indexes c.set_place.new.self f c.set_place-in-Some.new.self.mounts c.in-Some.mount c.args.place at_id
+    (rw e c.requires.free)
+    (c.set_place-in-Some.ensures.mounts ∙ ap (λ i. with_place i c.args.place c.self.inside.table.mounts) (sym fits))
+    (c.set_place.ensures.indexed c.self.inside.table.mounts f.rising f.single at_id (rw e c.requires.free) f.indexed)
 
 pub returns-in_default-clause-mounts : goal.returns-in_default-clause-mounts
 returns-in_default-clause-mounts c =
-    let e = ap (λ t. t.mounts) c.self.view_is in
-    sym e ∙ place_absent c.self.inside.slots c.args.id c.in_default.ensures.absent c.args.place ∙ ap (with_place c.args.id c.args.place) e
-
-pub returns-in-Some-get_mut-clause-mounts : goal.returns-in-Some-get_mut-clause-mounts
-returns-in-Some-get_mut-clause-mounts c =
-    place_written c.self.inside.slots c.in-Some.key c.self.invariant c.in-Some-get_mut.mount.now (sym c.in-Some-get_mut.ensures.value)
-    c.args.id c.in-Some.ensures.found c.args.place
-    ∙ ap (λ t. with_place c.args.id c.args.place t.mounts) c.self.view_is
+    let e = ap (λ f. f.mounts) c.self.view_is in
+    sym e
+    ∙ map_none (place_of c.args.id c.args.place) (λ x. refl) c.args.id (place_other c.args.id c.args.place) c.self.inside.table.mounts c.self.invariant.rising (sym c.in_default.ensures)
+    ∙ ap (with_place c.args.id c.args.place) e

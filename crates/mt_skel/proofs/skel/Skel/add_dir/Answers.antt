@@ -9,13 +9,13 @@ use Rattle.mt_skel.proofs.skel.Skel.add_dir.Goals.{then-path-gt-MOST_DEPTH-via-t
 pub returns-in_default-split_last-clause-refused :
     goal.returns-in_default-split_last-clause-refused
 returns-in_default-split_last-clause-refused c =
-    let sound : IsSkeleton c.args.self.now = rw (← c.self.view_is) c.self.invariant.skeleton in
+    let sound : IsSkeleton c.args.self.now = rw (← c.self.view_is) c.self.invariant.laid_out.skeleton in
     λ _. root_exists c.args.self.now sound c.args.fs.now c.args.path.now c.in-Some.fs (sym c.in-Some.ensures.number) c.in_default-split_last.ensures.cases c.in-Some.ensures.there
 
 pub returns-then-is_some-clause-refused : goal.returns-then-is_some-clause-refused
 returns-then-is_some-clause-refused c =
     let s = c.args.self.now in
-    let sound : IsSkeleton s = rw (← c.self.view_is) c.self.invariant.skeleton in
+    let sound : IsSkeleton s = rw (← c.self.view_is) c.self.invariant.laid_out.skeleton in
     let last = c.in-Some-split_last.name.now in
     let front = c.in-Some-split_last.above.now in
     let parent = c.in-Some-find.parent in
@@ -26,7 +26,7 @@ pub returns-then-path-gt-MOST_DEPTH-clause-refused :
     goal.returns-then-path-gt-MOST_DEPTH-clause-refused
 returns-then-path-gt-MOST_DEPTH-clause-refused c =
     let s = c.args.self.now in
-    let sound : IsSkeleton s = rw (← c.self.view_is) c.self.invariant.skeleton in
+    let sound : IsSkeleton s = rw (← c.self.view_is) c.self.invariant.laid_out.skeleton in
     let last = c.in-Some-split_last.name.now in
     let front = c.in-Some-split_last.above.now in
     let parent = c.in-Some-find.parent in
@@ -39,18 +39,18 @@ returns-then-path-gt-MOST_DEPTH-clause-refused c =
 
 pub push_node-requires-clause-there : goal.push_node-requires-clause-there
 push_node-requires-clause-there c =
-    let sound : IsSkeleton c.args.self.now = rw (← c.self.view_is) c.self.invariant.skeleton in
+    let sound : IsSkeleton c.args.self.now = rw (← c.self.view_is) c.self.invariant.laid_out.skeleton in
     parent_there c.args.self.now sound c.args.fs.now c.args.path.now c.in-Some.fs (sym c.in-Some.ensures.number) c.in-Some-split_last.above.now c.in-Some-split_last.name.now c.in-Some-find.parent c.in-Some-split_last.ensures.cases.0 (sym c.in-Some-find.ensures)
 
 pub push_node-requires-clause-same : goal.push_node-requires-clause-same
 push_node-requires-clause-same c =
-    let sound : IsSkeleton c.args.self.now = rw (← c.self.view_is) c.self.invariant.skeleton in
+    let sound : IsSkeleton c.args.self.now = rw (← c.self.view_is) c.self.invariant.laid_out.skeleton in
     ap (λ d. d.fs) (sym (parent_at c.args.self.now sound c.args.fs.now c.args.path.now c.in-Some.fs (sym c.in-Some.ensures.number) c.in-Some-split_last.above.now c.in-Some-split_last.name.now c.in-Some-find.parent c.in-Some-split_last.ensures.cases.0 (sym c.in-Some-find.ensures)))
 
 pub returns-clause-done : goal.returns-clause-done
 returns-clause-done c =
     let s = c.args.self.now in
-    let sound : IsSkeleton s = rw (← c.self.view_is) c.self.invariant.skeleton in
+    let sound : IsSkeleton s = rw (← c.self.view_is) c.self.invariant.laid_out.skeleton in
     let last = c.in-Some-split_last.name.now in
     let front = c.in-Some-split_last.above.now in
     let parent = c.in-Some-find.parent in

@@ -6,7 +6,8 @@ use Rattle.mt_skel.specs.Skeleton.{Filesystem as Shown, fs_named, with_fs}
 use Rattle.mt_skel.specs.Nodes.{shown_fs, skeleton_of}
 use Rattle.mt_skel.proofs.AddedLaws.{none_tested, many_fs, fs_added}
 use Rattle.mt_skel.proofs.NodeLaws.{length-dirs_of}
-use Rattle.mt_skel.proofs.GrowthLaws.{fs_view, fs_laid_out}
+use Rattle.mt_skel.proofs.GrowthLaws.{fs_view}
+use Rattle.mt_skel.proofs.IndexLaws.{kept_fs}
 use Rattle.mt_skel.proofs.skel.Skel.add_fs.Goals as goal
 use Rattle.mt_skel.proofs.skel.Skel.add_fs.Goals.{then-len-ge-MOST_FILESYSTEMS-via-then-len-ge-MOST_FILESYSTEMS, then-len-ge-MOST_FILESYSTEMS-via-else-len-ge-MOST_FILESYSTEMS+then-len-ge-MOST_DIRECTORIES}
 
@@ -33,7 +34,7 @@ invariant_of-self-2 c =
     let free : fs_named c.args.self.now c.args.name ≡ None = none_tested c.fs.result (fs_named c.args.self.now c.args.name) c.is_some.result c.is_some.ensures c.if-is_some.false c.fs.ensures.number in
     let root : c.len-root.result ≡ length ns = omega (arith, c.len-root.ensures, c.in_ok-reserve.ensures.len, c.self.inside.nodes.ok) in
     let next : c.len-2.result + 1 ≡ length fs + 1 = omega (arith, c.len-2.ensures, c.in_ok-reserve-2.ensures.len, c.self.inside.filesystems.ok) in
-    rw (a, b) (fs_laid_out fs ns c.self.invariant f (c.len-2.result + 1) root next (ap (λ v. fs_named v c.args.name) c.self.view_is ∙ free))
+    rw (a, b) (kept_fs fs ns c.self.inside.children c.push_root.new.self c.self.invariant f (c.len-2.result + 1) root next (ap (λ v. fs_named v c.args.name) c.self.view_is ∙ free) c.in_ok-push_root.ensures.length c.in_ok-push_root.ensures.child)
 
 pub returns-clause-done : goal.returns-clause-done
 returns-clause-done c =
@@ -49,7 +50,7 @@ returns-clause-done c =
     let next : c.len-2.result + 1 ≡ length fs + 1 = omega (arith, c.len-2.ensures, c.in_ok-reserve-2.ensures.len, c.self.inside.filesystems.ok) in
     let few_fs : length c.args.self.now.filesystems < 256 = omega (arith, c.if-len-ge-MOST_FILESYSTEMS.false, c.len.ensures, c.self.inside.filesystems.ok, length-map fs shown_fs, ap (λ v. length v.filesystems) c.self.view_is) in
     let few_dirs : length c.args.self.now.directories < 16384 = omega (arith, c.if-len-ge-MOST_DIRECTORIES.false, c.len-else-len-ge-MOST_FILESYSTEMS.ensures, c.self.inside.nodes.ok, length-dirs_of ns, ap (λ v. length v.directories) c.self.view_is) in
-    let view : skeleton_of c.push-2.new.self.items c.push.new.self.items ≡ with_fs c.args.self.now new = rw (a, b, ← c.self.view_is) (fs_view fs ns c.self.invariant f (c.len-2.result + 1) root next) in (
+    let view : skeleton_of c.push-2.new.self.items c.push.new.self.items ≡ with_fs c.args.self.now new = rw (a, b, ← c.self.view_is) (fs_view fs ns c.self.invariant.laid_out f (c.len-2.result + 1) root next) in (
       fs_added c.args.self.now new free few_fs few_dirs ∙ ap (λ v. Ok v) (sym view),
       omega (arith, next, ap length b, length_push fs f, length-map c.push-2.new.self.items shown_fs),
     )

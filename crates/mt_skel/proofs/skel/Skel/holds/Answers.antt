@@ -16,23 +16,23 @@ returns-in-None c =
     let fs = c.self.inside.filesystems.items in
     let ns = c.self.inside.nodes.items in
     let at = slice_get_read ns (length ns) c.up.here c.index.result.now refl c.up.invariant.there c.index.ensures in
-    sym (holds_end fs ns c.self.invariant c.args.outer c.up.here c.index.result.now at c.in-None.is c.up-test.true) ∙ c.up.invariant.same ∙ ap (λ v. holds v c.args.outer c.args.inner) c.self.view_is
+    sym (holds_end fs ns c.self.invariant.laid_out c.args.outer c.up.here c.index.result.now at c.in-None.is c.up-test.true) ∙ c.up.invariant.same ∙ ap (λ v. holds v c.args.outer c.args.inner) c.self.view_is
 
 pub up-smaller : goal.up-smaller
 up-smaller c =
     let ns = c.self.inside.nodes.items in
     let at = slice_get_read ns (length ns) c.up.here c.index.result.now refl c.up.invariant.there c.index.ensures in
-    c.self.invariant.before c.up.here c.index.result.now c.in-Some.link at c.in-Some.is
+    c.self.invariant.laid_out.before c.up.here c.index.result.now c.in-Some.link at c.in-Some.is
 
 pub up-preserved : goal.up-preserved
 up-preserved c =
     let fs = c.self.inside.filesystems.items in
     let ns = c.self.inside.nodes.items in
     let at = slice_get_read ns (length ns) c.up.here c.index.result.now refl c.up.invariant.there c.index.ensures in
-    let lt = c.self.invariant.before c.up.here c.index.result.now c.in-Some.link at c.in-Some.is in
+    let lt = c.self.invariant.laid_out.before c.up.here c.index.result.now c.in-Some.link at c.in-Some.is in
     record {
       there = omega (arith, c.up.invariant.there);
-      same = holds_parent fs ns c.self.invariant c.args.outer c.up.here c.index.result.now c.in-Some.link at c.in-Some.is c.up-test.true ∙ c.up.invariant.same;
+      same = holds_parent fs ns c.self.invariant.laid_out c.args.outer c.up.here c.index.result.now c.in-Some.link at c.in-Some.is c.up-test.true ∙ c.up.invariant.same;
     }
 
 pub returns : goal.returns

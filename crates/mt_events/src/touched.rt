@@ -1,0 +1,152 @@
+//! What changed in the table of a namespace, from the mounts that a change touched.
+ghost use Rattle.std.specs.Prelude.{◌≡◌, not, ◌&&◌, false, IfOk, IfSome, IsOkUnless, IsTrue};
+ghost use Rattle.std.specs.List.{filter};
+ghost use Rattle.mt_skel.specs.Keyed.{rises, row_at, has};
+ghost use Rattle.mt_propagate.specs.World.{world_view};
+ghost use Rattle.mt_propagate.specs.WellFormed.{IsWellFormed};
+ghost use Rattle.mt_info.specs.Table.{row_id, table_of};
+ghost use Rattle.mt_events.specs.Difference.{difference, is_empty, some_change, HoldsChanged};
+ghost use Rattle.mt_events.specs.Posts.{itself, is_change};
+ghost use Rattle.mt_events.specs.ByMount.{collected, new_row};
+
+use crate::change::some_change;
+use crate::post::{Delta, Ids, Rows};
+use mt_info::row::Row;
+use mt_info::table::row_of;
+use mt_mounts::mount::{MountId, SpaceId};
+use mt_propagate::world::World;
+use mt_skel::fault::Fault;
+
+/// Whether a mount is in a namespace.
+fn is_in(world: &World, space: SpaceId, id: MountId) -> bool
+    requires well_formed { IsWellFormed (world_view world.now) }
+    ensures { result ≡ has row_id id (table_of (world_view world.now) space) }
+{
+    match world.forest.get(id) {
+        Some(mount) => mount.space == space,
+        None => false,
+    }
+}
+
+/// The row of a mount in the table of a namespace, or `None` exactly where it is not in there. Refused as `NoMemory`
+/// alone.
+fn row_in(world: &World, space: SpaceId, id: MountId) -> Result<Option<Row>, Fault>
+    requires well_formed { IsWellFormed (world_view world.now) }
+    ensures row { IfOk result (λ row. row ≡ row_at row_id id (table_of (world_view world.now) space)) }
+    ensures memory { IsOkUnless result Fault.NoMemory }
+{
+    let Some(mount) = world.forest.get(id) else {
+        return Ok(None);
+    };
+    if mount.space != space {
+        return Ok(None);
+    }
+    Ok(Some(row_of(world, id)?))
+}
+
+/// The row of a mount after, or `None` exactly where it is not there or as it was. Refused as `NoMemory` alone.
+fn new_row(before: &World, after: &World, space: SpaceId, id: MountId) -> Result<Option<Row>, Fault>
+    requires before { IsWellFormed (world_view before.now) }
+    requires after { IsWellFormed (world_view after.now) }
+    ensures row { IfOk result (λ row. row ≡ new_row (table_of (world_view before.now) space) (table_of (world_view after.now) space) id) }
+    ensures memory { IsOkUnless result Fault.NoMemory }
+{
+    let Some(row) = row_in(after, space, id)? else {
+        return Ok(None);
+    };
+    let Some(old) = row_in(before, space, id)? else {
+        return Ok(Some(row));
+    };
+    if old.same(&row) {
+        return Ok(None);
+    }
+    Ok(Some(row))
+}
+
+/// Those of the mounts touched that are in the namespace before and not after.
+fn gone(
+    before: &World,
+    after: &World,
+    space: SpaceId,
+    touched: &[MountId],
+) -> Result<Vec<MountId>, Fault>
+    requires before { IsWellFormed (world_view before.now) }
+    requires after { IsWellFormed (world_view after.now) }
+    ensures gone { IfOk result (λ ids. ids.items ≡ filter (λ i. has row_id i (table_of (world_view before.now) space) && not (has row_id i (table_of (world_view after.now) space))) touched.now) }
+    ensures memory { IsOkUnless result Fault.NoMemory }
+{
+    let mut ids = Vec::new(before.forest.allocator());
+    'mounts: for id in touched {
+        if is_in(before, space, *id) && !is_in(after, space, *id) {
+            ids.push(*id)?;
+        }
+    }
+    Ok(ids)
+}
+
+/// The rows after of the mounts touched that are new or not as they were.
+fn new_rows(
+    before: &World,
+    after: &World,
+    space: SpaceId,
+    touched: &[MountId],
+) -> Result<Vec<Row>, Fault>
+    requires before { IsWellFormed (world_view before.now) }
+    requires after { IsWellFormed (world_view after.now) }
+    ensures rows { IfOk result (λ rows. rows.items ≡ collected (new_row (table_of (world_view before.now) space) (table_of (world_view after.now) space)) touched.now) }
+    ensures memory { IsOkUnless result Fault.NoMemory }
+{
+    let mut rows = Vec::new(after.forest.allocator());
+    'mounts: for id in touched {
+        if let Some(row) = new_row(before, after, space, *id)? {
+            rows.push(row)?;
+        }
+    }
+    Ok(rows)
+}
+
+/// The difference of the tables of a namespace, empty or not.
+fn delta_of(
+    before: &World,
+    after: &World,
+    space: SpaceId,
+    touched: &[MountId],
+) -> Result<Delta, Fault>
+    requires before { IsWellFormed (world_view before.now) }
+    requires after { IsWellFormed (world_view after.now) }
+    requires rising { IsTrue (rises itself touched.now) }
+    requires touched { HoldsChanged (table_of (world_view before.now) space) (table_of (world_view after.now) space) touched.now }
+    ensures delta { IfOk result (λ delta. delta ≡ difference (table_of (world_view before.now) space) (table_of (world_view after.now) space)) }
+    ensures told { IfOk result (λ delta. is_empty delta ≡ false → IsTrue (is_change delta.gone delta.rows)) }
+    ensures memory { IsOkUnless result Fault.NoMemory }
+{
+    let ids = gone(before, after, space, touched)?;
+    let rows = new_rows(before, after, space, touched)?;
+    Ok(Delta {
+        gone: Ids::new(ids),
+        rows: Rows::new(rows),
+    })
+}
+
+/// What changed in the table of a namespace from one world to another, or `None` exactly where it is the same table.
+/// `touched` has, by rising ID, every mount whose row changed, and may have more; no other mount is looked at. A namespace
+/// that is not there counts as the empty table. Where something changed, it can be told by a post (`Post::telling`).
+///
+/// Refused as `NoMemory` alone.
+pub fn change_of(
+    before: &World,
+    after: &World,
+    space: SpaceId,
+    touched: &[MountId],
+) -> Result<Option<Delta>, Fault>
+    requires before { IsWellFormed (world_view before.now) }
+    requires after { IsWellFormed (world_view after.now) }
+    requires rising { IsTrue (rises itself touched.now) }
+    requires touched { HoldsChanged (table_of (world_view before.now) space) (table_of (world_view after.now) space) touched.now }
+    ensures change { IfOk result (λ change. change ≡ some_change (difference (table_of (world_view before.now) space) (table_of (world_view after.now) space))) }
+    ensures told { IfOk result (λ change. IfSome change (λ delta. IsTrue (is_change delta.gone delta.rows))) }
+    ensures memory { IsOkUnless result Fault.NoMemory }
+{
+    let delta = delta_of(before, after, space, touched)?;
+    Ok(some_change(delta))
+}

@@ -1,0 +1,155 @@
+-- The indexes once a mount has come, has gone or was changed, and what they answer.
+use Rattle.std.proofs.Common.{◌≡◌, ◌≢◌, ℕ, Bool, true, false, cond, eqb, eq-eqb, List, Option, Some, None, refl, sym, ap, ◌∙◌, arith}
+use Rattle.std.specs.Map.{lookup}
+use Rattle.std.specs.Option.{option_map, option_map_or, ForSome, is_none}
+use Rattle.std.proofs.lemmas.Bool.{ne_eqb}
+use Rattle.std.proofs.lemmas.Bool.Decides.{nat_tests}
+use Rattle.indexmap.specs.IndexMap.{get}
+use Rattle.mt_skel.specs.Keyed.{row_at, put, rises}
+use Rattle.mt_skel.proofs.KeyedLaws.{row_at-key}
+use Rattle.mt_lists.specs.Lists.{with_number, without_id as without_row}
+use Rattle.mt_lists.specs.Numbered.{rows_by}
+use Rattle.mt_lists.proofs.NumberedLaws.{put-by, without-by, change-by, same-by}
+use Rattle.mt_mounts.specs.declared.mount.Place.{Place}
+use Rattle.mt_mounts.specs.declared.mount.Mount.{Mount}
+use Rattle.mt_mounts.specs.declared.mount.Attrs.{Attrs}
+use Rattle.mt_mounts.specs.declared.indexes.Indexes.{Indexes}
+use Rattle.mt_mounts.specs.Forest.{id_of, mount_at, on, is_at, place_eq}
+use Rattle.mt_mounts.specs.Tree.{IsSingle}
+use Rattle.mt_mounts.specs.ForestView.{with_attrs, with_place, without_id}
+use Rattle.mt_mounts.specs.Indexes.{parent_of, space_of, rooted_in, IsIndexed}
+use Rattle.mt_mounts.proofs.SlotLaws.{none_found, row_kept}
+use Rattle.mt_mounts.proofs.ChangeLaws.{attrs_of, place_of}
+use Rattle.mt_mounts.proofs.PlaceLaws.{found_without, found_put, found_map, moved_is}
+
+same_place : (p q : Place) → place_eq p q ≡ true → p ≡ q
+same_place p q h =
+    let a : p.mount ≡ q.mount = grind (arith, nat_tests) in
+    let b : p.dir ≡ q.dir = grind (arith, nat_tests) in
+    λ i. record { mount = a i; dir = b i }
+
+-- a place that is free for a mount has none
+free_place : (ms : List Mount) (m : Mount) (p : Place) → ForSome m.place (λ q. on ms q ≡ None) → is_at p m ≡ true → on ms p ≡ None
+free_place ms m p free h = go m.place free h
+  where
+    go : (o : Option Place) → ForSome o (λ q. on ms q ≡ None) → option_map_or (place_eq p) o false ≡ true → on ms p ≡ None
+    go None f e = absurd (cc)
+    go (Some q) f e = ap (on ms) (same_place p q e) ∙ f q refl
+
+id_cond : (b : Bool) (m : Mount) (o : Option Mount) → cond b (Some m.id) (option_map id_of o) ≡ option_map id_of (cond b (Some m) o)
+id_cond true m o = refl
+id_cond false m o = refl
+
+none_cond : (b : Bool) (o : Option Mount) → cond b None (option_map id_of o) ≡ option_map id_of (cond b None o)
+none_cond true o = refl
+none_cond false o = refl
+
+eqb-turned : (a b : ℕ) → eqb a b ≡ eqb b a
+eqb-turned a b = grind (arith, nat_tests)
+
+module _ (ms : List Mount) (old new : Indexes) (r : rises id_of ms ≡ true) (x : IsIndexed ms old) where
+  -- a mount has come
+  pub indexed_put : (m : Mount) → mount_at ms m.id ≡ None → ForSome m.place (λ p. on ms p ≡ None)
+      → ((p : Place) → get place_eq new.places p ≡ cond (is_at p m) (Some m.id) (get place_eq old.places p))
+      → new.children.rows ≡ with_number m.id (parent_of m) old.children.rows
+      → new.spaces.rows ≡ with_number m.id (space_of m) old.spaces.rows
+      → new.roots.rows ≡ with_number m.id (rooted_in m) old.roots.rows
+      → IsIndexed (put id_of m ms) new
+  indexed_put m absent free at ch sp ro = record {
+    places = λ p.
+        at p ∙ ap (cond (is_at p m) (Some m.id)) (x.places p) ∙ id_cond (is_at p m) m (on ms p)
+        ∙ ap (option_map id_of) (sym (found_put (is_at p) m ms absent (free_place ms m p free)));
+    children = ch ∙ ap (with_number m.id (parent_of m)) x.children ∙ sym (put-by id_of parent_of m ms r);
+    spaces = sp ∙ ap (with_number m.id (space_of m)) x.spaces ∙ sym (put-by id_of space_of m ms r);
+    roots = ro ∙ ap (with_number m.id (rooted_in m)) x.roots ∙ sym (put-by id_of rooted_in m ms r);
+  }
+
+  -- a mount has gone
+  pub indexed_without : (m : Mount) → IsSingle ms → mount_at ms m.id ≡ Some m
+      → ((p : Place) → get place_eq new.places p ≡ cond (is_at p m) None (get place_eq old.places p))
+      → new.children.rows ≡ without_row m.id old.children.rows
+      → new.spaces.rows ≡ without_row m.id old.spaces.rows
+      → new.roots.rows ≡ without_row m.id old.roots.rows
+      → IsIndexed (without_id m.id ms) new
+  indexed_without m single there at ch sp ro = record {
+    places = λ p.
+        at p ∙ ap (cond (is_at p m) None) (x.places p) ∙ none_cond (is_at p m) (on ms p)
+        ∙ ap (option_map id_of) (sym (found_without (is_at p) ms r (single.places p) m.id m there));
+    children = ch ∙ ap (without_row m.id) x.children ∙ sym (without-by id_of parent_of m.id (λ y. eqb y.id m.id) ms (λ y. eqb-turned y.id m.id));
+    spaces = sp ∙ ap (without_row m.id) x.spaces ∙ sym (without-by id_of space_of m.id (λ y. eqb y.id m.id) ms (λ y. eqb-turned y.id m.id));
+    roots = ro ∙ ap (without_row m.id) x.roots ∙ sym (without-by id_of rooted_in m.id (λ y. eqb y.id m.id) ms (λ y. eqb-turned y.id m.id));
+  }
+
+-- a mount has moved
+module _ (i : ℕ) (p : Place) where
+  moved_place : (m : Mount) → m.id ≡ i → (place_of i p m).place ≡ Some p
+  moved_place m e = ap (λ b. cond b (Some p) m.place) (eq-eqb m.id i e)
+
+  stays_place : (m : Mount) → m.id ≢ i → (place_of i p m).place ≡ m.place
+  stays_place m ne = ap (λ b. cond b (Some p) m.place) (ne_eqb m.id i ne)
+
+module _ (ms : List Mount) (old new : Indexes) (r : rises id_of ms ≡ true) (x : IsIndexed ms old) where
+  gone : (i : ℕ) → row_at id_of i (without_id i ms) ≡ None
+  gone i = none_found _ (λ y e. let k = row_kept ms i i y r e in k.1 (row_at-key id_of i ms y k.0))
+
+  left_free : (m : Mount) (q : Place) → IsSingle ms → mount_at ms m.id ≡ Some m → on ms q ≡ None → on (without_id m.id ms) q ≡ None
+  left_free m q single there free = found_without (is_at q) ms r (single.places q) m.id m there ∙ go (is_at q m) free
+    where
+      go : (b : Bool) → on ms q ≡ None → cond b None (on ms q) ≡ None
+      go true n = refl
+      go false n = n
+
+  moved_places : (m : Mount) (p : Place) → IsSingle ms → mount_at ms m.id ≡ Some m → on ms p ≡ None → (q : Place)
+      → on (with_place m.id p ms) q ≡ cond (place_eq q p) (Some (place_of m.id p m)) (cond (is_at q m) None (on ms q))
+  moved_places m p single there free q =
+      let at : is_at q (place_of m.id p m) ≡ place_eq q p = ap (λ o. option_map_or (place_eq q) o false) (moved_place m.id p m refl) in
+      ap (λ l. on l q) (moved_is ms m.id p m r there)
+      ∙ found_put (is_at q) (place_of m.id p m) (without_id m.id ms) (gone m.id) (λ e. left_free m q single there (ap (on ms) (same_place q p (sym at ∙ e)) ∙ free))
+      ∙ ap (λ b. cond b (Some (place_of m.id p m)) (on (without_id m.id ms) q)) at
+      ∙ ap (cond (place_eq q p) (Some (place_of m.id p m))) (found_without (is_at q) ms r (single.places q) m.id m there)
+
+  pub indexed_moved : (m : Mount) (p : Place) → IsSingle ms → mount_at ms m.id ≡ Some m → on ms p ≡ None
+      → ((q : Place) → get place_eq new.places q ≡ cond (place_eq q p) (Some m.id) (cond (is_at q m) None (get place_eq old.places q)))
+      → new.children.rows ≡ with_number m.id (Some p.mount) old.children.rows
+      → new.spaces.rows ≡ old.spaces.rows
+      → new.roots.rows ≡ without_row m.id old.roots.rows
+      → IsIndexed (with_place m.id p ms) new
+  indexed_moved m p single there free at ch sp ro = record {
+    places = λ q.
+        at q ∙ ap (λ o. cond (place_eq q p) (Some m.id) (cond (is_at q m) None o)) (x.places q)
+        ∙ ap (cond (place_eq q p) (Some m.id)) (none_cond (is_at q m) (on ms q))
+        ∙ id_cond (place_eq q p) (place_of m.id p m) (cond (is_at q m) None (on ms q))
+        ∙ ap (option_map id_of) (sym (moved_places m p single there free q));
+    children =
+        ch ∙ ap (with_number m.id (Some p.mount)) x.children
+        ∙ ap (λ o. with_number m.id o (rows_by id_of parent_of ms)) (ap (option_map (λ (q : Place). q.mount)) (sym (moved_place m.id p m refl)))
+        ∙ sym (change-by id_of parent_of m.id (place_of m.id p) m ms (λ y. refl) (λ y ne. ap (option_map (λ (q : Place). q.mount)) (stays_place m.id p y ne)) r there);
+    spaces = sp ∙ x.spaces ∙ sym (same-by id_of space_of (place_of m.id p) ms (λ y. refl) (λ y. refl));
+    roots =
+        ro ∙ ap (without_row m.id) x.roots
+        ∙ ap (λ o. with_number m.id o (rows_by id_of rooted_in ms)) (ap (λ o. cond (is_none o) (Some m.space) None) (sym (moved_place m.id p m refl)))
+        ∙ sym (change-by id_of rooted_in m.id (place_of m.id p) m ms (λ y. refl) (λ y ne. ap (λ o. cond (is_none o) (Some y.space) None) (stays_place m.id p y ne)) r there);
+  }
+
+-- the same entries and rows
+pub indexed_same : (ms : List Mount) (old new : Indexes) → new.places.entries ≡ old.places.entries → new.children.rows ≡ old.children.rows
+    → new.spaces.rows ≡ old.spaces.rows → new.roots.rows ≡ old.roots.rows → IsIndexed ms old → IsIndexed ms new
+indexed_same ms old new at ch sp ro x = record {
+  places = λ p. ap (lookup (place_eq p)) at ∙ x.places p;
+  children = ch ∙ x.children;
+  spaces = sp ∙ x.spaces;
+  roots = ro ∙ x.roots;
+}
+
+-- other attributes
+pub indexed_attrs : (ms : List Mount) (x : Indexes) (i : ℕ) (a : Attrs) → IsIndexed ms x → IsIndexed (with_attrs i a ms) x
+indexed_attrs ms x i a h = record {
+  places = λ p. h.places p ∙ sym (ap (option_map id_of) (found_map (is_at p) (attrs_of i a) (λ m. refl) ms) ∙ same (on ms p));
+  children = h.children ∙ sym (same-by id_of parent_of (attrs_of i a) ms (λ y. refl) (λ y. refl));
+  spaces = h.spaces ∙ sym (same-by id_of space_of (attrs_of i a) ms (λ y. refl) (λ y. refl));
+  roots = h.roots ∙ sym (same-by id_of rooted_in (attrs_of i a) ms (λ y. refl) (λ y. refl));
+}
+  where
+    same : (o : Option Mount) → option_map id_of (option_map (attrs_of i a) o) ≡ option_map id_of o
+    same None = refl
+    same (Some m) = refl

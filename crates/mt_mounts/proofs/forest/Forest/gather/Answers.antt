@@ -1,0 +1,56 @@
+use Rattle.std.proofs.Common.{◌≡◌, ℕ, ◌+◌, ◌<◌, ◌≤◌, ◌++◌, [], ◌∷◌, take, length, get_or, sym, ap, subst, ◌∙◌, arith}
+use Rattle.std.proofs.lemmas.List.{length-append}
+use Rattle.mt_mounts.proofs.SubtreeLaws.{IsGathering, gathered_by, gathering-start, gathering-next, gathering-bound, gathering-end}
+use Rattle.mt_mounts.proofs.forest.Forest.gather.Goals as goal
+
+pub mounts-init : goal.mounts-init
+mounts-init c =
+    let one : c.push.new.self.items ≡ c.args.id ∷ [] = c.in_ok-push.ensures.items ∙ ap (λ l. l ++ c.args.id ∷ []) c.new-gathered.ensures.items in
+    record {
+      work = subst (λ l. IsGathering c.args.self.now.mounts c.args.id [] l) (sym one) (gathering-start c.args.self.now.mounts c.args.id);
+      some = let l = ap length one in omega arith;
+      rising = λ l. absurd (omega (arith, l));
+    }
+
+-- the mount visited stands in the list
+within : (i n len items : ℕ) → i < n → n ≡ len → len ≡ items → i < items
+within i n len items l e f = omega (arith, l, e, f)
+
+pub mounts-smaller : goal.mounts-smaller
+mounts-smaller c =
+    let ms = c.args.self.now.mounts in
+    let in_all = within _ _ _ _ c.mounts-test.true c.len.ensures c.mounts.gathered.ok.0 in
+    let bound = gathering-bound ms c.args.id (take c.mounts.visited c.mounts.gathered.items) c.mounts.gathered.items c.mounts.invariant.work in
+    omega (arith, in_all, bound)
+
+pub mounts-preserved : goal.mounts-preserved
+mounts-preserved c =
+    let ms = c.args.self.now.mounts in
+    let g = c.args.id in
+    let i = c.mounts.visited in
+    let m = c.index-parent.result.now in
+    let all = c.mounts.gathered.items in
+    let in_all = within _ _ _ _ c.mounts-test.true c.len.ensures c.mounts.gathered.ok.0 in
+    let at : get_or all i m ≡ m = sym c.index-parent.ensures in
+    let up = c.gather_children.ensures.rising in
+    let grown : c.gather_children.new.gathered.items ≡ all ++ gathered_by ms g (get_or all i m) = c.in_ok-gather_children.ensures.gathered ∙ ap (λ k. all ++ gathered_by ms g k) (sym at) in
+    record {
+      work = subst (λ l. IsGathering ms g (take (i + 1) l) l) (sym grown) (gathering-next ms g i m all up c.mounts.invariant.work in_all);
+      some = let l = ap length grown in let s = length-append all (gathered_by ms g (get_or all i m)) in let o = c.mounts.invariant.some in omega arith;
+      rising = λ l. up;
+    }
+
+-- the list is at its end
+ended : (i n len items : ℕ) → n ≤ i → n ≡ len → len ≡ items → items ≤ i
+ended i n len items l e f = omega (arith, l, e, f)
+
+pub returns-clause-gathered : goal.returns-clause-gathered
+returns-clause-gathered c q =
+    let out = ended _ _ _ _ c.mounts-test.false c.len.ensures c.mounts.gathered.ok.0 in
+    gathering-end c.args.self.now.mounts c.args.id c.mounts.visited c.mounts.gathered.items c.mounts.invariant.work out q
+
+pub returns-clause-rising : goal.returns-clause-rising
+returns-clause-rising c =
+    let out = ended _ _ _ _ c.mounts-test.false c.len.ensures c.mounts.gathered.ok.0 in
+    let some = c.mounts.invariant.some in
+    c.mounts.invariant.rising (omega (arith, out, some))

@@ -1,0 +1,7 @@
+use Rattle.mt_mounts.proofs.IndexLaws.{indexed_without}
+use Rattle.mt_mounts.proofs.indexes.Indexes.remove.Goals as goal
+
+pub returns-clause-indexed : goal.returns-clause-indexed
+returns-clause-indexed c =
+    λ ms r single there x. indexed_without ms c.args.self.now _ r x c.args.mount single there c.leave.ensures.places
+    c.remove.ensures.rows c.remove-2.ensures.rows c.remove-3.ensures.rows

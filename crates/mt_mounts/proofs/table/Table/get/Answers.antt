@@ -1,0 +1,18 @@
+use Rattle.std.proofs.Common.{ap, ◌∙◌, sym}
+use Rattle.std.specs.Option.{option_and_then}
+use Rattle.slab.specs.Slab.{get}
+use Rattle.mt_mounts.specs.Forest.{mount_at}
+use Rattle.mt_mounts.proofs.TableLaws.{mount_keyed}
+use Rattle.mt_mounts.proofs.table.Table.get.Goals as goal
+
+pub returns-in_err-key : goal.returns-in_err-key
+returns-in_err-key c =
+    c.from_residual.ensures
+    ∙ sym (mount_keyed c.self.inside.slots c.self.inside.keys c.self.invariant c.args.id ∙ ap (option_and_then (get c.self.inside.slots)) (sym c.get.ensures.value ∙ sym c.in_err-key.ensures))
+    ∙ ap (λ t. mount_at t.mounts c.args.id) c.self.view_is
+
+pub returns : goal.returns
+returns c =
+    c.copied-2.ensures ∙ c.get-2.ensures
+    ∙ sym (mount_keyed c.self.inside.slots c.self.inside.keys c.self.invariant c.args.id ∙ ap (option_and_then (get c.self.inside.slots)) (sym c.get.ensures.value ∙ sym c.in_ok-key.ensures))
+    ∙ ap (λ t. mount_at t.mounts c.args.id) c.self.view_is

@@ -1,0 +1,42 @@
+-- What the indexes of a `Forest` answer of its mounts. No public clause cites this module.
+-- A word with no source is this project's rule.
+use Rattle.std.specs.Prelude.{◌≡◌, ℕ, cond, List, Option, Some, None, IsTrue, is_none, min}
+use Rattle.std.specs.Option.{option_map}
+use Rattle.indexmap.specs.IndexMap.{get, spare}
+use Rattle.mt_skel.specs.Keyed.{rises}
+use Rattle.mt_lists.specs.Numbered.{rows_by}
+use Rattle.mt_mounts.specs.declared.mount.Place.{Place}
+use Rattle.mt_mounts.specs.declared.mount.Mount.{Mount}
+use Rattle.mt_mounts.specs.declared.indexes.Indexes.{Indexes}
+use Rattle.mt_mounts.specs.Forest.{id_of, on, place_eq}
+use Rattle.mt_mounts.specs.Tree.{IsSingle}
+
+-- The mount that a mount stands on.
+abbrev pub parent_of : Mount → Option ℕ
+parent_of m = option_map (λ (p : Place). p.mount) m.place
+
+-- The namespace that a mount is in.
+abbrev pub space_of : Mount → Option ℕ
+space_of m = Some m.space
+
+-- The namespace of which a mount is the root mount.
+abbrev pub rooted_in : Mount → Option ℕ
+rooted_in m = cond (is_none m.place) (Some m.space) None
+
+-- Each index answers as a search of all mounts does.
+pub record IsIndexed (ms : List Mount) (x : Indexes) : Type 0 where
+  pub places : (p : Place) → get place_eq x.places p ≡ option_map id_of (on ms p)
+  pub children : x.children.rows ≡ rows_by id_of parent_of ms
+  pub spaces : x.spaces.rows ≡ rows_by id_of space_of ms
+  pub roots : x.roots.rows ≡ rows_by id_of rooted_in ms
+
+-- How many mounts each of the indexes has room for.
+abbrev pub room_of : Indexes → ℕ
+room_of x = min (spare x.places) (min x.children.room (min x.spaces.room x.roots.room))
+
+-- The mounts of a forest rise by their IDs, no two stand at one place and no two are roots of one namespace, and the
+-- indexes answer of them.
+pub record IsForest (ms : List Mount) (x : Indexes) : Type 0 where
+  pub rising : IsTrue (rises id_of ms)
+  pub single : IsSingle ms
+  pub indexed : IsIndexed ms x

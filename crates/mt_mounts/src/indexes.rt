@@ -1,0 +1,180 @@
+//! What a forest looks up beside the ID of a mount: by place, by parent and by namespace.
+ghost use Rattle.std.specs.Prelude.{◌≡◌, ◌+◌, ◌<◌, ◌≤◌, List, [], Some, None, IsTrue, OnOk, IfOk, IsOkUnless, cond};
+ghost use Rattle.std.specs.Option.{ForSome};
+ghost use Rattle.indexmap.specs.IndexMap.{get, spare};
+ghost use Rattle.mt_skel.specs.Keyed.{put, rises};
+ghost use Rattle.mt_mounts.specs.declared.mount.Mount.{Mount};
+ghost use Rattle.mt_mounts.specs.declared.mount.Place.{Place};
+ghost use Rattle.mt_mounts.specs.Forest.{id_of, mount_at, on, is_at, place_eq};
+ghost use Rattle.mt_mounts.specs.Tree.{IsSingle};
+ghost use Rattle.mt_mounts.specs.ForestView.{with_place, without_id};
+ghost use Rattle.mt_mounts.specs.Indexes.{parent_of, rooted_in, IsIndexed, room_of};
+
+use crate::mount::{Mount, MountId, Place, SpaceId};
+use indexmap::IndexMap;
+use mt_lists::lists::Lists;
+use mt_skel::fault::Fault;
+use std::alloc::Global;
+
+/// Which mount stands at a place, and the lists of the mounts of a parent, of the mounts of a
+/// namespace and of its root mount.
+///
+/// It holds IDs alone: a change of a forest is told to it with the mount as it was before.
+pub(crate) struct Indexes {
+    pub(crate) places: IndexMap<Place, MountId>,
+    pub(crate) children: Lists,
+    pub(crate) spaces: Lists,
+    pub(crate) roots: Lists,
+}
+
+// Written out, so that a forest lets its indexes go as one thing.
+impl Drop for Indexes {
+    fn drop(self) {
+        let Indexes {
+            places: _places,
+            children: _children,
+            spaces: _spaces,
+            roots: _roots,
+        } = self;
+    }
+}
+
+/// The mount that a mount stands on.
+fn parent_of(mount: Mount) -> Option<MountId>
+    ensures { result ≡ parent_of mount }
+{
+    match mount.place {
+        Some(place) => Some(place.mount),
+        None => None,
+    }
+}
+
+/// The namespace of which a mount is the root mount.
+fn rooted_in(mount: Mount) -> Option<SpaceId>
+    ensures { result ≡ rooted_in mount }
+{
+    match mount.place {
+        Some(_) => None,
+        None => Some(mount.space),
+    }
+}
+
+/// The ID of the mount that stands at a place.
+fn standing(places: &IndexMap<Place, MountId>, place: Place) -> Option<MountId>
+    ensures { result ≡ get place_eq places.now place }
+{
+    places.get(&place).copied()
+}
+
+/// Writes that this mount stands at a place.
+fn stand(places: &mut IndexMap<Place, MountId>, place: Place, id: MountId)
+    requires room { 0 < spare places.old }
+    ensures places { (p : Place) → get place_eq places.new p ≡ cond (place_eq p place) (Some id) (get place_eq places.old p) }
+    ensures room { spare places.old ≤ spare places.new + 1 }
+{
+    places.insert(place, id).unwrap();
+}
+
+/// Writes that a mount stands at its place, if it has one.
+fn enter(places: &mut IndexMap<Place, MountId>, mount: Mount)
+    requires room { 0 < spare places.old }
+    ensures places { (p : Place) → get place_eq places.new p ≡ cond (is_at p mount) (Some mount.id) (get place_eq places.old p) }
+    ensures room { spare places.old ≤ spare places.new + 1 }
+{
+    if let Some(place) = mount.place {
+        stand(places, place, mount.id);
+    }
+}
+
+/// Writes that no mount stands at the place of this one, if it has one.
+fn leave(places: &mut IndexMap<Place, MountId>, mount: Mount)
+    ensures places { (p : Place) → get place_eq places.new p ≡ cond (is_at p mount) None (get place_eq places.old p) }
+    ensures room { spare places.old ≤ spare places.new }
+{
+    if let Some(place) = mount.place {
+        places.swap_remove(&place);
+    }
+}
+
+impl Indexes {
+    /// The indexes of no mounts. Their memory will come from `alloc`.
+    pub(crate) fn new(alloc: Global) -> Self
+        ensures { IsIndexed [] result }
+    {
+        Indexes {
+            places: IndexMap::new(alloc),
+            children: Lists::new(alloc),
+            spaces: Lists::new(alloc),
+            roots: Lists::new(alloc),
+        }
+    }
+
+    /// The indexes of the same mounts. Refused as `NoMemory` alone.
+    pub(crate) fn copy(&self) -> Result<Indexes, Fault>
+        ensures copy { IfOk result (λ copy. (ms : List Mount) → IsIndexed ms self.now → IsIndexed ms copy) }
+        ensures memory { IsOkUnless result Fault.NoMemory }
+    {
+        Ok(Indexes {
+            places: self.places.clone()?,
+            children: self.children.copy()?,
+            spaces: self.spaces.copy()?,
+            roots: self.roots.copy()?,
+        })
+    }
+
+    /// Makes room for so many more mounts. Refused as `NoMemory` alone.
+    pub(crate) fn reserve(&mut self, additional: usize) -> Result<(), Fault>
+        ensures room { OnOk result (additional ≤ room_of self.new) }
+        ensures memory { IsOkUnless result Fault.NoMemory }
+        ensures keeps { room_of self.old ≤ room_of self.new }
+        ensures indexed { (ms : List Mount) → IsIndexed ms self.old → IsIndexed ms self.new }
+    {
+        self.places.reserve(additional)?;
+        self.children.reserve(additional)?;
+        self.spaces.reserve(additional)?;
+        self.roots.reserve(additional)?;
+        Ok(())
+    }
+
+    /// The ID of the mount that stands at a place.
+    pub(crate) fn at(&self, place: Place) -> Option<MountId>
+        ensures { result ≡ get place_eq self.now.places place }
+    {
+        standing(&self.places, place)
+    }
+
+    /// A mount with a new ID has come, for which there is room.
+    pub(crate) fn insert(&mut self, mount: Mount)
+        requires room { 0 < room_of self.old }
+        ensures indexed { (ms : List Mount) → IsTrue (rises id_of ms) → IsSingle ms → mount_at ms mount.id ≡ None → ForSome mount.place (λ p. on ms p ≡ None) → IsIndexed ms self.old → IsIndexed (put id_of mount ms) self.new }
+        ensures room { room_of self.old ≤ room_of self.new + 1 }
+    {
+        enter(&mut self.places, mount);
+        self.children.set(mount.id, parent_of(mount));
+        self.spaces.set(mount.id, Some(mount.space));
+        self.roots.set(mount.id, rooted_in(mount));
+    }
+
+    /// A mount has gone.
+    pub(crate) fn remove(&mut self, mount: Mount)
+        ensures indexed { (ms : List Mount) → IsTrue (rises id_of ms) → IsSingle ms → mount_at ms mount.id ≡ Some mount → IsIndexed ms self.old → IsIndexed (without_id mount.id ms) self.new }
+        ensures room { room_of self.old ≤ room_of self.new }
+    {
+        leave(&mut self.places, mount);
+        self.children.remove(mount.id);
+        self.spaces.remove(mount.id);
+        self.roots.remove(mount.id);
+    }
+
+    /// A mount has gone to a place that was free. There is room as for one more mount.
+    pub(crate) fn set_place(&mut self, mount: Mount, place: Place)
+        requires room { 0 < room_of self.old }
+        ensures indexed { (ms : List Mount) → IsTrue (rises id_of ms) → IsSingle ms → mount_at ms mount.id ≡ Some mount → on ms place ≡ None → IsIndexed ms self.old → IsIndexed (with_place mount.id place ms) self.new }
+        ensures room { room_of self.old ≤ room_of self.new + 1 }
+    {
+        leave(&mut self.places, mount);
+        stand(&mut self.places, place, mount.id);
+        self.children.set(mount.id, Some(place.mount));
+        self.roots.remove(mount.id);
+    }
+}

@@ -1,0 +1,151 @@
+-- Mounts that leave where no group that is some other's master goes: then each master stays as it is.
+use Rattle.std.proofs.Common.{◌≡◌, ℕ, zero, suc, ◌+◌, ◌<◌, ◌≤◌, Bool, true, false, cond, not, ◌&&◌, ◌||◌, eqb, eqb-true, List, [], ◌∷◌, map, drop, length, get_or, Option, Some, None, refl, sym, ap, ◌∙◌, inl, inr, arith}
+use Rattle.std.specs.List.{filter, find, list_any, list_all}
+use Rattle.std.specs.Option.{option_map, option_map_or}
+use Rattle.std.proofs.lemmas.Bool.Decides.{nat_tests}
+use Rattle.std.proofs.lemmas.List.{drop_more, drop_all}
+use Rattle.mt_skel.specs.Chain.{chain}
+use Rattle.mt_skel.specs.Keyed.{without, among}
+use Rattle.mt_skel.proofs.ElementLaws.{In, in_filter, in_row, any_in}
+use Rattle.mt_lists.specs.Lists.{ListRow, number_at, ids, first, above, names, without_id}
+use Rattle.mt_lists.proofs.NeighbourLaws.{rising}
+use Rattle.mt_lists.proofs.WalkLaws.{rest_from, rest-next}
+use Rattle.mt_peers.specs.Peers.{Peer, Peering, mount_of, state_at, in_group, has_master, has_member, members, slaves}
+use Rattle.mt_peers.specs.Masters.{master_of}
+use Rattle.mt_peers.specs.Loss.{heir, with_master, settle, left}
+use Rattle.mt_peers.specs.WellFormed.{IsPeering}
+use Rattle.mt_peers.specs.Listed.{IsListed}
+use Rattle.mt_peers.specs.Going.{stays, may_go}
+use Rattle.mt_peers.proofs.ChangeLaws.{settled}
+use Rattle.mt_peers.proofs.ListLaws.{member-group}
+use Rattle.mt_peers.proofs.ListedLaws.{group-listed, members-listed, slaves-listed}
+
+-- a walk along a list, until one stays
+module _ (gone : ℕ → Bool) (xs : List ℕ) (up : rising xs ≡ true) (k : ℕ) (here : Option ℕ) (is : here ≡ Some k) (at : among xs k ≡ true) (told : stays gone (rest_from here xs) ≡ stays gone xs) where
+  cut : stays gone xs ≡ (not (gone k) || stays gone (rest_from (above k xs) xs))
+  cut = sym told ∙ ap (λ o. stays gone (rest_from o xs)) is ∙ ap (stays gone) (rest-next k xs up at)
+
+  pub stays-here : gone k ≡ false → true ≡ stays gone xs
+  stays-here e = sym (cut ∙ ap (λ b. not b || stays gone (rest_from (above k xs) xs)) e)
+
+  pub stays-later : (next : Option ℕ) → gone k ≡ true → next ≡ above k xs → stays gone (rest_from next xs) ≡ stays gone xs
+  stays-later next e f = ap (λ o. stays gone (rest_from o xs)) f ∙ sym (cut ∙ ap (λ b. not b || stays gone (rest_from (above k xs) xs)) e)
+
+-- rows are taken out one after the other
+forget-one : (x : ℕ) (rest : List ℕ) (rows : List ListRow) → without (λ (r : ListRow). among rest r.id) (without_id x rows) ≡ without (λ (r : ListRow). among (x ∷ rest) r.id) rows
+forget-one x rest [] = refl
+forget-one x rest (r ∷ rows) = go (eqb x r.id) (among rest r.id) refl (forget-one x rest rows)
+  where
+    go : (a b : Bool) → among rest r.id ≡ b → without (λ (r : ListRow). among rest r.id) (without_id x rows) ≡ without (λ (r : ListRow). among (x ∷ rest) r.id) rows
+        → without (λ (r : ListRow). among rest r.id) (cond (not a) (r ∷ without_id x rows) (without_id x rows))
+        ≡ cond (not (a || b)) (r ∷ without (λ (r : ListRow). among (x ∷ rest) r.id) rows) (without (λ (r : ListRow). among (x ∷ rest) r.id) rows)
+    go true b is ih = ih
+    go false true is ih = ap (λ c. cond (not c) (r ∷ without (λ (r : ListRow). among rest r.id) (without_id x rows)) (without (λ (r : ListRow). among rest r.id) (without_id x rows))) is ∙ ih
+    go false false is ih = ap (λ c. cond (not c) (r ∷ without (λ (r : ListRow). among rest r.id) (without_id x rows)) (without (λ (r : ListRow). among rest r.id) (without_id x rows))) is ∙ ap (λ t. r ∷ t) ih
+
+pub forget-step : (ids : List ℕ) (i d : ℕ) (old new : List ListRow) → i < length ids → new ≡ without_id (get_or ids i d) old → without (λ (r : ListRow). among (drop (i + 1) ids) r.id) new ≡ without (λ (r : ListRow). among (drop i ids) r.id) old
+forget-step ids i d old new l e =
+    ap (without (λ (r : ListRow). among (drop (i + 1) ids) r.id)) e
+    ∙ forget-one (get_or ids i d) (drop (i + 1) ids) old
+    ∙ ap (λ (t : List ℕ). without (λ (r : ListRow). among t r.id) old) (sym (drop_more ids i d l))
+
+pub forget-end : (ids : List ℕ) (i : ℕ) (rows : List ListRow) → length ids ≤ i → without (λ (r : ListRow). among (drop i ids) r.id) rows ≡ rows
+forget-end ids i rows l = ap (λ (t : List ℕ). without (λ (r : ListRow). among t r.id) rows) (drop_all i ids l) ∙ none rows
+  where
+    none : (rows : List ListRow) → without (λ (r : ListRow). among [] r.id) rows ≡ rows
+    none [] = refl
+    none (r ∷ rows) = ap (λ t. r ∷ t) (none rows)
+
+-- who stays, in a list and among all
+stays-picked : (gone : ℕ → Bool) (s : Peer → Bool) (es : List Peer) → stays gone (map mount_of (filter s es)) ≡ list_any s (filter (λ (e : Peer). not (gone e.mount)) es)
+stays-picked gone s [] = refl
+stays-picked gone s (e ∷ es) = go (s e) refl (gone e.mount) refl (stays-picked gone s es)
+  where
+    go : (a : Bool) → s e ≡ a → (b : Bool) → gone e.mount ≡ b → stays gone (map mount_of (filter s es)) ≡ list_any s (filter (λ (e : Peer). not (gone e.mount)) es)
+        → stays gone (map mount_of (cond a (e ∷ filter s es) (filter s es))) ≡ list_any s (cond (not b) (e ∷ filter (λ (e : Peer). not (gone e.mount)) es) (filter (λ (e : Peer). not (gone e.mount)) es))
+    go true is true at ih = ap (λ c. not c || stays gone (map mount_of (filter s es))) at ∙ ih
+    go true is false at ih = ap (λ c. not c || stays gone (map mount_of (filter s es))) at ∙ sym (ap (λ c. c || list_any s (filter (λ (e : Peer). not (gone e.mount)) es)) is)
+    go false is true at ih = ih
+    go false is false at ih = ih ∙ sym (ap (λ c. c || list_any s (filter (λ (e : Peer). not (gone e.mount)) es)) is)
+
+first-member : (g : ℕ) (es : List Peer) → has_member es g ≡ true → (j : ℕ) × (rest : List ℕ) × (members es g ≡ j ∷ rest)
+first-member g [] e = absurd (cc)
+first-member g (x ∷ xs) e = go (in_group g x) e (first-member g xs)
+  where
+    go : (b : Bool) → (b || has_member xs g) ≡ true → (has_member xs g ≡ true → (j : ℕ) × (rest : List ℕ) × (members xs g ≡ j ∷ rest))
+        → (j : ℕ) × (rest : List ℕ) × (map mount_of (cond b (x ∷ filter (in_group g) xs) (filter (in_group g) xs)) ≡ j ∷ rest)
+    go true e ih = (x.mount, members xs g, refl)
+    go false e ih = ih e
+
+all-among : (t : ℕ → Bool) (xs : List ℕ) (j : ℕ) → list_all t xs ≡ true → among xs j ≡ true → t j ≡ true
+all-among t [] j all at = absurd (cc)
+all-among t (x ∷ xs) j all at = go (eqb x j) refl (t x) refl all at (all-among t xs j)
+  where
+    go : (a : Bool) → eqb x j ≡ a → (b : Bool) → t x ≡ b → (b && list_all t xs) ≡ true → (a || among xs j) ≡ true → (list_all t xs ≡ true → among xs j ≡ true → t j ≡ true) → t j ≡ true
+    go true same true is all at ih = ap t (sym (eqb-true x j same)) ∙ is
+    go a same false is all at ih = absurd (cc)
+    go false same true is all at ih = ih all at
+
+find-first : (t : ℕ → Bool) (next : ℕ → Option ℕ) (n g : ℕ) → t g ≡ true → find t (chain next n g) ≡ Some g
+find-first t next zero g e = ap (λ b. cond b (Some g) None) e
+find-first t next (suc n) g e = ap (λ b. cond b (Some g) (find t (option_map_or (λ y. chain next n y) (next g) []))) e
+
+map-same : (f : Peer → Peer) (xs : List Peer) → ((e : Peer) → In e xs → f e ≡ e) → map f xs ≡ xs
+map-same f [] same = refl
+map-same f (x ∷ xs) same = (λ i. same x (inl refl) i ∷ map-same f xs (λ e at. same e (inr at)) i)
+
+module _ (p : Peering) (h : IsPeering p) (them : List ℕ) (ms ss : List ListRow) (l : IsListed p.peers ms ss) (ok : list_all (may_go ms ss (among them)) them ≡ true) where
+  abbrev staying : List Peer
+  staying = without (λ (e : Peer). among them e.mount) p.peers
+
+  -- what is known of a first member that leaves
+  asked : (g j : ℕ) (rest : List ℕ) → members p.peers g ≡ j ∷ rest → may_go ms ss (among them) j ≡ true → (stays (among them) (members p.peers g) || not (stays (among them) (slaves p.peers g))) ≡ true
+  asked g j rest is may =
+      let listed : among (members p.peers g) j ≡ true = ap (λ xs. among xs j) is ∙ self j in
+      let number : number_at ms j ≡ Some g = group-listed p.peers ms ss l j ∙ member-group p.peers g j h.rising listed in
+      let head : names (first (ids ms g)) j ≡ true = ap (λ xs. names (first xs) j) (members-listed p.peers ms ss l g ∙ is) ∙ same j in
+      (λ i. stays (among them) (sym (members-listed p.peers ms ss l g) i) || not (stays (among them) (sym (slaves-listed p.peers ms ss l g) i)))
+      ∙ sym (ap (λ b. not b || (stays (among them) (ids ms g) || not (stays (among them) (ids ss g)))) head)
+      ∙ sym (ap (λ o. option_map_or (λ g. not (names (first (ids ms g)) j) || (stays (among them) (ids ms g) || not (stays (among them) (ids ss g)))) o true) number)
+      ∙ may
+    where
+      same : (j : ℕ) → eqb j j ≡ true
+      same j = grind (arith, nat_tests)
+
+      self : (j : ℕ) → (eqb j j || among rest j) ≡ true
+      self j = ap (λ b. b || among rest j) (same j)
+
+  -- the master of a mount that stays keeps a member
+  keeps-member : (e : Peer) (g : ℕ) → In e staying → e.state.master ≡ Some g → has_member staying g ≡ true
+  keeps-member e g at is =
+      let old = in_filter (λ (e : Peer). not (among them e.mount)) e p.peers at in
+      let state : state_at p.peers e.mount ≡ Some e.state = ap (option_map (λ (e : Peer). e.state)) (in_row mount_of p.peers e h.rising old.0) in
+      let f = first-member g p.peers (h.master_lives e.mount e.state g state is) in
+      let slave : stays (among them) (slaves p.peers g) ≡ true = stays-picked (among them) (has_master g) p.peers ∙ any_in (has_master g) e staying at (led g is) in
+      sym (stays-picked (among them) (in_group g) p.peers) ∙ go f.0 f.1 f.2 slave (among them f.0) refl
+    where
+      led : (g : ℕ) → e.state.master ≡ Some g → has_master g e ≡ true
+      led g is = ap (λ o. option_map_or (λ h. eqb h g) o false) is ∙ grind (arith, nat_tests)
+
+      go : (j : ℕ) (rest : List ℕ) → members p.peers g ≡ j ∷ rest → stays (among them) (slaves p.peers g) ≡ true → (b : Bool) → among them j ≡ b → stays (among them) (members p.peers g) ≡ true
+      go j rest is slave false off = ap (stays (among them)) is ∙ ap (λ b. not b || stays (among them) rest) off
+      go j rest is slave true on =
+          either (stays (among them) (members p.peers g)) (ap (λ b. stays (among them) (members p.peers g) || not b) (sym slave) ∙ asked g j rest is (all-among (may_go ms ss (among them)) them j ok on))
+        where
+          either : (b : Bool) → (b || false) ≡ true → b ≡ true
+          either true e = refl
+          either false e = e
+
+  same-peer : (e : Peer) → In e staying → settled p.peers staying e ≡ e
+  same-peer e at = ap (λ m. record { mount = e.mount; state = with_master e.state m }) (go e.state.master (λ g is. keeps-member e g at is))
+    where
+      go : (m : Option ℕ) → ((g : ℕ) → m ≡ Some g → has_member staying g ≡ true) → heir p.peers staying m ≡ m
+      go None f = refl
+      go (Some g) f = find-first (has_member staying) (master_of p.peers) (length p.peers) g (f g refl)
+
+  pub going : left (among them) p ≡ record { peers = staying; next = p.next }
+  unfolding left settle
+  going = ap (λ (es : List Peer). peering es) (map-same (settled p.peers staying) staying same-peer)
+    where
+      peering : List Peer → Peering
+      peering es = record { peers = es; next = p.next }

@@ -1,0 +1,251 @@
+-- The lists of members and of slaves, and what a change of the states makes of them.
+use Rattle.std.proofs.Common.{◌≡◌, ◌≢◌, ℕ, zero, suc, ◌+◌, ◌<◌, Bool, true, false, cond, not, ◌&&◌, ◌||◌, eqb, ltb, List, [], ◌∷◌, ◌++◌, map, take, drop, length, get_or, append_assoc, Option, Some, None, refl, sym, ap, ◌∙◌, arith}
+use Rattle.std.specs.Prelude.{is_some, nat_lt}
+use Rattle.std.specs.List.{filter, find, list_all}
+use Rattle.std.specs.Option.{option_map, option_map_or, option_and_then}
+use Rattle.std.proofs.lemmas.Bool.{ne_eqb}
+use Rattle.std.proofs.lemmas.Bool.Decides.{nat_tests}
+use Rattle.std.proofs.lemmas.List.{drop_more, map_more}
+use Rattle.mt_skel.specs.Keyed.{row_at, put, rises, without}
+use Rattle.mt_skel.proofs.KeyedLaws.{row_at-key, rises-put, rises-filter}
+use Rattle.mt_lists.specs.Lists.{ListRow, number_at, ids, first, above, next_of, with_number}
+use Rattle.mt_lists.specs.Numbered.{rows_by}
+use Rattle.mt_lists.proofs.NumberedLaws.{ids-by, row-by, row_by, put-by, change-by}
+use Rattle.mt_peers.specs.declared.state.State.{State}
+use Rattle.mt_peers.specs.declared.entries.Entry.{Entry}
+use Rattle.mt_peers.specs.Peers.{Peer, mount_of, state_at, with_state, in_group, has_member, names, members, slaves}
+use Rattle.mt_peers.specs.Masters.{master_of}
+use Rattle.mt_peers.specs.Members.{group_at, master_at, member_after, slave_after}
+use Rattle.mt_peers.specs.Entries.{now_peer, was_peer, now_peers, was_peers, settled_entry}
+use Rattle.mt_peers.specs.Listed.{group_of, leader_of, IsListed}
+use Rattle.mt_peers.proofs.MemberLaws.{find_row}
+use Rattle.mt_peers.proofs.GivenLaws.{rises-given}
+
+-- what the lists of a number answer
+module _ (number : Peer → Option ℕ) (es : List Peer) (rows : List ListRow) (told : rows ≡ rows_by mount_of number es) where
+  pub ids-listed : (g : ℕ) → ids rows g ≡ map mount_of (filter (λ e. names (number e) g) es)
+  ids-listed g = ap (λ r. ids r g) told ∙ ids-by mount_of number es g
+
+  pub number-listed : (i : ℕ) → rises mount_of es ≡ true → number_at rows i ≡ option_and_then number (row_at mount_of i es)
+  number-listed i up = ap (λ r. number_at r i) told ∙ ap (option_map (λ (r : ListRow). r.number)) (row-by mount_of number i es up) ∙ go (row_at mount_of i es)
+    where
+      go : (o : Option Peer) → option_map (λ (r : ListRow). r.number) (option_and_then (row_by mount_of number i) o) ≡ option_and_then number o
+      go None = refl
+      go (Some e) = one (number e)
+        where
+          one : (o : Option ℕ) → option_map (λ (r : ListRow). r.number) (option_map (λ n. record { id = i; number = n }) o) ≡ o
+          one None = refl
+          one (Some n) = refl
+
+stated : (number : State → Option ℕ) (o : Option Peer) → option_and_then (λ (e : Peer). number e.state) o ≡ option_and_then number (option_map (λ (e : Peer). e.state) o)
+stated number None = refl
+stated number (Some e) = refl
+
+module _ (es : List Peer) (ms ss : List ListRow) (h : IsListed es ms ss) where
+  pub group-listed : (i : ℕ) → number_at ms i ≡ group_at es i
+  group-listed i = number-listed group_of es ms h.members_told i h.rising ∙ stated (λ s. s.group) (row_at mount_of i es)
+
+  pub master-listed : (i : ℕ) → number_at ss i ≡ master_at es i
+  master-listed i = number-listed leader_of es ss h.slaves_told i h.rising ∙ stated (λ s. s.master) (row_at mount_of i es)
+
+  pub members-listed : (g : ℕ) → ids ms g ≡ members es g
+  members-listed g = ids-listed group_of es ms h.members_told g
+
+  pub slaves-listed : (g : ℕ) → ids ss g ≡ slaves es g
+  slaves-listed g = ids-listed leader_of es ss h.slaves_told g
+
+  pub member-after-listed : (i : ℕ) → next_of ms i ≡ member_after es i
+  member-after-listed i =
+      ap (λ o. option_and_then (λ n. above i (ids ms n)) o) (group-listed i)
+      ∙ (λ k. option_and_then (λ n. above i (members-listed n k)) (group_at es i))
+
+  pub slave-after-listed : (i : ℕ) → next_of ss i ≡ slave_after es i
+  slave-after-listed i =
+      ap (λ o. option_and_then (λ n. above i (ids ss n)) o) (master-listed i)
+      ∙ (λ k. option_and_then (λ n. above i (slaves-listed n k)) (master_at es i))
+
+  -- the master of a group is that of its first member
+  pub master-of-listed : (g i : ℕ) → first (ids ms g) ≡ Some i → number_at ss i ≡ master_of es g
+  master-of-listed g i e = master-listed i ∙ go (find (in_group g) es) refl (sym (first-found es) ∙ ap first (sym (members-listed g)) ∙ e)
+    where
+      first-found : (es : List Peer) → first (members es g) ≡ option_map mount_of (find (in_group g) es)
+      first-found [] = refl
+      first-found (x ∷ xs) = elim (in_group g x) as (λ b. first (map mount_of (cond b (x ∷ filter (in_group g) xs) (filter (in_group g) xs))) ≡ option_map mount_of (cond b (Some x) (find (in_group g) xs))) [ true ↦ refl | false ↦ first-found xs ]
+
+      go : (o : Option Peer) → find (in_group g) es ≡ o → option_map mount_of o ≡ Some i → master_at es i ≡ option_and_then (λ (e : Peer). e.state.master) o
+      go None is f = absurd (cc)
+      go (Some x) is f =
+          let same : x.mount ≡ i = cc in
+          ap (master_at es) (sym same) ∙ ap (λ o. option_and_then (λ (s : State). s.master) (option_map (λ (e : Peer). e.state) o)) (find_row g es x h.rising is).0
+
+  pub no-master-listed : (g : ℕ) → first (ids ms g) ≡ None → master_of es g ≡ None
+  no-master-listed g e = go es (ap first (sym (members-listed g)) ∙ e)
+    where
+      go : (es : List Peer) → first (members es g) ≡ None → master_of es g ≡ None
+      go [] f = refl
+      go (x ∷ xs) f = elim (in_group g x) as (λ b. first (map mount_of (cond b (x ∷ filter (in_group g) xs) (filter (in_group g) xs))) ≡ None → option_and_then (λ (e : Peer). e.state.master) (cond b (Some x) (find (in_group g) xs)) ≡ None) [
+        | true ↦ λ f. absurd (cc)
+        | false ↦ λ f. go xs f
+      ] f
+
+positive : (n : ℕ) → nat_lt 0 (suc n) ≡ true
+positive n = grind (arith, nat_tests)
+
+-- a group lives where its list has a member
+pub lives-listed : (es : List Peer) (rows : List ListRow) (g : ℕ) → rows ≡ rows_by mount_of group_of es → nat_lt 0 (length (ids rows g)) ≡ has_member es g
+lives-listed es rows g told = ap (λ xs. nat_lt 0 (length xs)) (ids-listed group_of es rows told g) ∙ go es
+  where
+    go : (es : List Peer) → nat_lt 0 (length (members es g)) ≡ has_member es g
+    go [] = refl
+    go (x ∷ xs) = elim (in_group g x) as (λ b. nat_lt 0 (length (map mount_of (cond b (x ∷ filter (in_group g) xs) (filter (in_group g) xs)))) ≡ (b || has_member xs g)) [ true ↦ positive (length (map mount_of (filter (in_group g) xs))) | false ↦ go xs ]
+
+-- a mount joins
+pub listed-put : (x : Peer) (es : List Peer) (ms ss : List ListRow) → IsListed es ms ss
+    → IsListed (put mount_of x es) (with_number x.mount x.state.group ms) (with_number x.mount x.state.master ss)
+listed-put x es ms ss h = record {
+  rising = rises-put mount_of x es h.rising;
+  members_told = ap (with_number x.mount x.state.group) h.members_told ∙ sym (put-by mount_of group_of x es h.rising);
+  slaves_told = ap (with_number x.mount x.state.master) h.slaves_told ∙ sym (put-by mount_of leader_of x es h.rising);
+}
+
+-- a mount gets another state
+
+module _ (number : State → Option ℕ) (i : ℕ) (s : State) where
+  number-given : (e : Peer) → e.mount ≡ i → number (cond (eqb i e.mount) s e.state) ≡ number s
+  number-given e same = let b : eqb i e.mount ≡ true = grind (arith, nat_tests) in ap (λ b. number (cond b s e.state)) b
+
+  number-other : (e : Peer) → e.mount ≢ i → number (cond (eqb i e.mount) s e.state) ≡ number e.state
+  number-other e other = ap (λ b. number (cond b s e.state)) (ne_eqb i e.mount (λ e. other (sym e)))
+
+  rows-given : (es : List Peer) → rises mount_of es ≡ true → is_some (state_at es i) ≡ true
+      → rows_by mount_of (λ e. number e.state) (with_state i s es) ≡ with_number i (number s) (rows_by mount_of (λ e. number e.state) es)
+  rows-given es up there = go (row_at mount_of i es) refl there
+    where
+      go : (o : Option Peer) → row_at mount_of i es ≡ o → is_some (option_map (λ (e : Peer). e.state) o) ≡ true
+          → rows_by mount_of (λ e. number e.state) (with_state i s es) ≡ with_number i (number s) (rows_by mount_of (λ e. number e.state) es)
+      go None is f = absurd (cc)
+      go (Some x) is f =
+          change-by mount_of (λ e. number e.state) i (λ (e : Peer). record e { state = cond (eqb i e.mount) s e.state }) x es (λ y. refl) number-other up is
+          ∙ ap (λ o. with_number i o (rows_by mount_of (λ e. number e.state) es)) (number-given x (row_at-key mount_of i es x is))
+
+pub listed-given : (i : ℕ) (s : State) (es : List Peer) (ms ss : List ListRow) → IsListed es ms ss → is_some (state_at es i) ≡ true
+    → IsListed (with_state i s es) (with_number i s.group ms) (with_number i s.master ss)
+listed-given i s es ms ss h there = record {
+  rising = rises-given i s es h.rising;
+  members_told = ap (with_number i s.group) h.members_told ∙ sym (rows-given (λ s. s.group) i s es h.rising there);
+  slaves_told = ap (with_number i s.master) h.slaves_told ∙ sym (rows-given (λ s. s.master) i s es h.rising there);
+}
+
+-- a mount that is not there gets none
+pub given-absent : (i : ℕ) (s : State) (es : List Peer) → is_some (state_at es i) ≡ false → with_state i s es ≡ es
+given-absent i s [] none = refl
+given-absent i s (e ∷ es) none = go (eqb i e.mount) none (given-absent i s es)
+  where
+    go : (b : Bool) → is_some (option_map (λ (e : Peer). e.state) (cond b (Some e) (row_at mount_of i es))) ≡ false → (is_some (state_at es i) ≡ false → with_state i s es ≡ es)
+        → ◌≡◌ {A = List Peer} (record { mount = e.mount; state = cond b s e.state } ∷ with_state i s es) (e ∷ es)
+    go true f ih = absurd (cc)
+    go false f ih = ap (λ t. e ∷ t) (ih f)
+
+-- entries of which some are listed by what they are and the others by what they were
+abbrev pub mixed : ℕ → List Entry → List Peer
+mixed i es = now_peers (take i es) ++ was_peers (drop i es)
+
+mixed-above : (k i : ℕ) (es : List Entry) → list_all (λ p. nat_lt k (mount_of p)) (mixed i es) ≡ list_all (λ p. nat_lt k (mount_of p)) (now_peers es)
+mixed-above k zero [] = refl
+mixed-above k zero (e ∷ es) = ap (λ b. nat_lt k e.mount && b) (mixed-above k zero es)
+mixed-above k (suc i) [] = refl
+mixed-above k (suc i) (e ∷ es) = ap (λ b. nat_lt k e.mount && b) (mixed-above k i es)
+
+rises-mixed : (i : ℕ) (es : List Entry) → rises mount_of (mixed i es) ≡ rises mount_of (now_peers es)
+rises-mixed zero [] = refl
+rises-mixed zero (e ∷ es) = ap (λ b. b && rises mount_of (was_peers es)) (mixed-above e.mount zero es) ∙ ap (λ b. list_all (λ p. nat_lt e.mount (mount_of p)) (now_peers es) && b) (rises-mixed zero es)
+rises-mixed (suc i) [] = refl
+rises-mixed (suc i) (e ∷ es) = ap (λ b. b && rises mount_of (mixed i es)) (mixed-above e.mount i es) ∙ ap (λ b. list_all (λ p. nat_lt e.mount (mount_of p)) (now_peers es) && b) (rises-mixed i es)
+
+-- a row in the middle of a list is replaced
+above-middle : (k : ℕ) (xs : List Peer) (y : Peer) (ys : List Peer) → list_all (λ p. nat_lt k (mount_of p)) (xs ++ y ∷ ys) ≡ true → nat_lt k y.mount ≡ true
+above-middle k [] y ys h = grind (arith, nat_tests)
+above-middle k (x ∷ xs) y ys h = above-middle k xs y ys (grind (arith, nat_tests))
+
+put-middle : (x y : Peer) (xs ys : List Peer) → x.mount ≡ y.mount → rises mount_of (xs ++ y ∷ ys) ≡ true → put mount_of x (xs ++ y ∷ ys) ≡ xs ++ x ∷ ys
+put-middle x y [] ys same up = let k = x.mount in let m = y.mount in let low : ltb k m ≡ false = grind (arith, nat_tests) in let at : eqb k m ≡ true = grind (arith, nat_tests) in
+    ap (λ b. cond b (x ∷ y ∷ ys) (cond (eqb k m) (x ∷ ys) (y ∷ put mount_of x ys))) low ∙ ap (λ b. cond b (x ∷ ys) (y ∷ put mount_of x ys)) at
+put-middle x y (z ∷ xs) ys same up =
+    let high = above-middle z.mount xs y ys (grind (arith, nat_tests)) in
+    let low : ltb x.mount z.mount ≡ false = grind (arith, nat_tests) in
+    let off : eqb x.mount z.mount ≡ false = grind (arith, nat_tests) in
+    let rest : rises mount_of (xs ++ y ∷ ys) ≡ true = grind (arith, nat_tests) in
+    ap (λ b. cond b (x ∷ z ∷ (xs ++ y ∷ ys)) (cond (eqb x.mount z.mount) (x ∷ (xs ++ y ∷ ys)) (z ∷ put mount_of x (xs ++ y ∷ ys)))) low
+    ∙ ap (λ b. cond b (x ∷ (xs ++ y ∷ ys)) (z ∷ put mount_of x (xs ++ y ∷ ys))) off
+    ∙ ap (λ t. z ∷ t) (put-middle x y xs ys same rest)
+
+mixed-here : (i : ℕ) (es : List Entry) (d : Entry) → i < length es → mixed i es ≡ now_peers (take i es) ++ was_peer (get_or es i d) ∷ was_peers (drop (i + 1) es)
+mixed-here i es d l = ap (λ t. now_peers (take i es) ++ was_peers t) (drop_more es i d l)
+
+now-append : (xs ys : List Entry) → now_peers (xs ++ ys) ≡ now_peers xs ++ now_peers ys
+now-append [] ys = refl
+now-append (x ∷ xs) ys = ap (λ t. now_peer x ∷ t) (now-append xs ys)
+
+mixed-next : (es : List Entry) (i : ℕ) (d : Entry) → i < length es → now_peers (take i es) ++ now_peer (get_or es i d) ∷ was_peers (drop (i + 1) es) ≡ mixed (i + 1) es
+mixed-next es i d l =
+    sym (append_assoc (now_peers (take i es)) (now_peer (get_or es i d) ∷ []) (was_peers (drop (i + 1) es)))
+    ∙ ap (λ t. t ++ was_peers (drop (i + 1) es)) (sym (map_more now_peer es i d l))
+
+-- one entry more is listed by what it is
+pub mixed-step : (number : Peer → Option ℕ) (es : List Entry) (i : ℕ) (d : Entry) (rows : List ListRow) → i < length es → rises mount_of (now_peers es) ≡ true → rows ≡ rows_by mount_of number (mixed i es)
+    → with_number (get_or es i d).mount (number (now_peer (get_or es i d))) rows ≡ rows_by mount_of number (mixed (i + 1) es)
+mixed-step number es i d rows l up told =
+    let e = get_or es i d in
+    let here = mixed-here i es d l in
+    let rising : rises mount_of (now_peers (take i es) ++ was_peer e ∷ was_peers (drop (i + 1) es)) ≡ true = ap (rises mount_of) (sym here) ∙ rises-mixed i es ∙ up in
+    ap (with_number e.mount (number (now_peer e))) (told ∙ ap (rows_by mount_of number) here)
+    ∙ sym (put-by mount_of number (now_peer e) (now_peers (take i es) ++ was_peer e ∷ was_peers (drop (i + 1) es)) rising)
+    ∙ ap (rows_by mount_of number) (put-middle (now_peer e) (was_peer e) (now_peers (take i es)) (was_peers (drop (i + 1) es)) refl rising ∙ mixed-next es i d l)
+
+same-middle : (number : Peer → Option ℕ) (x y : Peer) (xs ys : List Peer) → x.mount ≡ y.mount → number x ≡ number y → rows_by mount_of number (xs ++ x ∷ ys) ≡ rows_by mount_of number (xs ++ y ∷ ys)
+same-middle number x y [] ys at same = (λ i. option_map_or (λ n. record { id = at i; number = n } ∷ rows_by mount_of number ys) (same i) (rows_by mount_of number ys))
+same-middle number x y (z ∷ xs) ys at same = ap (λ t. option_map_or (λ n. record { id = z.mount; number = n } ∷ t) (number z) t) (same-middle number x y xs ys at same)
+
+-- and one that is what it was
+pub mixed-same : (number : Peer → Option ℕ) (es : List Entry) (i : ℕ) (d : Entry) (rows : List ListRow) → i < length es → number (now_peer (get_or es i d)) ≡ number (was_peer (get_or es i d)) → rows ≡ rows_by mount_of number (mixed i es)
+    → rows ≡ rows_by mount_of number (mixed (i + 1) es)
+mixed-same number es i d rows l same told =
+    told ∙ ap (rows_by mount_of number) (mixed-here i es d l)
+    ∙ sym (same-middle number (now_peer (get_or es i d)) (was_peer (get_or es i d)) (now_peers (take i es)) (was_peers (drop (i + 1) es)) refl same)
+    ∙ ap (rows_by mount_of number) (mixed-next es i d l)
+
+-- settling changes no group
+pub rows-settled : (rs : List Entry) (i : ℕ) (xs : List Entry) → rows_by mount_of group_of (now_peers (map (settled_entry rs) (take i xs) ++ drop i xs)) ≡ rows_by mount_of group_of (now_peers xs)
+rows-settled rs zero xs = refl
+rows-settled rs (suc i) [] = refl
+rows-settled rs (suc i) (x ∷ xs) = ap (λ t. option_map_or (λ n. record { id = x.mount; number = n } ∷ t) x.state.group t) (rows-settled rs i xs)
+
+-- mounts are taken out
+pub rows-without : (number : Peer → Option ℕ) (gone : ℕ → Bool) (es : List Peer) → rows_by mount_of number (without (λ e. gone e.mount) es) ≡ without (λ (r : ListRow). gone r.id) (rows_by mount_of number es)
+rows-without number gone [] = refl
+rows-without number gone (e ∷ es) = go (number e) refl (gone e.mount) refl (rows-without number gone es)
+  where
+    go : (o : Option ℕ) → number e ≡ o → (b : Bool) → gone e.mount ≡ b → rows_by mount_of number (without (λ e. gone e.mount) es) ≡ without (λ (r : ListRow). gone r.id) (rows_by mount_of number es)
+        → rows_by mount_of number (cond (not b) (e ∷ without (λ e. gone e.mount) es) (without (λ e. gone e.mount) es))
+        ≡ without (λ (r : ListRow). gone r.id) (option_map_or (λ m. record { id = e.mount; number = m } ∷ rows_by mount_of number es) o (rows_by mount_of number es))
+    go None is true at ih = ih
+    go None is false at ih = ap (λ z. option_map_or (λ m. record { id = e.mount; number = m } ∷ rows_by mount_of number (without (λ e. gone e.mount) es)) z (rows_by mount_of number (without (λ e. gone e.mount) es))) is ∙ ih
+    go (Some m) is true at ih = ih ∙ sym (ap (λ b. cond (not b) (record { id = e.mount; number = m } ∷ without (λ (r : ListRow). gone r.id) (rows_by mount_of number es)) (without (λ (r : ListRow). gone r.id) (rows_by mount_of number es))) at)
+    go (Some m) is false at ih =
+        ap (λ z. option_map_or (λ m. record { id = e.mount; number = m } ∷ rows_by mount_of number (without (λ e. gone e.mount) es)) z (rows_by mount_of number (without (λ e. gone e.mount) es))) is ∙ ap (λ z. record { id = e.mount; number = m } ∷ z) ih
+        ∙ sym (ap (λ b. cond (not b) (record { id = e.mount; number = m } ∷ without (λ (r : ListRow). gone r.id) (rows_by mount_of number es)) (without (λ (r : ListRow). gone r.id) (rows_by mount_of number es))) at)
+
+pub listed-without : (gone : ℕ → Bool) (es : List Peer) (ms ss : List ListRow) → IsListed es ms ss
+    → IsListed (without (λ e. gone e.mount) es) (without (λ (r : ListRow). gone r.id) ms) (without (λ (r : ListRow). gone r.id) ss)
+listed-without gone es ms ss h = record {
+  rising = rises-filter mount_of (λ (e : Peer). not (gone e.mount)) es h.rising;
+  members_told = ap (without (λ (r : ListRow). gone r.id)) h.members_told ∙ sym (rows-without group_of gone es);
+  slaves_told = ap (without (λ (r : ListRow). gone r.id)) h.slaves_told ∙ sym (rows-without leader_of gone es);
+}
+
+pub listed-is : (es fs : List Peer) (ms ns ss ts : List ListRow) → es ≡ fs → ms ≡ ns → ss ≡ ts → IsListed fs ns ts → IsListed es ms ss
+listed-is es fs ms ns ss ts e f g h = record {
+  rising = ap (rises mount_of) e ∙ h.rising;
+  members_told = f ∙ h.members_told ∙ ap (rows_by mount_of group_of) (sym e);
+  slaves_told = g ∙ h.slaves_told ∙ ap (rows_by mount_of leader_of) (sym e);
+}

@@ -1,0 +1,42 @@
+-- The lists beside the entries, once states were changed and masters settled.
+use Rattle.std.proofs.Common.{◌≡◌, ℕ, List, [], ◌∷◌, map, refl, ap, ◌∙◌}
+use Rattle.std.specs.Option.{option_map_or}
+use Rattle.mt_skel.specs.Keyed.{rises, among}
+use Rattle.mt_skel.proofs.KeyedLaws.{rises-map}
+use Rattle.mt_lists.specs.Numbered.{rows_by}
+use Rattle.mt_peers.specs.declared.state.Kind.{Kind}
+use Rattle.mt_peers.specs.declared.entries.Entry.{Entry}
+use Rattle.mt_peers.specs.Peers.{Peering, mount_of}
+use Rattle.mt_peers.specs.Making.{changed_peer}
+use Rattle.mt_peers.specs.Entries.{was_peer, now_peers, was_peers, changed_entry, settled_entry}
+use Rattle.mt_peers.specs.Listed.{group_of}
+use Rattle.mt_peers.proofs.ChangeLaws.{settled, now-settled, was-changed, now-changed}
+
+-- the states before are those of the entries before
+module _ (k : Kind) (ids : List ℕ) (next : ℕ) (es rs : List Entry) (e : rs ≡ map (changed_entry k ids next es) es) where
+  pub was-made : was_peers rs ≡ now_peers es
+  was-made = ap was_peers e ∙ was-changed k ids next es es
+
+  pub rises-changed : rises mount_of (now_peers rs) ≡ rises mount_of (now_peers es)
+  rises-changed =
+      let p : Peering = record { peers = now_peers es; next = next } in
+      ap (λ t. rises mount_of (now_peers t)) e ∙ ap (rises mount_of) (now-changed k ids next es es) ∙ rises-map mount_of (changed_peer k (among ids) p) (λ x. refl) (now_peers es)
+
+was-settled : (rs xs : List Entry) → was_peers (map (settled_entry rs) xs) ≡ was_peers xs
+was-settled rs [] = refl
+was-settled rs (x ∷ xs) = ap (λ t. was_peer x ∷ t) (was-settled rs xs)
+
+groups-settled : (rs xs : List Entry) → rows_by mount_of group_of (now_peers (map (settled_entry rs) xs)) ≡ rows_by mount_of group_of (now_peers xs)
+groups-settled rs [] = refl
+groups-settled rs (x ∷ xs) = ap (λ t. option_map_or (λ n. record { id = x.mount; number = n } ∷ t) x.state.group t) (groups-settled rs xs)
+
+-- and those of the entries that are settled
+module _ (rs ts : List Entry) (e : ts ≡ map (settled_entry rs) rs) where
+  pub was-kept : was_peers ts ≡ was_peers rs
+  was-kept = ap was_peers e ∙ was-settled rs rs
+
+  pub rises-kept : rises mount_of (now_peers ts) ≡ rises mount_of (now_peers rs)
+  rises-kept = ap (λ t. rises mount_of (now_peers t)) e ∙ ap (rises mount_of) (now-settled rs rs) ∙ rises-map mount_of (settled (was_peers rs) (now_peers rs)) (λ x. refl) (now_peers rs)
+
+  pub groups-kept : rows_by mount_of group_of (now_peers ts) ≡ rows_by mount_of group_of (now_peers rs)
+  groups-kept = ap (λ t. rows_by mount_of group_of (now_peers t)) e ∙ groups-settled rs rs

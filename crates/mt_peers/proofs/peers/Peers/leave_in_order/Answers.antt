@@ -1,0 +1,33 @@
+use Rattle.std.proofs.Common.{◌≡◌, ℕ, List, not, refl, sym, ap, ◌∙◌, subst}
+use Rattle.std.specs.List.{filter, list_all}
+use Rattle.mt_skel.specs.Keyed.{among}
+use Rattle.mt_peers.specs.Peers.{Peer, Peering, PeersView, peering_of}
+use Rattle.mt_peers.specs.Loss.{left}
+use Rattle.mt_peers.specs.WellFormed.{IsPeering}
+use Rattle.mt_peers.specs.Entries.{now_peers}
+use Rattle.mt_peers.specs.Going.{may_go}
+use Rattle.mt_peers.proofs.LeavingLaws.{left-IsPeering}
+use Rattle.mt_peers.proofs.ListedLaws.{listed-is}
+use Rattle.mt_peers.proofs.GoingLaws.{going}
+use Rattle.mt_peers.proofs.peers.Peers.leave_in_order.Goals as goal
+
+-- the peering of states and a next group
+abbrev peering : List Peer → ℕ → Peering
+peering es n = record { peers = es; next = n }
+
+is_left : (c : goal.After-take_away) → peering_of c.take_away.new.self ≡ left (among c.args.ids.now) (peering_of c.args.self.now)
+is_left c =
+    let ok =
+    ap (λ (t : List ℕ). list_all (may_go c.self.inside.members.rows c.self.inside.slaves.rows (among t)) c.args.ids.now) (sym c.new.ensures)
+    ∙ sym c.may_all_go.ensures ∙ c.if-may_all_go.true in
+    let listed =
+    listed-is c.args.self.now.peers (now_peers c.self.inside.entries.items) _ _ _ _ (ap (λ (s : PeersView). s.peers) (sym c.self.view_is)) refl refl c.self.invariant in
+    ap (λ (es : List Peer). peering es c.take_away.new.self.next) c.take_away.ensures.peers
+    ∙ ap (λ (n : ℕ). peering (filter (λ (e : Peer). not (among c.args.ids.now e.mount)) c.args.self.now.peers) n) c.take_away.ensures.next
+    ∙ sym (going (peering_of c.args.self.now) c.requires.order c.args.ids.now c.self.inside.members.rows c.self.inside.slaves.rows listed ok)
+
+pub returns-then-may_all_go-clause-left : goal.returns-then-may_all_go-clause-left
+returns-then-may_all_go-clause-left c = is_left c
+
+pub returns-then-may_all_go-clause-kept : goal.returns-then-may_all_go-clause-kept
+returns-then-may_all_go-clause-kept c = subst IsPeering (sym (is_left c)) (left-IsPeering (peering_of c.args.self.now) c.requires.order (among c.args.ids.now))

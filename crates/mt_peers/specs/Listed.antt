@@ -1,0 +1,22 @@
+-- How `Peers` keep lists beside the states: of each group's members, and of each group's slaves. No public clause cites this
+-- module.
+-- A word with no source is this project's rule.
+use Rattle.std.specs.Prelude.{◌≡◌, ℕ, List, Option, IsTrue}
+use Rattle.mt_skel.specs.Keyed.{rises}
+use Rattle.mt_lists.specs.Lists.{ListRow}
+use Rattle.mt_lists.specs.Numbered.{rows_by}
+use Rattle.mt_peers.specs.Peers.{Peer, mount_of}
+
+-- the number of a mount in the list of members
+abbrev pub group_of : Peer → Option ℕ
+group_of e = e.state.group
+
+-- the number of a mount in the list of slaves
+abbrev pub leader_of : Peer → Option ℕ
+leader_of e = e.state.master
+
+-- both lists are those of the states
+pub record IsListed (es : List Peer) (members slaves : List ListRow) : Type 0 where
+  pub rising : IsTrue (rises mount_of es)
+  pub members_told : members ≡ rows_by mount_of group_of es
+  pub slaves_told : slaves ≡ rows_by mount_of leader_of es

@@ -1,0 +1,152 @@
+//! A change of many mounts at once: their states, their masters, and both lists after them.
+ghost use Rattle.std.specs.Prelude.{◌≡◌, List, ◌+◌, ◌<◌, ◌≤◌, ◌^◌, map, length, IsTrue};
+ghost use Rattle.mt_skel.specs.Keyed.{rises, among};
+ghost use Rattle.mt_lists.specs.Numbered.{rows_by};
+ghost use Rattle.mt_peers.specs.Peers.{Peer, mount_of, has_member};
+ghost use Rattle.mt_peers.specs.Masters.{master_of};
+ghost use Rattle.mt_peers.specs.Loss.{heir};
+ghost use Rattle.mt_peers.specs.Making.{made, is_shared};
+ghost use Rattle.mt_peers.specs.Entries.{now_peers, was_peers, settled_entry};
+ghost use Rattle.mt_peers.specs.Listed.{group_of, leader_of, IsListed};
+
+use crate::chosen::Chosen;
+use crate::entries::{Entry, change_all};
+use crate::state::{GroupId, Kind};
+use mt_lists::lists::Lists;
+
+/// Whether a group has a member, where the members of each group are listed.
+fn lives(members: &Lists, group: GroupId) -> bool
+    ensures { (es : List Peer) → members.now.rows ≡ rows_by mount_of group_of es → result ≡ has_member es group }
+{
+    members.count(group) > 0
+}
+
+/// The master of a group when the change began.
+fn old_master(entries: &[Entry], group: GroupId) -> Option<GroupId>
+    ensures { result ≡ master_of (was_peers entries.now) group }
+{
+    for entry in entries {
+        if entry.was.group == Some(group) {
+            return entry.was.master;
+        }
+    }
+    None
+}
+
+/// The first group that still lives of a master and the masters that were above it.
+fn first_living(entries: &[Entry], members: &Lists, master: Option<GroupId>) -> Option<GroupId>
+    requires listed { members.now.rows ≡ rows_by mount_of group_of (now_peers entries.now) }
+    ensures { result ≡ heir (was_peers entries.now) (now_peers entries.now) master }
+{
+    let mut group = master?;
+    'masters: for _step in 0..entries.len() {
+        if lives(members, group) {
+            return Some(group);
+        }
+        group = old_master(entries, group)?;
+    }
+    if lives(members, group) {
+        Some(group)
+    } else {
+        None
+    }
+}
+
+/// A master, and the one that a slave of it gets.
+#[derive(Clone, Copy)]
+struct Known {
+    master: Option<GroupId>,
+    heir: Option<GroupId>,
+}
+
+/// The first group that still lives of a master and the masters above it, which is not sought again where
+/// it is known.
+fn heir_of(
+    entries: &[Entry],
+    members: &Lists,
+    master: Option<GroupId>,
+    known: &Known,
+) -> Option<GroupId>
+    requires listed { members.now.rows ≡ rows_by mount_of group_of (now_peers entries.now) }
+    requires known { known.now.heir ≡ heir (was_peers entries.now) (now_peers entries.now) known.now.master }
+    ensures { result ≡ heir (was_peers entries.now) (now_peers entries.now) master }
+{
+    if master == known.master {
+        return known.heir;
+    }
+    first_living(entries, members, master)
+}
+
+/// Gives each mount whose master has gone the nearest living one above it. What was found for one slave
+/// serves those of the same master that follow it.
+fn settle_all(entries: &mut [Entry], members: &Lists)
+    requires listed { members.now.rows ≡ rows_by mount_of group_of (now_peers entries.old) }
+    ensures { entries.new ≡ map (settled_entry entries.old) entries.old }
+{
+    let mut known = Known {
+        master: None,
+        heir: None,
+    };
+    for i in 0..entries.len() {
+        let master = entries[i].state.master;
+        let heir = heir_of(entries, members, master, &known);
+        known = Known { master, heir };
+        entries[i].state.master = heir;
+    }
+}
+
+/// Brings the list of members from what all states were to what they are.
+fn list_members(entries: &[Entry], members: &mut Lists)
+    requires rising { IsTrue (rises mount_of (now_peers entries.now)) }
+    requires room { length entries.now ≤ members.old.room }
+    requires listed { members.old.rows ≡ rows_by mount_of group_of (was_peers entries.now) }
+    ensures listed { members.new.rows ≡ rows_by mount_of group_of (now_peers entries.now) }
+    ensures room { members.old.room ≤ members.new.room + length entries.now }
+{
+    for entry in entries {
+        if entry.state.group != entry.was.group {
+            members.set(entry.mount, entry.state.group);
+        }
+    }
+}
+
+/// Brings the list of slaves from what all states were to what they are.
+fn list_slaves(entries: &[Entry], slaves: &mut Lists)
+    requires rising { IsTrue (rises mount_of (now_peers entries.now)) }
+    requires room { length entries.now ≤ slaves.old.room }
+    requires listed { slaves.old.rows ≡ rows_by mount_of leader_of (was_peers entries.now) }
+    ensures listed { slaves.new.rows ≡ rows_by mount_of leader_of (now_peers entries.now) }
+    ensures room { slaves.old.room ≤ slaves.new.room + length entries.now }
+{
+    for entry in entries {
+        if entry.state.master != entry.was.master {
+            slaves.set(entry.mount, entry.state.master);
+        }
+    }
+}
+
+/// Changes the states of these mounts, settles all masters and lists both anew. Returns the next new
+/// group.
+pub(crate) fn make_entries(
+    entries: &mut [Entry],
+    members: &mut Lists,
+    slaves: &mut Lists,
+    ids: &Chosen<'_>,
+    kind: Kind,
+    next: GroupId,
+) -> GroupId
+    requires listed { IsListed (now_peers entries.old) members.old.rows slaves.old.rows }
+    requires members_room { length entries.old ≤ members.old.room }
+    requires slaves_room { length entries.old ≤ slaves.old.room }
+    requires numbered { IsTrue (is_shared kind) → next + length entries.old < 2 ^ 64 }
+    ensures made { record { peers = now_peers entries.new; next = result } ≡ made kind (among ids.now) (record { peers = now_peers entries.old; next = next }) }
+    ensures listed { IsListed (now_peers entries.new) members.new.rows slaves.new.rows }
+    ensures members_room { members.old.room ≤ members.new.room + length entries.old }
+    ensures slaves_room { slaves.old.room ≤ slaves.new.room + length entries.old }
+{
+    let after = change_all(entries, ids, kind, next);
+    list_members(entries, members);
+    settle_all(entries, members);
+    list_slaves(entries, slaves);
+    after
+}
