@@ -10,3 +10,4 @@ mod entries;
 mod heads;
 mod links;
 pub mod lists;
+pub mod log;
