@@ -1,63 +1,99 @@
 //! The options of a `setattr` line.
 ghost use Rattle.std.specs.Prelude.{◌≡◌, Some, None};
-ghost use Rattle.std.specs.List.{list_all, list_any};
-ghost use Rattle.std.specs.Option.{option_map};
+ghost use Rattle.std.specs.List.{list_all};
+ghost use Rattle.std.specs.Option.{option_copied, option_map, option_map_or};
 ghost use Rattle.mt_words.specs.Words.{pieces};
-ghost use Rattle.mt_requests.specs.Options.{has_key, is_option, is_repeated, are_options, is_set_word, is_clr_word, lists, set_words, clr_words, kind_of, said, set_of, clr_of, prop_of, is_recursive, change_of};
+ghost use Rattle.mt_requests.specs.Gathered.{nothing_gathered, gathered_with, options_of};
+ghost use Rattle.mt_requests.specs.Options.{is_set_word, is_clr_word, lists, nothing_set, nothing_cleared, set_words, clr_words, kind_of, change_of};
 
 use mt_peers::state::Kind;
 use mt_setattr::change::{Change, ClrWords, SetWords};
 use mt_words::words::{Pieces, Words};
+use std::marker::Model;
 
-/// Whether a word is `rec`, or a key with what stands behind it.
-fn is_option(word: &[u8]) -> bool
-    ensures { result ≡ is_option word.now }
-{
-    word == b"rec".as_slice()
-        || word.starts_with(b"set=")
-        || word.starts_with(b"clr=")
-        || word.starts_with(b"prop=")
+/// The options that were there, with what each says behind its key.
+#[derive(Drop)]
+struct Options<'a> {
+    /// Whether `rec` was there.
+    recursive: bool,
+    /// The list of `set=`.
+    set: Option<&'a [u8]>,
+    /// The list of `clr=`.
+    clr: Option<&'a [u8]>,
+    /// The word of `prop=`.
+    prop: Option<&'a [u8]>,
 }
 
-/// Whether all words are options.
-fn all_options(words: Words<'_>) -> bool
-    ensures { result ≡ list_all is_option words.entry }
-{
-    let mut words = words;
-    words.all(|word| is_option(word))
+impl<'a> Model for Options<'a> {
+    ghost use Rattle.std.specs.Option.{option_copied};
+    ghost use Rattle.mt_requests.specs.Gathered.{Gathered};
+
+    ghost Value = { Gathered };
+
+    ghost view = { λ o. record {
+      recursive = o.recursive;
+      set = option_copied o.set;
+      clr = option_copied o.clr;
+      prop = option_copied o.prop;
+    } };
 }
 
-/// Whether an option has the key.
-fn has_option(words: Words<'_>, key: &[u8]) -> bool
-    ensures { result ≡ list_any (has_key key.now) words.entry }
-{
-    let mut words = words;
-    words.any(|word| word.starts_with(key))
-}
-
-/// Whether more than one option has the key.
-#[tactic(auto, using(crate::proofs::OptionLaws::repeated_first))]
-fn is_repeated(words: Words<'_>, key: &[u8]) -> bool
-    ensures { result ≡ is_repeated words.entry key.now }
-{
-    let mut words = words;
-    'words: while let Some(word) = words.next() {
-        if word.starts_with(key) {
-            return has_option(words, key);
+impl<'a> Options<'a> {
+    /// No options.
+    fn new() -> Options<'a>
+        ensures { result ≡ nothing_gathered }
+    {
+        Options {
+            recursive: false,
+            set: None,
+            clr: None,
+            prop: None,
         }
     }
-    false
+
+    /// These options with one more word, or `None` where it is no option or its key was there.
+    fn with(self, word: &'a [u8]) -> Option<Options<'a>>
+        ensures { result ≡ gathered_with self.entry word.now }
+    {
+        if word == b"rec".as_slice() {
+            return (!self.recursive).then_some(Options {
+                recursive: true,
+                ..self
+            });
+        }
+        if let Some(list) = word.strip_prefix(b"set=") {
+            return self.set.is_none().then_some(Options {
+                set: Some(list),
+                ..self
+            });
+        }
+        if let Some(list) = word.strip_prefix(b"clr=") {
+            return self.clr.is_none().then_some(Options {
+                clr: Some(list),
+                ..self
+            });
+        }
+        if let Some(kind) = word.strip_prefix(b"prop=") {
+            return self.prop.is_none().then_some(Options {
+                prop: Some(kind),
+                ..self
+            });
+        }
+        None
+    }
 }
 
-/// Whether all words are options, and none has its key twice.
-fn are_options(words: &Words<'_>) -> bool
-    ensures { result ≡ are_options words.now }
+/// The options of these words, or `None` where a word is none or a key is there twice.
+#[tactic(auto, using(crate::proofs::OptionLaws::gathered_all))]
+fn options_of(words: Words<'_>) -> Option<Options<'_>>
+    ensures { result ≡ options_of words.entry }
 {
-    all_options(words.again())
-        && !is_repeated(words.again(), b"rec")
-        && !is_repeated(words.again(), b"set=")
-        && !is_repeated(words.again(), b"clr=")
-        && !is_repeated(words.again(), b"prop=")
+    let mut words = words;
+    let mut options = Options::new();
+    'words: while let Some(word) = words.next() {
+        options = options.with(word)?;
+    }
+    Some(options)
 }
 
 /// Whether a list that is written with commas has the word.
@@ -164,25 +200,11 @@ fn kind_of(word: &[u8]) -> Option<Kind>
     }
 }
 
-/// What the first option that has the key says behind it.
-fn said<'a>(words: Words<'a>, key: &[u8]) -> Option<&'a [u8]>
-    ensures { option_map (λ text. text.now) result ≡ said key.now None (λ text. Some text) words.entry }
+/// What the list of `set=` sets, if it does so rightly.
+fn set_of(list: Option<&[u8]>) -> Option<SetWords>
+    ensures { result ≡ option_map_or set_words (option_copied list.entry) (Some nothing_set) }
 {
-    let mut words = words;
-    'words: while let Some(word) = words.next() {
-        if let Some(text) = word.strip_prefix(key) {
-            return Some(text);
-        }
-    }
-    None
-}
-
-/// What the options set, if they do so rightly.
-#[tactic(auto, using(crate::proofs::OptionLaws::read_said))]
-fn set_of(words: Words<'_>) -> Option<SetWords>
-    ensures { result ≡ set_of words.entry }
-{
-    if let Some(list) = said(words, b"set=") {
+    if let Some(list) = list {
         return set_words(list);
     }
     Some(SetWords {
@@ -198,12 +220,11 @@ fn set_of(words: Words<'_>) -> Option<SetWords>
     })
 }
 
-/// What the options clear, if they do so rightly.
-#[tactic(auto, using(crate::proofs::OptionLaws::read_said))]
-fn clr_of(words: Words<'_>) -> Option<ClrWords>
-    ensures { result ≡ clr_of words.entry }
+/// What the list of `clr=` clears, if it does so rightly.
+fn clr_of(list: Option<&[u8]>) -> Option<ClrWords>
+    ensures { result ≡ option_map_or clr_words (option_copied list.entry) (Some nothing_cleared) }
 {
-    if let Some(list) = said(words, b"clr=") {
+    if let Some(list) = list {
         return clr_words(list);
     }
     Some(ClrWords {
@@ -217,40 +238,27 @@ fn clr_of(words: Words<'_>) -> Option<ClrWords>
     })
 }
 
-/// What the options make mounts, if they do so rightly.
-#[tactic(auto, using(crate::proofs::OptionLaws::read_said))]
-fn prop_of(words: Words<'_>) -> Option<Option<Kind>>
-    ensures { result ≡ prop_of words.entry }
+/// What the word of `prop=` makes mounts, if it does so rightly.
+fn prop_of(word: Option<&[u8]>) -> Option<Option<Kind>>
+    ensures { result ≡ option_map_or (λ word. option_map (λ kind. Some kind) (kind_of word)) (option_copied word.entry) (Some None) }
 {
-    match said(words, b"prop=") {
+    match word {
         Some(word) => Some(Some(kind_of(word)?)),
         None => Some(None),
     }
 }
 
-/// Whether the options ask for a change of all mounts below too.
-#[tactic(auto, using(crate::proofs::OptionLaws::read_said))]
-fn is_recursive(words: Words<'_>) -> bool
-    ensures { result ≡ is_recursive words.entry }
-{
-    said(words, b"rec").is_some()
-}
-
 /// The change that the options of a `setattr` line say, or `None` where a word is none of them, one
 /// is there twice, or a list is empty or has a word that is not its own.
+#[tactic(auto, using(crate::proofs::OptionLaws::change_by_options))]
 pub fn change_of(words: &Words<'_>) -> Option<Change>
     ensures { result ≡ change_of words.now }
 {
-    if !are_options(words) {
-        return None;
-    }
-    let set = set_of(words.again())?;
-    let clr = clr_of(words.again())?;
-    let prop = prop_of(words.again())?;
+    let options = options_of(words.again())?;
     Some(Change {
-        set,
-        clr,
-        prop,
-        recursive: is_recursive(words.again()),
+        set: set_of(options.set)?,
+        clr: clr_of(options.clr)?,
+        prop: prop_of(options.prop)?,
+        recursive: options.recursive,
     })
 }
