@@ -1,7 +1,9 @@
--- The options of a `setattr` line, as they are gathered word by word.
+-- The options of a `setattr` line and the words of their lists, as they are gathered one by one.
 -- A word with no source is this project's rule.
 use Rattle.std.specs.Prelude.{ℕ, Bool, true, false, if◌then◌else◌, List, drop, Option, Some, None, is_some, codes}
 use Rattle.std.specs.Str.{bytes_eq}
+use Rattle.mt_setattr.specs.declared.change.SetWords.{SetWords}
+use Rattle.mt_setattr.specs.declared.change.ClrWords.{ClrWords}
 use Rattle.mt_requests.specs.Options.{has_key, are_options, said, is_recursive}
 
 -- the options that were there, with what each says behind its key
@@ -15,7 +17,7 @@ pub record Gathered : Type 0 where
 abbrev pub nothing_gathered : Gathered
 nothing_gathered = record { recursive = false; set = None; clr = None; prop = None }
 
--- with one more word; none where it is no option, or its key was there
+-- with one more word, of which what stands behind its key is kept; none where it is no option, or its key was there
 abbrev pub gathered_with : Gathered → List ℕ → Option Gathered
 gathered_with g word =
     if bytes_eq word (codes "rec") then (if g.recursive then None else Some (record g { recursive = true }))
@@ -34,3 +36,27 @@ options_of options =
       prop = said (codes "prop=") None (λ text. Some text) options;
     })
     else None
+
+-- what is set with one more word; none where it is no attribute that can be set
+abbrev pub set_with : SetWords → List ℕ → Option SetWords
+set_with s word =
+    if bytes_eq word (codes "ro") then Some (record s { ro = true })
+    else (if bytes_eq word (codes "nosuid") then Some (record s { nosuid = true })
+    else (if bytes_eq word (codes "nodev") then Some (record s { nodev = true })
+    else (if bytes_eq word (codes "noexec") then Some (record s { noexec = true })
+    else (if bytes_eq word (codes "nosymfollow") then Some (record s { nosymfollow = true })
+    else (if bytes_eq word (codes "nodiratime") then Some (record s { nodiratime = true })
+    else (if bytes_eq word (codes "relatime") then Some (record s { relatime = true })
+    else (if bytes_eq word (codes "noatime") then Some (record s { noatime = true })
+    else (if bytes_eq word (codes "strictatime") then Some (record s { strictatime = true }) else None))))))))
+
+-- what is cleared with one more word; none where it is no attribute that can be cleared
+abbrev pub cleared_with : ClrWords → List ℕ → Option ClrWords
+cleared_with c word =
+    if bytes_eq word (codes "ro") then Some (record c { ro = true })
+    else (if bytes_eq word (codes "nosuid") then Some (record c { nosuid = true })
+    else (if bytes_eq word (codes "nodev") then Some (record c { nodev = true })
+    else (if bytes_eq word (codes "noexec") then Some (record c { noexec = true })
+    else (if bytes_eq word (codes "nosymfollow") then Some (record c { nosymfollow = true })
+    else (if bytes_eq word (codes "nodiratime") then Some (record c { nodiratime = true })
+    else (if bytes_eq word (codes "atime") then Some (record c { atime = true }) else None))))))

@@ -1,10 +1,8 @@
 //! The options of a `setattr` line.
 ghost use Rattle.std.specs.Prelude.{◌≡◌, Some, None};
-ghost use Rattle.std.specs.List.{list_all};
 ghost use Rattle.std.specs.Option.{option_copied, option_map, option_map_or};
-ghost use Rattle.mt_words.specs.Words.{pieces};
-ghost use Rattle.mt_requests.specs.Gathered.{nothing_gathered, gathered_with, options_of};
-ghost use Rattle.mt_requests.specs.Options.{is_set_word, is_clr_word, lists, nothing_set, nothing_cleared, set_words, clr_words, kind_of, change_of};
+ghost use Rattle.mt_requests.specs.Gathered.{nothing_gathered, gathered_with, options_of, set_with, cleared_with};
+ghost use Rattle.mt_requests.specs.Options.{nothing_set, nothing_cleared, set_words, clr_words, kind_of, change_of};
 
 use mt_peers::state::Kind;
 use mt_setattr::change::{Change, ClrWords, SetWords};
@@ -96,91 +94,116 @@ fn options_of(words: Words<'_>) -> Option<Options<'_>>
     Some(options)
 }
 
-/// Whether a list that is written with commas has the word.
-fn lists(list: &[u8], word: &[u8]) -> bool
-    ensures { result ≡ lists list.now word.now }
+/// Nothing is set.
+fn nothing_set() -> SetWords
+    ensures { result ≡ nothing_set }
 {
-    Pieces::new(b',', list).any(|listed| listed == word)
+    SetWords {
+        ro: false,
+        nosuid: false,
+        nodev: false,
+        noexec: false,
+        nosymfollow: false,
+        nodiratime: false,
+        relatime: false,
+        noatime: false,
+        strictatime: false,
+    }
 }
 
-/// Whether a word is an attribute that can be set.
-fn is_set_word(word: &[u8]) -> bool
-    ensures { result ≡ is_set_word word.now }
+/// Nothing is cleared.
+fn nothing_cleared() -> ClrWords
+    ensures { result ≡ nothing_cleared }
 {
-    word == b"ro".as_slice()
-        || word == b"nosuid".as_slice()
-        || word == b"nodev".as_slice()
-        || word == b"noexec".as_slice()
-        || word == b"nosymfollow".as_slice()
-        || word == b"nodiratime".as_slice()
-        || word == b"relatime".as_slice()
-        || word == b"noatime".as_slice()
-        || word == b"strictatime".as_slice()
+    ClrWords {
+        ro: false,
+        nosuid: false,
+        nodev: false,
+        noexec: false,
+        nosymfollow: false,
+        nodiratime: false,
+        atime: false,
+    }
 }
 
-/// Whether a word is an attribute that can be cleared.
-fn is_clr_word(word: &[u8]) -> bool
-    ensures { result ≡ is_clr_word word.now }
+/// What is set with one more word, or `None` where it is no attribute that can be set.
+fn set_with(set: SetWords, word: &[u8]) -> Option<SetWords>
+    ensures { result ≡ set_with set word.now }
 {
-    word == b"ro".as_slice()
-        || word == b"nosuid".as_slice()
-        || word == b"nodev".as_slice()
-        || word == b"noexec".as_slice()
-        || word == b"nosymfollow".as_slice()
-        || word == b"nodiratime".as_slice()
-        || word == b"atime".as_slice()
+    let mut set = set;
+    if word == b"ro".as_slice() {
+        set.ro = true;
+    } else if word == b"nosuid".as_slice() {
+        set.nosuid = true;
+    } else if word == b"nodev".as_slice() {
+        set.nodev = true;
+    } else if word == b"noexec".as_slice() {
+        set.noexec = true;
+    } else if word == b"nosymfollow".as_slice() {
+        set.nosymfollow = true;
+    } else if word == b"nodiratime".as_slice() {
+        set.nodiratime = true;
+    } else if word == b"relatime".as_slice() {
+        set.relatime = true;
+    } else if word == b"noatime".as_slice() {
+        set.noatime = true;
+    } else if word == b"strictatime".as_slice() {
+        set.strictatime = true;
+    } else {
+        return None;
+    }
+    Some(set)
 }
 
-/// Whether each word of a list can be set.
-fn sets_only(list: &[u8]) -> bool
-    ensures { result ≡ list_all is_set_word (pieces 44 list.now) }
+/// What is cleared with one more word, or `None` where it is no attribute that can be cleared.
+fn cleared_with(clr: ClrWords, word: &[u8]) -> Option<ClrWords>
+    ensures { result ≡ cleared_with clr word.now }
 {
-    Pieces::new(b',', list).all(|word| is_set_word(word))
-}
-
-/// Whether each word of a list can be cleared.
-fn clears_only(list: &[u8]) -> bool
-    ensures { result ≡ list_all is_clr_word (pieces 44 list.now) }
-{
-    Pieces::new(b',', list).all(|word| is_clr_word(word))
+    let mut clr = clr;
+    if word == b"ro".as_slice() {
+        clr.ro = true;
+    } else if word == b"nosuid".as_slice() {
+        clr.nosuid = true;
+    } else if word == b"nodev".as_slice() {
+        clr.nodev = true;
+    } else if word == b"noexec".as_slice() {
+        clr.noexec = true;
+    } else if word == b"nosymfollow".as_slice() {
+        clr.nosymfollow = true;
+    } else if word == b"nodiratime".as_slice() {
+        clr.nodiratime = true;
+    } else if word == b"atime".as_slice() {
+        clr.atime = true;
+    } else {
+        return None;
+    }
+    Some(clr)
 }
 
 /// The attributes that a list of words sets, if it has no other words.
+#[tactic(auto, using(crate::proofs::SetLaws::set_folded))]
 fn set_words(list: &[u8]) -> Option<SetWords>
     ensures { result ≡ set_words list.now }
 {
-    if !sets_only(list) {
-        return None;
+    let mut words = Pieces::new(b',', list);
+    let mut set = nothing_set();
+    'words: while let Some(word) = words.next() {
+        set = set_with(set, word)?;
     }
-    Some(SetWords {
-        ro: lists(list, b"ro"),
-        nosuid: lists(list, b"nosuid"),
-        nodev: lists(list, b"nodev"),
-        noexec: lists(list, b"noexec"),
-        nosymfollow: lists(list, b"nosymfollow"),
-        nodiratime: lists(list, b"nodiratime"),
-        relatime: lists(list, b"relatime"),
-        noatime: lists(list, b"noatime"),
-        strictatime: lists(list, b"strictatime"),
-    })
+    Some(set)
 }
 
 /// The attributes that a list of words clears, if it has no other words.
+#[tactic(auto, using(crate::proofs::SetLaws::cleared_folded))]
 fn clr_words(list: &[u8]) -> Option<ClrWords>
     ensures { result ≡ clr_words list.now }
 {
-    if !clears_only(list) {
-        return None;
+    let mut words = Pieces::new(b',', list);
+    let mut clr = nothing_cleared();
+    'words: while let Some(word) = words.next() {
+        clr = cleared_with(clr, word)?;
     }
-    Some(ClrWords {
-        ro: lists(list, b"ro"),
-        nosuid: lists(list, b"nosuid"),
-        nodev: lists(list, b"nodev"),
-        noexec: lists(list, b"noexec"),
-        nosymfollow: lists(list, b"nosymfollow"),
-        nodiratime: lists(list, b"nodiratime"),
-        atime: lists(list, b"atime"),
-    })
+    Some(clr)
 }
 
 /// What mounts are made by a word.
@@ -204,43 +227,29 @@ fn kind_of(word: &[u8]) -> Option<Kind>
 fn set_of(list: Option<&[u8]>) -> Option<SetWords>
     ensures { result ≡ option_map_or set_words (option_copied list.entry) (Some nothing_set) }
 {
-    if let Some(list) = list {
-        return set_words(list);
+    match list {
+        Some(list) => set_words(list),
+        None => Some(nothing_set()),
     }
-    Some(SetWords {
-        ro: false,
-        nosuid: false,
-        nodev: false,
-        noexec: false,
-        nosymfollow: false,
-        nodiratime: false,
-        relatime: false,
-        noatime: false,
-        strictatime: false,
-    })
 }
 
 /// What the list of `clr=` clears, if it does so rightly.
 fn clr_of(list: Option<&[u8]>) -> Option<ClrWords>
     ensures { result ≡ option_map_or clr_words (option_copied list.entry) (Some nothing_cleared) }
 {
-    if let Some(list) = list {
-        return clr_words(list);
+    match list {
+        Some(list) => clr_words(list),
+        None => Some(nothing_cleared()),
     }
-    Some(ClrWords {
-        ro: false,
-        nosuid: false,
-        nodev: false,
-        noexec: false,
-        nosymfollow: false,
-        nodiratime: false,
-        atime: false,
-    })
 }
 
 /// What the word of `prop=` makes mounts, if it does so rightly.
 fn prop_of(word: Option<&[u8]>) -> Option<Option<Kind>>
-    ensures { result ≡ option_map_or (λ word. option_map (λ kind. Some kind) (kind_of word)) (option_copied word.entry) (Some None) }
+    ensures { result
+        ≡ option_map_or
+        (λ word. option_map (λ kind. Some kind) (kind_of word))
+        (option_copied word.entry)
+        (Some None) }
 {
     match word {
         Some(word) => Some(Some(kind_of(word)?)),
