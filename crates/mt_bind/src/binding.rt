@@ -2,6 +2,7 @@
 ghost use Rattle.std.specs.Prelude.{◌≡◌, ◌≢◌, ◌^◌, ◌<◌, cond, true, false, IfOk, IfErr, OnErr, IsOkUnless, Ok, Err, [], ◌∷◌};
 ghost use Rattle.mt_propagate.specs.World.{world_view, state_of};
 ghost use Rattle.mt_propagate.specs.WellFormed.{IsWellFormed};
+ghost use Rattle.mt_propagate.specs.Touched.{since_view};
 ghost use Rattle.mt_propagate.specs.Plans.{source_of};
 ghost use Rattle.mt_bind.specs.Sources.{alone, tree_within};
 ghost use Rattle.mt_bind.specs.Mounting.{bound};
@@ -65,6 +66,7 @@ fn bind_from(
     ensures refused { IfErr result (λ fault. fault ≢ Fault.NoMemory → bound (world_view world.old) space recursive from.now to.now ≡ Err fault) }
     ensures unchanged { OnErr result (world_view world.new ≡ world_view world.old) }
     ensures kept { IsWellFormed (world_view world.new) }
+    ensures since { since_view world.new ≡ since_view world.old }
 {
     let source = world.forest.walk(&world.skel, space, from)?;
     let place = world.forest.walk(&world.skel, space, to)?;
@@ -98,6 +100,7 @@ pub fn bind(world: &mut World, space: SpaceId, from: &[Name], to: &[Name]) -> Re
     ensures refused { IfErr result (λ fault. fault ≢ Fault.NoMemory → bound (world_view world.old) space false from.now to.now ≡ Err fault) }
     ensures unchanged { OnErr result (world_view world.new ≡ world_view world.old) }
     ensures kept { IsWellFormed (world_view world.new) }
+    ensures since { since_view world.new ≡ since_view world.old }
 {
     bind_from(world, space, false, from, to)
 }
@@ -120,6 +123,7 @@ pub fn rbind(
     ensures refused { IfErr result (λ fault. fault ≢ Fault.NoMemory → bound (world_view world.old) space true from.now to.now ≡ Err fault) }
     ensures unchanged { OnErr result (world_view world.new ≡ world_view world.old) }
     ensures kept { IsWellFormed (world_view world.new) }
+    ensures since { since_view world.new ≡ since_view world.old }
 {
     bind_from(world, space, true, from, to)
 }

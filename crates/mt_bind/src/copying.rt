@@ -5,6 +5,7 @@ ghost use Rattle.mt_mounts.specs.Forest.{id_of};
 ghost use Rattle.mt_peers.specs.Peers.{mount_of, peers_of};
 ghost use Rattle.mt_propagate.specs.World.{world_view};
 ghost use Rattle.mt_propagate.specs.WellFormed.{HasDistinctPlaces, HasOneRoot, IsWellFormed};
+ghost use Rattle.mt_propagate.specs.Touched.{since_view};
 ghost use Rattle.mt_bind.specs.Spaces.{copy_space};
 ghost use Rattle.mt_bind.specs.Copying.{copy_of, peer_of};
 
@@ -84,6 +85,7 @@ fn make_room(world: &mut World, more: usize) -> Result<(), Fault>
     ensures room { OnOk result ((more ≤ world.new.forest.room) × (more ≤ world.new.peers.room)) }
     ensures memory { IsOkUnless result Fault.NoMemory }
     ensures world { world_view world.new ≡ world_view world.old }
+    ensures since { since_view world.new ≡ since_view world.old }
 {
     world.forest.reserve(more)?;
     world.peers.reserve(more)?;
@@ -103,6 +105,7 @@ fn add_space(world: &mut World, mounts: &[Mount], states: &[(MountId, State)]) -
     ensures same { (world.new.skel ≡ world.old.skel) × (world.new.peers.next ≡ world.old.peers.next) }
     ensures next { (world.new.next_mount ≡ world.old.next_mount + length mounts.now) × (world.new.next_space ≡ world.old.next_space + 1) }
     ensures space { result ≡ world.old.next_space }
+    ensures since { since_view world.new ≡ since_view world.old }
 {
     let space = world.next_space;
     insert_all(&mut world.forest, mounts);
@@ -125,6 +128,7 @@ pub fn copy_space(world: &mut World, space: SpaceId) -> Result<SpaceId, Fault>
     ensures refused { IfErr result (λ fault. fault ≢ Fault.NoMemory → copy_space (world_view world.old) space false ≡ Err fault) }
     ensures unchanged { OnErr result (world_view world.new ≡ world_view world.old) }
     ensures kept { IsWellFormed (world_view world.new) }
+    ensures since { since_view world.new ≡ since_view world.old }
 {
     if world.forest.root(space).is_none() {
         return Err(Fault::NoNamespace);

@@ -2,6 +2,7 @@
 ghost use Rattle.std.specs.Prelude.{◌≡◌, ◌≢◌, ◌^◌, ◌<◌, IfOk, IfErr, OnErr, Ok, Err};
 ghost use Rattle.mt_propagate.specs.World.{world_view};
 ghost use Rattle.mt_propagate.specs.WellFormed.{IsWellFormed};
+ghost use Rattle.mt_propagate.specs.Touched.{since_view};
 ghost use Rattle.mt_bind.specs.Mounting.{mounted};
 
 use mt_mounts::mount::{MountId, SpaceId};
@@ -23,6 +24,7 @@ pub fn mount(world: &mut World, space: SpaceId, fs: &Label, path: &[Name]) -> Re
     ensures refused { IfErr result (λ fault. fault ≢ Fault.NoMemory → mounted (world_view world.old) space fs.now path.now ≡ Err fault) }
     ensures unchanged { OnErr result (world_view world.new ≡ world_view world.old) }
     ensures kept { IsWellFormed (world_view world.new) }
+    ensures since { since_view world.new ≡ since_view world.old }
 {
     let Some(fs) = world.skel.fs(fs) else {
         return Err(Fault::NoFilesystem);

@@ -5,6 +5,7 @@ ghost use Rattle.std.specs.Option.{option_map_or};
 ghost use Rattle.mt_mounts.specs.Forest.{parent};
 ghost use Rattle.mt_propagate.specs.World.{world_view, group_of, state_of};
 ghost use Rattle.mt_propagate.specs.WellFormed.{IsWellFormed};
+ghost use Rattle.mt_propagate.specs.Touched.{since_view};
 ghost use Rattle.mt_bind.specs.Mounting.{moved};
 
 use crate::binding::is_unbindable;
@@ -73,6 +74,7 @@ pub fn move_mount(
     ensures refused { IfErr result (λ fault. fault ≢ Fault.NoMemory → moved (world_view world.old) space from.now to.now ≡ Err fault) }
     ensures unchanged { OnErr result (world_view world.new ≡ world_view world.old) }
     ensures kept { IsWellFormed (world_view world.new) }
+    ensures since { since_view world.new ≡ since_view world.old }
 {
     let source = world.forest.walk(&world.skel, space, from)?;
     if !is_mount_root(world, source) {

@@ -3,6 +3,7 @@ ghost use Rattle.std.specs.Prelude.{◌≡◌, ◌≢◌, ◌^◌, ◌<◌, ◌|
 ghost use Rattle.mt_propagate.specs.World.{world_view};
 ghost use Rattle.mt_propagate.specs.Limits.{too_many_mounts, too_many_spaces};
 ghost use Rattle.mt_propagate.specs.WellFormed.{IsWellFormed};
+ghost use Rattle.mt_propagate.specs.Touched.{since_view};
 ghost use Rattle.mt_bind.specs.Spaces.{new_space};
 
 use mt_mounts::mount::{Attrs, Mount, SpaceId};
@@ -30,6 +31,7 @@ pub fn new_space(world: &mut World, fs: &Label) -> Result<SpaceId, Fault>
     ensures refused { IfErr result (λ fault. fault ≢ Fault.NoMemory → new_space (world_view world.old) fs.now ≡ Err fault) }
     ensures unchanged { OnErr result (world_view world.new ≡ world_view world.old) }
     ensures kept { IsWellFormed (world_view world.new) }
+    ensures since { since_view world.new ≡ since_view world.old }
 {
     let Some(fs) = world.skel.fs(fs) else {
         return Err(Fault::NoFilesystem);

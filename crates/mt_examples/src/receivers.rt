@@ -158,7 +158,7 @@ fn is_agreed_everywhere(world: &World) -> Result<bool, Fault> {
 }
 
 /// Does a command, whether it is refused or not. Refused as `NoMemory`, also where no number is left.
-fn do_one(world: &mut World, command: &Command) -> Result<(), Fault>
+pub(crate) fn do_one(world: &mut World, command: &Command) -> Result<(), Fault>
     requires well_formed { IsWellFormed (world_view world.old) }
     ensures kept { IsWellFormed (world_view world.new) }
 {

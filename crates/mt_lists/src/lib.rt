@@ -6,6 +6,7 @@
 //! would find (`specs/Numbered.antt`).
 #![tactic(auto)]
 
+pub mod earlier;
 mod entries;
 mod heads;
 mod links;

@@ -21,7 +21,7 @@ attrs_of i a x = record x { attrs = cond (eqb x.id i) a x.attrs }
 abbrev pub place_of : ℕ → Place → Mount → Mount
 place_of i p x = record x { place = cond (eqb x.id i) (Some p) x.place }
 
-attrs_other : (i : ℕ) (a : Attrs) (x : Mount) → x.id ≢ i → attrs_of i a x ≡ x
+pub attrs_other : (i : ℕ) (a : Attrs) (x : Mount) → x.id ≢ i → attrs_of i a x ≡ x
 attrs_other i a x ne = ap (λ b. record x { attrs = cond b a x.attrs }) (ne_eqb x.id i ne)
 
 pub place_other : (i : ℕ) (p : Place) (x : Mount) → x.id ≢ i → place_of i p x ≡ x

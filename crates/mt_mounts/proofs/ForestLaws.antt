@@ -85,7 +85,7 @@ single_without ms i r f = record {
 
 -- one row changed, as a change of all rows
 module _ (f : Mount → Mount) (keeps : (x : Mount) → (f x).id ≡ x.id) (i : ℕ) (others : (x : Mount) → x.id ≢ i → f x ≡ x) (ms : List Mount) (r : rises id_of ms ≡ true) where
-  others_same : (q : ℕ) → q ≢ i → row_at id_of q (map f ms) ≡ row_at id_of q ms
+  pub others_same : (q : ℕ) → q ≢ i → row_at id_of q (map f ms) ≡ row_at id_of q ms
   others_same q ne = row_at-map id_of f keeps q ms ∙ go (row_at id_of q ms) refl
     where
       go : (o : Option Mount) → row_at id_of q ms ≡ o → option_map f o ≡ o

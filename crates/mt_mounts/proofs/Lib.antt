@@ -2,6 +2,7 @@ pub mod SlotLaws
 pub mod TableLaws
 pub mod ForestLaws
 pub mod ChangeLaws
+pub mod SinceLaws
 pub mod PlaceLaws
 pub mod IndexLaws
 pub mod AnswerLaws

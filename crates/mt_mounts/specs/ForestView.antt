@@ -7,15 +7,18 @@ use Rattle.mt_mounts.specs.declared.mount.Place.{Place}
 use Rattle.mt_mounts.specs.declared.mount.Attrs.{Attrs}
 use Rattle.mt_mounts.specs.declared.mount.Mount.{Mount}
 
--- A forest is its mounts by rising ID, and how many insertions need no more memory.
+-- A forest is its mounts by rising ID, those that it had when changes began to be noted, and how many changes need no
+-- more memory.
 pub record ForestView : Type 0 where
   pub mounts : List Mount
+  pub since : List Mount
   pub room : ℕ
 
--- A table is stored as the pair of its fields.
+-- A forest is stored as its fields.
 abbrev pub forest_code : Coded Mount → Coded ForestView
 forest_code code =
-    code_by (List Mount × ℕ) (coded× (coded_list code) coded_ℕ) (λ t. (t.mounts, t.room)) (λ p. record { mounts = p.0; room = p.1 }) (λ _. refl)
+    code_by (List Mount × (List Mount × ℕ)) (coded× (coded_list code) (coded× (coded_list code) coded_ℕ)) (λ f. (f.mounts, (f.since, f.room)))
+    (λ p. record { mounts = p.0; since = p.1.0; room = p.1.1 }) (λ _. refl)
 
 -- A change of attributes is one of a single mount, and the other mounts of its filesystem keep theirs (this project's rule, after the per-mount flags of mount(2)).
 abbrev pub with_attrs : ℕ → Attrs → List Mount → List Mount

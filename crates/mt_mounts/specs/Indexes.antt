@@ -5,10 +5,11 @@ use Rattle.std.specs.Option.{option_map}
 use Rattle.indexmap.specs.IndexMap.{get, spare}
 use Rattle.mt_skel.specs.Keyed.{rises}
 use Rattle.mt_lists.specs.Numbered.{rows_by}
+use Rattle.mt_lists.specs.Log.{AreAlikeBut}
 use Rattle.mt_mounts.specs.declared.mount.Place.{Place}
 use Rattle.mt_mounts.specs.declared.mount.Mount.{Mount}
 use Rattle.mt_mounts.specs.declared.indexes.Indexes.{Indexes}
-use Rattle.mt_mounts.specs.Forest.{id_of, on, place_eq}
+use Rattle.mt_mounts.specs.Forest.{id_of, mount_at, on, place_eq}
 use Rattle.mt_mounts.specs.Tree.{IsSingle}
 
 -- The mount that a mount stands on.
@@ -34,9 +35,10 @@ pub record IsIndexed (ms : List Mount) (x : Indexes) : Type 0 where
 abbrev pub room_of : Indexes → ℕ
 room_of x = min (spare x.places) (min x.children.room (min x.spaces.room x.roots.room))
 
--- The mounts of a forest rise by their IDs, no two stand at one place and no two are roots of one namespace, and the
--- indexes answer of them.
-pub record IsForest (ms : List Mount) (x : Indexes) : Type 0 where
+-- The mounts of a forest rise by their IDs, no two stand at one place and no two are roots of one namespace, the
+-- indexes answer of them, and each mount that is not as it was is noted.
+pub record IsForest (ms : List Mount) (x : Indexes) (since : List Mount) (noted : List ℕ) : Type 0 where
   pub rising : IsTrue (rises id_of ms)
   pub single : IsSingle ms
   pub indexed : IsIndexed ms x
+  pub known : AreAlikeBut noted (mount_at since) (mount_at ms)

@@ -3,12 +3,15 @@ ghost use Rattle.std.specs.Prelude.{◌≡◌, ◌+◌, ◌<◌, ◌≤◌, [], 
 ghost use Rattle.std.specs.Option.{ForSome, option_map};
 ghost use Rattle.mt_skel.specs.Keyed.{put, rises};
 ghost use Rattle.mt_lists.specs.Lists.{first};
+ghost use Rattle.mt_lists.specs.Log.{AreAlikeBut};
 ghost use Rattle.mt_mounts.specs.Forest.{id_of, mount_at, on, root_mount, roots, parent, top, children, next_child, mounts_in, next_in};
 ghost use Rattle.mt_mounts.specs.ForestView.{with_attrs, with_place, without_id};
 
 use crate::indexes::Indexes;
 use crate::mount::{Attrs, Mount, MountId, Place, SpaceId};
 use crate::table::Table;
+use mt_lists::earlier::Earlier;
+use mt_lists::log::Log;
 use mt_skel::fault::Fault;
 use std::alloc::Global;
 use std::marker::Model;
@@ -25,13 +28,20 @@ use std::marker::Model;
 /// and a list of mounts that of its own length, and of a sort where it is a list of all or a subtree.
 /// A mount that moves is put among the children of its new parent from the end of their list, past
 /// those with higher IDs. No change takes memory but `reserve`.
+///
+/// It notes the ID of each mount that comes, goes or is changed, so that [`touched`](Forest::touched)
+/// names all that are not as they were at the last [`begin`](Forest::begin).
 pub struct Forest {
     table: Table,
     indexes: Indexes,
+    log: Log,
+    /// The mounts at the last `begin`, for contracts alone: it has no bytes.
+    since: Earlier<Table>,
 }
 
 impl Model for Forest {
     ghost use Rattle.std.specs.Prelude.{min};
+    ghost use Rattle.mt_lists.specs.Log.{earlier};
     ghost use Rattle.mt_mounts.specs.ForestView.{ForestView, forest_code};
 
     ghost Value = { ForestView };
@@ -42,9 +52,9 @@ impl Model for Forest {
 
     ghost use Rattle.mt_mounts.specs.Indexes.{room_of, IsForest};
 
-    ghost view = { λ f. record { mounts = f.table.mounts; room = min f.table.room (room_of f.indexes) } };
+    ghost view = { λ f. record { mounts = f.table.mounts; since = earlier f.since.seen.items (λ t. t.mounts); room = min f.table.room (min (room_of f.indexes) f.log.room) } };
 
-    ghost invariant = { λ f. IsForest f.table.mounts f.indexes };
+    ghost invariant = { λ f. IsForest f.table.mounts f.indexes (earlier f.since.seen.items (λ t. t.mounts)) f.log.ids };
 }
 
 // Written out, so that whoever owns a forest lets it go as one thing.
@@ -53,6 +63,8 @@ impl Drop for Forest {
         let Forest {
             table: _table,
             indexes: _indexes,
+            log: _log,
+            since: _since,
         } = self;
     }
 }
@@ -60,34 +72,64 @@ impl Drop for Forest {
 impl Forest {
     /// A forest without mounts, which takes its memory from `alloc`.
     pub fn new(alloc: Global) -> Self
-        ensures { result.mounts ≡ [] }
+        ensures mounts { result.mounts ≡ [] }
+        ensures since { result.since ≡ [] }
     {
+        let table = Table::new(alloc);
         Forest {
-            table: Table::new(alloc),
+            since: Earlier::of(&table),
+            table,
             indexes: Indexes::new(alloc),
+            log: Log::new(alloc),
         }
     }
 
-    /// A forest of equal mounts. Refused as `NoMemory` alone.
+    /// A forest of equal mounts, in which none is touched. Refused as `NoMemory` alone.
     pub fn copy(&self) -> Result<Forest, Fault>
         ensures copy { IfOk result (λ forest. forest.mounts ≡ self.now.mounts) }
+        ensures since { IfOk result (λ forest. forest.since ≡ self.now.mounts) }
         ensures memory { IsOkUnless result Fault.NoMemory }
     {
+        let table = self.table.copy()?;
+        let indexes = self.indexes.copy()?;
         Ok(Forest {
-            table: self.table.copy()?,
-            indexes: self.indexes.copy()?,
+            since: Earlier::of(&table),
+            table,
+            indexes,
+            log: Log::new(self.allocator()),
         })
     }
 
-    /// Makes room for so many more mounts, and changes none. Refused as `NoMemory` alone.
+    /// From now on [`touched`](Forest::touched) names what is not as it is now. It takes no memory, and keeps the room.
+    pub fn begin(&mut self)
+        ensures mounts { self.new.mounts ≡ self.old.mounts }
+        ensures since { self.new.since ≡ self.old.mounts }
+        ensures room { self.old.room ≤ self.new.room }
+    {
+        self.log.clear();
+        self.since = Earlier::of(&self.table);
+    }
+
+    /// The IDs of the mounts that came, went or were changed since the last [`begin`](Forest::begin), or since the
+    /// forest was made, in any order. One may be there more than once.
+    pub fn touched(&self) -> &[MountId]
+        ensures { AreAlikeBut result.now (mount_at self.now.since) (mount_at self.now.mounts) }
+    {
+        self.log.ids()
+    }
+
+    /// Makes room for so many changes, each of one mount that comes, goes or is changed, and changes none.
+    /// Refused as `NoMemory` alone.
     pub fn reserve(&mut self, additional: usize) -> Result<(), Fault>
         ensures room { OnOk result (additional ≤ self.new.room) }
         ensures memory { IsOkUnless result Fault.NoMemory }
         ensures keeps { self.old.room ≤ self.new.room }
         ensures mounts { self.new.mounts ≡ self.old.mounts }
+        ensures since { self.new.since ≡ self.old.since }
     {
         self.table.reserve(additional)?;
         self.indexes.reserve(additional)?;
+        self.log.reserve(additional)?;
         Ok(())
     }
 
@@ -118,30 +160,40 @@ impl Forest {
         requires free { ForSome mount.place (λ p. on self.old.mounts p ≡ None) }
         requires rootless { mount.place ≡ None → root_mount self.old.mounts mount.space ≡ None }
         ensures mounts { self.new.mounts ≡ put id_of mount self.old.mounts }
+        ensures since { self.new.since ≡ self.old.since }
         ensures room { self.old.room ≤ self.new.room + 1 }
     {
         self.indexes.insert(mount);
         self.table.insert(mount);
+        self.log.add(mount.id);
     }
 
-    /// Takes the mount with this ID away, if it is there. What is mounted on it stays.
+    /// Takes the mount with this ID away, if it is there. What is mounted on it stays. It needs no
+    /// memory: [`reserve`](Forest::reserve) has made room.
     pub fn remove(&mut self, id: MountId)
+        requires room { 0 < self.old.room }
         ensures mounts { self.new.mounts ≡ without_id id self.old.mounts }
-        ensures room { self.old.room ≤ self.new.room }
+        ensures since { self.new.since ≡ self.old.since }
+        ensures room { self.old.room ≤ self.new.room + 1 }
     {
         if let Some(mount) = self.table.get(id) {
             self.indexes.remove(mount);
             self.table.remove(id);
+            self.log.add(mount.id);
         }
     }
 
-    /// Gives the mount with this ID, if it is there, these attributes.
+    /// Gives the mount with this ID, if it is there, these attributes. It needs no memory:
+    /// [`reserve`](Forest::reserve) has made room.
     pub fn set_attrs(&mut self, id: MountId, attrs: Attrs)
+        requires room { 0 < self.old.room }
         ensures mounts { self.new.mounts ≡ with_attrs id attrs self.old.mounts }
-        ensures room { self.old.room ≤ self.new.room }
+        ensures since { self.new.since ≡ self.old.since }
+        ensures room { self.old.room ≤ self.new.room + 1 }
         ensures rising { IsTrue (rises id_of self.old.mounts) }
     {
         self.table.set_attrs(id, attrs);
+        self.log.add(id);
     }
 
     /// Moves the mount with this ID, if it is there, to a place that is free. What is mounted on it
@@ -151,11 +203,13 @@ impl Forest {
         requires room { 0 < self.old.room }
         requires free { on self.old.mounts place ≡ None }
         ensures mounts { self.new.mounts ≡ with_place id place self.old.mounts }
+        ensures since { self.new.since ≡ self.old.since }
         ensures room { self.old.room ≤ self.new.room + 1 }
     {
         if let Some(mount) = self.table.get(id) {
             self.indexes.set_place(mount, place);
             self.table.set_place(id, place);
+            self.log.add(mount.id);
         }
     }
 

@@ -26,13 +26,13 @@ impl Model for Table {
     ghost use Rattle.std.specs.Prelude.{◌-◌, min};
     ghost use Rattle.slab.specs.Slab.{slab_len};
     ghost use Rattle.indexmap.specs.IndexMap.{spare};
-    ghost use Rattle.mt_mounts.specs.ForestView.{ForestView, forest_code};
+    ghost use Rattle.mt_mounts.specs.TableView.{TableView, table_code};
 
-    ghost Value = { ForestView };
+    ghost Value = { TableView };
 
     ghost use Rattle.mt_mounts.specs.contracts.mount.Mount as mount;
 
-    ghost coded = { forest_code mount.the_row.coded };
+    ghost coded = { table_code mount.the_row.coded };
 
     ghost use Rattle.mt_mounts.specs.Slots.{slab_mounts, IsKeyed};
 

@@ -25,3 +25,4 @@ pub mod ChosenLaws
 pub mod FoundLaws
 pub mod RelistLaws
 pub mod GoingLaws
+pub mod SinceLaws

@@ -5,7 +5,8 @@ use Rattle.std.specs.Prelude.{◌≡◌, ℕ, List, Option, IsTrue}
 use Rattle.mt_skel.specs.Keyed.{rises}
 use Rattle.mt_lists.specs.Lists.{ListRow}
 use Rattle.mt_lists.specs.Numbered.{rows_by}
-use Rattle.mt_peers.specs.Peers.{Peer, mount_of}
+use Rattle.mt_lists.specs.Log.{AreAlikeBut}
+use Rattle.mt_peers.specs.Peers.{Peer, mount_of, state_at}
 
 -- the number of a mount in the list of members
 abbrev pub group_of : Peer → Option ℕ
@@ -20,3 +21,8 @@ pub record IsListed (es : List Peer) (members slaves : List ListRow) : Type 0 wh
   pub rising : IsTrue (rises mount_of es)
   pub members_told : members ≡ rows_by mount_of group_of es
   pub slaves_told : slaves ≡ rows_by mount_of leader_of es
+
+-- both lists are those of the states, and each mount whose state is not as it was is noted
+pub record IsKept (es : List Peer) (members slaves : List ListRow) (since : List Peer) (noted : List ℕ) : Type 0 where
+  pub listed : IsListed es members slaves
+  pub known : AreAlikeBut noted (state_at since) (state_at es)

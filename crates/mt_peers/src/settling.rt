@@ -140,6 +140,7 @@ pub(crate) fn make_entries(
     requires slaves_room { length entries.old ≤ slaves.old.room }
     requires numbered { IsTrue (is_shared kind) → next + length entries.old < 2 ^ 64 }
     ensures made { record { peers = now_peers entries.new; next = result } ≡ made kind (among ids.now) (record { peers = now_peers entries.old; next = next }) }
+    ensures was { was_peers entries.new ≡ now_peers entries.old }
     ensures listed { IsListed (now_peers entries.new) members.new.rows slaves.new.rows }
     ensures members_room { members.old.room ≤ members.new.room + length entries.old }
     ensures slaves_room { slaves.old.room ≤ slaves.new.room + length entries.old }

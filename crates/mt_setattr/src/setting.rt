@@ -6,6 +6,7 @@ ghost use Rattle.mt_mounts.specs.Forest.{id_of};
 ghost use Rattle.mt_peers.specs.Making.{made};
 ghost use Rattle.mt_propagate.specs.World.{world_view};
 ghost use Rattle.mt_propagate.specs.WellFormed.{IsWellFormed};
+ghost use Rattle.mt_propagate.specs.Touched.{since_view};
 ghost use Rattle.mt_setattr.specs.Change.{clashes, changed_atime, changed_attrs, changed_mount, with_change, attributed};
 
 use crate::change::Change;
@@ -65,9 +66,11 @@ fn attrs_after(change: &Change, attrs: &Attrs) -> Attrs
 }
 
 /// Changes the attributes of these mounts. One that is listed twice is changed once, since a change
-/// that comes again does nothing.
+/// that comes again does nothing. There is room for as many changes.
 fn change_attrs(forest: &mut Forest, ids: &[MountId], change: &Change)
-    ensures { forest.new.mounts ≡ map (changed_mount change.now (among ids.now)) forest.old.mounts }
+    requires room { length ids.now ≤ forest.old.room }
+    ensures mounts { forest.new.mounts ≡ map (changed_mount change.now (among ids.now)) forest.old.mounts }
+    ensures since { forest.new.since ≡ forest.old.since }
 {
     for id in ids {
         if let Some(mount) = forest.get(*id) {
@@ -76,25 +79,29 @@ fn change_attrs(forest: &mut Forest, ids: &[MountId], change: &Change)
     }
 }
 
-/// Makes room for a change of whichever mounts, and changes nothing: new attributes need none, and a
-/// new propagation needs it for as many mounts as there are. Refused as `NoMemory` alone.
-fn reserve_change(world: &mut World, change: &Change) -> Result<(), Fault>
+/// Makes room for a change of so many mounts, and changes nothing: new attributes need it for each of them,
+/// and a new propagation for as many mounts as there are. Refused as `NoMemory` alone.
+fn reserve_change(world: &mut World, count: usize, change: &Change) -> Result<(), Fault>
+    ensures attrs { OnOk result (count ≤ world.new.forest.room) }
     ensures room { OnOk result (IsTrue (is_some change.now.prop) → length world.new.peers.peers ≤ world.new.peers.room) }
     ensures memory { IsOkUnless result Fault.NoMemory }
     ensures world { world_view world.new ≡ world_view world.old }
+    ensures since { since_view world.new ≡ since_view world.old }
 {
+    world.forest.reserve(count)?;
     if change.prop.is_some() {
         world.reserve_states()?;
     }
     Ok(())
 }
 
-/// Changes these mounts, all at once. It takes no memory: [`reserve_change`] has made room where the
-/// change has a propagation.
+/// Changes these mounts, all at once. It takes no memory: [`reserve_change`] has made room.
 fn change_all(world: &mut World, ids: &[MountId], change: &Change)
+    requires attrs { length ids.now ≤ world.old.forest.room }
     requires room { IsTrue (is_some change.now.prop) → length world.old.peers.peers ≤ world.old.peers.room }
     requires numbered { world.old.peers.next < 2 ^ 63 }
-    ensures { world_view world.new ≡ record (world_view world.old) { forest = map (changed_mount change.now (among ids.now)) world.old.forest.mounts; peering = option_map_or (λ k. made k (among ids.now) (world_view world.old).peering) change.now.prop (world_view world.old).peering } }
+    ensures world { world_view world.new ≡ record (world_view world.old) { forest = map (changed_mount change.now (among ids.now)) world.old.forest.mounts; peering = option_map_or (λ k. made k (among ids.now) (world_view world.old).peering) change.now.prop (world_view world.old).peering } }
+    ensures since { since_view world.new ≡ since_view world.old }
 {
     change_attrs(&mut world.forest, ids, change);
     if let Some(kind) = change.prop {
@@ -109,12 +116,14 @@ fn change_from(world: &mut World, top: MountId, change: &Change) -> Result<(), F
     ensures done { OnOk result (world_view world.new ≡ with_change (world_view world.old) change.now top) }
     ensures memory { IsOkUnless result Fault.NoMemory }
     ensures unchanged { OnErr result (world_view world.new ≡ world_view world.old) }
+    ensures since { since_view world.new ≡ since_view world.old }
 {
-    reserve_change(world, change)?;
     if change.recursive {
         let ids = world.forest.subtree(top)?;
+        reserve_change(world, ids.len(), change)?;
         change_all(world, &ids, change);
     } else {
+        reserve_change(world, 1, change)?;
         change_all(world, &[top], change);
     }
     Ok(())
@@ -126,7 +135,7 @@ fn change_from(world: &mut World, top: MountId, change: &Change) -> Result<(), F
 /// Refused as `NoNamespace` where the namespace is not there, `NoEntry` where a directory of the
 /// path is not, `NotMountRoot` where the path does not end at the root of a mount, `BadAttr` where
 /// two access times are set, or one while the access time is not taken away, and as `NoMemory`;
-/// then nothing has changed. Only a change that is recursive or has a propagation takes memory.
+/// then nothing has changed.
 #[tactic(auto, unfolding(crate::specs::Change::attributed))]
 pub fn set_attr(
     world: &mut World,
@@ -139,6 +148,7 @@ pub fn set_attr(
     ensures refused { IfErr result (λ fault. fault ≢ Fault.NoMemory → attributed (world_view world.old) space path.now change.now ≡ Err fault) }
     ensures unchanged { OnErr result (world_view world.new ≡ world_view world.old) }
     ensures kept { IsWellFormed (world_view world.old) → IsWellFormed (world_view world.new) }
+    ensures since { since_view world.new ≡ since_view world.old }
 {
     let place = world.forest.walk(&world.skel, space, path)?;
     if !is_mount_root(world, place) {

@@ -1,5 +1,5 @@
 //! Unmounts.
-ghost use Rattle.std.specs.Prelude.{◌≡◌, ◌≢◌, ◌++◌, ◌≤◌, length, Ok, Err, IfOk, IfErr, OnOk, OnErr, IsOkUnless};
+ghost use Rattle.std.specs.Prelude.{◌≡◌, ◌≢◌, ◌+◌, ◌++◌, ◌≤◌, length, Ok, Err, IfOk, IfErr, OnOk, OnErr, IsOkUnless};
 ghost use Rattle.std.specs.List.{list_any, filter_map};
 ghost use Rattle.mt_mounts.specs.Forest.{root_place, stands_on};
 ghost use Rattle.mt_skel.specs.Keyed.{among};
@@ -7,6 +7,7 @@ ghost use Rattle.mt_peers.specs.Peers.{peering_of};
 ghost use Rattle.mt_peers.specs.WellFormed.{IsPeering};
 ghost use Rattle.mt_propagate.specs.World.{world_view};
 ghost use Rattle.mt_propagate.specs.WellFormed.{IsWellFormed};
+ghost use Rattle.mt_propagate.specs.Touched.{since_view};
 ghost use Rattle.mt_propagate.specs.Carried.{IsFree};
 ghost use Rattle.mt_unmount.specs.Unmounting.{place_of, may_go, removed, unmounted};
 ghost use Rattle.mt_unmount.specs.Detaching.{AreRemoved, going_at, slide_past, slid_past, relocation_past, staying, detached};
@@ -162,22 +163,25 @@ fn relocations(world: &World, gone: &Gone) -> Result<Vec<(MountId, Place)>, Faul
     Ok(relocations)
 }
 
-/// Makes room to move so many mounts and to change the states of all, and changes nothing. Refused as
-/// `NoMemory` alone.
-fn make_room(world: &mut World, moves: usize) -> Result<(), Fault>
-    ensures moves { OnOk result (moves ≤ world.new.forest.room) }
+/// Makes room to take these mounts away, to move others and to change the states of all, and changes nothing.
+/// Refused as `NoMemory` alone.
+fn make_room(world: &mut World, gone: &Gone, relocations: &[(MountId, Place)]) -> Result<(), Fault>
+    ensures mounts { OnOk result (length gone.now + length relocations.now ≤ world.new.forest.room) }
     ensures states { OnOk result (length world.new.peers.peers ≤ world.new.peers.room) }
     ensures memory { IsOkUnless result Fault.NoMemory }
     ensures world { world_view world.new ≡ world_view world.old }
+    ensures since { since_view world.new ≡ since_view world.old }
 {
-    world.forest.reserve(moves)?;
+    world.forest.reserve(gone.ids().len() + relocations.len())?;
     world.reserve_states()
 }
 
-/// Takes these mounts away, one after the other.
+/// Takes these mounts away, one after the other. There is room for as many changes.
 fn remove_all(forest: &mut Forest, ids: &[MountId])
+    requires room { length ids.now ≤ forest.old.room }
     ensures mounts { forest.new.mounts ≡ staying ids.now forest.old.mounts }
-    ensures room { forest.old.room ≤ forest.new.room }
+    ensures since { forest.new.since ≡ forest.old.since }
+    ensures room { forest.old.room ≤ forest.new.room + length ids.now }
 {
     for id in ids {
         forest.remove(*id);
@@ -188,9 +192,10 @@ fn remove_all(forest: &mut Forest, ids: &[MountId])
 fn detach(world: &mut World, gone: &Gone, relocations: &[(MountId, Place)])
     requires order { IsPeering (peering_of world.old.peers) }
     requires states { length world.old.peers.peers ≤ world.old.peers.room }
-    requires moves { length relocations.now ≤ world.old.forest.room }
+    requires mounts { length gone.now + length relocations.now ≤ world.old.forest.room }
     requires free { IsFree relocations.now (staying gone.now world.old.forest.mounts) }
-    ensures { world_view world.new ≡ detached gone.now relocations.now (world_view world.old) }
+    ensures world { world_view world.new ≡ detached gone.now relocations.now (world_view world.old) }
+    ensures since { since_view world.new ≡ since_view world.old }
 {
     remove_all(&mut world.forest, gone.ids());
     world.peers.leave_in_order(gone.ids());
@@ -210,6 +215,7 @@ pub fn unmount(world: &mut World, space: SpaceId, path: &[Name]) -> Result<(), F
     ensures refused { IfErr result (λ fault. fault ≢ Fault.NoMemory → unmounted (world_view world.old) space path.now ≡ Err fault) }
     ensures unchanged { OnErr result (world_view world.new ≡ world_view world.old) }
     ensures kept { IsWellFormed (world_view world.new) }
+    ensures since { since_view world.new ≡ since_view world.old }
 {
     let place = world.forest.walk(&world.skel, space, path)?;
     if !is_mount_root(world, place) {
@@ -223,7 +229,7 @@ pub fn unmount(world: &mut World, space: SpaceId, path: &[Name]) -> Result<(), F
     }
     let gone = gone(world, place.mount)?;
     let relocations = relocations(world, &gone)?;
-    make_room(world, relocations.len())?;
+    make_room(world, &gone, &relocations)?;
     detach(world, &gone, &relocations);
     Ok(())
 }

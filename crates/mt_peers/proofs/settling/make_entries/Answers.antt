@@ -50,3 +50,8 @@ returns-clause-listed c = record {
   members_told = c.list_members.ensures.listed ∙ sym (groups-kept c.change_all-after.new.entries c.settle_all.new.entries c.settle_all.ensures);
   slaves_told = c.list_slaves.ensures.listed;
 }
+
+pub returns-clause-was : goal.returns-clause-was
+returns-clause-was c =
+    was-kept c.change_all-after.new.entries c.settle_all.new.entries c.settle_all.ensures
+    ∙ was-made c.args.kind c.args.ids.now c.args.next c.args.entries.now c.change_all-after.new.entries c.change_all-after.ensures.entries

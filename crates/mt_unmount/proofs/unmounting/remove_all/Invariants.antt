@@ -1,4 +1,4 @@
-use Rattle.std.proofs.Common.{◌≡◌, ◌≤◌, drop}
+use Rattle.std.proofs.Common.{◌≡◌, ◌≤◌, ◌+◌, drop}
 use Rattle.mt_unmount.specs.Detaching.{staying}
 use Rattle.mt_unmount.proofs.unmounting.remove_all.Given as goal
 
@@ -6,5 +6,6 @@ use Rattle.mt_unmount.proofs.unmounting.remove_all.Given as goal
 abbrev pub invariant-loop-id : goal.invariant-loop-id
 invariant-loop-id l = record {
   left : staying (drop l.id-index l.ids) l.forest.mounts ≡ staying l.ids l.initial.forest.mounts;
-  room : l.initial.forest.room ≤ l.forest.room;
+  room : l.initial.forest.room ≤ l.forest.room + l.id-index;
+  since : l.forest.since ≡ l.initial.forest.since;
 }

@@ -1,7 +1,9 @@
-use Rattle.mt_mounts.proofs.KeptLaws.{forest_copied}
+use Rattle.std.proofs.Common.{ap}
+use Rattle.mt_lists.specs.Log.{earlier}
+use Rattle.mt_mounts.proofs.KeptLaws.{forest_begun}
 use Rattle.mt_mounts.proofs.forest.Forest.copy.Goals as goal
 
 pub invariant_of-result : goal.invariant_of-result
 invariant_of-result c =
-    forest_copied c.self.inside.table.mounts c.self.inside.indexes c.in_ok-copy-2.field-0 c.in_ok-copy.field-0.mounts c.in_ok-copy.ensures.copy
-    (c.in_ok-copy-2.ensures.copy c.self.inside.table.mounts c.self.invariant.indexed) c.self.invariant
+    forest_begun c.self.inside.table.mounts c.self.inside.indexes c.in_ok-indexes.indexes (earlier c.self.inside.since.seen.items (λ t. t.mounts)) c.self.inside.log.ids c.in_ok-table.table.mounts (earlier c.of.result.seen.items (λ t. t.mounts)) c.new.result.ids
+    c.in_ok-table.ensures.copy (ap (λ l. earlier l (λ t. t.mounts)) c.of.ensures) (c.in_ok-indexes.ensures.copy c.self.inside.table.mounts c.self.invariant.indexed) c.self.invariant

@@ -1,4 +1,5 @@
 use Rattle.std.proofs.Common.{ap, sym, ◌∙◌, refl}
+use Rattle.mt_lists.specs.Log.{earlier}
 use Rattle.mt_mounts.specs.Forest.{mount_at}
 use Rattle.mt_mounts.specs.ForestView.{with_place}
 use Rattle.mt_mounts.proofs.ForestLaws.{map_none}
@@ -13,9 +14,9 @@ invariant_of-self c =
     let there = sym c.in-Some.ensures in
     let fits = mount_fits c.self.inside.table.mounts c.args.id c.in-Some.mount there in
     let at_id = ap (mount_at c.self.inside.table.mounts) fits ∙ there in
-    forest_moved c.self.inside.table.mounts c.self.inside.indexes c.set_place.new.self f c.set_place-in-Some.new.self.mounts c.in-Some.mount c.args.place at_id
+    forest_moved c.self.inside.table.mounts c.self.inside.indexes c.set_place.new.self (earlier c.self.inside.since.seen.items (λ t. t.mounts)) c.self.inside.log.ids f c.set_place-in-Some.new.self.mounts c.add.new.self.ids c.in-Some.mount c.args.place at_id
     (rw e c.requires.free)
-    (c.set_place-in-Some.ensures.mounts ∙ ap (λ i. with_place i c.args.place c.self.inside.table.mounts) (sym fits))
+    (c.set_place-in-Some.ensures.mounts ∙ ap (λ i. with_place i c.args.place c.self.inside.table.mounts) (sym fits)) c.add.ensures.ids
     (c.set_place.ensures.indexed c.self.inside.table.mounts f.rising f.single at_id (rw e c.requires.free) f.indexed)
 
 pub returns-in_default-clause-mounts : goal.returns-in_default-clause-mounts

@@ -21,7 +21,7 @@ is_left c =
     ap (λ (t : List ℕ). list_all (may_go c.self.inside.members.rows c.self.inside.slaves.rows (among t)) c.args.ids.now) (sym c.new.ensures)
     ∙ sym c.may_all_go.ensures ∙ c.if-may_all_go.true in
     let listed =
-    listed-is c.args.self.now.peers (now_peers c.self.inside.entries.items) _ _ _ _ (ap (λ (s : PeersView). s.peers) (sym c.self.view_is)) refl refl c.self.invariant in
+    listed-is c.args.self.now.peers (now_peers c.self.inside.entries.items) _ _ _ _ (ap (λ (s : PeersView). s.peers) (sym c.self.view_is)) refl refl c.self.invariant.listed in
     ap (λ (es : List Peer). peering es c.take_away.new.self.next) c.take_away.ensures.peers
     ∙ ap (λ (n : ℕ). peering (filter (λ (e : Peer). not (among c.args.ids.now e.mount)) c.args.self.now.peers) n) c.take_away.ensures.next
     ∙ sym (going (peering_of c.args.self.now) c.requires.order c.args.ids.now c.self.inside.members.rows c.self.inside.slaves.rows listed ok)

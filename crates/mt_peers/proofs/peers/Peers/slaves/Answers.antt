@@ -8,6 +8,6 @@ use Rattle.mt_peers.proofs.peers.Peers.slaves.Goals as goal
 pub returns-clause-slaves : goal.returns-clause-slaves
 returns-clause-slaves c =
     subst (λ (xs : List ℕ). IfOk c.ids.result (λ found. found.items ≡ xs))
-    (slaves-listed (now_peers c.self.inside.entries.items) c.self.inside.members.rows c.self.inside.slaves.rows c.self.invariant c.args.group
+    (slaves-listed (now_peers c.self.inside.entries.items) c.self.inside.members.rows c.self.inside.slaves.rows c.self.invariant.listed c.args.group
     ∙ ap (λ (s : PeersView). slaves s.peers c.args.group) c.self.view_is)
     c.ids.ensures.ids
