@@ -12,3 +12,4 @@ pub mod NumberLaws
 pub mod BookLaws
 pub mod ReadingLaws
 pub mod MirrorLaws
+pub mod TouchedLaws

@@ -16,6 +16,7 @@ use crate::spare::{Spare, Tried, keep_level, level, try_on};
 use mt_events::shared::SharedPosts;
 use mt_info::table::{Table, table_of};
 use mt_mounts::mount::{MountId, SpaceId};
+use mt_propagate::touched::touched;
 use mt_propagate::world::World;
 use mt_skel::fault::Fault;
 use mt_skel::name::Name;
@@ -117,10 +118,12 @@ impl Book {
             }
             Tried::Changed(world, reply) => {
                 let copy = command.copy()?;
+                let ids = touched(&world)?;
                 let changes = changes_after(
                     self.alloc,
                     &self.world,
                     &world,
+                    &ids,
                     &self.numbers,
                     command,
                 )?;

@@ -1,19 +1,24 @@
 //! What a command changes in the tables of namespaces.
-ghost use Rattle.std.specs.Prelude.{◌≡◌, ℕ, ◌+◌, ◌++◌, ◌≤◌, IfOk, OnOk, IsOkUnless, map, length, slice_index_or};
+ghost use Rattle.std.specs.Prelude.{◌≡◌, ℕ, ◌+◌, ◌++◌, ◌≤◌, IfOk, OnOk, IsOkUnless, IsTrue, map, length, slice_index_or};
 ghost use Rattle.std.specs.Option.{option_to_list};
 ghost use Rattle.std.specs.Arc.{arc_value};
+ghost use Rattle.mt_skel.specs.Keyed.{rises};
 ghost use Rattle.mt_skel.specs.Skeleton.{IsSkeleton};
 ghost use Rattle.mt_propagate.specs.World.{world_view};
 ghost use Rattle.mt_propagate.specs.WellFormed.{IsWellFormed};
+ghost use Rattle.mt_propagate.specs.Touched.{IsTouched};
+ghost use Rattle.mt_info.specs.Table.{table_of};
+ghost use Rattle.mt_events.specs.Difference.{HoldsChanged};
 ghost use Rattle.mt_book.specs.Step.{next_world, makes_space};
 ghost use Rattle.mt_book.specs.Book.{next_number, next_post, counted, posted, with_newborn, command_limit};
 
 use crate::command::Command;
-use mt_events::change::change;
+use crate::parts::parts_of;
 use mt_events::post::Post;
 use mt_events::shared::SharedPosts;
-use mt_info::table::table_or_empty;
-use mt_mounts::mount::SpaceId;
+use mt_events::touched::change_of;
+use mt_info::touched::rows_touched;
+use mt_mounts::mount::{MountId, SpaceId};
 use mt_propagate::world::World;
 use mt_skel::fault::Fault;
 use std::alloc::Global;
@@ -39,24 +44,24 @@ fn numbers_before(alloc: Global, numbers: &[u64], more: bool) -> Result<Vec<u64>
     Ok(before)
 }
 
-/// The post of a namespace that had this number, if its table is not the same in two worlds. Refused
-/// as `NoMemory` alone.
+/// The post of a namespace that had this number, if its table is not the same in two worlds. No mounts are looked at but
+/// these, which have all whose rows differ. Refused as `NoMemory` alone.
 fn post_between(
-    alloc: Global,
     old: &World,
     new: &World,
+    ids: &[MountId],
     space: SpaceId,
     number: u64,
 ) -> Result<Option<Post>, Fault>
     requires old { IsWellFormed (world_view old.now) }
     requires new { IsWellFormed (world_view new.now) }
+    requires rising { IsTrue (rises (λ k. k) ids.now) }
+    requires held { HoldsChanged (table_of (world_view old.now) space) (table_of (world_view new.now) space) ids.now }
     requires few { number ≤ command_limit }
     ensures post { IfOk result (λ post. post ≡ next_post (world_view old.now) (world_view new.now) space number) }
     ensures memory { IsOkUnless result Fault.NoMemory }
 {
-    let before = table_or_empty(old, space)?;
-    let after = table_or_empty(new, space)?;
-    let Some(delta) = change(alloc, &before, &after)? else {
+    let Some(delta) = change_of(old, new, space, ids)? else {
         return Ok(None);
     };
     Ok(Some(Post::telling(space, number + 1, delta)))
@@ -83,40 +88,49 @@ fn push_change(
     posts: &mut Vec<Arc<Post>>,
     old: &World,
     new: &World,
+    ids: &[MountId],
     space: SpaceId,
     number: u64,
 ) -> Result<u64, Fault>
     requires old { IsWellFormed (world_view old.now) }
     requires new { IsWellFormed (world_view new.now) }
+    requires rising { IsTrue (rises (λ k. k) ids.now) }
+    requires held { HoldsChanged (table_of (world_view old.now) space) (table_of (world_view new.now) space) ids.now }
     requires few { number ≤ command_limit }
     ensures posts { OnOk result (map (λ p. arc_value p) posts.new.items ≡ map (λ p. arc_value p) posts.old.items ++ option_to_list (next_post (world_view old.now) (world_view new.now) space number)) }
     ensures number { IfOk result (λ k. k ≡ next_number (world_view old.now) (world_view new.now) space number) }
     ensures memory { IsOkUnless result Fault.NoMemory }
 {
-    let post = post_between(alloc, old, new, space, number)?;
+    let post = post_between(old, new, ids, space, number)?;
     let count = push_post(alloc, posts, post)?;
     Ok(number + count)
 }
 
-/// What changes between two worlds for namespaces that had these numbers. Refused as `NoMemory`
-/// alone.
+/// What changes between two worlds with the same directories, for namespaces that had these numbers. `touched` has each
+/// mount that changed. Refused as `NoMemory` alone.
 fn changes_between(
     alloc: Global,
     old: &World,
     new: &World,
+    touched: &[MountId],
     numbers: &[u64],
 ) -> Result<Changes, Fault>
     requires old { IsWellFormed (world_view old.now) }
     requires new { IsWellFormed (world_view new.now) }
+    requires skeleton { (world_view old.now).skel ≡ (world_view new.now).skel }
+    requires touched { IsTouched (world_view old.now) (world_view new.now) touched.now }
     requires few { (i : ℕ) → slice_index_or numbers.now i 0 ≤ command_limit }
     ensures numbers { IfOk result (λ changes. changes.numbers.items ≡ counted (world_view old.now) (world_view new.now) 1 numbers.now) }
     ensures posts { IfOk result (λ changes. changes.posts ≡ posted (world_view old.now) (world_view new.now) 1 numbers.now) }
     ensures memory { IsOkUnless result Fault.NoMemory }
 {
+    let ids = rows_touched(old, new, touched)?;
+    let parts = parts_of(alloc, old, new, &ids, numbers.len())?;
     let mut after = Vec::with_capacity(alloc, numbers.len())?;
     let mut posts = Vec::new(alloc);
     'spaces: for i in 0..numbers.len() {
-        let number = push_change(alloc, &mut posts, old, new, i as u64 + 1, numbers[i])?;
+        let part = parts[i].as_slice();
+        let number = push_change(alloc, &mut posts, old, new, part, i as u64 + 1, numbers[i])?;
         after.push(number)?;
     }
     Ok(Changes {
@@ -125,13 +139,15 @@ fn changes_between(
     })
 }
 
-/// What a command changes for namespaces that had these numbers. Refused as `NoMemory` alone.
+/// What a command changes for namespaces that had these numbers. `touched` has each mount that it changed. Refused as
+/// `NoMemory` alone.
 ///
 /// A command that makes directories changes no table, and so none is looked at.
 pub(crate) fn changes_after(
     alloc: Global,
     old: &World,
     new: &World,
+    touched: &[MountId],
     numbers: &[u64],
     command: &Command,
 ) -> Result<Changes, Fault>
@@ -139,6 +155,7 @@ pub(crate) fn changes_after(
     requires skeleton { IsSkeleton (world_view old.now).skel }
     requires new { IsWellFormed (world_view new.now) }
     requires next { world_view new.now ≡ next_world (world_view old.now) command.now }
+    requires touched { IsTouched (world_view old.now) (world_view new.now) touched.now }
     requires few { (i : ℕ) → slice_index_or numbers.now i 0 ≤ command_limit }
     ensures numbers { IfOk result (λ changes. changes.numbers.items ≡ counted (world_view old.now) (world_view new.now) 1 (with_newborn numbers.now (makes_space command.now))) }
     ensures posts { IfOk result (λ changes. changes.posts ≡ posted (world_view old.now) (world_view new.now) 1 (with_newborn numbers.now (makes_space command.now))) }
@@ -151,5 +168,5 @@ pub(crate) fn changes_after(
             posts: SharedPosts::new(Vec::new(alloc)),
         });
     }
-    changes_between(alloc, old, new, &before)
+    changes_between(alloc, old, new, touched, &before)
 }

@@ -36,7 +36,7 @@ module _ (w : WorldView) (n i : ℕ) (h : IsWellFormed w) where
   pub row_nowhere : mount_at w.forest i ≡ None → row_at row_id i (table_of w n) ≡ None
   row_nowhere e = row_in_table ∙ ap (λ o. option_map (row_of w) (passing (in_space n) o)) e
 
-  row_by_space : (m : Mount) → mount_at w.forest i ≡ Some m → row_at row_id i (table_of w n) ≡ option_map (row_of w) (cond (eqb m.space n) (Some m) None)
+  pub row_by_space : (m : Mount) → mount_at w.forest i ≡ Some m → row_at row_id i (table_of w n) ≡ option_map (row_of w) (cond (eqb m.space n) (Some m) None)
   row_by_space m e = row_in_table ∙ ap (λ o. option_map (row_of w) (passing (in_space n) o)) e
 
   pub row_elsewhere : (m : Mount) → mount_at w.forest i ≡ Some m → eqb m.space n ≡ false → row_at row_id i (table_of w n) ≡ None

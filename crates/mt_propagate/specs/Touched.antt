@@ -21,9 +21,11 @@ since_view w = record { forest = w.forest.since; peers = w.peers.since }
 abbrev pub since_of : WorldView → SinceView
 since_of w = record { forest = w.forest; peers = w.peering.peers }
 
--- every mount that is not among these is in both worlds the same, or in none, and has the same state
+-- a list holds every mount that came, went or changed, and every mount whose state did so; it may hold more
 pub record IsTouched (before after : WorldView) (ids : List ℕ) : Type 0 where
+  -- every other mount is as it was, or is in neither world
   pub mounts : (i : ℕ) → among ids i ≡ false → mount_at before.forest i ≡ mount_at after.forest i
+  -- and so is its state
   pub states : (i : ℕ) → among ids i ≡ false → state_at before.peering.peers i ≡ state_at after.peering.peers i
 
 -- these are so for each world that had the mounts and states that this one had when changes began to be noted

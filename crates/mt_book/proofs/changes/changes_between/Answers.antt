@@ -1,0 +1,37 @@
+use Rattle.std.proofs.Common.{◌≡◌, ◌∙◌, ◌+◌, ℕ, List, true, ap, sym, subst, arith}
+use Rattle.std.specs.List.{filter}
+use Rattle.mt_skel.specs.Keyed.{among, rises}
+use Rattle.mt_skel.proofs.KeyedLaws.{rises-filter}
+use Rattle.mt_propagate.specs.World.{world_view}
+use Rattle.mt_info.specs.Table.{table_of}
+use Rattle.mt_events.specs.Difference.{HoldsChanged}
+use Rattle.mt_events.proofs.HeldLaws.{rows_held}
+use Rattle.mt_book.specs.Parts.{is_part}
+use Rattle.mt_book.proofs.TouchedLaws.{part_holds, part_is}
+use Rattle.mt_book.proofs.changes.changes_between.Goals as goal
+
+pub push_change-requires-clause-rising : goal.push_change-requires-clause-rising
+push_change-requires-clause-rising c =
+    let old = world_view c.args.old.now in
+    let new = world_view c.args.new.now in
+    let t = is_part old new (c.spaces.i + 1) in
+    let ids = c.deref.result.now in
+    let part : c.as_slice-part.result.now ≡ filter t ids =
+    c.as_slice-part.ensures ∙ part_is c.in_ok-parts.parts.items c.index.result.now ids c.spaces.i _ t c.index.ensures c.in_ok-parts.ensures.len (omega (arith, c.spaces-test.true)) (c.in_ok-parts.ensures.parts c.spaces.i) in
+    let up : rises (λ k. k) ids ≡ true = ap (λ (l : List ℕ). rises (λ k. k) l) c.deref.ensures.value ∙ c.in_ok-ids.ensures.rising in
+    subst (λ (l : List ℕ). rises (λ k. k) l ≡ true) (sym part) (rises-filter (λ k. k) t ids up)
+
+pub push_change-requires-clause-held : goal.push_change-requires-clause-held
+push_change-requires-clause-held c =
+    let old = world_view c.args.old.now in
+    let new = world_view c.args.new.now in
+    let n = c.spaces.i + 1 in
+    let t = is_part old new n in
+    let ids = c.deref.result.now in
+    let touched = c.args.touched.now in
+    let part : c.as_slice-part.result.now ≡ filter t ids =
+    c.as_slice-part.ensures ∙ part_is c.in_ok-parts.parts.items c.index.result.now ids c.spaces.i _ t c.index.ensures c.in_ok-parts.ensures.len (omega (arith, c.spaces-test.true)) (c.in_ok-parts.ensures.parts c.spaces.i) in
+    let held =
+    rows_held old new touched ids c.requires.old c.requires.new c.requires.skeleton c.requires.touched
+    (λ i. ap (λ (l : List ℕ). among l i) c.deref.ensures.value ∙ c.in_ok-ids.ensures.rows i) n in
+    subst (HoldsChanged (table_of old n) (table_of new n)) (sym part) (part_holds old new n ids c.requires.old c.requires.new held)
