@@ -7,9 +7,10 @@ use crate::fixture::commands_of;
 use mt_book::command::Command;
 use mt_book::step::step;
 use mt_mounts::mount::{Mount, MountId, Place};
+use mt_peers::looks::Looks;
 use mt_peers::peers::Peers;
 use mt_peers::state::{GroupId, State};
-use mt_propagate::receivers::receivers;
+use mt_propagate::receivers::{receivers, receivers_counted};
 use mt_propagate::world::World;
 use mt_skel::fault::Fault;
 use mt_skel::list::is_among;
@@ -50,6 +51,16 @@ const OWN_PARENT: &[u8] =
 /// A mount that slides down when the one under it goes.
 const SLIDE: &[u8] =
     b"mkfs a tmpfs none\nmkfs d ext4 /dev/x\nmkdir a /m\nnewns a\nsetattr 1 / prop=shared\ncopyns 1\nsetattr 2 / prop=slave\nmount 2 d /m\nmount 1 d /m\numount 1 /m";
+
+/// Three namespaces in one peer group, and a fourth beside them, which fills the world.
+const FULL_WORLD: &[u8] =
+    b"mkfs a tmpfs none\nmkfs d ext4 /dev/x\nmkdir a /m\nnewns a\nsetattr 1 / prop=shared\ncopyns 1\ncopyns 1\nnewns a";
+
+/// Doubles the mounts of the fourth namespace.
+const DOUBLING: &[u8] = b"rbind 4 / /m\nmount 4 d /m";
+
+/// How often they are doubled, up to the limit and once more.
+const DOUBLINGS: u32 = 12;
 
 /// Whether a group is among those that were found.
 fn is_found(found: &[GroupId], group: Option<GroupId>) -> bool {
@@ -172,6 +183,39 @@ pub(crate) fn do_one(world: &mut World, command: &Command) -> Result<(), Fault>
     }
 }
 
+/// Does commands one after another.
+fn do_all(world: &mut World, commands: &[Command]) -> Result<(), Fault>
+    requires well_formed { IsWellFormed (world_view world.old) }
+    ensures kept { IsWellFormed (world_view world.new) }
+{
+    'commands: for command in commands {
+        do_one(world, command)?;
+    }
+    Ok(())
+}
+
+/// The receivers of the root of namespace 1, and how many mounts were looked at for them.
+fn counted_at_root(world: &World) -> Result<(usize, u64), Fault> {
+    let Some(mount) = world.forest.root(1) else {
+        return Err(Fault::NoNamespace);
+    };
+    let mut looks = Looks::new();
+    let ids = receivers_counted(world, Place { mount, dir: 0 }, &mut looks)?;
+    Ok((ids.len(), looks.count()))
+}
+
+/// The same in a world that is as full as may be.
+fn counted_in_full_world(alloc: Global) -> Result<(usize, u64), Fault> {
+    let commands = commands_of(alloc, FULL_WORLD)?;
+    let doubling = commands_of(alloc, DOUBLING)?;
+    let mut world = World::new(alloc);
+    do_all(&mut world, &commands)?;
+    'doublings: for _doubling in 0..DOUBLINGS {
+        do_all(&mut world, &doubling)?;
+    }
+    counted_at_root(&world)
+}
+
 /// Whether both find the same receivers after each of these commands.
 fn is_agreed_after_all(world: &mut World, commands: &[Command]) -> Result<bool, Fault>
     requires well_formed { IsWellFormed (world_view world.old) }
@@ -190,6 +234,14 @@ fn is_agreed_in(alloc: Global, lines: &[u8]) -> Result<bool, Fault> {
     let commands = commands_of(alloc, lines)?;
     let mut world = World::new(alloc);
     is_agreed_after_all(&mut world, &commands)
+}
+
+#[test]
+fn receivers_cost_no_look_at_other_mounts(rt: HostRuntime) -> Result<(), Fail> {
+    let (found, looks) = counted_in_full_world(rt.alloc())?;
+    assert!(rt; found == 2);
+    assert!(rt; looks <= 5);
+    Ok(())
 }
 
 #[test]

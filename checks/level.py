@@ -1,0 +1,83 @@
+"""Memory that stays level: what a session has needed at most does not grow with what has come and gone.
+
+What has to grow is the journal, which keeps every accepted command. So the rounds of worlds that are filled
+and emptied have few commands, and the bound for many commands that change nothing is the journal's own size.
+"""
+import re
+import subprocess
+
+from running import check
+
+# Namespaces of one peer group, and the mounts on a directory that fill them up to 4,096.
+NAMESPACES = 64
+MOUNTS = 63
+
+ROUNDS = 100
+
+# The rounds behind which a session has had all that it will ever need at once.
+FIRST_ROUNDS = 10
+
+# How much more a session may have needed after the last round: the journal of 12,600 commands, and pages.
+MORE_KILOBYTES = 4_096
+
+# Commands that change nothing, how many are sent before their answers are read (a pipe holds either), and what
+# they may need: 80 bytes a command in a journal with room for 2^20 of them, and what an empty session needs.
+COMMANDS = 1_000_000
+PORTION = 5_000
+MOST_KILOBYTES = 90 * 1_024
+
+
+class Session:
+    """A session whose answers are read as they come."""
+
+    def __init__(self, program):
+        self.process = subprocess.Popen([program, "-"], stdin=subprocess.PIPE, stdout=subprocess.PIPE)
+
+    def send(self, lines):
+        """Whether each of these lines is accepted, by an answer of one line."""
+        self.process.stdin.write(b"".join(line + b"\n" for line in lines))
+        self.process.stdin.flush()
+        return all(self.process.stdout.readline().startswith(b"ok") for _line in lines)
+
+    def peak(self):
+        """The most memory that was resident so far, in kilobytes."""
+        with open(f"/proc/{self.process.pid}/status", encoding="ascii") as status:
+            return int(re.search(r"VmHWM:\s+(\d+) kB", status.read())[1])
+
+    def end(self):
+        self.process.stdin.close()
+        self.process.stdout.close()
+        return self.process.wait()
+
+
+def filled_and_emptied(program):
+    session = Session(program)
+    start = [b"mkfs a tmpfs none", b"mkfs d ext4 /dev/x", b"mkdir a /m", b"newns a", b"setattr 1 / prop=shared"]
+    start += [b"copyns 1"] * (NAMESPACES - 1)
+    accepted = session.send(start)
+    peaks = []
+    for _round in range(ROUNDS):
+        accepted = session.send([b"mount 1 d /m"] * MOUNTS) and accepted
+        accepted = session.send([b"umount 1 /m"] * MOUNTS) and accepted
+        peaks.append(session.peak())
+    check("commands of the rounds", accepted and session.end() == 0)
+    grown = peaks[-1] - peaks[FIRST_ROUNDS - 1]
+    told = f"{peaks[FIRST_ROUNDS - 1]} kB after {FIRST_ROUNDS} rounds, {peaks[-1]} kB after {ROUNDS}"
+    check("memory of a world that is filled and emptied", grown <= MORE_KILOBYTES, told)
+    print(f"filled and emptied: {told}")
+
+
+def nothing_changed(program):
+    session = Session(program)
+    accepted = session.send([b"mkfs a tmpfs none", b"newns a"])
+    for _portion in range(COMMANDS // PORTION):
+        accepted = session.send([b"setattr 1 /"] * PORTION) and accepted
+    peak = session.peak()
+    check("commands that change nothing", accepted and session.end() == 0)
+    check("memory of commands that change nothing", peak <= MOST_KILOBYTES, f"{peak} kB")
+    print(f"{COMMANDS} commands that change nothing: {peak} kB")
+
+
+def check_level(program):
+    filled_and_emptied(program)
+    nothing_changed(program)
