@@ -21,10 +21,11 @@ FIRST_ROUNDS = 10
 MORE_KILOBYTES = 4_096
 
 # Commands that change nothing, how many are sent before their answers are read (a pipe holds either), and what
-# they may need: 80 bytes a command in a journal with room for 2^20 of them, and what an empty session needs.
+# they may need: 128 bytes a command in the journal, and 5,000 kB for all else. Eight bytes more a command would be
+# 7,800 kB.
 COMMANDS = 1_000_000
 PORTION = 5_000
-MOST_KILOBYTES = 90 * 1_024
+MOST_KILOBYTES = 130_000
 
 
 class Session:
