@@ -4,17 +4,18 @@ use Rattle.std.specs.Prelude.{if◌then◌else◌, slice_index_or, Bool}
 use Rattle.std.proofs.lemmas.Bool.{lt-leb}
 use Rattle.mt_skel.specs.declared.fault.Fault.TheVariants.{JournalFull}
 use Rattle.mt_propagate.specs.World.{WorldView, world_view, empty_world}
-use Rattle.mt_propagate.specs.declared.world.World.{World}
 use Rattle.mt_propagate.specs.WellFormed.{IsWellFormed}
 use Rattle.mt_book.specs.declared.command.Command.{Command}
 use Rattle.mt_book.specs.declared.command.Reply.{Reply}
 use Rattle.mt_book.specs.declared.spare.Spare.{Spare}
-use Rattle.mt_book.specs.declared.spare.Spare.TheVariants.{Level, Behind}
+use Rattle.mt_book.specs.declared.spare.Spare.TheVariants.{Gone}
+use Rattle.mt_book.specs.declared.shown.Shown.{Shown}
+use Rattle.mt_book.specs.declared.shown.Shown.TheVariants.{First, Later}
 use Rattle.mt_book.specs.declared.prepared.Prepared.{Prepared}
 use Rattle.mt_book.specs.Step.{step, makes_space, after}
 use Rattle.mt_book.specs.History.{posts_of}
 use Rattle.mt_book.specs.Book.{command_limit, space_numbers, counted, posted, with_newborn, answer, reply_of}
-use Rattle.mt_book.specs.Kept.{IsBehind, IsSpare, IsPrepared, IsBook}
+use Rattle.mt_book.specs.Kept.{IsBehind, IsSpare, IsPrepared, IsBook, shown_world, lagging_of}
 use Rattle.mt_book.proofs.GrowthLaws.{IsReached, reached}
 use Rattle.mt_book.proofs.NextLaws.{after-accepted, accepts-next, numbers-next, posts-next, numbers-few}
 
@@ -37,11 +38,11 @@ behind_small cs w h few =
     let shorter : length h.before ≤ 1048576 = omega (arith, few, ap (λ (l : List Command). length l) h.all, length-append h.before (h.last ∷ [])) in
     subst IsSmall (sym h.world) (reached_small (after h.before) (length h.before) shorter (reached h.before))
 
-pub book_new : (w : World) → world_view w ≡ empty_world → IsBook empty_world (Level w) [] []
+pub book_new : IsBook empty_world Gone [] []
 unfolding after space_numbers
-book_new w e = record {
+book_new = record {
   world = refl;
-  lags = e;
+  lags = tt;
   counts = refl;
   accepted = refl;
   few = omega arith;
@@ -57,34 +58,40 @@ book_spare w spare other ks cs h s = record {
   few = h.few;
 }
 
+-- the world that was shown, where it is kept
+lags : (cs : List Command) (old : Shown) → IsBehind cs (world_view (shown_world old)) → IsSpare cs (lagging_of old)
+lags cs (First w) h = tt
+lags cs (Later w) h = h
+
 -- a command more: the world that was shown is behind
-pub book_committed : (old : World) (spare : Spare) (ks : List ℕ) (cs : List Command) (p : Prepared) → IsBook (world_view old) spare ks cs → IsPrepared cs p
-    → IsBook (world_view p.world) (Behind old) p.numbers.items (cs ++ p.command ∷ [])
+pub book_committed : (old : Shown) (spare : Spare) (ks : List ℕ) (cs : List Command) (p : Prepared) → IsBook (world_view (shown_world old)) spare ks cs → IsPrepared cs p
+    → IsBook (world_view p.world.value) (lagging_of old) p.numbers.items (cs ++ p.command ∷ [])
 book_committed old spare ks cs p h q =
-    let v = world_view p.world in
+    let v = world_view p.world.value in
     let e = after-accepted cs p.command v p.reply q.accepted in
     record {
       world = sym e;
-      lags = record {
+      lags = lags (cs ++ p.command ∷ []) old (record {
         before = cs;
         last = p.command;
         reply = p.reply;
         all = refl;
         world = h.world;
         accepted = ap (λ (x : WorldView). step x p.command) h.world ∙ q.accepted ∙ ap (λ (x : WorldView). Ok (x, p.reply)) (sym e);
-      };
+      });
       counts = q.numbers;
       accepted = accepts-next cs p.command v p.reply h.accepted q.accepted;
       few = omega (arith, q.few, length-append cs (p.command ∷ []));
     }
 
 -- the same, where the book has taken what was prepared
-pub book_taken : (old shown new : World) (spare : Spare) (ks : List ℕ) (cs js : List Command) (p : Prepared) → shown ≡ old → new ≡ p.world → js ≡ cs ++ p.command ∷ []
-    → IsBook (world_view old) spare ks cs → IsPrepared cs p → IsBook (world_view new) (Behind shown) p.numbers.items js
-book_taken old shown new spare ks cs js p s n j h q =
-    subst (λ (x : World). IsBook (world_view new) (Behind x) p.numbers.items js) (sym s)
-    (subst (λ (x : World). IsBook (world_view x) (Behind old) p.numbers.items js) (sym n)
-    (subst (λ (l : List Command). IsBook (world_view p.world) (Behind old) p.numbers.items l) (sym j) (book_committed old spare ks cs p h q)))
+pub book_taken : (old lagging new : Shown) (spare lags : Spare) (ks : List ℕ) (cs js : List Command) (p : Prepared) → lagging ≡ old → new ≡ Later p.world → lags ≡ lagging_of lagging
+    → js ≡ cs ++ p.command ∷ [] → IsBook (world_view (shown_world old)) spare ks cs → IsPrepared cs p → IsBook (world_view (shown_world new)) lags p.numbers.items js
+book_taken old lagging new spare lags ks cs js p s n l j h q =
+    subst (λ (x : Shown). IsBook (world_view (shown_world x)) lags p.numbers.items js) (sym n)
+    (subst (λ (x : Spare). IsBook (world_view p.world.value) x p.numbers.items js) (sym l)
+    (subst (λ (x : List Command). IsBook (world_view p.world.value) (lagging_of lagging) p.numbers.items x) (sym j)
+    (book_committed lagging spare ks cs p (subst (λ (x : Shown). IsBook (world_view (shown_world x)) spare ks cs) (sym s) h) q)))
 
 -- the world after a command is well-formed
 pub accepted_kept : (cs : List Command) (world v : WorldView) (c : Command) (r : Reply) → world ≡ after cs → step world c ≡ Ok (v, r) → IsWellFormed v
@@ -100,10 +107,10 @@ book_few w spare ks cs h i =
 
 -- a command that was done on an equal world is prepared for the book
 pub prepared_for : (shown world : WorldView) (spare : Spare) (ks : List ℕ) (cs : List Command) (c : Command) (p : Prepared) → IsBook shown spare ks cs → length cs < command_limit → world ≡ after cs
-    → step world c ≡ Ok (world_view p.world, p.reply) → p.command ≡ c → p.numbers.items ≡ counted shown (world_view p.world) 1 (with_newborn ks (makes_space c))
-    → p.posts ≡ posted shown (world_view p.world) 1 (with_newborn ks (makes_space c)) → IsPrepared cs p
+    → step world c ≡ Ok (world_view p.world.value, p.reply) → p.command ≡ c → p.numbers.items ≡ counted shown (world_view p.world.value) 1 (with_newborn ks (makes_space c))
+    → p.posts ≡ posted shown (world_view p.world.value) 1 (with_newborn ks (makes_space c)) → IsPrepared cs p
 prepared_for shown world spare ks cs c p h few w e same numbers posts =
-    let v = world_view p.world in
+    let v = world_view p.world.value in
     let done = ap (λ (x : WorldView). step x c) (sym w) ∙ e in
     record {
       few = few;

@@ -12,7 +12,8 @@ ghost use Rattle.mt_book.specs.Kept.{IsPrepared, prepared_command, prepared_repl
 use crate::changes::changes_after;
 use crate::command::{Command, Reply};
 use crate::prepared::Prepared;
-use crate::spare::{Spare, Tried, keep_level, level, try_on};
+use crate::shown::Shown;
+use crate::spare::{Spare, Tried, keep_level, lagging, level, try_on};
 use mt_events::shared::SharedPosts;
 use mt_info::table::{Table, table_of};
 use mt_mounts::mount::{MountId, SpaceId};
@@ -31,9 +32,10 @@ const MOST_COMMANDS: usize = 1_048_576;
 ///
 /// A second world is kept beside the one that is shown, never more than one command behind. The next command is
 /// tried on it, and shown by exchanging both, so that no command copies a world, also not a refused one. A copy is
-/// made only after a `Prepared` was dropped, or where there was no memory for what a command changed.
+/// made only for the first two commands, after a `Prepared` was dropped, or where there was no memory for what a command
+/// changed. Both lie in boxes, which go from hand to hand, but for the empty world that is shown before any command.
 pub struct Book {
-    world: World,
+    shown: Shown,
     spare: Spare,
     numbers: Vec<u64>,
     journal: Vec<Command>,
@@ -44,13 +46,13 @@ impl Model for Book {
     ghost use Rattle.std.specs.Prelude.{◌-◌, vec_capacity, vec_len};
     ghost use Rattle.mt_propagate.specs.World.{world_view};
     ghost use Rattle.mt_book.specs.Book.{BookView};
-    ghost use Rattle.mt_book.specs.Kept.{IsBook};
+    ghost use Rattle.mt_book.specs.Kept.{IsBook, shown_world};
 
     ghost Value = { BookView };
 
     ghost view = { λ b. record { journal = b.journal.items; room = vec_capacity b.journal - vec_len b.journal } };
 
-    ghost invariant = { λ b. IsBook (world_view b.world) b.spare b.numbers.items b.journal.items };
+    ghost invariant = { λ b. IsBook (world_view (shown_world b.shown)) b.spare b.numbers.items b.journal.items };
 }
 
 // Written out, so that whoever owns a book lets it go as one thing: with the derived one each function that lets a
@@ -58,7 +60,7 @@ impl Model for Book {
 impl Drop for Book {
     fn drop(self) {
         let Book {
-            world: _world,
+            shown: _shown,
             spare: _spare,
             numbers: _numbers,
             journal: _journal,
@@ -74,8 +76,8 @@ impl Book {
         ensures { result.journal ≡ [] }
     {
         Book {
-            world: World::new(alloc),
-            spare: Spare::Level(World::new(alloc)),
+            shown: Shown::First(World::new(alloc)),
+            spare: Spare::Gone,
             numbers: Vec::new(alloc),
             journal: Vec::new(alloc),
             alloc,
@@ -89,6 +91,15 @@ impl Book {
         ensures few { length self.now.journal ≤ command_limit }
     {
         self.journal.as_slice()
+    }
+
+    /// The world that is shown.
+    fn world(&self) -> &World
+        ensures world { world_view result.now ≡ after self.now.journal }
+        ensures well_formed { IsWellFormed (world_view result.now) }
+        ensures few { result.now.next_space < 2 ^ 63 }
+    {
+        self.shown.world()
     }
 
     /// Does a command beside the world that is shown, and takes all the memory that showing it needs: `commit`
@@ -110,7 +121,7 @@ impl Book {
         }
         self.journal.reserve(1)?;
         let spare = mem::replace(&mut self.spare, Spare::Gone);
-        let world = level(spare, &self.world, &self.journal)?;
+        let world = level(self.alloc, spare, self.shown.world(), &self.journal)?;
         match try_on(world, command) {
             Tried::Refused(world, fault) => {
                 keep_level(&mut self.spare, world);
@@ -118,11 +129,12 @@ impl Book {
             }
             Tried::Changed(world, reply) => {
                 let copy = command.copy()?;
-                let ids = touched(&world)?;
+                let changed: &World = &world;
+                let ids = touched(changed)?;
                 let changes = changes_after(
                     self.alloc,
-                    &self.world,
-                    &world,
+                    self.shown.world(),
+                    changed,
                     &ids,
                     &self.numbers,
                     command,
@@ -155,8 +167,8 @@ impl Book {
             numbers,
             posts,
         } = prepared;
-        let shown = mem::replace(&mut self.world, world);
-        self.spare = Spare::Behind(shown);
+        let shown = mem::replace(&mut self.shown, Shown::Later(world));
+        self.spare = lagging(shown);
         self.numbers = numbers;
         self.journal.push(command).unwrap();
         (reply, posts)
@@ -183,7 +195,7 @@ impl Book {
         ensures done { IfOk result (λ table. (is_space (after self.now.journal) space ≡ true) × (table ≡ table_of (after self.now.journal) space)) }
         ensures refused { IfErr result (λ fault. fault ≢ Fault.NoMemory → (fault ≡ Fault.NoNamespace) × (is_space (after self.now.journal) space ≡ false)) }
     {
-        table_of(&self.world, space)
+        table_of(self.world(), space)
     }
 
     /// How many posts a namespace has had: the number of the last one, or 0. Refused as `NoNamespace` exactly where
@@ -192,7 +204,7 @@ impl Book {
         ensures done { IfOk result (λ number. (is_space (after self.now.journal) space ≡ true) × (number ≡ space_number space self.now.journal)) }
         ensures refused { IfErr result (λ fault. (fault ≡ Fault.NoNamespace) × (is_space (after self.now.journal) space ≡ false)) }
     {
-        if self.world.forest.root(space).is_none() {
+        if self.shown.world().forest.root(space).is_none() {
             return Err(Fault::NoNamespace);
         }
         Ok(self.numbers[(space - 1) as usize])
@@ -203,7 +215,7 @@ impl Book {
         ensures spaces { IfOk result (λ spaces. spaces.items ≡ spaces_of (after self.now.journal)) }
         ensures memory { IsOkUnless result Fault.NoMemory }
     {
-        spaces_in(self.alloc, &self.world)
+        spaces_in(self.alloc, self.world())
     }
 
     /// Where the walk along a path ends in a namespace: the mount, and the names from its
@@ -213,7 +225,7 @@ impl Book {
         ensures done { IfOk result (λ found. found_at (after self.now.journal) space path.now ≡ Ok (found.0, found.1.items)) }
         ensures refused { IfErr result (λ fault. fault ≢ Fault.NoMemory → found_at (after self.now.journal) space path.now ≡ Err fault) }
     {
-        found_in(&self.world, space, path)
+        found_in(self.world(), space, path)
     }
 
     /// Does commands one after another, and answers each as `apply` does, also those that it refuses. Refused as

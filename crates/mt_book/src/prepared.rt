@@ -13,7 +13,7 @@ use std::sync::Arc;
 /// makes it, `Book::commit` shows it; dropped, it was never done.
 #[derive(Drop)]
 pub struct Prepared {
-    pub(crate) world: World,
+    pub(crate) world: Box<World>,
     pub(crate) command: Command,
     pub(crate) reply: Reply,
     pub(crate) numbers: Vec<u64>,

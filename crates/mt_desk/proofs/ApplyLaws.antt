@@ -58,7 +58,7 @@ module _ (d : DeskView) (x : Command) where
 
   -- the same of what a book has prepared
   pub prepared_begins : (p : Prepared) → d.stopped ≡ false → IsPrepared d.journal p → p.command ≡ x → floor_step (floor_of_desk d) (Apply x) ≡ (sending_floor d x d.rows first_due, Ok (Replied p.reply))
-  prepared_begins p runs q same = apply_begins (world_view p.world) p.reply runs q.few (ap (step (after d.journal)) (sym same) ∙ q.accepted)
+  prepared_begins p runs q same = apply_begins (world_view p.world.value) p.reply runs q.few (ap (step (after d.journal)) (sym same) ∙ q.accepted)
 
 -- a post is due to a row
 abbrev pub row_is_due : PostView → DeskRow → Bool

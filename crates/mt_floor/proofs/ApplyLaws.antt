@@ -126,7 +126,7 @@ module _ (c : ℕ) (j : List Command) (l : ℕ) (st : Bool) (rows : List RowView
       more = journal ∙ ap (λ y. j ++ y ∷ []) same
 
       answered : j ++ x ∷ [] ≡ j' → due_pairs (posts_of j x) (map (watcher_of j) rows) ≡ due' → map (watcher_of j) rows ≡ map (watcher_of j') rows
-          → replied (floor_of c j l st rows due) x (Ok (world_view p.world, p.reply)) ≡ (floor_of c j' l st rows due', Ok (Replied reply))
+          → replied (floor_of c j l st rows due) x (Ok (world_view p.world.value, p.reply)) ≡ (floor_of c j' l st rows due', Ok (Replied reply))
       answered a b w = λ k. (record { capacity = c; journal = a k; next_key = l + 1; stopped = st; watchers = w k; due = b k }, Ok (Replied (sym is k)))
 
   -- ---- Open
