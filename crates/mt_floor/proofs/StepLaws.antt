@@ -1,5 +1,5 @@
 -- Events that are put off or refused.
-use Rattle.std.proofs.Common.{◌≡◌, ℕ, ◌++◌, Bool, true, false, List, [], ◌∷◌, length, Option, Some, None, slice_get, Ok, Err, refl, sym, ◌∙◌, subst}
+use Rattle.std.proofs.Common.{◌≡◌, ℕ, ◌++◌, Bool, true, false, List, [], ◌∷◌, length, Option, Some, None, slice_get, Ok, Err, refl, sym, ◌∙◌, subst, ◌≤◌, arith}
 use Rattle.std.specs.Prelude.{Result, OnErr}
 use Rattle.std.specs.Option.{option_map_or}
 use Rattle.mt_skel.specs.declared.fault.Fault.{Fault}
@@ -11,6 +11,7 @@ use Rattle.mt_floor.specs.declared.watch.Phase.TheVariants.{Open as IsOpen, Lagg
 use Rattle.mt_floor.specs.declared.event.Event.{Event}
 use Rattle.mt_floor.specs.declared.event.Event.TheVariants.{Apply, PostNext, Open, Take, Meet, Close, Stop}
 use Rattle.mt_floor.specs.declared.event.Answer.{Answer}
+use Rattle.mt_book.specs.declared.command.Command.{Command}
 use Rattle.mt_floor.specs.declared.event.Answer.TheVariants.{Took, NotNow}
 use Rattle.mt_floor.specs.Watcher.{Watcher, Due, key_of}
 use Rattle.mt_floor.specs.Schedule.{FloorView, Stepped, floor_step, is_put_off, if_idle, at_row, applied, opened, changed, met, closed, halted, took, nothing_left}
@@ -29,6 +30,14 @@ put_off s (Take k) is = absurd (cc)
 put_off s (Meet k) is = late s (at_row s k (met s)) s.due (λ ds. is_put_off ds (Meet k)) refl is
 put_off s (Close k) is = late s (at_row s k (closed s)) s.due (λ ds. is_put_off ds (Close k)) refl is
 put_off s Stop is = late s (halted s) s.due (λ ds. is_put_off ds Stop) refl is
+
+-- so is a command where a post is due
+pub command_put_off : (s : FloorView) (c : Command) → 1 ≤ length s.due → floor_step s (Apply c) ≡ (s, Ok NotNow)
+command_put_off s c some = put_off s (Apply c) (is_off s.due some)
+  where
+    is_off : (ds : List Due) → 1 ≤ length ds → is_put_off ds (Apply c) ≡ true
+    is_off [] few = absurd (let bad : ⊥ = omega (arith, few) in bad)
+    is_off (d ∷ ds) few = refl
 
 -- one that is refused changes nothing
 abbrev Stays : FloorView → Stepped → Type 0

@@ -1,5 +1,5 @@
 //! The book, its watchers, and the posts that are due to them.
-ghost use Rattle.std.specs.Prelude.{◌≡◌, ◌≢◌, ◌-◌, ◌≤◌, IfOk, IfErr, OnErr, MatchOption, Some, None, Ok, Err, [], true, length, slice_get};
+ghost use Rattle.std.specs.Prelude.{◌≡◌, ◌≢◌, ◌-◌, ◌<◌, ◌≤◌, IfOk, IfErr, OnErr, MatchOption, Some, None, Ok, Err, [], true, length, slice_get};
 ghost use Rattle.mt_floor.specs.Schedule.{empty_floor, floor_step, run, settled, waiting, is_put_off, opening_refusal, nothing_left, takes_memory, done_events, done_answers};
 
 use crate::due::{DuePost, due_of, first_key};
@@ -60,9 +60,10 @@ fn nothing_left(phase: Phase) -> Result<Answer, Fault>
 }
 
 impl Floor {
-    /// A floor with nothing done. The queue of each watcher may hold this many posts. Memory will come from `alloc`,
-    /// and none is taken yet.
+    /// A floor with nothing done. The queue of each watcher may hold this many posts, 1 to 1,024. Memory will come from
+    /// `alloc`, and none is taken yet.
     pub fn new(alloc: Global, capacity: usize) -> Floor
+        requires { (0 < capacity) × (capacity ≤ 1024) }
         ensures { result ≡ empty_floor capacity }
     {
         Floor {
@@ -117,7 +118,7 @@ impl Floor {
 
     /// Applies a command; its posts are then due to the open watchers that follow them. Refused as `Stopped`, as the
     /// book refuses it, and as `NoMemory`.
-    fn apply(&mut self, command: &Command) -> Result<Answer, Fault>
+    fn apply_idle(&mut self, command: &Command) -> Result<Answer, Fault>
         requires idle { self.old.due ≡ [] }
         ensures done { IfOk result (λ answer. floor_step self.old (Event.Apply command.now) ≡ (self.new, Ok answer)) }
         ensures refused { IfErr result (λ fault. fault ≢ Fault.NoMemory → floor_step self.old (Event.Apply command.now) ≡ (self.new, Err fault)) }
@@ -237,6 +238,19 @@ impl Floor {
         Answer::Halted
     }
 
+    /// The event `Apply` of a command that is lent, done or refused as [`step`](Floor::step) does or refuses it, so that
+    /// a command which the caller has need not be copied. Where a post is due, it is answered `NotNow`.
+    pub fn apply(&mut self, command: &Command) -> Result<Answer, Fault>
+        ensures done { IfOk result (λ answer. floor_step self.old (Event.Apply command.now) ≡ (self.new, Ok answer)) }
+        ensures refused { IfErr result (λ fault. fault ≢ Fault.NoMemory → floor_step self.old (Event.Apply command.now) ≡ (self.new, Err fault)) }
+        ensures unchanged { OnErr result (self.new ≡ self.old) }
+    {
+        if !self.due.is_empty() {
+            return Ok(Answer::NotNow);
+        }
+        self.apply_idle(command)
+    }
+
     /// Does what an event says. Where a post is due, each event but `PostNext` and `Take` is answered `NotNow`, before
     /// any refusal, and so is `PostNext` where none is; then nothing has changed.
     ///
@@ -260,7 +274,7 @@ impl Floor {
             return Ok(Answer::NotNow);
         }
         match event {
-            Event::Apply(command) => self.apply(&command),
+            Event::Apply(command) => self.apply_idle(&command),
             Event::PostNext => Ok(self.post_next()),
             Event::Open(scope) => self.open(scope),
             Event::Take(key) => self.take(key),

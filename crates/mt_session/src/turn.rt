@@ -53,8 +53,7 @@ fn run(floor: &mut Floor, command: &Command) -> Result<Text, Fault>
     ensures memory { IfErr result (λ fault. (fault ≡ Fault.NoMemory) × (floor.new ≡ floor.old)) }
     ensures idle { floor.new.due ≡ [] }
 {
-    let command = command.copy()?;
-    let text = match floor.step(Event::Apply(command)) {
+    let text = match floor.apply(command) {
         Ok(answer) => told_reply(answer),
         Err(fault) => told_refusal(fault)?,
     };

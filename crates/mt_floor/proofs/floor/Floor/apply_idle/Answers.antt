@@ -10,7 +10,7 @@ use Rattle.mt_floor.specs.Schedule.{FloorView, floor_step}
 use Rattle.mt_floor.specs.Rows.{due_if, floor_of}
 use Rattle.mt_floor.proofs.KeptLaws.{kept_after}
 use Rattle.mt_floor.proofs.ApplyLaws.{apply_stopped, apply_refused, apply_done, due_is}
-use Rattle.mt_floor.proofs.floor.Floor.apply.Goals as goal
+use Rattle.mt_floor.proofs.floor.Floor.apply_idle.Goals as goal
 
 pub returns-then-self-clause-refused : goal.returns-then-self-clause-refused
 returns-then-self-clause-refused c =
