@@ -10,7 +10,7 @@ use mt_session::floor::Floor;
 use mt_session::line::ReadFault;
 use mt_session::session::{End, serve_plain};
 use mt_session::stream::{Reading, Writing};
-use socket::{Served, serve_socket};
+use socket::{MOST_POSTS, Served, serve_socket};
 use std::alloc::Global;
 use std::process::ExitCode;
 use std::{env, io};
@@ -92,11 +92,11 @@ fn fail(rt: &HostRuntime, line: &str) -> ExitCode {
     ExitCode::from(1)
 }
 
-/// Serves one session on standard input and output.
+/// Serves one session on standard input and output, with queues of so many posts, 1 to 1,024.
 fn serve_standard(rt: &HostRuntime, queue: usize) -> ExitCode {
     let reader = Reading::new(rt.reader());
     let mut writer = Writing::new(io::writer(rt));
-    let mut floor = Floor::new(rt.alloc(), queue);
+    let mut floor = Floor::new(rt.alloc(), queue.clamp(1, MOST_POSTS));
     let end = serve_plain(rt.alloc(), reader, &mut writer, &mut floor);
     match complaint(end) {
         None => ExitCode::SUCCESS,

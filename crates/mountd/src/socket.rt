@@ -21,7 +21,7 @@ use std::time::Clock;
 const MODE: u32 = 0o600;
 
 /// The most posts that a queue may hold.
-const MOST_POSTS: usize = 1_024;
+pub(crate) const MOST_POSTS: usize = 1_024;
 
 /// How a server on a socket ended.
 #[derive(Clone, Copy)]

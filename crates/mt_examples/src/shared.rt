@@ -81,7 +81,8 @@ fn is_served_alike<J: Naming, R: Wait + Clock>(
     capacity: usize,
     input: &'static [u8],
 ) -> Result<bool, Fault>
-    requires { lines.lines ≡ J.lines }
+    requires lines { lines.lines ≡ J.lines }
+    requires capacity { (0 < capacity) × (capacity ≤ 1024) }
 {
     let desk: Desk<J> = Desk::new(lines);
     let (end, sink) = shared_answers(rt, alloc, desk, input)?;
