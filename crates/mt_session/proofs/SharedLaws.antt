@@ -1,5 +1,5 @@
 -- What a request finds at a desk whose watchers take, and what the calls of a desk answer to it.
-use Rattle.std.proofs.Common.{◌≡◌, ◌≢◌, ◌∙◌, ℕ, zero, suc, List, [], ◌∷◌, ◌++◌, length, replicate, Option, Some, None, slice_get, Ok, Err, refl, sym, ap, subst, arith, inr}
+use Rattle.std.proofs.Common.{◌≡◌, ◌≢◌, ◌≤◌, ◌∙◌, ℕ, zero, suc, List, [], ◌∷◌, ◌++◌, length, replicate, Option, Some, None, slice_get, Ok, Err, refl, sym, ap, subst, arith, inr}
 use Rattle.std.specs.Prelude.{Result, IfOk}
 use Rattle.std.specs.Option.{ForSome, option_map_or}
 use Rattle.mt_skel.specs.declared.fault.Fault.{Fault}
@@ -7,6 +7,7 @@ use Rattle.mt_skel.specs.declared.fault.Fault.TheVariants.{NoMemory, NoWatcher}
 use Rattle.mt_skel.specs.Keyed.{row_at, put}
 use Rattle.mt_skel.proofs.MiddleLaws.{row_mid}
 use Rattle.mt_events.specs.Posts.{PostView}
+use Rattle.mt_events.specs.Following.{IsRun}
 use Rattle.mt_events.specs.declared.opening.Scope.{Scope}
 use Rattle.mt_book.specs.declared.command.Command.{Command}
 use Rattle.mt_book.specs.declared.command.Reply.{Reply}
@@ -172,8 +173,9 @@ find_answered d own q journal n path r is same told =
 
 -- ---- Posts that were taken and could not be printed
 
-pub lost_posts : (own own' : Option WatcherView) (w w' : WatcherView) (posts : List PostView) → own ≡ Some w → own' ≡ Some w' → w' ≡ with_posts w posts
-    → ForSome own (λ (v : WatcherView). (lost : List PostView) × (v' : WatcherView) × HasTaken v lost v' × (own' ≡ Some v'))
-lost_posts own own' w w' posts is is' taken = λ v at.
+pub lost_posts : (own own' : Option WatcherView) (w w' : WatcherView) (posts : List PostView) (most : ℕ) → own ≡ Some w → own' ≡ Some w' → w' ≡ with_posts w posts → length posts ≤ most → IsRun w'.half.opening w'.half.taken
+    → ForSome own (λ (v : WatcherView). (lost : List PostView) × (v' : WatcherView) × HasTaken v lost v' × (own' ≡ Some v') × (length lost ≤ most))
+lost_posts own own' w w' posts most is is' taken within run = λ v at.
+    let stays : IsRun w.half.opening (w.half.taken ++ posts) = subst (λ (x : WatcherView). IsRun x.half.opening x.half.taken) taken run in
     let same : w ≡ v = let both = sym is ∙ at in cc in
-    subst (λ (x : WatcherView). (lost : List PostView) × (v' : WatcherView) × HasTaken x lost v' × (own' ≡ Some v')) same (posts, w', (w.half.told, omega arith, taken), is')
+    subst (λ (x : WatcherView). (lost : List PostView) × (v' : WatcherView) × HasTaken x lost v' × (own' ≡ Some v') × (length lost ≤ most)) same (posts, w', (w.half.told, omega arith, taken, stays), is', within)

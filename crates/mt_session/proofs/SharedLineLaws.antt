@@ -1,6 +1,6 @@
 -- What a session in a thread of its own has answered, line by line.
-use Rattle.std.proofs.Common.{subst, ◌≡◌, ◌≢◌, ℕ, ◌+◌, ◌<◌, ◌≤◌, List, [], ◌∷◌, ◌++◌, map, take, drop, refl, ap, sym, ◌∙◌, inl, inr, true, Result, Ok, Err, Option, Some, None, append_assoc, arith, length}
-use Rattle.std.proofs.lemmas.List.{append-nil, map-append, take-append-drop}
+use Rattle.std.proofs.Common.{subst, ◌≡◌, ◌≢◌, ℕ, ◌+◌, ◌<◌, ◌≤◌, List, [], ◌∷◌, ◌++◌, map, take, refl, ap, sym, ◌∙◌, inl, inr, true, Result, Ok, Err, Option, Some, None, append_assoc, arith, length}
+use Rattle.std.proofs.lemmas.List.{append-nil, map-append}
 use Rattle.std.proofs.lemmas.Grind.{flat_map-append}
 use Rattle.std.specs.List.{flat_map}
 use Rattle.std.specs.Option.{ForSome}
@@ -24,19 +24,12 @@ use Rattle.mt_session.specs.declared.shared_answer.Portion.TheVariants.{Posts, R
 use Rattle.mt_session.specs.declared.shared_answer.Round.TheVariants.{Told, Over}
 use Rattle.mt_session.specs.Answers.{refusal, count_text}
 use Rattle.mt_session.specs.Requests.{by_phase}
-use Rattle.mt_session.proofs.SharedTakeLaws.{follows_some, follows_none, follows_more, follows_on, follows_fewer, follows_lost}
+use Rattle.mt_session.proofs.SharedTakeLaws.{follows_some, follows_none, follows_more, follows_on, follows_fewer, follows_lost, follows_in_front}
 use Rattle.mt_session.specs.Session.{Asking, Broken, item_of, has_end, request_of_line, ends_by, line_limit, IsReadEnd, IsReadEndRun}
 use Rattle.mt_session.specs.Serving.{IsSent, ends_by_answer}
 use Rattle.mt_session.specs.SharedTurns.{is_under_lock}
-use Rattle.mt_session.specs.SharedSession.{IsAnsweredAt, IsTold, IsLost, IsTurn, IsFront, SharedTurn, AreTurns, TurnsGoOn, ServedShared}
+use Rattle.mt_session.specs.SharedSession.{IsAnsweredAt, IsTold, IsLost, IsTurn, IsInFront, SharedTurn, AreTurns, TurnsGoOn, ServedShared}
 use Rattle.mt_session.specs.SharedServing.{IsUndoneAt, IsPortion, Follows, IsOutcome, ServesAsked, FollowsOn, ends_by_request, ends_by_shared_line, SharedGoing, SharedEnding, ServedSharedLine}
-
--- a whole text, and a part of one behind what went out
-front_whole : (text : List ℕ) → IsFront text text
-front_whole text = ([], sym (append-nil text))
-
-front_cut : (out text : List ℕ) (k : ℕ) → IsFront (out ++ take k text) (out ++ text)
-front_cut out text k = (drop k text, ap (λ (x : List ℕ). out ++ x) (sym (take-append-drop k text)) ∙ sym (append_assoc out (take k text) (drop k text)))
 
 pub behind : (sent so_far written out text : List ℕ) → so_far ≡ sent ++ out → written ≡ so_far ++ text → written ≡ sent ++ (out ++ text)
 behind sent so_far written out text e is = is ∙ ap (λ (x : List ℕ). x ++ text) e ∙ append_assoc sent out text
@@ -56,30 +49,32 @@ outcome_of w w' (Err f) out t = (t, refl)
 
 -- the text of an answer was sent behind a part of it
 pub serves_answer : (w w' : Option WatcherView) (asked : Result Request Fault) (sent so_far written out text : List ℕ) (end result : Option End)
-    → so_far ≡ sent ++ out → IsSent so_far written text end result → IsTurn w asked (out ++ text) w' → end ≡ ends_by asked → ServesAsked w asked sent written result w'
-serves_answer w w' asked sent so_far written out text end result e (inl s) turn is = record {
+    → so_far ≡ sent ++ out → IsInFront w asked out → IsSent so_far written text end result → IsTurn w asked (out ++ text) w' → end ≡ ends_by asked → ServesAsked w asked sent written result w'
+serves_answer w w' asked sent so_far written out text end result e front (inl s) turn is = record {
   out = out ++ text;
   written_is = behind sent so_far written out text e s.1;
   outcome = subst (λ (r : Option End). IsOutcome r w asked (out ++ text) w') (sym (s.0 ∙ is)) (outcome_of w w' asked (out ++ text) turn);
 }
-serves_answer w w' asked sent so_far written out text end result e (inr s) turn is = record {
+serves_answer w w' asked sent so_far written out text end result e front (inr s) turn is = record {
   out = out ++ take s.0.sent text;
   written_is = behind sent so_far written out (take s.0.sent text) e s.2;
-  outcome = subst (λ (r : Option End). IsOutcome r w asked (out ++ take s.0.sent text) w') (sym s.1) (inl (out ++ text, w', inl turn, front_cut out text s.0.sent));
+  outcome = subst (λ (r : Option End). IsOutcome r w asked (out ++ take s.0.sent text) w') (sym s.1)
+      (inl record { front = out; piece = text; front_is = front; answer = inl (w', turn); fewer = s.3; out_is = refl });
 }
 
 -- the same where posts were lost
 pub serves_lost : (w w' : Option WatcherView) (asked : Result Request Fault) (sent so_far written out text : List ℕ) (result : Option End)
-    → so_far ≡ sent ++ out → IsSent so_far written text (Some Memory) result → IsLost w asked (out ++ text) → ServesAsked w asked sent written result w'
-serves_lost w w' asked sent so_far written out text result e (inl s) lost = record {
+    → so_far ≡ sent ++ out → IsInFront w asked out → IsSent so_far written text (Some Memory) result → IsLost w asked (out ++ text) → ServesAsked w asked sent written result w'
+serves_lost w w' asked sent so_far written out text result e front (inl s) lost = record {
   out = out ++ text;
   written_is = behind sent so_far written out text e s.1;
   outcome = subst (λ (r : Option End). IsOutcome r w asked (out ++ text) w') (sym s.0) lost;
 }
-serves_lost w w' asked sent so_far written out text result e (inr s) lost = record {
+serves_lost w w' asked sent so_far written out text result e front (inr s) lost = record {
   out = out ++ take s.0.sent text;
   written_is = behind sent so_far written out (take s.0.sent text) e s.2;
-  outcome = subst (λ (r : Option End). IsOutcome r w asked (out ++ take s.0.sent text) w') (sym s.1) (inl (out ++ text, w', inr lost, front_cut out text s.0.sent));
+  outcome = subst (λ (r : Option End). IsOutcome r w asked (out ++ take s.0.sent text) w') (sym s.1)
+      (inl record { front = out; piece = text; front_is = front; answer = inr (inl lost); fewer = s.3; out_is = refl });
 }
 
 -- a request that is done while the desk is held
@@ -98,15 +93,15 @@ pub locked_told : (w w' : Option WatcherView) (r : Request) (text : List ℕ) �
 locked_told w w' r text under a = inl (told_at w w' r text under a)
 
 undone_of : (w w' : Option WatcherView) (r : Request) → is_under_lock r ≡ true → r ≢ Close → IsUndoneAt w r w' → IsTurn w (Ok r) (refusal WantsMemory) w'
-undone_of w w' (Run c) under other u = inr (refl, inr (refl, u.0, u.1, u.2))
-undone_of w w' (Show n) under other u = inr (refl, inr (refl, u.0, u.1, u.2))
-undone_of w w' (Find n path) under other u = inr (refl, inr (refl, u.0, u.1, u.2))
-undone_of w w' (Watch scope) under other u = inr (refl, inr (refl, u.0, u.1, u.2))
+undone_of w w' (Run c) under other u = inr (refl, inr (refl, u.0, u.1, u.2, u.3))
+undone_of w w' (Show n) under other u = inr (refl, inr (refl, u.0, u.1, u.2, u.3))
+undone_of w w' (Find n path) under other u = inr (refl, inr (refl, u.0, u.1, u.2, u.3))
+undone_of w w' (Watch scope) under other u = inr (refl, inr (refl, u.0, u.1, u.2, u.3))
 undone_of w w' (Take k) under other u = cc
 undone_of w w' (Follow k) under other u = cc
 undone_of w w' Close under other u = absurd (other refl)
-undone_of w w' AsksQuit under other u = inr (refl, inr (refl, u.0, u.1, u.2))
-undone_of w w' AsksStop under other u = inr (refl, inr (refl, u.0, u.1, u.2))
+undone_of w w' AsksQuit under other u = inr (refl, inr (refl, u.0, u.1, u.2, u.3))
+undone_of w w' AsksStop under other u = inr (refl, inr (refl, u.0, u.1, u.2, u.3))
 
 undone_goes_on : (w w' : Option WatcherView) (r : Request) → r ≢ Close → IsUndoneAt w r w' → ends_by (Ok r) ≡ None
 undone_goes_on w w' (Run c) other u = refl
@@ -116,24 +111,24 @@ undone_goes_on w w' (Watch scope) other u = refl
 undone_goes_on w w' (Take k) other u = refl
 undone_goes_on w w' (Follow k) other u = refl
 undone_goes_on w w' Close other u = refl
-undone_goes_on None w' AsksQuit other u = absurd u.2
-undone_goes_on (Some v) w' AsksQuit other u = absurd u.2
-undone_goes_on None w' AsksStop other u = absurd u.2
-undone_goes_on (Some v) w' AsksStop other u = absurd u.2
+undone_goes_on None w' AsksQuit other u = absurd u.3
+undone_goes_on (Some v) w' AsksQuit other u = absurd u.3
+undone_goes_on None w' AsksStop other u = absurd u.3
+undone_goes_on (Some v) w' AsksStop other u = absurd u.3
 
 undone_close : (w w' : Option WatcherView) → IsUndoneAt w Close w' → IsLost w (Ok Close) (refusal WantsMemory)
-undone_close None w' u = absurd u.2
-undone_close (Some v) w' u = (u.0, u.1, u.2.0, u.2.1, refl)
+undone_close None w' u = absurd u.3
+undone_close (Some v) w' u = (u.0, u.1, u.3.0, u.2, u.3.1, refl)
 
 pub locked_undone : (w w' : Option WatcherView) (r : Request) (sent written : List ℕ) (result : Option End)
     → is_under_lock r ≡ true → IsUndoneAt w r w'
     → (r ≡ Close → IsSent sent written (refusal WantsMemory) (Some Memory) result) → (r ≢ Close → IsSent sent written (refusal WantsMemory) None result)
     → ServesAsked w (Ok r) sent written result w'
 locked_undone w w' Close sent written result under u closes others =
-    serves_lost w w' (Ok Close) sent sent written [] (refusal WantsMemory) result (sym (append-nil sent)) (closes refl) (undone_close w w' u)
+    serves_lost w w' (Ok Close) sent sent written [] (refusal WantsMemory) result (sym (append-nil sent)) (inl refl) (closes refl) (undone_close w w' u)
 locked_undone w w' r sent written result under u closes others =
     let other : r ≢ Close = λ e. cc in
-    serves_answer w w' (Ok r) sent sent written [] (refusal WantsMemory) None result (sym (append-nil sent)) (others other) (undone_of w w' r under other u) (sym (undone_goes_on w w' r other u))
+    serves_answer w w' (Ok r) sent sent written [] (refusal WantsMemory) None result (sym (append-nil sent)) (inl refl) (others other) (undone_of w w' r under other u) (sym (undone_goes_on w w' r other u))
 
 -- a line that says no request, or that could not be read for want of memory
 wanting_goes_on : (x : Result Request Fault) → may_want_memory x ≡ true → ends_by x ≡ None
@@ -152,10 +147,10 @@ pub unread_served : (w : Option WatcherView) (asked : Result Request Fault) (f :
     → ReadsAs asked (Err f) → IsSent sent written (refusal f) None result → ServesAsked w asked sent written result w
 unread_served w asked f sent written result (inl e) s =
     subst (λ (x : Result Request Fault). ServesAsked w x sent written result w) e
-    (serves_answer w w (Err f) sent sent written [] (refusal f) None result (sym (append-nil sent)) s (inl (refl, refl)) refl)
+    (serves_answer w w (Err f) sent sent written [] (refusal f) None result (sym (append-nil sent)) (inl refl) s (inl (refl, refl)) refl)
 unread_served w asked f sent written result (inr (e, m)) s =
     let same : f ≡ WantsMemory = cc in
-    serves_answer w w asked sent sent written [] (refusal f) None result (sym (append-nil sent)) s (inr (ap refusal same, inl (m, refl))) (sym (wanting_goes_on asked m))
+    serves_answer w w asked sent sent written [] (refusal f) None result (sym (append-nil sent)) (inl refl) s (inr (ap refusal same, inl (m, refl))) (sym (wanting_goes_on asked m))
 
 pub read_is : (w w' : Option WatcherView) (asked : Result Request Fault) (r : Request) (sent written : List ℕ) (result : Option End)
     → ReadsAs asked (Ok r) → ServesAsked w (Ok r) sent written result w' → ServesAsked w asked sent written result w'
@@ -164,22 +159,23 @@ read_is w w' asked r sent written result (inr e) s = cc
 
 -- a portion of a `follow` was cut
 pub portion_cut : (w : WatcherView) (w' : Option WatcherView) (most told : ℕ) (sent so_far written out text : List ℕ) (by : End)
-    → so_far ≡ sent ++ out → IsSent so_far written text None (Some by) → Follows (Some w) (out ++ text) told w' → ServesAsked (Some w) (Ok (Follow most)) sent written (Some by) w'
-portion_cut w w' most told sent so_far written out text by e (inl s) f = cc
-portion_cut w w' most told sent so_far written out text by e (inr s) f = record {
+    → so_far ≡ sent ++ out → IsInFront (Some w) (Ok (Follow most)) out → IsSent so_far written text None (Some by) → Follows (Some w) (out ++ text) told w' → told ≤ most
+    → ServesAsked (Some w) (Ok (Follow most)) sent written (Some by) w'
+portion_cut w w' most told sent so_far written out text by e front (inl s) f within = cc
+portion_cut w w' most told sent so_far written out text by e front (inr s) f within = record {
   out = out ++ take s.0.sent text;
   written_is = behind sent so_far written out (take s.0.sent text) e s.2;
   outcome = subst (λ (r : Option End). IsOutcome r (Some w) (Ok (Follow most)) (out ++ take s.0.sent text) w') (sym s.1)
-      (inr (most, refl, w, refl, f.0, f.1, f.2, subst (λ (x : List ℕ). IsFront (out ++ take s.0.sent text) x) f.5 (front_cut out text s.0.sent)));
+      (inl record { front = out; piece = text; front_is = front; answer = inr (inr (f.0, f.1, f.2, omega (arith, f.4, within), f.5)); fewer = s.3; out_is = refl });
 }
 
 -- the client of a `follow` has gone
 pub follower_gone : (w : WatcherView) (w' : Option WatcherView) (most told : ℕ) (sent written out : List ℕ) (cut : Cut)
-    → written ≡ sent ++ out → Follows (Some w) out told w' → ServesAsked (Some w) (Ok (Follow most)) sent written (Some (CutOff cut)) w'
-follower_gone w w' most told sent written out cut e f = record {
+    → written ≡ sent ++ out → Follows (Some w) out told w' → told ≤ most → cut.sent ≡ 0 → ServesAsked (Some w) (Ok (Follow most)) sent written (Some (CutOff cut)) w'
+follower_gone w w' most told sent written out cut e f within none = record {
   out = out;
   written_is = e;
-  outcome = inr (most, refl, w, refl, f.0, f.1, f.2, subst (λ (x : List ℕ). IsFront out x) f.5 (front_whole out));
+  outcome = inr (none, (f.0, f.1, f.2, omega (arith, f.4, within), f.5));
 }
 
 -- an end that an answer brings is none of the reader
@@ -255,7 +251,7 @@ unended_served before later w sent written result lines (inr s) =
       lines = lines;
       out = take s.0.sent (refusal BadLine);
       written_is = s.2;
-      ends = inr (Broken, [], refl, inl (refusal BadLine, w, inl (inl (refl, refl)), front_cut [] (refusal BadLine) s.0.sent));
+      ends = inr (Broken, [], refl, inl record { front = []; piece = refusal BadLine; front_is = inl refl; answer = inl (w, inl (refl, refl)); fewer = s.3; out_is = refl });
     } in
     subst (λ (r : Option End). ServedSharedLine before later w w sent written r) (sym s.1) ending
 
@@ -303,7 +299,7 @@ going_more turns more before mid later w now w' sent so_far written a b =
 
 -- the session ends with the next line
 pub served_ending : (turns : List SharedTurn) (before mid : List ℕ) (w now : Option WatcherView) (sent so_far written : List ℕ) (by : End)
-    → w ≡ None → SharedGoing turns before mid w now sent so_far → SharedEnding mid now so_far written by → length turns ≤ 16777216 → ServedShared before sent written by
+    → w ≡ None → SharedGoing turns before mid w now sent so_far → SharedEnding mid now so_far written by → length turns < 16777216 → ServedShared before sent written by
 served_ending turns before mid w now sent so_far written by none a b count =
     let item : SharedTurn → Item = λ (t : SharedTurn). item_of t.line in
     let text : SharedTurn → List ℕ = λ (t : SharedTurn). t.text in
@@ -316,8 +312,8 @@ served_ending turns before mid w now sent so_far written by none a b count =
       told = subst (λ (v : Option WatcherView). AreTurns v turns now) none a.told;
       goes = a.goes;
       written_is = b.written_is ∙ ap (λ (x : List ℕ). x ++ b.out) a.written_is ∙ append_assoc sent (flat_map text turns) b.out;
-      ends = inl b.ends;
-      count = count;
+      ends = inl (count, b.ends);
+      count = omega (arith, count);
     }
 
 -- as many lines were served as a session serves
@@ -377,35 +373,35 @@ round_posts w (Some m) w' limit told printed out p f =
 
 -- it is told why there will be no more
 pub round_over : (w mid w' : Option WatcherView) (limit told most : ℕ) (phase : Phase) (sent so_far written out text : List ℕ) (result : Option End)
-    → IsPortion mid limit (NoMore phase) w' → Follows w out told mid → told ≤ most → so_far ≡ sent ++ out → IsSent so_far written text None result → text ≡ by_phase (count_text told) phase
+    → IsPortion mid limit (NoMore phase) w' → Follows w out told mid → told + limit ≤ most → so_far ≡ sent ++ out → IsSent so_far written text None result → text ≡ by_phase (count_text told) phase
     → FollowsOn w most sent written (Over result) w'
 round_over w None w' limit told most phase sent so_far written out text result p f fewer e s is = absurd p
 round_over w (Some m) w' limit told most phase sent so_far written out text result p f fewer e s is =
     let v = follows_some w out told m f in
     let from : Follows (Some v.0) out told (Some m) = subst (λ (x : Option WatcherView). Follows x out told (Some m)) v.1 f in
-    let told_why : IsTurn (Some v.0) (Ok (Follow most)) (out ++ text) (Some p.0) = inl (follows_fewer v.0 m p.0 out text told most phase from fewer p.1 p.2 is) in
+    let told_why : IsTurn (Some v.0) (Ok (Follow most)) (out ++ text) (Some p.0) = inl (follows_fewer v.0 m p.0 out text told most phase from (omega (arith, fewer, p.4)) p.1 p.2 is) in
     let turn : IsTurn w (Ok (Follow most)) (out ++ text) w' =
     subst (λ (x : Option WatcherView). IsTurn x (Ok (Follow most)) (out ++ text) w') (sym v.1) (subst (λ (x : Option WatcherView). IsTurn (Some v.0) (Ok (Follow most)) (out ++ text) x) (sym p.3) told_why) in
-    follow_over w w' most sent written result (serves_answer w w' (Ok (Follow most)) sent so_far written out text None result e s turn refl)
+    follow_over w w' most sent written result (serves_answer w w' (Ok (Follow most)) sent so_far written out text None result e (follows_in_front w (Some m) out told most f (omega (arith, fewer))) s turn refl)
 
 -- it is refused, or there was no memory to tell posts that it took
 pub round_refused : (w mid w' : Option WatcherView) (limit told most : ℕ) (fault : Fault) (sent so_far written out : List ℕ) (result : Option End)
-    → IsPortion mid limit (Refused fault) w' → Follows w out told mid → so_far ≡ sent ++ out
+    → IsPortion mid limit (Refused fault) w' → Follows w out told mid → told + limit ≤ most → so_far ≡ sent ++ out
     → (fault ≡ WantsMemory → IsSent so_far written (refusal WantsMemory) (Some Memory) result) → (fault ≢ WantsMemory → IsSent so_far written (refusal fault) None result)
     → FollowsOn w most sent written (Over result) w'
-round_refused w None w' limit told most fault sent so_far written out result p f e lost others =
+round_refused w None w' limit told most fault sent so_far written out result p f within e lost others =
     let none = follows_none w out told f in
     let other : fault ≢ WantsMemory = λ is. cc in
     let text : out ++ refusal fault ≡ refusal NoWatcher = ap (λ (x : List ℕ). x ++ refusal fault) none.1 ∙ ap refusal p.0 in
     let refused : IsTurn None (Ok (Follow most)) (out ++ refusal fault) w' = inl (text, p.1) in
     let turn : IsTurn w (Ok (Follow most)) (out ++ refusal fault) w' = subst (λ (x : Option WatcherView). IsTurn x (Ok (Follow most)) (out ++ refusal fault) w') (sym none.0) refused in
-    follow_over w w' most sent written result (serves_answer w w' (Ok (Follow most)) sent so_far written out (refusal fault) None result e (others other) turn refl)
-round_refused w (Some m) w' limit told most fault sent so_far written out result p f e lost others =
+    follow_over w w' most sent written result (serves_answer w w' (Ok (Follow most)) sent so_far written out (refusal fault) None result e (follows_in_front w None out told most f (omega (arith, within))) (others other) turn refl)
+round_refused w (Some m) w' limit told most fault sent so_far written out result p f within e lost others =
     let v = follows_some w out told m f in
     let from : Follows (Some v.0) out told (Some m) = subst (λ (x : Option WatcherView). Follows x out told (Some m)) v.1 f in
-    let gone : IsLost (Some v.0) (Ok (Follow most)) (out ++ refusal WantsMemory) = follows_lost v.0 m p.2 out told most p.1 from p.3 in
+    let gone : IsLost (Some v.0) (Ok (Follow most)) (out ++ refusal WantsMemory) = follows_lost v.0 m p.2 out told most p.1 from p.3 (omega (arith, within, p.5)) in
     let gone_from : IsLost w (Ok (Follow most)) (out ++ refusal WantsMemory) = subst (λ (x : Option WatcherView). IsLost x (Ok (Follow most)) (out ++ refusal WantsMemory)) (sym v.1) gone in
-    follow_over w w' most sent written result (serves_lost w w' (Ok (Follow most)) sent so_far written out (refusal WantsMemory) result e (lost p.0) gone_from)
+    follow_over w w' most sent written result (serves_lost w w' (Ok (Follow most)) sent so_far written out (refusal WantsMemory) result e (follows_in_front w (Some m) out told most f (omega (arith, within))) (lost p.0) gone_from)
 
 -- none waited, and it goes on
 pub round_rest : (w mid w' : Option WatcherView) (limit told most : ℕ) (sent written out : List ℕ)
@@ -419,15 +415,15 @@ round_rest w (Some m) w' limit told most sent written out p f e = record {
 
 -- none waited, and the client has gone
 pub round_gone : (w mid w' : Option WatcherView) (limit told most : ℕ) (sent written out : List ℕ) (cut : Cut)
-    → IsPortion mid limit Rest w' → Follows w out told mid → written ≡ sent ++ out → FollowsOn w most sent written (Over (Some (CutOff cut))) w'
-round_gone w None w' limit told most sent written out cut p f e = absurd p
-round_gone w (Some m) w' limit told most sent written out cut p f e =
+    → IsPortion mid limit Rest w' → Follows w out told mid → told ≤ most → cut.sent ≡ 0 → written ≡ sent ++ out → FollowsOn w most sent written (Over (Some (CutOff cut))) w'
+round_gone w None w' limit told most sent written out cut p f within none e = absurd p
+round_gone w (Some m) w' limit told most sent written out cut p f within none e =
     let v = follows_some w out told m f in
     let from : Follows (Some v.0) out told (Some m) = subst (λ (x : Option WatcherView). Follows x out told (Some m)) v.1 f in
-    let gone = follower_gone v.0 (Some m) most told sent written out cut e from in
+    let gone = follower_gone v.0 (Some m) most told sent written out cut e from within none in
     let gone_here : ServesAsked (Some v.0) (Ok (Follow most)) sent written (Some (CutOff cut)) w' = record { out = gone.out; written_is = gone.written_is; outcome = gone.outcome } in
     follow_over w w' most sent written (Some (CutOff cut)) (subst (λ (x : Option WatcherView). ServesAsked x (Ok (Follow most)) sent written (Some (CutOff cut)) w') (sym v.1) gone_here)
 
 -- a line that is refused for itself
 pub refused_served : (w : Option WatcherView) (f : Fault) (sent written : List ℕ) (result : Option End) → IsSent sent written (refusal f) None result → ServesAsked w (Err f) sent written result w
-refused_served w f sent written result s = serves_answer w w (Err f) sent sent written [] (refusal f) None result (sym (append-nil sent)) s (inl (refl, refl)) refl
+refused_served w f sent written result s = serves_answer w w (Err f) sent sent written [] (refusal f) None result (sym (append-nil sent)) (inl refl) s (inl (refl, refl)) refl

@@ -1,6 +1,6 @@
 -- One line of a session in a thread of its own, as its steps see it. No public clause cites this module.
 -- A word with no source is this project's rule.
-use Rattle.std.specs.Prelude.{◌≡◌, ◌≢◌, ℕ, ◌≤◌, Bool, true, false, List, [], ◌∷◌, ◌++◌, map, length, Option, Some, None, Result, Ok}
+use Rattle.std.specs.Prelude.{◌≡◌, ◌≢◌, ℕ, ◌<◌, ◌≤◌, Bool, true, false, List, [], ◌∷◌, ◌++◌, map, length, Option, Some, None, Result, Ok}
 use Rattle.std.specs.List.{flat_map}
 use Rattle.mt_skel.specs.declared.fault.Fault.{Fault}
 use Rattle.mt_skel.specs.declared.fault.Fault.TheVariants.{NoWatcher, NoMemory as WantsMemory}
@@ -8,7 +8,7 @@ use Rattle.mt_lines.specs.Lines.{Item, lines_of}
 use Rattle.mt_events.specs.Posts.{PostView, post_text}
 use Rattle.mt_floor.specs.declared.watch.Phase.TheVariants.{Open as IsOpen}
 use Rattle.mt_floor.specs.declared.watch.Meeting.{Meeting}
-use Rattle.mt_desk.specs.Desk.{DeskView}
+use Rattle.mt_desk.specs.Desk.{DeskView, IsDesk}
 use Rattle.mt_desk.specs.Calls.{WatcherView, IsMet}
 use Rattle.mt_requests.specs.declared.request.Request.{Request}
 use Rattle.mt_requests.specs.declared.request.Request.TheVariants.{Follow}
@@ -24,12 +24,12 @@ use Rattle.mt_session.specs.SharedSession.{SharedTurn, IsTurn, IsSpent, EndsOfAn
 
 -- there was no memory to do a request at some desk
 abbrev pub IsUndoneAt : Option WatcherView → Request → Option WatcherView → Type 0
-IsUndoneAt w r w' = (desk : DeskView) × (now : DeskView) × IsUndoneBy desk w r now w'
+IsUndoneAt w r w' = (desk : DeskView) × (now : DeskView) × IsDesk desk × IsUndoneBy desk w r now w'
 
 -- a session has met some desk, if it has a watcher
 abbrev pub HasMet : Option WatcherView → Option Meeting → Option WatcherView → Type 0
 HasMet None met w' = (met ≡ None) × (w' ≡ None)
-HasMet (Some w) met w' = (desk : DeskView) × (now : DeskView) × (m : Meeting) × (after : WatcherView) × IsMet desk w m now after × (met ≡ Some m) × (w' ≡ Some after)
+HasMet (Some w) met w' = (desk : DeskView) × (now : DeskView) × (m : Meeting) × (after : WatcherView) × IsDesk desk × IsMet desk w m now after × (met ≡ Some m) × (w' ≡ Some after)
 
 -- what a portion of a `follow` is, of at most so many posts
 abbrev pub IsPortion : Option WatcherView → ℕ → Portion → Option WatcherView → Type 0
@@ -39,8 +39,8 @@ IsPortion (Some w) most (Posts printed) w' =
     (posts : List PostView) × (after : WatcherView) × HasTaken w posts after × (w' ≡ Some after)
     × (printed.text.items ≡ flat_map post_text posts) × (printed.posts ≡ length posts) × (length posts ≤ most)
 IsPortion (Some w) most Rest w' = (after : WatcherView) × HasTaken w [] after × (w' ≡ Some after)
-IsPortion (Some w) most (NoMore phase) w' = (after : WatcherView) × IsSpent w phase after × (phase ≢ IsOpen) × (w' ≡ Some after)
-IsPortion (Some w) most (Refused f) w' = (f ≡ WantsMemory) × (lost : List PostView) × (after : WatcherView) × HasTaken w lost after × (w' ≡ Some after)
+IsPortion (Some w) most (NoMore phase) w' = (after : WatcherView) × IsSpent w phase after × (phase ≢ IsOpen) × (w' ≡ Some after) × (0 < most)
+IsPortion (Some w) most (Refused f) w' = (f ≡ WantsMemory) × (lost : List PostView) × (after : WatcherView) × HasTaken w lost after × (w' ≡ Some after) × (length lost ≤ most)
 
 -- a `follow` has told so many posts, in this text
 abbrev pub Follows : Option WatcherView → List ℕ → ℕ → Option WatcherView → Type 0

@@ -1,7 +1,7 @@
 -- What a session in a thread of its own writes. What its requests find depends on the other sessions, so each answer is that of the request at a desk of which no
 -- more is said; what it tells of a watcher's posts is a run from the opening that it told.
 -- A word with no source is this project's rule.
-use Rattle.std.specs.Prelude.{◌≡◌, ◌≢◌, ◌⊎◌, ℕ, ◌≤◌, Bool, true, false, List, [], ◌∷◌, ◌++◌, map, length, Option, Some, None, Result, Ok, Err}
+use Rattle.std.specs.Prelude.{◌≡◌, ◌≢◌, ◌⊎◌, ℕ, ◌+◌, ◌<◌, ◌≤◌, Bool, true, false, List, [], ◌∷◌, ◌++◌, map, take, length, Option, Some, None, Result, Ok, Err}
 use Rattle.std.specs.List.{flat_map}
 use Rattle.mt_skel.specs.declared.fault.Fault.{Fault}
 use Rattle.mt_skel.specs.declared.fault.Fault.TheVariants.{BadLine, NoWatcher, NoMemory as WantsMemory}
@@ -35,12 +35,13 @@ pub record IsAnsweredAt (w : Option WatcherView) (r : Request) (text : List ℕ)
 pub record IsSpent (w : WatcherView) (phase : Phase) (w' : WatcherView) : Type 0 where
   pub desk : DeskView
   pub now : DeskView
+  pub kept : IsDesk desk
   pub meeting : Meeting
   pub met : IsMet desk w meeting now w'
   pub all : meeting.posted ≡ meeting.taken
   pub phase_is : meeting.state ≡ phase
 
--- `take`: posts, at least one and up to so many; or none wait, and the answer says why
+-- `take`: posts, at least one and up to so many, fewer only where all are told that the last meeting told of; or none wait, and the answer says why
 pub record TakesSome (w : WatcherView) (most : ℕ) (text : List ℕ) (w' : Option WatcherView) : Type 0 where
   pub posts : List PostView
   pub after : WatcherView
@@ -48,6 +49,7 @@ pub record TakesSome (w : WatcherView) (most : ℕ) (text : List ℕ) (w' : Opti
   pub watcher : w' ≡ Some after
   pub some : posts ≢ []
   pub most_is : length posts ≤ most
+  pub fewer : length posts < most → w.half.told ≤ length w.half.taken + length posts
   pub text_is : text ≡ posts_text posts
 
 pub record TakesNone (w : WatcherView) (text : List ℕ) (w' : Option WatcherView) : Type 0 where
@@ -79,7 +81,7 @@ pub record FollowsFewer (w : WatcherView) (most : ℕ) (text : List ℕ) (w' : O
   pub spent : IsSpent before phase after
   pub ended : phase ≢ IsOpen
   pub watcher : w' ≡ Some after
-  pub most_is : length posts ≤ most
+  pub most_is : length posts < most
   pub text_is : text ≡ followed_text posts (by_phase [] phase)
 
 abbrev pub IsFollowed : Option WatcherView → ℕ → List ℕ → Option WatcherView → Type 0
@@ -102,7 +104,7 @@ takes_posts r = false
 
 -- there was no memory to do a request
 abbrev pub IsNotDone : Option WatcherView → Result Request Fault → Option WatcherView → Type 0
-IsNotDone w (Ok r) w' = (takes_posts r ≡ false) × (desk : DeskView) × (now : DeskView) × IsUndoneBy desk w r now w'
+IsNotDone w (Ok r) w' = (takes_posts r ≡ false) × (desk : DeskView) × (now : DeskView) × IsDesk desk × IsUndoneBy desk w r now w'
 IsNotDone w (Err f) w' = ⊥
 
 -- there was no memory: to read a line, or to do its request
@@ -115,10 +117,11 @@ IsTurn w asked text w' = IsTold w asked text w' ⊎ WantsRoom w asked text w'
 
 -- posts were taken, and there was no memory to tell them
 abbrev pub IsLost : Option WatcherView → Result Request Fault → List ℕ → Type 0
-IsLost (Some w) (Ok (Take most)) text = (lost : List PostView) × (after : WatcherView) × HasTaken w lost after × (text ≡ refusal WantsMemory)
+IsLost (Some w) (Ok (Take most)) text = (lost : List PostView) × (after : WatcherView) × HasTaken w lost after × (length lost ≤ most) × (text ≡ refusal WantsMemory)
 IsLost (Some w) (Ok (Follow most)) text =
-    (told : List PostView) × (lost : List PostView) × (after : WatcherView) × HasTaken w (told ++ lost) after × (text ≡ followed_text told (refusal WantsMemory))
-IsLost (Some w) (Ok Close) text = (desk : DeskView) × (now : DeskView) × (posts : List PostView) × IsClosed desk w posts now × (text ≡ refusal WantsMemory)
+    (told : List PostView) × (lost : List PostView) × (after : WatcherView) × HasTaken w (told ++ lost) after
+    × (length (told ++ lost) ≤ most) × (text ≡ followed_text told (refusal WantsMemory))
+IsLost (Some w) (Ok Close) text = (desk : DeskView) × (now : DeskView) × (posts : List PostView) × IsDesk desk × IsClosed desk w posts now × (text ≡ refusal WantsMemory)
 IsLost w asked text = ⊥
 
 -- a line, and the text that answered it
@@ -136,22 +139,38 @@ abbrev pub TurnsGoOn : List SharedTurn → Type 0
 TurnsGoOn [] = Unit {0}
 TurnsGoOn (t ∷ turns) = (has_end t.line ≡ true) × (ends_by (request_of_line t.line) ≡ None) × TurnsGoOn turns
 
--- the beginning of a text
-abbrev pub IsFront : List ℕ → List ℕ → Type 0
-IsFront front text = (rest : List ℕ) × (text ≡ front ++ rest)
+-- the posts that a `follow` has told so far, and not yet the line at their end
+abbrev pub FollowsSoFar : Option WatcherView → Result Request Fault → List ℕ → Type 0
+FollowsSoFar (Some w) (Ok (Follow most)) text =
+    (posts : List PostView) × (after : WatcherView) × HasTaken w posts after × (length posts ≤ most) × (text ≡ flat_map post_text posts)
+FollowsSoFar w asked text = ⊥
 
--- an answer that was cut: so much of it went out, of a `follow` of what was printed so far
-abbrev pub IsCutShort : Option WatcherView → Result Request Fault → List ℕ → Type 0
-IsCutShort w asked out =
-    ((text : List ℕ) × (w' : Option WatcherView) × (IsTurn w asked text w' ⊎ IsLost w asked text) × IsFront out text)
-    ⊎ ((most : ℕ) × (asked ≡ Ok (Follow most)) × (v : WatcherView) × (w ≡ Some v)
-    × (posts : List PostView) × (after : WatcherView) × HasTaken v posts after × IsFront out (flat_map post_text posts))
+-- what of an answer goes out in front of a piece of it: nothing, but of a `follow` the posts that it has told
+abbrev pub IsInFront : Option WatcherView → Result Request Fault → List ℕ → Type 0
+IsInFront w asked text = (text ≡ []) ⊎ FollowsSoFar w asked text
+
+-- an answer once a piece of it is out: all of it, or what a `follow` has told so far
+abbrev pub IsAnswerSoFar : Option WatcherView → Result Request Fault → List ℕ → Type 0
+IsAnswerSoFar w asked text = ((w' : Option WatcherView) × IsTurn w asked text w') ⊎ (IsLost w asked text ⊎ FollowsSoFar w asked text)
+
+-- an answer that was cut within a piece: those in front of it are out whole, and of it the first so many bytes, fewer than all
+pub record IsCutWithin (sent : ℕ) (w : Option WatcherView) (asked : Result Request Fault) (out : List ℕ) : Type 0 where
+  pub front : List ℕ
+  pub piece : List ℕ
+  pub front_is : IsInFront w asked front
+  pub answer : IsAnswerSoFar w asked (front ++ piece)
+  pub fewer : sent < length piece
+  pub out_is : out ≡ front ++ take sent piece
+
+-- an answer that was cut: within a piece, or between two pieces of a `follow`, of which it had sent nothing
+abbrev pub IsCutShort : ℕ → Option WatcherView → Result Request Fault → List ℕ → Type 0
+IsCutShort sent w asked out = IsCutWithin sent w asked out ⊎ ((sent ≡ 0) × FollowsSoFar w asked out)
 
 -- an end that the answer to a line brings, and what was written of the answer
 abbrev pub EndsOfAnswer : End → Option WatcherView → Result Request Fault → List ℕ → Type 0
 EndsOfAnswer Quit w asked out = (asked ≡ Ok AsksQuit) × (w' : Option WatcherView) × IsTurn w asked out w'
 EndsOfAnswer Stop w asked out = (asked ≡ Ok AsksStop) × (w' : Option WatcherView) × IsTurn w asked out w'
-EndsOfAnswer (CutOff cut) w asked out = IsCutShort w asked out
+EndsOfAnswer (CutOff cut) w asked out = IsCutShort cut.sent w asked out
 EndsOfAnswer Memory w asked out = IsLost w asked out
 EndsOfAnswer by w asked out = ⊥
 
@@ -175,9 +194,10 @@ EndsByNext by w items out =
     EndsOfInput by items out
     ⊎ ((line : Asking) × (later : List Item) × (items ≡ item_of line ∷ later) × EndsOfAnswer by w (request_of_line line) out)
 
--- How a session ends behind the lines that it served: by the watcher that it has then, the lines that it had not served, and what it wrote still.
+-- How a session ends behind the lines that it served: by the watcher that it has then, the lines that it had not served, and what it wrote still. A line that
+-- ends it is one of those that it serves.
 abbrev pub EndsSo : End → List SharedTurn → Option WatcherView → List Item → List ℕ → Type 0
-EndsSo by turns w items out = EndsByNext by w items out ⊎ EndsOfCount by turns out
+EndsSo by turns w items out = ((length turns < most_lines) × EndsByNext by w items out) ⊎ EndsOfCount by turns out
 
 -- A session in a thread of its own: its lines in order, one answer each, then its end.
 pub record ServedShared (before sent written : List ℕ) (by : End) : Type 0 where

@@ -67,9 +67,11 @@ IsUndoneBy d None (Watch scope) now w' =
 IsUndoneBy d (Some w) Close now w' = (posts : List PostView) × IsClosed d w posts now × (w' ≡ None)
 IsUndoneBy d w r now w' = ⊥
 
--- a watcher has taken posts, and may have met the desk
+-- a watcher has taken posts, and may have met the desk; all that it has taken now is a run from its opening
 abbrev pub HasTaken : WatcherView → List PostView → WatcherView → Type 0
-HasTaken w posts w' = (told : ℕ) × (w.half.told ≤ told) × (w' ≡ record w { half = record w.half { taken = w.half.taken ++ posts; told = told } })
+HasTaken w posts w' =
+    (told : ℕ) × (w.half.told ≤ told) × (w' ≡ record w { half = record w.half { taken = w.half.taken ++ posts; told = told } })
+    × IsRun w.half.opening (w.half.taken ++ posts)
 
 -- a watcher has taken posts, and has not met the desk
 abbrev pub with_posts : WatcherView → List PostView → WatcherView

@@ -3,6 +3,7 @@ ghost use Rattle.std.specs.Prelude.{◌≡◌, ◌≢◌, ◌+◌, ◌++◌, ◌
 ghost use Rattle.std.specs.Option.{ForSome};
 ghost use Rattle.mt_skel.specs.declared.fault.Fault.TheVariants.{NoMemory};
 ghost use Rattle.mt_desk.specs.Calls.{WatcherView};
+ghost use Rattle.mt_events.specs.Following.{IsRun};
 ghost use Rattle.mt_requests.specs.declared.request.Request.TheVariants.{Take, Follow};
 ghost use Rattle.mt_requests.specs.Requests.{HasRightCount};
 ghost use Rattle.mt_lines.specs.declared.stream.Cut.{Cut};
@@ -11,7 +12,7 @@ ghost use Rattle.mt_session.specs.Answers.{refusal, count_text};
 ghost use Rattle.mt_session.specs.Serving.{IsSent};
 ghost use Rattle.mt_session.specs.Session.{IsCutCause, IsCutRun};
 ghost use Rattle.mt_session.specs.SharedTurns.{is_under_lock};
-ghost use Rattle.mt_session.specs.SharedSession.{IsAnsweredAt, IsTaken, IsLost};
+ghost use Rattle.mt_session.specs.SharedSession.{IsAnsweredAt, IsTaken, IsLost, IsInFront};
 ghost use Rattle.mt_session.specs.SharedServing.{IsUndoneAt, HasMet, IsPortion, Follows, ServesAsked, FollowsOn, IsWithin, end_of_round, ends_by_request};
 
 use crate::bell::Bell;
@@ -277,7 +278,10 @@ fn next_portion<J: Naming, G: Gate, R: Wait>(
     session: &mut SharedSession<J>,
     most: u64,
 ) -> Portion
-    ensures { IsPortion session.old most result session.new }
+    ensures portion { IsPortion session.old most result session.new }
+
+    // What is always true of the session's watcher.
+    ensures running { ForSome session.old (λ (w : WatcherView). IsRun w.half.opening w.half.taken) }
 {
     let printed = match session.pops(rt, most.min(MOST_AT_ONCE)) {
         Ok(printed) => printed,
@@ -334,7 +338,7 @@ fn tell_portion<J: Naming, O: Output, G: Gate, R: Wait>(
 ) -> Round
     requires { told + printed.posts ≤ most }
     ensures followed { IsTrue O.tells → (w : WatcherView) (w' : Option WatcherView) (sent : List ℕ) (out : List ℕ)
-        → O.written writer.old ≡ sent ++ out → Follows (Some w) (out ++ printed.text.items) (told + printed.posts) w'
+        → O.written writer.old ≡ sent ++ out → IsInFront (Some w) (Ok (Follow most)) out → Follows (Some w) (out ++ printed.text.items) (told + printed.posts) w'
         → FollowsOn (Some w) most sent (O.written writer.new) result w' }
     ensures within { IsWithin most result }
     ensures cut { IsTrue O.counts → IsCutCause (end_of_round result) (O.failed writer.old) (O.failed writer.new) }
@@ -362,7 +366,7 @@ fn rest<J: Naming, O: Output, G: Gate, R: Wait + Clock>(
     writer: &mut O,
 ) -> Option<End>
     ensures kept { IsTrue O.tells → O.written writer.new ≡ O.written writer.old }
-    ensures gone { ForSome result (λ e. (cut : Cut) × (e ≡ CutOff cut)) }
+    ensures gone { ForSome result (λ e. (cut : Cut) × (e ≡ CutOff cut) × (cut.sent ≡ 0)) }
     ensures cut { IsTrue O.counts → IsCutCause result (O.failed writer.old) (O.failed writer.new) }
     ensures cut_run { IsTrue O.counts → O.faults writer.old ≡ [] → IsCutRun result (O.faults writer.new) }
 {
@@ -403,7 +407,7 @@ fn follow_round<J: Naming, O: Output, G: Gate, R: Wait + Clock>(
 ) -> Round
     requires { told ≤ most }
     ensures followed { IsTrue O.tells → (w : Option WatcherView) (sent : List ℕ) (out : List ℕ)
-        → O.written writer.old ≡ sent ++ out → Follows w out told session.old
+        → O.written writer.old ≡ sent ++ out → (ForSome session.old (λ (v : WatcherView). IsRun v.half.opening v.half.taken) → Follows w out told session.old)
         → FollowsOn w most sent (O.written writer.new) result session.new }
     ensures within { IsWithin most result }
     ensures cut { IsTrue O.counts → IsCutCause (end_of_round result) (O.failed writer.old) (O.failed writer.new) }

@@ -1,5 +1,5 @@
 //! What a session in a thread of its own does for a request.
-ghost use Rattle.std.specs.Prelude.{◌≡◌, ◌≢◌, List, map, true, IfOk, IfErr, OnOk, OnErr, IsOkUnless, IsSome, Ok, Err, None, Some};
+ghost use Rattle.std.specs.Prelude.{◌≡◌, ◌≢◌, ◌≤◌, List, length, map, true, IfOk, IfErr, OnOk, OnErr, IsOkUnless, IsSome, Ok, Err, None, Some};
 ghost use Rattle.std.specs.Option.{ForSome};
 ghost use Rattle.std.specs.Arc.{arc_value};
 ghost use Rattle.mt_events.specs.Posts.{PostView};
@@ -116,7 +116,7 @@ fn taken<J: Naming, R: Wait>(
 ) -> Result<PrintedPosts, Fault>
     requires { IsRun watcher.old.half.opening watcher.old.half.taken }
     ensures popped { IfOk result (λ printed. IsPopped watcher.old most printed (Some watcher.new)) }
-    ensures taken { (posts : List PostView) × (watcher.new ≡ with_posts watcher.old posts) }
+    ensures taken { (posts : List PostView) × (watcher.new ≡ with_posts watcher.old posts) × (length posts ≤ most) }
     ensures memory { IsOkUnless result Fault.NoMemory }
     ensures run { IsRun watcher.new.half.opening watcher.new.half.taken }
 {
@@ -244,8 +244,11 @@ impl<J: Naming> SharedSession<J> {
         ensures popped { IfOk result (λ printed. ForSome self.old (λ (w : WatcherView). IsPopped w most printed self.new)) }
         ensures watched { OnOk result (IsSome self.old) }
         ensures refused { IfErr result (λ fault. fault ≢ Fault.NoMemory → (fault ≡ Fault.NoWatcher) × (self.old ≡ None) × (self.new ≡ None)) }
-        ensures lost { result ≡ Err Fault.NoMemory → ForSome self.old (λ (w : WatcherView). (posts : List PostView) × (w' : WatcherView) × HasTaken w posts w' × (self.new ≡ Some w')) }
+        ensures lost { result ≡ Err Fault.NoMemory → ForSome self.old (λ (w : WatcherView). (posts : List PostView) × (w' : WatcherView) × HasTaken w posts w' × (self.new ≡ Some w') × (length posts ≤ most)) }
         ensures refuses { self.old ≡ None → result ≡ Err Fault.NoWatcher }
+
+        // What is always true of the session's watcher.
+        ensures running { ForSome self.old (λ (w : WatcherView). IsRun w.half.opening w.half.taken) }
     {
         let Some(watcher) = &mut self.watcher else {
             return Err(Fault::NoWatcher);
@@ -258,7 +261,11 @@ impl<J: Naming> SharedSession<J> {
     pub fn meet(&mut self, desk: &mut Desk<J>) -> Option<Meeting>
         ensures none { self.old ≡ None → (result ≡ None) × (self.new ≡ None) × (desk.new ≡ desk.old) }
         ensures met { ForSome self.old (λ (w : WatcherView). (m : Meeting) × (w' : WatcherView) × IsMet desk.old w m desk.new w' × (result ≡ Some m) × (self.new ≡ Some w')) }
+
+        // What is always true of a desk.
+        ensures kept { IsDesk desk.old }
     {
+        let _book = desk.book();
         match &mut self.watcher {
             Some(watcher) => Some(met(desk, watcher)),
             None => None,

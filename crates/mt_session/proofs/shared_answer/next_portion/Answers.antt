@@ -2,18 +2,18 @@ use Rattle.std.proofs.Common.{arith}
 use Rattle.mt_session.proofs.SharedTakeLaws.{portion_popped, portion_met, portion_rested, portion_gone}
 use Rattle.mt_session.proofs.shared_answer.next_portion.Goals as goal
 
-pub returns-then-printed-gt0 : goal.returns-then-printed-gt0
-returns-then-printed-gt0 g c =
+pub returns-then-printed-gt0-clause-portion : goal.returns-then-printed-gt0-clause-portion
+returns-then-printed-gt0-clause-portion g c =
     portion_popped c.args.session.now c.pops.new.self c.args.most c.min.result c.in-Ok.printed c.in-Ok.ensures.popped c.in-Ok.ensures.watched (omega (arith, c.min.ensures))
 
-pub returns-then-meeting : goal.returns-then-meeting
-returns-then-meeting g c =
+pub returns-then-meeting-clause-portion : goal.returns-then-meeting-clause-portion
+returns-then-meeting-clause-portion g c =
     portion_met c.args.session.now c.pops.new.self c.meet.new.session c.args.most c.min.result c.in-Ok.printed c.in-Some.meeting c.in-Ok.ensures.popped c.in-Ok.ensures.watched (omega (arith, c.if-printed-gt0.false)) c.in-Some.ensures
 
-pub returns-else-meeting : goal.returns-else-meeting
-returns-else-meeting g c =
-    portion_rested c.args.session.now c.pops.new.self c.meet.new.session c.args.most c.min.result c.in-Ok.printed c.in-Some.meeting c.portion_of.result c.in-Ok.ensures.popped c.in-Ok.ensures.watched (omega (arith, c.if-printed-gt0.false)) c.in-Some.ensures (omega (arith, c.if-meeting.false)) c.portion_of.ensures.rest c.portion_of.ensures.over
+pub returns-else-meeting-clause-portion : goal.returns-else-meeting-clause-portion
+returns-else-meeting-clause-portion g c =
+    portion_rested c.args.session.now c.pops.new.self c.meet.new.session c.args.most c.min.result c.in-Ok.printed c.in-Some.meeting c.portion_of.result c.in-Ok.ensures.popped c.in-Ok.ensures.watched (omega (arith, c.if-printed-gt0.false)) (omega (arith, c.if-printed-gt0.false)) c.in-Some.ensures (omega (arith, c.if-meeting.false)) c.portion_of.ensures.rest c.portion_of.ensures.over
 
-pub returns-in-None : goal.returns-in-None
-returns-in-None g c =
+pub returns-in-None-clause-portion : goal.returns-in-None-clause-portion
+returns-in-None-clause-portion g c =
     portion_gone c.args.session.now c.pops.new.self c.meet.new.session c.args.most c.min.result c.in-Ok.printed _ c.in-Ok.ensures.popped c.in-Ok.ensures.watched c.in-None.ensures

@@ -9,7 +9,7 @@ rounds-init g c = record {
   within = omega arith;
   failed = λ t. omega arith;
   cut_run = λ t none. none;
-  followed = λ t. ([], sym (append-nil (g.O.Output.written c.args.writer.now)), follows_start c.args.session.now);
+  followed = λ t. ([], sym (append-nil (g.O.Output.written c.args.writer.now)), λ run. follows_start c.args.session.now run);
 }
 
 pub rounds-preserved : goal.rounds-preserved
@@ -20,7 +20,7 @@ rounds-preserved g c = record {
   followed = λ t.
       let i = c.rounds.invariant.followed t in
       let r = c.in-Told.ensures.followed t c.args.session.now (g.O.Output.written c.args.writer.now) i.0 i.1 i.2 in
-      (r.out, r.written_is, r.round);
+      (r.out, r.written_is, λ run. r.round);
 }
 
 pub returns-in-Over-clause-served : goal.returns-in-Over-clause-served

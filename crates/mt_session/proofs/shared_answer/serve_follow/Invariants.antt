@@ -1,4 +1,7 @@
 use Rattle.std.proofs.Common.{◌≡◌, IsTrue, ℕ, List, [], ◌++◌, ◌≤◌}
+use Rattle.std.specs.Option.{ForSome}
+use Rattle.mt_events.specs.Following.{IsRun}
+use Rattle.mt_desk.specs.Calls.{WatcherView}
 use Rattle.mt_session.specs.SharedServing.{Follows}
 use Rattle.mt_session.proofs.shared_answer.serve_follow.Given as goal
 
@@ -8,5 +11,5 @@ invariant-rounds g l = record {
   within : l.told ≤ l.initial.most;
   failed : IsTrue g.O.Output.counts → g.O.Output.failed l.initial.writer ≤ g.O.Output.failed l.writer;
   cut_run : IsTrue g.O.Output.counts → g.O.Output.faults l.initial.writer ≡ [] → g.O.Output.faults l.writer ≡ [];
-  followed : IsTrue g.O.Output.tells → (out : List ℕ) × (g.O.Output.written l.writer ≡ g.O.Output.written l.initial.writer ++ out) × Follows l.initial.session out l.told l.session;
+  followed : IsTrue g.O.Output.tells → (out : List ℕ) × (g.O.Output.written l.writer ≡ g.O.Output.written l.initial.writer ++ out) × (ForSome l.session (λ (w : WatcherView). IsRun w.half.opening w.half.taken) → Follows l.initial.session out l.told l.session);
 }

@@ -1,4 +1,4 @@
-use Rattle.std.proofs.Common.{Ok, [], sym}
+use Rattle.std.proofs.Common.{Ok, [], inl, refl, sym}
 use Rattle.std.proofs.lemmas.List.{append-nil}
 use Rattle.mt_session.proofs.SharedLineLaws.{serves_answer, locked_told, locked_undone, answer_requested}
 use Rattle.mt_session.proofs.shared_answer.serve_locked.Goals as goal
@@ -7,7 +7,7 @@ pub returns-in-Ok-clause-served : goal.returns-in-Ok-clause-served
 returns-in-Ok-clause-served g c t =
     let sent = g.O.Output.written c.args.writer.now in
     let turn = locked_told c.args.session.now c.do_locked-answer.new.session c.args.request.now c.in-Ok.text c.requires c.in-Ok.ensures.answered in
-    serves_answer c.args.session.now _ (Ok c.args.request.now) sent sent _ [] c.in-Ok.text c.end_of.result c.answer_with.result (sym (append-nil sent)) (c.answer_with.ensures.sent t) turn c.end_of.ensures
+    serves_answer c.args.session.now _ (Ok c.args.request.now) sent sent _ [] c.in-Ok.text c.end_of.result c.answer_with.result (sym (append-nil sent)) (inl refl) (c.answer_with.ensures.sent t) turn c.end_of.ensures
 
 pub returns-in-Ok-clause-ended : goal.returns-in-Ok-clause-ended
 returns-in-Ok-clause-ended g c by is = answer_requested by (c.answer_with.ensures.ended by is)

@@ -9,12 +9,12 @@ use Rattle.mt_session.proofs.shared_answer.serve_take.Goals as goal
 pub returns-in_default-clause-served : goal.returns-in_default-clause-served
 returns-in_default-clause-served g c t =
     let sent = g.O.Output.written c.args.writer.now in
-    serves_lost c.args.session.now _ (Ok (Take c.args.most)) sent sent _ [] (refusal NoMemory) c.tell_lost.result (sym (append-nil sent)) (c.tell_lost.ensures.sent t) c.in_default.ensures.lost
+    serves_lost c.args.session.now _ (Ok (Take c.args.most)) sent sent _ [] (refusal NoMemory) c.tell_lost.result (sym (append-nil sent)) (inl refl) (c.tell_lost.ensures.sent t) c.in_default.ensures.lost
 
 pub returns-clause-served : goal.returns-clause-served
 returns-clause-served g c t =
     let sent = g.O.Output.written c.args.writer.now in
-    serves_answer c.args.session.now _ (Ok (Take c.args.most)) sent sent _ [] c.in-Ok.answer.text None c.answer_with-end.result (sym (append-nil sent)) (c.answer_with-end.ensures.sent t) (inl c.in-Ok.ensures.taken) refl
+    serves_answer c.args.session.now _ (Ok (Take c.args.most)) sent sent _ [] c.in-Ok.answer.text None c.answer_with-end.result (sym (append-nil sent)) (inl refl) (c.answer_with-end.ensures.sent t) (inl c.in-Ok.ensures.taken) refl
 
 pub returns-clause-ended : goal.returns-clause-ended
 returns-clause-ended g c by is = answer_requested by (c.answer_with-end.ensures.ended by is)

@@ -30,7 +30,7 @@ lines-preserved g c = record {
 pub returns-in-Some-clause-served : goal.returns-in-Some-clause-served
 returns-in-Some-clause-served g c t u =
     let i = c.lines.invariant.going t u in
-    served_ending i.0 _ _ c.args.session.now c.lines.session _ _ _ c.in-Some.end c.requires.none i.2 (c.in-Some.ensures.served t u) (omega (arith, i.1, c.lines.auto._count-end))
+    served_ending i.0 _ _ c.args.session.now c.lines.session _ _ _ c.in-Some.end c.requires.none i.2 (c.in-Some.ensures.served t u) (omega (arith, i.1, c.lines-test.true))
 
 pub returns-clause-served : goal.returns-clause-served
 returns-clause-served g c t u =
