@@ -1,5 +1,5 @@
 -- The lines of a post.
-use Rattle.std.proofs.Common.{◌≡◌, ◌≢◌, ℕ, ◌+◌, ◌<◌, ◌^◌, true, false, not, ◌&&◌, ◌==◌, List, [], ◌∷◌, ◌++◌, map, length, IsTrue, refl, sym, ap, ◌∙◌, arith, append_assoc, append-nil, decimal}
+use Rattle.std.proofs.Common.{◌≡◌, ◌≢◌, ℕ, ◌+◌, ◌<◌, ◌≤◌, ◌^◌, true, false, not, ◌&&◌, ◌==◌, List, [], ◌∷◌, ◌++◌, map, length, IsTrue, refl, sym, ap, subst, ◌∙◌, arith, append_assoc, append-nil, decimal}
 use Rattle.std.specs.List.{list_all, flat_map, join_with_byte, AllByRecursion}
 use Rattle.std.proofs.lemmas.Grind.{flat_map-append}
 use Rattle.std.proofs.lemmas.List.{append_cancel_left}
@@ -197,20 +197,23 @@ pub can_be_post : (text : List ℕ) (p : PostView) → IsPost p → text ≡ pos
     → (gone : List ℕ) (rows : List Row) → AllByRecursion (λ i. i < 2 ^ 64) gone → AllByRecursion IsRow rows
     → (whole past_event past_gone past_rows : List (List ℕ)) → whole ≡ pieces 10 text → whole ≡ join_with_byte 32 (event_words space number count) ∷ past_event
     → past_event ≡ map gone_line gone ++ past_gone → begins minus past_gone ≡ false → past_gone ≡ map row_line rows ++ past_rows → begins equals past_rows ≡ false
-    → IsTrue (rises itself gone && rises row_id rows && is_change gone rows && (count == length gone + length rows))
+    → (1 ≤ number) × IsTrue (rises itself gone && rises row_id rows && is_change gone rows && (count == length gone + length rows))
 can_be_post text p h e space number count a b d gone rows small valid whole past_event past_gone past_rows is begun g none r after =
     let tail : List (List ℕ) = map row_line p.rows ++ [] ∷ [] in
     let behind = behind_event text p h e whole past_event past_gone past_rows is (join_with_byte 32 (event_words space number count)) begun in
     let both : join_with_byte 32 (event_words space number count) ∷ past_event ≡ event_line p ∷ (map gone_line p.gone ++ tail) = sym begun ∙ is ∙ post_split text p h e in
     let first : join_with_byte 32 (event_words space number count) ≡ event_line p = cc in
-    let n : count ≡ length p.gone + length p.rows = (event_tells space number count p.space p.number (length p.gone + length p.rows) a b d h.space h.number h.counted first).2 in
+    let told = event_tells space number count p.space p.number (length p.gone + length p.rows) a b d h.space h.number h.counted first in
+    let n : count ≡ length p.gone + length p.rows = told.2 in
     let left : gone ≡ p.gone = same_lines gone_line minus gone_begins {Valid = λ i. i < 2 ^ 64} gone_tells gone p.gone past_gone tail (sym g ∙ behind) none (rows_end p.rows) small h.gone in
     let rest : past_gone ≡ tail = behind_gone text p h e whole past_event past_gone past_rows is (join_with_byte 32 (event_words space number count)) begun gone g none in
     let news : rows ≡ p.rows = same_lines row_line equals row_begins {Valid = IsRow} row_tells rows p.rows past_rows ([] ∷ []) (sym r ∙ rest) after refl valid h.rows in
     let counted : (length p.gone + length p.rows == length p.gone + length p.rows) ≡ true = grind (arith, nat_tests) in
     let all : (rises itself p.gone && rises row_id p.rows && is_change p.gone p.rows && (length p.gone + length p.rows == length p.gone + length p.rows)) ≡ true =
-    and-true _ _ (and-true _ _ (and-true _ _ h.rising_gone h.rising_rows) h.change) counted in
-    (λ k. rises itself (left k) && rises row_id (news k) && is_change (left k) (news k) && (n k == length (left k) + length (news k))) ∙ all
+    and-true _ _ (and-true _ _ (and-true _ _ h.rising_gone h.rising_rows) h.change) counted in (
+      subst (λ k. 1 ≤ k) (sym told.1) h.first,
+      (λ k. rises itself (left k) && rises row_id (news k) && is_change (left k) (news k) && (n k == length (left k) + length (news k))) ∙ all,
+    )
 
 -- a text tells of which post it is
 abbrev tail_lines : PostView → List (List ℕ)
@@ -237,3 +240,23 @@ texts_tell (p ∷ ps) (q ∷ qs) h k e =
     let first : post_text p ≡ post_text q = cc in
     let later : map post_text ps ≡ map post_text qs = cc in
     λ i. text_tells p q h.0 k.0 first i ∷ texts_tell ps qs h.1 k.1 later i
+
+-- a post that was read has in its fields what every post has there by its type
+pub post_valid : (space number count : ℕ) (gone : List ℕ) (rows : List Row) (p : PostView) → p ≡ post_with space number gone rows → count ≡ length gone + length rows
+    → (space < 2 ^ 64) × (number < 2 ^ 64) × (count < 2 ^ 64) → AllByRecursion (λ i. i < 2 ^ 64) gone → AllByRecursion IsRow rows
+    → (IsTrue (rises itself p.gone) × IsTrue (rises row_id p.rows)) × ((1 ≤ p.number) × IsTrue (is_change p.gone p.rows)) → IsPost p
+post_valid space number count gone rows p is counted small ids valid told =
+    subst IsPost (sym is) (made (subst (λ q. (IsTrue (rises itself q.gone) × IsTrue (rises row_id q.rows)) × ((1 ≤ q.number) × IsTrue (is_change q.gone q.rows))) is told))
+  where
+    made : (IsTrue (rises itself gone) × IsTrue (rises row_id rows)) × ((1 ≤ number) × IsTrue (is_change gone rows)) → IsPost (post_with space number gone rows)
+    made whole = record {
+      space = small.0;
+      number = small.1;
+      first = whole.1.0;
+      gone = ids;
+      rows = valid;
+      counted = subst (λ k. k < 2 ^ 64) counted small.2;
+      rising_gone = whole.0.0;
+      rising_rows = whole.0.1;
+      change = whole.1.1;
+    }

@@ -1,5 +1,5 @@
 //! Posts read back from their text.
-ghost use Rattle.std.specs.Prelude.{◌≡◌, ◌≢◌, ℕ, ◌+◌, ◌<◌, ◌^◌, ◌&&◌, ◌==◌, ◌↔◌, false, true, List, [], ◌∷◌, ◌++◌, map, length, IfOk, IfErr, IsTrue, MatchOption};
+ghost use Rattle.std.specs.Prelude.{◌≡◌, ◌≢◌, ℕ, ◌+◌, ◌<◌, ◌≤◌, ◌^◌, ◌&&◌, ◌==◌, ◌↔◌, false, true, List, [], ◌∷◌, ◌++◌, map, length, IfOk, IfErr, IfSome, IsTrue, MatchOption};
 ghost use Rattle.std.specs.List.{join_with_byte, AllByRecursion};
 ghost use Rattle.mt_skel.specs.Keyed.{rises};
 ghost use Rattle.mt_words.specs.Words.{begins};
@@ -128,9 +128,10 @@ fn is_end(lines: &mut Pieces<'_>) -> bool
 
 /// The post of these, if they can be one.
 fn post_of(event: Event, gone: Vec<MountId>, rows: Vec<Row>) -> Option<Post>
-    ensures { MatchOption result
-        (IsTrue (rises itself gone.items && rises row_id rows.items && is_change gone.items rows.items && (event.count == length gone.items + length rows.items)) → ⊥)
+    ensures post { MatchOption result
+        (1 ≤ event.number → IsTrue (rises itself gone.items && rises row_id rows.items && is_change gone.items rows.items && (event.count == length gone.items + length rows.items)) → ⊥)
         (λ post. (post ≡ record { space = event.space; number = event.number; gone = gone.items; rows = rows.items }) × (event.count ≡ length gone.items + length rows.items)) }
+    ensures told { IfSome result (λ post. (IsTrue (rises itself post.gone) × IsTrue (rises row_id post.rows)) × ((1 ≤ post.number) × IsTrue (is_change post.gone post.rows))) }
 {
     let count = gone.len() + rows.len();
     let gone = Ids::from_vec(gone)?;
@@ -146,6 +147,7 @@ fn post_of(event: Event, gone: Vec<MountId>, rows: Vec<Row>) -> Option<Post>
 /// Refused as `BadLine` exactly where it is the text of no post, and else as `NoMemory` alone.
 pub fn read_post(alloc: Global, text: &[u8]) -> Result<Post, Fault>
     ensures post { IfOk result (λ post. text.now ≡ post_text post) }
+    ensures valid { IfOk result (λ post. IsPost post) }
     ensures refused { IfErr result (λ fault. fault ≢ Fault.NoMemory → (fault ≡ Fault.BadLine) × ((post : PostView) → IsPost post → text.now ≢ post_text post)) }
 {
     let mut lines = Pieces::new(b'\n', text);
