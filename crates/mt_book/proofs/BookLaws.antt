@@ -1,10 +1,12 @@
 -- A book stays a book.
 use Rattle.std.proofs.Common.{◌≡◌, ℕ, ◌<◌, ◌≤◌, ◌^◌, List, [], ◌∷◌, ◌++◌, length, refl, sym, ap, ◌∙◌, subst, arith, length-append, Ok, Err}
+use Rattle.std.specs.List.{AllByRecursion}
 use Rattle.std.specs.Prelude.{if◌then◌else◌, slice_index_or, Bool}
 use Rattle.std.proofs.lemmas.Bool.{lt-leb}
 use Rattle.mt_skel.specs.declared.fault.Fault.TheVariants.{JournalFull}
 use Rattle.mt_propagate.specs.World.{WorldView, world_view, empty_world}
 use Rattle.mt_propagate.specs.WellFormed.{IsWellFormed}
+use Rattle.mt_events.specs.Posts.{IsPost}
 use Rattle.mt_book.specs.declared.command.Command.{Command}
 use Rattle.mt_book.specs.declared.command.Reply.{Reply}
 use Rattle.mt_book.specs.declared.spare.Spare.{Spare}
@@ -13,9 +15,12 @@ use Rattle.mt_book.specs.declared.shown.Shown.{Shown}
 use Rattle.mt_book.specs.declared.shown.Shown.TheVariants.{First, Later}
 use Rattle.mt_book.specs.declared.prepared.Prepared.{Prepared}
 use Rattle.mt_book.specs.Step.{step, makes_space, after}
+use Rattle.mt_book.specs.Commands.{IsCommand}
 use Rattle.mt_book.specs.History.{posts_of}
 use Rattle.mt_book.specs.Book.{command_limit, space_numbers, counted, posted, with_newborn, answer, reply_of}
-use Rattle.mt_book.specs.Kept.{IsBehind, IsSpare, IsPrepared, IsBook, shown_world, lagging_of}
+use Rattle.mt_book.specs.Kept.{IsBehind, IsSpare, IsPrepared, IsBook, shown_world, lagging_of, prepared_posts}
+use Rattle.mt_book.proofs.EachLaws.{each_append}
+use Rattle.mt_book.proofs.ValidLaws.{one_valid}
 use Rattle.mt_book.proofs.GrowthLaws.{IsReached, reached}
 use Rattle.mt_book.proofs.NextLaws.{after-accepted, accepts-next, numbers-next, posts-next, numbers-few}
 
@@ -46,6 +51,7 @@ book_new = record {
   counts = refl;
   accepted = refl;
   few = omega arith;
+  texts = tt;
 }
 
 -- another spare world
@@ -56,6 +62,7 @@ book_spare w spare other ks cs h s = record {
   counts = h.counts;
   accepted = h.accepted;
   few = h.few;
+  texts = h.texts;
 }
 
 -- the world that was shown, where it is kept
@@ -82,6 +89,7 @@ book_committed old spare ks cs p h q =
       counts = q.numbers;
       accepted = accepts-next cs p.command v p.reply h.accepted q.accepted;
       few = omega (arith, q.few, length-append cs (p.command ∷ []));
+      texts = each_append IsCommand cs (p.command ∷ []) h.texts (q.texts, tt);
     }
 
 -- the same, where the book has taken what was prepared
@@ -108,8 +116,8 @@ book_few w spare ks cs h i =
 -- a command that was done on an equal world is prepared for the book
 pub prepared_for : (shown world : WorldView) (spare : Spare) (ks : List ℕ) (cs : List Command) (c : Command) (p : Prepared) → IsBook shown spare ks cs → length cs < command_limit → world ≡ after cs
     → step world c ≡ Ok (world_view p.world.value, p.reply) → p.command ≡ c → p.numbers.items ≡ counted shown (world_view p.world.value) 1 (with_newborn ks (makes_space c))
-    → p.posts ≡ posted shown (world_view p.world.value) 1 (with_newborn ks (makes_space c)) → IsPrepared cs p
-prepared_for shown world spare ks cs c p h few w e same numbers posts =
+    → p.posts ≡ posted shown (world_view p.world.value) 1 (with_newborn ks (makes_space c)) → IsCommand c → IsPrepared cs p
+prepared_for shown world spare ks cs c p h few w e same numbers posts texts =
     let v = world_view p.world.value in
     let done = ap (λ (x : WorldView). step x c) (sym w) ∙ e in
     record {
@@ -127,7 +135,12 @@ prepared_for shown world spare ks cs c p h few w e same numbers posts =
           ∙ ap (λ (l : List ℕ). posted (after cs) v 1 (with_newborn l (makes_space c))) h.counts
           ∙ posts-next cs c v p.reply done
           ∙ ap (posts_of cs) (sym same);
+      texts = subst IsCommand (sym same) texts;
     }
+
+-- what was prepared has posts as their type says
+pub prepared_valid : (cs : List Command) (p : Prepared) → AllByRecursion IsCommand cs → IsPrepared cs p → AllByRecursion IsPost (prepared_posts p)
+prepared_valid cs p texts q = subst (AllByRecursion IsPost) (sym q.posts) (one_valid cs p.command q.few texts q.texts)
 
 -- what was prepared is answered
 pub prepared_answer : (cs : List Command) (p : Prepared) (c : Command) (r : Reply) → IsPrepared cs p → p.command ≡ c → r ≡ p.reply → answer cs c ≡ Ok r

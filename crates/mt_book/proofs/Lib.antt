@@ -11,5 +11,9 @@ pub mod NextLaws
 pub mod NumberLaws
 pub mod BookLaws
 pub mod ReadingLaws
-pub mod MirrorLaws
 pub mod TouchedLaws
+pub mod EachLaws
+pub mod TextLaws
+pub mod RowLaws
+pub mod ValidLaws
+pub mod MirrorLaws

@@ -25,7 +25,7 @@ use Rattle.mt_book.specs.Parts.{is_part, part_at}
 use Rattle.mt_book.proofs.EffectLaws.{number_ok, done_ok, space_made, copy_made, mount_made, bind_made, move_made, mount_gone, change_made, space-skel, copy-skel, copied-skel, gone-skel, change-skel}
 
 -- a command that makes no directories leaves them as they are
-skel_kept : (w : WorldView) (c : Command) (v : WorldView) (r : Reply) → makes_directories c ≡ false → step w c ≡ Ok (v, r) → v.skel ≡ w.skel
+pub skel_kept : (w : WorldView) (c : Command) (v : WorldView) (r : Reply) → makes_directories c ≡ false → step w c ≡ Ok (v, r) → v.skel ≡ w.skel
 unfolding step
 skel_kept w (MakeFs name kind source) v r d e = absurd (cc)
 skel_kept w (MakeDir fs path) v r d e = absurd (cc)

@@ -1,10 +1,12 @@
 //! The commands that were accepted, and the world that they lead to.
 ghost use Rattle.std.specs.Prelude.{◌≡◌, ◌≢◌, ℕ, IfOk, IfErr, OnErr, OnOk, IsOkUnless, Ok, Err, true, false, ◌+◌, ◌<◌, ◌^◌, [], ◌∷◌, ◌++◌, length, IsTrue, ◌≤◌};
-ghost use Rattle.std.specs.List.{filter};
+ghost use Rattle.std.specs.List.{filter, AllByRecursion};
 ghost use Rattle.mt_propagate.specs.World.{world_view, empty_world, is_space};
 ghost use Rattle.mt_propagate.specs.WellFormed.{IsWellFormed};
 ghost use Rattle.mt_info.specs.Table.{table_of};
+ghost use Rattle.mt_events.specs.Posts.{IsPost};
 ghost use Rattle.mt_book.specs.Step.{after};
+ghost use Rattle.mt_book.specs.Commands.{IsCommand};
 ghost use Rattle.mt_book.specs.History.{space_number, posts_of};
 ghost use Rattle.mt_book.specs.Book.{answer, accepts, command_limit, found_at, spaces_of, AreAnswered};
 ghost use Rattle.mt_book.specs.Kept.{IsPrepared, prepared_command, prepared_reply, prepared_posts};
@@ -84,11 +86,13 @@ impl Book {
         }
     }
 
-    /// The commands that were accepted, in their order: 1,048,576 at most, and each was accepted where it stands.
+    /// The commands that were accepted, in their order: 1,048,576 at most, and each was accepted where it stands. Their
+    /// texts are labels and names.
     pub fn journal(&self) -> &[Command]
         ensures journal { result.now ≡ self.now.journal }
         ensures accepted { IsTrue (accepts empty_world self.now.journal) }
         ensures few { length self.now.journal ≤ command_limit }
+        ensures texts { AllByRecursion IsCommand self.now.journal }
     {
         self.journal.as_slice()
     }
@@ -104,7 +108,7 @@ impl Book {
 
     /// Does a command beside the world that is shown, and takes all the memory that showing it needs: `commit`
     /// shows it, and a `Prepared` that is dropped was never done. The book answers as before, whether the command
-    /// is refused or not.
+    /// is refused or not. Each of its posts has in its fields what its type says (`valid`).
     ///
     /// Refused as `JournalFull` after 1,048,576 accepted commands, else with the first of the command's own
     /// refusals that holds, and as `NoMemory`.
@@ -112,6 +116,7 @@ impl Book {
     pub fn prepare(&mut self, command: &Command) -> Result<Prepared, Fault>
         ensures prepared { IfOk result (λ prepared. IsPrepared self.old.journal prepared) }
         ensures command { IfOk result (λ prepared. prepared_command prepared ≡ command.now) }
+        ensures valid { IfOk result (λ prepared. AllByRecursion IsPost (prepared_posts prepared)) }
         ensures room { OnOk result (0 < self.new.room) }
         ensures refused { IfErr result (λ fault. fault ≢ Fault.NoMemory → answer self.old.journal command.now ≡ Err fault) }
         ensures unchanged { self.new.journal ≡ self.old.journal }
@@ -129,6 +134,7 @@ impl Book {
             }
             Tried::Changed(world, reply) => {
                 let copy = command.copy()?;
+                command.read_texts();
                 let changed: &World = &world;
                 let ids = touched(changed)?;
                 let changes = changes_after(
@@ -175,13 +181,14 @@ impl Book {
     }
 
     /// Does a command, and answers its reply and its posts, by rising namespace: one for each namespace whose
-    /// table it changed.
+    /// table it changed, and each has in its fields what its type says (`valid`).
     ///
     /// Refused as `JournalFull` after 1,048,576 accepted commands, else with the first of the command's own
     /// refusals that holds, and as `NoMemory`; then nothing has changed.
     pub fn apply(&mut self, command: &Command) -> Result<(Reply, SharedPosts), Fault>
         ensures done { IfOk result (λ done. answer self.old.journal command.now ≡ Ok done.0) }
         ensures posts { IfOk result (λ done. done.1 ≡ posts_of self.old.journal command.now) }
+        ensures valid { IfOk result (λ done. AllByRecursion IsPost done.1) }
         ensures journal { OnOk result (self.new.journal ≡ self.old.journal ++ command.now ∷ []) }
         ensures refused { IfErr result (λ fault. fault ≢ Fault.NoMemory → answer self.old.journal command.now ≡ Err fault) }
         ensures unchanged { OnErr result (self.new.journal ≡ self.old.journal) }

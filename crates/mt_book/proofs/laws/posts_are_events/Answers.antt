@@ -1,6 +1,7 @@
 use Rattle.mt_book.proofs.CountLaws.{posts_few}
 use Rattle.mt_book.proofs.HistoryLaws.{posts_events, numbers_up}
 use Rattle.mt_book.proofs.SpaceLaws.{number_none}
+use Rattle.mt_book.proofs.ValidLaws.{posts_valid}
 use Rattle.mt_book.proofs.laws.posts_are_events.Goals as goal
 
 pub returns-clause-events : goal.returns-clause-events
@@ -14,3 +15,6 @@ returns-clause-none c = number_none
 
 pub returns-clause-few : goal.returns-clause-few
 returns-clause-few c = posts_few
+
+pub returns-clause-valid : goal.returns-clause-valid
+returns-clause-valid c = posts_valid

@@ -1,0 +1,123 @@
+-- The rows of a world's tables have in their fields what every row has there by its type.
+use Rattle.std.proofs.Common.{◌≡◌, ℕ, zero, suc, ◌-◌, ◌<◌, ◌≤◌, ◌^◌, Bool, true, false, cond, List, [], ◌∷◌, map, length, drop, reverse, ◌==◌, Option, Some, None, IsTrue, inl, inr, refl, ◌∙◌, arith}
+use Rattle.std.proofs.lemmas.List.{length-map}
+use Rattle.std.specs.List.{list_all, flat_map, filter, AllByRecursion}
+use Rattle.std.specs.Option.{ForSome, option_map_or, unwrap_or}
+use Rattle.std.proofs.lemmas.Option.{slice_get-get_or}
+use Rattle.std.proofs.lemmas.List.Folds.{list_all-append}
+use Rattle.mt_skel.specs.Names.{is_name}
+use Rattle.mt_skel.specs.Skeleton.{Skeleton, IsSkeleton, holds, directory, path_below}
+use Rattle.mt_skel.proofs.ElementLaws.{In, in_row}
+use Rattle.mt_skel.proofs.MiddleLaws.{and_second, and-true}
+use Rattle.mt_mounts.specs.declared.mount.Mount.{Mount}
+use Rattle.mt_mounts.specs.declared.mount.Place.{Place}
+use Rattle.mt_mounts.specs.Forest.{id_of, mount_at, parents_up}
+use Rattle.mt_peers.specs.declared.state.State.{State}
+use Rattle.mt_peers.specs.Peers.{state_at}
+use Rattle.mt_peers.proofs.MakingLaws.{old_master}
+use Rattle.mt_propagate.specs.World.{WorldView, root_dir, state_of, private}
+use Rattle.mt_propagate.specs.WellFormed.{IsWellFormed}
+use Rattle.mt_propagate.specs.Named.{mount_or_unknown}
+use Rattle.mt_info.specs.Laws.{IsRow}
+use Rattle.mt_info.specs.Table.{own_names, mount_point, row_of, table_of}
+use Rattle.mt_book.proofs.EachLaws.{each_or, each_at, few_kept}
+use Rattle.mt_book.proofs.TextLaws.{HasTexts, HasLabels, HasNames}
+
+-- what a world has where its tables can be told: it is in order, its texts are labels and names, and its numbers fit 64 bits
+pub record CanTell (w : WorldView) : Type 0 where
+  pub formed : IsWellFormed w
+  pub skeleton : IsSkeleton w.skel
+  pub texts : HasTexts w.skel
+  pub within : length w.forest ≤ 4096
+  pub mounts : w.next_mount ≤ 2 ^ 64
+  pub groups : w.peering.next ≤ 2 ^ 64
+  pub spaces : w.next_space ≤ 2 ^ 64
+
+-- ---- names
+
+dropped : (q : List ℕ → Bool) (n : ℕ) (xs : List (List ℕ)) → list_all q xs ≡ true → list_all q (drop n xs) ≡ true
+dropped q zero xs h = h
+dropped q (suc n) [] h = h
+dropped q (suc n) (x ∷ xs) h = dropped q n xs (and_second (q x) (list_all q xs) h)
+
+joined : (q : List ℕ → Bool) (f : ℕ → List (List ℕ)) → ((i : ℕ) → list_all q (f i) ≡ true) → (ids : List ℕ) → list_all q (flat_map f ids) ≡ true
+joined q f h [] = refl
+joined q f h (i ∷ ids) = list_all-append q (f i) (flat_map f ids) ∙ and-true (list_all q (f i)) (list_all q (flat_map f ids)) (h i) (joined q f h ids)
+
+path_named : (s : Skeleton) → HasTexts s → (d : ℕ) → IsTrue (list_all is_name (directory s d).path)
+path_named s h d = each_or HasNames s.directories d (record { fs = 0; path = [] }) h.names refl
+
+own_named : (w : WorldView) → HasTexts w.skel → (i : ℕ) → IsTrue (list_all is_name (own_names w i))
+own_named w h i = by (mount_or_unknown w i).place
+  where
+    by : (o : Option Place) → IsTrue (list_all is_name (option_map_or (λ (p : Place). path_below w.skel (root_dir w p.mount) p.dir) o []))
+    by None = refl
+    by (Some p) = dropped is_name (length (directory w.skel (root_dir w p.mount)).path) (directory w.skel p.dir).path (path_named w.skel h p.dir)
+
+point_named : (w : WorldView) → HasTexts w.skel → (i : ℕ) → IsTrue (list_all is_name (mount_point w i))
+point_named w h i = joined is_name (own_names w) (own_named w h) (reverse (parents_up w.forest i))
+
+-- ---- numbers
+
+group_below : (w : WorldView) (i : ℕ) → IsWellFormed w → ForSome (state_of w i).group (λ g. g < w.peering.next)
+group_below w i h g = by (state_at w.peering.peers i) (λ s e is. h.peering.below i s g e is)
+  where
+    by : (o : Option State) → ((s : State) → o ≡ Some s → s.group ≡ Some g → g < w.peering.next) → (unwrap_or o private).group ≡ Some g → g < w.peering.next
+    by None f e = absurd (cc)
+    by (Some s) f e = f s refl e
+
+master_below : (w : WorldView) (i : ℕ) → IsWellFormed w → ForSome (state_of w i).master (λ g. g < w.peering.next)
+master_below w i h g = by (state_at w.peering.peers i) (λ s e is. old_master w.peering h.peering i s g e is)
+  where
+    by : (o : Option State) → ((s : State) → o ≡ Some s → s.master ≡ Some g → g < w.peering.next) → (unwrap_or o private).master ≡ Some g → g < w.peering.next
+    by None f e = absurd (cc)
+    by (Some s) f e = f s refl e
+
+parent_below : (w : WorldView) (m : Mount) → IsWellFormed w → mount_at w.forest m.id ≡ Some m → option_map_or (λ p. p.mount) m.place m.id < w.next_mount
+parent_below w m h at = by m.place (λ p e. h.forest.placed m.id m p at e)
+  where
+    by : (o : Option Place) → ((p : Place) → o ≡ Some p → (q : Mount) × (mount_at w.forest p.mount ≡ Some q) × (q.space ≡ m.space) × IsTrue (holds w.skel q.root p.dir)) → option_map_or (λ (p : Place). p.mount) o m.id < w.next_mount
+    by None f = (h.below m.id m at).1
+    by (Some p) f = let q = f p refl in (h.below p.mount q.0 q.1).1
+
+-- ---- rows
+
+-- a filesystem that a directory is of
+fs_there : (w : WorldView) (d : ℕ) → IsSkeleton w.skel → d < length w.skel.directories → (1 ≤ (directory w.skel d).fs) × ((directory w.skel d).fs ≤ length w.skel.filesystems)
+fs_there w d s l = s.of_filesystem d (directory w.skel d) (slice_get-get_or w.skel.directories d (record { fs = 0; path = [] }) l)
+
+-- the row of a mount that is there
+pub row_valid : (w : WorldView) (m : Mount) → CanTell w → mount_at w.forest m.id ≡ Some m → IsRow (row_of w m)
+row_valid w m h at =
+    let low = h.formed.below m.id m at in
+    let fs = fs_there w m.root h.skeleton low.4 in
+    let labels = each_at HasLabels w.skel.filesystems ((directory w.skel m.root).fs - 1) (record { name = []; kind = []; source = [] }) h.texts.labels (omega (arith, fs.0, fs.1)) in
+    record {
+      id = omega (arith, low.1, h.mounts);
+      parent = omega (arith, parent_below w m h.formed at, h.mounts);
+      minor = omega (arith, fs.1, h.texts.few);
+      root = path_named w.skel h.texts m.root;
+      point = point_named w h.texts m.id;
+      shared = λ g e. omega (arith, group_below w m.id h.formed g e, h.groups);
+      master = λ g e. omega (arith, master_below w m.id h.formed g e, h.groups);
+      kind = labels.0;
+      source = labels.1;
+    }
+
+rows_valid : (w : WorldView) (t : Mount → Bool) (ms : List Mount) → ((m : Mount) → In m ms → IsRow (row_of w m)) → AllByRecursion IsRow (map (row_of w) (filter t ms))
+rows_valid w t [] h = tt
+rows_valid w t (m ∷ ms) h = by (t m) (rows_valid w t ms (λ x there. h x (inr there)))
+  where
+    by : (b : Bool) → AllByRecursion IsRow (map (row_of w) (filter t ms)) → AllByRecursion IsRow (map (row_of w) (cond b (m ∷ filter t ms) (filter t ms)))
+    by true rest = (h m (inl refl), rest)
+    by false rest = rest
+
+-- the rows of the table of any namespace
+pub table_valid : (w : WorldView) (n : ℕ) → CanTell w → AllByRecursion IsRow (table_of w n)
+table_valid w n h = rows_valid w (λ (m : Mount). m.space == n) w.forest (λ m there. row_valid w m h (in_row id_of w.forest m h.formed.forest.rising there))
+
+-- and there are few of them
+pub table_within : (w : WorldView) (n : ℕ) → CanTell w → length (table_of w n) ≤ 4096
+table_within w n h =
+    let ms : List Mount = filter (λ (m : Mount). m.space == n) w.forest in
+    omega (arith, length-map ms (row_of w), few_kept (λ (m : Mount). m.space == n) w.forest, h.within)
