@@ -25,11 +25,11 @@ use Rattle.mt_bind.proofs.CopyTreeLaws.{grown, grown-ids, grown-forest}
 
 -- what a copy's state has of its original's
 module _ (w : WorldView) (n : ℕ) where
-  copy-group : (less : Bool) (s : State) (g : ℕ) → (state_of_copy less s).group ≡ Some g → (s.group ≡ Some g) × ((state_of_copy less s).master ≡ s.master)
+  pub copy-group : (less : Bool) (s : State) (g : ℕ) → (state_of_copy less s).group ≡ Some g → (s.group ≡ Some g) × ((state_of_copy less s).master ≡ s.master)
   copy-group true s g e = absurd (let v : None ≡ Some g = e in cc)
   copy-group false s g e = (e, refl)
 
-  copy-master : (less : Bool) (s : State) (g : ℕ) → (state_of_copy less s).master ≡ Some g → (s.master ≡ Some g) ⊎ (s.group ≡ Some g)
+  pub copy-master : (less : Bool) (s : State) (g : ℕ) → (state_of_copy less s).master ≡ Some g → (s.master ≡ Some g) ⊎ (s.group ≡ Some g)
   copy-master false s g e = inl e
   copy-master true s g e = elim s.group as (λ o. option_or o s.master ≡ Some g → (s.master ≡ Some g) ⊎ (o ≡ Some g)) [ None ↦ λ x. inl x | Some q ↦ λ x. inr x ] e
 
@@ -46,7 +46,7 @@ module _ (w : WorldView) (h : IsWellFormed w) (n : ℕ) (less : Bool) where
   new_peers = map peer_of_copy (originals w n)
 
   -- the mount and the state that a new state is of
-  record IsStateOfCopy (i : ℕ) (t : State) : Type 0 where
+  pub record IsStateOfCopy (i : ℕ) (t : State) : Type 0 where
     pub source : Mount
     pub state : State
     pub there : mount_at w.forest source.id ≡ Some source
@@ -55,7 +55,7 @@ module _ (w : WorldView) (h : IsWellFormed w) (n : ℕ) (less : Bool) where
     pub stated : state_at w.peering.peers source.id ≡ Some state
     pub made : t ≡ state_of_copy less state
 
-  copy-from : (i : ℕ) (t : State) → state_at new_peers i ≡ Some t → IsStateOfCopy i t
+  pub copy-from : (i : ℕ) (t : State) → state_at new_peers i ≡ Some t → IsStateOfCopy i t
   copy-from i t e =
       let row = state-row new_peers i t e in
       let r = renamed-row id_of mount_of peer_of_copy (copy_number w (map id_of (originals w n))) (λ m. refl) (originals w n) (order w h n) i row.0 row.1 in

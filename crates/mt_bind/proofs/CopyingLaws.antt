@@ -20,7 +20,7 @@ use Rattle.mt_bind.proofs.NamespaceCopyLaws.{copies, order}
 use Rattle.mt_bind.proofs.CopyTreeLaws.{grown-forest}
 use Rattle.mt_bind.proofs.CopyLaws.{new_peers, peers-rise}
 
-module _ (w : WorldView) (h : IsWellFormed w) (n : ℕ) where
+module _ (w : WorldView) (h : IsWellFormed w) (n : ℕ) (less : Bool) where
   -- the lists that were made of the mounts that were found
   module _ (ms : List Mount) (found : ms ≡ originals w n) where
     pub found-rise : rises id_of ms ≡ true
@@ -29,30 +29,30 @@ module _ (w : WorldView) (h : IsWellFormed w) (n : ℕ) where
     pub copies-are : (cs : List Mount) → cs ≡ map (copy_of w (map id_of ms)) ms → cs ≡ copies w h n
     copies-are cs e = e ∙ ap (λ (l : List Mount). map (copy_of w (map id_of l)) l) found
 
-    pub peers-are : (rs : List (ℕ × State)) → peers_of rs ≡ map (peer_of w (map id_of ms)) ms → peers_of rs ≡ new_peers w h n false
-    peers-are rs e = e ∙ ap (λ (l : List Mount). map (peer_of w (map id_of l)) l) found
+    pub peers-are : (rs : List (ℕ × State)) → peers_of rs ≡ map (peer_of w (map id_of ms) less) ms → peers_of rs ≡ new_peers w h n less
+    peers-are rs e = e ∙ ap (λ (l : List Mount). map (peer_of w (map id_of l) less) l) found
 
   -- each has its turn in a world that is still the same
-  module _ (u : WorldView) (still : u ≡ w) (cs : List Mount) (mounts : cs ≡ copies w h n) (rs : List (ℕ × State)) (peers : peers_of rs ≡ new_peers w h n false) where
+  module _ (u : WorldView) (still : u ≡ w) (cs : List Mount) (mounts : cs ≡ copies w h n) (rs : List (ℕ × State)) (peers : peers_of rs ≡ new_peers w h n less) where
     all-mounts : u.forest ++ cs ≡ w.forest ++ copies w h n
     all-mounts = λ i. (still i).forest ++ mounts i
 
-    all-states : u.peering.peers ++ peers_of rs ≡ w.peering.peers ++ new_peers w h n false
+    all-states : u.peering.peers ++ peers_of rs ≡ w.peering.peers ++ new_peers w h n less
     all-states = λ i. (still i).peering.peers ++ peers i
 
     pub added-forest : IsForest w.skel (u.forest ++ cs)
     added-forest = subst (IsForest w.skel) (sym all-mounts) (grown-forest w h n)
 
     pub added-rise : rises mount_of (u.peering.peers ++ peers_of rs) ≡ true
-    added-rise = ap (rises mount_of) all-states ∙ peers-rise w h n false
+    added-rise = ap (rises mount_of) all-states ∙ peers-rise w h n less
 
     -- and together they make the copy
     pub copy-made : (v : WorldView) → v.forest ≡ u.forest ++ cs → v.peering.peers ≡ u.peering.peers ++ peers_of rs → (v.skel ≡ u.skel) × (v.peering.next ≡ u.peering.next)
-        → (v.next_mount ≡ u.next_mount + length cs) × (v.next_space ≡ u.next_space + 1) → v ≡ with_copy w n false
+        → (v.next_mount ≡ u.next_mount + length cs) × (v.next_space ≡ u.next_space + 1) → v ≡ with_copy w n less
     unfolding with_copy
     copy-made v forest states same next =
         let all : v.forest ≡ w.forest ++ copies w h n = forest ∙ all-mounts in
-        let stated : v.peering.peers ≡ w.peering.peers ++ new_peers w h n false = states ∙ all-states in
+        let stated : v.peering.peers ≡ w.peering.peers ++ new_peers w h n less = states ∙ all-states in
         let skel : v.skel ≡ w.skel = same.0 ∙ ap (λ (x : WorldView). x.skel) still in
         let groups : v.peering.next ≡ w.peering.next = same.1 ∙ ap (λ (x : WorldView). x.peering.next) still in
         let count : length cs ≡ length (originals w n) = ap length mounts ∙ length-map (originals w n) (copy_of w (map id_of (originals w n))) in
@@ -66,18 +66,18 @@ space-there None id b e f off = absurd (let v : is_some id ≡ false = ap is_som
 space-there (Some m) id b e f off = refl
 
 -- what a copy of a namespace answers
-module _ (w : WorldView) (n : ℕ) where
+module _ (w : WorldView) (n : ℕ) (less : Bool) where
   abbrev both : Bool
   both = too_many_spaces w || too_many_mounts w (length (originals w n))
 
   module _ (there : is_space w n ≡ true) where
     abbrev answer : Bool → Bool → Bool → Result (WorldView × ℕ) Fault
-    answer a b c = outcome (refuse_if (not a) NoNamespace ∷ refuse_if b TooMany ∷ refuse_if c TooMany ∷ []) (with_copy w n false, w.next_space)
+    answer a b c = outcome (refuse_if (not a) NoNamespace ∷ refuse_if b TooMany ∷ refuse_if c TooMany ∷ []) (with_copy w n less, w.next_space)
 
-    neither : (b c : Bool) → (b || c) ≡ false → answer true b c ≡ Ok (with_copy w n false, w.next_space)
+    neither : (b c : Bool) → (b || c) ≡ false → answer true b c ≡ Ok (with_copy w n less, w.next_space)
     neither true c e = absurd (cc)
     neither false true e = absurd (cc)
     neither false false e = refl
 
-    pub copy-done : both ≡ false → copy_space w n false ≡ Ok (with_copy w n false, w.next_space)
+    pub copy-done : both ≡ false → copy_space w n less ≡ Ok (with_copy w n less, w.next_space)
     copy-done e = ap (λ a. answer a (too_many_spaces w) (too_many_mounts w (length (originals w n)))) there ∙ neither (too_many_spaces w) (too_many_mounts w (length (originals w n))) e

@@ -30,7 +30,7 @@ module _ (w : WorldView) (h : IsWellFormed w) (n : ℕ) where
   stays i m e = (kept-row id_of gone w.forest h.forest.rising i m e).0
 
   -- those that vanish are those whose states leave
-  agree : AllByRecursion (λ m. not (gone m) ≡ not (leaves m.id)) w.forest
+  pub agree : AllByRecursion (λ m. not (gone m) ≡ not (leaves m.id)) w.forest
   agree =
       all-each (λ m. mount_at w.forest m.id ≡ Some m) (λ m. not (gone m) ≡ not (leaves m.id))
       (λ m e. ap (λ o. not (unwrap_or (option_map (λ (m : Mount). m.space) o) 0 == n)) (sym e)) w.forest (found-each id_of w.forest h.forest.rising)

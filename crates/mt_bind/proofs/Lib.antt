@@ -13,8 +13,10 @@ pub mod TreeOfLaws
 pub mod MountedLaws
 pub mod SizeLaws
 pub mod CopyingLaws
+pub mod DroppingLaws
 pub mod AlongLaws
 pub mod MemberLaws
 pub mod JudgedLaws
 pub mod BoundLaws
 pub mod MovingLaws
+pub mod InsideLaws

@@ -12,13 +12,14 @@ use Rattle.mt_skel.specs.Skeleton.{fs_named, root_of}
 use Rattle.mt_mounts.specs.declared.mount.Mount.{Mount}
 use Rattle.mt_mounts.specs.Attrs.{new_attrs}
 use Rattle.mt_mounts.specs.Forest.{id_of, parent, is_below}
+use Rattle.mt_peers.specs.Loss.{left}
 use Rattle.mt_propagate.specs.World.{WorldView, is_space, state_of, group_of}
 use Rattle.mt_propagate.specs.Named.{is_root_place, is_root_mount, is_mount_root}
 use Rattle.mt_propagate.specs.Limits.{too_many_mounts, too_many_spaces}
 use Rattle.mt_propagate.specs.Copies.{new_copies, copy_id}
 use Rattle.mt_propagate.specs.Copied.{copied}
 use Rattle.mt_propagate.proofs.SizeLaws.{IsSized, few_pass, copied_sized}
-use Rattle.mt_bind.specs.Spaces.{originals, new_space, with_space, copy_space, with_copy}
+use Rattle.mt_bind.specs.Spaces.{originals, new_space, with_space, copy_space, with_copy, drop_space, without_space}
 use Rattle.mt_bind.specs.Copying.{copy_of}
 use Rattle.mt_bind.specs.Sources.{fresh, top_at, alone, is_bound_along, tree_within, tree_of}
 use Rattle.mt_bind.specs.Mounting.{mounted, bound, moved, ended, no_end, too_many}
@@ -47,25 +48,38 @@ space_sized w v name i e =
     }
 
 -- a copy of a namespace
-pub copy_sized : (w v : WorldView) (n i : ℕ) → copy_space w n false ≡ Ok (v, i) → IsSized w v 1
+pub copy_sized : (w v : WorldView) (n : ℕ) (less : Bool) (i : ℕ) → copy_space w n less ≡ Ok (v, i) → IsSized w v 1
 unfolding with_copy
-copy_sized w v n i e =
+copy_sized w v n less i e =
     let none = refuse_if (not (is_space w n)) NoNamespace in
     let spaces = refuse_if (too_many_spaces w) TooMany in
     let mounts = refuse_if (too_many_mounts w (length (originals w n))) TooMany in
-    let ok = outcome_ok (none ∷ spaces ∷ mounts ∷ []) (with_copy w n false, w.next_space) (v, i) e in
+    let ok = outcome_ok (none ∷ spaces ∷ mounts ∷ []) (with_copy w n less, w.next_space) (v, i) e in
     let one = first_none none (spaces ∷ mounts ∷ []) ok.1 in
     let two = first_none spaces (mounts ∷ []) one.1 in
     let three = first_none mounts [] two.1 in
     let few = not_refused (too_many_mounts w (length (originals w n))) TooMany three.0 in
     let room : length w.forest + length (originals w n) ≤ 4096 = grind (arith, nat_tests) in
-    let same : with_copy w n false ≡ v = ap (λ x. x.0) ok.0 in
+    let same : with_copy w n less ≡ v = ap (λ x. x.0) ok.0 in
     record {
       spaces = omega (arith, ap (λ x. x.next_space) same);
       mounts = omega (arith, room, ap (λ x. x.next_mount) same);
       groups = omega (arith, ap (λ x. x.peering.next) same);
       within = omega (arith, room, ap (λ x. length x.forest) same, length-append w.forest (map (copy_of w (map id_of (originals w n))) (originals w n)), length-map (originals w n) (copy_of w (map id_of (originals w n))));
     }
+
+-- the end of a namespace
+pub dropped_sized : (w v : WorldView) (n : ℕ) → length w.forest ≤ 4096 → drop_space w n ≡ Ok v → IsSized w v 0
+unfolding without_space left
+dropped_sized w v n few e =
+    let same = (outcome_ok (refuse_if (not (is_space w n)) NoNamespace ∷ []) (without_space w n) v e).0 in
+    let stays : Mount → Bool = λ m. not (m.space == n) in
+    subst (λ (x : WorldView). IsSized w x 0) same (record {
+      spaces = omega arith;
+      mounts = omega arith;
+      groups = omega arith;
+      within = omega (arith, few, few_pass stays w.forest);
+    })
 
 -- a mount
 pub mount_sized : (w v : WorldView) (n : ℕ) (name : List ℕ) (path : List (List ℕ)) (i : ℕ) → mounted w n name path ≡ Ok (v, i) → IsSized w v 0

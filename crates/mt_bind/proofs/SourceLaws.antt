@@ -75,7 +75,7 @@ module _ (s : Skeleton) (m : Mount) (off : (p : Place) → m.place ≡ Some p �
 
 module _ (w : WorldView) (h : IsWellFormed w) where
   -- no mount has the ID of a fresh one
-  no_zero : {A : Type 0} (q : Mount) → mount_at w.forest 0 ≡ Some q → A
+  pub no_zero : {A : Type 0} (q : Mount) → mount_at w.forest 0 ≡ Some q → A
   no_zero q e = let b = h.below 0 q e in absurd (omega (arith, b.0))
 
   zero_group : {A : Type 0} (i g : ℕ) → i ≡ 0 → group_of w i ≡ Some g → A
@@ -131,3 +131,7 @@ module _ (w : WorldView) (h : IsWellFormed w) where
             let o = one_row (top_at w p) i x e in
             let at : i ≡ p.mount = o.0 ∙ ap (λ (v : Mount). v.id) top_is ∙ own_id in
             ap (λ (v : Mount). (directory w.skel v.root).fs) (o.1 ∙ top_is) ∙ shows_same ∙ ap (fs_at w) (sym at)
+
+    -- it is the one source mount
+    pub alone_only : (i : ℕ) (m : Mount) → mount_at (top_at w p ∷ []) i ≡ Some m → i ≡ p.mount
+    alone_only i m e = (one_row (top_at w p) i m e).0 ∙ ap (λ (v : Mount). v.id) top_is ∙ own_id

@@ -75,3 +75,7 @@ module _ (w : WorldView) (h : IsWellFormed w) (i : ℕ) (q : Mount) (row : mount
       outside = ap (λ k. is_below w.forest k dest.mount) (ap (λ (m : Mount). m.id) top_is ∙ own) ∙ off;
     };
   }
+
+  -- its mounts are below the top
+  pub tree_below : (j : ℕ) (m : Mount) → mount_at ms j ≡ Some m → is_below w.forest i j ≡ true
+  tree_below j m e = (from_row j m e).1

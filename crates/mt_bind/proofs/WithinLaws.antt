@@ -185,3 +185,10 @@ module _ (w : WorldView) (h : IsWellFormed w) (p : Place) (q : Mount) (row : mou
     group_fs = λ i g m e is. let x = from_row i m e in ap (λ (v : Mount). (directory w.skel v.root).fs) x.3 ∙ shows_cut i x.0 x.1;
     master_fs = λ i g m e is. let x = from_row i m e in ap (λ (v : Mount). (directory w.skel v.root).fs) x.3 ∙ shows_cut i x.0 x.1;
   }
+
+  -- its mounts are below the top
+  pub within_below : (i : ℕ) (m : Mount) → mount_at ms i ≡ Some m → is_below w.forest p.mount i ≡ true
+  within_below i m e =
+      let x = from_row i m e in
+      let c = both (is_below w.forest p.mount i && list_all unbound (path_to w p.mount i)) (first_in (path_to w p.mount i)) x.2 in
+      (both (is_below w.forest p.mount i) (list_all unbound (path_to w p.mount i)) c.0).0

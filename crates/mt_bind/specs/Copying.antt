@@ -23,6 +23,6 @@ module _ (w : WorldView) (ids : List ℕ) where
   abbrev pub copy_of : Mount → Mount
   copy_of m = record m { id = copy_number m.id; space = w.next_space; place = option_map (λ p. record { mount = copy_number p.mount; dir = p.dir }) m.place }
 
-  -- the copy of a shared mount is in its group, that of a slave has its master (`sharedsubtree`, clone namespace)
-  abbrev pub peer_of : Mount → Peer
-  peer_of m = record { mount = copy_number m.id; state = state_of w m.id }
+  -- the copy of a mount has the state that a copy of its state is (`sharedsubtree`, clone namespace)
+  abbrev pub peer_of : Bool → Mount → Peer
+  peer_of less m = record { mount = copy_number m.id; state = state_of_copy less (state_of w m.id) }

@@ -1,5 +1,6 @@
 pub mod Copying
 pub mod Spaces
+pub mod Dropping
 pub mod Sources
 pub mod Mounting
 pub mod Laws

@@ -61,3 +61,7 @@ without_space w n = record w {
   forest = without (λ (m : Mount). m.space == n) w.forest;
   peering = left (λ i. space_of w i == n) w.peering;
 }
+
+-- the end of a namespace that is there; its number is not given again (namespaces(7); the number: this project's rule)
+abbrev pub drop_space : WorldView → ℕ → Result WorldView Fault
+drop_space w n = outcome (refuse_if (not (is_space w n)) NoNamespace ∷ []) (without_space w n)

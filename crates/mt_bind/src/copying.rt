@@ -1,5 +1,5 @@
 //! Namespaces that are copies of others.
-ghost use Rattle.std.specs.Prelude.{◌≡◌, ◌≢◌, ◌+◌, ◌<◌, ◌≤◌, ◌^◌, ◌++◌, false, map, length, nat_eq, IsTrue, IfOk, IfErr, OnOk, OnErr, IsOkUnless, Ok, Err};
+ghost use Rattle.std.specs.Prelude.{◌≡◌, ◌≢◌, ◌+◌, ◌<◌, ◌≤◌, ◌^◌, ◌++◌, map, length, nat_eq, IsTrue, IfOk, IfErr, OnOk, OnErr, IsOkUnless, Ok, Err};
 ghost use Rattle.mt_skel.specs.Keyed.{numbered, rises};
 ghost use Rattle.mt_mounts.specs.Forest.{id_of};
 ghost use Rattle.mt_peers.specs.Peers.{mount_of, peers_of};
@@ -7,7 +7,7 @@ ghost use Rattle.mt_propagate.specs.World.{world_view};
 ghost use Rattle.mt_propagate.specs.WellFormed.{HasDistinctPlaces, HasOneRoot, IsWellFormed};
 ghost use Rattle.mt_propagate.specs.Touched.{since_view};
 ghost use Rattle.mt_bind.specs.Spaces.{copy_space};
-ghost use Rattle.mt_bind.specs.Copying.{copy_of, peer_of};
+ghost use Rattle.mt_bind.specs.Copying.{copy_of, peer_of, state_of_copy};
 
 use crate::spaces::too_many;
 use mt_mounts::mount::{Mount, MountId, Place, SpaceId};
@@ -65,17 +65,32 @@ fn copies(world: &World, originals: &[Mount]) -> Result<Vec<Mount>, Fault>
     Ok(copies)
 }
 
-/// The states of the copies of the mounts of a namespace.
-fn states(world: &World, originals: &[Mount]) -> Result<Vec<(MountId, State)>, Fault>
+/// The state of a copy of a mount of this state, in a namespace that is less privileged or not.
+fn state_of_copy(less: bool, state: State) -> State
+    ensures { result ≡ state_of_copy less state }
+{
+    if less {
+        return State {
+            group: None,
+            master: state.group.or(state.master),
+            unbindable: state.unbindable,
+        };
+    }
+    state
+}
+
+/// The states of the copies of the mounts of a namespace, in one that is less privileged or not.
+fn states(world: &World, originals: &[Mount], less: bool) -> Result<Vec<(MountId, State)>, Fault>
     requires rising { IsTrue (rises id_of originals.now) }
     requires numbers { world.now.next_mount + length originals.now < 2 ^ 64 }
-    ensures states { IfOk result (λ states. peers_of states.items ≡ map (peer_of (world_view world.now) (map id_of originals.now)) originals.now) }
+    ensures states { IfOk result (λ states. peers_of states.items ≡ map (peer_of (world_view world.now) (map id_of originals.now) less) originals.now) }
     ensures memory { IsOkUnless result Fault.NoMemory }
 {
     let mut states = Vec::with_capacity(world.forest.allocator(), originals.len())?;
     for mount in originals {
         let id = copy_number(world.next_mount, originals, mount.id);
-        states.push((id, state_of(world, mount.id)))?;
+        let state = state_of_copy(less, state_of(world, mount.id));
+        states.push((id, state))?;
     }
     Ok(states)
 }
@@ -117,15 +132,16 @@ fn add_space(world: &mut World, mounts: &[Mount], states: &[(MountId, State)]) -
 
 /// Adds a namespace whose mounts are copies of those of another one, each at the corresponding place
 /// with the same root and attributes, and answers its number. The copy of a shared mount is its peer,
-/// the copy of a slave has the same master.
+/// the copy of a slave has the same master. With `less` the new namespace is less privileged: there
+/// the copy of a mount in a group is in none, and has that group as its master.
 ///
 /// Refused as `NoNamespace`, as `TooMany` at 64 namespaces or above 4,096 mounts, and as `NoMemory`;
 /// then nothing has changed.
-pub fn copy_space(world: &mut World, space: SpaceId) -> Result<SpaceId, Fault>
+pub fn copy_space(world: &mut World, space: SpaceId, less: bool) -> Result<SpaceId, Fault>
     requires well_formed { IsWellFormed (world_view world.old) }
     requires numbers { (world.old.next_mount < 2 ^ 63) × (world.old.next_space < 2 ^ 63) }
-    ensures done { IfOk result (λ copy. copy_space (world_view world.old) space false ≡ Ok (world_view world.new, copy)) }
-    ensures refused { IfErr result (λ fault. fault ≢ Fault.NoMemory → copy_space (world_view world.old) space false ≡ Err fault) }
+    ensures done { IfOk result (λ copy. copy_space (world_view world.old) space less ≡ Ok (world_view world.new, copy)) }
+    ensures refused { IfErr result (λ fault. fault ≢ Fault.NoMemory → copy_space (world_view world.old) space less ≡ Err fault) }
     ensures unchanged { OnErr result (world_view world.new ≡ world_view world.old) }
     ensures kept { IsWellFormed (world_view world.new) }
     ensures since { since_view world.new ≡ since_view world.old }
@@ -138,7 +154,7 @@ pub fn copy_space(world: &mut World, space: SpaceId) -> Result<SpaceId, Fault>
         return Err(Fault::TooMany);
     }
     let mounts = copies(world, &originals)?;
-    let states = states(world, &originals)?;
+    let states = states(world, &originals, less)?;
     make_room(world, originals.len())?;
     Ok(add_space(world, &mounts, &states))
 }

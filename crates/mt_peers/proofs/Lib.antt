@@ -12,6 +12,7 @@ pub mod LeaveLaws
 pub mod ChainLaws
 pub mod JoinLaws
 pub mod AlikeLaws
+pub mod ClosedLaws
 pub mod GivenLaws
 pub mod FirstLaws
 pub mod WorklistLaws

@@ -3,3 +3,4 @@ pub mod SettingLaws
 pub mod ChosenLaws
 pub mod WalkedLaws
 pub mod SizeLaws
+pub mod InsideLaws

@@ -9,3 +9,4 @@ mod StayingLaws
 mod PlacedLaws
 mod DetachedLaws
 mod UnmountedLaws
+pub mod InsideLaws

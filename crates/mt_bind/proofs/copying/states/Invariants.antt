@@ -7,4 +7,4 @@ use Rattle.mt_bind.proofs.copying.states.Given as goal
 
 -- the copies of the mounts passed have their states
 abbrev pub invariant-loop-mount : goal.invariant-loop-mount
-invariant-loop-mount l = peers_of l.states.items ++ map (peer_of (world_view l.world) (map id_of l.originals)) (drop l.mount-index l.originals) ≡ map (peer_of (world_view l.world) (map id_of l.originals)) l.originals
+invariant-loop-mount l = peers_of l.states.items ++ map (peer_of (world_view l.world) (map id_of l.originals) l.less) (drop l.mount-index l.originals) ≡ map (peer_of (world_view l.world) (map id_of l.originals) l.less) l.originals

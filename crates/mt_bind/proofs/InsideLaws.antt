@@ -1,0 +1,203 @@
+-- Where mounts come to stand and namespaces come and go, contained namespaces stay contained, and what happens in them changes
+-- nothing outside.
+use Rattle.std.proofs.Common.{◌≡◌, ◌≢◌, ◌⊎◌, ℕ, ◌+◌, ◌<◌, Bool, true, not, ◌==◌, eqb-true, List, [], ◌∷◌, ◌++◌, map, length, Some, None, Ok, refl, sym, ap, subst, ◌∙◌, inl, inr, arith}
+use Rattle.std.specs.Prelude.{unwrap_or, is_none}
+use Rattle.std.specs.Option.{option_map}
+use Rattle.std.proofs.lemmas.Bool.{ne_eqb}
+use Rattle.mt_skel.specs.declared.fault.Fault.TheVariants.{NoFilesystem, NoNamespace, TooMany}
+use Rattle.mt_skel.specs.Keyed.{without}
+use Rattle.mt_skel.specs.Outcome.{refuse_if}
+use Rattle.mt_skel.specs.Skeleton.{fs_named}
+use Rattle.mt_skel.proofs.OutcomeLaws.{outcome_ok}
+use Rattle.mt_mounts.specs.declared.mount.Mount.{Mount}
+use Rattle.mt_mounts.specs.Forest.{id_of, mount_at, in_space}
+use Rattle.mt_peers.specs.declared.state.State.{State}
+use Rattle.mt_peers.specs.Peers.{Peer, mount_of, state_at}
+use Rattle.mt_peers.specs.Loss.{left}
+use Rattle.mt_peers.proofs.ClosedLaws.{like-IsClosed}
+use Rattle.mt_propagate.specs.World.{WorldView, is_space, private, space_of, group_of}
+use Rattle.mt_propagate.specs.Limits.{too_many_mounts, too_many_spaces}
+use Rattle.mt_propagate.specs.WellFormed.{IsWellFormed}
+use Rattle.mt_propagate.specs.Contained.{IsContained, IsSameOutside}
+use Rattle.mt_propagate.proofs.ContainedLaws.{closed, contained, left-contained, left-state}
+use Rattle.mt_propagate.proofs.CopiedInsideLaws.{copied-contained, copied-outside}
+use Rattle.mt_propagate.proofs.CopyRowLaws.{space_is}
+use Rattle.mt_propagate.proofs.PrivateLaws.{only-private, rising}
+use Rattle.mt_propagate.proofs.RowLaws.{row-first, appended-row, kept-row, part-filtered}
+use Rattle.mt_propagate.proofs.ShownLaws.{grouped-state, state-mount, state-row}
+use Rattle.mt_propagate.proofs.WalkLaws.{root_fits}
+use Rattle.mt_bind.specs.Spaces.{with_space, new_space, originals, with_copy, copy_space, without_space}
+use Rattle.mt_bind.specs.Copying.{copy_number}
+use Rattle.mt_bind.specs.Mounting.{mounted, bound, moved}
+use Rattle.mt_bind.proofs.SpaceLaws.{new_root}
+use Rattle.mt_bind.proofs.NamespaceCopyLaws.{old-in, copy-in}
+use Rattle.mt_bind.proofs.CopyLaws.{IsStateOfCopy, new_peers, copy-from, copy-group, copy-master, copy-kept}
+use Rattle.mt_bind.proofs.GoneLaws.{end-kept}
+use Rattle.mt_bind.proofs.MountLaws.{IsCopying, mount_copies, bind_copies, move_copies}
+
+-- where a source tree comes to stand
+copying_contained : (k n : ℕ) (w v : WorldView) → IsWellFormed w → IsContained k w → IsCopying n w v → IsContained k v
+copying_contained k n w v h c m = subst (IsContained k) m.made (copied-contained w h m.src m.dest m.source m.destination m.near k c)
+
+copying_outside : (n : ℕ) (w v : WorldView) → IsWellFormed w → IsContained n w → IsCopying n w v → IsSameOutside n w v
+copying_outside n w v h c m = subst (IsSameOutside n w) m.made (copied-outside w h m.src m.dest m.source m.destination m.near n c m.here)
+
+pub mount_contained : (k : ℕ) (w : WorldView) (n : ℕ) (name : List ℕ) (path : List (List ℕ)) (v : WorldView) (i : ℕ) → IsWellFormed w → IsContained k w → mounted w n name path ≡ Ok (v, i) → IsContained k v
+mount_contained k w n name path v i h c e = copying_contained k n w v h c (mount_copies w n name path v i h e)
+
+pub mount_outside : (w : WorldView) (n : ℕ) (name : List ℕ) (path : List (List ℕ)) (v : WorldView) (i : ℕ) → IsWellFormed w → IsContained n w → mounted w n name path ≡ Ok (v, i) → IsSameOutside n w v
+mount_outside w n name path v i h c e = copying_outside n w v h c (mount_copies w n name path v i h e)
+
+pub bind_contained : (k : ℕ) (w : WorldView) (n : ℕ) (recursive : Bool) (from to : List (List ℕ)) (v : WorldView) (i : ℕ) → IsWellFormed w → IsContained k w → bound w n recursive from to ≡ Ok (v, i) → IsContained k v
+bind_contained k w n recursive from to v i h c e = copying_contained k n w v h c (bind_copies w n recursive from to v i h e)
+
+pub bind_outside : (w : WorldView) (n : ℕ) (recursive : Bool) (from to : List (List ℕ)) (v : WorldView) (i : ℕ) → IsWellFormed w → IsContained n w → bound w n recursive from to ≡ Ok (v, i) → IsSameOutside n w v
+bind_outside w n recursive from to v i h c e = copying_outside n w v h c (bind_copies w n recursive from to v i h e)
+
+pub move_contained : (k : ℕ) (w : WorldView) (n : ℕ) (from to : List (List ℕ)) (v : WorldView) → IsWellFormed w → IsContained k w → moved w n from to ≡ Ok v → IsContained k v
+move_contained k w n from to v h c e = copying_contained k n w v h c (move_copies w n from to v h e)
+
+pub move_outside : (w : WorldView) (n : ℕ) (from to : List (List ℕ)) (v : WorldView) → IsWellFormed w → IsContained n w → moved w n from to ≡ Ok v → IsSameOutside n w v
+move_outside w n from to v h c e = copying_outside n w v h c (move_copies w n from to v h e)
+
+-- a new namespace has a private mount
+space_contained : (k : ℕ) (w : WorldView) (fs : ℕ) → IsWellFormed w → IsContained k w → IsContained k (with_space w fs)
+unfolding with_space
+space_contained k w fs h c =
+    contained k (with_space w fs) (rising w (new_root w fs) (w.next_space + 1) h (root_fits w (new_root w fs) h refl refl refl) refl)
+    (like-IsClosed (λ i. space_of w i ≡ k) (λ i. space_of (with_space w fs) i ≡ k) w.peering.peers (w.peering.peers ++ record { mount = w.next_mount; state = private } ∷ []) (closed k w c)
+    (λ i t g e is. elim (from i t e) [
+      | inl old ↦ (i, t, old.0, is, λ q. old.1 ∙ q, λ q. sym old.1 ∙ q)
+      | inr new ↦ absurd (let v : None ≡ Some g = sym (ap (λ (s : State). s.group) new) ∙ is in cc)
+    ])
+    (λ i t g e is. elim (from i t e) [
+      | inl old ↦ (i, t, old.0, inl is, λ q. old.1 ∙ q)
+      | inr new ↦ absurd (let v : None ≡ Some g = sym (ap (λ (s : State). s.master) new) ∙ is in cc)
+    ]))
+  where
+    from : (i : ℕ) (t : State) → state_at (w.peering.peers ++ record { mount = w.next_mount; state = private } ∷ []) i ≡ Some t
+        → ((state_at w.peering.peers i ≡ Some t) × (unwrap_or (option_map (λ (m : Mount). m.space) (mount_at (w.forest ++ new_root w fs ∷ []) i)) 0 ≡ space_of w i)) ⊎ (t ≡ private)
+    from i t e =
+        let row = state-row (w.peering.peers ++ record { mount = w.next_mount; state = private } ∷ []) i t e in
+        elim (appended-row mount_of w.peering.peers (record { mount = w.next_mount; state = private } ∷ []) i row.0 row.1) [
+          | inl old ↦
+              let was : state_at w.peering.peers i ≡ Some t = ap (option_map (λ (e : Peer). e.state)) old ∙ ap (λ s. Some s) row.2 in
+              let m = state-mount w.forest w.peering.peers i t h.same_mounts was in
+              inl (was, ap (λ o. unwrap_or (option_map (λ (m : Mount). m.space) o) 0) (row-first id_of w.forest (new_root w fs ∷ []) i m.0 m.1) ∙ sym (space_is w i m.0 m.1))
+          | inr new ↦ inr (only-private w.next_mount i t (ap (option_map (λ (e : Peer). e.state)) new ∙ ap (λ s. Some s) row.2))
+        ]
+
+-- a copy of a namespace
+module _ (w : WorldView) (h : IsWellFormed w) (m : ℕ) (less : Bool) where
+  abbrev space : ℕ → ℕ
+  space i = space_of (with_copy w m less) i
+
+  old-space : (i : ℕ) (q : Mount) → mount_at w.forest i ≡ Some q → space i ≡ space_of w i
+  unfolding with_copy
+  old-space i q e = ap (λ o. unwrap_or (option_map (λ (m : Mount). m.space) o) 0) (old-in w h m i q e) ∙ sym (space_is w i q e)
+
+  copy-space : (i : ℕ) (q : Mount) → mount_at w.forest i ≡ Some q → q.space ≡ m → space (copy_number w (map id_of (originals w m)) i) ≡ w.next_space
+  unfolding with_copy
+  copy-space i q e same = ap (λ o. unwrap_or (option_map (λ (m : Mount). m.space) o) 0) (copy-in w h m i q e same)
+
+  -- each state is one that was there, or that of a copy in the new namespace
+  pub from : (i : ℕ) (t : State) → state_at (w.peering.peers ++ new_peers w h m less) i ≡ Some t
+      → ((state_at w.peering.peers i ≡ Some t) × (space i ≡ space_of w i) × (space_of w i < w.next_space)) ⊎ (IsStateOfCopy w h m less i t × (space i ≡ w.next_space))
+  from i t e =
+      let row = state-row (w.peering.peers ++ new_peers w h m less) i t e in
+      elim (appended-row mount_of w.peering.peers (new_peers w h m less) i row.0 row.1) [
+        | inl old ↦
+            let was : state_at w.peering.peers i ≡ Some t = ap (option_map (λ (e : Peer). e.state)) old ∙ ap (λ s. Some s) row.2 in
+            let q = state-mount w.forest w.peering.peers i t h.same_mounts was in
+            let b = h.below i q.0 q.1 in
+            inl (was, old-space i q.0 q.1, subst (λ k. k < w.next_space) (sym (space_is w i q.0 q.1)) b.3)
+        | inr new ↦
+            let c = copy-from w h m less i t (ap (option_map (λ (e : Peer). e.state)) new ∙ ap (λ s. Some s) row.2) in
+            inr (c, ap space c.number ∙ copy-space c.source.id c.source c.there c.space)
+      ]
+
+  -- of another namespace
+  pub copy_contained : (k : ℕ) → k < w.next_space → k ≢ m → IsContained k w → IsContained k (with_copy w m less)
+  unfolding with_copy
+  copy_contained k low other c =
+      contained k (with_copy w m less) (copy-kept w h m less).peering.rising
+      (like-IsClosed (λ i. space_of w i ≡ k) (λ i. space_of (with_copy w m less) i ≡ k) w.peering.peers (w.peering.peers ++ new_peers w h m less) (closed k w c)
+      (λ i t g e is. elim (from i t e) [
+        | inl old ↦ (i, t, old.0, is, λ q. old.1 ∙ q, λ q. sym old.1 ∙ q)
+        | inr new ↦
+            let s = copy-group w m less new.0.state g (ap (λ (s : State). s.group) (sym new.0.made) ∙ is) in
+            (new.0.source.id, new.0.state, new.0.stated, s.0, away new.0, λ q. absurd (let n = new.1 in omega (arith, low, n, q)))
+      ])
+      (λ i t g e is. elim (from i t e) [
+        | inl old ↦ (i, t, old.0, inl is, λ q. old.1 ∙ q)
+        | inr new ↦ (new.0.source.id, new.0.state, new.0.stated, copy-master w m less new.0.state g (ap (λ (s : State). s.master) (sym new.0.made) ∙ is), away new.0)
+      ]))
+    where
+      -- the copied mounts are not in it
+      away : {A : Type 0} {i : ℕ} {t : State} → (c : IsStateOfCopy w h m less i t) → space_of w c.source.id ≡ k → A
+      away c q = absurd (other (sym q ∙ space_is w c.source.id c.source c.there ∙ c.space))
+
+-- a less privileged copy has no groups
+no_member : {A : Type 0} (w : WorldView) (h : IsWellFormed w) (m i g : ℕ) → group_of (with_copy w m true) i ≡ Some g → space_of (with_copy w m true) i ≡ w.next_space → A
+unfolding with_copy
+no_member w h m i g e q =
+    let s = grouped-state (with_copy w m true) i g e in
+    elim (from w h m true i s.0 s.1) [
+      | inl old ↦ (let same = old.1 in let low = old.2 in absurd (omega (arith, same, low, q)))
+      | inr new ↦ absurd (let v : None ≡ Some g = ap (λ (s : State). s.group) (sym new.0.made) ∙ s.2 in cc)
+    ]
+
+pub less_contained : (w : WorldView) → IsWellFormed w → (m : ℕ) → IsContained w.next_space (with_copy w m true)
+less_contained w h m = record {
+  groups = λ i j g ei ej q. no_member w h m i g ei q;
+  chains = λ i j u g ei ej q far. no_member w h m j g ej q;
+}
+
+-- an accepted copy
+pub copy_parts : (w : WorldView) (m : ℕ) (less : Bool) (v : WorldView) (i : ℕ) → copy_space w m less ≡ Ok (v, i) → (with_copy w m less ≡ v) × (w.next_space ≡ i)
+copy_parts w m less v i e =
+    let none = refuse_if (not (is_space w m)) NoNamespace in
+    let spaces = refuse_if (too_many_spaces w) TooMany in
+    let mounts = refuse_if (too_many_mounts w (length (originals w m))) TooMany in
+    let ok = outcome_ok (none ∷ spaces ∷ mounts ∷ []) (with_copy w m less, w.next_space) (v, i) e in
+    (ap (λ x. x.0) ok.0, ap (λ x. x.1) ok.0)
+
+pub copied_contained : (k : ℕ) (w : WorldView) (m : ℕ) (less : Bool) (v : WorldView) (i : ℕ) → IsWellFormed w → IsContained k w → k < w.next_space → k ≢ m → copy_space w m less ≡ Ok (v, i) → IsContained k v
+copied_contained k w m less v i h c low other e = subst (IsContained k) (copy_parts w m less v i e).0 (copy_contained w h m less k low other c)
+
+pub less_copied : (w : WorldView) (m : ℕ) (v : WorldView) (n : ℕ) → IsWellFormed w → copy_space w m true ≡ Ok (v, n) → IsContained n v
+less_copied w m v n h e =
+    let p = copy_parts w m true v n e in
+    subst (λ k. IsContained k v) p.1 (subst (IsContained w.next_space) p.0 (less_contained w h m))
+
+-- an accepted new namespace
+pub made_contained : (k : ℕ) (w : WorldView) (name : List ℕ) (v : WorldView) (i : ℕ) → IsWellFormed w → IsContained k w → new_space w name ≡ Ok (v, i) → IsContained k v
+made_contained k w name v i h c e =
+    let fs = unwrap_or (fs_named w.skel name) 0 in
+    let none = refuse_if (is_none (fs_named w.skel name)) NoFilesystem in
+    let spaces = refuse_if (too_many_spaces w) TooMany in
+    let mounts = refuse_if (too_many_mounts w 1) TooMany in
+    let ok = outcome_ok (none ∷ spaces ∷ mounts ∷ []) (with_space w fs, w.next_space) (v, i) e in
+    subst (IsContained k) (ap (λ x. x.0) ok.0) (space_contained k w fs h c)
+
+-- a namespace that ends
+module _ (w : WorldView) (h : IsWellFormed w) (n : ℕ) where
+  stays : (i : ℕ) (m : Mount) → mount_at (without (λ (m : Mount). m.space == n) w.forest) i ≡ Some m → mount_at w.forest i ≡ Some m
+  stays i m e = (kept-row id_of (λ (m : Mount). m.space == n) w.forest h.forest.rising i m e).0
+
+  pub end_contained : (k : ℕ) → IsContained k w → IsContained k (without_space w n)
+  unfolding without_space
+  end_contained k c =
+      let v = end-kept w h n in
+      left-contained k w (without_space w n) h c (λ i. space_of w i == n) refl (λ i s e.
+      let m = state-mount (without (λ (m : Mount). m.space == n) w.forest) (left (λ i. space_of w i == n) w.peering).peers i s v.same_mounts e in
+      ap (λ o. unwrap_or (option_map (λ (m : Mount). m.space) o) 0) (m.1 ∙ sym (stays i m.0 m.1))) v.peering.rising
+
+  -- nothing outside has a master in it
+  pub end_outside : IsContained n w → IsSameOutside n w (without_space w n)
+  unfolding without_space
+  end_outside c = record {
+    skel = refl;
+    mounts = λ k off. part-filtered (in_space k) (λ (m : Mount). not (m.space == n)) w.forest (λ m is. ap not (ne_eqb m.space n (λ same. off (sym (eqb-true m.space k is) ∙ same))));
+    states = left-state n w h c (λ i. space_of w i == n) (λ i is. eqb-true (space_of w i) n is);
+  }

@@ -1,0 +1,206 @@
+-- A set of mounts that has all that receive from its members stays one, and mounts outside keep their states.
+use Rattle.std.proofs.Common.{◌≡◌, ◌⊎◌, ℕ, zero, suc, ◌<◌, Bool, true, false, cond, not, eqb, List, [], ◌∷◌, map, length, Option, Some, None, refl, sym, ap, ◌∙◌, subst, inl, inr, arith}
+use Rattle.std.specs.List.{list_any, filter, find}
+use Rattle.std.specs.Option.{option_map}
+use Rattle.std.proofs.lemmas.Bool.Decides.{nat_tests}
+use Rattle.mt_skel.specs.Chain.{chain}
+use Rattle.mt_skel.specs.Keyed.{row_at, rises}
+use Rattle.mt_skel.proofs.KeyedLaws.{row_at-filter, row_at-map, row_at-key, passing}
+use Rattle.mt_skel.proofs.ElementLaws.{In, in_any, any_in, in_row, in_filtered, in_mapped}
+use Rattle.mt_peers.specs.declared.state.State.{State}
+use Rattle.mt_peers.specs.declared.state.Kind.{Kind}
+use Rattle.mt_peers.specs.Peers.{Peer, Peering, mount_of, state_at, in_group, has_member, names}
+use Rattle.mt_peers.specs.Masters.{master_of, groups_up, reaches}
+use Rattle.mt_peers.specs.Loss.{settle, heir, with_master, left}
+use Rattle.mt_peers.specs.Making.{made, changed, changed_peer, new_group}
+use Rattle.mt_peers.specs.WellFormed.{IsPeering}
+use Rattle.mt_peers.proofs.MemberLaws.{master_of-from, state_at-filter, named}
+use Rattle.mt_peers.proofs.SettleLaws.{before, state_at-settle}
+use Rattle.mt_peers.proofs.MakingLaws.{old_master, change, number, origin, source, both, number-high, made-settled}
+use Rattle.mt_peers.proofs.AlikeLaws.{along, heir-along, changed-master}
+
+-- with one member of a group, the set has all its members and all its slaves
+pub record IsClosed (P : ℕ → Type 0) (es : List Peer) : Type 0 where
+  pub groups : (i j : ℕ) (s t : State) (g : ℕ) → state_at es i ≡ Some s → state_at es j ≡ Some t → s.group ≡ Some g → t.group ≡ Some g → P j → P i
+  pub masters : (i j : ℕ) (s t : State) (g : ℕ) → state_at es i ≡ Some s → state_at es j ≡ Some t → s.master ≡ Some g → t.group ≡ Some g → P j → P i
+
+-- where each member of a group is like one that was there, and each slave like a slave or a peer of its master's members
+pub like-IsClosed : (P Q : ℕ → Type 0) (old new : List Peer) → IsClosed P old
+    → ((i : ℕ) (t : State) (g : ℕ) → state_at new i ≡ Some t → t.group ≡ Some g → (j : ℕ) × (s : State) × (state_at old j ≡ Some s) × (s.group ≡ Some g) × (P j → Q i) × (Q i → P j))
+    → ((i : ℕ) (t : State) (g : ℕ) → state_at new i ≡ Some t → t.master ≡ Some g → (j : ℕ) × (s : State) × (state_at old j ≡ Some s) × ((s.master ≡ Some g) ⊎ (s.group ≡ Some g)) × (P j → Q i))
+    → IsClosed Q new
+like-IsClosed P Q old new a grouped mastered = record {
+  groups = λ i j s t g es et gs gt q.
+      let x = grouped i s g es gs in
+      let y = grouped j t g et gt in
+      x.4 (a.groups x.0 y.0 x.1 y.1 g x.2 y.2 x.3 y.3 (y.5 q));
+  masters = λ i j s t g es et ms gt q.
+      let x = mastered i s g es ms in
+      let y = grouped j t g et gt in
+      x.4 (elim x.3 [
+        | inl m ↦ a.masters x.0 y.0 x.1 y.1 g x.2 y.2 m y.3 (y.5 q)
+        | inr m ↦ a.groups x.0 y.0 x.1 y.1 g x.2 y.2 m y.3 (y.5 q)
+      ]);
+}
+
+pub same-IsClosed : (P Q : ℕ → Type 0) (es : List Peer) → ((i : ℕ) (s : State) → state_at es i ≡ Some s → (P i → Q i) × (Q i → P i)) → IsClosed P es → IsClosed Q es
+same-IsClosed P Q es same a =
+    like-IsClosed P Q es es a (λ i t g e is. let b = same i t e in (i, t, e, is, b.0, b.1)) (λ i t g e is. (i, t, e, inl is, (same i t e).0))
+
+-- a chain of masters that leads to a group of the set begins at one of the set
+turned : (g : ℕ) (xs : List ℕ) → list_any (λ k. eqb k g) xs ≡ true → list_any (eqb g) xs ≡ true
+turned g [] h = h
+turned g (x ∷ xs) h = let ih = turned g xs in grind (arith, nat_tests)
+
+pub reached : (P : ℕ → Type 0) (es : List Peer) → rises mount_of es ≡ true → IsClosed P es → (i j m g : ℕ) (s t : State)
+    → state_at es i ≡ Some s → state_at es j ≡ Some t → s.master ≡ Some m → t.group ≡ Some g → P j → reaches es m g ≡ true → P i
+reached P es r a i j m g s t ei ej ms gt q far =
+    along (master_of es) (λ x. (k : ℕ) (u : State) → state_at es k ≡ Some u → u.group ≡ Some x → P k → P i)
+    (λ x y draws up.
+    let f = master_of-from es x y r up in
+    λ k u ek gu p. draws f.0 f.1 f.2 f.3 (a.masters f.0 k f.1 u y f.2 ek f.4 gu p))
+    (length es) m g (λ k u ek gu p. a.masters i k s u m ei ek ms gu p) (turned g (groups_up es m) far) j t ej gt q
+
+-- a group comes to itself
+pub reaches-self : (es : List Peer) (g : ℕ) → reaches es g g ≡ true
+reaches-self es g = go (length es)
+  where
+    go : (n : ℕ) → list_any (λ k. eqb k g) (chain (master_of es) n g) ≡ true
+    go zero = grind (arith, nat_tests)
+    go (suc n) = grind (arith, nat_tests)
+
+-- a member of a group that lives
+pub living : (es : List Peer) (g : ℕ) → rises mount_of es ≡ true → has_member es g ≡ true → (e : Peer) × In e es × (state_at es e.mount ≡ Some e.state) × (e.state.group ≡ Some g)
+living es g r h =
+    let m = in_any (in_group g) es h in
+    (m.0, m.1, ap (option_map (λ (e : Peer). e.state)) (in_row mount_of es m.0 r m.1), named m.0.state.group g m.2)
+
+-- a master that still lives stays
+heir-first : (p : ℕ → Bool) (next : ℕ → Option ℕ) (n g : ℕ) → p g ≡ true → find p (chain next n g) ≡ Some g
+heir-first p next zero g h = rw h refl
+heir-first p next (suc n) g h = rw h refl
+
+pub settled-same : (old mid : List Peer) (i : ℕ) (s : State) → state_at mid i ≡ Some s → ((m : ℕ) → s.master ≡ Some m → has_member mid m ≡ true) → state_at (settle old mid) i ≡ Some s
+settled-same old mid i s e lives =
+    state_at-settle old mid i ∙ ap (option_map (λ s. with_master s (heir old mid s.master))) e ∙ ap (λ m. Some (with_master s m)) (go s.master refl)
+  where
+    go : (o : Option ℕ) → s.master ≡ o → heir old mid o ≡ o
+    go None is = refl
+    go (Some m) is = heir-first (has_member mid) (master_of old) (length old) m (lives m is)
+
+module _ (P : ℕ → Type 0) (p : Peering) (h : IsPeering p) (a : IsClosed P p.peers) where
+  -- a group that was given out, and that has no member in the set unless the mount is in it
+  abbrev Draws : ℕ → ℕ → Type 0
+  Draws i g = (g < p.next) × ((j : ℕ) (t : State) → state_at p.peers j ≡ Some t → t.group ≡ Some g → P j → P i)
+
+  up : (i x y : ℕ) → Draws i x → master_of p.peers x ≡ Some y → Draws i y
+  up i x y s e =
+      let m = master_of-from p.peers x y h.rising e in
+      (old_master p h m.0 m.1 y m.2 m.4, λ j t ej gt q. s.1 m.0 m.1 m.2 m.3 (a.masters m.0 j m.1 t y m.2 ej m.4 gt q))
+
+  -- the groups of which a mount can become a slave
+  starts : (i : ℕ) (s : State) (k : ℕ) → state_at p.peers i ≡ Some s → (s.master ≡ Some k) ⊎ (s.group ≡ Some k) → Draws i k
+  starts i s k e (inl m) = (old_master p h i s k e m, λ j t ej gt q. a.masters i j s t k e ej m gt q)
+  starts i s k e (inr g) = (h.below i s k e g, λ j t ej gt q. a.groups i j s t k e ej g gt q)
+
+  module _ (mid : List Peer)
+      (groups : (i j : ℕ) (s t : State) (g : ℕ) → state_at mid i ≡ Some s → state_at mid j ≡ Some t → s.group ≡ Some g → t.group ≡ Some g → P j → P i)
+      (group_was : (j : ℕ) (t : State) (g : ℕ) → state_at mid j ≡ Some t → t.group ≡ Some g → g < p.next → (s : State) × (state_at p.peers j ≡ Some s) × (s.group ≡ Some g))
+      (master_was : (i : ℕ) (t : State) (g : ℕ) → state_at mid i ≡ Some t → t.master ≡ Some g → (s : State) × (state_at p.peers i ≡ Some s) × ((s.master ≡ Some g) ⊎ (s.group ≡ Some g))) where
+    settle-IsClosed : IsClosed P (settle p.peers mid)
+    settle-IsClosed = record {
+      groups = λ i j s t g es et gs gt q.
+          let b = before p.peers mid i s es in
+          let c = before p.peers mid j t et in
+          groups i j b.0 c.0 g b.1 c.1 (ap (λ (s : State). s.group) (sym b.2) ∙ gs) (ap (λ (s : State). s.group) (sym c.2) ∙ gt) q;
+      masters = λ i j s t g es et ms gt q.
+          let b = before p.peers mid i s es in
+          let c = before p.peers mid j t et in
+          let draws : Draws i g =
+          heir-along p.peers mid (Draws i) (up i) b.0.master g (λ k e. let w = master_was i b.0 k b.1 e in starts i w.0 k w.1 w.2) (ap (λ (s : State). s.master) (sym b.2) ∙ ms) in
+          let was = group_was j c.0 g c.1 (ap (λ (s : State). s.group) (sym c.2) ∙ gt) draws.0 in
+          draws.1 j was.0 was.1 was.2 q;
+    }
+
+  -- when mounts leave
+  pub left-IsClosed : (gone : ℕ → Bool) → IsClosed P (left gone p).peers
+  unfolding left
+  left-IsClosed gone =
+      let stay : Peer → Bool = λ e. not (gone e.mount) in
+      let was : (i : ℕ) (s : State) → state_at (filter stay p.peers) i ≡ Some s → state_at p.peers i ≡ Some s = λ i s e. state_at-filter stay p.peers i s h.rising e in
+      settle-IsClosed (filter stay p.peers) (λ i j s t g es et gs gt q. a.groups i j s t g (was i s es) (was j t et) gs gt q) (λ j t g e gt l. (t, was j t e, gt)) (λ i t g e m. (t, was i t e, inl m))
+
+  -- when mounts are made of a kind
+  pub made-IsClosed : (k : Kind) (chosen : ℕ → Bool) → IsClosed P (made k chosen p).peers
+  made-IsClosed k chosen =
+      subst (IsClosed P) (sym (made-settled p h k chosen))
+      (settle-IsClosed (map (change p h k chosen) p.peers)
+      (λ i j s t g es et gs gt q. elim (both p h k chosen i j s t g es et gs gt) [
+        | inl same ↦ subst P (sym same) q
+        | inr old ↦ a.groups i j old.0 old.1 g old.2 old.3 old.4 old.5 q
+      ])
+      (λ j t g e gt l.
+      let o = source p h k chosen j t g e gt in (
+        o.0,
+        o.1,
+        elim o.2 [ inl old ↦ old | inr new ↦ absurd (let high = number-high p h k chosen j in let eq = new.3 in omega arith) ],
+      ))
+      (λ i t g e m.
+      let o = origin p h k chosen i t e in
+      (o.0, o.1, changed-master k (number p h k chosen i) (chosen i) o.0 g (ap (λ (v : State). v.master) (sym o.2) ∙ m))))
+
+  -- the master of a mount outside has no member in the set
+  outside : (i : ℕ) (s : State) (m : ℕ) (e : Peer) → state_at p.peers i ≡ Some s → (P i → ⊥) → s.master ≡ Some m → state_at p.peers e.mount ≡ Some e.state → e.state.group ≡ Some m → P e.mount → ⊥
+  outside i s m e ei off ms ee ge q = off (a.masters i e.mount s e.state m ei ee ms ge q)
+
+  member : (e : Peer) (m : ℕ) → e.state.group ≡ Some m → in_group m e ≡ true
+  member e m is = ap (λ o. names o m) is ∙ (grind (arith, nat_tests))
+
+  module _ (f : ℕ → Bool) (within : (i : ℕ) → f i ≡ true → P i) where
+    off-outside : (j : ℕ) → (P j → ⊥) → f j ≡ false
+    off-outside j out = go (f j) refl
+      where
+        go : (b : Bool) → f j ≡ b → f j ≡ false
+        go true is = absurd (out (within j is))
+        go false is = is
+
+    abbrev stay : Peer → Bool
+    stay e = not (f e.mount)
+
+    staying-state : (i : ℕ) (s : State) → state_at p.peers i ≡ Some s → (P i → ⊥) → state_at (filter stay p.peers) i ≡ Some s
+    staying-state i s e off = ap (option_map (λ (e : Peer). e.state)) (row_at-filter mount_of stay i p.peers h.rising) ∙ go (row_at mount_of i p.peers) refl e
+      where
+        go : (o : Option Peer) → row_at mount_of i p.peers ≡ o → option_map (λ (e : Peer). e.state) o ≡ Some s → option_map (λ (e : Peer). e.state) (passing stay o) ≡ Some s
+        go None is r = r
+        go (Some x) is r =
+            let k = row_at-key mount_of i p.peers x is in
+            ap (λ b. option_map (λ (e : Peer). e.state) (cond b (Some x) None)) (ap not (ap f k ∙ off-outside i off)) ∙ r
+
+    -- a mount outside keeps its state when mounts of the set alone leave
+    pub left-outside : (i : ℕ) (s : State) → state_at p.peers i ≡ Some s → (P i → ⊥) → state_at (left f p).peers i ≡ Some s
+    unfolding left
+    left-outside i s e off = settled-same p.peers (filter stay p.peers) i s (staying-state i s e off) (λ m ms.
+        let l = living p.peers m h.rising (h.master_lives i s m e ms) in
+        let on : not (f l.0.mount) ≡ true = ap not (off-outside l.0.mount (outside i s m l.0 e off ms l.2 l.3)) in
+        any_in (in_group m) l.0 (filter stay p.peers) (in_filtered stay l.0 p.peers l.1 on) (member l.0 m l.3))
+
+    -- and when mounts of the set alone are made of a kind
+    module _ (k : Kind) where
+      changed-outside : (x : Peer) → (P x.mount → ⊥) → changed_peer k f p x ≡ x
+      changed-outside x off = ap (λ b. let y : Peer = record { mount = x.mount; state = cond b (changed k (new_group f p x.mount) x.state) x.state } in y) (off-outside x.mount off)
+
+      changed-state : (i : ℕ) (s : State) → state_at p.peers i ≡ Some s → (P i → ⊥) → state_at (map (changed_peer k f p) p.peers) i ≡ Some s
+      changed-state i s e off = ap (option_map (λ (e : Peer). e.state)) (row_at-map mount_of (changed_peer k f p) (λ x. refl) i p.peers) ∙ go (row_at mount_of i p.peers) refl e
+        where
+          go : (o : Option Peer) → row_at mount_of i p.peers ≡ o → option_map (λ (e : Peer). e.state) o ≡ Some s → option_map (λ (e : Peer). e.state) (option_map (changed_peer k f p) o) ≡ Some s
+          go None is r = r
+          go (Some x) is r =
+              let key = row_at-key mount_of i p.peers x is in
+              ap (λ (y : Peer). Some y.state) (changed-outside x (λ q. off (subst P key q))) ∙ r
+
+      pub made-outside : (i : ℕ) (s : State) → state_at p.peers i ≡ Some s → (P i → ⊥) → state_at (made k f p).peers i ≡ Some s
+      unfolding made
+      made-outside i s e off = settled-same p.peers (map (changed_peer k f p) p.peers) i s (changed-state i s e off) (λ m ms.
+          let l = living p.peers m h.rising (h.master_lives i s m e ms) in
+          let same = changed-outside l.0 (outside i s m l.0 e off ms l.2 l.3) in
+          any_in (in_group m) l.0 (map (changed_peer k f p) p.peers) (subst (λ x. In x (map (changed_peer k f p) p.peers)) same (in_mapped (changed_peer k f p) l.0 p.peers l.1)) (member l.0 m l.3))

@@ -1,0 +1,91 @@
+-- A contained namespace is one whose mounts are with all that receive from them.
+use Rattle.std.proofs.Common.{◌≡◌, ◌≢◌, ℕ, Bool, true, List, Some, None, Result, Ok, Err, refl, sym, ap, ◌∙◌, subst, length}
+use Rattle.std.specs.Prelude.{unwrap_or}
+use Rattle.mt_skel.specs.Keyed.{rises}
+use Rattle.mt_skel.specs.declared.fault.Fault.{Fault}
+use Rattle.mt_skel.specs.Outcome.{fault_of}
+use Rattle.mt_mounts.specs.declared.mount.Mount.{Mount}
+use Rattle.mt_mounts.specs.declared.mount.Place.{Place}
+use Rattle.mt_mounts.specs.Walk.{walk}
+use Rattle.mt_mounts.specs.Forest.{mount_at, parent, is_below}
+use Rattle.mt_peers.specs.declared.state.State.{State}
+use Rattle.mt_peers.specs.declared.state.Kind.{Kind}
+use Rattle.mt_peers.specs.Peers.{Peering, mount_of, state_at}
+use Rattle.mt_peers.specs.Loss.{left}
+use Rattle.mt_peers.specs.Making.{made}
+use Rattle.mt_peers.proofs.AlikeLaws.{along}
+use Rattle.mt_peers.proofs.ClosedLaws.{IsClosed, reached, reaches-self, same-IsClosed, left-IsClosed, made-IsClosed, left-outside, made-outside}
+use Rattle.mt_propagate.specs.World.{WorldView, state_of, group_of, space_of, private}
+use Rattle.mt_propagate.specs.WellFormed.{IsWellFormed}
+use Rattle.mt_propagate.specs.Contained.{IsContained}
+use Rattle.mt_propagate.proofs.CopyRowLaws.{space_is}
+use Rattle.mt_propagate.specs.Named.{place_or_nowhere}
+use Rattle.mt_propagate.proofs.TreeLaws.{parent-from}
+use Rattle.mt_propagate.proofs.WalkLaws.{walked}
+use Rattle.mt_propagate.proofs.ShownLaws.{grouped-state, slave-state, mount-state}
+
+pub group-is : (w : WorldView) (i g : ℕ) (s : State) → state_at w.peering.peers i ≡ Some s → s.group ≡ Some g → group_of w i ≡ Some g
+group-is w i g s e is = ap (λ o. (unwrap_or o private).group) e ∙ is
+
+pub master-is : (w : WorldView) (i g : ℕ) (s : State) → state_at w.peering.peers i ≡ Some s → s.master ≡ Some g → (state_of w i).master ≡ Some g
+master-is w i g s e is = ap (λ o. (unwrap_or o private).master) e ∙ is
+
+pub closed : (n : ℕ) (w : WorldView) → IsContained n w → IsClosed (λ i. space_of w i ≡ n) w.peering.peers
+closed n w c = record {
+  groups = λ i j s t g es et gs gt q. c.groups j i g (group-is w j g t et gt) (group-is w i g s es gs) q;
+  masters = λ i j s t g es et ms gt q. c.chains i j g g (master-is w i g s es ms) (group-is w j g t et gt) q (reaches-self w.peering.peers g);
+}
+
+pub contained : (n : ℕ) (w : WorldView) → rises mount_of w.peering.peers ≡ true → IsClosed (λ i. space_of w i ≡ n) w.peering.peers → IsContained n w
+contained n w r a = record {
+  groups = λ i j g ei ej q.
+      let s = grouped-state w i g ei in
+      let t = grouped-state w j g ej in
+      a.groups j i t.0 s.0 g t.1 s.1 t.2 s.2 q;
+  chains = λ i j m g ei ej q far.
+      let s = slave-state w i m ei in
+      let t = grouped-state w j g ej in
+      reached (λ i. space_of w i ≡ n) w.peering.peers r a i j m g s.0 t.0 s.1 t.1 s.2 t.2 q far;
+}
+
+-- where mounts leave, and the others stay in their namespaces
+pub left-contained : (n : ℕ) (w v : WorldView) → IsWellFormed w → IsContained n w → (gone : ℕ → Bool) → v.peering ≡ left gone w.peering → ((i : ℕ) (s : State) → state_at v.peering.peers i ≡ Some s → space_of v i ≡ space_of w i)
+    → rises mount_of v.peering.peers ≡ true → IsContained n v
+left-contained n w v h c gone is spaces rising =
+    contained n v rising
+    (same-IsClosed (λ i. space_of w i ≡ n) (λ i. space_of v i ≡ n) v.peering.peers (λ i s e. let same = spaces i s e in (λ q. same ∙ q, λ q. sym same ∙ q))
+    (subst (λ (p : Peering). IsClosed (λ i. space_of w i ≡ n) p.peers) (sym is) (left-IsClosed (λ i. space_of w i ≡ n) w.peering h.peering (closed n w c) gone)))
+
+-- the state of a mount outside stays where mounts of the namespace alone leave
+pub left-state : (n : ℕ) (w : WorldView) → IsWellFormed w → IsContained n w → (gone : ℕ → Bool) → ((i : ℕ) → gone i ≡ true → space_of w i ≡ n)
+    → (i : ℕ) (m : Mount) → mount_at w.forest i ≡ Some m → m.space ≢ n → unwrap_or (state_at (left gone w.peering).peers i) private ≡ state_of w i
+left-state n w h c gone within i m e off =
+    let s = mount-state w.forest w.peering.peers i m h.same_mounts e in
+    ap (λ o. unwrap_or o private) (left-outside (λ i. space_of w i ≡ n) w.peering h.peering (closed n w c) gone within i s.0 s.1 (λ q. off (sym (space_is w i m e) ∙ q)) ∙ sym s.1)
+
+-- and where they alone are made of a kind
+pub made-contained : (n : ℕ) (w : WorldView) → IsWellFormed w → IsContained n w → (k : Kind) (chosen : ℕ → Bool) → IsClosed (λ i. space_of w i ≡ n) (made k chosen w.peering).peers
+made-contained n w h c k chosen = made-IsClosed (λ i. space_of w i ≡ n) w.peering h.peering (closed n w c) k chosen
+
+pub made-state : (n : ℕ) (w : WorldView) → IsWellFormed w → IsContained n w → (k : Kind) (chosen : ℕ → Bool) → ((i : ℕ) → chosen i ≡ true → space_of w i ≡ n)
+    → (i : ℕ) (m : Mount) → mount_at w.forest i ≡ Some m → m.space ≢ n → unwrap_or (state_at (made k chosen w.peering).peers i) private ≡ state_of w i
+made-state n w h c k chosen within i m e off =
+    let s = mount-state w.forest w.peering.peers i m h.same_mounts e in
+    ap (λ o. unwrap_or o private) (made-outside (λ i. space_of w i ≡ n) w.peering h.peering (closed n w c) chosen within k i s.0 s.1 (λ q. off (sym (space_is w i m e) ∙ q)) ∙ sym s.1)
+
+-- what is below a mount is in its namespace
+pub below-space : (w : WorldView) → IsWellFormed w → (i j : ℕ) (m : Mount) → mount_at w.forest j ≡ Some m → is_below w.forest i j ≡ true → space_of w i ≡ m.space
+below-space w h i j m e b =
+    along (parent w.forest) (λ k. space_of w k ≡ m.space) (λ x y here up.
+    let r = parent-from w.forest x y up in
+    let p = h.forest.placed x r.0 r.1 r.2 r.3 in
+    ap (space_of w) (sym r.4) ∙ space_is w r.1.mount p.0 p.1 ∙ p.2 ∙ sym (space_is w x r.0 r.2) ∙ here)
+    (length w.forest) j i (space_is w j m e) b
+
+-- a path ends on a mount of its namespace
+pub ended-inside : (w : WorldView) → IsWellFormed w → (n : ℕ) (path : List (List ℕ)) → fault_of (walk w.skel w.forest n path) ≡ None → space_of w (place_or_nowhere (walk w.skel w.forest n path)).mount ≡ n
+ended-inside w h n path none = go (walk w.skel w.forest n path) refl none
+  where
+    go : (r : Result Place Fault) → walk w.skel w.forest n path ≡ r → fault_of r ≡ None → space_of w (place_or_nowhere r).mount ≡ n
+    go (Ok p) is none = let q = (walked w n h path p is).0 in space_is w p.mount q.0 q.1 ∙ q.2
+    go (Err f) is none = absurd (cc)

@@ -1,0 +1,348 @@
+-- Where copies of a source tree come to stand, a contained namespace stays contained, and what happens in it stays there.
+use Rattle.std.proofs.Common.{◌≡◌, ◌≢◌, ◌⊎◌, ℕ, ◌<◌, ◌≤◌, true, false, cond, ◌==◌, ◌&&◌, eqb, eqb-true, eq-eqb, List, [], ◌++◌, map, Option, Some, None, refl, sym, ap, ◌∙◌, subst, inl, inr, arith, append-nil}
+use Rattle.std.specs.Prelude.{Bool, not, unwrap_or}
+use Rattle.std.specs.List.{filter, find, list_any}
+use Rattle.std.specs.Option.{option_map, option_map_or}
+use Rattle.std.proofs.lemmas.Bool.{ne_eqb}
+use Rattle.std.proofs.lemmas.List.Elements.{filter-append}
+use Rattle.mt_skel.specs.Keyed.{rises}
+use Rattle.mt_skel.specs.Skeleton.{holds}
+use Rattle.mt_skel.proofs.KeyedLaws.{row_at-key}
+use Rattle.mt_skel.proofs.ElementLaws.{In, in_append, in_right, in_filter, in_any, any_in, in_row, in_map, in_flat, in_flatted, in_mapped, find_in}
+use Rattle.mt_skel.proofs.MiddleLaws.{and_first, and_second}
+use Rattle.mt_mounts.specs.declared.mount.Mount.{Mount}
+use Rattle.mt_mounts.specs.declared.mount.Place.{Place}
+use Rattle.mt_mounts.specs.Forest.{id_of, mount_at, is_at, in_space}
+use Rattle.mt_peers.specs.declared.state.State.{State}
+use Rattle.mt_peers.specs.Peers.{Peer, mount_of, state_at}
+use Rattle.mt_peers.specs.Masters.{reaches, groups_up}
+use Rattle.mt_peers.proofs.MemberLaws.{named, some-is}
+use Rattle.mt_peers.proofs.ClosedLaws.{reaches-self}
+use Rattle.mt_propagate.specs.World.{WorldView, state_of, group_of, space_of, root_dir, private}
+use Rattle.mt_propagate.specs.WellFormed.{IsWellFormed}
+use Rattle.mt_propagate.specs.Receivers.{gets_from, propagates_to, hits}
+use Rattle.mt_propagate.specs.Copies.{Source, MountCopy, targets, all_copies, new_copies, copy_id}
+use Rattle.mt_propagate.specs.Groups.{GroupKey, home, key_group, is_new_key, master_key, copy_state}
+use Rattle.mt_propagate.specs.Places.{copy_of, new_mounts, relocated, made_way, stack_end}
+use Rattle.mt_propagate.specs.Copied.{copied, regrouped, is_moved}
+use Rattle.mt_propagate.specs.Sound.{IsSource, IsDestination}
+use Rattle.mt_propagate.specs.Contained.{IsContained, IsSameOutside, IsLocal}
+use Rattle.mt_propagate.proofs.ContainLaws.{hit_contained}
+use Rattle.mt_propagate.proofs.ContainedLaws.{group-is, master-is, contained}
+use Rattle.mt_propagate.proofs.ListedLaws.{relocated-id}
+use Rattle.mt_propagate.proofs.WalkLaws.{stands_at}
+use Rattle.mt_propagate.proofs.JoinLaws.{state_row}
+use Rattle.mt_propagate.proofs.RowLaws.{row-mapped, row-first, all-each, found-each, part-mapped, none-picked}
+use Rattle.mt_propagate.proofs.ShownLaws.{mount-state}
+use Rattle.mt_propagate.proofs.KeyLaws.{group_known, master_known, old_low, key_at, copy_in, in_copies, state-unshared, state-shared, at_home, nearest, above_from, master_by_cases, key_in, new_number, old_key}
+use Rattle.mt_propagate.proofs.CopyRowLaws.{state_mount, state_at_mount, space_is}
+use Rattle.mt_propagate.proofs.MovedLaws.{source_kept}
+
+module _ (w : WorldView) (h : IsWellFormed w) (src : Source) (dest : Place) (s : IsSource w src dest) (d : IsDestination w dest) (near : IsLocal w src dest) where
+  abbrev mounts : List Mount
+  mounts = map (relocated w src dest) w.forest ++ new_mounts w src dest
+
+  abbrev new_peer : MountCopy → Peer
+  new_peer c = record { mount = copy_id w src dest c.target c.source; state = copy_state w src dest c }
+
+  abbrev peers : List Peer
+  peers = map (regrouped w src dest) w.peering.peers ++ map new_peer (new_copies w src dest)
+
+  -- the namespace that a mount is in afterwards
+  abbrev space : ℕ → ℕ
+  space i = unwrap_or (option_map (λ (m : Mount). m.space) (mount_at mounts i)) 0
+
+  mounts_rise : rises id_of mounts ≡ true
+  unfolding copied
+  mounts_rise = (source_kept w h src dest s d).forest.rising
+
+  peers_rise : rises mount_of peers ≡ true
+  unfolding copied
+  peers_rise = (source_kept w h src dest s d).peering.rising
+
+  -- a mount that was there stays in its namespace
+  relocated-space : (m : Mount) → (relocated w src dest m).space ≡ m.space
+  relocated-space m = go (src.moved && (m.id == src.top.id)) (made_way w src dest m)
+    where
+      go : (b : Bool) (o : Option ℕ) → (cond b (record m { place = Some dest }) (option_map_or (λ t. record m { place = Some (stack_end w src dest t) }) o m)).space ≡ m.space
+      go true o = refl
+      go false None = refl
+      go false (Some t) = refl
+
+  old-space : (i : ℕ) (q : Mount) → mount_at w.forest i ≡ Some q → space i ≡ space_of w i
+  old-space i q e =
+      ap (λ o. unwrap_or (option_map (λ (m : Mount). m.space) o) 0) (row-first id_of (map (relocated w src dest) w.forest) (new_mounts w src dest) i (relocated w src dest q) (row-mapped id_of (relocated w src dest) (relocated-id w src dest) w.forest i q e))
+      ∙ relocated-space q ∙ sym (space_is w i q e)
+
+  -- a copy is in the namespace of its target
+  new-space : (t : ℕ) (m : Mount) → In t (cond src.moved (hits w dest) (targets w src dest)) → In m src.mounts → space (copy_id w src dest t m.id) ≡ space_of w t
+  new-space t m e f =
+      let here : In (copy_of w src dest t m) (new_mounts w src dest) =
+      in_flatted (λ t. map (copy_of w src dest t) src.mounts) (copy_of w src dest t m) t (cond src.moved (hits w dest) (targets w src dest)) e (in_mapped (copy_of w src dest t) m src.mounts f) in
+      ap (λ o. unwrap_or (option_map (λ (m : Mount). m.space) o) 0) (in_row id_of mounts (copy_of w src dest t m) mounts_rise (in_right (copy_of w src dest t m) (map (relocated w src dest) w.forest) (new_mounts w src dest) here))
+
+  -- a source mount that is there is in the namespace of the place
+  near-mount : (m q : Mount) (i : ℕ) → In m src.mounts → m.id ≡ i → mount_at w.forest i ≡ Some q → q.space ≡ space_of w dest.mount
+  near-mount m q i e same f = near i m q (ap (mount_at src.mounts) (sym same) ∙ in_row id_of src.mounts m s.tree.rising e) f
+
+  near-space : (m q : Mount) (i : ℕ) → In m src.mounts → m.id ≡ i → mount_at w.forest i ≡ Some q → space_of w i ≡ space_of w dest.mount
+  near-space m q i e same f = space_is w i q f ∙ near-mount m q i e same f
+
+  near-group : (m : Mount) (i g : ℕ) → In m src.mounts → m.id ≡ i → group_of w i ≡ Some g → space_of w i ≡ space_of w dest.mount
+  near-group m i g e same is = let q = state_at_mount w h i (state_of w i) (group_known w i g is) in near-space m q.0 i e same q.1
+
+  near-master : (m : Mount) (i g : ℕ) → In m src.mounts → m.id ≡ i → (state_of w i).master ≡ Some g → space_of w i ≡ space_of w dest.mount
+  near-master m i g e same is = let q = state_at_mount w h i (state_of w i) (master_known w i g is) in near-space m q.0 i e same q.1
+
+  -- each state is one that was there, or that of a copy
+  abbrev Row : ℕ → State → Type 0
+  Row i t = ((state_at w.peering.peers i ≡ Some t) × (space i ≡ space_of w i)) ⊎ ((c : MountCopy) × In c (all_copies w src dest) × (t ≡ copy_state w src dest c) × (space i ≡ space_of w c.target))
+
+  moving : (i : ℕ) → is_moved w src dest i ≡ true → (m : Mount) × In m src.mounts × (m.id ≡ i)
+  moving i e =
+      let m = in_any (λ (m : Mount). m.id == i) src.mounts (and_second src.moved (list_any (λ (m : Mount). m.id == i) src.mounts) e) in
+      (m.0, m.1, eqb-true m.0.id i m.2)
+
+  old-row : (x : Peer) → In x w.peering.peers → Row (regrouped w src dest x).mount (regrouped w src dest x).state
+  old-row x e = go (is_moved w src dest x.mount) refl
+    where
+      place_copy : MountCopy
+      place_copy = record { target = dest.mount; source = x.mount }
+
+      q : (q : Mount) × (mount_at w.forest x.mount ≡ Some q)
+      q = state_mount w h x e
+
+      go : (b : Bool) → is_moved w src dest x.mount ≡ b → Row (cond b (record { mount = x.mount; state = copy_state w src dest (record { target = dest.mount; source = x.mount }) }) x).mount (cond b (record { mount = x.mount; state = copy_state w src dest (record { target = dest.mount; source = x.mount }) }) x).state
+      go false is = inl (ap (option_map (λ (e : Peer). e.state)) (in_row mount_of w.peering.peers x h.peering.rising e), old-space x.mount q.0 q.1)
+      go true is =
+          let m = moving x.mount is in
+          inr (record { target = dest.mount; source = x.mount }, in_copies w h.peering src dest dest.mount x.mount (inl refl) m.0 m.1 m.2, refl, old-space x.mount q.0 q.1 ∙ near-space m.0 q.0 x.mount m.1 m.2 q.1)
+
+  new-target : (t : ℕ) (b : Bool) → In t (cond b (hits w dest) (targets w src dest)) → In t (targets w src dest)
+  new-target t true e = inr e
+  new-target t false e = e
+
+  new-row : (c : MountCopy) → In c (new_copies w src dest) → Row (new_peer c).mount (new_peer c).state
+  new-row c e =
+      let t = in_flat (λ t. map (λ (m : Mount). record { target = t; source = m.id }) src.mounts) c (cond src.moved (hits w dest) (targets w src dest)) e in
+      let m = in_map (λ (m : Mount). record { target = t.0; source = m.id }) c src.mounts t.2 in
+      subst (λ (c : MountCopy). Row (new_peer c).mount (new_peer c).state) m.2
+      (inr (record { target = t.0; source = m.0.id }, in_copies w h.peering src dest t.0 m.0.id (new-target t.0 src.moved t.1) m.0 m.1 refl, refl, new-space t.0 m.0 t.1 m.1))
+
+  rows : (i : ℕ) (t : State) → state_at peers i ≡ Some t → Row i t
+  rows i t e =
+      let r = state_row peers i t e in
+      let k = row_at-key mount_of i peers r.0 r.2 in
+      subst (λ t. Row i t) r.3 (subst (λ j. Row j r.0.state) k (elim (in_append r.0 (map (regrouped w src dest) w.peering.peers) (map new_peer (new_copies w src dest)) r.1) [
+        | inl old ↦ let x = in_map (regrouped w src dest) r.0 w.peering.peers old in subst (λ (e : Peer). Row e.mount e.state) x.2 (old-row x.0 x.1)
+        | inr new ↦ let c = in_map new_peer r.0 (new_copies w src dest) new in subst (λ (e : Peer). Row e.mount e.state) c.2 (new-row c.0 c.1)
+      ]))
+
+  module _ (n : ℕ) (c : IsContained n w) where
+    -- a place in the namespace has its targets there
+    hit-inside : (t : ℕ) → In t (hits w dest) → space_of w dest.mount ≡ n → space_of w t ≡ n
+    hit-inside t e here = hit_contained n w c h.peering.rising dest t e here
+
+    target-inside : (t : ℕ) → In t (targets w src dest) → space_of w dest.mount ≡ n → space_of w t ≡ n
+    target-inside t e here = elim e [ inl same ↦ ap (space_of w) (sym same) ∙ here | inr hit ↦ hit-inside t hit here ]
+
+    -- a place without group has no targets but itself
+    target-alone : (t : ℕ) → home w src dest ≡ None → In t (targets w src dest) → space_of w t ≡ space_of w dest.mount
+    target-alone t none e = elim e [
+      | inl same ↦ ap (space_of w) (sym same)
+      | inr hit ↦
+          let p = (in_filter (λ j. holds w.skel (root_dir w j) dest.dir) t (propagates_to w dest.mount) hit).0 in
+          absurd (subst (λ o. In t (option_map_or (λ g. filter (λ j. not (dest.mount == j)) (map mount_of (filter (gets_from w.peering.peers g) w.peering.peers))) o [])) none p)
+    ]
+
+    -- a state with a group: like one that was there, or of a new group
+    abbrev Grouped : ℕ → ℕ → Type 0
+    Grouped i g =
+        ((k : ℕ) × (group_of w k ≡ Some g) × (space i ≡ n → space_of w k ≡ n) × (space_of w k ≡ n → space i ≡ n))
+        ⊎ ((u : ℕ) × (k : GroupKey) × (key_at w h.peering src dest g ≡ Some k) × (group_of w u ≡ Some k.group) × (w.peering.next ≤ g) × (space i ≡ space_of w u))
+
+    grouped : (i : ℕ) (t : State) (g : ℕ) → state_at peers i ≡ Some t → t.group ≡ Some g → Grouped i g
+    grouped i t g e is = elim (rows i t e) [
+      | inl old ↦ inl (i, group-is w i g t old.0 is, λ q. sym old.1 ∙ q, λ q. old.1 ∙ q)
+      | inr new ↦ by new.0 new.1 new.2 new.3 (home w src dest) refl
+    ]
+      where
+        at : (x : MountCopy) → In x (all_copies w src dest) → space i ≡ space_of w x.target → (a : ℕ) → group_of w x.target ≡ Some a → key_group w src dest (record { group = a; source = x.source }) ≡ g
+            → (b : Bool) → is_new_key w (home w src dest) (record { group = a; source = x.source }) ≡ b → Grouped i g
+        at x m sp a there same true new =
+            let k : GroupKey = record { group = a; source = x.source } in
+            let r = new_number w h.peering src dest k (key_in w h.peering src dest k x m (inl (ap (option_map (λ v. record { group = v; source = x.source })) there)) new) new in
+            inr (x.target, k, ap (key_at w h.peering src dest) (sym same) ∙ r.2, there, subst (λ v. w.peering.next ≤ v) same r.0, sp)
+        at x m sp a there same false old =
+            let r = old_key w h.peering src dest (record { group = a; source = x.source }) old in
+            let o = copy_in w h.peering src dest x m in
+            let own : group_of w dest.mount ≡ Some a = named (group_of w dest.mount) a r.0 in
+            let gs : group_of w x.source ≡ Some g = r.1 ∙ ap (λ v. Some v) same in
+            let by_place = near-group o.1 x.source g o.2 o.3 gs in
+            inl (x.source, gs, λ q. by_place ∙ c.groups x.target dest.mount a there own (sym sp ∙ q), λ q. sp ∙ c.groups dest.mount x.target a own there (sym by_place ∙ q))
+
+        shared : (x : MountCopy) → In x (all_copies w src dest) → space i ≡ space_of w x.target → (o : Option ℕ) → group_of w x.target ≡ o → option_map (key_group w src dest) (option_map (λ a. record { group = a; source = x.source }) o) ≡ Some g → Grouped i g
+        shared x m sp None there f = absurd (cc)
+        shared x m sp (Some a) there f = at x m sp a there (let v : key_group w src dest (record { group = a; source = x.source }) ≡ g = cc in v) (is_new_key w (home w src dest) (record { group = a; source = x.source })) refl
+
+        by : (x : MountCopy) → In x (all_copies w src dest) → t ≡ copy_state w src dest x → space i ≡ space_of w x.target → (o : Option ℕ) → home w src dest ≡ o → Grouped i g
+        by x m same sp None there =
+            let o = copy_in w h.peering src dest x m in
+            let gs : group_of w x.source ≡ Some g = ap (λ (s : State). s.group) (sym (same ∙ state-unshared w h.peering src dest x there)) ∙ is in
+            let eq : space i ≡ space_of w x.source = sp ∙ target-alone x.target there o.0 ∙ sym (near-group o.1 x.source g o.2 o.3 gs) in
+            inl (x.source, gs, λ q. sym eq ∙ q, λ q. eq ∙ q)
+        by x m same sp (Some q) there = shared x m sp (group_of w x.target) refl (ap (λ (s : State). s.group) (sym (same ∙ state-shared w h.peering src dest x q there)) ∙ is)
+
+    -- a state with a master: like one that was there, or a slave of a new group
+    abbrev Mastered : ℕ → ℕ → Type 0
+    Mastered i g =
+        ((k : ℕ) × (((state_of w k).master ≡ Some g) ⊎ (group_of w k ≡ Some g)) × (space_of w k ≡ n → space i ≡ n))
+        ⊎ ((k : GroupKey) × (key_at w h.peering src dest g ≡ Some k) × (w.peering.next ≤ g) × ((u : ℕ) → group_of w u ≡ Some k.group → space_of w u ≡ n → space i ≡ n))
+
+    mastered : (i : ℕ) (t : State) (g : ℕ) → state_at peers i ≡ Some t → t.master ≡ Some g → Mastered i g
+    mastered i t g e is = elim (rows i t e) [
+      | inl old ↦ inl (i, inl (master-is w i g t old.0 is), λ q. old.1 ∙ q)
+      | inr new ↦ by new.0 new.1 new.2 new.3 (home w src dest) refl
+    ]
+      where
+        -- a copy below a copy of the same source
+        at : (x : MountCopy) → In x (all_copies w src dest) → space i ≡ space_of w x.target → (a m : ℕ) → at_home w src dest x.target ≡ false → nearest w src dest x.target ≡ Some a
+            → (state_of w x.target).master ≡ Some m → In a (groups_up w.peering.peers m) → key_group w src dest (record { group = a; source = x.source }) ≡ g
+            → (b : Bool) → is_new_key w (home w src dest) (record { group = a; source = x.source }) ≡ b → Mastered i g
+        at x e sp a m off close up chain same true new =
+            let k : GroupKey = record { group = a; source = x.source } in
+            let mk : master_key w (home w src dest) (hits w dest) x ≡ Some k = (λ i. cond (off i) None (option_map (λ v. record { group = v; source = x.source }) (close i))) in
+            let r = new_number w h.peering src dest k (key_in w h.peering src dest k x e (inr mk) new) new in
+            let far : reaches w.peering.peers m a ≡ true = any_in (λ k. eqb k a) a (groups_up w.peering.peers m) chain (eq-eqb a a refl) in
+            inr (k, ap (key_at w h.peering src dest) (sym same) ∙ r.2, subst (λ v. w.peering.next ≤ v) same r.0, λ u there q. sp ∙ c.chains x.target u m a up there q far)
+        at x e sp a m off close up chain same false old =
+            let r = old_key w h.peering src dest (record { group = a; source = x.source }) old in
+            let o = copy_in w h.peering src dest x e in
+            let gs : group_of w x.source ≡ Some g = r.1 ∙ ap (λ v. Some v) same in
+            inl (x.source, inr gs, λ q. sp ∙ target-inside x.target o.0 (sym (near-group o.1 x.source g o.2 o.3 gs) ∙ q))
+
+        by : (x : MountCopy) → In x (all_copies w src dest) → t ≡ copy_state w src dest x → space i ≡ space_of w x.target → (o : Option ℕ) → home w src dest ≡ o → Mastered i g
+        by x m same sp None there =
+            let o = copy_in w h.peering src dest x m in
+            let ms : (state_of w x.source).master ≡ Some g = ap (λ (s : State). s.master) (sym (same ∙ state-unshared w h.peering src dest x there)) ∙ is in
+            inl (x.source, inl ms, λ q. sp ∙ target-alone x.target there o.0 ∙ sym (near-master o.1 x.source g o.2 o.3 ms) ∙ q)
+        by x m same sp (Some q) there =
+            let o = copy_in w h.peering src dest x m in
+            elim (master_by_cases w h.peering src dest (at_home w src dest x.target) (nearest w src dest x.target) x.source g (ap (λ (s : State). s.master) (sym (same ∙ state-shared w h.peering src dest x q there)) ∙ is)) [
+              | inl ms ↦ inl (x.source, inl ms, λ q. sp ∙ target-inside x.target o.0 (sym (near-master o.1 x.source g o.2 o.3 ms) ∙ q))
+              | inr other ↦
+                  let a = above_from w h.peering src dest (state_of w x.target).master other.0 other.2 in
+                  at x m sp other.0 a.0 other.1 other.2 a.1 a.2 (sym other.3) (is_new_key w (home w src dest) (record { group = other.0; source = x.source })) refl
+            ]
+
+    old-group : (k g : ℕ) → group_of w k ≡ Some g → g < w.peering.next
+    old-group k g e = h.peering.below k (state_of w k) g (group_known w k g e) e
+
+    old-either : (k g : ℕ) → ((state_of w k).master ≡ Some g) ⊎ (group_of w k ≡ Some g) → g < w.peering.next
+    old-either k g (inl m) = old_low w h.peering src dest k g m
+    old-either k g (inr e) = old-group k g e
+
+    -- a slave or a member of a group of the namespace is in it
+    drawn : (k j g : ℕ) → ((state_of w k).master ≡ Some g) ⊎ (group_of w k ≡ Some g) → group_of w j ≡ Some g → space_of w j ≡ n → space_of w k ≡ n
+    drawn k j g (inl m) e q = c.chains k j g g m e q (reaches-self w.peering.peers g)
+    drawn k j g (inr s) e q = c.groups j k g e s q
+
+    pub copied-contained : IsContained n (copied w src dest)
+    unfolding copied
+    copied-contained = contained n (copied w src dest) peers_rise (record {
+      groups = λ i j s t g ei ej gi gj q. elim (grouped i s g ei gi) [
+        | inl a ↦ elim (grouped j t g ej gj) [
+          | inl b ↦ a.3 (c.groups b.0 a.0 g b.1 a.1 (b.2 q))
+          | inr b ↦ absurd (let l = old-group a.0 g a.1 in omega (arith, l, b.4))
+        ]
+        | inr a ↦ elim (grouped j t g ej gj) [
+          | inl b ↦ absurd (let l = old-group b.0 g b.1 in omega (arith, l, a.4))
+          | inr b ↦
+              let same : b.1.group ≡ a.1.group = ap (λ (k : GroupKey). k.group) (some-is b.1 a.1 (sym b.2 ∙ a.2)) in
+              a.5 ∙ c.groups b.0 a.0 b.1.group b.3 (a.3 ∙ ap (λ v. Some v) (sym same)) (sym b.5 ∙ q)
+        ]
+      ];
+      masters = λ i j s t g ei ej mi gj q. elim (mastered i s g ei mi) [
+        | inl a ↦ elim (grouped j t g ej gj) [
+          | inl b ↦ a.2 (drawn a.0 b.0 g a.1 b.1 (b.2 q))
+          | inr b ↦ absurd (let l = old-either a.0 g a.1 in omega (arith, l, b.4))
+        ]
+        | inr a ↦ elim (grouped j t g ej gj) [
+          | inl b ↦ absurd (let l = old-group b.0 g b.1 in omega (arith, l, a.2))
+          | inr b ↦
+              let same : b.1.group ≡ a.0.group = ap (λ (k : GroupKey). k.group) (some-is b.1 a.0 (sym b.2 ∙ a.1)) in
+              a.3 b.0 (b.3 ∙ ap (λ v. Some v) same) (sym b.5 ∙ q)
+        ]
+      ];
+    })
+
+    -- what happens at a place of the namespace
+    module _ (here : space_of w dest.mount ≡ n) where
+      top-inside : (m : Mount) → mount_at w.forest m.id ≡ Some m → src.moved ≡ true → m.id ≡ src.top.id → m.space ≡ n
+      top-inside m e moved same = near m.id src.top m (ap (mount_at src.mounts) same ∙ s.tree.top_there) e ∙ here
+
+      way-inside : (m : Mount) (t : ℕ) → mount_at w.forest m.id ≡ Some m → find (λ t. is_at (record { mount = t; dir = dest.dir }) m) (hits w dest) ≡ Some t → m.space ≡ n
+      way-inside m t e is =
+          let f = find_in (λ t. is_at (record { mount = t; dir = dest.dir }) m) (hits w dest) t is in
+          let p = h.forest.placed m.id m (record { mount = t; dir = dest.dir }) e (stands_at (record { mount = t; dir = dest.dir }) m f.1) in
+          sym p.2 ∙ sym (space_is w t p.0 p.1) ∙ hit-inside t f.0 here
+
+      stays : (m : Mount) → mount_at w.forest m.id ≡ Some m → m.space ≢ n → relocated w src dest m ≡ m
+      stays m e off = go (src.moved && (m.id == src.top.id)) refl
+        where
+          way : (o : Option ℕ) → find (λ t. is_at (record { mount = t; dir = dest.dir }) m) (hits w dest) ≡ o → option_map_or (λ t. record m { place = Some (stack_end w src dest t) }) o m ≡ m
+          way None is = refl
+          way (Some t) is = absurd (off (way-inside m t e is))
+
+          go : (b : Bool) → (src.moved && (m.id == src.top.id)) ≡ b
+              → cond b (record m { place = Some dest }) (option_map_or (λ t. record m { place = Some (stack_end w src dest t) }) (cond b None (find (λ t. is_at (record { mount = t; dir = dest.dir }) m) (hits w dest))) m) ≡ m
+          go true is = absurd (off (top-inside m e (and_first src.moved (m.id == src.top.id) is) (eqb-true m.id src.top.id (and_second src.moved (m.id == src.top.id) is))))
+          go false is = way (find (λ t. is_at (record { mount = t; dir = dest.dir }) m) (hits w dest)) refl
+
+      new-inside : (t : ℕ) (b : Bool) → In t (cond b (hits w dest) (targets w src dest)) → space_of w t ≡ n
+      new-inside t b e = target-inside t (new-target t b e) here
+
+      same-mounts : (k : ℕ) → k ≢ n → filter (in_space k) mounts ≡ filter (in_space k) w.forest
+      same-mounts k off =
+          filter-append (in_space k) (map (relocated w src dest) w.forest) (new_mounts w src dest)
+          ∙ (λ i. old i ++ new i) ∙ append-nil (filter (in_space k) w.forest)
+        where
+          apart : (m : Mount) → in_space k m ≡ true → m.space ≢ n
+          apart m is same = off (sym (eqb-true m.space k is) ∙ same)
+
+          old : filter (in_space k) (map (relocated w src dest) w.forest) ≡ filter (in_space k) w.forest
+          old =
+              part-mapped (in_space k) (relocated w src dest) w.forest
+              (all-each (λ m. mount_at w.forest m.id ≡ Some m) (λ m. (in_space k (relocated w src dest m) ≡ in_space k m) × (in_space k m ≡ true → relocated w src dest m ≡ m))
+              (λ m e. (ap (λ v. v == k) (relocated-space m), λ is. stays m e (apart m is))) w.forest (found-each id_of w.forest h.forest.rising))
+
+          new : filter (in_space k) (new_mounts w src dest) ≡ []
+          new = none-picked (in_space k) (new_mounts w src dest) (λ a e.
+              let t = in_flat (λ t. map (copy_of w src dest t) src.mounts) a (cond src.moved (hits w dest) (targets w src dest)) e in
+              let m = in_map (copy_of w src dest t.0) a src.mounts t.2 in
+              let there : a.space ≡ n = ap (λ (m : Mount). m.space) (sym m.2) ∙ new-inside t.0 src.moved t.1 in
+              ne_eqb a.space k (λ same. off (sym same ∙ there)))
+
+      regrouped-mount : (x : Peer) → mount_of (regrouped w src dest x) ≡ mount_of x
+      regrouped-mount x = go (is_moved w src dest x.mount)
+        where
+          go : (b : Bool) → mount_of (cond b (record { mount = x.mount; state = copy_state w src dest (record { target = dest.mount; source = x.mount }) }) x) ≡ x.mount
+          go true = refl
+          go false = refl
+
+      same-state : (i : ℕ) (q : Mount) → mount_at w.forest i ≡ Some q → q.space ≢ n → unwrap_or (state_at peers i) private ≡ state_of w i
+      same-state i q e off =
+          let t = mount-state w.forest w.peering.peers i q h.same_mounts e in
+          let r = state_row w.peering.peers i t.0 t.1 in
+          let key = row_at-key mount_of i w.peering.peers r.0 r.2 in
+          let row = row-first mount_of (map (regrouped w src dest) w.peering.peers) (map new_peer (new_copies w src dest)) i (regrouped w src dest r.0) (row-mapped mount_of (regrouped w src dest) regrouped-mount w.peering.peers i r.0 r.2) in
+          ap (λ o. unwrap_or (option_map (λ (e : Peer). e.state) o) private) (row ∙ ap (λ v. Some v) (unmoved r.0 key (is_moved w src dest r.0.mount) refl))
+          ∙ sym (ap (λ o. unwrap_or (option_map (λ (e : Peer). e.state) o) private) r.2)
+        where
+          unmoved : (x : Peer) → x.mount ≡ i → (b : Bool) → is_moved w src dest x.mount ≡ b → cond b (record { mount = x.mount; state = copy_state w src dest (record { target = dest.mount; source = x.mount }) }) x ≡ x
+          unmoved x key false is = refl
+          unmoved x key true is = absurd (let m = moving x.mount is in off (near-mount m.0 q i m.1 (m.2 ∙ key) e ∙ here))
+
+      pub copied-outside : IsSameOutside n w (copied w src dest)
+      unfolding copied
+      copied-outside = record { skel = refl; mounts = same-mounts; states = same-state }

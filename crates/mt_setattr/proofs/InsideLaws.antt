@@ -1,0 +1,120 @@
+-- Where mounts are changed, a contained namespace stays contained, and a change in it changes nothing outside.
+use Rattle.std.proofs.Common.{◌≡◌, ◌≢◌, ℕ, Bool, true, false, cond, not, ◌||◌, ◌&&◌, eqb, eqb-true, List, [], ◌∷◌, map, length, Option, Some, None, Ok, refl, sym, ap, subst, ◌∙◌}
+use Rattle.std.specs.Prelude.{unwrap_or}
+use Rattle.std.specs.List.{filter}
+use Rattle.std.specs.Option.{option_map, option_map_or, option_and_then}
+use Rattle.std.proofs.lemmas.Bool.{true≢false}
+use Rattle.mt_skel.specs.declared.fault.Fault.TheVariants.{NotMountRoot, BadAttr}
+use Rattle.mt_skel.specs.Outcome.{refuse_if, fault_of}
+use Rattle.mt_skel.proofs.KeyedLaws.{row_at-map}
+use Rattle.mt_skel.proofs.MiddleLaws.{and_second}
+use Rattle.mt_skel.proofs.OutcomeLaws.{outcome_ok, first_none}
+use Rattle.mt_mounts.specs.declared.mount.Mount.{Mount}
+use Rattle.mt_mounts.specs.declared.mount.Place.{Place}
+use Rattle.mt_mounts.specs.Forest.{id_of, mount_at, in_space, parent, is_below}
+use Rattle.mt_mounts.specs.Walk.{walk}
+use Rattle.mt_mounts.proofs.Walks.{below_stop}
+use Rattle.mt_peers.specs.declared.state.Kind.{Kind}
+use Rattle.mt_peers.specs.Peers.{Peering, state_at}
+use Rattle.mt_peers.specs.Making.{made}
+use Rattle.mt_peers.proofs.ClosedLaws.{IsClosed, same-IsClosed}
+use Rattle.mt_propagate.specs.World.{WorldView, state_of, space_of, private}
+use Rattle.mt_propagate.specs.Named.{place_or_nowhere, is_mount_root}
+use Rattle.mt_propagate.specs.WellFormed.{IsWellFormed}
+use Rattle.mt_propagate.specs.Contained.{IsContained, IsSameOutside}
+use Rattle.mt_propagate.proofs.ContainedLaws.{closed, contained, made-contained, made-state, below-space, ended-inside}
+use Rattle.mt_propagate.proofs.CopyRowLaws.{space_is}
+use Rattle.mt_propagate.proofs.RowLaws.{all-each, found-each, part-mapped}
+use Rattle.mt_setattr.specs.declared.change.Change.{Change}
+use Rattle.mt_setattr.specs.Change.{changed_attrs, changed_mount, clashes, is_chosen, with_change, attributed}
+use Rattle.mt_setattr.proofs.ChangeLaws.{change-kept}
+
+module _ (w : WorldView) (h : IsWellFormed w) (c : Change) (i : ℕ) (n : ℕ) (a : IsContained n w) where
+  abbrev change : Mount → Mount
+  change = changed_mount c (is_chosen w c i)
+
+  abbrev remade : Option Kind → Peering
+  remade o = option_map_or (λ k. made k (is_chosen w c i) w.peering) o w.peering
+
+  -- each mount stays in its namespace
+  same-space : (j : ℕ) → unwrap_or (option_map (λ (m : Mount). m.space) (mount_at (map change w.forest) j)) 0 ≡ space_of w j
+  same-space j = ap (λ o. unwrap_or (option_map (λ (m : Mount). m.space) o) 0) (row_at-map id_of change (λ m. refl) j w.forest) ∙ go (mount_at w.forest j)
+    where
+      go : (o : Option Mount) → unwrap_or (option_map (λ (m : Mount). m.space) (option_map change o)) 0 ≡ unwrap_or (option_map (λ (m : Mount). m.space) o) 0
+      go None = refl
+      go (Some m) = refl
+
+  remade-closed : (o : Option Kind) → IsClosed (λ i. space_of w i ≡ n) (remade o).peers
+  remade-closed None = closed n w a
+  remade-closed (Some k) = made-contained n w h a k (is_chosen w c i)
+
+  -- a contained namespace stays so, wherever the mounts are
+  pub change-contained : IsContained n (with_change w c i)
+  unfolding with_change
+  change-contained =
+      contained n (with_change w c i) (change-kept w h c i).peering.rising
+      (same-IsClosed (λ x. space_of w x ≡ n) (λ x. space_of (with_change w c i) x ≡ n) (remade c.prop).peers (λ j s e. let same = same-space j in (λ q. same ∙ q, λ q. sym same ∙ q)) (remade-closed c.prop))
+
+  module _ (here : space_of w i ≡ n) where
+    -- the chosen mounts that are there are in the namespace
+    chosen-inside : (j : ℕ) (m : Mount) → mount_at w.forest j ≡ Some m → is_chosen w c i j ≡ true → m.space ≡ n
+    chosen-inside j m e is = go (eqb i j) refl is
+      where
+        go : (b : Bool) → eqb i j ≡ b → (b || (c.recursive && is_below w.forest i j)) ≡ true → m.space ≡ n
+        go true same r = sym (space_is w j m e) ∙ ap (space_of w) (sym (eqb-true i j same)) ∙ here
+        go false off r = sym (below-space w h i j m e (and_second c.recursive (is_below w.forest i j) r)) ∙ here
+
+    unchanged : (m : Mount) → mount_at w.forest m.id ≡ Some m → m.space ≢ n → change m ≡ m
+    unchanged m e off = ap (λ b. let y : Mount = record m { attrs = cond b (changed_attrs c m.attrs) m.attrs } in y) (go (is_chosen w c i m.id) refl)
+      where
+        go : (b : Bool) → is_chosen w c i m.id ≡ b → is_chosen w c i m.id ≡ false
+        go true is = absurd (off (chosen-inside m.id m e is))
+        go false is = is
+
+    same-mounts : (k : ℕ) → k ≢ n → filter (in_space k) (map change w.forest) ≡ filter (in_space k) w.forest
+    same-mounts k off =
+        part-mapped (in_space k) change w.forest
+        (all-each (λ m. mount_at w.forest m.id ≡ Some m) (λ m. (in_space k (change m) ≡ in_space k m) × (in_space k m ≡ true → change m ≡ m))
+        (λ m e. (refl, λ is. unchanged m e (λ same. off (sym (eqb-true m.space k is) ∙ same)))) w.forest (found-each id_of w.forest h.forest.rising))
+
+    same-state : (o : Option Kind) (j : ℕ) (m : Mount) → mount_at w.forest j ≡ Some m → m.space ≢ n → unwrap_or (state_at (remade o).peers j) private ≡ state_of w j
+    same-state None j m e off = refl
+    same-state (Some k) j m e off = made-state n w h a k (is_chosen w c i) (λ x is. within x is) j m e off
+      where
+        within : (x : ℕ) → is_chosen w c i x ≡ true → space_of w x ≡ n
+        within x is = go (mount_at w.forest x) refl
+          where
+            -- no mount that is not there is chosen but the named one
+            by : (b : Bool) → eqb i x ≡ b → parent w.forest x ≡ None → (b || (c.recursive && is_below w.forest i x)) ≡ true → space_of w x ≡ n
+            by true same up r = ap (space_of w) (sym (eqb-true i x same)) ∙ here
+            by false off up r =
+                absurd (true≢false (sym (and_second c.recursive (is_below w.forest i x) r) ∙ below_stop w.forest i (length w.forest) x up ∙ ap (λ b. b || false) off))
+
+            go : (o : Option Mount) → mount_at w.forest x ≡ o → space_of w x ≡ n
+            go None at = by (eqb i x) refl (ap (option_and_then (λ m. option_map (λ (p : Place). p.mount) m.place)) at) is
+            go (Some q) at = space_is w x q at ∙ chosen-inside x q at is
+
+    -- nothing changes outside
+    pub change-outside : IsSameOutside n w (with_change w c i)
+    unfolding with_change
+    change-outside = record { skel = refl; mounts = same-mounts; states = same-state c.prop }
+
+-- so it is where a change was accepted, in any namespace and in the contained one
+pub attributed-contained : (k : ℕ) (w : WorldView) (n : ℕ) (path : List (List ℕ)) (c : Change) (v : WorldView) → IsWellFormed w → IsContained k w → attributed w n path c ≡ Ok v → IsContained k v
+attributed-contained k w n path c v h a e =
+    let p = place_or_nowhere (walk w.skel w.forest n path) in
+    let lost = fault_of (walk w.skel w.forest n path) in
+    let unnamed = refuse_if (not (is_mount_root w p)) NotMountRoot in
+    let bad = refuse_if (clashes c) BadAttr in
+    let ok = outcome_ok (lost ∷ unnamed ∷ bad ∷ []) (with_change w c p.mount) v e in
+    subst (IsContained k) ok.0 (change-contained w h c p.mount k a)
+
+pub attributed-outside : (w : WorldView) (n : ℕ) (path : List (List ℕ)) (c : Change) (v : WorldView) → IsWellFormed w → IsContained n w → attributed w n path c ≡ Ok v → IsSameOutside n w v
+attributed-outside w n path c v h a e =
+    let p = place_or_nowhere (walk w.skel w.forest n path) in
+    let lost = fault_of (walk w.skel w.forest n path) in
+    let unnamed = refuse_if (not (is_mount_root w p)) NotMountRoot in
+    let bad = refuse_if (clashes c) BadAttr in
+    let ok = outcome_ok (lost ∷ unnamed ∷ bad ∷ []) (with_change w c p.mount) v e in
+    let one = first_none lost (unnamed ∷ bad ∷ []) ok.1 in
+    subst (IsSameOutside n w) ok.0 (change-outside w h c p.mount n a (ended-inside w h n path one.0))
