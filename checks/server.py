@@ -12,7 +12,6 @@ import argparse
 import contextlib
 import os
 import re
-import socket
 import stat
 import subprocess
 import tempfile
@@ -21,8 +20,9 @@ import time
 
 import cases
 from running import MOST_SECONDS, check, difference, failures, shown
-from serving import SESSIONS, START, STOP, Broken, Client, Server
+from serving import START, STOP, Broken, Client, Server, send_input
 from soak import check_soak
+from stopping import check_cut_off, check_stop
 
 # The limit of a line and what may follow it without a line end.
 LINE = 8_192
@@ -102,14 +102,6 @@ def check_scripts(program, mountctl):
         check(f"case {name} as a script: its status", ended == (int(refused), b""), repr(ended))
 
 
-def send_input(client, text, rests=False):
-    """Sends the whole input and its end, or no end where the session rests; a session may end before."""
-    with contextlib.suppress(ConnectionError, OSError):
-        client.socket.sendall(text)
-        if not rests:
-            client.socket.shutdown(socket.SHUT_WR)
-
-
 def is_refused(program, path):
     done = subprocess.run([program, path], stdin=subprocess.DEVNULL, capture_output=True, timeout=MOST_SECONDS)
     return (done.returncode, done.stdout, done.stderr) == (1, b"", b"mountd: cannot listen\n")
@@ -187,32 +179,6 @@ def check_pipeline(program):
         wanted = [b"ok %d" % (n + 1) for n in range(256)] + [b"no NoNamespace"] * 744
         check("1,000 lines at once", found == wanted)
         check_stopped_by("1,000 lines at once", server, client)
-
-
-def check_stop(program):
-    """A stop ends all sessions, those that wait for input, follow or do not read too."""
-    with Server(program) as server, contextlib.ExitStack() as stack:
-        clients = [stack.enter_context(server.free()) for _ in range(SESSIONS)]
-        check("32 sessions", server.status("Threads") == SESSIONS + 1, str(server.status("Threads")))
-        for line in START:
-            clients[0].ask(line)
-        clients[1].ask(b"watch all")
-        clients[1].send(b"follow 8")
-        clients[2].send(b"show 1", b"sho")
-        check("an answer before a stop", len(clients[2].answer(b"show 1")) == 2)
-        sender = threading.Thread(target=send_input, args=(clients[3], b"show 1\n" * 500_000))
-        sender.start()
-        time.sleep(0.3)
-        start = time.monotonic()
-        check_stopped_by("a stop", server, clients[0])
-        took = time.monotonic() - start
-        check("how long a stop takes", took < 3, f"{took:.2f} s")
-        sender.join(STOP)
-        check("a client that does not read", not sender.is_alive())
-        check("a follower at a stop", clients[1].all() == (b"no Stopped\n", True))
-        check("half a line at a stop", clients[2].all() == (b"no BadLine\n", True))
-        check("sessions that wait at a stop", {client.all() for client in clients[4:]} == {(b"", True)})
-        check("the socket is gone", not os.path.exists(server.path))
 
 
 def check_gone(program):
@@ -338,6 +304,7 @@ PARTS = {
     "cases": check_cases,
     "pipeline": check_pipeline,
     "stop": check_stop,
+    "cut off": check_cut_off,
     "gone": check_gone,
     "lag": check_lag,
     "many": check_many,

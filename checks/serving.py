@@ -13,8 +13,12 @@ from running import MOST_SECONDS, NO_COUNT, COUNTS, shown
 # The most sessions at once.
 SESSIONS = 32
 
-# How long a stop may take, in seconds: sessions that do not end by themselves are cut off after one.
-STOP = 5
+# How long a session may be idle behind a stop, and how long it may go on, in seconds.
+IDLE = 1
+LATEST = 10
+
+# How long a stop may take, in seconds: sessions that do not end by themselves are cut off after ten.
+STOP = LATEST + 5
 
 # Two namespaces that are peers, so that a command in one posts to both.
 START = [
@@ -88,6 +92,14 @@ class Client:
     def ask(self, request):
         self.send(request)
         return self.answer(request)
+
+
+def send_input(client, text, rests=False):
+    """Sends the whole input and its end, or no end where the session rests; a session may end before."""
+    with contextlib.suppress(ConnectionError, OSError):
+        client.socket.sendall(text)
+        if not rests:
+            client.socket.shutdown(socket.SHUT_WR)
 
 
 class Server:

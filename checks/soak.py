@@ -1,4 +1,5 @@
-"""Many sessions at once: commands, watchers, and mirrors of the other program."""
+"""Many sessions at once: commands, watchers, and mirrors of the other program; and a stop beside them."""
+import contextlib
 import random
 import re
 import subprocess
@@ -22,6 +23,17 @@ MIRRORS = SESSIONS // 4
 
 # How many posts a last mirror follows, once all commands have come.
 LAST_POSTS = 50
+
+# How many posts the queue of a watcher holds: those of all mounts and unmounts beside the stop.
+QUEUE = 64
+
+# What watchers ask behind the stop, one these requests and another those: each gets all that waits for it.
+LAST = [
+    [b"close"],
+    [b"take 1", b"take 2", b"close"],
+    [b"take 1024", b"take 1024", b"close"],
+    [b"follow 1048576", b"close"],
+]
 
 
 class Mirror:
@@ -58,6 +70,64 @@ class Mirror:
         """What `show` answers where nothing has come since."""
         table = self.tables[space]
         return [b"ok %d %d" % (len(table), self.numbers[space]), *(table[mount] for mount in sorted(table))]
+
+
+class Stop:
+    """A stop beside sessions that mount and unmount, and watchers that have not taken yet."""
+
+    def __init__(self, server, stack):
+        self.server = server
+        self.senders = [stack.enter_context(server.free()) for _ in range(COMMANDS)]
+        self.watchers = [stack.enter_context(server.free()) for _ in range(SESSIONS - COMMANDS - 1)]
+        self.mirrors = [Mirror(client.ask(b"watch all")[1:]) for client in self.watchers]
+        self.taken = [0] * len(self.watchers)
+        self.stopped = threading.Event()
+
+    def send(self, number):
+        """Mounts in both namespaces, and takes that away again, unless the stop comes first."""
+        chance = random.Random(number)
+        path = f"/m{number}"
+        for line in f"mount 1 d {path}", f"umount 1 {path}":
+            time.sleep(chance.uniform(0, 0.01))
+            first = self.senders[number].ask(line.encode())[0]
+            if not re.match(rb"ok|no Stopped$", first):
+                raise Broken(f"beside a stop {line} is answered {shown(first)}")
+
+    def end(self, number):
+        """Takes and closes behind the stop: then each table is the one that is shown."""
+        client, mirror = self.watchers[number], self.mirrors[number]
+        self.stopped.wait(MOST_SECONDS)
+        for request in LAST[number % len(LAST)]:
+            first, *lines = client.ask(request)
+            if request.startswith(b"follow"):
+                first, lines = [first, *lines][-1], [first, *lines][:-1]
+            if not re.match(rb"ok \d+$|no Stopped$", first):
+                raise Broken(f"behind a stop {shown(request)} is answered {shown(first)}")
+            self.taken[number] += mirror.apply(lines)
+        for space in mirror.tables:
+            found = client.ask(b"show %d" % space)
+            if found != mirror.shown(space):
+                raise Broken(f"namespace {space} behind a stop is not as its posts say")
+
+    def run(self):
+        self.send(0)
+        calls = [(self.send, n) for n in range(1, COMMANDS)] + [(self.end, n) for n in range(len(self.watchers))]
+        threads = [threading.Thread(target=guarded, args=("stop", *call)) for call in calls]
+        for thread in threads:
+            thread.start()
+        with self.server.free() as client:
+            check("soak: its stop", client.ask(b"stop") == [b"ok"] and client.line() is None)
+        self.stopped.set()
+        for thread in threads:
+            thread.join()
+
+
+def guarded(name, call, number):
+    """Calls, and notes what fails."""
+    try:
+        call(number)
+    except Exception as error:
+        check(f"{name}, client {number}", False, repr(error))
 
 
 class Soak:
@@ -187,12 +257,6 @@ class Soak:
             check("a mirror's table is the one that was shown", lines == wanted, repr((space, lines, wanted)))
             self.add("mirrors compared", 1)
 
-    def guarded(self, call, seed):
-        try:
-            call(seed)
-        except Exception as error:
-            check(f"soak, client {seed}", False, repr(error))
-
     def counted(self, seed):
         """Sends commands, and says so when no one does any more."""
         try:
@@ -206,7 +270,7 @@ class Soak:
     def run(self):
         last = COMMANDS + (MIRRORS if self.mountctl else 0)
         calls = [self.counted] * COMMANDS + [self.mirror] * (last - COMMANDS) + [self.watch] * (SESSIONS - last)
-        threads = [threading.Thread(target=self.guarded, args=(call, n)) for n, call in enumerate(calls)]
+        threads = [threading.Thread(target=guarded, args=("soak", call, n)) for n, call in enumerate(calls)]
         for thread in threads:
             thread.start()
         self.quiet.wait()
@@ -219,7 +283,7 @@ class Soak:
 
 
 def check_soak(program, seconds, mountctl):
-    with Server(program, "--queue", "64") as server:
+    with Server(program, "--queue", str(QUEUE)) as server:
         with server.free() as client:
             for line in START + [b"mkdir a /m%d" % n for n in range(SESSIONS)]:
                 client.ask(line)
@@ -230,5 +294,12 @@ def check_soak(program, seconds, mountctl):
         check("a soak does something", min(soak.counts["commands"], soak.counts["posts"]) > 0, told)
         compared = soak.counts["mirrors compared"]
         check("mirrors of a soak", compared == (MIRRORS if mountctl else 0), told)
-        ended = server.stop()
+        with contextlib.ExitStack() as stack:
+            stop = Stop(server, stack)
+            stop.run()
+            ended = server.ends()
         check("soak: the end", ended == (0, b""), repr(ended))
+        told = ", ".join(str(count) for count in stop.taken)
+        print(f"posts taken behind the stop of a soak, by each watcher: {told}", flush=True)
+        same = len(set(stop.taken)) == 1 and stop.taken[0] >= 4
+        check("each watcher gets all behind a stop", same, told)

@@ -216,7 +216,7 @@ fn fewer_failed_accepts_end_none(rt: HostRuntime) -> Result<(), Fail> {
 }
 
 /// Whether a third connection, while two have a session, reads that it is one too many, and then
-/// its end.
+/// its end; and whether the second session goes on behind a stop, and ends.
 fn third_is_refused<R: Net>(rt: &R, alloc: Global, path: &String) -> io::Result<bool> {
     let first = connected(rt, path)?;
     let second = connected(rt, path)?;
@@ -225,7 +225,8 @@ fn third_is_refused<R: Net>(rt: &R, alloc: Global, path: &String) -> io::Result<
     let third = connected(rt, path)?;
     let refused = answers(alloc, &third, b"mkfs e tmpfs none\n", b"no TooMany")
         && is_at_end(alloc, &third);
-    let stopped = answers(alloc, &first, b"stop\n", b"ok");
+    let stopped = answers(alloc, &first, b"stop\n", b"ok")
+        && answers(alloc, &second, b"mkfs e tmpfs none\n", b"no Stopped");
     Ok(served && refused && stopped && is_at_end(alloc, &second))
 }
 

@@ -1,6 +1,7 @@
 //! The connections that have a session, and whether the server stops.
 use mt_skel::fault::Fault;
 use std::alloc::{AllocError, Global};
+use std::io;
 use std::net::Shutdown;
 use std::os::unix::net::UnixStream;
 use std::sync::{Condvar, CondvarTimeouts, Mutex, Wait};
@@ -8,10 +9,13 @@ use std::time::{Clock, Duration};
 
 /// How often the end of all sessions is looked for, a tenth of a second apart, before those that
 /// are left are cut off.
-const MOST_LOOKS: u32 = 10;
+const MOST_LOOKS: u32 = 100;
 
 /// How long one look waits, in milliseconds.
 const LOOK: u64 = 100;
+
+/// How long one read of a session waits, in seconds.
+const PATIENCE: u64 = 1;
 
 /// A connection that has a session.
 #[derive(Drop)]
@@ -31,7 +35,7 @@ struct State {
     last: u64,
     /// How many are turned away at this moment, each in a thread of its own.
     parting: usize,
-    /// A session has stopped the server.
+    /// The server stops: no connection is accepted any more, and a session that is idle ends.
     stopping: bool,
 }
 
@@ -60,14 +64,15 @@ impl Connections {
     }
 
     /// Counts a connection as one that has a session, and answers the session's number. Sessions
-    /// count from 1. Refused as `TooMany` where as many have one as may, and as `NoMemory` where
-    /// the system has no second descriptor for the stream.
+    /// count from 1. Each read of the stream waits for a second at most from then on. Refused as
+    /// `TooMany` where as many have one as may, and as `NoMemory` where the system refuses that, or
+    /// has no second descriptor for the stream.
     pub(crate) fn enter<R: Wait>(&self, rt: &R, stream: &UnixStream) -> Result<u64, Fault> {
         let mut state = self.state.lock(rt);
         if state.open.len() >= self.most {
             return Err(Fault::TooMany);
         }
-        let Ok(stream) = stream.try_clone() else {
+        let Ok(stream) = prepare(stream) else {
             return Err(Fault::NoMemory);
         };
         let number = state.last.saturating_add(1);
@@ -103,25 +108,25 @@ impl Connections {
         state.parting = state.parting.saturating_sub(1);
     }
 
-    /// A session has stopped the server.
+    /// The server stops from now on.
     pub(crate) fn stop<R: Wait>(&self, rt: &R) {
         self.state.lock(rt).stopping = true;
     }
 
-    /// Whether a session has stopped the server.
+    /// Whether the server stops.
     pub(crate) fn are_stopping<R: Wait>(&self, rt: &R) -> bool {
         self.state.lock(rt).stopping
     }
 
-    /// Shuts the streams of all that have a session.
-    pub(crate) fn shut<R: Wait>(&self, rt: &R, how: Shutdown) {
+    /// Cuts off all that have a session: nothing is sent or taken any more.
+    pub(crate) fn cut_off<R: Wait>(&self, rt: &R) {
         let state = self.state.lock(rt);
         for connection in state.open.iter() {
-            let _ = connection.stream.shutdown(how);
+            let _ = connection.stream.shutdown(Shutdown::Both);
         }
     }
 
-    /// Waits until no connection has a session, a second at most.
+    /// Waits until no connection has a session, ten seconds at most.
     pub(crate) fn wait<R: Wait + Clock>(&self, rt: &R) {
         'looks: for _look in 0..MOST_LOOKS {
             let state = self.state.lock(rt);
@@ -133,6 +138,13 @@ impl Connections {
                 .wait_timeout(rt, state, Duration::from_millis(LOOK));
         }
     }
+}
+
+/// Makes each read of a stream wait for a second at most, and answers the stream a second time.
+/// Refused as the system refuses either.
+fn prepare(stream: &UnixStream) -> io::Result<UnixStream> {
+    stream.set_read_timeout(Some(Duration::from_secs(PATIENCE)))?;
+    stream.try_clone()
 }
 
 /// Takes the connection of a session out of those that have one.

@@ -4,9 +4,10 @@ ghost use Rattle.mt_server.specs.Accepting.{failures_after, most_failures};
 
 use crate::connections::Connections;
 use crate::parting::{part, turn_away, turn_away_now};
+use crate::patient::Patient;
 use mt_desk::desk::Desk;
 use mt_desk::lines::Naming;
-use mt_lines::stream::{Reading, Writing};
+use mt_lines::stream::Writing;
 use mt_session::bell::Bell;
 use mt_session::gate::Gate;
 use mt_session::session::End;
@@ -104,7 +105,7 @@ impl<'a, J: Naming, G: Gate> House<'a, J, G> {
             rt,
             alloc,
             number,
-            Reading::new(&stream),
+            Patient::new(rt, &self.connections, &stream),
             &mut Writing::new(&stream),
             self.desk,
             self.bell,
@@ -140,14 +141,15 @@ impl<'a, J: Naming, G: Gate> House<'a, J, G> {
         self.connections.end_parting(rt);
     }
 
-    /// Ends all sessions. The desk is stopped, so that those that follow end; those that read find
-    /// the end of their input; those that are not done after a second are cut off.
+    /// Ends all sessions. The desk is stopped, so that those that follow are told so; each goes on to
+    /// be served until it has been idle for a second; those that are left after ten seconds are cut
+    /// off.
     fn end_all<R: Wait + Clock>(&self, rt: &R) {
+        self.connections.stop(rt);
         self.desk.lock(rt).stop();
         self.bell.ring(rt);
-        self.connections.shut(rt, Shutdown::Read);
         self.connections.wait(rt);
-        self.connections.shut(rt, Shutdown::Both);
+        self.connections.cut_off(rt);
     }
 }
 
@@ -306,12 +308,14 @@ where
 /// Accepts connections and serves each in a thread of its own, until a session stops the server.
 ///
 /// At most `sessions` have a session at once; the next one reads `no TooMany` and its end. One for
-/// which there is no thread or no second descriptor reads `no NoMemory` and its end. Sessions are
-/// numbered from 1. When a session ends, its connection is counted no longer before its client
-/// reads the end.
+/// which there is no thread or no second descriptor, or of which the system bounds no read, reads
+/// `no NoMemory` and its end. Sessions are numbered from 1. When a session ends, its connection is
+/// counted no longer before its client reads the end.
 ///
-/// At a stop, and at a fault, the desk is stopped, no more connections are accepted, all sessions
-/// end, and their threads are joined. Refused as `Accept` after 1,000 failed accepts in succession,
+/// At a stop, and at a fault, the desk is stopped and no more connections are accepted. The other
+/// sessions go on: each ends once it has been idle for a second, so that a watcher can take what was
+/// sent to it; those that have not ended after ten seconds are cut off. Their threads are joined.
+/// Refused as `Accept` after 1,000 failed accepts in succession,
 /// a millisecond apart; as `NoMemory` at once where there is none for the list of connections.
 ///
 /// It is [`serve_door`] over the listener. No clause stands here, since a listener tells nothing of
