@@ -101,6 +101,12 @@ def namespaces(program):
             b"%d %d 0:2 / /m rw,relatime shared:2 - ext4 /dev/x rw" % (NAMESPACES + n, n),
         ]
         turns.append((b"show %d" % n, b"\n".join(table)))
+    turns += [
+        (b"dropns 2", b"ok"),
+        (b"newns a", b"ok %d" % (NAMESPACES + 1)),
+        (b"newns a", b"no TooMany"),
+        (b"copyns 2", b"no NoNamespace"),
+    ]
     check_turns(program, turns, f"{NAMESPACES} namespaces")
 
 

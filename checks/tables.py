@@ -29,6 +29,9 @@ COLUMNS = {
     "fs-options": "FS-OPTIONS",
 }
 
+# The numbers that namespaces of the cases have.
+NUMBERS = range(1, 66)
+
 # The bytes behind the escapes, as the text of one character for each byte.
 ESCAPE = re.compile(r"\\(040|011|012|134)")
 
@@ -109,12 +112,13 @@ def check_copies(program):
         lines = cases.load(name).requests()
         if b"quit" in lines or b"stop" in lines:
             continue
-        spaces = last_namespace(program, lines)
-        for space in range(1, spaces + 1):
-            asked = [*lines, b"copyns %d" % space, b"show %d" % space, b"show %d" % (spaces + 1)]
-            *_, made, old, new = answer_groups(session(program, asked)[1], asked)
+        for space in namespaces(program, lines):
+            shows = [b"show %d" % number for number in NUMBERS]
+            asked = [*lines, b"copyns %d" % space, *shows]
+            made, *tables = answer_groups(session(program, asked)[1], asked)[len(lines) :]
             if made == [b"no TooMany"]:
                 continue
+            old, new = tables[space - 1], tables[int(made[0].split(b" ")[1]) - 1]
             rows, copies = ([row.split(b" ", 2) for row in group[1:]] for group in (old, new))
             numbers = {row[0]: copy[0] for row, copy in zip(rows, copies)}
             good = rows != [] and renumbered(rows, numbers) == copies
@@ -123,9 +127,8 @@ def check_copies(program):
     print(f"{compared} namespaces compared with their copies")
 
 
-def last_namespace(program, lines):
-    """How many namespaces there are behind these lines."""
-    shows = [b"show %d" % space for space in range(1, 65)]
-    asked = lines + shows
+def namespaces(program, lines):
+    """The numbers of the namespaces that are there behind these lines."""
+    asked = lines + [b"show %d" % number for number in NUMBERS]
     groups = answer_groups(session(program, asked)[1], asked)[len(lines) :]
-    return sum(group != [b"no NoNamespace"] for group in groups)
+    return [number for number, group in zip(NUMBERS, groups) if group != [b"no NoNamespace"]]

@@ -35,7 +35,8 @@ const LINES: &str = "The lines of a session:
   mkfs NAME TYPE SOURCE   makes a filesystem, and answers its minor number
   mkdir FS DIR            makes a directory in a filesystem
   newns FS                makes a namespace with a filesystem at its root
-  copyns NS               makes a copy of a namespace
+  copyns NS [less]        makes a copy of a namespace, or one that is less privileged
+  dropns NS               ends a namespace with all its mounts
   mount NS FS PATH        mounts a filesystem on a directory
   bind NS SRC DST         mounts a directory on another one
   rbind NS SRC DST        does so with all that is mounted below it

@@ -6,7 +6,8 @@ Lines of a session:
   mkfs NAME TYPE SOURCE    makes a filesystem with a root directory
   mkdir FS DIR             makes a directory in a filesystem
   newns FS                 makes a namespace with a filesystem as its root mount
-  copyns NS                makes a copy of a namespace
+  copyns NS [less]         makes a copy of a namespace, or a less privileged one
+  dropns NS                ends a namespace with all its mounts
   mount NS FS PATH         mounts a filesystem at a path
   bind NS SRC DST          shows a directory at another path too
   rbind NS SRC DST         the same with all mounts below it

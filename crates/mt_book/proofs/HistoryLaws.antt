@@ -65,7 +65,7 @@ pub after-append : (xs ys : List Command) → after (xs ++ ys) ≡ after_from (a
 unfolding after
 after-append xs ys = after_from-append empty_world xs ys
 
-next_higher : (w : WorldView) (c : Command) → w.next_space ≤ (next_world w c).next_space
+pub next_higher : (w : WorldView) (c : Command) → w.next_space ≤ (next_world w c).next_space
 next_higher w c = by (step w c) (λ v r e. (step_rises w c v r e).spaces)
   where
     by : (q : Result (WorldView × Reply) Fault) → ((v : WorldView) (r : Reply) → q ≡ Ok (v, r) → w.next_space ≤ v.next_space) → w.next_space ≤ (world_or w q).next_space
@@ -123,7 +123,7 @@ no_post n number v w g h e =
     let empty = (empty-equal (table_of v n) (table_of w n) (table_rises v n g.formed) (table_rises w n h.formed)).1 e in
     ap (λ b. cond b None (Some (record { space = n; number = number; gone = (difference (table_of v n) (table_of w n)).gone; rows = (difference (table_of v n) (table_of w n)).rows }))) empty
 
-same_table : (n number : ℕ) (v w : WorldView) → IsGood v → IsGood w → post_of n number (difference (table_of v n) (table_of w n)) ≡ None → table_of v n ≡ table_of w n
+pub same_table : (n number : ℕ) (v w : WorldView) → IsGood v → IsGood w → post_of n number (difference (table_of v n) (table_of w n)) ≡ None → table_of v n ≡ table_of w n
 same_table n number v w g h e = (empty-equal (table_of v n) (table_of w n) (table_rises v n g.formed) (table_rises w n h.formed)).0 (by (is_empty (difference (table_of v n) (table_of w n))) refl e)
   where
     by : (b : Bool) → is_empty (difference (table_of v n) (table_of w n)) ≡ b
@@ -180,7 +180,7 @@ pick_in f each n a (suc len) low high = which (eqb a n) refl (λ q. pick_in f ea
 abbrev pub given : ℕ → ℕ → WorldView → Command → Option PostView
 given n number w c = post_of n number (difference (table_of w n) (table_of (next_world w c) n))
 
-given_out : (n number : ℕ) (w : WorldView) (c : Command) → IsGood w → (n ≡ 0) ⊎ ((next_world w c).next_space ≤ n) → given n number w c ≡ None
+pub given_out : (n number : ℕ) (w : WorldView) (c : Command) → IsGood w → (n ≡ 0) ⊎ ((next_world w c).next_space ≤ n) → given n number w c ≡ None
 given_out n number w c g out =
     let v = next_good w c g in
     let low = next_higher w c in

@@ -6,6 +6,7 @@ pub mod DirectoryLaws
 pub mod GrowthLaws
 pub mod HistoryLaws
 pub mod SpaceLaws
+pub mod EndLaws
 pub mod CountLaws
 pub mod NextLaws
 pub mod NumberLaws
@@ -17,3 +18,4 @@ pub mod TextLaws
 pub mod RowLaws
 pub mod ValidLaws
 pub mod MirrorLaws
+pub mod InsideLaws

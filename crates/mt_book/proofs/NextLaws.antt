@@ -1,5 +1,5 @@
 -- One command more: its posts, and the numbers.
-use Rattle.std.proofs.Common.{◌≡◌, ℕ, zero, suc, ◌+◌, ◌-◌, ◌≤◌, Bool, true, false, cond, List, [], ◌∷◌, ◌++◌, map, length, slice_index_or, Option, Some, None, Ok, refl, sym, ap, ◌∙◌, arith, length-append, append-nil}
+use Rattle.std.proofs.Common.{◌≡◌, inr, ℕ, zero, suc, ◌+◌, ◌-◌, ◌≤◌, Bool, true, false, cond, List, [], ◌∷◌, ◌++◌, map, length, slice_index_or, Option, Some, None, Ok, refl, sym, ap, ◌∙◌, arith, length-append, append-nil}
 use Rattle.std.specs.List.{filter_map, cons_option, range_with_len}
 use Rattle.std.specs.Option.{option_to_list}
 use Rattle.std.specs.Result.{is_ok}
@@ -16,7 +16,7 @@ use Rattle.mt_book.specs.History.{events_from, events, space_number, posts_of}
 use Rattle.mt_book.specs.Book.{accepts, space_numbers, next_number, next_post, counted, posted, with_newborn}
 use Rattle.mt_book.proofs.GrowthLaws.{reached, step_spaces}
 use Rattle.mt_book.proofs.HistoryLaws.{after-append, events-append, given}
-use Rattle.mt_book.proofs.SpaceLaws.{late_nowhere, number_none}
+use Rattle.mt_book.proofs.EndLaws.{number_late}
 
 pub after-accepted : (cs : List Command) (c : Command) (v : WorldView) (r : Reply) → step (after cs) c ≡ Ok (v, r) → after (cs ++ c ∷ []) ≡ v
 after-accepted cs c v r e = after-append cs (c ∷ []) ∙ ap (world_or (after cs)) e
@@ -64,7 +64,7 @@ unfolding events
 number-few n cs = from-few n 1 empty_world cs
 
 pub number-newborn : (n : ℕ) (cs : List Command) → (after cs).next_space ≤ n → space_number n cs ≡ 0
-number-newborn n cs late = number_none n cs (late_nowhere (after cs) n (reached cs).well_formed late)
+number-newborn n cs late = number_late n cs (inr late)
 
 -- the numbers of all namespaces
 counted-range : (w v : WorldView) (f g : ℕ → ℕ) → ((n : ℕ) → next_number w v n (f n) ≡ g n) → (a k : ℕ) → counted w v a (map f (range_with_len a k)) ≡ map g (range_with_len a k)

@@ -1,11 +1,13 @@
--- A namespace that is there stays, so one that is not there has had no post.
-use Rattle.std.proofs.Common.{◌≡◌, inl, inr, ℕ, ◌+◌, ◌<◌, ◌≤◌, Bool, true, false, cond, ◌&&◌, ◌==◌, eqb, List, [], ◌∷◌, ◌++◌, map, length, Option, Some, None, Ok, Err, refl, sym, ap, ◌∙◌, subst, arith, true≢false}
+-- A namespace that is there stays until it is dropped, and one that was dropped does not come again: so a namespace has its posts
+-- between these two.
+use Rattle.std.proofs.Common.{◌≡◌, ◌⊎◌, inl, inr, ℕ, ◌+◌, ◌<◌, ◌≤◌, Bool, true, false, cond, ◌&&◌, ◌==◌, eqb, eq-eqb, List, [], ◌∷◌, ◌++◌, map, length, Option, Some, None, Ok, Err, refl, sym, ap, ◌∙◌, subst, arith, true≢false}
 use Rattle.std.specs.Prelude.{Result, not}
-use Rattle.std.specs.List.{list_any}
-use Rattle.std.specs.Option.{option_map_or, option_to_list, is_none, is_some}
+use Rattle.std.specs.List.{filter, list_any}
+use Rattle.std.specs.Option.{option_map_or, is_none, is_some}
 use Rattle.std.proofs.lemmas.Bool.Decides.{nat_tests}
 use Rattle.mt_skel.specs.declared.fault.Fault.{Fault}
 use Rattle.mt_skel.specs.declared.fault.Fault.TheVariants.{NotMountRoot, RootPlace, Busy}
+use Rattle.mt_skel.specs.Keyed.{without}
 use Rattle.mt_skel.specs.Outcome.{refuse_if, fault_of}
 use Rattle.mt_skel.proofs.OutcomeLaws.{outcome_ok, first_none, not_refused}
 use Rattle.mt_skel.specs.Skeleton.{Filesystem, IsSkeleton, added_fs, added_dir}
@@ -16,31 +18,35 @@ use Rattle.mt_mounts.specs.Walk.{walk}
 use Rattle.mt_propagate.specs.World.{WorldView, is_space}
 use Rattle.mt_propagate.specs.WellFormed.{IsWellFormed}
 use Rattle.mt_propagate.specs.Named.{place_or_nowhere, is_mount_root, is_root_mount}
-use Rattle.mt_propagate.specs.Copies.{Source}
-use Rattle.mt_propagate.specs.Places.{relocated, made_way, stack_end, new_mounts}
+use Rattle.mt_propagate.specs.Copies.{Source, targets}
+use Rattle.mt_propagate.specs.Receivers.{hits}
+use Rattle.mt_propagate.specs.Places.{relocated, made_way, stack_end, new_mounts, copy_place, copy_of as copy_at}
 use Rattle.mt_propagate.specs.Copied.{copied}
-use Rattle.mt_propagate.proofs.RowLaws.{row-mapped, row-first}
+use Rattle.mt_propagate.proofs.RowLaws.{row-mapped, mapped-row, row-first, row-second, appended-row, row-kept, kept-row}
+use Rattle.mt_propagate.proofs.WalkLaws.{root_here, number_free}
 use Rattle.mt_propagate.proofs.ListedLaws.{relocated-id}
-use Rattle.mt_skel.proofs.ElementLaws.{in_row, row_in, in_found, find_in}
+use Rattle.mt_skel.proofs.ElementLaws.{In, in_row, row_in, in_found, find_in, in_filtered, in_map, in_mapped, in_flat}
 use Rattle.mt_skel.proofs.MiddleLaws.{and_second, and-true}
-use Rattle.mt_bind.specs.Spaces.{with_space, new_space, with_copy, copy_space, originals}
-use Rattle.mt_bind.specs.Copying.{copy_of}
+use Rattle.mt_bind.specs.Spaces.{with_space, new_space, with_copy, copy_space, originals, without_space, drop_space}
+use Rattle.mt_bind.proofs.SpaceLaws.{new_root}
+use Rattle.mt_bind.proofs.NamespaceCopyLaws.{copy-in}
+use Rattle.mt_bind.specs.Copying.{copy_number, copy_of}
 use Rattle.mt_bind.specs.Mounting.{mounted, bound, moved}
 use Rattle.mt_unmount.specs.Unmounting.{is_removed, without_mount, unmounted, place_of}
 use Rattle.mt_unmount.proofs.RemovedLaws.{removed-cases, place-at}
 use Rattle.mt_unmount.proofs.UnmountTreeLaws.{stays-in}
 use Rattle.mt_setattr.specs.declared.change.Change.{Change}
 use Rattle.mt_setattr.specs.Change.{changed_mount, is_chosen, with_change, attributed}
+use Rattle.mt_info.specs.declared.row.Row.{Row}
+use Rattle.mt_info.specs.Table.{row_of, table_of}
 use Rattle.mt_book.specs.declared.command.Command.{Command}
-use Rattle.mt_book.specs.declared.command.Command.TheVariants.{MakeFs, MakeDir, NewSpace, CopySpace, Mount as Mounting, Bind, Move, Unmount, SetAttr}
+use Rattle.mt_book.specs.declared.command.Command.TheVariants.{MakeFs, MakeDir, NewSpace, CopySpace, DropSpace, Mount as Mounting, Bind, Move, Unmount, SetAttr}
 use Rattle.mt_book.specs.declared.command.Reply.{Reply}
 use Rattle.mt_book.specs.declared.command.Reply.TheVariants.{Done, Number}
-use Rattle.mt_book.specs.Step.{step, world_or, next_world, after_from, after}
-use Rattle.mt_book.specs.History.{events_from, events, space_number}
-use Rattle.mt_book.proofs.EffectLaws.{skel_ok, number_ok, done_ok, space_made, copy_made, mount_made, bind_made, move_made, change_made}
+use Rattle.mt_book.specs.Step.{step, makes_space, ends_space, world_or, next_world}
+use Rattle.mt_book.proofs.EffectLaws.{skel_ok, number_ok, done_ok, space_made, copy_made, copy_there, space_dropped, mount_made, bind_made, move_made, mount_gone, change_made}
 use Rattle.mt_book.proofs.StepLaws.{step_kept}
-use Rattle.mt_book.proofs.HistoryLaws.{IsGood, next_good, empty_good, no_post, table_nowhere}
-use Rattle.mt_propagate.specs.World.{empty_world}
+use Rattle.mt_book.proofs.HistoryLaws.{IsGood}
 
 -- a mount of a namespace
 record Has (n : ℕ) (w : WorldView) : Type 0 where
@@ -119,35 +125,46 @@ gone_has n w i h rooted x =
       | inr too ↦ (let two : Some too.mount ≡ Some m = sym too.there ∙ at in let eq : too.mount ≡ m = cc in let bad : Some too.place ≡ None = sym too.stands ∙ ap (λ (y : Mount). y.place) eq ∙ none in absurd (cc))
     ]
 
-step_has : (n : ℕ) (w : WorldView) (c : Command) (v : WorldView) (r : Reply) → IsWellFormed w → step w c ≡ Ok (v, r) → Has n w → Has n v
+-- the mounts of other namespaces stay where one is dropped
+others_have : (n k : ℕ) (w : WorldView) → IsWellFormed w → (k == n) ≡ false → Has n w → Has n (without_space w k)
+unfolding without_space
+others_have n k w h other x =
+    let space : x.mount.space ≡ n = x.space in
+    let off : (x.mount.space == k) ≡ false = grind (arith, nat_tests) in
+    record { id = x.id; mount = x.mount; there = row-kept id_of (λ (m : Mount). m.space == k) w.forest h.forest.rising x.id x.mount off x.there; space = x.space }
+
+step_has : (n : ℕ) (w : WorldView) (c : Command) (v : WorldView) (r : Reply) → IsWellFormed w → step w c ≡ Ok (v, r) → ends_space n c ≡ false → Has n w → Has n v
 unfolding step
-step_has n w (MakeFs name kind source) v r g e h =
+step_has n w (MakeFs name kind source) v r g e d h =
     let f : Filesystem = record { name = name; kind = kind; source = source } in
     let q = skel_ok w (λ s. Number (length s.filesystems)) (added_fs w.skel f) v r e in
     same_mounts n w v (ap (λ x. x.forest) q.2) h
-step_has n w (MakeDir fs path) v r g e h =
+step_has n w (MakeDir fs path) v r g e d h =
     let q = skel_ok w (λ s. Done) (added_dir w.skel fs path) v r e in
     same_mounts n w v (ap (λ x. x.forest) q.2) h
-step_has n w (NewSpace fs) v r g e h =
+step_has n w (NewSpace fs) v r g e d h =
     let q = number_ok (new_space w fs) v r e in
     let m = space_made w v fs q.0 q.1 in
     let f = space_forest w m.0 in
     more_mounts n w v f.0 (ap (λ x. x.forest) m.2 ∙ f.1) h
-step_has n w (CopySpace k) v r g e h =
-    let q = number_ok (copy_space w k false) v r e in
-    more_mounts n w v (map (copy_of w (map id_of (originals w k))) (originals w k)) (ap (λ x. x.forest) (copy_made w v k false q.0 q.1) ∙ copy_forest w k false) h
-step_has n w (Mounting k fs path) v r g e h =
+step_has n w (CopySpace k less) v r g e d h =
+    let q = number_ok (copy_space w k less) v r e in
+    more_mounts n w v (map (copy_of w (map id_of (originals w k))) (originals w k)) (ap (λ x. x.forest) (copy_made w v k less q.0 q.1) ∙ copy_forest w k less) h
+step_has n w (DropSpace k) v r g e d h =
+    let m = space_dropped w v k (done_ok (drop_space w k) v r e) in
+    subst (Has n) (sym m.1) (others_have n k w g d h)
+step_has n w (Mounting k fs path) v r g e d h =
     let q = number_ok (mounted w k fs path) v r e in
     let m = mount_made w v k fs path q.0 q.1 in
     copied_has n w v m.0 m.1 m.2 h
-step_has n w (Bind k src dst recursive) v r g e h =
+step_has n w (Bind k src dst recursive) v r g e d h =
     let q = number_ok (bound w k recursive src dst) v r e in
     let m = bind_made w v k recursive src dst q.0 q.1 in
     copied_has n w v m.0 m.1 m.2 h
-step_has n w (Move k src dst) v r g e h =
+step_has n w (Move k src dst) v r g e d h =
     let m = move_made w v k src dst (done_ok (moved w k src dst) v r e) in
     copied_has n w v m.0 m.1 m.2 h
-step_has n w (Unmount k path) v r g e h =
+step_has n w (Unmount k path) v r g e d h =
     let p = place_or_nowhere (walk w.skel w.forest k path) in
     let lost = fault_of (walk w.skel w.forest k path) in
     let unnamed = refuse_if (not (is_mount_root w p)) NotMountRoot in
@@ -158,16 +175,9 @@ step_has n w (Unmount k path) v r g e h =
     let two = first_none unnamed (root ∷ busy ∷ []) one.1 in
     let three = first_none root (busy ∷ []) two.1 in
     subst (Has n) ok.0 (gone_has n w p.mount g (not_refused (is_root_mount w p) RootPlace three.0) h)
-step_has n w (SetAttr k path change) v r g e h =
+step_has n w (SetAttr k path change) v r g e d h =
     let m = change_made w v k path change (done_ok (attributed w k path change) v r e) in
     subst (Has n) (sym m.1) (change_has n w change m.0 h)
-
-next_has : (n : ℕ) (w : WorldView) (c : Command) → IsWellFormed w → Has n w → Has n (next_world w c)
-next_has n w c g h = by (step w c) (λ v r e. step_has n w c v r g e h)
-  where
-    by : (q : Result (WorldView × Reply) Fault) → ((v : WorldView) (r : Reply) → q ≡ Ok (v, r) → Has n v) → Has n (world_or w q)
-    by (Ok p) f = f p.0 p.1 refl
-    by (Err x) f = h
 
 -- a namespace is there where it has a mount
 space_has : (n : ℕ) (w : WorldView) → IsWellFormed w → is_space w n ≡ true → Has n w
@@ -189,33 +199,10 @@ has_space n w g h =
     let f = in_found (is_root n) w.forest root (row_in id_of r.0 w.forest root r.2) (and-true (is_none root.place) (root.space == n) (ap is_none r.3) on) in
     ap is_some f.1
 
-pub space_stays : (n : ℕ) (w : WorldView) (c : Command) → IsWellFormed w → IsWellFormed (next_world w c) → is_space w n ≡ true → is_space (next_world w c) n ≡ true
-space_stays n w c g v is = has_space n (next_world w c) v (next_has n w c g (space_has n w g is))
+pub step_stays : (w : WorldView) (c : Command) (v : WorldView) (r : Reply) (n : ℕ) → IsWellFormed w → IsSkeleton w.skel → step w c ≡ Ok (v, r) → ends_space n c ≡ false → is_space w n ≡ true → is_space v n ≡ true
+step_stays w c v r n g s e d is = has_space n v (step_kept w c v r g s e).0 (step_has n w c v r g e d (space_has n w g is))
 
-pub step_stays : (w : WorldView) (c : Command) (v : WorldView) (r : Reply) (n : ℕ) → IsWellFormed w → IsSkeleton w.skel → step w c ≡ Ok (v, r) → is_space w n ≡ true → is_space v n ≡ true
-step_stays w c v r n g s e is = has_space n v (step_kept w c v r g s e).0 (step_has n w c v r g e (space_has n w g is))
-
--- so one that is not there was not there before, and has had no post
-pub none_yet : (n number : ℕ) (w : WorldView) (cs : List Command) → IsGood w → is_space (after_from w cs) n ≡ false → (is_space w n ≡ false) × (events_from n number w cs ≡ [])
-none_yet n number w [] g gone = (gone, refl)
-none_yet n number w (c ∷ cs) g gone =
-    let v = next_good w c g in
-    let later = none_yet n number (next_world w c) cs v gone in
-    let here = before (is_space w n) refl later.0 v.formed in
-    let post = no_post n number w (next_world w c) g v (table_nowhere w n g.formed here ∙ sym (table_nowhere (next_world w c) n v.formed later.0)) in (
-      here,
-      ap (λ o. option_to_list o ++ events_from n (number + length (option_to_list o)) (next_world w c) cs) post ∙ (none_yet n (number + 0) (next_world w c) cs v gone).1,
-    )
-  where
-    before : (b : Bool) → is_space w n ≡ b → is_space (next_world w c) n ≡ false → IsWellFormed (next_world w c) → is_space w n ≡ false
-    before false e off v = e
-    before true e off v = absurd (true≢false (sym (space_stays n w c g.formed v e) ∙ off))
-
-pub number_none : (n : ℕ) (cs : List Command) → is_space (after cs) n ≡ false → space_number n cs ≡ 0
-unfolding after events
-number_none n cs gone = ap length (none_yet n 1 empty_world cs empty_good gone).1
-
--- nor is one whose number was not given out
+-- a namespace whose number was not given out is not there
 pub late_nowhere : (w : WorldView) (n : ℕ) → IsWellFormed w → w.next_space ≤ n → is_space w n ≡ false
 late_nowhere w n g late = by (is_space w n) refl
   where
@@ -226,3 +213,194 @@ late_nowhere w n g late = by (is_space w n) refl
         let b = g.below h.id h.mount h.there in
         let below : h.mount.space < w.next_space = b.3 in
         absurd (omega (arith, below, h.space, late))
+
+-- ---- where a namespace comes from
+
+-- the mounts of a namespace that were there before
+was_mapped : (n : ℕ) (w : WorldView) (f : Mount → Mount) → ((m : Mount) → id_of (f m) ≡ id_of m) → ((m : Mount) → (f m).space ≡ m.space) → (i : ℕ) (m : Mount) → mount_at (map f w.forest) i ≡ Some m → m.space ≡ n → Has n w
+was_mapped n w f ids spaces i m e s =
+    let x = mapped-row id_of f ids w.forest i m e in
+    record { id = i; mount = x.0; there = x.1; space = sym (spaces x.0) ∙ ap (λ (y : Mount). y.space) (sym x.2) ∙ s }
+
+was_left : (n k : ℕ) (w : WorldView) → IsWellFormed w → (i : ℕ) (m : Mount) → mount_at (without_space w k).forest i ≡ Some m → m.space ≡ n → Has n w × ((n == k) ≡ false)
+unfolding without_space
+was_left n k w h i m e s =
+    let x = kept-row id_of (λ (m : Mount). m.space == k) w.forest h.forest.rising i m e in
+    (record { id = i; mount = m; there = x.0; space = s }, ap (λ j. j == k) (sym s) ∙ x.1)
+
+was_unmounted : (n k : ℕ) (w : WorldView) → IsWellFormed w → (i : ℕ) (m : Mount) → mount_at (without_mount w k).forest i ≡ Some m → m.space ≡ n → Has n w
+unfolding without_mount
+was_unmounted n k w h i m e s =
+    let x = mapped-row id_of _ (λ m. refl) (without (λ (m : Mount). is_removed w k m.id) w.forest) i m e in
+    let y = kept-row id_of (λ (m : Mount). is_removed w k m.id) w.forest h.forest.rising i x.0 x.1 in
+    record { id = i; mount = x.0; there = y.0; space = ap (λ (z : Mount). z.space) (sym x.2) ∙ s }
+
+-- a new root mount is of the next namespace
+made_root : (n : ℕ) (w : WorldView) (f : ℕ) (i : ℕ) (m : Mount) → mount_at (with_space w f).forest i ≡ Some m → m.space ≡ n → Has n w ⊎ (w.next_space ≤ n)
+unfolding with_space
+made_root n w f i m e s = elim (appended-row id_of w.forest (new_root w f ∷ []) i m e) [
+  | inl old ↦ inl (record { id = i; mount = m; there = old; space = s })
+  | inr new ↦ elim (row_in id_of i (new_root w f ∷ []) m new) [
+    | inl here ↦ inr (omega (arith, ap (λ (y : Mount). y.space) here, s))
+    | inr none ↦ absurd none
+  ]
+]
+
+made_copy : (n k : ℕ) (w : WorldView) (less : Bool) (i : ℕ) (m : Mount) → mount_at (with_copy w k less).forest i ≡ Some m → m.space ≡ n → Has n w ⊎ (w.next_space ≤ n)
+unfolding with_copy
+made_copy n k w less i m e s = elim (appended-row id_of w.forest (map (copy_of w (map id_of (originals w k))) (originals w k)) i m e) [
+  | inl old ↦ inl (record { id = i; mount = m; there = old; space = s })
+  | inr new ↦
+      let x = in_map (copy_of w (map id_of (originals w k))) m (originals w k) (row_in id_of i (map (copy_of w (map id_of (originals w k))) (originals w k)) m new) in
+      inr (omega (arith, ap (λ (y : Mount). y.space) x.2, s))
+]
+
+-- a copy of a mount has a place
+made_placed : (n : ℕ) (w : WorldView) (src : Source) (p : Place) (i : ℕ) (m : Mount) → mount_at (copied w src p).forest i ≡ Some m → m.place ≡ None → m.space ≡ n → Has n w
+made_placed n w src p i m e none s = elim (appended-row id_of (map (relocated w src p) w.forest) (new_mounts w src p) i m (ap (λ l. mount_at l i) (sym (copied_forest w src p)) ∙ e)) [
+  | inl old ↦ was_mapped n w (relocated w src p) (relocated-id w src p) (relocated_space w src p) i m old s
+  | inr new ↦
+      let at = in_flat (λ t. map (copy_at w src p t) src.mounts) m (cond src.moved (hits w p) (targets w src p)) (row_in id_of i (new_mounts w src p) m new) in
+      let x = in_map (copy_at w src p at.0) m src.mounts at.2 in
+      absurd (placed_apart (copy_place w src p at.0 x.0) m.place (ap (λ (y : Mount). y.place) x.2) none)
+]
+  where
+    placed_apart : (q : Place) (o : Option Place) → Some q ≡ o → o ≡ None → ⊥
+    placed_apart q o e f = let bad : Some q ≡ None = e ∙ f in cc
+
+was_changed : (n : ℕ) (w : WorldView) (c : Change) (k : ℕ) (i : ℕ) (m : Mount) → mount_at (with_change w c k).forest i ≡ Some m → m.space ≡ n → Has n w
+unfolding with_change
+was_changed n w c k i m e s = was_mapped n w (changed_mount c (is_chosen w c k)) (λ m. refl) (λ m. refl) i m e s
+
+-- the root mount of a namespace after a command was there before, or it is of the next namespace
+step_from : (n : ℕ) (w : WorldView) (c : Command) (v : WorldView) (r : Reply) → IsWellFormed w → step w c ≡ Ok (v, r) → (i : ℕ) (m : Mount) → mount_at v.forest i ≡ Some m → m.place ≡ None → m.space ≡ n → Has n w ⊎ (w.next_space ≤ n)
+unfolding step
+step_from n w (MakeFs name kind source) v r g e i m at none s =
+    let f : Filesystem = record { name = name; kind = kind; source = source } in
+    let q = skel_ok w (λ s. Number (length s.filesystems)) (added_fs w.skel f) v r e in
+    inl (record { id = i; mount = m; there = ap (λ (x : WorldView). mount_at x.forest i) (sym q.2) ∙ at; space = s })
+step_from n w (MakeDir fs path) v r g e i m at none s =
+    let q = skel_ok w (λ s. Done) (added_dir w.skel fs path) v r e in
+    inl (record { id = i; mount = m; there = ap (λ (x : WorldView). mount_at x.forest i) (sym q.2) ∙ at; space = s })
+step_from n w (NewSpace fs) v r g e i m at none s =
+    let q = number_ok (new_space w fs) v r e in
+    let made = space_made w v fs q.0 q.1 in
+    made_root n w made.0 i m (ap (λ (x : WorldView). mount_at x.forest i) (sym made.2) ∙ at) s
+step_from n w (CopySpace k less) v r g e i m at none s =
+    let q = number_ok (copy_space w k less) v r e in
+    made_copy n k w less i m (ap (λ (x : WorldView). mount_at x.forest i) (sym (copy_made w v k less q.0 q.1)) ∙ at) s
+step_from n w (DropSpace k) v r g e i m at none s =
+    let made = space_dropped w v k (done_ok (drop_space w k) v r e) in
+    inl (was_left n k w g i m (ap (λ (x : WorldView). mount_at x.forest i) (sym made.1) ∙ at) s).0
+step_from n w (Mounting k fs path) v r g e i m at none s =
+    let q = number_ok (mounted w k fs path) v r e in
+    let made = mount_made w v k fs path q.0 q.1 in
+    inl (made_placed n w made.0 made.1 i m (ap (λ (x : WorldView). mount_at x.forest i) (sym made.2) ∙ at) none s)
+step_from n w (Bind k src dst recursive) v r g e i m at none s =
+    let q = number_ok (bound w k recursive src dst) v r e in
+    let made = bind_made w v k recursive src dst q.0 q.1 in
+    inl (made_placed n w made.0 made.1 i m (ap (λ (x : WorldView). mount_at x.forest i) (sym made.2) ∙ at) none s)
+step_from n w (Move k src dst) v r g e i m at none s =
+    let made = move_made w v k src dst (done_ok (moved w k src dst) v r e) in
+    inl (made_placed n w made.0 made.1 i m (ap (λ (x : WorldView). mount_at x.forest i) (sym made.2) ∙ at) none s)
+step_from n w (Unmount k path) v r g e i m at none s =
+    let made = mount_gone w v k path (done_ok (unmounted w k path) v r e) in
+    inl (was_unmounted n made.0 w g i m (ap (λ (x : WorldView). mount_at x.forest i) (sym made.1) ∙ at) s)
+step_from n w (SetAttr k path change) v r g e i m at none s =
+    let made = change_made w v k path change (done_ok (attributed w k path change) v r e) in
+    inl (was_changed n w change made.0 i m (ap (λ (x : WorldView). mount_at x.forest i) (sym made.1) ∙ at) s)
+
+-- the root mount of a namespace that is there
+root_of_space : (w : WorldView) (n : ℕ) → IsWellFormed w → is_space w n ≡ true → (m : Mount) × (mount_at w.forest m.id ≡ Some m) × (m.place ≡ None) × (m.space ≡ n)
+root_of_space w n h is = by (root_mount w.forest n) refl is
+  where
+    by : (o : Option Mount) → root_mount w.forest n ≡ o → is_some o ≡ true → (m : Mount) × (mount_at w.forest m.id ≡ Some m) × (m.place ≡ None) × (m.space ≡ n)
+    by None e s = absurd (cc)
+    by (Some m) e s =
+        let f = find_in (is_root n) w.forest m e in
+        let root = root_here n m f.1 in
+        (m, in_row id_of w.forest m h.forest.rising f.0, none_is m.place root.0, root.1)
+      where
+        none_is : (o : Option Place) → is_none o ≡ true → o ≡ None
+        none_is None e = refl
+        none_is (Some p) e = absurd (cc)
+
+-- its table has a row
+pub has_row : (w : WorldView) (n : ℕ) → IsWellFormed w → is_space w n ≡ true → 1 ≤ length (table_of w n)
+has_row w n h is =
+    let x = space_has n w h is in
+    let on : (x.mount.space == n) ≡ true = (let s : x.mount.space ≡ n = x.space in grind (arith, nat_tests)) in
+    some_in (table_of w n) (row_of w x.mount) (in_mapped (row_of w) x.mount (filter (λ (m : Mount). m.space == n) w.forest) (in_filtered (λ (m : Mount). m.space == n) x.mount w.forest (row_in id_of x.id w.forest x.mount x.there) on))
+  where
+    some_in : (t : List Row) (r : Row) → In r t → 1 ≤ length t
+    some_in [] r there = absurd there
+    some_in (q ∷ t) r there = omega arith
+
+-- a namespace that is made is there
+root_has : (w : WorldView) (f : ℕ) → IsWellFormed w → Has w.next_space (with_space w f)
+unfolding with_space
+root_has w f h =
+    let here : mount_at (new_root w f ∷ []) w.next_mount ≡ Some (new_root w f) = ap (λ b. cond b (Some (new_root w f)) None) (eq-eqb w.next_mount w.next_mount refl) in
+    record { id = w.next_mount; mount = new_root w f; there = row-second id_of w.forest (new_root w f ∷ []) w.next_mount (new_root w f) (number_free w h) here; space = refl }
+
+copy_has : (w : WorldView) (k : ℕ) (less : Bool) → IsWellFormed w → Has k w → Has w.next_space (with_copy w k less)
+copy_has w k less h x = record {
+  id = copy_number w (map id_of (originals w k)) x.id;
+  mount = copy_of w (map id_of (originals w k)) x.mount;
+  there = ap (λ l. mount_at l (copy_number w (map id_of (originals w k)) x.id)) (copy_forest w k less) ∙ copy-in w h k x.id x.mount x.there x.space;
+  space = refl;
+}
+
+step_makes : (w : WorldView) (c : Command) (v : WorldView) (r : Reply) → IsWellFormed w → step w c ≡ Ok (v, r) → makes_space c ≡ true → Has w.next_space v
+unfolding step
+step_makes w (MakeFs name kind source) v r g e m = absurd (cc)
+step_makes w (MakeDir fs path) v r g e m = absurd (cc)
+step_makes w (NewSpace fs) v r g e m =
+    let q = number_ok (new_space w fs) v r e in
+    let made = space_made w v fs q.0 q.1 in
+    subst (Has w.next_space) (sym made.2) (root_has w made.0 g)
+step_makes w (CopySpace k less) v r g e m =
+    let q = number_ok (copy_space w k less) v r e in
+    subst (Has w.next_space) (sym (copy_made w v k less q.0 q.1)) (copy_has w k less g (space_has k w g (copy_there w v k less q.0 q.1)))
+step_makes w (DropSpace k) v r g e m = absurd (cc)
+step_makes w (Mounting k fs path) v r g e m = absurd (cc)
+step_makes w (Bind k src dst recursive) v r g e m = absurd (cc)
+step_makes w (Move k src dst) v r g e m = absurd (cc)
+step_makes w (Unmount k path) v r g e m = absurd (cc)
+step_makes w (SetAttr k path change) v r g e m = absurd (cc)
+
+pub made_there : (w : WorldView) (c : Command) (v : WorldView) (r : Reply) → IsWellFormed w → IsSkeleton w.skel → step w c ≡ Ok (v, r) → makes_space c ≡ true → is_space v w.next_space ≡ true
+made_there w c v r g s e m = has_space w.next_space v (step_kept w c v r g s e).0 (step_makes w c v r g e m)
+
+-- a namespace that is dropped is gone
+pub step_ends : (w : WorldView) (v : WorldView) (r : Reply) (n : ℕ) → IsWellFormed w → IsSkeleton w.skel → step w (DropSpace n) ≡ Ok (v, r) → is_space v n ≡ false
+unfolding step
+step_ends w v r n g s e = by (is_space v n) refl
+  where
+    by : (b : Bool) → is_space v n ≡ b → is_space v n ≡ false
+    by false is = is
+    by true is =
+        let made = space_dropped w v n (done_ok (drop_space w n) v r e) in
+        let x = space_has n v (step_kept w (DropSpace n) v r g s e).0 is in
+        let off = (was_left n n w g x.id x.mount (ap (λ (y : WorldView). mount_at y.forest x.id) (sym made.1) ∙ x.there) x.space).1 in
+        absurd (grind (arith, nat_tests))
+
+-- one that was there and is gone does not come again
+pub step_gone : (w : WorldView) (c : Command) (v : WorldView) (r : Reply) (n : ℕ) → IsWellFormed w → IsSkeleton w.skel → step w c ≡ Ok (v, r) → n < w.next_space → is_space w n ≡ false → is_space v n ≡ false
+step_gone w c v r n g s e low gone = by (is_space v n) refl
+  where
+    by : (b : Bool) → is_space v n ≡ b → is_space v n ≡ false
+    by false is = is
+    by true is =
+        let m = root_of_space v n (step_kept w c v r g s e).0 is in
+        elim (step_from n w c v r g e m.0.id m.0 m.1 m.2 m.3) [
+          | inl x ↦ absurd (true≢false (sym (has_space n w g x) ∙ gone))
+          | inr late ↦ absurd (omega (arith, low, late))
+        ]
+
+pub next_gone : (n : ℕ) (w : WorldView) (c : Command) → IsGood w → n < w.next_space → is_space w n ≡ false → is_space (next_world w c) n ≡ false
+next_gone n w c g low gone = by (step w c) (λ v r e. step_gone w c v r n g.formed g.skeleton e low gone)
+  where
+    by : (q : Result (WorldView × Reply) Fault) → ((v : WorldView) (r : Reply) → q ≡ Ok (v, r) → is_space v n ≡ false) → is_space (world_or w q) n ≡ false
+    by (Ok p) f = f p.0 p.1 refl
+    by (Err x) f = gone

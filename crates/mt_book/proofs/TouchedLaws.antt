@@ -9,7 +9,7 @@ use Rattle.mt_mounts.specs.declared.mount.Mount.{Mount}
 use Rattle.mt_mounts.specs.Forest.{mount_at}
 use Rattle.mt_propagate.specs.World.{WorldView, space_of}
 use Rattle.mt_propagate.specs.WellFormed.{IsWellFormed}
-use Rattle.mt_bind.specs.Spaces.{new_space, copy_space}
+use Rattle.mt_bind.specs.Spaces.{new_space, copy_space, drop_space}
 use Rattle.mt_bind.specs.Mounting.{mounted, bound, moved}
 use Rattle.mt_unmount.specs.Unmounting.{unmounted}
 use Rattle.mt_setattr.specs.Change.{attributed}
@@ -18,11 +18,11 @@ use Rattle.mt_info.proofs.KeptRows.{front-off, rest-off}
 use Rattle.mt_events.specs.Difference.{HoldsChanged}
 use Rattle.mt_events.proofs.TouchedLaws.{row_nowhere, row_elsewhere}
 use Rattle.mt_book.specs.declared.command.Command.{Command}
-use Rattle.mt_book.specs.declared.command.Command.TheVariants.{MakeFs, MakeDir, NewSpace, CopySpace, Mount as MountIt, Bind, Move, Unmount, SetAttr}
+use Rattle.mt_book.specs.declared.command.Command.TheVariants.{MakeFs, MakeDir, NewSpace, CopySpace, DropSpace, Mount as MountIt, Bind, Move, Unmount, SetAttr}
 use Rattle.mt_book.specs.declared.command.Reply.{Reply}
 use Rattle.mt_book.specs.Step.{step, next_world, world_or, makes_directories}
 use Rattle.mt_book.specs.Parts.{is_part, part_at}
-use Rattle.mt_book.proofs.EffectLaws.{number_ok, done_ok, space_made, copy_made, mount_made, bind_made, move_made, mount_gone, change_made, space-skel, copy-skel, copied-skel, gone-skel, change-skel}
+use Rattle.mt_book.proofs.EffectLaws.{number_ok, done_ok, space_made, copy_made, space_dropped, mount_made, bind_made, move_made, mount_gone, change_made, space-skel, copy-skel, end-skel, copied-skel, gone-skel, change-skel}
 
 -- a command that makes no directories leaves them as they are
 pub skel_kept : (w : WorldView) (c : Command) (v : WorldView) (r : Reply) → makes_directories c ≡ false → step w c ≡ Ok (v, r) → v.skel ≡ w.skel
@@ -33,9 +33,12 @@ skel_kept w (NewSpace fs) v r d e =
     let q = number_ok (new_space w fs) v r e in
     let m = space_made w v fs q.0 q.1 in
     ap (λ (x : WorldView). x.skel) m.2 ∙ space-skel w m.0
-skel_kept w (CopySpace n) v r d e =
-    let q = number_ok (copy_space w n false) v r e in
-    ap (λ (x : WorldView). x.skel) (copy_made w v n false q.0 q.1) ∙ copy-skel w n false
+skel_kept w (CopySpace n less) v r d e =
+    let q = number_ok (copy_space w n less) v r e in
+    ap (λ (x : WorldView). x.skel) (copy_made w v n less q.0 q.1) ∙ copy-skel w n less
+skel_kept w (DropSpace n) v r d e =
+    let m = space_dropped w v n (done_ok (drop_space w n) v r e) in
+    ap (λ (x : WorldView). x.skel) m.1 ∙ end-skel w n
 skel_kept w (MountIt n fs path) v r d e =
     let q = number_ok (mounted w n fs path) v r e in
     let m = mount_made w v n fs path q.0 q.1 in

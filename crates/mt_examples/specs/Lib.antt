@@ -28,6 +28,7 @@ pub mod ManyMounts
 pub mod TooManyMounts
 pub mod FirstGroupSeen
 pub mod LessPrivilegedCopy
+pub mod CopyOfTheCopy
 pub mod DroppedNamespace
 pub mod StateTransitions
 pub mod Sending

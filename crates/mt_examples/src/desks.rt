@@ -42,7 +42,7 @@ fn number_of(post: Option<Arc<Post>>) -> u64 {
 }
 
 /// Whether a watcher meets its desk so.
-fn meets<J: Naming>(
+pub(crate) fn meets<J: Naming>(
     desk: &mut Desk<J>,
     watcher: &mut Watcher<J>,
     posted: u64,

@@ -62,4 +62,4 @@ is_run scope before since ps rest split = record { each = each }
         sym (filter-append (λ (q : PostView). q.space == n) ps rest) ∙ ap (space_posts n) (sym split) ∙ space_followed scope n named (posts_from before since) ∙ space_events n before since in
         let at = ap (λ l. slice_get l (posts_in n (take k ps))) (sym all) ∙ get_left (space_posts n ps) (space_posts n rest) (posts_in n (take k ps)) p (place_of_space n ps k p e refl) in
         let number = (numbers n (space_number n before + 1) (after before) since (posts_in n (take k ps)) p at).1 in
-        (named, omega (arith, number, numbers_found before scope n named))
+        (named, omega (arith, number, numbers_found before since scope n (space_number n before + 1) (posts_in n (take k ps)) p named at))

@@ -10,7 +10,7 @@ use Rattle.mt_events.specs.declared.opening.Scope.TheVariants.{One, All}
 use Rattle.mt_requests.specs.Options.{change_of}
 use Rattle.mt_requests.specs.declared.request.Request.{Request}
 use Rattle.mt_requests.specs.declared.request.Request.TheVariants.{Watch, Take, Follow}
-use Rattle.mt_requests.specs.Requests.{unless, request_from, mkfs_of, mkdir_of, newns_of, copyns_of, mount_of, two_paths_of, bind_of, move_of, umount_of, setattr_of, show_of, find_of, quit_of, stop_of, watch_of, most_taken, most_followed, count_of, take_of, follow_of, close_of, HasRightCount, Reader, watching_lines, lines, read_by, by_words, request_of, ReadsAs}
+use Rattle.mt_requests.specs.Requests.{unless, request_from, mkfs_of, mkdir_of, newns_of, copy_said, copyns_of, dropns_of, mount_of, two_paths_of, bind_of, move_of, umount_of, setattr_of, show_of, find_of, quit_of, stop_of, watch_of, most_taken, most_followed, count_of, take_of, follow_of, close_of, HasRightCount, Reader, watching_lines, lines, read_by, by_words, request_of, ReadsAs}
 
 -- what is said
 of_said : (said r : Request) → ◌≡◌ {A = Result Request Fault} (Ok said) (Ok r) → HasRightCount said → HasRightCount r
@@ -70,7 +70,16 @@ newns_right _ r e = cc
 
 copyns_right : IsRight copyns_of
 copyns_right (space ∷ []) r e = of_some _ (number_in_text space) r e (λ n f. of_said _ r f tt)
+copyns_right (space ∷ word ∷ []) r e = go (bytes_eq word (codes "less")) e
+  where
+    go : (less : Bool) → cond {A = Result Request Fault} less (copy_said true space) (Err BadLine) ≡ Ok r → HasRightCount r
+    go true f = of_some _ (number_in_text space) r f (λ n g. of_said _ r g tt)
+    go false f = cc
 copyns_right _ r e = cc
+
+dropns_right : IsRight dropns_of
+dropns_right (space ∷ []) r e = of_some _ (number_in_text space) r e (λ n f. of_said _ r f tt)
+dropns_right _ r e = cc
 
 mount_right : IsRight mount_of
 mount_right (space ∷ fs ∷ path ∷ []) r e = of_some _ (number_in_text space) r e (λ n f. of_unless _ _ r f tt)
@@ -148,7 +157,7 @@ finding_right = (show_right, (find_right, (quit_right, (stop_right, watching_rig
 
 all_right : AreRight lines
 all_right =
-    (mkfs_right, (mkdir_right, (newns_right, (copyns_right, (mount_right, (bind_right false, (bind_right true, (move_right, (umount_right, (setattr_right, finding_right))))))))))
+    (mkfs_right, (mkdir_right, (newns_right, (copyns_right, (dropns_right, (mount_right, (bind_right false, (bind_right true, (move_right, (umount_right, (setattr_right, finding_right)))))))))))
 
 words_right : (said : List (List ℕ)) (r : Request) → by_words said ≡ Ok r → HasRightCount r
 words_right [] r e = cc

@@ -105,10 +105,20 @@ abbrev pub newns_of : List (List ℕ) → Result Request Fault
 newns_of (fs ∷ []) = unless (label_fault fs) (request.Run (command.NewSpace (label_bytes fs)))
 newns_of _ = Err BadLine
 
--- `copyns NS` makes a namespace that is a copy of another
+-- a copy of the namespace that a word names, less privileged or not
+abbrev pub copy_said : Bool → List ℕ → Result Request Fault
+copy_said less space = option_map_or (λ n. Ok (request.Run (command.CopySpace n less))) (number_in_text space) (Err BadLine)
+
+-- `copyns NS` makes a namespace that is a copy of another, and `copyns NS less` a less privileged one
 abbrev pub copyns_of : List (List ℕ) → Result Request Fault
-copyns_of (space ∷ []) = option_map_or (λ n. Ok (request.Run (command.CopySpace n))) (number_in_text space) (Err BadLine)
+copyns_of (space ∷ []) = copy_said false space
+copyns_of (space ∷ word ∷ []) = if bytes_eq word (codes "less") then copy_said true space else Err BadLine
 copyns_of _ = Err BadLine
+
+-- `dropns NS` ends a namespace
+abbrev pub dropns_of : List (List ℕ) → Result Request Fault
+dropns_of (space ∷ []) = option_map_or (λ n. Ok (request.Run (command.DropSpace n))) (number_in_text space) (Err BadLine)
+dropns_of _ = Err BadLine
 
 -- `mount NS FS PATH` mounts a filesystem in a namespace; a bad number is a bad line, and so comes before every other fault
 abbrev pub mount_of : List (List ℕ) → Result Request Fault
@@ -216,6 +226,7 @@ lines =
     ∷ (codes "mkdir", mkdir_of)
     ∷ (codes "newns", newns_of)
     ∷ (codes "copyns", copyns_of)
+    ∷ (codes "dropns", dropns_of)
     ∷ (codes "mount", mount_of)
     ∷ (codes "bind", bind_of false)
     ∷ (codes "rbind", bind_of true)

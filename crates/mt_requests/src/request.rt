@@ -1,6 +1,6 @@
 //! Requests, as lines say them.
 ghost use Rattle.std.specs.Prelude.{◌≡◌, IfOk, None, Some};
-ghost use Rattle.mt_requests.specs.Requests.{ReadsAs, request_of, HasNoFault, prior_of_two, prior_fault, Reads, two_paths_of, mkfs_of, mkdir_of, newns_of, copyns_of, mount_of, bind_of, move_of, umount_of, setattr_of, show_of, find_of, quit_of, stop_of, watch_of, count_of, take_of, follow_of, close_of, HasRightCount, watching_lines, read_by};
+ghost use Rattle.mt_requests.specs.Requests.{ReadsAs, request_of, HasNoFault, prior_of_two, prior_fault, Reads, two_paths_of, mkfs_of, mkdir_of, newns_of, copy_said, copyns_of, dropns_of, mount_of, bind_of, move_of, umount_of, setattr_of, show_of, find_of, quit_of, stop_of, watch_of, count_of, take_of, follow_of, close_of, HasRightCount, watching_lines, read_by};
 
 use crate::label::{label_fault, label_of};
 use crate::options::change_of;
@@ -117,15 +117,40 @@ fn read_newns(alloc: Global, words: &mut Words<'_>) -> Result<Request, Fault>
     Ok(Request::Run(Command::NewSpace { fs }))
 }
 
-/// The request of a line `copyns NS`, behind the first word.
+/// The request of a copy of the namespace that a word names, less privileged or not.
+fn copy_said(space: &[u8], less: bool) -> Result<Request, Fault>
+    ensures { result ≡ copy_said less space.now }
+{
+    let space = number(space).ok_or(Fault::BadLine)?;
+    Ok(Request::Run(Command::CopySpace { space, less }))
+}
+
+/// The request of a line `copyns NS` or `copyns NS less`, behind the first word.
 fn read_copyns(words: &mut Words<'_>) -> Result<Request, Fault>
     ensures { result ≡ copyns_of words.old }
+{
+    let (Some(space), word, None) = (words.next(), words.next(), words.next()) else {
+        return Err(Fault::BadLine);
+    };
+    let Some(word) = word else {
+        return copy_said(space, false);
+    };
+    if word == b"less".as_slice() {
+        copy_said(space, true)
+    } else {
+        Err(Fault::BadLine)
+    }
+}
+
+/// The request of a line `dropns NS`, behind the first word.
+fn read_dropns(words: &mut Words<'_>) -> Result<Request, Fault>
+    ensures { result ≡ dropns_of words.old }
 {
     let (Some(space), None) = (words.next(), words.next()) else {
         return Err(Fault::BadLine);
     };
     let space = number(space).ok_or(Fault::BadLine)?;
-    Ok(Request::Run(Command::CopySpace { space }))
+    Ok(Request::Run(Command::DropSpace { space }))
 }
 
 /// The request of a line `mount NS FS PATH`, behind the first word.
@@ -369,6 +394,8 @@ fn read_line(alloc: Global, line: &[u8]) -> Result<Request, Fault>
         read_newns(alloc, &mut words)
     } else if command == b"copyns".as_slice() {
         read_copyns(&mut words)
+    } else if command == b"dropns".as_slice() {
+        read_dropns(&mut words)
     } else if command == b"mount".as_slice() {
         read_mount(alloc, &mut words)
     } else if command == b"bind".as_slice() {
