@@ -15,7 +15,7 @@ use Rattle.mt_events.specs.Posts.{PostView, IsPost, event_words, gone_line, row_
 use Rattle.mt_events.specs.Mirrors.{MirrorView, is_next, are_next, mirrored}
 use Rattle.mt_client.specs.Reading.{texts, printed, NoneFirst, AreSoMany}
 use Rattle.mt_client.specs.Mirroring.{IsRefusal, counted_line, opening_lines, Follows, HasOpened, HasFollowed}
-use Rattle.mt_client.specs.Awaited.{fourth_number, IsNumbered, IsOneRefusal, IsRefusedOr, IsOpening, IsNextPost, IsBehind, TakesPost, TakesBehind, IsLast, IsFollowing, IsEnd, IsMirroring}
+use Rattle.mt_client.specs.Awaited.{fourth_number, IsOneRefusal, IsRefusedOr, IsOpening, IsNextPost, IsBehind, TakesPost, TakesBehind, IsLast, IsFollowing, IsEnd, IsMirroring}
 use Rattle.mt_client.proofs.OpeningLaws.{texts_split, needs_line, unrefused_or, opened_alike}
 
 pub on_ok : {A E : Type 0} {P : Type 0} (r : Result A E) → P → OnOk r P
@@ -260,9 +260,9 @@ mirroring_needs_opening space count before none lines later (inr k) e =
     none (opening_lines k.found) (texts k.others ++ later) (inr (record { found = k.found; shown = k.shown; of = k.of; all = refl }))
     (e ∙ ap (λ ls. texts ls ++ later) k.all ∙ texts_split (opening_lines k.found) k.others later)
 
-pub mirroring_needs_posts : (space count : ℕ) (mirror : MirrorView) (before middle : List Item) → HasOpened space before middle mirror → IsNumbered mirror → NoneFirst IsOneRefusal before
+pub mirroring_needs_posts : (space count : ℕ) (mirror : MirrorView) (before middle : List Item) → HasOpened space before middle mirror → NoneFirst IsOneRefusal before
     → NoneFirst (IsFollowing (counted_line count) count mirror) middle → NoneFirst (IsRefusedOr (IsMirroring space count)) before
-mirroring_needs_posts space count mirror before middle o n refusal none =
+mirroring_needs_posts space count mirror before middle o refusal none =
     unrefused_or before refusal (λ lines later k e.
-    let a = opened_alike space before middle (texts k.others ++ later) mirror k.found o n k.shown (e ∙ ap (λ ls. texts ls ++ later) k.all ∙ texts_split (opening_lines k.found) k.others later) in
+    let a = opened_alike space before middle (texts k.others ++ later) mirror k.found o k.shown (e ∙ ap (λ ls. texts ls ++ later) k.all ∙ texts_split (opening_lines k.found) k.others later) in
     none k.others later (following_alike (counted_line count) count k.found mirror k.others (k.of ∙ sym o.of) (sym a.0) k.following) a.1)

@@ -2,7 +2,7 @@
 use Rattle.std.proofs.Common.{◌≡◌, ◌≢◌, ℕ, ◌+◌, ◌<◌, ◌≤◌, ◌^◌, MatchOption, MatchBool, IfOk, Result, Ok, Err, Bool, true, false, List, [], ◌∷◌, ◌++◌, map, length, refl, sym, ap, subst, ◌∙◌, arith, append_assoc, length-append, codes, decimal, Some, None, Option}
 use Rattle.std.proofs.lemmas.List.{append-nil}
 use Rattle.std.proofs.lemmas.Grind.{flat_map-append}
-use Rattle.std.specs.List.{flat_map, join_with_byte, list_all}
+use Rattle.std.specs.List.{flat_map, join_with_byte, list_all, AllByRecursion}
 use Rattle.mt_words.specs.Words.{words}
 use Rattle.mt_words.proofs.PieceLaws.{pieces_joined, joined_pieces}
 use Rattle.mt_info.proofs.WordLaws.{lacks, decimal-lacks}
@@ -12,7 +12,7 @@ use Rattle.mt_lines.specs.Lines.{Item, Text}
 use Rattle.mt_skel.proofs.MiddleLaws.{and-true, and_first, and_second}
 use Rattle.mt_info.specs.RowLine.{line}
 use Rattle.mt_info.specs.declared.row.Row.{Row}
-use Rattle.mt_events.specs.Posts.{PostView, post_text, ended}
+use Rattle.mt_events.specs.Posts.{PostView, IsPost, post_text, ended}
 use Rattle.mt_events.specs.Mirrors.{MirrorView, is_next, are_next, mirrored, mirrored_by}
 use Rattle.mt_session.specs.Answers.{count_text, row_line, part_text, opening_text}
 use Rattle.mt_client.specs.Reading.{texts, printed}
@@ -54,8 +54,12 @@ follows_more posts post old between new f h = record {
   make = h.make ∙ ap (λ m. mirrored m post) f.make ∙ sym (mirrored_more posts post old);
 }
 
+all_more : (posts : List PostView) (post : PostView) → AllByRecursion IsPost posts → IsPost post → AllByRecursion IsPost (posts ++ post ∷ [])
+all_more [] post all valid = (valid, tt)
+all_more (p ∷ posts) post all valid = (all.0, all_more posts post all.1 valid)
+
 pub none_followed : (before : List Item) (mirror : MirrorView) → HasFollowedSome 0 before before mirror mirror
-none_followed before mirror = record { lines = []; posts = []; read = refl; text = refl; many = refl; follows = record { are = refl; make = refl } }
+none_followed before mirror = record { lines = []; posts = []; valid = tt; read = refl; text = refl; many = refl; follows = record { are = refl; make = refl } }
 
 pub followed_more : (n : ℕ) (before middle after : List Item) (old between new : MirrorView) → HasFollowedSome n before middle old between → HasFollowed middle after between new → HasFollowedSome (n + 1) before after old new
 followed_more n before middle after old between new f h =
@@ -63,6 +67,7 @@ followed_more n before middle after old between new f h =
     record {
       lines = f.lines ++ h.lines;
       posts = f.posts ++ h.post ∷ [];
+      valid = all_more f.posts h.post f.valid h.valid;
       read = runs_read f.lines h.lines before middle after f.read h.read;
       text =
           printed-append f.lines h.lines ∙ (λ k. f.text k ++ (h.text ∙ sym (append-nil (post_text h.post))) k)
@@ -75,6 +80,7 @@ pub followed_all : (count : ℕ) (before middle after : List Item) (old new : Mi
 followed_all count before middle after old new f e = record {
   lines = f.lines ++ counted_line count ∷ [];
   posts = f.posts;
+  valid = f.valid;
   read = runs_read f.lines (counted_line count ∷ []) before middle after f.read e;
   text = printed-append f.lines (counted_line count ∷ []) ∙ (λ k. f.text k ++ append-nil (count_text count) k);
   many = f.many;
@@ -105,6 +111,8 @@ mirrored_whole space count before middle after found made o f = record {
   found = found;
   posts = f.posts;
   lines = opening_lines found ++ f.lines;
+  shown = o.shown;
+  valid = f.valid;
   of = o.of;
   read = runs_read (opening_lines found) f.lines before middle after o.read f.read;
   text = printed-append (opening_lines found) f.lines ∙ (λ k. opening_is found k ++ f.text k);
@@ -128,6 +136,7 @@ pub followed_by_post : (first : List ℕ) (before middle after : List Item) (old
 followed_by_post first before middle after old new e p = record {
   lines = first ∷ p.others;
   post = p.post;
+  valid = p.valid;
   read = e ∙ ap (λ x. Text first ∷ x) p.read;
   text = p.text;
   follows = p.follows;

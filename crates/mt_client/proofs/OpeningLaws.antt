@@ -17,8 +17,8 @@ use Rattle.mt_events.specs.Mirrors.{MirrorView}
 use Rattle.mt_client.specs.declared.opening.Heading.{Heading}
 use Rattle.mt_client.specs.Requests.{verdict}
 use Rattle.mt_client.specs.Reading.{texts, NoneFirst, AreSoMany}
-use Rattle.mt_client.specs.Mirroring.{counted_line, heading_words, heading_line, part_lines, opening_lines, HasOpened}
-use Rattle.mt_client.specs.Awaited.{IsShown, IsNumbered, IsOneRefusal, IsRefusedOr, IsRowLine, AreRowLines, IsShownPart, IsOpening}
+use Rattle.mt_client.specs.Mirroring.{IsShown, counted_line, heading_words, heading_line, part_lines, opening_lines, HasOpened}
+use Rattle.mt_client.specs.Awaited.{IsOneRefusal, IsRefusedOr, IsRowLine, AreRowLines, IsShownPart, IsOpening}
 use Rattle.mt_client.proofs.MirrorLaws.{heading_lacks}
 use Rattle.mt_client.proofs.RelayLaws.{texts-append}
 
@@ -164,10 +164,10 @@ opening_needs_part space count seen before middle there tells is small none =
     none (part_lines k.found) later (record { found = k.found; shown = k.shown; of = k.of; many = n; all = refl }) t.1)
 
 -- two openings that come first are of one number, and end in one place
-pub opened_alike : (space : ℕ) (before middle later : List Item) (mirror found : MirrorView) → HasOpened space before middle mirror → IsNumbered mirror → IsShown found → before ≡ texts (opening_lines found) ++ later
+pub opened_alike : (space : ℕ) (before middle later : List Item) (mirror found : MirrorView) → HasOpened space before middle mirror → IsShown found → before ≡ texts (opening_lines found) ++ later
     → (mirror.number ≡ found.number) × (middle ≡ later)
-opened_alike space before middle later mirror found o n s e =
+opened_alike space before middle later mirror found o s e =
     let t = first_taken (counted_line (1 + length mirror.rows)) (counted_line (1 + length found.rows)) (opening_lines found) (part_lines found) before (texts (part_lines mirror) ++ middle) later o.read refl e in
     let u = first_taken (heading_line mirror) (heading_line found) (part_lines found) (map line found.rows) (texts (part_lines mirror) ++ middle) (texts (map line mirror.rows) ++ middle) later refl refl t.1 in
-    let w = heading_tells mirror.space mirror.number (length mirror.rows) found.space found.number (length found.rows) n.space n.number (few (length mirror.rows) n.counted) s.space s.number (few (length found.rows) s.counted) (sym u.0) in
+    let w = heading_tells mirror.space mirror.number (length mirror.rows) found.space found.number (length found.rows) o.shown.space o.shown.number (few (length mirror.rows) o.shown.counted) s.space s.number (few (length found.rows) s.counted) (sym u.0) in
     (w.1, behind_rows mirror.rows found.rows middle later w.2 u.1)

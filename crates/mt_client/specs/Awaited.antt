@@ -1,32 +1,16 @@
 -- Which lines a mirror waits for: an opening of one namespace, posts that follow it, and their end; or a refusal in the place of a line.
 -- A word with no source is this project's rule.
-use Rattle.std.specs.Prelude.{◌≡◌, ℕ, ◌+◌, ◌≤◌, ◌<◌, ◌^◌, true, List, [], ◌∷◌, ◌++◌, map, length, IsTrue, ◌⊎◌, Option, None}
+use Rattle.std.specs.Prelude.{◌≡◌, ℕ, ◌+◌, ◌≤◌, true, List, [], ◌∷◌, ◌++◌, map, length, ◌⊎◌, Option, None}
 use Rattle.std.specs.List.{flat_map, AllByRecursion}
 use Rattle.mt_words.specs.Words.{number_in_text}
 use Rattle.mt_lines.specs.Lines.{Item}
-use Rattle.mt_skel.specs.Keyed.{rises}
-use Rattle.mt_info.specs.Table.{row_id}
 use Rattle.mt_info.specs.Laws.{IsRow}
 use Rattle.mt_info.specs.RowLine.{line}
 use Rattle.mt_info.specs.declared.row.Row.{Row}
 use Rattle.mt_events.specs.Posts.{PostView, IsPost, post_lines}
 use Rattle.mt_events.specs.Mirrors.{MirrorView, is_next, are_next}
 use Rattle.mt_client.specs.Reading.{texts}
-use Rattle.mt_client.specs.Mirroring.{IsRefusal, counted_line, part_lines, opening_lines}
-
--- what is true of every namespace that a server shows: numbers of 64 bits, that of its lines too, and rows by rising ID
-pub record IsShown (m : MirrorView) : Type 0 where
-  pub space : m.space < 2 ^ 64
-  pub number : m.number < 2 ^ 64
-  pub counted : 1 + length m.rows < 2 ^ 64
-  pub rows : AllByRecursion IsRow m.rows
-  pub rising : IsTrue (rises row_id m.rows)
-
--- the numbers of a mirror have 64 bits, and that of its lines too
-pub record IsNumbered (m : MirrorView) : Type 0 where
-  pub space : m.space < 2 ^ 64
-  pub number : m.number < 2 ^ 64
-  pub counted : 1 + length m.rows < 2 ^ 64
+use Rattle.mt_client.specs.Mirroring.{IsRefusal, IsShown, counted_line, part_lines, opening_lines}
 
 -- the number that is the fourth of the words: how many lines stand behind the first line of a post
 abbrev pub fourth_number : List (List ℕ) → Option ℕ

@@ -1,10 +1,13 @@
 -- What a mirror reads: the opening of a watcher of one namespace, posts that follow it, and their end.
 -- A word with no source is this project's rule.
-use Rattle.std.specs.Prelude.{◌≡◌, ℕ, ◌+◌, ◌≤◌, true, false, List, [], ◌∷◌, ◌++◌, map, length, Some, codes, decimal, ◌⊎◌}
-use Rattle.std.specs.List.{flat_map, join_with_byte}
+use Rattle.std.specs.Prelude.{◌≡◌, ℕ, ◌+◌, ◌≤◌, ◌<◌, ◌^◌, true, false, List, [], ◌∷◌, ◌++◌, map, length, IsTrue, Some, codes, decimal, ◌⊎◌}
+use Rattle.std.specs.List.{flat_map, join_with_byte, AllByRecursion}
+use Rattle.mt_skel.specs.Keyed.{rises}
 use Rattle.mt_lines.specs.Lines.{Item, Text}
+use Rattle.mt_info.specs.Table.{row_id}
+use Rattle.mt_info.specs.Laws.{IsRow}
 use Rattle.mt_info.specs.RowLine.{line}
-use Rattle.mt_events.specs.Posts.{PostView, post_text, ended}
+use Rattle.mt_events.specs.Posts.{PostView, IsPost, post_text, ended}
 use Rattle.mt_events.specs.Mirrors.{MirrorView, are_next, mirrored_by}
 use Rattle.mt_events.specs.declared.opening.Opening.{Opening}
 use Rattle.mt_events.specs.declared.opening.Scope.TheVariants.{One}
@@ -39,13 +42,22 @@ opening_with m = record { scope = One m.space; parts = record { space = m.space;
 abbrev pub IsRefusal : List ℕ → Type 0
 IsRefusal line = verdict line ≡ Some false
 
+-- what is true of every namespace that a server shows: numbers of 64 bits, that of its lines too, and rows by rising ID
+pub record IsShown (m : MirrorView) : Type 0 where
+  pub space : m.space < 2 ^ 64
+  pub number : m.number < 2 ^ 64
+  pub counted : 1 + length m.rows < 2 ^ 64
+  pub rows : AllByRecursion IsRow m.rows
+  pub rising : IsTrue (rises row_id m.rows)
+
 -- posts of which each is the next one of the mirror that those before it have made, and the mirror that they make
 pub record Follows (posts : List PostView) (old new : MirrorView) : Type 0 where
   pub are : are_next old posts ≡ true
   pub make : new ≡ mirrored_by old posts
 
--- these lines were read of an opening, and are its text
+-- these lines were read of an opening that a server can show, and are its text
 pub record HasOpened (space : ℕ) (before after : List Item) (found : MirrorView) : Type 0 where
+  pub shown : IsShown found
   pub of : found.space ≡ space
   pub read : before ≡ texts (opening_lines found) ++ after
 
@@ -53,6 +65,7 @@ pub record HasOpened (space : ℕ) (before after : List Item) (found : MirrorVie
 pub record HasPosted (first : List ℕ) (before after : List Item) (old new : MirrorView) : Type 0 where
   pub others : List (List ℕ)
   pub post : PostView
+  pub valid : IsPost post
   pub read : before ≡ texts others ++ after
   pub text : printed (first ∷ others) ≡ post_text post
   pub follows : Follows (post ∷ []) old new
@@ -61,6 +74,7 @@ pub record HasPosted (first : List ℕ) (before after : List Item) (old new : Mi
 pub record HasFollowed (before after : List Item) (old new : MirrorView) : Type 0 where
   pub lines : List (List ℕ)
   pub post : PostView
+  pub valid : IsPost post
   pub read : before ≡ texts lines ++ after
   pub text : printed lines ≡ post_text post
   pub follows : Follows (post ∷ []) old new
@@ -69,6 +83,7 @@ pub record HasFollowed (before after : List Item) (old new : MirrorView) : Type 
 pub record HasFollowedSome (count : ℕ) (before after : List Item) (old new : MirrorView) : Type 0 where
   pub lines : List (List ℕ)
   pub posts : List PostView
+  pub valid : AllByRecursion IsPost posts
   pub read : before ≡ texts lines ++ after
   pub text : printed lines ≡ flat_map post_text posts
   pub many : length posts ≡ count
@@ -78,6 +93,7 @@ pub record HasFollowedSome (count : ℕ) (before after : List Item) (old new : M
 pub record HasFollowedAll (count : ℕ) (before after : List Item) (old new : MirrorView) : Type 0 where
   pub lines : List (List ℕ)
   pub posts : List PostView
+  pub valid : AllByRecursion IsPost posts
   pub read : before ≡ texts lines ++ after
   pub text : printed lines ≡ followed_text posts (count_text count)
   pub many : length posts ≡ count
@@ -93,6 +109,8 @@ pub record HasMirrored (space count : ℕ) (before after : List Item) (made : Mi
   pub found : MirrorView
   pub posts : List PostView
   pub lines : List (List ℕ)
+  pub shown : IsShown found
+  pub valid : AllByRecursion IsPost posts
   pub of : found.space ≡ space
   pub read : before ≡ texts lines ++ after
   pub text : printed lines ≡ opening_text (opening_with found) ++ followed_text posts (count_text count)

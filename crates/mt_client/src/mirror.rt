@@ -7,7 +7,7 @@ ghost use Rattle.mt_events.specs.Posts.{ended};
 ghost use Rattle.mt_client.specs.Requests.{numbered_text, verdict};
 ghost use Rattle.mt_client.specs.Reading.{lines_left, texts, printed, IsSentPart, NoneFirst, IsCut};
 ghost use Rattle.mt_client.specs.Mirroring.{IsRefusal, counted_line, HasOpened, HasFollowed, HasFollowedAll, HasRefused, IsLeft, HasMirrored, requests_text, IsRefused};
-ghost use Rattle.mt_client.specs.Awaited.{IsNumbered, IsOneRefusal, IsRefusedOr, IsOpening, IsNextPost, TakesPost, IsFollowing, IsEnd, IsMirroring};
+ghost use Rattle.mt_client.specs.Awaited.{IsOneRefusal, IsRefusedOr, IsOpening, IsNextPost, TakesPost, IsFollowing, IsEnd, IsMirroring};
 
 use crate::answer::verdict;
 use crate::fault::ClientFault;
@@ -71,7 +71,6 @@ fn read_opening<R: Input + Drop>(
         (λ mirror. HasOpened space (lines_left lines.old) (lines_left lines.new) mirror)) }
     ensures fresh { OnOk result (fault_of lines.new ≡ None) }
     ensures kind { result ≢ Err ClientFault.Output }
-    ensures numbered { IfOk result (λ found. IfSome found (λ mirror. IsNumbered mirror)) }
     ensures unrefused { IfOk result (λ found. IsTrue R.tells → IfSome found (λ mirror. NoneFirst IsOneRefusal (lines_left lines.old))) }
     ensures cut { result ≡ Err ClientFault.Connection → IsTrue R.tells → IsTrue R.counts
         → IsCut (IsRefusedOr (IsOpening space)) (lines_left lines.old) (failed_calls lines.old) (failed_calls lines.new) }
@@ -198,7 +197,8 @@ fn print_mirror<O: Output>(alloc: Global, out: &mut O, mirror: &Mirror) -> Resul
 /// and false where a refusal was, that of the first request, or one that comes in the place of a post.
 ///
 /// Refused as `Connection` where the connection fails or ends early, or where what comes is neither: the opening of
-/// another namespace, or of several, a post that is not the next one, or an end that counts other posts. Refused as
+/// another namespace, or of several, rows that are not well-formed or do not rise by ID, what is no post, a post that
+/// is not the next one, or an end that counts other posts. Refused as
 /// `Output` where what was to be printed does not go out, and else as `NoMemory`. But for `Output` nothing was
 /// printed then.
 pub fn mirror<R: Input + Drop, W: Output, O: Output>(
@@ -211,8 +211,9 @@ pub fn mirror<R: Input + Drop, W: Output, O: Output>(
 ) -> Result<bool, ClientFault>
     requires fresh { fault_of lines.old ≡ None }
 
-    // Where a table is printed, the lines that were read are the text of the namespace's opening and of so many
-    // posts that follow it; it is the table, and the number, that applying these posts to the opening gives.
+    // Where a table is printed, the lines that were read are the text of an opening of the namespace that a server can
+    // show, and of so many posts that are well-formed and follow it; it is the table, and the number, that applying
+    // these posts to the opening gives.
     ensures mirrored { result ≡ Ok true → IsTrue R.tells → IsTrue O.tells → (made : MirrorView)
         × HasMirrored space count (lines_left lines.old) (lines_left lines.new) made
         × (O.written out.new ≡ O.written out.old ++ table_text made.number made.rows) }

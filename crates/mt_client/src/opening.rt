@@ -6,8 +6,8 @@ ghost use Rattle.mt_lines.specs.Reading.{failed_calls, fault_of, limit_of};
 ghost use Rattle.mt_info.specs.Laws.{IsRow};
 ghost use Rattle.mt_info.specs.RowLine.{line};
 ghost use Rattle.mt_client.specs.Reading.{lines_left, texts, IsCut};
-ghost use Rattle.mt_client.specs.Mirroring.{counted_line, heading_words, part_lines};
-ghost use Rattle.mt_client.specs.Awaited.{IsNumbered, IsRowLine, AreRowLines, IsShownPart};
+ghost use Rattle.mt_client.specs.Mirroring.{IsShown, counted_line, heading_words, part_lines};
+ghost use Rattle.mt_client.specs.Awaited.{IsRowLine, AreRowLines, IsShownPart};
 
 use crate::fault::ClientFault;
 use crate::relay::next_text;
@@ -146,7 +146,7 @@ pub(crate) fn read_part<R: Input + Drop>(
     ensures many { IfOk result (λ mirror. 1 + length mirror.rows ≡ count) }
     ensures fresh { OnOk result (fault_of lines.new ≡ None) }
     ensures kind { result ≢ Err ClientFault.Output }
-    ensures numbered { IfOk result (λ mirror. IsNumbered mirror) }
+    ensures shown { IfOk result (λ mirror. IsShown mirror) }
     ensures cut { result ≡ Err ClientFault.Connection → IsTrue R.tells → IsTrue R.counts
         → IsCut (IsShownPart space count) (lines_left lines.old) (failed_calls lines.old) (failed_calls lines.new) }
     ensures counted { IsTrue R.counts → failed_calls lines.old ≤ failed_calls lines.new }

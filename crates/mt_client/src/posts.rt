@@ -1,5 +1,5 @@
 //! Posts as they are followed.
-ghost use Rattle.std.specs.Prelude.{◌≡◌, ◌≢◌, ℕ, ◌+◌, ◌<◌, ◌≤◌, ◌^◌, List, [], ◌∷◌, ◌++◌, length, false, Some, None, Err, OnOk, IsTrue};
+ghost use Rattle.std.specs.Prelude.{◌≡◌, ◌≢◌, ℕ, ◌+◌, ◌<◌, ◌≤◌, List, [], ◌∷◌, ◌++◌, length, false, Some, None, Err, OnOk, IsTrue};
 ghost use Rattle.mt_lines.specs.Reading.{failed_calls, fault_of, last_line, limit_of};
 ghost use Rattle.mt_words.specs.Words.{words};
 ghost use Rattle.mt_events.specs.Posts.{PostView, IsPost, post_text, ended};
@@ -11,7 +11,6 @@ ghost use Rattle.mt_client.specs.Awaited.{fourth_number, IsBehind, TakesBehind};
 use crate::fault::ClientFault;
 use crate::relay::next_text;
 use mt_events::mirror::Mirror;
-use mt_events::post::Post;
 use mt_events::read::read_post;
 use mt_lines::line::LineReader;
 use mt_lines::stream::Input;
@@ -79,18 +78,9 @@ fn client_fault(fault: Fault) -> ClientFault
     }
 }
 
-/// The namespace and the number of a post have 64 bits.
-fn know_numbers(post: &Post)
-    ensures space { post.now.space < 2 ^ 64 }
-    ensures number { post.now.number < 2 ^ 64 }
-{
-    let _space = post.space;
-    let _number = post.number;
-}
-
 /// Applies the post that a text says.
 fn apply_text(alloc: Global, mirror: &mut Mirror, text: &[u8]) -> Result<(), ClientFault>
-    ensures applied { OnOk result ((post : PostView) × (text.now ≡ post_text post) × Follows (post ∷ []) mirror.old mirror.new) }
+    ensures applied { OnOk result ((post : PostView) × IsPost post × (text.now ≡ post_text post) × Follows (post ∷ []) mirror.old mirror.new) }
     ensures refused { result ≡ Err ClientFault.Connection → (post : PostView) → IsPost post → text.now ≡ post_text post → is_next mirror.old post ≡ false }
     ensures kind { result ≢ Err ClientFault.Output }
 {
@@ -98,7 +88,6 @@ fn apply_text(alloc: Global, mirror: &mut Mirror, text: &[u8]) -> Result<(), Cli
         Ok(post) => post,
         Err(fault) => return Err(client_fault(fault)),
     };
-    know_numbers(&post);
     match mirror.apply(&post) {
         Ok(()) => Ok(()),
         Err(fault) => Err(client_fault(fault)),

@@ -54,4 +54,4 @@ returns-in_err-follow_posts-clause-connection g c is t u v =
     let p = err_from_is_err_and c.from_residual-in_err-follow_posts.result c.from_residual-in_err-follow_posts.ensures.1 in
     let same = same_fault _ _ _ _ p.1 p.2 is in
     inr (cut_within _ _ _ _ _ _ (c.in_ok-mirror.ensures.counted u) (omega arith)
-    (mirroring_needs_posts c.args.space c.args.count c.in-Some.mirror _ _ (when_some _ _ c.in_ok-mirror.field-0 c.in-Some.mirror (search rules) (c.in_ok-mirror.ensures.found t)) (search rules) (search rules)) (c.in_err-follow_posts.ensures.cut (ap Err same) t u))
+    (mirroring_needs_posts c.args.space c.args.count c.in-Some.mirror _ _ (when_some _ _ c.in_ok-mirror.field-0 c.in-Some.mirror (search rules) (c.in_ok-mirror.ensures.found t)) (search rules)) (c.in_err-follow_posts.ensures.cut (ap Err same) t u))
