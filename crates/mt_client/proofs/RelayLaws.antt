@@ -1,19 +1,20 @@
 -- What was read and printed, line by line, and what cannot come first then.
-use Rattle.std.proofs.Common.{◌≡◌, ◌≢◌, ℕ, ◌+◌, ◌<◌, ◌≤◌, nat_le, Bool, true, false, List, [], ◌∷◌, ◌++◌, length, refl, sym, ap, subst, ◌∙◌, arith, append_assoc, length-append, Result, Ok, Err, OnErr, IfErr, Some, None, inl, inr}
+use Rattle.std.proofs.Common.{◌≡◌, ◌≢◌, ℕ, ◌+◌, ◌<◌, ◌≤◌, nat_le, Bool, true, false, List, [], ◌∷◌, ◌++◌, length, refl, sym, ap, subst, ◌∙◌, arith, append_assoc, length-append, Result, Ok, Err, OnErr, IfErr, Some, None, inl, inr, ◌⊎◌}
 use Rattle.std.proofs.lemmas.List.{append-nil, map-append}
 use Rattle.std.proofs.lemmas.Bool.Decides.{nat_tests}
 use Rattle.std.proofs.lemmas.Grind.{flat_map-append}
 use Rattle.std.specs.List.{AllByRecursion}
 use Rattle.mt_lines.specs.Lines.{Item, Text, lines_of}
-use Rattle.mt_lines.specs.Reading.{IsNext, IsFaultCause}
+use Rattle.mt_lines.specs.Reading.{IsNext, IsFaultCause, IsFaultRun}
 use Rattle.mt_lines.specs.declared.line.ReadFault.{ReadFault}
+use Rattle.mt_lines.specs.declared.stream.StreamFault.{StreamFault}
 use Rattle.mt_lines.specs.declared.line.ReadFault.TheVariants.{Device, Interrupted, Endless, NoMemory as NoRoom}
 use Rattle.mt_client.specs.declared.fault.ClientFault.{ClientFault}
 use Rattle.mt_client.specs.declared.fault.ClientFault.TheVariants.{Connection, Output, NoMemory}
 use Rattle.mt_client.specs.declared.answer.Extent.{Extent}
 use Rattle.mt_events.specs.Posts.{ended}
 use Rattle.mt_client.specs.Requests.{verdict, lines_behind, IsHeaded, IsFollowed, most_lines}
-use Rattle.mt_client.specs.Reading.{texts, printed, Passed, HasRead, HasPassed, IsWhole, IsBroken, IsCutOff, NoneFirst, AreSoMany, IsCut, reading_fault}
+use Rattle.mt_client.specs.Reading.{texts, printed, Passed, HasRead, HasPassed, IsWhole, HasBroken, IsBroken, IsCutOff, NoneFirst, AreSoMany, reading_fault}
 use Rattle.mt_client.proofs.RequestLaws.{cut_second}
 
 pub texts-append : (xs ys : List (List ℕ)) → texts (xs ++ ys) ≡ texts xs ++ texts ys
@@ -27,11 +28,15 @@ pub none_there : (before : List Item) → ((line : List ℕ) (later : List Item)
 none_there before none [] later one e = absurd (omega (arith, one))
 none_there before none (line ∷ lines) later one e = none line (texts lines ++ later) e
 
+-- calls that failed later
+pub broken_later : (old first new : ℕ) (none some all : List StreamFault) → old ≤ first → (none ≡ [] → some ≡ []) → HasBroken first new some all → HasBroken old new none all
+broken_later old first new none some all low served b = record { more = let more = b.more in omega (arith, low, more); last = λ e. b.last (served e) }
+
 -- a cut within is a cut of the whole, where what is left out rules out the whole
-pub cut_within : {kind inner : List (List ℕ) → Type 0} (before middle : List Item) (old new first last : ℕ) → old ≤ first → last ≤ new
-    → (NoneFirst inner middle → NoneFirst kind before) → IsCut inner middle first last → IsCut kind before old new
-cut_within before middle old new first last low high out (inl lt) = inl (omega (arith, low, high, lt))
-cut_within before middle old new first last low high out (inr none) = inr (out none)
+pub cut_within : {kind inner : List (List ℕ) → Type 0} (before middle : List Item) (old first new : ℕ) (none some all : List StreamFault) → old ≤ first → (none ≡ [] → some ≡ [])
+    → (NoneFirst inner middle → NoneFirst kind before) → HasBroken first new some all ⊎ NoneFirst inner middle → HasBroken old new none all ⊎ NoneFirst kind before
+cut_within before middle old first new none some all low served out (inl b) = inl (broken_later old first new none some all low served b)
+cut_within before middle old first new none some all low served out (inr not) = inr (out not)
 
 -- two lists of lines that begin one list of items
 pub split_front : (seen lines : List (List ℕ)) (middle later : List Item) → length seen ≤ length lines → texts seen ++ middle ≡ texts lines ++ later
@@ -114,12 +119,12 @@ so_many_cut n count before middle h lt none lines later many e =
     go (next ∷ more) is m = none (next ∷ []) (texts more ++ later) refl m
 
 -- a fault of the reader
-pub cut_by_fault : (f : ReadFault) (limit : ℕ) (before text after : List ℕ) (old new : ℕ) → ◌≡◌ {A = Result (Unit {0}) ClientFault} (Err (reading_fault f)) (Err Connection) → IsNext limit before (Err f) text after → IsFaultCause f old new
-    → IsCut (AreSoMany 1) (lines_of limit before) old new
-cut_by_fault Device limit before text after old new is next cause = inl cause
-cut_by_fault Interrupted limit before text after old new is next cause = inl (omega (arith, cause))
-cut_by_fault Endless limit before text after old new is next cause = inr (none_there (lines_of limit before) (λ line later e. let b = sym next.1 ∙ e in cc))
-cut_by_fault NoRoom limit before text after old new is next cause = cc
+pub cut_by_fault : (f : ReadFault) (limit : ℕ) (before text after : List ℕ) (old new : ℕ) (none all : List StreamFault) → ◌≡◌ {A = Result (Unit {0}) ClientFault} (Err (reading_fault f)) (Err Connection) → IsNext limit before (Err f) text after
+    → IsFaultCause f old new → (none ≡ [] → IsFaultRun f all) → HasBroken old new none all ⊎ NoneFirst (AreSoMany 1) (lines_of limit before)
+cut_by_fault Device limit before text after old new none all is next cause run = inl (record { more = cause; last = λ e. inl (run e) })
+cut_by_fault Interrupted limit before text after old new none all is next cause run = inl (record { more = omega (arith, cause); last = λ e. inr (run e) })
+cut_by_fault Endless limit before text after old new none all is next cause run = inr (none_there (lines_of limit before) (λ line later e. let b = sym next.1 ∙ e in cc))
+cut_by_fault NoRoom limit before text after old new none all is next cause run = cc
 
 pub never_output : (f : ReadFault) → ◌≡◌ {A = Result (Unit {0}) ClientFault} (Err (reading_fault f)) (Err Output) → ⊥
 never_output Device is = cc
@@ -206,5 +211,3 @@ followed_spent n before middle h is lines later f e =
     let l = ap length f.1.all ∙ length-append f.1.others (f.1.last ∷ []) in
     followed_behind n before middle later lines f.0 h f.1 e (let b = f.1.bounded in omega (arith, l, b, is))
 
-pub followed_ended : (n : ℕ) (before middle : List Item) (old new : ℕ) → HasRead (AreSilent n) before middle → most_lines ≤ n → old ≤ new → IsCut (λ all. (told : Bool) × IsFollowed all told) before old new
-followed_ended n before middle old new h is low = inr (followed_spent n before middle h is)

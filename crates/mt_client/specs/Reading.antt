@@ -1,13 +1,15 @@
 -- What a client has read of a connection, and what it has printed of it.
 -- A word with no source is this project's rule.
-use Rattle.std.specs.Prelude.{◌≡◌, ◌≢◌, ℕ, ◌<◌, List, ◌++◌, map, take, length, ◌⊎◌}
+use Rattle.std.specs.Prelude.{◌≡◌, ◌≢◌, ℕ, ◌<◌, List, [], ◌++◌, map, take, length, ◌⊎◌}
 use Rattle.std.specs.List.{flat_map}
 use Rattle.mt_lines.specs.Lines.{Item, Text, lines_of}
-use Rattle.mt_lines.specs.Reading.{bytes_left, limit_of}
+use Rattle.mt_lines.specs.Stream.{HasFailed, IsInterrupted}
+use Rattle.mt_lines.specs.Reading.{bytes_left, failed_calls, last_faults, limit_of}
 use Rattle.mt_lines.specs.declared.line.LineReader.{LineReader}
 use Rattle.mt_lines.specs.declared.line.ReadFault.{ReadFault}
 use Rattle.mt_lines.specs.declared.line.ReadFault.TheVariants.{Device, Interrupted, Endless, NoMemory as NoRoom}
 use Rattle.mt_lines.specs.declared.stream.Input.{Ghosts}
+use Rattle.mt_lines.specs.declared.stream.StreamFault.{StreamFault}
 use Rattle.mt_client.specs.declared.fault.ClientFault.{ClientFault}
 use Rattle.mt_client.specs.declared.fault.ClientFault.TheVariants.{Connection, Output, NoMemory}
 use Rattle.mt_events.specs.Posts.{ended}
@@ -83,6 +85,11 @@ NoneFirst kind before = (lines : List (List ℕ)) (later : List Item) → kind l
 abbrev pub AreSoMany : ℕ → List (List ℕ) → Type 0
 AreSoMany count lines = length lines ≡ count
 
--- calls failed, or no lines of this kind come first
-abbrev pub IsCut : (List (List ℕ) → Type 0) → List Item → ℕ → ℕ → Type 0
-IsCut kind before old new = (old < new) ⊎ NoneFirst kind before
+-- calls of a stream failed; and where no fault stood at the start, the last call failed, or was the last of as many interrupted ones in succession as end a read or a send
+pub record HasBroken (old new : ℕ) (before after : List StreamFault) : Type 0 where
+  pub more : old < new
+  pub last : before ≡ [] → HasFailed after ⊎ IsInterrupted after
+
+-- the reader's calls failed, or no lines of this kind come first
+abbrev pub IsCut : {R : Type 0} {g : Ghosts R} → (List (List ℕ) → Type 0) → LineReader R g → LineReader R g → Type 0
+IsCut kind old new = HasBroken (failed_calls old) (failed_calls new) (last_faults old) (last_faults new) ⊎ NoneFirst kind (lines_left old)

@@ -1,9 +1,9 @@
 //! One request and its answer.
-ghost use Rattle.std.specs.Prelude.{◌≡◌, Bool, ◌<◌, ◌++◌, ◌⊎◌, map, None, Err, IfOk, IfErr, OnOk, IsTrue};
-ghost use Rattle.mt_lines.specs.Reading.{failed_calls, fault_of, limit_of};
+ghost use Rattle.std.specs.Prelude.{◌≡◌, Bool, [], ◌++◌, ◌⊎◌, map, None, Err, IfOk, IfErr, OnOk, IsTrue};
+ghost use Rattle.mt_lines.specs.Reading.{last_faults, fault_of, limit_of};
 ghost use Rattle.mt_events.specs.Posts.{ended};
 ghost use Rattle.mt_client.specs.Requests.{request_text, extent_of, IsAnswer};
-ghost use Rattle.mt_client.specs.Reading.{lines_left, HasPassed, IsBroken, IsSentPart, IsCut};
+ghost use Rattle.mt_client.specs.Reading.{lines_left, HasPassed, HasBroken, IsBroken, IsSentPart, IsCut};
 
 use crate::answer::extent_of;
 use crate::fault::ClientFault;
@@ -42,15 +42,19 @@ pub fn ask_line<R: Input + Drop, W: Output, O: Output>(
     ensures broken { IsTrue R.tells → IsTrue O.tells → IfErr result
         (λ fault. IsBroken fault (lines_left lines.old) (O.written out.old) (O.written out.new)) }
 
-    // `Connection` only where a call of the reader or the writer failed, or no whole answer to the request comes
-    // first, and `Output` only where a call of the output failed.
+    // `Connection` only where calls of the reader or the writer failed, or no whole answer to the request comes
+    // first, and `Output` only where calls of the output failed; where no fault of the stream stood, the last call
+    // failed then, or was the last of as many interrupted ones in succession as end a read or a send.
     ensures connection { result ≡ Err ClientFault.Connection → IsTrue R.tells → IsTrue R.counts → IsTrue W.counts
-        → (W.failed writer.old < W.failed writer.new) ⊎ IsCut (λ all. (told : Bool) × IsAnswer (extent_of line.now) all told) (lines_left lines.old) (failed_calls lines.old) (failed_calls lines.new) }
+        → HasBroken (W.failed writer.old) (W.failed writer.new) (W.faults writer.old) (W.faults writer.new) ⊎ IsCut (λ all. (told : Bool) × IsAnswer (extent_of line.now) all told) lines.old lines.new }
     ensures output { result ≡ Err ClientFault.Output → IsTrue O.counts
-        → O.failed out.old < O.failed out.new }
+        → HasBroken (O.failed out.old) (O.failed out.new) (O.faults out.old) (O.faults out.new) }
 
-    // What the next request finds.
+    // What the next request finds: a reader that has met no fault, and where none of a stream stood, none.
     ensures fresh { OnOk result (fault_of lines.new ≡ None) }
+    ensures reads { OnOk result (IsTrue R.counts → last_faults lines.old ≡ [] → last_faults lines.new ≡ []) }
+    ensures writes { OnOk result (IsTrue W.counts → W.faults writer.old ≡ [] → W.faults writer.new ≡ []) }
+    ensures prints { OnOk result (IsTrue O.counts → O.faults out.old ≡ [] → O.faults out.new ≡ []) }
     ensures limit { limit_of lines.new ≡ limit_of lines.old }
 {
     send_request(writer, line)?;
@@ -88,15 +92,19 @@ pub fn ask<R: Input + Drop, W: Output, O: Output>(
     ensures broken { IsTrue R.tells → IsTrue O.tells → IfErr result
         (λ fault. IsBroken fault (lines_left lines.old) (O.written out.old) (O.written out.new)) }
 
-    // `Connection` only where a call of the reader or the writer failed, or no whole answer to the request comes
-    // first, and `Output` only where a call of the output failed.
+    // `Connection` only where calls of the reader or the writer failed, or no whole answer to the request comes
+    // first, and `Output` only where calls of the output failed; where no fault of the stream stood, the last call
+    // failed then, or was the last of as many interrupted ones in succession as end a read or a send.
     ensures connection { result ≡ Err ClientFault.Connection → IsTrue R.tells → IsTrue R.counts → IsTrue W.counts
-        → (W.failed writer.old < W.failed writer.new) ⊎ IsCut (λ all. (told : Bool) × IsAnswer (extent_of (request_text (map (λ word. word.now) words.now))) all told) (lines_left lines.old) (failed_calls lines.old) (failed_calls lines.new) }
+        → HasBroken (W.failed writer.old) (W.failed writer.new) (W.faults writer.old) (W.faults writer.new) ⊎ IsCut (λ all. (told : Bool) × IsAnswer (extent_of (request_text (map (λ word. word.now) words.now))) all told) lines.old lines.new }
     ensures output { result ≡ Err ClientFault.Output → IsTrue O.counts
-        → O.failed out.old < O.failed out.new }
+        → HasBroken (O.failed out.old) (O.failed out.new) (O.faults out.old) (O.faults out.new) }
 
-    // What the next request finds.
+    // What the next request finds: a reader that has met no fault, and where none of a stream stood, none.
     ensures fresh { OnOk result (fault_of lines.new ≡ None) }
+    ensures reads { OnOk result (IsTrue R.counts → last_faults lines.old ≡ [] → last_faults lines.new ≡ []) }
+    ensures writes { OnOk result (IsTrue W.counts → W.faults writer.old ≡ [] → W.faults writer.new ≡ []) }
+    ensures prints { OnOk result (IsTrue O.counts → O.faults out.old ≡ [] → O.faults out.new ≡ []) }
     ensures limit { limit_of lines.new ≡ limit_of lines.old }
 {
     let line = request_line(alloc, words)?;

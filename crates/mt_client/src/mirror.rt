@@ -1,11 +1,11 @@
 //! The table of a namespace, as its posts tell it to a client.
-ghost use Rattle.std.specs.Prelude.{◌≡◌, ◌≢◌, ◌⊎◌, ℕ, ◌+◌, ◌<◌, ◌≤◌, List, [], ◌∷◌, ◌++◌, true, false, Some, None, Ok, Err, IfOk, IfErr, IfSome, OnOk, OnErr, IsTrue, MatchBool, MatchOption};
-ghost use Rattle.mt_lines.specs.Reading.{failed_calls, fault_of, last_line, limit_of};
+ghost use Rattle.std.specs.Prelude.{◌≡◌, ◌≢◌, ◌⊎◌, ℕ, ◌+◌, ◌≤◌, List, [], ◌∷◌, ◌++◌, true, false, Some, None, Ok, Err, IfOk, IfErr, IfSome, OnOk, OnErr, IsTrue, MatchBool, MatchOption};
+ghost use Rattle.mt_lines.specs.Reading.{failed_calls, last_faults, fault_of, last_line, limit_of};
 ghost use Rattle.mt_session.specs.Answers.{table_text};
 ghost use Rattle.mt_events.specs.Mirrors.{MirrorView};
 ghost use Rattle.mt_events.specs.Posts.{ended};
 ghost use Rattle.mt_client.specs.Requests.{numbered_text, verdict};
-ghost use Rattle.mt_client.specs.Reading.{lines_left, texts, printed, IsSentPart, NoneFirst, IsCut};
+ghost use Rattle.mt_client.specs.Reading.{lines_left, texts, printed, HasBroken, IsSentPart, NoneFirst, IsCut};
 ghost use Rattle.mt_client.specs.Mirroring.{IsRefusal, counted_line, HasOpened, HasFollowed, HasFollowedAll, HasRefused, IsLeft, HasMirrored, requests_text, IsRefused};
 ghost use Rattle.mt_client.specs.Awaited.{IsOneRefusal, IsRefusedOr, IsOpening, IsNextPost, TakesPost, IsFollowing, IsEnd, IsMirroring};
 
@@ -45,8 +45,9 @@ fn send_numbered<W: Output>(
     ensures part { IsTrue W.tells
         → IsSentPart (ended (numbered_text command.now number)) (W.written writer.old) (W.written writer.new) }
     ensures kind { result ≢ Err ClientFault.Output }
-    ensures cause { result ≡ Err ClientFault.Connection → IsTrue W.counts → W.failed writer.old < W.failed writer.new }
+    ensures cause { result ≡ Err ClientFault.Connection → IsTrue W.counts → HasBroken (W.failed writer.old) (W.failed writer.new) (W.faults writer.old) (W.faults writer.new) }
     ensures counted { IsTrue W.counts → W.failed writer.old ≤ W.failed writer.new }
+    ensures writes { OnOk result (IsTrue W.counts → W.faults writer.old ≡ [] → W.faults writer.new ≡ []) }
 {
     let line = numbered_line(alloc, command, number)?;
     send_request(writer, line.as_slice())
@@ -73,8 +74,9 @@ fn read_opening<R: Input + Drop>(
     ensures kind { result ≢ Err ClientFault.Output }
     ensures unrefused { IfOk result (λ found. IsTrue R.tells → IfSome found (λ mirror. NoneFirst IsOneRefusal (lines_left lines.old))) }
     ensures cut { result ≡ Err ClientFault.Connection → IsTrue R.tells → IsTrue R.counts
-        → IsCut (IsRefusedOr (IsOpening space)) (lines_left lines.old) (failed_calls lines.old) (failed_calls lines.new) }
+        → IsCut (IsRefusedOr (IsOpening space)) lines.old lines.new }
     ensures counted { IsTrue R.counts → failed_calls lines.old ≤ failed_calls lines.new }
+    ensures reads { OnOk result (IsTrue R.counts → last_faults lines.old ≡ [] → last_faults lines.new ≡ []) }
     ensures limit { limit_of lines.new ≡ limit_of lines.old }
 {
     next_text(lines)?;
@@ -103,8 +105,9 @@ fn follow_post<R: Input + Drop>(
     ensures taken { result ≡ Ok true → IsTrue R.tells → TakesPost (lines_left lines.old) (lines_left lines.new) }
     ensures unrefused { result ≡ Ok true → IsTrue R.tells → NoneFirst IsOneRefusal (lines_left lines.old) }
     ensures cut { result ≡ Err ClientFault.Connection → IsTrue R.tells → IsTrue R.counts
-        → IsCut (IsRefusedOr (IsNextPost mirror.old)) (lines_left lines.old) (failed_calls lines.old) (failed_calls lines.new) }
+        → IsCut (IsRefusedOr (IsNextPost mirror.old)) lines.old lines.new }
     ensures counted { IsTrue R.counts → failed_calls lines.old ≤ failed_calls lines.new }
+    ensures reads { OnOk result (IsTrue R.counts → last_faults lines.old ≡ [] → last_faults lines.new ≡ []) }
     ensures limit { limit_of lines.new ≡ limit_of lines.old }
 {
     next_text(lines)?;
@@ -134,8 +137,9 @@ fn read_end<R: Input + Drop>(lines: &mut LineReader<R>, count: u64) -> Result<bo
     ensures fresh { OnOk result (fault_of lines.new ≡ None) }
     ensures kind { result ≢ Err ClientFault.Output }
     ensures cut { result ≡ Err ClientFault.Connection → IsTrue R.tells → IsTrue R.counts
-        → IsCut (IsRefusedOr (IsEnd count)) (lines_left lines.old) (failed_calls lines.old) (failed_calls lines.new) }
+        → IsCut (IsRefusedOr (IsEnd count)) lines.old lines.new }
     ensures counted { IsTrue R.counts → failed_calls lines.old ≤ failed_calls lines.new }
+    ensures reads { OnOk result (IsTrue R.counts → last_faults lines.old ≡ [] → last_faults lines.new ≡ []) }
     ensures limit { limit_of lines.new ≡ limit_of lines.old }
 {
     next_text(lines)?;
@@ -164,8 +168,9 @@ fn follow_posts<R: Input + Drop>(
     ensures fresh { OnOk result (fault_of lines.new ≡ None) }
     ensures kind { result ≢ Err ClientFault.Output }
     ensures cut { result ≡ Err ClientFault.Connection → IsTrue R.tells → IsTrue R.counts
-        → IsCut (IsFollowing (counted_line count) count mirror.old) (lines_left lines.old) (failed_calls lines.old) (failed_calls lines.new) }
+        → IsCut (IsFollowing (counted_line count) count mirror.old) lines.old lines.new }
     ensures counted { IsTrue R.counts → failed_calls lines.old ≤ failed_calls lines.new }
+    ensures reads { OnOk result (IsTrue R.counts → last_faults lines.old ≡ [] → last_faults lines.new ≡ []) }
     ensures limit { limit_of lines.new ≡ limit_of lines.old }
 {
     'posts: for _post in 0..count {
@@ -184,7 +189,8 @@ fn print_mirror<O: Output>(alloc: Global, out: &mut O, mirror: &Mirror) -> Resul
         → O.written out.new ≡ O.written out.old) }
     ensures kind { result ≢ Err ClientFault.Connection }
     ensures cause { result ≡ Err ClientFault.Output → IsTrue O.counts
-        → O.failed out.old < O.failed out.new }
+        → HasBroken (O.failed out.old) (O.failed out.new) (O.faults out.old) (O.faults out.new) }
+    ensures prints { OnOk result (IsTrue O.counts → O.faults out.old ≡ [] → O.faults out.new ≡ []) }
 {
     let text = Text::table(alloc, mirror.number(), mirror.table())?;
     print_text(out, text.bytes())
@@ -229,17 +235,23 @@ pub fn mirror<R: Input + Drop, W: Output, O: Output>(
     ensures part { IsTrue W.tells
         → IsSentPart (requests_text space count) (W.written writer.old) (W.written writer.new) }
 
-    // `Connection` only where a call of the reader or the writer failed, or the lines do not begin with an opening of
+    // `Connection` only where calls of the reader or the writer failed, or the lines do not begin with an opening of
     // the namespace, so many posts that follow it, and their end, nor with a refusal in the place of one of these.
+    // Where no fault of the stream stood, the last call failed then, or was the last of as many interrupted ones in
+    // succession as end a read or a send. So it is with `Output`.
     ensures connection { result ≡ Err ClientFault.Connection → IsTrue R.tells → IsTrue R.counts → IsTrue W.counts
-        → (W.failed writer.old < W.failed writer.new) ⊎ IsCut (IsRefusedOr (IsMirroring space count)) (lines_left lines.old) (failed_calls lines.old) (failed_calls lines.new) }
+        → HasBroken (W.failed writer.old) (W.failed writer.new) (W.faults writer.old) (W.faults writer.new) ⊎ IsCut (IsRefusedOr (IsMirroring space count)) lines.old lines.new }
 
-    // Nothing was printed where the output did not fail, and `Output` comes only where a call of it failed.
+    // Nothing was printed where the output did not fail, and `Output` comes only where calls of it failed.
     ensures kept { IfErr result (λ fault. fault ≢ ClientFault.Output → IsTrue O.tells
         → O.written out.new ≡ O.written out.old) }
     ensures output { result ≡ Err ClientFault.Output → IsTrue O.counts
-        → O.failed out.old < O.failed out.new }
+        → HasBroken (O.failed out.old) (O.failed out.new) (O.faults out.old) (O.faults out.new) }
+    // What the next call finds: a reader that has met no fault, and where none of a stream stood, none.
     ensures fresh { OnOk result (fault_of lines.new ≡ None) }
+    ensures reads { OnOk result (IsTrue R.counts → last_faults lines.old ≡ [] → last_faults lines.new ≡ []) }
+    ensures writes { OnOk result (IsTrue W.counts → W.faults writer.old ≡ [] → W.faults writer.new ≡ []) }
+    ensures prints { OnOk result (IsTrue O.counts → O.faults out.old ≡ [] → O.faults out.new ≡ []) }
     ensures limit { limit_of lines.new ≡ limit_of lines.old }
 {
     send_numbered(alloc, writer, b"watch", space)?;

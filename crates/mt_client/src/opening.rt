@@ -1,8 +1,8 @@
 //! The table that a watcher of one namespace found.
-ghost use Rattle.std.specs.Prelude.{◌≡◌, ◌≢◌, ℕ, ◌+◌, ◌<◌, ◌≤◌, ◌^◌, ◌∷◌, ◌++◌, map, length, false, true, Some, None, Err, IfOk, IfSome, OnOk, IsTrue, MatchBool, MatchOption};
+ghost use Rattle.std.specs.Prelude.{◌≡◌, ◌≢◌, ℕ, ◌+◌, ◌<◌, ◌≤◌, ◌^◌, [], ◌∷◌, ◌++◌, map, length, false, true, Some, None, Err, IfOk, IfSome, OnOk, IsTrue, MatchBool, MatchOption};
 ghost use Rattle.std.specs.List.{join_with_byte, AllByRecursion};
 ghost use Rattle.mt_lines.specs.Lines.{Text};
-ghost use Rattle.mt_lines.specs.Reading.{failed_calls, fault_of, limit_of};
+ghost use Rattle.mt_lines.specs.Reading.{failed_calls, last_faults, fault_of, limit_of};
 ghost use Rattle.mt_info.specs.Laws.{IsRow};
 ghost use Rattle.mt_info.specs.RowLine.{line};
 ghost use Rattle.mt_client.specs.Reading.{lines_left, texts, IsCut};
@@ -88,8 +88,9 @@ fn read_row_line<R: Input + Drop>(
     ensures kind { result ≢ Err ClientFault.Output }
     ensures valid { IfOk result (λ row. IsRow row) }
     ensures cut { result ≡ Err ClientFault.Connection → IsTrue R.tells → IsTrue R.counts
-        → IsCut IsRowLine (lines_left lines.old) (failed_calls lines.old) (failed_calls lines.new) }
+        → IsCut IsRowLine lines.old lines.new }
     ensures counted { IsTrue R.counts → failed_calls lines.old ≤ failed_calls lines.new }
+    ensures reads { OnOk result (IsTrue R.counts → last_faults lines.old ≡ [] → last_faults lines.new ≡ []) }
     ensures limit { limit_of lines.new ≡ limit_of lines.old }
 {
     next_text(lines)?;
@@ -114,8 +115,9 @@ fn read_rows<R: Input + Drop>(
     ensures kind { result ≢ Err ClientFault.Output }
     ensures valid { IfOk result (λ rows. AllByRecursion IsRow rows.items) }
     ensures cut { result ≡ Err ClientFault.Connection → IsTrue R.tells → IsTrue R.counts
-        → IsCut (AreRowLines count) (lines_left lines.old) (failed_calls lines.old) (failed_calls lines.new) }
+        → IsCut (AreRowLines count) lines.old lines.new }
     ensures counted { IsTrue R.counts → failed_calls lines.old ≤ failed_calls lines.new }
+    ensures reads { OnOk result (IsTrue R.counts → last_faults lines.old ≡ [] → last_faults lines.new ≡ []) }
     ensures limit { limit_of lines.new ≡ limit_of lines.old }
 {
     let mut rows = Vec::new(alloc);
@@ -148,8 +150,9 @@ pub(crate) fn read_part<R: Input + Drop>(
     ensures kind { result ≢ Err ClientFault.Output }
     ensures shown { IfOk result (λ mirror. IsShown mirror) }
     ensures cut { result ≡ Err ClientFault.Connection → IsTrue R.tells → IsTrue R.counts
-        → IsCut (IsShownPart space count) (lines_left lines.old) (failed_calls lines.old) (failed_calls lines.new) }
+        → IsCut (IsShownPart space count) lines.old lines.new }
     ensures counted { IsTrue R.counts → failed_calls lines.old ≤ failed_calls lines.new }
+    ensures reads { OnOk result (IsTrue R.counts → last_faults lines.old ≡ [] → last_faults lines.new ≡ []) }
     ensures limit { limit_of lines.new ≡ limit_of lines.old }
 {
     next_text(lines)?;

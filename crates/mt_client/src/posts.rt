@@ -1,6 +1,6 @@
 //! Posts as they are followed.
-ghost use Rattle.std.specs.Prelude.{◌≡◌, ◌≢◌, ℕ, ◌+◌, ◌<◌, ◌≤◌, List, [], ◌∷◌, ◌++◌, length, false, Some, None, Err, OnOk, IsTrue};
-ghost use Rattle.mt_lines.specs.Reading.{failed_calls, fault_of, last_line, limit_of};
+ghost use Rattle.std.specs.Prelude.{◌≡◌, ◌≢◌, ℕ, ◌+◌, ◌≤◌, List, [], ◌∷◌, ◌++◌, length, false, Some, None, Err, OnOk, IsTrue};
+ghost use Rattle.mt_lines.specs.Reading.{failed_calls, last_faults, fault_of, last_line, limit_of};
 ghost use Rattle.mt_words.specs.Words.{words};
 ghost use Rattle.mt_events.specs.Posts.{PostView, IsPost, post_text, ended};
 ghost use Rattle.mt_events.specs.Mirrors.{is_next};
@@ -56,8 +56,9 @@ fn push_lines<R: Input + Drop>(
     ensures fresh { OnOk result (fault_of lines.new ≡ None) }
     ensures kind { result ≢ Err ClientFault.Output }
     ensures cut { result ≡ Err ClientFault.Connection → IsTrue R.tells → IsTrue R.counts
-        → IsCut (AreSoMany count) (lines_left lines.old) (failed_calls lines.old) (failed_calls lines.new) }
+        → IsCut (AreSoMany count) lines.old lines.new }
     ensures counted { IsTrue R.counts → failed_calls lines.old ≤ failed_calls lines.new }
+    ensures reads { OnOk result (IsTrue R.counts → last_faults lines.old ≡ [] → last_faults lines.new ≡ []) }
     ensures limit { limit_of lines.new ≡ limit_of lines.old }
 {
     'lines: for _line in 0..count {
@@ -108,8 +109,9 @@ pub(crate) fn apply_post<R: Input + Drop>(
     ensures taken { OnOk result (IsTrue R.tells
         → TakesBehind (last_line lines.old) (lines_left lines.old) (lines_left lines.new)) }
     ensures cut { result ≡ Err ClientFault.Connection → IsTrue R.tells → IsTrue R.counts
-        → IsCut (IsBehind (last_line lines.old) mirror.old) (lines_left lines.old) (failed_calls lines.old) (failed_calls lines.new) }
+        → IsCut (IsBehind (last_line lines.old) mirror.old) lines.old lines.new }
     ensures counted { IsTrue R.counts → failed_calls lines.old ≤ failed_calls lines.new }
+    ensures reads { OnOk result (IsTrue R.counts → last_faults lines.old ≡ [] → last_faults lines.new ≡ []) }
     ensures limit { limit_of lines.new ≡ limit_of lines.old }
 {
     let Some(count) = lines_of_event(lines.line()) else {

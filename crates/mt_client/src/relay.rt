@@ -1,10 +1,10 @@
 //! Lines of answers, printed as they are read.
-ghost use Rattle.std.specs.Prelude.{◌≡◌, ◌≢◌, Bool, ◌+◌, ◌<◌, ◌≤◌, [], ◌∷◌, ◌++◌, Some, None, Err, IfOk, IfErr, OnOk, OnErr, IsTrue};
+ghost use Rattle.std.specs.Prelude.{◌≡◌, ◌≢◌, Bool, ◌+◌, ◌≤◌, [], ◌∷◌, ◌++◌, Some, None, Err, IfOk, IfErr, OnOk, OnErr, IsTrue};
 ghost use Rattle.mt_lines.specs.Lines.{Text};
-ghost use Rattle.mt_lines.specs.Reading.{failed_calls, fault_of, last_line, limit_of};
+ghost use Rattle.mt_lines.specs.Reading.{failed_calls, last_faults, fault_of, last_line, limit_of};
 ghost use Rattle.mt_events.specs.Posts.{ended};
 ghost use Rattle.mt_client.specs.Requests.{IsHeaded, IsFollowed, IsAnswer};
-ghost use Rattle.mt_client.specs.Reading.{lines_left, Passed, IsCutOff, IsBroken, AreSoMany, IsCut, HasPassed, reading_fault};
+ghost use Rattle.mt_client.specs.Reading.{lines_left, Passed, IsCutOff, HasBroken, IsBroken, AreSoMany, IsCut, HasPassed, reading_fault};
 
 use crate::answer::{Extent, lines_behind, verdict};
 use crate::fault::ClientFault;
@@ -33,8 +33,9 @@ pub(crate) fn next_text<R: Input + Drop>(lines: &mut LineReader<R>) -> Result<()
     ensures fresh { OnOk result (fault_of lines.new ≡ None) }
     ensures kind { result ≢ Err ClientFault.Output }
     ensures cut { result ≡ Err ClientFault.Connection → IsTrue R.tells → IsTrue R.counts
-        → IsCut (AreSoMany 1) (lines_left lines.old) (failed_calls lines.old) (failed_calls lines.new) }
+        → IsCut (AreSoMany 1) lines.old lines.new }
     ensures counted { IsTrue R.counts → failed_calls lines.old ≤ failed_calls lines.new }
+    ensures reads { OnOk result (IsTrue R.counts → last_faults lines.old ≡ [] → last_faults lines.new ≡ []) }
     ensures limit { limit_of lines.new ≡ limit_of lines.old }
 {
     match lines.next() {
@@ -53,8 +54,9 @@ pub fn print_text<O: Output>(out: &mut O, text: &[u8]) -> Result<(), ClientFault
     ensures cut { OnErr result (IsTrue O.tells
         → IsCutOff text.now (O.written out.old) (O.written out.new)) }
     ensures kind { IfErr result (λ fault. fault ≡ ClientFault.Output) }
-    ensures cause { OnErr result (IsTrue O.counts → O.failed out.old < O.failed out.new) }
+    ensures cause { OnErr result (IsTrue O.counts → HasBroken (O.failed out.old) (O.failed out.new) (O.faults out.old) (O.faults out.new)) }
     ensures counted { IsTrue O.counts → O.failed out.old ≤ O.failed out.new }
+    ensures prints { OnOk result (IsTrue O.counts → O.faults out.old ≡ [] → O.faults out.new ≡ []) }
 {
     match send(out, text) {
         Ok(()) => Ok(()),
@@ -69,8 +71,9 @@ pub(crate) fn print_line<O: Output>(out: &mut O, line: &[u8]) -> Result<(), Clie
     ensures cut { OnErr result (IsTrue O.tells
         → IsCutOff (ended line.now) (O.written out.old) (O.written out.new)) }
     ensures kind { IfErr result (λ fault. fault ≡ ClientFault.Output) }
-    ensures cause { OnErr result (IsTrue O.counts → O.failed out.old < O.failed out.new) }
+    ensures cause { OnErr result (IsTrue O.counts → HasBroken (O.failed out.old) (O.failed out.new) (O.faults out.old) (O.faults out.new)) }
     ensures counted { IsTrue O.counts → O.failed out.old ≤ O.failed out.new }
+    ensures prints { OnOk result (IsTrue O.counts → O.faults out.old ≡ [] → O.faults out.new ≡ []) }
 {
     match send_line(out, line) {
         Ok(()) => Ok(()),
@@ -92,11 +95,13 @@ fn pass_line<R: Input + Drop, O: Output>(
     ensures broken { IsTrue R.tells → IsTrue O.tells → IfErr result
         (λ fault. IsBroken fault (lines_left lines.old) (O.written out.old) (O.written out.new)) }
     ensures cut { result ≡ Err ClientFault.Connection → IsTrue R.tells → IsTrue R.counts
-        → IsCut (AreSoMany 1) (lines_left lines.old) (failed_calls lines.old) (failed_calls lines.new) }
+        → IsCut (AreSoMany 1) lines.old lines.new }
     ensures cause { result ≡ Err ClientFault.Output → IsTrue O.counts
-        → O.failed out.old < O.failed out.new }
+        → HasBroken (O.failed out.old) (O.failed out.new) (O.faults out.old) (O.faults out.new) }
     ensures read { IsTrue R.counts → failed_calls lines.old ≤ failed_calls lines.new }
+    ensures reads { OnOk result (IsTrue R.counts → last_faults lines.old ≡ [] → last_faults lines.new ≡ []) }
     ensures printed { IsTrue O.counts → O.failed out.old ≤ O.failed out.new }
+    ensures prints { OnOk result (IsTrue O.counts → O.faults out.old ≡ [] → O.faults out.new ≡ []) }
     ensures limit { limit_of lines.new ≡ limit_of lines.old }
 {
     next_text(lines)?;
@@ -116,11 +121,13 @@ fn pass_lines<R: Input + Drop, O: Output>(
     ensures broken { IsTrue R.tells → IsTrue O.tells → IfErr result
         (λ fault. IsBroken fault (lines_left lines.old) (O.written out.old) (O.written out.new)) }
     ensures cut { result ≡ Err ClientFault.Connection → IsTrue R.tells → IsTrue R.counts
-        → IsCut (AreSoMany count) (lines_left lines.old) (failed_calls lines.old) (failed_calls lines.new) }
+        → IsCut (AreSoMany count) lines.old lines.new }
     ensures cause { result ≡ Err ClientFault.Output → IsTrue O.counts
-        → O.failed out.old < O.failed out.new }
+        → HasBroken (O.failed out.old) (O.failed out.new) (O.faults out.old) (O.faults out.new) }
     ensures read { IsTrue R.counts → failed_calls lines.old ≤ failed_calls lines.new }
+    ensures reads { OnOk result (IsTrue R.counts → last_faults lines.old ≡ [] → last_faults lines.new ≡ []) }
     ensures printed { IsTrue O.counts → O.failed out.old ≤ O.failed out.new }
+    ensures prints { OnOk result (IsTrue O.counts → O.faults out.old ≡ [] → O.faults out.new ≡ []) }
     ensures limit { limit_of lines.new ≡ limit_of lines.old }
 {
     'passing: for _line in 0..count {
@@ -142,11 +149,13 @@ fn pass_headed<R: Input + Drop, O: Output>(
     ensures broken { IsTrue R.tells → IsTrue O.tells → IfErr result
         (λ fault. IsBroken fault (lines_left lines.old) (O.written out.old) (O.written out.new)) }
     ensures cut { result ≡ Err ClientFault.Connection → IsTrue R.tells → IsTrue R.counts
-        → IsCut (λ all. (told : Bool) × IsHeaded extent all told) (lines_left lines.old) (failed_calls lines.old) (failed_calls lines.new) }
+        → IsCut (λ all. (told : Bool) × IsHeaded extent all told) lines.old lines.new }
     ensures cause { result ≡ Err ClientFault.Output → IsTrue O.counts
-        → O.failed out.old < O.failed out.new }
+        → HasBroken (O.failed out.old) (O.failed out.new) (O.faults out.old) (O.faults out.new) }
     ensures read { IsTrue R.counts → failed_calls lines.old ≤ failed_calls lines.new }
+    ensures reads { OnOk result (IsTrue R.counts → last_faults lines.old ≡ [] → last_faults lines.new ≡ []) }
     ensures printed { IsTrue O.counts → O.failed out.old ≤ O.failed out.new }
+    ensures prints { OnOk result (IsTrue O.counts → O.faults out.old ≡ [] → O.faults out.new ≡ []) }
     ensures limit { limit_of lines.new ≡ limit_of lines.old }
 {
     next_text(lines)?;
@@ -173,11 +182,13 @@ fn pass_followed<R: Input + Drop, O: Output>(
     ensures broken { IsTrue R.tells → IsTrue O.tells → IfErr result
         (λ fault. IsBroken fault (lines_left lines.old) (O.written out.old) (O.written out.new)) }
     ensures cut { result ≡ Err ClientFault.Connection → IsTrue R.tells → IsTrue R.counts
-        → IsCut (λ all. (told : Bool) × IsFollowed all told) (lines_left lines.old) (failed_calls lines.old) (failed_calls lines.new) }
+        → IsCut (λ all. (told : Bool) × IsFollowed all told) lines.old lines.new }
     ensures cause { result ≡ Err ClientFault.Output → IsTrue O.counts
-        → O.failed out.old < O.failed out.new }
+        → HasBroken (O.failed out.old) (O.failed out.new) (O.faults out.old) (O.faults out.new) }
     ensures read { IsTrue R.counts → failed_calls lines.old ≤ failed_calls lines.new }
+    ensures reads { OnOk result (IsTrue R.counts → last_faults lines.old ≡ [] → last_faults lines.new ≡ []) }
     ensures printed { IsTrue O.counts → O.failed out.old ≤ O.failed out.new }
+    ensures prints { OnOk result (IsTrue O.counts → O.faults out.old ≡ [] → O.faults out.new ≡ []) }
     ensures limit { limit_of lines.new ≡ limit_of lines.old }
 {
     'following: for _line in 0..MOST_LINES {
@@ -202,11 +213,13 @@ pub(crate) fn pass_answer<R: Input + Drop, O: Output>(
     ensures broken { IsTrue R.tells → IsTrue O.tells → IfErr result
         (λ fault. IsBroken fault (lines_left lines.old) (O.written out.old) (O.written out.new)) }
     ensures cut { result ≡ Err ClientFault.Connection → IsTrue R.tells → IsTrue R.counts
-        → IsCut (λ all. (told : Bool) × IsAnswer extent all told) (lines_left lines.old) (failed_calls lines.old) (failed_calls lines.new) }
+        → IsCut (λ all. (told : Bool) × IsAnswer extent all told) lines.old lines.new }
     ensures cause { result ≡ Err ClientFault.Output → IsTrue O.counts
-        → O.failed out.old < O.failed out.new }
+        → HasBroken (O.failed out.old) (O.failed out.new) (O.faults out.old) (O.faults out.new) }
     ensures read { IsTrue R.counts → failed_calls lines.old ≤ failed_calls lines.new }
+    ensures reads { OnOk result (IsTrue R.counts → last_faults lines.old ≡ [] → last_faults lines.new ≡ []) }
     ensures printed { IsTrue O.counts → O.failed out.old ≤ O.failed out.new }
+    ensures prints { OnOk result (IsTrue O.counts → O.faults out.old ≡ [] → O.faults out.new ≡ []) }
     ensures limit { limit_of lines.new ≡ limit_of lines.old }
 {
     match extent {

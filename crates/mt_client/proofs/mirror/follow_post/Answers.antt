@@ -12,4 +12,4 @@ pub returns-in_err-next_text-clause-cut : goal.returns-in_err-next_text-clause-c
 returns-in_err-next_text-clause-cut g c is t u =
     let p = err_from_is_err_and c.from_residual.result c.from_residual.ensures.1 in
     let same = same_fault _ _ _ _ p.1 p.2 is in
-    cut_within _ _ _ _ _ _ (omega arith) (omega arith) (next_needs_line c.args.mirror.now _) (c.in_err-next_text.ensures.cut (ap Err same) t u)
+    cut_within _ _ _ _ _ _ _ _ (omega arith) (λ e. e) (next_needs_line c.args.mirror.now _) (c.in_err-next_text.ensures.cut (ap Err same) t u)

@@ -1,8 +1,8 @@
-use Rattle.std.proofs.Common.{rules, Err, arith, ap, inr}
+use Rattle.std.proofs.Common.{rules, Err, arith, ap, inl, inr}
 use Rattle.std.proofs.lemmas.Result.{err_from_is_err_and}
 use Rattle.mt_client.proofs.RequestLaws.{part_first, part_second, part_one, part_both}
 use Rattle.mt_client.proofs.MirrorLaws.{mirrored_whole, when_some, when_true}
-use Rattle.mt_client.proofs.RelayLaws.{cut_within, same_fault}
+use Rattle.mt_client.proofs.RelayLaws.{broken_later, cut_within, same_fault}
 use Rattle.mt_client.proofs.FollowLaws.{mirroring_needs_opening, mirroring_needs_posts}
 use Rattle.mt_client.proofs.mirror.mirror.Goals as goal
 
@@ -47,11 +47,17 @@ pub returns-in_err-mirror-clause-connection : goal.returns-in_err-mirror-clause-
 returns-in_err-mirror-clause-connection g c is t u v =
     let p = err_from_is_err_and c.from_residual-in_err-mirror.result c.from_residual-in_err-mirror.ensures.1 in
     let same = same_fault _ _ _ _ p.1 p.2 is in
-    inr (cut_within _ _ _ _ _ _ (omega arith) (omega arith) (mirroring_needs_opening c.args.space c.args.count _) (c.in_err-mirror.ensures.cut (ap Err same) t u))
+    inr (cut_within _ _ _ _ _ _ _ _ (omega arith) (λ e. e) (mirroring_needs_opening c.args.space c.args.count _) (c.in_err-mirror.ensures.cut (ap Err same) t u))
 
 pub returns-in_err-follow_posts-clause-connection : goal.returns-in_err-follow_posts-clause-connection
 returns-in_err-follow_posts-clause-connection g c is t u v =
     let p = err_from_is_err_and c.from_residual-in_err-follow_posts.result c.from_residual-in_err-follow_posts.ensures.1 in
     let same = same_fault _ _ _ _ p.1 p.2 is in
-    inr (cut_within _ _ _ _ _ _ (c.in_ok-mirror.ensures.counted u) (omega arith)
+    inr (cut_within _ _ _ _ _ _ _ _ (c.in_ok-mirror.ensures.counted u) (c.in_ok-mirror.ensures.reads u)
     (mirroring_needs_posts c.args.space c.args.count c.in-Some.mirror _ _ (when_some _ _ c.in_ok-mirror.field-0 c.in-Some.mirror (search rules) (c.in_ok-mirror.ensures.found t)) (search rules)) (c.in_err-follow_posts.ensures.cut (ap Err same) t u))
+
+pub returns-in_err-send_numbered-2-clause-connection : goal.returns-in_err-send_numbered-2-clause-connection
+returns-in_err-send_numbered-2-clause-connection g c is t u v =
+    let p = err_from_is_err_and c.from_residual-in_err-send_numbered-2.result c.from_residual-in_err-send_numbered-2.ensures.1 in
+    let same = same_fault _ _ _ _ p.1 p.2 is in
+    inl (broken_later _ _ _ _ _ _ (c.in_ok-send_numbered.ensures.counted v) (c.in_ok-send_numbered.ensures.writes v) (c.in_err-send_numbered-2.ensures.cause (ap Err same) v))

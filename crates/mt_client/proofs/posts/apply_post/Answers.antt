@@ -15,7 +15,7 @@ pub returns-in_err-push_lines-clause-cut : goal.returns-in_err-push_lines-clause
 returns-in_err-push_lines-clause-cut g c is t u =
     let p = err_from_is_err_and c.from_residual-in_err-push_lines.result c.from_residual-in_err-push_lines.ensures.1 in
     let same = same_fault _ _ _ _ p.1 p.2 is in
-    cut_within _ _ _ _ _ _ (omega arith) (omega arith)
+    cut_within _ _ _ _ _ _ _ _ (omega arith) (λ e. e)
     (behind_needs_lines (Some c.in-Some.count) c.in-Some.count (last_line c.args.lines.now) c.args.mirror.now (lines_left c.args.lines.now) refl (rw c.line.ensures at c.in-Some.ensures)) (c.in_err-push_lines.ensures.cut (ap Err same) t u)
 
 pub returns-clause-taken : goal.returns-clause-taken

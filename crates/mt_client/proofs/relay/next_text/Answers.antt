@@ -20,7 +20,7 @@ returns-in-Ok-End-clause-cut g c is t u =
 
 pub returns-in-Err-clause-cut : goal.returns-in-Err-clause-cut
 returns-in-Err-clause-cut g c is t u =
-    cut_by_fault c.in-Err.fault _ _ _ _ _ _ (rw c.reading_fault.ensures at is) (c.in-Err.ensures.next (rw c.requires.fresh refl) t) (c.in-Err.ensures.cause (rw c.requires.fresh refl) u)
+    cut_by_fault c.in-Err.fault _ _ _ _ _ _ _ _ (rw c.reading_fault.ensures at is) (c.in-Err.ensures.next (rw c.requires.fresh refl) t) (c.in-Err.ensures.cause (rw c.requires.fresh refl) u) (c.in-Err.ensures.faults (rw c.requires.fresh refl) u)
 
 pub returns-in-Err-clause-kind : goal.returns-in-Err-clause-kind
 returns-in-Err-clause-kind g c is = never_output c.in-Err.fault (rw c.reading_fault.ensures at is)

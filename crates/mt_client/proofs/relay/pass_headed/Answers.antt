@@ -1,13 +1,13 @@
 use Rattle.std.proofs.Common.{Err, arith, ap}
 use Rattle.std.proofs.lemmas.Result.{err_from_is_err_and}
-use Rattle.mt_client.proofs.RelayLaws.{broken_more, broken_cut, one_passed, headed_passed, headed_needs_line, cut_within, same_fault}
+use Rattle.mt_client.proofs.RelayLaws.{broken_more, broken_later, broken_cut, one_passed, headed_passed, headed_needs_line, cut_within, same_fault}
 use Rattle.mt_client.proofs.relay.pass_headed.Goals as goal
 
 pub returns-in_err-next_text-clause-cut : goal.returns-in_err-next_text-clause-cut
 returns-in_err-next_text-clause-cut g c is t u =
     let p = err_from_is_err_and c.from_residual.result c.from_residual.ensures.1 in
     let same = same_fault _ _ _ _ p.1 p.2 is in
-    cut_within _ _ _ _ _ _ (omega arith) (omega arith) (headed_needs_line c.args.extent _) (c.in_err-next_text.ensures.cut (ap Err same) t u)
+    cut_within _ _ _ _ _ _ _ _ (omega arith) (λ e. e) (headed_needs_line c.args.extent _) (c.in_err-next_text.ensures.cut (ap Err same) t u)
 
 pub returns-in_err-print_line-clause-broken : goal.returns-in_err-print_line-clause-broken
 returns-in_err-print_line-clause-broken g c t u =
@@ -24,3 +24,9 @@ pub returns-clause-passed : goal.returns-clause-passed
 returns-clause-passed g c t u =
     let first = one_passed _ _ _ _ _ (c.in_ok-next_text.ensures.text t) (rw c.line-3.ensures at c.in_ok-print_line.ensures.printed u) in
     headed_passed c.args.extent c.in-Some.told c.in-Some-lines_behind.count _ _ _ _ _ _ _ (rw c.line.ensures at c.in-Some.ensures) (rw c.line-2.ensures at c.in-Some-lines_behind.ensures) first (c.in_ok-pass_lines.ensures.passed t u)
+
+pub returns-in_err-pass_lines-clause-cause : goal.returns-in_err-pass_lines-clause-cause
+returns-in_err-pass_lines-clause-cause g c is u =
+    let p = err_from_is_err_and c.from_residual-in_err-pass_lines.result c.from_residual-in_err-pass_lines.ensures.1 in
+    let same = same_fault _ _ _ _ p.1 p.2 is in
+    broken_later _ _ _ _ _ _ (c.in_ok-print_line.ensures.counted u) (c.in_ok-print_line.ensures.prints u) (c.in_err-pass_lines.ensures.cause (ap Err same) u)
