@@ -20,7 +20,8 @@ pub enum StreamFault {
 /// What bytes come from.
 ///
 /// An implementation says of its type whether it `tells` its bytes, and whether it `counts` its
-/// failed calls. Where it does not, it owes nothing but the bound. `left` is what it has still to
+/// failed calls. Where it does not, it owes nothing but the bound: what is said here of bytes is said
+/// of one that tells, and what is said of calls of one that counts. `left` is what it has still to
 /// give, up to the end of the input. `failed` is how many of its calls have failed, and `faults` are
 /// the faults of its last calls, the latest first, back to the last call that succeeded.
 pub trait Input {
@@ -37,7 +38,8 @@ pub trait Input {
     ghost faults: { Self → List StreamFault };
 
     /// Moves the next bytes to the front of the buffer, which is not empty, and answers how many:
-    /// 0 at the end of the input. A call that answers a fault moves nothing.
+    /// 0 at the end of the input. Where the input tells its bytes, a call that answers a fault moves
+    /// nothing.
     fn read(&mut self, buffer: &mut [u8]) -> Result<usize, StreamFault>
         requires { 0 < length buffer.old }
         ensures bound { IfOk result (λ n. n ≤ length buffer.new) }
@@ -49,7 +51,8 @@ pub trait Input {
 /// What bytes go to.
 ///
 /// An implementation says of its type whether it `tells` its bytes, and whether it `counts` its
-/// failed calls. Where it does not, it owes nothing but the bound. `written` is what it has taken
+/// failed calls. Where it does not, it owes nothing but the bound: what is said here of bytes is said
+/// of one that tells, and what is said of calls of one that counts. `written` is what it has taken
 /// so far. `failed` is how many of its calls have failed, and `faults` are the faults of its last
 /// calls, the latest first, back to the last call that succeeded. A call that takes none of some
 /// bytes has failed.
@@ -66,8 +69,9 @@ pub trait Output {
 
     ghost faults: { Self → List StreamFault };
 
-    /// Takes some of the bytes, from the first one on, and answers how many. A call that answers
-    /// a fault takes nothing.
+    /// Takes some of the bytes, from the first one on, and answers how many. Where the output tells
+    /// its bytes, a call that answers a fault takes nothing; of a real stream some may have gone out
+    /// before a call answers `Failed` ([`Writing`]).
     fn write(&mut self, bytes: &[u8]) -> Result<usize, StreamFault>
         ensures bound { IfOk result (λ n. n ≤ length bytes.now) }
         ensures sent { IsTrue tells
@@ -79,7 +83,8 @@ pub trait Output {
 /// A send went out in part.
 #[derive(Clone, Copy, Debug, PartialEq, Eq)]
 pub struct Cut {
-    /// How many bytes went out, from the first one on.
+    /// How many bytes went out, from the first one on: those of the writes that answered how many
+    /// they took.
     pub sent: usize,
 }
 
@@ -87,7 +92,8 @@ pub struct Cut {
 ///
 /// Answers `Cut` at a write that fails or takes nothing, and, by this project's rule, at the
 /// 1,000th interrupted write in succession. Then only the bytes that it tells went out, fewer than
-/// all.
+/// all, where the output tells its bytes; of a real stream some more may have, in the write that
+/// failed ([`Writing`]).
 pub fn send<W: Output>(writer: &mut W, bytes: &[u8]) -> Result<(), Cut>
     ensures whole { OnOk result (IsTrue W.tells
         → W.written writer.new ≡ W.written writer.old ++ bytes.now) }
@@ -182,6 +188,10 @@ impl<R: Read + Drop> Input for Reading<R> {
 }
 
 /// A writer of the standard library as an `Output`, which tells no bytes and counts no failures.
+///
+/// Each write is flushed. Where that fails the call answers `Failed`, and the bytes that the writer
+/// had taken may have gone out, or not: they are in no count. A socket has nothing to flush, so that
+/// a failed write there has taken nothing.
 #[derive(Drop)]
 pub struct Writing<W> {
     inner: W,
@@ -237,8 +247,9 @@ impl<W: Write + Drop> Output for Writing<W> {
 
     ghost faults = { λ w. [] };
 
-    /// Writes once and flushes. An interrupted write is `Interrupted`, and every other error
-    /// `Failed`, after which some of the bytes may have gone out all the same.
+    /// Writes once and flushes. An interrupted write is `Interrupted`, and then nothing was taken.
+    /// Every other error is `Failed`: of the write, or of the flush behind a write that has taken
+    /// bytes, which may have gone out all the same.
     fn write(&mut self, bytes: &[u8]) -> Result<usize, StreamFault>
         ensures bound { IfOk result (λ n. n ≤ length bytes.now) }
         ensures bytes { IfOk result
