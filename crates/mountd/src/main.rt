@@ -7,8 +7,8 @@ mod socket;
 use clap::error::ErrorKind;
 use clap::{Arg, ArgAction, Command, Error, value_parser};
 use mt_session::floor::Floor;
-use mt_session::line::ReadFault;
-use mt_session::session::{End, serve_plain};
+use mt_session::line::{LineReader, ReadFault};
+use mt_session::session::{End, LINE_LIMIT, serve_plain};
 use mt_session::stream::{Reading, Writing};
 use socket::{MOST_POSTS, Served, serve_socket};
 use std::alloc::Global;
@@ -20,6 +20,9 @@ const STANDARD: &str = "-";
 
 /// The name that the program goes by in its messages.
 const PROGRAM: &str = "mountd";
+
+/// The line on standard error where there is no memory.
+const OUT_OF_MEMORY: &str = "mountd: out of memory";
 
 /// How many posts the queue of a watcher holds, if the arguments do not say.
 const QUEUE: usize = 256;
@@ -79,7 +82,7 @@ fn read_options(alloc: Global, words: &[&str]) -> Result<Options, Error> {
 fn complaint(end: End) -> Option<&'static str> {
     match end {
         End::Quit | End::Stop | End::Input => None,
-        End::Read(ReadFault::NoMemory) | End::Memory => Some("mountd: out of memory"),
+        End::Read(ReadFault::NoMemory) | End::Memory => Some(OUT_OF_MEMORY),
         End::Read(_) => Some("mountd: read fault"),
         End::Cut(_) => Some("mountd: write fault"),
         End::Spent => Some("mountd: too many lines"),
@@ -95,9 +98,12 @@ fn fail(rt: &HostRuntime, line: &str) -> ExitCode {
 /// Serves one session on standard input and output, with queues of so many posts, 1 to 1,024.
 fn serve_standard(rt: &HostRuntime, queue: usize) -> ExitCode {
     let reader = Reading::new(rt.reader());
+    let Ok(mut lines) = LineReader::new(rt.alloc(), reader, LINE_LIMIT) else {
+        return fail(rt, OUT_OF_MEMORY);
+    };
     let mut writer = Writing::new(io::writer(rt));
     let mut floor = Floor::new(rt.alloc(), queue.clamp(1, MOST_POSTS));
-    let end = serve_plain(rt.alloc(), reader, &mut writer, &mut floor);
+    let end = serve_plain(rt.alloc(), &mut lines, &mut writer, &mut floor);
     match complaint(end) {
         None => ExitCode::SUCCESS,
         Some(line) => fail(rt, line),
@@ -110,7 +116,7 @@ fn tell(rt: &HostRuntime, served: Served) -> ExitCode {
         Served::Stopped => ExitCode::SUCCESS,
         Served::NotListening => fail(rt, "mountd: cannot listen"),
         Served::NotAccepting => fail(rt, "mountd: cannot accept"),
-        Served::NoMemory => fail(rt, "mountd: out of memory"),
+        Served::NoMemory => fail(rt, OUT_OF_MEMORY),
     }
 }
 
@@ -122,7 +128,7 @@ fn explain(rt: &HostRuntime, error: &Error) -> ExitCode {
             let _ = print!(rt; "{error}");
             ExitCode::SUCCESS
         }
-        ErrorKind::OutOfMemory => fail(rt, "mountd: out of memory"),
+        ErrorKind::OutOfMemory => fail(rt, OUT_OF_MEMORY),
         _ => {
             let _ = eprint!(rt; "{error}");
             ExitCode::from(2)
@@ -150,7 +156,7 @@ fn find_options(rt: &HostRuntime) -> io::Result<Result<Options, ExitCode>> {
 /// Says why the arguments could not be read: there was no memory for them, or one is no text.
 fn explain_arguments(rt: &HostRuntime, error: &io::Error) -> ExitCode {
     match error.kind() {
-        io::ErrorKind::OutOfMemory => fail(rt, "mountd: out of memory"),
+        io::ErrorKind::OutOfMemory => fail(rt, OUT_OF_MEMORY),
         _ => {
             let _ = rt.eprintln("mountd: an argument is not UTF-8");
             ExitCode::from(2)

@@ -1,10 +1,10 @@
 //! A whole session, cut by its writer after each byte and failed by its reader at each read.
 use mt_floor::event::Event;
 use mt_floor::floor::Floor;
-use mt_lines::line::ReadFault;
+use mt_lines::line::{LineReader, ReadFault};
 use mt_lines::memory::{Faulty, Portions, Sink};
 use mt_lines::stream::{Cut, StreamFault};
-use mt_session::session::{End, serve_plain};
+use mt_session::session::{End, LINE_LIMIT, serve_plain};
 use mt_skel::fault::Fault;
 use std::alloc::Global;
 use std::test::Fail;
@@ -46,7 +46,8 @@ ok 0
 fn is_cut_after(alloc: Global, room: usize) -> Result<bool, Fault> {
     let mut floor = Floor::new(alloc, 256);
     let mut sink = Sink::new(alloc, 4_096, room)?;
-    let end = serve_plain(alloc, Portions::new(EXAMPLE, 4_096), &mut sink, &mut floor);
+    let mut lines = LineReader::new(alloc, Portions::new(EXAMPLE, 4_096), LINE_LIMIT)?;
+    let end = serve_plain(alloc, &mut lines, &mut sink, &mut floor);
     let whole = room >= ANSWERS.len();
     let wanted = if whole { ANSWERS } else { &ANSWERS[..room] };
     let ended = match end {
@@ -71,7 +72,8 @@ fn fails_at(alloc: Global, at: u64, fault: StreamFault, times: u32) -> Result<(E
     let mut floor = Floor::new(alloc, 256);
     let mut sink = Sink::new(alloc, 4_096, 65_536)?;
     let reader = Faulty::new(EXAMPLE, 9, at, fault, times);
-    let end = serve_plain(alloc, reader, &mut sink, &mut floor);
+    let mut lines = LineReader::new(alloc, reader, LINE_LIMIT)?;
+    let end = serve_plain(alloc, &mut lines, &mut sink, &mut floor);
     let answered = sink.bytes().len();
     let begins = answered <= ANSWERS.len() && sink.bytes() == &ANSWERS[..answered];
     if begins {
@@ -135,7 +137,8 @@ fn is_served(
     wanted_end: End,
 ) -> Result<bool, Fault> {
     let mut sink = Sink::new(alloc, 4_096, 65_536)?;
-    let end = serve_plain(alloc, Portions::new(input, 4_096), &mut sink, floor);
+    let mut lines = LineReader::new(alloc, Portions::new(input, 4_096), LINE_LIMIT)?;
+    let end = serve_plain(alloc, &mut lines, &mut sink, floor);
     Ok(end == wanted_end && sink.bytes() == wanted)
 }
 

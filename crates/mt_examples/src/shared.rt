@@ -4,10 +4,11 @@ ghost use Rattle.std.specs.Prelude.{◌≡◌, ◌<◌, ◌≤◌};
 use mt_desk::desk::Desk;
 use mt_desk::lines::{Lines, Naming};
 use mt_floor::floor::Floor;
+use mt_lines::line::LineReader;
 use mt_lines::memory::{Portions, Sink};
 use mt_session::bell::Bell;
 use mt_session::gate::OpenGate;
-use mt_session::session::{End, serve_plain};
+use mt_session::session::{End, LINE_LIMIT, serve_plain};
 use mt_session::shared_session::serve_shared;
 use mt_skel::fault::Fault;
 use std::alloc::Global;
@@ -68,8 +69,8 @@ fn shared_answers<J: Naming, R: Wait + Clock>(
     let desk = Mutex::new(desk);
     let bell = Bell::new();
     let mut sink = Sink::new(alloc, 4_096, 65_536)?;
-    let reader = Portions::new(input, 4_096);
-    let end = serve_shared(rt, alloc, 1, reader, &mut sink, &desk, &bell, &OpenGate);
+    let mut lines = LineReader::new(alloc, Portions::new(input, 4_096), LINE_LIMIT)?;
+    let end = serve_shared(rt, alloc, 1, &mut lines, &mut sink, &desk, &bell, &OpenGate);
     Ok((end, sink))
 }
 
@@ -88,7 +89,8 @@ fn is_served_alike<J: Naming, R: Wait + Clock>(
     let (end, sink) = shared_answers(rt, alloc, desk, input)?;
     let mut floor = Floor::new(alloc, capacity);
     let mut plain = Sink::new(alloc, 4_096, 65_536)?;
-    let plain_end = serve_plain(alloc, Portions::new(input, 4_096), &mut plain, &mut floor);
+    let mut again = LineReader::new(alloc, Portions::new(input, 4_096), LINE_LIMIT)?;
+    let plain_end = serve_plain(alloc, &mut again, &mut plain, &mut floor);
     Ok(end == End::Quit && plain_end == End::Quit && sink.bytes() == plain.bytes())
 }
 

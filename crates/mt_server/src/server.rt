@@ -7,10 +7,11 @@ use crate::parting::{part, turn_away, turn_away_now};
 use crate::patient::Patient;
 use mt_desk::desk::Desk;
 use mt_desk::lines::Naming;
+use mt_lines::line::LineReader;
 use mt_lines::stream::Writing;
 use mt_session::bell::Bell;
 use mt_session::gate::Gate;
-use mt_session::session::End;
+use mt_session::session::{End, LINE_LIMIT};
 use mt_session::shared_session::serve_shared;
 use mt_skel::fault::Fault;
 use std::alloc::Global;
@@ -96,29 +97,41 @@ struct House<'a, J: Naming, G> {
 }
 
 impl<'a, J: Naming, G: Gate> House<'a, J, G> {
+    /// Serves the lines of a connection: how its session ends; none where there is no memory for a
+    /// reader of lines, and then nothing is served.
+    fn answer<R>(&self, rt: &R, alloc: Global, number: u64, stream: &UnixStream) -> Option<End>
+    where
+        R: Wait + Clock,
+    {
+        let reader = Patient::new(rt, &self.connections, stream);
+        let mut lines = LineReader::new(alloc, reader, LINE_LIMIT).ok()?;
+        let mut writer = Writing::new(stream);
+        Some(serve_shared(
+            rt,
+            alloc,
+            number,
+            &mut lines,
+            &mut writer,
+            self.desk,
+            self.bell,
+            self.gate,
+        ))
+    }
+
     /// Serves a connection, and stops the server where its session does.
     fn serve<R>(&self, rt: &R, alloc: Global, number: u64, stream: UnixStream)
     where
         R: Wait + Clock + Net<Listener = TcpListener, Stream = TcpStream>,
     {
-        let end = serve_shared(
-            rt,
-            alloc,
-            number,
-            Patient::new(rt, &self.connections, &stream),
-            &mut Writing::new(&stream),
-            self.desk,
-            self.bell,
-            self.gate,
-        );
-        if end == End::Stop {
+        let stops = self.answer(rt, alloc, number, &stream) == Some(End::Stop);
+        if stops {
             self.connections.stop(rt);
         }
         let again = self.connections.leave(rt, number);
         part(&stream);
         drop(again);
         drop(stream);
-        if end == End::Stop {
+        if stops {
             self.wake(rt);
         }
     }

@@ -240,10 +240,6 @@ session_served before floor rested ran new none mine left_over sent written by r
     let after_leave : state_at new None ≡ left (state_at ran mine) = sym (ap (state_at new) gone) ∙ leaves ∙ ap left (at_rest ran mine idle) in
     served_left before (session_at floor None) (state_at ran mine) (state_at new None) sent written by (subst (λ (o : SessionState). Ran before o (state_at ran mine) sent written by) old served) after_leave
 
--- there was no memory for the session
-pub not_served : (before : List ℕ) (floor : FloorView) (sent : List ℕ) → Served before (session_at floor None) (session_at floor None) sent sent Memory
-not_served before floor sent = served_left before _ _ _ sent sent Memory (served_none before (lines_of line_limit before) (session_at floor None) sent Memory refl refl (refl, refl)).0 refl
-
 items_of-append : (xs ys : List Turn) → items_of (xs ++ ys) ≡ items_of xs ++ items_of ys
 items_of-append [] ys = refl
 items_of-append (x ∷ xs) ys = ap (λ z. item_of x.line ∷ z) (items_of-append xs ys)

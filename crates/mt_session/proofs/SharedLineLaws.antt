@@ -334,21 +334,6 @@ served_spent turns before later w now sent written none a count =
       count = omega (arith, count);
     }
 
--- there was no memory for the session
-pub served_nothing : (before sent : List ℕ) → ServedShared before sent sent Memory
-served_nothing before sent = record {
-  turns = [];
-  watcher = None;
-  items = lines_of line_limit before;
-  out = [];
-  lines = refl;
-  told = refl;
-  goes = tt;
-  written_is = sym (append-nil sent);
-  ends = inr (refl, refl);
-  count = omega arith;
-}
-
 -- an answer is out whole
 pub sent_whole : (sent written text : List ℕ) → IsSent sent written text None None → written ≡ sent ++ text
 sent_whole sent written text (inl s) = s.1

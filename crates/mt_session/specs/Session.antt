@@ -138,7 +138,7 @@ sent_by (CutOff cut) text = take cut.sent text
 sent_by _ text = text
 
 -- why the session ended, by the lines served whole, the last line and its answer's text, and the lines not
--- read: Memory before any line, a cut within the last answer; a line of this limit never wants memory
+-- read: a cut within the last answer, and no want of memory; a line of this limit never wants any
 abbrev pub IsCause : End → List Turn → List Turn → List ℕ → List Item → Type 0
 IsCause Quit turns last text later = (turn : Turn) × (last ≡ turn ∷ []) × (ends turn ≡ Some Quit)
 IsCause Stop turns last text later = (turn : Turn) × (last ≡ turn ∷ []) × (ends turn ≡ Some Stop)
@@ -148,7 +148,7 @@ IsCause (Read Device) turns last text later = last ≡ []
 IsCause (Read Interrupted) turns last text later = last ≡ []
 IsCause (Read NoRoom) turns last text later = ⊥
 IsCause (CutOff cut) turns last text later = (turn : Turn) × (last ≡ turn ∷ []) × (cut.sent < length text)
-IsCause Memory turns last text later = (turns ≡ []) × (last ≡ [])
+IsCause Memory turns last text later = ⊥
 IsCause Spent turns last text later = (last ≡ []) × (length turns ≡ most_lines)
 
 -- the lines of a session: those served whole, the line that ended it, if one did, and those not read; what was written is their

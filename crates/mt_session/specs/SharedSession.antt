@@ -182,9 +182,8 @@ EndsOfInput (Read Device) items out = out ≡ []
 EndsOfInput (Read Interrupted) items out = out ≡ []
 EndsOfInput by items out = ⊥
 
--- an end that comes before any line, or behind as many as a session serves
+-- an end that comes behind as many lines as a session serves
 abbrev pub EndsOfCount : End → List SharedTurn → List ℕ → Type 0
-EndsOfCount Memory turns out = (turns ≡ []) × (out ≡ [])
 EndsOfCount Spent turns out = (length turns ≡ most_lines) × (out ≡ [])
 EndsOfCount by turns out = ⊥
 

@@ -14,7 +14,7 @@ use mt_lines::line::{Line, LineReader, ReadFault};
 use mt_lines::stream::{Cut, Input, Output, send};
 use mt_requests::request::{Request, read_request};
 use mt_skel::fault::Fault;
-use std::alloc::{AllocError, Global};
+use std::alloc::Global;
 
 /// Why a session ended.
 #[derive(Clone, Copy, Debug, PartialEq, Eq)]
@@ -29,14 +29,14 @@ pub enum End {
     Read(ReadFault),
     /// The writer failed, and so many bytes of an answer went out.
     Cut(Cut),
-    /// There was no memory for the session.
+    /// There was no memory to tell posts that were taken, and so the session has ended.
     Memory,
     /// As many lines were served as a session serves.
     Spent,
 }
 
 /// The longest line of a session, in bytes before its line end.
-pub(crate) const LINE_LIMIT: u32 = 8192;
+pub const LINE_LIMIT: u32 = 8192;
 
 /// The most lines that a session serves.
 pub(crate) const MOST_LINES: u32 = 16_777_216;
@@ -173,11 +173,13 @@ fn serve_session<R: Input + Drop, W: Output>(
 
 /// Serves the lines that a reader has left, one answer each, until the session ends, and then closes its watcher.
 ///
-/// The reader has met no fault, and its lines are of at most 8,192 bytes. A session serves 16,777,216
-/// of them at most. What is written is the text of the lines that were read, however they were cut;
-/// at a fault of the writer all earlier answers are out whole, and of the last as many bytes as the
-/// end says, fewer than it has; nothing is written behind it.
-pub fn serve_lines<R: Input + Drop, W: Output>(
+/// The reader has met no fault, and its lines are of at most [`LINE_LIMIT`] bytes. It is lent, so that
+/// its caller knows of its last calls: where it has ended the session, its last call failed, and none
+/// came behind that. A session serves 16,777,216 lines at most. What is written is the text of the
+/// lines that were read, however they were cut; at a fault of the writer all earlier answers are out
+/// whole, and of the last as many bytes as the end says, fewer than it has; nothing is written behind
+/// it.
+pub fn serve_plain<R: Input + Drop, W: Output>(
     alloc: Global,
     lines: &mut LineReader<R>,
     writer: &mut W,
@@ -190,7 +192,8 @@ pub fn serve_lines<R: Input + Drop, W: Output>(
     ensures memory { result ≢ End.Memory }
 
     // A fault of the reader ends it only where the reader's last call failed, and 1,000 interruptions
-    // only where so many calls were interrupted in succession.
+    // only where so many calls were interrupted in succession. At every other end the reader's last
+    // call had not failed.
     ensures read { IsTrue R.counts → IsReadEnd (Some result) (failed_calls lines.old) (failed_calls lines.new) }
     ensures read_run { IsTrue R.counts → last_faults lines.old ≡ [] → IsReadEndRun (Some result) (last_faults lines.new) }
 
@@ -203,30 +206,4 @@ pub fn serve_lines<R: Input + Drop, W: Output>(
     let end = serve_session(alloc, lines, writer, &mut session, floor);
     session.leave(floor);
     end
-}
-
-/// Serves the lines of a reader as [`serve_lines`] does, and ends for want of memory, with nothing
-/// served, where there is none for a reader of lines.
-pub fn serve_plain<R: Input + Drop, W: Output>(
-    alloc: Global,
-    reader: R,
-    writer: &mut W,
-    floor: &mut Floor,
-) -> End
-    ensures served { IsTrue R.tells → IsTrue W.tells → Served (R.left reader) (session_at floor.old None) (state_at floor.new None) (W.written writer.old) (W.written writer.new) result }
-    ensures idle { floor.new.due ≡ [] }
-
-    // What the reader has become: a fault of the reader ends a session only where a call failed, so
-    // that one which never fails ends none.
-    ensures read { IsTrue R.counts → (spent : R) × IsReadEnd (Some result) (R.failed reader) (R.failed spent) × (R.faults reader ≡ [] → IsReadEndRun (Some result) (R.faults spent)) }
-    ensures cut { IsTrue W.counts → IsCutCause (Some result) (W.failed writer.old) (W.failed writer.new) }
-    ensures cut_run { IsTrue W.counts → W.faults writer.old ≡ [] → IsCutRun (Some result) (W.faults writer.new) }
-{
-    match LineReader::new(alloc, reader, LINE_LIMIT) {
-        Ok(mut lines) => serve_lines(alloc, &mut lines, writer, floor),
-        Err(AllocError) => {
-            floor.settle();
-            End::Memory
-        }
-    }
 }

@@ -9,7 +9,7 @@ ghost use Rattle.mt_session.specs.SharedServing.{ServesAsked, ServedSharedLine, 
 
 use crate::bell::Bell;
 use crate::gate::Gate;
-use crate::session::{End, LINE_LIMIT, MOST_LINES, answer_with};
+use crate::session::{End, MOST_LINES, answer_with};
 use crate::shared_answer::{Shared, leave, serve_request};
 use crate::shared_turn::SharedSession;
 use crate::text::Text;
@@ -19,7 +19,7 @@ use mt_lines::line::{Line, LineReader};
 use mt_lines::stream::{Input, Output};
 use mt_requests::request::read_request;
 use mt_skel::fault::Fault;
-use std::alloc::{AllocError, Global};
+use std::alloc::Global;
 use std::sync::{Mutex, Wait};
 use std::time::Clock;
 
@@ -97,22 +97,24 @@ fn serve_all<J: Naming, I: Input + Drop, O: Output, G: Gate, R: Wait + Clock>(
     End::Spent
 }
 
-/// Serves the lines of a reader, one answer each, at a desk that other sessions share, until the session ends, and then
-/// closes its watcher.
+/// Serves the lines that a reader has left, one answer each, at a desk that other sessions share, until the session ends,
+/// and then closes its watcher.
+///
+/// The reader has met no fault, and its lines are of at most `LINE_LIMIT` bytes (session.rt). It is lent, so that its
+/// caller knows of its last calls: where it has ended the session, its last call failed, and none came behind that.
 ///
 /// The desk is held while a request is done, and not while the session reads, writes or rests. `take` and `follow` take
 /// posts without it, and hold it to meet it where they find none. `follow` rests at the bell where none wait, and ends
 /// once it has as many as were asked for, where its watcher lags or a stop has ended it, and where the client has gone.
 /// A command and a stop ring the bell. Where posts were taken and there is no memory to tell them, the session says so
-/// and ends. It ends for want of memory, with nothing served, where there is none for a reader of lines. A session serves
-/// 16,777,216 lines at most. At a fault of the writer all earlier answers are out whole, and of the last one a part;
-/// what the end says of it are the bytes of its last piece, for the answer to a `follow` goes out in pieces of at most 64
-/// posts.
+/// and ends. A session serves 16,777,216 lines at most. At a fault of the writer all earlier answers are out whole, and of
+/// the last one a part; what the end says of it are the bytes of its last piece, for the answer to a `follow` goes out in
+/// pieces of at most 64 posts.
 pub fn serve_shared<J, I, O, G, R>(
     rt: &R,
     alloc: Global,
     number: u64,
-    reader: I,
+    lines: &mut LineReader<I>,
     writer: &mut O,
     desk: &Mutex<Desk<J>>,
     bell: &Bell,
@@ -124,8 +126,17 @@ where
     O: Output,
     G: Gate,
     R: Wait + Clock,
-    ensures served { IsTrue I.tells → IsTrue O.tells → ServedShared (I.left reader) (O.written writer.old) (O.written writer.new) result }
-    ensures read { IsTrue I.counts → (spent : I) × IsReadEnd (Some result) (I.failed reader) (I.failed spent) × (I.faults reader ≡ [] → IsReadEndRun (Some result) (I.faults spent)) }
+    requires fresh { fault_of lines.old ≡ None }
+    requires limit { limit_of lines.old ≡ line_limit }
+    ensures served { IsTrue I.tells → IsTrue O.tells → ServedShared (bytes_left lines.old) (O.written writer.old) (O.written writer.new) result }
+
+    // A fault of the reader ends it only where the reader's last call failed, and 1,000 interruptions
+    // only where so many calls were interrupted in succession. At every other end the reader's last
+    // call had not failed.
+    ensures read { IsTrue I.counts → IsReadEnd (Some result) (failed_calls lines.old) (failed_calls lines.new) }
+    ensures read_run { IsTrue I.counts → last_faults lines.old ≡ [] → IsReadEndRun (Some result) (last_faults lines.new) }
+
+    // It is cut only where the writer's last call failed, or so many were interrupted in succession.
     ensures cut { IsTrue O.counts → IsCutCause (Some result) (O.failed writer.old) (O.failed writer.new) }
     ensures cut_run { IsTrue O.counts → O.faults writer.old ≡ [] → IsCutRun (Some result) (O.faults writer.new) }
 {
@@ -136,13 +147,8 @@ where
         number,
         alloc,
     };
-    match LineReader::new(alloc, reader, LINE_LIMIT) {
-        Ok(mut lines) => {
-            let mut session = SharedSession::new(alloc);
-            let end = serve_all(rt, &shared, &mut session, &mut lines, writer);
-            leave(rt, &shared, &mut session);
-            end
-        }
-        Err(AllocError) => End::Memory,
-    }
+    let mut session = SharedSession::new(alloc);
+    let end = serve_all(rt, &shared, &mut session, lines, writer);
+    leave(rt, &shared, &mut session);
+    end
 }

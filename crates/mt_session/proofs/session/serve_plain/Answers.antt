@@ -1,6 +1,8 @@
-use Rattle.std.proofs.Common.{arith}
+use Rattle.mt_session.proofs.SessionLaws.{session_served}
 use Rattle.mt_session.proofs.session.serve_plain.Goals as goal
 
--- nothing was read
-pub returns-in-Err-clause-read : goal.returns-in-Err-clause-read
-returns-in-Err-clause-read g c t = (c.args.reader, omega arith, λ none. none)
+pub returns-clause-served : goal.returns-clause-served
+returns-clause-served g c t u =
+    let e = c.serve_session-end in
+    session_served _ c.args.floor.now c.settle.new.self e.new.floor c.leave.new.floor c.new-session.result e.new.session c.leave.new.self _ _ _ c.settle.ensures.settled c.new-session.ensures
+    (e.ensures.ran t u) e.ensures.idle c.leave.ensures.state c.leave.ensures.none
