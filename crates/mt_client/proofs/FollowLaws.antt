@@ -15,7 +15,7 @@ use Rattle.mt_events.specs.Posts.{PostView, IsPost, event_words, gone_line, row_
 use Rattle.mt_events.specs.Mirrors.{MirrorView, is_next, are_next, mirrored}
 use Rattle.mt_client.specs.Reading.{texts, printed, NoneFirst, AreSoMany}
 use Rattle.mt_client.specs.Mirroring.{IsRefusal, counted_line, opening_lines, Follows, HasOpened, HasFollowed}
-use Rattle.mt_client.specs.Awaited.{fourth_number, IsOneRefusal, IsRefusedOr, IsOpening, IsNextPost, IsBehind, TakesPost, TakesBehind, IsLast, IsFollowing, IsEnd, IsMirroring}
+use Rattle.mt_client.specs.Awaited.{event_count, IsOneRefusal, IsRefusedOr, IsOpening, IsNextPost, IsBehind, TakesPost, TakesBehind, IsLast, IsFollowing, IsEnd, IsMirroring}
 use Rattle.mt_client.proofs.OpeningLaws.{texts_split, needs_line, unrefused_or, opened_alike}
 
 pub on_ok : {A E : Type 0} {P : Type 0} (r : Result A E) → P → OnOk r P
@@ -54,16 +54,16 @@ event_line p = join_with_byte 32 (event_words p.space p.number (length p.gone + 
 first_is : (seen : List ℕ) (others : List (List ℕ)) (p : PostView) → seen ∷ others ≡ post_lines p → (seen ≡ event_line p) × (others ≡ behind_lines p)
 first_is seen others p all = let both : seen ∷ others ≡ event_line p ∷ behind_lines p = all in (cc, cc)
 
-event_counts : (seen : List ℕ) (p : PostView) → IsPost p → seen ≡ event_line p → fourth_number (words seen) ≡ Some (length p.gone + length p.rows)
+event_counts : (seen : List ℕ) (p : PostView) → IsPost p → seen ≡ event_line p → event_count (words seen) ≡ Some (length p.gone + length p.rows)
 event_counts seen p valid e =
-    ap (λ l. fourth_number (words l)) e ∙ ap fourth_number (pieces_joined 32 (codes "event") (decimal p.space ∷ decimal p.number ∷ decimal (length p.gone + length p.rows) ∷ []) (event_lacks p.space p.number (length p.gone + length p.rows) valid.space valid.number valid.counted))
+    ap (λ l. event_count (words l)) e ∙ ap event_count (pieces_joined 32 (codes "event") (decimal p.space ∷ decimal p.number ∷ decimal (length p.gone + length p.rows) ∷ []) (event_lacks p.space p.number (length p.gone + length p.rows) valid.space valid.number valid.counted))
     ∙ number_decimal (length p.gone + length p.rows) valid.counted
 
 some_same : (n m : ℕ) → Some n ≡ Some m → n ≡ m
 some_same n m e = cc
 
 pub event_many : (r : Option ℕ) (n : ℕ) (seen : List ℕ) (others : List (List ℕ)) (p : PostView) → r ≡ Some n
-    → r ≡ fourth_number (words seen)
+    → r ≡ event_count (words seen)
     → IsPost p → seen ∷ others ≡ post_lines p → length others ≡ n
 event_many r n seen others p is counts valid all =
     let f = first_is seen others p all in
@@ -71,7 +71,7 @@ event_many r n seen others p is counts valid all =
     ap length f.1 ∙ lengths p.gone p.rows ∙ some_same (length p.gone + length p.rows) n (sym m ∙ is)
 
 pub behind_needs_event : (r : Option ℕ) (seen : List ℕ) (mirror : MirrorView) (before : List Item) → r ≡ None
-    → r ≡ fourth_number (words seen)
+    → r ≡ event_count (words seen)
     → NoneFirst (IsBehind seen mirror) before
 behind_needs_event r seen mirror before is counts lines later k e =
     let f = first_is seen lines k.post k.all in
@@ -79,7 +79,7 @@ behind_needs_event r seen mirror before is counts lines later k e =
     let no : None ≡ Some (length k.post.gone + length k.post.rows) = sym is ∙ m in cc
 
 pub behind_needs_lines : (r : Option ℕ) (n : ℕ) (seen : List ℕ) (mirror : MirrorView) (before : List Item) → r ≡ Some n
-    → r ≡ fourth_number (words seen)
+    → r ≡ event_count (words seen)
     → NoneFirst (AreSoMany n) before → NoneFirst (IsBehind seen mirror) before
 behind_needs_lines r n seen mirror before is counts none lines later k e = none lines later (event_many r n seen lines k.post is counts k.valid k.all) e
 
@@ -88,7 +88,7 @@ unfolding post_text
 printed_post lines p e = ap printed e
 
 pub behind_needs_next : (r : Option ℕ) (n : ℕ) (seen : List ℕ) (mirror : MirrorView) (before after : List Item) (begun text : List ℕ) → r ≡ Some n
-    → r ≡ fourth_number (words seen)
+    → r ≡ event_count (words seen)
     → begun ≡ ended seen → ((all : List (List ℕ)) × (length all ≡ n) × (before ≡ texts all ++ after) × (text ≡ begun ++ printed all))
     → ((post : PostView) → IsPost post → text ≡ post_text post → is_next mirror post ≡ false) → NoneFirst (IsBehind seen mirror) before
 behind_needs_next r n seen mirror before after begun text is counts began read refused lines later k e =
@@ -100,7 +100,7 @@ behind_needs_next r n seen mirror before after begun text is counts began read r
     cc
 
 pub behind_taken : (r : Option ℕ) (n : ℕ) (seen : List ℕ) (before after : List Item) (begun text : List ℕ) → r ≡ Some n
-    → r ≡ fourth_number (words seen)
+    → r ≡ event_count (words seen)
     → ((all : List (List ℕ)) × (length all ≡ n) × (before ≡ texts all ++ after) × (text ≡ begun ++ printed all))
     → TakesBehind seen before after
 behind_taken r n seen before after begun text is counts read post others rest valid all e =

@@ -3,3 +3,5 @@ pub mod RelayLaws
 pub mod MirrorLaws
 pub mod OpeningLaws
 pub mod FollowLaws
+pub mod ReplyLaws
+pub mod EndingLaws

@@ -2,6 +2,7 @@
 use Rattle.std.proofs.Common.{◌≡◌, ◌≢◌, ◌==◌, Bool, MatchBool, ℕ, ◌+◌, ◌<◌, ◌^◌, true, false, List, [], ◌∷◌, ◌++◌, map, length, refl, sym, ap, subst, ◌∙◌, arith, append_assoc, codes, decimal, Some, inl, inr, IsTrue}
 use Rattle.std.specs.List.{join_with_byte, AllByRecursion}
 use Rattle.std.proofs.lemmas.List.{append_cancel_left}
+use Rattle.std.proofs.lemmas.Bool.{false≢true}
 use Rattle.std.proofs.lemmas.Bool.Decides.{nat_tests}
 use Rattle.std.proofs.lemmas.Fmt.{decimal_injective}
 use Rattle.mt_skel.specs.Keyed.{rises}
@@ -15,7 +16,7 @@ use Rattle.mt_info.specs.declared.row.Row.{Row}
 use Rattle.mt_info.proofs.RowLineLaws.{line-injective}
 use Rattle.mt_events.specs.Mirrors.{MirrorView}
 use Rattle.mt_client.specs.declared.opening.Heading.{Heading}
-use Rattle.mt_client.specs.Requests.{verdict}
+use Rattle.mt_client.specs.Requests.{is_refusal}
 use Rattle.mt_client.specs.Reading.{texts, NoneFirst, AreSoMany}
 use Rattle.mt_client.specs.Mirroring.{IsShown, counted_line, heading_words, heading_line, part_lines, opening_lines, HasOpened}
 use Rattle.mt_client.specs.Awaited.{IsOneRefusal, IsRefusedOr, IsRowLine, AreRowLines, IsShownPart, IsOpening}
@@ -43,10 +44,10 @@ refused_some some lines (inl r) = (r.0, [], r.2)
 refused_some some lines (inr k) = some lines k
 
 -- a line that does not refuse
-pub no_refusal : (seen : List ℕ) (before middle : List Item) → before ≡ Text seen ∷ middle → verdict seen ≢ Some false → NoneFirst IsOneRefusal before
+pub no_refusal : (seen : List ℕ) (before middle : List Item) → before ≡ Text seen ∷ middle → is_refusal seen ≡ false → NoneFirst IsOneRefusal before
 no_refusal seen before middle there tells lines later r e =
     let t = first_taken seen r.0 lines [] before middle later there r.2 e in
-    tells (ap verdict (sym t.0) ∙ r.1)
+    false≢true (sym tells ∙ ap is_refusal (sym t.0) ∙ r.1)
 
 pub unrefused_or : {kind : List (List ℕ) → Type 0} (before : List Item) → NoneFirst IsOneRefusal before → NoneFirst kind before → NoneFirst (IsRefusedOr kind) before
 unrefused_or before refusal none lines later (inl r) e = refusal lines later r e
@@ -155,7 +156,7 @@ opening_some space lines k = (counted_line (1 + length k.found.rows), part_lines
 pub opening_needs_line : (space : ℕ) (before : List Item) → NoneFirst (AreSoMany 1) before → NoneFirst (IsRefusedOr (IsOpening space)) before
 opening_needs_line space before none = needs_line before (refused_some (opening_some space)) none
 
-pub opening_needs_part : (space count : ℕ) (seen : List ℕ) (before middle : List Item) → before ≡ Text seen ∷ middle → verdict seen ≢ Some false → seen ≡ counted_line count → count < 2 ^ 64 → NoneFirst (IsShownPart space count) middle
+pub opening_needs_part : (space count : ℕ) (seen : List ℕ) (before middle : List Item) → before ≡ Text seen ∷ middle → is_refusal seen ≡ false → seen ≡ counted_line count → count < 2 ^ 64 → NoneFirst (IsShownPart space count) middle
     → NoneFirst (IsRefusedOr (IsOpening space)) before
 opening_needs_part space count seen before middle there tells is small none =
     unrefused_or before (no_refusal seen before middle there tells) (λ lines later k e.

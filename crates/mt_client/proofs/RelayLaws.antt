@@ -11,9 +11,8 @@ use Rattle.mt_lines.specs.declared.stream.StreamFault.{StreamFault}
 use Rattle.mt_lines.specs.declared.line.ReadFault.TheVariants.{Device, Interrupted, Endless, NoMemory as NoRoom}
 use Rattle.mt_client.specs.declared.fault.ClientFault.{ClientFault}
 use Rattle.mt_client.specs.declared.fault.ClientFault.TheVariants.{Connection, Output, NoMemory}
-use Rattle.mt_client.specs.declared.answer.Extent.{Extent}
+use Rattle.mt_client.specs.declared.answer.Form.{Form}
 use Rattle.mt_events.specs.Posts.{ended}
-use Rattle.mt_client.specs.Requests.{verdict, lines_behind, IsHeaded, IsFollowed, most_lines}
 use Rattle.mt_client.specs.Reading.{texts, printed, Passed, HasRead, HasPassed, IsWhole, HasBroken, IsBroken, IsCutOff, NoneFirst, AreSoMany, reading_fault}
 use Rattle.mt_client.proofs.RequestLaws.{cut_second}
 
@@ -60,12 +59,6 @@ passed_more ls ms before middle after old between new p q = record {
 pub one_passed : (line : List ℕ) (before after : List Item) (old new : List ℕ) → before ≡ Text line ∷ after → new ≡ old ++ ended line → Passed (line ∷ []) before after old new
 one_passed line before after old new e f = record { read = e; out = f ∙ ap (λ x. old ++ x) (sym (append-nil (ended line))) }
 
-pub so_many_more : (n : ℕ) (line : List ℕ) (before middle after : List Item) (old between new : List ℕ) → HasPassed (AreSoMany n) before middle old between → Passed (line ∷ []) middle after between new
-    → HasPassed (AreSoMany (n + 1)) before after old new
-so_many_more n line before middle after old between new h q =
-    let l = length-append h.0 (line ∷ []) in
-    (h.0 ++ line ∷ [], omega (arith, l, h.1), passed_more h.0 (line ∷ []) before middle after old between new h.2 q)
-
 -- a fault behind lines that were passed on
 pub broken_more : (f : ClientFault) (ls : List (List ℕ)) (before middle : List Item) (old between new : List ℕ) → Passed ls before middle old between → IsBroken f middle between new → IsBroken f before old new
 broken_more f ls before middle old between new p b = go f b
@@ -103,11 +96,6 @@ pub read_more : (ls : List (List ℕ)) (line : List ℕ) (before middle after : 
 read_more ls line before middle after e f =
     e ∙ ap (λ x. texts ls ++ x) f ∙ sym (append_assoc (texts ls) (Text line ∷ []) after) ∙ ap (λ x. x ++ after) (sym (texts-append ls (line ∷ [])))
 
-pub so_many_came : (n : ℕ) (line : List ℕ) (before middle after : List Item) → HasRead (AreSoMany n) before middle → middle ≡ Text line ∷ after → HasRead (AreSoMany (n + 1)) before after
-so_many_came n line before middle after h e =
-    let l = length-append h.0 (line ∷ []) in
-    (h.0 ++ line ∷ [], omega (arith, l, h.1), read_more h.0 line before middle after h.2 e)
-
 -- fewer lines came than were to come
 pub so_many_cut : (n count : ℕ) (before middle : List Item) → HasRead (AreSoMany n) before middle → n < count → NoneFirst (AreSoMany 1) middle → NoneFirst (AreSoMany count) before
 so_many_cut n count before middle h lt none lines later many e =
@@ -138,20 +126,6 @@ fault_counted Interrupted old new cause = omega (arith, cause)
 fault_counted Endless old new cause = cause
 fault_counted NoRoom old new cause = cause
 
--- the lines of an answer that is known by its first line
-pub headed_passed : (extent : Extent) (told : Bool) (count : ℕ) (line : List ℕ) (before middle after : List Item) (old between new : List ℕ) → Some told ≡ verdict line → Some count ≡ lines_behind extent told line
-    → Passed (line ∷ []) before middle old between → HasPassed (AreSoMany count) middle after between new → HasPassed (λ all. IsHeaded extent all told) before after old new
-headed_passed extent told count line before middle after old between new v n p h = (
-  line ∷ h.0,
-  record { first = line; others = h.0; all = refl; tells = sym v; count = sym n ∙ ap Some (sym h.1) },
-  passed_more (line ∷ []) h.0 before middle after old between new p h.2,
-)
-
--- what cannot come first where its first line is not there
-pub headed_needs_line : (extent : Extent) (before : List Item) → NoneFirst (AreSoMany 1) before → NoneFirst (λ all. (told : Bool) × IsHeaded extent all told) before
-headed_needs_line extent before none lines later h e =
-    none (h.1.first ∷ []) (texts h.1.others ++ later) refl (e ∙ ap (λ ls. texts ls ++ later) h.1.all)
-
 -- a fault that was handed on is the one that is answered
 pub same_fault : {A : Type 0} (r : Result A ClientFault) (e f k : ClientFault) → r ≡ Err e → e ≡ f → r ≡ Err k → f ≡ k
 same_fault {A} r e f k is same answered = let both : ◌≡◌ {A = Result A ClientFault} (Err e) (Err k) = sym is ∙ answered in let alike : e ≡ k = cc in sym same ∙ alike
@@ -160,54 +134,25 @@ same_fault {A} r e f k is same answered = let both : ◌≡◌ {A = Result A Cli
 pub broken_cut : (f : ClientFault) (line : List ℕ) (before after : List Item) (old new : List ℕ) → before ≡ Text line ∷ after → f ≡ Output → IsCutOff (ended line) old new → IsBroken f before old new
 broken_cut f line before after old new e kind cut = broken_printing (Err f) line before after old new e kind cut
 
--- so many lines that tell nothing
-abbrev pub AreSilent : ℕ → List (List ℕ) → Type 0
-AreSilent n lines = (length lines ≡ n) × AllByRecursion (λ line. verdict line ≡ None) lines
-
-silent-append : (xs : List (List ℕ)) (line : List ℕ) → AllByRecursion (λ line. verdict line ≡ None) xs → verdict line ≡ None → AllByRecursion (λ line. verdict line ≡ None) (xs ++ line ∷ [])
-silent-append [] line all none = (none, tt)
-silent-append (x ∷ xs) line all none = (all.0, silent-append xs line all.1 none)
-
-silent_more : (n : ℕ) (ls : List (List ℕ)) (line : List ℕ) → AreSilent n ls → None ≡ verdict line → AreSilent (n + 1) (ls ++ line ∷ [])
-silent_more n ls line s none = let l = length-append ls (line ∷ []) in (omega (arith, l, s.0), silent-append ls line s.1 (sym none))
-
-pub silent_came : (n : ℕ) (line : List ℕ) (before middle after : List Item) → HasRead (AreSilent n) before middle → None ≡ verdict line → middle ≡ Text line ∷ after → HasRead (AreSilent (n + 1)) before after
-silent_came n line before middle after h none e = (h.0 ++ line ∷ [], silent_more n h.0 line h.1 none, read_more h.0 line before middle after h.2 e)
-
-pub silent_passed : (n : ℕ) (line : List ℕ) (before middle after : List Item) (old between new : List ℕ) → HasPassed (AreSilent n) before middle old between → None ≡ verdict line → Passed (line ∷ []) middle after between new
-    → HasPassed (AreSilent (n + 1)) before after old new
-silent_passed n line before middle after old between new h none p = (h.0 ++ line ∷ [], silent_more n h.0 line h.1 none, passed_more h.0 (line ∷ []) before middle after old between new h.2 p)
-
-pub followed_passed : (n : ℕ) (told : Bool) (line : List ℕ) (before middle after : List Item) (old between new : List ℕ) → n < most_lines → HasPassed (AreSilent n) before middle old between → Some told ≡ verdict line
-    → Passed (line ∷ []) middle after between new → HasPassed (λ all. IsFollowed all told) before after old new
-followed_passed n told line before middle after old between new lt h v p = (
-  h.0 ++ line ∷ [],
-  record { others = h.0; last = line; all = refl; silent = h.1.1; tells = sym v; bounded = omega (arith, lt, h.1.0) },
-  passed_more h.0 (line ∷ []) before middle after old between new h.2 p,
-)
-
--- no line of those that tell nothing ends an answer
-silent_last : (others more : List (List ℕ)) (last : List ℕ) → AllByRecursion (λ line. verdict line ≡ None) ((others ++ last ∷ []) ++ more) → verdict last ≡ None
-silent_last [] more last all = all.0
-silent_last (o ∷ others) more last all = silent_last others more last all.1
-
-pub followed_behind : (n : ℕ) (before middle later : List Item) (lines : List (List ℕ)) (told : Bool) → HasRead (AreSilent n) before middle → IsFollowed lines told → before ≡ texts lines ++ later → length lines ≤ n → ⊥
-followed_behind n before middle later lines told h f e le =
-    let s = split_front lines h.0 later middle (omega (arith, le, h.1.0)) (sym e ∙ h.2) in
-    let all : h.0 ≡ (f.others ++ f.last ∷ []) ++ s.0 = s.1 ∙ ap (λ x. x ++ s.0) f.all in
-    let none : verdict f.last ≡ None = silent_last f.others s.0 f.last (subst (AllByRecursion (λ line. verdict line ≡ None)) all h.1.1) in
-    let some : verdict f.last ≡ Some told = f.tells in
-    cc
-
-pub followed_cut : (n : ℕ) (before middle : List Item) → HasRead (AreSilent n) before middle → NoneFirst (AreSoMany 1) middle → NoneFirst (λ all. (told : Bool) × IsFollowed all told) before
-followed_cut n before middle h none lines later f e = go (nat_le (length lines) n) refl
+-- a fault that is none of the output, where nothing was printed yet
+pub unprinted : (f : ClientFault) (before : List Item) (old : List ℕ) → f ≢ Output → IsBroken f before old old
+unprinted f before old other = go f other
   where
-    go : (b : Bool) → nat_le (length lines) n ≡ b → ⊥
-    go true is = followed_behind n before middle later lines f.0 h f.1 e (grind (arith, nat_tests))
-    go false is = so_many_cut n (length lines) before middle (h.0, h.1.0, h.2) (grind (arith, nat_tests)) none lines later refl e
+    whole : IsWhole before old old
+    whole = record { lines = []; later = before; read = refl; out = sym (append-nil old) }
 
-pub followed_spent : (n : ℕ) (before middle : List Item) → HasRead (AreSilent n) before middle → most_lines ≤ n → NoneFirst (λ all. (told : Bool) × IsFollowed all told) before
-followed_spent n before middle h is lines later f e =
-    let l = ap length f.1.all ∙ length-append f.1.others (f.1.last ∷ []) in
-    followed_behind n before middle later lines f.0 h f.1 e (let b = f.1.bounded in omega (arith, l, b, is))
+    go : (f : ClientFault) → f ≢ Output → IsBroken f before old old
+    go Connection never = whole
+    go NoMemory never = whole
+    go Output never = absurd (never refl)
 
+-- a fault of the output within the lines of a post
+pub broken_text : {n : ℕ} (f : ClientFault) (seen : List ℕ) (middle after : List Item) (text begun old new : List ℕ) → begun ≡ [] ++ ended seen → ((all : List (List ℕ)) × (length all ≡ n) × (middle ≡ texts all ++ after) × (text ≡ begun ++ printed all)) → f ≡ Output → IsCutOff text old new
+    → IsBroken f (Text seen ∷ middle) old new
+broken_text f seen middle after text begun old new began read kind cut =
+    subst (λ x. IsBroken x (Text seen ∷ middle) old new) (sym kind) (record {
+      lines = seen ∷ read.0;
+      later = after;
+      read = ap (λ x. Text seen ∷ x) read.2;
+      out = subst (λ x. IsCutOff x old new) (read.3 ∙ ap (λ x. x ++ printed read.0) began) cut;
+    })

@@ -2,3 +2,4 @@ pub mod Requests
 pub mod Reading
 pub mod Mirroring
 pub mod Awaited
+pub mod Replies

@@ -1,6 +1,6 @@
 -- What a mirror reads: the opening of a watcher of one namespace, posts that follow it, and their end.
 -- A word with no source is this project's rule.
-use Rattle.std.specs.Prelude.{◌≡◌, ℕ, ◌+◌, ◌≤◌, ◌<◌, ◌^◌, true, false, List, [], ◌∷◌, ◌++◌, map, length, IsTrue, Some, codes, decimal, ◌⊎◌}
+use Rattle.std.specs.Prelude.{◌≡◌, ℕ, ◌+◌, ◌≤◌, ◌<◌, ◌^◌, true, false, List, [], ◌∷◌, ◌++◌, map, length, IsTrue, codes, decimal, ◌⊎◌}
 use Rattle.std.specs.List.{flat_map, join_with_byte, AllByRecursion}
 use Rattle.mt_skel.specs.Keyed.{rises}
 use Rattle.mt_lines.specs.Lines.{Item, Text}
@@ -12,7 +12,7 @@ use Rattle.mt_events.specs.Mirrors.{MirrorView, are_next, mirrored_by}
 use Rattle.mt_events.specs.declared.opening.Opening.{Opening}
 use Rattle.mt_events.specs.declared.opening.Scope.TheVariants.{One}
 use Rattle.mt_session.specs.Answers.{count_text, opening_text, followed_text}
-use Rattle.mt_client.specs.Requests.{verdict, numbered_text}
+use Rattle.mt_client.specs.Requests.{is_refusal, numbered_text}
 use Rattle.mt_client.specs.Reading.{texts, printed}
 
 -- the line of an answer `ok` with a number
@@ -40,7 +40,7 @@ opening_with m = record { scope = One m.space; parts = record { space = m.space;
 
 -- a line that refuses
 abbrev pub IsRefusal : List ℕ → Type 0
-IsRefusal line = verdict line ≡ Some false
+IsRefusal line = is_refusal line ≡ true
 
 -- what is true of every namespace that a server shows: numbers of 64 bits, that of its lines too, and rows by rising ID
 pub record IsShown (m : MirrorView) : Type 0 where

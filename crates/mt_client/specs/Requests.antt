@@ -1,12 +1,16 @@
 -- The lines of requests, and which lines answer them.
 -- A word with no source is this project's rule.
-use Rattle.std.specs.Prelude.{◌≡◌, ℕ, ◌<◌, Bool, true, false, ◌||◌, if◌then◌else◌, List, [], ◌∷◌, ◌++◌, map, length, Option, Some, None, codes, decimal}
-use Rattle.std.specs.List.{join_with_byte, AllByRecursion}
+use Rattle.std.specs.Prelude.{◌≡◌, ℕ, ◌<◌, Bool, true, false, ◌||◌, ◌&&◌, nat_eq, if◌then◌else◌, List, [], ◌∷◌, ◌++◌, map, length, Option, Some, None, codes, decimal}
+use Rattle.std.specs.List.{join_with_byte, list_any, starts_with, AllByRecursion}
+use Rattle.std.specs.Option.{option_and_then}
 use Rattle.std.specs.Str.{bytes_eq}
 use Rattle.mt_skel.specs.Escapes.{escaped}
+use Rattle.mt_skel.specs.Fault.{name_of}
+use Rattle.mt_skel.specs.declared.fault.Fault.{Fault}
+use Rattle.mt_skel.specs.declared.fault.Fault.TheVariants.{BadLine, TooLong, BadPath, JournalFull, NoFilesystem, FilesystemExists, NoNamespace, NoEntry, EntryExists, NotMountRoot, RootPlace, Unbindable, SharedParent, IntoItself, UnbindableInside, Busy, BadAttr, TooMany, NoWatcher, WatcherOpen, TooManyWatchers, Lagged, Stopped, NoMemory}
 use Rattle.mt_words.specs.Words.{words, number_in_text}
-use Rattle.mt_client.specs.declared.answer.Extent.{Extent}
-use Rattle.mt_client.specs.declared.answer.Extent.TheVariants.{Lone, Counted, Followed}
+use Rattle.mt_client.specs.declared.answer.Form.{Form}
+use Rattle.mt_client.specs.declared.answer.Form.TheVariants.{Done, Number, Place, Table, Opening, Posts, Followed, Never}
 
 -- the line of a request: its words with their escapes, between single spaces
 abbrev pub request_text : List (List ℕ) → List ℕ
@@ -21,57 +25,97 @@ abbrev pub first_of : List (List ℕ) → List ℕ
 first_of [] = []
 first_of (word ∷ words) = word
 
--- the number that is the second of the words
-abbrev pub second_number : List (List ℕ) → Option ℕ
-second_number (first ∷ second ∷ words) = number_in_text second
-second_number words = None
-
 -- a line begins with this word
 abbrev pub has_first : List ℕ → List ℕ → Bool
 has_first line word = bytes_eq (first_of (words line)) word
 
+-- the commands that are answered by `ok` alone
+abbrev pub is_done_command : List ℕ → Bool
+is_done_command word =
+    bytes_eq word (codes "mkdir") || bytes_eq word (codes "move") || bytes_eq word (codes "umount") || bytes_eq word (codes "setattr") || bytes_eq word (codes "quit") || bytes_eq word (codes "stop")
+
+-- the commands that are answered by `ok` and a number
+abbrev pub is_number_command : List ℕ → Bool
+is_number_command word =
+    bytes_eq word (codes "mkfs") || bytes_eq word (codes "newns") || bytes_eq word (codes "copyns") || bytes_eq word (codes "mount") || bytes_eq word (codes "bind") || bytes_eq word (codes "rbind")
+
+-- which lines answer a command
+abbrev pub form_of_command : List ℕ → Form
+form_of_command word =
+    if is_done_command word then Done
+    else (if is_number_command word then Number
+    else (if bytes_eq word (codes "find") then Place
+    else (if bytes_eq word (codes "show") then Table
+    else (if bytes_eq word (codes "watch") then Opening
+    else (if bytes_eq word (codes "take") || bytes_eq word (codes "close") then Posts
+    else (if bytes_eq word (codes "follow") then Followed
+    else Never))))))
+
 -- which lines answer the request that a line says
-abbrev pub extent_of : List ℕ → Extent
-extent_of line =
-    if has_first line (codes "follow") then Followed
-    else (if has_first line (codes "show") || has_first line (codes "watch") || has_first line (codes "take") || has_first line (codes "close") then Counted
-    else Lone)
+abbrev pub form_of : List ℕ → Form
+form_of line = form_of_command (first_of (words line))
 
 -- what a line of an answer tells, if its first word is `ok` or `no`
 abbrev pub verdict : List ℕ → Option Bool
 verdict line = if has_first line (codes "ok") then Some true else (if has_first line (codes "no") then Some false else None)
 
--- the number that is the second word of a line
-abbrev pub count_of : List ℕ → Option ℕ
-count_of line = second_number (words line)
+-- every refusal of a server
+abbrev pub refusals : List Fault
+refusals =
+    BadLine ∷ TooLong ∷ BadPath ∷ JournalFull ∷ NoFilesystem ∷ FilesystemExists ∷ NoNamespace ∷ NoEntry ∷ EntryExists ∷ NotMountRoot ∷ RootPlace ∷ Unbindable ∷ SharedParent ∷ IntoItself ∷ UnbindableInside ∷ Busy ∷ BadAttr ∷ TooMany
+    ∷ NoWatcher ∷ WatcherOpen ∷ TooManyWatchers ∷ Lagged ∷ Stopped ∷ NoMemory ∷ []
 
--- how many lines come behind the first line of an answer that is not followed: as many as it says, where it is `ok` and counts them
-abbrev pub lines_behind : Extent → Bool → List ℕ → Option ℕ
-lines_behind Counted true line = count_of line
-lines_behind extent told line = Some 0
+abbrev pub is_refusal_name : List ℕ → Bool
+is_refusal_name word = list_any (λ fault. bytes_eq (name_of fault) word) refusals
 
--- a first line that tells, and as many lines as come behind it
-pub record IsHeaded (extent : Extent) (lines : List (List ℕ)) (told : Bool) : Type 0 where
-  pub first : List ℕ
-  pub others : List (List ℕ)
-  pub all : lines ≡ first ∷ others
-  pub tells : verdict first ≡ Some told
-  pub count : lines_behind extent told first ≡ Some (length others)
+-- the words of a line that refuses: `no` and the name of a refusal
+abbrev pub refuses : List (List ℕ) → Bool
+refuses (first ∷ name ∷ []) = bytes_eq first (codes "no") && is_refusal_name name
+refuses words = false
 
--- the most lines of an answer that is followed, which no server reaches
-abbrev pub most_lines : ℕ
-most_lines = 18446744073709551615
+abbrev pub is_refusal : List ℕ → Bool
+is_refusal line = refuses (words line)
 
--- lines that tell nothing, and a last one that tells
-pub record IsFollowed (lines : List (List ℕ)) (told : Bool) : Type 0 where
-  pub others : List (List ℕ)
-  pub last : List ℕ
-  pub all : lines ≡ others ++ last ∷ []
-  pub silent : AllByRecursion (λ line. verdict line ≡ None) others
-  pub tells : verdict last ≡ Some told
-  pub bounded : length others < most_lines
+-- the number that is all the words
+abbrev pub lone_number : List (List ℕ) → Option ℕ
+lone_number (word ∷ []) = number_in_text word
+lone_number words = None
 
--- lines that are a whole answer to a request of this extent, which is `ok` or `no`
-abbrev pub IsAnswer : Extent → List (List ℕ) → Bool → Type 0
-IsAnswer Followed lines told = IsFollowed lines told
-IsAnswer extent lines told = IsHeaded extent lines told
+-- the number of a mount that is, with a path, all the words
+abbrev pub placed_number : List (List ℕ) → Option ℕ
+placed_number (mount ∷ path ∷ []) = if starts_with nat_eq path (codes "/") then number_in_text mount else None
+placed_number words = None
+
+-- the count that is, with a number, all the words
+abbrev pub table_count : List (List ℕ) → Option ℕ
+table_count (count ∷ last ∷ []) = option_and_then (λ number. number_in_text count) (number_in_text last)
+table_count words = None
+
+-- no lines behind a line that tells a number
+abbrev pub none_behind : Option ℕ → Option ℕ
+none_behind None = None
+none_behind (Some number) = Some 0
+
+-- no lines behind a line without more words
+abbrev pub none_left : List (List ℕ) → Option ℕ
+none_left [] = Some 0
+none_left (word ∷ words) = None
+
+-- how many lines stand behind a first line with these words behind `ok`, if an answer of this form has such a line
+abbrev pub lines_said : Form → List (List ℕ) → Option ℕ
+lines_said Done words = none_left words
+lines_said Number words = none_behind (lone_number words)
+lines_said Place words = none_behind (placed_number words)
+lines_said Table words = table_count words
+lines_said Opening words = lone_number words
+lines_said Posts words = lone_number words
+lines_said Followed words = None
+lines_said Never words = None
+
+abbrev pub behind_first : List (List ℕ) → List (List ℕ)
+behind_first [] = []
+behind_first (word ∷ words) = words
+
+-- how many lines come behind the first line of an answer that tells this, if an answer of this form has such a line
+abbrev pub lines_behind : Form → Bool → List ℕ → Option ℕ
+lines_behind form told line = if told then lines_said form (behind_first (words line)) else (if is_refusal line then Some 0 else None)

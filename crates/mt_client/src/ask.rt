@@ -2,10 +2,11 @@
 ghost use Rattle.std.specs.Prelude.{◌≡◌, Bool, [], ◌++◌, ◌⊎◌, map, None, Err, IfOk, IfErr, OnOk, IsTrue};
 ghost use Rattle.mt_lines.specs.Reading.{last_faults, fault_of, limit_of};
 ghost use Rattle.mt_events.specs.Posts.{ended};
-ghost use Rattle.mt_client.specs.Requests.{request_text, extent_of, IsAnswer};
+ghost use Rattle.mt_client.specs.Requests.{request_text, form_of};
+ghost use Rattle.mt_client.specs.Replies.{IsAnswer};
 ghost use Rattle.mt_client.specs.Reading.{lines_left, HasPassed, HasBroken, IsBroken, IsSentPart, IsCut};
 
-use crate::answer::extent_of;
+use crate::answer::form_of;
 use crate::fault::ClientFault;
 use crate::relay::pass_answer;
 use crate::request::{request_line, send_request};
@@ -22,6 +23,7 @@ use std::alloc::Global;
 /// connection fails or ends early, or where what comes is no answer to the request, as `Output` where a line cannot
 /// be printed, and as `NoMemory` where there is none for a line of more than 8,192 bytes.
 pub fn ask_line<R: Input + Drop, W: Output, O: Output>(
+    alloc: Global,
     lines: &mut LineReader<R>,
     writer: &mut W,
     line: &[u8],
@@ -38,7 +40,7 @@ pub fn ask_line<R: Input + Drop, W: Output, O: Output>(
     // The lines that were read are a whole answer to the request, `ok` or `no` as is told, and these lines were
     // printed. Up to a fault those that were read whole were printed, of the last a part where the output failed.
     ensures answer { IfOk result (λ told. IsTrue R.tells → IsTrue O.tells
-        → HasPassed (λ all. IsAnswer (extent_of line.now) all told) (lines_left lines.old) (lines_left lines.new) (O.written out.old) (O.written out.new)) }
+        → HasPassed (λ all. IsAnswer (form_of line.now) all told) (lines_left lines.old) (lines_left lines.new) (O.written out.old) (O.written out.new)) }
     ensures broken { IsTrue R.tells → IsTrue O.tells → IfErr result
         (λ fault. IsBroken fault (lines_left lines.old) (O.written out.old) (O.written out.new)) }
 
@@ -46,7 +48,7 @@ pub fn ask_line<R: Input + Drop, W: Output, O: Output>(
     // first, and `Output` only where calls of the output failed; where no fault of the stream stood, the last call
     // failed then, or was the last of as many interrupted ones in succession as end a read or a send.
     ensures connection { result ≡ Err ClientFault.Connection → IsTrue R.tells → IsTrue R.counts → IsTrue W.counts
-        → HasBroken (W.failed writer.old) (W.failed writer.new) (W.faults writer.old) (W.faults writer.new) ⊎ IsCut (λ all. (told : Bool) × IsAnswer (extent_of line.now) all told) lines.old lines.new }
+        → HasBroken (W.failed writer.old) (W.failed writer.new) (W.faults writer.old) (W.faults writer.new) ⊎ IsCut (λ all. (told : Bool) × IsAnswer (form_of line.now) all told) lines.old lines.new }
     ensures output { result ≡ Err ClientFault.Output → IsTrue O.counts
         → HasBroken (O.failed out.old) (O.failed out.new) (O.faults out.old) (O.faults out.new) }
 
@@ -58,7 +60,7 @@ pub fn ask_line<R: Input + Drop, W: Output, O: Output>(
     ensures limit { limit_of lines.new ≡ limit_of lines.old }
 {
     send_request(writer, line)?;
-    pass_answer(lines, extent_of(line), out)
+    pass_answer(alloc, lines, form_of(line), out)
 }
 
 /// Sends the request of these words, each with its escapes, and prints the lines that answer it.
@@ -88,7 +90,7 @@ pub fn ask<R: Input + Drop, W: Output, O: Output>(
     // The lines that were read are a whole answer to the request, `ok` or `no` as is told, and these lines were
     // printed. Up to a fault those that were read whole were printed, of the last a part where the output failed.
     ensures answer { IfOk result (λ told. IsTrue R.tells → IsTrue O.tells
-        → HasPassed (λ all. IsAnswer (extent_of (request_text (map (λ word. word.now) words.now))) all told) (lines_left lines.old) (lines_left lines.new) (O.written out.old) (O.written out.new)) }
+        → HasPassed (λ all. IsAnswer (form_of (request_text (map (λ word. word.now) words.now))) all told) (lines_left lines.old) (lines_left lines.new) (O.written out.old) (O.written out.new)) }
     ensures broken { IsTrue R.tells → IsTrue O.tells → IfErr result
         (λ fault. IsBroken fault (lines_left lines.old) (O.written out.old) (O.written out.new)) }
 
@@ -96,7 +98,7 @@ pub fn ask<R: Input + Drop, W: Output, O: Output>(
     // first, and `Output` only where calls of the output failed; where no fault of the stream stood, the last call
     // failed then, or was the last of as many interrupted ones in succession as end a read or a send.
     ensures connection { result ≡ Err ClientFault.Connection → IsTrue R.tells → IsTrue R.counts → IsTrue W.counts
-        → HasBroken (W.failed writer.old) (W.failed writer.new) (W.faults writer.old) (W.faults writer.new) ⊎ IsCut (λ all. (told : Bool) × IsAnswer (extent_of (request_text (map (λ word. word.now) words.now))) all told) lines.old lines.new }
+        → HasBroken (W.failed writer.old) (W.failed writer.new) (W.faults writer.old) (W.faults writer.new) ⊎ IsCut (λ all. (told : Bool) × IsAnswer (form_of (request_text (map (λ word. word.now) words.now))) all told) lines.old lines.new }
     ensures output { result ≡ Err ClientFault.Output → IsTrue O.counts
         → HasBroken (O.failed out.old) (O.failed out.new) (O.faults out.old) (O.faults out.new) }
 
@@ -108,5 +110,5 @@ pub fn ask<R: Input + Drop, W: Output, O: Output>(
     ensures limit { limit_of lines.new ≡ limit_of lines.old }
 {
     let line = request_line(alloc, words)?;
-    ask_line(lines, writer, line.as_slice(), out)
+    ask_line(alloc, lines, writer, line.as_slice(), out)
 }

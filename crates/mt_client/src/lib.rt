@@ -9,6 +9,7 @@
 pub mod answer;
 pub mod ask;
 pub mod fault;
+mod group;
 pub mod mirror;
 mod opening;
 mod posts;

@@ -4,12 +4,12 @@ ghost use Rattle.mt_lines.specs.Reading.{failed_calls, last_faults, fault_of, la
 ghost use Rattle.mt_session.specs.Answers.{table_text};
 ghost use Rattle.mt_events.specs.Mirrors.{MirrorView};
 ghost use Rattle.mt_events.specs.Posts.{ended};
-ghost use Rattle.mt_client.specs.Requests.{numbered_text, verdict};
+ghost use Rattle.mt_client.specs.Requests.{numbered_text};
 ghost use Rattle.mt_client.specs.Reading.{lines_left, texts, printed, HasBroken, IsSentPart, NoneFirst, IsCut};
-ghost use Rattle.mt_client.specs.Mirroring.{IsRefusal, counted_line, HasOpened, HasFollowed, HasFollowedAll, HasRefused, IsLeft, HasMirrored, requests_text, IsRefused};
+ghost use Rattle.mt_client.specs.Mirroring.{counted_line, HasOpened, HasFollowed, HasFollowedAll, HasRefused, IsLeft, HasMirrored, requests_text, IsRefused};
 ghost use Rattle.mt_client.specs.Awaited.{IsOneRefusal, IsRefusedOr, IsOpening, IsNextPost, TakesPost, IsFollowing, IsEnd, IsMirroring};
 
-use crate::answer::verdict;
+use crate::answer::is_refusal;
 use crate::fault::ClientFault;
 use crate::opening::{read_count, read_part};
 use crate::posts::apply_post;
@@ -51,13 +51,6 @@ fn send_numbered<W: Output>(
 {
     let line = numbered_line(alloc, command, number)?;
     send_request(writer, line.as_slice())
-}
-
-/// Whether a line begins with `no`.
-fn is_refusal(line: &[u8]) -> bool
-    ensures { MatchBool result (IsRefusal line.now) (verdict line.now ≢ Some false) }
-{
-    matches!(verdict(line), Some(false))
 }
 
 /// What a watcher of one namespace found, or None where a refusal stands in its place, which the reader lends.
@@ -119,7 +112,7 @@ fn follow_post<R: Input + Drop>(
 }
 
 /// Whether a line is the end of so many posts.
-fn is_end(line: &[u8], count: u64) -> bool
+pub(crate) fn is_end(line: &[u8], count: u64) -> bool
     ensures { MatchBool result (line.now ≡ counted_line count) (line.now ≢ counted_line count) }
 {
     match read_count(line) {

@@ -24,10 +24,10 @@ use std::alloc::Global;
 
 /// What the first line of a namespace says.
 #[derive(Clone, Copy)]
-struct Heading {
+pub(crate) struct Heading {
     space: SpaceId,
     number: u64,
-    count: u64,
+    pub(crate) count: u64,
 }
 
 /// The number of a line that is `ok` and a number.
@@ -67,7 +67,7 @@ fn read_heading_words(words: &mut Words<'_>) -> Option<Heading>
 }
 
 /// The first line of a namespace.
-fn read_heading(line: &[u8]) -> Option<Heading>
+pub(crate) fn read_heading(line: &[u8]) -> Option<Heading>
     ensures heading { MatchOption result ((space number count : ℕ) → space < 2 ^ 64 → number < 2 ^ 64 → count < 2 ^ 64 → line.now ≢ join_with_byte 32 (heading_words space number count))
         (λ heading. line.now ≡ join_with_byte 32 (heading_words heading.space heading.number heading.count)) }
     ensures small { IfSome result (λ heading. (heading.space < 2 ^ 64) × (heading.number < 2 ^ 64) × (heading.count < 2 ^ 64)) }

@@ -6,7 +6,7 @@ ghost use Rattle.mt_events.specs.Posts.{PostView, IsPost, post_text, ended};
 ghost use Rattle.mt_events.specs.Mirrors.{is_next};
 ghost use Rattle.mt_client.specs.Reading.{lines_left, texts, printed, AreSoMany, IsCut};
 ghost use Rattle.mt_client.specs.Mirroring.{Follows, HasPosted};
-ghost use Rattle.mt_client.specs.Awaited.{fourth_number, IsBehind, TakesBehind};
+ghost use Rattle.mt_client.specs.Awaited.{event_count, IsBehind, TakesBehind};
 
 use crate::fault::ClientFault;
 use crate::relay::next_text;
@@ -18,12 +18,12 @@ use mt_skel::fault::Fault;
 use mt_words::words::{number, words};
 use std::alloc::{AllocError, Global};
 
-/// How many lines follow the first line of a post: the number that is its fourth word.
-fn lines_of_event(line: &[u8]) -> Option<u64>
-    ensures { result ≡ fourth_number (words line.now) }
+/// How many lines follow the first line of a post: the number that is its fourth word, where its first is `event`.
+pub(crate) fn lines_of_event(line: &[u8]) -> Option<u64>
+    ensures { result ≡ event_count (words line.now) }
 {
     let mut words = words(line);
-    let (Some(_), Some(_), Some(_), Some(count)) = (
+    let (Some(first), Some(_), Some(_), Some(count)) = (
         words.next(),
         words.next(),
         words.next(),
@@ -31,11 +31,14 @@ fn lines_of_event(line: &[u8]) -> Option<u64>
     ) else {
         return None;
     };
+    if first != b"event".as_slice() {
+        return None;
+    }
     number(count)
 }
 
 /// Appends a line and its line end.
-fn push_line(text: &mut Vec<u8>, line: &[u8]) -> Result<(), AllocError>
+pub(crate) fn push_line(text: &mut Vec<u8>, line: &[u8]) -> Result<(), AllocError>
     ensures { OnOk result (text.new.items ≡ text.old.items ++ ended line.now) }
 {
     text.extend_from_slice(line)?;
@@ -44,7 +47,7 @@ fn push_line(text: &mut Vec<u8>, line: &[u8]) -> Result<(), AllocError>
 }
 
 /// Appends so many lines that are read, each with its line end.
-fn push_lines<R: Input + Drop>(
+pub(crate) fn push_lines<R: Input + Drop>(
     text: &mut Vec<u8>,
     lines: &mut LineReader<R>,
     count: u64,

@@ -1,19 +1,22 @@
 //! Lines of answers, printed as they are read.
-ghost use Rattle.std.specs.Prelude.{◌≡◌, ◌≢◌, Bool, ◌+◌, ◌≤◌, [], ◌∷◌, ◌++◌, Some, None, Err, IfOk, IfErr, OnOk, OnErr, IsTrue};
+ghost use Rattle.std.specs.Prelude.{◌≡◌, ◌≢◌, Bool, ◌≤◌, [], ◌∷◌, ◌++◌, None, Err, IfOk, IfErr, OnOk, OnErr, IsTrue, MatchBool};
 ghost use Rattle.mt_lines.specs.Lines.{Text};
 ghost use Rattle.mt_lines.specs.Reading.{failed_calls, last_faults, fault_of, last_line, limit_of};
 ghost use Rattle.mt_events.specs.Posts.{ended};
-ghost use Rattle.mt_client.specs.Requests.{IsHeaded, IsFollowed, IsAnswer};
-ghost use Rattle.mt_client.specs.Reading.{lines_left, Passed, IsCutOff, HasBroken, IsBroken, AreSoMany, IsCut, HasPassed, reading_fault};
+ghost use Rattle.mt_client.specs.Replies.{IsHeaded, IsEnding, IsFollowed, IsAnswer};
+ghost use Rattle.mt_client.specs.Reading.{lines_left, IsCutOff, HasBroken, IsBroken, AreSoMany, IsCut, HasPassed, reading_fault};
 
-use crate::answer::{Extent, lines_behind, verdict};
+use crate::answer::{Form, is_refusal, lines_behind, verdict};
 use crate::fault::ClientFault;
+use crate::group::{pass_behind, pass_post};
+use crate::mirror::is_end;
 use crate::request::send_line;
 use mt_lines::line::{Line, LineReader, ReadFault};
 use mt_lines::stream::{Input, Output, send};
+use std::alloc::Global;
 
-/// The most lines of an answer that is followed, this project's rule.
-const MOST_LINES: u64 = u64::MAX;
+/// The most posts of an answer that is followed, this project's rule.
+const MOST_POSTS: u64 = u64::MAX;
 
 /// What a fault of the reader is to a client.
 fn reading_fault(fault: ReadFault) -> ClientFault
@@ -81,75 +84,22 @@ pub(crate) fn print_line<O: Output>(out: &mut O, line: &[u8]) -> Result<(), Clie
     }
 }
 
-/// Reads a line and prints it.
-fn pass_line<R: Input + Drop, O: Output>(
-    lines: &mut LineReader<R>,
-    out: &mut O,
-) -> Result<(), ClientFault>
-    requires fresh { fault_of lines.old ≡ None }
-    ensures passed { OnOk result (IsTrue R.tells → IsTrue O.tells
-        → Passed (last_line lines.new ∷ []) (lines_left lines.old) (lines_left lines.new) (O.written out.old) (O.written out.new)) }
-    ensures came { OnOk result (IsTrue R.tells
-        → lines_left lines.old ≡ Text (last_line lines.new) ∷ lines_left lines.new) }
-    ensures fresh { OnOk result (fault_of lines.new ≡ None) }
-    ensures broken { IsTrue R.tells → IsTrue O.tells → IfErr result
-        (λ fault. IsBroken fault (lines_left lines.old) (O.written out.old) (O.written out.new)) }
-    ensures cut { result ≡ Err ClientFault.Connection → IsTrue R.tells → IsTrue R.counts
-        → IsCut (AreSoMany 1) lines.old lines.new }
-    ensures cause { result ≡ Err ClientFault.Output → IsTrue O.counts
-        → HasBroken (O.failed out.old) (O.failed out.new) (O.faults out.old) (O.faults out.new) }
-    ensures read { IsTrue R.counts → failed_calls lines.old ≤ failed_calls lines.new }
-    ensures reads { OnOk result (IsTrue R.counts → last_faults lines.old ≡ [] → last_faults lines.new ≡ []) }
-    ensures printed { IsTrue O.counts → O.failed out.old ≤ O.failed out.new }
-    ensures prints { OnOk result (IsTrue O.counts → O.faults out.old ≡ [] → O.faults out.new ≡ []) }
-    ensures limit { limit_of lines.new ≡ limit_of lines.old }
-{
-    next_text(lines)?;
-    print_line(out, lines.line())
-}
-
-/// Reads so many lines, and prints each.
-fn pass_lines<R: Input + Drop, O: Output>(
-    lines: &mut LineReader<R>,
-    out: &mut O,
-    count: u64,
-) -> Result<(), ClientFault>
-    requires fresh { fault_of lines.old ≡ None }
-    ensures passed { OnOk result (IsTrue R.tells → IsTrue O.tells
-        → HasPassed (AreSoMany count) (lines_left lines.old) (lines_left lines.new) (O.written out.old) (O.written out.new)) }
-    ensures fresh { OnOk result (fault_of lines.new ≡ None) }
-    ensures broken { IsTrue R.tells → IsTrue O.tells → IfErr result
-        (λ fault. IsBroken fault (lines_left lines.old) (O.written out.old) (O.written out.new)) }
-    ensures cut { result ≡ Err ClientFault.Connection → IsTrue R.tells → IsTrue R.counts
-        → IsCut (AreSoMany count) lines.old lines.new }
-    ensures cause { result ≡ Err ClientFault.Output → IsTrue O.counts
-        → HasBroken (O.failed out.old) (O.failed out.new) (O.faults out.old) (O.faults out.new) }
-    ensures read { IsTrue R.counts → failed_calls lines.old ≤ failed_calls lines.new }
-    ensures reads { OnOk result (IsTrue R.counts → last_faults lines.old ≡ [] → last_faults lines.new ≡ []) }
-    ensures printed { IsTrue O.counts → O.failed out.old ≤ O.failed out.new }
-    ensures prints { OnOk result (IsTrue O.counts → O.faults out.old ≡ [] → O.faults out.new ≡ []) }
-    ensures limit { limit_of lines.new ≡ limit_of lines.old }
-{
-    'passing: for _line in 0..count {
-        pass_line(lines, out)?;
-    }
-    Ok(())
-}
-
-/// Reads an answer of which the first line tells how many follow, and prints its lines.
+/// Reads an answer of which the first line tells how many follow, and prints its lines, each once it is known for one
+/// of the answer.
 fn pass_headed<R: Input + Drop, O: Output>(
+    alloc: Global,
     lines: &mut LineReader<R>,
-    extent: Extent,
+    form: Form,
     out: &mut O,
 ) -> Result<bool, ClientFault>
     requires fresh { fault_of lines.old ≡ None }
     ensures passed { IfOk result (λ told. IsTrue R.tells → IsTrue O.tells
-        → HasPassed (λ all. IsHeaded extent all told) (lines_left lines.old) (lines_left lines.new) (O.written out.old) (O.written out.new)) }
+        → HasPassed (λ all. IsHeaded form all told) (lines_left lines.old) (lines_left lines.new) (O.written out.old) (O.written out.new)) }
     ensures fresh { OnOk result (fault_of lines.new ≡ None) }
     ensures broken { IsTrue R.tells → IsTrue O.tells → IfErr result
         (λ fault. IsBroken fault (lines_left lines.old) (O.written out.old) (O.written out.new)) }
     ensures cut { result ≡ Err ClientFault.Connection → IsTrue R.tells → IsTrue R.counts
-        → IsCut (λ all. (told : Bool) × IsHeaded extent all told) lines.old lines.new }
+        → IsCut (λ all. (told : Bool) × IsHeaded form all told) lines.old lines.new }
     ensures cause { result ≡ Err ClientFault.Output → IsTrue O.counts
         → HasBroken (O.failed out.old) (O.failed out.new) (O.faults out.old) (O.faults out.new) }
     ensures read { IsTrue R.counts → failed_calls lines.old ≤ failed_calls lines.new }
@@ -162,16 +112,28 @@ fn pass_headed<R: Input + Drop, O: Output>(
     let Some(told) = verdict(lines.line()) else {
         return Err(ClientFault::Connection);
     };
-    let Some(count) = lines_behind(extent, told, lines.line()) else {
+    let Some(count) = lines_behind(form, told, lines.line()) else {
         return Err(ClientFault::Connection);
     };
     print_line(out, lines.line())?;
-    pass_lines(lines, out, count)?;
+    pass_behind(alloc, lines, form, count, out)?;
     Ok(told)
 }
 
-/// Reads lines up to the first that begins with `ok` or `no`, and prints each.
+/// Whether a line that tells this is the end of so many posts: `ok` and their count, or a refusal.
+fn is_ending(told: bool, line: &[u8], taken: u64) -> bool
+    ensures { MatchBool result (IsEnding told taken line.now) (IsEnding told taken line.now → ⊥) }
+{
+    if told {
+        is_end(line, taken)
+    } else {
+        is_refusal(line)
+    }
+}
+
+/// Reads posts up to a line that begins with `ok` or `no`, and prints each once it is read whole, and the line.
 fn pass_followed<R: Input + Drop, O: Output>(
+    alloc: Global,
     lines: &mut LineReader<R>,
     out: &mut O,
 ) -> Result<bool, ClientFault>
@@ -191,29 +153,35 @@ fn pass_followed<R: Input + Drop, O: Output>(
     ensures prints { OnOk result (IsTrue O.counts → O.faults out.old ≡ [] → O.faults out.new ≡ []) }
     ensures limit { limit_of lines.new ≡ limit_of lines.old }
 {
-    'following: for _line in 0..MOST_LINES {
-        pass_line(lines, out)?;
+    'following: for taken in 0..MOST_POSTS {
+        next_text(lines)?;
         if let Some(told) = verdict(lines.line()) {
+            if !is_ending(told, lines.line(), taken) {
+                return Err(ClientFault::Connection);
+            }
+            print_line(out, lines.line())?;
             return Ok(told);
         }
+        pass_post(alloc, lines, out)?;
     }
     Err(ClientFault::Connection)
 }
 
 /// Reads the answer to a request and prints its lines: whether it is `ok`.
 pub(crate) fn pass_answer<R: Input + Drop, O: Output>(
+    alloc: Global,
     lines: &mut LineReader<R>,
-    extent: Extent,
+    form: Form,
     out: &mut O,
 ) -> Result<bool, ClientFault>
     requires fresh { fault_of lines.old ≡ None }
     ensures passed { IfOk result (λ told. IsTrue R.tells → IsTrue O.tells
-        → HasPassed (λ all. IsAnswer extent all told) (lines_left lines.old) (lines_left lines.new) (O.written out.old) (O.written out.new)) }
+        → HasPassed (λ all. IsAnswer form all told) (lines_left lines.old) (lines_left lines.new) (O.written out.old) (O.written out.new)) }
     ensures fresh { OnOk result (fault_of lines.new ≡ None) }
     ensures broken { IsTrue R.tells → IsTrue O.tells → IfErr result
         (λ fault. IsBroken fault (lines_left lines.old) (O.written out.old) (O.written out.new)) }
     ensures cut { result ≡ Err ClientFault.Connection → IsTrue R.tells → IsTrue R.counts
-        → IsCut (λ all. (told : Bool) × IsAnswer extent all told) lines.old lines.new }
+        → IsCut (λ all. (told : Bool) × IsAnswer form all told) lines.old lines.new }
     ensures cause { result ≡ Err ClientFault.Output → IsTrue O.counts
         → HasBroken (O.failed out.old) (O.failed out.new) (O.faults out.old) (O.faults out.new) }
     ensures read { IsTrue R.counts → failed_calls lines.old ≤ failed_calls lines.new }
@@ -222,8 +190,14 @@ pub(crate) fn pass_answer<R: Input + Drop, O: Output>(
     ensures prints { OnOk result (IsTrue O.counts → O.faults out.old ≡ [] → O.faults out.new ≡ []) }
     ensures limit { limit_of lines.new ≡ limit_of lines.old }
 {
-    match extent {
-        Extent::Followed => pass_followed(lines, out),
-        Extent::Lone | Extent::Counted => pass_headed(lines, extent, out),
+    match form {
+        Form::Followed => pass_followed(alloc, lines, out),
+        Form::Done
+        | Form::Number
+        | Form::Place
+        | Form::Table
+        | Form::Opening
+        | Form::Posts
+        | Form::Never => pass_headed(alloc, lines, form, out),
     }
 }

@@ -1,0 +1,303 @@
+-- Rows, namespaces and posts that were passed on, and what cannot come first where one is refused.
+use Rattle.std.proofs.Common.{◌≡◌, ◌≢◌, ℕ, ◌+◌, ◌-◌, ◌<◌, ◌≤◌, ◌^◌, nat_le, Bool, true, false, List, [], ◌∷◌, ◌++◌, map, length, refl, sym, ap, subst, ◌∙◌, arith, append_assoc, append-nil, length-append, codes, Some, None, Option, if◌then◌else◌, MatchBool}
+use Rattle.std.proofs.lemmas.List.{map-append}
+use Rattle.std.proofs.lemmas.Bool.Decides.{nat_tests}
+use Rattle.std.proofs.lemmas.Grind.{flat_map-append}
+use Rattle.std.specs.List.{flat_map, join_with_byte, AllByRecursion}
+use Rattle.std.specs.Str.{bytes_eq}
+use Rattle.mt_words.specs.Words.{words}
+use Rattle.mt_lines.specs.Lines.{Item, Text}
+use Rattle.mt_info.specs.Laws.{IsRow}
+use Rattle.mt_info.specs.RowLine.{line}
+use Rattle.mt_info.specs.declared.row.Row.{Row}
+use Rattle.mt_events.specs.Posts.{PostView, IsPost, post_text, ended}
+use Rattle.mt_client.specs.declared.answer.Form.{Form}
+use Rattle.mt_client.specs.declared.answer.Form.TheVariants.{Done, Number, Place, Table, Opening, Posts, Followed, Never}
+use Rattle.mt_client.specs.declared.group.Group.{Group}
+use Rattle.mt_client.specs.declared.group.Group.TheVariants.{Namespace, Post}
+use Rattle.mt_client.specs.declared.opening.Heading.{Heading}
+use Rattle.mt_client.specs.Requests.{verdict, lines_behind}
+use Rattle.mt_client.specs.Reading.{texts, printed, Passed, HasRead, HasPassed, NoneFirst, AreSoMany}
+use Rattle.mt_client.specs.Mirroring.{heading_words}
+use Rattle.mt_client.specs.Awaited.{event_count, IsRowLine, AreRowLines}
+use Rattle.mt_client.specs.Replies.{IsPartLines, IsPostLines, IsGroup, IsGroupOf, AreGroups, AreGroupLines, AreBehind, IsHeaded}
+use Rattle.mt_client.proofs.RelayLaws.{passed_more}
+use Rattle.mt_client.proofs.MirrorLaws.{runs_read}
+use Rattle.mt_client.proofs.OpeningLaws.{first_taken, texts_split, needs_line, heading_tells, rows_cut}
+use Rattle.mt_client.proofs.FollowLaws.{lines_alike}
+
+-- lines of one kind behind lines of another
+pub read_join : {kind more all : List (List ℕ) → Type 0} (before middle after : List Item) → ((ls ms : List (List ℕ)) → kind ls → more ms → all (ls ++ ms)) → HasRead kind before middle → HasRead more middle after → HasRead all before after
+read_join before middle after join h k = (h.0 ++ k.0, join h.0 k.0 h.1 k.1, runs_read h.0 k.0 before middle after h.2 k.2)
+
+pub passed_join : {kind more all : List (List ℕ) → Type 0} (before middle after : List Item) (old between new : List ℕ) → ((ls ms : List (List ℕ)) → kind ls → more ms → all (ls ++ ms)) → HasPassed kind before middle old between → HasPassed more middle after between new
+    → HasPassed all before after old new
+passed_join before middle after old between new join h k = (h.0 ++ k.0, join h.0 k.0 h.1 k.1, passed_more h.0 k.0 before middle after old between new h.2 k.2)
+
+-- rows
+valid_more : (rows : List Row) (row : Row) → AllByRecursion IsRow rows → IsRow row → AllByRecursion IsRow (rows ++ row ∷ [])
+valid_more [] row all valid = (valid, tt)
+valid_more (r ∷ rows) row all valid = (all.0, valid_more rows row all.1 valid)
+
+pub no_rows : AreRowLines 0 []
+no_rows = record { rows = []; valid = tt; many = refl; all = refl }
+
+pub rows_join : (n : ℕ) (ls ms : List (List ℕ)) → AreRowLines n ls → IsRowLine ms → AreRowLines (n + 1) (ls ++ ms)
+rows_join n ls ms a r =
+    let l = length-append a.rows (r.0 ∷ []) in
+    let m = a.many in
+    record {
+      rows = a.rows ++ r.0 ∷ [];
+      valid = valid_more a.rows r.0 a.valid r.1;
+      many = omega (arith, l, m);
+      all = (λ i. a.all i ++ r.2 i) ∙ sym (map-append line a.rows (r.0 ∷ []));
+    }
+
+pub rows_ended : (n count : ℕ) (before middle : List Item) → HasRead (AreRowLines n) before middle → n < count → NoneFirst IsRowLine middle → NoneFirst (AreRowLines count) before
+rows_ended n count before middle h lt none = rows_cut n count h.1.rows before middle (h.2 ∙ ap (λ ls. texts ls ++ middle) h.1.all) h.1.many lt none
+
+many_lines : (rows : List Row) → length (map line rows) ≡ length rows
+many_lines [] = refl
+many_lines (r ∷ rows) = let ih = many_lines rows in omega (arith, ih)
+
+rows_many : (n : ℕ) (ls : List (List ℕ)) → AreRowLines n ls → length ls ≡ n
+rows_many n ls a = ap length a.all ∙ many_lines a.rows ∙ a.many
+
+-- a row in the place of which something else came
+pub row_cut : (seen : List ℕ) (before middle : List Item) → before ≡ Text seen ∷ middle → (IsRowLine (seen ∷ []) → ⊥) → NoneFirst IsRowLine before
+row_cut seen before middle there none lines later k e =
+    let t = first_taken seen (line k.0) lines [] before middle later there k.2 e in
+    none (k.0, k.1, ap (λ l. l ∷ []) (sym t.0))
+
+pub row_needs_line : (before : List Item) → NoneFirst (AreSoMany 1) before → NoneFirst IsRowLine before
+row_needs_line before none = needs_line before (λ lines k. (line k.0, [], k.2)) none
+
+-- namespaces
+pub part_made : (h : Heading) (seen : List ℕ) (rows : List (List ℕ)) → seen ≡ join_with_byte 32 (heading_words h.space h.number h.count) → (h.space < 2 ^ 64) × (h.number < 2 ^ 64) × (h.count < 2 ^ 64) → AreRowLines h.count rows → IsGroupOf Namespace h.count (seen ∷ rows)
+part_made h seen rows is small valid =
+    let m = rows_many h.count rows valid in (
+      record { space = h.space; number = h.number; count = h.count; rows = rows; small = small; all = ap (λ l. l ∷ rows) is; valid = valid },
+      omega (arith, m),
+    )
+
+pub part_joined : (h : Heading) (seen : List ℕ) → seen ≡ join_with_byte 32 (heading_words h.space h.number h.count) → (h.space < 2 ^ 64) × (h.number < 2 ^ 64) × (h.count < 2 ^ 64) → (ls ms : List (List ℕ)) → ls ≡ seen ∷ [] → AreRowLines h.count ms → IsGroupOf Namespace h.count (ls ++ ms)
+part_joined h seen is small ls ms one valid = subst (λ x. IsGroupOf Namespace h.count (x ++ ms)) (sym one) (part_made h seen ms is small valid)
+
+part_first : (seen : List ℕ) (middle later : List Item) (lines : List (List ℕ)) (k : IsPartLines lines) → Text seen ∷ middle ≡ texts lines ++ later → (join_with_byte 32 (heading_words k.space k.number k.count) ≡ seen) × (middle ≡ texts k.rows ++ later)
+part_first seen middle later lines k e = first_taken seen (join_with_byte 32 (heading_words k.space k.number k.count)) lines k.rows (Text seen ∷ middle) middle later refl k.all e
+
+pub part_needs_heading : (seen : List ℕ) (middle : List Item) → ((space number count : ℕ) → space < 2 ^ 64 → number < 2 ^ 64 → count < 2 ^ 64 → seen ≢ join_with_byte 32 (heading_words space number count)) → NoneFirst IsPartLines (Text seen ∷ middle)
+part_needs_heading seen middle none lines later k e = none k.space k.number k.count k.small.0 k.small.1 k.small.2 (sym (part_first seen middle later lines k e).0)
+
+pub part_needs_rows : (h : Heading) (seen : List ℕ) (middle : List Item) → seen ≡ join_with_byte 32 (heading_words h.space h.number h.count) → (h.space < 2 ^ 64) × (h.number < 2 ^ 64) × (h.count < 2 ^ 64) → NoneFirst (AreRowLines h.count) middle
+    → NoneFirst IsPartLines (Text seen ∷ middle)
+part_needs_rows h seen middle is small none lines later k e =
+    let t = part_first seen middle later lines k e in
+    let w = heading_tells k.space k.number k.count h.space h.number h.count k.small.0 k.small.1 k.small.2 small.0 small.1 small.2 (t.0 ∙ is) in
+    none k.rows later (subst (λ n. AreRowLines n k.rows) w.2 k.valid) t.1
+
+-- posts
+some_same : (n m : ℕ) → Some n ≡ Some m → n ≡ m
+some_same n m e = cc
+
+post_made : (n : ℕ) (seen : List ℕ) (others : List (List ℕ)) (text begun : List ℕ) → Some n ≡ event_count (words seen) → length others ≡ n → begun ≡ [] ++ ended seen → text ≡ begun ++ printed others → ((post : PostView) × IsPost post × (text ≡ post_text post))
+    → IsGroupOf Post n (seen ∷ others) × (text ≡ printed (seen ∷ others))
+post_made n seen others text begun counts many began is post =
+    let whole : text ≡ printed (seen ∷ others) = is ∙ ap (λ x. x ++ printed others) began in (
+      (record { first = seen; others = others; post = post.0; all = refl; counted = sym counts ∙ ap Some (sym many); valid = post.1; text = sym whole ∙ post.2 }, omega (arith, many)),
+      whole,
+    )
+
+abbrev pub HasAppended : ℕ → List Item → List Item → List ℕ → List ℕ → Type 0
+HasAppended n middle after begun text = (all : List (List ℕ)) × (length all ≡ n) × (middle ≡ texts all ++ after) × (text ≡ begun ++ printed all)
+
+pub post_came : (n : ℕ) (seen : List ℕ) (middle after : List Item) (text begun : List ℕ) → Some n ≡ event_count (words seen) → begun ≡ [] ++ ended seen → HasAppended n middle after begun text → ((post : PostView) × IsPost post × (text ≡ post_text post))
+    → HasRead (IsGroupOf Post n) (Text seen ∷ middle) after
+post_came n seen middle after text begun counts began read post = (seen ∷ read.0, (post_made n seen read.0 text begun counts read.1 began read.3 post).0, ap (λ x. Text seen ∷ x) read.2)
+
+pub post_passed : (n : ℕ) (seen : List ℕ) (middle after : List Item) (text begun old new : List ℕ) → Some n ≡ event_count (words seen) → begun ≡ [] ++ ended seen → HasAppended n middle after begun text → ((post : PostView) × IsPost post × (text ≡ post_text post)) → new ≡ old ++ text
+    → HasPassed (IsGroupOf Post n) (Text seen ∷ middle) after old new
+post_passed n seen middle after text begun old new counts began read post out =
+    let made = post_made n seen read.0 text begun counts read.1 began read.3 post in
+    (seen ∷ read.0, made.0, record { read = ap (λ x. Text seen ∷ x) read.2; out = out ∙ ap (λ x. old ++ x) made.1 })
+
+post_first : (seen : List ℕ) (middle later : List Item) (lines : List (List ℕ)) (k : IsPostLines lines) → Text seen ∷ middle ≡ texts lines ++ later → (k.first ≡ seen) × (middle ≡ texts k.others ++ later)
+post_first seen middle later lines k e = first_taken seen k.first lines k.others (Text seen ∷ middle) middle later refl k.all e
+
+pub post_needs_count : (seen : List ℕ) (middle : List Item) → None ≡ event_count (words seen) → NoneFirst IsPostLines (Text seen ∷ middle)
+post_needs_count seen middle none lines later k e =
+    let t = post_first seen middle later lines k e in
+    let no : None ≡ Some (length k.others) = none ∙ ap (λ l. event_count (words l)) (sym t.0) ∙ k.counted in
+    cc
+
+post_many : (n : ℕ) (seen : List ℕ) (middle later : List Item) (lines : List (List ℕ)) → Some n ≡ event_count (words seen) → (k : IsPostLines lines) → Text seen ∷ middle ≡ texts lines ++ later → length k.others ≡ n
+post_many n seen middle later lines counts k e =
+    let t = post_first seen middle later lines k e in
+    sym (some_same n (length k.others) (counts ∙ ap (λ l. event_count (words l)) (sym t.0) ∙ k.counted))
+
+pub post_needs_lines : (n : ℕ) (seen : List ℕ) (middle : List Item) → Some n ≡ event_count (words seen) → NoneFirst (AreSoMany n) middle → NoneFirst IsPostLines (Text seen ∷ middle)
+post_needs_lines n seen middle counts none lines later k e = none k.others later (post_many n seen middle later lines counts k e) (post_first seen middle later lines k e).1
+
+pub post_needs_text : (n : ℕ) (seen : List ℕ) (middle after : List Item) (text begun : List ℕ) → Some n ≡ event_count (words seen) → begun ≡ [] ++ ended seen
+    → HasAppended n middle after begun text → ((post : PostView) → IsPost post → text ≢ post_text post) → NoneFirst IsPostLines (Text seen ∷ middle)
+post_needs_text n seen middle after text begun counts began read none lines later k e =
+    let t = post_first seen middle later lines k e in
+    let a = lines_alike read.0 k.others after later (read.1 ∙ sym (post_many n seen middle later lines counts k e)) (sym read.2 ∙ t.1) in
+    let front : begun ++ printed read.0 ≡ printed (k.first ∷ k.others) = (λ i. began i ++ printed (a.0 i)) ∙ ap (λ l. printed (l ∷ k.others)) (sym t.0) in
+    none k.post k.valid (read.3 ∙ front ∙ ap printed (sym k.all) ∙ k.text)
+
+-- two groups that come first have as many lines
+abbrev pub Alike : (List (List ℕ) → Type 0) → Type 0
+Alike kind = (g h : List (List ℕ)) (middle later : List Item) → kind g → kind h → texts g ++ middle ≡ texts h ++ later → length g ≡ length h
+
+parts_alike : Alike IsPartLines
+parts_alike g h middle later p q e =
+    let t = part_first (join_with_byte 32 (heading_words p.space p.number p.count)) (texts p.rows ++ middle) later h q (sym (ap (λ ls. texts ls ++ middle) p.all) ∙ e) in
+    let w = heading_tells q.space q.number q.count p.space p.number p.count q.small.0 q.small.1 q.small.2 p.small.0 p.small.1 p.small.2 t.0 in
+    let first = ap length p.all in
+    let second = ap length q.all in
+    let same = rows_many p.count p.rows p.valid ∙ sym w.2 ∙ sym (rows_many q.count q.rows q.valid) in
+    omega (arith, first, second, same)
+
+pub posts_alike : Alike IsPostLines
+posts_alike g h middle later p q e =
+    let m = post_many (length p.others) p.first (texts p.others ++ middle) later h (sym p.counted) q (sym (ap (λ ls. texts ls ++ middle) p.all) ∙ e) in
+    let first = ap length p.all in
+    let second = ap length q.all in
+    omega (arith, first, second, m)
+
+pub groups_alike : (group : Group) → Alike (IsGroup group)
+groups_alike Namespace = parts_alike
+groups_alike Post = posts_alike
+
+part_some : (lines : List (List ℕ)) → IsPartLines lines → (first : List ℕ) × (others : List (List ℕ)) × (lines ≡ first ∷ others)
+part_some lines k = (join_with_byte 32 (heading_words k.space k.number k.count), k.rows, k.all)
+
+pub post_some : (lines : List (List ℕ)) → IsPostLines lines → (first : List ℕ) × (others : List (List ℕ)) × (lines ≡ first ∷ others)
+post_some lines k = (k.first, k.others, k.all)
+
+pub group_needs_line : (group : Group) (before : List Item) → NoneFirst (AreSoMany 1) before → NoneFirst (IsGroup group) before
+group_needs_line Namespace before none = needs_line before part_some none
+group_needs_line Post before none = needs_line before post_some none
+
+-- groups, and one more
+pub each_more : (kind : List (List ℕ) → Type 0) (groups : List (List (List ℕ))) (group : List (List ℕ)) → AllByRecursion kind groups → kind group → AllByRecursion kind (groups ++ group ∷ [])
+each_more kind [] group all valid = (valid, tt)
+each_more kind (g ∷ groups) group all valid = (all.0, each_more kind groups group all.1 valid)
+
+pub flat_more : (ls ms : List (List ℕ)) (groups : List (List (List ℕ))) → ls ≡ flat_map (λ group. group) groups → ls ++ ms ≡ flat_map (λ group. group) (groups ++ ms ∷ [])
+flat_more ls ms groups e = ap (λ x. x ++ ms) e ∙ ap (λ x. flat_map (λ group. group) groups ++ x) (sym (append-nil ms)) ∙ sym (flat_map-append (λ group. group) groups (ms ∷ []))
+
+abbrev pub AreSoFar : Group → ℕ → ℕ → List (List ℕ) → Type 0
+AreSoFar group count left lines = AreGroups (IsGroup group) lines × (length lines + left ≡ count)
+
+pub none_so_far : (group : Group) (count : ℕ) → AreSoFar group count count []
+none_so_far group count = (record { groups = []; each = tt; all = refl }, omega arith)
+
+pub all_so_far : (group : Group) (count left : ℕ) (ls ms : List (List ℕ)) → left ≤ 0 → AreSoFar group count left ls → ms ≡ ls → AreGroupLines group count ms
+all_so_far group count left ls ms end a same = subst (AreGroupLines group count) (sym same) (a.0, (let m = a.1 in omega (arith, m, end)))
+
+pub groups_join : (group : Group) (count left rest behind : ℕ) → left ≡ 1 + (behind + rest) → (ls ms : List (List ℕ)) → AreSoFar group count left ls → IsGroupOf group behind ms → AreSoFar group count rest (ls ++ ms)
+groups_join group count left rest behind is ls ms a g =
+    let l = length-append ls ms in
+    let m = g.1 in
+    let n = a.1 in (
+      record { groups = a.0.groups ++ ms ∷ []; each = each_more (IsGroup group) a.0.groups ms a.0.each g.0; all = flat_more ls ms a.0.groups a.0.all },
+      omega (arith, l, m, n, is),
+    )
+
+pub too_many : (behind left : ℕ) → 0 < left → (behind ≤ left - 1 → ⊥) → left < 1 + behind
+too_many behind left some over = go (nat_le behind (left - 1)) refl
+  where
+    go : (b : Bool) → nat_le behind (left - 1) ≡ b → left < 1 + behind
+    go true is = absurd (over (grind (arith, nat_tests)))
+    go false is = let more : left - 1 < behind = grind (arith, nat_tests) in omega (arith, more, some)
+
+-- what comes first behind some of the groups, where so many lines of groups did at the start
+abbrev pub Left : (List (List ℕ) → Type 0) → ℕ → ℕ → List Item → List Item → Type 0
+Left kind count left before middle =
+    (lines : List (List ℕ)) (later : List Item) → AreGroups kind lines → length lines ≡ count → before ≡ texts lines ++ later → (rest : List (List ℕ)) × AreGroups kind rest × (length rest ≡ left) × (middle ≡ texts rest ++ later)
+
+pub left_at_first : {kind : List (List ℕ) → Type 0} (count : ℕ) (before : List Item) → Left kind count count before before
+left_at_first count before lines later a many e = (lines, a, many, e)
+
+pub flat_split : (g : List (List ℕ)) (groups : List (List (List ℕ))) (rest : List (List ℕ)) (middle later : List Item) → rest ≡ flat_map (λ group. group) (g ∷ groups) → middle ≡ texts rest ++ later → middle ≡ texts g ++ (texts (flat_map (λ group. group) groups) ++ later)
+flat_split g groups rest middle later all e = e ∙ ap (λ ls. texts ls ++ later) all ∙ texts_split g (flat_map (λ group. group) groups) later
+
+-- what is left behind a group that was read: the group is the first of those that came
+left_behind_one : (group : Group) (left behind : ℕ) (middle after later : List Item) (rest : List (List ℕ)) (groups : List (List (List ℕ))) → AllByRecursion (IsGroup group) groups → rest ≡ flat_map (λ group. group) groups → length rest ≡ left → 0 < left → middle ≡ texts rest ++ later
+    → HasRead (IsGroupOf group behind) middle after → (more : List (List ℕ)) × AreGroups (IsGroup group) more × (left ≡ 1 + (behind + length more)) × (after ≡ texts more ++ later)
+left_behind_one group left behind middle after later rest [] each all many some e h = let l = ap length all in absurd (omega (arith, l, many, some))
+left_behind_one group left behind middle after later rest (g ∷ groups) each all many some e h =
+    let s = flat_split g groups rest middle later all e in
+    let n = groups_alike group h.0 g after (texts (flat_map (λ group. group) groups) ++ later) h.1.0 each.0 (sym h.2 ∙ s) in
+    let a = lines_alike h.0 g after (texts (flat_map (λ group. group) groups) ++ later) n (sym h.2 ∙ s) in
+    let l = ap length all ∙ length-append g (flat_map (λ group. group) groups) in
+    let m = h.1.1 in (
+      flat_map (λ group. group) groups,
+      record { groups = groups; each = each.1; all = refl },
+      omega (arith, l, m, n, many),
+      a.1,
+    )
+
+pub left_on : (group : Group) (count left rest behind : ℕ) (before middle after : List Item) → left ≡ 1 + (behind + rest) → Left (IsGroup group) count left before middle → HasRead (IsGroupOf group behind) middle after → Left (IsGroup group) count rest before after
+left_on group count left rest behind before middle after is goes h lines later a many e =
+    let g = goes lines later a many e in
+    let o = left_behind_one group left behind middle after later g.0 g.1.groups g.1.each g.1.all g.2 (omega (arith, is)) g.3 h in
+    let sum = o.2 in
+    (o.0, o.1, omega (arith, sum, is), o.3)
+
+pub left_over : (group : Group) (count left behind : ℕ) (before middle after : List Item) → 0 < left → left < 1 + behind → Left (IsGroup group) count left before middle → HasRead (IsGroupOf group behind) middle after → NoneFirst (AreGroupLines group count) before
+left_over group count left behind before middle after some over goes h lines later a e =
+    let g = goes lines later a.0 a.1 e in
+    let o = left_behind_one group left behind middle after later g.0 g.1.groups g.1.each g.1.all g.2 some g.3 h in
+    let sum = o.2 in
+    omega (arith, sum, over)
+
+one_left : (group : Group) (left : ℕ) (middle later : List Item) (rest : List (List ℕ)) (groups : List (List (List ℕ))) → AllByRecursion (IsGroup group) groups → rest ≡ flat_map (λ group. group) groups → length rest ≡ left → 0 < left → middle ≡ texts rest ++ later
+    → NoneFirst (IsGroup group) middle → ⊥
+one_left group left middle later rest [] each all many some e none = let l = ap length all in omega (arith, l, many, some)
+one_left group left middle later rest (g ∷ groups) each all many some e none = none g (texts (flat_map (λ group. group) groups) ++ later) each.0 (flat_split g groups rest middle later all e)
+
+pub left_cut : (group : Group) (count left : ℕ) (before middle : List Item) → 0 < left → Left (IsGroup group) count left before middle → NoneFirst (IsGroup group) middle → NoneFirst (AreGroupLines group count) before
+left_cut group count left before middle some goes none lines later a e =
+    let g = goes lines later a.0 a.1 e in
+    one_left group left middle later g.0 g.1.groups g.1.each g.1.all g.2 some g.3 none
+
+-- the lines of an answer that is known by its first line
+pub headed_whole : (form : Form) (told : Bool) (count : ℕ) (seen : List ℕ) → Some told ≡ verdict seen → Some count ≡ lines_behind form told seen → (ls ms : List (List ℕ)) → ls ≡ seen ∷ [] → AreBehind form count ms → IsHeaded form (ls ++ ms) told
+headed_whole form told count seen v n ls ms one behind = record { first = seen; others = ms; count = count; all = ap (λ x. x ++ ms) one; tells = sym v; counted = sym n; behind = behind }
+
+pub headed_needs_line : (form : Form) (before : List Item) → NoneFirst (AreSoMany 1) before → NoneFirst (λ all. (told : Bool) × IsHeaded form all told) before
+headed_needs_line form before none = needs_line before (λ lines k. (k.1.first, k.1.others, k.1.all)) none
+
+headed_first : (form : Form) (seen : List ℕ) (before middle later : List Item) (lines : List (List ℕ)) (told : Bool) → before ≡ Text seen ∷ middle → (k : IsHeaded form lines told) → before ≡ texts lines ++ later → (k.first ≡ seen) × (middle ≡ texts k.others ++ later)
+headed_first form seen before middle later lines told there k e = first_taken seen k.first lines k.others before middle later there k.all e
+
+pub headed_needs_verdict : (form : Form) (seen : List ℕ) (before middle : List Item) → before ≡ Text seen ∷ middle → None ≡ verdict seen → NoneFirst (λ all. (told : Bool) × IsHeaded form all told) before
+headed_needs_verdict form seen before middle there none lines later k e =
+    let t = headed_first form seen before middle later lines k.0 there k.1 e in
+    let no : None ≡ Some k.0 = none ∙ ap verdict (sym t.0) ∙ k.1.tells in
+    cc
+
+bool_same : (b c : Bool) → Some b ≡ Some c → b ≡ c
+bool_same b c e = cc
+
+headed_told : (form : Form) (told : Bool) (seen : List ℕ) (before middle later : List Item) (lines : List (List ℕ)) → before ≡ Text seen ∷ middle → Some told ≡ verdict seen → (k : (told : Bool) × IsHeaded form lines told) → before ≡ texts lines ++ later
+    → lines_behind form told seen ≡ Some k.1.count
+headed_told form told seen before middle later lines there tells k e =
+    let t = headed_first form seen before middle later lines k.0 there k.1 e in
+    let same : told ≡ k.0 = bool_same told k.0 (tells ∙ ap verdict (sym t.0) ∙ k.1.tells) in
+    (λ i. lines_behind form (same i) (sym t.0 i)) ∙ k.1.counted
+
+pub headed_needs_count : (form : Form) (told : Bool) (seen : List ℕ) (before middle : List Item) → before ≡ Text seen ∷ middle → Some told ≡ verdict seen → None ≡ lines_behind form told seen → NoneFirst (λ all. (told : Bool) × IsHeaded form all told) before
+headed_needs_count form told seen before middle there tells none lines later k e =
+    let no : None ≡ Some k.1.count = none ∙ headed_told form told seen before middle later lines there tells k e in
+    cc
+
+pub headed_needs_behind : (form : Form) (told : Bool) (count : ℕ) (seen : List ℕ) (before middle : List Item) → before ≡ Text seen ∷ middle → Some told ≡ verdict seen → Some count ≡ lines_behind form told seen → NoneFirst (AreBehind form count) middle
+    → NoneFirst (λ all. (told : Bool) × IsHeaded form all told) before
+headed_needs_behind form told count seen before middle there tells counts none lines later k e =
+    let t = headed_first form seen before middle later lines k.0 there k.1 e in
+    let same = some_same count k.1.count (counts ∙ headed_told form told seen before middle later lines there tells k e) in
+    none k.1.others later (subst (λ n. AreBehind form n k.1.others) (sym same) k.1.behind) t.1

@@ -1,0 +1,93 @@
+-- Whole answers: a first line of the request's form or a refusal, and the rows, namespaces and posts that come with it.
+-- A word with no source is this project's rule.
+use Rattle.std.specs.Prelude.{◌≡◌, ℕ, ◌+◌, ◌<◌, ◌^◌, Bool, true, false, List, [], ◌∷◌, ◌++◌, length, Some}
+use Rattle.std.specs.List.{flat_map, join_with_byte, AllByRecursion}
+use Rattle.mt_words.specs.Words.{words}
+use Rattle.mt_events.specs.Posts.{PostView, IsPost, post_text}
+use Rattle.mt_client.specs.declared.answer.Form.{Form}
+use Rattle.mt_client.specs.declared.answer.Form.TheVariants.{Done, Number, Place, Table, Opening, Posts, Followed, Never}
+use Rattle.mt_client.specs.declared.group.Group.{Group}
+use Rattle.mt_client.specs.declared.group.Group.TheVariants.{Namespace, Post}
+use Rattle.mt_client.specs.Requests.{verdict, is_refusal, lines_behind}
+use Rattle.mt_client.specs.Reading.{printed}
+use Rattle.mt_client.specs.Mirroring.{counted_line, heading_words}
+use Rattle.mt_client.specs.Awaited.{event_count, AreRowLines}
+
+-- the lines of a namespace: its number, that of its last post and how many rows it has, and then so many rows
+pub record IsPartLines (lines : List (List ℕ)) : Type 0 where
+  pub space : ℕ
+  pub number : ℕ
+  pub count : ℕ
+  pub rows : List (List ℕ)
+  pub small : (space < 2 ^ 64) × (number < 2 ^ 64) × (count < 2 ^ 64)
+  pub all : lines ≡ join_with_byte 32 (heading_words space number count) ∷ rows
+  pub valid : AreRowLines count rows
+
+-- the lines of a post: the first tells how many follow, and all of them are its text
+pub record IsPostLines (lines : List (List ℕ)) : Type 0 where
+  pub first : List ℕ
+  pub others : List (List ℕ)
+  pub post : PostView
+  pub all : lines ≡ first ∷ others
+  pub counted : event_count (words first) ≡ Some (length others)
+  pub valid : IsPost post
+  pub text : printed lines ≡ post_text post
+
+abbrev pub IsGroup : Group → List (List ℕ) → Type 0
+IsGroup Namespace lines = IsPartLines lines
+IsGroup Post lines = IsPostLines lines
+
+-- such lines, and how many stand behind the first
+abbrev pub IsGroupOf : Group → ℕ → List (List ℕ) → Type 0
+IsGroupOf group behind lines = IsGroup group lines × (length lines ≡ 1 + behind)
+
+-- lines of this kind, one after another
+pub record AreGroups (kind : List (List ℕ) → Type 0) (lines : List (List ℕ)) : Type 0 where
+  pub groups : List (List (List ℕ))
+  pub each : AllByRecursion kind groups
+  pub all : lines ≡ flat_map (λ group. group) groups
+
+-- so many lines of namespaces, or of posts
+abbrev pub AreGroupLines : Group → ℕ → List (List ℕ) → Type 0
+AreGroupLines group count lines = AreGroups (IsGroup group) lines × (length lines ≡ count)
+
+-- so many lines behind the first line of an answer
+abbrev pub AreBehind : Form → ℕ → List (List ℕ) → Type 0
+AreBehind Table count lines = AreRowLines count lines
+AreBehind Opening count lines = AreGroupLines Namespace count lines
+AreBehind Posts count lines = AreGroupLines Post count lines
+AreBehind form count lines = (lines ≡ []) × (count ≡ 0)
+
+-- a first line of this form, or a refusal, and the lines that come behind it
+pub record IsHeaded (form : Form) (lines : List (List ℕ)) (told : Bool) : Type 0 where
+  pub first : List ℕ
+  pub others : List (List ℕ)
+  pub count : ℕ
+  pub all : lines ≡ first ∷ others
+  pub tells : verdict first ≡ Some told
+  pub counted : lines_behind form told first ≡ Some count
+  pub behind : AreBehind form count others
+
+-- the most posts of an answer, which no server reaches
+abbrev pub most_posts : ℕ
+most_posts = 18446744073709551615
+
+-- the line behind so many posts: `ok` and their count, or a refusal
+abbrev pub IsEnding : Bool → ℕ → List ℕ → Type 0
+IsEnding true count last = last ≡ counted_line count
+IsEnding false count last = is_refusal last ≡ true
+
+-- posts, and the line that ends them
+pub record IsFollowed (lines : List (List ℕ)) (told : Bool) : Type 0 where
+  pub posts : List (List (List ℕ))
+  pub last : List ℕ
+  pub each : AllByRecursion IsPostLines posts
+  pub all : lines ≡ flat_map (λ post. post) posts ++ last ∷ []
+  pub tells : verdict last ≡ Some told
+  pub ends : IsEnding told (length posts) last
+  pub bounded : length posts < most_posts
+
+-- lines that are a whole answer of this form, which is `ok` or `no`
+abbrev pub IsAnswer : Form → List (List ℕ) → Bool → Type 0
+IsAnswer Followed lines told = IsFollowed lines told
+IsAnswer form lines told = IsHeaded form lines told

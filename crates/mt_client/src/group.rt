@@ -1,0 +1,294 @@
+//! The rows, namespaces and posts of an answer, which are printed once they are known for such.
+ghost use Rattle.std.specs.Prelude.{◌≡◌, ◌≢◌, ◌⊎◌, ◌≤◌, [], ◌∷◌, ◌++◌, None, Err, IfOk, IfErr, OnOk, IsTrue};
+ghost use Rattle.mt_lines.specs.Lines.{Text};
+ghost use Rattle.mt_lines.specs.Reading.{failed_calls, last_faults, fault_of, last_line, limit_of};
+ghost use Rattle.mt_info.specs.Laws.{IsRow};
+ghost use Rattle.mt_info.specs.RowLine.{line};
+ghost use Rattle.mt_events.specs.Posts.{PostView, IsPost, post_text};
+ghost use Rattle.mt_client.specs.Reading.{lines_left, HasBroken, IsBroken, NoneFirst, HasRead, HasPassed, IsCut};
+ghost use Rattle.mt_client.specs.Awaited.{IsRowLine, AreRowLines};
+ghost use Rattle.mt_client.specs.Replies.{IsPartLines, IsPostLines, IsGroup, IsGroupOf, AreGroupLines, AreBehind};
+
+use crate::answer::Form;
+use crate::fault::ClientFault;
+use crate::opening::read_heading;
+use crate::posts::{lines_of_event, push_line, push_lines};
+use crate::relay::{next_text, print_line, print_text};
+use mt_events::read::read_post;
+use mt_info::read::read_row;
+use mt_lines::line::LineReader;
+use mt_lines::stream::{Input, Output};
+use mt_skel::fault::Fault;
+use std::alloc::Global;
+
+/// What the lines behind the first line of an answer are.
+#[derive(Clone, Copy, Debug, PartialEq, Eq)]
+pub enum Group {
+    /// A line that tells a namespace, and its rows.
+    Namespace,
+    /// A line that begins a post, and the lines of the post.
+    Post,
+}
+
+/// Whether a text is the line of a row: refused as `Connection` where it is none, and else as `NoMemory`.
+fn check_row(alloc: Global, text: &[u8]) -> Result<(), ClientFault>
+    ensures row { OnOk result (IsRowLine (text.now ∷ [])) }
+    ensures refused { result ≡ Err ClientFault.Connection → IsRowLine (text.now ∷ []) → ⊥ }
+    ensures kind { result ≢ Err ClientFault.Output }
+{
+    match read_row(alloc, text) {
+        Ok(_) => Ok(()),
+        Err(Fault::NoMemory) => Err(ClientFault::NoMemory),
+        Err(_) => Err(ClientFault::Connection),
+    }
+}
+
+/// Reads the line of a row and prints it.
+fn pass_row<R: Input + Drop, O: Output>(
+    alloc: Global,
+    lines: &mut LineReader<R>,
+    out: &mut O,
+) -> Result<(), ClientFault>
+    requires fresh { fault_of lines.old ≡ None }
+    ensures passed { OnOk result (IsTrue R.tells → IsTrue O.tells
+        → HasPassed IsRowLine (lines_left lines.old) (lines_left lines.new) (O.written out.old) (O.written out.new)) }
+    ensures came { OnOk result (IsTrue R.tells
+        → HasRead IsRowLine (lines_left lines.old) (lines_left lines.new)) }
+    ensures fresh { OnOk result (fault_of lines.new ≡ None) }
+    ensures broken { IsTrue R.tells → IsTrue O.tells → IfErr result
+        (λ fault. IsBroken fault (lines_left lines.old) (O.written out.old) (O.written out.new)) }
+    ensures cut { result ≡ Err ClientFault.Connection → IsTrue R.tells → IsTrue R.counts
+        → IsCut IsRowLine lines.old lines.new }
+    ensures cause { result ≡ Err ClientFault.Output → IsTrue O.counts
+        → HasBroken (O.failed out.old) (O.failed out.new) (O.faults out.old) (O.faults out.new) }
+    ensures read { IsTrue R.counts → failed_calls lines.old ≤ failed_calls lines.new }
+    ensures reads { OnOk result (IsTrue R.counts → last_faults lines.old ≡ [] → last_faults lines.new ≡ []) }
+    ensures printed { IsTrue O.counts → O.failed out.old ≤ O.failed out.new }
+    ensures prints { OnOk result (IsTrue O.counts → O.faults out.old ≡ [] → O.faults out.new ≡ []) }
+    ensures limit { limit_of lines.new ≡ limit_of lines.old }
+{
+    next_text(lines)?;
+    check_row(alloc, lines.line())?;
+    print_line(out, lines.line())
+}
+
+/// Reads the lines of so many rows, and prints each.
+fn pass_rows<R: Input + Drop, O: Output>(
+    alloc: Global,
+    lines: &mut LineReader<R>,
+    count: u64,
+    out: &mut O,
+) -> Result<(), ClientFault>
+    requires fresh { fault_of lines.old ≡ None }
+    ensures passed { OnOk result (IsTrue R.tells → IsTrue O.tells
+        → HasPassed (AreRowLines count) (lines_left lines.old) (lines_left lines.new) (O.written out.old) (O.written out.new)) }
+    ensures came { OnOk result (IsTrue R.tells
+        → HasRead (AreRowLines count) (lines_left lines.old) (lines_left lines.new)) }
+    ensures fresh { OnOk result (fault_of lines.new ≡ None) }
+    ensures broken { IsTrue R.tells → IsTrue O.tells → IfErr result
+        (λ fault. IsBroken fault (lines_left lines.old) (O.written out.old) (O.written out.new)) }
+    ensures cut { result ≡ Err ClientFault.Connection → IsTrue R.tells → IsTrue R.counts
+        → IsCut (AreRowLines count) lines.old lines.new }
+    ensures cause { result ≡ Err ClientFault.Output → IsTrue O.counts
+        → HasBroken (O.failed out.old) (O.failed out.new) (O.faults out.old) (O.faults out.new) }
+    ensures read { IsTrue R.counts → failed_calls lines.old ≤ failed_calls lines.new }
+    ensures reads { OnOk result (IsTrue R.counts → last_faults lines.old ≡ [] → last_faults lines.new ≡ []) }
+    ensures printed { IsTrue O.counts → O.failed out.old ≤ O.failed out.new }
+    ensures prints { OnOk result (IsTrue O.counts → O.faults out.old ≡ [] → O.faults out.new ≡ []) }
+    ensures limit { limit_of lines.new ≡ limit_of lines.old }
+{
+    'rows: for _row in 0..count {
+        pass_row(alloc, lines, out)?;
+    }
+    Ok(())
+}
+
+/// Prints the first line of a namespace, which the reader lends, reads its rows and prints each: how many they are.
+fn pass_part<R: Input + Drop, O: Output>(
+    alloc: Global,
+    lines: &mut LineReader<R>,
+    out: &mut O,
+) -> Result<u64, ClientFault>
+    requires fresh { fault_of lines.old ≡ None }
+    ensures passed { IfOk result (λ behind. IsTrue R.tells → IsTrue O.tells
+        → HasPassed (IsGroupOf Group.Namespace behind) (Text (last_line lines.old) ∷ lines_left lines.old) (lines_left lines.new) (O.written out.old) (O.written out.new)) }
+    ensures came { IfOk result (λ behind. IsTrue R.tells
+        → HasRead (IsGroupOf Group.Namespace behind) (Text (last_line lines.old) ∷ lines_left lines.old) (lines_left lines.new)) }
+    ensures fresh { OnOk result (fault_of lines.new ≡ None) }
+    ensures broken { IsTrue R.tells → IsTrue O.tells → IfErr result
+        (λ fault. IsBroken fault (Text (last_line lines.old) ∷ lines_left lines.old) (O.written out.old) (O.written out.new)) }
+    ensures cut { result ≡ Err ClientFault.Connection → IsTrue R.tells → IsTrue R.counts
+        → HasBroken (failed_calls lines.old) (failed_calls lines.new) (last_faults lines.old) (last_faults lines.new) ⊎ NoneFirst IsPartLines (Text (last_line lines.old) ∷ lines_left lines.old) }
+    ensures cause { result ≡ Err ClientFault.Output → IsTrue O.counts
+        → HasBroken (O.failed out.old) (O.failed out.new) (O.faults out.old) (O.faults out.new) }
+    ensures read { IsTrue R.counts → failed_calls lines.old ≤ failed_calls lines.new }
+    ensures reads { OnOk result (IsTrue R.counts → last_faults lines.old ≡ [] → last_faults lines.new ≡ []) }
+    ensures printed { IsTrue O.counts → O.failed out.old ≤ O.failed out.new }
+    ensures prints { OnOk result (IsTrue O.counts → O.faults out.old ≡ [] → O.faults out.new ≡ []) }
+    ensures limit { limit_of lines.new ≡ limit_of lines.old }
+{
+    let Some(heading) = read_heading(lines.line()) else {
+        return Err(ClientFault::Connection);
+    };
+    print_line(out, lines.line())?;
+    pass_rows(alloc, lines, heading.count, out)?;
+    Ok(heading.count)
+}
+
+/// Whether a text is that of a post: refused as `Connection` where it is none, and else as `NoMemory`.
+fn check_post(alloc: Global, text: &[u8]) -> Result<(), ClientFault>
+    ensures post { OnOk result ((post : PostView) × IsPost post × (text.now ≡ post_text post)) }
+    ensures refused { result ≡ Err ClientFault.Connection → (post : PostView) → IsPost post → text.now ≢ post_text post }
+    ensures kind { result ≢ Err ClientFault.Output }
+{
+    match read_post(alloc, text) {
+        Ok(_) => Ok(()),
+        Err(Fault::NoMemory) => Err(ClientFault::NoMemory),
+        Err(_) => Err(ClientFault::Connection),
+    }
+}
+
+/// Reads the lines behind the first one of a post, which the reader lends, and prints them all once they are known for
+/// a post: how many stand behind the first.
+pub(crate) fn pass_post<R: Input + Drop, O: Output>(
+    alloc: Global,
+    lines: &mut LineReader<R>,
+    out: &mut O,
+) -> Result<u64, ClientFault>
+    requires fresh { fault_of lines.old ≡ None }
+    ensures passed { IfOk result (λ behind. IsTrue R.tells → IsTrue O.tells
+        → HasPassed (IsGroupOf Group.Post behind) (Text (last_line lines.old) ∷ lines_left lines.old) (lines_left lines.new) (O.written out.old) (O.written out.new)) }
+    ensures came { IfOk result (λ behind. IsTrue R.tells
+        → HasRead (IsGroupOf Group.Post behind) (Text (last_line lines.old) ∷ lines_left lines.old) (lines_left lines.new)) }
+    ensures fresh { OnOk result (fault_of lines.new ≡ None) }
+    ensures broken { IsTrue R.tells → IsTrue O.tells → IfErr result
+        (λ fault. IsBroken fault (Text (last_line lines.old) ∷ lines_left lines.old) (O.written out.old) (O.written out.new)) }
+    ensures cut { result ≡ Err ClientFault.Connection → IsTrue R.tells → IsTrue R.counts
+        → HasBroken (failed_calls lines.old) (failed_calls lines.new) (last_faults lines.old) (last_faults lines.new) ⊎ NoneFirst IsPostLines (Text (last_line lines.old) ∷ lines_left lines.old) }
+    ensures cause { result ≡ Err ClientFault.Output → IsTrue O.counts
+        → HasBroken (O.failed out.old) (O.failed out.new) (O.faults out.old) (O.faults out.new) }
+    ensures read { IsTrue R.counts → failed_calls lines.old ≤ failed_calls lines.new }
+    ensures reads { OnOk result (IsTrue R.counts → last_faults lines.old ≡ [] → last_faults lines.new ≡ []) }
+    ensures printed { IsTrue O.counts → O.failed out.old ≤ O.failed out.new }
+    ensures prints { OnOk result (IsTrue O.counts → O.faults out.old ≡ [] → O.faults out.new ≡ []) }
+    ensures limit { limit_of lines.new ≡ limit_of lines.old }
+{
+    let Some(count) = lines_of_event(lines.line()) else {
+        return Err(ClientFault::Connection);
+    };
+    let mut text = Vec::new(alloc);
+    push_line(&mut text, lines.line())?;
+    push_lines(&mut text, lines, count)?;
+    check_post(alloc, &text)?;
+    print_text(out, &text)?;
+    Ok(count)
+}
+
+/// Reads a namespace or a post and prints its lines: how many stand behind its first one.
+fn pass_group<R: Input + Drop, O: Output>(
+    alloc: Global,
+    lines: &mut LineReader<R>,
+    group: Group,
+    out: &mut O,
+) -> Result<u64, ClientFault>
+    requires fresh { fault_of lines.old ≡ None }
+    ensures passed { IfOk result (λ behind. IsTrue R.tells → IsTrue O.tells
+        → HasPassed (IsGroupOf group behind) (lines_left lines.old) (lines_left lines.new) (O.written out.old) (O.written out.new)) }
+    ensures came { IfOk result (λ behind. IsTrue R.tells
+        → HasRead (IsGroupOf group behind) (lines_left lines.old) (lines_left lines.new)) }
+    ensures fresh { OnOk result (fault_of lines.new ≡ None) }
+    ensures broken { IsTrue R.tells → IsTrue O.tells → IfErr result
+        (λ fault. IsBroken fault (lines_left lines.old) (O.written out.old) (O.written out.new)) }
+    ensures cut { result ≡ Err ClientFault.Connection → IsTrue R.tells → IsTrue R.counts
+        → IsCut (IsGroup group) lines.old lines.new }
+    ensures cause { result ≡ Err ClientFault.Output → IsTrue O.counts
+        → HasBroken (O.failed out.old) (O.failed out.new) (O.faults out.old) (O.faults out.new) }
+    ensures read { IsTrue R.counts → failed_calls lines.old ≤ failed_calls lines.new }
+    ensures reads { OnOk result (IsTrue R.counts → last_faults lines.old ≡ [] → last_faults lines.new ≡ []) }
+    ensures printed { IsTrue O.counts → O.failed out.old ≤ O.failed out.new }
+    ensures prints { OnOk result (IsTrue O.counts → O.faults out.old ≡ [] → O.faults out.new ≡ []) }
+    ensures limit { limit_of lines.new ≡ limit_of lines.old }
+{
+    next_text(lines)?;
+    match group {
+        Group::Namespace => pass_part(alloc, lines, out),
+        Group::Post => pass_post(alloc, lines, out),
+    }
+}
+
+/// Reads so many lines of namespaces or of posts, and prints them.
+fn pass_groups<R: Input + Drop, O: Output>(
+    alloc: Global,
+    lines: &mut LineReader<R>,
+    group: Group,
+    count: u64,
+    out: &mut O,
+) -> Result<(), ClientFault>
+    requires fresh { fault_of lines.old ≡ None }
+    ensures passed { OnOk result (IsTrue R.tells → IsTrue O.tells
+        → HasPassed (AreGroupLines group count) (lines_left lines.old) (lines_left lines.new) (O.written out.old) (O.written out.new)) }
+    ensures came { OnOk result (IsTrue R.tells
+        → HasRead (AreGroupLines group count) (lines_left lines.old) (lines_left lines.new)) }
+    ensures fresh { OnOk result (fault_of lines.new ≡ None) }
+    ensures broken { IsTrue R.tells → IsTrue O.tells → IfErr result
+        (λ fault. IsBroken fault (lines_left lines.old) (O.written out.old) (O.written out.new)) }
+    ensures cut { result ≡ Err ClientFault.Connection → IsTrue R.tells → IsTrue R.counts
+        → IsCut (AreGroupLines group count) lines.old lines.new }
+    ensures cause { result ≡ Err ClientFault.Output → IsTrue O.counts
+        → HasBroken (O.failed out.old) (O.failed out.new) (O.faults out.old) (O.faults out.new) }
+    ensures read { IsTrue R.counts → failed_calls lines.old ≤ failed_calls lines.new }
+    ensures reads { OnOk result (IsTrue R.counts → last_faults lines.old ≡ [] → last_faults lines.new ≡ []) }
+    ensures printed { IsTrue O.counts → O.failed out.old ≤ O.failed out.new }
+    ensures prints { OnOk result (IsTrue O.counts → O.faults out.old ≡ [] → O.faults out.new ≡ []) }
+    ensures limit { limit_of lines.new ≡ limit_of lines.old }
+{
+    let mut left = count;
+    'groups: while left > 0 {
+        let behind = pass_group(alloc, lines, group, out)?;
+        let Some(rest) = (left - 1).checked_sub(behind) else {
+            return Err(ClientFault::Connection);
+        };
+        left = rest;
+    }
+    Ok(())
+}
+
+/// Reads so many lines as come behind the first line of an answer of this form, and prints them.
+pub(crate) fn pass_behind<R: Input + Drop, O: Output>(
+    alloc: Global,
+    lines: &mut LineReader<R>,
+    form: Form,
+    count: u64,
+    out: &mut O,
+) -> Result<(), ClientFault>
+    requires fresh { fault_of lines.old ≡ None }
+    ensures passed { OnOk result (IsTrue R.tells → IsTrue O.tells
+        → HasPassed (AreBehind form count) (lines_left lines.old) (lines_left lines.new) (O.written out.old) (O.written out.new)) }
+    ensures came { OnOk result (IsTrue R.tells
+        → HasRead (AreBehind form count) (lines_left lines.old) (lines_left lines.new)) }
+    ensures fresh { OnOk result (fault_of lines.new ≡ None) }
+    ensures broken { IsTrue R.tells → IsTrue O.tells → IfErr result
+        (λ fault. IsBroken fault (lines_left lines.old) (O.written out.old) (O.written out.new)) }
+    ensures cut { result ≡ Err ClientFault.Connection → IsTrue R.tells → IsTrue R.counts
+        → IsCut (AreBehind form count) lines.old lines.new }
+    ensures cause { result ≡ Err ClientFault.Output → IsTrue O.counts
+        → HasBroken (O.failed out.old) (O.failed out.new) (O.faults out.old) (O.faults out.new) }
+    ensures read { IsTrue R.counts → failed_calls lines.old ≤ failed_calls lines.new }
+    ensures reads { OnOk result (IsTrue R.counts → last_faults lines.old ≡ [] → last_faults lines.new ≡ []) }
+    ensures printed { IsTrue O.counts → O.failed out.old ≤ O.failed out.new }
+    ensures prints { OnOk result (IsTrue O.counts → O.faults out.old ≡ [] → O.faults out.new ≡ []) }
+    ensures limit { limit_of lines.new ≡ limit_of lines.old }
+{
+    match form {
+        Form::Table => pass_rows(alloc, lines, count, out),
+        Form::Opening => pass_groups(alloc, lines, Group::Namespace, count, out),
+        Form::Posts => pass_groups(alloc, lines, Group::Post, count, out),
+        Form::Done | Form::Number | Form::Place | Form::Followed | Form::Never => {
+            if count == 0 {
+                Ok(())
+            } else {
+                Err(ClientFault::Connection)
+            }
+        }
+    }
+}
