@@ -12,6 +12,7 @@ import argparse
 import contextlib
 import os
 import re
+import socket
 import stat
 import subprocess
 import tempfile
@@ -298,6 +299,35 @@ def check_client(program, mountctl):
         check("mountctl: stop", found == (0, b"ok\n", b"") and server.ends() == (0, b""), repr(found))
 
 
+# A request, what a server of no worth writes to it, and how much of that is printed.
+NO_ANSWERS = (
+    ("show 1", b"ok 1 1\nnonsense\n", 7),
+    ("show 1", b"no Such\n", 0),
+    ("newns a", b"ok\n", 0),
+    ("take 1", b"ok 2\nevent 1 1 1\n- 2 2\n", 5),
+    ("follow 1", b"event 1 1 1\n- 2\nok 2\n", 16),
+)
+
+
+def check_no_answers(mountctl):
+    """What is no answer to a request is a connection fault, and is not printed."""
+    with tempfile.TemporaryDirectory() as folder, socket.socket(socket.AF_UNIX) as door:
+        path = os.path.join(folder, "s")
+        door.bind(path)
+        door.listen()
+        door.settimeout(MOST_SECONDS)
+        for request, answer, printed in NO_ANSWERS:
+            words = [mountctl, path, *request.split()]
+            with subprocess.Popen(words, stdout=subprocess.PIPE, stderr=subprocess.PIPE) as client:
+                with door.accept()[0] as stream:
+                    asked = stream.recv(LINE)
+                    stream.sendall(answer)
+                found = client.communicate(timeout=MOST_SECONDS)
+            check(f"mountctl {request}, and {answer!r}: its line", asked == request.encode() + b"\n", repr(asked))
+            wanted = (3, (answer[:printed], b"mountctl: connection fault\n"))
+            check(f"mountctl {request}, and {answer!r}", (client.returncode, found) == wanted, repr(found))
+
+
 PARTS = {
     "paths": check_paths,
     "limit": check_limit,
@@ -317,6 +347,7 @@ def check_server(program, seconds, mountctl, only):
     parts = dict(PARTS, soak=lambda program: check_soak(program, seconds, mountctl))
     if mountctl:
         parts["client"] = lambda program: check_client(program, mountctl)
+        parts["no answers"] = lambda program: check_no_answers(mountctl)
         parts["scripts"] = lambda program: check_scripts(program, mountctl)
     for name in [only] if only else parts:
         start = time.monotonic()

@@ -111,6 +111,7 @@ fn ends_session(line: &[u8]) -> bool {
 
 /// Sends the lines of an input, one after another, and prints what answers each: whether each was answered `ok`.
 fn run_script<I: Input + Drop, R: Input + Drop, W: Output, O: Output>(
+    alloc: Global,
     input: &mut LineReader<I>,
     lines: &mut LineReader<R>,
     writer: &mut W,
@@ -122,7 +123,7 @@ fn run_script<I: Input + Drop, R: Input + Drop, W: Output, O: Output>(
     'lines: for _line in 0..MOST_LINES {
         match input.next() {
             Ok(Line::Text) => {
-                let told = ask_line(lines, writer, input.line(), out)?;
+                let told = ask_line(alloc, lines, writer, input.line(), out)?;
                 all = all && told;
                 if told && ends_session(input.line()) {
                     return Ok(all);
@@ -165,7 +166,7 @@ fn run_task(
         }
         Task::Script => {
             let mut input = LineReader::new(alloc, Reading::new(rt.reader()), LINE_LIMIT)?;
-            run_script(&mut input, &mut lines, &mut writer, &mut out)
+            run_script(alloc, &mut input, &mut lines, &mut writer, &mut out)
         }
         Task::Mirror { space, count } => {
             mirror(alloc, &mut lines, &mut writer, space, count, &mut out)

@@ -1,9 +1,7 @@
 -- What was read and printed, line by line, and what cannot come first then.
-use Rattle.std.proofs.Common.{◌≡◌, ◌≢◌, ℕ, ◌+◌, ◌<◌, ◌≤◌, nat_le, Bool, true, false, List, [], ◌∷◌, ◌++◌, length, refl, sym, ap, subst, ◌∙◌, arith, append_assoc, length-append, Result, Ok, Err, OnErr, IfErr, Some, None, inl, inr, ◌⊎◌}
+use Rattle.std.proofs.Common.{◌≡◌, ◌≢◌, ℕ, ◌<◌, ◌≤◌, List, [], ◌∷◌, ◌++◌, length, refl, sym, ap, subst, ◌∙◌, arith, append_assoc, Result, Ok, Err, OnErr, IfErr, inl, inr, ◌⊎◌}
 use Rattle.std.proofs.lemmas.List.{append-nil, map-append}
-use Rattle.std.proofs.lemmas.Bool.Decides.{nat_tests}
 use Rattle.std.proofs.lemmas.Grind.{flat_map-append}
-use Rattle.std.specs.List.{AllByRecursion}
 use Rattle.mt_lines.specs.Lines.{Item, Text, lines_of}
 use Rattle.mt_lines.specs.Reading.{IsNext, IsFaultCause, IsFaultRun}
 use Rattle.mt_lines.specs.declared.line.ReadFault.{ReadFault}
@@ -11,9 +9,8 @@ use Rattle.mt_lines.specs.declared.stream.StreamFault.{StreamFault}
 use Rattle.mt_lines.specs.declared.line.ReadFault.TheVariants.{Device, Interrupted, Endless, NoMemory as NoRoom}
 use Rattle.mt_client.specs.declared.fault.ClientFault.{ClientFault}
 use Rattle.mt_client.specs.declared.fault.ClientFault.TheVariants.{Connection, Output, NoMemory}
-use Rattle.mt_client.specs.declared.answer.Form.{Form}
 use Rattle.mt_events.specs.Posts.{ended}
-use Rattle.mt_client.specs.Reading.{texts, printed, Passed, HasRead, HasPassed, IsWhole, HasBroken, IsBroken, IsCutOff, NoneFirst, AreSoMany, reading_fault}
+use Rattle.mt_client.specs.Reading.{texts, printed, Passed, HasRead, IsWhole, HasBroken, IsBroken, IsCutOff, NoneFirst, AreSoMany, reading_fault}
 use Rattle.mt_client.proofs.RequestLaws.{cut_second}
 
 pub texts-append : (xs ys : List (List ℕ)) → texts (xs ++ ys) ≡ texts xs ++ texts ys

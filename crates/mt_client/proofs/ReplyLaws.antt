@@ -1,10 +1,9 @@
 -- Rows, namespaces and posts that were passed on, and what cannot come first where one is refused.
-use Rattle.std.proofs.Common.{◌≡◌, ◌≢◌, ℕ, ◌+◌, ◌-◌, ◌<◌, ◌≤◌, ◌^◌, nat_le, Bool, true, false, List, [], ◌∷◌, ◌++◌, map, length, refl, sym, ap, subst, ◌∙◌, arith, append_assoc, append-nil, length-append, codes, Some, None, Option, if◌then◌else◌, MatchBool}
+use Rattle.std.proofs.Common.{◌≡◌, ◌≢◌, ℕ, ◌+◌, ◌-◌, ◌<◌, ◌≤◌, ◌^◌, nat_le, Bool, true, false, List, [], ◌∷◌, ◌++◌, map, length, refl, sym, ap, subst, ◌∙◌, arith, append-nil, length-append, Some, None}
 use Rattle.std.proofs.lemmas.List.{map-append}
 use Rattle.std.proofs.lemmas.Bool.Decides.{nat_tests}
 use Rattle.std.proofs.lemmas.Grind.{flat_map-append}
 use Rattle.std.specs.List.{flat_map, join_with_byte, AllByRecursion}
-use Rattle.std.specs.Str.{bytes_eq}
 use Rattle.mt_words.specs.Words.{words}
 use Rattle.mt_lines.specs.Lines.{Item, Text}
 use Rattle.mt_info.specs.Laws.{IsRow}
@@ -12,12 +11,11 @@ use Rattle.mt_info.specs.RowLine.{line}
 use Rattle.mt_info.specs.declared.row.Row.{Row}
 use Rattle.mt_events.specs.Posts.{PostView, IsPost, post_text, ended}
 use Rattle.mt_client.specs.declared.answer.Form.{Form}
-use Rattle.mt_client.specs.declared.answer.Form.TheVariants.{Done, Number, Place, Table, Opening, Posts, Followed, Never}
 use Rattle.mt_client.specs.declared.group.Group.{Group}
 use Rattle.mt_client.specs.declared.group.Group.TheVariants.{Namespace, Post}
 use Rattle.mt_client.specs.declared.opening.Heading.{Heading}
 use Rattle.mt_client.specs.Requests.{verdict, lines_behind}
-use Rattle.mt_client.specs.Reading.{texts, printed, Passed, HasRead, HasPassed, NoneFirst, AreSoMany}
+use Rattle.mt_client.specs.Reading.{texts, printed, HasRead, HasPassed, NoneFirst, AreSoMany}
 use Rattle.mt_client.specs.Mirroring.{heading_words}
 use Rattle.mt_client.specs.Awaited.{event_count, IsRowLine, AreRowLines}
 use Rattle.mt_client.specs.Replies.{IsPartLines, IsPostLines, IsGroup, IsGroupOf, AreGroups, AreGroupLines, AreBehind, IsHeaded}

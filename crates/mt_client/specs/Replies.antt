@@ -5,7 +5,7 @@ use Rattle.std.specs.List.{flat_map, join_with_byte, AllByRecursion}
 use Rattle.mt_words.specs.Words.{words}
 use Rattle.mt_events.specs.Posts.{PostView, IsPost, post_text}
 use Rattle.mt_client.specs.declared.answer.Form.{Form}
-use Rattle.mt_client.specs.declared.answer.Form.TheVariants.{Done, Number, Place, Table, Opening, Posts, Followed, Never}
+use Rattle.mt_client.specs.declared.answer.Form.TheVariants.{Table, Opening, Posts, Followed}
 use Rattle.mt_client.specs.declared.group.Group.{Group}
 use Rattle.mt_client.specs.declared.group.Group.TheVariants.{Namespace, Post}
 use Rattle.mt_client.specs.Requests.{verdict, is_refusal, lines_behind}

@@ -1,7 +1,7 @@
 -- The lines of requests, and which lines answer them.
 -- A word with no source is this project's rule.
-use Rattle.std.specs.Prelude.{◌≡◌, ℕ, ◌<◌, Bool, true, false, ◌||◌, ◌&&◌, nat_eq, if◌then◌else◌, List, [], ◌∷◌, ◌++◌, map, length, Option, Some, None, codes, decimal}
-use Rattle.std.specs.List.{join_with_byte, list_any, starts_with, AllByRecursion}
+use Rattle.std.specs.Prelude.{ℕ, Bool, true, false, ◌||◌, ◌&&◌, nat_eq, if◌then◌else◌, List, [], ◌∷◌, ◌++◌, map, Option, Some, None, codes, decimal}
+use Rattle.std.specs.List.{join_with_byte, list_any, starts_with}
 use Rattle.std.specs.Option.{option_and_then}
 use Rattle.std.specs.Str.{bytes_eq}
 use Rattle.mt_skel.specs.Escapes.{escaped}
@@ -32,7 +32,7 @@ has_first line word = bytes_eq (first_of (words line)) word
 -- the commands that are answered by `ok` alone
 abbrev pub is_done_command : List ℕ → Bool
 is_done_command word =
-    bytes_eq word (codes "mkdir") || bytes_eq word (codes "move") || bytes_eq word (codes "umount") || bytes_eq word (codes "setattr") || bytes_eq word (codes "quit") || bytes_eq word (codes "stop")
+    bytes_eq word (codes "mkdir") || bytes_eq word (codes "dropns") || bytes_eq word (codes "move") || bytes_eq word (codes "umount") || bytes_eq word (codes "setattr") || bytes_eq word (codes "quit") || bytes_eq word (codes "stop")
 
 -- the commands that are answered by `ok` and a number
 abbrev pub is_number_command : List ℕ → Bool

@@ -73,6 +73,7 @@ fn is_done_command(command: &[u8]) -> bool
     ensures { result ≡ is_done_command command.now }
 {
     command == b"mkdir".as_slice()
+        || command == b"dropns".as_slice()
         || command == b"move".as_slice()
         || command == b"umount".as_slice()
         || command == b"setattr".as_slice()

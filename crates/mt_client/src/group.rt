@@ -1,9 +1,7 @@
 //! The rows, namespaces and posts of an answer, which are printed once they are known for such.
-ghost use Rattle.std.specs.Prelude.{◌≡◌, ◌≢◌, ◌⊎◌, ◌≤◌, [], ◌∷◌, ◌++◌, None, Err, IfOk, IfErr, OnOk, IsTrue};
+ghost use Rattle.std.specs.Prelude.{◌≡◌, ◌≢◌, ◌⊎◌, ◌≤◌, [], ◌∷◌, None, Err, IfOk, IfErr, OnOk, IsTrue};
 ghost use Rattle.mt_lines.specs.Lines.{Text};
 ghost use Rattle.mt_lines.specs.Reading.{failed_calls, last_faults, fault_of, last_line, limit_of};
-ghost use Rattle.mt_info.specs.Laws.{IsRow};
-ghost use Rattle.mt_info.specs.RowLine.{line};
 ghost use Rattle.mt_events.specs.Posts.{PostView, IsPost, post_text};
 ghost use Rattle.mt_client.specs.Reading.{lines_left, HasBroken, IsBroken, NoneFirst, HasRead, HasPassed, IsCut};
 ghost use Rattle.mt_client.specs.Awaited.{IsRowLine, AreRowLines};

@@ -1,5 +1,5 @@
 //! The table that a watcher of one namespace found.
-ghost use Rattle.std.specs.Prelude.{◌≡◌, ◌≢◌, ℕ, ◌+◌, ◌<◌, ◌≤◌, ◌^◌, [], ◌∷◌, ◌++◌, map, length, false, true, Some, None, Err, IfOk, IfSome, OnOk, IsTrue, MatchBool, MatchOption};
+ghost use Rattle.std.specs.Prelude.{◌≡◌, ◌≢◌, ℕ, ◌+◌, ◌<◌, ◌≤◌, ◌^◌, [], ◌∷◌, ◌++◌, map, length, Some, None, Err, IfOk, IfSome, OnOk, IsTrue, MatchBool, MatchOption};
 ghost use Rattle.std.specs.List.{join_with_byte, AllByRecursion};
 ghost use Rattle.mt_lines.specs.Lines.{Text};
 ghost use Rattle.mt_lines.specs.Reading.{failed_calls, last_faults, fault_of, limit_of};

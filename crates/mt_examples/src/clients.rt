@@ -27,21 +27,57 @@ fn is_asked(
     Ok(told == wanted && writer.bytes() == line && out.bytes() == printed)
 }
 
+/// Two rows of a table.
+const ROWS: &[u8] = b"2 2 0:1 / / rw,relatime master:1 - tmpfs none rw
+5 2 0:2 / /m rw,relatime master:2 - ext4 /dev/x rw
+";
+
+/// Bytes one after another.
+fn joined(alloc: Global, pieces: &[&[u8]]) -> Result<Vec<u8>, Fault> {
+    let mut all = Vec::new(alloc);
+    for piece in pieces {
+        all.extend_from_slice(piece)?;
+    }
+    Ok(all)
+}
+
+/// Whether `show 1` over two rows between these bytes ends so, and prints as many bytes of the whole.
+fn is_shown(
+    alloc: Global,
+    first: &[u8],
+    last: &[u8],
+    printed: usize,
+    wanted: Result<bool, ClientFault>,
+) -> Result<bool, Fault> {
+    let answer = joined(alloc, &[first, ROWS, last])?;
+    let shown = &answer[..printed.min(answer.len())];
+    is_asked(alloc, &[b"show", b"1"], &answer, b"show 1\n", shown, wanted)
+}
+
 #[test]
-fn knows_the_length_of_an_answer(rt: HostRuntime) -> Result<(), Fail> {
-    let table: [(&[&[u8]], &[u8], &[u8], &[u8], Result<bool, ClientFault>); 7] = [
+fn reads_the_rows_of_a_table(rt: HostRuntime) -> Result<(), Fail> {
+    let table: [(&[u8], &[u8], usize, Result<bool, ClientFault>); 4] = [
+        (b"ok 2 7\n", b"three\n", 107, Ok(true)),
+        (b"ok 3 7\n", b"three\n", 107, Err(ClientFault::Connection)),
+        (b"ok 3 7\n", b"", 107, Err(ClientFault::Connection)),
+        (b"ok 2\n", b"", 0, Err(ClientFault::Connection)),
+    ];
+    for (first, last, printed, wanted) in table {
+        let shown = is_shown(rt.alloc(), first, last, printed, wanted)?;
+        assert!(rt; shown, "{first:?}");
+    }
+    Ok(())
+}
+
+#[test]
+fn knows_the_form_of_an_answer(rt: HostRuntime) -> Result<(), Fail> {
+    let broken = Err(ClientFault::Connection);
+    let table: [(&[&[u8]], &[u8], &[u8], &[u8], Result<bool, ClientFault>); 12] = [
         (
             &[b"mkdir", b"a", b"/p q"],
             b"ok\nok\n",
             b"mkdir a /p\\040q\n",
             b"ok\n",
-            Ok(true),
-        ),
-        (
-            &[b"show", b"1"],
-            b"ok 2 7\none\ntwo\nthree\n",
-            b"show 1\n",
-            b"ok 2 7\none\ntwo\n",
             Ok(true),
         ),
         (
@@ -53,32 +89,50 @@ fn knows_the_length_of_an_answer(rt: HostRuntime) -> Result<(), Fail> {
         ),
         (
             &[b"follow", b"2"],
-            b"event 1 2 1\n- 3\nok 2\nno\n",
+            b"event 1 2 1\n- 3\nok 1\nno\n",
             b"follow 2\n",
-            b"event 1 2 1\n- 3\nok 2\n",
+            b"event 1 2 1\n- 3\nok 1\n",
             Ok(true),
         ),
         (
-            &[b"show", b"1"],
-            b"ok 2 7\none\ntwo",
-            b"show 1\n",
-            b"ok 2 7\none\n",
-            Err(ClientFault::Connection),
+            &[b"follow", b"2"],
+            b"event 1 2 1\n- 3\nok 2\n",
+            b"follow 2\n",
+            b"event 1 2 1\n- 3\n",
+            broken,
+        ),
+        (
+            &[b"follow", b"2"],
+            b"event 1 2 2\n- 3\nok 1\n",
+            b"follow 2\n",
+            b"",
+            broken,
+        ),
+        (
+            &[b"take", b"1"],
+            b"ok 2\nevent 1 2 1\n- 3\n",
+            b"take 1\n",
+            b"ok 2\nevent 1 2 1\n- 3\n",
+            Ok(true),
+        ),
+        (
+            &[b"take", b"1"],
+            b"ok 1\nnonsense\n",
+            b"take 1\n",
+            b"ok 1\n",
+            broken,
         ),
         (
             &[b"show", b"1"],
-            b"ok\n",
+            b"ok 1 1\nnonsense\n",
             b"show 1\n",
-            b"",
-            Err(ClientFault::Connection),
+            b"ok 1 1\n",
+            broken,
         ),
-        (
-            &[b"stop"],
-            b"okay\n",
-            b"stop\n",
-            b"",
-            Err(ClientFault::Connection),
-        ),
+        (&[b"show", b"1"], b"no Such\n", b"show 1\n", b"", broken),
+        (&[b"newns", b"a"], b"ok\n", b"newns a\n", b"", broken),
+        (&[b"stop"], b"okay\n", b"stop\n", b"", broken),
+        (&[b"rm", b"a"], b"ok\n", b"rm a\n", b"", broken),
     ];
     for (words, answer, line, printed, wanted) in table {
         let asked = is_asked(rt.alloc(), words, answer, line, printed, wanted)?;

@@ -1,4 +1,4 @@
-use Rattle.std.proofs.Common.{Err, [], ◌∷◌, arith, ap, refl, inr, ◌∙◌, sym}
+use Rattle.std.proofs.Common.{Err, arith, ap, refl, inr}
 use Rattle.std.proofs.lemmas.Result.{err_from_is_err_and}
 use Rattle.mt_client.proofs.RelayLaws.{broken_more, broken_later, broken_cut, one_passed, cut_within, same_fault}
 use Rattle.mt_client.proofs.ReplyLaws.{read_join, passed_join, part_joined, part_needs_heading, part_needs_rows}

@@ -1,10 +1,8 @@
-use Rattle.std.proofs.Common.{Err, [], ◌∷◌, ◌++◌, arith, ap, refl, inr, ◌∙◌, sym, append-nil}
+use Rattle.std.proofs.Common.{Err, ◌++◌, arith, ap, inr, ◌∙◌}
 use Rattle.std.proofs.lemmas.Result.{err_from_is_err_and}
 use Rattle.mt_events.specs.Posts.{ended}
-use Rattle.mt_lines.specs.Lines.{Text}
 use Rattle.mt_lines.specs.Reading.{last_line}
-use Rattle.mt_client.specs.Reading.{lines_left}
-use Rattle.mt_client.proofs.RelayLaws.{unprinted, broken_text, cut_within, same_fault}
+use Rattle.mt_client.proofs.RelayLaws.{broken_text, cut_within, same_fault}
 use Rattle.mt_client.proofs.ReplyLaws.{post_passed, post_came, post_needs_count, post_needs_lines, post_needs_text}
 use Rattle.mt_client.proofs.group.pass_post.Goals as goal
 

@@ -1,4 +1,4 @@
-use Rattle.std.proofs.Common.{Err, ap, refl, [], ◌∷◌}
+use Rattle.std.proofs.Common.{Err, ap}
 use Rattle.std.proofs.lemmas.Result.{err_from_is_err_and, on_ok_weaker, on_err_weaker}
 use Rattle.mt_client.proofs.RelayLaws.{unprinted, broken_printing, one_passed}
 use Rattle.mt_client.proofs.FollowLaws.{on_ok}

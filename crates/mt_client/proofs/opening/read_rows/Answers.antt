@@ -1,4 +1,4 @@
-use Rattle.std.proofs.Common.{Err, arith, ap}
+use Rattle.std.proofs.Common.{Err, ap}
 use Rattle.std.proofs.lemmas.Result.{err_from_is_err_and}
 use Rattle.mt_client.proofs.RelayLaws.{cut_within, same_fault}
 use Rattle.mt_client.proofs.OpeningLaws.{rows_cut}

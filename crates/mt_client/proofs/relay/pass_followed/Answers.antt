@@ -1,4 +1,4 @@
-use Rattle.std.proofs.Common.{rules, Err, ◌≡◌, [], ◌∷◌, arith, ap, refl, sym, subst, inr, append-nil, ◌∙◌}
+use Rattle.std.proofs.Common.{rules, Err, [], arith, ap, refl, sym, inr, append-nil, ◌∙◌}
 use Rattle.std.proofs.lemmas.Result.{err_from_is_err_and}
 use Rattle.mt_client.proofs.RelayLaws.{unprinted, broken_more, broken_later, broken_cut, one_passed, cut_within, same_fault}
 use Rattle.mt_client.proofs.ReplyLaws.{passed_join}

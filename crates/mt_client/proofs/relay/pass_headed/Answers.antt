@@ -1,7 +1,7 @@
-use Rattle.std.proofs.Common.{Err, arith, ap, refl, inr}
+use Rattle.std.proofs.Common.{Err, arith, ap, refl}
 use Rattle.std.proofs.lemmas.Result.{err_from_is_err_and}
 use Rattle.mt_client.proofs.RelayLaws.{broken_more, broken_later, broken_cut, one_passed, cut_within, same_fault}
-use Rattle.mt_client.proofs.ReplyLaws.{passed_join, headed_whole, headed_needs_line, headed_needs_verdict, headed_needs_count, headed_needs_behind}
+use Rattle.mt_client.proofs.ReplyLaws.{passed_join, headed_whole, headed_needs_line, headed_needs_behind}
 use Rattle.mt_client.proofs.relay.pass_headed.Goals as goal
 
 pub returns-in_err-next_text-clause-cut : goal.returns-in_err-next_text-clause-cut
