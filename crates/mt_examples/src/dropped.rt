@@ -155,6 +155,28 @@ fn follows_second<J: Naming, R: Wait>(
     Ok(last && silent && meets(desk, watcher, 1, 1, Phase::Open))
 }
 
+/// What the watcher follows.
+fn scope_of(watched: Watched) -> Scope {
+    match watched {
+        Watched::All => Scope::All,
+        Watched::Second => Scope::One(2),
+    }
+}
+
+/// Whether a watcher of this follows a desk as it should.
+fn follows<J: Naming, R: Wait>(
+    rt: &R,
+    alloc: Global,
+    desk: &mut Desk<J>,
+    watcher: &mut Watcher<J>,
+    watched: Watched,
+) -> Result<bool, Fault> {
+    match watched {
+        Watched::All => follows_all(rt, alloc, desk, watcher),
+        Watched::Second => follows_second(rt, alloc, desk, watcher),
+    }
+}
+
 /// Whether a watcher of this sees a namespace dropped.
 fn sees_drop<J: Naming, R: Wait>(
     rt: &R,
@@ -169,16 +191,8 @@ fn sees_drop<J: Naming, R: Wait>(
     if !are_done(rt, &mut desk, &start) {
         return Ok(false);
     }
-    match watched {
-        Watched::All => {
-            let mut watcher = desk.open(Scope::All)?;
-            follows_all(rt, alloc, &mut desk, &mut watcher)
-        }
-        Watched::Second => {
-            let mut watcher = desk.open(Scope::One(2))?;
-            follows_second(rt, alloc, &mut desk, &mut watcher)
-        }
-    }
+    let mut watcher = desk.open(scope_of(watched))?;
+    follows(rt, alloc, &mut desk, &mut watcher, watched)
 }
 
 /// The same on lines for eight posts each.
