@@ -319,8 +319,8 @@ def check_no_answers(mountctl):
         for request, answer, printed in NO_ANSWERS:
             words = [mountctl, path, *request.split()]
             with subprocess.Popen(words, stdout=subprocess.PIPE, stderr=subprocess.PIPE) as client:
-                with door.accept()[0] as stream:
-                    asked = stream.recv(LINE)
+                with door.accept()[0] as stream, stream.makefile("rb") as lines:
+                    asked = lines.readline()
                     stream.sendall(answer)
                 found = client.communicate(timeout=MOST_SECONDS)
             check(f"mountctl {request}, and {answer!r}: its line", asked == request.encode() + b"\n", repr(asked))
