@@ -1,10 +1,12 @@
-"""Memory that stays level: what a session has needed at most does not grow with what has come and gone.
+"""Memory and speed that stay level: what a session has needed at most does not grow with what has come and gone, and a
+command takes no longer.
 
 What has to grow is the journal, which keeps every accepted command. So the rounds of worlds that are filled
-and emptied have few commands, and the bound for many commands that change nothing is the journal's own size.
+and emptied have few commands, and the bound for many commands is the journal's own size.
 """
 import re
 import subprocess
+import time
 
 from running import check
 
@@ -26,6 +28,14 @@ MORE_KILOBYTES = 4_096
 COMMANDS = 1_000_000
 PORTION = 5_000
 MOST_KILOBYTES = 130_000
+
+# Namespaces are made and dropped in so many rounds. The journal of 130,000 commands is 17,000 kB, and half as much again
+# where it has just grown. A round at the end, the fastest of the last ones, may take so many times as long as the
+# fastest of the first ones.
+DROPPING_ROUNDS = 1_000
+SOME_ROUNDS = 50
+DROPPED_KILOBYTES = 28_000
+MOST_TIMES = 2
 
 
 class Session:
@@ -79,6 +89,30 @@ def nothing_changed(program):
     print(f"{COMMANDS} commands that change nothing: {peak} kB")
 
 
+def made_and_dropped(program):
+    session = Session(program)
+    accepted = session.send([b"mkfs a tmpfs none", b"mkfs d ext4 /dev/x", b"mkdir a /m"])
+    times, peaks = [], []
+    for number in range(DROPPING_ROUNDS):
+        first = number * NAMESPACES + 1
+        lines = [b"newns a", b"setattr %d / prop=shared" % first]
+        lines += [b"copyns %d" % first] * (NAMESPACES - 1) + [b"mount %d d /m" % first]
+        lines += [b"dropns %d" % space for space in range(first, first + NAMESPACES)]
+        start = time.monotonic()
+        accepted = session.send(lines) and accepted
+        times.append(time.monotonic() - start)
+        peaks.append(session.peak())
+    check("commands that make and drop namespaces", accepted and session.end() == 0)
+    grown = peaks[-1] - peaks[FIRST_ROUNDS - 1]
+    told = f"{peaks[FIRST_ROUNDS - 1]} kB after {FIRST_ROUNDS} rounds, {peaks[-1]} kB after {DROPPING_ROUNDS}"
+    check("memory of namespaces that are made and dropped", grown <= DROPPED_KILOBYTES, told)
+    begun, ended = min(times[:SOME_ROUNDS]) * 1_000, min(times[-SOME_ROUNDS:]) * 1_000
+    taken = f"{begun:.1f} milliseconds a round at first, {ended:.1f} at last"
+    check("speed of namespaces that are made and dropped", ended <= MOST_TIMES * begun, taken)
+    print(f"{NAMESPACES} namespaces made and dropped {DROPPING_ROUNDS} times: {told}; {taken}")
+
+
 def check_level(program):
     filled_and_emptied(program)
+    made_and_dropped(program)
     nothing_changed(program)

@@ -1,7 +1,7 @@
 -- A book stays a book.
 use Rattle.std.proofs.Common.{◌≡◌, ℕ, ◌<◌, ◌≤◌, ◌^◌, List, [], ◌∷◌, ◌++◌, length, refl, sym, ap, ◌∙◌, subst, arith, length-append, Ok, Err}
 use Rattle.std.specs.List.{AllByRecursion}
-use Rattle.std.specs.Prelude.{if◌then◌else◌, slice_index_or, Bool}
+use Rattle.std.specs.Prelude.{if◌then◌else◌, Bool}
 use Rattle.std.proofs.lemmas.Bool.{lt-leb}
 use Rattle.mt_skel.specs.declared.fault.Fault.TheVariants.{JournalFull}
 use Rattle.mt_propagate.specs.World.{WorldView, world_view, empty_world}
@@ -17,12 +17,12 @@ use Rattle.mt_book.specs.declared.prepared.Prepared.{Prepared}
 use Rattle.mt_book.specs.Step.{step, makes_space, after}
 use Rattle.mt_book.specs.Commands.{IsCommand}
 use Rattle.mt_book.specs.History.{posts_of}
-use Rattle.mt_book.specs.Book.{command_limit, space_numbers, counted, posted, with_newborn, answer, reply_of}
+use Rattle.mt_book.specs.Book.{command_limit, space_numbers, counted, posted, with_newborn, still_there, AreNumbers, answer, reply_of}
 use Rattle.mt_book.specs.Kept.{IsBehind, IsSpare, IsPrepared, IsBook, shown_world, lagging_of, prepared_posts}
 use Rattle.mt_book.proofs.EachLaws.{each_append}
 use Rattle.mt_book.proofs.ValidLaws.{one_valid}
 use Rattle.mt_book.proofs.GrowthLaws.{IsReached, reached}
-use Rattle.mt_book.proofs.NextLaws.{after-accepted, accepts-next, numbers-next, posts-next, numbers-few}
+use Rattle.mt_book.proofs.NextLaws.{after-accepted, accepts-next, numbers-next, posts-next, numbers-are}
 
 -- the numbers that come next are far from the greatest
 pub record IsSmall (w : WorldView) : Type 0 where
@@ -55,7 +55,7 @@ book_new = record {
 }
 
 -- another spare world
-pub book_spare : (w : WorldView) (spare other : Spare) (ks : List ℕ) (cs : List Command) → IsBook w spare ks cs → IsSpare cs other → IsBook w other ks cs
+pub book_spare : (w : WorldView) (spare other : Spare) (ks : List (ℕ × ℕ)) (cs : List Command) → IsBook w spare ks cs → IsSpare cs other → IsBook w other ks cs
 book_spare w spare other ks cs h s = record {
   world = h.world;
   lags = s;
@@ -71,7 +71,7 @@ lags cs (First w) h = tt
 lags cs (Later w) h = h
 
 -- a command more: the world that was shown is behind
-pub book_committed : (old : Shown) (spare : Spare) (ks : List ℕ) (cs : List Command) (p : Prepared) → IsBook (world_view (shown_world old)) spare ks cs → IsPrepared cs p
+pub book_committed : (old : Shown) (spare : Spare) (ks : List (ℕ × ℕ)) (cs : List Command) (p : Prepared) → IsBook (world_view (shown_world old)) spare ks cs → IsPrepared cs p
     → IsBook (world_view p.world.value) (lagging_of old) p.numbers.items (cs ++ p.command ∷ [])
 book_committed old spare ks cs p h q =
     let v = world_view p.world.value in
@@ -93,7 +93,7 @@ book_committed old spare ks cs p h q =
     }
 
 -- the same, where the book has taken what was prepared
-pub book_taken : (old lagging new : Shown) (spare lags : Spare) (ks : List ℕ) (cs js : List Command) (p : Prepared) → lagging ≡ old → new ≡ Later p.world → lags ≡ lagging_of lagging
+pub book_taken : (old lagging new : Shown) (spare lags : Spare) (ks : List (ℕ × ℕ)) (cs js : List Command) (p : Prepared) → lagging ≡ old → new ≡ Later p.world → lags ≡ lagging_of lagging
     → js ≡ cs ++ p.command ∷ [] → IsBook (world_view (shown_world old)) spare ks cs → IsPrepared cs p → IsBook (world_view (shown_world new)) lags p.numbers.items js
 book_taken old lagging new spare lags ks cs js p s n l j h q =
     subst (λ (x : Shown). IsBook (world_view (shown_world x)) lags p.numbers.items js) (sym n)
@@ -106,17 +106,15 @@ pub accepted_kept : (cs : List Command) (world v : WorldView) (c : Command) (r :
 accepted_kept cs world v c r w e =
     subst IsWellFormed (after-accepted cs c v r (ap (λ (x : WorldView). step x c) (sym w) ∙ e)) (reached (cs ++ c ∷ [])).well_formed
 
-pub book_few : (w : WorldView) (spare : Spare) (ks : List ℕ) (cs : List Command) → IsBook w spare ks cs → (i : ℕ) → slice_index_or ks i 0 ≤ command_limit
-book_few w spare ks cs h i =
-    subst (λ (l : List ℕ). slice_index_or l i 0 ≤ command_limit) (sym h.counts) (le_through (slice_index_or (space_numbers cs) i 0) (length cs) command_limit (numbers-few cs i) h.few)
-  where
-    le_through : (a b c : ℕ) → a ≤ b → b ≤ c → a ≤ c
-    le_through a b c p q = omega arith
+pub book_numbers : (w : WorldView) (spare : Spare) (ks : List (ℕ × ℕ)) (cs : List Command) (more : Bool) → IsBook w spare ks cs → AreNumbers (with_newborn ks w.next_space more)
+book_numbers w spare ks cs more h =
+    subst (λ (x : WorldView). AreNumbers (with_newborn ks x.next_space more)) (sym h.world)
+    (subst (λ (l : List (ℕ × ℕ)). AreNumbers (with_newborn l (after cs).next_space more)) (sym h.counts) (numbers-are cs more h.few))
 
 -- a command that was done on an equal world is prepared for the book
-pub prepared_for : (shown world : WorldView) (spare : Spare) (ks : List ℕ) (cs : List Command) (c : Command) (p : Prepared) → IsBook shown spare ks cs → length cs < command_limit → world ≡ after cs
-    → step world c ≡ Ok (world_view p.world.value, p.reply) → p.command ≡ c → p.numbers.items ≡ counted shown (world_view p.world.value) 1 (with_newborn ks (makes_space c))
-    → p.posts ≡ posted shown (world_view p.world.value) 1 (with_newborn ks (makes_space c)) → IsCommand c → IsPrepared cs p
+pub prepared_for : (shown world : WorldView) (spare : Spare) (ks : List (ℕ × ℕ)) (cs : List Command) (c : Command) (p : Prepared) → IsBook shown spare ks cs → length cs < command_limit → world ≡ after cs
+    → step world c ≡ Ok (world_view p.world.value, p.reply) → p.command ≡ c → p.numbers.items ≡ still_there (world_view p.world.value) (counted shown (world_view p.world.value) (with_newborn ks shown.next_space (makes_space c)))
+    → p.posts ≡ posted shown (world_view p.world.value) (with_newborn ks shown.next_space (makes_space c)) → IsCommand c → IsPrepared cs p
 prepared_for shown world spare ks cs c p h few w e same numbers posts texts =
     let v = world_view p.world.value in
     let done = ap (λ (x : WorldView). step x c) (sym w) ∙ e in
@@ -125,14 +123,14 @@ prepared_for shown world spare ks cs c p h few w e same numbers posts texts =
       accepted = ap (step (after cs)) same ∙ done;
       numbers =
           numbers
-          ∙ ap (λ (x : WorldView). counted x v 1 (with_newborn ks (makes_space c))) h.world
-          ∙ ap (λ (l : List ℕ). counted (after cs) v 1 (with_newborn l (makes_space c))) h.counts
+          ∙ ap (λ (x : WorldView). still_there v (counted x v (with_newborn ks x.next_space (makes_space c)))) h.world
+          ∙ ap (λ (l : List (ℕ × ℕ)). still_there v (counted (after cs) v (with_newborn l (after cs).next_space (makes_space c)))) h.counts
           ∙ numbers-next cs c v p.reply done
           ∙ ap (λ (x : Command). space_numbers (cs ++ x ∷ [])) (sym same);
       posts =
           posts
-          ∙ ap (λ (x : WorldView). posted x v 1 (with_newborn ks (makes_space c))) h.world
-          ∙ ap (λ (l : List ℕ). posted (after cs) v 1 (with_newborn l (makes_space c))) h.counts
+          ∙ ap (λ (x : WorldView). posted x v (with_newborn ks x.next_space (makes_space c))) h.world
+          ∙ ap (λ (l : List (ℕ × ℕ)). posted (after cs) v (with_newborn l (after cs).next_space (makes_space c))) h.counts
           ∙ posts-next cs c v p.reply done
           ∙ ap (posts_of cs) (sym same);
       texts = subst IsCommand (sym same) texts;

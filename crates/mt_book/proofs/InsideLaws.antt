@@ -170,7 +170,7 @@ number_stays k cs c same =
 pub book_inside : (before : List Command) (m n : ℕ) (v : WorldView) → step (after before) (CopySpace m true) ≡ Ok (v, Number n) → (done : List Command) → IsNotCopied n v done
     → (c : Command) → is_issued_in n c ≡ true → (k : ℕ) → k ≢ n
     → (table_of (after ((before ++ CopySpace m true ∷ done) ++ c ∷ [])) k ≡ table_of (after (before ++ CopySpace m true ∷ done)) k)
-      × (space_number k ((before ++ CopySpace m true ∷ done) ++ c ∷ []) ≡ space_number k (before ++ CopySpace m true ∷ done))
+    × (space_number k ((before ++ CopySpace m true ∷ done) ++ c ∷ []) ≡ space_number k (before ++ CopySpace m true ∷ done))
 book_inside before m n v e done off c is k other =
     let cs = before ++ CopySpace m true ∷ done in
     let good = after_good before in

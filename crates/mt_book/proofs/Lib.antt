@@ -8,6 +8,8 @@ pub mod HistoryLaws
 pub mod SpaceLaws
 pub mod EndLaws
 pub mod CountLaws
+pub mod PlaceLaws
+pub mod ThereLaws
 pub mod NextLaws
 pub mod NumberLaws
 pub mod BookLaws

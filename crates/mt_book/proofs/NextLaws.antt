@@ -1,10 +1,9 @@
 -- One command more: its posts, and the numbers.
-use Rattle.std.proofs.Common.{◌≡◌, inr, ℕ, zero, suc, ◌+◌, ◌-◌, ◌≤◌, Bool, true, false, cond, List, [], ◌∷◌, ◌++◌, map, length, slice_index_or, Option, Some, None, Ok, refl, sym, ap, ◌∙◌, arith, length-append, append-nil}
-use Rattle.std.specs.List.{filter_map, cons_option, range_with_len}
+use Rattle.std.proofs.Common.{◌≡◌, inr, ℕ, ◌+◌, ◌-◌, ◌<◌, ◌≤◌, Bool, true, false, cond, List, [], ◌∷◌, ◌++◌, length, None, Some, Ok, refl, sym, ap, ◌∙◌, subst, arith, length-append, append-nil}
+use Rattle.std.specs.List.{filter_map, range_with_len}
 use Rattle.std.specs.Option.{option_to_list}
 use Rattle.std.specs.Result.{is_ok}
-use Rattle.std.proofs.lemmas.List.FromFn.{length-map-range_with_len, map-range_with_len_more}
-use Rattle.mt_propagate.specs.World.{WorldView, empty_world}
+use Rattle.mt_propagate.specs.World.{WorldView, empty_world, is_space}
 use Rattle.mt_info.specs.Table.{table_of}
 use Rattle.mt_skel.proofs.MiddleLaws.{and_first, and_second, and-true}
 use Rattle.mt_events.specs.Posts.{PostView}
@@ -13,9 +12,11 @@ use Rattle.mt_book.specs.declared.command.Command.{Command}
 use Rattle.mt_book.specs.declared.command.Reply.{Reply}
 use Rattle.mt_book.specs.Step.{step, makes_space, world_or, next_world, after_from, after}
 use Rattle.mt_book.specs.History.{events_from, events, space_number, posts_of}
-use Rattle.mt_book.specs.Book.{accepts, space_numbers, next_number, next_post, counted, posted, with_newborn}
+use Rattle.mt_book.specs.Book.{command_limit, accepts, spaces_of, space_numbers, next_number, next_post, counted, posted, with_newborn, still_there, AreNumbers}
 use Rattle.mt_book.proofs.GrowthLaws.{reached, step_spaces}
-use Rattle.mt_book.proofs.HistoryLaws.{after-append, events-append, given}
+use Rattle.mt_book.proofs.HistoryLaws.{IsGood, after_good, after-append, events-append, no_post, table_nowhere, given}
+use Rattle.mt_book.proofs.SpaceLaws.{step_gone}
+use Rattle.mt_book.proofs.ThereLaws.{paired, all_in, newborn-rows, counted-rows, posted-rows, there-rows, spaces-next, posts-all, all-rise, rows-few}
 use Rattle.mt_book.proofs.EndLaws.{number_late}
 
 pub after-accepted : (cs : List Command) (c : Command) (v : WorldView) (r : Reply) → step (after cs) c ≡ Ok (v, r) → after (cs ++ c ∷ []) ≡ v
@@ -66,68 +67,59 @@ number-few n cs = from-few n 1 empty_world cs
 pub number-newborn : (n : ℕ) (cs : List Command) → (after cs).next_space ≤ n → space_number n cs ≡ 0
 number-newborn n cs late = number_late n cs (inr late)
 
--- the numbers of all namespaces
-counted-range : (w v : WorldView) (f g : ℕ → ℕ) → ((n : ℕ) → next_number w v n (f n) ≡ g n) → (a k : ℕ) → counted w v a (map f (range_with_len a k)) ≡ map g (range_with_len a k)
-counted-range w v f g same a zero = refl
-counted-range w v f g same a (suc k) = λ i. same a i ∷ counted-range w v f g same (a + 1) k i
+-- ---- the numbers and posts of all namespaces
 
-newborn-range : (f : ℕ → ℕ) (more : Bool) (m s : ℕ) → 1 + m ≡ s → f s ≡ 0 → with_newborn (map f (range_with_len 1 m)) more ≡ map f (range_with_len 1 (m + cond more 1 0))
-newborn-range f true m s e z = ap (λ x. map f (range_with_len 1 m) ++ x ∷ []) (sym z) ∙ sym (map-range_with_len_more f 1 m s e)
-newborn-range f false m s e z = append-nil (map f (range_with_len 1 m)) ∙ ap (λ k. map f (range_with_len 1 k)) (omega arith)
+accepted_good : (cs : List Command) (c : Command) (v : WorldView) (r : Reply) → step (after cs) c ≡ Ok (v, r) → IsGood v
+accepted_good cs c v r e = subst IsGood (after-accepted cs c v r e) (after_good (cs ++ c ∷ []))
 
 pub numbers-next : (cs : List Command) (c : Command) (v : WorldView) (r : Reply) → step (after cs) c ≡ Ok (v, r)
-    → counted (after cs) v 1 (with_newborn (space_numbers cs) (makes_space c)) ≡ space_numbers (cs ++ c ∷ [])
+    → still_there v (counted (after cs) v (with_newborn (space_numbers cs) (after cs).next_space (makes_space c))) ≡ space_numbers (cs ++ c ∷ [])
 unfolding space_numbers
 numbers-next cs c v r e =
     let w = after cs in
     let h = reached cs in
-    let spaces = step_spaces w c v r (length cs) h e in
-    let m = w.next_space - 1 in
-    let from = h.well_formed.from_one.1 in
+    let more = makes_space c in
     let f : ℕ → ℕ = λ n. space_number n cs in
     let g : ℕ → ℕ = λ n. space_number n (cs ++ c ∷ []) in
-    ap (counted w v 1) (newborn-range f (makes_space c) m w.next_space (omega (arith, from)) (number-newborn w.next_space cs (omega arith)))
-    ∙ counted-range w v f g (λ n. number-next n cs c v r e) 1 (m + cond (makes_space c) 1 0)
-    ∙ ap (λ k. map g (range_with_len 1 k)) (omega (arith, spaces, from))
-    ∙ ap (λ (x : WorldView). map g (range_with_len 1 (x.next_space - 1))) (sym (after-accepted cs c v r e))
+    ap (λ l. still_there v (counted w v l)) (newborn-rows f w more (number-newborn w.next_space cs (omega arith)))
+    ∙ ap (still_there v) (counted-rows w v f g (λ n. number-next n cs c v r e) (all_in w more))
+    ∙ there-rows v g (all_in w more)
+    ∙ ap (paired g) (spaces-next w v more h.well_formed.from_one.1 (step_spaces w c v r (length cs) h e) (λ n low gone. step_gone w c v r n h.well_formed h.skeleton e low gone))
+    ∙ ap (λ (x : WorldView). paired g (spaces_of x)) (sym (after-accepted cs c v r e))
 
-posted-range : (w v : WorldView) (f : ℕ → ℕ) (a k : ℕ) → posted w v a (map f (range_with_len a k)) ≡ filter_map (λ n. next_post w v n (f n)) (range_with_len a k)
-posted-range w v f a zero = refl
-posted-range w v f a (suc k) =
-    ap (λ l. option_to_list (next_post w v a (f a)) ++ l) (posted-range w v f (a + 1) k)
-    ∙ list-cons (next_post w v a (f a)) (filter_map (λ n. next_post w v n (f n)) (range_with_len (a + 1) k))
-  where
-    list-cons : (o : Option PostView) (xs : List PostView) → option_to_list o ++ xs ≡ cons_option o xs
-    list-cons None xs = refl
-    list-cons (Some x) xs = refl
+-- one that was not there, and that the command did not make, has no post
+gone_none : (cs : List Command) (c : Command) (v : WorldView) (r : Reply) → step (after cs) c ≡ Ok (v, r) → (n k : ℕ) → n < (after cs).next_space → is_space (after cs) n ≡ false → next_post (after cs) v n k ≡ None
+gone_none cs c v r e n k low gone =
+    let w = after cs in
+    let g = after_good cs in
+    let h = accepted_good cs c v r e in
+    no_post n (k + 1) w v g h (table_nowhere w n g.formed gone ∙ sym (table_nowhere v n h.formed (step_gone w c v r n g.formed g.skeleton e low gone)))
 
 pub posts-next : (cs : List Command) (c : Command) (v : WorldView) (r : Reply) → step (after cs) c ≡ Ok (v, r)
-    → posted (after cs) v 1 (with_newborn (space_numbers cs) (makes_space c)) ≡ posts_of cs c
+    → posted (after cs) v (with_newborn (space_numbers cs) (after cs).next_space (makes_space c)) ≡ posts_of cs c
 unfolding space_numbers posts_of
 posts-next cs c v r e =
     let w = after cs in
     let h = reached cs in
-    let spaces = step_spaces w c v r (length cs) h e in
-    let m = w.next_space - 1 in
-    let from = h.well_formed.from_one.1 in
+    let more = makes_space c in
     let f : ℕ → ℕ = λ n. space_number n cs in
-    ap (posted w v 1) (newborn-range f (makes_space c) m w.next_space (omega (arith, from)) (number-newborn w.next_space cs (omega arith)))
-    ∙ posted-range w v f 1 (m + cond (makes_space c) 1 0)
-    ∙ ap (λ k. filter_map (λ n. next_post w v n (f n)) (range_with_len 1 k)) (omega (arith, spaces, from))
+    ap (posted w v) (newborn-rows f w more (number-newborn w.next_space cs (omega arith)))
+    ∙ posted-rows w v f (all_in w more)
+    ∙ posts-all w more v.next_space (λ n. next_post w v n (f n)) h.well_formed.from_one.1 (step_spaces w c v r (length cs) h e) (λ n low gone. gone_none cs c v r e n (f n) low gone)
     ∙ ap (λ (x : WorldView). filter_map (λ n. next_post w x n (f n)) (range_with_len 1 (x.next_space - 1))) (sym (ap (world_or w) e))
 
-get-few : (f : ℕ → ℕ) (l : ℕ) → ((n : ℕ) → f n ≤ l) → (xs : List ℕ) (i : ℕ) → slice_index_or (map f xs) i 0 ≤ l
-get-few f l few [] i = omega arith
-get-few f l few (x ∷ xs) zero = few x
-get-few f l few (x ∷ xs) (suc i) = get-few f l few xs i
-
-pub numbers-few : (cs : List Command) (i : ℕ) → slice_index_or (space_numbers cs) i 0 ≤ length cs
+pub numbers-are : (cs : List Command) (more : Bool) → length cs ≤ command_limit → AreNumbers (with_newborn (space_numbers cs) (after cs).next_space more)
 unfolding space_numbers
-numbers-few cs i = get-few (λ n. space_number n cs) (length cs) (λ n. number-few n cs) (range_with_len 1 ((after cs).next_space - 1)) i
-
-pub numbers-length : (cs : List Command) → length (space_numbers cs) ≡ (after cs).next_space - 1
-unfolding space_numbers
-numbers-length cs = length-map-range_with_len (λ n. space_number n cs) 1 ((after cs).next_space - 1)
+numbers-are cs more few =
+    let w = after cs in
+    let f : ℕ → ℕ = λ n. space_number n cs in
+    subst AreNumbers (sym (newborn-rows f w more (number-newborn w.next_space cs (omega arith)))) (record {
+      rising = all-rise f w more (reached cs).well_formed.from_one.1;
+      few = λ i r low at. rows-few f command_limit (λ n. at_most (space_number n cs) (number-few n cs)) (all_in w more) i r low at;
+    })
+  where
+    at_most : (a : ℕ) → a ≤ length cs → a ≤ command_limit
+    at_most a l = omega (arith, l, few)
 
 -- a journal stays one of accepted commands
 accepts-from : (w : WorldView) (cs : List Command) (c : Command) → accepts w cs ≡ true → is_ok (step (after_from w cs) c) ≡ true → accepts w (cs ++ c ∷ []) ≡ true

@@ -1,13 +1,12 @@
 -- What is read from a book.
-use Rattle.std.proofs.Common.{◌≡◌, ◌≢◌, ℕ, suc, ◌+◌, ◌-◌, ◌<◌, ◌≤◌, Bool, true, false, cond, List, [], ◌∷◌, ◌++◌, map, length, slice_index_or, Option, Some, None, Result, Ok, Err, IfOk, OnOk, IfErr, OnErr, refl, sym, ap, ◌∙◌, subst, arith, append_assoc, take, get_or}
-use Rattle.std.specs.List.{filter, range_with_len}
-use Rattle.std.specs.Option.{is_some, option_map}
-use Rattle.std.proofs.lemmas.List.FromFn.{get_or-map-range_with_len}
+use Rattle.std.proofs.Common.{◌≡◌, ◌≢◌, ℕ, ◌+◌, ◌<◌, ◌≤◌, ◌==◌, Bool, true, false, cond, List, [], ◌∷◌, ◌++◌, map, length, Option, Some, None, Result, Ok, Err, IfOk, OnOk, IfErr, OnErr, refl, sym, ap, ◌∙◌, subst, arith, take, get_or}
+use Rattle.std.specs.List.{find}
+use Rattle.std.specs.Option.{is_some, ok_or, option_map, unwrap_or}
 use Rattle.std.proofs.lemmas.Grind.{take_at_read}
 use Rattle.mt_skel.specs.declared.fault.Fault.{Fault}
-use Rattle.mt_skel.specs.declared.fault.Fault.TheVariants.{NoMemory}
+use Rattle.mt_skel.specs.declared.fault.Fault.TheVariants.{NoMemory, NoNamespace}
 use Rattle.mt_mounts.specs.declared.mount.Mount.{Mount}
-use Rattle.mt_mounts.specs.Forest.{id_of, is_root, root_mount}
+use Rattle.mt_mounts.specs.Forest.{is_root, root_mount}
 use Rattle.mt_mounts.proofs.ForestLaws.{find_row, find_passes}
 use Rattle.mt_propagate.specs.World.{WorldView, is_space}
 use Rattle.mt_propagate.specs.WellFormed.{IsWellFormed}
@@ -18,62 +17,69 @@ use Rattle.mt_book.specs.declared.command.Reply.{Reply}
 use Rattle.mt_book.specs.declared.spare.Spare.{Spare}
 use Rattle.mt_book.specs.Step.{after}
 use Rattle.mt_book.specs.History.{space_number, posts_of}
-use Rattle.mt_book.specs.Book.{space_numbers, answer, AreAnswered}
+use Rattle.mt_book.specs.Book.{space_in, number_in, spaces_of, space_numbers, answer, AreAnswered}
 use Rattle.mt_book.specs.Kept.{IsBook}
-use Rattle.mt_book.proofs.NextLaws.{numbers-length}
+use Rattle.mt_book.proofs.HistoryLaws.{after_good}
+use Rattle.mt_book.proofs.ThereLaws.{paired, rows-spaces, number_there, number_nowhere}
 use Rattle.mt_book.proofs.BookLaws.{IsSmall, after_small}
 
-pub book_small : (w : WorldView) (spare : Spare) (ks : List ℕ) (cs : List Command) → IsBook w spare ks cs → IsSmall w
+pub book_small : (w : WorldView) (spare : Spare) (ks : List (ℕ × ℕ)) (cs : List Command) → IsBook w spare ks cs → IsSmall w
 book_small w spare ks cs h = subst IsSmall (sym h.world) (after_small cs h.few)
 
 -- a namespace that is there has one of the numbers that were given out
-pub space_numbered : (w : WorldView) (n : ℕ) (o : Option ℕ) → IsWellFormed w → o ≡ option_map id_of (root_mount w.forest n) → is_some o ≡ true → (1 ≤ n) × (n < w.next_space) × (is_space w n ≡ true)
-space_numbered w n o h e some = by (root_mount w.forest n) refl (ap is_some (sym e) ∙ some)
+space_numbered : (w : WorldView) (n : ℕ) → IsWellFormed w → is_space w n ≡ true → (1 ≤ n) × (n < w.next_space)
+space_numbered w n h is = by (root_mount w.forest n) refl is
   where
-    by : (r : Option Mount) → root_mount w.forest n ≡ r → is_some (option_map id_of r) ≡ true → (1 ≤ n) × (n < w.next_space) × (is_space w n ≡ true)
+    by : (r : Option Mount) → root_mount w.forest n ≡ r → is_some r ≡ true → (1 ≤ n) × (n < w.next_space)
     by None at t = absurd (cc)
     by (Some r) at t =
         let row = find_row (is_root n) w.forest r h.forest.rising at in
         let root = root_here n r (find_passes (is_root n) w.forest r at) in
         let low = h.below r.id r row in
-        (omega (arith, low.2, root.1), omega (arith, low.3, root.1), ap is_some at)
+        (omega (arith, low.2, root.1), omega (arith, low.3, root.1))
 
--- the place of its number
-pub number_within : (w : WorldView) (spare : Spare) (ks : List ℕ) (cs : List Command) (n : ℕ) → IsBook w spare ks cs → 1 ≤ n → n < w.next_space → n - 1 < length ks
-number_within w spare ks cs n h low high =
-    omega (arith, ap (λ (l : List ℕ). length l) h.counts, numbers-length cs, ap (λ (x : WorldView). x.next_space) h.world, low, high)
+-- the number that is kept of a namespace, if it is there
+abbrev number_or_none : List Command → ℕ → Option ℕ
+number_or_none cs n = cond (is_space (after cs) n) (Some (space_number n cs)) None
 
-range_read : (f : ℕ → ℕ) (m n x : ℕ) → 1 ≤ n → n - 1 < m → slice_index_or (map f (range_with_len 1 m)) (n - 1) x ≡ f n
-range_read f m n x low high = get_or-map-range_with_len f 1 m (n - 1) n x high (omega (arith, low))
-
-pub number_read : (w : WorldView) (spare : Spare) (ks : List ℕ) (cs : List Command) (n x : ℕ) → IsBook w spare ks cs → 1 ≤ n → n < w.next_space → x ≡ slice_index_or ks (n - 1) x → x ≡ space_number n cs
+kept_number : (cs : List Command) (n : ℕ) → option_map number_in (find (λ r. space_in r == n) (space_numbers cs)) ≡ number_or_none cs n
 unfolding space_numbers
-number_read w spare ks cs n x h low high at =
-    at
-    ∙ ap (λ (l : List ℕ). slice_index_or l (n - 1) x) h.counts
-    ∙ range_read (λ k. space_number k cs) ((after cs).next_space - 1) n x low (omega (arith, low, high, ap (λ (v : WorldView). v.next_space) h.world))
-
--- the namespaces one after another
-range_next : (a b : ℕ) → a < b → range_with_len a (b - a) ≡ a ∷ range_with_len (a + 1) (b - (a + 1))
-range_next a b low = ap (range_with_len a) (same (b - a) (b - (a + 1)) (omega (arith, low)))
+kept_number cs n = by (is_space (after cs) n) refl
   where
-    same : (m n : ℕ) → m ≡ n + 1 → m ≡ suc n
-    same m n e = omega (arith, e)
+    by : (b : Bool) → is_space (after cs) n ≡ b → option_map number_in (find (λ r. space_in r == n) (paired (λ k. space_number k cs) (spaces_of (after cs)))) ≡ cond b (Some (space_number n cs)) None
+    by true is =
+        let low = space_numbered (after cs) n (after_good cs).formed is in
+        number_there (λ k. space_number k cs) (after cs) n is low.0 low.1
+    by false gone = number_nowhere (λ k. space_number k cs) (after cs) n gone
 
-filter_next : (p : ℕ → Bool) (x : ℕ) (xs : List ℕ) → filter p (x ∷ xs) ≡ filter p (x ∷ []) ++ filter p xs
-filter_next p x xs = by (p x)
+pub number_read : (cs : List Command) (ks : List (ℕ × ℕ)) (n : ℕ) (o : Option ℕ) → ks ≡ space_numbers cs → o ≡ option_map number_in (find (λ r. space_in r == n) ks) → o ≡ number_or_none cs n
+number_read cs ks n o same read = read ∙ ap (λ (l : List (ℕ × ℕ)). option_map number_in (find (λ r. space_in r == n) l)) same ∙ kept_number cs n
+
+read_there : (cs : List Command) (n k : ℕ) (o : Option ℕ) → o ≡ number_or_none cs n → o ≡ Some k → (is_space (after cs) n ≡ true) × (k ≡ space_number n cs)
+read_there cs n k o read some = by (is_space (after cs) n) refl (sym some ∙ read)
   where
-    by : (b : Bool) → cond b (x ∷ filter p xs) (filter p xs) ≡ cond b (x ∷ []) [] ++ filter p xs
-    by true = refl
-    by false = refl
+    by : (b : Bool) → is_space (after cs) n ≡ b → Some k ≡ cond b (Some (space_number n cs)) None → (is_space (after cs) n ≡ true) × (k ≡ space_number n cs)
+    by true is e = (is, ap (λ (x : Option ℕ). unwrap_or x 0) e)
+    by false is e = absurd (cc)
 
-pub spaces_more : (p : ℕ → Bool) (a b : ℕ) (old new all : List ℕ) → a < b → old ++ filter p (range_with_len a (b - a)) ≡ all → new ≡ old ++ filter p (a ∷ []) → new ++ filter p (range_with_len (a + 1) (b - (a + 1))) ≡ all
-spaces_more p a b old new all low before push =
-    let rest = range_with_len (a + 1) (b - (a + 1)) in
-    ap (λ l. l ++ filter p rest) push
-    ∙ append_assoc old (filter p (a ∷ [])) (filter p rest)
-    ∙ ap (λ l. old ++ l) (sym (filter_next p a rest) ∙ ap (filter p) (sym (range_next a b low)))
-    ∙ before
+read_nowhere : (cs : List Command) (n : ℕ) (o : Option ℕ) → o ≡ number_or_none cs n → o ≡ None → is_space (after cs) n ≡ false
+read_nowhere cs n o read none = by (is_space (after cs) n) refl (sym none ∙ read)
+  where
+    by : (b : Bool) → is_space (after cs) n ≡ b → None ≡ cond b (Some (space_number n cs)) None → is_space (after cs) n ≡ false
+    by true is e = absurd (cc)
+    by false is e = is
+
+pub number_done : (cs : List Command) (n : ℕ) (o : Option ℕ) → o ≡ number_or_none cs n → IfOk (ok_or o NoNamespace) (λ k. (is_space (after cs) n ≡ true) × (k ≡ space_number n cs))
+number_done cs n None e = tt
+number_done cs n (Some k) e = read_there cs n k (Some k) e refl
+
+pub number_refused : (cs : List Command) (n : ℕ) (o : Option ℕ) → o ≡ number_or_none cs n → IfErr (ok_or o NoNamespace) (λ f. (f ≡ NoNamespace) × (is_space (after cs) n ≡ false))
+number_refused cs n None e = (refl, read_nowhere cs n None e refl)
+number_refused cs n (Some k) e = tt
+
+pub spaces_read : (cs : List Command) (ks : List (ℕ × ℕ)) → ks ≡ space_numbers cs → map space_in ks ≡ spaces_of (after cs)
+unfolding space_numbers
+spaces_read cs ks same = ap (map space_in) same ∙ rows-spaces (λ n. space_number n cs) (spaces_of (after cs))
 
 -- a run of commands is longer by one
 run_longer : (cs done : List Command) (answers : List (Result (Reply × List PostView) Fault)) (end : List Command) (c : Command) (a : Result (Reply × List PostView) Fault) (last : List Command)

@@ -1,11 +1,12 @@
 -- The journal of a book, and what is answered from it.
 -- A word with no source is this project's rule.
-use Rattle.std.specs.Prelude.{◌≡◌, ◌≢◌, ℕ, ◌+◌, ◌-◌, nat_le, if◌then◌else◌, cond, Bool, true, List, [], ◌∷◌, ◌++◌, map, length, Option, Result, Ok, Err}
+use Rattle.std.specs.Prelude.{◌≡◌, ◌≢◌, ℕ, ◌+◌, ◌-◌, ◌<◌, ◌≤◌, nat_le, if◌then◌else◌, cond, Bool, true, List, [], ◌∷◌, ◌++◌, map, length, slice_index_or, Option, Result, Ok, Err}
 use Rattle.std.specs.List.{range_with_len, filter}
 use Rattle.std.specs.Option.{option_to_list}
 use Rattle.std.specs.Result.{is_ok}
 use Rattle.std.specs.Prelude.{◌&&◌}
 use Rattle.mt_skel.specs.declared.fault.Fault.{Fault}
+use Rattle.mt_skel.specs.Keyed.{rises}
 use Rattle.mt_skel.specs.declared.fault.Fault.TheVariants.{JournalFull, NoMemory}
 use Rattle.mt_skel.specs.Skeleton.{Skeleton, directory}
 use Rattle.mt_mounts.specs.declared.mount.Place.{Place}
@@ -42,10 +43,6 @@ abbrev pub accepts : WorldView → List Command → Bool
 accepts w [] = true
 accepts w (c ∷ cs) = is_ok (step w c) && accepts (next_world w c) cs
 
--- the numbers of the namespaces 1, 2, ..
-unfoldable pub space_numbers : List Command → List ℕ
-space_numbers cs = map (λ n. space_number n cs) (range_with_len 1 ((after cs).next_space - 1))
-
 -- the number of a namespace, which is one more where its table is not as it was
 abbrev pub next_number : WorldView → WorldView → ℕ → ℕ → ℕ
 next_number w v n k = cond (is_empty (difference (table_of w n) (table_of v n))) k (k + 1)
@@ -54,19 +51,35 @@ next_number w v n k = cond (is_empty (difference (table_of w n) (table_of v n)))
 abbrev pub next_post : WorldView → WorldView → ℕ → ℕ → Option PostView
 next_post w v n k = post_of n (k + 1) (difference (table_of w n) (table_of v n))
 
--- the numbers of the namespaces n, n + 1, .. after a change
-abbrev pub counted : WorldView → WorldView → ℕ → List ℕ → List ℕ
-counted w v n [] = []
-counted w v n (k ∷ ks) = next_number w v n k ∷ counted w v (n + 1) ks
+-- a namespace of which the number is kept, and its number
+abbrev pub space_in : ℕ × ℕ → ℕ
+space_in r = r.0
 
--- the posts of the namespaces n, n + 1, .. at a change
-abbrev pub posted : WorldView → WorldView → ℕ → List ℕ → List PostView
-posted w v n [] = []
-posted w v n (k ∷ ks) = option_to_list (next_post w v n k) ++ posted w v (n + 1) ks
+abbrev pub number_in : ℕ × ℕ → ℕ
+number_in r = r.1
 
--- a namespace that is not there yet has number 0
-abbrev pub with_newborn : List ℕ → Bool → List ℕ
-with_newborn ks more = ks ++ cond more (0 ∷ []) []
+-- the numbers of namespaces after a change
+abbrev pub counted : WorldView → WorldView → List (ℕ × ℕ) → List (ℕ × ℕ)
+counted w v [] = []
+counted w v (r ∷ rs) = (space_in r, next_number w v (space_in r) (number_in r)) ∷ counted w v rs
+
+-- the posts of namespaces at a change
+abbrev pub posted : WorldView → WorldView → List (ℕ × ℕ) → List PostView
+posted w v [] = []
+posted w v (r ∷ rs) = option_to_list (next_post w v (space_in r) (number_in r)) ++ posted w v rs
+
+-- a namespace that is made has number 0 before
+abbrev pub with_newborn : List (ℕ × ℕ) → ℕ → Bool → List (ℕ × ℕ)
+with_newborn rs n more = rs ++ cond more ((n, 0) ∷ []) []
+
+-- the numbers of those that are there
+abbrev pub still_there : WorldView → List (ℕ × ℕ) → List (ℕ × ℕ)
+still_there v rs = filter (λ (r : ℕ × ℕ). is_space v (space_in r)) rs
+
+-- namespaces by rising number, each with a number that can go up
+pub record AreNumbers (rs : List (ℕ × ℕ)) : Type 0 where
+  pub rising : rises space_in rs ≡ true
+  pub few : (i : ℕ) (r : ℕ × ℕ) → i < length rs → r ≡ slice_index_or rs i r → number_in r ≤ command_limit
 
 -- the mount where a walk has ended, and the names from its filesystem's root down to the directory
 abbrev pub found_by : Skeleton → Result Place Fault → Result (ℕ × List (List ℕ)) Fault
@@ -80,6 +93,10 @@ found_at w n path = found_by w.skel (walk w.skel w.forest n path)
 -- the namespaces that are there, by rising number
 abbrev pub spaces_of : WorldView → List ℕ
 spaces_of w = filter (is_space w) (range_with_len 1 (w.next_space - 1))
+
+-- each of them with its number
+unfoldable pub space_numbers : List Command → List (ℕ × ℕ)
+space_numbers cs = map (λ n. (n, space_number n cs)) (spaces_of (after cs))
 
 -- commands were done one after another, and each answered so, with its posts
 abbrev pub AreAnswered : List Command → List Command → List (Result (Reply × List PostView) Fault) → List Command → Type 0

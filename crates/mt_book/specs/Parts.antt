@@ -1,7 +1,8 @@
 -- Mounts by the namespaces that they are in. No public clause cites this module.
 -- A word with no source is this project's rule.
-use Rattle.std.specs.Prelude.{ℕ, Bool, ◌||◌, ◌==◌, List, [], slice_index_or}
+use Rattle.std.specs.Prelude.{ℕ, Bool, false, ◌||◌, ◌==◌, List, [], Option, Some, None, slice_index_or}
 use Rattle.mt_propagate.specs.World.{WorldView, space_of}
+use Rattle.mt_book.specs.Book.{space_in}
 
 -- a mount is in a namespace before or after
 abbrev pub is_part : WorldView → WorldView → ℕ → ℕ → Bool
@@ -10,3 +11,12 @@ is_part w v n i = (space_of w i == n) || (space_of v i == n)
 -- one of some lists of mounts
 abbrev pub part_at : List (List ℕ) → ℕ → List ℕ
 part_at parts k = slice_index_or parts k []
+
+-- the namespace of one of some numbers
+abbrev pub space_at : List (ℕ × ℕ) → ℕ → ℕ
+space_at rs k = space_in (slice_index_or rs k (0, 0))
+
+-- a place in a list is this one, if it is one at all
+abbrev pub is_at : Option ℕ → ℕ → Bool
+is_at None k = false
+is_at (Some at) k = at == k

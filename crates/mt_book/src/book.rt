@@ -1,6 +1,7 @@
 //! The commands that were accepted, and the world that they lead to.
-ghost use Rattle.std.specs.Prelude.{◌≡◌, ◌≢◌, ℕ, IfOk, IfErr, OnErr, OnOk, IsOkUnless, Ok, Err, true, false, ◌+◌, ◌<◌, ◌^◌, [], ◌∷◌, ◌++◌, length, IsTrue, ◌≤◌};
-ghost use Rattle.std.specs.List.{filter, AllByRecursion};
+ghost use Rattle.std.specs.Prelude.{◌≡◌, ◌≢◌, ℕ, IfOk, IfErr, OnErr, OnOk, IsOkUnless, Ok, Err, true, false, ◌+◌, ◌<◌, ◌^◌, ◌==◌, [], ◌∷◌, ◌++◌, map, length, IsTrue, ◌≤◌};
+ghost use Rattle.std.specs.List.{find, AllByRecursion};
+ghost use Rattle.std.specs.Option.{option_map};
 ghost use Rattle.mt_propagate.specs.World.{world_view, empty_world, is_space};
 ghost use Rattle.mt_propagate.specs.WellFormed.{IsWellFormed};
 ghost use Rattle.mt_info.specs.Table.{table_of};
@@ -8,7 +9,7 @@ ghost use Rattle.mt_events.specs.Posts.{IsPost};
 ghost use Rattle.mt_book.specs.Step.{after};
 ghost use Rattle.mt_book.specs.Commands.{IsCommand};
 ghost use Rattle.mt_book.specs.History.{space_number, posts_of};
-ghost use Rattle.mt_book.specs.Book.{answer, accepts, command_limit, found_at, spaces_of, AreAnswered};
+ghost use Rattle.mt_book.specs.Book.{answer, accepts, command_limit, found_at, space_in, number_in, spaces_of, AreAnswered};
 ghost use Rattle.mt_book.specs.Kept.{IsPrepared, prepared_command, prepared_reply, prepared_posts};
 
 use crate::changes::changes_after;
@@ -30,7 +31,8 @@ use std::mem;
 /// The most commands that are accepted.
 const MOST_COMMANDS: usize = 1_048_576;
 
-/// The commands that were accepted, the world that they lead to, and how many posts each namespace has had.
+/// The commands that were accepted, the world that they lead to, and how many posts each namespace that is there has
+/// had.
 ///
 /// A second world is kept beside the one that is shown, never more than one command behind. The next command is
 /// tried on it, and shown by exchanging both, so that no command copies a world, also not a refused one. A copy is
@@ -39,7 +41,7 @@ const MOST_COMMANDS: usize = 1_048_576;
 pub struct Book {
     shown: Shown,
     spare: Spare,
-    numbers: Vec<u64>,
+    numbers: Vec<(SpaceId, u64)>,
     journal: Vec<Command>,
     alloc: Global,
 }
@@ -101,7 +103,6 @@ impl Book {
     fn world(&self) -> &World
         ensures world { world_view result.now ≡ after self.now.journal }
         ensures well_formed { IsWellFormed (world_view result.now) }
-        ensures few { result.now.next_space < 2 ^ 63 }
     {
         self.shown.world()
     }
@@ -211,10 +212,7 @@ impl Book {
         ensures done { IfOk result (λ number. (is_space (after self.now.journal) space ≡ true) × (number ≡ space_number space self.now.journal)) }
         ensures refused { IfErr result (λ fault. (fault ≡ Fault.NoNamespace) × (is_space (after self.now.journal) space ≡ false)) }
     {
-        if self.shown.world().forest.root(space).is_none() {
-            return Err(Fault::NoNamespace);
-        }
-        Ok(self.numbers[(space - 1) as usize])
+        number_of(&self.numbers, space).ok_or(Fault::NoNamespace)
     }
 
     /// The namespaces, by rising number. Refused as `NoMemory` alone.
@@ -222,7 +220,8 @@ impl Book {
         ensures spaces { IfOk result (λ spaces. spaces.items ≡ spaces_of (after self.now.journal)) }
         ensures memory { IsOkUnless result Fault.NoMemory }
     {
-        spaces_in(self.alloc, self.world())
+        let spaces = spaces_in(self.alloc, &self.numbers)?;
+        Ok(spaces)
     }
 
     /// Where the walk along a path ends in a namespace: the mount, and the names from its
@@ -254,28 +253,28 @@ impl Book {
     }
 }
 
-/// The namespaces of a world, by rising number. Refused as `NoMemory` alone.
-fn spaces_in(alloc: Global, world: &World) -> Result<Vec<SpaceId>, Fault>
-    requires few { (world.now.next_space < 2 ^ 63) }
-    ensures spaces { IfOk result (λ spaces. spaces.items ≡ spaces_of (world_view world.now)) }
-    ensures memory { IsOkUnless result Fault.NoMemory }
+/// The number of a namespace, if it is among these.
+fn number_of(numbers: &[(SpaceId, u64)], space: SpaceId) -> Option<u64>
+    ensures { result ≡ option_map number_in (find (λ r. space_in r == space) numbers.now) }
 {
-    let mut spaces = Vec::new(alloc);
-    'spaces: for space in 1..world.next_space {
-        push_space(&mut spaces, world, space)?;
+    'spaces: for row in numbers {
+        if row.0 == space {
+            return Some(row.1);
+        }
     }
-    Ok(spaces)
+    None
 }
 
-/// Appends a namespace, if it is there. Refused as `NoMemory` alone.
-fn push_space(spaces: &mut Vec<SpaceId>, world: &World, space: SpaceId) -> Result<(), Fault>
-    ensures spaces { OnOk result (spaces.new.items ≡ spaces.old.items ++ filter (is_space (world_view world.now)) (space ∷ [])) }
+/// The namespaces of which these are the numbers. Refused as `NoMemory` alone.
+fn spaces_in(alloc: Global, numbers: &[(SpaceId, u64)]) -> Result<Vec<SpaceId>, Fault>
+    ensures spaces { IfOk result (λ spaces. spaces.items ≡ map space_in numbers.now) }
     ensures memory { IsOkUnless result Fault.NoMemory }
 {
-    if world.forest.root(space).is_some() {
-        spaces.push(space)?;
+    let mut spaces = Vec::with_capacity(alloc, numbers.len())?;
+    'spaces: for row in numbers {
+        spaces.push(row.0)?;
     }
-    Ok(())
+    Ok(spaces)
 }
 
 /// Where the walk along a path ends in a world, as `Book::find` says.

@@ -10,7 +10,7 @@ ghost use Rattle.mt_propagate.specs.Touched.{IsTouched};
 ghost use Rattle.mt_info.specs.Table.{table_of};
 ghost use Rattle.mt_events.specs.Difference.{HoldsChanged};
 ghost use Rattle.mt_book.specs.Step.{next_world, makes_space};
-ghost use Rattle.mt_book.specs.Book.{next_number, next_post, counted, posted, with_newborn, command_limit};
+ghost use Rattle.mt_book.specs.Book.{AreNumbers, next_number, next_post, counted, posted, with_newborn, still_there, command_limit};
 
 use crate::command::Command;
 use crate::parts::parts_of;
@@ -24,24 +24,46 @@ use mt_skel::fault::Fault;
 use std::alloc::Global;
 use std::sync::Arc;
 
-/// The numbers of all namespaces after a command, and its posts.
+/// The numbers of the namespaces after a command, and its posts.
 #[derive(Drop)]
 pub(crate) struct Changes {
-    pub(crate) numbers: Vec<u64>,
+    pub(crate) numbers: Vec<(SpaceId, u64)>,
     pub(crate) posts: SharedPosts,
 }
 
-/// The numbers of all namespaces before a command, which may make one more. Refused as `NoMemory`
-/// alone.
-fn numbers_before(alloc: Global, numbers: &[u64], more: bool) -> Result<Vec<u64>, Fault>
-    ensures numbers { IfOk result (λ before. before.items ≡ with_newborn numbers.now more) }
+/// The numbers of the namespaces before a command, which may make this one more. Refused as `NoMemory` alone.
+fn numbers_before(
+    alloc: Global,
+    numbers: &[(SpaceId, u64)],
+    newborn: SpaceId,
+    more: bool,
+) -> Result<Vec<(SpaceId, u64)>, Fault>
+    ensures numbers { IfOk result (λ before. before.items ≡ with_newborn numbers.now newborn more) }
     ensures memory { IsOkUnless result Fault.NoMemory }
 {
     let mut before = Vec::from_slice(alloc, numbers)?;
     if more {
-        before.push(0)?;
+        before.push((newborn, 0))?;
     }
     Ok(before)
+}
+
+/// The numbers of those namespaces that are there. Refused as `NoMemory` alone.
+fn still_there(
+    alloc: Global,
+    world: &World,
+    numbers: &[(SpaceId, u64)],
+) -> Result<Vec<(SpaceId, u64)>, Fault>
+    ensures there { IfOk result (λ there. there.items ≡ still_there (world_view world.now) numbers.now) }
+    ensures memory { IsOkUnless result Fault.NoMemory }
+{
+    let mut there = Vec::with_capacity(alloc, numbers.len())?;
+    'spaces: for row in numbers {
+        if world.forest.root(row.0).is_some() {
+            there.push(*row)?;
+        }
+    }
+    Ok(there)
 }
 
 /// The post of a namespace that had this number, if its table is not the same in two worlds. No mounts are looked at but
@@ -113,25 +135,26 @@ fn changes_between(
     old: &World,
     new: &World,
     touched: &[MountId],
-    numbers: &[u64],
+    numbers: &[(SpaceId, u64)],
 ) -> Result<Changes, Fault>
     requires old { IsWellFormed (world_view old.now) }
     requires new { IsWellFormed (world_view new.now) }
     requires skeleton { (world_view old.now).skel ≡ (world_view new.now).skel }
     requires touched { IsTouched (world_view old.now) (world_view new.now) touched.now }
-    requires few { (i : ℕ) → slice_index_or numbers.now i 0 ≤ command_limit }
-    ensures numbers { IfOk result (λ changes. changes.numbers.items ≡ counted (world_view old.now) (world_view new.now) 1 numbers.now) }
-    ensures posts { IfOk result (λ changes. changes.posts ≡ posted (world_view old.now) (world_view new.now) 1 numbers.now) }
+    requires numbers { AreNumbers numbers.now }
+    ensures numbers { IfOk result (λ changes. changes.numbers.items ≡ counted (world_view old.now) (world_view new.now) numbers.now) }
+    ensures posts { IfOk result (λ changes. changes.posts ≡ posted (world_view old.now) (world_view new.now) numbers.now) }
     ensures memory { IsOkUnless result Fault.NoMemory }
 {
     let ids = rows_touched(old, new, touched)?;
-    let parts = parts_of(alloc, old, new, &ids, numbers.len())?;
+    let parts = parts_of(alloc, old, new, &ids, numbers)?;
     let mut after = Vec::with_capacity(alloc, numbers.len())?;
     let mut posts = Vec::new(alloc);
     'spaces: for i in 0..numbers.len() {
         let part = parts[i].as_slice();
-        let number = push_change(alloc, &mut posts, old, new, part, i as u64 + 1, numbers[i])?;
-        after.push(number)?;
+        let row = numbers[i];
+        let number = push_change(alloc, &mut posts, old, new, part, row.0, row.1)?;
+        after.push((row.0, number))?;
     }
     Ok(Changes {
         numbers: after,
@@ -139,16 +162,16 @@ fn changes_between(
     })
 }
 
-/// What a command changes for namespaces that had these numbers. `touched` has each mount that it changed. Refused as
-/// `NoMemory` alone.
+/// What a command changes for all namespaces, and for the one that it makes, of which it knows these numbers.
+/// Refused as `NoMemory` alone.
 ///
 /// A command that makes directories changes no table, and so none is looked at.
-pub(crate) fn changes_after(
+fn changes_of(
     alloc: Global,
     old: &World,
     new: &World,
     touched: &[MountId],
-    numbers: &[u64],
+    numbers: &[(SpaceId, u64)],
     command: &Command,
 ) -> Result<Changes, Fault>
     requires old { IsWellFormed (world_view old.now) }
@@ -156,17 +179,46 @@ pub(crate) fn changes_after(
     requires new { IsWellFormed (world_view new.now) }
     requires next { world_view new.now ≡ next_world (world_view old.now) command.now }
     requires touched { IsTouched (world_view old.now) (world_view new.now) touched.now }
-    requires few { (i : ℕ) → slice_index_or numbers.now i 0 ≤ command_limit }
-    ensures numbers { IfOk result (λ changes. changes.numbers.items ≡ counted (world_view old.now) (world_view new.now) 1 (with_newborn numbers.now (makes_space command.now))) }
-    ensures posts { IfOk result (λ changes. changes.posts ≡ posted (world_view old.now) (world_view new.now) 1 (with_newborn numbers.now (makes_space command.now))) }
+    requires numbers { AreNumbers numbers.now }
+    ensures numbers { IfOk result (λ changes. changes.numbers.items ≡ counted (world_view old.now) (world_view new.now) numbers.now) }
+    ensures posts { IfOk result (λ changes. changes.posts ≡ posted (world_view old.now) (world_view new.now) numbers.now) }
     ensures memory { IsOkUnless result Fault.NoMemory }
 {
-    let before = numbers_before(alloc, numbers, command.makes_space())?;
     if command.makes_directories() {
+        let same = Vec::from_slice(alloc, numbers)?;
         return Ok(Changes {
-            numbers: before,
+            numbers: same,
             posts: SharedPosts::new(Vec::new(alloc)),
         });
     }
-    changes_between(alloc, old, new, touched, &before)
+    changes_between(alloc, old, new, touched, numbers)
+}
+
+/// What a command changes for namespaces that had these numbers: those that are there. One that it makes had number 0,
+/// and one that it drops has none any more. `touched` has each mount that it changed. Refused as `NoMemory` alone.
+pub(crate) fn changes_after(
+    alloc: Global,
+    old: &World,
+    new: &World,
+    touched: &[MountId],
+    numbers: &[(SpaceId, u64)],
+    command: &Command,
+) -> Result<Changes, Fault>
+    requires old { IsWellFormed (world_view old.now) }
+    requires skeleton { IsSkeleton (world_view old.now).skel }
+    requires new { IsWellFormed (world_view new.now) }
+    requires next { world_view new.now ≡ next_world (world_view old.now) command.now }
+    requires touched { IsTouched (world_view old.now) (world_view new.now) touched.now }
+    requires numbers { AreNumbers (with_newborn numbers.now (world_view old.now).next_space (makes_space command.now)) }
+    ensures numbers { IfOk result (λ changes. changes.numbers.items ≡ still_there (world_view new.now) (counted (world_view old.now) (world_view new.now) (with_newborn numbers.now (world_view old.now).next_space (makes_space command.now)))) }
+    ensures posts { IfOk result (λ changes. changes.posts ≡ posted (world_view old.now) (world_view new.now) (with_newborn numbers.now (world_view old.now).next_space (makes_space command.now))) }
+    ensures memory { IsOkUnless result Fault.NoMemory }
+{
+    let before = numbers_before(alloc, numbers, old.next_space, command.makes_space())?;
+    let changes = changes_of(alloc, old, new, touched, &before, command)?;
+    let numbers = still_there(alloc, new, &changes.numbers)?;
+    Ok(Changes {
+        numbers,
+        posts: changes.posts,
+    })
 }

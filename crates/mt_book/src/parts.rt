@@ -1,8 +1,10 @@
 //! Mounts by the namespaces that they are in.
-ghost use Rattle.std.specs.Prelude.{◌≡◌, ℕ, ◌+◌, ◌++◌, ◌<◌, ◌==◌, [], ◌∷◌, cond, length, IfOk, OnOk, IsOkUnless};
+ghost use Rattle.std.specs.Prelude.{◌≡◌, ℕ, ◌++◌, ◌<◌, ◌==◌, [], ◌∷◌, cond, length, IfOk, IfSome, OnOk, IsOkUnless, IsTrue};
 ghost use Rattle.std.specs.List.{filter};
 ghost use Rattle.mt_propagate.specs.World.{world_view};
-ghost use Rattle.mt_book.specs.Parts.{is_part, part_at};
+ghost use Rattle.mt_skel.specs.Keyed.{rises};
+ghost use Rattle.mt_book.specs.Book.{space_in};
+ghost use Rattle.mt_book.specs.Parts.{is_part, part_at, space_at, is_at};
 
 use mt_mounts::mount::{MountId, SpaceId};
 use mt_propagate::world::{World, space_of};
@@ -51,35 +53,61 @@ impl Part {
     }
 }
 
-/// Appends a mount to the part of a namespace, if there is one: the first is that of namespace 1. Refused as `NoMemory`
-/// alone.
-fn push_to(parts: &mut Vec<Part>, space: SpaceId, id: MountId) -> Result<(), Fault>
+/// Where a namespace stands among some by rising number, if it does.
+fn place_among(numbers: &[(SpaceId, u64)], space: SpaceId) -> Option<usize>
+    requires rising { IsTrue (rises space_in numbers.now) }
+    ensures within { IfSome result (λ at. at < length numbers.now) }
+    ensures place { (k : ℕ) → k < length numbers.now → (space == space_at numbers.now k) ≡ is_at result k }
+{
+    match numbers.binary_search_by_key(&space, |row| row.0) {
+        Ok(at) => Some(at),
+        Err(_) => None,
+    }
+}
+
+/// Appends a mount to the part of a namespace, if there is one: each part is of the namespace that stands there among
+/// these. Refused as `NoMemory` alone.
+fn push_to(
+    parts: &mut Vec<Part>,
+    numbers: &[(SpaceId, u64)],
+    space: SpaceId,
+    id: MountId,
+) -> Result<(), Fault>
+    requires rising { IsTrue (rises space_in numbers.now) }
+    requires len { length parts.old.items ≡ length numbers.now }
     ensures len { OnOk result (length parts.new.items ≡ length parts.old.items) }
-    ensures parts { OnOk result ((k : ℕ) → k < length parts.old.items → part_at parts.new.items k ≡ part_at parts.old.items k ++ cond (space == k + 1) (id ∷ []) []) }
+    ensures parts { OnOk result ((k : ℕ) → k < length parts.old.items → part_at parts.new.items k ≡ part_at parts.old.items k ++ cond (space == space_at numbers.now k) (id ∷ []) []) }
     ensures memory { IsOkUnless result Fault.NoMemory }
 {
-    if space == 0 || space > parts.len() as u64 {
+    let Some(at) = place_among(numbers, space) else {
         return Ok(());
-    }
-    let at = (space - 1) as usize;
+    };
     parts[at].push(id)?;
     Ok(())
 }
 
 /// Appends a mount to the part of the namespace that it is in, and to those of both where it is in another one in the
 /// second world. Refused as `NoMemory` alone.
-fn push_mount(parts: &mut Vec<Part>, old: &World, new: &World, id: MountId) -> Result<(), Fault>
+fn push_mount(
+    parts: &mut Vec<Part>,
+    numbers: &[(SpaceId, u64)],
+    old: &World,
+    new: &World,
+    id: MountId,
+) -> Result<(), Fault>
+    requires rising { IsTrue (rises space_in numbers.now) }
+    requires len { length parts.old.items ≡ length numbers.now }
     ensures len { OnOk result (length parts.new.items ≡ length parts.old.items) }
-    ensures parts { OnOk result ((k : ℕ) → k < length parts.old.items → part_at parts.new.items k ≡ part_at parts.old.items k ++ cond (is_part (world_view old.now) (world_view new.now) (k + 1) id) (id ∷ []) []) }
+    ensures parts { OnOk result ((k : ℕ) → k < length parts.old.items → part_at parts.new.items k ≡ part_at parts.old.items k ++ cond (is_part (world_view old.now) (world_view new.now) (space_at numbers.now k) id) (id ∷ []) []) }
     ensures memory { IsOkUnless result Fault.NoMemory }
 {
     let before = space_of(old, id);
     let after = space_of(new, id);
-    push_to(parts, before, id)?;
+    push_to(parts, numbers, before, id)?;
     if after == before {
         return Ok(());
     }
-    push_to(parts, after, id)
+    push_to(parts, numbers, after, id)
 }
 
 /// So many parts without mounts. Refused as `NoMemory` alone.
@@ -95,22 +123,23 @@ fn empty_parts(alloc: Global, count: usize) -> Result<Vec<Part>, Fault>
     Ok(parts)
 }
 
-/// Mounts by the namespaces 1, 2, .. so many, each in its order, with every mount in the parts of those that it is in, in
-/// one world or in the other. Refused as `NoMemory` alone.
+/// Mounts by these namespaces, each in its order, with every mount in the parts of those that it is in, in one world or
+/// in the other. Refused as `NoMemory` alone.
 pub(crate) fn parts_of(
     alloc: Global,
     old: &World,
     new: &World,
     ids: &[MountId],
-    count: usize,
+    numbers: &[(SpaceId, u64)],
 ) -> Result<Vec<Part>, Fault>
-    ensures len { IfOk result (λ parts. length parts.items ≡ count) }
-    ensures parts { IfOk result (λ parts. (k : ℕ) → k < count → part_at parts.items k ≡ filter (is_part (world_view old.now) (world_view new.now) (k + 1)) ids.now) }
+    requires rising { IsTrue (rises space_in numbers.now) }
+    ensures len { IfOk result (λ parts. length parts.items ≡ length numbers.now) }
+    ensures parts { IfOk result (λ parts. (k : ℕ) → k < length numbers.now → part_at parts.items k ≡ filter (is_part (world_view old.now) (world_view new.now) (space_at numbers.now k)) ids.now) }
     ensures memory { IsOkUnless result Fault.NoMemory }
 {
-    let mut parts = empty_parts(alloc, count)?;
+    let mut parts = empty_parts(alloc, numbers.len())?;
     'mounts: for id in ids {
-        push_mount(&mut parts, old, new, *id)?;
+        push_mount(&mut parts, numbers, old, new, *id)?;
     }
     Ok(parts)
 }

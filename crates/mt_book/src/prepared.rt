@@ -6,6 +6,7 @@ ghost use Rattle.mt_book.specs.Kept.{prepared_posts};
 use crate::command::{Command, Reply};
 use mt_events::post::Post;
 use mt_events::shared::SharedPosts;
+use mt_mounts::mount::SpaceId;
 use mt_propagate::world::World;
 use std::sync::Arc;
 
@@ -16,7 +17,7 @@ pub struct Prepared {
     pub(crate) world: Box<World>,
     pub(crate) command: Command,
     pub(crate) reply: Reply,
-    pub(crate) numbers: Vec<u64>,
+    pub(crate) numbers: Vec<(SpaceId, u64)>,
     pub(crate) posts: SharedPosts,
 }
 

@@ -28,7 +28,7 @@ table_of_3_then = refl
 
 pub told : posted before (mount 2 "d" "/m")
     ≡ (2, 3, [], lines ("4 2 0:2 / /m rw,relatime shared:3 - ext4 /dev/x rw" ∷ []))
-      ∷ (3, 2, [], lines ("5 3 0:2 / /m rw,relatime shared:3 - ext4 /dev/x rw" ∷ [])) ∷ []
+    ∷ (3, 2, [], lines ("5 3 0:2 / /m rw,relatime shared:3 - ext4 /dev/x rw" ∷ [])) ∷ []
 unfolding computed
 told = refl
 

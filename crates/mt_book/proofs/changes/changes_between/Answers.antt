@@ -1,4 +1,4 @@
-use Rattle.std.proofs.Common.{◌≡◌, ◌∙◌, ◌+◌, ℕ, List, true, ap, sym, subst, arith}
+use Rattle.std.proofs.Common.{◌≡◌, ◌∙◌, ℕ, List, true, ap, sym, subst, arith}
 use Rattle.std.specs.List.{filter}
 use Rattle.mt_skel.specs.Keyed.{among, rises}
 use Rattle.mt_skel.proofs.KeyedLaws.{rises-filter}
@@ -6,7 +6,7 @@ use Rattle.mt_propagate.specs.World.{world_view}
 use Rattle.mt_info.specs.Table.{table_of}
 use Rattle.mt_events.specs.Difference.{HoldsChanged}
 use Rattle.mt_events.proofs.HeldLaws.{rows_held}
-use Rattle.mt_book.specs.Parts.{is_part}
+use Rattle.mt_book.specs.Parts.{is_part, space_at}
 use Rattle.mt_book.proofs.TouchedLaws.{part_holds, part_is}
 use Rattle.mt_book.proofs.changes.changes_between.Goals as goal
 
@@ -14,7 +14,7 @@ pub push_change-requires-clause-rising : goal.push_change-requires-clause-rising
 push_change-requires-clause-rising c =
     let old = world_view c.args.old.now in
     let new = world_view c.args.new.now in
-    let t = is_part old new (c.spaces.i + 1) in
+    let t = is_part old new (space_at c.args.numbers.now c.spaces.i) in
     let ids = c.deref.result.now in
     let part : c.as_slice-part.result.now ≡ filter t ids =
     c.as_slice-part.ensures ∙ part_is c.in_ok-parts.parts.items c.index.result.now ids c.spaces.i _ t c.index.ensures c.in_ok-parts.ensures.len (omega (arith, c.spaces-test.true)) (c.in_ok-parts.ensures.parts c.spaces.i) in
@@ -25,7 +25,7 @@ pub push_change-requires-clause-held : goal.push_change-requires-clause-held
 push_change-requires-clause-held c =
     let old = world_view c.args.old.now in
     let new = world_view c.args.new.now in
-    let n = c.spaces.i + 1 in
+    let n = space_at c.args.numbers.now c.spaces.i in
     let t = is_part old new n in
     let ids = c.deref.result.now in
     let touched = c.args.touched.now in

@@ -1,4 +1,4 @@
-use Rattle.std.proofs.Common.{◌≡◌, ◌∙◌, ◌<◌, ◌^◌, ap, subst, sym}
+use Rattle.std.proofs.Common.{◌≡◌, ◌∙◌, ap, subst, sym}
 use Rattle.mt_propagate.specs.World.{world_view}
 use Rattle.mt_propagate.specs.declared.world.World.{World}
 use Rattle.mt_propagate.specs.WellFormed.{IsWellFormed}
@@ -16,8 +16,3 @@ pub returns-clause-well_formed : goal.returns-clause-well_formed
 returns-clause-well_formed c =
     subst (λ (w : World). IsWellFormed (world_view w)) (sym c.world.ensures)
     (book_small (world_view (shown_world c.self.inside.shown)) c.self.inside.spare c.self.inside.numbers.items c.self.inside.journal.items c.self.invariant).well_formed
-
-pub returns-clause-few : goal.returns-clause-few
-returns-clause-few c =
-    subst (λ (w : World). w.next_space < 2 ^ 63) (sym c.world.ensures)
-    (book_small (world_view (shown_world c.self.inside.shown)) c.self.inside.spare c.self.inside.numbers.items c.self.inside.journal.items c.self.invariant).numbers.2
