@@ -1,55 +1,23 @@
 -- What the end of a namespace, done mount by mount, makes of a world.
-use Rattle.std.proofs.Common.{◌≡◌, ℕ, ◌+◌, ◌<◌, ◌≤◌, Bool, true, false, cond, not, ◌||◌, ◌==◌, eqb, List, [], ◌∷◌, map, length, drop, get_or, Option, Some, None, Ok, refl, sym, ap, ◌∙◌, subst, arith}
+use Rattle.std.proofs.Common.{◌≡◌, ℕ, ◌≤◌, Bool, true, false, cond, not, ◌||◌, ◌==◌, eqb, List, [], ◌∷◌, map, Option, Some, None, Ok, refl, sym, ap, ◌∙◌, subst, arith}
 use Rattle.std.specs.Option.{is_some, option_map, unwrap_or}
-use Rattle.std.proofs.Math.ListN.{drop_of_length-le}
 use Rattle.std.proofs.lemmas.Bool.Decides.{nat_tests}
-use Rattle.std.proofs.lemmas.List.{drop_more}
 use Rattle.mt_skel.specs.declared.fault.Fault.TheVariants.{NoNamespace}
 use Rattle.mt_skel.specs.Keyed.{without, among}
 use Rattle.mt_skel.specs.Outcome.{refuse_if, outcome}
 use Rattle.mt_skel.proofs.KeyedLaws.{row_at-filter, passing}
 use Rattle.mt_mounts.specs.declared.mount.Mount.{Mount}
 use Rattle.mt_mounts.specs.Forest.{id_of, is_root, root_mount, mount_at}
-use Rattle.mt_mounts.specs.ForestView.{without_id}
 use Rattle.mt_mounts.proofs.ForestLaws.{find_row, find_passes}
 use Rattle.mt_peers.specs.Loss.{left}
 use Rattle.mt_propagate.specs.World.{WorldView, is_space, space_of}
+use Rattle.mt_propagate.specs.Carried.{staying}
 use Rattle.mt_propagate.specs.WellFormed.{IsWellFormed}
 use Rattle.mt_propagate.proofs.RowLaws.{filter-same}
 use Rattle.mt_propagate.proofs.WalkLaws.{root_here}
 use Rattle.mt_bind.specs.Spaces.{originals, without_space, drop_space}
 use Rattle.mt_bind.specs.Dropping.{without_mounts}
 use Rattle.mt_bind.proofs.GoneLaws.{agree, end-kept}
-
--- ---- mounts that go one after the other
-
-abbrev stay : List ℕ → List Mount → List Mount
-stay ids ms = without (λ (m : Mount). among ids m.id) ms
-
-all-stay : (ms : List Mount) → stay [] ms ≡ ms
-all-stay [] = refl
-all-stay (m ∷ ms) = ap (λ l. m ∷ l) (all-stay ms)
-
--- without one of them, and then without the others
-one-more : (i : ℕ) (ids : List ℕ) (ms : List Mount) → stay ids (without_id i ms) ≡ stay (i ∷ ids) ms
-one-more i ids [] = refl
-one-more i ids (m ∷ ms) = go (eqb m.id i) (eqb i m.id) (grind (arith, nat_tests)) (one-more i ids ms)
-  where
-    go : (a b : Bool) → a ≡ b → stay ids (without_id i ms) ≡ stay (i ∷ ids) ms
-        → stay ids (cond (not a) (m ∷ without_id i ms) (without_id i ms)) ≡ cond (not (b || among ids m.id)) (m ∷ stay (i ∷ ids) ms) (stay (i ∷ ids) ms)
-    go true true e ih = ih
-    go true false e ih = absurd (cc)
-    go false true e ih = absurd (cc)
-    go false false e ih = ap (λ l. cond (not (among ids m.id)) (m ∷ l) l) ih
-
-pub next-gone : (ids : List ℕ) (k d : ℕ) (ms ns all : List Mount) → k < length ids → stay (drop k ids) ms ≡ all → ns ≡ without_id (get_or ids k d) ms → stay (drop (k + 1) ids) ns ≡ all
-next-gone ids k d ms ns all l e is =
-    ap (stay (drop (k + 1) ids)) is ∙ one-more (get_or ids k d) (drop (k + 1) ids) ms ∙ ap (λ js. stay js ms) (sym (drop_more ids k d l)) ∙ e
-
-pub all-gone : (ids : List ℕ) (k : ℕ) (ms all : List Mount) → length ids ≤ k → stay (drop k ids) ms ≡ all → ms ≡ all
-all-gone ids k ms all l e = sym (ap (λ js. stay js ms) (drop_of_length-le ids l) ∙ all-stay ms) ∙ e
-
--- ---- the mounts of a namespace by their IDs
 
 among-rows : (xs : List Mount) (i : ℕ) → among (map id_of xs) i ≡ is_some (mount_at xs i)
 among-rows [] i = refl
@@ -92,7 +60,7 @@ module _ (w : WorldView) (h : IsWellFormed w) (n : ℕ) where
   unfolding without_space
   without-is is ids e =
       let same : among (map id_of (originals w n)) ≡ (λ i. space_of w i == n) = λ i j. among-space (from-one is) j i in
-      let forest : stay (map id_of (originals w n)) w.forest ≡ without (λ (m : Mount). m.space == n) w.forest =
+      let forest : staying (map id_of (originals w n)) w.forest ≡ without (λ (m : Mount). m.space == n) w.forest =
       ap (λ (t : ℕ → Bool). without (λ (m : Mount). t m.id) w.forest) same ∙ sym (filter-same (λ (m : Mount). not (m.space == n)) (λ (m : Mount). not (space_of w m.id == n)) w.forest (agree w h n)) in
       ap (without_mounts w) e ∙ (λ i. record w { forest = forest i; peering = left (same i) w.peering })
 

@@ -1,6 +1,5 @@
 //! Namespaces that go.
 ghost use Rattle.std.specs.Prelude.{◌≡◌, ◌≢◌, ◌+◌, ◌≤◌, map, length, IfOk, IfErr, OnOk, OnErr, IsOkUnless, Ok, Err};
-ghost use Rattle.mt_skel.specs.Keyed.{among, without};
 ghost use Rattle.mt_mounts.specs.Forest.{id_of};
 ghost use Rattle.mt_peers.specs.Peers.{peering_of};
 ghost use Rattle.mt_peers.specs.WellFormed.{IsPeering};
@@ -10,8 +9,8 @@ ghost use Rattle.mt_propagate.specs.Touched.{since_view};
 ghost use Rattle.mt_bind.specs.Spaces.{originals, drop_space};
 ghost use Rattle.mt_bind.specs.Dropping.{without_mounts};
 
-use mt_mounts::forest::Forest;
 use mt_mounts::mount::{MountId, SpaceId};
+use mt_propagate::carry::remove_all;
 use mt_propagate::world::World;
 use mt_skel::fault::Fault;
 
@@ -39,17 +38,6 @@ fn make_room(world: &mut World, count: usize) -> Result<(), Fault>
 {
     world.forest.reserve(count)?;
     world.reserve_states()
-}
-
-/// Takes these mounts away, one after the other. There is room for as many changes.
-fn remove_all(forest: &mut Forest, ids: &[MountId])
-    requires room { length ids.now ≤ forest.old.room }
-    ensures mounts { forest.new.mounts ≡ without (λ m. among ids.now m.id) forest.old.mounts }
-    ensures since { forest.new.since ≡ forest.old.since }
-{
-    for id in ids {
-        forest.remove(*id);
-    }
 }
 
 /// Takes these mounts away with their states, before any other gets another master. [`make_room`] has made room.

@@ -13,11 +13,11 @@ use Rattle.mt_peers.specs.Loss.{left}
 use Rattle.mt_peers.proofs.MemberLaws.{some-is}
 use Rattle.mt_propagate.specs.World.{WorldView}
 use Rattle.mt_propagate.specs.WellFormed.{IsWellFormed}
-use Rattle.mt_propagate.specs.Carried.{placed, IsFree}
+use Rattle.mt_propagate.specs.Carried.{placed, IsFree, staying}
 use Rattle.mt_propagate.proofs.TreeLaws.{on-is}
 use Rattle.mt_propagate.proofs.WalkLaws.{stands_at}
 use Rattle.mt_unmount.specs.Unmounting.{place_of, is_removed, slide, slid, without_mount}
-use Rattle.mt_unmount.specs.Detaching.{AreRemoved, moved_from, relocation_past, staying, detached}
+use Rattle.mt_unmount.specs.Detaching.{AreRemoved, moved_from, relocation_past, detached}
 use Rattle.mt_unmount.proofs.RemovedLaws.{gap-below}
 use Rattle.mt_unmount.proofs.SlideLaws.{heir_at, slid-there, heir-single}
 use Rattle.mt_unmount.proofs.UnmountTreeLaws.{goes}

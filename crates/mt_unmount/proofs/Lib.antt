@@ -5,7 +5,6 @@ pub mod UnmountLaws
 pub mod SizeLaws
 mod GoneLaws
 mod MayGoLaws
-mod StayingLaws
 mod PlacedLaws
 mod DetachedLaws
 mod UnmountedLaws

@@ -3,14 +3,13 @@
 use Rattle.std.specs.Prelude.{◌≡◌, ℕ, Bool, cond, List, map, length, Option, Some, None, IsTrue}
 use Rattle.std.specs.List.{filter, filter_map}
 use Rattle.std.specs.Option.{option_and_then}
-use Rattle.mt_skel.specs.Keyed.{without, among, rises}
+use Rattle.mt_skel.specs.Keyed.{among, rises}
 use Rattle.mt_skel.specs.Chain.{follow}
-use Rattle.mt_mounts.specs.declared.mount.Mount.{Mount}
 use Rattle.mt_mounts.specs.declared.mount.Place.{Place}
 use Rattle.mt_mounts.specs.Forest.{id_of, mount_at, on, root_place}
 use Rattle.mt_peers.specs.Loss.{left}
 use Rattle.mt_propagate.specs.World.{WorldView}
-use Rattle.mt_propagate.specs.Carried.{placed}
+use Rattle.mt_propagate.specs.Carried.{placed, staying}
 use Rattle.mt_unmount.specs.Unmounting.{place_of, may_go, is_removed}
 
 -- the mounts that go with a mount, by rising ID
@@ -37,10 +36,6 @@ moved_from w goes p = option_and_then (λ m. cond (goes m.id) None (Some (m.id, 
 -- the mount that stays and stands at the root of a mount that goes, with its new place
 abbrev pub relocation_past : WorldView → (ℕ → Bool) → ℕ → Option (ℕ × Place)
 relocation_past w goes i = option_and_then (λ m. moved_from w goes (root_place m)) (mount_at w.forest i)
-
--- the mounts that stay
-abbrev pub staying : List ℕ → List Mount → List Mount
-staying ids ms = without (λ (m : Mount). among ids m.id) ms
 
 -- the world without some mounts, and with others at new places
 abbrev pub detached : List ℕ → List (ℕ × Place) → WorldView → WorldView

@@ -8,14 +8,14 @@ ghost use Rattle.mt_peers.specs.WellFormed.{IsPeering};
 ghost use Rattle.mt_propagate.specs.World.{world_view};
 ghost use Rattle.mt_propagate.specs.WellFormed.{IsWellFormed};
 ghost use Rattle.mt_propagate.specs.Touched.{since_view};
-ghost use Rattle.mt_propagate.specs.Carried.{IsFree};
+ghost use Rattle.mt_propagate.specs.Carried.{IsFree, staying};
 ghost use Rattle.mt_unmount.specs.Unmounting.{place_of, may_go, removed, unmounted};
-ghost use Rattle.mt_unmount.specs.Detaching.{AreRemoved, going_at, slide_past, slid_past, relocation_past, staying, detached};
+ghost use Rattle.mt_unmount.specs.Detaching.{AreRemoved, going_at, slide_past, slid_past, relocation_past, detached};
 
 use crate::gone::Gone;
 use mt_mounts::forest::Forest;
 use mt_mounts::mount::{Mount, MountId, Place, SpaceId};
-use mt_propagate::carry::move_all;
+use mt_propagate::carry::{move_all, remove_all};
 use mt_propagate::named::{is_mount_root, is_root_mount};
 use mt_propagate::receivers::receivers;
 use mt_propagate::world::World;
@@ -174,18 +174,6 @@ fn make_room(world: &mut World, gone: &Gone, relocations: &[(MountId, Place)]) -
 {
     world.forest.reserve(gone.ids().len() + relocations.len())?;
     world.reserve_states()
-}
-
-/// Takes these mounts away, one after the other. There is room for as many changes.
-fn remove_all(forest: &mut Forest, ids: &[MountId])
-    requires room { length ids.now ≤ forest.old.room }
-    ensures mounts { forest.new.mounts ≡ staying ids.now forest.old.mounts }
-    ensures since { forest.new.since ≡ forest.old.since }
-    ensures room { forest.old.room ≤ forest.new.room + length ids.now }
-{
-    for id in ids {
-        forest.remove(*id);
-    }
 }
 
 /// Takes these mounts away, and moves others to the places that get free. [`make_room`] has made room.

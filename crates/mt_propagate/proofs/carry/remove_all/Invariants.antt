@@ -1,6 +1,6 @@
 use Rattle.std.proofs.Common.{◌≡◌, ◌≤◌, ◌+◌, drop}
-use Rattle.mt_unmount.specs.Detaching.{staying}
-use Rattle.mt_unmount.proofs.unmounting.remove_all.Given as goal
+use Rattle.mt_propagate.specs.Carried.{staying}
+use Rattle.mt_propagate.proofs.carry.remove_all.Given as goal
 
 -- what is left to be taken away
 abbrev pub invariant-loop-id : goal.invariant-loop-id

@@ -4,7 +4,7 @@ use Rattle.std.specs.List.{filter}
 use Rattle.mt_mounts.specs.declared.mount.Mount.{Mount}
 use Rattle.mt_mounts.specs.ForestView.{without_id}
 use Rattle.mt_skel.specs.Keyed.{among}
-use Rattle.mt_unmount.specs.Detaching.{staying}
+use Rattle.mt_propagate.specs.Carried.{staying}
 
 filter-all : {X : Type 0} (xs : List X) → filter (λ (x : X). true) xs ≡ xs
 filter-all [] = refl

@@ -1,6 +1,6 @@
 use Rattle.std.proofs.Common.{arith, ◌∙◌}
-use Rattle.mt_unmount.proofs.StayingLaws.{staying-step, staying-end}
-use Rattle.mt_unmount.proofs.unmounting.remove_all.Goals as goal
+use Rattle.mt_propagate.proofs.StayingLaws.{staying-step, staying-end}
+use Rattle.mt_propagate.proofs.carry.remove_all.Goals as goal
 
 pub loop-id-preserved : goal.loop-id-preserved
 loop-id-preserved c = record {
