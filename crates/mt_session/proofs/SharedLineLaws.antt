@@ -7,7 +7,6 @@ use Rattle.std.specs.Option.{ForSome}
 use Rattle.mt_skel.specs.declared.fault.Fault.{Fault}
 use Rattle.mt_skel.specs.declared.fault.Fault.TheVariants.{BadLine, NoWatcher, NoMemory as WantsMemory}
 use Rattle.mt_lines.specs.declared.stream.StreamFault.{StreamFault}
-use Rattle.mt_lines.specs.declared.stream.Cut.{Cut}
 use Rattle.mt_lines.specs.declared.line.ReadFault.{ReadFault}
 use Rattle.mt_lines.specs.declared.line.ReadFault.TheVariants.{Device, Interrupted, Endless as NeverEnds, NoMemory as NoRoom}
 use Rattle.mt_lines.specs.Lines.{Item, Unended, Endless, lines_of}
@@ -20,11 +19,11 @@ use Rattle.mt_session.specs.declared.session.End.{End}
 use Rattle.mt_session.specs.declared.session.End.TheVariants.{Quit, Stop, Input, Read, Cut as CutOff, Memory, Spent}
 use Rattle.mt_floor.specs.declared.watch.Phase.{Phase}
 use Rattle.mt_session.specs.declared.text.PrintedPosts.{PrintedPosts}
-use Rattle.mt_session.specs.declared.shared_answer.Portion.TheVariants.{Posts, Rest, Over as NoMore, Refused}
-use Rattle.mt_session.specs.declared.shared_answer.Round.TheVariants.{Told, Over}
+use Rattle.mt_session.specs.declared.shared_follow.Portion.TheVariants.{Posts, Over as NoMore, Refused}
+use Rattle.mt_session.specs.declared.shared_follow.Round.TheVariants.{Over}
 use Rattle.mt_session.specs.Answers.{refusal, count_text}
 use Rattle.mt_session.specs.Requests.{by_phase}
-use Rattle.mt_session.proofs.SharedTakeLaws.{follows_some, follows_none, follows_more, follows_on, follows_fewer, follows_lost, follows_in_front}
+use Rattle.mt_session.proofs.SharedTakeLaws.{follows_some, follows_none, follows_more, follows_fewer, follows_lost, follows_in_front}
 use Rattle.mt_session.specs.Session.{Asking, Broken, item_of, has_end, request_of_line, ends_by, line_limit, IsReadEnd, IsReadEndRun}
 use Rattle.mt_session.specs.Serving.{IsSent, ends_by_answer}
 use Rattle.mt_session.specs.SharedTurns.{is_under_lock}
@@ -167,15 +166,6 @@ portion_cut w w' most told sent so_far written out text by e front (inr s) f wit
   written_is = behind sent so_far written out (take s.0.sent text) e s.2;
   outcome = subst (λ (r : Option End). IsOutcome r (Some w) (Ok (Follow most)) (out ++ take s.0.sent text) w') (sym s.1)
       (inl record { front = out; piece = text; front_is = front; answer = inr (inr (f.0, f.1, f.2, omega (arith, f.4, within), f.5)); fewer = s.3; out_is = refl });
-}
-
--- the client of a `follow` has gone
-pub follower_gone : (w : WatcherView) (w' : Option WatcherView) (most told : ℕ) (sent written out : List ℕ) (cut : Cut)
-    → written ≡ sent ++ out → Follows (Some w) out told w' → told ≤ most → cut.sent ≡ 0 → ServesAsked (Some w) (Ok (Follow most)) sent written (Some (CutOff cut)) w'
-follower_gone w w' most told sent written out cut e f within none = record {
-  out = out;
-  written_is = e;
-  outcome = inr (none, (f.0, f.1, f.2, omega (arith, f.4, within), f.5));
 }
 
 -- an end that an answer brings is none of the reader
@@ -387,27 +377,6 @@ round_refused w (Some m) w' limit told most fault sent so_far written out result
     let gone : IsLost (Some v.0) (Ok (Follow most)) (out ++ refusal WantsMemory) = follows_lost v.0 m p.2 out told most p.1 from p.3 (omega (arith, within, p.5)) in
     let gone_from : IsLost w (Ok (Follow most)) (out ++ refusal WantsMemory) = subst (λ (x : Option WatcherView). IsLost x (Ok (Follow most)) (out ++ refusal WantsMemory)) (sym v.1) gone in
     follow_over w w' most sent written result (serves_lost w w' (Ok (Follow most)) sent so_far written out (refusal WantsMemory) result e (follows_in_front w (Some m) out told most f (omega (arith, within))) (lost p.0) gone_from)
-
--- none waited, and it goes on
-pub round_rest : (w mid w' : Option WatcherView) (limit told most : ℕ) (sent written out : List ℕ)
-    → IsPortion mid limit Rest w' → Follows w out told mid → written ≡ sent ++ out → FollowsOn w most sent written (Told told) w'
-round_rest w None w' limit told most sent written out p f e = absurd p
-round_rest w (Some m) w' limit told most sent written out p f e = record {
-  out = out;
-  written_is = e;
-  round = subst (λ (x : Option WatcherView). Follows w out told x) (sym p.2) (follows_on w m p.0 out told f p.1);
-}
-
--- none waited, and the client has gone
-pub round_gone : (w mid w' : Option WatcherView) (limit told most : ℕ) (sent written out : List ℕ) (cut : Cut)
-    → IsPortion mid limit Rest w' → Follows w out told mid → told ≤ most → cut.sent ≡ 0 → written ≡ sent ++ out → FollowsOn w most sent written (Over (Some (CutOff cut))) w'
-round_gone w None w' limit told most sent written out cut p f within none e = absurd p
-round_gone w (Some m) w' limit told most sent written out cut p f within none e =
-    let v = follows_some w out told m f in
-    let from : Follows (Some v.0) out told (Some m) = subst (λ (x : Option WatcherView). Follows x out told (Some m)) v.1 f in
-    let gone = follower_gone v.0 (Some m) most told sent written out cut e from within none in
-    let gone_here : ServesAsked (Some v.0) (Ok (Follow most)) sent written (Some (CutOff cut)) w' = record { out = gone.out; written_is = gone.written_is; outcome = gone.outcome } in
-    follow_over w w' most sent written (Some (CutOff cut)) (subst (λ (x : Option WatcherView). ServesAsked x (Ok (Follow most)) sent written (Some (CutOff cut)) w') (sym v.1) gone_here)
 
 -- a line that is refused for itself
 pub refused_served : (w : Option WatcherView) (f : Fault) (sent written : List ℕ) (result : Option End) → IsSent sent written (refusal f) None result → ServesAsked w (Err f) sent written result w

@@ -15,8 +15,8 @@ use Rattle.mt_desk.specs.Desk.{DeskView, IsDesk}
 use Rattle.mt_desk.specs.Calls.{WatcherView, IsMet}
 use Rattle.mt_requests.specs.declared.request.Request.TheVariants.{Take, Follow}
 use Rattle.mt_session.specs.declared.text.PrintedPosts.{PrintedPosts}
-use Rattle.mt_session.specs.declared.shared_answer.Portion.{Portion}
-use Rattle.mt_session.specs.declared.shared_answer.Portion.TheVariants.{Posts, Rest, Over as NoMore}
+use Rattle.mt_session.specs.declared.shared_follow.Portion.{Portion}
+use Rattle.mt_session.specs.declared.shared_follow.Portion.TheVariants.{Posts, Rest, Over as NoMore}
 use Rattle.mt_session.specs.Answers.{refusal, count_text, followed_text, lines_of_posts}
 use Rattle.mt_session.specs.Requests.{by_phase}
 use Rattle.mt_session.specs.SharedTurns.{HasTaken, IsPopped, with_posts}
@@ -159,18 +159,6 @@ follows_more w mid after out text told count posts f h is many = (
   refl,
   length-append f.0 posts ∙ omega (arith, f.4, many),
   ap (λ (x : List ℕ). x ++ text) f.5 ∙ ap (λ (x : List ℕ). flat_map post_text f.0 ++ x) is ∙ sym (flat_map-append post_text f.0 posts),
-)
-
--- it has told none more
-pub follows_on : (w : Option WatcherView) (mid after : WatcherView) (out : List ℕ) (told : ℕ) → Follows w out told (Some mid) → HasTaken mid [] after → Follows w out told (Some after)
-follows_on None mid after out told f h = cc
-follows_on (Some w) mid after out told f h = (
-  f.0,
-  after,
-  subst (λ (posts : List PostView). HasTaken w posts after) (append-nil f.0) (takes_more w mid after f.0 [] (moved_by w mid f.0 (follows_taken w mid out told f)) h),
-  refl,
-  f.4,
-  f.5,
 )
 
 -- it has told all that were asked for

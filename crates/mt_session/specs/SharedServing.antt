@@ -14,10 +14,10 @@ use Rattle.mt_requests.specs.declared.request.Request.{Request}
 use Rattle.mt_requests.specs.declared.request.Request.TheVariants.{Follow}
 use Rattle.mt_session.specs.declared.session.End.{End}
 use Rattle.mt_session.specs.declared.session.End.TheVariants.{Read, Spent}
-use Rattle.mt_session.specs.declared.shared_answer.Portion.{Portion}
-use Rattle.mt_session.specs.declared.shared_answer.Portion.TheVariants.{Posts, Rest, Over as NoMore, Refused}
-use Rattle.mt_session.specs.declared.shared_answer.Round.{Round}
-use Rattle.mt_session.specs.declared.shared_answer.Round.TheVariants.{Told, Over}
+use Rattle.mt_session.specs.declared.shared_follow.Portion.{Portion}
+use Rattle.mt_session.specs.declared.shared_follow.Portion.TheVariants.{Posts, Rest, Over as NoMore, Refused}
+use Rattle.mt_session.specs.declared.shared_follow.Round.{Round}
+use Rattle.mt_session.specs.declared.shared_follow.Round.TheVariants.{Told, Over}
 use Rattle.mt_session.specs.Session.{item_of, ends_by, line_limit}
 use Rattle.mt_session.specs.SharedTurns.{HasTaken, IsUndoneBy}
 use Rattle.mt_session.specs.SharedSession.{SharedTurn, IsTurn, IsSpent, EndsOfAnswer, EndsByNext, AreTurns, TurnsGoOn}

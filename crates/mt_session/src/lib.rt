@@ -10,6 +10,7 @@ pub mod client;
 pub mod gate;
 pub mod session;
 pub mod shared_answer;
+mod shared_follow;
 pub mod shared_session;
 pub mod shared_turn;
 mod shown;

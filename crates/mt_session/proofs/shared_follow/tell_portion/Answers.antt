@@ -3,7 +3,7 @@ use Rattle.mt_requests.specs.declared.request.Request.TheVariants.{Follow}
 use Rattle.mt_session.specs.Answers.{count_text}
 use Rattle.mt_session.proofs.SharedTakeLaws.{follows_all, follows_in_front}
 use Rattle.mt_session.proofs.SharedLineLaws.{behind, sent_whole, serves_answer, follow_over, portion_cut, answer_requested}
-use Rattle.mt_session.proofs.shared_answer.tell_portion.Goals as goal
+use Rattle.mt_session.proofs.shared_follow.tell_portion.Goals as goal
 
 pub returns-in-Some-clause-followed : goal.returns-in-Some-clause-followed
 returns-in-Some-clause-followed g c t w w' sent out e front f =

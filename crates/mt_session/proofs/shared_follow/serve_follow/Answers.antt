@@ -2,7 +2,7 @@ use Rattle.std.proofs.Common.{[], arith, sym}
 use Rattle.std.proofs.lemmas.List.{append-nil}
 use Rattle.mt_session.proofs.SharedTakeLaws.{follows_start}
 use Rattle.mt_session.proofs.SharedLineLaws.{follow_served}
-use Rattle.mt_session.proofs.shared_answer.serve_follow.Goals as goal
+use Rattle.mt_session.proofs.shared_follow.serve_follow.Goals as goal
 
 pub rounds-init : goal.rounds-init
 rounds-init g c = record {

@@ -1,6 +1,6 @@
 use Rattle.std.proofs.Common.{arith}
 use Rattle.mt_session.proofs.SharedTakeLaws.{portion_popped, portion_met, portion_rested, portion_gone}
-use Rattle.mt_session.proofs.shared_answer.next_portion.Goals as goal
+use Rattle.mt_session.proofs.shared_follow.next_portion.Goals as goal
 
 pub returns-then-printed-gt0-clause-portion : goal.returns-then-printed-gt0-clause-portion
 returns-then-printed-gt0-clause-portion g c =

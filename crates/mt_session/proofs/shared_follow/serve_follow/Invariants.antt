@@ -3,7 +3,7 @@ use Rattle.std.specs.Option.{ForSome}
 use Rattle.mt_events.specs.Following.{IsRun}
 use Rattle.mt_desk.specs.Calls.{WatcherView}
 use Rattle.mt_session.specs.SharedServing.{Follows}
-use Rattle.mt_session.proofs.shared_answer.serve_follow.Given as goal
+use Rattle.mt_session.proofs.shared_follow.serve_follow.Given as goal
 
 -- so many posts were told, and no more than were asked for
 abbrev pub invariant-rounds : goal.invariant-rounds

@@ -5,7 +5,7 @@ use Rattle.mt_session.specs.SharedSession.{IsInFront}
 use Rattle.mt_session.specs.SharedServing.{FollowsOn}
 use Rattle.mt_session.proofs.SharedTakeLaws.{follows_in_front}
 use Rattle.mt_session.proofs.SharedLineLaws.{round_posts, round_over, round_refused}
-use Rattle.mt_session.proofs.shared_answer.follow_round.Goals as goal
+use Rattle.mt_session.proofs.shared_follow.follow_round.Goals as goal
 
 pub returns-in-Posts-clause-followed : goal.returns-in-Posts-clause-followed
 returns-in-Posts-clause-followed g c t w sent out e f =
