@@ -6,14 +6,14 @@ use Rattle.std.proofs.lemmas.Slice.Eq.{bytes_eq-Decides}
 use Rattle.mt_words.specs.Words.{words, number_in_text}
 use Rattle.mt_lines.specs.Lines.{Item, Text}
 use Rattle.mt_lines.specs.declared.stream.StreamFault.{StreamFault}
-use Rattle.mt_client.specs.declared.group.Group.TheVariants.{Post}
+use Rattle.mt_client.specs.declared.block.Block.TheVariants.{Post}
 use Rattle.mt_client.specs.declared.answer.Form.{Form}
 use Rattle.mt_client.specs.declared.answer.Form.TheVariants.{Done, Number, Place, Table, Opening, Posts, Followed, Never}
 use Rattle.mt_client.specs.declared.fault.ClientFault.{ClientFault}
 use Rattle.mt_client.specs.Requests.{first_of, verdict}
 use Rattle.mt_client.specs.Reading.{texts, HasRead, HasPassed, HasBroken, IsBroken, NoneFirst, AreSoMany}
 use Rattle.mt_client.specs.Awaited.{event_count}
-use Rattle.mt_client.specs.Replies.{IsPostLines, IsGroupOf, most_posts, IsEnding, IsHeaded, IsFollowed, IsAnswer}
+use Rattle.mt_client.specs.Replies.{IsPostLines, IsBlockOf, most_posts, IsEnding, IsHeaded, IsFollowed, IsAnswer}
 use Rattle.mt_client.proofs.OpeningLaws.{first_taken, texts_split}
 use Rattle.mt_client.proofs.FollowLaws.{lines_alike}
 use Rattle.mt_client.proofs.ReplyLaws.{posts_alike, each_more, flat_more}
@@ -25,7 +25,7 @@ ArePosts taken lines = (posts : List (List (List ℕ))) × (length posts ≡ tak
 pub no_posts : ArePosts 0 []
 no_posts = ([], refl, tt, refl)
 
-pub posts_join : (taken behind : ℕ) (ls ms : List (List ℕ)) → ArePosts taken ls → IsGroupOf Post behind ms → ArePosts (taken + 1) (ls ++ ms)
+pub posts_join : (taken behind : ℕ) (ls ms : List (List ℕ)) → ArePosts taken ls → IsBlockOf Post behind ms → ArePosts (taken + 1) (ls ++ ms)
 posts_join taken behind ls ms a g =
     let l = length-append a.0 (ms ∷ []) in
     let m = a.1 in
@@ -139,7 +139,7 @@ still_post taken seen before middle rest still there tells none lines later f e 
     go last [] each here says = tells_both seen last f.0 (last_seen seen last middle rest later there here) says tells
     go last (g ∷ posts) each here says = none g (texts (flat_map (λ post. post) posts ++ last ∷ []) ++ later) each.0 (sym there ∙ split_post g posts last middle later here)
 
-pub still_on : (taken behind : ℕ) (seen : List ℕ) (before middle rest after : List Item) → Still taken before middle → middle ≡ Text seen ∷ rest → None ≡ verdict seen → HasRead (IsGroupOf Post behind) (Text seen ∷ rest) after → Still (taken + 1) before after
+pub still_on : (taken behind : ℕ) (seen : List ℕ) (before middle rest after : List Item) → Still taken before middle → middle ≡ Text seen ∷ rest → None ≡ verdict seen → HasRead (IsBlockOf Post behind) (Text seen ∷ rest) after → Still (taken + 1) before after
 still_on taken behind seen before middle rest after still there tells h lines later told f e = let s = still lines later told f e in go s.last s.posts s.each s.here s.tells s.ends s.bounded
   where
     go : (last : List ℕ) (posts : List (List (List ℕ))) → AllByRecursion IsPostLines posts → middle ≡ texts (flat_map (λ post. post) posts ++ last ∷ []) ++ later → verdict last ≡ Some told → IsEnding told (taken + length posts) last → taken + length posts < most_posts

@@ -11,14 +11,14 @@ use Rattle.mt_info.specs.RowLine.{line}
 use Rattle.mt_info.specs.declared.row.Row.{Row}
 use Rattle.mt_events.specs.Posts.{PostView, IsPost, post_text, ended}
 use Rattle.mt_client.specs.declared.answer.Form.{Form}
-use Rattle.mt_client.specs.declared.group.Group.{Group}
-use Rattle.mt_client.specs.declared.group.Group.TheVariants.{Namespace, Post}
+use Rattle.mt_client.specs.declared.block.Block.{Block}
+use Rattle.mt_client.specs.declared.block.Block.TheVariants.{Namespace, Post}
 use Rattle.mt_client.specs.declared.opening.Heading.{Heading}
 use Rattle.mt_client.specs.Requests.{verdict, lines_behind}
 use Rattle.mt_client.specs.Reading.{texts, printed, HasRead, HasPassed, NoneFirst, AreSoMany}
 use Rattle.mt_client.specs.Mirroring.{heading_words}
 use Rattle.mt_client.specs.Awaited.{event_count, IsRowLine, AreRowLines}
-use Rattle.mt_client.specs.Replies.{IsPartLines, IsPostLines, IsGroup, IsGroupOf, AreGroups, AreGroupLines, AreBehind, IsHeaded}
+use Rattle.mt_client.specs.Replies.{IsPartLines, IsPostLines, IsBlock, IsBlockOf, AreBlocks, AreBlockLines, AreBehind, IsHeaded}
 use Rattle.mt_client.proofs.RelayLaws.{passed_more}
 use Rattle.mt_client.proofs.MirrorLaws.{runs_read}
 use Rattle.mt_client.proofs.OpeningLaws.{first_taken, texts_split, needs_line, heading_tells, rows_cut}
@@ -71,15 +71,15 @@ pub row_needs_line : (before : List Item) → NoneFirst (AreSoMany 1) before →
 row_needs_line before none = needs_line before (λ lines k. (line k.0, [], k.2)) none
 
 -- namespaces
-pub part_made : (h : Heading) (seen : List ℕ) (rows : List (List ℕ)) → seen ≡ join_with_byte 32 (heading_words h.space h.number h.count) → (h.space < 2 ^ 64) × (h.number < 2 ^ 64) × (h.count < 2 ^ 64) → AreRowLines h.count rows → IsGroupOf Namespace h.count (seen ∷ rows)
+pub part_made : (h : Heading) (seen : List ℕ) (rows : List (List ℕ)) → seen ≡ join_with_byte 32 (heading_words h.space h.number h.count) → (h.space < 2 ^ 64) × (h.number < 2 ^ 64) × (h.count < 2 ^ 64) → AreRowLines h.count rows → IsBlockOf Namespace h.count (seen ∷ rows)
 part_made h seen rows is small valid =
     let m = rows_many h.count rows valid in (
       record { space = h.space; number = h.number; count = h.count; rows = rows; small = small; all = ap (λ l. l ∷ rows) is; valid = valid },
       omega (arith, m),
     )
 
-pub part_joined : (h : Heading) (seen : List ℕ) → seen ≡ join_with_byte 32 (heading_words h.space h.number h.count) → (h.space < 2 ^ 64) × (h.number < 2 ^ 64) × (h.count < 2 ^ 64) → (ls ms : List (List ℕ)) → ls ≡ seen ∷ [] → AreRowLines h.count ms → IsGroupOf Namespace h.count (ls ++ ms)
-part_joined h seen is small ls ms one valid = subst (λ x. IsGroupOf Namespace h.count (x ++ ms)) (sym one) (part_made h seen ms is small valid)
+pub part_joined : (h : Heading) (seen : List ℕ) → seen ≡ join_with_byte 32 (heading_words h.space h.number h.count) → (h.space < 2 ^ 64) × (h.number < 2 ^ 64) × (h.count < 2 ^ 64) → (ls ms : List (List ℕ)) → ls ≡ seen ∷ [] → AreRowLines h.count ms → IsBlockOf Namespace h.count (ls ++ ms)
+part_joined h seen is small ls ms one valid = subst (λ x. IsBlockOf Namespace h.count (x ++ ms)) (sym one) (part_made h seen ms is small valid)
 
 part_first : (seen : List ℕ) (middle later : List Item) (lines : List (List ℕ)) (k : IsPartLines lines) → Text seen ∷ middle ≡ texts lines ++ later → (join_with_byte 32 (heading_words k.space k.number k.count) ≡ seen) × (middle ≡ texts k.rows ++ later)
 part_first seen middle later lines k e = first_taken seen (join_with_byte 32 (heading_words k.space k.number k.count)) lines k.rows (Text seen ∷ middle) middle later refl k.all e
@@ -99,7 +99,7 @@ some_same : (n m : ℕ) → Some n ≡ Some m → n ≡ m
 some_same n m e = cc
 
 post_made : (n : ℕ) (seen : List ℕ) (others : List (List ℕ)) (text begun : List ℕ) → Some n ≡ event_count (words seen) → length others ≡ n → begun ≡ [] ++ ended seen → text ≡ begun ++ printed others → ((post : PostView) × IsPost post × (text ≡ post_text post))
-    → IsGroupOf Post n (seen ∷ others) × (text ≡ printed (seen ∷ others))
+    → IsBlockOf Post n (seen ∷ others) × (text ≡ printed (seen ∷ others))
 post_made n seen others text begun counts many began is post =
     let whole : text ≡ printed (seen ∷ others) = is ∙ ap (λ x. x ++ printed others) began in (
       (record { first = seen; others = others; post = post.0; all = refl; counted = sym counts ∙ ap Some (sym many); valid = post.1; text = sym whole ∙ post.2 }, omega (arith, many)),
@@ -110,11 +110,11 @@ abbrev pub HasAppended : ℕ → List Item → List Item → List ℕ → List �
 HasAppended n middle after begun text = (all : List (List ℕ)) × (length all ≡ n) × (middle ≡ texts all ++ after) × (text ≡ begun ++ printed all)
 
 pub post_came : (n : ℕ) (seen : List ℕ) (middle after : List Item) (text begun : List ℕ) → Some n ≡ event_count (words seen) → begun ≡ [] ++ ended seen → HasAppended n middle after begun text → ((post : PostView) × IsPost post × (text ≡ post_text post))
-    → HasRead (IsGroupOf Post n) (Text seen ∷ middle) after
+    → HasRead (IsBlockOf Post n) (Text seen ∷ middle) after
 post_came n seen middle after text begun counts began read post = (seen ∷ read.0, (post_made n seen read.0 text begun counts read.1 began read.3 post).0, ap (λ x. Text seen ∷ x) read.2)
 
 pub post_passed : (n : ℕ) (seen : List ℕ) (middle after : List Item) (text begun old new : List ℕ) → Some n ≡ event_count (words seen) → begun ≡ [] ++ ended seen → HasAppended n middle after begun text → ((post : PostView) × IsPost post × (text ≡ post_text post)) → new ≡ old ++ text
-    → HasPassed (IsGroupOf Post n) (Text seen ∷ middle) after old new
+    → HasPassed (IsBlockOf Post n) (Text seen ∷ middle) after old new
 post_passed n seen middle after text begun old new counts began read post out =
     let made = post_made n seen read.0 text begun counts read.1 began read.3 post in
     (seen ∷ read.0, made.0, record { read = ap (λ x. Text seen ∷ x) read.2; out = out ∙ ap (λ x. old ++ x) made.1 })
@@ -144,7 +144,7 @@ post_needs_text n seen middle after text begun counts began read none lines late
     let front : begun ++ printed read.0 ≡ printed (k.first ∷ k.others) = (λ i. began i ++ printed (a.0 i)) ∙ ap (λ l. printed (l ∷ k.others)) (sym t.0) in
     none k.post k.valid (read.3 ∙ front ∙ ap printed (sym k.all) ∙ k.text)
 
--- two groups that come first have as many lines
+-- two blocks that come first have as many lines
 abbrev pub Alike : (List (List ℕ) → Type 0) → Type 0
 Alike kind = (g h : List (List ℕ)) (middle later : List Item) → kind g → kind h → texts g ++ middle ≡ texts h ++ later → length g ≡ length h
 
@@ -164,9 +164,9 @@ posts_alike g h middle later p q e =
     let second = ap length q.all in
     omega (arith, first, second, m)
 
-pub groups_alike : (group : Group) → Alike (IsGroup group)
-groups_alike Namespace = parts_alike
-groups_alike Post = posts_alike
+pub blocks_alike : (block : Block) → Alike (IsBlock block)
+blocks_alike Namespace = parts_alike
+blocks_alike Post = posts_alike
 
 part_some : (lines : List (List ℕ)) → IsPartLines lines → (first : List ℕ) × (others : List (List ℕ)) × (lines ≡ first ∷ others)
 part_some lines k = (join_with_byte 32 (heading_words k.space k.number k.count), k.rows, k.all)
@@ -174,33 +174,33 @@ part_some lines k = (join_with_byte 32 (heading_words k.space k.number k.count),
 pub post_some : (lines : List (List ℕ)) → IsPostLines lines → (first : List ℕ) × (others : List (List ℕ)) × (lines ≡ first ∷ others)
 post_some lines k = (k.first, k.others, k.all)
 
-pub group_needs_line : (group : Group) (before : List Item) → NoneFirst (AreSoMany 1) before → NoneFirst (IsGroup group) before
-group_needs_line Namespace before none = needs_line before part_some none
-group_needs_line Post before none = needs_line before post_some none
+pub block_needs_line : (block : Block) (before : List Item) → NoneFirst (AreSoMany 1) before → NoneFirst (IsBlock block) before
+block_needs_line Namespace before none = needs_line before part_some none
+block_needs_line Post before none = needs_line before post_some none
 
--- groups, and one more
-pub each_more : (kind : List (List ℕ) → Type 0) (groups : List (List (List ℕ))) (group : List (List ℕ)) → AllByRecursion kind groups → kind group → AllByRecursion kind (groups ++ group ∷ [])
-each_more kind [] group all valid = (valid, tt)
-each_more kind (g ∷ groups) group all valid = (all.0, each_more kind groups group all.1 valid)
+-- blocks, and one more
+pub each_more : (kind : List (List ℕ) → Type 0) (blocks : List (List (List ℕ))) (block : List (List ℕ)) → AllByRecursion kind blocks → kind block → AllByRecursion kind (blocks ++ block ∷ [])
+each_more kind [] block all valid = (valid, tt)
+each_more kind (g ∷ blocks) block all valid = (all.0, each_more kind blocks block all.1 valid)
 
-pub flat_more : (ls ms : List (List ℕ)) (groups : List (List (List ℕ))) → ls ≡ flat_map (λ group. group) groups → ls ++ ms ≡ flat_map (λ group. group) (groups ++ ms ∷ [])
-flat_more ls ms groups e = ap (λ x. x ++ ms) e ∙ ap (λ x. flat_map (λ group. group) groups ++ x) (sym (append-nil ms)) ∙ sym (flat_map-append (λ group. group) groups (ms ∷ []))
+pub flat_more : (ls ms : List (List ℕ)) (blocks : List (List (List ℕ))) → ls ≡ flat_map (λ block. block) blocks → ls ++ ms ≡ flat_map (λ block. block) (blocks ++ ms ∷ [])
+flat_more ls ms blocks e = ap (λ x. x ++ ms) e ∙ ap (λ x. flat_map (λ block. block) blocks ++ x) (sym (append-nil ms)) ∙ sym (flat_map-append (λ block. block) blocks (ms ∷ []))
 
-abbrev pub AreSoFar : Group → ℕ → ℕ → List (List ℕ) → Type 0
-AreSoFar group count left lines = AreGroups (IsGroup group) lines × (length lines + left ≡ count)
+abbrev pub AreSoFar : Block → ℕ → ℕ → List (List ℕ) → Type 0
+AreSoFar block count left lines = AreBlocks (IsBlock block) lines × (length lines + left ≡ count)
 
-pub none_so_far : (group : Group) (count : ℕ) → AreSoFar group count count []
-none_so_far group count = (record { groups = []; each = tt; all = refl }, omega arith)
+pub none_so_far : (block : Block) (count : ℕ) → AreSoFar block count count []
+none_so_far block count = (record { blocks = []; each = tt; all = refl }, omega arith)
 
-pub all_so_far : (group : Group) (count left : ℕ) (ls ms : List (List ℕ)) → left ≤ 0 → AreSoFar group count left ls → ms ≡ ls → AreGroupLines group count ms
-all_so_far group count left ls ms end a same = subst (AreGroupLines group count) (sym same) (a.0, (let m = a.1 in omega (arith, m, end)))
+pub all_so_far : (block : Block) (count left : ℕ) (ls ms : List (List ℕ)) → left ≤ 0 → AreSoFar block count left ls → ms ≡ ls → AreBlockLines block count ms
+all_so_far block count left ls ms end a same = subst (AreBlockLines block count) (sym same) (a.0, (let m = a.1 in omega (arith, m, end)))
 
-pub groups_join : (group : Group) (count left rest behind : ℕ) → left ≡ 1 + (behind + rest) → (ls ms : List (List ℕ)) → AreSoFar group count left ls → IsGroupOf group behind ms → AreSoFar group count rest (ls ++ ms)
-groups_join group count left rest behind is ls ms a g =
+pub blocks_join : (block : Block) (count left rest behind : ℕ) → left ≡ 1 + (behind + rest) → (ls ms : List (List ℕ)) → AreSoFar block count left ls → IsBlockOf block behind ms → AreSoFar block count rest (ls ++ ms)
+blocks_join block count left rest behind is ls ms a g =
     let l = length-append ls ms in
     let m = g.1 in
     let n = a.1 in (
-      record { groups = a.0.groups ++ ms ∷ []; each = each_more (IsGroup group) a.0.groups ms a.0.each g.0; all = flat_more ls ms a.0.groups a.0.all },
+      record { blocks = a.0.blocks ++ ms ∷ []; each = each_more (IsBlock block) a.0.blocks ms a.0.each g.0; all = flat_more ls ms a.0.blocks a.0.all },
       omega (arith, l, m, n, is),
     )
 
@@ -211,56 +211,56 @@ too_many behind left some over = go (nat_le behind (left - 1)) refl
     go true is = absurd (over (grind (arith, nat_tests)))
     go false is = let more : left - 1 < behind = grind (arith, nat_tests) in omega (arith, more, some)
 
--- what comes first behind some of the groups, where so many lines of groups did at the start
+-- what comes first behind some of the blocks, where so many lines of blocks did at the start
 abbrev pub Left : (List (List ℕ) → Type 0) → ℕ → ℕ → List Item → List Item → Type 0
 Left kind count left before middle =
-    (lines : List (List ℕ)) (later : List Item) → AreGroups kind lines → length lines ≡ count → before ≡ texts lines ++ later → (rest : List (List ℕ)) × AreGroups kind rest × (length rest ≡ left) × (middle ≡ texts rest ++ later)
+    (lines : List (List ℕ)) (later : List Item) → AreBlocks kind lines → length lines ≡ count → before ≡ texts lines ++ later → (rest : List (List ℕ)) × AreBlocks kind rest × (length rest ≡ left) × (middle ≡ texts rest ++ later)
 
 pub left_at_first : {kind : List (List ℕ) → Type 0} (count : ℕ) (before : List Item) → Left kind count count before before
 left_at_first count before lines later a many e = (lines, a, many, e)
 
-pub flat_split : (g : List (List ℕ)) (groups : List (List (List ℕ))) (rest : List (List ℕ)) (middle later : List Item) → rest ≡ flat_map (λ group. group) (g ∷ groups) → middle ≡ texts rest ++ later → middle ≡ texts g ++ (texts (flat_map (λ group. group) groups) ++ later)
-flat_split g groups rest middle later all e = e ∙ ap (λ ls. texts ls ++ later) all ∙ texts_split g (flat_map (λ group. group) groups) later
+pub flat_split : (g : List (List ℕ)) (blocks : List (List (List ℕ))) (rest : List (List ℕ)) (middle later : List Item) → rest ≡ flat_map (λ block. block) (g ∷ blocks) → middle ≡ texts rest ++ later → middle ≡ texts g ++ (texts (flat_map (λ block. block) blocks) ++ later)
+flat_split g blocks rest middle later all e = e ∙ ap (λ ls. texts ls ++ later) all ∙ texts_split g (flat_map (λ block. block) blocks) later
 
--- what is left behind a group that was read: the group is the first of those that came
-left_behind_one : (group : Group) (left behind : ℕ) (middle after later : List Item) (rest : List (List ℕ)) (groups : List (List (List ℕ))) → AllByRecursion (IsGroup group) groups → rest ≡ flat_map (λ group. group) groups → length rest ≡ left → 0 < left → middle ≡ texts rest ++ later
-    → HasRead (IsGroupOf group behind) middle after → (more : List (List ℕ)) × AreGroups (IsGroup group) more × (left ≡ 1 + (behind + length more)) × (after ≡ texts more ++ later)
-left_behind_one group left behind middle after later rest [] each all many some e h = let l = ap length all in absurd (omega (arith, l, many, some))
-left_behind_one group left behind middle after later rest (g ∷ groups) each all many some e h =
-    let s = flat_split g groups rest middle later all e in
-    let n = groups_alike group h.0 g after (texts (flat_map (λ group. group) groups) ++ later) h.1.0 each.0 (sym h.2 ∙ s) in
-    let a = lines_alike h.0 g after (texts (flat_map (λ group. group) groups) ++ later) n (sym h.2 ∙ s) in
-    let l = ap length all ∙ length-append g (flat_map (λ group. group) groups) in
+-- what is left behind a block that was read: the block is the first of those that came
+left_behind_one : (block : Block) (left behind : ℕ) (middle after later : List Item) (rest : List (List ℕ)) (blocks : List (List (List ℕ))) → AllByRecursion (IsBlock block) blocks → rest ≡ flat_map (λ block. block) blocks → length rest ≡ left → 0 < left → middle ≡ texts rest ++ later
+    → HasRead (IsBlockOf block behind) middle after → (more : List (List ℕ)) × AreBlocks (IsBlock block) more × (left ≡ 1 + (behind + length more)) × (after ≡ texts more ++ later)
+left_behind_one block left behind middle after later rest [] each all many some e h = let l = ap length all in absurd (omega (arith, l, many, some))
+left_behind_one block left behind middle after later rest (g ∷ blocks) each all many some e h =
+    let s = flat_split g blocks rest middle later all e in
+    let n = blocks_alike block h.0 g after (texts (flat_map (λ block. block) blocks) ++ later) h.1.0 each.0 (sym h.2 ∙ s) in
+    let a = lines_alike h.0 g after (texts (flat_map (λ block. block) blocks) ++ later) n (sym h.2 ∙ s) in
+    let l = ap length all ∙ length-append g (flat_map (λ block. block) blocks) in
     let m = h.1.1 in (
-      flat_map (λ group. group) groups,
-      record { groups = groups; each = each.1; all = refl },
+      flat_map (λ block. block) blocks,
+      record { blocks = blocks; each = each.1; all = refl },
       omega (arith, l, m, n, many),
       a.1,
     )
 
-pub left_on : (group : Group) (count left rest behind : ℕ) (before middle after : List Item) → left ≡ 1 + (behind + rest) → Left (IsGroup group) count left before middle → HasRead (IsGroupOf group behind) middle after → Left (IsGroup group) count rest before after
-left_on group count left rest behind before middle after is goes h lines later a many e =
+pub left_on : (block : Block) (count left rest behind : ℕ) (before middle after : List Item) → left ≡ 1 + (behind + rest) → Left (IsBlock block) count left before middle → HasRead (IsBlockOf block behind) middle after → Left (IsBlock block) count rest before after
+left_on block count left rest behind before middle after is goes h lines later a many e =
     let g = goes lines later a many e in
-    let o = left_behind_one group left behind middle after later g.0 g.1.groups g.1.each g.1.all g.2 (omega (arith, is)) g.3 h in
+    let o = left_behind_one block left behind middle after later g.0 g.1.blocks g.1.each g.1.all g.2 (omega (arith, is)) g.3 h in
     let sum = o.2 in
     (o.0, o.1, omega (arith, sum, is), o.3)
 
-pub left_over : (group : Group) (count left behind : ℕ) (before middle after : List Item) → 0 < left → left < 1 + behind → Left (IsGroup group) count left before middle → HasRead (IsGroupOf group behind) middle after → NoneFirst (AreGroupLines group count) before
-left_over group count left behind before middle after some over goes h lines later a e =
+pub left_over : (block : Block) (count left behind : ℕ) (before middle after : List Item) → 0 < left → left < 1 + behind → Left (IsBlock block) count left before middle → HasRead (IsBlockOf block behind) middle after → NoneFirst (AreBlockLines block count) before
+left_over block count left behind before middle after some over goes h lines later a e =
     let g = goes lines later a.0 a.1 e in
-    let o = left_behind_one group left behind middle after later g.0 g.1.groups g.1.each g.1.all g.2 some g.3 h in
+    let o = left_behind_one block left behind middle after later g.0 g.1.blocks g.1.each g.1.all g.2 some g.3 h in
     let sum = o.2 in
     omega (arith, sum, over)
 
-one_left : (group : Group) (left : ℕ) (middle later : List Item) (rest : List (List ℕ)) (groups : List (List (List ℕ))) → AllByRecursion (IsGroup group) groups → rest ≡ flat_map (λ group. group) groups → length rest ≡ left → 0 < left → middle ≡ texts rest ++ later
-    → NoneFirst (IsGroup group) middle → ⊥
-one_left group left middle later rest [] each all many some e none = let l = ap length all in omega (arith, l, many, some)
-one_left group left middle later rest (g ∷ groups) each all many some e none = none g (texts (flat_map (λ group. group) groups) ++ later) each.0 (flat_split g groups rest middle later all e)
+one_left : (block : Block) (left : ℕ) (middle later : List Item) (rest : List (List ℕ)) (blocks : List (List (List ℕ))) → AllByRecursion (IsBlock block) blocks → rest ≡ flat_map (λ block. block) blocks → length rest ≡ left → 0 < left → middle ≡ texts rest ++ later
+    → NoneFirst (IsBlock block) middle → ⊥
+one_left block left middle later rest [] each all many some e none = let l = ap length all in omega (arith, l, many, some)
+one_left block left middle later rest (g ∷ blocks) each all many some e none = none g (texts (flat_map (λ block. block) blocks) ++ later) each.0 (flat_split g blocks rest middle later all e)
 
-pub left_cut : (group : Group) (count left : ℕ) (before middle : List Item) → 0 < left → Left (IsGroup group) count left before middle → NoneFirst (IsGroup group) middle → NoneFirst (AreGroupLines group count) before
-left_cut group count left before middle some goes none lines later a e =
+pub left_cut : (block : Block) (count left : ℕ) (before middle : List Item) → 0 < left → Left (IsBlock block) count left before middle → NoneFirst (IsBlock block) middle → NoneFirst (AreBlockLines block count) before
+left_cut block count left before middle some goes none lines later a e =
     let g = goes lines later a.0 a.1 e in
-    one_left group left middle later g.0 g.1.groups g.1.each g.1.all g.2 some g.3 none
+    one_left block left middle later g.0 g.1.blocks g.1.each g.1.all g.2 some g.3 none
 
 -- the lines of an answer that is known by its first line
 pub headed_whole : (form : Form) (told : Bool) (count : ℕ) (seen : List ℕ) → Some told ≡ verdict seen → Some count ≡ lines_behind form told seen → (ls ms : List (List ℕ)) → ls ≡ seen ∷ [] → AreBehind form count ms → IsHeaded form (ls ++ ms) told

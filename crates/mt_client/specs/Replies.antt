@@ -6,8 +6,8 @@ use Rattle.mt_words.specs.Words.{words}
 use Rattle.mt_events.specs.Posts.{PostView, IsPost, post_text}
 use Rattle.mt_client.specs.declared.answer.Form.{Form}
 use Rattle.mt_client.specs.declared.answer.Form.TheVariants.{Table, Opening, Posts, Followed}
-use Rattle.mt_client.specs.declared.group.Group.{Group}
-use Rattle.mt_client.specs.declared.group.Group.TheVariants.{Namespace, Post}
+use Rattle.mt_client.specs.declared.block.Block.{Block}
+use Rattle.mt_client.specs.declared.block.Block.TheVariants.{Namespace, Post}
 use Rattle.mt_client.specs.Requests.{verdict, is_refusal, lines_behind}
 use Rattle.mt_client.specs.Reading.{printed}
 use Rattle.mt_client.specs.Mirroring.{counted_line, heading_words}
@@ -33,29 +33,29 @@ pub record IsPostLines (lines : List (List ℕ)) : Type 0 where
   pub valid : IsPost post
   pub text : printed lines ≡ post_text post
 
-abbrev pub IsGroup : Group → List (List ℕ) → Type 0
-IsGroup Namespace lines = IsPartLines lines
-IsGroup Post lines = IsPostLines lines
+abbrev pub IsBlock : Block → List (List ℕ) → Type 0
+IsBlock Namespace lines = IsPartLines lines
+IsBlock Post lines = IsPostLines lines
 
 -- such lines, and how many stand behind the first
-abbrev pub IsGroupOf : Group → ℕ → List (List ℕ) → Type 0
-IsGroupOf group behind lines = IsGroup group lines × (length lines ≡ 1 + behind)
+abbrev pub IsBlockOf : Block → ℕ → List (List ℕ) → Type 0
+IsBlockOf block behind lines = IsBlock block lines × (length lines ≡ 1 + behind)
 
 -- lines of this kind, one after another
-pub record AreGroups (kind : List (List ℕ) → Type 0) (lines : List (List ℕ)) : Type 0 where
-  pub groups : List (List (List ℕ))
-  pub each : AllByRecursion kind groups
-  pub all : lines ≡ flat_map (λ group. group) groups
+pub record AreBlocks (kind : List (List ℕ) → Type 0) (lines : List (List ℕ)) : Type 0 where
+  pub blocks : List (List (List ℕ))
+  pub each : AllByRecursion kind blocks
+  pub all : lines ≡ flat_map (λ block. block) blocks
 
 -- so many lines of namespaces, or of posts
-abbrev pub AreGroupLines : Group → ℕ → List (List ℕ) → Type 0
-AreGroupLines group count lines = AreGroups (IsGroup group) lines × (length lines ≡ count)
+abbrev pub AreBlockLines : Block → ℕ → List (List ℕ) → Type 0
+AreBlockLines block count lines = AreBlocks (IsBlock block) lines × (length lines ≡ count)
 
 -- so many lines behind the first line of an answer
 abbrev pub AreBehind : Form → ℕ → List (List ℕ) → Type 0
 AreBehind Table count lines = AreRowLines count lines
-AreBehind Opening count lines = AreGroupLines Namespace count lines
-AreBehind Posts count lines = AreGroupLines Post count lines
+AreBehind Opening count lines = AreBlockLines Namespace count lines
+AreBehind Posts count lines = AreBlockLines Post count lines
 AreBehind form count lines = (lines ≡ []) × (count ≡ 0)
 
 -- a first line of this form, or a refusal, and the lines that come behind it

@@ -9,7 +9,7 @@
 pub mod answer;
 pub mod ask;
 pub mod fault;
-mod group;
+mod block;
 pub mod mirror;
 mod opening;
 mod posts;

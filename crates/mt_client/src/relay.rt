@@ -8,7 +8,7 @@ ghost use Rattle.mt_client.specs.Reading.{lines_left, IsCutOff, HasBroken, IsBro
 
 use crate::answer::{Form, is_refusal, lines_behind, verdict};
 use crate::fault::ClientFault;
-use crate::group::{pass_behind, pass_post};
+use crate::block::{pass_behind, pass_post};
 use crate::mirror::is_end;
 use crate::request::send_line;
 use mt_lines::line::{Line, LineReader, ReadFault};

@@ -2,7 +2,7 @@ use Rattle.std.proofs.Common.{Err, [], arith, ap, refl, ◌∙◌, sym, append-n
 use Rattle.std.proofs.lemmas.Result.{err_from_is_err_and}
 use Rattle.mt_client.proofs.RelayLaws.{broken_more, broken_later, cut_within, same_fault}
 use Rattle.mt_client.proofs.ReplyLaws.{read_join, passed_join, no_rows, rows_join, rows_ended}
-use Rattle.mt_client.proofs.group.pass_rows.Goals as goal
+use Rattle.mt_client.proofs.block.pass_rows.Goals as goal
 
 pub rows-init : goal.rows-init
 rows-init g c = record {

@@ -2,7 +2,7 @@ use Rattle.std.proofs.Common.{◌≡◌, ◌≤◌, [], IsTrue, None}
 use Rattle.mt_lines.specs.Reading.{failed_calls, last_faults, fault_of, limit_of}
 use Rattle.mt_client.specs.Reading.{lines_left, HasRead, HasPassed}
 use Rattle.mt_client.specs.Awaited.{AreRowLines}
-use Rattle.mt_client.proofs.group.pass_rows.Given as goal
+use Rattle.mt_client.proofs.block.pass_rows.Given as goal
 
 -- so many rows were passed on
 abbrev pub invariant-rows : goal.invariant-rows

@@ -2,7 +2,7 @@ use Rattle.std.proofs.Common.{Err, ap}
 use Rattle.std.proofs.lemmas.Result.{err_from_is_err_and, on_ok_weaker, on_err_weaker}
 use Rattle.mt_client.proofs.RelayLaws.{unprinted, broken_printing, one_passed}
 use Rattle.mt_client.proofs.FollowLaws.{on_ok}
-use Rattle.mt_client.proofs.group.pass_row.Goals as goal
+use Rattle.mt_client.proofs.block.pass_row.Goals as goal
 
 pub returns-in_err-check_row-clause-broken : goal.returns-in_err-check_row-clause-broken
 returns-in_err-check_row-clause-broken g c t u =

@@ -5,7 +5,7 @@ ghost use Rattle.mt_lines.specs.Reading.{failed_calls, last_faults, fault_of, la
 ghost use Rattle.mt_events.specs.Posts.{PostView, IsPost, post_text};
 ghost use Rattle.mt_client.specs.Reading.{lines_left, HasBroken, IsBroken, NoneFirst, HasRead, HasPassed, IsCut};
 ghost use Rattle.mt_client.specs.Awaited.{IsRowLine, AreRowLines};
-ghost use Rattle.mt_client.specs.Replies.{IsPartLines, IsPostLines, IsGroup, IsGroupOf, AreGroupLines, AreBehind};
+ghost use Rattle.mt_client.specs.Replies.{IsPartLines, IsPostLines, IsBlock, IsBlockOf, AreBlockLines, AreBehind};
 
 use crate::answer::Form;
 use crate::fault::ClientFault;
@@ -21,7 +21,7 @@ use std::alloc::Global;
 
 /// What the lines behind the first line of an answer are.
 #[derive(Clone, Copy, Debug, PartialEq, Eq)]
-pub enum Group {
+pub enum Block {
     /// A line that tells a namespace, and its rows.
     Namespace,
     /// A line that begins a post, and the lines of the post.
@@ -109,9 +109,9 @@ fn pass_part<R: Input + Drop, O: Output>(
 ) -> Result<u64, ClientFault>
     requires fresh { fault_of lines.old ≡ None }
     ensures passed { IfOk result (λ behind. IsTrue R.tells → IsTrue O.tells
-        → HasPassed (IsGroupOf Group.Namespace behind) (Text (last_line lines.old) ∷ lines_left lines.old) (lines_left lines.new) (O.written out.old) (O.written out.new)) }
+        → HasPassed (IsBlockOf Block.Namespace behind) (Text (last_line lines.old) ∷ lines_left lines.old) (lines_left lines.new) (O.written out.old) (O.written out.new)) }
     ensures came { IfOk result (λ behind. IsTrue R.tells
-        → HasRead (IsGroupOf Group.Namespace behind) (Text (last_line lines.old) ∷ lines_left lines.old) (lines_left lines.new)) }
+        → HasRead (IsBlockOf Block.Namespace behind) (Text (last_line lines.old) ∷ lines_left lines.old) (lines_left lines.new)) }
     ensures fresh { OnOk result (fault_of lines.new ≡ None) }
     ensures broken { IsTrue R.tells → IsTrue O.tells → IfErr result
         (λ fault. IsBroken fault (Text (last_line lines.old) ∷ lines_left lines.old) (O.written out.old) (O.written out.new)) }
@@ -155,9 +155,9 @@ pub(crate) fn pass_post<R: Input + Drop, O: Output>(
 ) -> Result<u64, ClientFault>
     requires fresh { fault_of lines.old ≡ None }
     ensures passed { IfOk result (λ behind. IsTrue R.tells → IsTrue O.tells
-        → HasPassed (IsGroupOf Group.Post behind) (Text (last_line lines.old) ∷ lines_left lines.old) (lines_left lines.new) (O.written out.old) (O.written out.new)) }
+        → HasPassed (IsBlockOf Block.Post behind) (Text (last_line lines.old) ∷ lines_left lines.old) (lines_left lines.new) (O.written out.old) (O.written out.new)) }
     ensures came { IfOk result (λ behind. IsTrue R.tells
-        → HasRead (IsGroupOf Group.Post behind) (Text (last_line lines.old) ∷ lines_left lines.old) (lines_left lines.new)) }
+        → HasRead (IsBlockOf Block.Post behind) (Text (last_line lines.old) ∷ lines_left lines.old) (lines_left lines.new)) }
     ensures fresh { OnOk result (fault_of lines.new ≡ None) }
     ensures broken { IsTrue R.tells → IsTrue O.tells → IfErr result
         (λ fault. IsBroken fault (Text (last_line lines.old) ∷ lines_left lines.old) (O.written out.old) (O.written out.new)) }
@@ -183,22 +183,22 @@ pub(crate) fn pass_post<R: Input + Drop, O: Output>(
 }
 
 /// Reads a namespace or a post and prints its lines: how many stand behind its first one.
-fn pass_group<R: Input + Drop, O: Output>(
+fn pass_block<R: Input + Drop, O: Output>(
     alloc: Global,
     lines: &mut LineReader<R>,
-    group: Group,
+    block: Block,
     out: &mut O,
 ) -> Result<u64, ClientFault>
     requires fresh { fault_of lines.old ≡ None }
     ensures passed { IfOk result (λ behind. IsTrue R.tells → IsTrue O.tells
-        → HasPassed (IsGroupOf group behind) (lines_left lines.old) (lines_left lines.new) (O.written out.old) (O.written out.new)) }
+        → HasPassed (IsBlockOf block behind) (lines_left lines.old) (lines_left lines.new) (O.written out.old) (O.written out.new)) }
     ensures came { IfOk result (λ behind. IsTrue R.tells
-        → HasRead (IsGroupOf group behind) (lines_left lines.old) (lines_left lines.new)) }
+        → HasRead (IsBlockOf block behind) (lines_left lines.old) (lines_left lines.new)) }
     ensures fresh { OnOk result (fault_of lines.new ≡ None) }
     ensures broken { IsTrue R.tells → IsTrue O.tells → IfErr result
         (λ fault. IsBroken fault (lines_left lines.old) (O.written out.old) (O.written out.new)) }
     ensures cut { result ≡ Err ClientFault.Connection → IsTrue R.tells → IsTrue R.counts
-        → IsCut (IsGroup group) lines.old lines.new }
+        → IsCut (IsBlock block) lines.old lines.new }
     ensures cause { result ≡ Err ClientFault.Output → IsTrue O.counts
         → HasBroken (O.failed out.old) (O.failed out.new) (O.faults out.old) (O.faults out.new) }
     ensures read { IsTrue R.counts → failed_calls lines.old ≤ failed_calls lines.new }
@@ -208,30 +208,30 @@ fn pass_group<R: Input + Drop, O: Output>(
     ensures limit { limit_of lines.new ≡ limit_of lines.old }
 {
     next_text(lines)?;
-    match group {
-        Group::Namespace => pass_part(alloc, lines, out),
-        Group::Post => pass_post(alloc, lines, out),
+    match block {
+        Block::Namespace => pass_part(alloc, lines, out),
+        Block::Post => pass_post(alloc, lines, out),
     }
 }
 
 /// Reads so many lines of namespaces or of posts, and prints them.
-fn pass_groups<R: Input + Drop, O: Output>(
+fn pass_blocks<R: Input + Drop, O: Output>(
     alloc: Global,
     lines: &mut LineReader<R>,
-    group: Group,
+    block: Block,
     count: u64,
     out: &mut O,
 ) -> Result<(), ClientFault>
     requires fresh { fault_of lines.old ≡ None }
     ensures passed { OnOk result (IsTrue R.tells → IsTrue O.tells
-        → HasPassed (AreGroupLines group count) (lines_left lines.old) (lines_left lines.new) (O.written out.old) (O.written out.new)) }
+        → HasPassed (AreBlockLines block count) (lines_left lines.old) (lines_left lines.new) (O.written out.old) (O.written out.new)) }
     ensures came { OnOk result (IsTrue R.tells
-        → HasRead (AreGroupLines group count) (lines_left lines.old) (lines_left lines.new)) }
+        → HasRead (AreBlockLines block count) (lines_left lines.old) (lines_left lines.new)) }
     ensures fresh { OnOk result (fault_of lines.new ≡ None) }
     ensures broken { IsTrue R.tells → IsTrue O.tells → IfErr result
         (λ fault. IsBroken fault (lines_left lines.old) (O.written out.old) (O.written out.new)) }
     ensures cut { result ≡ Err ClientFault.Connection → IsTrue R.tells → IsTrue R.counts
-        → IsCut (AreGroupLines group count) lines.old lines.new }
+        → IsCut (AreBlockLines block count) lines.old lines.new }
     ensures cause { result ≡ Err ClientFault.Output → IsTrue O.counts
         → HasBroken (O.failed out.old) (O.failed out.new) (O.faults out.old) (O.faults out.new) }
     ensures read { IsTrue R.counts → failed_calls lines.old ≤ failed_calls lines.new }
@@ -241,8 +241,8 @@ fn pass_groups<R: Input + Drop, O: Output>(
     ensures limit { limit_of lines.new ≡ limit_of lines.old }
 {
     let mut left = count;
-    'groups: while left > 0 {
-        let behind = pass_group(alloc, lines, group, out)?;
+    'passing: while left > 0 {
+        let behind = pass_block(alloc, lines, block, out)?;
         let Some(rest) = (left - 1).checked_sub(behind) else {
             return Err(ClientFault::Connection);
         };
@@ -279,8 +279,8 @@ pub(crate) fn pass_behind<R: Input + Drop, O: Output>(
 {
     match form {
         Form::Table => pass_rows(alloc, lines, count, out),
-        Form::Opening => pass_groups(alloc, lines, Group::Namespace, count, out),
-        Form::Posts => pass_groups(alloc, lines, Group::Post, count, out),
+        Form::Opening => pass_blocks(alloc, lines, Block::Namespace, count, out),
+        Form::Posts => pass_blocks(alloc, lines, Block::Post, count, out),
         Form::Done | Form::Number | Form::Place | Form::Followed | Form::Never => {
             if count == 0 {
                 Ok(())

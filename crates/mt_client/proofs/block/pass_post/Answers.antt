@@ -4,7 +4,7 @@ use Rattle.mt_events.specs.Posts.{ended}
 use Rattle.mt_lines.specs.Reading.{last_line}
 use Rattle.mt_client.proofs.RelayLaws.{broken_text, cut_within, same_fault}
 use Rattle.mt_client.proofs.ReplyLaws.{post_passed, post_came, post_needs_count, post_needs_lines, post_needs_text}
-use Rattle.mt_client.proofs.group.pass_post.Goals as goal
+use Rattle.mt_client.proofs.block.pass_post.Goals as goal
 
 pub returns-in_default-clause-cut : goal.returns-in_default-clause-cut
 returns-in_default-clause-cut g c is t u = inr (post_needs_count _ _ (rw c.line.ensures at c.in_default.ensures))

@@ -2,7 +2,7 @@ use Rattle.std.proofs.Common.{Err, arith, ap, refl, inr}
 use Rattle.std.proofs.lemmas.Result.{err_from_is_err_and}
 use Rattle.mt_client.proofs.RelayLaws.{broken_more, broken_later, broken_cut, one_passed, cut_within, same_fault}
 use Rattle.mt_client.proofs.ReplyLaws.{read_join, passed_join, part_joined, part_needs_heading, part_needs_rows}
-use Rattle.mt_client.proofs.group.pass_part.Goals as goal
+use Rattle.mt_client.proofs.block.pass_part.Goals as goal
 
 pub returns-in_default-clause-cut : goal.returns-in_default-clause-cut
 returns-in_default-clause-cut g c is t u = inr (part_needs_heading _ _ (rw c.line.ensures at c.in_default.ensures.heading))
