@@ -136,11 +136,12 @@ impl Book {
             Tried::Changed(world, reply) => {
                 let copy = command.copy()?;
                 command.read_texts();
+                let shown: &World = self.shown.world();
                 let changed: &World = &world;
-                let ids = touched(changed)?;
+                let ids = touched(shown, changed)?;
                 let changes = changes_after(
                     self.alloc,
-                    self.shown.world(),
+                    shown,
                     changed,
                     &ids,
                     &self.numbers,

@@ -1,6 +1,8 @@
 //! Receivers as a scan of all mounts finds them, which is slow and easy to believe, beside those that the engine
 //! finds.
+ghost use Rattle.std.specs.Prelude.{◌≡◌};
 ghost use Rattle.mt_propagate.specs.World.{world_view};
+ghost use Rattle.mt_propagate.specs.Touched.{since_view};
 ghost use Rattle.mt_propagate.specs.WellFormed.{IsWellFormed};
 
 use crate::fixture::commands_of;
@@ -172,6 +174,7 @@ fn is_agreed_everywhere(world: &World) -> Result<bool, Fault> {
 pub(crate) fn do_one(world: &mut World, command: &Command) -> Result<(), Fault>
     requires well_formed { IsWellFormed (world_view world.old) }
     ensures kept { IsWellFormed (world_view world.new) }
+    ensures since { since_view world.new ≡ since_view world.old }
 {
     let most = 1u64 << 62;
     if world.next_mount > most || world.next_space > most || world.peers.next_group() > most {
@@ -184,7 +187,7 @@ pub(crate) fn do_one(world: &mut World, command: &Command) -> Result<(), Fault>
 }
 
 /// Does commands one after another.
-fn do_all(world: &mut World, commands: &[Command]) -> Result<(), Fault>
+pub(crate) fn do_all(world: &mut World, commands: &[Command]) -> Result<(), Fault>
     requires well_formed { IsWellFormed (world_view world.old) }
     ensures kept { IsWellFormed (world_view world.new) }
 {

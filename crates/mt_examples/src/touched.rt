@@ -1,10 +1,7 @@
 //! The mounts that a command touched.
-ghost use Rattle.mt_propagate.specs.World.{world_view};
-ghost use Rattle.mt_propagate.specs.WellFormed.{IsWellFormed};
 
 use crate::fixture::commands_of;
-use crate::receivers::do_one;
-use mt_book::command::Command;
+use crate::receivers::{do_all, do_one};
 use mt_mounts::mount::MountId;
 use mt_propagate::touched::touched;
 use mt_propagate::world::World;
@@ -12,23 +9,19 @@ use mt_skel::fault::Fault;
 use std::alloc::Global;
 use std::test::Fail;
 
-/// Does these commands, and begins anew before each.
-fn do_each(world: &mut World, commands: &[Command]) -> Result<(), Fault>
-    requires well_formed { IsWellFormed (world_view world.old) }
-{
-    'commands: for command in commands {
-        world.begin();
-        do_one(world, command)?;
-    }
-    Ok(())
-}
-
-/// The mounts that the last of these commands touched.
+/// Does these commands, and answers the mounts that the last of them touched.
 fn touched_last(alloc: Global, lines: &[u8]) -> Result<Vec<MountId>, Fault> {
     let commands = commands_of(alloc, lines)?;
     let mut world = World::new(alloc);
-    do_each(&mut world, &commands)?;
-    touched(&world)
+    if commands.is_empty() {
+        return Ok(Vec::new(alloc));
+    }
+    let last = commands.len() - 1;
+    do_all(&mut world, &commands[..last])?;
+    let before = world.copy()?;
+    world.begin();
+    do_one(&mut world, &commands[last])?;
+    touched(&before, &world)
 }
 
 /// Whether the last of these commands touched these mounts. A mount that moves has its state given again, and so
@@ -40,7 +33,7 @@ fn touches(alloc: Global, lines: &[u8], expected: &[MountId]) -> Result<bool, Fa
 
 #[test]
 fn a_command_touches_what_it_changes(rt: HostRuntime) -> Result<(), Fail> {
-    let cases: [(&[u8], &[MountId]); 8] = [
+    let cases: [(&[u8], &[MountId]); 10] = [
         (b"mkfs a tmpfs none\nnewns a", &[1]),
         (
             b"mkfs a tmpfs none\nnewns a\nmkdir a /m\nmount 1 a /m\nmount 1 a /m",
@@ -67,6 +60,16 @@ fn a_command_touches_what_it_changes(rt: HostRuntime) -> Result<(), Fail> {
             &[1, 2],
         ),
         (b"mkfs a tmpfs none\nnewns a\nmkdir a /m\nmount 1 a /n", &[]),
+        // A group goes out of sight of namespace 1, where a mount below it stays.
+        (
+            b"mkfs h tmpfs none\nmkfs a ext4 /dev/x\nmkdir h /w\nmkdir h /v\nmkdir h /f\nnewns h\nmount 1 a /w\nsetattr 1 /w prop=shared\nbind 1 /w /v\nsetattr 1 /v prop=slave\nsetattr 1 /v prop=shared\nbind 1 /v /f\nsetattr 1 /f prop=slave\ncopyns 1\numount 1 /v",
+            &[3, 4, 8],
+        ),
+        // A group that has a mount in namespace 1 gets another one there: those below it stay as they are.
+        (
+            b"mkfs h tmpfs none\nmkfs a ext4 /dev/x\nmkdir h /w\nmkdir h /v\nmkdir h /x\nnewns h\nmount 1 a /w\nsetattr 1 /w prop=shared\nbind 1 /w /v\nsetattr 1 /v prop=slave\nbind 1 /w /x",
+            &[4],
+        ),
     ];
     for (lines, expected) in cases {
         let touched = touches(rt.alloc(), lines, expected)?;

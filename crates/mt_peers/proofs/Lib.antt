@@ -19,6 +19,7 @@ pub mod WorklistLaws
 pub mod ReceivedLaws
 pub mod SortedLaws
 pub mod ListLaws
+pub mod ComingLaws
 pub mod VisitLaws
 pub mod FreeLaws
 pub mod ListedLaws

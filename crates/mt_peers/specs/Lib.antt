@@ -7,6 +7,7 @@ pub mod Entries
 pub mod Listed
 pub mod Going
 pub mod Above
+pub mod Coming
 pub mod Laws
 pub mod Members
 pub mod Entered

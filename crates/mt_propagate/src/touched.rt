@@ -1,33 +1,43 @@
 //! The mounts that changed since changes began to be noted.
 ghost use Rattle.std.specs.Prelude.{◌≡◌, IsTrue, IfOk, IsOkUnless};
 ghost use Rattle.mt_skel.specs.Keyed.{rises};
-ghost use Rattle.mt_propagate.specs.Touched.{HoldsTouched};
+ghost use Rattle.mt_propagate.specs.World.{world_view};
+ghost use Rattle.mt_propagate.specs.WellFormed.{IsWellFormed};
+ghost use Rattle.mt_propagate.specs.Touched.{AreNoted, IsTouched, since_of, since_view};
 
+use crate::sorted::in_order;
+use crate::turned::push_turned_below;
 use crate::world::World;
 use mt_mounts::mount::MountId;
 use mt_skel::fault::Fault;
 
 /// The IDs that the forest noted, and then those that the peers did. Refused as `NoMemory` alone.
-fn noted(world: &World) -> Result<Vec<MountId>, Fault>
-    ensures noted { IfOk result (λ ids. HoldsTouched world.now ids.items) }
+fn noted(before: &World, after: &World) -> Result<Vec<MountId>, Fault>
+    requires since { since_view after.now ≡ since_of (world_view before.now) }
+    ensures noted { IfOk result (λ ids. AreNoted (world_view before.now) (world_view after.now) ids.items) }
     ensures memory { IsOkUnless result Fault.NoMemory }
 {
-    let mut ids = Vec::new(world.forest.allocator());
-    ids.extend_from_slice(world.forest.touched())?;
-    ids.extend_from_slice(world.peers.touched())?;
+    let mut ids = Vec::new(after.forest.allocator());
+    ids.extend_from_slice(after.forest.touched())?;
+    ids.extend_from_slice(after.peers.touched())?;
     Ok(ids)
 }
 
-/// The mounts that are not as they were at the last [`begin`](World::begin), or when the world was made: those that
-/// came, went or were changed, and those whose state is another. They are listed by rising ID, each once. A mount
-/// that was changed back may be there too. Refused as `NoMemory` alone.
-pub fn touched(world: &World) -> Result<Vec<MountId>, Fault>
-    ensures touched { IfOk result (λ ids. HoldsTouched world.now ids.items) }
+/// The mounts that are not in `after` as they are in `before`, with which `after` was equal at its last
+/// [`begin`](World::begin), or when it was made: those that came, went or were changed, those whose state is another,
+/// and those that may tell another group above their master. They are listed by rising ID, each once. A mount that was
+/// changed back may be there too. No other mount is looked at, but for those of groups that have slaves and of which a
+/// mount came, went or got another master. Refused as `NoMemory` alone.
+pub fn touched(before: &World, after: &World) -> Result<Vec<MountId>, Fault>
+    requires since { since_view after.now ≡ since_of (world_view before.now) }
+    requires before { IsWellFormed (world_view before.now) }
+    requires after { IsWellFormed (world_view after.now) }
+    ensures touched { IfOk result (λ ids. IsTouched (world_view before.now) (world_view after.now) ids.items) }
     ensures rising { IfOk result (λ ids. IsTrue (rises (λ k. k) ids.items)) }
     ensures memory { IsOkUnless result Fault.NoMemory }
 {
-    let mut ids = noted(world)?;
-    ids.sort_unstable();
-    ids.dedup();
-    Ok(ids)
+    let changed = noted(before, after)?;
+    let mut ids = in_order(changed);
+    push_turned_below(&mut ids, before, after)?;
+    Ok(in_order(ids))
 }

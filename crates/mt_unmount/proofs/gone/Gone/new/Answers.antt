@@ -1,4 +1,4 @@
-use Rattle.mt_propagate.proofs.TouchedLaws.{each-increases, each-rises, each-among}
+use Rattle.mt_propagate.proofs.SortedLaws.{each-increases, each-rises, each-among}
 use Rattle.mt_unmount.proofs.gone.Gone.new.Goals as goal
 
 pub invariant_of-result : goal.invariant_of-result

@@ -1,7 +1,0 @@
-use Rattle.mt_propagate.specs.World.{world_view}
-use Rattle.mt_propagate.specs.WellFormed.{IsWellFormed}
-use Rattle.mt_examples.proofs.touched.do_each.Given as goal
-
--- the world is in order behind each command
-abbrev pub invariant-commands : goal.invariant-commands
-invariant-commands l = IsWellFormed (world_view l.world)
