@@ -8,6 +8,7 @@ ghost use Rattle.mt_propagate.specs.Touched.{IsTouched};
 ghost use Rattle.mt_info.specs.MayDiffer.{place_stays, has_moved, moves_along, moves_first, may_differ};
 
 use mt_mounts::mount::{MountId, Place};
+use mt_propagate::sorted::in_order;
 use mt_propagate::world::World;
 use mt_skel::fault::Fault;
 
@@ -70,17 +71,6 @@ fn push_moved(
         rows.extend_from_slice(&below)?;
     }
     Ok(())
-}
-
-/// These mounts by rising ID, each once.
-fn in_order(ids: Vec<MountId>) -> Vec<MountId>
-    ensures rising { IsTrue (rises (λ k. k) result.items) }
-    ensures same { (j : ℕ) → among result.items j ≡ among ids.items j }
-{
-    let mut ids = ids;
-    ids.sort_unstable();
-    ids.dedup();
-    ids
 }
 
 /// The mounts whose rows may differ between two worlds, by rising ID, where `touched` has those that changed, in any
