@@ -8,8 +8,8 @@
 
 pub mod answer;
 pub mod ask;
-pub mod fault;
 mod block;
+pub mod fault;
 pub mod mirror;
 mod opening;
 mod posts;

@@ -7,8 +7,8 @@ ghost use Rattle.mt_client.specs.Replies.{IsHeaded, IsEnding, IsFollowed, IsAnsw
 ghost use Rattle.mt_client.specs.Reading.{lines_left, IsCutOff, HasBroken, IsBroken, AreSoMany, IsCut, HasPassed, reading_fault};
 
 use crate::answer::{Form, is_refusal, lines_behind, verdict};
-use crate::fault::ClientFault;
 use crate::block::{pass_behind, pass_post};
+use crate::fault::ClientFault;
 use crate::mirror::is_end;
 use crate::request::send_line;
 use mt_lines::line::{Line, LineReader, ReadFault};

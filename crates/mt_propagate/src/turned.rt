@@ -86,11 +86,7 @@ fn push_groups(
 
 /// The groups that some of these mounts joined or left, or stay in with another master, rising, each once. Refused as
 /// `NoMemory` alone.
-fn changed_groups(
-    before: &World,
-    after: &World,
-    ids: &[MountId],
-) -> Result<Vec<GroupId>, Fault>
+fn changed_groups(before: &World, after: &World, ids: &[MountId]) -> Result<Vec<GroupId>, Fault>
     ensures groups { IfOk result (λ groups. (g : ℕ) → among groups.items g ≡ among (flat_map (groups_of_changed (world_view before.now) (world_view after.now)) ids.now) g) }
     ensures memory { IsOkUnless result Fault.NoMemory }
 {
@@ -120,11 +116,7 @@ fn push_turned(
 }
 
 /// Those of these groups that have slaves and are not steady. Refused as `NoMemory` alone.
-fn turned_groups(
-    before: &World,
-    after: &World,
-    groups: &[GroupId],
-) -> Result<Vec<GroupId>, Fault>
+fn turned_groups(before: &World, after: &World, groups: &[GroupId]) -> Result<Vec<GroupId>, Fault>
     ensures turned { IfOk result (λ turned. (g : ℕ) → IsTrue (among groups.now g) → among turned.items g ≡ false → IsQuiet (world_view before.now) (world_view after.now) g) }
     ensures memory { IsOkUnless result Fault.NoMemory }
 {
@@ -213,11 +205,7 @@ fn push_below(
 }
 
 /// Appends the mounts below these groups, at whatever height. No group is gone over twice. Refused as `NoMemory` alone.
-fn push_all_below(
-    ids: &mut Vec<MountId>,
-    world: &World,
-    groups: &[GroupId],
-) -> Result<(), Fault>
+fn push_all_below(ids: &mut Vec<MountId>, world: &World, groups: &[GroupId]) -> Result<(), Fault>
     requires order { IsPeering (world_view world.now).peering }
     ensures kept { OnOk result ((i : ℕ) → IsTrue (among ids.old.items i) → IsTrue (among ids.new.items i)) }
     ensures below { OnOk result ((g i : ℕ) → IsTrue (among groups.now g) → IsTrue (is_below world.now.peers.peers g i) → IsTrue (among ids.new.items i)) }
