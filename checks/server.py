@@ -328,6 +328,38 @@ def check_no_answers(mountctl):
             check(f"mountctl {request}, and {answer!r}", (client.returncode, found) == wanted, repr(found))
 
 
+# What a mirror of namespace 1 prints once the group of its slave's master has no mount there any more.
+RETOLD = b"""ok 3 9
+1 1 0:1 / / rw,relatime - tmpfs none rw
+2 1 0:2 / /w rw,relatime shared:1 - ext4 /dev/x rw
+4 1 0:2 / /f rw,relatime master:2 propagate_from:1 - ext4 /dev/x rw
+"""
+
+
+def check_retold(program, mountctl):
+    """A mirror follows a slave that comes to tell a group above its master. The change is made between its two requests."""
+    lines = cases.load("propagate-from").requests()
+    opening = lines.index(b"watch all")
+    with Server(program) as server, server.client() as client, server.client() as passed_on:
+        for line in lines[:opening]:
+            client.ask(line)
+        with tempfile.TemporaryDirectory() as folder, socket.socket(socket.AF_UNIX) as door:
+            path = os.path.join(folder, "s")
+            door.bind(path)
+            door.listen()
+            door.settimeout(MOST_SECONDS)
+            words = [mountctl, path, "mirror", "1", "1"]
+            with subprocess.Popen(words, stdout=subprocess.PIPE, stderr=subprocess.PIPE) as mirror:
+                with door.accept()[0] as stream, stream.makefile("rb") as requests:
+                    for changes in ([lines[opening + 1]], []):
+                        answer = passed_on.ask(requests.readline().removesuffix(b"\n"))
+                        for change in changes:
+                            client.ask(change)
+                        stream.sendall(b"".join(line + b"\n" for line in answer))
+                found = mirror.communicate(timeout=MOST_SECONDS)
+    check("a mirror of a slave", (mirror.returncode, found) == (0, (RETOLD, b"")), repr(found))
+
+
 PARTS = {
     "paths": check_paths,
     "limit": check_limit,
@@ -348,6 +380,7 @@ def check_server(program, seconds, mountctl, only):
     if mountctl:
         parts["client"] = lambda program: check_client(program, mountctl)
         parts["no answers"] = lambda program: check_no_answers(mountctl)
+        parts["retold"] = lambda program: check_retold(program, mountctl)
         parts["scripts"] = lambda program: check_scripts(program, mountctl)
     for name in [only] if only else parts:
         start = time.monotonic()

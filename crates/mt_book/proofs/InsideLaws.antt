@@ -91,7 +91,7 @@ step_outside n w (SetAttr k path change) v r h a is e = moved_to k n w v is a (�
 
 pub step_inside : (n : ℕ) (w : WorldView) (c : Command) (v : WorldView) (r : Reply) → IsWellFormed w → IsSkeleton w.skel → IsContained n w → is_issued_in n c ≡ true → step w c ≡ Ok (v, r) → (k : ℕ) → k ≢ n
     → table_of v k ≡ table_of w k
-step_inside n w c v r h s a is e k off = same_table n w v h (step_kept w c v r h s e).0 (step_outside n w c v r h a is e) k off
+step_inside n w c v r h s a is e k off = same_table n w v h (step_kept w c v r h s e).0 a (step_outside n w c v r h a is e) k off
 
 -- what is kept while the copy is not copied
 record Stands (n : ℕ) (w : WorldView) : Type 0 where

@@ -1,25 +1,29 @@
 -- The rows of a world's tables have in their fields what every row has there by its type.
-use Rattle.std.proofs.Common.{◌≡◌, ℕ, zero, suc, ◌-◌, ◌<◌, ◌≤◌, ◌^◌, Bool, true, false, cond, List, [], ◌∷◌, map, length, drop, reverse, ◌==◌, Option, Some, None, IsTrue, inl, inr, refl, ◌∙◌, arith}
+use Rattle.std.proofs.Common.{◌≡◌, ℕ, zero, suc, ◌-◌, ◌<◌, ◌≤◌, ◌^◌, Bool, true, false, cond, List, [], ◌∷◌, map, length, drop, reverse, ◌==◌, Option, Some, None, IsTrue, ◌&&◌, inl, inr, refl, sym, ap, ◌∙◌, arith}
 use Rattle.std.proofs.lemmas.List.{length-map}
-use Rattle.std.specs.List.{list_all, flat_map, filter, AllByRecursion}
-use Rattle.std.specs.Option.{ForSome, option_map_or, unwrap_or}
+use Rattle.std.specs.List.{list_all, flat_map, filter, find, AllByRecursion}
+use Rattle.std.specs.Option.{ForSome, option_map, option_map_or, option_and_then, unwrap_or}
 use Rattle.std.proofs.lemmas.Option.{slice_get-get_or}
 use Rattle.std.proofs.lemmas.List.Folds.{list_all-append}
 use Rattle.mt_skel.specs.Names.{is_name}
 use Rattle.mt_skel.specs.Skeleton.{Skeleton, IsSkeleton, holds, directory, path_below}
-use Rattle.mt_skel.proofs.ElementLaws.{In, in_row}
-use Rattle.mt_skel.proofs.MiddleLaws.{and_second, and-true}
+use Rattle.mt_skel.proofs.ElementLaws.{In, in_row, in_any, find_in}
+use Rattle.mt_skel.proofs.MiddleLaws.{and_first, and_second, and-true}
 use Rattle.mt_mounts.specs.declared.mount.Mount.{Mount}
 use Rattle.mt_mounts.specs.declared.mount.Place.{Place}
 use Rattle.mt_mounts.specs.Forest.{id_of, mount_at, parents_up}
 use Rattle.mt_peers.specs.declared.state.State.{State}
-use Rattle.mt_peers.specs.Peers.{state_at}
+use Rattle.mt_peers.specs.Peers.{Peer, mount_of, names, state_at}
+use Rattle.mt_peers.specs.Masters.{groups_up}
+use Rattle.mt_peers.proofs.MemberLaws.{named}
 use Rattle.mt_peers.proofs.MakingLaws.{old_master}
-use Rattle.mt_propagate.specs.World.{WorldView, root_dir, state_of, private}
+use Rattle.mt_propagate.specs.World.{WorldView, root_dir, state_of, space_of, private}
+use Rattle.mt_propagate.specs.FromGroup.{from_group, is_seen}
 use Rattle.mt_propagate.specs.WellFormed.{IsWellFormed}
 use Rattle.mt_propagate.specs.Named.{mount_or_unknown}
 use Rattle.mt_info.specs.Laws.{IsRow}
 use Rattle.mt_info.specs.Table.{own_names, mount_point, row_of, table_of}
+use Rattle.mt_info.proofs.FitLaws.{rows-fit}
 use Rattle.mt_book.proofs.EachLaws.{each_or, each_at, few_kept}
 use Rattle.mt_book.proofs.TextLaws.{HasTexts, HasLabels, HasNames}
 
@@ -73,6 +77,28 @@ master_below w i h g = by (state_at w.peering.peers i) (λ s e is. old_master w.
     by None f e = absurd (cc)
     by (Some s) f e = f s refl e
 
+-- a group that is seen has a member
+seen_below : (w : WorldView) (n g : ℕ) → IsWellFormed w → is_seen w n g ≡ true → g < w.peering.next
+seen_below w n g h e =
+    let q = in_any (λ (p : Peer). names p.state.group g && (space_of w p.mount == n)) w.peering.peers e in
+    let at : state_at w.peering.peers q.0.mount ≡ Some q.0.state = ap (option_map (λ (p : Peer). p.state)) (in_row mount_of w.peering.peers q.0 h.peering.rising q.1) in
+    h.peering.below q.0.mount q.0.state g at (named q.0.state.group g (and_first (names q.0.state.group g) _ q.2))
+
+via_below : (w : WorldView) (i : ℕ) → IsWellFormed w → ForSome (from_group w i) (λ g. g < w.peering.next)
+via_below w i h g e = by (state_of w i).master e
+  where
+    told : (m : ℕ) (b : Bool) (x : ℕ) → is_seen w (space_of w i) x ≡ true → cond b None (Some x) ≡ Some g → g < w.peering.next
+    told m true x s f = absurd (let v : None ≡ Some g = f in cc)
+    told m false x s f = let v : x ≡ g = cc in seen_below w (space_of w i) g h (ap (is_seen w (space_of w i)) (sym v) ∙ s)
+
+    found : (m : ℕ) (o : Option ℕ) → find (is_seen w (space_of w i)) (groups_up w.peering.peers m) ≡ o → option_and_then (λ g. cond (g == m) None (Some g)) o ≡ Some g → g < w.peering.next
+    found m None is f = absurd (let v : None ≡ Some g = f in cc)
+    found m (Some x) is f = told m (x == m) x (find_in (is_seen w (space_of w i)) (groups_up w.peering.peers m) x is).1 f
+
+    by : (o : Option ℕ) → option_and_then (λ m. option_and_then (λ g. cond (g == m) None (Some g)) (find (is_seen w (space_of w i)) (groups_up w.peering.peers m))) o ≡ Some g → g < w.peering.next
+    by None f = absurd (let v : None ≡ Some g = f in cc)
+    by (Some m) f = found m (find (is_seen w (space_of w i)) (groups_up w.peering.peers m)) refl f
+
 parent_below : (w : WorldView) (m : Mount) → IsWellFormed w → mount_at w.forest m.id ≡ Some m → option_map_or (λ p. p.mount) m.place m.id < w.next_mount
 parent_below w m h at = by m.place (λ p e. h.forest.placed m.id m p at e)
   where
@@ -100,6 +126,8 @@ row_valid w m h at =
       point = point_named w h.texts m.id;
       shared = λ g e. omega (arith, group_below w m.id h.formed g e, h.groups);
       master = λ g e. omega (arith, master_below w m.id h.formed g e, h.groups);
+      via = λ g e. omega (arith, via_below w m.id h.formed g e, h.groups);
+      beside = rows-fit w m;
       kind = labels.0;
       source = labels.1;
     }

@@ -160,9 +160,32 @@ const SHOWN: &[u8] = b"ok 2 5
 5 2 0:2 / /m rw,relatime master:2 - ext4 /dev/x rw
 ";
 
-/// Whether a mirror of namespace 2 over these bytes ends so, and prints this text.
+/// What a watcher of namespace 1 is answered whose slave at `/f` comes to tell the group above its master.
+const FOLLOWED_SLAVE: &[u8] = b"ok 5
+space 1 8 4
+1 1 0:1 / / rw,relatime - tmpfs none rw
+2 1 0:2 / /w rw,relatime shared:1 - ext4 /dev/x rw
+3 1 0:2 / /v rw,relatime shared:2 master:1 - ext4 /dev/x rw
+4 1 0:2 / /f rw,relatime master:2 - ext4 /dev/x rw
+event 1 9 2
+- 3
+= 4 1 0:2 / /f rw,relatime master:2 propagate_from:1 - ext4 /dev/x rw
+ok 1
+";
+
+/// The table that its post leads to.
+const SHOWN_SLAVE: &[u8] = b"ok 3 9
+1 1 0:1 / / rw,relatime - tmpfs none rw
+2 1 0:2 / /w rw,relatime shared:1 - ext4 /dev/x rw
+4 1 0:2 / /f rw,relatime master:2 propagate_from:1 - ext4 /dev/x rw
+";
+
+/// Whether a mirror of so many posts of a namespace over these bytes asks so, ends so, and prints this text.
 fn is_mirrored(
     alloc: Global,
+    space: u64,
+    count: u64,
+    asked: &[u8],
     answers: &[u8],
     printed: &[u8],
     wanted: Result<bool, ClientFault>,
@@ -170,8 +193,8 @@ fn is_mirrored(
     let mut lines = LineReader::new(alloc, Portions::new(answers, 5), LINE_LIMIT)?;
     let mut writer = Sink::new(alloc, 3, 65_536)?;
     let mut out = Sink::new(alloc, 7, 65_536)?;
-    let told = mirror(alloc, &mut lines, &mut writer, 2, 2, &mut out);
-    let sent = told != Ok(true) || writer.bytes() == b"watch 2\nfollow 2\n".as_slice();
+    let told = mirror(alloc, &mut lines, &mut writer, space, count, &mut out);
+    let sent = told != Ok(true) || writer.bytes() == asked;
     Ok(told == wanted && sent && out.bytes() == printed)
 }
 
@@ -184,8 +207,25 @@ fn mirrors_a_namespace(rt: HostRuntime) -> Result<(), Fail> {
         (b"space 2 3 2\n", b"", Err(ClientFault::Connection)),
     ];
     for (answers, printed, wanted) in table {
-        let mirrored = is_mirrored(rt.alloc(), answers, printed, wanted)?;
+        let asked = b"watch 2\nfollow 2\n";
+        let mirrored = is_mirrored(rt.alloc(), 2, 2, asked, answers, printed, wanted)?;
         assert!(rt; mirrored, "{answers:?}");
     }
+    Ok(())
+}
+
+#[test]
+fn mirrors_a_slave_of_a_hidden_group(rt: HostRuntime) -> Result<(), Fail> {
+    let asked = b"watch 1\nfollow 1\n";
+    let mirrored = is_mirrored(
+        rt.alloc(),
+        1,
+        1,
+        asked,
+        FOLLOWED_SLAVE,
+        SHOWN_SLAVE,
+        Ok(true),
+    )?;
+    assert!(rt; mirrored);
     Ok(())
 }

@@ -113,6 +113,8 @@ const ROWS: &[u8] = b"1 1 0:1 / / rw,relatime - tmpfs none rw
 4 1 0:2 /x /n rw,relatime shared:2 master:1 - ext4 /dev/x rw
 4 1 0:2 /x /n rw,relatime master:105 unbindable - ext4 /dev/x rw
 4 1 0:2 /x /n rw,relatime shared:1 master:2 unbindable - ext4 /dev/x rw
+4 1 0:2 /x /n rw,relatime master:2 propagate_from:1 - ext4 /dev/x rw
+4 1 0:2 /x /n rw,relatime shared:3 master:2 propagate_from:3 unbindable - ext4 /dev/x rw
 12 12 0:45 /a\\040b/c\\134d# / rw,relatime - t\\011x \\012s\\040 rw
 18446744073709551615 0 0:0 / / rw - - - rw";
 
@@ -134,6 +136,12 @@ const NO_ROWS: &[u8] = b"
 1 1 0:1 / / rw master:1 shared:2 - tmpfs none rw
 1 1 0:1 / / rw shared:1 shared:2 - tmpfs none rw
 1 1 0:1 / / rw shared: - tmpfs none rw
+1 1 0:1 / / rw propagate_from:1 - tmpfs none rw
+1 1 0:1 / / rw shared:2 propagate_from:1 - tmpfs none rw
+1 1 0:1 / / rw master:1 propagate_from:1 - tmpfs none rw
+1 1 0:1 / / rw master:2 propagate_from: - tmpfs none rw
+1 1 0:1 / / rw propagate_from:1 master:2 - tmpfs none rw
+1 1 0:1 / / rw master:2 unbindable propagate_from:1 - tmpfs none rw
 1 1 0:1 / / rw unbindable: - tmpfs none rw
 1 1 0:1 / / rw tmpfs none rw
 1 1 0:1 / / rw -  none rw

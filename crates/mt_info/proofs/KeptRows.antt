@@ -17,6 +17,7 @@ use Rattle.mt_mounts.specs.declared.mount.Place.{Place}
 use Rattle.mt_mounts.specs.Forest.{id_of, mount_at, parent, parents_up, is_below, subtree}
 use Rattle.mt_propagate.specs.World.{WorldView, state_of, private}
 use Rattle.mt_propagate.specs.WellFormed.{IsWellFormed}
+use Rattle.mt_propagate.specs.FromGroup.{from_group}
 use Rattle.mt_propagate.specs.Touched.{IsTouched}
 use Rattle.mt_propagate.proofs.TreeLaws.{parent-is}
 use Rattle.mt_propagate.proofs.WalkLaws.{place_same}
@@ -204,6 +205,9 @@ module _ (w v : WorldView) (h : IsWellFormed w) (g : IsWellFormed v) (same : w.s
       same_state : state_of w m.id ≡ state_of v m.id
       same_state = ap (λ o. unwrap_or o private) (t.states m.id (front-off (among ids m.id) _ stays))
 
+      same_tag : from_group w m.id ≡ from_group v m.id
+      same_tag = t.tags m.id (front-off (among ids m.id) _ stays)
+
       pub row_kept : row_of w m ≡ row_of v m
       row_kept =
           λ j. record {
@@ -215,6 +219,7 @@ module _ (w v : WorldView) (h : IsWellFormed w) (g : IsWellFormed v) (same : w.s
             attrs = m.attrs;
             shared = (same_state j).group;
             master = (same_state j).master;
+            via = same_tag j;
             unbindable = (same_state j).unbindable;
             kind = (filesystem (same j) (directory (same j) m.root).fs).kind;
             source = (filesystem (same j) (directory (same j) m.root).fs).source;

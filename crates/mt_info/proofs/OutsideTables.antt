@@ -12,8 +12,9 @@ use Rattle.mt_mounts.specs.declared.mount.Place.{Place}
 use Rattle.mt_mounts.specs.Forest.{id_of, mount_at, parent, parents_up, in_space}
 use Rattle.mt_propagate.specs.World.{WorldView}
 use Rattle.mt_propagate.specs.WellFormed.{IsWellFormed}
-use Rattle.mt_propagate.specs.Contained.{IsSameOutside}
+use Rattle.mt_propagate.specs.Contained.{IsContained, IsSameOutside}
 use Rattle.mt_propagate.proofs.RowLaws.{picked-row, row-picked}
+use Rattle.mt_propagate.proofs.OutsideTagLaws.{tag-outside}
 use Rattle.mt_info.specs.Table.{own_names, mount_point, row_of, table_of}
 use Rattle.mt_info.proofs.TableLaws.{all_found, own_names_at, own_names_root}
 
@@ -25,7 +26,7 @@ reversed-same f g (x ∷ xs) h =
     ap (flat_map f) (reverse-append (x ∷ []) xs) ∙ flat_map-append f (reverse xs) (x ∷ []) ∙ (λ i. later i ++ (h.0 i ++ []))
     ∙ sym (flat_map-append g (reverse xs) (x ∷ [])) ∙ ap (flat_map g) (sym (reverse-append (x ∷ []) xs))
 
-module _ (n : ℕ) (w v : WorldView) (h : IsWellFormed w) (g : IsWellFormed v) (o : IsSameOutside n w v) (k : ℕ) (off : k ≢ n) where
+module _ (n : ℕ) (w v : WorldView) (h : IsWellFormed w) (g : IsWellFormed v) (c : IsContained n w) (o : IsSameOutside n w v) (k : ℕ) (off : k ≢ n) where
   -- a mount of the namespace, in both worlds
   record Here (i : ℕ) : Type 0 where
     mount : Mount
@@ -102,6 +103,7 @@ module _ (n : ℕ) (w v : WorldView) (h : IsWellFormed w) (g : IsWellFormed v) (
       let point = same_point m.id (here m.id m e space) in
       let state = o.states m.id m e (λ same. off (sym space ∙ same)) in
       let skel = o.skel in
+      let tag = tag-outside n w v h g c o m.id m e (λ same. off (sym space ∙ same)) in
       λ i. record {
         id = m.id;
         parent = option_map_or (λ p. p.mount) m.place m.id;
@@ -111,6 +113,7 @@ module _ (n : ℕ) (w v : WorldView) (h : IsWellFormed w) (g : IsWellFormed v) (
         attrs = m.attrs;
         shared = (state i).group;
         master = (state i).master;
+        via = tag i;
         unbindable = (state i).unbindable;
         kind = (filesystem (skel i) (directory (skel i) m.root).fs).kind;
         source = (filesystem (skel i) (directory (skel i) m.root).fs).source;

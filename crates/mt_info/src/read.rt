@@ -10,7 +10,7 @@ ghost use Rattle.mt_words.specs.Words.{pieces, begins};
 ghost use Rattle.mt_info.specs.declared.row.Row.{Row};
 ghost use Rattle.mt_info.specs.declared.read.Tail.{Tail};
 ghost use Rattle.mt_info.specs.declared.read.Head.{Head};
-ghost use Rattle.mt_info.specs.RowLine.{line, tag, word_if, option_words, is_noatime, is_relatime};
+ghost use Rattle.mt_info.specs.RowLine.{line, tag, word_if, option_words, is_noatime, is_relatime, fits_master};
 ghost use Rattle.mt_info.specs.Laws.{IsRow};
 ghost use Rattle.mt_info.specs.Reading.{is_first, IsTail, tail_words, end_words, IsHead, head_words};
 
@@ -130,6 +130,7 @@ fn take_tag(words: &mut Words<'_>, name: &[u8]) -> Result<Option<GroupId>, Fault
 struct Tail {
     shared: Option<GroupId>,
     master: Option<GroupId>,
+    via: Option<GroupId>,
     unbindable: bool,
     kind: Label,
     source: Label,
@@ -158,6 +159,18 @@ fn read_end(alloc: Global, words: &mut Words<'_>) -> Result<(Label, Label), Faul
     Ok((kind, source))
 }
 
+/// Whether a group may be told as the one that a mount gets from by way of this master: beside a
+/// master alone, and only where it is another group.
+fn fits_master(via: Option<GroupId>, master: Option<GroupId>) -> bool
+    ensures { result ≡ fits_master via master }
+{
+    match (via, master) {
+        (None, _) => true,
+        (Some(_), None) => false,
+        (Some(group), Some(master)) => group != master,
+    }
+}
+
 /// The optional fields and the filesystem of a line.
 fn read_tail(alloc: Global, words: &mut Words<'_>) -> Result<Tail, Fault>
     ensures tail { IfOk result (λ tail. words.old ≡ tail_words tail) }
@@ -166,11 +179,16 @@ fn read_tail(alloc: Global, words: &mut Words<'_>) -> Result<Tail, Fault>
 {
     let shared = take_tag(words, b"shared:")?;
     let master = take_tag(words, b"master:")?;
+    let via = take_tag(words, b"propagate_from:")?;
+    if !fits_master(via, master) {
+        return Err(Fault::BadLine);
+    }
     let unbindable = take_word(words, b"unbindable");
     let (kind, source) = read_end(alloc, words)?;
     Ok(Tail {
         shared,
         master,
+        via,
         unbindable,
         kind,
         source,
@@ -234,6 +252,7 @@ pub fn read_row(alloc: Global, text: &[u8]) -> Result<Row, Fault>
         attrs: head.attrs,
         shared: tail.shared,
         master: tail.master,
+        via: tail.via,
         unbindable: tail.unbindable,
         kind: tail.kind,
         source: tail.source,

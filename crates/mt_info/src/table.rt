@@ -12,6 +12,7 @@ ghost use Rattle.mt_info.specs.SameRow.{rows_eq};
 use crate::row::Row;
 use mt_mounts::forest::Forest;
 use mt_mounts::mount::{Mount, MountId, SpaceId};
+use mt_propagate::seen::from_group;
 use mt_propagate::world::{World, state_of};
 use mt_skel::fault::Fault;
 use mt_skel::name::{Name, Names};
@@ -193,6 +194,7 @@ fn row_of_mount(world: &World, mount: &Mount) -> Result<Row, Fault>
         attrs: mount.attrs,
         shared: state.group,
         master: state.master,
+        via: from_group(world, mount.id),
         unbindable: state.unbindable,
         kind: world.skel.kind(minor).copy()?,
         source: world.skel.source(minor).copy()?,
