@@ -1,5 +1,5 @@
 -- The difference of two tables, from the mounts that a change touched.
-use Rattle.std.proofs.Common.{◌≡◌, ℕ, Bool, true, false, cond, not, ◌&&◌, ◌||◌, eqb, ltb, List, [], ◌∷◌, ◌++◌, map, Option, Some, None, refl, sym, ap, ◌∙◌, arith}
+use Rattle.std.proofs.Common.{◌≡◌, ℕ, ◌+◌, ◌<◌, Bool, true, false, cond, not, ◌&&◌, ◌||◌, eqb, ltb, List, [], ◌∷◌, ◌++◌, map, drop, length, get_or, append_assoc, Option, Some, None, refl, sym, ap, ◌∙◌, arith}
 use Rattle.std.specs.List.{filter, list_all}
 use Rattle.std.specs.Option.{option_map, option_map_or, option_and_then, option_to_list, unwrap_or, is_some}
 use Rattle.std.proofs.lemmas.Bool.Decides.{nat_tests}
@@ -11,6 +11,7 @@ use Rattle.mt_mounts.specs.Forest.{id_of, mount_at, in_space}
 use Rattle.mt_propagate.specs.World.{WorldView}
 use Rattle.mt_propagate.specs.Named.{mount_or_unknown, unknown}
 use Rattle.mt_propagate.specs.WellFormed.{IsWellFormed}
+use Rattle.mt_propagate.proofs.PlannedLaws.{left-step}
 use Rattle.mt_info.specs.declared.row.Row.{Row}
 use Rattle.mt_info.specs.Table.{row_id, row_of, table_of}
 use Rattle.mt_info.specs.SameRow.{row_eq}
@@ -51,6 +52,13 @@ module _ (w : WorldView) (n i : ℕ) (h : IsWellFormed w) where
       go : (b : Bool) → eqb m.space n ≡ b → b ≡ has row_id i (table_of w n)
       go true is = sym (ap is_some (row_there m e is))
       go false is = sym (ap is_some (row_elsewhere m e is))
+
+-- one number more of those for which is collected
+pub collected-step : {X : Type 0} (f : ℕ → Option X) (ids : List ℕ) (i d : ℕ) (out more all : List X) (o : Option X) → i < length ids → out ++ collected f (drop i ids) ≡ all → o ≡ f (get_or ids i d)
+    → more ≡ out ++ option_to_list o → more ++ collected f (drop (i + 1) ids) ≡ all
+collected-step f ids i d out more all o l before is e =
+    ap (λ t. t ++ collected f (drop (i + 1) ids)) e ∙ append_assoc out (option_to_list o) (collected f (drop (i + 1) ids)) ∙ ap (λ v. out ++ (option_to_list v ++ collected f (drop (i + 1) ids))) is
+    ∙ ap (λ t. out ++ collected f t) (sym (left-step ids i d l)) ∙ before
 
 -- rows that are collected number by number
 module _ {X : Type 0} (key : X → ℕ) (f : ℕ → Option X) (named : (i : ℕ) (x : X) → f i ≡ Some x → key x ≡ i) where

@@ -1,6 +1,7 @@
 //! What changed in the table of a namespace, from the mounts that a change touched.
-ghost use Rattle.std.specs.Prelude.{◌≡◌, not, ◌&&◌, false, IfOk, IfSome, IsOkUnless, IsTrue};
+ghost use Rattle.std.specs.Prelude.{◌≡◌, ◌++◌, not, ◌&&◌, false, IfOk, IfSome, OnOk, IsOkUnless, IsTrue};
 ghost use Rattle.std.specs.List.{filter};
+ghost use Rattle.std.specs.Option.{option_to_list};
 ghost use Rattle.mt_skel.specs.Keyed.{rises, row_at, has};
 ghost use Rattle.mt_propagate.specs.World.{world_view};
 ghost use Rattle.mt_propagate.specs.WellFormed.{IsWellFormed};
@@ -12,8 +13,9 @@ ghost use Rattle.mt_events.specs.ByMount.{collected, new_row};
 use crate::change::some_change;
 use crate::post::{Delta, Ids, Rows};
 use mt_info::row::Row;
-use mt_info::table::row_of;
+use mt_info::table::row_seen;
 use mt_mounts::mount::{MountId, SpaceId};
+use mt_propagate::seen::SeenGroups;
 use mt_propagate::world::World;
 use mt_skel::fault::Fault;
 
@@ -30,25 +32,33 @@ fn is_in(world: &World, space: SpaceId, id: MountId) -> bool
 
 /// The row of a mount in the table of a namespace, or `None` exactly where it is not in there. Refused as `NoMemory`
 /// alone.
-fn row_in(world: &World, space: SpaceId, id: MountId) -> Result<Option<Row>, Fault>
-    requires well_formed { IsWellFormed (world_view world.now) }
-    ensures row { IfOk result (λ row. row ≡ row_at row_id id (table_of (world_view world.now) space)) }
+fn row_in(seen: &mut SeenGroups<'_>, space: SpaceId, id: MountId) -> Result<Option<Row>, Fault>
+    requires well_formed { IsWellFormed (world_view seen.old) }
+    ensures row { IfOk result (λ row. row ≡ row_at row_id id (table_of (world_view seen.old) space)) }
+    ensures kept { seen.new ≡ seen.old }
     ensures memory { IsOkUnless result Fault.NoMemory }
 {
-    let Some(mount) = world.forest.get(id) else {
+    let Some(mount) = seen.world().forest.get(id) else {
         return Ok(None);
     };
     if mount.space != space {
         return Ok(None);
     }
-    Ok(Some(row_of(world, id)?))
+    Ok(Some(row_seen(seen, id)?))
 }
 
 /// The row of a mount after, or `None` exactly where it is not there or as it was. Refused as `NoMemory` alone.
-fn new_row(before: &World, after: &World, space: SpaceId, id: MountId) -> Result<Option<Row>, Fault>
-    requires before { IsWellFormed (world_view before.now) }
-    requires after { IsWellFormed (world_view after.now) }
-    ensures row { IfOk result (λ row. row ≡ new_row (table_of (world_view before.now) space) (table_of (world_view after.now) space) id) }
+fn new_row(
+    before: &mut SeenGroups<'_>,
+    after: &mut SeenGroups<'_>,
+    space: SpaceId,
+    id: MountId,
+) -> Result<Option<Row>, Fault>
+    requires before { IsWellFormed (world_view before.old) }
+    requires after { IsWellFormed (world_view after.old) }
+    ensures row { IfOk result (λ row. row ≡ new_row (table_of (world_view before.old) space) (table_of (world_view after.old) space) id) }
+    ensures before_kept { before.new ≡ before.old }
+    ensures after_kept { after.new ≡ after.old }
     ensures memory { IsOkUnless result Fault.NoMemory }
 {
     let Some(row) = row_in(after, space, id)? else {
@@ -84,6 +94,17 @@ fn gone(
     Ok(ids)
 }
 
+/// Appends a row, if there is one. Refused as `NoMemory` alone.
+fn push_some(rows: &mut Vec<Row>, row: Option<Row>) -> Result<(), Fault>
+    ensures rows { OnOk result (rows.new.items ≡ rows.old.items ++ option_to_list row) }
+    ensures memory { IsOkUnless result Fault.NoMemory }
+{
+    if let Some(row) = row {
+        rows.push(row)?;
+    }
+    Ok(())
+}
+
 /// The rows after of the mounts touched that are new or not as they were.
 fn new_rows(
     before: &World,
@@ -97,10 +118,11 @@ fn new_rows(
     ensures memory { IsOkUnless result Fault.NoMemory }
 {
     let mut rows = Vec::new(after.forest.allocator());
+    let mut old = SeenGroups::new(before);
+    let mut new = SeenGroups::new(after);
     'mounts: for id in touched {
-        if let Some(row) = new_row(before, after, space, *id)? {
-            rows.push(row)?;
-        }
+        let row = new_row(&mut old, &mut new, space, *id)?;
+        push_some(&mut rows, row)?;
     }
     Ok(rows)
 }

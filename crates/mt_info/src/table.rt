@@ -12,7 +12,7 @@ ghost use Rattle.mt_info.specs.SameRow.{rows_eq};
 use crate::row::Row;
 use mt_mounts::forest::Forest;
 use mt_mounts::mount::{Mount, MountId, SpaceId};
-use mt_propagate::seen::from_group;
+use mt_propagate::seen::SeenGroups;
 use mt_propagate::world::{World, state_of};
 use mt_skel::fault::Fault;
 use mt_skel::name::{Name, Names};
@@ -155,8 +155,9 @@ pub fn table_or_empty(world: &World, space: SpaceId) -> Result<Table, Fault>
 {
     let mounts = world.forest.mounts_in(space)?;
     let mut rows = Vec::new(world.forest.allocator());
+    let mut seen = SeenGroups::new(world);
     for mount in &mounts {
-        rows.push(row_of_mount(world, mount)?)?;
+        rows.push(row_of_mount(&mut seen, mount)?)?;
     }
     Ok(Table { rows })
 }
@@ -168,17 +169,31 @@ pub fn row_of(world: &World, id: MountId) -> Result<Row, Fault>
     ensures row { IfOk result (λ row. row ≡ row_of (world_view world.now) (mount_or_unknown (world_view world.now) id)) }
     ensures memory { IsOkUnless result Fault.NoMemory }
 {
-    let mount = world.forest.get(id).unwrap();
-    row_of_mount(world, &mount)
+    row_seen(&mut SeenGroups::new(world), id)
+}
+
+/// What [`row_of`] answers of a mount, for whoever asks for several rows of one world: what is found of its groups is
+/// kept from row to row. Refused as `NoMemory` alone.
+pub fn row_seen(seen: &mut SeenGroups<'_>, id: MountId) -> Result<Row, Fault>
+    requires well_formed { IsWellFormed (world_view seen.old) }
+    requires there { IsSome (mount_at seen.old.forest.mounts id) }
+    ensures row { IfOk result (λ row. row ≡ row_of (world_view seen.old) (mount_or_unknown (world_view seen.old) id)) }
+    ensures kept { seen.new ≡ seen.old }
+    ensures memory { IsOkUnless result Fault.NoMemory }
+{
+    let mount = seen.world().forest.get(id).unwrap();
+    row_of_mount(seen, &mount)
 }
 
 /// The row of a mount of the world.
-fn row_of_mount(world: &World, mount: &Mount) -> Result<Row, Fault>
-    requires well_formed { IsWellFormed (world_view world.now) }
-    requires there { mount_at world.now.forest.mounts mount.now.id ≡ Some mount.now }
-    ensures row { IfOk result (λ row. row ≡ row_of (world_view world.now) mount.now) }
+fn row_of_mount(seen: &mut SeenGroups<'_>, mount: &Mount) -> Result<Row, Fault>
+    requires well_formed { IsWellFormed (world_view seen.old) }
+    requires there { mount_at seen.old.forest.mounts mount.now.id ≡ Some mount.now }
+    ensures row { IfOk result (λ row. row ≡ row_of (world_view seen.old) mount.now) }
+    ensures kept { seen.new ≡ seen.old }
     ensures memory { IsOkUnless result Fault.NoMemory }
 {
+    let world = seen.world();
     let minor = world.skel.fs_of(mount.root);
     let state = state_of(world, mount.id);
     let parent = match mount.place {
@@ -194,7 +209,7 @@ fn row_of_mount(world: &World, mount: &Mount) -> Result<Row, Fault>
         attrs: mount.attrs,
         shared: state.group,
         master: state.master,
-        via: from_group(world, mount.id),
+        via: seen.from_group(mount.id)?,
         unbindable: state.unbindable,
         kind: world.skel.kind(minor).copy()?,
         source: world.skel.source(minor).copy()?,

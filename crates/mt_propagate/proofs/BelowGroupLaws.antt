@@ -1,9 +1,8 @@
 -- The mounts below groups: below those of the groups that have none of the others above them, none is missed.
-use Rattle.std.proofs.Common.{◌≡◌, ◌⊎◌, ℕ, zero, suc, ◌<◌, ◌≤◌, Bool, true, false, ◌==◌, eqb, eqb-true, eq-eqb, List, [], ◌∷◌, ◌++◌, length, drop, take, Option, Some, None, refl, sym, ap, subst, ◌∙◌, inl, inr, arith}
+use Rattle.std.proofs.Common.{◌≡◌, ℕ, zero, suc, ◌<◌, Bool, true, false, ◌==◌, eqb-true, eq-eqb, List, length, drop, Option, Some, None, refl, sym, ap, subst, ◌∙◌, inr, arith}
 use Rattle.std.specs.Prelude.{nat_eq}
 use Rattle.std.specs.List.{list_any, flat_map, filter}
 use Rattle.std.specs.Option.{option_map, option_map_or, option_and_then}
-use Rattle.mt_skel.specs.Chain.{chain}
 use Rattle.mt_skel.specs.Keyed.{among, row_at}
 use Rattle.mt_skel.proofs.ChainLaws.{chain-last, chain-step, length-chain}
 use Rattle.mt_skel.proofs.ElementLaws.{In, in_any, any_in, row_in, in_flatted, in_filtered, in_mapped, chain_low}

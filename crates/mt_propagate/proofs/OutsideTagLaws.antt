@@ -1,8 +1,8 @@
 -- Where nothing changes outside a contained namespace, each mount outside tells the group above its master that it told.
-use Rattle.std.proofs.Common.{◌≡◌, ◌≢◌, ℕ, zero, suc, Bool, true, false, cond, ◌&&◌, ◌==◌, eqb-true, eq-eqb, [], ◌∷◌, length, Option, Some, None, refl, sym, ap, ◌∙◌}
+use Rattle.std.proofs.Common.{◌≡◌, ◌≢◌, ℕ, Bool, true, false, cond, ◌&&◌, ◌==◌, eqb-true, eq-eqb, Option, Some, None, refl, sym, ap, ◌∙◌}
 use Rattle.std.specs.Prelude.{unwrap_or}
 use Rattle.std.specs.List.{find}
-use Rattle.std.specs.Option.{option_map, option_map_or, option_and_then, is_none}
+use Rattle.std.specs.Option.{option_map, option_and_then}
 use Rattle.mt_skel.specs.Keyed.{row_at}
 use Rattle.mt_skel.proofs.ElementLaws.{in_any, any_in, in_row, row_in}
 use Rattle.mt_skel.proofs.KeyedLaws.{row_at-key}

@@ -1,19 +1,17 @@
 -- A mount that is below no group that is seen otherwise tells the same group above its master in both worlds.
-use Rattle.std.proofs.Common.{◌≡◌, ◌⊎◌, ℕ, Bool, true, false, cond, not, ◌&&◌, ◌==◌, eqb, eqb-true, eq-eqb, List, [], ◌∷◌, map, Option, Some, None, refl, sym, ap, subst, ◌∙◌, inl, inr, arith}
+use Rattle.std.proofs.Common.{◌≡◌, ◌⊎◌, ℕ, Bool, true, false, cond, ◌&&◌, ◌==◌, eqb-true, eq-eqb, List, [], Option, Some, None, refl, sym, ap, subst, ◌∙◌, inl, inr}
 use Rattle.std.specs.Prelude.{nat_eq, unwrap_or}
-use Rattle.std.specs.List.{find, filter, flat_map, cons_option}
+use Rattle.std.specs.List.{find, flat_map, cons_option}
 use Rattle.std.specs.Option.{option_eq, option_map, option_map_or, option_and_then}
-use Rattle.std.proofs.lemmas.Bool.Decides.{nat_tests}
-use Rattle.mt_skel.specs.Keyed.{among, row_at}
-use Rattle.mt_skel.proofs.ElementLaws.{In, in_any, any_in, in_row, row_in, in_flatted, in_filtered, in_mapped}
+use Rattle.mt_skel.specs.Keyed.{among}
+use Rattle.mt_skel.proofs.ElementLaws.{In, in_any, in_row, in_flatted}
 use Rattle.mt_skel.proofs.MiddleLaws.{and_first, and_second, and-true}
 use Rattle.mt_mounts.specs.declared.mount.Mount.{Mount}
-use Rattle.mt_mounts.specs.Forest.{mount_at}
 use Rattle.mt_peers.specs.declared.state.State.{State}
-use Rattle.mt_peers.specs.Peers.{Peer, mount_of, names, in_group, has_master, state_at, slaves}
-use Rattle.mt_peers.specs.Masters.{master_of, groups_up, reaches}
+use Rattle.mt_peers.specs.Peers.{Peer, mount_of, names, in_group, state_at, slaves}
+use Rattle.mt_peers.specs.Masters.{master_of, reaches}
 use Rattle.mt_peers.specs.Members.{master_at}
-use Rattle.mt_peers.proofs.MemberLaws.{find_row, has_found, master_of-from, master_of-is, named}
+use Rattle.mt_peers.proofs.MemberLaws.{find_row, master_of-from, master_of-is, named}
 use Rattle.mt_peers.proofs.ReachLaws.{reaches-self, reaches-step}
 use Rattle.mt_propagate.specs.World.{WorldView, private, state_of, group_of, space_of}
 use Rattle.mt_propagate.specs.WellFormed.{IsWellFormed}

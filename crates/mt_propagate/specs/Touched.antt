@@ -5,7 +5,7 @@ use Rattle.mt_skel.specs.Keyed.{among}
 use Rattle.mt_mounts.specs.declared.mount.Mount.{Mount}
 use Rattle.mt_mounts.specs.Forest.{mount_at}
 use Rattle.mt_peers.specs.Peers.{Peer, state_at}
-use Rattle.mt_propagate.specs.World.{WorldView, world_view}
+use Rattle.mt_propagate.specs.World.{WorldView}
 use Rattle.mt_propagate.specs.FromGroup.{from_group}
 use Rattle.mt_propagate.specs.declared.world.World.{World}
 

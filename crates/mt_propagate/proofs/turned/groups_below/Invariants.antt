@@ -1,4 +1,4 @@
-use Rattle.std.proofs.Common.{ℕ, suc, ◌-◌, take, length}
+use Rattle.std.proofs.Common.{suc, ◌-◌, take, length}
 use Rattle.mt_peers.proofs.WorklistLaws.{IsWorklist}
 use Rattle.mt_propagate.proofs.turned.groups_below.Given as goal
 
