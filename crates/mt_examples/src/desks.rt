@@ -235,7 +235,10 @@ fn a_stop_leaves_watchers_what_was_sent(rt: HostRuntime) -> Result<(), Fail> {
 }
 
 /// As many watchers of namespace 1 as there may be.
-fn all_watchers<J: Naming>(alloc: Global, desk: &mut Desk<J>) -> Result<Vec<Watcher<J>>, Fault> {
+pub(crate) fn all_watchers<J: Naming>(
+    alloc: Global,
+    desk: &mut Desk<J>,
+) -> Result<Vec<Watcher<J>>, Fault> {
     let mut watchers = Vec::new(alloc);
     'watchers: for _count in 0..64usize {
         watchers.push(desk.open(Scope::One(1))?)?;

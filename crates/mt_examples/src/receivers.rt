@@ -38,6 +38,10 @@ const UNBINDABLE: &[u8] =
 const INTO_ITSELF: &[u8] =
     b"mkfs a tmpfs none\nmkfs d ext4 /dev/x\nmkdir a /m\nnewns a\nsetattr 1 / prop=shared\nmkdir a /s\nmount 1 d /m\nrbind 1 / /s\nmount 1 d /s";
 
+/// A mount that may not move, since its parent is shared.
+const SHARED_PARENT: &[u8] =
+    b"mkfs a tmpfs none\nmkfs d ext4 /dev/x\nmkdir a /m\nnewns a\nsetattr 1 / prop=shared\nmkdir a /t\nmount 1 d /m\nmove 1 /m /t";
+
 /// Moves, of which most are refused.
 const MOVES: &[u8] =
     b"mkfs a tmpfs none\nmkfs d ext4 /dev/x\nmkdir a /m\nnewns a\nmkdir a /s\nmkdir a /t\nmkdir d /u\nmount 1 d /s\nmove 1 /s /s\nmove 1 /s /s/u\nmove 1 /s/u /t\nmove 1 / /t\nmount 1 a /t\nsetattr 1 /t prop=shared\nsetattr 1 /s prop=unbindable\nmove 1 /s /t/m\nmove 1 /s /m";
@@ -254,6 +258,7 @@ fn receivers_are_those_of_a_scan(rt: HostRuntime) -> Result<(), Fail> {
         WITHOUT_DIRECTORY,
         UNBINDABLE,
         INTO_ITSELF,
+        SHARED_PARENT,
         MOVES,
         UNMOUNTS,
         OWN_PARENT,

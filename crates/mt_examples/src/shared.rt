@@ -1,11 +1,13 @@
 //! Sessions in threads of their own, one after another, at one desk.
 ghost use Rattle.std.specs.Prelude.{◌≡◌, ◌<◌, ◌≤◌};
 
+use crate::desks::all_watchers;
 use mt_desk::desk::Desk;
 use mt_desk::lines::{Lines, Naming};
 use mt_floor::floor::Floor;
 use mt_lines::line::LineReader;
 use mt_lines::memory::{Portions, Sink};
+use mt_lines::stream::Cut;
 use mt_session::bell::Bell;
 use mt_session::gate::OpenGate;
 use mt_session::session::{End, LINE_LIMIT, serve_plain};
@@ -59,6 +61,21 @@ close
 quit
 ";
 
+/// A watcher whose session goes on to a table.
+const WATCHES: &[u8] = b"mkfs a tmpfs none
+newns a
+watch 1
+show 1
+";
+
+/// What is answered up to the watcher and what it finds.
+const BEGUN: &[u8] = b"ok 1
+ok 1
+ok 2
+space 1 1 1
+1 1 0:1 / / rw,relatime - tmpfs none rw
+";
+
 /// What a session of threads answers to these lines, and how it ends.
 fn shared_answers<J: Naming, R: Wait + Clock>(
     rt: &R,
@@ -105,6 +122,37 @@ fn are_alike<R: Wait + Clock>(
 {
     let lines = Lines::new(alloc, capacity)?;
     is_served_alike::<Brand, R>(rt, alloc, lines, capacity, input)
+}
+
+/// Whether a session whose writer fails behind the answer to `watch` is cut there, and has closed its watcher: as many may
+/// begin as there may be at all.
+fn leaves_no_watcher<J: Naming, R: Wait + Clock>(
+    rt: &R,
+    alloc: Global,
+    lines: Lines,
+) -> Result<bool, Fault>
+    requires { lines.lines ≡ J.lines }
+{
+    let desk: Mutex<Desk<J>> = Mutex::new(Desk::new(lines));
+    let bell = Bell::new();
+    let mut sink = Sink::new(alloc, 4_096, BEGUN.len())?;
+    let mut lines = LineReader::new(alloc, Portions::new(WATCHES, 4_096), LINE_LIMIT)?;
+    let end = serve_shared(rt, alloc, 1, &mut lines, &mut sink, &desk, &bell, &OpenGate);
+    let watchers = all_watchers(alloc, &mut desk.lock(rt))?;
+    let cut = end == End::Cut(Cut { sent: 0 });
+    Ok(cut && sink.bytes() == BEGUN && watchers.len() == 64)
+}
+
+/// The same on lines for one post each.
+fn leave_no_watcher<R: Wait + Clock>(rt: &R, alloc: Global) -> Result<bool, Fault> {
+    let lines = Lines::new(alloc, 1)?;
+    leaves_no_watcher::<Brand, R>(rt, alloc, lines)
+}
+
+#[test]
+fn a_session_that_is_cut_leaves_no_watcher(rt: HostRuntime) -> Result<(), Fail> {
+    assert!(rt; leave_no_watcher(&rt, rt.alloc())?);
+    Ok(())
 }
 
 #[test]
