@@ -40,6 +40,9 @@ module _ (w : WorldView) (n i : ℕ) (h : IsWellFormed w) where
   pub row_by_space : (m : Mount) → mount_at w.forest i ≡ Some m → row_at row_id i (table_of w n) ≡ option_map (row_of w) (cond (eqb m.space n) (Some m) None)
   row_by_space m e = row_in_table ∙ ap (λ o. option_map (row_of w) (passing (in_space n) o)) e
 
+  row_here : (m : Mount) → mount_at w.forest i ≡ Some m → eqb m.space n ≡ true → row_at row_id i (table_of w n) ≡ Some (row_of w m)
+  row_here m e here = row_by_space m e ∙ ap (λ b. option_map (row_of w) (cond b (Some m) None)) here
+
   pub row_elsewhere : (m : Mount) → mount_at w.forest i ≡ Some m → eqb m.space n ≡ false → row_at row_id i (table_of w n) ≡ None
   row_elsewhere m e other = row_by_space m e ∙ ap (λ b. option_map (row_of w) (cond b (Some m) None)) other
 
@@ -52,6 +55,35 @@ module _ (w : WorldView) (n i : ℕ) (h : IsWellFormed w) where
       go : (b : Bool) → eqb m.space n ≡ b → b ≡ has row_id i (table_of w n)
       go true is = sym (ap is_some (row_there m e is))
       go false is = sym (ap is_some (row_elsewhere m e is))
+
+-- a row that differs from the one that its mount had is new, and so is one whose mount was not there
+pub new_other : (v w : WorldView) (n i : ℕ) → IsWellFormed v → IsWellFormed w → (row : Row) → row_at row_id i (table_of w n) ≡ Some row
+    → ((x y : Mount) → mount_at v.forest i ≡ Some x → mount_at w.forest i ≡ Some y → row_eq (row_of v x) (row_of w y) ≡ false) → Some row ≡ new_row (table_of v n) (table_of w n) i
+new_other v w n i h g row at other =
+    sym (ap (option_and_then (λ r. cond (is_row_of (table_of v n) r) None (Some r))) at ∙ ap (λ b. cond b None (Some row)) absent)
+  where
+    -- the row that the mount has after
+    is : (o : Option Mount) → mount_at w.forest i ≡ o → (y : Mount) × (mount_at w.forest i ≡ Some y) × (row ≡ row_of w y)
+    is None e = absurd (let f : None ≡ Some row = sym (row_nowhere w n i g e) ∙ at in cc)
+    is (Some y) e = by (eqb y.space n) refl
+      where
+        by : (b : Bool) → eqb y.space n ≡ b → (y : Mount) × (mount_at w.forest i ≡ Some y) × (row ≡ row_of w y)
+        by false s = absurd (let f : None ≡ Some row = sym (row_elsewhere w n i g y e s) ∙ at in cc)
+        by true s = (y, e, (let f : Some (row_of w y) ≡ Some row = sym (row_here w n i g y e s) ∙ at in cc))
+
+    -- the row that it had
+    had : (o : Option Mount) → mount_at v.forest i ≡ o → option_map_or (λ s. row_eq s row) (row_at row_id i (table_of v n)) false ≡ false
+    had None e = ap (λ o. option_map_or (λ s. row_eq s row) o false) (row_nowhere v n i h e)
+    had (Some x) e = by (eqb x.space n) refl
+      where
+        by : (b : Bool) → eqb x.space n ≡ b → option_map_or (λ s. row_eq s row) (row_at row_id i (table_of v n)) false ≡ false
+        by false s = ap (λ o. option_map_or (λ s. row_eq s row) o false) (row_elsewhere v n i h x e s)
+        by true s =
+            let y = is (mount_at w.forest i) refl in
+            ap (λ o. option_map_or (λ s. row_eq s row) o false) (row_here v n i h x e s) ∙ ap (row_eq (row_of v x)) y.2 ∙ other x y.0 e y.1
+
+    absent : is_row_of (table_of v n) row ≡ false
+    absent = ap (λ k. option_map_or (λ s. row_eq s row) (row_at row_id k (table_of v n)) false) (row_at-key row_id i (table_of w n) row at) ∙ had (mount_at v.forest i) refl
 
 -- one number more of those for which is collected
 pub collected-step : {X : Type 0} (f : ℕ → Option X) (ids : List ℕ) (i d : ℕ) (out more all : List X) (o : Option X) → i < length ids → out ++ collected f (drop i ids) ≡ all → o ≡ f (get_or ids i d)

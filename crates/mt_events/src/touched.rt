@@ -12,6 +12,7 @@ ghost use Rattle.mt_events.specs.ByMount.{collected, new_row};
 
 use crate::change::some_change;
 use crate::post::{Delta, Ids, Rows};
+use mt_info::differ::is_other;
 use mt_info::row::Row;
 use mt_info::table::row_seen;
 use mt_mounts::mount::{MountId, SpaceId};
@@ -64,6 +65,9 @@ fn new_row(
     let Some(row) = row_in(after, space, id)? else {
         return Ok(None);
     };
+    if is_other(before.world(), after.world(), id) {
+        return Ok(Some(row));
+    }
     let Some(old) = row_in(before, space, id)? else {
         return Ok(Some(row));
     };

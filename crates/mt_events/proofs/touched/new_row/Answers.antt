@@ -1,8 +1,12 @@
-use Rattle.std.proofs.Common.{◌≡◌, ◌∙◌, Some, sym}
+use Rattle.std.proofs.Common.{◌≡◌, ◌∙◌, false, Some, sym, subst}
 use Rattle.mt_skel.specs.Keyed.{row_at}
+use Rattle.mt_mounts.specs.declared.mount.Mount.{Mount}
+use Rattle.mt_mounts.specs.Forest.{mount_at}
+use Rattle.mt_propagate.specs.declared.world.World.{World}
 use Rattle.mt_propagate.specs.World.{world_view}
-use Rattle.mt_info.specs.Table.{row_id, table_of}
-use Rattle.mt_events.proofs.TouchedLaws.{new_arrived, new_kept, new_changed}
+use Rattle.mt_info.specs.Table.{row_id, row_of, table_of}
+use Rattle.mt_info.specs.SameRow.{row_eq}
+use Rattle.mt_events.proofs.TouchedLaws.{new_arrived, new_kept, new_changed, new_other}
 use Rattle.mt_events.proofs.touched.new_row.Goals as goal
 
 pub returns-in_default-2-clause-row : goal.returns-in_default-2-clause-row
@@ -25,3 +29,13 @@ returns-clause-row c =
     let b = table_of (world_view c.args.after.now) c.args.space in
     let at : row_at row_id c.args.id b ≡ Some c.in-Some.row = sym c.in_ok-row.ensures.row ∙ c.in-Some.is in
     sym (new_changed a b c.args.id c.in-Some.row at c.in-Some-2.old (sym c.in_ok-old.ensures.row ∙ c.in-Some-2.is) (sym c.same.ensures ∙ c.if-same.false))
+
+pub returns-then-is_other-clause-row : goal.returns-then-is_other-clause-row
+returns-then-is_other-clause-row c =
+    let v = c.args.before.now in
+    let w = c.args.after.now in
+    let at : row_at row_id c.args.id (table_of (world_view w) c.args.space) ≡ Some c.in-Some.row = sym c.in_ok-row.ensures.row ∙ c.in-Some.is in
+    let Differ : World → World → Type 0 =
+    λ p q. (x y : Mount) → mount_at p.forest.mounts c.args.id ≡ Some x → mount_at q.forest.mounts c.args.id ≡ Some y → row_eq (row_of (world_view p) x) (row_of (world_view q) y) ≡ false in
+    let other : Differ v w = subst (λ p. Differ p w) c.world.ensures (subst (Differ c.world.result.now) (c.world-2.ensures ∙ c.in_ok-row.ensures.kept) (c.is_other.ensures c.if-is_other.true)) in
+    new_other (world_view v) (world_view w) c.args.space c.args.id c.requires.before c.requires.after c.in-Some.row at other
