@@ -3,18 +3,14 @@
 ghost use Rattle.std.specs.Prelude.{◌≡◌};
 
 use crate::fixture::{are_done, commands_of};
-use mt_book::book::Book;
+use crate::following::{
+    Followed, Follower, TRIES, are_equal, follow_all, least_number, mirrors_of, take_all, take_some,
+};
 use mt_book::command::Command;
 use mt_desk::desk::Desk;
 use mt_desk::lines::{Lines, Naming};
-use mt_desk::watcher::Watcher;
-use mt_events::mirror::Mirror;
-use mt_events::opening::{Opening, Scope};
-use mt_events::post::Post;
-use mt_events::shared::SharedPosts;
+use mt_events::opening::Scope;
 use mt_floor::watch::{Meeting, Phase};
-use mt_info::table::Table;
-use mt_mounts::mount::SpaceId;
 use mt_skel::fault::Fault;
 use std::alloc::Global;
 use std::marker::Brand;
@@ -28,9 +24,6 @@ const CAPACITY: u64 = 16;
 
 /// How many commands are done while the watchers follow.
 const COMMANDS: u64 = 10_000;
-
-/// How often a thread tries before it gives up.
-const TRIES: u64 = 100_000_000;
 
 /// Namespaces 1 and 2, whose root mounts are peers. Each has had two posts.
 const START: &[u8] = b"mkfs a tmpfs none
@@ -86,42 +79,6 @@ fn new_stages(alloc: Global) -> Result<Vec<Mutex<Stage>>, Fault> {
     Ok(stages)
 }
 
-/// The table of a namespace that a watcher follows.
-#[derive(Drop)]
-struct Followed {
-    space: SpaceId,
-    mirror: Mirror,
-}
-
-/// A watcher, and a mirror for each namespace that it follows.
-#[derive(Drop)]
-struct Follower<J: Naming> {
-    watcher: Watcher<J>,
-    mirrors: Vec<Followed>,
-}
-
-/// A table with the same rows.
-fn copy_of(alloc: Global, table: &Table) -> Result<Table, Fault> {
-    let mut rows = Vec::new(alloc);
-    for row in table.rows() {
-        rows.push(row.copy()?)?;
-    }
-    Table::from_rows(rows).ok_or(Fault::BadLine)
-}
-
-/// Mirrors of what a watcher found.
-fn mirrors_of(alloc: Global, opening: &Opening) -> Result<Vec<Followed>, Fault> {
-    let mut mirrors = Vec::new(alloc);
-    for part in opening.parts.as_slice() {
-        let table = copy_of(alloc, &part.table)?;
-        mirrors.push(Followed {
-            space: part.space,
-            mirror: Mirror::new(part.space, part.number, table),
-        })?;
-    }
-    Ok(mirrors)
-}
-
 /// Begins a watcher under the lock.
 fn begun<J: Naming, R: Wait>(
     rt: &R,
@@ -132,59 +89,6 @@ fn begun<J: Naming, R: Wait>(
     let watcher = common.desk.lock(rt).open(scope)?;
     let mirrors = mirrors_of(alloc, watcher.opening())?;
     Ok(Follower { watcher, mirrors })
-}
-
-/// Applies a post to the mirror of its namespace, which refuses any but the next one.
-fn follow(mirrors: &mut Vec<Followed>, post: &Post) -> Result<(), Fault> {
-    for i in 0..mirrors.len() {
-        if mirrors[i].space == post.space {
-            return mirrors[i].mirror.apply(post);
-        }
-    }
-    Err(Fault::NoNamespace)
-}
-
-/// Applies posts one after another.
-fn follow_all(mirrors: &mut Vec<Followed>, posts: &SharedPosts) -> Result<(), Fault> {
-    for post in posts.as_slice() {
-        follow(mirrors, post)?;
-    }
-    Ok(())
-}
-
-/// The least number of these mirrors' last posts.
-fn least_number(mirrors: &[Followed]) -> u64 {
-    let mut least = u64::MAX;
-    for followed in mirrors {
-        least = least.min(followed.mirror.number());
-    }
-    least
-}
-
-/// Takes posts without the lock until it finds none.
-fn take_all<J: Naming, R: Wait>(rt: &R, follower: &mut Follower<J>) -> Result<(), Fault> {
-    for _try in 0..TRIES {
-        let Some(post) = follower.watcher.take(rt) else {
-            return Ok(());
-        };
-        follow(&mut follower.mirrors, &post)?;
-    }
-    Err(Fault::TooMany)
-}
-
-/// Takes so many posts, which are all there.
-fn take_some<J: Naming, R: Wait>(
-    rt: &R,
-    follower: &mut Follower<J>,
-    count: u64,
-) -> Result<(), Fault> {
-    for _count in 0..count {
-        let Some(post) = follower.watcher.take(rt) else {
-            return Err(Fault::Lagged);
-        };
-        follow(&mut follower.mirrors, &post)?;
-    }
-    Ok(())
 }
 
 /// A watcher meets the desk under the lock.
@@ -271,18 +175,6 @@ fn followed_to_the_end<J: Naming, R: Wait>(
         thread::yield_now();
     }
     Err(Fault::TooMany)
-}
-
-/// Whether a book has the numbers and the tables of mirrors.
-fn are_equal(book: &Book, mirrors: &[Followed]) -> Result<bool, Fault> {
-    for followed in mirrors {
-        let table = book.table(followed.space)?;
-        let number = book.number(followed.space)?;
-        if followed.mirror.number() != number || !followed.mirror.table().same(&table) {
-            return Ok(false);
-        }
-    }
-    Ok(true)
 }
 
 /// Whether a watcher that has taken all that was sent is open and level with the desk, and leaves nothing behind.
