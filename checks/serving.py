@@ -102,6 +102,29 @@ def send_input(client, text, rests=False):
             client.socket.shutdown(socket.SHUT_WR)
 
 
+def until_it_rests(case):
+    """The input of a case up to a `follow` that rests on a socket, what answers it, and whether one does.
+
+    In a plain session a `follow` that finds fewer posts than it asks for ends with them. On a socket it
+    waits for more, until a stop ends it here.
+    """
+    for at, turn in enumerate(case.turns):
+        asked = re.fullmatch(rb"follow (\d+)\n", turn.sent())
+        told = re.fullmatch(rb"ok (\d+)", turn.answers[-1]) if asked and turn.answers else None
+        if told and int(told[1]) < int(asked[1]):
+            begun = case._replace(turns=[*case.turns[:at], turn._replace(answers=turn.answers[:-1])])
+            return begun.input(), begun.output(), True
+    return case.input(), case.output(), False
+
+
+def stop_behind(server, lines, output):
+    """Stops a server once so many lines of an output have come, and answers them with the rest of it."""
+    begun = b"".join(output.readline() for _ in range(lines))
+    with server.free() as other:
+        other.ask(b"stop")
+    return begun + output.read()
+
+
 class Server:
     """A server in a folder of its own, which ends with the block."""
 

@@ -1,0 +1,115 @@
+"""The other program, which asks a server: its answers, its statuses, and what it makes of a server of no worth."""
+import os
+import re
+import socket
+import subprocess
+import tempfile
+import time
+
+import cases
+from running import MOST_SECONDS, check, difference
+from serving import STOP, Server, stop_behind, until_it_rests
+
+
+def check_scripts(program, mountctl):
+    """Each of these cases, as a script of the other program, is answered as its file says."""
+    for name in cases.names():
+        case = cases.load(name)
+        text, wanted, rests = until_it_rests(case)
+        with Server(program, *case.arguments) as server:
+            words = [mountctl, server.path, "-"]
+            with subprocess.Popen(words, stdin=subprocess.PIPE, stdout=subprocess.PIPE, stderr=subprocess.PIPE) as script:
+                if rests:
+                    script.stdin.write(text)
+                    script.stdin.close()
+                    found = stop_behind(server, wanted.count(b"\n"), script.stdout)
+                    wanted += b"no Stopped\n"
+                    complaint = script.stderr.read()
+                    script.wait(MOST_SECONDS)
+                else:
+                    found, complaint = script.communicate(text, timeout=MOST_SECONDS)
+        check(f"case {name} as a script", found == wanted, difference(wanted, found, name))
+        refused = re.search(rb"(?m)^no ", wanted) is not None
+        ended = script.returncode, complaint
+        check(f"case {name} as a script: its status", ended == (int(refused), b""), repr(ended))
+
+
+def check_client(program, mountctl):
+    """The other program asks this one."""
+
+    def run(server, *words):
+        done = subprocess.run([mountctl, server.path, *words], capture_output=True, timeout=MOST_SECONDS)
+        return done.returncode, done.stdout, done.stderr
+
+    with Server(program, "--sessions", "2") as server:
+        check("mountctl: ok", run(server, "mkfs", "a b", "tmpfs", "none") == (0, b"ok 1\n", b""))
+        check("mountctl: no", run(server, "show", "1") == (1, b"no NoNamespace\n", b""))
+        with server.free(), server.free():
+            for _ in range(50):
+                found = run(server, "show", "1")
+                check("mountctl beside as many sessions as may be", found == (1, b"no TooMany\n", b""), repr(found))
+        end = time.monotonic() + STOP
+        while (found := run(server, "stop"))[1] == b"no TooMany\n" and time.monotonic() < end:
+            time.sleep(0.01)
+        check("mountctl: stop", found == (0, b"ok\n", b"") and server.ends() == (0, b""), repr(found))
+
+
+# A request, what a server of no worth writes to it, and how much of that is printed.
+NO_ANSWERS = (
+    ("show 1", b"ok 1 1\nnonsense\n", 7),
+    ("show 1", b"no Such\n", 0),
+    ("newns a", b"ok\n", 0),
+    ("take 1", b"ok 2\nevent 1 1 1\n- 2 2\n", 5),
+    ("follow 1", b"event 1 1 1\n- 2\nok 2\n", 16),
+)
+
+
+def check_no_answers(mountctl):
+    """What is no answer to a request is a connection fault, and is not printed."""
+    with tempfile.TemporaryDirectory() as folder, socket.socket(socket.AF_UNIX) as door:
+        path = os.path.join(folder, "s")
+        door.bind(path)
+        door.listen()
+        door.settimeout(MOST_SECONDS)
+        for request, answer, printed in NO_ANSWERS:
+            words = [mountctl, path, *request.split()]
+            with subprocess.Popen(words, stdout=subprocess.PIPE, stderr=subprocess.PIPE) as client:
+                with door.accept()[0] as stream, stream.makefile("rb") as lines:
+                    asked = lines.readline()
+                    stream.sendall(answer)
+                found = client.communicate(timeout=MOST_SECONDS)
+            check(f"mountctl {request}, and {answer!r}: its line", asked == request.encode() + b"\n", repr(asked))
+            wanted = (3, (answer[:printed], b"mountctl: connection fault\n"))
+            check(f"mountctl {request}, and {answer!r}", (client.returncode, found) == wanted, repr(found))
+
+
+# What a mirror of namespace 1 prints once the group of its slave's master has no mount there any more.
+RETOLD = b"""ok 3 9
+1 1 0:1 / / rw,relatime - tmpfs none rw
+2 1 0:2 / /w rw,relatime shared:1 - ext4 /dev/x rw
+4 1 0:2 / /f rw,relatime master:2 propagate_from:1 - ext4 /dev/x rw
+"""
+
+
+def check_retold(program, mountctl):
+    """A mirror follows a slave that comes to tell a group above its master. The change is made between its two requests."""
+    lines = cases.load("propagate-from").requests()
+    opening = lines.index(b"watch all")
+    with Server(program) as server, server.client() as client, server.client() as passed_on:
+        for line in lines[:opening]:
+            client.ask(line)
+        with tempfile.TemporaryDirectory() as folder, socket.socket(socket.AF_UNIX) as door:
+            path = os.path.join(folder, "s")
+            door.bind(path)
+            door.listen()
+            door.settimeout(MOST_SECONDS)
+            words = [mountctl, path, "mirror", "1", "1"]
+            with subprocess.Popen(words, stdout=subprocess.PIPE, stderr=subprocess.PIPE) as mirror:
+                with door.accept()[0] as stream, stream.makefile("rb") as requests:
+                    for changes in ([lines[opening + 1]], []):
+                        answer = passed_on.ask(requests.readline().removesuffix(b"\n"))
+                        for change in changes:
+                            client.ask(change)
+                        stream.sendall(b"".join(line + b"\n" for line in answer))
+                found = mirror.communicate(timeout=MOST_SECONDS)
+    check("a mirror of a slave", (mirror.returncode, found) == (0, (RETOLD, b"")), repr(found))
