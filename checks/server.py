@@ -25,6 +25,7 @@ from running import MOST_SECONDS, check, difference, failures, shown
 from serving import START, STOP, Broken, Client, Server, send_input, stop_behind, until_it_rests
 from soak import check_soak
 from stopping import check_cut_off, check_stop
+from wanting import check_wanting
 
 # The limit of a line and what may follow it without a line end.
 LINE = 8_192
@@ -245,6 +246,7 @@ PARTS = {
     "lag": check_lag,
     "many": check_many,
     "signals": check_signals,
+    "wanting": check_wanting,
 }
 
 

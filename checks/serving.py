@@ -36,6 +36,10 @@ class Broken(Exception):
     """An answer of another form than its request has."""
 
 
+class Ended(Broken):
+    """The end of a connection in the place of an answer."""
+
+
 class Client:
     """A connection, and the lines that came over it."""
 
@@ -83,7 +87,9 @@ class Client:
             while not re.match(rb"ok \d+$|no [A-Za-z]+$", lines[-1] or b"no End"):
                 lines.append(self.line())
             return lines
-        found = re.fullmatch(COUNTS.get(request.split(b" ")[0], NO_COUNT), lines[0] or b"")
+        if lines == [None]:
+            raise Ended(f"the connection ended in the place of the answer to {shown(request)}")
+        found = re.fullmatch(COUNTS.get(request.split(b" ")[0], NO_COUNT), lines[0])
         lines += [self.line() for _ in range(int(found[1]) if found else 0)]
         if None in lines:
             raise Broken(f"the connection ended in the answer to {shown(request)}")
@@ -128,11 +134,11 @@ def stop_behind(server, lines, output):
 class Server:
     """A server in a folder of its own, which ends with the block."""
 
-    def __init__(self, program, *arguments):
+    def __init__(self, program, *arguments, environment=None):
         self.folder = tempfile.mkdtemp()
         self.path = os.path.join(self.folder, "socket")
-        words = [program, self.path, *arguments]
-        self.process = subprocess.Popen(words, stdin=subprocess.DEVNULL, stdout=subprocess.PIPE, stderr=subprocess.PIPE)
+        words, pipe = [program, self.path, *arguments], subprocess.PIPE
+        self.process = subprocess.Popen(words, stdin=subprocess.DEVNULL, stdout=pipe, stderr=pipe, env=environment)
 
     def __enter__(self):
         end = time.monotonic() + MOST_SECONDS
