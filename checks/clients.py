@@ -7,7 +7,7 @@ import tempfile
 import time
 
 import cases
-from running import MOST_SECONDS, check, difference
+from running import MOST_SECONDS, check, difference, run, shown
 from serving import STOP, Server, stop_behind, until_it_rests
 
 
@@ -37,21 +37,60 @@ def check_scripts(program, mountctl):
 def check_client(program, mountctl):
     """The other program asks this one."""
 
-    def run(server, *words):
-        done = subprocess.run([mountctl, server.path, *words], capture_output=True, timeout=MOST_SECONDS)
-        return done.returncode, done.stdout, done.stderr
-
     with Server(program, "--sessions", "2") as server:
-        check("mountctl: ok", run(server, "mkfs", "a b", "tmpfs", "none") == (0, b"ok 1\n", b""))
-        check("mountctl: no", run(server, "show", "1") == (1, b"no NoNamespace\n", b""))
+
+        def asked(*words):
+            return run(mountctl, b"", server.path, *words)
+
+        check("mountctl: ok", asked("mkfs", "a b", "tmpfs", "none") == (0, b"ok 1\n", b""))
+        check("mountctl: no", asked("show", "1") == (1, b"no NoNamespace\n", b""))
         with server.free(), server.free():
             for _ in range(50):
-                found = run(server, "show", "1")
+                found = asked("show", "1")
                 check("mountctl beside as many sessions as may be", found == (1, b"no TooMany\n", b""), repr(found))
         end = time.monotonic() + STOP
-        while (found := run(server, "stop"))[1] == b"no TooMany\n" and time.monotonic() < end:
+        while (found := asked("stop"))[1] == b"no TooMany\n" and time.monotonic() < end:
             time.sleep(0.01)
         check("mountctl: stop", found == (0, b"ok\n", b"") and server.ends() == (0, b""), repr(found))
+
+
+# Words of a mirror that is none, and what is said of them.
+NO_MIRRORS = "mirror", "mirror 1", "mirror x 1", "mirror 01 1", "mirror 1 0", "mirror 1 1048577", "mirror 1 1 1", "mirror 1 -1"
+MIRROR_WORDS = b"mountctl: mirror takes a namespace and a count of 1 to 1048576\n"
+CONNECTION_FAULT = 3, b"", b"mountctl: connection fault\n"
+
+
+def check_faulty_words(mountctl):
+    """Faulty arguments have status 2 and say what is wrong, also where there is no server."""
+    none = os.path.join(os.path.dirname(mountctl), "none", "socket")
+    for words in NO_MIRRORS:
+        found = run(mountctl, b"", none, *words.split())
+        check(f"mountctl {words}", found == (2, b"", MIRROR_WORDS), repr(found))
+    found = run(mountctl, b"", none, b"\xff")
+    check("mountctl: a word that is no text", found == (2, b"", b"mountctl: an argument is not UTF-8\n"), repr(found))
+    for words, said in ([none], b"WORD"), (["--frobnicate", none], b"'--frobnicate'"):
+        status, text, complaint = run(mountctl, b"", *words)
+        check(f"mountctl: faulty arguments {words}", (status, text) == (2, b"") and said in complaint, shown(complaint))
+    status, text, complaint = run(mountctl, b"", "--help")
+    check("mountctl: help", (status, complaint) == (0, b"") and text.startswith(b"Usage: mountctl"), shown(text))
+
+
+def check_statuses(program, mountctl):
+    """Each status of the other program, beside those of its answers."""
+    check_faulty_words(mountctl)
+    with Server(program) as server:
+        found = run(mountctl, b"", server.path, "mirror", "9", "1")
+        check("mountctl: a mirror of no namespace", found == (1, b"no NoNamespace\n", b""), repr(found))
+        found = run(mountctl, b"", server.path, "-")
+        check("mountctl: an empty script", found == (0, b"", b""), repr(found))
+        # An output that takes nothing, and an input that cannot be read: a folder.
+        for words, stream in ("show 1", "1>/dev/full"), ("-", "1>/dev/full"), ("-", "0</"):
+            found = run("sh", b"show 1\n", "-c", f'exec "$0" "$1" {words} {stream}', mountctl, server.path)
+            check(f"mountctl {words} {stream}", found == CONNECTION_FAULT, repr(found))
+        found = run(mountctl, b"", server.path + "s", "show", "1")
+        check("mountctl without a server", found == CONNECTION_FAULT, repr(found))
+        ended = server.stop()
+        check("mountctl: the server's end", ended == (0, b""), repr(ended))
 
 
 # A request, what a server of no worth writes to it, and how much of that is printed.

@@ -11,6 +11,7 @@ mirrors.
 """
 import argparse
 import contextlib
+import errno
 import os
 import re
 import stat
@@ -20,12 +21,15 @@ import threading
 import time
 
 import cases
-from clients import check_client, check_no_answers, check_retold, check_scripts
-from running import MOST_SECONDS, check, difference, failures, shown
+from clients import check_client, check_no_answers, check_retold, check_scripts, check_statuses
+from running import MOST_SECONDS, check, difference, failures, library, shown
 from serving import START, STOP, Broken, Client, Server, send_input, stop_behind, until_it_rests
 from soak import check_soak
 from stopping import check_cut_off, check_stop
 from wanting import check_wanting
+
+# How many failed accepts in succession end a server.
+MOST_FAILURES = 1_000
 
 # The limit of a line and what may follow it without a line end.
 LINE = 8_192
@@ -235,8 +239,27 @@ def check_signals(program):
         check_stopped("no signal", server)
 
 
+def check_accept(program):
+    """999 failed accepts in succession are borne, again and again, and the 1,000th ends the server."""
+    with tempfile.TemporaryDirectory() as folder:
+        preloaded = library(folder, "fail_io")
+
+        def failing(times):
+            return {"LD_PRELOAD": preloaded, "FAIL_ACCEPT": f"0 0 {times} {errno.EMFILE} 1"}
+
+        with Server(program, environment=failing(MOST_FAILURES - 1)) as server, server.client() as client:
+            check("a session behind 999 failed accepts", client.ask(b"show 1") == [b"no NoNamespace"])
+            client.socket.close()
+            check_stopped("999 failed accepts", server)
+        with Server(program, environment=failing(MOST_FAILURES)) as server:
+            ended = server.ends()
+            check("1,000 failed accepts", ended == (1, b"mountd: cannot accept\n"), repr(ended))
+            check("1,000 failed accepts: the socket is gone", not os.path.exists(server.path))
+
+
 PARTS = {
     "paths": check_paths,
+    "accept": check_accept,
     "limit": check_limit,
     "cases": check_cases,
     "pipeline": check_pipeline,
@@ -255,6 +278,7 @@ def check_server(program, seconds, mountctl, only):
     parts = dict(PARTS, soak=lambda program: check_soak(program, seconds, mountctl))
     if mountctl:
         parts["client"] = lambda program: check_client(program, mountctl)
+        parts["statuses"] = lambda program: check_statuses(program, mountctl)
         parts["no answers"] = lambda program: check_no_answers(mountctl)
         parts["retold"] = lambda program: check_retold(program, mountctl)
         parts["scripts"] = lambda program: check_scripts(program, mountctl)
