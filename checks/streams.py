@@ -12,6 +12,9 @@ from running import MOST_SECONDS, check, run, shown
 
 def check_input(program):
     fault = (1, b"", b"mountd: read fault\n")
+    for count, answer in (8_192, b"no BadLine\n"), (8_193, b"no TooLong\n"):
+        check(f"a line of {count} bytes without end", run(program, b"x" * count) == (0, answer, b""))
+        check(f"a line of {count} bytes", run(program, b"x" * count + b"\n") == (0, answer, b""))
     check("a line of 2,000,000 bytes", run(program, b"x" * 2_000_000) == fault)
     check("a line of 1,056,769 bytes without end", run(program, b"x" * 1_056_769) == fault)
     long = b"x" * 1_056_768 + b"\nshow 1\n"
