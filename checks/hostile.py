@@ -148,7 +148,8 @@ PIECES = (
     b"|  |\\|\\040|\\011|\\012|\\134|\\04|\\0400|\\041|\\\\|\0|/|//|/.|/..|./|0|-1|+1|1.|\t|\r|\xff|\xc3\xa9|=|,|,,| rec| less|"
     b" set=|set=ro,|prop=|1024|1025|1048577|18446744073709551615|18446744073709551616|9999999999999999999999|#|>|$|'|\""
 ).split(b"|")
-LENGTHS = [NAME - 1, NAME, NAME + 1, PATH - 1, PATH, PATH + 1, LINE - 1, LINE, LINE + 1, 3 * LINE]
+SHORT_LENGTHS = [NAME - 1, NAME, NAME + 1]
+LENGTHS = [PATH - 1, PATH, PATH + 1, LINE - 1, LINE, LINE + 1, 3 * LINE]
 
 
 def whole(chance):
@@ -164,7 +165,9 @@ def whole(chance):
 def lengthened(chance, line):
     """A line of which a word, or the line, comes to a length at a limit."""
     words = line.split(b" ")
-    at, most = chance.randrange(len(words)), chance.choice(LENGTHS)
+    at, most = chance.randrange(len(words)), chance.choice(SHORT_LENGTHS)
+    if chance.random() < 0.2:
+        most = chance.choice(LENGTHS)
     if chance.random() < 0.5:
         most -= len(line) - len(words[at])
     missing = max(most - len(words[at]), 0)
@@ -193,7 +196,7 @@ def broken(chance, line):
         return line[:end] + line[at:]
     if way == 6:
         return line + b" " + chance.choice(chance.choice(list(WORDS.values())))
-    return lengthened(chance, line) if chance.random() < 0.1 else line[:end]
+    return lengthened(chance, line) if chance.random() < 0.5 else line[:end]
 
 
 def hostile(chance):
