@@ -37,7 +37,7 @@ class Faulty:
 
     def __init__(self, program, text, folder, *arguments):
         self.program, self.text, self.arguments = program, text, arguments
-        self.preloaded, self.told = os.path.join(folder, "fail_io.so"), os.path.join(folder, "calls")
+        self.preloaded = os.path.join(folder, "fail_io.so")
         self.status, self.output, self.complaint = run(program, text, *arguments)
 
     def run(self, stream, number, *, most=0, behind=0, times=ALWAYS, each=False, told=None):
@@ -69,13 +69,13 @@ def at_once(call, items):
         list(pool.map(call, items))
 
 
-def places(text):
-    """The first byte of a text, the first behind a line, one in the middle of its longest answer, and its last."""
-    return 0, text.index(b"\n") + 1, text.index(b"space 2") + 3, len(text) - 1
+def places(text, part):
+    """The places of the first byte of a text, the first behind a line, one within this part of it, and its last."""
+    return 0, text.index(b"\n") + 1, text.index(part) + 3, len(text) - 1
 
 
 def check_interrupted_writes(faulty):
-    for behind in places(faulty.output):
+    for behind in places(faulty.output, b"space 2"):
         name = f"interrupted writes behind {behind} bytes"
         found = faulty.run("FAIL_WRITE", errno.EINTR, behind=behind, times=MOST_INTERRUPTIONS - 1)
         faulty.check_whole(f"999 {name}", found)
@@ -86,7 +86,7 @@ def check_interrupted_writes(faulty):
 
 
 def check_interrupted_reads(faulty):
-    for behind in places(faulty.text.replace(b"watch all", b"space 2  ")):
+    for behind in places(faulty.text, b"watch all"):
         name = f"interrupted reads behind {behind} bytes"
         found = faulty.run("FAIL_READ", errno.EINTR, behind=behind, times=MOST_INTERRUPTIONS - 1)
         faulty.check_whole(f"999 {name}", found)

@@ -10,6 +10,7 @@ It needs a C compiler, `cc`.
 """
 import concurrent.futures
 import functools
+import itertools
 import os
 import tempfile
 import time
@@ -39,7 +40,7 @@ LOSING = b"take", b"close"
 NO_MEMORY = [b"no NoMemory"]
 OUT_OF_MEMORY = 1, b"mountd: out of memory\n"
 
-# How many allocations more than were counted may be refused until none is met: threads take turns.
+# How many runs at most look for one that meets none, behind the allocations that were counted.
 MORE = 50
 
 # How often a server is asked to stop: one of the requests may want memory.
@@ -178,8 +179,7 @@ def check_wanting(program):
         check("its answers", good and whole.answers == refusing.plain(whole.served()), repr(whole.answers))
         with concurrent.futures.ThreadPoolExecutor(os.cpu_count()) as pool:
             met = sum(pool.map(refusing.refuse, range(1, count + 1)))
-        more = count
-        while met == more and more < count + MORE and refusing.refuse(more + 1):
-            met, more = met + 1, more + 1
-    check("each allocation of a server is refused", met == more > 0, f"{met} of {more}")
-    print(f"{met} allocations of a server refused in turn")
+        behind = range(count + 1, count + 1 + MORE)
+        more = sum(itertools.takewhile(bool, map(refusing.refuse, behind)))
+    check("allocations of a server are refused until a run meets none", met > 0 and more < MORE, f"{met} and {more}")
+    print(f"{met + more} allocations of a server refused in turn, of {count} that were counted")
