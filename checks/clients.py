@@ -7,8 +7,9 @@ import tempfile
 import time
 
 import cases
+from memory import Refusing, Words
 from running import MOST_SECONDS, check, difference, run, shown
-from serving import STOP, Server, stop_behind, until_it_rests
+from serving import START, STOP, Server, stop_behind, until_it_rests
 
 
 def check_scripts(program, mountctl):
@@ -91,6 +92,36 @@ def check_statuses(program, mountctl):
         check("mountctl without a server", found == CONNECTION_FAULT, repr(found))
         ended = server.stop()
         check("mountctl: the server's end", ended == (0, b""), repr(ended))
+
+
+class Asked(Words):
+    """A run of the other program, of which a refused allocation is a connection fault behind a part of what it prints."""
+
+    def allows(self, status, text, complaint):
+        return (status, b"", complaint) == CONNECTION_FAULT and self.plain[1].startswith(text)
+
+
+class Script(Asked):
+    """The same, with lines to send."""
+
+    input = b"show 1\nfind 1 /m\n"
+
+
+def check_refused(program, mountctl):
+    """Each allocation of the other program is refused in turn, with requests that change nothing."""
+    with Server(program) as server, tempfile.TemporaryDirectory() as folder:
+        with server.free() as client:
+            for line in START:
+                client.ask(line)
+        refusing, total = Refusing(folder), 0
+        for kind, words in (Asked, "show 1"), (Asked, "watch all"), (Asked, "mirror 9 1"), (Script, "-"):
+            asked = kind(mountctl, [server.path, *words.split()])
+            count = refusing.count(asked)
+            refusing.each(asked, f"mountctl {words}", count)
+            total += count
+        print(f"{total} allocations of mountctl refused in turn", flush=True)
+        ended = server.stop()
+        check("mountctl without memory: the server's end", ended == (0, b""), repr(ended))
 
 
 # A request, what a server of no worth writes to it, and how much of that is printed.
