@@ -4,10 +4,10 @@
 Usage: checks/server.py MOUNTD [MOUNTCTL] [--seconds N]
 
 A plain client speaks with servers that are started here, each in a folder of its own: the cases,
-sockets that cannot be made, the limit of sessions, a stop, clients that are gone or do not read, many
-connections, and then 32 sessions at once for N seconds, 20 if not said. With MOUNTCTL that program is
-checked too (clients.py), the cases are sent as its scripts, and a quarter of the 32 sessions are its
-mirrors.
+sockets that cannot be made, accepts that fail, the limit of sessions, a stop (stopping.py), clients that are
+gone or do not read, many connections, allocations that are refused (wanting.py), and then 32 sessions at once for
+N seconds, 20 if not said (soak.py). With MOUNTCTL that program is checked too (clients.py), the cases are sent as its
+scripts, and a quarter of the 32 sessions are its mirrors.
 """
 import argparse
 import contextlib
