@@ -22,8 +22,8 @@ A line that begins with `$`, right above the first input line, has further argum
 
 Directly under an input line stand its answers, as they come; an input line that the session no
 longer reads has none. A comment begins with `#`. It stands above an input line or at the end, and a
-case begins with one. No answer of the server is empty or begins with `>` or `#`, so each line is of
-one kind; a case that says otherwise is refused, and so is an answer.
+case begins with one. No answer of the server is empty or begins with `>`, `#` or `$`, so each line is
+of one kind; a case that says otherwise is refused, and so is an answer.
 """
 import os
 import re
@@ -98,7 +98,7 @@ class Case(NamedTuple):
 
 def refuse_answer(line):
     """Refuses a line that no answer may have."""
-    if line == b"" or line.startswith((b">", b"#")):
+    if line == b"" or line.startswith((b">", b"#", b"$")):
         raise Bad(f"an answer that cannot stand in a case: {shown(line)!r}")
 
 
@@ -130,9 +130,10 @@ def parse(text):
         elif line.startswith(b">"):
             turns.append(Turn(comments, line, []))
             comments = []
-        elif line == b"" or comments or not turns:
-            raise Bad(f"an answer under no input line, or an empty line: {shown(line)!r}")
+        elif comments or not turns:
+            raise Bad(f"an answer under no input line: {shown(line)!r}")
         else:
+            refuse_answer(line)
             turns[-1].answers.append(line)
     for at, turn in enumerate(turns):
         refuse_line(turn.written, at == len(turns) - 1)
@@ -203,11 +204,16 @@ NO_CASES = [
     b"# Two writings of the empty line.\n> \nno BadLine\n",
     b"# A mark of its own.\n>! quit\nok\n",
     b"# Input behind its end.\n>. show 1\nno BadLine\n> quit\nok\n",
+    b"# Arguments behind an input line.\n> quit\n$ --queue 2\nok\n",
+    b"# Arguments in the place of an answer.\n> quit\n$ok\n",
+    b"# Arguments of no word.\n$\n> quit\nok\n",
+    b"# Arguments twice.\n$ --queue 2\n$ --queue 2\n> quit\nok\n",
+    b"# Arguments of no session.\n$ --queue 2\n",
     b"# Nothing is repeated.\n>* quit\nok\n",
     b"# A lone brace.\n>* {2 a}}\nno BadLine\n",
 ]
 
-NO_ANSWERS = [b"> ok\n", b">\n", b"# ok\n", b"\n", b"ok"]
+NO_ANSWERS = [b"> ok\n", b">\n", b"# ok\n", b"$ ok\n", b"$\n", b"\n", b"ok"]
 
 
 def is_refused(call, *arguments):

@@ -4,23 +4,26 @@ The proofs say that a refused growth leaves everything as it was, not where `NoM
 This says, for each allocation of the program in each of these sessions: either one request is answered
 `no NoMemory`, and all other answers are those of the session without this request; or the program
 ends with status 1 and `mountd: out of memory` on standard error, before any answer. A line that is
-refused for its form, and `quit`, are never answered so.
+refused for its form, and `quit`, are never answered so. A session of which no allocation was refused
+fails.
 
 It needs a C compiler, `cc`.
 """
 import concurrent.futures
 import os
-import subprocess
 import tempfile
 
 import cases
-from running import TOP, answer_groups, check, run, shown
+from running import answer_groups, check, library, run, shown
 
 # The lines that may want memory; each is accepted in one of the sessions.
 WORDS = b"mkfs mkdir newns copyns dropns mount bind rbind move umount setattr show find watch take follow close".split()
 
-# Sessions of more allocations are left out: they have the lines of others many times over.
+# Sessions of more allocations are left out, and named: they have the lines of others many times over.
 MOST_ALLOCATIONS = 5_000
+
+# Runs with other arguments, which serve no session.
+OTHER_WORDS = ["--help"], ["a", "b"], ["--frobnicate"], ["/"]
 
 NO_MEMORY = [b"no NoMemory"]
 FOUND_WITHOUT_MEMORY = [], [b"no BadLine"], [b"no TooLong"], [b"no NoWatcher"], [b"no WatcherOpen"]
@@ -65,45 +68,57 @@ class Session:
         return groups == self.without(refused[0]) and self.may_want_memory(refused[0])
 
 
-def library(folder):
-    """The shared library that refuses one allocation."""
-    made = os.path.join(folder, "refuse_nth.so")
-    source = os.path.join(TOP, "checks", "refuse_nth.c")
-    subprocess.run(["cc", "-shared", "-fPIC", "-O1", "-o", made, source, "-ldl"], check=True)
-    return made
+class Refusing:
+    """Runs of the program with the library that counts allocations, and refuses one."""
+
+    def __init__(self, folder):
+        self.preloaded = library(folder, "refuse_nth")
+        self.told = os.path.join(folder, "count")
+
+    def run(self, asked, **settings):
+        return run(asked.program, asked.input, *asked.arguments, environment={"LD_PRELOAD": self.preloaded, **settings})
+
+    def count(self, asked):
+        """How many allocations a run makes that is answered as it is without the library."""
+        check("a run whose allocations are counted", self.run(asked, COUNT_TO=self.told) == asked.plain)
+        with open(self.told, encoding="ascii") as file:
+            return int(file.read())
+
+    def each(self, asked, name, count):
+        """Refuses each allocation of a run in turn; behind the last one there is none to refuse."""
+
+        def refuse(nth):
+            told = self.run(asked, REFUSE_NTH=str(nth))
+            check(f"allocation {nth} of {name} refused", asked.allows(*told), shown(told[1] + told[2]))
+
+        check(f"an allocation of {name} is refused", count > 0)
+        with concurrent.futures.ThreadPoolExecutor(os.cpu_count()) as pool:
+            list(pool.map(refuse, range(1, count + 1)))
+        check(f"{name} without a refused allocation", self.run(asked, REFUSE_NTH=str(count + 1)) == asked.plain)
 
 
-def allocations(asked, preloaded, folder):
-    """How many allocations a session makes."""
-    told = os.path.join(folder, "count")
-    answers = run(asked.program, asked.input, *asked.arguments, environment={"LD_PRELOAD": preloaded, "COUNT_TO": told})
-    check("a session whose allocations are counted", answers == asked.plain)
-    with open(told) as file:
-        return int(file.read())
+class Words:
+    """A run with other arguments, which says what it says, or that memory is missing."""
+
+    input = b""
+
+    def __init__(self, program, words):
+        self.program, self.arguments = program, words
+        self.plain = run(program, self.input, *words)
+
+    def allows(self, *told):
+        return told in (self.plain, OUT_OF_MEMORY)
 
 
-def refuse_each(asked, name, preloaded, count):
-    """Refuses each allocation of a session in turn; behind the last one there is none to refuse."""
-
-    def refusing(nth):
-        return run(asked.program, asked.input, *asked.arguments, environment={"LD_PRELOAD": preloaded, "REFUSE_NTH": str(nth)})
-
-    def refuse(nth):
-        told = refusing(nth)
-        check(f"allocation {nth} of {name} refused", asked.allows(*told), shown(told[1] + told[2]))
-
-    with concurrent.futures.ThreadPoolExecutor(os.cpu_count()) as pool:
-        list(pool.map(refuse, range(1, count + 1)))
-    check(f"{name} without a refused allocation", refusing(count + 1) == asked.plain)
-
-
-def refuse_arguments(program, preloaded):
-    """Refuses each allocation of runs with other arguments, which say what they say, or that memory is missing."""
-    for words in ("--help",), ("a", "b"), ("--frobnicate",), ("/",):
-        plain = run(program, b"", *words)
-        for nth in range(1, 100):
-            told = run(program, b"", *words, environment={"LD_PRELOAD": preloaded, "REFUSE_NTH": str(nth)})
-            check(f"allocation {nth} with {' '.join(words)} refused", told in (plain, OUT_OF_MEMORY), shown(told[2]))
+def refuse_arguments(program, refusing):
+    """Refuses each allocation of runs with other arguments, and answers how many there were."""
+    total = 0
+    for words in OTHER_WORDS:
+        asked = Words(program, words)
+        count = refusing.count(asked)
+        refusing.each(asked, f"a run with {' '.join(words)}", count)
+        total += count
+    return total
 
 
 def check_words(sessions):
@@ -118,17 +133,22 @@ def check_words(sessions):
 
 
 def check_memory(program):
-    sessions = {}
+    sessions, left_out = {}, {}
     with tempfile.TemporaryDirectory() as folder:
-        preloaded = library(folder)
+        refusing = Refusing(folder)
         for name in cases.names():
             asked = Session(program, cases.load(name))
-            count = allocations(asked, preloaded, folder)
+            count = refusing.count(asked)
             if count <= MOST_ALLOCATIONS:
                 sessions[name] = (asked, count)
+            else:
+                left_out[name] = count
         for name, (asked, count) in sessions.items():
-            refuse_each(asked, name, preloaded, count)
-        refuse_arguments(program, preloaded)
+            refusing.each(asked, name, count)
+        others = refuse_arguments(program, refusing)
     check_words([asked for asked, _ in sessions.values()])
     total = sum(count for _, count in sessions.values())
-    print(f"{total} allocations of {len(sessions)} sessions refused in turn")
+    check("allocations of sessions are refused", total > 0)
+    print(f"{total} allocations of {len(sessions)} sessions refused in turn, and {others} with other arguments")
+    longer = ", ".join(f"{name} ({count})" for name, count in left_out.items())
+    print(f"left out for more than {MOST_ALLOCATIONS} allocations: {longer or 'no session'}")

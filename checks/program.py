@@ -3,9 +3,9 @@
 
 The parts are those of the other modules here: the format of cases and the cases (cases.py), README's
 example (readme.py), the tables (tables.py), odd input, closed streams and arguments (streams.py), the
-limits (limits.py), memory that stays level (level.py), worlds of many mounts (shapes.py) and allocations that
-are refused (memory.py). A failure is printed with what shows why, and then the status is 1. The server on a
-socket is for server.py.
+faults of reads and writes (faults.py), limits (limits.py), memory that stays level (level.py), worlds of many
+mounts (shapes.py) and allocations that are refused (memory.py). A failure is printed with what shows why, and
+then the status is 1. The server on a socket is for server.py.
 
 --update checks nothing: it writes the program's answers into cases/ and checks/shapes.txt, and from there
 README.md's example and the program's own crates/mountd/stdin and stdout. What it has changed is to be read.
@@ -15,6 +15,7 @@ import os
 import time
 
 import cases
+import faults
 import level
 import limits
 import memory
@@ -34,6 +35,7 @@ PARTS = {
     "input": streams.check_input,
     "closed": streams.check_closed,
     "arguments": streams.check_arguments,
+    "faults": faults.check_faults,
     "limits": limits.check_limits,
     "level": level.check_level,
     "shapes": shapes.check_shapes,

@@ -1,16 +1,17 @@
 /*
- * Loaded before a program (LD_PRELOAD), refuses its allocation number REFUSE_NTH, counted from 1; and
- * writes the number of its allocations to the file COUNT_TO as it ends.
+ * Loaded before a program (LD_PRELOAD), refuses its allocation number REFUSE_NTH, counted from 1 over all
+ * threads; and writes the number of its allocations to the file COUNT_TO as it ends.
  */
 #define _GNU_SOURCE
 #include <dlfcn.h>
+#include <stdatomic.h>
 #include <stddef.h>
 #include <stdio.h>
 #include <stdlib.h>
 #include <unistd.h>
 
 static long refused;
-static long asked;
+static atomic_long asked;
 
 __attribute__((constructor)) static void start(void) {
     const char *text = getenv("REFUSE_NTH");
@@ -19,7 +20,9 @@ __attribute__((constructor)) static void start(void) {
 
 static void tell(void) {
     const char *name = getenv("COUNT_TO");
-    long count = asked;
+    long count = atomic_load(&asked);
+    /* What fopen asks for is none of the program's. */
+    refused = 0;
     FILE *file = name ? fopen(name, "w") : NULL;
     if (file) {
         fprintf(file, "%ld\n", count);
@@ -40,7 +43,7 @@ void _exit(int status) {
 }
 
 static int is_refused(void) {
-    return ++asked == refused;
+    return atomic_fetch_add(&asked, 1) + 1 == refused;
 }
 
 void *malloc(size_t size) {

@@ -50,6 +50,14 @@ def session(program, lines):
     return run(program, b"".join(line + b"\n" for line in lines))
 
 
+def library(folder, name):
+    """The shared library of this C file here, made in a folder, to be loaded before a program."""
+    made = os.path.join(folder, f"{name}.so")
+    source = os.path.join(TOP, "checks", f"{name}.c")
+    subprocess.run(["cc", "-shared", "-fPIC", "-O1", "-o", made, source, "-ldl"], check=True)
+    return made
+
+
 def group_end(lines, at, request):
     """Where the answer to a request ends that begins at a line."""
     word = request.split(b" ")[0]

@@ -4,15 +4,16 @@
 Usage: checks/server.py MOUNTD [MOUNTCTL] [--seconds N]
 
 A plain client speaks with servers that are started here, each in a folder of its own: the cases,
-sockets that cannot be made, the limit of sessions, a stop, clients that are gone or do not read, many
-connections, and then 32 sessions at once for N seconds, 20 if not said. With MOUNTCTL the cases are
-sent as its scripts too, and a quarter of the 32 sessions are its mirrors.
+sockets that cannot be made, accepts that fail, the limit of sessions, a stop (stopping.py), clients that are
+gone or do not read, many connections, allocations that are refused (wanting.py), and then 32 sessions at once for
+N seconds, 20 if not said (soak.py). With MOUNTCTL that program is checked too (clients.py), the cases are sent as its
+scripts, and a quarter of the 32 sessions are its mirrors.
 """
 import argparse
 import contextlib
+import errno
 import os
 import re
-import socket
 import stat
 import subprocess
 import tempfile
@@ -20,10 +21,15 @@ import threading
 import time
 
 import cases
-from running import MOST_SECONDS, check, difference, failures, shown
-from serving import START, STOP, Broken, Client, Server, send_input
+from clients import check_client, check_no_answers, check_refused, check_retold, check_scripts, check_statuses
+from running import MOST_SECONDS, check, difference, failures, library, shown
+from serving import START, STOP, Broken, Client, Server, send_input, stop_behind, until_it_rests
 from soak import check_soak
 from stopping import check_cut_off, check_stop
+from wanting import check_wanting
+
+# How many failed accepts in succession end a server.
+MOST_FAILURES = 1_000
 
 # The limit of a line and what may follow it without a line end.
 LINE = 8_192
@@ -34,29 +40,6 @@ def check_stopped(name, server):
     """A stop ends the server with status 0 and no word, and its socket is gone."""
     ended = server.stop()
     check(f"{name}: the end", ended == (0, b"") and not os.path.exists(server.path), repr(ended))
-
-
-def until_it_rests(case):
-    """The input of a case up to a `follow` that rests on a socket, what answers it, and whether one does.
-
-    In a plain session a `follow` that finds fewer posts than it asks for ends with them. On a socket it
-    waits for more, until a stop ends it here.
-    """
-    for at, turn in enumerate(case.turns):
-        asked = re.fullmatch(rb"follow (\d+)\n", turn.sent())
-        told = re.fullmatch(rb"ok (\d+)", turn.answers[-1]) if asked and turn.answers else None
-        if told and int(told[1]) < int(asked[1]):
-            begun = case._replace(turns=[*case.turns[:at], turn._replace(answers=turn.answers[:-1])])
-            return begun.input(), begun.output(), True
-    return case.input(), case.output(), False
-
-
-def stop_behind(server, lines, output):
-    """Stops a server once so many lines of an output have come, and answers them with the rest of it."""
-    begun = b"".join(output.readline() for _ in range(lines))
-    with server.free() as other:
-        other.ask(b"stop")
-    return begun + output.read()
 
 
 def check_cases(program):
@@ -78,29 +61,6 @@ def check_cases(program):
             check(f"case {name} on a socket: a plain end", is_plain)
             if rests or b"stop" in case.requests():
                 check(f"case {name} on a socket: its stop", server.ends() == (0, b""))
-
-
-def check_scripts(program, mountctl):
-    """Each of these cases, as a script of the other program, is answered as its file says."""
-    for name in cases.names():
-        case = cases.load(name)
-        text, wanted, rests = until_it_rests(case)
-        with Server(program, *case.arguments) as server:
-            words = [mountctl, server.path, "-"]
-            with subprocess.Popen(words, stdin=subprocess.PIPE, stdout=subprocess.PIPE, stderr=subprocess.PIPE) as script:
-                if rests:
-                    script.stdin.write(text)
-                    script.stdin.close()
-                    found = stop_behind(server, wanted.count(b"\n"), script.stdout)
-                    wanted += b"no Stopped\n"
-                    complaint = script.stderr.read()
-                    script.wait(MOST_SECONDS)
-                else:
-                    found, complaint = script.communicate(text, timeout=MOST_SECONDS)
-        check(f"case {name} as a script", found == wanted, difference(wanted, found, name))
-        refused = re.search(rb"(?m)^no ", wanted) is not None
-        ended = script.returncode, complaint
-        check(f"case {name} as a script: its status", ended == (int(refused), b""), repr(ended))
 
 
 def is_refused(program, path):
@@ -227,12 +187,12 @@ def check_lag(program):
         other.answer(b"watch all")
         posts = other.answer(b"follow 1048576")
         check("a client that does not read lags", posts[-1] == b"no Lagged", shown(posts[-1]))
-        check("posts before a lag", are_in_order(posts[:-1]))
+        check("posts before a lag", are_in_order(posts[:-1]), f"{len(posts)} lines")
         check_stopped_by("a client that does not read", server, client)
 
 
 def are_in_order(lines):
-    """Whether the posts of each namespace have numbers without gap."""
+    """Whether there are posts, and those of each namespace have numbers without gap."""
     last = {}
     for line in lines:
         found = re.fullmatch(rb"event (\d+) (\d+) \d+", line)
@@ -241,7 +201,7 @@ def are_in_order(lines):
             if last.get(space, number - 1) != number - 1:
                 return False
             last[space] = number
-    return True
+    return last != {}
 
 
 def check_many(program):
@@ -279,89 +239,27 @@ def check_signals(program):
         check_stopped("no signal", server)
 
 
-def check_client(program, mountctl):
-    """The other program asks this one."""
+def check_accept(program):
+    """999 failed accepts in succession are borne, again and again, and the 1,000th ends the server."""
+    with tempfile.TemporaryDirectory() as folder:
+        preloaded = library(folder, "fail_io")
 
-    def run(server, *words):
-        done = subprocess.run([mountctl, server.path, *words], capture_output=True, timeout=MOST_SECONDS)
-        return done.returncode, done.stdout, done.stderr
+        def failing(times):
+            return {"LD_PRELOAD": preloaded, "FAIL_ACCEPT": f"0 0 {times} {errno.EMFILE} 1"}
 
-    with Server(program, "--sessions", "2") as server:
-        check("mountctl: ok", run(server, "mkfs", "a b", "tmpfs", "none") == (0, b"ok 1\n", b""))
-        check("mountctl: no", run(server, "show", "1") == (1, b"no NoNamespace\n", b""))
-        with server.free(), server.free():
-            for _ in range(50):
-                found = run(server, "show", "1")
-                check("mountctl beside as many sessions as may be", found == (1, b"no TooMany\n", b""), repr(found))
-        end = time.monotonic() + STOP
-        while (found := run(server, "stop"))[1] == b"no TooMany\n" and time.monotonic() < end:
-            time.sleep(0.01)
-        check("mountctl: stop", found == (0, b"ok\n", b"") and server.ends() == (0, b""), repr(found))
-
-
-# A request, what a server of no worth writes to it, and how much of that is printed.
-NO_ANSWERS = (
-    ("show 1", b"ok 1 1\nnonsense\n", 7),
-    ("show 1", b"no Such\n", 0),
-    ("newns a", b"ok\n", 0),
-    ("take 1", b"ok 2\nevent 1 1 1\n- 2 2\n", 5),
-    ("follow 1", b"event 1 1 1\n- 2\nok 2\n", 16),
-)
-
-
-def check_no_answers(mountctl):
-    """What is no answer to a request is a connection fault, and is not printed."""
-    with tempfile.TemporaryDirectory() as folder, socket.socket(socket.AF_UNIX) as door:
-        path = os.path.join(folder, "s")
-        door.bind(path)
-        door.listen()
-        door.settimeout(MOST_SECONDS)
-        for request, answer, printed in NO_ANSWERS:
-            words = [mountctl, path, *request.split()]
-            with subprocess.Popen(words, stdout=subprocess.PIPE, stderr=subprocess.PIPE) as client:
-                with door.accept()[0] as stream, stream.makefile("rb") as lines:
-                    asked = lines.readline()
-                    stream.sendall(answer)
-                found = client.communicate(timeout=MOST_SECONDS)
-            check(f"mountctl {request}, and {answer!r}: its line", asked == request.encode() + b"\n", repr(asked))
-            wanted = (3, (answer[:printed], b"mountctl: connection fault\n"))
-            check(f"mountctl {request}, and {answer!r}", (client.returncode, found) == wanted, repr(found))
-
-
-# What a mirror of namespace 1 prints once the group of its slave's master has no mount there any more.
-RETOLD = b"""ok 3 9
-1 1 0:1 / / rw,relatime - tmpfs none rw
-2 1 0:2 / /w rw,relatime shared:1 - ext4 /dev/x rw
-4 1 0:2 / /f rw,relatime master:2 propagate_from:1 - ext4 /dev/x rw
-"""
-
-
-def check_retold(program, mountctl):
-    """A mirror follows a slave that comes to tell a group above its master. The change is made between its two requests."""
-    lines = cases.load("propagate-from").requests()
-    opening = lines.index(b"watch all")
-    with Server(program) as server, server.client() as client, server.client() as passed_on:
-        for line in lines[:opening]:
-            client.ask(line)
-        with tempfile.TemporaryDirectory() as folder, socket.socket(socket.AF_UNIX) as door:
-            path = os.path.join(folder, "s")
-            door.bind(path)
-            door.listen()
-            door.settimeout(MOST_SECONDS)
-            words = [mountctl, path, "mirror", "1", "1"]
-            with subprocess.Popen(words, stdout=subprocess.PIPE, stderr=subprocess.PIPE) as mirror:
-                with door.accept()[0] as stream, stream.makefile("rb") as requests:
-                    for changes in ([lines[opening + 1]], []):
-                        answer = passed_on.ask(requests.readline().removesuffix(b"\n"))
-                        for change in changes:
-                            client.ask(change)
-                        stream.sendall(b"".join(line + b"\n" for line in answer))
-                found = mirror.communicate(timeout=MOST_SECONDS)
-    check("a mirror of a slave", (mirror.returncode, found) == (0, (RETOLD, b"")), repr(found))
+        with Server(program, environment=failing(MOST_FAILURES - 1)) as server, server.client() as client:
+            check("a session behind 999 failed accepts", client.ask(b"show 1") == [b"no NoNamespace"])
+            client.socket.close()
+            check_stopped("999 failed accepts", server)
+        with Server(program, environment=failing(MOST_FAILURES)) as server:
+            ended = server.ends()
+            check("1,000 failed accepts", ended == (1, b"mountd: cannot accept\n"), repr(ended))
+            check("1,000 failed accepts: the socket is gone", not os.path.exists(server.path))
 
 
 PARTS = {
     "paths": check_paths,
+    "accept": check_accept,
     "limit": check_limit,
     "cases": check_cases,
     "pipeline": check_pipeline,
@@ -371,6 +269,7 @@ PARTS = {
     "lag": check_lag,
     "many": check_many,
     "signals": check_signals,
+    "wanting": check_wanting,
 }
 
 
@@ -379,6 +278,8 @@ def check_server(program, seconds, mountctl, only):
     parts = dict(PARTS, soak=lambda program: check_soak(program, seconds, mountctl))
     if mountctl:
         parts["client"] = lambda program: check_client(program, mountctl)
+        parts["statuses"] = lambda program: check_statuses(program, mountctl)
+        parts["refused"] = lambda program: check_refused(program, mountctl)
         parts["no answers"] = lambda program: check_no_answers(mountctl)
         parts["retold"] = lambda program: check_retold(program, mountctl)
         parts["scripts"] = lambda program: check_scripts(program, mountctl)

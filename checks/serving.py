@@ -36,6 +36,10 @@ class Broken(Exception):
     """An answer of another form than its request has."""
 
 
+class Ended(Broken):
+    """The end of a connection in the place of an answer."""
+
+
 class Client:
     """A connection, and the lines that came over it."""
 
@@ -83,7 +87,9 @@ class Client:
             while not re.match(rb"ok \d+$|no [A-Za-z]+$", lines[-1] or b"no End"):
                 lines.append(self.line())
             return lines
-        found = re.fullmatch(COUNTS.get(request.split(b" ")[0], NO_COUNT), lines[0] or b"")
+        if lines == [None]:
+            raise Ended(f"the connection ended in the place of the answer to {shown(request)}")
+        found = re.fullmatch(COUNTS.get(request.split(b" ")[0], NO_COUNT), lines[0])
         lines += [self.line() for _ in range(int(found[1]) if found else 0)]
         if None in lines:
             raise Broken(f"the connection ended in the answer to {shown(request)}")
@@ -102,14 +108,37 @@ def send_input(client, text, rests=False):
             client.socket.shutdown(socket.SHUT_WR)
 
 
+def until_it_rests(case):
+    """The input of a case up to a `follow` that rests on a socket, what answers it, and whether one does.
+
+    In a plain session a `follow` that finds fewer posts than it asks for ends with them. On a socket it
+    waits for more, until a stop ends it here.
+    """
+    for at, turn in enumerate(case.turns):
+        asked = re.fullmatch(rb"follow (\d+)\n", turn.sent())
+        told = re.fullmatch(rb"ok (\d+)", turn.answers[-1]) if asked and turn.answers else None
+        if told and int(told[1]) < int(asked[1]):
+            begun = case._replace(turns=[*case.turns[:at], turn._replace(answers=turn.answers[:-1])])
+            return begun.input(), begun.output(), True
+    return case.input(), case.output(), False
+
+
+def stop_behind(server, lines, output):
+    """Stops a server once so many lines of an output have come, and answers them with the rest of it."""
+    begun = b"".join(output.readline() for _ in range(lines))
+    with server.free() as other:
+        other.ask(b"stop")
+    return begun + output.read()
+
+
 class Server:
     """A server in a folder of its own, which ends with the block."""
 
-    def __init__(self, program, *arguments):
+    def __init__(self, program, *arguments, environment=None):
         self.folder = tempfile.mkdtemp()
         self.path = os.path.join(self.folder, "socket")
-        words = [program, self.path, *arguments]
-        self.process = subprocess.Popen(words, stdin=subprocess.DEVNULL, stdout=subprocess.PIPE, stderr=subprocess.PIPE)
+        words, pipe = [program, self.path, *arguments], subprocess.PIPE
+        self.process = subprocess.Popen(words, stdin=subprocess.DEVNULL, stdout=pipe, stderr=pipe, env=environment)
 
     def __enter__(self):
         end = time.monotonic() + MOST_SECONDS

@@ -291,7 +291,8 @@ def check_soak(program, seconds, mountctl):
         soak.run()
         told = ", ".join(f"{count} {word}" for word, count in soak.counts.items())
         print(f"soak of {seconds} s: {told}", flush=True)
-        check("a soak does something", min(soak.counts["commands"], soak.counts["posts"]) > 0, told)
+        done = {word: count for word, count in soak.counts.items() if word in ("commands", "posts", "lags")}
+        check("a soak sends commands, takes posts and lags", min(done.values()) > 0, told)
         compared = soak.counts["mirrors compared"]
         check("mirrors of a soak", compared == (MIRRORS if mountctl else 0), told)
         with contextlib.ExitStack() as stack:

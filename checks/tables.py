@@ -1,9 +1,10 @@
 """The tables of the cases, read by others.
 
-`findmnt` of util-linux, where it is there, reads each table of cases/ as the file it is made after,
-/proc/pid/mountinfo, and finds the columns that its lines have: that another program understands the
-lines is no matter of a proof here. And the table of each copied namespace is that of the namespace it
-was copied from, up to the mounts' numbers.
+`findmnt` of util-linux reads each table of cases/ as the file it is made after, /proc/pid/mountinfo,
+and finds the columns that its lines have: that another program understands the lines is no matter of
+a proof here. Where it is not there, that is said, and is a failure where CI is set in the environment.
+And the table of each copied namespace is that of the namespace it was copied from, up to the mounts'
+numbers. A comparison of nothing fails.
 """
 import json
 import os
@@ -85,7 +86,8 @@ def tables_of(case):
 
 def check_findmnt(_program):
     if not shutil.which("findmnt"):
-        print("findmnt is not there, so it reads no table")
+        print("findmnt (package util-linux) is not there, so it reads no table")
+        check("findmnt is there, as CI needs it", not os.environ.get("CI"))
         return
     read = 0
     with tempfile.TemporaryDirectory() as folder:
@@ -107,7 +109,7 @@ def renumbered(rows, numbers):
 
 def check_copies(program):
     """Copies each namespace of each case that ends with one, and compares the two tables."""
-    compared = 0
+    compared, all_rows = 0, 0
     for name in cases.names():
         lines = cases.load(name).requests()
         if b"quit" in lines or b"stop" in lines:
@@ -124,7 +126,9 @@ def check_copies(program):
             good = rows != [] and renumbered(rows, numbers) == copies
             check(f"copy of namespace {space} of {name}", good, shown(b"\n".join(old + new)))
             compared += 1
-    print(f"{compared} namespaces compared with their copies")
+            all_rows += len(rows)
+    check("rows of a namespace and its copy are compared", min(compared, all_rows) > 0)
+    print(f"{compared} namespaces of {all_rows} rows compared with their copies")
 
 
 def namespaces(program, lines):

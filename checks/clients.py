@@ -1,0 +1,185 @@
+"""The other program, which asks a server: its answers, its statuses, and what it makes of a server of no worth."""
+import os
+import re
+import socket
+import subprocess
+import tempfile
+import time
+
+import cases
+from memory import Refusing, Words
+from running import MOST_SECONDS, check, difference, run, shown
+from serving import START, STOP, Server, stop_behind, until_it_rests
+
+
+def check_scripts(program, mountctl):
+    """Each of these cases, as a script of the other program, is answered as its file says."""
+    for name in cases.names():
+        case = cases.load(name)
+        text, wanted, rests = until_it_rests(case)
+        with Server(program, *case.arguments) as server:
+            words = [mountctl, server.path, "-"]
+            with subprocess.Popen(words, stdin=subprocess.PIPE, stdout=subprocess.PIPE, stderr=subprocess.PIPE) as script:
+                if rests:
+                    script.stdin.write(text)
+                    script.stdin.close()
+                    found = stop_behind(server, wanted.count(b"\n"), script.stdout)
+                    wanted += b"no Stopped\n"
+                    complaint = script.stderr.read()
+                    script.wait(MOST_SECONDS)
+                else:
+                    found, complaint = script.communicate(text, timeout=MOST_SECONDS)
+        check(f"case {name} as a script", found == wanted, difference(wanted, found, name))
+        refused = re.search(rb"(?m)^no ", wanted) is not None
+        ended = script.returncode, complaint
+        check(f"case {name} as a script: its status", ended == (int(refused), b""), repr(ended))
+
+
+def check_client(program, mountctl):
+    """The other program asks this one."""
+
+    with Server(program, "--sessions", "2") as server:
+
+        def asked(*words):
+            return run(mountctl, b"", server.path, *words)
+
+        check("mountctl: ok", asked("mkfs", "a b", "tmpfs", "none") == (0, b"ok 1\n", b""))
+        check("mountctl: no", asked("show", "1") == (1, b"no NoNamespace\n", b""))
+        with server.free(), server.free():
+            for _ in range(50):
+                found = asked("show", "1")
+                check("mountctl beside as many sessions as may be", found == (1, b"no TooMany\n", b""), repr(found))
+        end = time.monotonic() + STOP
+        while (found := asked("stop"))[1] == b"no TooMany\n" and time.monotonic() < end:
+            time.sleep(0.01)
+        check("mountctl: stop", found == (0, b"ok\n", b"") and server.ends() == (0, b""), repr(found))
+
+
+# Words of a mirror that is none, and what is said of them.
+NO_MIRRORS = "mirror", "mirror 1", "mirror x 1", "mirror 01 1", "mirror 1 0", "mirror 1 1048577", "mirror 1 1 1", "mirror 1 -1"
+MIRROR_WORDS = b"mountctl: mirror takes a namespace and a count of 1 to 1048576\n"
+CONNECTION_FAULT = 3, b"", b"mountctl: connection fault\n"
+
+
+def check_faulty_words(mountctl):
+    """Faulty arguments have status 2 and say what is wrong, also where there is no server."""
+    none = os.path.join(os.path.dirname(mountctl), "none", "socket")
+    for words in NO_MIRRORS:
+        found = run(mountctl, b"", none, *words.split())
+        check(f"mountctl {words}", found == (2, b"", MIRROR_WORDS), repr(found))
+    found = run(mountctl, b"", none, b"\xff")
+    check("mountctl: a word that is no text", found == (2, b"", b"mountctl: an argument is not UTF-8\n"), repr(found))
+    for words, said in ([none], b"WORD"), (["--frobnicate", none], b"'--frobnicate'"):
+        status, text, complaint = run(mountctl, b"", *words)
+        check(f"mountctl: faulty arguments {words}", (status, text) == (2, b"") and said in complaint, shown(complaint))
+    status, text, complaint = run(mountctl, b"", "--help")
+    check("mountctl: help", (status, complaint) == (0, b"") and text.startswith(b"Usage: mountctl"), shown(text))
+
+
+def check_statuses(program, mountctl):
+    """Each status of the other program, beside those of its answers."""
+    check_faulty_words(mountctl)
+    with Server(program) as server:
+        found = run(mountctl, b"", server.path, "mirror", "9", "1")
+        check("mountctl: a mirror of no namespace", found == (1, b"no NoNamespace\n", b""), repr(found))
+        found = run(mountctl, b"", server.path, "-")
+        check("mountctl: an empty script", found == (0, b"", b""), repr(found))
+        # An output that takes nothing, and an input that cannot be read: a folder.
+        for words, stream in ("show 1", "1>/dev/full"), ("-", "1>/dev/full"), ("-", "0</"):
+            found = run("sh", b"show 1\n", "-c", f'exec "$0" "$1" {words} {stream}', mountctl, server.path)
+            check(f"mountctl {words} {stream}", found == CONNECTION_FAULT, repr(found))
+        found = run(mountctl, b"", server.path + "s", "show", "1")
+        check("mountctl without a server", found == CONNECTION_FAULT, repr(found))
+        ended = server.stop()
+        check("mountctl: the server's end", ended == (0, b""), repr(ended))
+
+
+class Asked(Words):
+    """A run of the other program, of which a refused allocation is a connection fault behind a part of what it prints."""
+
+    def allows(self, status, text, complaint):
+        return (status, b"", complaint) == CONNECTION_FAULT and self.plain[1].startswith(text)
+
+
+class Script(Asked):
+    """The same, with lines to send."""
+
+    input = b"show 1\nfind 1 /m\n"
+
+
+def check_refused(program, mountctl):
+    """Each allocation of the other program is refused in turn, with requests that change nothing."""
+    with Server(program) as server, tempfile.TemporaryDirectory() as folder:
+        with server.free() as client:
+            for line in START:
+                client.ask(line)
+        refusing, total = Refusing(folder), 0
+        for kind, words in (Asked, "show 1"), (Asked, "watch all"), (Asked, "mirror 9 1"), (Script, "-"):
+            asked = kind(mountctl, [server.path, *words.split()])
+            count = refusing.count(asked)
+            refusing.each(asked, f"mountctl {words}", count)
+            total += count
+        print(f"{total} allocations of mountctl refused in turn", flush=True)
+        ended = server.stop()
+        check("mountctl without memory: the server's end", ended == (0, b""), repr(ended))
+
+
+# A request, what a server of no worth writes to it, and how much of that is printed.
+NO_ANSWERS = (
+    ("show 1", b"ok 1 1\nnonsense\n", 7),
+    ("show 1", b"no Such\n", 0),
+    ("newns a", b"ok\n", 0),
+    ("take 1", b"ok 2\nevent 1 1 1\n- 2 2\n", 5),
+    ("follow 1", b"event 1 1 1\n- 2\nok 2\n", 16),
+)
+
+
+def check_no_answers(mountctl):
+    """What is no answer to a request is a connection fault, and is not printed."""
+    with tempfile.TemporaryDirectory() as folder, socket.socket(socket.AF_UNIX) as door:
+        path = os.path.join(folder, "s")
+        door.bind(path)
+        door.listen()
+        door.settimeout(MOST_SECONDS)
+        for request, answer, printed in NO_ANSWERS:
+            words = [mountctl, path, *request.split()]
+            with subprocess.Popen(words, stdout=subprocess.PIPE, stderr=subprocess.PIPE) as client:
+                with door.accept()[0] as stream, stream.makefile("rb") as lines:
+                    asked = lines.readline()
+                    stream.sendall(answer)
+                found = client.communicate(timeout=MOST_SECONDS)
+            check(f"mountctl {request}, and {answer!r}: its line", asked == request.encode() + b"\n", repr(asked))
+            wanted = (3, (answer[:printed], b"mountctl: connection fault\n"))
+            check(f"mountctl {request}, and {answer!r}", (client.returncode, found) == wanted, repr(found))
+
+
+# What a mirror of namespace 1 prints once the group of its slave's master has no mount there any more.
+RETOLD = b"""ok 3 9
+1 1 0:1 / / rw,relatime - tmpfs none rw
+2 1 0:2 / /w rw,relatime shared:1 - ext4 /dev/x rw
+4 1 0:2 / /f rw,relatime master:2 propagate_from:1 - ext4 /dev/x rw
+"""
+
+
+def check_retold(program, mountctl):
+    """A mirror follows a slave that comes to tell a group above its master. The change is made between its two requests."""
+    lines = cases.load("propagate-from").requests()
+    opening = lines.index(b"watch all")
+    with Server(program) as server, server.client() as client, server.client() as passed_on:
+        for line in lines[:opening]:
+            client.ask(line)
+        with tempfile.TemporaryDirectory() as folder, socket.socket(socket.AF_UNIX) as door:
+            path = os.path.join(folder, "s")
+            door.bind(path)
+            door.listen()
+            door.settimeout(MOST_SECONDS)
+            words = [mountctl, path, "mirror", "1", "1"]
+            with subprocess.Popen(words, stdout=subprocess.PIPE, stderr=subprocess.PIPE) as mirror:
+                with door.accept()[0] as stream, stream.makefile("rb") as requests:
+                    for changes in ([lines[opening + 1]], []):
+                        answer = passed_on.ask(requests.readline().removesuffix(b"\n"))
+                        for change in changes:
+                            client.ask(change)
+                        stream.sendall(b"".join(line + b"\n" for line in answer))
+                found = mirror.communicate(timeout=MOST_SECONDS)
+    check("a mirror of a slave", (mirror.returncode, found) == (0, (RETOLD, b"")), repr(found))
