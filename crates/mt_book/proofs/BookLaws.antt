@@ -1,12 +1,12 @@
 -- A book stays a book.
 use Rattle.std.proofs.Common.{◌≡◌, ℕ, ◌<◌, ◌≤◌, ◌^◌, List, [], ◌∷◌, ◌++◌, length, refl, sym, ap, ◌∙◌, subst, arith, length-append, Ok, Err}
 use Rattle.std.specs.List.{AllByRecursion}
-use Rattle.std.specs.Prelude.{if◌then◌else◌, Bool}
+use Rattle.std.specs.Prelude.{if◌then◌else◌, Bool, true, false, cond}
 use Rattle.std.proofs.lemmas.Bool.{lt-leb}
 use Rattle.mt_skel.specs.declared.fault.Fault.TheVariants.{JournalFull}
 use Rattle.mt_propagate.specs.World.{WorldView, world_view, empty_world}
 use Rattle.mt_propagate.specs.WellFormed.{IsWellFormed}
-use Rattle.mt_events.specs.Posts.{IsPost}
+use Rattle.mt_events.specs.Posts.{IsPost, PostView}
 use Rattle.mt_book.specs.declared.command.Command.{Command}
 use Rattle.mt_book.specs.declared.command.Reply.{Reply}
 use Rattle.mt_book.specs.declared.spare.Spare.{Spare}
@@ -114,7 +114,7 @@ book_numbers w spare ks cs more h =
 -- a command that was done on an equal world is prepared for the book
 pub prepared_for : (shown world : WorldView) (spare : Spare) (ks : List (ℕ × ℕ)) (cs : List Command) (c : Command) (p : Prepared) → IsBook shown spare ks cs → length cs < command_limit → world ≡ after cs
     → step world c ≡ Ok (world_view p.world.value, p.reply) → p.command ≡ c → p.numbers.items ≡ still_there (world_view p.world.value) (counted shown (world_view p.world.value) (with_newborn ks shown.next_space (makes_space c)))
-    → p.posts ≡ posted shown (world_view p.world.value) (with_newborn ks shown.next_space (makes_space c)) → IsCommand c → IsPrepared cs p
+    → p.posts ≡ cond p.heard (posted shown (world_view p.world.value) (with_newborn ks shown.next_space (makes_space c))) [] → IsCommand c → IsPrepared cs p
 prepared_for shown world spare ks cs c p h few w e same numbers posts texts =
     let v = world_view p.world.value in
     let done = ap (λ (x : WorldView). step x c) (sym w) ∙ e in
@@ -129,16 +129,24 @@ prepared_for shown world spare ks cs c p h few w e same numbers posts texts =
           ∙ ap (λ (x : Command). space_numbers (cs ++ x ∷ [])) (sym same);
       posts =
           posts
-          ∙ ap (λ (x : WorldView). posted x v (with_newborn ks x.next_space (makes_space c))) h.world
+          ∙ ap (λ (l : List PostView). cond p.heard l []) (ap (λ (x : WorldView). posted x v (with_newborn ks x.next_space (makes_space c))) h.world
           ∙ ap (λ (l : List (ℕ × ℕ)). posted (after cs) v (with_newborn l (after cs).next_space (makes_space c))) h.counts
           ∙ posts-next cs c v p.reply done
-          ∙ ap (posts_of cs) (sym same);
+          ∙ ap (posts_of cs) (sym same));
       texts = subst IsCommand (sym same) texts;
     }
 
 -- what was prepared has posts as their type says
 pub prepared_valid : (cs : List Command) (p : Prepared) → AllByRecursion IsCommand cs → IsPrepared cs p → AllByRecursion IsPost (prepared_posts p)
-prepared_valid cs p texts q = subst (AllByRecursion IsPost) (sym q.posts) (one_valid cs p.command q.few texts q.texts)
+prepared_valid cs p texts q = subst (AllByRecursion IsPost) (sym q.posts) (asked p.heard)
+  where
+    asked : (b : Bool) → AllByRecursion IsPost (cond b (posts_of cs p.command) [])
+    asked true = one_valid cs p.command q.few texts q.texts
+    asked false = tt
+
+-- what is asked for is told whole
+pub prepared_told : (cs : List Command) (p : Prepared) (c : Command) → IsPrepared cs p → p.command ≡ c → p.heard ≡ true → p.posts ≡ posts_of cs c
+prepared_told cs p c q same heard = q.posts ∙ ap (λ b. cond b (posts_of cs p.command) []) heard ∙ ap (posts_of cs) same
 
 -- what was prepared is answered
 pub prepared_answer : (cs : List Command) (p : Prepared) (c : Command) (r : Reply) → IsPrepared cs p → p.command ≡ c → r ≡ p.reply → answer cs c ≡ Ok r

@@ -10,7 +10,7 @@ ghost use Rattle.mt_book.specs.Step.{after};
 ghost use Rattle.mt_book.specs.Commands.{IsCommand};
 ghost use Rattle.mt_book.specs.History.{space_number, posts_of};
 ghost use Rattle.mt_book.specs.Book.{answer, accepts, command_limit, found_at, space_in, number_in, spaces_of, AreAnswered};
-ghost use Rattle.mt_book.specs.Kept.{IsPrepared, prepared_command, prepared_reply, prepared_posts};
+ghost use Rattle.mt_book.specs.Kept.{IsPrepared, prepared_command, prepared_reply, prepared_posts, is_heard};
 
 use crate::changes::changes_after;
 use crate::command::{Command, Reply};
@@ -113,10 +113,25 @@ impl Book {
     ///
     /// Refused as `JournalFull` after 1,048,576 accepted commands, else with the first of the command's own
     /// refusals that holds, and as `NoMemory`.
-    #[tactic(auto, unfolding(crate::specs::Book::answer))]
     pub fn prepare(&mut self, command: &Command) -> Result<Prepared, Fault>
         ensures prepared { IfOk result (λ prepared. IsPrepared self.old.journal prepared) }
         ensures command { IfOk result (λ prepared. prepared_command prepared ≡ command.now) }
+        ensures heard { IfOk result (λ prepared. is_heard prepared ≡ true) }
+        ensures valid { IfOk result (λ prepared. AllByRecursion IsPost (prepared_posts prepared)) }
+        ensures room { OnOk result (0 < self.new.room) }
+        ensures refused { IfErr result (λ fault. fault ≢ Fault.NoMemory → answer self.old.journal command.now ≡ Err fault) }
+        ensures unchanged { self.new.journal ≡ self.old.journal }
+    {
+        self.prepare_for(command, true)
+    }
+
+    /// The same, where `heard` says whether somebody asks for the posts. If nobody does, none is made: a namespace is
+    /// looked at up to the first mount whose row changed.
+    #[tactic(auto, unfolding(crate::specs::Book::answer))]
+    pub fn prepare_for(&mut self, command: &Command, heard: bool) -> Result<Prepared, Fault>
+        ensures prepared { IfOk result (λ prepared. IsPrepared self.old.journal prepared) }
+        ensures command { IfOk result (λ prepared. prepared_command prepared ≡ command.now) }
+        ensures heard { IfOk result (λ prepared. is_heard prepared ≡ heard) }
         ensures valid { IfOk result (λ prepared. AllByRecursion IsPost (prepared_posts prepared)) }
         ensures room { OnOk result (0 < self.new.room) }
         ensures refused { IfErr result (λ fault. fault ≢ Fault.NoMemory → answer self.old.journal command.now ≡ Err fault) }
@@ -146,6 +161,7 @@ impl Book {
                     &ids,
                     &self.numbers,
                     command,
+                    heard,
                 )?;
                 Ok(Prepared {
                     world,
@@ -153,6 +169,7 @@ impl Book {
                     reply,
                     numbers: changes.numbers,
                     posts: changes.posts,
+                    heard,
                 })
             }
         }
@@ -174,6 +191,7 @@ impl Book {
             reply,
             numbers,
             posts,
+            heard: _heard,
         } = prepared;
         let shown = mem::replace(&mut self.shown, Shown::Later(world));
         self.spare = lagging(shown);

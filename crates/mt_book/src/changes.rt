@@ -1,5 +1,5 @@
 //! What a command changes in the tables of namespaces.
-ghost use Rattle.std.specs.Prelude.{◌≡◌, ℕ, ◌+◌, ◌++◌, ◌≤◌, IfOk, OnOk, IsOkUnless, IsTrue, map, length, slice_index_or};
+ghost use Rattle.std.specs.Prelude.{◌≡◌, ℕ, ◌+◌, ◌++◌, ◌≤◌, IfOk, OnOk, IsOkUnless, IsTrue, None, cond, [], map, slice_index_or};
 ghost use Rattle.std.specs.Option.{option_to_list};
 ghost use Rattle.std.specs.Arc.{arc_value};
 ghost use Rattle.mt_skel.specs.Keyed.{rises};
@@ -14,6 +14,7 @@ ghost use Rattle.mt_book.specs.Book.{AreNumbers, next_number, next_post, counted
 
 use crate::command::Command;
 use crate::parts::parts_of;
+use mt_events::news::is_changed;
 use mt_events::post::Post;
 use mt_events::shared::SharedPosts;
 use mt_events::touched::change_of;
@@ -66,48 +67,18 @@ fn still_there(
     Ok(there)
 }
 
-/// The post of a namespace that had this number, if its table is not the same in two worlds. No mounts are looked at but
-/// these, which have all whose rows differ. Refused as `NoMemory` alone.
-fn post_between(
-    old: &World,
-    new: &World,
-    ids: &[MountId],
-    space: SpaceId,
+/// What a command changes in one namespace.
+#[derive(Drop)]
+struct Change {
+    /// The number that the namespace has now.
     number: u64,
-) -> Result<Option<Post>, Fault>
-    requires old { IsWellFormed (world_view old.now) }
-    requires new { IsWellFormed (world_view new.now) }
-    requires rising { IsTrue (rises (λ k. k) ids.now) }
-    requires held { HoldsChanged (table_of (world_view old.now) space) (table_of (world_view new.now) space) ids.now }
-    requires few { number ≤ command_limit }
-    ensures post { IfOk result (λ post. post ≡ next_post (world_view old.now) (world_view new.now) space number) }
-    ensures memory { IsOkUnless result Fault.NoMemory }
-{
-    let Some(delta) = change_of(old, new, space, ids)? else {
-        return Ok(None);
-    };
-    Ok(Some(Post::telling(space, number + 1, delta)))
+    /// Its post, if its table changed and somebody asks for it.
+    post: Option<Post>,
 }
 
-/// Appends a post, if there is one, and says how many there are. Refused as `NoMemory` alone.
-fn push_post(alloc: Global, posts: &mut Vec<Arc<Post>>, post: Option<Post>) -> Result<u64, Fault>
-    ensures posts { OnOk result (map (λ p. arc_value p) posts.new.items ≡ map (λ p. arc_value p) posts.old.items ++ option_to_list post) }
-    ensures count { IfOk result (λ count. count ≡ length (option_to_list post)) }
-    ensures memory { IsOkUnless result Fault.NoMemory }
-{
-    let Some(post) = post else {
-        return Ok(0);
-    };
-    let shared = Arc::new(alloc, post)?;
-    posts.push(shared)?;
-    Ok(1)
-}
-
-/// Appends the post of a namespace that had this number, if there is one, and answers the number that
-/// it has now. Refused as `NoMemory` alone.
-fn push_change(
-    alloc: Global,
-    posts: &mut Vec<Arc<Post>>,
+/// The number that a namespace has now which had this one: one more if its table is not the same in two worlds. No
+/// mounts are looked at but these, which have all whose rows differ. Refused as `NoMemory` alone.
+fn number_between(
     old: &World,
     new: &World,
     ids: &[MountId],
@@ -119,23 +90,88 @@ fn push_change(
     requires rising { IsTrue (rises (λ k. k) ids.now) }
     requires held { HoldsChanged (table_of (world_view old.now) space) (table_of (world_view new.now) space) ids.now }
     requires few { number ≤ command_limit }
-    ensures posts { OnOk result (map (λ p. arc_value p) posts.new.items ≡ map (λ p. arc_value p) posts.old.items ++ option_to_list (next_post (world_view old.now) (world_view new.now) space number)) }
     ensures number { IfOk result (λ k. k ≡ next_number (world_view old.now) (world_view new.now) space number) }
     ensures memory { IsOkUnless result Fault.NoMemory }
 {
-    let post = post_between(old, new, ids, space, number)?;
-    let count = push_post(alloc, posts, post)?;
-    Ok(number + count)
+    let changed = is_changed(old, new, space, ids)?;
+    Ok(if changed { number + 1 } else { number })
 }
 
-/// What changes between two worlds with the same directories, for namespaces that had these numbers. `touched` has each
-/// mount that changed. Refused as `NoMemory` alone.
+/// The same, and the post if there is one. Refused as `NoMemory` alone.
+fn post_between(
+    old: &World,
+    new: &World,
+    ids: &[MountId],
+    space: SpaceId,
+    number: u64,
+) -> Result<Change, Fault>
+    requires old { IsWellFormed (world_view old.now) }
+    requires new { IsWellFormed (world_view new.now) }
+    requires rising { IsTrue (rises (λ k. k) ids.now) }
+    requires held { HoldsChanged (table_of (world_view old.now) space) (table_of (world_view new.now) space) ids.now }
+    requires few { number ≤ command_limit }
+    ensures number { IfOk result (λ change. change.number ≡ next_number (world_view old.now) (world_view new.now) space number) }
+    ensures post { IfOk result (λ change. change.post ≡ next_post (world_view old.now) (world_view new.now) space number) }
+    ensures memory { IsOkUnless result Fault.NoMemory }
+{
+    let Some(delta) = change_of(old, new, space, ids)? else {
+        return Ok(Change { number, post: None });
+    };
+    let number = number + 1;
+    Ok(Change {
+        number,
+        post: Some(Post::telling(space, number, delta)),
+    })
+}
+
+/// What changes in a namespace that had this number; its post only where somebody asks for it. Refused as `NoMemory`
+/// alone.
+fn change_between(
+    old: &World,
+    new: &World,
+    ids: &[MountId],
+    space: SpaceId,
+    number: u64,
+    heard: bool,
+) -> Result<Change, Fault>
+    requires old { IsWellFormed (world_view old.now) }
+    requires new { IsWellFormed (world_view new.now) }
+    requires rising { IsTrue (rises (λ k. k) ids.now) }
+    requires held { HoldsChanged (table_of (world_view old.now) space) (table_of (world_view new.now) space) ids.now }
+    requires few { number ≤ command_limit }
+    ensures number { IfOk result (λ change. change.number ≡ next_number (world_view old.now) (world_view new.now) space number) }
+    ensures post { IfOk result (λ change. change.post ≡ cond heard (next_post (world_view old.now) (world_view new.now) space number) None) }
+    ensures memory { IsOkUnless result Fault.NoMemory }
+{
+    if heard {
+        return post_between(old, new, ids, space, number);
+    }
+    let number = number_between(old, new, ids, space, number)?;
+    Ok(Change { number, post: None })
+}
+
+/// Appends a post, if there is one. Refused as `NoMemory` alone.
+fn push_post(alloc: Global, posts: &mut Vec<Arc<Post>>, post: Option<Post>) -> Result<(), Fault>
+    ensures posts { OnOk result (map (λ p. arc_value p) posts.new.items ≡ map (λ p. arc_value p) posts.old.items ++ option_to_list post) }
+    ensures memory { IsOkUnless result Fault.NoMemory }
+{
+    let Some(post) = post else {
+        return Ok(());
+    };
+    let shared = Arc::new(alloc, post)?;
+    posts.push(shared)?;
+    Ok(())
+}
+
+/// What changes between two worlds with the same directories, for namespaces that had these numbers; posts only where
+/// somebody asks for them. `touched` has each mount that changed. Refused as `NoMemory` alone.
 fn changes_between(
     alloc: Global,
     old: &World,
     new: &World,
     touched: &[MountId],
     numbers: &[(SpaceId, u64)],
+    heard: bool,
 ) -> Result<Changes, Fault>
     requires old { IsWellFormed (world_view old.now) }
     requires new { IsWellFormed (world_view new.now) }
@@ -143,7 +179,7 @@ fn changes_between(
     requires touched { IsTouched (world_view old.now) (world_view new.now) touched.now }
     requires numbers { AreNumbers numbers.now }
     ensures numbers { IfOk result (λ changes. changes.numbers.items ≡ counted (world_view old.now) (world_view new.now) numbers.now) }
-    ensures posts { IfOk result (λ changes. changes.posts ≡ posted (world_view old.now) (world_view new.now) numbers.now) }
+    ensures posts { IfOk result (λ changes. changes.posts ≡ cond heard (posted (world_view old.now) (world_view new.now) numbers.now) []) }
     ensures memory { IsOkUnless result Fault.NoMemory }
 {
     let ids = rows_touched(old, new, touched)?;
@@ -153,8 +189,9 @@ fn changes_between(
     'spaces: for i in 0..numbers.len() {
         let part = parts[i].as_slice();
         let row = numbers[i];
-        let number = push_change(alloc, &mut posts, old, new, part, row.0, row.1)?;
-        after.push((row.0, number))?;
+        let change = change_between(old, new, part, row.0, row.1, heard)?;
+        push_post(alloc, &mut posts, change.post)?;
+        after.push((row.0, change.number))?;
     }
     Ok(Changes {
         numbers: after,
@@ -173,6 +210,7 @@ fn changes_of(
     touched: &[MountId],
     numbers: &[(SpaceId, u64)],
     command: &Command,
+    heard: bool,
 ) -> Result<Changes, Fault>
     requires old { IsWellFormed (world_view old.now) }
     requires skeleton { IsSkeleton (world_view old.now).skel }
@@ -181,7 +219,7 @@ fn changes_of(
     requires touched { IsTouched (world_view old.now) (world_view new.now) touched.now }
     requires numbers { AreNumbers numbers.now }
     ensures numbers { IfOk result (λ changes. changes.numbers.items ≡ counted (world_view old.now) (world_view new.now) numbers.now) }
-    ensures posts { IfOk result (λ changes. changes.posts ≡ posted (world_view old.now) (world_view new.now) numbers.now) }
+    ensures posts { IfOk result (λ changes. changes.posts ≡ cond heard (posted (world_view old.now) (world_view new.now) numbers.now) []) }
     ensures memory { IsOkUnless result Fault.NoMemory }
 {
     if command.makes_directories() {
@@ -191,11 +229,12 @@ fn changes_of(
             posts: SharedPosts::new(Vec::new(alloc)),
         });
     }
-    changes_between(alloc, old, new, touched, numbers)
+    changes_between(alloc, old, new, touched, numbers, heard)
 }
 
 /// What a command changes for namespaces that had these numbers: those that are there. One that it makes had number 0,
-/// and one that it drops has none any more. `touched` has each mount that it changed. Refused as `NoMemory` alone.
+/// and one that it drops has none any more. `touched` has each mount that it changed. Posts are made only where somebody
+/// asks for them. Refused as `NoMemory` alone.
 pub(crate) fn changes_after(
     alloc: Global,
     old: &World,
@@ -203,6 +242,7 @@ pub(crate) fn changes_after(
     touched: &[MountId],
     numbers: &[(SpaceId, u64)],
     command: &Command,
+    heard: bool,
 ) -> Result<Changes, Fault>
     requires old { IsWellFormed (world_view old.now) }
     requires skeleton { IsSkeleton (world_view old.now).skel }
@@ -211,11 +251,11 @@ pub(crate) fn changes_after(
     requires touched { IsTouched (world_view old.now) (world_view new.now) touched.now }
     requires numbers { AreNumbers (with_newborn numbers.now (world_view old.now).next_space (makes_space command.now)) }
     ensures numbers { IfOk result (λ changes. changes.numbers.items ≡ still_there (world_view new.now) (counted (world_view old.now) (world_view new.now) (with_newborn numbers.now (world_view old.now).next_space (makes_space command.now)))) }
-    ensures posts { IfOk result (λ changes. changes.posts ≡ posted (world_view old.now) (world_view new.now) (with_newborn numbers.now (world_view old.now).next_space (makes_space command.now))) }
+    ensures posts { IfOk result (λ changes. changes.posts ≡ cond heard (posted (world_view old.now) (world_view new.now) (with_newborn numbers.now (world_view old.now).next_space (makes_space command.now))) []) }
     ensures memory { IsOkUnless result Fault.NoMemory }
 {
     let before = numbers_before(alloc, numbers, old.next_space, command.makes_space())?;
-    let changes = changes_of(alloc, old, new, touched, &before, command)?;
+    let changes = changes_of(alloc, old, new, touched, &before, command, heard)?;
     let numbers = still_there(alloc, new, &changes.numbers)?;
     Ok(Changes {
         numbers,

@@ -19,10 +19,12 @@ pub struct Prepared {
     pub(crate) reply: Reply,
     pub(crate) numbers: Vec<(SpaceId, u64)>,
     pub(crate) posts: SharedPosts,
+    /// Whether somebody asks for the posts.
+    pub(crate) heard: bool,
 }
 
 impl Prepared {
-    /// The posts that the command will give, by rising namespace.
+    /// The posts that the command will give, by rising namespace; none where nobody asks for them (`Book::prepare_for`).
     pub fn posts(&self) -> &[Arc<Post>]
         ensures { map (λ p. arc_value p) result.now ≡ prepared_posts self.now }
     {

@@ -10,3 +10,4 @@ pub mod DueLaws
 pub mod DeskLaws
 pub mod SendingLaws
 pub mod SentLaws
+pub mod HeardLaws

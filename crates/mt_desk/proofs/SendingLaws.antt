@@ -1,6 +1,6 @@
 -- The posts of a command, from what is due at the places of a desk to what its floor does.
 use Rattle.std.proofs.Common.{◌≡◌, ◌≢◌, ℕ, ◌<◌, Bool, true, false, cond, eqb, ltb, List, [], ◌∷◌, ◌++◌, length, map, set, Option, Some, slice_get, Ok, inl, inr, refl, sym, ap, ◌∙◌, subst, arith}
-use Rattle.std.specs.List.{flat_map, list_all, AllByRecursion}
+use Rattle.std.specs.List.{flat_map, list_all, list_any, AllByRecursion}
 use Rattle.std.specs.Option.{option_map_or}
 use Rattle.std.specs.Arc.{arc_value}
 use Rattle.std.proofs.lemmas.Bool.Decides.{nat_tests}
@@ -30,11 +30,12 @@ use Rattle.mt_desk.specs.Rows.{RowView, SendsRow}
 use Rattle.mt_desk.specs.declared.row.Slot.{Slot}
 use Rattle.mt_desk.specs.declared.row.Slot.TheVariants.{Parked, Used, Away}
 use Rattle.mt_desk.specs.Places.{row_in, rows_of, desk_of, slot_row, no_row, IsLine, IsUsed, IsAmong, ArePlaces, IsKept}
-use Rattle.mt_desk.specs.Sending.{PlaceDue, slot_follows, due_at, posts_at, AreDue, MaySend, SendsSlot, SendsAt, SendsAll}
+use Rattle.mt_desk.specs.Sending.{PlaceDue, slot_follows, slot_hears, due_at, posts_at, AreDue, MaySend, SendsSlot, SendsAt, SendsAll}
 use Rattle.mt_desk.proofs.PlaceLaws.{get_other, get_same, each_get, each_append, among_get, row_there, row_of_place, put_rows, put_places}
 use Rattle.mt_desk.proofs.ScheduleLaws.{rows_rise}
 use Rattle.mt_desk.proofs.ApplyLaws.{first_due, prepared_begins, row_is_due, due_rows, due_of_rows}
 use Rattle.mt_desk.proofs.SentLaws.{sent_first, left_is_run, sent_row, sent_all, sent_stays}
+use Rattle.mt_desk.proofs.HeardLaws.{due_asked}
 
 -- what is due at a place, as the floor has it
 abbrev pub keyed : List Slot → PlaceDue → Due
@@ -252,9 +253,12 @@ module _ (lines : List LineId) (c : ℕ) (journal : List Command) (last_key : �
         )
 
   -- what a book has prepared
-  module _ (x : Command) (p : Prepared) (due : List PlaceDue) (due_is : due ≡ flat_map (λ q. flat_map (due_at q slots) order) p.posts) (runs : stopped ≡ false) (prepared : IsPrepared journal p) (same : p.command ≡ x) where
+  module _ (x : Command) (p : Prepared) (due : List PlaceDue) (due_is : due ≡ flat_map (λ q. flat_map (due_at q slots) order) p.posts) (runs : stopped ≡ false) (prepared : IsPrepared journal p)
+      (heard : p.heard ≡ list_any slot_hears slots) (same : p.command ≡ x) where
     posts_are : due ≡ flat_map (λ q. flat_map (due_at q slots) order) (posts_of journal x)
-    posts_are = due_is ∙ ap (flat_map (λ q. flat_map (due_at q slots) order)) (prepared.posts ∙ ap (posts_of journal) same)
+    posts_are =
+        due_is ∙ ap (flat_map (λ q. flat_map (due_at q slots) order)) prepared.posts ∙ due_asked p.heard (posts_of journal p.command) slots order heard
+        ∙ ap (λ y. flat_map (λ q. flat_map (due_at q slots) order) (posts_of journal y)) same
 
     pub prepared_due : AreDue slots due
     prepared_due = are_due x p.reply due posts_are (prepared_begins desk x p runs prepared same)

@@ -4,6 +4,7 @@ use Rattle.std.specs.Prelude.{◌≡◌, ℕ, ◌<◌, Bool, false, cond, ◌==�
 use Rattle.std.specs.List.{AllByRecursion}
 use Rattle.std.specs.Option.{option_map_or}
 use Rattle.mt_events.specs.Posts.{PostView}
+use Rattle.mt_floor.specs.Watcher.{is_open}
 use Rattle.mt_desk.specs.Rows.{SendsRow, MayBeSent, row_follows}
 use Rattle.mt_desk.specs.declared.row.Slot.{Slot}
 use Rattle.mt_desk.specs.declared.row.Slot.TheVariants.{Parked, Used, Away}
@@ -13,12 +14,19 @@ pub record PlaceDue : Type 0 where
   pub place : ℕ
   pub post : PostView
 
--- what of a post is due to the row at a place
+-- a post is due to the row at a place
 abbrev pub slot_follows : PostView → Slot → Bool
 slot_follows p (Parked l) = false
 slot_follows p (Used r) = row_follows p r.row
 slot_follows p Away = false
 
+-- the row at a place is open, so that somebody asks for posts
+abbrev pub slot_hears : Slot → Bool
+slot_hears (Parked l) = false
+slot_hears (Used r) = is_open r.row.phase
+slot_hears Away = false
+
+-- what of a post is due to the row at a place
 abbrev pub due_at : PostView → List Slot → ℕ → List PlaceDue
 due_at p slots place = cond (option_map_or (slot_follows p) (slice_get slots place) false) (record { place = place; post = p } ∷ []) []
 

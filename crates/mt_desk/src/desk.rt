@@ -10,7 +10,7 @@ ghost use Rattle.mt_desk.specs.Calls.{IsApplied, IsMet, IsClosed};
 use crate::due::due_of;
 use crate::lines::{LINE_COUNT, Lines, Naming};
 use crate::places::{close_at, end_all, meet_at, open_at, parked_place, send_all};
-use crate::row::Slot;
+use crate::row::{Slot, is_heard};
 use crate::watcher::Watcher;
 use mt_book::book::Book;
 use mt_book::command::{Command, Reply};
@@ -97,7 +97,7 @@ impl<J: Naming> Desk<J> {
         if self.stopped {
             return Err(Fault::Stopped);
         }
-        let prepared = self.book.prepare(command)?;
+        let prepared = self.book.prepare_for(command, is_heard(&self.slots))?;
         let due = due_of(self.alloc, prepared.posts(), &self.slots, &self.order)?;
         let (reply, _) = self.book.commit(prepared);
         send_all(rt, &mut self.slots, due);

@@ -1,13 +1,13 @@
 //! What stands at the places of a desk: a line that is not in use, or the row of a watcher.
 ghost use Rattle.std.specs.Prelude.{◌≡◌, ◌+◌, ◌≤◌, ◌++◌, ◌⊎◌, ◌&&◌, List, [], ◌∷◌, length, map, set, slice_get, vec_len, vec_capacity, true, false, Some, IfSome, IfNone};
-ghost use Rattle.std.specs.List.{AllByRecursion};
+ghost use Rattle.std.specs.List.{AllByRecursion, list_any};
 ghost use Rattle.std.specs.Arc.{arc_value};
 ghost use Rattle.mt_events.specs.Posts.{PostView};
 ghost use Rattle.mt_queue.specs.PassViews.{Item};
 ghost use Rattle.mt_desk.specs.Calls.{in_time_after};
 ghost use Rattle.mt_desk.specs.Rows.{IsBegun, MeetsRow, ClosesRow, SendsRow, MayBeSent, row_follows, ended_row};
 ghost use Rattle.mt_desk.specs.Places.{line_of, capacity_of, IsHere, IsParked, IsPlace, OpensSlot, OpensAt, MeetsSlot, MeetsAt, ClosesSlot, ClosesAt, ended_slot};
-ghost use Rattle.mt_desk.specs.Sending.{slot_follows, MaySend, SendsSlot};
+ghost use Rattle.mt_desk.specs.Sending.{slot_follows, slot_hears, MaySend, SendsSlot};
 
 use mt_events::opening::{Opening, Scope};
 use mt_events::post::Post;
@@ -259,6 +259,29 @@ pub(crate) fn follows(slot: &Slot, post: &Post) -> bool
         Slot::Parked(_) => false,
         Slot::Away => false,
     }
+}
+
+/// Whether the row at a place is open.
+fn hears(slot: &Slot) -> bool
+    ensures { result ≡ slot_hears slot.now }
+{
+    match slot {
+        Slot::Used(row) => matches!(row.phase, Phase::Open),
+        Slot::Parked(_) => false,
+        Slot::Away => false,
+    }
+}
+
+/// Whether a row at one of these places is open, so that somebody asks for posts.
+pub(crate) fn is_heard(slots: &[Slot]) -> bool
+    ensures { result ≡ list_any slot_hears slots.now }
+{
+    'slots: for slot in slots {
+        if hears(slot) {
+            return true;
+        }
+    }
+    false
 }
 
 /// Sends a post to the row at a place.

@@ -21,7 +21,7 @@ use mt_propagate::world::World;
 use mt_skel::fault::Fault;
 
 /// Whether a mount is in a namespace.
-fn is_in(world: &World, space: SpaceId, id: MountId) -> bool
+pub(crate) fn is_in(world: &World, space: SpaceId, id: MountId) -> bool
     requires well_formed { IsWellFormed (world_view world.now) }
     ensures { result ≡ has row_id id (table_of (world_view world.now) space) }
 {
@@ -49,7 +49,7 @@ fn row_in(seen: &mut SeenGroups<'_>, space: SpaceId, id: MountId) -> Result<Opti
 }
 
 /// The row of a mount after, or `None` exactly where it is not there or as it was. Refused as `NoMemory` alone.
-fn new_row(
+pub(crate) fn new_row(
     before: &mut SeenGroups<'_>,
     after: &mut SeenGroups<'_>,
     space: SpaceId,

@@ -1,7 +1,7 @@
 -- What a command and a new watcher do to the rows of a floor.
 use Rattle.std.proofs.Common.{◌≡◌, ℕ, ◌+◌, Bool, true, false, cond, List, [], ◌∷◌, ◌++◌, map, length, take, drop, Option, Some, None, Ok, Err, refl, sym, ap, ◌∙◌, subst, arith, length-append}
 use Rattle.std.specs.Prelude.{Result, nat_le, if◌then◌else◌}
-use Rattle.std.specs.List.{filter, flat_map, AllByRecursion}
+use Rattle.std.specs.List.{filter, flat_map, list_any, AllByRecursion}
 use Rattle.std.proofs.lemmas.List.{take-append-le, drop-append-le, map-append}
 use Rattle.std.proofs.lemmas.Bool.{lt-leb}
 use Rattle.std.proofs.Math.Seq.{take-length}
@@ -23,11 +23,12 @@ use Rattle.mt_book.specs.Kept.{IsPrepared}
 use Rattle.mt_floor.specs.declared.watch.Phase.TheVariants.{Open as IsOpen}
 use Rattle.mt_floor.specs.declared.event.Event.TheVariants.{Apply, Open}
 use Rattle.mt_floor.specs.declared.event.Answer.TheVariants.{Replied, Opened}
-use Rattle.mt_floor.specs.Watcher.{Watcher, Due, follows, due_pairs, opening_of, followed_posts}
+use Rattle.mt_floor.specs.Watcher.{Watcher, Due, is_open, follows, due_pairs, opening_of, followed_posts}
 use Rattle.mt_floor.specs.Schedule.{Stepped, floor_step, unless, if_idle, replied, applied, opened, opening_refusal}
 use Rattle.mt_floor.specs.Rows.{RowView, new_row, row_follows, due_if, watcher_of, floor_of, IsRow, IsKept}
 use Rattle.mt_floor.proofs.FloorLaws.{followed_more, newcomer}
 use Rattle.mt_floor.proofs.BeginLaws.{opens}
+use Rattle.mt_floor.proofs.HeardLaws.{due_asked}
 use Rattle.mt_skel.proofs.MiddleLaws.{each_last, each_still}
 use Rattle.mt_floor.proofs.KeptLaws.{follows_all}
 
@@ -108,16 +109,16 @@ module _ (c : ℕ) (j : List Command) (l : ℕ) (st : Bool) (rows : List RowView
       by true r = let same : JournalFull ≡ f = cc in ap (λ y. (floor_of c j l st rows due, Err y)) same
       by false r = turned_down (step (after j) x) r
 
-  pub apply_done : (x : Command) (p : Prepared) (j' : List Command) (due' : List Due) (reply : Reply) → st ≡ false → IsPrepared j p → p.command ≡ x → j' ≡ j ++ p.command ∷ []
+  pub apply_done : (x : Command) (p : Prepared) (j' : List Command) (due' : List Due) (reply : Reply) → st ≡ false → IsPrepared j p → p.heard ≡ list_any (λ (r : RowView). is_open r.phase) rows → p.command ≡ x → j' ≡ j ++ p.command ∷ []
       → due' ≡ due_pairs p.posts (map (watcher_of j) rows) → reply ≡ p.reply
       → (floor_step (floor_of c j l st rows due) (Apply x) ≡ (floor_of c j' l st rows due', Ok (Replied reply))) × AllByRecursion (IsRow c j') rows
   unfolding floor_step
-  apply_done x p j' due' reply e q same journal new is = (
+  apply_done x p j' due' reply e q heard same journal new is = (
     ap (λ ds. if_idle ds (floor_of c j l st rows due) (applied (floor_of c j l st rows due) x)) idle
         ∙ ap (λ b. unless (first_fault (refuse_if b Stopped ∷ refuse_if (nat_le command_limit (length j)) JournalFull ∷ [])) (floor_of c j l st rows due) (replied (floor_of c j l st rows due) x (step (after j) x))) e
         ∙ ap (λ b. unless (first_fault (None ∷ refuse_if b JournalFull ∷ [])) (floor_of c j l st rows due) (replied (floor_of c j l st rows due) x (step (after j) x))) (lt-leb command_limit (length j) q.few)
         ∙ ap (replied (floor_of c j l st rows due) x) (ap (step (after j)) (sym same) ∙ q.accepted)
-        ∙ answered (sym more) (ap (λ ps. due_pairs ps (map (watcher_of j) rows)) (ap (posts_of j) (sym same) ∙ sym q.posts) ∙ sym new)
+        ∙ answered (sym more) (ap (λ ps. due_pairs ps (map (watcher_of j) rows)) (ap (posts_of j) (sym same)) ∙ sym (due_asked p.heard (posts_of j p.command) j rows heard) ∙ ap (λ ps. due_pairs ps (map (watcher_of j) rows)) (sym q.posts) ∙ sym new)
         (sym (watchers_more c j x rows h.each) ∙ ap (λ js. map (watcher_of js) rows) (sym more)),
     subst (λ js. AllByRecursion (IsRow c js) rows) (sym more) (each_still (IsRow c j) (IsRow c (j ++ x ∷ [])) (row_more c j x) rows h.each),
   )

@@ -22,3 +22,4 @@ pub mod SettledLaws
 pub mod ApplyLaws
 pub mod StepLaws
 pub mod RunningLaws
+pub mod HeardLaws

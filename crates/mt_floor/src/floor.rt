@@ -5,7 +5,7 @@ ghost use Rattle.mt_floor.specs.Schedule.{empty_floor, floor_step, run, settled,
 use crate::due::{DuePost, due_of, first_key};
 use crate::event::{Answer, Event};
 use crate::finding::{found, is_missing};
-use crate::row::Row;
+use crate::row::{Row, is_heard};
 use crate::rows::{end_all, place_of, post_at, take_at};
 use crate::watch::{Phase, WatchKey};
 use mt_book::book::Book;
@@ -127,7 +127,7 @@ impl Floor {
         if self.stopped {
             return Err(Fault::Stopped);
         }
-        let prepared = self.book.prepare(command)?;
+        let prepared = self.book.prepare_for(command, is_heard(&self.rows))?;
         let due = due_of(self.alloc, prepared.posts(), &self.rows)?;
         let (reply, _) = self.book.commit(prepared);
         self.due = due;

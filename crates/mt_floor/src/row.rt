@@ -1,7 +1,9 @@
 //! What a floor keeps of a watcher.
 ghost use Rattle.std.specs.Prelude.{◌≡◌, ◌≢◌, ◌+◌, ◌<◌, ◌^◌, map, nat_le, length, slice_get, IfOk, IsOkUnless, MatchOption, Some, None};
+ghost use Rattle.std.specs.List.{list_any};
 ghost use Rattle.std.specs.Option.{option_map};
 ghost use Rattle.std.specs.Arc.{arc_value};
+ghost use Rattle.mt_floor.specs.Watcher.{is_open};
 ghost use Rattle.mt_floor.specs.Rows.{RowView, new_row, with_post, lagged, ended, next_taken, row_follows};
 
 use crate::watch::{Meeting, Phase, WatchKey};
@@ -154,4 +156,16 @@ impl Row {
     {
         SharedPosts::new(self.queue.into_vec())
     }
+}
+
+/// Whether a watcher among these is open, so that somebody asks for posts.
+pub(crate) fn is_heard(rows: &[Row]) -> bool
+    ensures { result ≡ list_any (λ (r : RowView). is_open r.phase) rows.now }
+{
+    'rows: for row in rows {
+        if matches!(row.phase, Phase::Open) {
+            return true;
+        }
+    }
+    false
 }

@@ -10,8 +10,8 @@ use Rattle.mt_book.specs.Parts.{is_part, space_at}
 use Rattle.mt_book.proofs.TouchedLaws.{part_holds, part_is}
 use Rattle.mt_book.proofs.changes.changes_between.Goals as goal
 
-pub push_change-requires-clause-rising : goal.push_change-requires-clause-rising
-push_change-requires-clause-rising c =
+pub change_between-requires-clause-rising : goal.change_between-requires-clause-rising
+change_between-requires-clause-rising c =
     let old = world_view c.args.old.now in
     let new = world_view c.args.new.now in
     let t = is_part old new (space_at c.args.numbers.now c.spaces.i) in
@@ -21,8 +21,8 @@ push_change-requires-clause-rising c =
     let up : rises (λ k. k) ids ≡ true = ap (λ (l : List ℕ). rises (λ k. k) l) c.deref.ensures.value ∙ c.in_ok-ids.ensures.rising in
     subst (λ (l : List ℕ). rises (λ k. k) l ≡ true) (sym part) (rises-filter (λ k. k) t ids up)
 
-pub push_change-requires-clause-held : goal.push_change-requires-clause-held
-push_change-requires-clause-held c =
+pub change_between-requires-clause-held : goal.change_between-requires-clause-held
+change_between-requires-clause-held c =
     let old = world_view c.args.old.now in
     let new = world_view c.args.new.now in
     let n = space_at c.args.numbers.now c.spaces.i in

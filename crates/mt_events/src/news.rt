@@ -1,0 +1,106 @@
+//! Whether the table of a namespace changed, where nobody asks how: no row is made but to compare it.
+ghost use Rattle.std.specs.Prelude.{◌≡◌, not, IfOk, IsOkUnless, IsTrue, is_some};
+ghost use Rattle.std.specs.List.{list_any};
+ghost use Rattle.mt_skel.specs.Keyed.{rises};
+ghost use Rattle.mt_propagate.specs.World.{world_view};
+ghost use Rattle.mt_propagate.specs.WellFormed.{IsWellFormed};
+ghost use Rattle.mt_info.specs.Table.{table_of};
+ghost use Rattle.mt_events.specs.Difference.{difference, is_empty, HoldsChanged};
+ghost use Rattle.mt_events.specs.Posts.{itself};
+ghost use Rattle.mt_events.specs.ByMount.{new_row, is_news};
+
+use crate::touched::{is_in, new_row};
+use mt_info::differ::is_other;
+use mt_mounts::mount::{MountId, SpaceId};
+use mt_propagate::seen::SeenGroups;
+use mt_propagate::world::World;
+use mt_skel::fault::Fault;
+
+/// Whether the row of a mount is new after, or not as it was. Refused as `NoMemory` alone.
+fn is_new(
+    before: &mut SeenGroups<'_>,
+    after: &mut SeenGroups<'_>,
+    space: SpaceId,
+    id: MountId,
+) -> Result<bool, Fault>
+    requires before { IsWellFormed (world_view before.old) }
+    requires after { IsWellFormed (world_view after.old) }
+    ensures new { IfOk result (λ new. new ≡ is_some (new_row (table_of (world_view before.old) space) (table_of (world_view after.old) space) id)) }
+    ensures before_kept { before.new ≡ before.old }
+    ensures after_kept { after.new ≡ after.old }
+    ensures memory { IsOkUnless result Fault.NoMemory }
+{
+    let is_there = is_in(after.world(), space, id);
+    if !is_in(before.world(), space, id) {
+        return Ok(is_there);
+    }
+    if is_there && is_other(before.world(), after.world(), id) {
+        return Ok(true);
+    }
+    Ok(new_row(before, after, space, id)?.is_some())
+}
+
+/// Whether a mount left the namespace, or its row is new or not as it was. Refused as `NoMemory` alone.
+fn is_news(
+    before: &mut SeenGroups<'_>,
+    after: &mut SeenGroups<'_>,
+    space: SpaceId,
+    id: MountId,
+) -> Result<bool, Fault>
+    requires before { IsWellFormed (world_view before.old) }
+    requires after { IsWellFormed (world_view after.old) }
+    ensures news { IfOk result (λ news. news ≡ is_news (table_of (world_view before.old) space) (table_of (world_view after.old) space) id) }
+    ensures before_kept { before.new ≡ before.old }
+    ensures after_kept { after.new ≡ after.old }
+    ensures memory { IsOkUnless result Fault.NoMemory }
+{
+    if is_in(before.world(), space, id) && !is_in(after.world(), space, id) {
+        return Ok(true);
+    }
+    is_new(before, after, space, id)
+}
+
+/// Whether any of these mounts left the namespace, or has a row that is new or not as it was.
+fn any_news(
+    before: &World,
+    after: &World,
+    space: SpaceId,
+    touched: &[MountId],
+) -> Result<bool, Fault>
+    requires before { IsWellFormed (world_view before.now) }
+    requires after { IsWellFormed (world_view after.now) }
+    ensures news { IfOk result (λ news. news ≡ list_any (is_news (table_of (world_view before.now) space) (table_of (world_view after.now) space)) touched.now) }
+    ensures memory { IsOkUnless result Fault.NoMemory }
+{
+    let mut old = SeenGroups::new(before);
+    let mut new = SeenGroups::new(after);
+    'mounts: for id in touched {
+        if is_news(&mut old, &mut new, space, *id)? {
+            return Ok(true);
+        }
+    }
+    Ok(false)
+}
+
+/// Whether the table of a namespace is another one in one world than in the other: whether
+/// [`change_of`](crate::touched::change_of) has something to tell. `touched` has, by rising ID, every mount whose row
+/// changed, and may have more; it is gone over up to the first that did. A namespace that is not there counts as the
+/// empty table.
+///
+/// Refused as `NoMemory` alone.
+pub fn is_changed(
+    before: &World,
+    after: &World,
+    space: SpaceId,
+    touched: &[MountId],
+) -> Result<bool, Fault>
+    requires before { IsWellFormed (world_view before.now) }
+    requires after { IsWellFormed (world_view after.now) }
+    requires rising { IsTrue (rises itself touched.now) }
+    requires touched { HoldsChanged (table_of (world_view before.now) space) (table_of (world_view after.now) space) touched.now }
+    ensures changed { IfOk result (λ changed. changed ≡ not (is_empty (difference (table_of (world_view before.now) space) (table_of (world_view after.now) space)))) }
+    ensures memory { IsOkUnless result Fault.NoMemory }
+{
+    let changed = any_news(before, after, space, touched)?;
+    Ok(changed)
+}
