@@ -22,6 +22,7 @@ import time
 
 import cases
 from clients import check_client, check_no_answers, check_refused, check_retold, check_scripts, check_statuses
+from limits import COMMANDS
 from running import MOST_SECONDS, check, difference, failures, library, shown
 from serving import START, STOP, Broken, Client, Server, send_input, stop_behind, until_it_rests
 from soak import check_soak
@@ -125,6 +126,32 @@ def check_limit(program):
             check("its place is free when its client reads the end", second.ask(b"show 1") == [b"no NoNamespace"])
         second.socket.close()
         check_stopped_by("the limit", server, first)
+
+
+def check_one_session(program):
+    """Where one session may be, a second connection is turned away until the first has ended, and served then."""
+    with Server(program, "--sessions", "1") as server, server.free() as first:
+        with server.client() as second:
+            check("a second session", second.all() == (b"no TooMany\n", True))
+        check("the first session ends", first.ask(b"quit") == [b"ok"] and first.line() is None)
+        with server.client() as second:
+            check("a session behind the first", second.ask(b"show 1") == [b"no NoNamespace"])
+            check_stopped_by("one session", server, second)
+
+
+def check_journal(program):
+    """Behind the last command that a server takes each other one is refused as JournalFull, whatever it names."""
+    begun = b"mkfs a tmpfs none\nnewns a\n" + b"setattr 1 /\n" * (COMMANDS - 2)
+    full = b"mount 9 q /q\nsetattr 1 /\nsetattr 01 /\nshow 1\nquit\n"
+    wanted = b"ok 1\nok 1\n" + b"ok\n" * (COMMANDS - 2)
+    wanted += b"no JournalFull\nno JournalFull\nno BadLine\nok 1 1\n1 1 0:1 / / rw,relatime - tmpfs none rw\nok\n"
+    with Server(program) as server, server.client() as client:
+        sending = threading.Thread(target=send_input, args=(client, begun + full))
+        sending.start()
+        found = client.all()
+        sending.join()
+        check("a full journal", found == (wanted, True), shown(found[0][-200:]))
+        check_stopped("a full journal", server)
 
 
 def check_stopped_by(name, server, client):
@@ -261,6 +288,8 @@ PARTS = {
     "paths": check_paths,
     "accept": check_accept,
     "limit": check_limit,
+    "one session": check_one_session,
+    "journal": check_journal,
     "cases": check_cases,
     "pipeline": check_pipeline,
     "stop": check_stop,
