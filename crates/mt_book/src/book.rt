@@ -1,9 +1,10 @@
 //! The commands that were accepted, and the world that they lead to.
 ghost use Rattle.std.specs.Prelude.{◌≡◌, ◌≢◌, ℕ, IfOk, IfErr, OnErr, OnOk, IsOkUnless, Ok, Err, true, false, ◌+◌, ◌<◌, ◌^◌, ◌==◌, [], ◌∷◌, ◌++◌, map, length, IsTrue, ◌≤◌};
-ghost use Rattle.std.specs.List.{find, AllByRecursion};
+ghost use Rattle.std.specs.List.{find, flat_map, AllByRecursion};
 ghost use Rattle.std.specs.Option.{option_map};
 ghost use Rattle.mt_propagate.specs.World.{world_view, empty_world, is_space};
 ghost use Rattle.mt_propagate.specs.WellFormed.{IsWellFormed};
+ghost use Rattle.mt_info.specs.RowLine.{row_line};
 ghost use Rattle.mt_info.specs.Table.{table_of};
 ghost use Rattle.mt_events.specs.Posts.{IsPost};
 ghost use Rattle.mt_book.specs.Step.{after};
@@ -18,6 +19,7 @@ use crate::prepared::Prepared;
 use crate::shown::Shown;
 use crate::spare::{Spare, Tried, keep_level, lagging, level, try_on};
 use mt_events::shared::SharedPosts;
+use mt_info::lines::push_table;
 use mt_info::table::{Table, table_of};
 use mt_mounts::mount::{MountId, SpaceId};
 use mt_propagate::touched::touched;
@@ -223,6 +225,27 @@ impl Book {
         ensures refused { IfErr result (λ fault. fault ≢ Fault.NoMemory → (fault ≡ Fault.NoNamespace) × (is_space (after self.now.journal) space ≡ false)) }
     {
         table_of(self.world(), space)
+    }
+
+    /// How many rows the table of a namespace has; none where there is no such namespace. Takes no memory.
+    pub fn row_count(&self, space: SpaceId) -> usize
+        ensures { result ≡ length (table_of (after self.now.journal) space) }
+    {
+        self.world().forest.count_in(space)
+    }
+
+    /// Appends the lines of the table of a namespace, each with its line end. Refused as `NoNamespace` exactly where
+    /// there is no such namespace, and else as `NoMemory` alone.
+    pub fn push_table(&self, text: &mut Vec<u8>, space: SpaceId) -> Result<(), Fault>
+        ensures done { OnOk result ((is_space (after self.now.journal) space ≡ true) × (text.new.items ≡ text.old.items ++ flat_map row_line (table_of (after self.now.journal) space))) }
+        ensures absent { is_space (after self.now.journal) space ≡ false → result ≡ Err Fault.NoNamespace }
+        ensures refused { IfErr result (λ fault. fault ≢ Fault.NoMemory → (fault ≡ Fault.NoNamespace) × (is_space (after self.now.journal) space ≡ false)) }
+    {
+        let world = self.world();
+        if world.forest.root(space).is_none() {
+            return Err(Fault::NoNamespace);
+        }
+        push_table(text, world, space)
     }
 
     /// How many posts a namespace has had: the number of the last one, or 0. Refused as `NoNamespace` exactly where

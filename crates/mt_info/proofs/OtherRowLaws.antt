@@ -3,7 +3,6 @@ use Rattle.std.proofs.Common.{◌≡◌, ◌∙◌, ◌&&◌, Bool, true, false,
 use Rattle.mt_skel.proofs.MiddleLaws.{and_first, and_second, and-true}
 use Rattle.mt_mounts.specs.declared.mount.Mount.{Mount}
 use Rattle.mt_propagate.specs.World.{WorldView, state_of}
-use Rattle.mt_info.specs.declared.row.Row.{Row}
 use Rattle.mt_info.specs.Table.{row_of}
 use Rattle.mt_info.specs.SameRow.{row_eq, attrs_eq, number_eq, bool_eq, state_eq, is_alike}
 

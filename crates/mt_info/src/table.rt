@@ -1,6 +1,8 @@
 //! The mounts of one namespace.
 ghost use Rattle.std.specs.Prelude.{◌≡◌, ◌≢◌, ◌↔◌, ◌++◌, IsSome, IfSome, false, true, IfErr, IfOk, IsOkUnless, IsTrue, OnOk, MatchOption, Err, Some, None, drop};
+ghost use Rattle.std.specs.Option.{option_map_or};
 ghost use Rattle.mt_skel.specs.Keyed.{rises, row_at};
+ghost use Rattle.mt_mounts.specs.declared.mount.Place.{Place as PlaceOf};
 ghost use Rattle.mt_mounts.specs.Forest.{mount_at, parents_up};
 ghost use Rattle.mt_propagate.specs.World.{world_view, is_space, state_of};
 ghost use Rattle.mt_propagate.specs.Named.{mount_or_unknown};
@@ -16,7 +18,7 @@ use mt_propagate::seen::SeenGroups;
 use mt_propagate::world::{World, state_of};
 use mt_skel::fault::Fault;
 use mt_skel::name::{Name, Names};
-use std::alloc::Global;
+use std::alloc::{AllocError, Global};
 use std::marker::Model;
 
 /// The rows of the mounts of one namespace, by rising ID.
@@ -196,13 +198,9 @@ fn row_of_mount(seen: &mut SeenGroups<'_>, mount: &Mount) -> Result<Row, Fault>
     let world = seen.world();
     let minor = world.skel.fs_of(mount.root);
     let state = state_of(world, mount.id);
-    let parent = match mount.place {
-        Some(place) => place.mount,
-        None => mount.id,
-    };
     Ok(Row {
         id: mount.id,
-        parent,
+        parent: parent_or_itself(mount),
         minor,
         root: Names::new(world.skel.path_of(mount.root)?),
         point: mount_point(world, mount.id)?,
@@ -216,13 +214,24 @@ fn row_of_mount(seen: &mut SeenGroups<'_>, mount: &Mount) -> Result<Row, Fault>
     })
 }
 
+/// The mount that a mount stands on; the mount itself where it is the root mount of its namespace.
+pub(crate) fn parent_or_itself(mount: &Mount) -> MountId
+    ensures { result ≡ option_map_or (λ (p : PlaceOf). p.mount) mount.now.place mount.now.id }
+{
+    match mount.place {
+        Some(place) => place.mount,
+        None => mount.id,
+    }
+}
+
 /// Where a mount stands, from the root of its namespace down.
 fn mount_point(world: &World, id: MountId) -> Result<Names, Fault>
     requires well_formed { IsWellFormed (world_view world.now) }
     ensures point { IfOk result (λ point. point ≡ mount_point (world_view world.now) id) }
     ensures memory { IsOkUnless result Fault.NoMemory }
 {
-    let mut above = parents_up(&world.forest, id)?;
+    let mut above = Vec::new(world.forest.allocator());
+    fill_above(&mut above, &world.forest, id)?;
     above.reverse();
     let mut point = Vec::new(world.forest.allocator());
     for mount in &above {
@@ -231,22 +240,25 @@ fn mount_point(world: &World, id: MountId) -> Result<Names, Fault>
     Ok(Names::new(point))
 }
 
-/// A mount, its parent, and so on.
-fn parents_up(forest: &Forest, id: MountId) -> Result<Vec<MountId>, Fault>
-    ensures above { IfOk result (λ above. above.items ≡ parents_up forest.now.mounts id) }
-    ensures memory { IsOkUnless result Fault.NoMemory }
+/// Puts a mount, its parent, and so on into a list, and nothing else. Fails for want of memory alone.
+pub(crate) fn fill_above(
+    above: &mut Vec<MountId>,
+    forest: &Forest,
+    id: MountId,
+) -> Result<(), AllocError>
+    ensures { OnOk result (above.new.items ≡ parents_up forest.now.mounts id) }
 {
-    let mut above = Vec::new(forest.allocator());
+    above.clear();
     let mut here = id;
     'steps: for _step in 0..forest.len() {
         above.push(here)?;
         let Some(parent) = forest.parent(here) else {
-            return Ok(above);
+            return Ok(());
         };
         here = parent;
     }
     above.push(here)?;
-    Ok(above)
+    Ok(())
 }
 
 /// Appends the names that a mount adds to the mount point of its parent.
@@ -264,7 +276,7 @@ fn push_own_names(point: &mut Vec<Name>, world: &World, id: MountId) -> Result<(
     let Some(parent) = world.forest.get(place.mount) else {
         return Ok(());
     };
-    let depth = world.skel.path_of(parent.root)?.len();
+    let depth = world.skel.depth(parent.root);
     let names = world.skel.path_of(place.dir)?;
     push_names(point, names.as_slice(), depth)
 }

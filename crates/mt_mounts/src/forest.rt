@@ -325,6 +325,13 @@ impl Forest {
         self.indexes.children.after(id)
     }
 
+    /// How many mounts a namespace has.
+    pub fn count_in(&self, space: SpaceId) -> usize
+        ensures { result ≡ length (mounts_in self.now.mounts space) }
+    {
+        self.indexes.spaces.count(space)
+    }
+
     /// The first mount of a namespace, by rising ID.
     pub fn first_in(&self, space: SpaceId) -> Option<MountId>
         ensures { result ≡ first (map id_of (mounts_in self.now.mounts space)) }

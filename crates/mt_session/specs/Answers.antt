@@ -8,7 +8,7 @@ use Rattle.mt_skel.specs.Fault.{name_of}
 use Rattle.mt_propagate.specs.World.{is_space}
 use Rattle.mt_info.specs.declared.row.Row.{Row}
 use Rattle.mt_info.specs.Table.{table_of}
-use Rattle.mt_info.specs.RowLine.{line, path_text}
+use Rattle.mt_info.specs.RowLine.{row_line, path_text}
 use Rattle.mt_events.specs.Posts.{PostView, post_lines, post_text}
 use Rattle.mt_events.specs.declared.opening.Part.{Part}
 use Rattle.mt_events.specs.declared.opening.Opening.{Opening}
@@ -32,9 +32,6 @@ count_text n = codes "ok " ++ decimal n ++ 10 ∷ []
 abbrev pub reply_text : Reply → List ℕ
 reply_text Done = done_text
 reply_text (Number n) = count_text n
-
-abbrev pub row_line : Row → List ℕ
-row_line r = line r ++ 10 ∷ []
 
 -- `ok`, how many rows the table has, and the namespace's number; then a line for each row
 abbrev pub table_text : ℕ → List Row → List ℕ

@@ -4,7 +4,7 @@ ghost use Rattle.mt_book.specs.Step.{after};
 ghost use Rattle.mt_book.specs.Book.{found_at};
 ghost use Rattle.mt_session.specs.Answers.{refusal, shown_text, found_text};
 
-use crate::text::Text;
+use crate::text::{Text, push_heading};
 use mt_book::book::Book;
 use mt_skel::fault::Fault;
 use mt_skel::name::Names;
@@ -19,8 +19,10 @@ pub(crate) fn show(alloc: Global, book: &Book, space: u64) -> Result<Text, Fault
         Ok(number) => number,
         Err(fault) => return Ok(Text::refusal(fault)),
     };
-    let table = book.table(space)?;
-    Ok(Text::table(alloc, number, &table)?)
+    let mut lines = Vec::new(alloc);
+    push_heading(&mut lines, book.row_count(space) as u64, number)?;
+    book.push_table(&mut lines, space)?;
+    Ok(Text::lines(lines))
 }
 
 /// The line of a refusal. Want of memory is handed on.

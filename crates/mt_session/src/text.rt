@@ -1,7 +1,8 @@
 //! The lines of an answer.
-ghost use Rattle.std.specs.Prelude.{◌≡◌, ◌+◌, ◌≤◌, ◌++◌, [], length, flat_map, OnOk, IfOk, IsOkUnless};
+ghost use Rattle.std.specs.Prelude.{◌≡◌, ◌+◌, ◌≤◌, ◌++◌, ◌∷◌, [], length, flat_map, codes, decimal, OnOk, IfOk, IsOkUnless};
 ghost use Rattle.mt_events.specs.Posts.{post_lines, post_text};
-ghost use Rattle.mt_session.specs.Answers.{refusal, reply_text, count_text, table_text, row_line, place_text, part_text, opening_text};
+ghost use Rattle.mt_info.specs.RowLine.{row_line};
+ghost use Rattle.mt_session.specs.Answers.{refusal, reply_text, count_text, table_text, place_text, part_text, opening_text};
 
 use arrayvec::ArrayVec;
 use itoa::Buffer;
@@ -88,11 +89,7 @@ impl Text {
         ensures { IfOk result (λ text. text ≡ table_text number table.now) }
     {
         let mut lines = Vec::new(alloc);
-        lines.extend_from_slice(b"ok ")?;
-        push_number(&mut lines, table.rows().len() as u64)?;
-        lines.extend_from_slice(b" ")?;
-        push_number(&mut lines, number)?;
-        lines.extend_from_slice(b"\n")?;
+        push_heading(&mut lines, table.rows().len() as u64, number)?;
         push_rows(&mut lines, table.rows())?;
         Ok(Text {
             body: Body::Long(lines),
@@ -239,6 +236,18 @@ fn push_part(lines: &mut Vec<u8>, part: &Part) -> Result<(), AllocError>
     push_number(lines, rows.len() as u64)?;
     lines.extend_from_slice(b"\n")?;
     push_rows(lines, rows)?;
+    Ok(())
+}
+
+/// Appends the line in front of a table: `ok`, the count of its rows and how often it has changed.
+pub(crate) fn push_heading(lines: &mut Vec<u8>, count: u64, number: u64) -> Result<(), AllocError>
+    ensures { OnOk result (lines.new.items ≡ lines.old.items ++ (codes "ok " ++ decimal count ++ codes " " ++ decimal number ++ 10 ∷ [])) }
+{
+    lines.extend_from_slice(b"ok ")?;
+    push_number(lines, count)?;
+    lines.extend_from_slice(b" ")?;
+    push_number(lines, number)?;
+    lines.extend_from_slice(b"\n")?;
     Ok(())
 }
 

@@ -1,6 +1,8 @@
 -- A list with one more element at its end, and its fronts.
-use Rattle.std.proofs.Common.{◌≡◌, ◌⊎◌, ℕ, zero, suc, ◌+◌, ◌-◌, ◌<◌, ◌≤◌, List, [], ◌∷◌, ◌++◌, length, get_or, take, drop, reverse, Some, None, slice_get, refl, sym, ap, ◌∙◌, inl, inr, arith, append_assoc}
-use Rattle.std.proofs.lemmas.List.{reverse-append, take_more, take-append-drop, length_push}
+use Rattle.std.proofs.Common.{◌≡◌, ◌⊎◌, ℕ, zero, suc, ◌+◌, ◌-◌, ◌<◌, ◌≤◌, List, [], ◌∷◌, ◌++◌, length, get_or, take, drop, reverse, Some, None, slice_get, refl, sym, ap, ◌∙◌, inl, inr, arith, append-nil, append_assoc}
+use Rattle.std.specs.List.{flat_map}
+use Rattle.std.proofs.lemmas.Grind.{flat_map-append}
+use Rattle.std.proofs.lemmas.List.{reverse-append, take_more, take-append-drop, drop-append-le, drop_all, length_push}
 use Rattle.std.proofs.Math.Seq.{take-append_seam}
 use Rattle.std.proofs.lemmas.Option.{slice_get_within}
 
@@ -95,3 +97,22 @@ walked_more here up done more whole x y e w m same =
 
 pub walked_all : {X : Type 0} (here done whole : List X) → here ≡ [] → here ++ reverse done ≡ whole → reverse done ≡ whole
 walked_all here done whole e w = ap (λ l. l ++ reverse done) (sym e) ∙ w
+
+-- the last so many of a list with one element more
+last_more : {X : Type 0} (here up : List X) (x : X) (n : ℕ) → here ≡ up ++ x ∷ [] → 1 ≤ n → drop (length here - n) here ≡ drop (length up - (n - 1)) up ++ x ∷ []
+last_more here up x n e l =
+    let size : length here - n ≡ length up - (n - 1) = omega (arith, ap length e, length_push up x, l) in
+    ap (λ k. drop k here) size ∙ ap (drop (length up - (n - 1))) e ∙ drop-append-le (length up - (n - 1)) up (x ∷ []) (omega arith)
+
+-- what was written of these, and then the last of them
+pub written_more : {X A : Type 0} (f : X → List A) (here up : List X) (x : X) (n : ℕ) (text0 text1 text2 : List A) → here ≡ up ++ x ∷ [] → 1 ≤ n
+    → text1 ≡ text0 ++ flat_map f (drop (length up - (n - 1)) up) → text2 ≡ text1 ++ f x → text2 ≡ text0 ++ flat_map f (drop (length here - n) here)
+written_more f here up x n text0 text1 text2 e l e1 e2 =
+    let above = drop (length up - (n - 1)) up in
+    e2 ∙ ap (λ t. t ++ f x) e1 ∙ append_assoc text0 (flat_map f above) (f x)
+    ∙ ap (λ t. text0 ++ t) (ap (λ t. flat_map f above ++ t) (sym (append-nil (f x))) ∙ sym (flat_map-append f above (x ∷ [])) ∙ ap (flat_map f) (sym (last_more here up x n e l)))
+
+-- nothing was written, since there is nothing to write
+pub written_none : {X A : Type 0} (f : X → List A) (here : List X) (n : ℕ) (text : List A) → here ≡ [] → text ≡ text ++ flat_map f (drop (length here - n) here)
+written_none f [] n text e = sym (ap (λ h. text ++ flat_map f h) (drop_all (0 - n) [] (omega arith)) ∙ append-nil text)
+written_none f (x ∷ xs) n text e = absurd (cc)

@@ -170,6 +170,11 @@ module _ (fs : List FilesystemNode) (ns : List Node) (t : IsLaidOut fs ns) where
   pub dir_within : (v : Skeleton) (d : ℕ) → skeleton_of fs ns ≡ v → is_directory v d ≡ true → d < length ns
   dir_within v d e h = omega (arith, directory_within v d h, ap (λ s. length s.directories) e, length-dirs_of ns)
 
+  pub dir_there : (v : Skeleton) (d : ℕ) → skeleton_of fs ns ≡ v → d < length ns → is_directory v d ≡ true
+  dir_there v d e h =
+      let within : d < length v.directories = omega (arith, h, ap (λ s. length s.directories) e, length-dirs_of ns) in
+      grind (arith, nat_tests)
+
   pub fs_within : (v : Skeleton) (f : ℕ) → skeleton_of fs ns ≡ v → is_filesystem v f ≡ true → (1 ≤ f) × (f - 1 < length fs)
   fs_within v f e h =
       let w = filesystem_within v f h in

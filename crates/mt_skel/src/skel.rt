@@ -1,8 +1,11 @@
 //! The directories of all filesystems.
-ghost use Rattle.std.specs.Prelude.{◌≡◌, ◌≢◌, ◌↔◌, ◌<◌, ◌≤◌, [], ◌∷◌, ◌++◌, None, Bool, IsTrue, IfOk, IfErr, IfSome, OnErr, OnOk, IsOkUnless, Ok, Err, length};
+ghost use Rattle.std.specs.Prelude.{◌≡◌, ◌≢◌, ◌↔◌, ◌-◌, ◌<◌, ◌≤◌, [], ◌∷◌, ◌++◌, None, Bool, IsTrue, IfOk, IfErr, IfSome, OnErr, OnOk, IsOkUnless, Ok, Err, length, drop};
+ghost use Rattle.std.specs.List.{flat_map};
+ghost use Rattle.mt_skel.specs.Escapes.{escaped};
 ghost use Rattle.mt_skel.specs.Skeleton.{Skeleton, Directory, IsSkeleton, Filesystem as filesystem_of, empty_skeleton, is_filesystem, is_directory, filesystem, directory, fs_named, directory_number, root_of, child, holds, added_fs, added_dir, with_dir};
 
 use crate::children::Children;
+use crate::escape::push_escaped;
 use crate::fault::Fault;
 use crate::name::{Label, Name};
 use std::alloc::{AllocError, Global};
@@ -246,6 +249,38 @@ impl Skel {
         }
         path.reverse();
         Ok(path)
+    }
+
+    /// How many names lead from the root of its filesystem down to a directory. Takes no memory.
+    pub fn depth(&self, dir: Dir) -> usize
+        requires { IsTrue (is_directory self.now dir) }
+        ensures { result ≡ length (directory self.now dir).path }
+    {
+        let mut depth = 0usize;
+        let mut here = dir;
+        'up: while let Some(link) = &self.nodes[here as usize].up {
+            depth += 1;
+            here = link.dir;
+        }
+        depth
+    }
+
+    /// Appends the last so many of the names from the root of its filesystem down to a directory, each behind a slash
+    /// and with its escapes; all of them where there are no more. Fails for want of memory alone.
+    pub fn push_path(&self, text: &mut Vec<u8>, dir: Dir, count: usize) -> Result<(), AllocError>
+        requires { IsTrue (is_directory self.now dir) }
+        ensures { OnOk result (text.new.items ≡ text.old.items ++ flat_map (λ n. 47 ∷ escaped n) (drop (length (directory self.now dir).path - count) (directory self.now dir).path)) }
+    {
+        if count == 0 {
+            return Ok(());
+        }
+        let Some(link) = &self.nodes[dir as usize].up else {
+            return Ok(());
+        };
+        self.push_path(text, link.dir, count - 1)?;
+        text.push(b'/')?;
+        push_escaped(text, link.name.bytes())?;
+        Ok(())
     }
 
     /// The number of the directory with this path.

@@ -1,6 +1,6 @@
 use Rattle.std.proofs.Common.{◌≡◌, ◌++◌, drop}
 use Rattle.std.specs.List.{flat_map}
-use Rattle.mt_session.specs.Answers.{row_line}
+use Rattle.mt_info.specs.RowLine.{row_line}
 use Rattle.mt_session.proofs.text.push_rows.Given as goal
 
 -- the lines appended, and those to come

@@ -1,0 +1,38 @@
+use Rattle.std.proofs.Common.{◌++◌, ◌∙◌, ap, sym}
+use Rattle.mt_skel.specs.Skeleton.{filesystem}
+use Rattle.mt_peers.specs.declared.state.State.{State}
+use Rattle.mt_propagate.specs.declared.world.World.{World}
+use Rattle.mt_propagate.specs.World.{world_view}
+use Rattle.mt_propagate.specs.FromGroup.{from_group}
+use Rattle.mt_info.specs.declared.row.Row.{Row}
+use Rattle.mt_info.specs.RowLine.{line, tag_words}
+use Rattle.mt_info.specs.Building.{behind, numbers_text, end_text}
+use Rattle.mt_info.specs.Table.{row_of}
+use Rattle.mt_info.proofs.PrintLaws.{line_appended}
+use Rattle.mt_info.proofs.lines.push_line.Goals as goal
+
+pub returns-clause-line : goal.returns-clause-line
+returns-clause-line c =
+    let m = c.args.mount.now in
+    let w = c.world-world.result.now in
+    let r : Row = row_of (world_view w) m in
+    let before = c.args.text.now.items in
+    let same = c.world-world.ensures ∙ c.in_ok-via.ensures.kept in
+    let minor = c.fs_of-minor.ensures.fs in
+    let via = c.in_ok-via.ensures.group ∙ ap (λ (v : World). from_group (world_view v) m.id) (sym same) in
+    let numbers =
+    c.in_ok-push_numbers.ensures ∙ ap (λ p. before ++ numbers_text m.id p c.fs_of-minor.result) c.parent_or_itself.ensures
+    ∙ ap (λ k. before ++ numbers_text m.id r.parent k) minor in
+    let tags =
+    c.in_ok-push_tags.ensures
+    ∙ ap (λ (s : State). c.push_options.new.text.items ++ behind 32 (tag_words s.group s.master c.in_ok-via.via s.unbindable)) c.state_of-state.ensures
+    ∙ ap (λ v. c.push_options.new.text.items ++ behind 32 (tag_words r.shared r.master v r.unbindable)) via in
+    let kind = c.kind.ensures ∙ ap (λ k. (filesystem w.skel k).kind) minor in
+    let source = c.source.ensures ∙ ap (λ k. (filesystem w.skel k).source) minor in
+    let end =
+    c.in_ok-push_end.ensures ∙ ap (λ k. c.push_tags.new.text.items ++ end_text k c.source.result.now) kind
+    ∙ ap (λ s. c.push_tags.new.text.items ++ end_text r.kind s) source in
+    line_appended r before c.push_numbers.new.text.items c.push_dir.new.text.items c.extend_from_slice.new.self.items c.push_point.new.text.items c.extend_from_slice-2.new.self.items
+    c.push_options.new.text.items c.push_tags.new.text.items c.push_end.new.text.items
+    numbers c.in_ok-push_dir.ensures c.in_ok-extend_from_slice.ensures.items c.in_ok-push_point.ensures c.in_ok-extend_from_slice-2.ensures.items c.in_ok-push_options.ensures tags end
+    ∙ ap (λ (v : World). before ++ line (row_of (world_view v) m)) same
