@@ -98,14 +98,25 @@ fn gone(
     Ok(ids)
 }
 
-/// Appends a row, if there is one. Refused as `NoMemory` alone.
-fn push_some(rows: &mut Vec<Row>, row: Option<Row>) -> Result<(), Fault>
-    ensures rows { OnOk result (rows.new.items ≡ rows.old.items ++ option_to_list row) }
+/// Appends the row of a mount after, if it is new or not as it was. Refused as `NoMemory` alone.
+fn push_new(
+    rows: &mut Vec<Row>,
+    before: &mut SeenGroups<'_>,
+    after: &mut SeenGroups<'_>,
+    space: SpaceId,
+    id: MountId,
+) -> Result<(), Fault>
+    requires before { IsWellFormed (world_view before.old) }
+    requires after { IsWellFormed (world_view after.old) }
+    ensures rows { OnOk result (rows.new.items ≡ rows.old.items ++ option_to_list (new_row (table_of (world_view before.old) space) (table_of (world_view after.old) space) id)) }
+    ensures before_kept { before.new ≡ before.old }
+    ensures after_kept { after.new ≡ after.old }
     ensures memory { IsOkUnless result Fault.NoMemory }
 {
-    if let Some(row) = row {
-        rows.push(row)?;
-    }
+    let Some(row) = new_row(before, after, space, id)? else {
+        return Ok(());
+    };
+    rows.push(row)?;
     Ok(())
 }
 
@@ -125,8 +136,7 @@ fn new_rows(
     let mut old = SeenGroups::new(before);
     let mut new = SeenGroups::new(after);
     'mounts: for id in touched {
-        let row = new_row(&mut old, &mut new, space, *id)?;
-        push_some(&mut rows, row)?;
+        push_new(&mut rows, &mut old, &mut new, space, *id)?;
     }
     Ok(rows)
 }

@@ -12,10 +12,10 @@ mounts-preserved c =
     let id = get_or c.args.touched.now c.mounts.id-index 0 in
     let old = c.mounts.invariant.same_before in
     let new = c.mounts.invariant.same_after in
-    let row = c.in_ok-row.ensures.row ∙ ap (λ w. new_row (table w) (table c.mounts.new) id) old ∙ ap (λ w. new_row (table c.args.before.now) (table w) id) new in
+    let row = ap (λ w. new_row (table w) (table c.mounts.new) id) old ∙ ap (λ w. new_row (table c.args.before.now) (table w) id) new in
     record {
-      rows = collected-step (new_row (table c.args.before.now) (table c.args.after.now)) c.args.touched.now c.mounts.id-index 0 c.mounts.rows.items c.push_some.new.rows.items _ c.in_ok-row.row
-          c.mounts-test.true c.mounts.invariant.rows row c.in_ok-push_some.ensures.rows;
-      same_before = c.in_ok-row.ensures.before_kept ∙ old;
-      same_after = c.in_ok-row.ensures.after_kept ∙ new;
+      rows = collected-step (new_row (table c.args.before.now) (table c.args.after.now)) c.args.touched.now c.mounts.id-index 0 c.mounts.rows.items c.push_new.new.rows.items _ (new_row (table c.mounts.old) (table c.mounts.new) id)
+          c.mounts-test.true c.mounts.invariant.rows row c.in_ok-push_new.ensures.rows;
+      same_before = c.in_ok-push_new.ensures.before_kept ∙ old;
+      same_after = c.in_ok-push_new.ensures.after_kept ∙ new;
     }
