@@ -84,6 +84,10 @@ def check_statuses(program, mountctl):
         check("mountctl: a mirror of no namespace", found == (1, b"no NoNamespace\n", b""), repr(found))
         found = run(mountctl, b"", server.path, "-")
         check("mountctl: an empty script", found == (0, b"", b""), repr(found))
+        # A script is cut into lines as a session is.
+        for count, end, answer in (8_192, b"", b"no BadLine\n"), (8_193, b"", b"no TooLong\n"), (8_193, b"\n", b"no TooLong\n"):
+            found = run(mountctl, b"x" * count + end, server.path, "-")
+            check(f"mountctl: a script of {count} bytes and {shown(end)}", found == (1, answer, b""), repr(found))
         # An output that takes nothing, and an input that cannot be read: a folder.
         for words, stream in ("show 1", "1>/dev/full"), ("-", "1>/dev/full"), ("-", "0</"):
             found = run("sh", b"show 1\n", "-c", f'exec "$0" "$1" {words} {stream}', mountctl, server.path)

@@ -21,8 +21,11 @@ use std::{env, io};
 /// The name that the program goes by in its messages.
 const PROGRAM: &str = "mountctl";
 
-/// The longest line that is read, in bytes before its line end.
+/// The longest line of an answer, in bytes before its line end.
 const LINE_LIMIT: u32 = 134_217_728;
+
+/// The longest line of a script, in bytes before its line end: that of a session.
+const SCRIPT_LIMIT: u32 = 8_192;
 
 /// The most lines of a script.
 const MOST_LINES: u64 = u64::MAX;
@@ -165,7 +168,7 @@ fn run_task(
             ask(alloc, &mut lines, &mut writer, bytes.as_slice(), &mut out)
         }
         Task::Script => {
-            let mut input = LineReader::new(alloc, Reading::new(rt.reader()), LINE_LIMIT)?;
+            let mut input = LineReader::new(alloc, Reading::new(rt.reader()), SCRIPT_LIMIT)?;
             run_script(alloc, &mut input, &mut lines, &mut writer, &mut out)
         }
         Task::Mirror { space, count } => {
