@@ -20,6 +20,10 @@ TOP = os.path.dirname(os.path.dirname(os.path.abspath(__file__)))
 PROGRAM = os.path.join(TOP, "crates", "mountd", "out", "mountd")
 CLIENT = os.path.join(TOP, "crates", "mountctl", "out", "mountctl")
 
+# How many checks rt ci runs at once, each with one job. Where it is not told, it gives a check the processors that are
+# idle, and each further job of a check reads the libraries again: a third more of processor time (docs/GATE.md).
+LANES = min(4, len(os.sched_getaffinity(0)))
+
 
 def spent():
     """The processor seconds of all commands that have ended."""
@@ -31,7 +35,8 @@ def run(name, *words):
     """Runs a command at the top, and answers whether it passed, its last line and how long it took."""
     start, before, last = time.monotonic(), spent(), ""
     print(f"== {name}", flush=True)
-    with subprocess.Popen(words, cwd=TOP, stdout=subprocess.PIPE, text=True, errors="replace") as command:
+    told = dict(os.environ, RT_JOBS=str(LANES))
+    with subprocess.Popen(words, cwd=TOP, env=told, stdout=subprocess.PIPE, text=True, errors="replace") as command:
         for line in command.stdout:
             print(line, end="", flush=True)
             last = line.strip() or last
