@@ -10,10 +10,11 @@ _mountctl_words()
         copyns:2) echo less ;;
         watch:1) echo all ;;
         setattr:[3-9])
-            echo rec
-            echo set={ro,nosuid,nodev,noexec,nosymfollow,nodiratime,relatime,noatime,strictatime}
-            echo clr={ro,nosuid,nodev,noexec,nosymfollow,nodiratime,atime}
-            echo prop={shared,private,slave,unbindable}
+            # Each option may be there once.
+            [[ " ${*:4} " == *" rec "* ]] || echo rec
+            [[ " ${*:4}" == *" set="* ]] || echo set={ro,nosuid,nodev,noexec,nosymfollow,nodiratime,relatime,noatime,strictatime}
+            [[ " ${*:4}" == *" clr="* ]] || echo clr={ro,nosuid,nodev,noexec,nosymfollow,nodiratime,atime}
+            [[ " ${*:4}" == *" prop="* ]] || echo prop={shared,private,slave,unbindable}
             ;;
     esac
 }
@@ -29,7 +30,8 @@ _mountctl_sockets()
     done
 }
 
-# What a word of the list may be that the word in the making becomes: of a list behind `set=` or `clr=`, its last part.
+# Which of these words the first one may become. Of a list behind `set=` or `clr=` the last part is completed, and `set=`
+# itself comes before what may stand behind it.
 _mountctl_offers()
 {
     local current=$1 word begun=
