@@ -32,6 +32,9 @@ ENTRY = re.compile(r"(?m)^\.It (?:Xo\n\.)?Ic (\w+)(.*\n(?:(?!\.It |\.El).*\n)*)"
 BLOCK = re.compile(r"(?m)^\.Bd -literal.*\n((?:(?!\.Ed).*\n)*)\.Ed$")
 MESSAGE = re.compile(r"(?m)^\.(?:It )?Li (\w+: .*?)(?: \.)?$")
 
+# How long a server may go on behind a stop, in seconds.
+MOST_SECONDS_OF_AN_END = 15
+
 # What completes a line of these words in bash, one offer in a line.
 OFFERS = 'source "$0"; COMP_WORDS=(mountctl "$@"); COMP_CWORD=$#; _mountctl; printf "%s\\n" "${COMPREPLY[@]}"'
 
@@ -55,7 +58,8 @@ def check_same(name, wanted, found):
 def form_command():
     """The command that warns of the form of a page, or None where there is none."""
     if not shutil.which("mandoc") and "CI" in os.environ and shutil.which("apt-get"):
-        subprocess.run(["apt-get", "install", "-y", "mandoc"], stdin=subprocess.DEVNULL, capture_output=True, check=False)
+        words = ["apt-get", "install", "-y", "mandoc"]
+        subprocess.run(words, stdin=subprocess.DEVNULL, capture_output=True, check=False)
     return next((command for command in (MANDOC, MAN) if shutil.which(command[0])), None)
 
 
@@ -93,7 +97,8 @@ def words_in_place(text):
 def check_help(helps):
     """The options and the lines of both helps stand in the pages, and no others."""
     for program, text in helps.items():
-        found = [f"-{word}" for line in re.findall(r"(?m)^\.It (Fl .*)", page(f"{program}.1")) for word in re.findall(r"Fl (\S+)", line)]
+        lines = re.findall(r"(?m)^\.It (Fl .*)", page(f"{program}.1"))
+        found = [f"-{word}" for line in lines for word in re.findall(r"Fl (\S+)", line)]
         check_same(f"the options of {program}.1", options(text), found)
         entries = [word for word, _ in ENTRY.findall(section("mountd-lines.7", "LINES"))]
         check_same(f"the lines of mountd-lines.7, by the help of {program}", usages(text), entries)
@@ -116,7 +121,8 @@ def refusals_by_line():
 def check_refusals():
     """The refusals of the source stand in mountd-lines.7, and no other in any page; each line has its own."""
     names = re.findall(r'=> b"(\w+)"', shown(read("crates", "mt_skel", "src", "fault.rt")))
-    check_same("the refusals of mountd-lines.7", names, re.findall(r"(?m)^\.It Er (\w+)", section("mountd-lines.7", "REFUSALS")))
+    listed = re.findall(r"(?m)^\.It Er (\w+)", section("mountd-lines.7", "REFUSALS"))
+    check_same("the refusals of mountd-lines.7", names, listed)
     for name in PAGES:
         found = re.findall(r"\bEr (\w+)|\bno ([A-Z][a-z]+[A-Z]\w*)", page(name))
         unknown = {word for pair in found for word in pair if word} - set(names)
@@ -156,21 +162,31 @@ def check_session(name, text, program):
     """What a block of a page shows of a session on standard input is what the program answers."""
     asked = re.findall(rb"(?m)^> (.*)$", text)
     groups = answer_groups(run(program, b"".join(line + b"\n" for line in asked))[1], asked)
-    found = b"".join(b"> " + line + b"\n" + b"".join(answer + b"\n" for answer in group) for line, group in zip(asked, groups))
+    lines = [text_line for line, group in zip(asked, groups) for text_line in (b"> " + line, *group)]
+    found = b"".join(line + b"\n" for line in lines)
     check(f"a session of {name}", found == text, difference(text, found, name))
+
+
+def ends_well(server):
+    """Whether a server that was stopped ends, with status 0. One that goes on is killed."""
+    try:
+        return server.wait(MOST_SECONDS_OF_AN_END) == 0
+    except subprocess.TimeoutExpired:
+        server.kill()
+        return False
 
 
 def check_commands(name, text, folder, environment):
     """What blocks of a page show of commands is what they print, the first one being the server, which they stop."""
     (start, _), *others = STEP.findall(text)
-    settings = {"cwd": folder, "env": environment, "stdin": subprocess.DEVNULL}
+    settings = {"cwd": folder, "env": environment, "stdin": subprocess.DEVNULL, "stdout": subprocess.PIPE}
     with subprocess.Popen(["sh", "-ec", b"exec " + start.rstrip(b"& ")], **settings) as server:
         try:
             wait_for_socket(folder)
             for command, wanted in others:
-                done = subprocess.run(["sh", "-ec", command], stdout=subprocess.PIPE, timeout=MOST_SECONDS, check=False, **settings)
+                done = subprocess.run(["sh", "-ec", command], timeout=MOST_SECONDS, check=False, **settings)
                 check(f"what {shown(command)} of {name} prints", done.stdout == wanted, difference(wanted, done.stdout, name))
-            check(f"the server of {name}", server.wait(MOST_SECONDS) == 0)
+            check(f"the server of {name} is stopped", ends_well(server))
         finally:
             server.kill()
 
@@ -209,28 +225,43 @@ def check_offers(helps):
         check(f"what the completion offers behind {word}", found == wanted, " ".join(sorted(found)))
 
 
-def check_options(program):
-    """The words of the options of `setattr` are those of docs/RULES.md, in the page and the completion, and are understood."""
+def words_of_options():
+    """The words behind each option of `setattr` in docs/RULES.md."""
     rules = shown(read("docs", "RULES.md"))
     told = re.search(r"Words of `set`: (.*?); of `clr`: the first six and `atime`; K: (.*?)\.", rules)
     attributes, kinds = (re.findall(r"`(\w+)`", words) for words in told.groups())
+    return {"set": attributes, "clr": [*attributes[:6], "atime"], "prop": kinds}
+
+
+def check_completed(key, words):
+    """The completion offers these words behind an option, which comes whole, or cut at `=` as readline cuts it."""
+    begun = words[0][:2]
+    for typed, wanted in (
+        ([f"{key}="], [f"{key}={word}" for word in words]),
+        ([key, "="], words),
+        ([key, "=", begun], [word for word in words if word.startswith(begun)]),
+    ):
+        check_same(f"what completes {' '.join(typed)}", wanted, offered("socket", "setattr", "1", "/", *typed))
+
+
+def check_options(program):
+    """The words of the options of `setattr` stand in the page, are offered and are understood."""
     entry = dict(ENTRY.findall(section("mountd-lines.7", "LINES"))).get("setattr", "")
-    cleared = [*attributes[:6], "atime"]
-    for key, words in ("set", attributes), ("clr", cleared), ("prop", kinds):
-        # The last word of the kinds stands behind an `or`.
-        text = re.sub(r" , (\w+)$", r"\nor\n.Cm \1", " , ".join(words)) if key == "prop" else " , ".join(words)
-        check(f"the words of {key} in mountd-lines.7", re.search(rf"(?m)^\.Cm {re.escape(text)} [.,]$", entry) is not None, text)
-        for begun in [f"{key}="], [key, "="], [key, "=", words[0][:2]]:
-            cut = f"{key}=" if len(begun) == 1 else ""
-            wanted = [cut + word for word in words if word.startswith(begun[2] if len(begun) == 3 else "")]
-            check_same(f"what completes {' '.join(begun)}", wanted, offered("socket", "setattr", "1", "/", *begun))
-        lines = [f"setattr 1 / {key}={word}".encode() for word in words]
-        answers = run(program, b"\n".join(lines) + b"\n")[1]
+    # The last word of some lists stands behind an `or`.
+    entry = re.sub(r" *\nor\n\.Cm ", " , ", entry)
+    for key, words in words_of_options().items():
+        text = " , ".join(words)
+        check(f"the words of {key} in mountd-lines.7", re.search(rf"(?m)^\.Cm {text} [.,]$", entry) is not None, text)
+        check_completed(key, words)
+        lines = [f"setattr 1 / {key}={word}\n".encode() for word in words]
+        answers = run(program, b"".join(lines))[1]
         check(f"the words of {key} are understood", answers == b"no NoNamespace\n" * len(words), shown(answers))
-    check_same("what completes a list", ["set=ro,nosuid", "set=ro,nosymfollow"], offered("socket", "setattr", "1", "/", "set=ro,nos"))
+    found = offered("socket", "setattr", "1", "/", "set=ro,nos")
+    check_same("what completes a list", ["set=ro,nosuid", "set=ro,nosymfollow"], found)
 
 
 def main():
+    """All checks, with what failed of them."""
     if len(sys.argv) != 3:
         raise SystemExit(__doc__)
     programs = dict(zip(("mountd", "mountctl"), map(os.path.abspath, sys.argv[1:])))
