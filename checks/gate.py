@@ -67,6 +67,7 @@ def main():
     if os.path.isfile(PROGRAM) and os.path.isfile(CLIENT):
         for name, *words in (
             ("README's commands", "checks/readme.py", "--built"),
+            ("pages", "checks/pages.py", PROGRAM, CLIENT),
             ("checks of the program", "checks/program.py", PROGRAM),
             ("checks of the server", "checks/server.py", PROGRAM, CLIENT),
         ):

@@ -1,0 +1,282 @@
+#!/usr/bin/env -S python3 -B
+"""The pages of docs/man/ and the completion of docs/completion/ say what is so.
+
+Usage: checks/pages.py MOUNTD MOUNTCTL
+
+The pages are mdoc, and what is asked of them is read in their sources: that mandoc warns of nothing; that they have
+the options, the lines of a session, the refusals, the statuses and the messages that the programs, their sources,
+README.md and docs/RULES.md have, and no others; and that their examples are answered so. The completion offers the
+words of --help.
+
+Where mandoc is not there, it is installed if the environment says CI, and else man(1) takes its place. Without both
+the form of the pages is not checked, which is a failure only where the environment says CI.
+"""
+import os
+import re
+import shutil
+import subprocess
+import sys
+import tempfile
+
+from readme import STEP, wait_for_socket
+from running import MOST_SECONDS, TOP, answer_groups, check, difference, failures, read, run, shown
+
+PAGES = "mountd.1", "mountctl.1", "mountd-lines.7"
+COMPLETION = os.path.join(TOP, "docs", "completion", "mountctl.bash")
+
+MANDOC = ["mandoc", "-Tlint", "-W", "warning"]
+MAN = ["man", "--warnings", "-E", "UTF-8", "-l", "-Tutf8", "-Z"]
+
+SECTION = re.compile(r"(?m)^\.Sh (.*)\n((?:(?!\.Sh ).*\n)*)")
+ENTRY = re.compile(r"(?m)^\.It (?:Xo\n\.)?Ic (\w+)(.*\n(?:(?!\.It |\.El).*\n)*)")
+BLOCK = re.compile(r"(?m)^\.Bd -literal.*\n((?:(?!\.Ed).*\n)*)\.Ed$")
+MESSAGE = re.compile(r"(?m)^\.(?:It )?Li (\w+: .*?)(?: \.)?$")
+
+# How long a server may go on behind a stop, in seconds.
+MOST_SECONDS_OF_AN_END = 15
+
+# What completes a line of these words in bash, one offer in a line.
+OFFERS = 'source "$0"; COMP_WORDS=(mountctl "$@"); COMP_CWORD=$#; _mountctl; printf "%s\\n" "${COMPREPLY[@]}"'
+
+
+def page(name):
+    """The source of a page."""
+    return shown(read("docs", "man", name))
+
+
+def section(name, title):
+    """What stands in a section of a page."""
+    return dict(SECTION.findall(page(name))).get(title, "")
+
+
+def check_same(name, wanted, found):
+    """Notes what is missing among what was found, and what is too many."""
+    wanted, found = sorted(wanted), sorted(found)
+    check(name, wanted != [] and wanted == found, f"wanted: {' '.join(wanted)}\nfound: {' '.join(found)}")
+
+
+def form_command():
+    """The command that warns of the form of a page, or None where there is none."""
+    if not shutil.which("mandoc") and "CI" in os.environ and shutil.which("apt-get"):
+        words = ["apt-get", "install", "-y", "mandoc"]
+        subprocess.run(words, stdin=subprocess.DEVNULL, capture_output=True, check=False)
+    return next((command for command in (MANDOC, MAN) if shutil.which(command[0])), None)
+
+
+def check_form():
+    """mandoc, or man, warns of nothing in any page."""
+    command = form_command()
+    if command is None:
+        print("neither mandoc nor man is there: the form of the pages is not checked", flush=True)
+        check("the form of the pages", "CI" not in os.environ)
+        return
+    for name in PAGES:
+        done = subprocess.run([*command, os.path.join(TOP, "docs", "man", name)], capture_output=True, check=False)
+        said = done.stderr + (done.stdout if command == MANDOC else b"")
+        check(f"{command[0]} on {name}", (done.returncode, said) == (0, b""), shown(said))
+    print(f"{len(PAGES)} pages read by {command[0]}", flush=True)
+
+
+def usages(text):
+    """The lines of a session in a help, each by its first word: what may stand in it."""
+    lines = text.split("ines of a session:\n")[1].split("\n\n")[0]
+    return {line.split()[0]: line.strip().split("  ")[0] for line in re.findall(r"(?m)^  [a-z].*", lines)}
+
+
+def options(text):
+    """The options of a help."""
+    part = text.split("Options:\n")[1].split("\n\n")[0]
+    return [word for pair in re.findall(r"(?m)^ +(-\w)?(?:, )?(--[\w-]+)", part) for word in pair if word]
+
+
+def words_in_place(text):
+    """What a help says may stand in the place of a line."""
+    return re.findall(r"(?m)^  (\S+)", text.split("In the place of WORD..:\n")[1])
+
+
+def check_help(helps):
+    """The options and the lines of both helps stand in the pages, and no others."""
+    for program, text in helps.items():
+        lines = re.findall(r"(?m)^\.It (Fl .*)", page(f"{program}.1"))
+        found = [f"-{word}" for line in lines for word in re.findall(r"Fl (\S+)", line)]
+        check_same(f"the options of {program}.1", options(text), found)
+        entries = [word for word, _ in ENTRY.findall(section("mountd-lines.7", "LINES"))]
+        check_same(f"the lines of mountd-lines.7, by the help of {program}", usages(text), entries)
+    found = [word.replace("\\-", "-") for word in re.findall(r"(?m)^\.It Cm (\S+)", page("mountctl.1"))]
+    check_same("the words of mountctl.1", words_in_place(helps["mountctl"]), found)
+
+
+def refusals_by_line():
+    """The refusals of each line in docs/RULES.md, in their order."""
+    table = shown(read("docs", "RULES.md")).split("| Line | Refusals |\n")[1].split("\n\n")[0]
+    found = {}
+    for words, refusals in re.findall(r"(?m)^\| (.*) \| (.*) \|$", table):
+        always, _, rest = refusals.partition("; of ")
+        of_some, _, also = rest.partition(" also ")
+        for word in re.findall(r"`(\w+)`", words):
+            found[word] = re.findall(r"`(\w+)`", always + (also if f"`{word}`" in of_some else ""))
+    return found
+
+
+def check_refusals():
+    """The refusals of the source stand in mountd-lines.7, and no other in any page; each line has its own."""
+    names = re.findall(r'=> b"(\w+)"', shown(read("crates", "mt_skel", "src", "fault.rt")))
+    listed = re.findall(r"(?m)^\.It Er (\w+)", section("mountd-lines.7", "REFUSALS"))
+    check_same("the refusals of mountd-lines.7", names, listed)
+    for name in PAGES:
+        found = re.findall(r"\bEr (\w+)|\bno ([A-Z][a-z]+[A-Z]\w*)", page(name))
+        unknown = {word for pair in found for word in pair if word} - set(names)
+        check(f"refusals of {name} that are none", unknown == set(), " ".join(sorted(unknown)))
+    wanted = refusals_by_line()
+    for word, entry in ENTRY.findall(section("mountd-lines.7", "LINES")):
+        found = re.findall(r"(?m)^\.Er (\w+)", entry)
+        check(f"the refusals of {word} in mountd-lines.7", found == wanted.get(word, []), " ".join(found))
+
+
+def statuses_of_readme():
+    """The statuses of both programs that README.md names."""
+    text = shown(read("README.md"))
+    sentence = re.search(r"Its status is (.*?)\. ", text)
+    return {
+        "mountd": re.findall(r"(?m)^- (\d) (?:after|with|for) ", text),
+        "mountctl": re.findall(r"\b(\d) (?:where|for|with) ", sentence[1] if sentence else ""),
+    }
+
+
+def check_statuses():
+    """The statuses and messages that README.md names, and those in the source, stand in the pages, and no others."""
+    for program, wanted in statuses_of_readme().items():
+        text = section(f"{program}.1", "EXIT STATUS")
+        check_same(f"the statuses of {program}.1", wanted, re.findall(r"(?m)^\.It (\d)$", text))
+        told = re.findall(rf"`({program}: [^`]*)`", shown(read("README.md")))
+        source = re.findall(rf'"({program}: [^"]*)"', shown(read("crates", program, "src", "main.rt")))
+        check_same(f"the messages of {program}.1", {*told, *source}, MESSAGE.findall(text))
+
+
+def plain(text):
+    """A literal block as it is printed."""
+    return text.replace("\\(aq", "'").replace("\\e", "\\").encode()
+
+
+def check_session(name, text, program):
+    """What a block of a page shows of a session on standard input is what the program answers."""
+    asked = re.findall(rb"(?m)^> (.*)$", text)
+    groups = answer_groups(run(program, b"".join(line + b"\n" for line in asked))[1], asked)
+    lines = [text_line for line, group in zip(asked, groups) for text_line in (b"> " + line, *group)]
+    found = b"".join(line + b"\n" for line in lines)
+    check(f"a session of {name}", found == text, difference(text, found, name))
+
+
+def ends_well(server):
+    """Whether a server that was stopped ends, with status 0. One that goes on is killed."""
+    try:
+        return server.wait(MOST_SECONDS_OF_AN_END) == 0
+    except subprocess.TimeoutExpired:
+        server.kill()
+        return False
+
+
+def check_commands(name, text, folder, environment):
+    """What blocks of a page show of commands is what they print, the first one being the server, which they stop."""
+    (start, _), *others = STEP.findall(text)
+    settings = {"cwd": folder, "env": environment, "stdin": subprocess.DEVNULL, "stdout": subprocess.PIPE}
+    with subprocess.Popen(["sh", "-ec", b"exec " + start.rstrip(b"& ")], **settings) as server:
+        try:
+            wait_for_socket(folder)
+            for command, wanted in others:
+                done = subprocess.run(["sh", "-ec", command], timeout=MOST_SECONDS, check=False, **settings)
+                check(f"what {shown(command)} of {name} prints", done.stdout == wanted, difference(wanted, done.stdout, name))
+            check(f"the server of {name} is stopped", ends_well(server))
+        finally:
+            server.kill()
+
+
+def check_examples(programs):
+    """The examples of the pages are answered so: sessions behind `>`, and commands behind `$`."""
+    for name in PAGES:
+        blocks = [plain(block) for block in BLOCK.findall(section(name, "EXAMPLES"))]
+        check(f"{name} has examples", blocks != [])
+        for block in blocks:
+            if block.startswith(b"> "):
+                check_session(name, block, programs["mountd"])
+        commands = b"".join(block for block in blocks if block.startswith(b"$ "))
+        if commands:
+            with tempfile.TemporaryDirectory() as folder, tempfile.TemporaryDirectory() as links:
+                for program, path in programs.items():
+                    os.symlink(path, os.path.join(links, program))
+                path = os.pathsep.join([links, os.environ["PATH"]])
+                check_commands(name, commands, folder, dict(os.environ, PATH=path))
+
+
+def offered(*words):
+    """What the completion offers for the last of these words."""
+    done = subprocess.run(["bash", "-c", OFFERS, COMPLETION, *words], stdout=subprocess.PIPE, cwd=TOP, check=False)
+    return shown(done.stdout).split()
+
+
+def check_offers(helps):
+    """The completion offers the options and words of mountctl --help, and behind each word what may stand there."""
+    check_same("the options that the completion offers", options(helps["mountctl"]), offered("-"))
+    there = usages(helps["mountctl"])
+    check_same("the words that the completion offers", [*there, *words_in_place(helps["mountctl"])], offered("socket", ""))
+    for word, usage in usages(helps["mountd"]).items():
+        wanted = set(re.findall(r"(?<![^\s\[])[a-z]+=?", usage)) - {word}
+        found = {offer for count in range(4) for offer in offered("socket", word, *["1"] * count, "")}
+        check(f"what the completion offers behind {word}", found == wanted, " ".join(sorted(found)))
+
+
+def words_of_options():
+    """The words behind each option of `setattr` in docs/RULES.md."""
+    rules = shown(read("docs", "RULES.md"))
+    told = re.search(r"Words of `set`: (.*?); of `clr`: the first six and `atime`; K: (.*?)\.", rules)
+    attributes, kinds = (re.findall(r"`(\w+)`", words) for words in told.groups())
+    return {"set": attributes, "clr": [*attributes[:6], "atime"], "prop": kinds}
+
+
+def check_completed(key, words):
+    """The completion offers these words behind an option, which comes whole, or cut at `=` as readline cuts it."""
+    begun = words[0][:2]
+    for typed, wanted in (
+        ([f"{key}="], [f"{key}={word}" for word in words]),
+        ([key, "="], words),
+        ([key, "=", begun], [word for word in words if word.startswith(begun)]),
+    ):
+        check_same(f"what completes {' '.join(typed)}", wanted, offered("socket", "setattr", "1", "/", *typed))
+
+
+def check_options(program):
+    """The words of the options of `setattr` stand in the page, are offered and are understood."""
+    entry = dict(ENTRY.findall(section("mountd-lines.7", "LINES"))).get("setattr", "")
+    # The last word of some lists stands behind an `or`.
+    entry = re.sub(r" *\nor\n\.Cm ", " , ", entry)
+    for key, words in words_of_options().items():
+        text = " , ".join(words)
+        check(f"the words of {key} in mountd-lines.7", re.search(rf"(?m)^\.Cm {text} [.,]$", entry) is not None, text)
+        check_completed(key, words)
+        lines = [f"setattr 1 / {key}={word}\n".encode() for word in words]
+        answers = run(program, b"".join(lines))[1]
+        check(f"the words of {key} are understood", answers == b"no NoNamespace\n" * len(words), shown(answers))
+    found = offered("socket", "setattr", "1", "/", "set=ro,nos")
+    check_same("what completes a list", ["set=ro,nosuid", "set=ro,nosymfollow"], found)
+
+
+def main():
+    """All checks, with what failed of them."""
+    if len(sys.argv) != 3:
+        raise SystemExit(__doc__)
+    programs = dict(zip(("mountd", "mountctl"), map(os.path.abspath, sys.argv[1:])))
+    helps = {name: shown(run(path, b"", "--help")[1]) for name, path in programs.items()}
+    check_form()
+    check_help(helps)
+    check_refusals()
+    check_statuses()
+    check_examples(programs)
+    check_offers(helps)
+    check_options(programs["mountd"])
+    if failures:
+        raise SystemExit(f"checks of the pages failed: {len(failures)}")
+    print("the pages and the completion say what is so")
+
+
+if __name__ == "__main__":
+    main()

@@ -1,0 +1,85 @@
+# Completion of the words of mountctl(1) for bash: to be sourced, or installed under the name `mountctl` in a folder
+# of completions.
+
+# The words that may follow those of a line, where it takes more than names, numbers and paths.
+_mountctl_words()
+{
+    local count=$#
+    case $1:$count in
+        :0) echo mkfs mkdir newns copyns dropns mount bind rbind move umount setattr show find watch take follow close quit stop - mirror ;;
+        copyns:2) echo less ;;
+        watch:1) echo all ;;
+        setattr:[3-9])
+            # Each option may be there once.
+            [[ " ${*:4} " == *" rec "* ]] || echo rec
+            [[ " ${*:4}" == *" set="* ]] || echo set={ro,nosuid,nodev,noexec,nosymfollow,nodiratime,relatime,noatime,strictatime}
+            [[ " ${*:4}" == *" clr="* ]] || echo clr={ro,nosuid,nodev,noexec,nosymfollow,nodiratime,atime}
+            [[ " ${*:4}" == *" prop="* ]] || echo prop={shared,private,slave,unbindable}
+            ;;
+    esac
+}
+
+# The sockets and folders that begin so.
+_mountctl_sockets()
+{
+    local path
+    compgen -f -- "$1" | while IFS= read -r path; do
+        if [[ -S $path || -d $path ]]; then
+            printf '%s\n' "$path"
+        fi
+    done
+}
+
+# Which of these words the first one may become. Of a list behind `set=` or `clr=` the last part is completed, and `set=`
+# itself comes before what may stand behind it.
+_mountctl_offers()
+{
+    local current=$1 word begun=
+    shift
+    if [[ $current == @(set|clr)=*,* ]]; then
+        begun=${current%,*},
+    fi
+    for word; do
+        if [[ $begun ]]; then
+            [[ $word == "${current%%=*}="* && ,${begun#*=} != *,"${word#*=}",* ]] || continue
+            word=$begun${word#*=}
+        elif [[ $word == *=* && $current != *=* ]]; then
+            word=${word%%=*}=
+        fi
+        if [[ $word == "$current"* ]]; then
+            printf '%s\n' "$word"
+        fi
+    done | sort -u
+}
+
+_mountctl()
+{
+    local at word current words=() cut=
+    # Readline has cut the words at `=`: they are put together again.
+    for ((at = 1; at <= COMP_CWORD; at++)); do
+        word=${COMP_WORDS[at]}
+        if ((${#words[@]} > 1)) && [[ $word == =* || ${words[-1]} == *= && ${COMP_WORDS[at - 1]} == *= ]]; then
+            words[-1]+=$word
+        else
+            words+=("$word")
+        fi
+    done
+    current=${words[-1]}
+    unset "words[-1]"
+    if ((${#words[@]} == 0)); then
+        mapfile -t COMPREPLY < <(_mountctl_sockets "$current"; compgen -W "-h --help" -- "$current")
+        compopt -o filenames 2> /dev/null
+        return
+    fi
+    mapfile -t COMPREPLY < <(_mountctl_offers "$current" $(_mountctl_words "${words[@]:1}"))
+    # What readline holds for the word begins behind the `=` then.
+    if [[ $current == *=* && ${COMP_WORDS[COMP_CWORD]} != *[!=]*=* && $COMP_WORDBREAKS == *=* ]]; then
+        cut=${current%%=*}=
+    fi
+    COMPREPLY=("${COMPREPLY[@]#"$cut"}")
+    if [[ ${#COMPREPLY[@]} == 1 && ${COMPREPLY[0]} == *= ]]; then
+        compopt -o nospace 2> /dev/null
+    fi
+}
+
+complete -F _mountctl mountctl
