@@ -11,6 +11,7 @@ words of --help.
 Where mandoc is not there, it is installed if the environment says CI, and else man(1) takes its place. Without both
 the form of the pages is not checked, which is a failure only where the environment says CI.
 """
+import contextlib
 import os
 import re
 import shutil
@@ -59,7 +60,8 @@ def form_command():
     """The command that warns of the form of a page, or None where there is none."""
     if not shutil.which("mandoc") and "CI" in os.environ and shutil.which("apt-get"):
         words = ["apt-get", "install", "-y", "mandoc"]
-        subprocess.run(words, stdin=subprocess.DEVNULL, capture_output=True, check=False)
+        with contextlib.suppress(subprocess.TimeoutExpired):
+            subprocess.run(words, stdin=subprocess.DEVNULL, capture_output=True, check=False, timeout=MOST_SECONDS)
     return next((command for command in (MANDOC, MAN) if shutil.which(command[0])), None)
 
 
