@@ -10,12 +10,13 @@
  * reads, writes and accepts there were is written to the file CALLS_TO.
  */
 #define _GNU_SOURCE
-#include <dlfcn.h>
 #include <errno.h>
 #include <stdio.h>
 #include <stdlib.h>
 #include <sys/socket.h>
 #include <unistd.h>
+
+#include "at_end.h"
 
 struct calls {
     long most, behind, times, number, each;
@@ -43,18 +44,6 @@ static void tell(void) {
         fprintf(file, "%ld %ld %ld\n", reads.count, writes.count, accepts.count);
         fclose(file);
     }
-}
-
-__attribute__((destructor)) static void end(void) {
-    tell();
-}
-
-/* A program with threads ends so, and no destructor is called. */
-void _exit(int status) {
-    void (*real)(int) = (void (*)(int))dlsym(RTLD_NEXT, "_exit");
-    tell();
-    real(status);
-    __builtin_unreachable();
 }
 
 /* Whether a call fails, with its errno where it has one. */

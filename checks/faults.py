@@ -74,26 +74,16 @@ def places(text, part):
     return 0, text.index(b"\n") + 1, text.index(part) + 3, len(text) - 1
 
 
-def check_interrupted_writes(faulty):
-    for behind in places(faulty.output, b"space 2"):
-        name = f"interrupted writes behind {behind} bytes"
-        found = faulty.run("FAIL_WRITE", errno.EINTR, behind=behind, times=MOST_INTERRUPTIONS - 1)
+def check_interrupted(faulty, stream, text, part, left, fault):
+    """999 interruptions in succession change nothing, and one more ends the session behind what `left` says."""
+    for behind in places(text, part):
+        name = f"interruptions of {stream} behind {behind} bytes"
+        found = faulty.run(stream, errno.EINTR, behind=behind, times=MOST_INTERRUPTIONS - 1)
         faulty.check_whole(f"999 {name}", found)
-        found = faulty.run("FAIL_WRITE", errno.EINTR, behind=behind, times=MOST_INTERRUPTIONS)
-        faulty.check_cut(f"1,000 {name}", found, faulty.output[:behind], WRITE_FAULT)
-    found = faulty.run("FAIL_WRITE", errno.EINTR, most=1, times=MOST_INTERRUPTIONS - 1, each=True)
-    faulty.check_whole("999 interrupted writes before each byte", found)
-
-
-def check_interrupted_reads(faulty):
-    for behind in places(faulty.text, b"watch all"):
-        name = f"interrupted reads behind {behind} bytes"
-        found = faulty.run("FAIL_READ", errno.EINTR, behind=behind, times=MOST_INTERRUPTIONS - 1)
-        faulty.check_whole(f"999 {name}", found)
-        found = faulty.run("FAIL_READ", errno.EINTR, behind=behind, times=MOST_INTERRUPTIONS)
-        faulty.check_cut(f"1,000 {name}", found, faulty.answered(behind), READ_FAULT)
-    found = faulty.run("FAIL_READ", errno.EINTR, most=1, times=MOST_INTERRUPTIONS - 1, each=True)
-    faulty.check_whole("999 interrupted reads before each byte", found)
+        found = faulty.run(stream, errno.EINTR, behind=behind, times=MOST_INTERRUPTIONS)
+        faulty.check_cut(f"1,000 {name}", found, left(behind), fault)
+    found = faulty.run(stream, errno.EINTR, most=1, times=MOST_INTERRUPTIONS - 1, each=True)
+    faulty.check_whole(f"999 interruptions of {stream} before each byte", found)
 
 
 def check_each_write(faulty):
@@ -148,8 +138,8 @@ def check_faults(program):
         faulty = Faulty(program, cases.load(CASE).input() + SHOWS, folder, "-")
         check("a session without faults", faulty.output.startswith(cases.load(CASE).output()))
         check("its end", (faulty.status, faulty.complaint) == (0, b""))
-        check_interrupted_writes(faulty)
-        check_interrupted_reads(faulty)
+        check_interrupted(faulty, "FAIL_WRITE", faulty.output, b"space 2", lambda behind: faulty.output[:behind], WRITE_FAULT)
+        check_interrupted(faulty, "FAIL_READ", faulty.text, b"watch all", faulty.answered, READ_FAULT)
         check_each_write(faulty)
         check_each_read(faulty)
         print(f"a fault at each of {len(faulty.text)} bytes read and {len(faulty.output)} written")

@@ -3,12 +3,13 @@
  * threads; and writes the number of its allocations to the file COUNT_TO as it ends.
  */
 #define _GNU_SOURCE
-#include <dlfcn.h>
 #include <stdatomic.h>
 #include <stddef.h>
 #include <stdio.h>
 #include <stdlib.h>
 #include <unistd.h>
+
+#include "at_end.h"
 
 static long refused;
 static atomic_long asked;
@@ -28,18 +29,6 @@ static void tell(void) {
         fprintf(file, "%ld\n", count);
         fclose(file);
     }
-}
-
-__attribute__((destructor)) static void end(void) {
-    tell();
-}
-
-/* A program with threads ends so, and no destructor is called. */
-void _exit(int status) {
-    void (*real)(int) = (void (*)(int))dlsym(RTLD_NEXT, "_exit");
-    tell();
-    real(status);
-    __builtin_unreachable();
 }
 
 static int is_refused(void) {
