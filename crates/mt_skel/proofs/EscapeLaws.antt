@@ -4,7 +4,8 @@ use Rattle.std.proofs.Math.Dec.{eqb-suc-zero}
 use Rattle.std.proofs.Common.{get_or, ◌-◌, ◌≡◌, ◌≢◌, ℕ, ◌+◌, ◌<◌, ◌≤◌, ◌==◌, List, [], ◌∷◌, ◌++◌, length, take, drop, Bool, Option, Some, None, true, false, refl, ap, sym, ◌∙◌, arith, append_assoc, zero-add}
 use Rattle.std.proofs.lemmas.Bool.{ne_eqb, eqb-true, eqb-false}
 use Rattle.std.specs.Option.{option_map}
-use Rattle.mt_skel.specs.Escapes.{escaped, escaped_byte, unescaped, cons_to, byte_of_digits}
+use Rattle.std.specs.List.{list_any}
+use Rattle.mt_skel.specs.Escapes.{has_escape, is_backslash, escaped, escaped_byte, unescaped, cons_to, byte_of_digits}
 
 pub unescaped-plain : (x : ℕ) (xs : List ℕ) → x ≢ 92 → unescaped (x ∷ xs) ≡ cons_to (Some x) (unescaped xs)
 unfolding unescaped
@@ -112,6 +113,44 @@ not_empty (x ∷ text) e = omega arith
 count_from-zero : (o : Option (List ℕ)) → count_from 0 o ≡ option_map (λ r. length r) o
 count_from-zero None = refl
 count_from-zero (Some r) = ap Some (zero-add (length r))
+
+-- a byte that has no escape is its own text
+bare_byte : (b : ℕ) → has_escape b ≡ false → escaped_byte b ≡ b ∷ []
+bare_byte b h = by_space (b == 32) refl
+  where
+    by_backslash : (k : Bool) → (b == 92) ≡ k → (b == 32) ≡ false → (b == 9) ≡ false → (b == 10) ≡ false → escaped_byte b ≡ b ∷ []
+    by_backslash true is space tab newline = absurd (cc)
+    by_backslash false is space tab newline = rw (space, tab, newline, is) refl
+
+    by_newline : (k : Bool) → (b == 10) ≡ k → (b == 32) ≡ false → (b == 9) ≡ false → escaped_byte b ≡ b ∷ []
+    by_newline true is space tab = absurd (cc)
+    by_newline false is space tab = by_backslash (b == 92) refl space tab is
+
+    by_tab : (k : Bool) → (b == 9) ≡ k → (b == 32) ≡ false → escaped_byte b ≡ b ∷ []
+    by_tab true is space = absurd (cc)
+    by_tab false is space = by_newline (b == 10) refl space is
+
+    by_space : (k : Bool) → (b == 32) ≡ k → escaped_byte b ≡ b ∷ []
+    by_space true is = absurd (cc)
+    by_space false is = by_tab (b == 9) refl is
+
+-- bytes of which none has an escape are their own text
+pub bare_escaped : (bytes : List ℕ) → list_any has_escape bytes ≡ false → escaped bytes ≡ bytes
+bare_escaped [] h = refl
+bare_escaped (b ∷ bytes) h = by_first (has_escape b) refl (bare_escaped bytes)
+  where
+    by_first : (k : Bool) → has_escape b ≡ k → (list_any has_escape bytes ≡ false → escaped bytes ≡ bytes) → escaped (b ∷ bytes) ≡ b ∷ bytes
+    by_first true is rest = absurd (cc)
+    by_first false is rest = rw (bare_byte b is) (ap (λ bs. b ∷ bs) (rest (rw is at h)))
+
+-- a text without a backslash stands for itself
+pub bare_unescaped : (text : List ℕ) → list_any is_backslash text ≡ false → unescaped text ≡ Some text
+bare_unescaped [] h = unescaped-nil [] refl
+bare_unescaped (b ∷ text) h = by_first (b == 92) refl (bare_unescaped text)
+  where
+    by_first : (k : Bool) → (b == 92) ≡ k → (list_any is_backslash text ≡ false → unescaped text ≡ Some text) → unescaped (b ∷ text) ≡ Some (b ∷ text)
+    by_first true is rest = absurd (cc)
+    by_first false is rest = unescaped-plain b text (eqb-false b 92 is) ∙ ap (cons_to (Some b)) (rest (rw is at h))
 
 -- what was counted is all, once nothing is left
 pub all_counted : (n : ℕ) (rest text : List ℕ) → count_from n (unescaped rest) ≡ count_from 0 (unescaped text) → true ≡ (length rest == 0) → Some n ≡ option_map (λ r. length r) (unescaped text)

@@ -1,12 +1,19 @@
 -- The four escapes of names in lines (proc_pid_mountinfo(5); that no other byte is escaped is this project's rule).
 -- A word with no source is this project's rule.
-use Rattle.std.specs.Prelude.{ℕ, ◌==◌, ◌&&◌, if◌then◌else◌, List, [], ◌∷◌, Option, Some, None, codes}
+use Rattle.std.specs.Prelude.{ℕ, Bool, ◌==◌, ◌&&◌, ◌||◌, if◌then◌else◌, List, [], ◌∷◌, Option, Some, None, codes}
 use Rattle.std.specs.List.{flat_map}
 
 -- a byte in a line: space, tab, newline and backslash are written as a backslash and three octal digits
 abbrev pub escaped_byte : ℕ → List ℕ
 escaped_byte b =
     if b == 32 then codes "\\040" else (if b == 9 then codes "\\011" else (if b == 10 then codes "\\012" else (if b == 92 then codes "\\134" else b ∷ [])))
+
+-- whether a byte is written as an escape
+abbrev pub has_escape : ℕ → Bool
+has_escape b = b == 32 || b == 9 || b == 10 || b == 92
+
+abbrev pub is_backslash : ℕ → Bool
+is_backslash b = b == 92
 
 -- bytes in a line
 abbrev pub escaped : List ℕ → List ℕ

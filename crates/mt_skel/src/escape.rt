@@ -1,8 +1,9 @@
 //! The four escapes of names in lines, as in `/proc/pid/mountinfo`: space, tab, newline and backslash
 //! are written `\040`, `\011`, `\012` and `\134`, and every other byte stands for itself.
 ghost use Rattle.std.specs.Prelude.{◌≡◌, ℕ, ◌+◌, ◌<◌, ◌⊎◌, List, ◌++◌, length, IfOk, IfErr, OnOk, IsOkUnless, MatchOption, Some, None};
+ghost use Rattle.std.specs.List.{list_any};
 ghost use Rattle.std.specs.Option.{option_map};
-ghost use Rattle.mt_skel.specs.Escapes.{escaped, escaped_byte, byte_of_digits, unescaped, cons_to};
+ghost use Rattle.mt_skel.specs.Escapes.{has_escape, is_backslash, escaped, escaped_byte, byte_of_digits, unescaped, cons_to};
 
 use crate::fault::Fault;
 use std::alloc::{AllocError, Global};
@@ -19,10 +20,35 @@ pub fn escape(alloc: Global, bytes: &[u8]) -> Result<Vec<u8>, Fault>
     Ok(text)
 }
 
+/// Whether a byte is written as an escape.
+fn has_escape(byte: u8) -> bool
+    ensures { result ≡ has_escape byte }
+{
+    byte == b' ' || byte == b'\t' || byte == b'\n' || byte == b'\\'
+}
+
+/// Whether one of these bytes is written as an escape.
+fn have_escapes(bytes: &[u8]) -> bool
+    ensures { result ≡ list_any has_escape bytes.now }
+{
+    bytes.iter().any(|byte| has_escape(*byte))
+}
+
+/// Whether a text has a backslash, without which it stands for itself.
+fn has_backslash(text: &[u8]) -> bool
+    ensures { result ≡ list_any is_backslash text.now }
+{
+    text.iter().any(|byte| *byte == b'\\')
+}
+
 /// Appends the text of these bytes to a line.
 pub fn push_escaped(text: &mut Vec<u8>, bytes: &[u8]) -> Result<(), AllocError>
     ensures { OnOk result (text.new.items ≡ text.old.items ++ escaped bytes.now) }
 {
+    if !have_escapes(bytes) {
+        text.extend_from_slice(bytes)?;
+        return Ok(());
+    }
     for byte in bytes {
         push_byte(text, *byte)?;
     }
@@ -53,6 +79,11 @@ pub fn unescape(alloc: Global, text: &[u8]) -> Result<Vec<u8>, Fault>
     ensures faults { IfErr result (λ fault. ((fault ≡ Fault.BadLine) × (unescaped text.now ≡ None)) ⊎ (fault ≡ Fault.NoMemory)) }
     ensures inverse { (bytes : List ℕ) → text.now ≡ escaped bytes → unescaped text.now ≡ Some bytes }
 {
+    if !has_backslash(text) {
+        let mut bytes = Vec::with_capacity(alloc, text.len())?;
+        bytes.extend_from_slice(text)?;
+        return Ok(bytes);
+    }
     let Some(length) = unescaped_len(text) else {
         return Err(Fault::BadLine);
     };
@@ -69,6 +100,9 @@ pub fn unescape(alloc: Global, text: &[u8]) -> Result<Vec<u8>, Fault>
 pub fn unescaped_len(text: &[u8]) -> Option<usize>
     ensures { result ≡ option_map (λ bytes. length bytes) (unescaped text.now) }
 {
+    if !has_backslash(text) {
+        return Some(text.len());
+    }
     let mut length = 0usize;
     let mut rest = text;
     while !rest.is_empty() {
