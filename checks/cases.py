@@ -36,6 +36,11 @@ INPUT_LINE = re.compile(rb">(?:(\*?)(\.?) (.+))?", re.DOTALL)
 REPEATED = re.compile(rb"\{([1-9][0-9]*) ([^{}]+)\}")
 
 
+def marked(word):
+    """What finds the fenced blocks of a page behind `<!-- word: NAME -->`: what opens one, its name, its lines, its end."""
+    return re.compile(rb"(?m)^(<!-- %b: (.*) -->\n```.*\n)((?:(?!```).*\n)*?)(```)$" % word)
+
+
 class Bad(Exception):
     """A text that is no case, or an answer that cannot stand in one."""
 
@@ -115,9 +120,7 @@ def refuse_line(written, is_last):
 
 
 def parse(text):
-    """The case that a text says."""
-    if not text.startswith(b"#"):
-        raise Bad("a case begins with a comment")
+    """The session that a text says, be it commented or not."""
     *lines, last = text.split(b"\n")
     if last != b"":
         raise Bad("the last line has no end")
@@ -142,6 +145,13 @@ def parse(text):
     return Case(turns, comments, arguments)
 
 
+def parse_case(text):
+    """The case that a text says."""
+    if not text.startswith(b"#"):
+        raise Bad("a case begins with a comment")
+    return parse(text)
+
+
 def names():
     """The cases' names, in order."""
     return sorted(name for name in os.listdir(os.path.join(TOP, FOLDER)) if name != "README.md")
@@ -150,7 +160,7 @@ def names():
 def load(name):
     """The case of this name."""
     try:
-        return parse(read(FOLDER, name))
+        return parse_case(read(FOLDER, name))
     except Bad as bad:
         raise Bad(f"case {name}: {bad}") from None
 
@@ -162,16 +172,21 @@ def answers_of(program, case):
     return case.answered(output), ended
 
 
+def check_session(name, text, program, parsed=parse):
+    """A session is answered as its text says, and ends silently with status 0."""
+    try:
+        case = parsed(text)
+        found, ended = answers_of(program, case)
+    except Bad as bad:
+        check(name, False, str(bad))
+        return
+    check(f"end of {name}", ended == "", ended)
+    check(name, found.text() == text, difference(text, found.text(), name))
+
+
 def check_cases(program):
     for name in names():
-        try:
-            case = load(name)
-            found, ended = answers_of(program, case)
-        except Bad as bad:
-            check(f"case {name}", False, str(bad))
-            continue
-        check(f"end of case {name}", ended == "", ended)
-        check(f"case {name}", found.text() == case.text(), difference(case.text(), found.text(), name))
+        check_session(f"case {name}", read(FOLDER, name), program, parse_case)
 
 
 def update(program):
@@ -230,6 +245,6 @@ def check_format(_program):
     check("a case's input", case.input() == b"xababab..\n\nquit\nshow 11")
     check("a case's text", case.text() == GOOD and case.answered(case.output()) == case)
     for text in NO_CASES:
-        check(f"no case: {shown(text)!r}", is_refused(parse, text))
+        check(f"no case: {shown(text)!r}", is_refused(parse_case, text))
     for line in NO_ANSWERS:
         check(f"no answer in a case: {shown(line)!r}", is_refused(parse(b"# A case.\n> quit\n").answered, line))

@@ -19,8 +19,9 @@ import subprocess
 import sys
 import tempfile
 
+from cases import check_session
 from readme import STEP, wait_for_socket
-from running import MOST_SECONDS, TOP, answer_groups, check, difference, failures, read, run, shown
+from running import MOST_SECONDS, TOP, check, difference, failures, read, run, shown
 
 PAGES = "mountd.1", "mountctl.1", "mountd-lines.7"
 COMPLETION = os.path.join(TOP, "docs", "completion", "mountctl.bash")
@@ -160,15 +161,6 @@ def plain(text):
     return text.replace("\\(aq", "'").replace("\\e", "\\").encode()
 
 
-def check_session(name, text, program):
-    """What a block of a page shows of a session on standard input is what the program answers."""
-    asked = re.findall(rb"(?m)^> (.*)$", text)
-    groups = answer_groups(run(program, b"".join(line + b"\n" for line in asked))[1], asked)
-    lines = [text_line for line, group in zip(asked, groups) for text_line in (b"> " + line, *group)]
-    found = b"".join(line + b"\n" for line in lines)
-    check(f"a session of {name}", found == text, difference(text, found, name))
-
-
 def ends_well(server):
     """Whether a server that was stopped ends, with status 0. One that goes on is killed."""
     try:
@@ -200,7 +192,7 @@ def check_examples(programs):
         check(f"{name} has examples", blocks != [])
         for block in blocks:
             if block.startswith(b"> "):
-                check_session(name, block, programs["mountd"])
+                check_session(f"a session of {name}", block, programs["mountd"])
         commands = b"".join(block for block in blocks if block.startswith(b"$ "))
         if commands:
             with tempfile.TemporaryDirectory() as folder, tempfile.TemporaryDirectory() as links:

@@ -2,13 +2,13 @@
 """Checks the built program from outside: what no proof says of it.
 
 The parts are those of the other modules here: the format of cases and the cases (cases.py), README's
-example (readme.py), the tables (tables.py), odd input, closed streams and arguments (streams.py), the
-faults of reads and writes (faults.py), limits (limits.py), memory that stays level (level.py), worlds of many
-mounts (shapes.py) and allocations that are refused (memory.py). A failure is printed with what shows why, and
-then the status is 1. The server on a socket is for server.py.
+example (readme.py), the sessions of docs/TOUR.md (tour.py), the tables (tables.py), odd input, closed streams
+and arguments (streams.py), the faults of reads and writes (faults.py), limits (limits.py), memory that stays
+level (level.py), worlds of many mounts (shapes.py) and allocations that are refused (memory.py). A failure is
+printed with what shows why, and then the status is 1. The server on a socket is for server.py.
 
---update checks nothing: it writes the program's answers into cases/ and checks/shapes.txt, and from there
-README.md's example and the program's own crates/mountd/stdin and stdout. What it has changed is to be read.
+--update checks nothing: it writes the program's answers into docs/TOUR.md, cases/ and checks/shapes.txt, and from
+cases/ README.md's example and the program's own crates/mountd/stdin and stdout. What it has changed is to be read.
 """
 import argparse
 import os
@@ -23,12 +23,14 @@ import readme
 import shapes
 import streams
 import tables
+import tour
 from running import failures
 
 PARTS = {
     "format": cases.check_format,
     "cases": cases.check_cases,
     "example": readme.check_example,
+    "tour": tour.check_tour,
     "findmnt": tables.check_findmnt,
     "copies": tables.check_copies,
     "pieces": streams.check_pieces,
@@ -58,6 +60,7 @@ def main():
         cases.update(words.program)
         shapes.update(words.program)
         readme.update_example()
+        tour.update_tour(words.program)
         return
     for part in [words.only] if words.only else PARTS:
         start = time.monotonic()

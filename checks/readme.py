@@ -34,7 +34,7 @@ from running import TOP, check, difference, failures, read, shown, write
 EXAMPLE = "two-filesystems"
 STREAMS = ("crates", "mountd")
 
-CASE_BLOCK = re.compile(rb"(?m)^(<!-- case: (.*) -->\n```.*\n)((?:(?!```).*\n)*?)(```)$")
+CASE_BLOCK = cases.marked(b"case")
 BLOCK = re.compile(rb"(?m)^(?:<!-- (.*) -->\n)?```(.*)\n((?:(?!```).*\n)*?)```$")
 PROVED_RUN = re.compile(rb"cd crates/(\w+) && rt run -- ")
 TERMINAL = re.compile(rb"(?m)^<!-- terminal ([12]) -->\n```.*\n((?:(?!```).*\n)*?)```$")
