@@ -134,11 +134,14 @@ def stop_behind(server, lines, output):
 class Server:
     """A server in a folder of its own, which ends with the block."""
 
-    def __init__(self, program, *arguments, environment=None):
+    def __init__(self, program, *arguments, environment=None, held=()):
         self.folder = tempfile.mkdtemp()
         self.path = os.path.join(self.folder, "socket")
         words, pipe = [program, self.path, *arguments], subprocess.PIPE
-        self.process = subprocess.Popen(words, stdin=subprocess.DEVNULL, stdout=pipe, stderr=pipe, env=environment)
+        # The descriptors of `held` are the server's too.
+        self.process = subprocess.Popen(
+            words, stdin=subprocess.DEVNULL, stdout=pipe, stderr=pipe, env=environment, pass_fds=held
+        )
 
     def __enter__(self):
         end = time.monotonic() + MOST_SECONDS

@@ -21,6 +21,10 @@ LINES = ["show {space}", "find {space} {path}", "mount 9 d {path}", "setattr 2 /
 COMMANDS = SESSIONS // 2
 MIRRORS = SESSIONS // 4
 
+# How many lines a turn of a client has about, and how many are sent in all at most: the journal holds 1,048,576 commands.
+TURN = 4
+MOST_SENT = 900_000
+
 # How many posts a last mirror follows, once all commands have come.
 LAST_POSTS = 50
 
@@ -135,6 +139,8 @@ class Soak:
 
     def __init__(self, server, seconds, mountctl):
         self.server, self.end, self.mountctl = server, time.monotonic() + seconds, mountctl
+        # How long a client rests behind each turn, in seconds: not at all in a short soak.
+        self.rest = COMMANDS * TURN * seconds / MOST_SENT if seconds > 60 else 0
         self.counts = {"commands": 0, "posts": 0, "lags": 0, "mirrors": 0, "mirrors compared": 0}
         self.lock = threading.Lock()
         # Set once no client sends a command any more.
@@ -164,6 +170,7 @@ class Soak:
                     if not re.match(rb"ok|no ", client.answer(line)[0]):
                         raise Broken(f"the answer to {shown(line)}")
                 self.add("commands", len(sent))
+                time.sleep(self.rest)
 
     @staticmethod
     def lines(forms, words):
@@ -182,7 +189,7 @@ class Soak:
     def takes(self, client, mirror, chance):
         """Takes once: whether the watcher goes on."""
         if chance.random() < 0.1:
-            time.sleep(0.05)
+            time.sleep(0.05 + 10 * self.rest)
         request = chance.choice([b"take 16", b"take 1024"])
         first, *lines = client.ask(request)
         if first == b"no Lagged":
