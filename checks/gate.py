@@ -1,9 +1,10 @@
 #!/usr/bin/env -S python3 -B
-"""Proves everything once, from nothing, and checks the program that was built from outside.
+"""Proves everything once, from nothing, and checks the program that was built from outside. .ci/run is this program.
 
-First checks/words.py, then `rt ci`, then README's commands (checks/readme.py), then checks/pages.py,
-checks/program.py and checks/server.py, each with all that it prints. Then how long each took; then the last line of `rt ci`, `N passed, M failed`,
-once more, in which each other command that failed counts as one failed. The status is 0 where all of them passed.
+First checks/words.py and checks/definitions.py, then `rt ci`, then README's commands (checks/readme.py), then
+checks/pages.py, checks/program.py and checks/server.py, each with all that it prints. Then how long each took; then the
+last line of `rt ci`, `N passed, M failed`, once more, in which each other command that failed counts as one failed. The
+status is 0 where all of them passed.
 
 `rt ci` keeps no library that `rt run` would take, so that README's `rt run` would prove everything a
 second time. It does leave the program that it has proved, built and run, and --built takes that one.
@@ -62,8 +63,9 @@ def main():
             os.remove(program)
     words_passed, _, words_took = run("self-test of words.py", "checks/words.py", "--self-test")
     named, _, named_took = run("one word, one meaning; each thing once", "checks/words.py")
+    placed, _, placed_took = run("the table of definitions", "checks/definitions.py")
     is_proved, verdict, took = run("rt ci", "rt", "ci")
-    all_took, others_passed = [words_took, named_took, took], [words_passed, named]
+    all_took, others_passed = [words_took, named_took, placed_took, took], [words_passed, named, placed]
     if os.path.isfile(PROGRAM) and os.path.isfile(CLIENT):
         for name, *words in (
             ("README's commands", "checks/readme.py", "--built"),
