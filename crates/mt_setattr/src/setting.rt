@@ -1,5 +1,5 @@
 //! The change of mounts.
-ghost use Rattle.std.specs.Prelude.{◌≡◌, ◌≢◌, ◌<◌, ◌≤◌, ◌^◌, ◌||◌, ◌&&◌, not, map, length, IsTrue, OnOk, OnErr, IfOk, IfErr, IsOkUnless, Ok, Err};
+ghost use Rattle.std.specs.Prelude.{◌≡◌, ◌≢◌, ◌<◌, ◌≤◌, ◌^◌, ◌||◌, ◌&&◌, not, map, length, IsTrue, OnOk, OnErr, IfErr, IsOkUnless, Ok, Err};
 ghost use Rattle.std.specs.Option.{option_map_or, is_some};
 ghost use Rattle.mt_skel.specs.Keyed.{has, among};
 ghost use Rattle.mt_mounts.specs.Forest.{id_of};
