@@ -1,13 +1,14 @@
 #!/usr/bin/env -S python3 -B
-"""Proves everything once, from nothing, and checks the program that was built from outside. .ci/run is this program.
+"""Proves everything once, from nothing, and checks the program that was built from outside.
 
-First checks/words.py and checks/definitions.py, then `rt ci`, then README's commands (checks/readme.py), then
-checks/pages.py, checks/program.py and checks/server.py, each with all that it prints. Then how long each took; then the
-last line of `rt ci`, `N passed, M failed`, once more, in which each other command that failed counts as one failed. The
-status is 0 where all of them passed.
+First checks/words.py, then `rt ci`, then README's commands (checks/readme.py), then checks/pages.py,
+checks/program.py and checks/server.py, each with all that it prints. Then how long each took; then the last line of `rt ci`, `N passed, M failed`,
+once more, in which each other command that failed counts as one failed. The status is 0 where all of them passed.
 
 `rt ci` keeps no library that `rt run` would take, so that README's `rt run` would prove everything a
 second time. It does leave the program that it has proved, built and run, and --built takes that one.
+
+A program: .ci/run is this one. Behind checks/words.py comes checks/definitions.py.
 """
 import contextlib
 import os
