@@ -1,6 +1,6 @@
 #!/usr/bin/env python3
 """Counts instructions of `mountd -` in worlds of growing size: those of the engine, and those of the tables of all
-namespaces, which are compared after each command.
+namespaces, which are compared after each command. A program that is called by hand.
 
 Usage: bench/profile.py [--program PATH] [--only WORD] [--times N]
 

@@ -1,10 +1,11 @@
 #!/usr/bin/env python3
 """Times `mountd -` on made-up sessions, and prints lines per second and the most memory it took.
+A program that is called by hand.
 
 Usage: bench/run.py [--program PATH] [--seed N] [--only WORD]
 
-The program is crates/mountd/out/mountd, which `rt run mountd` builds. Nothing is judged:
-the figures are for docs/GATE.md. The same seed makes the same sessions.
+The program is crates/mountd/out/mountd, which `rt run mountd` builds. Nothing is judged.
+The same seed makes the same sessions.
 """
 import argparse
 import os

@@ -1,4 +1,4 @@
-"""The sessions of cases/: the program answers each byte for byte as its file says.
+"""The sessions of cases/: the program answers each byte for byte as its file says. A module, a part of program.py.
 
 A case is a text file of comments, input lines and answers:
 

@@ -1,4 +1,7 @@
-"""The other program, which asks a server: its answers, its statuses, and what it makes of a server of no worth."""
+"""The other program, which asks a server: its answers, its statuses, and what it makes of a server of no worth.
+
+A module, a part of server.py.
+"""
 import os
 import re
 import socket

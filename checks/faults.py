@@ -1,4 +1,5 @@
 """Faults of the standard input and output of a plain session, by a library that is loaded before the program.
+A module, a part of program.py.
 
 The proofs say what a session does where a read or a write fails, over streams that say so; of the real
 ones nothing is proved. This says of them: 999 interrupted calls in succession change nothing, and the

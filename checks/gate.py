@@ -7,6 +7,8 @@ once more, in which each other command that failed counts as one failed. The sta
 
 `rt ci` keeps no library that `rt run` would take, so that README's `rt run` would prove everything a
 second time. It does leave the program that it has proved, built and run, and --built takes that one.
+
+A program: .ci/run is this one. Behind checks/words.py comes checks/definitions.py.
 """
 import contextlib
 import os
@@ -62,8 +64,9 @@ def main():
             os.remove(program)
     words_passed, _, words_took = run("self-test of words.py", "checks/words.py", "--self-test")
     named, _, named_took = run("one word, one meaning; each thing once", "checks/words.py")
+    placed, _, placed_took = run("the table of definitions", "checks/definitions.py")
     is_proved, verdict, took = run("rt ci", "rt", "ci")
-    all_took, others_passed = [words_took, named_took, took], [words_passed, named]
+    all_took, others_passed = [words_took, named_took, placed_took, took], [words_passed, named, placed]
     if os.path.isfile(PROGRAM) and os.path.isfile(CLIENT):
         for name, *words in (
             ("README's commands", "checks/readme.py", "--built"),

@@ -1,5 +1,5 @@
 #!/usr/bin/env -S python3 -B
-"""Hostile lines in bulk, for a plain session: by hand, and no part of the gate.
+"""Hostile lines in bulk, for a plain session. A program that is called by hand, and no part of the gate.
 
 Usage: checks/hostile.py MOUNTD [COUNT] [--jobs N]
 

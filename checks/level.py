@@ -1,5 +1,5 @@
 """Memory and speed that stay level: what a session has needed at most does not grow with what has come and gone, and a
-command takes no longer.
+command takes no longer. A module, a part of program.py.
 
 What has to grow is the journal, which keeps every accepted command. So the rounds of worlds that are filled
 and emptied have few commands, and the bound for many commands is the journal's own size.

@@ -1,4 +1,4 @@
-"""The limits of RULES.md through the whole program, with sessions that are made here.
+"""The limits of RULES.md through the whole program, with sessions that are made here. A module, a part of program.py.
 
 The proofs say of each call where its limit is. This says that the program is built with these
 limits, that a real machine gets there, and that a refused command leaves the tables and numbers of

@@ -1,4 +1,4 @@
-"""Sessions with each of their allocations refused in turn.
+"""Sessions with each of their allocations refused in turn. A module, a part of program.py.
 
 The proofs say that a refused growth leaves everything as it was, not where `NoMemory` may come from.
 This says, for each allocation of the program in each of these sessions: either one request is answered

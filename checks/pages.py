@@ -1,5 +1,5 @@
 #!/usr/bin/env -S python3 -B
-"""The pages of docs/man/ and the completion of docs/completion/ say what is so.
+"""The pages of docs/man/ and the completion of docs/completion/ say what is so. A program of the gate.
 
 Usage: checks/pages.py MOUNTD MOUNTCTL
 

@@ -1,5 +1,5 @@
 #!/usr/bin/env -S python3 -B
-"""Checks the built program from outside: what no proof says of it.
+"""Checks the built program from outside: what no proof says of it. A program of the gate.
 
 The parts are those of the other modules here: the format of cases and the cases (cases.py), README's
 example (readme.py), the sessions of docs/TOUR.md (tour.py), the tables (tables.py), odd input, closed streams

@@ -1,5 +1,6 @@
 #!/usr/bin/env -S python3 -B
 """README.md says what is so: its example is a case, and its commands print what they should.
+A program of the gate, and a part of program.py.
 
 Usage: checks/readme.py [--built]
 

@@ -1,4 +1,4 @@
-"""Runs of the program, its answers line by line, and what failed."""
+"""Runs of the program, its answers line by line, and what failed. A module, for all others."""
 import difflib
 import os
 import re

@@ -1,5 +1,5 @@
 #!/usr/bin/env -S python3 -B
-"""The server on a socket, from outside: what no proof says of it.
+"""The server on a socket, from outside: what no proof says of it. A program of the gate.
 
 Usage: checks/server.py MOUNTD [MOUNTCTL] [--seconds N]
 

@@ -1,4 +1,4 @@
-"""Servers that are started here, and plain clients that speak with them."""
+"""Servers that are started here, and plain clients that speak with them. A module, for parts of server.py."""
 import contextlib
 import os
 import re

@@ -1,4 +1,5 @@
 """Each command in worlds of some 4,000 mounts, of six shapes: the answers are the stored ones, in seconds.
+A module, a part of program.py.
 
 The answers in shapes.txt are those of the program that scanned all mounts for each question. A line of it has the
 shape, a line of the session, the first line of its answer, how many lines that has, and a part of its SHA-256.

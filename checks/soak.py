@@ -1,4 +1,7 @@
-"""Many sessions at once: commands, watchers, and mirrors of the other program; and a stop beside them."""
+"""Many sessions at once: commands, watchers, and mirrors of the other program; and a stop beside them.
+
+A module, a part of server.py.
+"""
 import contextlib
 import random
 import re

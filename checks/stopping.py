@@ -1,4 +1,4 @@
-"""A stop: sessions that go on, and those that are cut off."""
+"""A stop: sessions that go on, and those that are cut off. A module, a part of server.py."""
 import contextlib
 import os
 import threading

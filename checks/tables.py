@@ -1,4 +1,4 @@
-"""The tables of the cases, read by others.
+"""The tables of the cases, read by others. A module, a part of program.py.
 
 `findmnt` of util-linux reads each table of cases/ as the file it is made after, /proc/pid/mountinfo,
 and finds the columns that its lines have: that another program understands the lines is no matter of

@@ -1,4 +1,4 @@
-"""A server on a socket with each of its allocations refused in turn.
+"""A server on a socket with each of its allocations refused in turn. A module, a part of server.py.
 
 One session mounts, one watches and takes posts, and a third one then asks what there is. For each allocation of
 the server either it ends at its start, with status 1 and `mountd: out of memory`; or one request is answered

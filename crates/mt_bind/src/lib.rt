@@ -1,5 +1,9 @@
 //! New namespaces and their end, and what makes mounts stand where none stood: mount, bind, rbind and
 //! move.
+//!
+//! [`mounting`], [`binding`] and [`moving`] have the commands that make mounts stand; [`members`] finds which
+//! mounts of a tree a recursive bind copies. [`spaces`] makes namespaces, [`copying`] copies them, [`dropping`]
+//! ends them. [`laws`] has what all of these keep.
 #![tactic(auto)]
 
 pub mod binding;

@@ -1,5 +1,5 @@
 //! The commands that were accepted, and the world that they lead to.
-ghost use Rattle.std.specs.Prelude.{◌≡◌, ◌≢◌, ℕ, IfOk, IfErr, OnErr, OnOk, IsOkUnless, Ok, Err, true, false, ◌+◌, ◌<◌, ◌^◌, ◌==◌, [], ◌∷◌, ◌++◌, map, length, IsTrue, ◌≤◌};
+ghost use Rattle.std.specs.Prelude.{◌≡◌, ◌≢◌, IfOk, IfErr, OnErr, OnOk, IsOkUnless, Ok, Err, true, false, ◌<◌, ◌==◌, [], ◌∷◌, ◌++◌, map, length, IsTrue, ◌≤◌};
 ghost use Rattle.std.specs.List.{find, flat_map, AllByRecursion};
 ghost use Rattle.std.specs.Option.{option_map};
 ghost use Rattle.mt_propagate.specs.World.{world_view, empty_world, is_space};

@@ -1,5 +1,5 @@
 //! What a command changes in the tables of namespaces.
-ghost use Rattle.std.specs.Prelude.{◌≡◌, ℕ, ◌+◌, ◌++◌, ◌≤◌, IfOk, OnOk, IsOkUnless, IsTrue, None, cond, [], map, slice_index_or};
+ghost use Rattle.std.specs.Prelude.{◌≡◌, ◌+◌, ◌++◌, ◌≤◌, IfOk, OnOk, IsOkUnless, IsTrue, None, cond, [], map};
 ghost use Rattle.std.specs.Option.{option_to_list};
 ghost use Rattle.std.specs.Arc.{arc_value};
 ghost use Rattle.mt_skel.specs.Keyed.{rises};

@@ -1,12 +1,12 @@
 -- Where no row is open, nothing is due.
-use Rattle.std.proofs.Common.{◌≡◌, ◌∙◌, ℕ, zero, suc, Bool, true, false, cond, ◌||◌, ◌&&◌, List, [], ◌∷◌, ◌++◌, refl, sym, ap}
+use Rattle.std.proofs.Common.{◌≡◌, ◌∙◌, ℕ, zero, suc, Bool, true, false, cond, ◌||◌, List, [], ◌∷◌, ◌++◌, refl, sym, ap}
 use Rattle.std.specs.Prelude.{slice_get}
 use Rattle.std.specs.List.{flat_map, list_any}
 use Rattle.std.specs.Option.{option_map_or}
 use Rattle.mt_events.specs.Posts.{PostView}
 use Rattle.mt_desk.specs.declared.row.Slot.{Slot}
 use Rattle.mt_desk.specs.declared.row.Slot.TheVariants.{Parked, Used, Away}
-use Rattle.mt_desk.specs.Sending.{PlaceDue, slot_follows, slot_hears, due_at}
+use Rattle.mt_desk.specs.Sending.{slot_follows, slot_hears, due_at}
 
 deaf_slot : (p : PostView) (s : Slot) → slot_hears s ≡ false → slot_follows p s ≡ false
 deaf_slot p (Parked l) e = refl

@@ -3,6 +3,10 @@
 //! A command's posts are sent before its answer; each watcher takes its own from its own queue, without the lock.
 //! What the calls of a desk do is what a floor does (`mt_floor`), with each watcher's takes placed as late as they can
 //! be (`specs/Late.antt`).
+//!
+//! [`desk`] has the calls, [`lines`] the queues, made before the name that ties them to one desk, and [`watcher`]
+//! the half that a session owns. Inside, [`places`] has what stands at each line, [`row`] what is kept of one
+//! watcher, and [`due`] which posts go to which rows.
 #![tactic(auto)]
 
 pub mod desk;

@@ -1,8 +1,7 @@
 //! The places of a desk: what happens at one of them, and at all.
-ghost use Rattle.std.specs.Prelude.{◌≡◌, ℕ, ◌≤◌, [], ◌∷◌, length, map, slice_get, vec_capacity, Some, IfSome, IfNone};
+ghost use Rattle.std.specs.Prelude.{◌≡◌, [], ◌∷◌, map, slice_get, vec_capacity, Some, IfSome, IfNone};
 ghost use Rattle.std.specs.List.{AllByRecursion};
-ghost use Rattle.std.specs.Arc.{arc_value};
-ghost use Rattle.mt_desk.specs.Places.{capacity_of, IsParked, IsPlace, IsParkedAt, OpensAt, MeetsAt, ClosesAt, ended_slot};
+ghost use Rattle.mt_desk.specs.Places.{IsParked, IsPlace, IsParkedAt, OpensAt, MeetsAt, ClosesAt, ended_slot};
 ghost use Rattle.mt_desk.specs.Sending.{AreDue, SendsAt, SendsAll};
 ghost use Rattle.mt_desk.specs.declared.row.Slot.{Slot};
 

@@ -1,12 +1,12 @@
 //! What stands at the places of a desk: a line that is not in use, or the row of a watcher.
-ghost use Rattle.std.specs.Prelude.{◌≡◌, ◌+◌, ◌≤◌, ◌++◌, ◌⊎◌, ◌&&◌, List, [], ◌∷◌, length, map, set, slice_get, vec_len, vec_capacity, true, false, Some, IfSome, IfNone};
-ghost use Rattle.std.specs.List.{AllByRecursion, list_any};
+ghost use Rattle.std.specs.Prelude.{◌≡◌, ◌≤◌, ◌++◌, ◌&&◌, List, [], ◌∷◌, length, vec_capacity, true, false, Some};
+ghost use Rattle.std.specs.List.{list_any};
 ghost use Rattle.std.specs.Arc.{arc_value};
 ghost use Rattle.mt_events.specs.Posts.{PostView};
 ghost use Rattle.mt_queue.specs.PassViews.{Item};
 ghost use Rattle.mt_desk.specs.Calls.{in_time_after};
 ghost use Rattle.mt_desk.specs.Rows.{IsBegun, MeetsRow, ClosesRow, SendsRow, MayBeSent, row_follows, ended_row};
-ghost use Rattle.mt_desk.specs.Places.{line_of, capacity_of, IsHere, IsParked, IsPlace, OpensSlot, OpensAt, MeetsSlot, MeetsAt, ClosesSlot, ClosesAt, ended_slot};
+ghost use Rattle.mt_desk.specs.Places.{line_of, capacity_of, IsHere, IsParked, OpensSlot, MeetsSlot, ClosesSlot, ended_slot};
 ghost use Rattle.mt_desk.specs.Sending.{slot_follows, slot_hears, MaySend, SendsSlot};
 
 use mt_events::opening::{Opening, Scope};

@@ -1,12 +1,12 @@
 //! A table that follows its posts.
-ghost use Rattle.std.specs.Prelude.{cond, ◌++◌, ◌≡◌, ◌≢◌, ◌≤◌, ◌+◌, ◌&&◌, ◌==◌, false, true, nat_le, length, slice_get, IfOk, IfErr, OnOk, OnErr, IsOkUnless, Err};
+ghost use Rattle.std.specs.Prelude.{cond, ◌++◌, ◌≡◌, ◌≢◌, ◌≤◌, ◌==◌, false, true, nat_le, length, slice_get, IfOk, IfErr, OnOk, OnErr, IsOkUnless, Err};
 ghost use Rattle.std.specs.List.{fold, flat_map, remove, position_from, position_or_len};
 ghost use Rattle.std.specs.Option.{option_map_or};
 ghost use Rattle.mt_skel.specs.Keyed.{put};
 ghost use Rattle.mt_info.specs.declared.row.Row.{Row};
 ghost use Rattle.mt_info.specs.Table.{row_id};
 ghost use Rattle.mt_events.specs.Difference.{applied, delta_of};
-ghost use Rattle.mt_events.specs.Mirrors.{MirrorView, is_next, kept_of, mirrored};
+ghost use Rattle.mt_events.specs.Mirrors.{is_next, kept_of, mirrored};
 
 use crate::post::Post;
 use mt_info::row::Row;

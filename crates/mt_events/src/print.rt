@@ -1,5 +1,5 @@
 //! The text of a post.
-ghost use Rattle.std.specs.Prelude.{◌≡◌, ◌+◌, ◌++◌, ◌∷◌, [], map, length, IfOk, OnOk, IsOkUnless};
+ghost use Rattle.std.specs.Prelude.{◌≡◌, ◌+◌, ◌++◌, IfOk, OnOk, IsOkUnless};
 ghost use Rattle.std.specs.List.{flat_map, join_with_byte};
 ghost use Rattle.mt_events.specs.Posts.{event_words, gone_line, row_line, post_text, ended};
 

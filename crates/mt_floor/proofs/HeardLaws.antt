@@ -1,10 +1,10 @@
 -- Where no watcher is open, nothing is due.
 use Rattle.std.proofs.Common.{◌≡◌, ◌∙◌, Bool, true, false, cond, ◌||◌, ◌&&◌, List, [], ◌∷◌, ◌++◌, map, refl, sym, ap}
-use Rattle.std.specs.List.{filter, flat_map, list_any}
+use Rattle.std.specs.List.{filter, list_any}
 use Rattle.mt_events.specs.Posts.{PostView}
 use Rattle.mt_events.specs.Following.{names_space}
 use Rattle.mt_book.specs.declared.command.Command.{Command}
-use Rattle.mt_floor.specs.Watcher.{Watcher, Due, is_open, follows, due_pairs}
+use Rattle.mt_floor.specs.Watcher.{Watcher, is_open, follows, due_pairs}
 use Rattle.mt_floor.specs.Rows.{RowView, watcher_of}
 
 nobody_follows : (p : PostView) (j : List Command) (rows : List RowView) → list_any (λ (r : RowView). is_open r.phase) rows ≡ false → filter (follows p) (map (watcher_of j) rows) ≡ []

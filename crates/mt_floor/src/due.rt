@@ -1,9 +1,8 @@
 //! Posts that are due to watchers.
-ghost use Rattle.std.specs.Prelude.{◌≡◌, ◌++◌, ◌==◌, not, map, slice_get, IfOk, OnOk, IsOkUnless};
+ghost use Rattle.std.specs.Prelude.{◌≡◌, ◌++◌, ◌==◌, not, slice_get, IfOk, OnOk, IsOkUnless};
 ghost use Rattle.std.specs.List.{filter, flat_map};
 ghost use Rattle.std.specs.Option.{option_map};
 ghost use Rattle.std.specs.Arc.{arc_value};
-ghost use Rattle.mt_floor.specs.Watcher.{Due};
 ghost use Rattle.mt_floor.specs.Rows.{due_if};
 
 use crate::row::Row;

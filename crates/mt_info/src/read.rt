@@ -1,12 +1,11 @@
 //! Rows read back from their lines.
-ghost use Rattle.std.specs.Prelude.{◌≡◌, ◌≢◌, ℕ, ◌<◌, ◌^◌, false, true, cond, List, [], ◌∷◌, ◌++◌, Option, None, Bool, MatchOption, IfOk, IfErr, IsTrue, codes, decimal};
+ghost use Rattle.std.specs.Prelude.{◌≡◌, ◌≢◌, ℕ, ◌<◌, ◌^◌, false, true, cond, List, ◌∷◌, ◌++◌, Option, None, Bool, MatchOption, IfOk, IfErr, IsTrue, codes, decimal};
 ghost use Rattle.std.specs.List.{join_with_byte};
 ghost use Rattle.std.specs.Option.{ForSome};
 ghost use Rattle.mt_skel.specs.Names.{is_label};
-ghost use Rattle.mt_skel.specs.Escapes.{escaped};
 ghost use Rattle.mt_mounts.specs.declared.mount.Attrs.{Attrs};
 ghost use Rattle.mt_mounts.specs.declared.mount.Atime.{Atime};
-ghost use Rattle.mt_words.specs.Words.{pieces, begins};
+ghost use Rattle.mt_words.specs.Words.{begins};
 ghost use Rattle.mt_info.specs.declared.row.Row.{Row};
 ghost use Rattle.mt_info.specs.declared.read.Tail.{Tail};
 ghost use Rattle.mt_info.specs.declared.read.Head.{Head};

@@ -60,6 +60,7 @@ impl Model for Chunk {
 }
 
 impl Chunk {
+    /// A chunk with no bytes in it.
     fn new() -> Chunk
         ensures { result ≡ [] }
     {
@@ -70,12 +71,14 @@ impl Chunk {
         }
     }
 
+    /// The bytes that were read and not used yet.
     fn as_slice(&self) -> &[u8]
         ensures { result.now ≡ self.now }
     {
         &self.bytes[self.at..self.filled]
     }
 
+    /// How many bytes these are.
     fn len(&self) -> usize
         ensures len { result ≡ length self.now }
         ensures bound { result ≤ CHUNK }
@@ -83,6 +86,7 @@ impl Chunk {
         self.filled - self.at
     }
 
+    /// Whether there are none.
     fn is_empty(&self) -> bool
         ensures { MatchBool result (self.now ≡ []) (0 < length self.now) }
     {

@@ -4,6 +4,10 @@
 //! the same number, each without a scan. It is made to stand beside a table whose items have a key
 //! and may have a number, such as mounts with their parents, and to answer what a scan of that table
 //! would find (`specs/Numbered.antt`).
+//!
+//! [`lists`] keeps them in two tables, [`entries`] by ID and [`heads`] by number; [`links`] has what is written in
+//! both when an ID comes or goes. A [`log`] has the IDs that were changed, and [`earlier`] a value as it was, which
+//! proofs alone read.
 #![tactic(auto)]
 
 pub mod earlier;

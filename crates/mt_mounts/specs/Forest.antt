@@ -17,11 +17,11 @@ id_of m = m.id
 abbrev pub mount_at : List Mount → ℕ → Option Mount
 mount_at ms i = row_at id_of i ms
 
--- A place is a dentry of one mount: the same dentry of another mount is another place (the kernel's sharedsubtree document).
+-- A place is a directory of one mount: the same directory of another mount is another place (the kernel's sharedsubtree document).
 abbrev pub place_eq : Place → Place → Bool
 place_eq p q = (p.mount == q.mount) && (p.dir == q.dir)
 
--- A mount is mounted on one mount at one dentry of it (the kernel's sharedsubtree document).
+-- A mount is mounted on one mount at one directory of it (the kernel's sharedsubtree document).
 abbrev pub is_at : Place → Mount → Bool
 is_at p m = option_map_or (place_eq p) m.place false
 
@@ -29,7 +29,7 @@ is_at p m = option_map_or (place_eq p) m.place false
 abbrev pub on : List Mount → Place → Option Mount
 on ms p = find (is_at p) ms
 
--- The root dentry of a mount is the place where another mount can be stacked on it.
+-- The root directory of a mount is the place where another mount can be stacked on it.
 abbrev pub root_place : Mount → Place
 root_place m = record { mount = m.id; dir = m.root }
 

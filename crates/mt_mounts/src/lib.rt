@@ -3,6 +3,9 @@
 //! A [`Forest`](forest::Forest) keeps its mounts in a table by ID, with indexes by place, by parent and
 //! by namespace, and answers in the order of rising IDs.
 //! It knows no propagation and no limit: the callers above it decide what is mounted where.
+//!
+//! [`mount`] has what one mount is, and [`forest`] all of them, over [`table`] and [`indexes`]. [`walk`] goes along
+//! a path, and [`subtree`] from a mount down to all that stand on it.
 #![tactic(auto)]
 
 pub mod forest;

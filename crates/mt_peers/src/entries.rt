@@ -120,6 +120,7 @@ fn state_after(kind: Kind, fresh: GroupId, state: State) -> State
     }
 }
 
+/// A mount's entry after a change, if the change chooses it, with the state that it had before.
 fn entry_after(kind: Kind, chosen: bool, fresh: GroupId, entry: &Entry) -> Entry
     ensures { result ≡ record { mount = entry.now.mount; state = cond chosen (changed kind fresh entry.now.state) entry.now.state; was = entry.now.state } }
 {

@@ -8,6 +8,7 @@ use crate::entries::Entry;
 use mt_lists::log::Log;
 use mt_mounts::mount::MountId;
 
+/// Whether two flags are not equal.
 fn differs(left: bool, right: bool) -> bool
     ensures { result ≡ differs left right }
 {

@@ -4,6 +4,9 @@
 //! halves meet, and are put together at last; what is left is taken, and the line can be opened again. That all this
 //! keeps the order is a rule of the queue (`specs/Rule.antt`), which each step of either thread keeps, whatever the
 //! other one does in between.
+//!
+//! [`line`] has lines that are not in use, [`sender`] and [`receiver`] their halves, [`meeting`] both together, and
+//! [`tail`] what is left to be taken at the end. [`rule`] has the rule, and the steps that keep it.
 #![tactic(auto)]
 
 pub mod line;

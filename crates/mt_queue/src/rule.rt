@@ -19,7 +19,6 @@
 //! Two helpers change no list: `HandOver` moves what a pass knows to a new pass, since a join uses the other pass up,
 //! and `Balance` looks at the queue after a join. `TwoReceivers` and `Contradiction` are never done: they show that
 //! two passes that may pop are not of one queue.
-ghost use Rattle.std.specs.Prelude.{◌≡◌, [], ◌∷◌, ◌++◌, length};
 
 use crossbeam_queue::protocol::{Join, Lesson, Outcome, Protocol, Split};
 use crossbeam_queue::{Pass, RuledArrayQueue};

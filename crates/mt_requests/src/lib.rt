@@ -2,6 +2,8 @@
 //!
 //! [`request::read_request`] takes the words of a line apart and makes a [`request::Request`] of
 //! them, or says why there is none.
+//!
+//! Its words are read by [`label`] and [`path`], and those of a `setattr` line by [`options`].
 #![tactic(auto)]
 
 mod label;

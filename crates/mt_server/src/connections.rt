@@ -67,7 +67,11 @@ impl Connections {
     /// count from 1. Each read of the stream waits for a second at most from then on. Refused as
     /// `TooMany` where as many have one as may, and as `NoMemory` where the system refuses that, or
     /// has no second descriptor for the stream.
-    pub(crate) fn enter<R: Wait>(&self, rt: &R, stream: &UnixStream) -> Result<u64, Fault> {
+    pub(crate) fn enter<Runtime: Wait>(
+        &self,
+        rt: &Runtime,
+        stream: &UnixStream,
+    ) -> Result<u64, Fault> {
         let mut state = self.state.lock(rt);
         if state.open.len() >= self.most {
             return Err(Fault::TooMany);
@@ -82,7 +86,7 @@ impl Connections {
     }
 
     /// Counts the connection of a session no longer, and answers its stream.
-    pub(crate) fn leave<R: Wait>(&self, rt: &R, number: u64) -> Option<UnixStream> {
+    pub(crate) fn leave<Runtime: Wait>(&self, rt: &Runtime, number: u64) -> Option<UnixStream> {
         let mut state = self.state.lock(rt);
         let left = remove(&mut state.open, number)?;
         if state.open.is_empty() {
@@ -93,7 +97,7 @@ impl Connections {
 
     /// Begins to turn one away in a thread of its own, unless as many are turned away as there may
     /// be sessions.
-    pub(crate) fn begin_parting<R: Wait>(&self, rt: &R) -> bool {
+    pub(crate) fn begin_parting<Runtime: Wait>(&self, rt: &Runtime) -> bool {
         let mut state = self.state.lock(rt);
         if state.parting >= self.most {
             return false;
@@ -103,23 +107,23 @@ impl Connections {
     }
 
     /// One was turned away.
-    pub(crate) fn end_parting<R: Wait>(&self, rt: &R) {
+    pub(crate) fn end_parting<Runtime: Wait>(&self, rt: &Runtime) {
         let mut state = self.state.lock(rt);
         state.parting = state.parting.saturating_sub(1);
     }
 
     /// The server stops from now on.
-    pub(crate) fn stop<R: Wait>(&self, rt: &R) {
+    pub(crate) fn stop<Runtime: Wait>(&self, rt: &Runtime) {
         self.state.lock(rt).stopping = true;
     }
 
     /// Whether the server stops.
-    pub(crate) fn are_stopping<R: Wait>(&self, rt: &R) -> bool {
+    pub(crate) fn are_stopping<Runtime: Wait>(&self, rt: &Runtime) -> bool {
         self.state.lock(rt).stopping
     }
 
     /// Cuts off all that have a session: nothing is sent or taken any more.
-    pub(crate) fn cut_off<R: Wait>(&self, rt: &R) {
+    pub(crate) fn cut_off<Runtime: Wait>(&self, rt: &Runtime) {
         let state = self.state.lock(rt);
         for connection in state.open.iter() {
             let _ = connection.stream.shutdown(Shutdown::Both);
@@ -127,7 +131,7 @@ impl Connections {
     }
 
     /// Waits until no connection has a session, ten seconds at most.
-    pub(crate) fn wait<R: Wait + Clock>(&self, rt: &R) {
+    pub(crate) fn wait<Runtime: Wait + Clock>(&self, rt: &Runtime) {
         'looks: for _look in 0..MOST_LOOKS {
             let state = self.state.lock(rt);
             if state.open.is_empty() {

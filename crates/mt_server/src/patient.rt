@@ -9,20 +9,20 @@ use std::sync::Wait;
 /// The stream of a connection that has a session, as an `Input`: it waits for bytes as long as the server does not stop,
 /// and not much longer. It tells no bytes and counts no failures.
 #[derive(Drop)]
-pub(crate) struct Patient<'a, R: Wait> {
-    rt: &'a R,
+pub(crate) struct Patient<'a, Runtime: Wait> {
+    rt: &'a Runtime,
     connections: &'a Connections,
     stream: &'a UnixStream,
 }
 
-impl<'a, R: Wait> Patient<'a, R> {
+impl<'a, Runtime: Wait> Patient<'a, Runtime> {
     /// Takes a stream of which each read waits for a second at most, as [`Connections::enter`] has
     /// seen to it.
     pub(crate) fn new(
-        rt: &'a R,
+        rt: &'a Runtime,
         connections: &'a Connections,
         stream: &'a UnixStream,
-    ) -> Patient<'a, R> {
+    ) -> Patient<'a, Runtime> {
         Patient {
             rt,
             connections,
@@ -31,7 +31,7 @@ impl<'a, R: Wait> Patient<'a, R> {
     }
 }
 
-impl<'a, R: Wait> Input for Patient<'a, R> {
+impl<'a, Runtime: Wait> Input for Patient<'a, Runtime> {
     ghost use Rattle.std.specs.Prelude.{[], false};
 
     ghost tells = { false };

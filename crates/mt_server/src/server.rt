@@ -87,21 +87,27 @@ fn close(listener: &UnixListener) -> io::Result<()> {
 
 /// What the threads of a server share.
 #[derive(Drop)]
-struct House<'a, J: Naming, G> {
+struct House<'a, Name: Naming, Moments> {
     listener: &'a UnixListener,
     path: &'a str,
     connections: Connections,
-    desk: &'a Mutex<Desk<J>>,
+    desk: &'a Mutex<Desk<Name>>,
     bell: &'a Bell,
-    gate: &'a G,
+    gate: &'a Moments,
 }
 
-impl<'a, J: Naming, G: Gate> House<'a, J, G> {
+impl<'a, Name: Naming, Moments: Gate> House<'a, Name, Moments> {
     /// Serves the lines of a connection: how its session ends; none where there is no memory for a
     /// reader of lines, and then nothing is served.
-    fn answer<R>(&self, rt: &R, alloc: Global, number: u64, stream: &UnixStream) -> Option<End>
+    fn answer<Runtime>(
+        &self,
+        rt: &Runtime,
+        alloc: Global,
+        number: u64,
+        stream: &UnixStream,
+    ) -> Option<End>
     where
-        R: Wait + Clock,
+        Runtime: Wait + Clock,
     {
         let reader = Patient::new(rt, &self.connections, stream);
         let mut lines = LineReader::new(alloc, reader, LINE_LIMIT).ok()?;
@@ -119,9 +125,9 @@ impl<'a, J: Naming, G: Gate> House<'a, J, G> {
     }
 
     /// Serves a connection, and stops the server where its session does.
-    fn serve<R>(&self, rt: &R, alloc: Global, number: u64, stream: UnixStream)
+    fn serve<Runtime>(&self, rt: &Runtime, alloc: Global, number: u64, stream: UnixStream)
     where
-        R: Wait + Clock + Net<Listener = TcpListener, Stream = TcpStream>,
+        Runtime: Wait + Clock + Net<Listener = TcpListener, Stream = TcpStream>,
     {
         let stops = self.answer(rt, alloc, number, &stream) == Some(End::Stop);
         if stops {
@@ -139,9 +145,9 @@ impl<'a, J: Naming, G: Gate> House<'a, J, G> {
     /// Wakes the loop that accepts: its listening socket is shut down, and where the system refuses
     /// that, the server connects to its own path. No descriptor of the session is open any more, so
     /// that there is one for this.
-    fn wake<R>(&self, rt: &R)
+    fn wake<Runtime>(&self, rt: &Runtime)
     where
-        R: Net<Listener = TcpListener, Stream = TcpStream>,
+        Runtime: Net<Listener = TcpListener, Stream = TcpStream>,
     {
         if close(self.listener).is_err() {
             let _ = UnixStream::connect(rt, self.path);
@@ -149,7 +155,7 @@ impl<'a, J: Naming, G: Gate> House<'a, J, G> {
     }
 
     /// Turns a connection away, and counts it no longer.
-    fn dismiss<R: Wait>(&self, rt: &R, stream: UnixStream, fault: Fault) {
+    fn dismiss<Runtime: Wait>(&self, rt: &Runtime, stream: UnixStream, fault: Fault) {
         turn_away(&stream, fault);
         self.connections.end_parting(rt);
     }
@@ -157,7 +163,7 @@ impl<'a, J: Naming, G: Gate> House<'a, J, G> {
     /// Ends all sessions. The desk is stopped, so that those that follow are told so; each goes on to
     /// be served until it has been idle for a second; those that are left after ten seconds are cut
     /// off.
-    fn end_all<R: Wait + Clock>(&self, rt: &R) {
+    fn end_all<Runtime: Wait + Clock>(&self, rt: &Runtime) {
         self.connections.stop(rt);
         self.desk.lock(rt).stop();
         self.bell.ring(rt);
@@ -167,17 +173,17 @@ impl<'a, J: Naming, G: Gate> House<'a, J, G> {
 }
 
 /// Turns a connection away in a thread of its own, or at once where there may be no such thread.
-fn refuse<'s, E, J, G, R>(
+fn refuse<'s, E, Name, Moments, Runtime>(
     scope: &Scope<'s, E>,
-    rt: &'s R,
-    house: &'s House<'s, J, G>,
+    rt: &'s Runtime,
+    house: &'s House<'s, Name, Moments>,
     stream: UnixStream,
     fault: Fault,
 )
 where
-    J: Naming + Send + Sync,
-    G: Gate + Sync,
-    R: Wait + Sync,
+    Name: Naming + Send + Sync,
+    Moments: Gate + Sync,
+    Runtime: Wait + Sync,
 {
     if !house.connections.begin_parting(rt) {
         turn_away_now(&stream, fault);
@@ -197,17 +203,17 @@ where
 }
 
 /// Gives a connection a session in a thread of its own, or turns it away.
-fn receive<'s, E, J, G, R>(
+fn receive<'s, E, Name, Moments, Runtime>(
     scope: &Scope<'s, E>,
-    rt: &'s R,
+    rt: &'s Runtime,
     alloc: Global,
-    house: &'s House<'s, J, G>,
+    house: &'s House<'s, Name, Moments>,
     stream: UnixStream,
 )
 where
-    J: Naming + Send + Sync,
-    G: Gate + Sync,
-    R: Wait + Clock + Net<Listener = TcpListener, Stream = TcpStream> + Sync,
+    Name: Naming + Send + Sync,
+    Moments: Gate + Sync,
+    Runtime: Wait + Clock + Net<Listener = TcpListener, Stream = TcpStream> + Sync,
 {
     let number = match house.connections.enter(rt, &stream) {
         Ok(number) => number,
@@ -226,18 +232,18 @@ where
 
 /// Accepts connections until a session stops the server: then true; false after 1,000 failed
 /// accepts in succession.
-fn accept_all<'s, E, D, J, G, R>(
+fn accept_all<'s, E, D, Name, Moments, Runtime>(
     scope: &Scope<'s, E>,
-    rt: &'s R,
+    rt: &'s Runtime,
     alloc: Global,
     door: &mut D,
-    house: &'s House<'s, J, G>,
+    house: &'s House<'s, Name, Moments>,
 ) -> bool
 where
     D: Door,
-    J: Naming + Send + Sync,
-    G: Gate + Sync,
-    R: Wait + Clock + Net<Listener = TcpListener, Stream = TcpStream> + Sync,
+    Name: Naming + Send + Sync,
+    Moments: Gate + Sync,
+    Runtime: Wait + Clock + Net<Listener = TcpListener, Stream = TcpStream> + Sync,
     ensures gives_up { IsTrue D.counts → D.failures door.old ≡ 0 → result ≡ false → D.failures door.new ≡ most_failures }
     ensures goes_on { IsTrue D.counts → D.failures door.old ≡ 0 → result ≡ true → D.failures door.new ≤ most_failures }
     ensures asked { IsTrue D.counts → D.asked door.old < D.asked door.new }
@@ -272,22 +278,22 @@ where
 /// Whether a session has stopped it is looked for behind each accept, so that it is never answered
 /// before the door was asked. That it was a session is no clause: the threads of the sessions share
 /// it under a lock, and a value under a lock has no name outside.
-pub fn serve_door<'a, D, J, G, R>(
-    rt: &R,
+pub fn serve_door<'a, D, Name, Moments, Runtime>(
+    rt: &Runtime,
     alloc: Global,
     door: D,
     listener: &'a UnixListener,
     path: &'a str,
-    desk: &'a Mutex<Desk<J>>,
+    desk: &'a Mutex<Desk<Name>>,
     bell: &'a Bell,
     sessions: usize,
-    gate: &'a G,
+    gate: &'a Moments,
 ) -> (D, Result<(), ServerFault>)
 where
     D: Door + Drop,
-    J: Naming + Send + Sync,
-    G: Gate + Sync,
-    R: Threads + Wait + Clock + Net<Listener = TcpListener, Stream = TcpStream> + Sync,
+    Name: Naming + Send + Sync,
+    Moments: Gate + Sync,
+    Runtime: Threads + Wait + Clock + Net<Listener = TcpListener, Stream = TcpStream> + Sync,
     ensures accept { IsTrue D.counts → D.failures door ≡ 0 → result.1 ≡ Err ServerFault.Accept → D.failures result.0 ≡ most_failures }
     ensures stopped { IsTrue D.counts → D.failures door ≡ 0 → IsOk result.1 → D.failures result.0 ≤ most_failures }
     ensures asked { IsTrue D.counts → IsOk result.1 → D.asked door < D.asked result.0 }
@@ -334,20 +340,20 @@ where
 /// It is [`serve_door`] over the listener. No clause stands here, since a listener tells nothing of
 /// its accepts and nothing is given back that a clause could name; those of [`serve_door`] hold of
 /// every door that counts, and both run the same body.
-pub fn run_server<'a, J, G, R>(
-    rt: &R,
+pub fn run_server<'a, Name, Moments, Runtime>(
+    rt: &Runtime,
     alloc: Global,
     listener: &'a UnixListener,
     path: &'a str,
-    desk: &'a Mutex<Desk<J>>,
+    desk: &'a Mutex<Desk<Name>>,
     bell: &'a Bell,
     sessions: usize,
-    gate: &'a G,
+    gate: &'a Moments,
 ) -> Result<(), ServerFault>
 where
-    J: Naming + Send + Sync,
-    G: Gate + Sync,
-    R: Threads + Wait + Clock + Net<Listener = TcpListener, Stream = TcpStream> + Sync,
+    Name: Naming + Send + Sync,
+    Moments: Gate + Sync,
+    Runtime: Threads + Wait + Clock + Net<Listener = TcpListener, Stream = TcpStream> + Sync,
 {
     let door = Listening { listener };
     let (_door, ended) = serve_door(rt, alloc, door, listener, path, desk, bell, sessions, gate);

@@ -1,5 +1,5 @@
 //! The change of mounts.
-ghost use Rattle.std.specs.Prelude.{◌≡◌, ◌≢◌, ◌<◌, ◌≤◌, ◌^◌, ◌||◌, ◌&&◌, not, map, length, IsTrue, OnOk, OnErr, IfOk, IfErr, IsOkUnless, Ok, Err};
+ghost use Rattle.std.specs.Prelude.{◌≡◌, ◌≢◌, ◌<◌, ◌≤◌, ◌^◌, ◌||◌, ◌&&◌, not, map, length, IsTrue, OnOk, OnErr, IfErr, IsOkUnless, Ok, Err};
 ghost use Rattle.std.specs.Option.{option_map_or, is_some};
 ghost use Rattle.mt_skel.specs.Keyed.{has, among};
 ghost use Rattle.mt_mounts.specs.Forest.{id_of};
@@ -29,6 +29,7 @@ fn clashes(change: &Change) -> bool
     two || any && !change.clr.atime
 }
 
+/// The access times of a mount after a change.
 fn atime_after(change: &Change, atime: Atime) -> Atime
     ensures { result ≡ changed_atime change.now atime }
 {
@@ -43,12 +44,14 @@ fn atime_after(change: &Change, atime: Atime) -> Atime
     }
 }
 
+/// A flag after a change: what is cleared goes first, then what is set comes.
 fn flag_after(had: bool, clear: bool, set: bool) -> bool
     ensures { result ≡ ((had && not clear) || set) }
 {
     had && !clear || set
 }
 
+/// The attributes of a mount after a change.
 fn attrs_after(change: &Change, attrs: &Attrs) -> Attrs
     ensures { result ≡ changed_attrs change.now attrs.now }
 {

@@ -2,6 +2,10 @@
 //!
 //! A [`Skel`] is the directory skeleton of all filesystems. It is made once and only grows: mounts
 //! never change a directory.
+//!
+//! [`name`] has labels and names, whose bytes lie in the value itself where they are few ([`inline`]), and
+//! [`escape`] how they stand in lines. [`skel`] has the directories, which [`children`] finds by their names.
+//! [`fault`] has the refusals, and [`list`] what is asked of a list of numbers.
 #![tactic(auto)]
 
 mod children;

@@ -1,4 +1,4 @@
-use Rattle.std.proofs.Common.{◌≡◌, ◌∙◌, Bool, ap, get_or}
+use Rattle.std.proofs.Common.{◌∙◌, ap, get_or}
 use Rattle.mt_propagate.specs.World.{world_view}
 use Rattle.mt_propagate.specs.declared.world.World.{World}
 use Rattle.mt_info.specs.Table.{table_of}
