@@ -14,7 +14,7 @@ use Rattle.mt_info.specs.RowLine.{line, row_line}
 use Rattle.mt_info.specs.declared.row.Row.{Row}
 use Rattle.mt_events.specs.Posts.{PostView, IsPost, post_text, ended}
 use Rattle.mt_events.specs.Mirrors.{MirrorView, is_next, are_next, mirrored, mirrored_by}
-use Rattle.mt_session.specs.Answers.{count_text, part_text, opening_text}
+use Rattle.mt_events.specs.Texts.{count_text, part_text, opening_text}
 use Rattle.mt_client.specs.Reading.{texts, printed}
 use Rattle.mt_client.specs.Mirroring.{counted_line, heading_words, heading_line, opening_lines, opening_with, Follows, HasOpened, HasPosted, HasFollowed, HasFollowedSome, HasFollowedAll, HasRefused, HasMirrored, IsLeft}
 use Rattle.mt_client.proofs.RelayLaws.{read_more, texts-append, printed-append}

@@ -11,7 +11,7 @@ use Rattle.mt_events.specs.Posts.{PostView, IsPost, post_text, ended}
 use Rattle.mt_events.specs.Mirrors.{MirrorView, are_next, mirrored_by}
 use Rattle.mt_events.specs.declared.opening.Opening.{Opening}
 use Rattle.mt_events.specs.declared.opening.Scope.TheVariants.{One}
-use Rattle.mt_session.specs.Answers.{count_text, opening_text, followed_text}
+use Rattle.mt_events.specs.Texts.{count_text, opening_text, followed_text}
 use Rattle.mt_client.specs.Requests.{is_refusal, numbered_text}
 use Rattle.mt_client.specs.Reading.{texts, printed}
 

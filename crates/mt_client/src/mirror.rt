@@ -1,7 +1,7 @@
 //! The table of a namespace, as its posts tell it to a client.
 ghost use Rattle.std.specs.Prelude.{◌≡◌, ◌≢◌, ◌⊎◌, ℕ, ◌+◌, ◌≤◌, List, [], ◌∷◌, ◌++◌, true, false, Some, None, Ok, Err, IfOk, IfErr, IfSome, OnOk, OnErr, IsTrue, MatchBool, MatchOption};
 ghost use Rattle.mt_lines.specs.Reading.{failed_calls, last_faults, fault_of, last_line, limit_of};
-ghost use Rattle.mt_session.specs.Answers.{table_text};
+ghost use Rattle.mt_events.specs.Texts.{table_text};
 ghost use Rattle.mt_events.specs.Mirrors.{MirrorView};
 ghost use Rattle.mt_events.specs.Posts.{ended};
 ghost use Rattle.mt_client.specs.Requests.{numbered_text};
@@ -16,10 +16,10 @@ use crate::posts::apply_post;
 use crate::relay::{next_text, print_line, print_text};
 use crate::request::send_request;
 use mt_events::mirror::Mirror;
+use mt_events::texts::table_lines;
 use mt_info::print::push_number;
 use mt_lines::line::LineReader;
 use mt_lines::stream::{Input, Output};
-use mt_session::text::Text;
 use std::alloc::{AllocError, Global};
 
 /// The line of a request that is a word and a number, without its line end. Fails for want of memory alone.
@@ -185,8 +185,8 @@ fn print_mirror<O: Output>(alloc: Global, out: &mut O, mirror: &Mirror) -> Resul
         → HasBroken (O.failed out.old) (O.failed out.new) (O.faults out.old) (O.faults out.new) }
     ensures prints { OnOk result (IsTrue O.counts → O.faults out.old ≡ [] → O.faults out.new ≡ []) }
 {
-    let text = Text::table(alloc, mirror.number(), mirror.table())?;
-    print_text(out, text.bytes())
+    let lines = table_lines(alloc, mirror.number(), mirror.table())?;
+    print_text(out, lines.as_slice())
 }
 
 /// Watches a namespace, follows so many posts of it, and prints `ok`, the count and the number of the table that they

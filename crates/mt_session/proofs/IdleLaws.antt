@@ -18,7 +18,8 @@ use Rattle.mt_floor.specs.declared.event.Answer.{Answer}
 use Rattle.mt_floor.specs.declared.event.Answer.TheVariants.{Opened, Met, Closed}
 use Rattle.mt_floor.specs.Watcher.{Watcher, key_of, opening_of}
 use Rattle.mt_floor.specs.Schedule.{FloorView, Stepped, if_idle, unless, at_row, applied, replied, opened, met, closed, command_refusal, opening_refusal, waiting, floor_step}
-use Rattle.mt_session.specs.Answers.{refusal, reply_text, opening_text, posts_text}
+use Rattle.mt_events.specs.Texts.{opening_text, posts_text}
+use Rattle.mt_session.specs.Answers.{refusal, reply_text}
 use Rattle.mt_session.specs.Requests.{state_at, stepped_text, replied_text, opened_text, by_phase, rest_text, closed_text, begun}
 use Rattle.mt_session.specs.Serving.{reply_in, begun_in, phase_in}
 

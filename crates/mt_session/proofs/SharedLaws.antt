@@ -25,7 +25,8 @@ use Rattle.mt_floor.proofs.RunLaws.{run_told}
 use Rattle.mt_desk.specs.Desk.{DeskRow, DeskView, IsDesk, row_key, floor_of_desk, new_row, with_watcher}
 use Rattle.mt_desk.specs.Calls.{WatcherView, IsApplied, IsClosed, unseen}
 use Rattle.mt_desk.proofs.ScheduleLaws.{rows_rise, opened_stays}
-use Rattle.mt_session.specs.Answers.{refusal, reply_text, shown_text, found_text, opening_text, posts_text}
+use Rattle.mt_events.specs.Texts.{opening_text, posts_text}
+use Rattle.mt_session.specs.Answers.{refusal, reply_text, shown_text, found_text}
 use Rattle.mt_session.specs.Requests.{replied_text, opened_text, closed_text, answer_to}
 use Rattle.mt_session.specs.SharedTurns.{floor_seen, found_state, with_posts, IsBegun, IsUndoneBy, HasTaken}
 use Rattle.mt_session.proofs.IdleLaws.{apply_told, apply_refused, open_told, open_found, open_refused, close_posts}

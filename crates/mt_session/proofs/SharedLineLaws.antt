@@ -18,10 +18,11 @@ use Rattle.mt_requests.specs.Requests.{may_want_memory, ReadsAs}
 use Rattle.mt_session.specs.declared.session.End.{End}
 use Rattle.mt_session.specs.declared.session.End.TheVariants.{Quit, Stop, Input, Read, Cut as CutOff, Memory, Spent}
 use Rattle.mt_floor.specs.declared.watch.Phase.{Phase}
-use Rattle.mt_session.specs.declared.text.PrintedPosts.{PrintedPosts}
+use Rattle.mt_events.specs.declared.texts.PrintedPosts.{PrintedPosts}
 use Rattle.mt_session.specs.declared.shared_follow.Portion.TheVariants.{Posts, Over as NoMore, Refused}
 use Rattle.mt_session.specs.declared.shared_follow.Round.TheVariants.{Over}
-use Rattle.mt_session.specs.Answers.{refusal, count_text}
+use Rattle.mt_events.specs.Texts.{count_text}
+use Rattle.mt_session.specs.Answers.{refusal}
 use Rattle.mt_session.specs.Requests.{by_phase}
 use Rattle.mt_session.proofs.SharedTakeLaws.{follows_some, follows_none, follows_more, follows_fewer, follows_lost, follows_in_front}
 use Rattle.mt_session.specs.Session.{Asking, Broken, item_of, has_end, request_of_line, ends_by, line_limit, IsReadEnd, IsReadEndRun}

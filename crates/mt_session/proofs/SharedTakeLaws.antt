@@ -14,10 +14,11 @@ use Rattle.mt_floor.specs.declared.watch.Meeting.{Meeting}
 use Rattle.mt_desk.specs.Desk.{DeskView, IsDesk}
 use Rattle.mt_desk.specs.Calls.{WatcherView, IsMet}
 use Rattle.mt_requests.specs.declared.request.Request.TheVariants.{Take, Follow}
-use Rattle.mt_session.specs.declared.text.PrintedPosts.{PrintedPosts}
+use Rattle.mt_events.specs.declared.texts.PrintedPosts.{PrintedPosts}
 use Rattle.mt_session.specs.declared.shared_follow.Portion.{Portion}
 use Rattle.mt_session.specs.declared.shared_follow.Portion.TheVariants.{Posts, Rest, Over as NoMore}
-use Rattle.mt_session.specs.Answers.{refusal, count_text, followed_text, lines_of_posts}
+use Rattle.mt_events.specs.Texts.{count_text, followed_text, lines_of_posts}
+use Rattle.mt_session.specs.Answers.{refusal}
 use Rattle.mt_session.specs.Requests.{by_phase}
 use Rattle.mt_session.specs.SharedTurns.{HasTaken, IsPopped, with_posts}
 use Rattle.mt_session.specs.SharedSession.{IsSpent, IsTaken, IsFollowed, IsLost, IsInFront}

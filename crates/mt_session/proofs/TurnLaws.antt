@@ -15,7 +15,8 @@ use Rattle.mt_floor.specs.declared.event.Event.{Event}
 use Rattle.mt_floor.specs.declared.event.Event.TheVariants.{Take, Open, Close}
 use Rattle.mt_floor.specs.declared.event.Answer.{Answer}
 use Rattle.mt_floor.specs.Schedule.{FloorView, Stepped, floor_step, takes_memory}
-use Rattle.mt_session.specs.Answers.{refusal, count_text, lines_of_posts, posts_text}
+use Rattle.mt_events.specs.Texts.{count_text, lines_of_posts, posts_text}
+use Rattle.mt_session.specs.Answers.{refusal}
 use Rattle.mt_session.specs.Requests.{SessionState, state_at, state_to, opened_text, taken, begun, left, IsUndone}
 use Rattle.mt_session.specs.Serving.{begun_in}
 use Rattle.mt_session.proofs.IdleLaws.{open_told, open_refused}

@@ -1,17 +1,13 @@
--- The texts of answers. The words are this project's rule; the lines of a table are those of proc_pid_mountinfo(5).
+-- The texts of answers: a refusal, what a command answers, a table, the place where a path ends. Those of what a watcher found and of posts are in mt_events.
 -- A word with no source is this project's rule.
-use Rattle.std.specs.Prelude.{ℕ, ◌+◌, List, [], ◌∷◌, ◌++◌, Result, Ok, Err, codes, decimal, cond, length, fold}
-use Rattle.std.specs.List.{flat_map}
+use Rattle.std.specs.Prelude.{ℕ, List, [], ◌∷◌, ◌++◌, Result, Ok, Err, codes, decimal, cond}
 use Rattle.mt_skel.specs.declared.fault.Fault.{Fault}
 use Rattle.mt_skel.specs.declared.fault.Fault.TheVariants.{NoNamespace}
 use Rattle.mt_skel.specs.Fault.{name_of}
 use Rattle.mt_propagate.specs.World.{is_space}
-use Rattle.mt_info.specs.declared.row.Row.{Row}
 use Rattle.mt_info.specs.Table.{table_of}
-use Rattle.mt_info.specs.RowLine.{row_line, path_text}
-use Rattle.mt_events.specs.Posts.{PostView, post_lines, post_text}
-use Rattle.mt_events.specs.declared.opening.Part.{Part}
-use Rattle.mt_events.specs.declared.opening.Opening.{Opening}
+use Rattle.mt_info.specs.RowLine.{path_text}
+use Rattle.mt_events.specs.Texts.{count_text, table_text}
 use Rattle.mt_book.specs.declared.command.Command.{Command}
 use Rattle.mt_book.specs.declared.command.Reply.{Reply}
 use Rattle.mt_book.specs.declared.command.Reply.TheVariants.{Done, Number}
@@ -22,20 +18,13 @@ use Rattle.mt_book.specs.History.{space_number}
 abbrev pub refusal : Fault → List ℕ
 refusal f = codes "no " ++ name_of f ++ 10 ∷ []
 
--- the line `ok`, and `ok` with a number
+-- the line `ok`
 abbrev pub done_text : List ℕ
 done_text = codes "ok\n"
-
-abbrev pub count_text : ℕ → List ℕ
-count_text n = codes "ok " ++ decimal n ++ 10 ∷ []
 
 abbrev pub reply_text : Reply → List ℕ
 reply_text Done = done_text
 reply_text (Number n) = count_text n
-
--- `ok`, how many rows the table has, and the namespace's number; then a line for each row
-abbrev pub table_text : ℕ → List Row → List ℕ
-table_text number rows = codes "ok " ++ decimal (length rows) ++ codes " " ++ decimal number ++ 10 ∷ [] ++ flat_map row_line rows
 
 -- the table of a namespace after these commands, and how many posts it has had
 abbrev pub shown_text : List Command → ℕ → List ℕ
@@ -48,26 +37,3 @@ place_text mount names = codes "ok " ++ decimal mount ++ codes " " ++ path_text 
 abbrev pub found_text : Result (ℕ × List (List ℕ)) Fault → List ℕ
 found_text (Ok p) = place_text p.0 p.1
 found_text (Err f) = refusal f
-
--- a namespace that a watcher found: the number of its last post, how many rows its table has, and a line for each row
-abbrev pub part_text : Part → List ℕ
-part_text p = codes "space " ++ decimal p.space ++ codes " " ++ decimal p.number ++ codes " " ++ decimal (length p.table) ++ 10 ∷ [] ++ flat_map row_line p.table
-
--- how many lines come for the namespaces that a watcher found, and for posts
-abbrev pub lines_of_parts : List Part → ℕ
-lines_of_parts parts = fold (λ n (p : Part). n + (1 + length p.table)) 0 parts
-
-abbrev pub lines_of_posts : List PostView → ℕ
-lines_of_posts posts = fold (λ n p. n + length (post_lines p)) 0 posts
-
--- what a watcher finds: `ok`, how many lines follow, and then these
-abbrev pub opening_text : Opening → List ℕ
-opening_text o = count_text (lines_of_parts o.parts) ++ flat_map part_text o.parts
-
--- posts: `ok`, how many lines follow, and then the posts
-abbrev pub posts_text : List PostView → List ℕ
-posts_text posts = count_text (lines_of_posts posts) ++ flat_map post_text posts
-
--- posts that are followed: the posts, and then another text
-abbrev pub followed_text : List PostView → List ℕ → List ℕ
-followed_text posts text = flat_map post_text posts ++ text

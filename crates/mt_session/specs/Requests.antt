@@ -19,7 +19,8 @@ use Rattle.mt_floor.specs.Watcher.{Watcher, key_of, opening_of}
 use Rattle.mt_floor.specs.Schedule.{FloorView, command_refusal, opening_refusal, floor_step, run, settled, waiting}
 use Rattle.mt_requests.specs.declared.request.Request.{Request}
 use Rattle.mt_requests.specs.declared.request.Request.TheVariants.{Run, Show, Find, Watch, Take, Follow, Close, Quit, Stop}
-use Rattle.mt_session.specs.Answers.{refusal, done_text, count_text, reply_text, shown_text, found_text, opening_text, posts_text, followed_text}
+use Rattle.mt_events.specs.Texts.{count_text, opening_text, posts_text, followed_text}
+use Rattle.mt_session.specs.Answers.{refusal, done_text, reply_text, shown_text, found_text}
 
 -- what the lines of a session are folded over: a floor on which nothing is due, and the key of the session's watcher, if it has one
 pub record SessionState : Type 0 where

@@ -18,7 +18,8 @@ use Rattle.mt_requests.specs.declared.request.Request.TheVariants.{Take, Follow,
 use Rattle.mt_requests.specs.Requests.{may_want_memory}
 use Rattle.mt_session.specs.declared.session.End.{End}
 use Rattle.mt_session.specs.declared.session.End.TheVariants.{Quit, Stop, Input, Read, Cut as CutOff, Memory, Spent}
-use Rattle.mt_session.specs.Answers.{refusal, count_text, posts_text, followed_text}
+use Rattle.mt_events.specs.Texts.{count_text, posts_text, followed_text}
+use Rattle.mt_session.specs.Answers.{refusal}
 use Rattle.mt_session.specs.Requests.{answer_to, by_phase}
 use Rattle.mt_session.specs.Session.{Asking, item_of, has_end, request_of_line, ends_by, line_limit, most_lines}
 use Rattle.mt_session.specs.SharedTurns.{found_state, IsDoneBy, IsUndoneBy, HasTaken}

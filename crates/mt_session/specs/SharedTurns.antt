@@ -17,9 +17,9 @@ use Rattle.mt_desk.specs.Desk.{DeskRow, DeskView, row_key, floor_of_desk, with_w
 use Rattle.mt_desk.specs.Calls.{WatcherView, unseen, IsApplied, IsClosed}
 use Rattle.mt_requests.specs.declared.request.Request.{Request}
 use Rattle.mt_requests.specs.declared.request.Request.TheVariants.{Run, Show, Find, Watch, Take, Follow, Close, Stop}
-use Rattle.mt_session.specs.Answers.{lines_of_posts}
+use Rattle.mt_events.specs.Texts.{lines_of_posts}
 use Rattle.mt_session.specs.Requests.{SessionState, state_at}
-use Rattle.mt_session.specs.declared.text.PrintedPosts.{PrintedPosts}
+use Rattle.mt_events.specs.declared.texts.PrintedPosts.{PrintedPosts}
 
 -- the floor of a desk once it has seen what the session's watcher took
 abbrev pub floor_seen : DeskView → Option WatcherView → FloorView

@@ -5,9 +5,9 @@ use Rattle.std.specs.List.{flat_map}
 use Rattle.mt_events.specs.Posts.{PostView, post_text}
 use Rattle.mt_events.specs.Following.{IsRun}
 use Rattle.mt_desk.specs.Calls.{WatcherView}
-use Rattle.mt_session.specs.Answers.{lines_of_posts}
+use Rattle.mt_events.specs.Texts.{lines_of_posts}
 use Rattle.mt_session.specs.SharedTurns.{with_posts}
-use Rattle.mt_session.specs.declared.text.PrintedPosts.{PrintedPosts}
+use Rattle.mt_events.specs.declared.texts.PrintedPosts.{PrintedPosts}
 
 -- what the session's watcher took is a run from its opening
 abbrev pub IsRunning : Option WatcherView → Type 0

@@ -4,8 +4,9 @@ ghost use Rattle.mt_book.specs.Step.{after};
 ghost use Rattle.mt_book.specs.Book.{found_at};
 ghost use Rattle.mt_session.specs.Answers.{refusal, shown_text, found_text};
 
-use crate::text::{Text, push_heading};
+use crate::text::Text;
 use mt_book::book::Book;
+use mt_events::texts::push_heading;
 use mt_skel::fault::Fault;
 use mt_skel::name::Names;
 use std::alloc::Global;

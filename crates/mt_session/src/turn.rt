@@ -4,14 +4,16 @@ ghost use Rattle.std.specs.Option.{ForSome};
 ghost use Rattle.std.specs.Prelude.{IsSome};
 ghost use Rattle.mt_events.specs.Posts.{post_text};
 ghost use Rattle.mt_floor.specs.Schedule.{floor_step, settled};
-ghost use Rattle.mt_session.specs.Answers.{count_text, reply_text, lines_of_posts, followed_text};
+ghost use Rattle.mt_events.specs.Texts.{count_text, lines_of_posts, followed_text};
+ghost use Rattle.mt_session.specs.Answers.{reply_text};
 ghost use Rattle.mt_session.specs.Serving.{reply_in, begun_in, phase_in};
 ghost use Rattle.mt_session.specs.Requests.{state_at, session_at, answer_to, state_to, left, begun, replied_text, opened_text, by_phase, rest_text, taken_text, end_of_followed, closed_text, taken, next_posts, IsUndone};
 
 use crate::shown::{find, show, told_refusal};
-use crate::text::{PrintedPosts, Text};
+use crate::text::Text;
 use mt_book::command::{Command, Reply};
 use mt_events::opening::{Opening, Scope};
+use mt_events::texts::PrintedPosts;
 use mt_floor::event::{Answer, Event};
 use mt_floor::floor::Floor;
 use mt_floor::watch::{Phase, WatchKey};

@@ -1,6 +1,6 @@
 use Rattle.std.proofs.Common.{Some, Ok, None, ◌++◌, ◌+◌, inl, refl, arith}
 use Rattle.mt_requests.specs.declared.request.Request.TheVariants.{Follow}
-use Rattle.mt_session.specs.Answers.{count_text}
+use Rattle.mt_events.specs.Texts.{count_text}
 use Rattle.mt_session.proofs.SharedTakeLaws.{follows_all, follows_in_front}
 use Rattle.mt_session.proofs.SharedLineLaws.{behind, sent_whole, serves_answer, follow_over, portion_cut, answer_requested}
 use Rattle.mt_session.proofs.shared_follow.tell_portion.Goals as goal

@@ -3,7 +3,7 @@ use Rattle.std.specs.Prelude.{fold}
 use Rattle.std.specs.List.{flat_map}
 use Rattle.std.specs.Arc.{arc_value}
 use Rattle.mt_events.specs.Posts.{post_lines, post_text}
-use Rattle.mt_session.specs.Answers.{lines_of_posts}
+use Rattle.mt_events.specs.Texts.{lines_of_posts}
 use Rattle.mt_session.proofs.shared_turn.told.Given as goal
 
 -- the posts printed, and those to come; and how many lines they are

@@ -1,6 +1,6 @@
 use Rattle.std.proofs.Common.{◌∙◌, ap, sym, subst, List, ℕ, ◌≡◌}
 use Rattle.std.specs.Prelude.{IfOk}
-use Rattle.mt_session.specs.Answers.{posts_text}
+use Rattle.mt_events.specs.Texts.{posts_text}
 use Rattle.mt_session.proofs.SharedLaws.{end_told}
 use Rattle.mt_session.proofs.shared_turn.told_end.Goals as goal
 

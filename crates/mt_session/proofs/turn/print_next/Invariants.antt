@@ -1,7 +1,7 @@
 use Rattle.std.proofs.Common.{◌≡◌}
 use Rattle.std.specs.List.{flat_map}
 use Rattle.mt_events.specs.Posts.{post_text}
-use Rattle.mt_session.specs.Answers.{lines_of_posts}
+use Rattle.mt_events.specs.Texts.{lines_of_posts}
 use Rattle.mt_session.specs.Requests.{next_posts}
 use Rattle.mt_session.proofs.turn.print_next.Given as goal
 

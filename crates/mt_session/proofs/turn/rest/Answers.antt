@@ -2,7 +2,7 @@ use Rattle.std.proofs.Common.{◌∙◌, Ok, Err, ap, sym, refl}
 use Rattle.std.specs.Prelude.{is_some}
 use Rattle.mt_floor.specs.declared.event.Event.TheVariants.{Meet}
 use Rattle.mt_floor.proofs.SettledLaws.{meet_same}
-use Rattle.mt_session.specs.Answers.{count_text}
+use Rattle.mt_events.specs.Texts.{count_text}
 use Rattle.mt_session.proofs.TurnLaws.{step_is, floor_is}
 use Rattle.mt_session.proofs.IdleLaws.{meet_told, meet_refused}
 use Rattle.mt_session.proofs.turn.rest.Goals as goal

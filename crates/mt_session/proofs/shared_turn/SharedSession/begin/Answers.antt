@@ -1,6 +1,6 @@
 use Rattle.std.proofs.Common.{◌∙◌, ap}
 use Rattle.mt_events.specs.declared.opening.Opening.{Opening}
-use Rattle.mt_session.specs.Answers.{opening_text}
+use Rattle.mt_events.specs.Texts.{opening_text}
 use Rattle.mt_session.proofs.SharedLaws.{watch_told, watch_begun, watch_refused, watch_undone}
 use Rattle.mt_session.proofs.shared_turn.SharedSession.begin.Goals as goal
 

@@ -1,7 +1,7 @@
 use Rattle.std.proofs.Common.{◌≡◌, ◌++◌, drop}
 use Rattle.std.specs.List.{flat_map}
 use Rattle.mt_info.specs.RowLine.{row_line}
-use Rattle.mt_session.proofs.text.push_rows.Given as goal
+use Rattle.mt_events.proofs.texts.push_rows.Given as goal
 
 -- the lines appended, and those to come
 abbrev pub invariant-loop-row : goal.invariant-loop-row
