@@ -38,7 +38,7 @@ pub fn counted_lines(alloc: Global, count: u64, lines: &[u8]) -> Result<Vec<u8>,
 
 /// The lines that tell what a watcher finds: `ok`, how many lines follow, and for each namespace a line `space` with
 /// its number, that of its last post and the count of its rows, and the line of each row. Refused as `NoMemory` alone.
-pub fn opening_lines(alloc: Global, opening: &Opening) -> Result<Vec<u8>, Fault>
+pub fn lines_of_opening(alloc: Global, opening: &Opening) -> Result<Vec<u8>, Fault>
     ensures text { IfOk result (λ lines. lines.items ≡ opening_text opening.now) }
     ensures memory { IsOkUnless result Fault.NoMemory }
 {

@@ -7,7 +7,7 @@ use arrayvec::ArrayVec;
 use itoa::Buffer;
 use mt_book::command::Reply;
 use mt_events::opening::Opening;
-use mt_events::texts::{counted_lines, opening_lines};
+use mt_events::texts::{counted_lines, lines_of_opening};
 use mt_info::print::{push_number, push_path};
 use mt_mounts::mount::MountId;
 use mt_skel::fault::Fault;
@@ -116,7 +116,7 @@ impl Text {
         ensures text { IfOk result (λ text. text ≡ opening_text opening.now) }
         ensures memory { IsOkUnless result Fault.NoMemory }
     {
-        Ok(Text::lines(opening_lines(alloc, opening)?))
+        Ok(Text::lines(lines_of_opening(alloc, opening)?))
     }
 
     /// The bytes of the lines.

@@ -3,7 +3,7 @@ use Rattle.std.specs.Prelude.{fold}
 use Rattle.std.specs.List.{flat_map}
 use Rattle.mt_events.specs.declared.opening.Part.{Part}
 use Rattle.mt_events.specs.Texts.{part_text, lines_of_parts}
-use Rattle.mt_events.proofs.texts.opening_lines.Given as goal
+use Rattle.mt_events.proofs.texts.lines_of_opening.Given as goal
 
 -- the lines appended, and those to come; and how many they are
 abbrev pub invariant-parts : goal.invariant-parts
