@@ -88,6 +88,35 @@ pub struct Cut {
     pub sent: usize,
 }
 
+/// Writes once, and again while the write is interrupted: how many of the bytes went out.
+///
+/// Answers `Cut`, with no bytes sent, at a write that fails or takes nothing of some bytes, and at the 1,000th
+/// interrupted write in succession.
+fn write_once<W: Output>(writer: &mut W, bytes: &[u8]) -> Result<usize, Cut>
+    ensures bound { IfOk result (λ count. count ≤ length bytes.now) }
+    ensures some { IfOk result (λ count. 0 < length bytes.now → 0 < count) }
+    ensures sent { IfOk result (λ count. IsTrue W.tells
+        → W.written writer.new ≡ W.written writer.old ++ take count bytes.now) }
+    ensures none { IfErr result (λ cut. cut.sent ≡ 0) }
+    ensures kept { OnErr result (IsTrue W.tells → W.written writer.new ≡ W.written writer.old) }
+    ensures cause { OnErr result (IsTrue W.counts → W.failed writer.old < W.failed writer.new) }
+    ensures counted { IsTrue W.counts → W.failed writer.old ≤ W.failed writer.new }
+    ensures faults { OnErr result (IsTrue W.counts → W.faults writer.old ≡ []
+        → HasFailed (W.faults writer.new) ⊎ IsInterrupted (W.faults writer.new)) }
+    ensures served { OnOk result (IsTrue W.counts → W.faults writer.old ≡ []
+        → W.faults writer.new ≡ []) }
+{
+    'trying: for _tries in 0..MOST_INTERRUPTIONS {
+        match writer.write(bytes) {
+            Ok(0) if !bytes.is_empty() => return Err(Cut { sent: 0 }),
+            Ok(count) => return Ok(count),
+            Err(StreamFault::Interrupted) => {}
+            Err(StreamFault::Failed) => return Err(Cut { sent: 0 }),
+        }
+    }
+    Err(Cut { sent: 0 })
+}
+
 /// Sends all the bytes, in as many writes as it takes.
 ///
 /// Answers `Cut` at a write that fails or takes nothing, and, by this project's rule, at the
@@ -113,23 +142,32 @@ pub fn send<W: Output>(writer: &mut W, bytes: &[u8]) -> Result<(), Cut>
         → W.faults writer.new ≡ []) }
 {
     let mut sent = 0usize;
-    let mut interruptions = 0u32;
     'sending: while sent < bytes.len() {
-        match writer.write(&bytes[sent..]) {
-            Ok(0) => return Err(Cut { sent }),
-            Ok(count) => {
-                sent += count;
-                interruptions = 0;
-            }
-            Err(StreamFault::Interrupted) => {
-                interruptions += 1;
-                if interruptions == MOST_INTERRUPTIONS {
-                    return Err(Cut { sent });
-                }
-            }
-            Err(StreamFault::Failed) => return Err(Cut { sent }),
+        match write_once(writer, &bytes[sent..]) {
+            Ok(count) => sent += count,
+            Err(_) => return Err(Cut { sent }),
         }
     }
+    Ok(())
+}
+
+/// Finds out whether the other end still reads, by a write of no bytes, which a Unix socket fails whose other end is
+/// closed. An end that has only shut down its own writing still reads.
+///
+/// Answers `Cut`, with no bytes sent, at a write that fails, and at the 1,000th interrupted write in succession.
+pub fn find_reader<W: Output>(writer: &mut W) -> Result<(), Cut>
+    ensures kept { IsTrue W.tells → W.written writer.new ≡ W.written writer.old }
+    ensures none { IfErr result (λ cut. cut.sent ≡ 0) }
+
+    // A cut comes only where a call failed, as in `send`.
+    ensures cause { OnErr result (IsTrue W.counts → W.failed writer.old < W.failed writer.new) }
+    ensures counted { IsTrue W.counts → W.failed writer.old ≤ W.failed writer.new }
+    ensures faults { OnErr result (IsTrue W.counts → W.faults writer.old ≡ []
+        → HasFailed (W.faults writer.new) ⊎ IsInterrupted (W.faults writer.new)) }
+    ensures served { OnOk result (IsTrue W.counts → W.faults writer.old ≡ []
+        → W.faults writer.new ≡ []) }
+{
+    let _count = write_once(writer, &[])?;
     Ok(())
 }
 

@@ -6,7 +6,6 @@
 #![tactic(auto)]
 
 pub mod bell;
-pub mod client;
 pub mod gate;
 pub mod session;
 pub mod shared_answer;

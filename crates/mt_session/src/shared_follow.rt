@@ -13,7 +13,6 @@ ghost use Rattle.mt_session.specs.Session.{IsCutCause, IsCutRun};
 ghost use Rattle.mt_session.specs.SharedSession.{IsInFront};
 ghost use Rattle.mt_session.specs.SharedServing.{IsPortion, Follows, ServesAsked, FollowsOn, IsWithin, end_of_round, ends_by_request};
 
-use crate::client::find_client;
 use crate::gate::Gate;
 use crate::session::{End, answer_with};
 use crate::shared_answer::{Shared, meet, tell_lost};
@@ -25,7 +24,7 @@ use mt_book::command::Reply;
 use mt_desk::lines::Naming;
 use mt_events::texts::PrintedPosts;
 use mt_floor::watch::Phase;
-use mt_lines::stream::Output;
+use mt_lines::stream::{Output, find_reader};
 use mt_skel::fault::Fault;
 use std::sync::Wait;
 use std::time::Clock;
@@ -158,7 +157,7 @@ fn rest<J: Naming, O: Output, G: Gate, R: Wait + Clock>(
     ensures cut_run { IsTrue O.counts → O.faults writer.old ≡ [] → IsCutRun result (O.faults writer.new) }
 {
     shared.bell.rest(rt);
-    match find_client(writer) {
+    match find_reader(writer) {
         Ok(()) => None,
         Err(cut) => Some(End::Cut(cut)),
     }

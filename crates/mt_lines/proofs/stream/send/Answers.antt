@@ -1,7 +1,6 @@
-use Rattle.std.proofs.Common.{◌≡◌, ℕ, ◌+◌, ◌-◌, List, ◌++◌, length, take, drop, [], inr, arith, length-drop, length-take, ◌∙◌, append_assoc}
+use Rattle.std.proofs.Common.{◌≡◌, ℕ, ◌+◌, ◌-◌, List, ◌++◌, length, take, drop, arith, length-drop, length-take, ◌∙◌, append_assoc}
 use Rattle.std.proofs.Math.Seq.{take-add}
 use Rattle.std.proofs.lemmas.List.{take_all}
-use Rattle.mt_lines.proofs.StreamLemmas.{write-served, last-interruption, none-left}
 use Rattle.mt_lines.proofs.stream.send.Goals as goal
 
 -- two pieces in a row, the second of a slice from the first one's end
@@ -11,24 +10,13 @@ take_twice before between after bytes a b first second =
     let second_piece = rw all at second in
     second_piece ∙ rw (first, take-add a b bytes) (append_assoc before (take a bytes) (take b (drop a bytes)))
 
-pub sending-preserved-in-Ok : goal.sending-preserved-in-Ok
-sending-preserved-in-Ok g c =
+pub sending-preserved : goal.sending-preserved
+sending-preserved g c =
     let e = c.in-Ok.ensures in
     let bytes = c.args.bytes.now in
     record {
       within = omega (arith, length-take (length bytes - c.sending.sent) (drop c.sending.sent bytes), length-drop c.sending.sent bytes, e.bound);
-      few = omega arith;
       told = λ t. take_twice _ _ _ bytes c.sending.sent c.in-Ok.count (c.sending.invariant.told t) (e.sent t);
-      waiting = λ more. absurd (omega (arith, more));
-      faults = λ t none. write-served c.in-Ok.count _ _ _ (omega arith) (e.faults t);
+      faults = λ t none. e.served t (c.sending.invariant.faults t none);
       counted = λ t. omega (arith, c.sending.invariant.counted t, e.counted t);
     }
-
-pub returns-then-interruptions-eq-MOST_INTERRUPTIONS-clause-faults : goal.returns-then-interruptions-eq-MOST_INTERRUPTIONS-clause-faults
-returns-then-interruptions-eq-MOST_INTERRUPTIONS-clause-faults g c t none =
-    let e = c.in-Err-Interrupted.ensures in
-    inr (last-interruption c.sending.interruptions [] _ _ (omega (arith, c.if-interruptions-eq-MOST_INTERRUPTIONS.true)) (c.sending.invariant.faults t none) (rw c.in-Err-Interrupted.field-0-is at e.faults t))
-
-pub returns-clause-served : goal.returns-clause-served
-returns-clause-served g c t none =
-    none-left c.sending.interruptions c.sending.sent _ _ c.sending.invariant.waiting (omega (arith, c.sending-test.false)) (c.sending.invariant.faults t none)

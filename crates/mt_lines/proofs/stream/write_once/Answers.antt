@@ -1,6 +1,6 @@
 use Rattle.std.proofs.Common.{◌≡◌, ap, arith, ◌∙◌, inr}
 use Rattle.mt_lines.specs.Stream.{interruptions}
-use Rattle.mt_session.proofs.client.find_client.Goals as goal
+use Rattle.mt_lines.proofs.stream.write_once.Goals as goal
 
 pub returns-clause-faults : goal.returns-clause-faults
 returns-clause-faults g c t none =

@@ -1,6 +1,6 @@
 use Rattle.std.proofs.Common.{◌≡◌, IsTrue, [], ◌+◌}
 use Rattle.mt_lines.specs.Stream.{interruptions}
-use Rattle.mt_session.proofs.client.find_client.Given as goal
+use Rattle.mt_lines.proofs.stream.write_once.Given as goal
 
 -- so many writes were interrupted
 abbrev pub invariant-trying : goal.invariant-trying
