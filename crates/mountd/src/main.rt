@@ -8,7 +8,7 @@ use clap::error::ErrorKind;
 use clap::{Arg, ArgAction, Command, Error, value_parser};
 use mt_session::floor::Floor;
 use mt_session::line::{LineReader, ReadFault};
-use mt_session::session::{End, LINE_LIMIT, serve_plain};
+use mt_session::serving::{End, LINE_LIMIT, serve_plain};
 use mt_session::stream::{Reading, Writing};
 use socket::{MOST_POSTS, Served, serve_socket};
 use std::alloc::Global;

@@ -4,7 +4,7 @@ use mt_floor::floor::Floor;
 use mt_lines::line::{LineReader, ReadFault};
 use mt_lines::memory::{Faulty, Portions, Sink};
 use mt_lines::stream::{Cut, StreamFault};
-use mt_session::session::{End, LINE_LIMIT, serve_plain};
+use mt_session::serving::{End, LINE_LIMIT, serve_plain};
 use mt_skel::fault::Fault;
 use std::alloc::Global;
 use std::test::Fail;

@@ -13,8 +13,8 @@ use Rattle.mt_lines.specs.declared.line.ReadFault.{ReadFault}
 use Rattle.mt_lines.specs.declared.line.ReadFault.TheVariants.{Device, Interrupted, Endless as NeverEnds, NoMemory as NoRoom}
 use Rattle.mt_lines.specs.Lines.{Item, Unended, Endless, lines_of}
 use Rattle.mt_lines.specs.Reading.{IsNext}
-use Rattle.mt_session.specs.declared.session.End.{End}
-use Rattle.mt_session.specs.declared.session.End.TheVariants.{Quit, Stop, Input, Read, Cut as CutOff, Memory, Spent}
+use Rattle.mt_session.specs.declared.serving.End.{End}
+use Rattle.mt_session.specs.declared.serving.End.TheVariants.{Quit, Stop, Input, Read, Cut as CutOff, Memory, Spent}
 use Rattle.mt_floor.specs.Schedule.{FloorView, settled}
 use Rattle.mt_floor.proofs.SettledLaws.{settled_idle}
 use Rattle.mt_session.specs.Answers.{refusal}

@@ -15,8 +15,8 @@ use Rattle.mt_desk.specs.Calls.{WatcherView}
 use Rattle.mt_requests.specs.declared.request.Request.{Request}
 use Rattle.mt_requests.specs.declared.request.Request.TheVariants.{Run, Show, Find, Watch, Take, Follow, Close, Quit as AsksQuit, Stop as AsksStop}
 use Rattle.mt_requests.specs.Requests.{may_want_memory, ReadsAs}
-use Rattle.mt_session.specs.declared.session.End.{End}
-use Rattle.mt_session.specs.declared.session.End.TheVariants.{Quit, Stop, Input, Read, Cut as CutOff, Memory, Spent}
+use Rattle.mt_session.specs.declared.serving.End.{End}
+use Rattle.mt_session.specs.declared.serving.End.TheVariants.{Quit, Stop, Input, Read, Cut as CutOff, Memory, Spent}
 use Rattle.mt_floor.specs.declared.watch.Phase.{Phase}
 use Rattle.mt_events.specs.declared.texts.PrintedPosts.{PrintedPosts}
 use Rattle.mt_session.specs.declared.shared_follow.Portion.TheVariants.{Posts, Over as NoMore, Refused}

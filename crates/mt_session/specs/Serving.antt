@@ -7,8 +7,8 @@ use Rattle.mt_book.specs.declared.command.Reply.{Reply}
 use Rattle.mt_floor.specs.declared.watch.Phase.{Phase}
 use Rattle.mt_floor.specs.declared.event.Answer.{Answer}
 use Rattle.mt_floor.specs.declared.event.Answer.TheVariants.{Replied, Opened, Met}
-use Rattle.mt_session.specs.declared.session.End.{End}
-use Rattle.mt_session.specs.declared.session.End.TheVariants.{Quit, Stop, Input, Cut as CutOff, Memory, Spent}
+use Rattle.mt_session.specs.declared.serving.End.{End}
+use Rattle.mt_session.specs.declared.serving.End.TheVariants.{Quit, Stop, Input, Cut as CutOff, Memory, Spent}
 use Rattle.mt_session.specs.Requests.{SessionState}
 use Rattle.mt_session.specs.Session.{Growth, Asking, Turn, answer, after, ends, Going, ServedThen}
 

@@ -7,8 +7,8 @@ use Rattle.mt_requests.specs.declared.request.Request.{Request}
 use Rattle.mt_requests.specs.declared.request.Request.TheVariants.{Quit as AsksQuit, Stop as AsksStop}
 use Rattle.mt_lines.specs.declared.stream.StreamFault.{StreamFault}
 use Rattle.mt_lines.specs.declared.line.ReadFault.TheVariants.{Device, Interrupted, Endless as NeverEnds, NoMemory as NoRoom}
-use Rattle.mt_session.specs.declared.session.End.{End}
-use Rattle.mt_session.specs.declared.session.End.TheVariants.{Quit, Stop, Input, Read, Cut as CutOff, Memory, Spent}
+use Rattle.mt_session.specs.declared.serving.End.{End}
+use Rattle.mt_session.specs.declared.serving.End.TheVariants.{Quit, Stop, Input, Read, Cut as CutOff, Memory, Spent}
 use Rattle.mt_requests.specs.Requests.{request_of}
 use Rattle.mt_lines.specs.Lines.{Item, Text, TooLong, Unended, Endless, lines_of}
 use Rattle.mt_lines.specs.Stream.{HasFailed, IsInterrupted}

@@ -12,8 +12,8 @@ use Rattle.mt_desk.specs.Desk.{DeskView, IsDesk}
 use Rattle.mt_desk.specs.Calls.{WatcherView, IsMet}
 use Rattle.mt_requests.specs.declared.request.Request.{Request}
 use Rattle.mt_requests.specs.declared.request.Request.TheVariants.{Follow}
-use Rattle.mt_session.specs.declared.session.End.{End}
-use Rattle.mt_session.specs.declared.session.End.TheVariants.{Read, Spent}
+use Rattle.mt_session.specs.declared.serving.End.{End}
+use Rattle.mt_session.specs.declared.serving.End.TheVariants.{Read, Spent}
 use Rattle.mt_session.specs.declared.shared_follow.Portion.{Portion}
 use Rattle.mt_session.specs.declared.shared_follow.Portion.TheVariants.{Posts, Rest, Over as NoMore, Refused}
 use Rattle.mt_session.specs.declared.shared_follow.Round.{Round}

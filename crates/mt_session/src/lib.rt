@@ -1,20 +1,22 @@
 //! Sessions of the mount server: lines in, answers out.
 //!
-//! A session reads lines ([`line`]), makes requests of them ([`request`]), does these on a floor
-//! ([`turn`]), and sends the text of the answers ([`text`], [`stream`]). A session in a thread of
-//! its own does them at a desk that others share ([`shared_turn`], [`shared_session`]).
+//! A session reads lines ([`line`]), makes requests of them ([`request`]), does these, and sends the text of the
+//! answers ([`text`], [`stream`]). A plain session does them on a floor of its own ([`session`]); [`serving`] is all
+//! that it does from its first line to its end. A session in a thread of its own does them at a desk that others share
+//! ([`shared_session`]), answers by [`shared_answer`], and is served by [`shared_serving`]; [`bell`] and [`gate`] are
+//! where it rests and where a test can hold it.
 #![tactic(auto)]
 
 pub mod bell;
 pub mod gate;
+pub mod serving;
 pub mod session;
 pub mod shared_answer;
 mod shared_follow;
+pub mod shared_serving;
 pub mod shared_session;
-pub mod shared_turn;
 mod shown;
 pub mod text;
-pub mod turn;
 
 pub use mt_floor::{event, floor, watch};
 pub use mt_lines::{line, memory, stream};

@@ -1,209 +1,305 @@
-//! A plain session: lines in, answers out.
-ghost use Rattle.std.specs.Prelude.{◌≡◌, ◌≢◌, ◌+◌, ◌<◌, true, false, IsTrue, IfOk, IfErr, OnErr, IfNone, None, Some, Ok, Err, []};
+//! What a session does for a request.
+ghost use Rattle.std.specs.Prelude.{◌≡◌, length, flat_map, IfOk, IfErr, OnOk, OnErr, IsOkUnless, Ok, Err, None, Some, []};
 ghost use Rattle.std.specs.Option.{ForSome};
-ghost use Rattle.mt_session.specs.Answers.{refusal};
-ghost use Rattle.mt_session.specs.Requests.{state_at, session_at};
-ghost use Rattle.mt_lines.specs.Reading.{bytes_left, failed_calls, last_faults, limit_of, fault_of};
-ghost use Rattle.mt_session.specs.Session.{Whole, ends_by, Served, line_limit, IsReadEnd, IsReadEndRun, IsCutCause, IsCutRun};
-ghost use Rattle.mt_session.specs.Serving.{Answered, IsSent, Ran, ServedLine, ends_whole, ends_by_answer, ends_by_line};
+ghost use Rattle.std.specs.Prelude.{IsSome};
+ghost use Rattle.mt_events.specs.Posts.{post_text};
+ghost use Rattle.mt_floor.specs.Schedule.{floor_step, settled};
+ghost use Rattle.mt_events.specs.Texts.{count_text, lines_of_posts, followed_text};
+ghost use Rattle.mt_session.specs.Answers.{reply_text};
+ghost use Rattle.mt_session.specs.Serving.{reply_in, begun_in, phase_in};
+ghost use Rattle.mt_session.specs.Requests.{state_at, session_at, answer_to, state_to, left, begun, replied_text, opened_text, by_phase, rest_text, taken_text, end_of_followed, closed_text, taken, next_posts, IsUndone};
 
+use crate::shown::{find, show, told_refusal};
 use crate::text::Text;
-use crate::turn::Session;
+use mt_book::command::{Command, Reply};
+use mt_events::opening::{Opening, Scope};
+use mt_events::texts::PrintedPosts;
+use mt_floor::event::{Answer, Event};
 use mt_floor::floor::Floor;
-use mt_lines::line::{Line, LineReader, ReadFault};
-use mt_lines::stream::{Cut, Input, Output, send};
-use mt_requests::request::{Request, read_request};
+use mt_floor::watch::{Phase, WatchKey};
+use mt_requests::request::Request;
 use mt_skel::fault::Fault;
 use std::alloc::Global;
+use std::marker::Model;
 
-/// Why a session ended.
-#[derive(Clone, Copy, Debug, PartialEq, Eq)]
-pub enum End {
-    /// A line asked for it.
-    Quit,
-    /// A line asked for it, and has stopped the server.
-    Stop,
-    /// The input ended.
-    Input,
-    /// The reader failed.
-    Read(ReadFault),
-    /// The writer failed, and so many bytes of an answer went out.
-    Cut(Cut),
-    /// There was no memory to tell posts that were taken, and so the session has ended.
-    Memory,
-    /// As many lines were served as a session serves.
-    Spent,
-}
-
-/// The longest line of a session, in bytes before its line end.
-pub const LINE_LIMIT: u32 = 8192;
-
-/// The most lines that a session serves.
-pub(crate) const MOST_LINES: u32 = 16_777_216;
-
-/// How a request ends its session, if it does.
-pub(crate) fn end_of(request: &Request) -> Option<End>
-    ensures { result ≡ ends_by (Ok request.now) }
-{
-    match request {
-        Request::Quit => Some(End::Quit),
-        Request::Stop => Some(End::Stop),
-        Request::Run(_)
-        | Request::Show(_)
-        | Request::Find { .. }
-        | Request::Watch(_)
-        | Request::Take(_)
-        | Request::Follow(_)
-        | Request::Close => None,
-    }
-}
-
-/// What is sent for a line, and how the session ends with it, if it does.
+/// A session on a floor: the key of its watcher, if it has one.
 #[derive(Drop)]
-struct LineAnswer {
-    text: Text,
-    end: Option<End>,
+pub struct Session {
+    watcher: Option<WatchKey>,
+    alloc: Global,
 }
 
-/// A refusal, with which no session ends.
-fn refused(fault: Fault) -> LineAnswer
-    ensures { (result.text ≡ refusal fault) × (result.end ≡ None) }
+impl Model for Session {
+    ghost use Rattle.std.specs.Prelude.{ℕ, Option};
+
+    ghost Value = { Option ℕ };
+
+    ghost view = { λ s. s.watcher };
+}
+
+/// What a command is answered that was not refused.
+fn told_reply(answer: Answer) -> Text
+    requires { IsSome (reply_in answer) }
+    ensures { ForSome (reply_in answer) (λ reply. result ≡ reply_text reply) }
 {
-    LineAnswer {
-        text: Text::refusal(fault),
-        end: None,
+    match answer {
+        Answer::Replied(reply) => Text::reply(reply),
+        _ => unreachable!(),
     }
 }
 
-/// Answers a line that was read whole.
-fn answer_line(alloc: Global, session: &mut Session, floor: &mut Floor, line: &[u8]) -> LineAnswer
+/// Applies a command, and sends its posts to the watchers.
+fn run(floor: &mut Floor, command: &Command) -> Result<Text, Fault>
     requires idle { floor.old.due ≡ [] }
-    ensures answered { Answered (state_at floor.old session.old) (state_at floor.new session.new) (Whole line.now) result.text result.end }
-    ensures whole { ForSome result.end (λ e. ends_whole e ≡ true) }
+    ensures ok { IfOk result (λ text. (text ≡ replied_text floor.old command.now) × (floor.new ≡ settled (floor_step floor.old (Event.Apply command.now)).0)) }
+    ensures memory { IfErr result (λ fault. (fault ≡ Fault.NoMemory) × (floor.new ≡ floor.old)) }
     ensures idle { floor.new.due ≡ [] }
 {
-    let request = match read_request(alloc, line) {
-        Ok(request) => request,
-        Err(fault) => return refused(fault),
+    let text = match floor.apply(command) {
+        Ok(answer) => told_reply(answer),
+        Err(fault) => told_refusal(fault)?,
     };
-    match session.turn(floor, &request) {
-        Ok(text) => LineAnswer {
-            text,
-            end: end_of(&request),
-        },
-        Err(fault) => refused(fault),
-    }
-}
-
-/// Sends an answer: how the session ends by it, if it does.
-pub(crate) fn answer_with<W: Output>(writer: &mut W, text: &Text, end: Option<End>) -> Option<End>
-    requires { ForSome end (λ e. ends_whole e ≡ true) }
-    ensures sent { IsTrue W.tells → IsSent (W.written writer.old) (W.written writer.new) text.now end result }
-    ensures cut { IsTrue W.counts → IsCutCause result (W.failed writer.old) (W.failed writer.new) }
-    ensures cut_run { IsTrue W.counts → W.faults writer.old ≡ [] → IsCutRun result (W.faults writer.new) }
-    ensures ended { ForSome result (λ e. ends_by_answer e ≡ true) }
-{
-    match send(writer, text.bytes()) {
-        Ok(()) => end,
-        Err(cut) => Some(End::Cut(cut)),
-    }
-}
-
-/// Serves one line: how the session ends by it, if it does.
-fn serve_line<R: Input + Drop, W: Output>(
-    alloc: Global,
-    lines: &mut LineReader<R>,
-    writer: &mut W,
-    session: &mut Session,
-    floor: &mut Floor,
-) -> Option<End>
-    requires idle { floor.old.due ≡ [] }
-    requires fresh { fault_of lines.old ≡ None }
-    requires limit { limit_of lines.old ≡ line_limit }
-    ensures served { IsTrue R.tells → IsTrue W.tells → ServedLine (bytes_left lines.old) (bytes_left lines.new) (state_at floor.old session.old) (state_at floor.new session.new) (W.written writer.old) (W.written writer.new) result }
-    ensures idle { floor.new.due ≡ [] }
-    ensures cut { IsTrue W.counts → IsCutCause result (W.failed writer.old) (W.failed writer.new) }
-    ensures cut_run { IsTrue W.counts → W.faults writer.old ≡ [] → IsCutRun result (W.faults writer.new) }
-    ensures read { IsTrue R.counts → IsReadEnd result (failed_calls lines.old) (failed_calls lines.new) }
-    ensures read_run { IsTrue R.counts → last_faults lines.old ≡ [] → IsReadEndRun result (last_faults lines.new) }
-    ensures ended { ForSome result (λ e. ends_by_line e ≡ true) }
-    ensures fresh { IfNone result (fault_of lines.new ≡ None) }
-    ensures limit { limit_of lines.new ≡ line_limit }
-{
-    match lines.next() {
-        Ok(Line::Text) => {
-            let reply = answer_line(alloc, session, floor, lines.line());
-            answer_with(writer, &reply.text, reply.end)
-        }
-        Ok(Line::TooLong) => answer_with(writer, &Text::refusal(Fault::TooLong), None),
-        Ok(Line::Unended) => {
-            answer_with(writer, &Text::refusal(Fault::BadLine), Some(End::Input))
-        }
-        Ok(Line::End) => Some(End::Input),
-        Err(fault) => Some(End::Read(fault)),
-    }
-}
-
-/// Serves lines until the session ends: how it does.
-fn serve_session<R: Input + Drop, W: Output>(
-    alloc: Global,
-    lines: &mut LineReader<R>,
-    writer: &mut W,
-    session: &mut Session,
-    floor: &mut Floor,
-) -> End
-    requires idle { floor.old.due ≡ [] }
-    requires fresh { fault_of lines.old ≡ None }
-    requires limit { limit_of lines.old ≡ line_limit }
-    ensures idle { floor.new.due ≡ [] }
-    ensures ran { IsTrue R.tells → IsTrue W.tells → Ran (bytes_left lines.old) (state_at floor.old session.old) (state_at floor.new session.new) (W.written writer.old) (W.written writer.new) result }
-    ensures memory { result ≢ End.Memory }
-    ensures read { IsTrue R.counts → IsReadEnd (Some result) (failed_calls lines.old) (failed_calls lines.new) }
-    ensures read_run { IsTrue R.counts → last_faults lines.old ≡ [] → IsReadEndRun (Some result) (last_faults lines.new) }
-    ensures cut { IsTrue W.counts → IsCutCause (Some result) (W.failed writer.old) (W.failed writer.new) }
-    ensures cut_run { IsTrue W.counts → W.faults writer.old ≡ [] → IsCutRun (Some result) (W.faults writer.new) }
-{
-    for _count in 0..MOST_LINES {
-        if let Some(end) = serve_line(alloc, lines, writer, session, floor) {
-            return end;
-        }
-    }
-    End::Spent
-}
-
-/// Serves the lines that a reader has left, one answer each, until the session ends, and then closes its watcher.
-///
-/// The reader has met no fault, and its lines are of at most [`LINE_LIMIT`] bytes. It is lent, so that
-/// its caller knows of its last calls: where it has ended the session, its last call failed, and none
-/// came behind that. A session serves 16,777,216 lines at most. What is written is the text of the
-/// lines that were read, however they were cut; at a fault of the writer all earlier answers are out
-/// whole, and of the last as many bytes as the end says, fewer than it has; nothing is written behind
-/// it.
-pub fn serve_plain<R: Input + Drop, W: Output>(
-    alloc: Global,
-    lines: &mut LineReader<R>,
-    writer: &mut W,
-    floor: &mut Floor,
-) -> End
-    requires fresh { fault_of lines.old ≡ None }
-    requires limit { limit_of lines.old ≡ line_limit }
-    ensures served { IsTrue R.tells → IsTrue W.tells → Served (bytes_left lines.old) (session_at floor.old None) (state_at floor.new None) (W.written writer.old) (W.written writer.new) result }
-    ensures idle { floor.new.due ≡ [] }
-    ensures memory { result ≢ End.Memory }
-
-    // A fault of the reader ends it only where the reader's last call failed, and 1,000 interruptions
-    // only where so many calls were interrupted in succession. At every other end the reader's last
-    // call had not failed.
-    ensures read { IsTrue R.counts → IsReadEnd (Some result) (failed_calls lines.old) (failed_calls lines.new) }
-    ensures read_run { IsTrue R.counts → last_faults lines.old ≡ [] → IsReadEndRun (Some result) (last_faults lines.new) }
-
-    // It is cut only where the writer's last call failed, or so many were interrupted in succession.
-    ensures cut { IsTrue W.counts → IsCutCause (Some result) (W.failed writer.old) (W.failed writer.new) }
-    ensures cut_run { IsTrue W.counts → W.faults writer.old ≡ [] → IsCutRun (Some result) (W.faults writer.new) }
-{
     floor.settle();
-    let mut session = Session::new(alloc);
-    let end = serve_session(alloc, lines, writer, &mut session, floor);
-    session.leave(floor);
-    end
+    Ok(text)
+}
+
+/// What is said where no post waits for a watcher of which so many were told, and this is how far it is. Takes no
+/// memory.
+pub(crate) fn phase_text(told: u64, phase: Phase) -> Text
+    ensures { result ≡ by_phase (count_text told) phase }
+{
+    match phase {
+        Phase::Open => Text::reply(Reply::Number(told)),
+        Phase::Lagged => Text::refusal(Fault::Lagged),
+        Phase::Ended => Text::refusal(Fault::Stopped),
+    }
+}
+
+/// The same, by how far a floor says that the watcher is.
+fn rest_of(told: u64, met: Answer) -> Text
+    requires { IsSome (phase_in met) }
+    ensures { ForSome (phase_in met) (λ phase. result ≡ by_phase (count_text told) phase) }
+{
+    match met {
+        Answer::Met(meeting) => phase_text(told, meeting.state),
+        _ => unreachable!(),
+    }
+}
+
+/// What is said where no post waits for a watcher of which so many were told.
+fn rest(floor: &mut Floor, key: WatchKey, told: u64) -> Text
+    requires idle { floor.old.due ≡ [] }
+    ensures text { result ≡ rest_text (count_text told) floor.old key }
+    ensures floor { floor.new ≡ floor.old }
+{
+    match floor.step(Event::Meet(key)) {
+        Ok(met) => rest_of(told, met),
+        Err(fault) => Text::refusal(fault),
+    }
+}
+
+/// The next posts of a watcher as they are sent to a client, so many of them.
+fn print_next(
+    alloc: Global,
+    floor: &Floor,
+    key: WatchKey,
+    count: usize,
+) -> Result<PrintedPosts, Fault>
+    ensures text { IfOk result (λ printed. printed.text.items ≡ flat_map post_text (next_posts floor.now key count)) }
+    ensures lines { IfOk result (λ printed. printed.lines ≡ lines_of_posts (next_posts floor.now key count)) }
+    ensures memory { IfErr result (λ fault. fault ≡ Fault.NoMemory) }
+{
+    let mut printed = PrintedPosts::new(alloc);
+    'posts: for index in 0..count {
+        let Some(post) = floor.waiting_post(key, index) else {
+            return Ok(printed);
+        };
+        printed.push(post)?;
+    }
+    Ok(printed)
+}
+
+/// Takes so many posts of a watcher, which were told.
+fn take_told(floor: &mut Floor, key: WatchKey, count: usize)
+    requires idle { floor.old.due ≡ [] }
+    ensures floor { floor.new ≡ taken floor.old key count }
+    ensures idle { floor.new.due ≡ [] }
+{
+    'posts: for _index in 0..count {
+        let _ = floor.step(Event::Take(key));
+    }
+}
+
+/// Takes up to so many posts of a watcher. They are printed first, so that none is lost for want of memory.
+fn take(alloc: Global, floor: &mut Floor, key: WatchKey, most: u64) -> Result<Text, Fault>
+    requires idle { floor.old.due ≡ [] }
+    ensures ok { IfOk result (λ text. (text ≡ taken_text floor.old key (next_posts floor.old key most)) × (floor.new ≡ taken floor.old key (length (next_posts floor.old key most)))) }
+    ensures memory { IfErr result (λ fault. (fault ≡ Fault.NoMemory) × (floor.new ≡ floor.old)) }
+    ensures idle { floor.new.due ≡ [] }
+{
+    let count = floor.waiting_count(key).min(most as usize);
+    if count == 0 {
+        return Ok(rest(floor, key, 0));
+    }
+    let printed = print_next(alloc, floor, key, count)?;
+    let text = Text::counted(alloc, printed.lines, &printed.text)?;
+    take_told(floor, key, count);
+    Ok(text)
+}
+
+/// How a client is told of the end of posts that it followed, of which there were so many.
+fn end_of_followed(floor: &mut Floor, key: WatchKey, most: u64, told: u64) -> Text
+    requires idle { floor.old.due ≡ [] }
+    ensures text { result ≡ end_of_followed floor.old key most told }
+    ensures floor { floor.new ≡ floor.old }
+{
+    if told == most {
+        Text::reply(Reply::Number(told))
+    } else {
+        rest(floor, key, told)
+    }
+}
+
+/// Takes the posts of a watcher that are there, up to so many, as they are followed.
+fn follow(alloc: Global, floor: &mut Floor, key: WatchKey, most: u64) -> Result<Text, Fault>
+    requires idle { floor.old.due ≡ [] }
+    ensures ok { IfOk result (λ text. (text ≡ followed_text (next_posts floor.old key most) (end_of_followed floor.old key most (length (next_posts floor.old key most)))) × (floor.new ≡ taken floor.old key (length (next_posts floor.old key most)))) }
+    ensures memory { IfErr result (λ fault. (fault ≡ Fault.NoMemory) × (floor.new ≡ floor.old)) }
+    ensures idle { floor.new.due ≡ [] }
+{
+    let count = floor.waiting_count(key).min(most as usize);
+    let mut printed = print_next(alloc, floor, key, count)?;
+    let end = end_of_followed(floor, key, most, count as u64);
+    printed.text.extend_from_slice(end.bytes())?;
+    take_told(floor, key, count);
+    Ok(Text::lines(printed.text))
+}
+
+/// Stops the floor.
+fn stop(floor: &mut Floor)
+    requires idle { floor.old.due ≡ [] }
+    ensures floor { floor.new ≡ (floor_step floor.old Event.Stop).0 }
+    ensures idle { floor.new.due ≡ [] }
+{
+    let _ = floor.step(Event::Stop);
+}
+
+/// Closes a watcher, and tells what it has not taken.
+fn close(alloc: Global, floor: &mut Floor, key: WatchKey) -> Result<Text, Fault>
+    requires idle { floor.old.due ≡ [] }
+    ensures ok { IfOk result (λ text. (text ≡ closed_text floor.old key) × (floor.new ≡ (floor_step floor.old (Event.Close key)).0)) }
+    ensures memory { IfErr result (λ fault. (fault ≡ Fault.NoMemory) × (floor.new ≡ floor.old)) }
+    ensures idle { floor.new.due ≡ [] }
+{
+    let count = floor.waiting_count(key);
+    let printed = print_next(alloc, floor, key, count)?;
+    let text = Text::counted(alloc, printed.lines, &printed.text)?;
+    match floor.step(Event::Close(key)) {
+        Ok(_) => Ok(text),
+        Err(fault) => Ok(Text::refusal(fault)),
+    }
+}
+
+/// The watcher that has begun, by this answer, and what it found.
+fn begun_by(answer: Answer) -> (WatchKey, Opening)
+    requires { IsSome (begun_in answer) }
+    ensures { begun_in answer ≡ Some result }
+{
+    match answer {
+        Answer::Opened { key, opening } => (key, opening),
+        _ => unreachable!(),
+    }
+}
+
+impl Session {
+    /// A session with no watcher. Memory for its answers will come from `alloc`.
+    pub fn new(alloc: Global) -> Session
+        ensures { result ≡ None }
+    {
+        Session {
+            watcher: None,
+            alloc,
+        }
+    }
+
+    /// Begins a watcher, and tells what it finds. Where there is no memory to tell it, the watcher is closed again.
+    fn watch(&mut self, floor: &mut Floor, scope: Scope) -> Result<Text, Fault>
+        requires none { self.old ≡ None }
+        requires idle { floor.old.due ≡ [] }
+        ensures ok { IfOk result (λ text. (text ≡ opened_text floor.old scope) × (state_at floor.new self.new ≡ begun floor.old scope)) }
+        ensures memory { IfErr result (λ fault. (fault ≡ Fault.NoMemory) × IsUndone (state_at floor.old self.old) (Request.Watch scope) (state_at floor.new self.new)) }
+        ensures idle { floor.new.due ≡ [] }
+    {
+        let answer = match floor.step(Event::Open(scope)) {
+            Ok(answer) => answer,
+            Err(fault) => return told_refusal(fault),
+        };
+        let (key, opening) = begun_by(answer);
+        match Text::opening(self.alloc, &opening) {
+            Ok(text) => {
+                self.watcher = Some(key);
+                Ok(text)
+            }
+            Err(fault) => {
+                let _ = floor.step(Event::Close(key));
+                Err(fault)
+            }
+        }
+    }
+
+    /// Does a request, and answers the lines that are sent for it, those of a refusal too: `no` and its name. Before it
+    /// and after a command the posts that are due are sent to their watchers.
+    ///
+    /// `watch` is refused as `WatcherOpen` where the session has a watcher, else as the floor refuses it; `take`,
+    /// `follow` and `close` as `NoWatcher` where it has none. `take` and `follow` tell the posts that are there, up to
+    /// as many as are asked for; where `take` finds none, and where `follow` finds fewer, a watcher that lags is told
+    /// `no Lagged`, and one that a stop has ended `no Stopped`.
+    ///
+    /// Want of memory is the only refusal here. Then nothing has changed, but that a watcher may have begun that could
+    /// not be told what it found, and was closed again.
+    #[tactic(auto, unfolding(crate::specs::Requests::answer_to, crate::specs::Requests::state_to))]
+    pub fn turn(&mut self, floor: &mut Floor, request: &Request) -> Result<Text, Fault>
+        ensures text { IfOk result (λ text. text ≡ answer_to (session_at floor.old self.old) request.now) }
+        ensures state { OnOk result (state_at floor.new self.new ≡ state_to (session_at floor.old self.old) request.now) }
+        ensures memory { IsOkUnless result Fault.NoMemory }
+        ensures undone { OnErr result (IsUndone (session_at floor.old self.old) request.now (state_at floor.new self.new)) }
+        ensures idle { floor.new.due ≡ [] }
+    {
+        floor.settle();
+        match (request, self.watcher) {
+            (Request::Run(command), _) => run(floor, command),
+            (Request::Show(space), _) => show(self.alloc, floor.book(), *space),
+            (Request::Find { space, path }, _) => find(self.alloc, floor.book(), *space, path),
+            (Request::Watch(scope), None) => self.watch(floor, *scope),
+            (Request::Watch(_), Some(_)) => Ok(Text::refusal(Fault::WatcherOpen)),
+            (Request::Take(most), Some(key)) => take(self.alloc, floor, key, *most),
+            (Request::Follow(most), Some(key)) => follow(self.alloc, floor, key, *most),
+            (Request::Close, Some(key)) => {
+                let text = close(self.alloc, floor, key)?;
+                self.watcher = None;
+                Ok(text)
+            }
+            (Request::Take(_) | Request::Follow(_) | Request::Close, None) => {
+                Ok(Text::refusal(Fault::NoWatcher))
+            }
+            (Request::Quit, _) => Ok(Text::reply(Reply::Done)),
+            (Request::Stop, _) => {
+                stop(floor);
+                Ok(Text::reply(Reply::Done))
+            }
+        }
+    }
+
+    /// Closes the session's watcher, if it has one, and sends the posts that are due. Takes no memory.
+    pub fn leave(&mut self, floor: &mut Floor)
+        ensures state { state_at floor.new self.new ≡ left (session_at floor.old self.old) }
+        ensures none { self.new ≡ None }
+        ensures idle { floor.new.due ≡ [] }
+    {
+        floor.settle();
+        if let Some(key) = self.watcher {
+            let _ = floor.step(Event::Close(key));
+            self.watcher = None;
+        }
+    }
 }

@@ -4,7 +4,7 @@ ghost use Rattle.std.specs.Option.{ForSome};
 ghost use Rattle.mt_skel.specs.declared.fault.Fault.TheVariants.{NoMemory};
 ghost use Rattle.mt_requests.specs.declared.request.Request.TheVariants.{Take, Follow};
 ghost use Rattle.mt_requests.specs.Requests.{HasRightCount};
-ghost use Rattle.mt_session.specs.declared.session.End.TheVariants.{Memory};
+ghost use Rattle.mt_session.specs.declared.serving.End.TheVariants.{Memory};
 ghost use Rattle.mt_events.specs.Texts.{count_text};
 ghost use Rattle.mt_session.specs.Answers.{refusal};
 ghost use Rattle.mt_session.specs.Serving.{IsSent};
@@ -15,12 +15,12 @@ ghost use Rattle.mt_session.specs.SharedServing.{IsUndoneAt, HasMet, ServesAsked
 
 use crate::bell::Bell;
 use crate::gate::Gate;
-use crate::session::{End, answer_with, end_of};
+use crate::serving::{End, answer_with, end_of};
+use crate::session::phase_text;
 use crate::shared_follow::serve_follow;
-use crate::shared_turn::SharedSession;
+use crate::shared_session::SharedSession;
 use crate::shown::told_refusal;
 use crate::text::Text;
-use crate::turn::phase_text;
 use mt_desk::desk::Desk;
 use mt_desk::lines::Naming;
 use mt_events::texts::PrintedPosts;

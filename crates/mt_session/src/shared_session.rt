@@ -1,154 +1,286 @@
-//! A session in a thread of its own: lines in, answers out, at a desk that others share.
-ghost use Rattle.std.specs.Prelude.{◌≡◌, true, IsTrue, IfNone, None, Some, []};
+//! What a session in a thread of its own does for a request.
+ghost use Rattle.std.specs.Prelude.{◌≡◌, ◌≢◌, ◌≤◌, List, length, map, true, IfOk, IfErr, OnOk, OnErr, IsOkUnless, IsSome, Ok, Err, None, Some};
 ghost use Rattle.std.specs.Option.{ForSome};
-ghost use Rattle.mt_lines.specs.Reading.{bytes_left, failed_calls, last_faults, limit_of, fault_of};
-ghost use Rattle.mt_requests.specs.Requests.{request_of};
-ghost use Rattle.mt_session.specs.Session.{line_limit, IsReadEnd, IsReadEndRun, IsCutCause, IsCutRun};
-ghost use Rattle.mt_session.specs.SharedSession.{ServedShared};
-ghost use Rattle.mt_session.specs.SharedServing.{ServesAsked, ServedSharedLine, ends_by_request, ends_by_shared_line};
+ghost use Rattle.std.specs.Arc.{arc_value};
+ghost use Rattle.mt_events.specs.Posts.{PostView};
+ghost use Rattle.mt_events.specs.Following.{IsRun};
+ghost use Rattle.mt_desk.specs.Calls.{WatcherView, IsMet, IsClosed};
+ghost use Rattle.mt_desk.specs.Desk.{IsDesk, floor_of_desk};
+ghost use Rattle.mt_events.specs.Texts.{posts_text};
+ghost use Rattle.mt_session.specs.Requests.{answer_to, replied_text, opened_text, closed_text};
+ghost use Rattle.mt_session.specs.SharedTurns.{floor_seen, found_state, is_under_lock, with_posts, IsCommanded, IsBegun, IsDoneBy, IsUndoneBy, HasTaken, IsPopped};
 
-use crate::bell::Bell;
-use crate::gate::Gate;
-use crate::session::{End, MOST_LINES, answer_with};
-use crate::shared_answer::{Shared, leave, serve_request};
-use crate::shared_turn::SharedSession;
+use crate::shown::{find, show, told_refusal};
 use crate::text::Text;
+use mt_book::command::{Command, Reply};
 use mt_desk::desk::Desk;
 use mt_desk::lines::Naming;
-use mt_lines::line::{Line, LineReader};
-use mt_lines::stream::{Input, Output};
-use mt_requests::request::read_request;
+use mt_desk::watcher::Watcher;
+use mt_events::opening::Scope;
+use mt_events::post::Post;
+use mt_events::shared::SharedPosts;
+use mt_events::texts::PrintedPosts;
+use mt_floor::watch::Meeting;
+use mt_requests::request::Request;
 use mt_skel::fault::Fault;
 use std::alloc::Global;
-use std::sync::{Mutex, Wait};
-use std::time::Clock;
+use std::marker::Model;
+use std::sync::{Arc, Wait};
 
-/// Serves a line that was read whole: how the session ends by it, if it does.
-fn serve_text<J: Naming, O: Output, G: Gate, R: Wait + Clock>(
-    rt: &R,
-    shared: &Shared<'_, J, G>,
-    session: &mut SharedSession<J>,
-    line: &[u8],
-    writer: &mut O,
-) -> Option<End>
-    ensures served { IsTrue O.tells → ServesAsked session.old (request_of line.now) (O.written writer.old) (O.written writer.new) result session.new }
-    ensures cut { IsTrue O.counts → IsCutCause result (O.failed writer.old) (O.failed writer.new) }
-    ensures cut_run { IsTrue O.counts → O.faults writer.old ≡ [] → IsCutRun result (O.faults writer.new) }
-    ensures ended { ForSome result (λ e. ends_by_request e ≡ true) }
+/// A session at the desk of a name: its watcher, if it has one.
+#[derive(Drop)]
+pub struct SharedSession<J: Naming> {
+    watcher: Option<Watcher<J>>,
+    alloc: Global,
+}
+
+impl<J: Naming> Model for SharedSession<J> {
+    ghost use Rattle.std.specs.Prelude.{Option};
+    ghost use Rattle.mt_desk.specs.Calls.{WatcherView};
+    ghost use Rattle.mt_session.specs.Taking.{IsRunning};
+
+    ghost Value = { Option WatcherView };
+
+    ghost view = { λ s. s.watcher };
+
+    ghost invariant = { λ s. IsRunning s.watcher };
+}
+
+/// Applies a command, and answers its reply or refusal. Refused as `NoMemory` alone, with nothing changed.
+fn run<J: Naming, R: Wait>(rt: &R, desk: &mut Desk<J>, command: &Command) -> Result<Text, Fault>
+    ensures text { IfOk result (λ text. text ≡ replied_text (floor_of_desk desk.old) command.now) }
+    ensures done { OnOk result (IsCommanded desk.old command.now desk.new) }
+    ensures memory { IsOkUnless result Fault.NoMemory }
+    ensures unchanged { OnErr result (desk.new ≡ desk.old) }
 {
-    match read_request(shared.alloc, line) {
-        Ok(request) => serve_request(rt, shared, session, writer, &request),
-        Err(fault) => answer_with(writer, &Text::refusal(fault), None),
+    match desk.apply(rt, command) {
+        Ok(reply) => Ok(Text::reply(reply)),
+        Err(fault) => told_refusal(fault),
     }
 }
 
-/// Serves one line: how the session ends by it, if it does.
-fn serve_line<J: Naming, I: Input + Drop, O: Output, G: Gate, R: Wait + Clock>(
-    rt: &R,
-    shared: &Shared<'_, J, G>,
-    session: &mut SharedSession<J>,
-    lines: &mut LineReader<I>,
-    writer: &mut O,
-) -> Option<End>
-    requires fresh { fault_of lines.old ≡ None }
-    requires limit { limit_of lines.old ≡ line_limit }
-    ensures served { IsTrue I.tells → IsTrue O.tells → ServedSharedLine (bytes_left lines.old) (bytes_left lines.new) session.old session.new (O.written writer.old) (O.written writer.new) result }
-    ensures cut { IsTrue O.counts → IsCutCause result (O.failed writer.old) (O.failed writer.new) }
-    ensures cut_run { IsTrue O.counts → O.faults writer.old ≡ [] → IsCutRun result (O.faults writer.new) }
-    ensures read { IsTrue I.counts → IsReadEnd result (failed_calls lines.old) (failed_calls lines.new) }
-    ensures read_run { IsTrue I.counts → last_faults lines.old ≡ [] → IsReadEndRun result (last_faults lines.new) }
-    ensures ended { ForSome result (λ e. ends_by_shared_line e ≡ true) }
-    ensures fresh { IfNone result (fault_of lines.new ≡ None) }
-    ensures limit { limit_of lines.new ≡ line_limit }
+/// How far a watcher of the desk is.
+fn met<J: Naming>(desk: &mut Desk<J>, watcher: &mut Watcher<J>) -> Meeting
+    ensures { IsMet desk.old watcher.old result desk.new watcher.new }
 {
-    match lines.next() {
-        Ok(Line::Text) => serve_text(rt, shared, session, lines.line(), writer),
-        Ok(Line::TooLong) => answer_with(writer, &Text::refusal(Fault::TooLong), None),
-        Ok(Line::Unended) => {
-            answer_with(writer, &Text::refusal(Fault::BadLine), Some(End::Input))
-        }
-        Ok(Line::End) => Some(End::Input),
-        Err(fault) => Some(End::Read(fault)),
+    match desk.meet(watcher) {
+        Ok(meeting) => meeting,
+        Err(_) => unreachable!(),
     }
 }
 
-/// Serves lines until the session ends: how it does.
-fn serve_all<J: Naming, I: Input + Drop, O: Output, G: Gate, R: Wait + Clock>(
-    rt: &R,
-    shared: &Shared<'_, J, G>,
-    session: &mut SharedSession<J>,
-    lines: &mut LineReader<I>,
-    writer: &mut O,
-) -> End
-    requires none { session.old ≡ None }
-    requires fresh { fault_of lines.old ≡ None }
-    requires limit { limit_of lines.old ≡ line_limit }
-    ensures served { IsTrue I.tells → IsTrue O.tells → ServedShared (bytes_left lines.old) (O.written writer.old) (O.written writer.new) result }
-    ensures read { IsTrue I.counts → IsReadEnd (Some result) (failed_calls lines.old) (failed_calls lines.new) }
-    ensures read_run { IsTrue I.counts → last_faults lines.old ≡ [] → IsReadEndRun (Some result) (last_faults lines.new) }
-    ensures cut { IsTrue O.counts → IsCutCause (Some result) (O.failed writer.old) (O.failed writer.new) }
-    ensures cut_run { IsTrue O.counts → O.faults writer.old ≡ [] → IsCutRun (Some result) (O.faults writer.new) }
+/// Ends a watcher of the desk, and answers what was sent to it and not taken.
+fn closed<J: Naming, R: Wait>(rt: &R, desk: &mut Desk<J>, watcher: Watcher<J>) -> SharedPosts
+    ensures { IsClosed desk.old watcher result desk.new }
 {
-    'lines: for _count in 0..MOST_LINES {
-        if let Some(end) = serve_line(rt, shared, session, lines, writer) {
-            return end;
-        }
+    match desk.close(rt, watcher) {
+        Ok(posts) => posts,
+        Err(_) => unreachable!(),
     }
-    End::Spent
 }
 
-/// Serves the lines that a reader has left, one answer each, at a desk that other sessions share, until the session ends,
-/// and then closes its watcher.
-///
-/// The reader has met no fault, and its lines are of at most `LINE_LIMIT` bytes (session.rt). It is lent, so that its
-/// caller knows of its last calls: where it has ended the session, its last call failed, and none came behind that.
-///
-/// The desk is held while a request is done, and not while the session reads, writes or rests. `take` and `follow` take
-/// posts without it, and hold it to meet it where they find none. `follow` rests at the bell where none wait, and ends
-/// once it has as many as were asked for, where its watcher lags or a stop has ended it, and where the client has gone.
-/// A command and a stop ring the bell. Where posts were taken and there is no memory to tell them, the session says so
-/// and ends. A session serves 16,777,216 lines at most. At a fault of the writer all earlier answers are out whole, and of
-/// the last one a part; what the end says of it are the bytes of its last piece, for the answer to a `follow` goes out in
-/// pieces of at most 64 posts.
-pub fn serve_shared<J, I, O, G, R>(
+/// Posts behind how many lines they are. Refused as `NoMemory` alone.
+fn told(alloc: Global, posts: &[Arc<Post>]) -> Result<Text, Fault>
+    ensures text { IfOk result (λ text. text ≡ posts_text (map (λ p. arc_value p) posts.now)) }
+    ensures memory { IsOkUnless result Fault.NoMemory }
+{
+    let mut printed = PrintedPosts::new(alloc);
+    'posts: for post in posts {
+        printed.push(post)?;
+    }
+    Ok(Text::counted(alloc, printed.lines, &printed.text)?)
+}
+
+/// Ends a watcher of the desk, and tells what was sent to it and not taken. Refused as `NoMemory` alone: then the watcher
+/// has ended too, and that is lost.
+fn told_end<J: Naming, R: Wait>(
     rt: &R,
     alloc: Global,
-    number: u64,
-    lines: &mut LineReader<I>,
-    writer: &mut O,
-    desk: &Mutex<Desk<J>>,
-    bell: &Bell,
-    gate: &G,
-) -> End
-where
-    J: Naming,
-    I: Input + Drop,
-    O: Output,
-    G: Gate,
-    R: Wait + Clock,
-    requires fresh { fault_of lines.old ≡ None }
-    requires limit { limit_of lines.old ≡ line_limit }
-    ensures served { IsTrue I.tells → IsTrue O.tells → ServedShared (bytes_left lines.old) (O.written writer.old) (O.written writer.new) result }
-
-    // A fault of the reader ends it only where the reader's last call failed, and 1,000 interruptions
-    // only where so many calls were interrupted in succession. At every other end the reader's last
-    // call had not failed.
-    ensures read { IsTrue I.counts → IsReadEnd (Some result) (failed_calls lines.old) (failed_calls lines.new) }
-    ensures read_run { IsTrue I.counts → last_faults lines.old ≡ [] → IsReadEndRun (Some result) (last_faults lines.new) }
-
-    // It is cut only where the writer's last call failed, or so many were interrupted in succession.
-    ensures cut { IsTrue O.counts → IsCutCause (Some result) (O.failed writer.old) (O.failed writer.new) }
-    ensures cut_run { IsTrue O.counts → O.faults writer.old ≡ [] → IsCutRun (Some result) (O.faults writer.new) }
+    desk: &mut Desk<J>,
+    watcher: Watcher<J>,
+) -> Result<Text, Fault>
+    ensures text { IfOk result (λ text. text ≡ closed_text (floor_seen desk.old (Some watcher)) watcher.key) }
+    ensures closed { (posts : List PostView) × IsClosed desk.old watcher posts desk.new }
+    ensures memory { IsOkUnless result Fault.NoMemory }
 {
-    let shared = Shared {
-        desk,
-        bell,
-        gate,
-        number,
-        alloc,
-    };
-    let mut session = SharedSession::new(alloc);
-    let end = serve_all(rt, &shared, &mut session, lines, writer);
-    leave(rt, &shared, &mut session);
-    end
+    let posts = closed(rt, desk, watcher);
+    told(alloc, posts.as_slice())
+}
+
+/// Takes up to so many posts of a watcher, and prints them. Refused as `NoMemory` alone, where those that were taken are
+/// lost.
+fn taken<J: Naming, R: Wait>(
+    rt: &R,
+    alloc: Global,
+    watcher: &mut Watcher<J>,
+    most: u64,
+) -> Result<PrintedPosts, Fault>
+    requires { IsRun watcher.old.half.opening watcher.old.half.taken }
+    ensures popped { IfOk result (λ printed. IsPopped watcher.old most printed (Some watcher.new)) }
+    ensures taken { (posts : List PostView) × (watcher.new ≡ with_posts watcher.old posts) × (length posts ≤ most) }
+    ensures memory { IsOkUnless result Fault.NoMemory }
+    ensures run { IsRun watcher.new.half.opening watcher.new.half.taken }
+{
+    let mut printed = PrintedPosts::new(alloc);
+    'posts: for _count in 0..most {
+        let Some(post) = watcher.take(rt) else {
+            return Ok(printed);
+        };
+        printed.push(&post)?;
+    }
+    Ok(printed)
+}
+
+impl<J: Naming> SharedSession<J> {
+    /// A session with no watcher. Memory for its answers will come from `alloc`.
+    pub fn new(alloc: Global) -> SharedSession<J>
+        ensures { result ≡ None }
+    {
+        SharedSession {
+            watcher: None,
+            alloc,
+        }
+    }
+
+    /// Begins a watcher, and tells what it finds. Where there is no memory to tell it, the watcher is closed again.
+    fn begin<R: Wait>(&mut self, rt: &R, desk: &mut Desk<J>, scope: Scope) -> Result<Text, Fault>
+        requires none { self.old ≡ None }
+        requires desk { IsDesk desk.old }
+        ensures text { IfOk result (λ text. text ≡ opened_text (floor_of_desk desk.old) scope) }
+        ensures begun { OnOk result (IsBegun desk.old scope desk.new self.new) }
+        ensures memory { IsOkUnless result Fault.NoMemory }
+        ensures undone { OnErr result (IsUndoneBy desk.old None (Request.Watch scope) desk.new self.new) }
+    {
+        let watcher = match desk.open(scope) {
+            Ok(watcher) => watcher,
+            Err(fault) => return told_refusal(fault),
+        };
+        match Text::opening(self.alloc, watcher.opening()) {
+            Ok(text) => {
+                self.watcher = Some(watcher);
+                Ok(text)
+            }
+            Err(fault) => {
+                let _ = closed(rt, desk, watcher);
+                Err(fault)
+            }
+        }
+    }
+
+    /// Begins a watcher where the session has none.
+    #[tactic(auto, unfolding(crate::specs::Requests::answer_to))]
+    fn watch<R: Wait>(&mut self, rt: &R, desk: &mut Desk<J>, scope: Scope) -> Result<Text, Fault>
+        requires { IsDesk desk.old }
+        ensures text { IfOk result (λ text. text ≡ answer_to (found_state desk.old self.old) (Request.Watch scope)) }
+        ensures done { OnOk result (IsDoneBy desk.old self.old (Request.Watch scope) desk.new self.new) }
+        ensures memory { IsOkUnless result Fault.NoMemory }
+        ensures undone { OnErr result (IsUndoneBy desk.old self.old (Request.Watch scope) desk.new self.new) }
+    {
+        if self.watcher.is_some() {
+            return Ok(Text::refusal(Fault::WatcherOpen));
+        }
+        self.begin(rt, desk, scope)
+    }
+
+    /// Closes the session's watcher, if it has one, and tells what it has not taken.
+    #[tactic(auto, unfolding(crate::specs::Requests::answer_to))]
+    fn close<R: Wait>(&mut self, rt: &R, desk: &mut Desk<J>) -> Result<Text, Fault>
+        ensures text { IfOk result (λ text. text ≡ answer_to (found_state desk.old self.old) Request.Close) }
+        ensures done { OnOk result (IsDoneBy desk.old self.old Request.Close desk.new self.new) }
+        ensures memory { IsOkUnless result Fault.NoMemory }
+        ensures undone { OnErr result (IsUndoneBy desk.old self.old Request.Close desk.new self.new) }
+    {
+        match self.watcher.take() {
+            Some(watcher) => told_end(rt, self.alloc, desk, watcher),
+            None => Ok(Text::refusal(Fault::NoWatcher)),
+        }
+    }
+
+    /// Does a request while the desk is held, any but `take` and `follow`, and answers the lines that are sent for it,
+    /// those of a refusal too: `no` and its name.
+    ///
+    /// `watch` is refused as `WatcherOpen` where the session has a watcher, else as the desk refuses it; `close` as
+    /// `NoWatcher` where it has none.
+    ///
+    /// Want of memory is the only refusal here. Then nothing has changed; but a watcher that has begun and could not be
+    /// told what it found is closed again, and `close` has closed the watcher, whose posts are lost. It may wait for a
+    /// step of a watcher that takes.
+    #[tactic(auto, unfolding(crate::specs::Requests::answer_to))]
+    pub fn locked<R: Wait>(
+        &mut self,
+        rt: &R,
+        desk: &mut Desk<J>,
+        request: &Request,
+    ) -> Result<Text, Fault>
+        requires { is_under_lock request.now ≡ true }
+        ensures text { IfOk result (λ text. text ≡ answer_to (found_state desk.old self.old) request.now) }
+        ensures done { OnOk result (IsDoneBy desk.old self.old request.now desk.new self.new) }
+        ensures memory { IsOkUnless result Fault.NoMemory }
+        ensures undone { OnErr result (IsUndoneBy desk.old self.old request.now desk.new self.new) }
+
+        // What is always true of a desk.
+        ensures kept { IsDesk desk.old }
+    {
+        let book = desk.book();
+        match request {
+            Request::Run(command) => run(rt, desk, command),
+            Request::Show(space) => show(self.alloc, book, *space),
+            Request::Find { space, path } => find(self.alloc, book, *space, path),
+            Request::Watch(scope) => self.watch(rt, desk, *scope),
+            Request::Close => self.close(rt, desk),
+            Request::Quit => Ok(Text::reply(Reply::Done)),
+            Request::Stop => {
+                desk.stop();
+                Ok(Text::reply(Reply::Done))
+            }
+            Request::Take(_) | Request::Follow(_) => unreachable!(),
+        }
+    }
+
+    /// Takes up to so many posts of the session's watcher, without the desk, and prints them.
+    ///
+    /// Refused as `NoWatcher` where the session has none, with nothing changed, and as `NoMemory`, where the posts that
+    /// were taken are lost. It may wait for a step of the thread that sends.
+    pub fn pops<R: Wait>(&mut self, rt: &R, most: u64) -> Result<PrintedPosts, Fault>
+        ensures popped { IfOk result (λ printed. ForSome self.old (λ (w : WatcherView). IsPopped w most printed self.new)) }
+        ensures watched { OnOk result (IsSome self.old) }
+        ensures refused { IfErr result (λ fault. fault ≢ Fault.NoMemory → (fault ≡ Fault.NoWatcher) × (self.old ≡ None) × (self.new ≡ None)) }
+        ensures lost { result ≡ Err Fault.NoMemory → ForSome self.old (λ (w : WatcherView). (posts : List PostView) × (w' : WatcherView) × HasTaken w posts w' × (self.new ≡ Some w') × (length posts ≤ most)) }
+        ensures refuses { self.old ≡ None → result ≡ Err Fault.NoWatcher }
+
+        // What is always true of the session's watcher.
+        ensures running { ForSome self.old (λ (w : WatcherView). IsRun w.half.opening w.half.taken) }
+    {
+        let Some(watcher) = &mut self.watcher else {
+            return Err(Fault::NoWatcher);
+        };
+        taken(rt, self.alloc, watcher, most)
+    }
+
+    /// How many posts were sent to the session's watcher, how many of them it has taken, and whether it is still posted
+    /// to; none where the session has no watcher. Takes no memory, and waits for nothing.
+    pub fn meet(&mut self, desk: &mut Desk<J>) -> Option<Meeting>
+        ensures none { self.old ≡ None → (result ≡ None) × (self.new ≡ None) × (desk.new ≡ desk.old) }
+        ensures met { ForSome self.old (λ (w : WatcherView). (m : Meeting) × (w' : WatcherView) × IsMet desk.old w m desk.new w' × (result ≡ Some m) × (self.new ≡ Some w')) }
+
+        // What is always true of a desk.
+        ensures kept { IsDesk desk.old }
+    {
+        let _book = desk.book();
+        match &mut self.watcher {
+            Some(watcher) => Some(met(desk, watcher)),
+            None => None,
+        }
+    }
+
+    /// Closes the session's watcher, if it has one. Takes no memory. It may wait, as each call on a queue may.
+    pub fn leave<R: Wait>(&mut self, rt: &R, desk: &mut Desk<J>)
+        ensures none { self.new ≡ None }
+        ensures closed { ForSome self.old (λ (w : WatcherView). (posts : List PostView) × IsClosed desk.old w posts desk.new) }
+        ensures unwatched { self.old ≡ None → desk.new ≡ desk.old }
+    {
+        if let Some(watcher) = self.watcher.take() {
+            let _ = closed(rt, desk, watcher);
+        }
+    }
 }

@@ -1,0 +1,18 @@
+use Rattle.std.proofs.Common.{◌≡◌, IsTrue, List, [], None, length, ◌≤◌}
+use Rattle.mt_lines.specs.Reading.{bytes_left, failed_calls, last_faults, limit_of, fault_of}
+use Rattle.mt_session.specs.Requests.{state_at}
+use Rattle.mt_session.specs.Session.{Turn, Going, line_limit}
+use Rattle.mt_session.proofs.serving.serve_session.Given as goal
+
+-- so many lines were served, and the session goes on
+abbrev pub invariant-loop-count : goal.invariant-loop-count
+invariant-loop-count g l = record {
+  read : IsTrue g.R.Input.counts → failed_calls l.initial.lines ≤ failed_calls l.lines;
+  read_run : IsTrue g.R.Input.counts → last_faults l.initial.lines ≡ [] → last_faults l.lines ≡ [];
+  failed : IsTrue g.W.Output.counts → g.W.Output.failed l.initial.writer ≤ g.W.Output.failed l.writer;
+  cut_run : IsTrue g.W.Output.counts → g.W.Output.faults l.initial.writer ≡ [] → g.W.Output.faults l.writer ≡ [];
+  idle : l.floor.due ≡ [];
+  fresh : fault_of l.lines ≡ None;
+  limit : limit_of l.lines ≡ line_limit;
+  going : IsTrue g.R.Input.tells → IsTrue g.W.Output.tells → (turns : List Turn) × (length turns ≡ l._count) × Going turns (bytes_left l.initial.lines) (bytes_left l.lines) (state_at l.initial.floor l.initial.session) (state_at l.floor l.session) (g.W.Output.written l.initial.writer) (g.W.Output.written l.writer);
+}

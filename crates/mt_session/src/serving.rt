@@ -1,0 +1,209 @@
+//! A plain session: lines in, answers out.
+ghost use Rattle.std.specs.Prelude.{◌≡◌, ◌≢◌, ◌+◌, ◌<◌, true, false, IsTrue, IfOk, IfErr, OnErr, IfNone, None, Some, Ok, Err, []};
+ghost use Rattle.std.specs.Option.{ForSome};
+ghost use Rattle.mt_session.specs.Answers.{refusal};
+ghost use Rattle.mt_session.specs.Requests.{state_at, session_at};
+ghost use Rattle.mt_lines.specs.Reading.{bytes_left, failed_calls, last_faults, limit_of, fault_of};
+ghost use Rattle.mt_session.specs.Session.{Whole, ends_by, Served, line_limit, IsReadEnd, IsReadEndRun, IsCutCause, IsCutRun};
+ghost use Rattle.mt_session.specs.Serving.{Answered, IsSent, Ran, ServedLine, ends_whole, ends_by_answer, ends_by_line};
+
+use crate::session::Session;
+use crate::text::Text;
+use mt_floor::floor::Floor;
+use mt_lines::line::{Line, LineReader, ReadFault};
+use mt_lines::stream::{Cut, Input, Output, send};
+use mt_requests::request::{Request, read_request};
+use mt_skel::fault::Fault;
+use std::alloc::Global;
+
+/// Why a session ended.
+#[derive(Clone, Copy, Debug, PartialEq, Eq)]
+pub enum End {
+    /// A line asked for it.
+    Quit,
+    /// A line asked for it, and has stopped the server.
+    Stop,
+    /// The input ended.
+    Input,
+    /// The reader failed.
+    Read(ReadFault),
+    /// The writer failed, and so many bytes of an answer went out.
+    Cut(Cut),
+    /// There was no memory to tell posts that were taken, and so the session has ended.
+    Memory,
+    /// As many lines were served as a session serves.
+    Spent,
+}
+
+/// The longest line of a session, in bytes before its line end.
+pub const LINE_LIMIT: u32 = 8192;
+
+/// The most lines that a session serves.
+pub(crate) const MOST_LINES: u32 = 16_777_216;
+
+/// How a request ends its session, if it does.
+pub(crate) fn end_of(request: &Request) -> Option<End>
+    ensures { result ≡ ends_by (Ok request.now) }
+{
+    match request {
+        Request::Quit => Some(End::Quit),
+        Request::Stop => Some(End::Stop),
+        Request::Run(_)
+        | Request::Show(_)
+        | Request::Find { .. }
+        | Request::Watch(_)
+        | Request::Take(_)
+        | Request::Follow(_)
+        | Request::Close => None,
+    }
+}
+
+/// What is sent for a line, and how the session ends with it, if it does.
+#[derive(Drop)]
+struct LineAnswer {
+    text: Text,
+    end: Option<End>,
+}
+
+/// A refusal, with which no session ends.
+fn refused(fault: Fault) -> LineAnswer
+    ensures { (result.text ≡ refusal fault) × (result.end ≡ None) }
+{
+    LineAnswer {
+        text: Text::refusal(fault),
+        end: None,
+    }
+}
+
+/// Answers a line that was read whole.
+fn answer_line(alloc: Global, session: &mut Session, floor: &mut Floor, line: &[u8]) -> LineAnswer
+    requires idle { floor.old.due ≡ [] }
+    ensures answered { Answered (state_at floor.old session.old) (state_at floor.new session.new) (Whole line.now) result.text result.end }
+    ensures whole { ForSome result.end (λ e. ends_whole e ≡ true) }
+    ensures idle { floor.new.due ≡ [] }
+{
+    let request = match read_request(alloc, line) {
+        Ok(request) => request,
+        Err(fault) => return refused(fault),
+    };
+    match session.turn(floor, &request) {
+        Ok(text) => LineAnswer {
+            text,
+            end: end_of(&request),
+        },
+        Err(fault) => refused(fault),
+    }
+}
+
+/// Sends an answer: how the session ends by it, if it does.
+pub(crate) fn answer_with<W: Output>(writer: &mut W, text: &Text, end: Option<End>) -> Option<End>
+    requires { ForSome end (λ e. ends_whole e ≡ true) }
+    ensures sent { IsTrue W.tells → IsSent (W.written writer.old) (W.written writer.new) text.now end result }
+    ensures cut { IsTrue W.counts → IsCutCause result (W.failed writer.old) (W.failed writer.new) }
+    ensures cut_run { IsTrue W.counts → W.faults writer.old ≡ [] → IsCutRun result (W.faults writer.new) }
+    ensures ended { ForSome result (λ e. ends_by_answer e ≡ true) }
+{
+    match send(writer, text.bytes()) {
+        Ok(()) => end,
+        Err(cut) => Some(End::Cut(cut)),
+    }
+}
+
+/// Serves one line: how the session ends by it, if it does.
+fn serve_line<R: Input + Drop, W: Output>(
+    alloc: Global,
+    lines: &mut LineReader<R>,
+    writer: &mut W,
+    session: &mut Session,
+    floor: &mut Floor,
+) -> Option<End>
+    requires idle { floor.old.due ≡ [] }
+    requires fresh { fault_of lines.old ≡ None }
+    requires limit { limit_of lines.old ≡ line_limit }
+    ensures served { IsTrue R.tells → IsTrue W.tells → ServedLine (bytes_left lines.old) (bytes_left lines.new) (state_at floor.old session.old) (state_at floor.new session.new) (W.written writer.old) (W.written writer.new) result }
+    ensures idle { floor.new.due ≡ [] }
+    ensures cut { IsTrue W.counts → IsCutCause result (W.failed writer.old) (W.failed writer.new) }
+    ensures cut_run { IsTrue W.counts → W.faults writer.old ≡ [] → IsCutRun result (W.faults writer.new) }
+    ensures read { IsTrue R.counts → IsReadEnd result (failed_calls lines.old) (failed_calls lines.new) }
+    ensures read_run { IsTrue R.counts → last_faults lines.old ≡ [] → IsReadEndRun result (last_faults lines.new) }
+    ensures ended { ForSome result (λ e. ends_by_line e ≡ true) }
+    ensures fresh { IfNone result (fault_of lines.new ≡ None) }
+    ensures limit { limit_of lines.new ≡ line_limit }
+{
+    match lines.next() {
+        Ok(Line::Text) => {
+            let reply = answer_line(alloc, session, floor, lines.line());
+            answer_with(writer, &reply.text, reply.end)
+        }
+        Ok(Line::TooLong) => answer_with(writer, &Text::refusal(Fault::TooLong), None),
+        Ok(Line::Unended) => {
+            answer_with(writer, &Text::refusal(Fault::BadLine), Some(End::Input))
+        }
+        Ok(Line::End) => Some(End::Input),
+        Err(fault) => Some(End::Read(fault)),
+    }
+}
+
+/// Serves lines until the session ends: how it does.
+fn serve_session<R: Input + Drop, W: Output>(
+    alloc: Global,
+    lines: &mut LineReader<R>,
+    writer: &mut W,
+    session: &mut Session,
+    floor: &mut Floor,
+) -> End
+    requires idle { floor.old.due ≡ [] }
+    requires fresh { fault_of lines.old ≡ None }
+    requires limit { limit_of lines.old ≡ line_limit }
+    ensures idle { floor.new.due ≡ [] }
+    ensures ran { IsTrue R.tells → IsTrue W.tells → Ran (bytes_left lines.old) (state_at floor.old session.old) (state_at floor.new session.new) (W.written writer.old) (W.written writer.new) result }
+    ensures memory { result ≢ End.Memory }
+    ensures read { IsTrue R.counts → IsReadEnd (Some result) (failed_calls lines.old) (failed_calls lines.new) }
+    ensures read_run { IsTrue R.counts → last_faults lines.old ≡ [] → IsReadEndRun (Some result) (last_faults lines.new) }
+    ensures cut { IsTrue W.counts → IsCutCause (Some result) (W.failed writer.old) (W.failed writer.new) }
+    ensures cut_run { IsTrue W.counts → W.faults writer.old ≡ [] → IsCutRun (Some result) (W.faults writer.new) }
+{
+    for _count in 0..MOST_LINES {
+        if let Some(end) = serve_line(alloc, lines, writer, session, floor) {
+            return end;
+        }
+    }
+    End::Spent
+}
+
+/// Serves the lines that a reader has left, one answer each, until the session ends, and then closes its watcher.
+///
+/// The reader has met no fault, and its lines are of at most [`LINE_LIMIT`] bytes. It is lent, so that
+/// its caller knows of its last calls: where it has ended the session, its last call failed, and none
+/// came behind that. A session serves 16,777,216 lines at most. What is written is the text of the
+/// lines that were read, however they were cut; at a fault of the writer all earlier answers are out
+/// whole, and of the last as many bytes as the end says, fewer than it has; nothing is written behind
+/// it.
+pub fn serve_plain<R: Input + Drop, W: Output>(
+    alloc: Global,
+    lines: &mut LineReader<R>,
+    writer: &mut W,
+    floor: &mut Floor,
+) -> End
+    requires fresh { fault_of lines.old ≡ None }
+    requires limit { limit_of lines.old ≡ line_limit }
+    ensures served { IsTrue R.tells → IsTrue W.tells → Served (bytes_left lines.old) (session_at floor.old None) (state_at floor.new None) (W.written writer.old) (W.written writer.new) result }
+    ensures idle { floor.new.due ≡ [] }
+    ensures memory { result ≢ End.Memory }
+
+    // A fault of the reader ends it only where the reader's last call failed, and 1,000 interruptions
+    // only where so many calls were interrupted in succession. At every other end the reader's last
+    // call had not failed.
+    ensures read { IsTrue R.counts → IsReadEnd (Some result) (failed_calls lines.old) (failed_calls lines.new) }
+    ensures read_run { IsTrue R.counts → last_faults lines.old ≡ [] → IsReadEndRun (Some result) (last_faults lines.new) }
+
+    // It is cut only where the writer's last call failed, or so many were interrupted in succession.
+    ensures cut { IsTrue W.counts → IsCutCause (Some result) (W.failed writer.old) (W.failed writer.new) }
+    ensures cut_run { IsTrue W.counts → W.faults writer.old ≡ [] → IsCutRun (Some result) (W.faults writer.new) }
+{
+    floor.settle();
+    let mut session = Session::new(alloc);
+    let end = serve_session(alloc, lines, writer, &mut session, floor);
+    session.leave(floor);
+    end
+}
