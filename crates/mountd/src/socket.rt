@@ -3,7 +3,7 @@ ghost use Rattle.std.specs.Prelude.{◌≡◌, ◌<◌, ◌≤◌};
 
 use mt_desk::desk::Desk;
 use mt_desk::lines::{Lines, Naming};
-use mt_server::server::{ServerFault, run_server};
+use mt_server::server::{Premises, ServerFault, run_server};
 use mt_session::bell::Bell;
 use mt_session::gate::OpenGate;
 use std::alloc::Global;
@@ -60,17 +60,15 @@ where
 {
     let desk: Mutex<Desk<J>> = Mutex::new(Desk::new(lines));
     let bell = Bell::new();
-    let ended = run_server(
-        rt,
-        alloc,
+    let premises = Premises {
         listener,
-        path.as_str(),
-        &desk,
-        &bell,
+        path: path.as_str(),
+        desk: &desk,
+        bell: &bell,
         sessions,
-        &OpenGate,
-    );
-    match ended {
+        gate: &OpenGate,
+    };
+    match run_server(rt, alloc, premises) {
         Ok(()) => Served::Stopped,
         Err(ServerFault::Accept) => Served::NotAccepting,
         Err(ServerFault::NoMemory) => Served::NoMemory,

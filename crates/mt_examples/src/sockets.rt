@@ -8,7 +8,7 @@ use mt_desk::lines::{Lines, Naming};
 use mt_lines::line::LineReader;
 use mt_lines::memory::Sink;
 use mt_lines::stream::{Input, Reading, Writing};
-use mt_server::server::{Door, ServerFault, run_server, serve_door};
+use mt_server::server::{Door, Premises, ServerFault, run_server, serve_door};
 use mt_session::bell::Bell;
 use mt_session::gate::Gate;
 use mt_skel::fault::Fault;
@@ -115,18 +115,22 @@ where
 {
     let desk: Mutex<Desk<J>> = Mutex::new(Desk::new(lines));
     let bell = Bell::new();
-    let path = path.as_str();
-    let sessions = plan.sessions;
+    let premises = Premises {
+        listener,
+        path: path.as_str(),
+        desk: &desk,
+        bell: &bell,
+        sessions: plan.sessions,
+        gate,
+    };
     if plan.failing == 0 {
-        return ended_by(run_server(rt, alloc, listener, path, &desk, &bell, sessions, gate));
+        return ended_by(run_server(rt, alloc, premises));
     }
     let door = Failing {
         listener,
         left: plan.failing,
     };
-    let (_, answer) = serve_door(
-        rt, alloc, door, listener, path, &desk, &bell, sessions, gate,
-    );
+    let (_, answer) = serve_door(rt, alloc, door, premises);
     ended_by(answer)
 }
 

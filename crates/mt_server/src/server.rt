@@ -85,15 +85,28 @@ fn close(listener: &UnixListener) -> io::Result<()> {
     socket.shutdown(Shutdown::Both)
 }
 
+/// Where a server listens, and what its sessions share.
+#[derive(Drop)]
+pub struct Premises<'a, Name: Naming, Moments> {
+    /// Where connections come from. A session that stops the server shuts it down.
+    pub listener: &'a UnixListener,
+    /// The path of the listener, to which the server connects itself where the system does not shut it down.
+    pub path: &'a str,
+    /// The desk of all sessions.
+    pub desk: &'a Mutex<Desk<Name>>,
+    /// Where sessions that follow rest.
+    pub bell: &'a Bell,
+    /// The most sessions at once.
+    pub sessions: usize,
+    /// What is called at certain moments of each session.
+    pub gate: &'a Moments,
+}
+
 /// What the threads of a server share.
 #[derive(Drop)]
 struct House<'a, Name: Naming, Moments> {
-    listener: &'a UnixListener,
-    path: &'a str,
+    premises: Premises<'a, Name, Moments>,
     connections: Connections,
-    desk: &'a Mutex<Desk<Name>>,
-    bell: &'a Bell,
-    gate: &'a Moments,
 }
 
 impl<'a, Name: Naming, Moments: Gate> House<'a, Name, Moments> {
@@ -118,9 +131,9 @@ impl<'a, Name: Naming, Moments: Gate> House<'a, Name, Moments> {
             number,
             &mut lines,
             &mut writer,
-            self.desk,
-            self.bell,
-            self.gate,
+            self.premises.desk,
+            self.premises.bell,
+            self.premises.gate,
         ))
     }
 
@@ -149,8 +162,8 @@ impl<'a, Name: Naming, Moments: Gate> House<'a, Name, Moments> {
     where
         Runtime: Net<Listener = TcpListener, Stream = TcpStream>,
     {
-        if close(self.listener).is_err() {
-            let _ = UnixStream::connect(rt, self.path);
+        if close(self.premises.listener).is_err() {
+            let _ = UnixStream::connect(rt, self.premises.path);
         }
     }
 
@@ -165,8 +178,8 @@ impl<'a, Name: Naming, Moments: Gate> House<'a, Name, Moments> {
     /// off.
     fn end_all<Runtime: Wait + Clock>(&self, rt: &Runtime) {
         self.connections.stop(rt);
-        self.desk.lock(rt).stop();
-        self.bell.ring(rt);
+        self.premises.desk.lock(rt).stop();
+        self.premises.bell.ring(rt);
         self.connections.wait(rt);
         self.connections.cut_off(rt);
     }
@@ -272,8 +285,7 @@ where
 }
 
 /// Accepts the connections of a door as [`run_server`] does those of a listener, and answers the
-/// door as it has left it. The listener is where the door's connections come from: a session that
-/// stops the server shuts it down.
+/// door as it has left it. The listener of the premises is where the door's connections come from.
 ///
 /// Whether a session has stopped it is looked for behind each accept, so that it is never answered
 /// before the door was asked. That it was a session is no clause: the threads of the sessions share
@@ -282,12 +294,7 @@ pub fn serve_door<'a, D, Name, Moments, Runtime>(
     rt: &Runtime,
     alloc: Global,
     door: D,
-    listener: &'a UnixListener,
-    path: &'a str,
-    desk: &'a Mutex<Desk<Name>>,
-    bell: &'a Bell,
-    sessions: usize,
-    gate: &'a Moments,
+    premises: Premises<'a, Name, Moments>,
 ) -> (D, Result<(), ServerFault>)
 where
     D: Door + Drop,
@@ -299,16 +306,12 @@ where
     ensures asked { IsTrue D.counts → IsOk result.1 → D.asked door < D.asked result.0 }
     ensures memory { result.1 ≡ Err ServerFault.NoMemory → result.0 ≡ door }
 {
-    let Ok(connections) = Connections::new(alloc, sessions) else {
+    let Ok(connections) = Connections::new(alloc, premises.sessions) else {
         return (door, Err(ServerFault::NoMemory));
     };
     let house = House {
-        listener,
-        path,
+        premises,
         connections,
-        desk,
-        bell,
-        gate,
     };
     let house = &house;
     let (stopped, door) = thread::scope(thread::scope_env(), rt, move |scope| {
@@ -326,7 +329,7 @@ where
 
 /// Accepts connections and serves each in a thread of its own, until a session stops the server.
 ///
-/// At most `sessions` have a session at once; the next one reads `no TooMany` and its end. One for
+/// At most `premises.sessions` have a session at once; the next one reads `no TooMany` and its end. One for
 /// which there is no thread or no second descriptor, or of which the system bounds no read, reads
 /// `no NoMemory` and its end. Sessions are numbered from 1. When a session ends, its connection is
 /// counted no longer before its client reads the end.
@@ -343,19 +346,16 @@ where
 pub fn run_server<'a, Name, Moments, Runtime>(
     rt: &Runtime,
     alloc: Global,
-    listener: &'a UnixListener,
-    path: &'a str,
-    desk: &'a Mutex<Desk<Name>>,
-    bell: &'a Bell,
-    sessions: usize,
-    gate: &'a Moments,
+    premises: Premises<'a, Name, Moments>,
 ) -> Result<(), ServerFault>
 where
     Name: Naming + Send + Sync,
     Moments: Gate + Sync,
     Runtime: Threads + Wait + Clock + Net<Listener = TcpListener, Stream = TcpStream> + Sync,
 {
-    let door = Listening { listener };
-    let (_door, ended) = serve_door(rt, alloc, door, listener, path, desk, bell, sessions, gate);
+    let door = Listening {
+        listener: premises.listener,
+    };
+    let (_door, ended) = serve_door(rt, alloc, door, premises);
     ended
 }
