@@ -1,6 +1,6 @@
 //! Streams in memory: bytes to read in pieces, a reader and a writer that fail for a while, and a sink
 //! that keeps what is written. Tests of sessions read and write them in the place of connections.
-ghost use Rattle.std.specs.Prelude.{◌≡◌, ℕ, ◌+◌, ◌<◌, ◌≤◌, [], length, max, IfOk, Ok, vec_capacity, vec_len};
+ghost use Rattle.std.specs.Prelude.{◌≡◌, ◌+◌, ◌<◌, ◌≤◌, [], length, max, IfOk, Ok, vec_capacity, vec_len};
 
 use crate::stream::{Input, Output, StreamFault};
 use std::alloc::{AllocError, Global};
@@ -46,7 +46,7 @@ impl<'a> Portions<'a> {
 }
 
 impl Input for Portions<'_> {
-    ghost use Rattle.std.specs.Prelude.{◌≡◌, ℕ, ◌+◌, ◌<◌, ◌≤◌, [], length, IfOk, Ok, true};
+    ghost use Rattle.std.specs.Prelude.{◌≡◌, ◌+◌, ◌<◌, ◌≤◌, [], length, IfOk, Ok, true};
     ghost use Rattle.mt_lines.specs.Stream.{Gives, failed_reads, faults_after_read, portion_size, portions_left, portions_most};
 
     ghost tells = { true };
@@ -118,7 +118,7 @@ impl<'a> Faulty<'a> {
 }
 
 impl Input for Faulty<'_> {
-    ghost use Rattle.std.specs.Prelude.{◌≡◌, ℕ, ◌+◌, ◌-◌, ◌<◌, ◌≤◌, length, IfOk, Ok, Err, true};
+    ghost use Rattle.std.specs.Prelude.{◌≡◌, ◌+◌, ◌-◌, ◌<◌, ◌≤◌, length, IfOk, Ok, Err, true};
     ghost use Rattle.mt_lines.specs.Stream.{Gives, failed_reads, faults_after_read, portion_size, faulty_left, faulty_most, faulty_before, faulty_pending, faulty_failed, faulty_faults, faulty_fault};
 
     ghost tells = { true };
@@ -200,7 +200,7 @@ impl Faltering {
 }
 
 impl Output for Faltering {
-    ghost use Rattle.std.specs.Prelude.{◌≡◌, ℕ, ◌+◌, ◌<◌, ◌≤◌, List, [], length, IfOk, Ok, Err, true, false};
+    ghost use Rattle.std.specs.Prelude.{◌≡◌, ◌+◌, ◌<◌, ◌≤◌, [], length, IfOk, Ok, Err, true, false};
     ghost use Rattle.mt_lines.specs.Stream.{failed_writes, faults_after_write, faltering_pending, faltering_failed, faltering_faults, faltering_fault};
 
     ghost tells = { false };
@@ -272,7 +272,7 @@ impl Sink {
 }
 
 impl Output for Sink {
-    ghost use Rattle.std.specs.Prelude.{◌≡◌, ℕ, ◌-◌, ◌<◌, ◌≤◌, ◌++◌, length, take, min, IfOk, Ok, Err, true, false, []};
+    ghost use Rattle.std.specs.Prelude.{◌≡◌, ◌-◌, ◌<◌, ◌≤◌, ◌++◌, length, take, min, IfOk, Ok, Err, true, false, []};
     ghost use Rattle.mt_lines.specs.Stream.{bytes_taken, sink_bytes, sink_most, sink_room};
 
     ghost tells = { true };
