@@ -1,0 +1,157 @@
+"""Where the rules and the kernel are known to differ: docs/KERNEL.md by name. A module, a part of kernel.py.
+
+A `Step` is a command that both sides were asked. Each known difference says of which steps it speaks, and why the rules
+are kept. What no known difference speaks of is a failure.
+"""
+import errno
+from typing import Callable, NamedTuple
+
+
+class Step(NamedTuple):
+    """A command, what each side said, and how the tables differ behind it."""
+
+    words: list
+    # The name of our refusal, or nothing.
+    refusal: str
+    # The kernel's, or 0.
+    errno: int
+    mismatches: list
+    # Whether the namespace is a less privileged copy, or a copy of one.
+    is_less: bool
+    # The rows of all namespaces before it, ours, by their numbers.
+    before: dict
+    # Our mounts that are still there while their partners are gone, and those that are there.
+    lost: set
+    now: set
+
+
+class Difference(NamedTuple):
+    """A known difference: its name, the steps that it speaks of, and why the rules are as they are."""
+
+    name: str
+    speaks_of: Callable
+    why: str
+
+
+# The errno of the kernel for each of our refusals.
+ERRNO = {
+    "NoEntry": {errno.ENOENT},
+    "EntryExists": {errno.EEXIST},
+    "NotMountRoot": {errno.EINVAL},
+    "RootPlace": {errno.EINVAL, errno.ELOOP},
+    "Unbindable": {errno.EINVAL},
+    "SharedParent": {errno.EINVAL},
+    "IntoItself": {errno.ELOOP},
+    "UnbindableInside": {errno.EINVAL},
+    "Busy": {errno.EBUSY},
+    "BadAttr": {errno.EINVAL},
+}
+
+# Both refuse, and the kernel for another reason that holds too: command, our refusal, its errno.
+OTHER_ORDER = {
+    (b"move", "NotMountRoot", errno.ENOENT),
+    (b"move", "RootPlace", errno.ENOENT),
+    (b"move", "IntoItself", errno.EINVAL),
+    (b"setattr", "NoEntry", errno.EINVAL),
+}
+
+# What the kernel says where a locked mount stands against a command.
+LOCKED = {
+    b"umount": {errno.EINVAL},
+    b"move": {errno.EINVAL},
+    b"bind": {errno.EINVAL},
+    b"rbind": {errno.EINVAL, errno.EPERM},
+    b"setattr": {errno.EPERM},
+}
+
+ACCESS_TIMES = {b"noatime", b"strictatime"}
+
+
+def options(words):
+    """The words of each option of a setattr."""
+    named = (option.partition(b"=") for option in words[3:])
+    return {name: set(text.split(b",")) for name, _, text in named}
+
+
+def is_empty(words):
+    """Whether a setattr asks the kernel for nothing: `relatime` is the value 0."""
+    asked = options(words)
+    return asked.keys() <= {b"rec", b"set"} and asked.get(b"set", set()) <= {b"relatime"}
+
+
+def has_no_clash(words):
+    """Whether the access times of a setattr clash for us alone, who take `relatime` for one."""
+    asked = options(words)
+    times = asked.get(b"set", set()) & ACCESS_TIMES
+    return len(times) == 0 or (len(times) == 1 and b"atime" in asked.get(b"clr", set()))
+
+
+def is_root_destination(step):
+    is_source = step.words[0] == b"move" and step.words[2] == b"/"
+    return step.refusal == "RootPlace" and step.errno == 0 and step.words[0] != b"umount" and not is_source
+
+
+def is_root_unmount(step):
+    return step.refusal == "RootPlace" and step.errno == 0 and step.words[0] == b"umount"
+
+
+def is_relatime(step):
+    return step.refusal == "BadAttr" and step.errno == 0 and has_no_clash(step.words)
+
+
+def is_empty_change(step):
+    return step.words[0] == b"setattr" and step.refusal in ("NoEntry", "NotMountRoot", "BadAttr") and step.errno == 0 and is_empty(step.words)
+
+
+def is_other_order(step):
+    return (step.words[0], step.refusal, step.errno) in OTHER_ORDER
+
+
+def is_locked(step):
+    return step.is_less and step.errno in LOCKED.get(step.words[0], set())
+
+
+def is_number_sign(step):
+    """Sources alone differ, and only in how a `#` is written."""
+    return step.mismatches != [] and all(
+        what == "source" and ours.source.replace(b"#", b"\\043") == theirs.source for _, what, ours, theirs in step.mismatches
+    )
+
+
+def is_unbindable_copy(step):
+    """Tags alone differ, in the copy of a namespace, and only where ours is unbindable and the kernel's private."""
+    return step.words[0] == b"copyns" and step.mismatches != [] and all(
+        what == "tags" and ours.names() == [b"unbindable"] and theirs.names() == [] for _, what, ours, theirs in step.mismatches
+    )
+
+
+def is_nested_unmount(step):
+    """Each mount that only the kernel has taken away had a child that both have taken away, and that did not cover it."""
+    below = {}
+    for row in step.before.values():
+        below.setdefault(row.parent, []).append(row)
+    return step.words[0] == b"umount" and step.lost != set() and all(
+        any(row.id not in step.now and row.point != step.before[mount].point for row in below.get(mount, []))
+        for mount in step.lost
+    )
+
+
+REFUSALS = [
+    Difference("root-destination", is_root_destination, "the root place is a namespace's own, and no command covers it"),
+    Difference("root-unmount", is_root_unmount, "a namespace without a root mount is none, and superblocks are not modelled"),
+    Difference("relatime", is_relatime, "a word that is asked for either does something or is refused"),
+    Difference("empty-change", is_empty_change, "a path is looked up whatever is asked of it"),
+    Difference("other-order", is_other_order, "each command has one order of refusals, which its contract states"),
+    Difference("locked", is_locked, "mounts have no locks: what may be done does not depend on who asks"),
+]
+
+ROWS = [
+    Difference("number-sign", is_number_sign, "proc_pid_mountinfo(5) names no escape of it"),
+    Difference("unbindable-copy", is_unbindable_copy, "the sharedsubtree document says that it stays unbindable"),
+    Difference("nested-unmount", is_nested_unmount, "a mount is spared for the children that it had before the command"),
+]
+
+
+def known(differences, step):
+    """The name of the known difference that speaks of a step, or nothing."""
+    return next((difference.name for difference in differences if difference.speaks_of(step)), "")
