@@ -13,16 +13,16 @@ class Step(NamedTuple):
     words: list
     # The name of our refusal, or nothing.
     refusal: str
-    # The kernel's, or 0.
-    errno: int
-    mismatches: list
     # Whether the namespace is a less privileged copy, or a copy of one.
     is_less: bool
-    # The rows of all namespaces before it, ours, by their numbers.
-    before: dict
-    # Our mounts that are still there while their partners are gone, and those that are there.
-    lost: set
-    now: set
+    # The kernel's refusal, or 0.
+    errno: int = 0
+    mismatches: list = []
+    # Our rows of each namespace before and after.
+    before: dict = {}
+    after: dict = {}
+    # Our mounts that are still there while their partners are gone.
+    lost: set = set()
 
 
 class Difference(NamedTuple):
@@ -60,7 +60,7 @@ LOCKED = {
     b"umount": {errno.EINVAL},
     b"move": {errno.EINVAL},
     b"bind": {errno.EINVAL},
-    b"rbind": {errno.EINVAL, errno.EPERM},
+    b"rbind": {errno.EPERM},
     b"setattr": {errno.EPERM},
 }
 
@@ -100,7 +100,7 @@ def is_relatime(step):
 
 
 def is_empty_change(step):
-    return step.words[0] == b"setattr" and step.refusal in ("NoEntry", "NotMountRoot", "BadAttr") and step.errno == 0 and is_empty(step.words)
+    return step.refusal in ("NoEntry", "NotMountRoot") and step.errno == 0 and step.words[0] == b"setattr" and is_empty(step.words)
 
 
 def is_other_order(step):
@@ -111,29 +111,26 @@ def is_locked(step):
     return step.is_less and step.errno in LOCKED.get(step.words[0], set())
 
 
-def is_number_sign(step):
-    """Sources alone differ, and only in how a `#` is written."""
-    return step.mismatches != [] and all(
-        what == "source" and ours.source.replace(b"#", b"\\043") == theirs.source for _, what, ours, theirs in step.mismatches
-    )
+def is_number_sign(mismatch):
+    """Sources that differ in nothing but how a `#` is written."""
+    _, what, ours, theirs = mismatch
+    return what == "source" and ours.source.replace(b"#", b"\\043") == theirs.source
 
 
 def is_unbindable_copy(step):
-    """Tags alone differ, in the copy of a namespace, and only where ours is unbindable and the kernel's private."""
-    return step.words[0] == b"copyns" and step.mismatches != [] and all(
-        what == "tags" and ours.names() == [b"unbindable"] and theirs.names() == [] for _, what, ours, theirs in step.mismatches
+    """Tags alone differ, in the copy of a namespace, where ours is unbindable and the kernel's private."""
+    return step.words[0] == b"copyns" and all(
+        what == "tags" and ours.names() == [b"unbindable"] and theirs.names() == []
+        for _, what, ours, theirs in step.mismatches
     )
 
 
 def is_nested_unmount(step):
-    """Each mount that only the kernel has taken away had a child that both have taken away, and that did not cover it."""
-    below = {}
-    for row in step.before.values():
-        below.setdefault(row.parent, []).append(row)
-    return step.words[0] == b"umount" and step.lost != set() and all(
-        any(row.id not in step.now and row.point != step.before[mount].point for row in below.get(mount, []))
-        for mount in step.lost
-    )
+    """Each mount that only the kernel has taken away had a child that did not cover it, which the kernel took away too."""
+    before = {row.id: row for rows in step.before.values() for row in rows}
+    gone = before.keys() - {row.id for rows in step.after.values() for row in rows} | step.lost
+    bearers = {before[child].parent for child in gone if before[child].point != before[before[child].parent].point}
+    return step.words[0] == b"umount" and step.lost != set() and step.lost <= bearers
 
 
 REFUSALS = [
@@ -146,12 +143,27 @@ REFUSALS = [
 ]
 
 ROWS = [
-    Difference("number-sign", is_number_sign, "proc_pid_mountinfo(5) names no escape of it"),
     Difference("unbindable-copy", is_unbindable_copy, "the sharedsubtree document says that it stays unbindable"),
     Difference("nested-unmount", is_nested_unmount, "a mount is spared for the children that it had before the command"),
 ]
 
+# What each play takes out of the mismatches before it asks for names.
+SIGNS = Difference("number-sign", is_number_sign, "proc_pid_mountinfo(5) names no escape of it")
 
-def known(differences, step):
+ALL = [*REFUSALS, *ROWS, SIGNS]
+
+
+def name_of(kinds, step):
     """The name of the known difference that speaks of a step, or nothing."""
-    return next((difference.name for difference in differences if difference.speaks_of(step)), "")
+    return next((difference.name for difference in kinds if difference.speaks_of(step)), "")
+
+
+def is_same_refusal(step):
+    """Whether both sides have refused, and for the same reason."""
+    return step.errno in ERRNO.get(step.refusal, set())
+
+
+def left_out(step):
+    """The name of the difference for which the kernel would accept a step, and change what ours refuses; or nothing."""
+    name = name_of(REFUSALS, step) if step.refusal else ""
+    return name if name in ("root-destination", "root-unmount", "relatime") else ""

@@ -35,6 +35,9 @@ class Mismatch(NamedTuple):
     ours: Row | None
     theirs: Row | None
 
+    def __str__(self):
+        return f"namespace {self.space}: the {self.what} of {self.ours and self.ours.id} here, {self.theirs and self.theirs.id} there"
+
 
 # The fields that matched rows have in common as they are.
 PLAIN = "root", "options", "kind", "source"
@@ -141,6 +144,12 @@ class Comparison:
             for one, another in pairs:
                 found += [Mismatch(space, what, one, another) for what in self.differing(one, another)]
         return found + self.changed_partners()
+
+    def lost(self):
+        """Our mounts that are still there, and that had a partner before the last command which is gone."""
+        there = {theirs.id for pairs in self.pairs.values() for _, theirs in pairs if theirs}
+        here = {ours.id for pairs in self.pairs.values() for ours, _ in pairs if ours}
+        return {one for one, another in self.mounts.before.items() if one in here and another not in there}
 
     def differing(self, ours, theirs):
         """What of two matched rows differs."""

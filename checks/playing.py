@@ -5,7 +5,7 @@ import subprocess
 
 import differences
 import syscalls
-from differences import ERRNO, Step, known
+from differences import Step
 from matching import Comparison
 from running import shown
 from spaces import Worker
@@ -23,8 +23,6 @@ NO_COUNTERPART = {
     "BadLine",
     "TooLong",
     "BadPath",
-    "NoMemory",
-    "Stopped",
 }
 
 ESCAPE = re.compile(rb"\\(040|011|012|134)")
@@ -36,15 +34,14 @@ def unescaped(word):
 
 
 class Unknown(Exception):
-    """A difference that has no name: what it is, and the tables of both sides."""
+    """A difference that has no name."""
 
 
 class Served:
     """A plain session of the program."""
 
-    def __init__(self, program, lines=()):
+    def __init__(self, program):
         self.process = subprocess.Popen([program, "-"], stdin=subprocess.PIPE, stdout=subprocess.PIPE)
-        self.ask(*lines)
 
     def ask(self, *lines):
         """The answers to these lines, each as a list of its lines."""
@@ -52,9 +49,9 @@ class Served:
         self.process.stdin.flush()
         return [self.answer(line) for line in lines]
 
-    def answer(self, line):
+    def answer(self, request):
         first = self.line()
-        count = int(first.split(b" ")[1]) if line.startswith(b"show ") and first.startswith(b"ok ") else 0
+        count = int(first.split(b" ")[1]) if request.startswith(b"show ") and first.startswith(b"ok ") else 0
         return [first, *(self.line() for _ in range(count))]
 
     def line(self):
@@ -70,33 +67,36 @@ class Served:
 
 
 class Play:
-    """Both sides of a script, and what was seen."""
+    """Both sides of a script, and what was seen of them.
 
-    def __init__(self, program, thorough=False):
-        self.program, self.thorough = program, thorough
-        # The worker first: it would keep the pipes of the server open.
+    A refusal for which the kernel would change what ours does not is left out, so that a script goes on behind it; a
+    thorough play carries it out.
+    """
+
+    def __init__(self, program, is_thorough=False):
+        self.program, self.is_thorough = program, is_thorough
+        # The worker comes first, since it would keep the server's pipes open.
         self.worker = Worker()
         self.server = Served(program)
         self.comparison = Comparison()
-        self.tables = {}
-        # How many user namespaces each namespace lies within.
-        self.levels, self.made = {}, 0
+        # Our tables, by namespace, and how many user namespaces each lies within.
+        self.tables, self.levels, self.made = {}, {}, 0
         self.accepted = []
-        self.seen = collections.Counter()
-        self.refusals = collections.Counter()
-        # Whether a known difference has led both sides to different tables.
+        # How many steps there were of each kind, how many of each known difference, and of each pair of refusals.
+        self.counts, self.known, self.refusals = (collections.Counter() for _ in range(3))
+        # Whether a known difference has led to different tables, so that nothing behind it can be compared.
         self.is_apart = False
 
     def __enter__(self):
         return self
 
     def __exit__(self, *_):
-        self.server.close()
         self.worker.close()
+        self.server.close()
 
-    def rows(self, space):
-        """Our rows of a namespace."""
-        return [ours for ours, _ in self.comparison.pairs[space]]
+    def rows(self):
+        """Our rows of each namespace."""
+        return {space: [ours for ours, _ in pairs if ours] for space, pairs in self.comparison.pairs.items()}
 
     def step(self, line):
         """Asks both sides, and compares. A difference that has no name is Unknown."""
@@ -104,85 +104,92 @@ class Play:
         words = [unescaped(word) for word in line.split(b" ")]
         refusal = answer[3:].decode() if answer.startswith(b"no ") else ""
         if words[0] not in COMMANDS or refusal in NO_COUNTERPART:
-            self.seen["not compared"] += 1
+            self.counts["without a counterpart"] += 1
             return
-        before = {row.id: row for space in self.tables for row in self.rows(space)}
-        step = Step(words, refusal, 0, [], self.levels.get(self.space_of(words), 0) > 0, before, set(), set())
-        if refusal and not self.thorough and (name := self.left_out(step)):
-            self.seen[name] += 1
+        step = Step(words, refusal, self.level(words) > 0)
+        name = differences.left_out(step)
+        if name and not self.is_thorough:
+            self.counts["left out"] += 1
+            self.known[name] += 1
             return
-        number, changed = self.worker.run(words)
-        step = step._replace(errno=number)
-        self.seen["refused" if refusal else "accepted"] += 1
+        number, is_changed = self.worker.run(words)
         if refusal or number:
-            self.judge(step, changed)
+            self.judge(step._replace(errno=number), is_changed)
         else:
-            self.accepted.append(line)
-            self.count(words)
-            self.compare(step)
+            self.accept(step, line)
 
-    @staticmethod
-    def space_of(words):
-        return int(words[1]) if words[0] not in (b"mkfs", b"mkdir", b"newns") else 0
+    def level(self, words):
+        """How many user namespaces the namespace of a command lies within."""
+        return 0 if words[0] in (b"mkfs", b"mkdir", b"newns") else self.levels[int(words[1])]
 
-    @staticmethod
-    def left_out(step):
-        """The name of the difference for which the kernel would accept and change what ours refuses, or nothing."""
-        name = known(differences.REFUSALS, step)
-        return name if name != "empty-change" else ""
-
-    def judge(self, step, changed):
+    def judge(self, step, is_changed):
         """A step that one side has refused, or both."""
-        self.refusals[step.refusal or "ok", syscalls.name_of(step.errno)] += 1
-        if step.refusal and step.errno in ERRNO[step.refusal]:
-            name = "-"
-        else:
-            name = known(differences.REFUSALS, step)
-        if step.errno and changed:
+        both = step.refusal or "ok", syscalls.name_of(step.errno)
+        self.refusals[both] += 1
+        self.counts["refused"] += 1
+        if step.errno and is_changed:
             raise Unknown("the kernel has refused, and changed a table")
-        if not name:
-            raise Unknown(f"{step.refusal or 'ok'} here, {syscalls.name_of(step.errno)} there")
-        self.seen[name] += 1
+        if not differences.is_same_refusal(step):
+            self.name(differences.REFUSALS, step, f"the answer is {both[0]} here and {both[1]} there")
         if step.refusal == "":
             self.undo()
-        self.is_apart = changed != set()
+        self.is_apart = is_changed
+
+    def name(self, kinds, step, told):
+        """Counts the known difference that speaks of a step."""
+        name = differences.name_of(kinds, step)
+        if not name:
+            raise Unknown(told)
+        self.known[name] += 1
+        return name
 
     def undo(self):
         """Makes our side what it was before the last command."""
         self.server.close()
-        self.server = Served(self.program, self.accepted)
+        self.server = Served(self.program)
+        self.server.ask(*self.accepted)
 
-    def count(self, words):
-        """Notes a namespace that was made or dropped."""
-        space = self.space_of(words)
-        if words[0] in (b"newns", b"copyns"):
+    def accept(self, step, line):
+        """A step that both sides have accepted."""
+        self.counts["accepted"] += 1
+        self.accepted.append(line)
+        if step.words[0] in (b"newns", b"copyns"):
             self.made += 1
-            self.levels[self.made] = self.levels.get(space, 0) + (1 if words[2:] else 0)
-        elif words[0] == b"dropns":
-            del self.levels[space]
-
-    def compare(self, step):
-        """Compares the tables of all namespaces."""
-        shows = [b"show %d" % space for space in self.levels]
-        self.tables = {space: b"\n".join(rows) for space, [_, *rows] in zip(self.levels, self.server.ask(*shows))}
-        found = self.comparison.compare(self.tables, self.worker.tables)
+            self.levels[self.made] = self.level(step.words) + len(step.words[2:])
+        elif step.words[0] == b"dropns":
+            del self.levels[int(step.words[1])]
+        before = self.rows()
+        found = self.mismatches()
         if found == []:
             return
-        ids = {theirs.id for pairs in self.comparison.pairs.values() for _, theirs in pairs if theirs}
-        now = {ours.id for pairs in self.comparison.pairs.values() for ours, _ in pairs if ours}
-        partner = self.comparison.mounts.before
-        lost = {ours for ours in now if ours in partner and partner[ours] not in ids}
-        step = step._replace(mismatches=found, lost=lost, now=now)
-        name = known(differences.ROWS, step)
-        if not name:
-            raise Unknown("\n".join(str(mismatch) for mismatch in found))
-        self.seen[name] += 1
-        self.is_apart = name != "number-sign"
+        lost = self.comparison.lost()
+        told = "\n".join(map(str, found))
+        name = self.name(differences.ROWS, step._replace(mismatches=found, before=before, after=self.rows(), lost=lost), told)
+        self.is_apart = not (name == "unbindable-copy" and self.repaired(found))
+
+    def mismatches(self):
+        """How the tables of all namespaces differ, but for how a `#` is written."""
+        spaces = list(self.levels)
+        shown_tables = self.server.ask(*(b"show %d" % space for space in spaces))
+        self.tables = {space: b"\n".join(rows) for space, [_, *rows] in zip(spaces, shown_tables)}
+        found = self.comparison.compare(self.tables, self.worker.tables)
+        left = [mismatch for mismatch in found if not differences.is_number_sign(mismatch)]
+        self.known["number-sign"] += len(left) < len(found)
+        return left
+
+    def repaired(self, mismatches):
+        """Whether both sides are alike once the kernel's mounts are unbindable that ours are, where a path leads to them."""
+        for space, _, ours, _ in mismatches:
+            [[found]] = self.server.ask(b"find %d %b" % (space, ours.point))
+            if found == b"ok %d %b" % (ours.id, ours.root):
+                self.worker.run([b"setattr", b"%d" % space, unescaped(ours.point), b"prop=unbindable"])
+        return self.mismatches() == []
 
     def both_tables(self):
         """The tables of both sides, for a reader."""
-        lines = []
-        for space in sorted({*self.tables, *self.worker.tables}):
-            for side, tables in (("ours", self.tables), ("the kernel's", self.worker.tables)):
-                lines += [f"namespace {space}, {side}:", shown(tables.get(space, b"")).rstrip("\n")]
+        sides = ("here", self.tables), ("there", self.worker.tables)
+        spaces = sorted({*self.tables, *self.worker.tables})
+        lines = [
+            f"namespace {space} {side}:\n{shown(tables.get(space, b'')).rstrip()}" for space in spaces for side, tables in sides
+        ]
         return "\n".join(lines)

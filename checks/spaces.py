@@ -11,7 +11,7 @@ A less privileged copy belongs to a user namespace one level further down; the r
 import contextlib
 import multiprocessing
 import os
-import signal
+import socket
 from typing import NamedTuple
 
 import syscalls
@@ -87,25 +87,34 @@ class Kernel:
 
     def beside(self, level, calls, names):
         """Descriptors of files of /proc/PID of a child that has made these calls within so many user namespaces."""
-        ours, its = os.pipe()
+        here, there = socket.socketpair()
         child = os.fork()
         if child == 0:
-            refused = 1
-            with contextlib.suppress(OSError):
-                if level > 0:
-                    syscalls.setns(self.users[level - 1], CLONE_NEWUSER)
-                refused = calls() or 0
-            os.write(its, bytes([refused]))
-            signal.pause()
+            here.close()
+            self.hold(level, calls, there)
+        with here:
+            there.close()
+            refused = here.recv(1)
+            if refused != b"\0":
+                number = int.from_bytes(refused, "big")
+                raise OSError(number, os.strerror(number))
+            found = [os.open(f"{child}/{name}", flags, dir_fd=self.proc) for name, flags in names]
+        os.waitpid(child, 0)
+        return found
+
+    def hold(self, level, calls, there):
+        """Makes the calls, tells their errno, and holds what they made until nobody listens. This process ends here."""
+        refused = 0
         try:
-            os.close(its)
-            if os.read(ours, 1) != b"\0":
-                raise Silent("a child could not make a namespace")
-            return [os.open(f"{child}/{name}", flags, dir_fd=self.proc) for name, flags in names]
-        finally:
-            os.close(ours)
-            os.kill(child, signal.SIGKILL)
-            os.waitpid(child, 0)
+            if level > 0:
+                syscalls.setns(self.users[level - 1], CLONE_NEWUSER)
+            calls()
+        except OSError as error:
+            refused = error.errno
+        with contextlib.suppress(OSError):
+            there.sendall(bytes([refused]))
+            there.recv(1)
+        os._exit(0)
 
     def add_user_namespace(self):
         """Makes a user namespace within the last one that was made, in which there is the root user alone."""
@@ -244,15 +253,11 @@ class Worker:
         return found
 
     def run(self, words):
-        """Carries out a command: the errno or 0, and the namespaces whose tables changed. `tables` has all."""
+        """Carries out a command: the errno or 0, and whether a table has changed. `tables` has all of them."""
         self.pipe.send(words)
         number, changed = self.answer()
-        for space, text in changed.items():
-            if text is None:
-                del self.tables[space]
-            else:
-                self.tables[space] = text
-        return number, set(changed)
+        self.tables = {space: text for space, text in {**self.tables, **changed}.items() if text is not None}
+        return number, changed != {}
 
     def close(self):
         self.pipe.close()
