@@ -108,7 +108,13 @@ def is_other_order(step):
 
 
 def is_locked(step):
-    return step.is_less and step.errno in LOCKED.get(step.words[0], set())
+    return step.is_less and step.errno in LOCKED.get(step.words[0], set()) and may_meet_a_lock(step.words)
+
+
+def may_meet_a_lock(words):
+    """Whether a command other than a setattr: that one has to take something away, or to change access times."""
+    asked = options(words) if words[0] == b"setattr" else {}
+    return words[0] != b"setattr" or b"clr" in asked or b"nodiratime" in asked.get(b"set", set())
 
 
 def is_number_sign(mismatch):

@@ -97,6 +97,8 @@ class Author:
         if not tables:
             return b"newns a"
         space = self.chance.choice(list(tables))
+        if word in ("move", "umount") and len(tables[space]) == 1:
+            word = "mount"
         return b" ".join([word.encode(), b"%d" % space, *getattr(self, word)(tables[space])])
 
     def allowed(self, tables):
@@ -114,6 +116,10 @@ class Author:
         if self.chance.random() < self.anywhere:
             return self.path(rows)
         return self.chance.choice(rows).point
+
+    def child(self, rows):
+        """The path of a mount's root that is not the root mount's, mostly."""
+        return self.point([row for row in rows if row.point != b"/"] or rows)
 
     def path(self, rows):
         """The path of a directory on a mount, mostly."""
@@ -137,10 +143,10 @@ class Author:
     rbind = bind
 
     def move(self, rows):
-        return [self.point(rows), self.path(rows)]
+        return [self.child(rows), self.path(rows)]
 
     def umount(self, rows):
-        return [self.point(rows)]
+        return [self.child(rows)]
 
     def copyns(self, _rows):
         return [b"less"] if self.chance.random() < self.less else []
