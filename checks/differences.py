@@ -140,17 +140,17 @@ def is_nested_unmount(step):
 
 
 REFUSALS = [
-    Difference("root-destination", is_root_destination, "the root place is a namespace's own, and no command covers it"),
-    Difference("root-unmount", is_root_unmount, "a namespace without a root mount is none, and superblocks are not modelled"),
-    Difference("relatime", is_relatime, "a word that is asked for either does something or is refused"),
+    Difference("root-destination", is_root_destination, "who enters a namespace would see what covers its root mount, and who is in it would not"),
+    Difference("root-unmount", is_root_unmount, "a namespace has its root mount as long as it is there, and a filesystem has no options"),
+    Difference("relatime", is_relatime, "a word that is asked for is done or refused"),
     Difference("empty-change", is_empty_change, "a path is looked up whatever is asked of it"),
-    Difference("other-order", is_other_order, "each command has one order of refusals, which its contract states"),
-    Difference("locked", is_locked, "mounts have no locks: what may be done does not depend on who asks"),
+    Difference("other-order", is_other_order, "one order for each command is what its contract states"),
+    Difference("locked", is_locked, "there are no users and privileges here"),
 ]
 
 ROWS = [
-    Difference("unbindable-copy", is_unbindable_copy, "the sharedsubtree document says that it stays unbindable"),
-    Difference("nested-unmount", is_nested_unmount, "a mount is spared for the children that it had before the command"),
+    Difference("unbindable-copy", is_unbindable_copy, "mount_namespaces(7) and the sharedsubtree document say that a copy keeps the state"),
+    Difference("nested-unmount", is_nested_unmount, "children are counted before the command, so that a table tells what an unmount takes"),
 ]
 
 # What each play takes out of the mismatches before it asks for names.

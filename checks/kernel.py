@@ -36,8 +36,8 @@ PAGE = "docs", "KERNEL.md"
 EXAMPLE = cases.marked(b"difference")
 # A row of the page's table of kernels.
 SEEN = re.compile(r"(?m)^\| (\d+\.\d+)\.\S+ \|")
-# A name of the page's table of differences.
-NAMED = re.compile(r"(?m)^\| `([a-z-]+)` \|")
+# A name and a reason of the page's table of differences.
+NAMED = re.compile(r"(?m)^\| `([a-z-]+)` \|.*\| ([^|]+) \|$")
 # What a machine has to allow.
 ALLOWED = [b"mkfs a tmpfs none", b"newns a", b"copyns 1", b"copyns 1 less"]
 # How long a failing script is made shorter, in seconds.
@@ -77,7 +77,8 @@ class Sum:
         print("commands:", ", ".join(f"{word} {count}" for word, count in self.counts.items()))
         pairs = sorted(self.refusals.items())
         print("refusals here and there:", ", ".join(f"{ours} {theirs} {count}" for (ours, theirs), count in pairs))
-        print("known differences:", ", ".join(f"{kind.name} {self.known[kind.name]}" for kind in differences.ALL))
+        for kind in differences.ALL:
+            print(f"known difference {kind.name}, {self.known[kind.name]} times: {kind.why}")
 
 
 def play_lines(program, source, is_thorough=False):
@@ -119,15 +120,17 @@ def check_sessions(program, total):
 def check_examples(program):
     """The page has each difference by its name, and its examples are answered so, and show the differences."""
     page = read(*PAGE)
-    named = NAMED.findall(page.decode())
-    names = [kind.name for kind in differences.ALL]
-    check("docs/KERNEL.md names each known difference once", sorted(named) == sorted(names), f"{named}, {names}")
+    named, shown_names = sorted(NAMED.findall(page.decode())), []
+    known = sorted((kind.name, kind.why) for kind in differences.ALL)
+    check("docs/KERNEL.md has each known difference, and why", named == known, f"{named}\n{known}")
     for _, name, text, _ in EXAMPLE.findall(page):
         name = name.decode()
+        shown_names.append(name)
         cases.check_session(f"example {name} of docs/KERNEL.md", text, program)
         play = check_replayed(f"example {name}", program, commands_of(cases.parse(text).requests()), is_thorough=True)
         if play.known[name] == 0:
             print(f"not seen on this kernel: {name}")
+    check("docs/KERNEL.md has an example of each", sorted(shown_names) == [name for name, _ in known], str(shown_names))
 
 
 def check_scripts(program, seed, count, end, total):

@@ -8,8 +8,8 @@ import itertools
 
 NAMES = [b"x", b"y", b"z"]
 FILESYSTEMS = [b"a", b"b", b"c"]
-# What a filesystem has at most: all directories of at most two names.
-DIRECTORIES = [b"".join(b"/" + name for name in names) for n in (1, 2) for names in itertools.product(NAMES, repeat=n)]
+# A filesystem has directories of at most so many names.
+DEPTH = 2
 
 FEWEST, MOST = 10, 70
 MOST_MOUNTS = 60
@@ -52,6 +52,9 @@ class Author:
         # How often a path leads anywhere, and how often a command has rec.
         self.anywhere, self.rec = chance.choice([0.02, 0.1, 0.3]), chance.choice([0.1, 0.4])
         self.filesystems = FILESYSTEMS[: chance.randint(1, len(FILESYSTEMS))]
+        # The fewer names there are, the more often two mounts meet.
+        self.names = NAMES[: chance.randint(1, len(NAMES))]
+        self.drawn = [path for depth in range(1, DEPTH + 1) for path in self.paths(depth)]
         self.directories = {name: [] for name in self.filesystems}
         self.planned = self.opening()
         self.left = chance.randint(FEWEST, MOST)
@@ -62,13 +65,17 @@ class Author:
     def picked(self, weights):
         return self.chance.choices(list(weights), list(weights.values()))[0]
 
+    def paths(self, depth):
+        """All paths of so many names."""
+        return [b"".join(b"/" + name for name in names) for names in itertools.product(self.names, repeat=depth)]
+
     def opening(self):
         """The filesystems, most of their directories and a namespace."""
         sources = [b"none", b"/dev/" + self.chance.choice([b"x", b"x", b"x\\040y", b"x\\134#"])]
         lines = [b"mkfs %b tmpfs %b" % (name, self.chance.choice(sources)) for name in self.filesystems]
         share = self.chance.choice([0.4, 0.9])
         for name in self.filesystems:
-            for path in DIRECTORIES:
+            for path in self.drawn:
                 if self.chance.random() < share or path == b"/x":
                     lines.append(self.made(name, path))
         lines.append(b"newns a")
@@ -93,7 +100,7 @@ class Author:
         word = self.picked(self.allowed(tables))
         if word in ("mkdir", "newns"):
             name = self.chance.choice(self.filesystems)
-            return self.made(name, self.chance.choice(DIRECTORIES)) if word == "mkdir" else b"newns " + name
+            return self.made(name, self.chance.choice(self.drawn)) if word == "mkdir" else b"newns " + name
         if not tables:
             return b"newns a"
         space = self.chance.choice(list(tables))
@@ -124,7 +131,7 @@ class Author:
     def path(self, rows):
         """The path of a directory on a mount, mostly."""
         if self.chance.random() < self.anywhere:
-            names = self.chance.choices(NAMES, k=self.chance.randint(0, 3))
+            names = self.chance.choices(self.names, k=self.chance.randint(0, 3))
             return b"".join(b"/" + name for name in names) or b"/"
         row = self.chance.choice(rows)
         root = row.root.rstrip(b"/")
