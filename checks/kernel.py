@@ -8,7 +8,7 @@ Scripts of commands are carried out by a session of the program, and as root by 
 side refuses the other refuses too. docs/KERNEL.md names each known difference and shows it (differences.py); one without a
 name is a failure, which is printed as the shortest script that was found to show it, with the tables of both sides.
 
-First come the sessions of cases/ and docs/TOUR.md, then the examples of docs/KERNEL.md, then random scripts (scripts.py):
+First come the examples of docs/KERNEL.md, then the sessions of cases/ and docs/TOUR.md, then random scripts (scripts.py):
 so many of them, or until so many seconds are over since the start. A seed makes the same scripts again. --replay
 plays the lines of a file alone. In all replayed sessions a filesystem's type is tmpfs, and lines that are no commands are
 left away.
@@ -107,14 +107,17 @@ def check_replayed(name, program, lines, is_thorough=False):
     return played.play
 
 
-def check_sessions(program, total):
-    """The sessions of cases/ and of the tour are the same in the kernel."""
+def check_sessions(program, end, total):
+    """The sessions of cases/ and of the tour are the same in the kernel, as many as there is time for."""
     sessions = [(f"case {name}", cases.load(name)) for name in cases.names()]
     blocks = tour.SESSION_BLOCK.findall(read(*tour.PAGE))
     sessions += [(f"session {shown(name)}", cases.parse(text)) for _, name, text, _ in blocks]
-    for name, case in sessions:
+    done = 0
+    while done < len(sessions) and time.monotonic() < end:
+        name, case = sessions[done]
         total.add(check_replayed(name, program, commands_of(case.requests())))
-    print(f"sessions: {len(sessions)}")
+        done += 1
+    print(f"sessions: {done} of {len(sessions)}")
 
 
 def check_examples(program):
@@ -135,16 +138,15 @@ def check_examples(program):
 
 def check_scripts(program, seed, count, end, total):
     """Random scripts are the same on both sides, but for the known differences."""
-    for number in range(count):
-        if time.monotonic() > end:
-            count = number
-            break
-        played = play_lines(program, Author(random.Random(f"{seed} {number}")))
+    done = 0
+    while done < count and time.monotonic() < end:
+        played = play_lines(program, Author(random.Random(f"{seed} {done}")))
         total.add(played.play)
         if played.unknown:
-            check(f"script {number} of seed {seed}", False, shortest(program, played))
+            check(f"script {done} of seed {seed}", False, shortest(program, played))
             return
-    print(f"scripts: {count} of seed {seed}")
+        done += 1
+    print(f"scripts: {done} of seed {seed}")
 
 
 def shortest(program, played):
@@ -169,7 +171,7 @@ def why_not():
         worker = Worker()
         refused = [number for line in ALLOWED if (number := worker.run(line.split(b" "))[0])]
         worker.close()
-    except (OSError, Silent, EOFError) as error:
+    except (OSError, EOFError) as error:
         return f"no mount namespace can be made: {error}"
     return f"a namespace is refused: {os.strerror(refused[0])}" if refused else ""
 
@@ -193,9 +195,10 @@ def main():
     if words.replay:
         total.add(check_replayed(words.replay.name, words.program, commands_of(words.replay.read().splitlines())))
     else:
-        check_sessions(words.program, total)
+        end = start + words.seconds
         check_examples(words.program)
-        check_scripts(words.program, words.seed, words.scripts, start + words.seconds, total)
+        check_sessions(words.program, end, total)
+        check_scripts(words.program, words.seed, words.scripts, end, total)
     total.print()
     if failures:
         raise SystemExit(f"checks of the kernel failed: {len(failures)}")

@@ -15,12 +15,13 @@ import socket
 from typing import NamedTuple
 
 import syscalls
-from running import MOST_SECONDS
 from syscalls import CLONE_NEWNS, CLONE_NEWUSER
 
 DIRECTORY = os.O_PATH | os.O_DIRECTORY | os.O_CLOEXEC
 # What an option of setattr is in mount_setattr(2), but for `rec`.
 CHANGES = {b"set": "attr_set", b"clr": "attr_clr", b"prop": "propagation"}
+# How long a command may take, in seconds.
+MOST_SECONDS = 20
 FORKING = multiprocessing.get_context("fork")
 
 
