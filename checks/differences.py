@@ -21,8 +21,9 @@ class Step(NamedTuple):
     # Our rows of each namespace before and after.
     before: dict = {}
     after: dict = {}
-    # Our mounts that are still there while their partners are gone.
+    # Our mounts that are still there while their partners are gone, and the kernel's.
     lost: set = set()
+    kept: set = set()
 
 
 class Difference(NamedTuple):
@@ -100,7 +101,8 @@ def is_relatime(step):
 
 
 def is_empty_change(step):
-    return step.refusal in ("NoEntry", "NotMountRoot") and step.errno == 0 and step.words[0] == b"setattr" and is_empty(step.words)
+    is_path = step.refusal in ("NoEntry", "NotMountRoot")
+    return is_path and step.errno == 0 and step.words[0] == b"setattr" and is_empty(step.words)
 
 
 def is_other_order(step):
@@ -136,12 +138,20 @@ def is_nested_unmount(step):
     before = {row.id: row for rows in step.before.values() for row in rows}
     gone = before.keys() - {row.id for rows in step.after.values() for row in rows} | step.lost
     bearers = {before[child].parent for child in gone if before[child].point != before[before[child].parent].point}
-    return step.words[0] == b"umount" and step.lost != set() and step.lost <= bearers
+    return step.words[0] == b"umount" and step.lost != set() and step.lost <= bearers and step.kept == set()
 
 
 REFUSALS = [
-    Difference("root-destination", is_root_destination, "who enters a namespace would see what covers its root mount, and who is in it would not"),
-    Difference("root-unmount", is_root_unmount, "a namespace has its root mount as long as it is there, and a filesystem has no options"),
+    Difference(
+        "root-destination",
+        is_root_destination,
+        "who enters a namespace would see what covers its root mount, and who is in it would not",
+    ),
+    Difference(
+        "root-unmount",
+        is_root_unmount,
+        "a namespace has its root mount as long as it is there, and a filesystem has no options",
+    ),
     Difference("relatime", is_relatime, "a word that is asked for is done or refused"),
     Difference("empty-change", is_empty_change, "a path is looked up whatever is asked of it"),
     Difference("other-order", is_other_order, "one order for each command is what its contract states"),
@@ -149,14 +159,22 @@ REFUSALS = [
 ]
 
 ROWS = [
-    Difference("unbindable-copy", is_unbindable_copy, "mount_namespaces(7) and the sharedsubtree document say that a copy keeps the state"),
-    Difference("nested-unmount", is_nested_unmount, "children are counted before the command, so that a table tells what an unmount takes"),
+    Difference(
+        "unbindable-copy",
+        is_unbindable_copy,
+        "mount_namespaces(7) and the sharedsubtree document say that a copy keeps the state",
+    ),
+    Difference(
+        "nested-unmount",
+        is_nested_unmount,
+        "children are counted before the command, so that a table tells what an unmount takes",
+    ),
 ]
 
-# What each play takes out of the mismatches before it asks for names.
-SIGNS = Difference("number-sign", is_number_sign, "proc_pid_mountinfo(5) names no escape of it")
+# It is taken out of the mismatches of a step before these are asked.
+SIGN = Difference("number-sign", is_number_sign, "proc_pid_mountinfo(5) names no escape of it")
 
-ALL = [*REFUSALS, *ROWS, SIGNS]
+ALL = [*REFUSALS, *ROWS, SIGN]
 
 
 def name_of(kinds, step):

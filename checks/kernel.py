@@ -138,7 +138,7 @@ def check_examples(program):
 
 def check_scripts(program, seed, count, end, total):
     """Random scripts are the same on both sides, but for the known differences."""
-    done = 0
+    done, before = 0, total.counts["accepted"]
     while done < count and time.monotonic() < end:
         played = play_lines(program, Author(random.Random(f"{seed} {done}")))
         total.add(played.play)
@@ -146,7 +146,7 @@ def check_scripts(program, seed, count, end, total):
             check(f"script {done} of seed {seed}", False, shortest(program, played))
             return
         done += 1
-    print(f"scripts: {done} of seed {seed}")
+    print(f"scripts: {done} of seed {seed}, in which {total.counts['accepted'] - before} commands were accepted")
 
 
 def shortest(program, played):

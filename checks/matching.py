@@ -36,7 +36,8 @@ class Mismatch(NamedTuple):
     theirs: Row | None
 
     def __str__(self):
-        return f"namespace {self.space}: the {self.what} of {self.ours and self.ours.id} here, {self.theirs and self.theirs.id} there"
+        here, there = (row.id if row else "none" for row in (self.ours, self.theirs))
+        return f"namespace {self.space}: the {self.what} of mount {here} here, {there} there"
 
 
 # The fields that matched rows have in common as they are.
@@ -133,7 +134,7 @@ class Comparison:
         """How the tables of all namespaces differ behind a command: a list of mismatches."""
         for space in [space for space in self.pairs if space not in ours]:
             del self.pairs[space], self.texts[space]
-        found = [Mismatch(space, "namespace", None, None) for space in sorted(ours.keys() ^ theirs.keys())]
+        found = [Mismatch(space, "table", None, None) for space in sorted(ours.keys() ^ theirs.keys())]
         for space in sorted(ours.keys() & theirs.keys()):
             if self.texts.get(space) != (ours[space], theirs[space]):
                 self.texts[space] = ours[space], theirs[space]
@@ -145,11 +146,13 @@ class Comparison:
                 found += [Mismatch(space, what, one, another) for what in self.differing(one, another)]
         return found + self.changed_partners()
 
-    def lost(self):
-        """Our mounts that are still there, and that had a partner before the last command which is gone."""
-        there = {theirs.id for pairs in self.pairs.values() for _, theirs in pairs if theirs}
+    def alone(self):
+        """The mounts that were there before the last command on both sides, and are on one only: ours, and theirs."""
         here = {ours.id for pairs in self.pairs.values() for ours, _ in pairs if ours}
-        return {one for one, another in self.mounts.before.items() if one in here and another not in there}
+        there = {theirs.id for pairs in self.pairs.values() for _, theirs in pairs if theirs}
+        before = self.mounts.before.items()
+        ours = {one for one, another in before if one in here and another not in there}
+        return ours, {another for one, another in before if one not in here and another in there}
 
     def differing(self, ours, theirs):
         """What of two matched rows differs."""
@@ -168,5 +171,5 @@ class Comparison:
     def changed_partners(self):
         """A mismatch for each number that has got another partner."""
         kinds = {"mount": self.mounts, "group": self.groups, "device": self.devices}
-        changed = [(kind, number) for kind, numbers in kinds.items() for number in numbers.moved()]
-        return [Mismatch(0, f"{kind} {number} before and after", None, None) for kind, number in changed]
+        changed = [f"partner of {kind} {number}, before and after," for kind in kinds for number in kinds[kind].moved()]
+        return [Mismatch(0, what, None, None) for what in changed]

@@ -1,5 +1,6 @@
 """A script on both sides at once, compared behind every command. A module, a part of kernel.py."""
 import collections
+import contextlib
 import re
 import subprocess
 
@@ -45,8 +46,9 @@ class Served:
 
     def ask(self, *lines):
         """The answers to these lines, each as a list of its lines."""
-        self.process.stdin.write(b"".join(line + b"\n" for line in lines))
-        self.process.stdin.flush()
+        with contextlib.suppress(BrokenPipeError):
+            self.process.stdin.write(b"".join(line + b"\n" for line in lines))
+            self.process.stdin.flush()
         return [self.answer(line) for line in lines]
 
     def answer(self, request):
@@ -61,7 +63,8 @@ class Served:
         return line[:-1]
 
     def close(self):
-        self.process.stdin.close()
+        with contextlib.suppress(BrokenPipeError):
+            self.process.stdin.close()
         self.process.stdout.close()
         self.process.wait()
 
@@ -127,10 +130,11 @@ class Play:
         both = step.refusal or "ok", syscalls.name_of(step.errno)
         self.refusals[both] += 1
         self.counts["refused"] += 1
-        if step.errno and is_changed:
-            raise Unknown("the kernel has refused, and changed a table")
+        name = ""
         if not differences.is_same_refusal(step):
-            self.name(differences.REFUSALS, step, f"the answer is {both[0]} here and {both[1]} there")
+            name = self.name(differences.REFUSALS, step, f"the answer is {both[0]} here and {both[1]} there")
+        if is_changed and (step.errno or name == "empty-change"):
+            raise Unknown(f"the answer is {both[0]} here and {both[1]} there, and a table has changed there")
         if step.refusal == "":
             self.undo()
         self.is_apart = is_changed
@@ -160,12 +164,11 @@ class Play:
             del self.levels[int(step.words[1])]
         before = self.rows()
         found = self.mismatches()
-        if found == []:
-            return
-        lost = self.comparison.lost()
-        told = "\n".join(map(str, found))
-        name = self.name(differences.ROWS, step._replace(mismatches=found, before=before, after=self.rows(), lost=lost), told)
-        self.is_apart = not (name == "unbindable-copy" and self.repaired(found))
+        if found != []:
+            lost, kept = self.comparison.alone()
+            step = step._replace(mismatches=found, before=before, after=self.rows(), lost=lost, kept=kept)
+            name = self.name(differences.ROWS, step, "\n".join(map(str, found)))
+            self.is_apart = not (name == "unbindable-copy" and self.repaired(found))
 
     def mismatches(self):
         """How the tables of all namespaces differ, but for how a `#` is written."""
@@ -188,8 +191,7 @@ class Play:
     def both_tables(self):
         """The tables of both sides, for a reader."""
         sides = ("here", self.tables), ("there", self.worker.tables)
-        spaces = sorted({*self.tables, *self.worker.tables})
-        lines = [
-            f"namespace {space} {side}:\n{shown(tables.get(space, b'')).rstrip()}" for space in spaces for side, tables in sides
-        ]
+        lines = []
+        for space in sorted({*self.tables, *self.worker.tables}):
+            lines += [f"namespace {space} {side}:\n{shown(tables.get(space, b'')).rstrip()}" for side, tables in sides]
         return "\n".join(lines)
