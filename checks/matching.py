@@ -45,9 +45,9 @@ PLAIN = "root", "options", "kind", "source"
 
 
 def tag_of(word):
-    """The name of an optional field, and its number."""
+    """The name of an optional field, and its number, or 0."""
     name, _, number = word.partition(b":")
-    return name, number
+    return name, int(number or 0)
 
 
 def row_of(line):
