@@ -106,7 +106,9 @@ def is_empty_change(step):
 
 
 def is_other_order(step):
-    return (step.words[0], step.refusal, step.errno) in OTHER_ORDER
+    """The kernel asks for unbindable mounts before it asks for a move into itself: there has to be one."""
+    is_in_reach = step.refusal != "IntoItself" or any(b"unbindable" in row.names() for row in step.before[int(step.words[1])])
+    return (step.words[0], step.refusal, step.errno) in OTHER_ORDER and is_in_reach
 
 
 def is_locked(step):

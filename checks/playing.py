@@ -109,7 +109,7 @@ class Play:
         if words[0] not in COMMANDS or refusal in NO_COUNTERPART:
             self.counts["without a counterpart"] += 1
             return
-        step = Step(words, refusal, self.level(words) > 0)
+        step = Step(words, refusal, self.level(words) > 0, before=self.rows())
         name = differences.left_out(step)
         if name and not self.is_thorough:
             self.counts["left out"] += 1
@@ -162,11 +162,10 @@ class Play:
             self.levels[self.made] = self.level(step.words) + len(step.words[2:])
         elif step.words[0] == b"dropns":
             del self.levels[int(step.words[1])]
-        before = self.rows()
         found = self.mismatches()
         if found != []:
             lost, kept = self.comparison.alone()
-            step = step._replace(mismatches=found, before=before, after=self.rows(), lost=lost, kept=kept)
+            step = step._replace(mismatches=found, after=self.rows(), lost=lost, kept=kept)
             name = self.name(differences.ROWS, step, "\n".join(map(str, found)))
             self.is_apart = not (name == "unbindable-copy" and self.repaired(found))
 
