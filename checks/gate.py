@@ -2,8 +2,9 @@
 """Proves everything once, from nothing, and checks the program that was built from outside.
 
 First checks/words.py, then `rt ci`, then README's commands (checks/readme.py), then checks/pages.py,
-checks/program.py and checks/server.py, each with all that it prints. Then how long each took; then the last line of `rt ci`, `N passed, M failed`,
-once more, in which each other command that failed counts as one failed. The status is 0 where all of them passed.
+checks/program.py, checks/server.py and checks/kernel.py, each with all that it prints. Then how long each took, and why one was
+skipped; then the last line of `rt ci`, `N passed, M failed`, once more, in which each other command that failed counts as
+one failed. The status is 0 where all of them passed.
 
 `rt ci` keeps no library that `rt run` would take, so that README's `rt run` would prove everything a
 second time. It does leave the program that it has proved, built and run, and --built takes that one.
@@ -44,7 +45,8 @@ def run(name, *words):
             last = line.strip() or last
     wall, processor = (time.monotonic() - start) / 60, (spent() - before) / 60
     passed = command.returncode == 0
-    took = f"{name}: {'passed' if passed else 'FAILED'}, {processor:.1f} processor minutes, {wall:.1f} wall minutes"
+    word = "FAILED" if not passed else last if last.startswith("skipped: ") else "passed"
+    took = f"{name}: {word}, {processor:.1f} processor minutes, {wall:.1f} wall minutes"
     return passed, last, took
 
 
@@ -73,6 +75,7 @@ def main():
             ("pages", "checks/pages.py", PROGRAM, CLIENT),
             ("checks of the program", "checks/program.py", PROGRAM),
             ("checks of the server", "checks/server.py", PROGRAM, CLIENT),
+            ("the running kernel", "checks/kernel.py", PROGRAM),
         ):
             passed, _, took = run(name, *words)
             all_took.append(took)
