@@ -214,12 +214,6 @@ mixed-same number es i d rows l same told =
     ∙ sym (same-middle number (now_peer (get_or es i d)) (was_peer (get_or es i d)) (now_peers (take i es)) (was_peers (drop (i + 1) es)) refl same)
     ∙ ap (rows_by mount_of number) (mixed-next es i d l)
 
--- settling changes no group
-pub rows-settled : (rs : List Entry) (i : ℕ) (xs : List Entry) → rows_by mount_of group_of (now_peers (map (settled_entry rs) (take i xs) ++ drop i xs)) ≡ rows_by mount_of group_of (now_peers xs)
-rows-settled rs zero xs = refl
-rows-settled rs (suc i) [] = refl
-rows-settled rs (suc i) (x ∷ xs) = ap (λ t. option_map_or (λ n. record { id = x.mount; number = n } ∷ t) x.state.group t) (rows-settled rs i xs)
-
 -- mounts are taken out
 pub rows-without : (number : Peer → Option ℕ) (gone : ℕ → Bool) (es : List Peer) → rows_by mount_of number (without (λ e. gone e.mount) es) ≡ without (λ (r : ListRow). gone r.id) (rows_by mount_of number es)
 rows-without number gone [] = refl

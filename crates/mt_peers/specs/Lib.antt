@@ -11,3 +11,4 @@ pub mod Coming
 pub mod Laws
 pub mod Members
 pub mod Entered
+pub mod Vanished
