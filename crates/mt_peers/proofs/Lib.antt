@@ -6,6 +6,7 @@ pub mod AddedLaws
 pub mod ReachLaws
 pub mod EntryLaws
 pub mod HeirLaws
+pub mod WayLaws
 pub mod VanishedLaws
 pub mod NumberLaws
 pub mod ChangeLaws

@@ -16,7 +16,7 @@ use Rattle.mt_peers.specs.declared.entries.Entry.{Entry}
 use Rattle.mt_peers.specs.Peers.{Peer, mount_of, state_at, with_state, in_group, has_member, names, members, slaves}
 use Rattle.mt_peers.specs.Masters.{master_of}
 use Rattle.mt_peers.specs.Members.{group_at, master_at, member_after, slave_after}
-use Rattle.mt_peers.specs.Entries.{now_peer, was_peer, now_peers, was_peers, settled_entry}
+use Rattle.mt_peers.specs.Entries.{now_peer, was_peer, now_peers, was_peers}
 use Rattle.mt_peers.specs.Listed.{group_of, leader_of, IsListed}
 use Rattle.mt_peers.proofs.MemberLaws.{find_row}
 use Rattle.mt_peers.proofs.GivenLaws.{rises-given}

@@ -1,106 +1,19 @@
 -- What is known above groups that lost their last members, as searches come by.
-use Rattle.std.proofs.Common.{◌≡◌, ℕ, zero, suc, ◌+◌, ◌-◌, ◌<◌, ◌≤◌, Bool, true, false, cond, ltb, nat_lt, nat_eq, eqb, ◌==◌, List, [], ◌∷◌, drop, length, get_or, Option, Some, None, refl, sym, ap, ◌∙◌, arith, ◌⊎◌, inl, inr}
+use Rattle.std.proofs.Common.{◌≡◌, ℕ, zero, suc, ◌+◌, ◌<◌, ◌≤◌, Bool, true, false, cond, nat_eq, eqb, List, [], ◌∷◌, drop, length, get_or, Option, Some, None, refl, sym, ap, ◌∙◌, arith, ◌⊎◌, inl, inr}
 use Rattle.std.specs.List.{find}
-use Rattle.std.specs.Option.{option_map, option_map_or, option_and_then, option_or}
+use Rattle.std.specs.Option.{option_map, option_and_then, option_or}
 use Rattle.std.proofs.lemmas.Bool.Decides.{nat_tests}
 use Rattle.std.proofs.lemmas.List.{drop_more}
 use Rattle.indexmap.specs.IndexMap.{get}
-use Rattle.mt_skel.specs.Chain.{chain}
 use Rattle.mt_lists.specs.Links.{Index}
 use Rattle.mt_peers.specs.declared.entries.Entry.{Entry}
 use Rattle.mt_peers.specs.declared.vanished.Above.{Above}
 use Rattle.mt_peers.specs.Peers.{Peer, in_group, has_member, names}
 use Rattle.mt_peers.specs.Masters.{master_of}
-use Rattle.mt_peers.specs.Loss.{heir}
 use Rattle.mt_peers.specs.Entries.{now_peers, was_peers}
-use Rattle.mt_peers.specs.Vanished.{above_was, above_first, heir_within, living, IsAbove, IsVanished, AreNear}
-
--- Steps up
-
-steps-join : (x : ℕ → Option ℕ) (s t k : ℕ) → cond (ltb k s) None (cond (ltb (k - s) t) None (x (k - s - t))) ≡ cond (ltb k (s + t)) None (x (k - (s + t)))
-steps-join x s t k =
-    let e : k - s - t ≡ k - (s + t) = omega arith in
-    ap (λ n. cond (ltb k s) None (cond (ltb (k - s) t) None (x n))) e ∙ grind (arith, nat_tests)
-
-steps-rest : (x : ℕ → Option ℕ) (s r j : ℕ) → s < r → cond (ltb (j + s) r) None (x (j + s - r)) ≡ cond (ltb j (r - s)) None (x (j - (r - s)))
-steps-rest x s r j l =
-    let e : j + s - r ≡ j - (r - s) = omega arith in
-    let b : ltb (j + s) r ≡ ltb j (r - s) = grind (arith, nat_tests) in
-    ap (λ n. cond (ltb (j + s) r) None (x n)) e ∙ ap (λ b. cond b None (x (j - (r - s)))) b
-
-module _ (old new : List Peer) where
-  pub above-self : (m : Option ℕ) → IsAbove old new m m 0
-  above-self m k =
-      let f : k - 0 ≡ k = omega arith in
-      let b : nat_lt k 0 ≡ false = grind (arith, nat_tests) in
-      ap (λ n. heir_within old new n m) (sym f) ∙ ap (λ b. cond b None (heir_within old new (k - 0) m)) (sym b)
-
-  pub above-join : (m u v : Option ℕ) (s t : ℕ) → IsAbove old new m u s → IsAbove old new u v t → IsAbove old new m v (s + t)
-  above-join m u v s t a b k = a k ∙ ap (λ o. cond (ltb k s) None o) (b (k - s)) ∙ steps-join (λ n. heir_within old new n v) s t k
-
-  -- what is left of a way, behind its first part
-  pub above-rest : (m u v : Option ℕ) (s r : ℕ) → IsAbove old new m v r → IsAbove old new m u s → s < r → IsAbove old new u v (r - s)
-  above-rest m u v s r a b l j =
-      let f : j + s - s ≡ j = omega arith in
-      let e : ltb (j + s) s ≡ false = grind (arith, nat_tests) in
-      let back : heir_within old new (j + s) m ≡ heir_within old new j u = b (j + s) ∙ ap (λ t. cond t None (heir_within old new (j + s - s) u)) e ∙ ap (λ n. heir_within old new n u) f in
-      sym back ∙ a (j + s) ∙ steps-rest (λ n. heir_within old new n v) s r j l
-
-  -- the master of a group that does not live is a step above it
-  pub above-once : (g : ℕ) → has_member new g ≡ false → IsAbove old new (Some g) (master_of old g) 1
-  above-once g off zero = ap (λ b. cond b (Some g) None) off
-  above-once g off (suc k) =
-      let f : suc k - 1 ≡ k = omega arith in
-      let b : nat_lt (suc k) 1 ≡ false = grind (arith, nat_tests) in
-      ap (λ b. cond b (Some g) (find (has_member new) (option_map_or (λ y. chain (master_of old) k y) (master_of old g) []))) off
-      ∙ go (master_of old g)
-      ∙ ap (λ n. heir_within old new n (master_of old g)) (sym f)
-      ∙ ap (λ b. cond b None (heir_within old new (suc k - 1) (master_of old g))) (sym b)
-    where
-      go : (o : Option ℕ) → find (has_member new) (option_map_or (λ y. chain (master_of old) k y) o []) ≡ heir_within old new k o
-      go None = refl
-      go (Some h) = refl
-
-  lives-first : (k g : ℕ) → has_member new g ≡ true → heir_within old new k (Some g) ≡ Some g
-  lives-first zero g on = ap (λ b. cond b (Some g) None) on
-  lives-first (suc k) g on = ap (λ b. cond b (Some g) (find (has_member new) (option_map_or (λ y. chain (master_of old) k y) (master_of old g) []))) on
-
-  -- a group below another one does not live
-  pub above-dead : (g r : ℕ) (v : Option ℕ) → IsAbove old new (Some g) v r → 0 < r → has_member new g ≡ false
-  above-dead g r v a l =
-      let b : nat_lt 0 r ≡ true = grind (arith, nat_tests) in
-      let none : heir_within old new 0 (Some g) ≡ None = a 0 ∙ ap (λ b. cond b None (heir_within old new (0 - r) v)) b in
-      go (has_member new g) refl none
-    where
-      go : (t : Bool) → has_member new g ≡ t → heir_within old new 0 (Some g) ≡ None → t ≡ false
-      go false e none = refl
-      go true e none = absurd (let f : Some g ≡ None = sym (lives-first 0 g e) ∙ none in cc)
-
-  dead-end : (k u : ℕ) → has_member new u ≡ false → master_of old u ≡ None → heir_within old new k (Some u) ≡ None
-  dead-end k u off none = above-once u off k ∙ ap (λ m. cond (nat_lt k 1) None (heir_within old new (k - 1) m)) none ∙ go (nat_lt k 1)
-    where
-      go : (b : Bool) → ◌≡◌ {A = Option ℕ} (cond b None None) None
-      go true = refl
-      go false = refl
-
-  -- the heir, where a search ended
-  pub heir-far : (g s : ℕ) (u : Option ℕ) → IsAbove old new (Some g) u s → length old < s → None ≡ heir old new (Some g)
-  heir-far g s u a l =
-      let b : nat_lt (length old) s ≡ true = grind (arith, nat_tests) in
-      sym (a (length old) ∙ ap (λ b. cond b None (heir_within old new (length old - s) u)) b)
-
-  pub heir-near : (g s : ℕ) (u : Option ℕ) → IsAbove old new (Some g) u s → s ≤ length old → ((h : ℕ) → u ≡ Some h → has_member new h ≡ false → master_of old h ≡ None) → living new u ≡ heir old new (Some g)
-  heir-near g s u a l ended =
-      let b : nat_lt (length old) s ≡ false = grind (arith, nat_tests) in
-      sym (a (length old) ∙ ap (λ b. cond b None (heir_within old new (length old - s) u)) b ∙ go u ended)
-    where
-      go : (u : Option ℕ) → ((h : ℕ) → u ≡ Some h → has_member new h ≡ false → master_of old h ≡ None) → heir_within old new (length old - s) u ≡ living new u
-      go None ended = refl
-      go (Some h) ended = one (has_member new h) refl (ended h refl)
-        where
-          one : (t : Bool) → has_member new h ≡ t → (has_member new h ≡ false → master_of old h ≡ None) → heir_within old new (length old - s) (Some h) ≡ living new (Some h)
-          one true e ended = lives-first (length old - s) h e ∙ ap (λ b. cond b (Some h) None) (sym e)
-          one false e ended = dead-end (length old - s) h e (ended e) ∙ ap (λ b. cond b (Some h) None) (sym e)
+use Rattle.mt_peers.specs.Ways.{IsAbove}
+use Rattle.mt_peers.specs.Vanished.{above_was, above_first, IsVanished, AreNear}
+use Rattle.mt_peers.proofs.WayLaws.{above-once}
 
 -- what is known above a group is of one that does not live
 pub known-step : (b : Bool) (o : Option Above) (x : Above) → cond b None o ≡ Some x → (b ≡ false) × (o ≡ Some x)
@@ -175,7 +88,7 @@ module _ (es : List Entry) (vanished : Index Above) (told : (g : ℕ) → has_me
   vanished-all = record {
     known = λ g x off e.
         let k = first-known g (find (in_group g) (was_peers es)) x (sym (told g off) ∙ e) in
-        rw (← k.0, k.1) (above-once (was_peers es) (now_peers es) g off);
+        rw (← k.0, k.1) (above-once (has_member (now_peers es)) (master_of (was_peers es)) g off);
     ended = λ g off e. first-none (find (in_group g) (was_peers es)) (sym (told g off) ∙ e);
   }
 
@@ -190,7 +103,7 @@ module _ (old new : List Peer) (before after : Index Above) (g : ℕ) (x : Above
       go true is e = inl (grind (arith, nat_tests), e)
       go false is e = inr e
 
-  pub written-vanished : IsVanished old new before → IsAbove old new (Some g) x.up x.steps → IsVanished old new after
+  pub written-vanished : IsVanished old new before → IsAbove (has_member new) (master_of old) (Some g) x.up x.steps → IsVanished old new after
   written-vanished v a = record {
     known = λ k y off e. elim (at k (get nat_eq before k) (Some y) (sym (written k) ∙ e)) [
       | inl is ↦ let same : x ≡ y = (let s = is.1 in cc) in rw (← is.0, ← same) a

@@ -4,10 +4,12 @@ ghost use Rattle.std.specs.Option.{option_or};
 ghost use Rattle.indexmap.specs.IndexMap.{get, spare};
 ghost use Rattle.mt_lists.specs.Numbered.{rows_by};
 ghost use Rattle.mt_peers.specs.Peers.{Peer, mount_of, has_member, names};
+ghost use Rattle.mt_peers.specs.Masters.{master_of};
 ghost use Rattle.mt_peers.specs.Loss.{heir};
 ghost use Rattle.mt_peers.specs.Entries.{now_peers, was_peers};
 ghost use Rattle.mt_peers.specs.Listed.{group_of};
-ghost use Rattle.mt_peers.specs.Vanished.{above_was, living, IsAbove, IsVanished, AreNear, IsReached};
+ghost use Rattle.mt_peers.specs.Ways.{IsAbove, if_passes};
+ghost use Rattle.mt_peers.specs.Vanished.{above_was, IsVanished, AreNear, IsReached};
 
 use crate::entries::Entry;
 use crate::settling::lives;
@@ -132,7 +134,7 @@ fn put(vanished: &mut IndexMap<GroupId, Above>, group: GroupId, above: Above)
 fn shorten(vanished: &mut IndexMap<GroupId, Above>, most: usize, group: GroupId, end: Above)
     requires near { AreNear most vanished.old }
     requires within { end.steps ≤ most }
-    ensures kept { (old new : List Peer) → IsVanished old new vanished.old → IsAbove old new (Some group) end.up end.steps → IsVanished old new vanished.new }
+    ensures kept { (old new : List Peer) → IsVanished old new vanished.old → IsAbove (has_member new) (master_of old) (Some group) end.up end.steps → IsVanished old new vanished.new }
     ensures near { AreNear most vanished.new }
     ensures room { spare vanished.old ≤ spare vanished.new }
 {
@@ -157,7 +159,7 @@ fn shorten(vanished: &mut IndexMap<GroupId, Above>, most: usize, group: GroupId,
 
 /// The group, if it lives.
 fn living(members: &Lists, group: Option<GroupId>) -> Option<GroupId>
-    ensures { (es : List Peer) → members.now.rows ≡ rows_by mount_of group_of es → result ≡ living es group }
+    ensures { (es : List Peer) → members.now.rows ≡ rows_by mount_of group_of es → result ≡ if_passes (has_member es) group }
 {
     let group = group?;
     if lives(members, group) {

@@ -1,4 +1,4 @@
-use Rattle.std.proofs.Common.{arith, ◌∙◌}
+use Rattle.std.proofs.Common.{arith}
 use Rattle.mt_peers.specs.Entries.{now_peers, was_peers}
 use Rattle.mt_peers.proofs.EntryLaws.{length-was}
 use Rattle.mt_peers.proofs.HeirLaws.{settle-step}
