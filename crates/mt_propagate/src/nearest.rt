@@ -1,10 +1,10 @@
 //! The nearest group upwards at which copies stand.
-ghost use Rattle.std.specs.Prelude.{◌≡◌, ◌+◌, ◌<◌, ◌≤◌, ◌^◌, Some, length, false, IfOk, OnOk, IsOkUnless};
+ghost use Rattle.std.specs.Prelude.{◌≡◌, ◌+◌, ◌<◌, ◌≤◌, Some, length, IfOk, OnOk, IsOkUnless};
 ghost use Rattle.std.specs.List.{find};
 ghost use Rattle.mt_peers.specs.Masters.{groups_up, master_of};
-ghost use Rattle.mt_peers.specs.Ways.{IsAbove, IsReached};
+ghost use Rattle.mt_peers.specs.Ways.{IsAbove};
 ghost use Rattle.mt_propagate.specs.Planned.{stands};
-ghost use Rattle.mt_propagate.specs.Nearest.{IsFound, IsStep};
+ghost use Rattle.mt_propagate.specs.Nearest.{known_above, IsFound, IsStep, IsNearest};
 
 use crate::groups::{Standing, stands};
 use crate::world::World;
@@ -23,7 +23,7 @@ pub(crate) struct Above {
 
 /// What is known above a group: what was found there, or its master.
 fn known_above(world: &World, found: &IndexMap<GroupId, Above>, group: GroupId) -> Above
-    ensures { IsKnown world.now.peers.peers found.now group result }
+    ensures { result ≡ known_above world.now.peers.peers found.now group }
 {
     match found.get(&group).copied() {
         Some(above) => above,
@@ -59,7 +59,7 @@ fn reached(
     group: GroupId,
 ) -> Above
     requires found { IsFound (stands standing.now) world.now.peers.peers found.now }
-    ensures { IsReached (stands standing.now) (master_of world.now.peers.peers) (length world.now.peers.peers) group result.up result.steps }
+    ensures { IsNearest (stands standing.now) world.now.peers.peers group result }
 {
     // Its proof needs that the mounts can be counted.
     let _alloc = world.peers.allocator();
