@@ -1,8 +1,8 @@
 -- What is found above groups on the way up to the nearest one at which copies stand.
-use Rattle.std.proofs.Common.{◌≡◌, ℕ, ◌+◌, ◌-◌, ◌<◌, ◌≤◌, Bool, true, false, cond, nat_eq, List, [], length, Option, Some, None, refl, sym, ap, subst, ◌∙◌, arith}
+use Rattle.std.proofs.Common.{◌≡◌, ℕ, ◌+◌, ◌<◌, ◌≤◌, Bool, true, false, cond, nat_eq, List, [], length, Option, Some, None, refl, sym, ap, subst, ◌∙◌, arith}
 use Rattle.std.specs.Prelude.{IfSome}
 use Rattle.std.specs.List.{find}
-use Rattle.std.specs.Option.{option_and_then, unwrap_or}
+use Rattle.std.specs.Option.{unwrap_or}
 use Rattle.std.specs.Map.{lookup}
 use Rattle.std.proofs.lemmas.Bool.Decides.{nat_tests}
 use Rattle.indexmap.specs.IndexMap.{get}
@@ -10,7 +10,7 @@ use Rattle.mt_lists.specs.Links.{Index}
 use Rattle.mt_peers.specs.Peers.{Peer}
 use Rattle.mt_peers.specs.Masters.{master_of, groups_up}
 use Rattle.mt_peers.specs.Ways.{IsAbove, if_passes}
-use Rattle.mt_peers.proofs.WayLaws.{above-join, above-rest, above-once, above-dead, first-far, first-near}
+use Rattle.mt_peers.proofs.WayLaws.{above-join, above-once, above-dead, first-far, first-near}
 use Rattle.mt_propagate.specs.declared.nearest.Above.{Above}
 use Rattle.mt_propagate.specs.Nearest.{known_above, IsFoundAbove, IsFound, IsNearest}
 
