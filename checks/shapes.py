@@ -1,8 +1,9 @@
-"""Each command in worlds of some 4,000 mounts, of six shapes: the answers are the stored ones, in seconds.
+"""Each command in worlds of some 4,000 mounts, of ten shapes: the answers are the stored ones, in seconds.
 A module, a part of program.py.
 
-The answers in shapes.txt are those of the program that scanned all mounts for each question. A line of it has the
-shape, a line of the session, the first line of its answer, how many lines that has, and a part of its SHA-256.
+The answers in shapes.txt are, for the first six shapes, those of the program that scanned all mounts for each question,
+and for the others those of a program without proofs. A line of it has the shape, a line of the session, the first line of
+its answer, how many lines that has, and a part of its SHA-256.
 """
 import hashlib
 import time
@@ -58,6 +59,47 @@ def masters():
     return lines
 
 
+def chain():
+    """A chain of 1,900 peer groups of one mount, each the master of the next. All of them vanish at once when all mounts are
+    made slaves."""
+    lines = [b"mkdir a /g0", b"mount 1 a /g0", b"setattr 1 /g0 prop=shared"]
+    for n in range(1, 1_900):
+        lines += [b"mkdir a /g%d" % n, b"bind 1 /g%d /g%d" % (n - 1, n)]
+        lines += [b"setattr 1 /g%d prop=slave" % n, b"setattr 1 /g%d prop=shared" % n]
+    return lines
+
+
+def hidden():
+    """A chain of 1,100 masters whose mounts show a directory elsewhere, so that no copies come to them, with a slave of each
+    that shows all."""
+    lines = [b"mkdir a /g0", b"mount 1 a /g0", b"setattr 1 /g0 prop=shared"]
+    for n in range(1, 1_100):
+        above = b"/g0" if n == 1 else b"/g%d" % (n - 1)
+        lines += [b"mkdir a /g%d" % n, b"mkdir a /h%d" % n, b"bind 1 %s /g%d" % (above, n)]
+        lines += [b"setattr 1 /g%d prop=slave" % n, b"setattr 1 /g%d prop=shared" % n]
+        lines += [b"bind 1 /g%d /h%d" % (n, n), b"setattr 1 /h%d prop=slave" % n]
+    for n in range(1, 1_100):
+        lines += [b"mkdir a /i%d" % n, b"bind 1 /g%d/x /i%d" % (n, n), b"umount 1 /g%d" % n]
+    return lines
+
+
+def falling():
+    """A stack of 1,900 mounts, each of which has a lower number than the one that it stands on."""
+    lines = [line for n in range(1_900) for line in (b"mkdir a /d%d" % n, b"mount 1 d /d%d" % n)]
+    return lines + [b"move 1 /d%d /d1899" % n for n in range(1_898, -1, -1)]
+
+
+def low():
+    """1,300 slaves of a group of one mount, and 1,300 of its master that came after them."""
+    lines = [b"mkdir a /g", b"mount 1 a /g", b"setattr 1 /g prop=shared"]
+    lines += [b"mkdir a /h", b"bind 1 /g /h", b"setattr 1 /h prop=slave", b"setattr 1 /h prop=shared"]
+    for path, above in ((b"/l", b"/h"), (b"/k", b"/g")):
+        for n in range(1_300):
+            name = b"%s%d" % (path, n)
+            lines += [b"mkdir a " + name, b"bind 1 %s %s" % (above, name), b"setattr 1 %s prop=slave" % name]
+    return lines
+
+
 # Each world with a place in it, a place above that or elsewhere, and a free one.
 SHAPES = {
     "wide": (wide, b"/d7", b"/d3999", b"/x"),
@@ -66,7 +108,14 @@ SHAPES = {
     "spaces": (spaces, b"/d7", b"/d61", b"/x"),
     "group": (group, b"/g7", b"/g1999", b"/g0/t"),
     "masters": (masters, b"/g7", b"/g59x29", b"/g0/t"),
+    "chain": (chain, b"/g7", b"/g1899", b"/g0/t"),
+    "hidden": (hidden, b"/h7", b"/h1099", b"/g0/t"),
+    "falling": (falling, b"/d1899", b"/d1899/u", b"/x"),
+    "low": (low, b"/l7", b"/k1299", b"/x"),
 }
+
+# What some worlds are asked first.
+FIRST = {"falling": [b"rbind 1 / /t"], "low": [b"umount 1 /h"]}
 
 # What each world is asked, and how it is changed and changed back.
 COMMANDS = [
@@ -104,7 +153,7 @@ COMMANDS = [
 def turns(name):
     """The lines that make a world, and those that ask and change it, with a `take` behind each."""
     make, here, there, free = SHAPES[name]
-    lines = [line % {b"here": here, b"there": there, b"free": free} for line in COMMANDS]
+    lines = FIRST.get(name, []) + [line % {b"here": here, b"there": there, b"free": free} for line in COMMANDS]
     return START + make(), [each for line in lines for each in (line, b"take 1024")]
 
 

@@ -1,7 +1,7 @@
 -- Whether a mount is bound with a directory, step by step up to the top.
 use Rattle.std.proofs.Common.{◌≡◌, ◌≢◌, ℕ, zero, suc, ◌&&◌, ◌||◌, Bool, true, false, cond, not, ◌==◌, eq-eqb, List, [], ◌∷◌, Option, Some, None, refl, sym, ap, ◌∙◌, ◌≤◌, length, inl, inr, arith}
 use Rattle.std.specs.List.{list_all, list_any, take_while, last_or}
-use Rattle.std.specs.Option.{option_map_or}
+use Rattle.std.specs.Option.{option_map_or, is_none}
 use Rattle.std.proofs.lemmas.Bool.{cases_lt, ne_eqb}
 use Rattle.std.proofs.lemmas.List.Sums.{take_while-cons}
 use Rattle.mt_skel.specs.Chain.{chain, ends}
@@ -103,3 +103,11 @@ module _ (w : WorldView) (p : Place) where
   -- a way that goes on ends behind its first step
   pub ends_up : (n j q : ℕ) → parent w.forest j ≡ Some q → ends (parent w.forest) (suc n) j ≡ true → ends (parent w.forest) n q ≡ true
   ends_up n j q up e = ap (λ (o : Option ℕ). option_map_or (λ y. ends (parent w.forest) n y) o true) (sym up) ∙ e
+
+  -- a mount that is not unbindable is bound where its parent is, but for one that stands on the top
+  pub bound_step : (j q : ℕ) → j ≢ p.mount → (state_of w j).unbindable ≡ false → parent w.forest j ≡ Some q → q ≢ p.mount → ends (parent w.forest) (length w.forest) j ≡ true → is_bound_along w p j ≡ is_bound_along w p q
+  bound_step j q ne e up off end = go (length w.forest) refl end
+    where
+      go : (n : ℕ) → n ≡ length w.forest → ends (parent w.forest) n j ≡ true → is_bound_along w p j ≡ is_bound_along w p q
+      go zero is end = absurd (let v : is_none (Some q) ≡ true = ap is_none (sym up) ∙ end in cc)
+      go (suc m) is end = sym (taken_before (suc m) None j ne (omega (arith, is)) end) ∙ taken_step m None j q ne e up ∙ taken_before m (Some j) q off (omega (arith, is)) (ends_up m j q up end)

@@ -1,42 +1,32 @@
--- The mounts judged so far, in the order of their IDs.
-use Rattle.std.proofs.Common.{◌≡◌, ℕ, ◌+◌, ◌<◌, true, List, [], ◌∷◌, ◌++◌, drop, map, length, get_or, refl, sym, ap, ◌∙◌, append_assoc, arith}
-use Rattle.std.specs.Prelude.{nat_lt}
+-- What is kept of mounts that were judged stays what the world has.
+use Rattle.std.proofs.Common.{◌≡◌, ℕ, Bool, true, false, cond, nat_eq, [], Option, Some, None, refl, sym, ap, subst, ◌∙◌, arith}
+use Rattle.std.specs.Prelude.{IfSome}
+use Rattle.std.specs.Map.{lookup}
+use Rattle.std.specs.declared.hash.FoldHasher.{FoldHasher}
+use Rattle.std.specs.declared.hash.BuildHasherDefault.{BuildHasherDefault}
 use Rattle.std.proofs.lemmas.Bool.Decides.{nat_tests}
-use Rattle.std.proofs.lemmas.List.{drop_more}
-use Rattle.std.proofs.lemmas.List.Folds.{list_all-append}
-use Rattle.mt_skel.specs.Keyed.{rises}
-use Rattle.mt_skel.proofs.KeyedLaws.{rises-filter}
-use Rattle.mt_mounts.specs.declared.mount.Mount.{Mount}
-use Rattle.mt_mounts.specs.Forest.{id_of, is_below, subtree}
-use Rattle.mt_propagate.proofs.ListedLaws.{rises-keys, map-append}
-use Rattle.mt_propagate.proofs.NumberLaws.{climbs}
-use Rattle.mt_bind.specs.declared.members.Judged.{Judged}
+use Rattle.indexmap.specs.IndexMap.{IndexMap, get}
+use Rattle.mt_mounts.specs.declared.mount.Place.{Place}
+use Rattle.mt_propagate.specs.World.{WorldView}
+use Rattle.mt_bind.specs.Sources.{is_bound_along}
+use Rattle.mt_bind.specs.Judged.{IsJudged}
 
-abbrev pub mount_in : Judged → ℕ
-mount_in j = j.mount
+-- an answer is that of the world
+abbrev IsRight : WorldView → Place → ℕ → Option Bool → Type 0
+IsRight w p i o = IfSome o (λ bound. bound ≡ is_bound_along w p i)
 
--- the IDs of a tree rise
-pub tree_climbs : (ms : List Mount) (i : ℕ) → rises id_of ms ≡ true → climbs (subtree ms i) ≡ true
-tree_climbs ms i h = rises-filter (λ (k : ℕ). k) (is_below ms i) (map id_of ms) (rises-keys id_of ms ∙ h)
+module _ (w : WorldView) (p : Place) where
+  pub judged_none : (m : IndexMap ℕ Bool (BuildHasherDefault FoldHasher)) → m.entries ≡ [] → IsJudged w p m
+  judged_none m e i = let n : get nat_eq m i ≡ None = ap (lookup (nat_eq i)) e in subst (IsRight w p i) (sym n) tt
 
-climbs_front : (xs ys : List ℕ) → climbs (xs ++ ys) ≡ true → climbs xs ≡ true
-climbs_front [] ys h = refl
-climbs_front (x ∷ xs) ys h =
-    let ih = climbs_front xs ys in
-    let all = list_all-append (λ y. nat_lt x y) xs ys in
-    grind (arith, nat_tests)
+  pub judged_is : (m : IndexMap ℕ Bool (BuildHasherDefault FoldHasher)) (i : ℕ) (b : Bool) → IsJudged w p m → get nat_eq m i ≡ Some b → b ≡ is_bound_along w p i
+  judged_is m i b j e = subst (IsRight w p i) e (j i)
 
-module _ (ids : List ℕ) (js : List Judged) (i : ℕ) (before : map mount_in js ++ drop i ids ≡ ids) where
-  -- so those judged do
-  pub judged_rise : climbs ids ≡ true → rises mount_in js ≡ true
-  judged_rise h = sym (rises-keys mount_in js) ∙ climbs_front (map mount_in js) (drop i ids) (ap climbs before ∙ h)
-
-  -- and the next one follows
-  pub judged_next : (x : ℕ) (j : Judged) (more : List Judged) → i < length ids → j.mount ≡ get_or ids i x → more ≡ js ++ j ∷ [] → map mount_in more ++ drop (i + 1) ids ≡ ids
-  judged_next x j more l is e =
-      ap (λ v. map mount_in v ++ drop (i + 1) ids) e
-      ∙ ap (λ v. v ++ drop (i + 1) ids) (map-append mount_in js (j ∷ []))
-      ∙ append_assoc (map mount_in js) (j.mount ∷ []) (drop (i + 1) ids)
-      ∙ ap (λ k. map mount_in js ++ k ∷ drop (i + 1) ids) is
-      ∙ ap (λ v. map mount_in js ++ v) (sym (drop_more ids i x l))
-      ∙ before
+  -- one more
+  pub judged_more : (m n : IndexMap ℕ Bool (BuildHasherDefault FoldHasher)) (k : ℕ) (b : Bool) → IsJudged w p m → b ≡ is_bound_along w p k
+      → ((i : ℕ) → get nat_eq n i ≡ cond (nat_eq k i) (Some b) (get nat_eq m i)) → IsJudged w p n
+  judged_more m n k b j e put i = subst (IsRight w p i) (sym (put i)) (by (nat_eq k i) refl)
+    where
+      by : (t : Bool) → nat_eq k i ≡ t → IsRight w p i (cond t (Some b) (get nat_eq m i))
+      by true is = let same : k ≡ i = grind (arith, nat_tests) in e ∙ ap (is_bound_along w p) same
+      by false is = j i

@@ -2,5 +2,6 @@ pub mod Copying
 pub mod Spaces
 pub mod Dropping
 pub mod Sources
+pub mod Judged
 pub mod Mounting
 pub mod Laws

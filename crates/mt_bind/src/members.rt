@@ -1,37 +1,18 @@
 //! Which mounts a recursive bind copies.
-ghost use Rattle.std.specs.Prelude.{◌≡◌, ◌<◌, map, length, None, IsTrue, IfOk, IfSome, IfNone, IsOkUnless};
-ghost use Rattle.std.specs.List.{All, HoldsAt, filter};
-ghost use Rattle.mt_skel.specs.Keyed.{rises, row_at};
+ghost use Rattle.std.specs.Prelude.{◌≡◌, map, IfOk, OnOk, IsOkUnless};
+ghost use Rattle.std.specs.List.{filter};
 ghost use Rattle.mt_mounts.specs.Forest.{id_of};
 ghost use Rattle.mt_propagate.specs.World.{world_view};
 ghost use Rattle.mt_propagate.specs.WellFormed.{IsWellFormed};
 ghost use Rattle.mt_bind.specs.Sources.{leads_within, is_bound_along};
+ghost use Rattle.mt_bind.specs.Judged.{IsJudged};
 
 use crate::binding::is_unbindable;
+use indexmap::IndexMap;
 use mt_mounts::mount::{MountId, Place};
 use mt_propagate::world::World;
 use mt_skel::fault::Fault;
 use mt_skel::skel::Dir;
-
-/// What was found of a mount: whether a recursive bind copies it.
-#[derive(Clone, Copy)]
-struct Judged {
-    mount: MountId,
-    bound: bool,
-}
-
-/// The index of what was found of a mount, by halving the list of what was found, in which the mounts
-/// rise by their IDs; `None` where nothing was.
-fn index_of(judged: &[Judged], id: MountId) -> Option<usize>
-    requires rising { IsTrue (rises (λ j. j.mount) judged.now) }
-    ensures found { IfSome result (λ at. (at < length judged.now) × HoldsAt (λ j. j.mount ≡ id) judged.now at) }
-    ensures absent { IfNone result (row_at (λ j. j.mount) id judged.now ≡ None) }
-{
-    match judged.binary_search_by_key(&id, |other| other.mount) {
-        Ok(at) => Some(at),
-        Err(_) => None,
-    }
-}
 
 /// Whether a mount stands at a directory or below it. True where there is no mount to ask for.
 fn leads_within(world: &World, dir: Dir, mount: Option<MountId>) -> bool
@@ -52,10 +33,9 @@ fn leads_within(world: &World, dir: Dir, mount: Option<MountId>) -> bool
 /// Whether a recursive bind of a directory copies a mount: it is the directory's own mount, or it
 /// stands on that one at whatever height, within the directory, and neither it nor a mount between
 /// the two is unbindable. The way up ends at a mount of which this was found before.
-fn is_bound_along(world: &World, from: Place, judged: &[Judged], id: MountId) -> bool
+fn is_bound_along(world: &World, from: Place, judged: &IndexMap<MountId, bool>, id: MountId) -> bool
     requires well_formed { IsWellFormed (world_view world.now) }
-    requires rising { IsTrue (rises (λ j. j.mount) judged.now) }
-    requires judged { All (λ j. j.bound ≡ is_bound_along (world_view world.now) from j.mount) judged.now }
+    requires judged { IsJudged (world_view world.now) from judged.now }
     ensures { result ≡ is_bound_along (world_view world.now) from id }
 {
     let mut here = id;
@@ -64,8 +44,8 @@ fn is_bound_along(world: &World, from: Place, judged: &[Judged], id: MountId) ->
         if here == from.mount {
             return leads_within(world, from.dir, passed);
         }
-        if let Some(at) = index_of(judged, here) {
-            return judged[at].bound;
+        if let Some(bound) = judged.get(&here).copied() {
+            return bound;
         }
         if is_unbindable(world, here) {
             return false;
@@ -79,6 +59,60 @@ fn is_bound_along(world: &World, from: Place, judged: &[Judged], id: MountId) ->
     here == from.mount && leads_within(world, from.dir, passed)
 }
 
+/// Keeps what was found of a mount for it and for those that were passed on its way up: none of them is unbindable but the
+/// last, so that it is true of them all.
+fn keep_passed(
+    world: &World,
+    from: Place,
+    judged: &mut IndexMap<MountId, bool>,
+    id: MountId,
+    bound: bool,
+) -> Result<(), Fault>
+    requires well_formed { IsWellFormed (world_view world.now) }
+    requires judged { IsJudged (world_view world.now) from judged.old }
+    requires bound { bound ≡ is_bound_along (world_view world.now) from id }
+    ensures judged { OnOk result (IsJudged (world_view world.now) from judged.new) }
+    ensures memory { IsOkUnless result Fault.NoMemory }
+{
+    let mut here = id;
+    'passed: for _step in 0..world.forest.len() {
+        if here == from.mount {
+            return Ok(());
+        }
+        if judged.contains_key(&here) {
+            return Ok(());
+        }
+        judged.insert(here, bound)?;
+        if is_unbindable(world, here) {
+            return Ok(());
+        }
+        let Some(parent) = world.forest.parent(here) else {
+            return Ok(());
+        };
+        here = parent;
+    }
+    Ok(())
+}
+
+/// Whether a recursive bind of a directory copies a mount. What is found on the way is kept, so that no mount is passed
+/// twice. Refused as `NoMemory` alone.
+fn judge(
+    world: &World,
+    from: Place,
+    judged: &mut IndexMap<MountId, bool>,
+    id: MountId,
+) -> Result<bool, Fault>
+    requires well_formed { IsWellFormed (world_view world.now) }
+    requires judged { IsJudged (world_view world.now) from judged.old }
+    ensures bound { IfOk result (λ bound. bound ≡ is_bound_along (world_view world.now) from id) }
+    ensures judged { OnOk result (IsJudged (world_view world.now) from judged.new) }
+    ensures memory { IsOkUnless result Fault.NoMemory }
+{
+    let bound = is_bound_along(world, from, judged, id);
+    keep_passed(world, from, judged, id, bound)?;
+    Ok(bound)
+}
+
 /// The mounts that a recursive bind of a directory copies, by rising ID: those of the directory's own
 /// mount and of all that stand on it are judged, and no others. Refused as `NoMemory` alone.
 pub(crate) fn members_within(world: &World, from: Place) -> Result<Vec<MountId>, Fault>
@@ -87,11 +121,10 @@ pub(crate) fn members_within(world: &World, from: Place) -> Result<Vec<MountId>,
     ensures memory { IsOkUnless result Fault.NoMemory }
 {
     let below = world.forest.subtree(from.mount)?;
-    let mut judged = Vec::with_capacity(world.forest.allocator(), below.len())?;
+    let mut judged = IndexMap::with_capacity(world.forest.allocator(), below.len())?;
     let mut members = Vec::with_capacity(world.forest.allocator(), below.len())?;
     for id in &below {
-        let bound = is_bound_along(world, from, &judged, *id);
-        judged.push(Judged { mount: *id, bound })?;
+        let bound = judge(world, from, &mut judged, *id)?;
         if bound {
             members.push(*id)?;
         }

@@ -7,8 +7,8 @@ use Rattle.mt_skel.specs.Keyed.{row_at, put, rises, among}
 use Rattle.mt_skel.proofs.KeyedLaws.{row_at-put, row_at-key}
 use Rattle.mt_lists.specs.declared.entries.Entry.{Entry}
 use Rattle.mt_lists.specs.Lists.{ListRow, id_of, ids, above, next_of, without_id, names}
-use Rattle.mt_lists.specs.Links.{below, head_of, entry_of, entry_at, given_before, given_after, grown, shrunk}
-use Rattle.mt_lists.proofs.NeighbourLaws.{itself, above-put, below-put, above-put-itself, below-put-itself, head-put, above-among, below-among, less, above-less, below-less, head-less}
+use Rattle.mt_lists.specs.Links.{below, ends_of, entry_of, entry_at, given_before, given_after, grown, shrunk}
+use Rattle.mt_lists.proofs.NeighbourLaws.{itself, above-put, below-put, above-put-itself, below-put-itself, ends-put, above-among, below-among, less, above-less, below-less, ends-less}
 use Rattle.mt_lists.proofs.IdLaws.{rising-ids, among-ids, ids-put, ids-without, row-without}
 
 -- an entry's neighbours after each write
@@ -161,13 +161,13 @@ module _ (rows : List ListRow) (h : rises id_of rows ≡ true) (r : ListRow) (ab
     | inr other ↦ put-there q other (row_at id_of q rows) refl
   ]
 
-  pub heads-put : (g : ℕ) → head_of (ids (put id_of r rows) g) ≡ cond (nat_eq r.number g) (Some (grown r.id (head_of (ids rows r.number)))) (head_of (ids rows g))
-  heads-put g = elim (cases_eq r.number g) [
+  pub ends-put-in : (g : ℕ) → ends_of (ids (put id_of r rows) g) ≡ cond (nat_eq r.number g) (Some (grown r.id (ends_of (ids rows r.number)))) (ends_of (ids rows g))
+  ends-put-in g = elim (cases_eq r.number g) [
     | inl same ↦
-        rw (← same) (ap head_of ids-same ∙ head-put r.id (ids rows r.number) (rising-ids rows r.number h) (in-none rows h r.id r.number absent)
-        ∙ sym (ap (λ b. cond b (Some (grown r.id (head_of (ids rows r.number)))) (head_of (ids rows r.number))) (eq-eqb r.number r.number refl)))
+        rw (← same) (ap ends_of ids-same ∙ ends-put r.id (ids rows r.number) (rising-ids rows r.number h) (in-none rows h r.id r.number absent)
+        ∙ sym (ap (λ b. cond b (Some (grown r.id (ends_of (ids rows r.number)))) (ends_of (ids rows r.number))) (eq-eqb r.number r.number refl)))
     | inr other ↦
-        ap head_of (ids-other g (λ s. other (sym s))) ∙ sym (ap (λ b. cond b (Some (grown r.id (head_of (ids rows r.number)))) (head_of (ids rows g))) (ne_eqb r.number g other))
+        ap ends_of (ids-other g (λ s. other (sym s))) ∙ sym (ap (λ b. cond b (Some (grown r.id (ends_of (ids rows r.number)))) (ends_of (ids rows g))) (ne_eqb r.number g other))
   ]
 
 -- a row less
@@ -231,12 +231,12 @@ module _ (rows : List ListRow) (h : rises id_of rows ≡ true) (i : ℕ) (r : Li
     | inr other ↦ less-there q other (row_at id_of q rows) refl
   ]
 
-  pub heads-less : (g : ℕ) → head_of (ids (without_id i rows) g)
-      ≡ cond (nat_eq r.number g) (option_and_then (shrunk i (below i (ids rows r.number)) (above i (ids rows r.number))) (head_of (ids rows r.number))) (head_of (ids rows g))
-  heads-less g = elim (cases_eq r.number g) [
+  pub ends-less-in : (g : ℕ) → ends_of (ids (without_id i rows) g)
+      ≡ cond (nat_eq r.number g) (option_and_then (shrunk i (below i (ids rows r.number)) (above i (ids rows r.number))) (ends_of (ids rows r.number))) (ends_of (ids rows g))
+  ends-less-in g = elim (cases_eq r.number g) [
     | inl same ↦
-        rw (← same) (ap head_of (ids-without i rows r.number) ∙ head-less i (ids rows r.number) (rising-ids rows r.number h) here
-        ∙ sym (ap (λ b. cond b (option_and_then (shrunk i (below i (ids rows r.number)) (above i (ids rows r.number))) (head_of (ids rows r.number))) (head_of (ids rows r.number))) (eq-eqb r.number r.number refl)))
+        rw (← same) (ap ends_of (ids-without i rows r.number) ∙ ends-less i (ids rows r.number) (rising-ids rows r.number h) here
+        ∙ sym (ap (λ b. cond b (option_and_then (shrunk i (below i (ids rows r.number)) (above i (ids rows r.number))) (ends_of (ids rows r.number))) (ends_of (ids rows r.number))) (eq-eqb r.number r.number refl)))
     | inr other ↦
-        ap head_of (ids-off g (λ s. other (sym s))) ∙ sym (ap (λ b. cond b (option_and_then (shrunk i (below i (ids rows r.number)) (above i (ids rows r.number))) (head_of (ids rows r.number))) (head_of (ids rows g))) (ne_eqb r.number g other))
+        ap ends_of (ids-off g (λ s. other (sym s))) ∙ sym (ap (λ b. cond b (option_and_then (shrunk i (below i (ids rows r.number)) (above i (ids rows r.number))) (ends_of (ids rows r.number))) (ends_of (ids rows g))) (ne_eqb r.number g other))
   ]

@@ -3,14 +3,15 @@ use Rattle.std.proofs.Common.{◌≡◌, ℕ, true, cond, not, eqb, nat_eq, List
 use Rattle.std.specs.Option.{option_map, option_and_then}
 use Rattle.std.proofs.lemmas.Bool.Decides.{nat_tests}
 use Rattle.indexmap.specs.IndexMap.{get}
-use Rattle.mt_skel.specs.Keyed.{row_at, put, rises}
+use Rattle.mt_skel.specs.Keyed.{row_at, put, rises, among}
 use Rattle.mt_skel.proofs.KeyedLaws.{rises-put, rises-filter}
 use Rattle.mt_lists.specs.declared.entries.Entry.{Entry}
+use Rattle.mt_lists.specs.declared.heads.Ends.{Ends}
 use Rattle.mt_lists.specs.declared.heads.Head.{Head}
 use Rattle.mt_lists.specs.Lists.{ListRow, id_of, ids, above, without_id, names}
-use Rattle.mt_lists.specs.Links.{Index, row_of, rows_of, below, head_of, entry_of, entry_at, given_before, given_after, grown, shrunk, IsLinked}
-use Rattle.mt_lists.proofs.NeighbourLaws.{head-some}
-use Rattle.mt_lists.proofs.EntryLaws.{written, entry-put, heads-put, entry-less, heads-less, in-own}
+use Rattle.mt_lists.specs.Links.{Index, row_of, rows_of, below, ends_of, entry_of, entry_at, ends_at, given_before, given_after, grown, shrunk, IsLinked}
+use Rattle.mt_lists.proofs.NeighbourLaws.{ends-some}
+use Rattle.mt_lists.proofs.EntryLaws.{written, entry-put, ends-put-in, entry-less, ends-less-in, in-own}
 use Rattle.mt_lists.proofs.TableLaws.{rises-rows, row-rows, rows-told, rows-same, linked-told}
 
 written-told : (pb b pa a : Option ℕ) (f g e d : ℕ → Option Entry) → ((k : ℕ) → f k ≡ given_before pb b g k) → ((k : ℕ) → g k ≡ given_after pa a e k) → ((k : ℕ) → e k ≡ d k) → (q : ℕ) → f q ≡ written pb b pa a q d
@@ -42,10 +43,10 @@ module _ (m : Index Entry) (heads : Index Head) (x : IsLinked m heads) (id n : �
   pub rows-more : rows_of before_m ≡ put id_of (record { id = id; number = n }) (rows_of m)
   rows-more = rows-told before_m (put id_of (record { id = id; number = n }) (rows_of m)) rises-more told-more
 
-  pub linked-more : (grown_heads : Index Head) → ((k : ℕ) → get nat_eq grown_heads k ≡ cond (nat_eq n k) (Some (grown id (get nat_eq heads n))) (get nat_eq heads k)) → IsLinked before_m grown_heads
+  pub linked-more : (grown_heads : Index Head) → ((k : ℕ) → ends_at grown_heads k ≡ cond (nat_eq n k) (Some (grown id (ends_at heads n))) (ends_at heads k)) → IsLinked before_m grown_heads
   linked-more grown_heads grows =
       linked-told before_m (put id_of (record { id = id; number = n }) (rows_of m)) rises-more told-more grown_heads
-      (λ k. grows k ∙ (λ i. cond (nat_eq n k) (Some (grown id (x.heads_told n i))) (x.heads_told k i)) ∙ sym (heads-put (rows_of m) (rises-rows m) (record { id = id; number = n }) absent k))
+      (λ k. grows k ∙ (λ i. cond (nat_eq n k) (Some (grown id (x.ends_told n i))) (x.ends_told k i)) ∙ sym (ends-put-in (rows_of m) (rises-rows m) (record { id = id; number = n }) absent k))
 
 -- an ID is taken out of the list of its number
 module _ (m : Index Entry) (heads : Index Head) (x : IsLinked m heads) (id : ℕ) (entry : Entry) (there : get nat_eq m id ≡ Some entry) where
@@ -61,9 +62,9 @@ module _ (m : Index Entry) (heads : Index Head) (x : IsLinked m heads) (id : ℕ
   high-is : entry.after ≡ above id (ids (rows_of m) entry.number)
   high-is = let e = entry-is in let v : entry ≡ entry_of (rows_of m) (row_of id entry) = cc in ap (λ (y : Entry). y.after) v
 
-  -- its list has a head
-  pub head-there : get nat_eq heads entry.number ≡ None → ⊥
-  head-there none = head-some id (ids (rows_of m) entry.number) (in-own (rows_of m) (rises-rows m) id (row_of id entry) row-there) (sym (x.heads_told entry.number) ∙ none)
+  -- its list has ends
+  pub ends-there : ends_at heads entry.number ≡ None → ⊥
+  ends-there none = ends-some id (ids (rows_of m) entry.number) (in-own (rows_of m) (rises-rows m) id (row_of id entry) row-there) (sym (x.ends_told entry.number) ∙ none)
 
   module _ (cut_m after_m before_m : Index Entry)
       (cuts : (k : ℕ) → get nat_eq cut_m k ≡ cond (nat_eq id k) None (get nat_eq m k))
@@ -82,14 +83,14 @@ module _ (m : Index Entry) (heads : Index Head) (x : IsLinked m heads) (id : ℕ
     pub rows-less : rows_of before_m ≡ without_id id (rows_of m)
     rows-less = rows-told before_m (without_id id (rows_of m)) rises-less told-less
 
-    pub linked-less : (shrunk_heads : Index Head) (head : Head) → get nat_eq heads entry.number ≡ Some head
-        → ((k : ℕ) → get nat_eq shrunk_heads k ≡ cond (nat_eq entry.number k) (shrunk id entry.before entry.after head) (get nat_eq heads k)) → IsLinked before_m shrunk_heads
-    linked-less shrunk_heads head at shrinks =
+    pub linked-less : (shrunk_heads : Index Head) (ends : Ends) → ends_at heads entry.number ≡ Some ends
+        → ((k : ℕ) → ends_at shrunk_heads k ≡ cond (nat_eq entry.number k) (shrunk id entry.before entry.after ends) (ends_at heads k)) → IsLinked before_m shrunk_heads
+    linked-less shrunk_heads ends at shrinks =
         linked-told before_m (without_id id (rows_of m)) rises-less told-less shrunk_heads
         (λ k. shrinks k
-        ∙ (λ i. cond (nat_eq entry.number k) (shrunk id (low-is i) (high-is i) head) (x.heads_told k i))
-        ∙ ap (λ o. cond (nat_eq entry.number k) (option_and_then (shrunk id (below id (ids (rows_of m) entry.number)) (above id (ids (rows_of m) entry.number))) o) (head_of (ids (rows_of m) k))) (sym at ∙ x.heads_told entry.number)
-        ∙ sym (heads-less (rows_of m) (rises-rows m) id (row_of id entry) row-there k))
+        ∙ (λ i. cond (nat_eq entry.number k) (shrunk id (low-is i) (high-is i) ends) (x.ends_told k i))
+        ∙ ap (λ o. cond (nat_eq entry.number k) (option_and_then (shrunk id (below id (ids (rows_of m) entry.number)) (above id (ids (rows_of m) entry.number))) o) (ends_of (ids (rows_of m) k))) (sym at ∙ x.ends_told entry.number)
+        ∙ sym (ends-less-in (rows_of m) (rises-rows m) id (row_of id entry) row-there k))
 
 without-absent : (id : ℕ) (rows : List ListRow) → row_at id_of id rows ≡ None → without_id id rows ≡ rows
 without-absent id [] n = refl
@@ -101,3 +102,8 @@ without-absent id (r ∷ rs) n =
 module _ (m : Index Entry) (id : ℕ) (none : get nat_eq m id ≡ None) (same_m : Index Entry) (same : same_m.entries ≡ m.entries) where
   pub rows-none : rows_of same_m ≡ without_id id (rows_of m)
   rows-none = rows-same m same_m same ∙ sym (without-absent id (rows_of m) (row-rows m id ∙ ap (option_map (row_of id)) none))
+
+-- an ID is in the list of the number that its entry has
+pub entry-member : (m : Index Entry) (id n : ℕ) (entry : Entry) → get nat_eq m id ≡ Some entry → entry.number ≡ n → among (ids (rows_of m) n) id ≡ true
+entry-member m id n entry there is =
+    ap (λ k. among (ids (rows_of m) k) id) (sym is) ∙ in-own (rows_of m) (rises-rows m) id (row_of id entry) (row-rows m id ∙ ap (option_map (row_of id)) there)

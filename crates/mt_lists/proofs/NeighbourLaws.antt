@@ -1,12 +1,13 @@
 -- The neighbours of a number in a rising list, and what one number more makes of them.
-use Rattle.std.proofs.Common.{◌≡◌, ◌≢◌, ℕ, suc, ◌+◌, ◌<◌, ◌≤◌, length, Bool, true, false, cond, ◌||◌, eqb, ltb, List, [], ◌∷◌, Option, Some, None, is_none, refl, sym, ◌∙◌, arith}
-use Rattle.std.specs.List.{list_all, list_any}
+use Rattle.std.proofs.Common.{◌≡◌, ◌≢◌, ℕ, suc, ◌+◌, ◌<◌, ◌≤◌, length, Bool, true, false, cond, ◌||◌, eqb, ltb, List, [], ◌∷◌, Option, Some, None, is_none, refl, sym, ◌∙◌, arith, inl, inr}
+use Rattle.std.specs.List.{list_all}
 use Rattle.std.specs.Option.{option_map, option_map_or, option_and_then, unwrap_or}
+use Rattle.std.proofs.lemmas.Bool.{cases_eq}
 use Rattle.std.proofs.lemmas.Bool.Decides.{nat_tests}
 use Rattle.mt_skel.specs.Keyed.{put, rises, without, among}
-use Rattle.mt_lists.specs.declared.heads.Head.{Head}
+use Rattle.mt_lists.specs.declared.heads.Ends.{Ends}
 use Rattle.mt_lists.specs.Lists.{first, above, names}
-use Rattle.mt_lists.specs.Links.{below, last_from, head_of, grown, shrunk, IsSought}
+use Rattle.mt_lists.specs.Links.{below, last_from, ends_of, grown, shrunk, IsSought}
 
 -- a number is its own key
 abbrev pub itself : ℕ → ℕ
@@ -129,9 +130,9 @@ last-put id y (z ∷ zs) l r n =
     let low = last-low z zs in
     grind (arith, nat_tests)
 
-pub head-put : (id : ℕ) (xs : List ℕ) → rising xs ≡ true → among xs id ≡ false → head_of (put itself id xs) ≡ Some (grown id (head_of xs))
-head-put id [] r n = refl
-head-put id (y ∷ ys) r n =
+pub ends-put : (id : ℕ) (xs : List ℕ) → rising xs ≡ true → among xs id ≡ false → ends_of (put itself id xs) ≡ Some (grown id (ends_of xs))
+ends-put id [] r n = refl
+ends-put id (y ∷ ys) r n =
     let l = last-put id y ys in
     let k = length-put id ys in
     let low = last-low y ys in
@@ -287,10 +288,10 @@ last-less id x (z ∷ zs) r n =
     let h = last-here x z zs in
     grind (arith, nat_tests)
 
-pub head-less : (id : ℕ) (xs : List ℕ) → rising xs ≡ true → among xs id ≡ true → head_of (less id xs) ≡ option_and_then (shrunk id (below id xs) (above id xs)) (head_of xs)
-head-less id [] r n = absurd (let e : false ≡ true = n in cc)
-head-less id (y ∷ []) r n = grind (arith, nat_tests)
-head-less id (y ∷ z ∷ zs) r n =
+pub ends-less : (id : ℕ) (xs : List ℕ) → rising xs ≡ true → among xs id ≡ true → ends_of (less id xs) ≡ option_and_then (shrunk id (below id xs) (above id xs)) (ends_of xs)
+ends-less id [] r n = absurd (let e : false ≡ true = n in cc)
+ends-less id (y ∷ []) r n = grind (arith, nat_tests)
+ends-less id (y ∷ z ∷ zs) r n =
     let l_y = less-over id (z ∷ zs) in
     let o_i = over-among y id (z ∷ zs) in
     let a_y = above-over id (z ∷ zs) in
@@ -300,16 +301,16 @@ head-less id (y ∷ z ∷ zs) r n =
     grind (arith, nat_tests)
 
 -- a list has a head where a number is in it
-pub head-some : (k : ℕ) (xs : List ℕ) → among xs k ≡ true → head_of xs ≡ None → ⊥
-head-some k [] m e = absurd (let f : false ≡ true = m in cc)
-head-some k (x ∷ xs) m e = absurd (cc)
+pub ends-some : (k : ℕ) (xs : List ℕ) → among xs k ≡ true → ends_of xs ≡ None → ⊥
+ends-some k [] m e = absurd (let f : false ≡ true = m in cc)
+ends-some k (x ∷ xs) m e = absurd (cc)
 
-pub head-first : (xs : List ℕ) → option_map (λ (h : Head). h.first) (head_of xs) ≡ first xs
-head-first [] = refl
-head-first (x ∷ xs) = refl
+pub ends-first : (xs : List ℕ) → option_map (λ (e : Ends). e.first) (ends_of xs) ≡ first xs
+ends-first [] = refl
+ends-first (x ∷ xs) = refl
 
 -- the search for the place of a number: its start, its steps and its ends
-pub sought-last : (id : ℕ) (xs : List ℕ) → rising xs ≡ true → IsSought id xs (option_map (λ (h : Head). h.last) (head_of xs))
+pub sought-last : (id : ℕ) (xs : List ℕ) → rising xs ≡ true → IsSought id xs (option_map (λ (e : Ends). e.last) (ends_of xs))
 sought-last id [] r = record { bound = id; high = omega arith; is = refl }
 sought-last id (x ∷ xs) r = record { bound = suc (id + last_from x xs); high = omega arith; is = sym (below-last (suc (id + last_from x xs)) x xs r (omega arith)) }
 
@@ -329,3 +330,36 @@ below-falls other xs here o is e = rw is (go o e)
     go : (o : Option ℕ) → o ≡ below other xs → option_map_or (λ x. suc x) o 0 < suc other
     go None e = omega arith
     go (Some b) e = let l = (below-among other b xs (sym e)).1 in omega arith
+
+-- the search upwards: it goes on to a number below the new one, and ends before one that is not
+sought-over : (h id : ℕ) (xs : List ℕ) → h < id → over h xs ≡ true → ((a : ℕ) → first xs ≡ Some a → id ≤ a) → below id xs ≡ None
+sought-over h id [] l o e = refl
+sought-over h id (x ∷ xs) l o e =
+    let le = e x refl in
+    grind (arith, nat_tests)
+
+sought-above : (h id : ℕ) (xs : List ℕ) → rising xs ≡ true → among xs h ≡ true → h < id → ((a : ℕ) → above h xs ≡ Some a → id ≤ a) → Some h ≡ below id xs
+sought-above h id [] r m l e = absurd (let f : false ≡ true = m in cc)
+sought-above h id (x ∷ xs) r m l e = go (below id xs) refl (λ o f. sought-over h id xs l o f) (λ s n f. sought-above h id xs s n l f)
+  where
+    go : (o : Option ℕ) → below id xs ≡ o → (over h xs ≡ true → ((a : ℕ) → first xs ≡ Some a → id ≤ a) → o ≡ None)
+        → (rising xs ≡ true → among xs h ≡ true → ((a : ℕ) → above h xs ≡ Some a → id ≤ a) → Some h ≡ o) → Some h ≡ below id (x ∷ xs)
+    go o is none ih = elim (cases_eq x h) [
+      | inl same ↦
+          let up : over h xs ≡ true = grind (arith, nat_tests) in
+          let f = none up (λ a s. e a (let v = above-over h xs up in grind (arith, nat_tests))) in
+          grind (arith, nat_tests)
+      | inr other ↦
+          let n : among xs h ≡ true = grind (arith, nat_tests) in
+          let s : rising xs ≡ true = grind (arith, nat_tests) in
+          let lt = over-among x h xs in
+          let i = ih s n (λ a s. e a (grind (arith, nat_tests))) in
+          grind (arith, nat_tests)
+    ]
+
+pub sought-up : (h id : ℕ) (xs : List ℕ) (o : Option ℕ) → rising xs ≡ true → among xs h ≡ true → h < id → o ≡ above h xs → ((a : ℕ) → o ≡ Some a → id ≤ a) → Some h ≡ below id xs
+sought-up h id xs o r m l e f = sought-above h id xs r m l (λ a s. f a (e ∙ s))
+
+-- the last of a list, where it is below the new number
+pub sought-end-last : (id last : ℕ) (xs : List ℕ) → rising xs ≡ true → option_map (λ (e : Ends). e.last) (ends_of xs) ≡ Some last → last < id → Some last ≡ below id xs
+sought-end-last id last xs r e l = sym e ∙ sought-end id xs _ r (sought-last id xs r) (λ x f. let v : Some last ≡ Some x = sym e ∙ f in let w : last ≡ x = cc in rw w at l)

@@ -5,7 +5,7 @@ use Rattle.std.specs.Option.{option_map, option_map_or, option_and_then}
 use Rattle.std.proofs.lemmas.Bool.{cases_eq, ne_eqb}
 use Rattle.std.proofs.lemmas.Bool.Decides.{nat_tests}
 use Rattle.mt_skel.specs.Keyed.{row_at, put, rises, without}
-use Rattle.mt_skel.proofs.KeyedLaws.{row_at-put, row_at-key, row_at-below, row_at-map, rises-put, rises-filter, rises-map, same_rows}
+use Rattle.mt_skel.proofs.KeyedLaws.{row_at-put, row_at-key, row_at-below, row_at-map, rises-put, rises-map, same_rows}
 use Rattle.mt_lists.specs.Lists.{ListRow, id_of, ids, without_id, with_number}
 use Rattle.mt_lists.specs.Numbered.{rows_by, has_number}
 use Rattle.mt_lists.proofs.RowLaws.{row-with, rises-with}

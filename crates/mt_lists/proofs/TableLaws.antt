@@ -8,9 +8,10 @@ use Rattle.indexmap.specs.IndexMap.{get, IsUnique}
 use Rattle.mt_skel.specs.Keyed.{row_at, put, rises}
 use Rattle.mt_skel.proofs.KeyedLaws.{row_at-put, row_at-key, rises-put, same_rows}
 use Rattle.mt_lists.specs.declared.entries.Entry.{Entry}
+use Rattle.mt_lists.specs.declared.heads.Ends.{Ends}
 use Rattle.mt_lists.specs.declared.heads.Head.{Head}
 use Rattle.mt_lists.specs.Lists.{ListRow, id_of, ids}
-use Rattle.mt_lists.specs.Links.{Index, row_of, rows_from, rows_of, head_of, entry_of, entry_at, IsLinked}
+use Rattle.mt_lists.specs.Links.{Index, row_of, rows_from, rows_of, ends_of, entry_of, entry_at, ends_at, IsLinked}
 
 row-from : (es : List (ℕ × Entry)) (q : ℕ) → row_at id_of q (rows_from es) ≡ option_map (row_of q) (lookup (nat_eq q) es)
 row-from [] q = refl
@@ -49,19 +50,19 @@ module _ (m : Index Entry) (rows : List ListRow) (h : rises id_of rows ≡ true)
   pub rows-told : rows_of m ≡ rows
   rows-told = same_rows id_of (rows_of m) rows (rises-rows m) h (λ q. row-rows m q ∙ ap (option_map (row_of q)) (told q) ∙ kept q (row_at id_of q rows) (row_at-key id_of q rows))
 
-  pub linked-told : (heads : Index Head) → ((n : ℕ) → get nat_eq heads n ≡ head_of (ids rows n)) → IsLinked m heads
+  pub linked-told : (heads : Index Head) → ((n : ℕ) → ends_at heads n ≡ ends_of (ids rows n)) → IsLinked m heads
   linked-told heads ends = record {
     entries_told = λ q. told q ∙ ap (λ r. entry_at r q) (sym rows-told);
-    heads_told = λ n. ends n ∙ ap (λ r. head_of (ids r n)) (sym rows-told);
+    ends_told = λ n. ends n ∙ ap (λ r. ends_of (ids r n)) (sym rows-told);
   }
 
 -- other tables with the same entries
 pub linked-same : (m n : Index Entry) (heads ends : Index Head) → n.entries ≡ m.entries → ends.entries ≡ heads.entries → IsLinked m heads → IsLinked n ends
 linked-same m n heads ends e f x =
-    linked-told n (rows_of m) (rises-rows m) (λ q. ap (lookup (nat_eq q)) e ∙ x.entries_told q) ends (λ k. ap (lookup (nat_eq k)) f ∙ x.heads_told k)
+    linked-told n (rows_of m) (rises-rows m) (λ q. ap (lookup (nat_eq q)) e ∙ x.entries_told q) ends (λ k. ap (λ es. option_map (λ (h : Head). h.ends) (lookup (nat_eq k) es)) f ∙ x.ends_told k)
 
 pub linked-none : (m : Index Entry) (heads : Index Head) → m.entries ≡ [] → heads.entries ≡ [] → IsLinked m heads
-linked-none m heads e f = linked-told m [] refl (λ q. ap (lookup (nat_eq q)) e) heads (λ k. ap (lookup (nat_eq k)) f)
+linked-none m heads e f = linked-told m [] refl (λ q. ap (lookup (nat_eq q)) e) heads (λ k. ap (λ es. option_map (λ (h : Head). h.ends) (lookup (nat_eq k) es)) f)
 
 -- how many rows there are
 length-put-most : (r : ListRow) (rows : List ListRow) → length (put id_of r rows) ≤ suc (length rows)
@@ -108,12 +109,12 @@ length-ids (r ∷ rs) n =
     grind (arith, nat_tests)
 
 -- no list has so many IDs that they cannot be counted
-pub count-small : (m : Index Entry) (n : ℕ) → length m.entries < 2 ^ 63 → IfSome (head_of (ids (rows_of m) n)) (λ (h : Head). h.count < 2 ^ 63)
+pub count-small : (m : Index Entry) (n : ℕ) → length m.entries < 2 ^ 63 → IfSome (ends_of (ids (rows_of m) n)) (λ (e : Ends). e.count < 2 ^ 63)
 count-small m n l =
     let a = length-rows-most m in
     let b = length-ids (rows_of m) n in
     go (ids (rows_of m) n) (omega arith)
   where
-    go : (xs : List ℕ) → length xs < 2 ^ 63 → IfSome (head_of xs) (λ (h : Head). h.count < 2 ^ 63)
+    go : (xs : List ℕ) → length xs < 2 ^ 63 → IfSome (ends_of xs) (λ (e : Ends). e.count < 2 ^ 63)
     go [] l = tt
     go (x ∷ xs) l = l

@@ -7,6 +7,7 @@ use Rattle.std.specs.declared.hash.BuildHasherDefault.{BuildHasherDefault}
 use Rattle.indexmap.specs.IndexMap.{IndexMap, get}
 use Rattle.mt_skel.specs.Keyed.{row_at, put}
 use Rattle.mt_lists.specs.declared.entries.Entry.{Entry}
+use Rattle.mt_lists.specs.declared.heads.Ends.{Ends}
 use Rattle.mt_lists.specs.declared.heads.Head.{Head}
 use Rattle.mt_lists.specs.Lists.{ListRow, id_of, ids, above, names}
 
@@ -21,9 +22,9 @@ last_from x [] = x
 last_from x (y ∷ ys) = last_from y ys
 
 -- the ends and the length of a list, if it has any ID
-abbrev pub head_of : List ℕ → Option Head
-head_of [] = None
-head_of (x ∷ xs) = Some (record { first = x; last = last_from x xs; count = suc (length xs) })
+abbrev pub ends_of : List ℕ → Option Ends
+ends_of [] = None
+ends_of (x ∷ xs) = Some (record { first = x; last = last_from x xs; count = suc (length xs) })
 
 -- the entry of a row: its number, and its neighbours among the IDs of that number
 abbrev pub entry_of : List ListRow → ListRow → Entry
@@ -36,6 +37,10 @@ entry_at rows i = option_map (entry_of rows) (row_at id_of i rows)
 -- a table by numbers
 abbrev pub Index : Type 0 → Type 0
 Index V = IndexMap ℕ V (BuildHasherDefault FoldHasher)
+
+-- the ends and the length of a number's list, as a table has them
+abbrev pub ends_at : Index Head → ℕ → Option Ends
+ends_at heads n = option_map (λ (h : Head). h.ends) (get nat_eq heads n)
 
 -- an entry's row
 abbrev pub row_of : ℕ → Entry → ListRow
@@ -53,7 +58,7 @@ rows_of m = rows_from m.entries
 -- each ID has its neighbours, and each number that is in use the ends and the length of its list
 pub record IsLinked (entries : Index Entry) (heads : Index Head) : Type 0 where
   pub entries_told : (i : ℕ) → get nat_eq entries i ≡ entry_at (rows_of entries) i
-  pub heads_told : (n : ℕ) → get nat_eq heads n ≡ head_of (ids (rows_of entries) n)
+  pub ends_told : (n : ℕ) → ends_at heads n ≡ ends_of (ids (rows_of entries) n)
 
 -- the entries once another ID stands before this one
 abbrev pub given_before : Option ℕ → Option ℕ → (ℕ → Option Entry) → ℕ → Option Entry
@@ -63,21 +68,21 @@ given_before place before e k = cond (names place k) (option_map (λ (x : Entry)
 abbrev pub given_after : Option ℕ → Option ℕ → (ℕ → Option Entry) → ℕ → Option Entry
 given_after place after e k = cond (names place k) (option_map (λ (x : Entry). record x { after = after }) (e k)) (e k)
 
--- the heads once this number has another one, or none
-abbrev pub given_head : ℕ → Option Head → (ℕ → Option Head) → ℕ → Option Head
-given_head n head h k = cond (nat_eq n k) head (h k)
+-- the ends of all lists once this number has other ones, or none
+abbrev pub given_ends : ℕ → Option Ends → (ℕ → Option Ends) → ℕ → Option Ends
+given_ends n ends e k = cond (nat_eq n k) ends (e k)
 
--- a head once its list has one ID more
-abbrev pub grown : ℕ → Option Head → Head
+-- the ends of a list once it has one ID more
+abbrev pub grown : ℕ → Option Ends → Ends
 grown i None = record { first = i; last = i; count = 1 }
-grown i (Some h) = record { first = cond (nat_lt i h.first) i h.first; last = cond (nat_lt h.last i) i h.last; count = h.count + 1 }
+grown i (Some e) = record { first = cond (nat_lt i e.first) i e.first; last = cond (nat_lt e.last i) i e.last; count = e.count + 1 }
 
--- a head once its list has lost an ID that had these neighbours
-abbrev pub shrunk : ℕ → Option ℕ → Option ℕ → Head → Option Head
-shrunk i before after h = cond (h.count == 1) None (Some (record {
-  first = cond (h.first == i) (unwrap_or after i) h.first;
-  last = cond (h.last == i) (unwrap_or before i) h.last;
-  count = h.count - 1;
+-- the ends of a list once it has lost an ID that had these neighbours
+abbrev pub shrunk : ℕ → Option ℕ → Option ℕ → Ends → Option Ends
+shrunk i before after e = cond (e.count == 1) None (Some (record {
+  first = cond (e.first == i) (unwrap_or after i) e.first;
+  last = cond (e.last == i) (unwrap_or before i) e.last;
+  count = e.count - 1;
 }))
 
 -- the place below an ID was sought from the end of a list down to here

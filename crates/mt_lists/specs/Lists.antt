@@ -1,6 +1,6 @@
 -- Rows that have an ID and a number each, by rising ID, and for each number the list of the IDs that have it.
 -- A word with no source is this project's rule.
-use Rattle.std.specs.Prelude.{ℕ, Bool, false, cond, ◌==◌, List, [], ◌∷◌, map, Option, None, Some, nat_lt}
+use Rattle.std.specs.Prelude.{ℕ, Bool, false, ◌==◌, List, [], ◌∷◌, map, Option, None, Some, nat_lt}
 use Rattle.std.specs.List.{filter, find}
 use Rattle.std.specs.Option.{option_map, option_map_or, option_and_then}
 use Rattle.mt_skel.specs.Keyed.{row_at, put, without}

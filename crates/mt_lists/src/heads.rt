@@ -1,99 +1,121 @@
-//! The table of numbers: the ends and the length of the list of each.
-ghost use Rattle.std.specs.Prelude.{◌≡◌, ℕ, ◌+◌, ◌<◌, ◌≤◌, ◌^◌, Some, nat_eq, IfSome, IsSome};
-ghost use Rattle.std.specs.Option.{option_map};
+//! The table of numbers: the ends and the length of the list of each, and which ID came last into it.
+ghost use Rattle.std.specs.Prelude.{◌≡◌, ℕ, ◌+◌, ◌<◌, ◌≤◌, ◌^◌, Some, nat_eq, IfSome, IsTrue};
+ghost use Rattle.std.specs.Option.{option_map, is_some};
 ghost use Rattle.indexmap.specs.IndexMap.{get, spare};
-ghost use Rattle.mt_lists.specs.Links.{grown, shrunk, given_head};
+ghost use Rattle.mt_lists.specs.Links.{ends_at, grown, shrunk, given_ends};
 
 use indexmap::IndexMap;
 
 /// The first and the last ID of the list of one number, and how many there are.
 #[derive(Clone, Copy)]
-pub(crate) struct Head {
+pub(crate) struct Ends {
     pub(crate) first: u64,
     pub(crate) last: u64,
     pub(crate) count: usize,
 }
 
+/// What is kept of the list of one number.
+#[derive(Clone, Copy)]
+pub(crate) struct Head {
+    pub(crate) ends: Ends,
+    /// The ID that came into it most recently. It may have left since.
+    pub(crate) recent: u64,
+}
+
+/// The ends and the length of the list of this number.
+pub(crate) fn ends_of(heads: &IndexMap<u64, Head>, number: u64) -> Option<Ends>
+    ensures { result ≡ ends_at heads.now number }
+{
+    Some(heads.get(&number).copied()?.ends)
+}
+
 /// The first ID of this number.
 pub(crate) fn first_of(heads: &IndexMap<u64, Head>, number: u64) -> Option<u64>
-    ensures { result ≡ option_map (λ h. h.first) (get nat_eq heads.now number) }
+    ensures { result ≡ option_map (λ e. e.first) (ends_at heads.now number) }
 {
-    Some(heads.get(&number).copied()?.first)
+    Some(ends_of(heads, number)?.first)
 }
 
 /// The last ID of this number.
 pub(crate) fn last_of(heads: &IndexMap<u64, Head>, number: u64) -> Option<u64>
-    ensures { result ≡ option_map (λ h. h.last) (get nat_eq heads.now number) }
+    ensures { result ≡ option_map (λ e. e.last) (ends_at heads.now number) }
 {
-    Some(heads.get(&number).copied()?.last)
+    Some(ends_of(heads, number)?.last)
 }
 
-/// The head of a list once this ID, which was not in it, is.
-fn grown(id: u64, head: Option<Head>) -> Head
-    requires small { IfSome head (λ h. h.count < 2 ^ 63) }
-    ensures { result ≡ grown id head }
+/// The ID that came most recently into the list of this number. It may have left since.
+pub(crate) fn recent_of(heads: &IndexMap<u64, Head>, number: u64) -> Option<u64>
+    ensures { result ≡ option_map (λ h. h.recent) (get nat_eq heads.now number) }
 {
-    match head {
-        None => Head {
+    Some(heads.get(&number).copied()?.recent)
+}
+
+/// The ends of a list once this ID, which was not in it, is.
+fn grown(id: u64, ends: Option<Ends>) -> Ends
+    requires small { IfSome ends (λ e. e.count < 2 ^ 63) }
+    ensures { result ≡ grown id ends }
+{
+    match ends {
+        None => Ends {
             first: id,
             last: id,
             count: 1,
         },
-        Some(head) => Head {
-            first: if id < head.first { id } else { head.first },
-            last: if head.last < id { id } else { head.last },
-            count: head.count + 1,
+        Some(ends) => Ends {
+            first: if id < ends.first { id } else { ends.first },
+            last: if ends.last < id { id } else { ends.last },
+            count: ends.count + 1,
         },
     }
 }
 
-/// The head of a list once it has lost this ID, which had these neighbours; none where it is empty.
-pub(crate) fn shrunk(id: u64, before: Option<u64>, after: Option<u64>, head: Head) -> Option<Head>
-    requires some { 0 < head.count }
-    ensures { result ≡ shrunk id before after head }
+/// The ends of a list once it has lost this ID, which had these neighbours; none where it is empty.
+pub(crate) fn shrunk(id: u64, before: Option<u64>, after: Option<u64>, ends: Ends) -> Option<Ends>
+    requires some { 0 < ends.count }
+    ensures { result ≡ shrunk id before after ends }
 {
-    if head.count == 1 {
+    if ends.count == 1 {
         return None;
     }
-    Some(Head {
-        first: if head.first == id {
+    Some(Ends {
+        first: if ends.first == id {
             after.unwrap_or(id)
         } else {
-            head.first
+            ends.first
         },
-        last: if head.last == id {
+        last: if ends.last == id {
             before.unwrap_or(id)
         } else {
-            head.last
+            ends.last
         },
-        count: head.count - 1,
+        count: ends.count - 1,
     })
 }
 
 /// Counts this ID, which was not there, among those of this number.
 pub(crate) fn grow(heads: &mut IndexMap<u64, Head>, number: u64, id: u64)
-    requires small { IfSome (get nat_eq heads.old number) (λ h. h.count < 2 ^ 63) }
+    requires small { IfSome (ends_at heads.old number) (λ e. e.count < 2 ^ 63) }
     requires room { 0 < spare heads.old }
-    ensures heads { (k : ℕ) → get nat_eq heads.new k ≡ given_head number (Some (grown id (get nat_eq heads.old number))) (get nat_eq heads.old) k }
+    ensures ends { (k : ℕ) → ends_at heads.new k ≡ given_ends number (Some (grown id (ends_at heads.old number))) (ends_at heads.old) k }
     ensures room { spare heads.old ≤ spare heads.new + 1 }
 {
-    let head = grown(id, heads.get(&number).copied());
-    heads.insert(number, head).unwrap();
+    let ends = grown(id, ends_of(heads, number));
+    heads.insert(number, Head { ends, recent: id }).unwrap();
 }
 
-/// Writes the head of a number that has one, or takes it away.
-pub(crate) fn put_head(heads: &mut IndexMap<u64, Head>, number: u64, head: Option<Head>)
-    requires there { IsSome (get nat_eq heads.old number) }
-    ensures heads { (k : ℕ) → get nat_eq heads.new k ≡ given_head number head (get nat_eq heads.old) k }
+/// Writes the ends of a list that is there, or takes it away.
+pub(crate) fn put_ends(heads: &mut IndexMap<u64, Head>, number: u64, ends: Option<Ends>)
+    requires there { IsTrue (is_some (ends_at heads.old number)) }
+    ensures ends { (k : ℕ) → ends_at heads.new k ≡ given_ends number ends (ends_at heads.old) k }
     ensures room { spare heads.old ≤ spare heads.new }
 {
-    match head {
+    match ends {
         None => {
             heads.swap_remove(&number);
         }
-        Some(head) => {
-            if let Some(place) = heads.get_mut(&number) {
-                *place = head;
+        Some(ends) => {
+            if let Some(head) = heads.get_mut(&number) {
+                head.ends = ends;
             }
         }
     }

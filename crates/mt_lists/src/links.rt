@@ -1,16 +1,16 @@
 //! An ID comes into the list of its number, and goes out of it: what is written in both tables.
-ghost use Rattle.std.specs.Prelude.{◌≡◌, ◌+◌, ◌<◌, ◌≤◌, None};
+ghost use Rattle.std.specs.Prelude.{◌≡◌, ℕ, ◌+◌, ◌<◌, ◌≤◌, Some, None, IfSome, IsTrue};
 ghost use Rattle.indexmap.specs.IndexMap.{spare};
-ghost use Rattle.mt_skel.specs.Keyed.{row_at, put};
+ghost use Rattle.mt_skel.specs.Keyed.{row_at, put, among};
 ghost use Rattle.mt_lists.specs.Lists.{id_of, ids, above, without_id};
 ghost use Rattle.mt_lists.specs.Links.{below, rows_of, IsLinked};
 
 use crate::entries::{Entry, after_of, before_of, set_after, set_before};
-use crate::heads::{Head, first_of, grow, last_of, put_head, shrunk};
+use crate::heads::{Head, ends_of, first_of, grow, last_of, put_ends, recent_of, shrunk};
 use indexmap::IndexMap;
 
 /// The last of a number's IDs below this one, sought from the end of its list.
-fn place_for(
+fn sought_down(
     entries: &IndexMap<u64, Entry>,
     heads: &IndexMap<u64, Head>,
     id: u64,
@@ -27,6 +27,65 @@ fn place_for(
         here = before_of(entries, other);
     }
     here
+}
+
+/// The last of the IDs below this one in the list of an ID that is below it, sought from there upwards.
+fn sought_up(
+    entries: &IndexMap<u64, Entry>,
+    heads: &IndexMap<u64, Head>,
+    id: u64,
+    start: u64,
+) -> u64
+    requires linked { IsLinked entries.now heads.now }
+    requires below { start < id }
+    ensures { (n : ℕ) → IsTrue (among (ids (rows_of entries.now) n) start) → Some result ≡ below id (ids (rows_of entries.now) n) }
+{
+    let mut here = start;
+    'walk: while let Some(next) = after_of(entries, here) {
+        if id <= next {
+            return here;
+        }
+        here = next;
+    }
+    here
+}
+
+/// The ID that came most recently into the list of a number, where it is still there and below this one.
+fn recent_below(
+    entries: &IndexMap<u64, Entry>,
+    heads: &IndexMap<u64, Head>,
+    id: u64,
+    number: u64,
+) -> Option<u64>
+    ensures { IfSome result (λ recent. (recent < id) × IsTrue (among (ids (rows_of entries.now) number) recent)) }
+{
+    let recent = recent_of(heads, number)?;
+    let entry = entries.get(&recent).copied()?;
+    if entry.number == number && recent < id {
+        return Some(recent);
+    }
+    None
+}
+
+/// The last of a number's IDs below this one: the last of its list, or sought from the one that came most recently, where
+/// that is below, and else from the end.
+fn place_for(
+    entries: &IndexMap<u64, Entry>,
+    heads: &IndexMap<u64, Head>,
+    id: u64,
+    number: u64,
+) -> Option<u64>
+    requires linked { IsLinked entries.now heads.now }
+    ensures { result ≡ below id (ids (rows_of entries.now) number) }
+{
+    let last = last_of(heads, number)?;
+    if last < id {
+        return Some(last);
+    }
+    match recent_below(entries, heads, id, number) {
+        Some(recent) => Some(sought_up(entries, heads, id, recent)),
+        None => sought_down(entries, heads, id, number),
+    }
 }
 
 /// The first of a number's IDs above this one, which is not there, where the last below it is
@@ -91,9 +150,9 @@ pub(crate) fn unlink(entries: &mut IndexMap<u64, Entry>, heads: &mut IndexMap<u6
     if let Some(entry) = entries.swap_remove(&id) {
         set_after(entries, entry.before, entry.after);
         set_before(entries, entry.after, entry.before);
-        if let Some(head) = heads.get(&entry.number).copied() {
-            let left = shrunk(id, entry.before, entry.after, head);
-            put_head(heads, entry.number, left);
+        if let Some(ends) = ends_of(heads, entry.number) {
+            let left = shrunk(id, entry.before, entry.after, ends);
+            put_ends(heads, entry.number, left);
         }
     }
 }

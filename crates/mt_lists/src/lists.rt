@@ -4,7 +4,7 @@ ghost use Rattle.mt_skel.specs.Keyed.{put, rises};
 ghost use Rattle.mt_lists.specs.Lists.{id_of, number_at, ids, without_id, with_number, first, next_of};
 
 use crate::entries::{Entry, after_of};
-use crate::heads::{Head, first_of};
+use crate::heads::{Head, ends_of, first_of};
 use crate::links::{link, unlink};
 use indexmap::IndexMap;
 use mt_skel::fault::Fault;
@@ -14,8 +14,9 @@ use std::marker::Model;
 /// IDs that have a number each. The IDs of one number form a list, by rising ID.
 ///
 /// A look-up takes the time of a look-up in a hash table, and so does a change, but for an ID that
-/// comes among IDs of its number: its place is sought from the end of their list, so that a new ID
-/// above all others is put there at once.
+/// comes among IDs of its number: a new ID above all others is put behind them at once, and the place of
+/// any other is sought upwards from the ID that came last into their list, if that is still there and
+/// below, and else from the end. So IDs that come by rising ID pass each of those that are there once.
 pub struct Lists {
     entries: IndexMap<u64, Entry>,
     heads: IndexMap<u64, Head>,
@@ -115,8 +116,8 @@ impl Lists {
     pub fn count(&self, number: u64) -> usize
         ensures { result ≡ length (ids self.now.rows number) }
     {
-        match self.heads.get(&number).copied() {
-            Some(head) => head.count,
+        match ends_of(&self.heads, number) {
+            Some(ends) => ends.count,
             None => 0,
         }
     }

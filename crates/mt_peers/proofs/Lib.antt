@@ -6,6 +6,8 @@ pub mod AddedLaws
 pub mod ReachLaws
 pub mod EntryLaws
 pub mod HeirLaws
+pub mod WayLaws
+pub mod VanishedLaws
 pub mod NumberLaws
 pub mod ChangeLaws
 pub mod LeaveLaws

@@ -16,7 +16,7 @@ use Rattle.mt_peers.specs.declared.entries.Entry.{Entry}
 use Rattle.mt_peers.specs.Peers.{Peer, mount_of, state_at, with_state, in_group, has_member, names, members, slaves}
 use Rattle.mt_peers.specs.Masters.{master_of}
 use Rattle.mt_peers.specs.Members.{group_at, master_at, member_after, slave_after}
-use Rattle.mt_peers.specs.Entries.{now_peer, was_peer, now_peers, was_peers, settled_entry}
+use Rattle.mt_peers.specs.Entries.{now_peer, was_peer, now_peers, was_peers}
 use Rattle.mt_peers.specs.Listed.{group_of, leader_of, IsListed}
 use Rattle.mt_peers.proofs.MemberLaws.{find_row}
 use Rattle.mt_peers.proofs.GivenLaws.{rises-given}
@@ -213,12 +213,6 @@ mixed-same number es i d rows l same told =
     told ∙ ap (rows_by mount_of number) (mixed-here i es d l)
     ∙ sym (same-middle number (now_peer (get_or es i d)) (was_peer (get_or es i d)) (now_peers (take i es)) (was_peers (drop (i + 1) es)) refl same)
     ∙ ap (rows_by mount_of number) (mixed-next es i d l)
-
--- settling changes no group
-pub rows-settled : (rs : List Entry) (i : ℕ) (xs : List Entry) → rows_by mount_of group_of (now_peers (map (settled_entry rs) (take i xs) ++ drop i xs)) ≡ rows_by mount_of group_of (now_peers xs)
-rows-settled rs zero xs = refl
-rows-settled rs (suc i) [] = refl
-rows-settled rs (suc i) (x ∷ xs) = ap (λ t. option_map_or (λ n. record { id = x.mount; number = n } ∷ t) x.state.group t) (rows-settled rs i xs)
 
 -- mounts are taken out
 pub rows-without : (number : Peer → Option ℕ) (gone : ℕ → Bool) (es : List Peer) → rows_by mount_of number (without (λ e. gone e.mount) es) ≡ without (λ (r : ListRow). gone r.id) (rows_by mount_of number es)

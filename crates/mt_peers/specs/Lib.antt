@@ -11,3 +11,5 @@ pub mod Coming
 pub mod Laws
 pub mod Members
 pub mod Entered
+pub mod Ways
+pub mod Vanished

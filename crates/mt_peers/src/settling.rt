@@ -1,55 +1,27 @@
 //! A change of many mounts at once: their states, their masters, and both lists after them.
 ghost use Rattle.std.specs.Prelude.{◌≡◌, List, ◌+◌, ◌<◌, ◌≤◌, ◌^◌, map, length, IsTrue};
+ghost use Rattle.indexmap.specs.IndexMap.{spare};
 ghost use Rattle.mt_skel.specs.Keyed.{rises, among};
 ghost use Rattle.mt_lists.specs.Numbered.{rows_by};
 ghost use Rattle.mt_peers.specs.Peers.{Peer, mount_of, has_member};
-ghost use Rattle.mt_peers.specs.Masters.{master_of};
 ghost use Rattle.mt_peers.specs.Loss.{heir};
 ghost use Rattle.mt_peers.specs.Making.{made, is_shared};
 ghost use Rattle.mt_peers.specs.Entries.{now_peers, was_peers, settled_entry};
 ghost use Rattle.mt_peers.specs.Listed.{group_of, leader_of, IsListed};
+ghost use Rattle.mt_peers.specs.Vanished.{IsVanished, AreNear};
 
 use crate::chosen::Chosen;
 use crate::entries::{Entry, change_all};
 use crate::state::{GroupId, Kind};
+use crate::vanished::{Above, enter_all, heir_from};
+use indexmap::IndexMap;
 use mt_lists::lists::Lists;
 
 /// Whether a group has a member, where the members of each group are listed.
-fn lives(members: &Lists, group: GroupId) -> bool
+pub(crate) fn lives(members: &Lists, group: GroupId) -> bool
     ensures { (es : List Peer) → members.now.rows ≡ rows_by mount_of group_of es → result ≡ has_member es group }
 {
     members.count(group) > 0
-}
-
-/// The master of a group when the change began.
-fn old_master(entries: &[Entry], group: GroupId) -> Option<GroupId>
-    ensures { result ≡ master_of (was_peers entries.now) group }
-{
-    for entry in entries {
-        if entry.was.group == Some(group) {
-            return entry.was.master;
-        }
-    }
-    None
-}
-
-/// The first group that still lives of a master and the masters that were above it.
-fn first_living(entries: &[Entry], members: &Lists, master: Option<GroupId>) -> Option<GroupId>
-    requires listed { members.now.rows ≡ rows_by mount_of group_of (now_peers entries.now) }
-    ensures { result ≡ heir (was_peers entries.now) (now_peers entries.now) master }
-{
-    let mut group = master?;
-    'masters: for _step in 0..entries.len() {
-        if lives(members, group) {
-            return Some(group);
-        }
-        group = old_master(entries, group)?;
-    }
-    if lives(members, group) {
-        Some(group)
-    } else {
-        None
-    }
 }
 
 /// A master, and the one that a slave of it gets.
@@ -62,34 +34,44 @@ struct Known {
 /// The first group that still lives of a master and the masters above it, which is not sought again where
 /// it is known.
 fn heir_of(
-    entries: &[Entry],
     members: &Lists,
+    vanished: &mut IndexMap<GroupId, Above>,
+    most: usize,
     master: Option<GroupId>,
     known: &Known,
 ) -> Option<GroupId>
-    requires listed { members.now.rows ≡ rows_by mount_of group_of (now_peers entries.now) }
-    requires known { known.now.heir ≡ heir (was_peers entries.now) (now_peers entries.now) known.now.master }
-    ensures { result ≡ heir (was_peers entries.now) (now_peers entries.now) master }
+    requires few { most < 2 ^ 63 }
+    requires near { AreNear most vanished.old }
+    ensures heir { (old new : List Peer) → members.now.rows ≡ rows_by mount_of group_of new → IsVanished old new vanished.old → length old ≡ most → known.now.heir ≡ heir old new known.now.master → result ≡ heir old new master }
+    ensures kept { (old new : List Peer) → members.now.rows ≡ rows_by mount_of group_of new → IsVanished old new vanished.old → IsVanished old new vanished.new }
+    ensures near { AreNear most vanished.new }
+    ensures room { spare vanished.old ≤ spare vanished.new }
 {
     if master == known.master {
         return known.heir;
     }
-    first_living(entries, members, master)
+    let group = master?;
+    heir_from(members, vanished, most, group)
 }
 
 /// Gives each mount whose master has gone the nearest living one above it. What was found for one slave
-/// serves those of the same master that follow it.
-fn settle_all(entries: &mut [Entry], members: &Lists)
+/// serves those of the same master that follow it, and what was found above a group that has vanished serves all
+/// searches that come to it.
+fn settle_all(entries: &mut [Entry], members: &Lists, vanished: &mut IndexMap<GroupId, Above>)
     requires listed { members.now.rows ≡ rows_by mount_of group_of (now_peers entries.old) }
-    ensures { entries.new ≡ map (settled_entry entries.old) entries.old }
+    requires vanished { IsVanished (was_peers entries.old) (now_peers entries.old) vanished.old }
+    requires near { AreNear (length entries.old) vanished.old }
+    ensures settled { entries.new ≡ map (settled_entry entries.old) entries.old }
+    ensures room { spare vanished.old ≤ spare vanished.new }
 {
     let mut known = Known {
         master: None,
         heir: None,
     };
-    for i in 0..entries.len() {
+    let most = entries.len();
+    for i in 0..most {
         let master = entries[i].state.master;
-        let heir = heir_of(entries, members, master, &known);
+        let heir = heir_of(members, vanished, most, master, &known);
         known = Known { master, heir };
         entries[i].state.master = heir;
     }
@@ -131,6 +113,7 @@ pub(crate) fn make_entries(
     entries: &mut [Entry],
     members: &mut Lists,
     slaves: &mut Lists,
+    vanished: &mut IndexMap<GroupId, Above>,
     ids: &Chosen<'_>,
     kind: Kind,
     next: GroupId,
@@ -138,16 +121,19 @@ pub(crate) fn make_entries(
     requires listed { IsListed (now_peers entries.old) members.old.rows slaves.old.rows }
     requires members_room { length entries.old ≤ members.old.room }
     requires slaves_room { length entries.old ≤ slaves.old.room }
+    requires vanished_room { length entries.old ≤ spare vanished.old }
     requires numbered { IsTrue (is_shared kind) → next + length entries.old < 2 ^ 64 }
     ensures made { record { peers = now_peers entries.new; next = result } ≡ made kind (among ids.now) (record { peers = now_peers entries.old; next = next }) }
     ensures was { was_peers entries.new ≡ now_peers entries.old }
     ensures listed { IsListed (now_peers entries.new) members.new.rows slaves.new.rows }
     ensures members_room { members.old.room ≤ members.new.room + length entries.old }
     ensures slaves_room { slaves.old.room ≤ slaves.new.room + length entries.old }
+    ensures vanished_room { spare vanished.old ≤ spare vanished.new + length entries.old }
 {
     let after = change_all(entries, ids, kind, next);
     list_members(entries, members);
-    settle_all(entries, members);
+    enter_all(entries, members, vanished);
+    settle_all(entries, members, vanished);
     list_slaves(entries, slaves);
     after
 }

@@ -1,12 +1,10 @@
 use Rattle.std.proofs.Common.{◌≡◌, false, ◌<◌, ap, ◌∙◌, sym, arith, length, ◌+◌, ◌-◌}
 use Rattle.mt_skel.specs.Chain.{ends}
 use Rattle.mt_mounts.specs.Forest.{parent}
-use Rattle.std.proofs.lemmas.List.Elements.{All-get_or}
-use Rattle.mt_bind.specs.declared.members.Judged.{Judged}
-use Rattle.mt_bind.specs.Sources.{is_bound_along}
 use Rattle.mt_mounts.proofs.Walks.{fuel_step}
 use Rattle.mt_propagate.specs.World.{world_view}
 use Rattle.mt_bind.proofs.AlongLaws.{taken, ends_up, taken_before, taken_here, taken_unbindable, taken_step}
+use Rattle.mt_bind.proofs.JudgedLaws.{judged_is}
 use Rattle.mt_bind.proofs.members.is_bound_along.Goals as goal
 
 pub parents-preserved : goal.parents-preserved
@@ -47,9 +45,6 @@ pub returns-in-Some : goal.returns-in-Some
 returns-in-Some c =
     let w = world_view c.args.world.now in
     let n = length w.forest - c.parents._step in
-    let some : Judged = record { mount = 0; bound = false } in
-    let found = c.in-Some.ensures.found in
-    All-get_or (λ (j : Judged). j.bound ≡ is_bound_along w c.args.from j.mount) c.args.judged.now c.in-Some.at some found.0 c.requires.judged
-    ∙ ap (is_bound_along w c.args.from) (found.1 some)
+    judged_is w c.args.from c.args.judged.now c.parents.here c.in-Some.bound c.requires.judged (sym c.get.ensures.value ∙ sym c.copied.ensures ∙ c.in-Some.is)
     ∙ sym (taken_before w c.args.from n c.parents.passed c.parents.here c.if-here-from.false (omega arith) c.parents.invariant.ends)
     ∙ c.parents.invariant.answers

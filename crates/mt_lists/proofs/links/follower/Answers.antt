@@ -1,10 +1,10 @@
 use Rattle.std.proofs.Common.{ap, sym, ◌∙◌}
 use Rattle.std.specs.Option.{option_map, option_and_then}
 use Rattle.mt_lists.specs.declared.entries.Entry.{Entry}
-use Rattle.mt_lists.specs.declared.heads.Head.{Head}
+use Rattle.mt_lists.specs.declared.heads.Ends.{Ends}
 use Rattle.mt_lists.specs.Lists.{ids}
 use Rattle.mt_lists.specs.Links.{rows_of}
-use Rattle.mt_lists.proofs.NeighbourLaws.{above-below, above-first, below-among, head-first}
+use Rattle.mt_lists.proofs.NeighbourLaws.{above-below, above-first, below-among, ends-first}
 use Rattle.mt_lists.proofs.IdLaws.{rising-ids}
 use Rattle.mt_lists.proofs.EntryLaws.{after-among, in-none}
 use Rattle.mt_lists.proofs.TableLaws.{rises-rows}
@@ -25,5 +25,5 @@ returns-in-None c =
     let rows = rows_of c.args.entries.now in
     let xs = ids (rows_of c.args.entries.now) c.args.number in
     let up = rises-rows c.args.entries.now in
-    c.first_of.ensures ∙ ap (option_map (λ (h : Head). h.first)) (c.requires.linked.heads_told c.args.number)
-    ∙ head-first xs ∙ sym (above-first c.args.id xs (in-none rows up c.args.id c.args.number c.requires.absent) (sym c.requires.before ∙ c.in-None.is))
+    c.first_of.ensures ∙ ap (option_map (λ (e : Ends). e.first)) (c.requires.linked.ends_told c.args.number)
+    ∙ ends-first xs ∙ sym (above-first c.args.id xs (in-none rows up c.args.id c.args.number c.requires.absent) (sym c.requires.before ∙ c.in-None.is))

@@ -1,4 +1,4 @@
-use Rattle.std.proofs.Common.{◌≡◌, ℕ, List, sym, ap, ◌∙◌}
+use Rattle.std.proofs.Common.{◌≡◌, ℕ, List, length, sym, ap, ◌∙◌}
 use Rattle.mt_skel.specs.Keyed.{among}
 use Rattle.mt_lists.specs.Numbered.{rows_by}
 use Rattle.mt_peers.specs.Peers.{Peer, Peering, mount_of}
@@ -18,16 +18,19 @@ list_members-requires-clause-listed c =
     c.requires.listed.members_told
     ∙ ap (rows_by mount_of group_of) (sym (was-made c.args.kind c.args.ids.now c.args.next c.args.entries.now c.change_all-after.new.entries c.change_all-after.ensures.entries))
 
+pub settle_all-requires-clause-near : goal.settle_all-requires-clause-near
+settle_all-requires-clause-near c = c.enter_all.ensures.near (length c.change_all-after.new.entries)
+
 pub list_slaves-requires-clause-rising : goal.list_slaves-requires-clause-rising
 list_slaves-requires-clause-rising c =
-    rises-kept c.change_all-after.new.entries c.settle_all.new.entries c.settle_all.ensures
+    rises-kept c.change_all-after.new.entries c.settle_all.new.entries c.settle_all.ensures.settled
     ∙ rises-changed c.args.kind c.args.ids.now c.args.next c.args.entries.now c.change_all-after.new.entries c.change_all-after.ensures.entries
     ∙ c.requires.listed.rising
 
 pub list_slaves-requires-clause-listed : goal.list_slaves-requires-clause-listed
 list_slaves-requires-clause-listed c =
     c.requires.listed.slaves_told
-    ∙ ap (rows_by mount_of leader_of) (sym (was-kept c.change_all-after.new.entries c.settle_all.new.entries c.settle_all.ensures
+    ∙ ap (rows_by mount_of leader_of) (sym (was-kept c.change_all-after.new.entries c.settle_all.new.entries c.settle_all.ensures.settled
     ∙ was-made c.args.kind c.args.ids.now c.args.next c.args.entries.now c.change_all-after.new.entries c.change_all-after.ensures.entries))
 
 pub returns-clause-made : goal.returns-clause-made
@@ -35,7 +38,7 @@ unfolding made
 returns-clause-made c =
     let old : Peering = record { peers = now_peers c.args.entries.now; next = c.args.next } in
     let peers : now_peers c.settle_all.new.entries ≡ (made c.args.kind (among c.args.ids.now) old).peers =
-    ap now_peers c.settle_all.ensures ∙ made-entries c.args.kind c.args.ids.now c.args.next c.args.entries.now c.change_all-after.new.entries c.change_all-after.ensures.entries in
+    ap now_peers c.settle_all.ensures.settled ∙ made-entries c.args.kind c.args.ids.now c.args.next c.args.entries.now c.change_all-after.new.entries c.change_all-after.ensures.entries in
     ap (λ (es : List Peer). peering es c.change_all-after.result) peers ∙ ap (λ (n : ℕ). peering (made c.args.kind (among c.args.ids.now) old).peers n) c.change_all-after.ensures.next
   where
     peering : List Peer → ℕ → Peering
@@ -44,14 +47,14 @@ returns-clause-made c =
 pub returns-clause-listed : goal.returns-clause-listed
 returns-clause-listed c = record {
   rising =
-      rises-kept c.change_all-after.new.entries c.settle_all.new.entries c.settle_all.ensures
+      rises-kept c.change_all-after.new.entries c.settle_all.new.entries c.settle_all.ensures.settled
       ∙ rises-changed c.args.kind c.args.ids.now c.args.next c.args.entries.now c.change_all-after.new.entries c.change_all-after.ensures.entries
       ∙ c.requires.listed.rising;
-  members_told = c.list_members.ensures.listed ∙ sym (groups-kept c.change_all-after.new.entries c.settle_all.new.entries c.settle_all.ensures);
+  members_told = c.list_members.ensures.listed ∙ sym (groups-kept c.change_all-after.new.entries c.settle_all.new.entries c.settle_all.ensures.settled);
   slaves_told = c.list_slaves.ensures.listed;
 }
 
 pub returns-clause-was : goal.returns-clause-was
 returns-clause-was c =
-    was-kept c.change_all-after.new.entries c.settle_all.new.entries c.settle_all.ensures
+    was-kept c.change_all-after.new.entries c.settle_all.new.entries c.settle_all.ensures.settled
     ∙ was-made c.args.kind c.args.ids.now c.args.next c.args.entries.now c.change_all-after.new.entries c.change_all-after.ensures.entries

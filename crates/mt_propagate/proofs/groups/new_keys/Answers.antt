@@ -10,5 +10,8 @@ loop-target-preserved c =
     let home = c.args.standing.now.home in
     let p = stands c.args.standing.now in
     let ms = c.args.mounts.now in
-    keys-step w home (λ t. needed_at w home (groups_at w home p t) ms) c.args.targets.now c.loop-target.target-index 0 c.loop-target.keys c.add_keys_at.new.keys _ c.loop-target-test.true
-    c.loop-target.invariant (c.in_ok-add_keys_at.ensures.keys ∙ ap (λ g. with_keys w home c.loop-target.keys (needed_at w home g ms)) c.groups_at-groups.ensures)
+    record {
+      keys = keys-step w home (λ t. needed_at w home (groups_at w home p t) ms) c.args.targets.now c.loop-target.target-index 0 c.loop-target.keys c.add_keys_at.new.keys _ c.loop-target-test.true
+          c.loop-target.invariant.keys (c.in_ok-add_keys_at.ensures.keys ∙ ap (λ g. with_keys w home c.loop-target.keys (needed_at w home g ms)) c.in_ok-groups.ensures.groups);
+      found = c.in_ok-groups.ensures.found;
+    }
