@@ -59,7 +59,7 @@ fn width(text: &[u8]) -> usize
 fn push_spaces(text: &mut Vec<u8>, count: usize) -> Result<(), AllocError>
     ensures { OnOk result (text.new.items ≡ text.old.items ++ replicate count 32) }
 {
-    for _space in 0..count {
+    'spaces: for _step in 0..count {
         text.push(b' ')?;
     }
     Ok(())

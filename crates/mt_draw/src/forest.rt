@@ -25,9 +25,9 @@ impl<'a> Model for Branch<'a> {
 
     ghost Value = { BranchView };
 
-    ghost use Rattle.mt_info.specs.contracts.row.Row as row;
+    ghost use Rattle.mt_info.specs.contracts.row.Row as table_row;
 
-    ghost coded = { branch_code row.the_row.coded };
+    ghost coded = { branch_code table_row.the_row.coded };
 
     ghost view = { λ b. record { lasts = b.lasts.items; row = b.row.now } };
 }

@@ -2,6 +2,8 @@
 ghost use Rattle.std.specs.Prelude.{◌≡◌, ◌++◌, cond, nat_le, length, map, codes, OnOk, IfOk, Some, None, MatchOption, IsTrue};
 ghost use Rattle.std.specs.List.{filter, find, flat_map};
 ghost use Rattle.mt_skel.specs.Keyed.{rises};
+ghost use Rattle.mt_skel.specs.Escapes.{escaped};
+ghost use Rattle.mt_info.specs.RowLine.{path_text};
 ghost use Rattle.mt_info.specs.Table.{row_id};
 ghost use Rattle.mt_draw.specs.Graphs.{part_nodes, nodes, is_plain, label_byte, label_text, colour, name, node_name, group_name, outline, label, node_line, cluster, arrow, parent_edge, parent_edges, is_member, closing, next_in_ring, peer_edge, ring_edge, ring_edges, master_name, slave_edge, edges_text, graph_text};
 
@@ -27,9 +29,9 @@ impl<'a> Model for Node<'a> {
 
     ghost Value = { NodeView };
 
-    ghost use Rattle.mt_info.specs.contracts.row.Row as row;
+    ghost use Rattle.mt_info.specs.contracts.row.Row as table_row;
 
-    ghost coded = { node_code row.the_row.coded };
+    ghost coded = { node_code table_row.the_row.coded };
 
     ghost view = { λ n. record { space = n.space; row = n.row.now } };
 }
