@@ -45,6 +45,6 @@ abbrev pub padded : ℕ → List ℕ → List ℕ
 padded w cell = cell ++ (replicate (w - width cell) 32 ++ codes " ")
 
 -- the line of these cells: behind the last one stands no space
-abbrev pub cells_line : Widths → CellsView → List ℕ
+unfoldable pub cells_line : Widths → CellsView → List ℕ
 cells_line w c =
     padded w.target c.target ++ (padded w.source c.source ++ (padded w.kind c.kind ++ (padded w.options c.options ++ (c.propagation ++ codes "\n"))))

@@ -1,6 +1,6 @@
 -- The rows of a table in the order in which a tree of them is drawn (the form: findmnt(8)).
 -- A word with no source is this project's rule.
-use Rattle.std.specs.Prelude.{ℕ, zero, suc, Bool, not, ◌&&◌, ◌==◌, cond, List, [], ◌∷◌, ◌++◌, map, length, Option, None, is_none, refl}
+use Rattle.std.specs.Prelude.{ℕ, zero, suc, Bool, not, ◌&&◌, ◌==◌, nat_lt, cond, List, [], ◌∷◌, ◌++◌, map, length, Option, None, is_none, refl}
 use Rattle.std.specs.Coded.{Coded, code_by, coded×, coded_bool, coded_list}
 use Rattle.std.specs.List.{filter, flat_map, list_any}
 use Rattle.mt_skel.specs.Keyed.{row_at}
@@ -40,6 +40,10 @@ children rows r = filter (is_child r.id) rows
 abbrev pub branches : List Bool → List Row → List BranchView
 branches lasts [] = []
 branches lasts (r ∷ rs) = record { lasts = lasts ++ (length rs == 0) ∷ []; row = r } ∷ branches lasts rs
+
+-- the children of a row, unless as many lines lead to it as there are rows
+abbrev pub next_below : List Row → BranchView → List BranchView
+next_below rows b = cond (nat_lt (length b.lasts) (length rows)) (branches b.lasts (children rows b.row)) []
 
 -- a row and all below it, so many generations at most: each row is followed by its children, each with all below it
 abbrev pub grown : List Row → ℕ → BranchView → List BranchView

@@ -73,19 +73,26 @@ abbrev pub node_line : ℕ → Row → List ℕ
 node_line space r = name space r.id ++ (codes " [label=\"" ++ (label r ++ (codes "\"" ++ (outline r.shared ++ codes "];\n"))))
 
 -- the mounts of a namespace, in a box with its number
-abbrev pub cluster : MirrorView → List ℕ
-cluster m =
-    codes "subgraph \"cluster_" ++ (decimal m.space ++ (codes "\" {\nlabel=\"namespace " ++ (decimal m.space ++ (codes "\";\n" ++ (flat_map (node_line m.space) m.rows ++ codes "}\n")))))
+abbrev pub box : ℕ → List Row → List ℕ
+box space rows =
+    codes "subgraph \"cluster_" ++ (decimal space ++ (codes "\" {\nlabel=\"namespace " ++ (decimal space ++ (codes "\";\n" ++ (flat_map (node_line space) rows ++ codes "}\n")))))
+
+unfoldable pub cluster : MirrorView → List ℕ
+cluster m = box m.space m.rows
 
 -- the rest of the line of an edge, behind the name where it begins: the mount where it ends, its form and its colour
 abbrev pub arrow : ℕ → ℕ → List ℕ → List ℕ → List ℕ
 arrow space id form colour = codes " -> " ++ (name space id ++ (codes " [" ++ (form ++ (codes ", color=" ++ (colour ++ codes "];\n")))))
 
+-- the edge from a mount to a child
+abbrev pub child_edge : ℕ → ℕ → ℕ → List ℕ
+child_edge space parent child = name space parent ++ arrow space child (codes "arrowhead=none") (codes "black")
+
 -- the edge from the row below which a row is drawn
 abbrev pub parent_edge : ℕ → List Row → Row → List ℕ
-parent_edge space rows r = cond (is_top rows r) [] (name space r.parent ++ arrow space r.id (codes "arrowhead=none") (codes "black"))
+parent_edge space rows r = cond (is_top rows r) [] (child_edge space r.parent r.id)
 
-abbrev pub parent_edges : MirrorView → List ℕ
+unfoldable pub parent_edges : MirrorView → List ℕ
 parent_edges m = flat_map (parent_edge m.space m.rows) m.rows
 
 -- a mount is in a peer group
@@ -118,10 +125,11 @@ master_name all g = option_map_or node_name (find (is_member g) all) (group_name
 abbrev pub slave_edge : List NodeView → NodeView → List ℕ
 slave_edge all n = option_map_or (λ g. master_name all g ++ arrow n.space n.row.id (codes "style=dashed") (colour g)) n.row.master []
 
--- the graph of these mounts
-abbrev pub edges_text : List NodeView → List ℕ
-edges_text all = ring_edges all all ++ flat_map (slave_edge all) all
+-- the edges of groups
+abbrev pub group_edges : List NodeView → List ℕ
+group_edges all = ring_edges all all ++ flat_map (slave_edge all) all
 
+-- the graph of all parts
 abbrev pub graph_text : List MirrorView → List ℕ
 graph_text parts =
-    codes "digraph mounts {\nnode [shape=box, fontsize=10, height=0];\n" ++ (flat_map cluster parts ++ (flat_map parent_edges parts ++ (edges_text (nodes parts) ++ codes "}\n")))
+    codes "digraph mounts {\nnode [shape=box, fontsize=10, height=0];\n" ++ (flat_map cluster parts ++ (flat_map parent_edges parts ++ (group_edges (nodes parts) ++ codes "}\n")))

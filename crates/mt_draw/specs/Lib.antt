@@ -3,3 +3,4 @@ pub mod Forest
 pub mod Trees
 pub mod Graphs
 pub mod Drawings
+pub mod Laws

@@ -74,9 +74,13 @@ abbrev pub fitted_text : List CellsView → List CellsView → List ℕ
 fitted_text lines others = columns_text (fold widened (fold widened no_widths lines) others) lines others
 
 -- the table of a namespace, with its number
-abbrev pub part_text : Strokes → MirrorView → List ℕ
+unfoldable pub part_text : Strokes → MirrorView → List ℕ
 part_text s m = codes "namespace " ++ (decimal m.space ++ (codes "\n" ++ fitted_text (header ∷ map (cells s) (tree m.rows)) (map (cells s) (strays m.rows))))
 
--- tables, with an empty line between them
+-- tables, each but the first behind an empty line
+abbrev pub apart : Strokes → List MirrorView → List ℕ
+apart s parts = flat_map (λ m. 10 ∷ part_text s m) parts
+
 abbrev pub trees_text : Strokes → List MirrorView → List ℕ
-trees_text s parts = join_with_byte 10 (map (part_text s) parts)
+trees_text s [] = []
+trees_text s (m ∷ later) = part_text s m ++ apart s later

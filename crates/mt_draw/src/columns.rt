@@ -108,6 +108,7 @@ impl Cells {
     }
 
     /// Appends the line of these cells.
+    #[tactic(auto, unfolding(crate::specs::Columns::cells_line))]
     fn push(&self, text: &mut Vec<u8>, widths: Widths) -> Result<(), AllocError>
         ensures { OnOk result (text.new.items ≡ text.old.items ++ cells_line widths self.now) }
     {

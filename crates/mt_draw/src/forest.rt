@@ -3,7 +3,7 @@ ghost use Rattle.std.specs.Prelude.{◌≡◌, ◌++◌, ◌∷◌, [], reverse,
 ghost use Rattle.std.specs.List.{filter};
 ghost use Rattle.mt_skel.specs.Keyed.{rises};
 ghost use Rattle.mt_info.specs.Table.{row_id};
-ghost use Rattle.mt_draw.specs.Forest.{alone, is_top, is_child, children, branches, grown, tree, is_drawn, strays};
+ghost use Rattle.mt_draw.specs.Forest.{alone, is_top, is_child, children, branches, next_below, grown, tree, is_drawn, strays};
 
 use mt_info::row::Row;
 use mt_info::table::{Table, find_row};
@@ -103,6 +103,20 @@ fn push_children<'a>(
     Ok(())
 }
 
+/// Pushes the children of a row, unless as many lines lead to it as there are rows.
+fn push_below<'a>(
+    stack: &mut Vec<Branch<'a>>,
+    rows: &'a [Row],
+    parent: &Branch<'a>,
+) -> Result<(), AllocError>
+    ensures { OnOk result (stack.new.items ≡ stack.old.items ++ reverse (next_below rows.now parent.now)) }
+{
+    if parent.lasts().len() < rows.len() {
+        push_children(stack, rows, parent)?;
+    }
+    Ok(())
+}
+
 /// Appends a top row and all below it.
 fn push_grown<'a>(
     drawn: &mut Vec<Branch<'a>>,
@@ -115,9 +129,7 @@ fn push_grown<'a>(
     let mut stack = Vec::new(alloc);
     stack.push(Branch::alone(alloc, top))?;
     'branches: while let Some(branch) = stack.pop() {
-        if branch.lasts().len() < rows.len() {
-            push_children(&mut stack, rows, &branch)?;
-        }
+        push_below(&mut stack, rows, &branch)?;
         drawn.push(branch)?;
     }
     Ok(())

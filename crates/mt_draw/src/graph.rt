@@ -5,7 +5,7 @@ ghost use Rattle.mt_skel.specs.Keyed.{rises};
 ghost use Rattle.mt_skel.specs.Escapes.{escaped};
 ghost use Rattle.mt_info.specs.RowLine.{path_text};
 ghost use Rattle.mt_info.specs.Table.{row_id};
-ghost use Rattle.mt_draw.specs.Graphs.{part_nodes, nodes, is_plain, label_byte, label_text, colour, name, node_name, group_name, outline, label, node_line, cluster, arrow, parent_edge, parent_edges, is_member, closing, next_in_ring, peer_edge, ring_edge, ring_edges, master_name, slave_edge, edges_text, graph_text};
+ghost use Rattle.mt_draw.specs.Graphs.{part_nodes, nodes, is_plain, label_byte, label_text, colour, name, node_name, group_name, outline, label, node_line, box, cluster, arrow, child_edge, parent_edge, parent_edges, is_member, closing, next_in_ring, peer_edge, ring_edge, ring_edges, master_name, slave_edge, group_edges, graph_text};
 
 use crate::forest::is_top;
 use crate::trees::push_propagation;
@@ -164,18 +164,26 @@ fn push_nodes(text: &mut Vec<u8>, space: SpaceId, rows: &[Row]) -> Result<(), Al
     Ok(())
 }
 
+/// Appends the box of a namespace with these mounts.
+fn push_box(text: &mut Vec<u8>, space: SpaceId, rows: &[Row]) -> Result<(), AllocError>
+    ensures { OnOk result (text.new.items ≡ text.old.items ++ box space rows.now) }
+{
+    text.extend_from_slice(b"subgraph \"cluster_")?;
+    push_number(text, space)?;
+    text.extend_from_slice(b"\" {\nlabel=\"namespace ")?;
+    push_number(text, space)?;
+    text.extend_from_slice(b"\";\n")?;
+    push_nodes(text, space, rows)?;
+    text.extend_from_slice(b"}\n")?;
+    Ok(())
+}
+
 /// Appends the box of a namespace.
+#[tactic(auto, unfolding(crate::specs::Graphs::cluster))]
 fn push_cluster(text: &mut Vec<u8>, part: &Mirror) -> Result<(), AllocError>
     ensures { OnOk result (text.new.items ≡ text.old.items ++ cluster part.now) }
 {
-    text.extend_from_slice(b"subgraph \"cluster_")?;
-    push_number(text, part.space())?;
-    text.extend_from_slice(b"\" {\nlabel=\"namespace ")?;
-    push_number(text, part.space())?;
-    text.extend_from_slice(b"\";\n")?;
-    push_nodes(text, part.space(), part.table().rows())?;
-    text.extend_from_slice(b"}\n")?;
-    Ok(())
+    push_box(text, part.space(), part.table().rows())
 }
 
 /// Appends the rest of the line of an edge, behind the name where it begins.
@@ -198,6 +206,20 @@ fn push_arrow(
     Ok(())
 }
 
+/// Appends the edge from a mount to a child.
+fn push_child(
+    text: &mut Vec<u8>,
+    space: SpaceId,
+    parent: MountId,
+    child: MountId,
+) -> Result<(), AllocError>
+    ensures { OnOk result (text.new.items ≡ text.old.items ++ child_edge space parent child) }
+{
+    push_name(text, space, parent)?;
+    push_arrow(text, space, child, b"arrowhead=none", b"black")?;
+    Ok(())
+}
+
 /// Appends the edge from the row below which a row is drawn.
 fn push_parent(
     text: &mut Vec<u8>,
@@ -208,14 +230,14 @@ fn push_parent(
     requires { IsTrue (rises row_id rows.now) }
     ensures { OnOk result (text.new.items ≡ text.old.items ++ parent_edge space rows.now row.now) }
 {
-    if is_top(rows, row) {
-        return Ok(());
+    if !is_top(rows, row) {
+        push_child(text, space, row.parent, row.id)?;
     }
-    push_name(text, space, row.parent)?;
-    push_arrow(text, space, row.id, b"arrowhead=none", b"black")
+    Ok(())
 }
 
 /// Appends the edges from parents to children in a namespace.
+#[tactic(auto, unfolding(crate::specs::Graphs::parent_edges))]
 fn push_parents(text: &mut Vec<u8>, part: &Mirror) -> Result<(), AllocError>
     ensures { OnOk result (text.new.items ≡ text.old.items ++ parent_edges part.now) }
 {
@@ -409,6 +431,15 @@ fn push_slaves(text: &mut Vec<u8>, nodes: &[Node<'_>]) -> Result<(), AllocError>
     Ok(())
 }
 
+/// Appends the edges of all groups.
+fn push_groups(text: &mut Vec<u8>, nodes: &[Node<'_>]) -> Result<(), AllocError>
+    ensures { OnOk result (text.new.items ≡ text.old.items ++ group_edges nodes.now) }
+{
+    push_rings(text, nodes)?;
+    push_slaves(text, nodes)?;
+    Ok(())
+}
+
 /// Appends the boxes of all namespaces.
 fn push_clusters(text: &mut Vec<u8>, parts: &[Mirror]) -> Result<(), AllocError>
     ensures { OnOk result (text.new.items ≡ text.old.items ++ flat_map cluster parts.now) }
@@ -437,12 +468,10 @@ pub(crate) fn push_graph(
 ) -> Result<(), AllocError>
     ensures { OnOk result (text.new.items ≡ text.old.items ++ graph_text parts.now) }
 {
-    let nodes = nodes_of(alloc, parts)?;
     text.extend_from_slice(b"digraph mounts {\nnode [shape=box, fontsize=10, height=0];\n")?;
     push_clusters(text, parts)?;
     push_all_parents(text, parts)?;
-    push_rings(text, &nodes)?;
-    push_slaves(text, &nodes)?;
+    push_groups(text, &nodes_of(alloc, parts)?)?;
     text.extend_from_slice(b"}\n")?;
     Ok(())
 }

@@ -9,4 +9,5 @@ pub mod columns;
 pub mod drawing;
 pub mod forest;
 pub mod graph;
+pub mod laws;
 pub mod trees;

@@ -2,7 +2,7 @@
 ghost use Rattle.std.specs.Prelude.{◌≡◌, ◌++◌, ◌∷◌, cond, map, codes, OnOk, IfOk};
 ghost use Rattle.std.specs.List.{flat_map};
 ghost use Rattle.mt_draw.specs.Columns.{cells_line};
-ghost use Rattle.mt_draw.specs.Trees.{tee, corner, bar, lead, propagation, cells, header, strays_text, columns_text, fitted_text, part_text, trees_text};
+ghost use Rattle.mt_draw.specs.Trees.{tee, corner, bar, lead, propagation, cells, header, strays_text, columns_text, fitted_text, part_text, apart, trees_text};
 
 use crate::columns::{Cells, Widths, push_lines};
 use crate::forest::{Branch, strays, tree};
@@ -146,11 +146,11 @@ fn push_cells(
 fn push_strays(text: &mut Vec<u8>, widths: Widths, others: &[Cells]) -> Result<(), AllocError>
     ensures { OnOk result (text.new.items ≡ text.old.items ++ strays_text widths others.now) }
 {
-    if others.is_empty() {
-        return Ok(());
+    if !others.is_empty() {
+        text.extend_from_slice(b"not in a tree:\n")?;
+        push_lines(text, widths, others)?;
     }
-    text.extend_from_slice(b"not in a tree:\n")?;
-    push_lines(text, widths, others)
+    Ok(())
 }
 
 /// Appends lines in columns that fit them all.
@@ -159,10 +159,12 @@ fn push_columns(text: &mut Vec<u8>, lines: &[Cells], others: &[Cells]) -> Result
 {
     let widths = Widths::none().widened(lines).widened(others);
     push_lines(text, widths, lines)?;
-    push_strays(text, widths, others)
+    push_strays(text, widths, others)?;
+    Ok(())
 }
 
 /// Appends the number of a namespace and its table as a tree.
+#[tactic(auto, unfolding(crate::specs::Trees::part_text))]
 fn push_part(
     text: &mut Vec<u8>,
     alloc: Global,
@@ -181,7 +183,24 @@ fn push_part(
     text.extend_from_slice(b"namespace ")?;
     push_number(text, part.space())?;
     text.extend_from_slice(b"\n")?;
-    push_columns(text, &lines, &others)
+    push_columns(text, &lines, &others)?;
+    Ok(())
+}
+
+/// Appends tables as trees, each behind an empty line.
+fn push_apart(
+    text: &mut Vec<u8>,
+    alloc: Global,
+    strokes: Strokes,
+    parts: &[Mirror],
+) -> Result<(), AllocError>
+    ensures { OnOk result (text.new.items ≡ text.old.items ++ apart strokes parts.now) }
+{
+    'parts: for part in parts {
+        text.extend_from_slice(b"\n")?;
+        push_part(text, alloc, strokes, part)?;
+    }
+    Ok(())
 }
 
 /// Appends tables as trees, with an empty line between them. Fails for want of memory alone.
@@ -193,13 +212,10 @@ pub(crate) fn push_trees(
 ) -> Result<(), AllocError>
     ensures { OnOk result (text.new.items ≡ text.old.items ++ trees_text strokes parts.now) }
 {
-    let mut rest = parts;
-    'parts: while let [part, later @ ..] = rest {
-        push_part(text, alloc, strokes, part)?;
-        if !later.is_empty() {
-            text.extend_from_slice(b"\n")?;
-        }
-        rest = later;
-    }
+    let [part, later @ ..] = parts else {
+        return Ok(());
+    };
+    push_part(text, alloc, strokes, part)?;
+    push_apart(text, alloc, strokes, later)?;
     Ok(())
 }
