@@ -6,11 +6,11 @@ use Rattle.std.proofs.lemmas.Bool.Decides.{nat_tests}
 use Rattle.std.proofs.lemmas.List.{reverse-append, reverse-reverse}
 use Rattle.std.proofs.lemmas.Grind.{flat_map-append}
 use Rattle.mt_info.specs.declared.row.Row.{Row}
-use Rattle.mt_draw.specs.Forest.{BranchView, branches, children, next_below, grown}
+use Rattle.mt_draw.specs.Forest.{BranchView, branches, child_rows, next_below, drawn_from}
 
 -- all below a branch, as many generations as there can be
 abbrev pub grown_at : List Row → BranchView → List BranchView
-grown_at rows b = grown rows (length rows - length b.lasts) b
+grown_at rows b = drawn_from rows (length rows - length b.lasts) b
 
 -- the rows from the last one down: one more
 pub one_more : (rows : List Row) (step : ℕ) (r : Row) → step < length rows → r ≡ get_or rows (length rows - 1 - step) r → drop (length rows - (step + 1)) rows ≡ r ∷ drop (length rows - step) rows
@@ -50,27 +50,27 @@ pub kept_below : (lasts : List Bool) (cs ds : List Row) (s0 : List BranchView) �
 kept_below lasts cs ds s0 e = ap (λ rs. s0 ++ reverse (branches lasts rs)) e
 
 -- the children of a branch stand one generation lower
-below : (rows : List Row) (n : ℕ) (lasts : List Bool) (cs : List Row) → length rows ≡ suc n + length lasts → flat_map (λ c. grown rows n c) (branches lasts cs) ≡ flat_map (grown_at rows) (branches lasts cs)
+below : (rows : List Row) (n : ℕ) (lasts : List Bool) (cs : List Row) → length rows ≡ suc n + length lasts → flat_map (λ c. drawn_from rows n c) (branches lasts cs) ≡ flat_map (grown_at rows) (branches lasts cs)
 below rows n lasts [] e = refl
 below rows n lasts (c ∷ cs) e =
     let b : BranchView = record { lasts = lasts ++ (length cs == 0) ∷ []; row = c } in
     let fuel : n ≡ length rows - length (lasts ++ (length cs == 0) ∷ []) = rw (length-append lasts ((length cs == 0) ∷ [])) (omega (arith, e)) in
-    ap (λ k. grown rows k b ++ flat_map (λ c. grown rows n c) (branches lasts cs)) fuel ∙ ap (λ t. grown_at rows b ++ t) (below rows n lasts cs e)
+    ap (λ k. drawn_from rows k b ++ flat_map (λ c. drawn_from rows n c) (branches lasts cs)) fuel ∙ ap (λ t. grown_at rows b ++ t) (below rows n lasts cs e)
 
 -- a branch and its children, each with all below it
 pub grown_once : (rows : List Row) (b : BranchView) → grown_at rows b ≡ b ∷ flat_map (grown_at rows) (next_below rows b)
 grown_once rows b = go (nat_lt (length b.lasts) (length rows)) refl
   where
-    go : (u : Bool) → nat_lt (length b.lasts) (length rows) ≡ u → grown rows (length rows - length b.lasts) b ≡ b ∷ flat_map (grown_at rows) (cond u (branches b.lasts (children rows b.row)) [])
+    go : (u : Bool) → nat_lt (length b.lasts) (length rows) ≡ u → drawn_from rows (length rows - length b.lasts) b ≡ b ∷ flat_map (grown_at rows) (cond u (branches b.lasts (child_rows rows b.row)) [])
     go true e =
         let n = length rows - suc (length b.lasts) in
         let lower : length b.lasts < length rows = grind (arith, nat_tests) in
         let fuel : length rows - length b.lasts ≡ suc n = omega (arith, lower) in
-        ap (λ k. grown rows k b) fuel ∙ ap (λ t. b ∷ t) (below rows n b.lasts (children rows b.row) (omega (arith, lower)))
+        ap (λ k. drawn_from rows k b) fuel ∙ ap (λ t. b ∷ t) (below rows n b.lasts (child_rows rows b.row) (omega (arith, lower)))
     go false e =
         let high : length rows ≤ length b.lasts = grind (arith, nat_tests) in
         let fuel : length rows - length b.lasts ≡ 0 = omega (arith, high) in
-        ap (λ k. grown rows k b) fuel
+        ap (λ k. drawn_from rows k b) fuel
 
 -- the branch on top of a stack comes first
 pub popped : (rows : List Row) (b : BranchView) (s0 s1 : List BranchView) → s0 ≡ s1 ++ b ∷ [] → flat_map (grown_at rows) (reverse s0) ≡ grown_at rows b ++ flat_map (grown_at rows) (reverse s1)

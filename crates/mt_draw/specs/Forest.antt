@@ -18,8 +18,8 @@ abbrev pub branch_code : Coded Row → Coded BranchView
 branch_code code = code_by (List Bool × Row) (coded× (coded_list coded_bool) code) (λ b. (b.lasts, b.row)) (λ t. record { lasts = t.0; row = t.1 }) (λ _. refl)
 
 -- a row to which no line leads
-abbrev pub alone : Row → BranchView
-alone r = record { lasts = []; row = r }
+abbrev pub without_lines : Row → BranchView
+without_lines r = record { lasts = []; row = r }
 
 -- the row below which a row is drawn: that of its parent, if this is another mount of the table
 abbrev pub parent_row : List Row → Row → Option Row
@@ -33,8 +33,8 @@ is_top rows r = is_none (parent_row rows r)
 abbrev pub is_child : ℕ → Row → Bool
 is_child parent r = (r.parent == parent) && not (r.id == parent)
 
-abbrev pub children : List Row → Row → List Row
-children rows r = filter (is_child r.id) rows
+abbrev pub child_rows : List Row → Row → List Row
+child_rows rows r = filter (is_child r.id) rows
 
 -- the children of a row to which these lines lead
 abbrev pub branches : List Bool → List Row → List BranchView
@@ -43,16 +43,16 @@ branches lasts (r ∷ rs) = record { lasts = lasts ++ (length rs == 0) ∷ []; r
 
 -- the children of a row, unless as many lines lead to it as there are rows
 abbrev pub next_below : List Row → BranchView → List BranchView
-next_below rows b = cond (nat_lt (length b.lasts) (length rows)) (branches b.lasts (children rows b.row)) []
+next_below rows b = cond (nat_lt (length b.lasts) (length rows)) (branches b.lasts (child_rows rows b.row)) []
 
 -- a row and all below it, so many generations at most: each row is followed by its children, each with all below it
-abbrev pub grown : List Row → ℕ → BranchView → List BranchView
-grown rows zero b = b ∷ []
-grown rows (suc n) b = b ∷ flat_map (λ c. grown rows n c) (branches b.lasts (children rows b.row))
+abbrev pub drawn_from : List Row → ℕ → BranchView → List BranchView
+drawn_from rows zero b = b ∷ []
+drawn_from rows (suc n) b = b ∷ flat_map (λ c. drawn_from rows n c) (branches b.lasts (child_rows rows b.row))
 
 -- the rows of all trees: each top row, by rising ID, and all below it
 abbrev pub tree : List Row → List BranchView
-tree rows = flat_map (λ r. grown rows (length rows) (alone r)) (filter (is_top rows) rows)
+tree rows = flat_map (λ r. drawn_from rows (length rows) (without_lines r)) (filter (is_top rows) rows)
 
 -- a mount has a row among these
 abbrev pub is_drawn : List BranchView → ℕ → Bool
@@ -60,4 +60,4 @@ is_drawn bs i = list_any (λ b. b.row.id == i) bs
 
 -- the rows that are in no tree, by rising ID: their parents go round in a ring
 abbrev pub strays : List Row → List BranchView
-strays rows = map alone (filter (λ r. not (is_drawn (tree rows) r.id)) rows)
+strays rows = map without_lines (filter (λ r. not (is_drawn (tree rows) r.id)) rows)

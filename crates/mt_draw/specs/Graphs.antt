@@ -69,7 +69,7 @@ label r =
     label_text (path_text r.point) ++ (codes "\\n" ++ (label_text (escaped r.kind) ++ (codes "\\n" ++ (join_with_byte 44 (option_words r.attrs) ++ (codes "\\n" ++ propagation r)))))
 
 -- the line of a mount
-abbrev pub node_line : ℕ → Row → List ℕ
+unfoldable pub node_line : ℕ → Row → List ℕ
 node_line space r = name space r.id ++ (codes " [label=\"" ++ (label r ++ (codes "\"" ++ (outline r.shared ++ codes "];\n"))))
 
 -- the mounts of a namespace, in a box with its number

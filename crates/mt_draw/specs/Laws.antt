@@ -30,10 +30,10 @@ abbrev pub TreesHaveTops : Type 0
 TreesHaveTops = (rows : List Row) → IsTrue (rises row_id rows) → (r : Row) → IsIn rows r → is_drawn (tree rows) r.id ≡ ends (parent_row rows) (length rows) r
 
 -- the first row of a drawing is that of the second's parent, and as many lines lead to it but one
-abbrev pub is_above : BranchView → BranchView → Bool
-is_above p b = (p.row.id == b.row.parent) && (length b.lasts == suc (length p.lasts))
+abbrev pub is_parent_branch : BranchView → BranchView → Bool
+is_parent_branch p b = (p.row.id == b.row.parent) && (length b.lasts == suc (length p.lasts))
 
 -- a row of the tree that is no top row stands below that of its parent, and one piece to the right of it
 abbrev pub ChildrenStandBelow : Type 0
 ChildrenStandBelow =
-    (rows : List Row) (front : List BranchView) (b : BranchView) (back : List BranchView) → tree rows ≡ front ++ b ∷ back → is_top rows b.row ≡ false → list_any (λ p. is_above p b) front ≡ true
+    (rows : List Row) (front : List BranchView) (b : BranchView) (back : List BranchView) → tree rows ≡ front ++ b ∷ back → is_top rows b.row ≡ false → list_any (λ p. is_parent_branch p b) front ≡ true

@@ -1,6 +1,6 @@
 -- Tables as trees of text (the form: findmnt(8)).
 -- A word with no source is this project's rule.
-use Rattle.std.specs.Prelude.{ℕ, Bool, cond, List, [], ◌∷◌, ◌++◌, map, codes, decimal}
+use Rattle.std.specs.Prelude.{ℕ, Bool, ◌==◌, cond, List, [], ◌∷◌, ◌++◌, map, length, codes, decimal}
 use Rattle.std.specs.List.{flat_map, fold, join_with_byte}
 use Rattle.mt_skel.specs.Escapes.{escaped}
 use Rattle.mt_info.specs.declared.row.Row.{Row}
@@ -63,8 +63,7 @@ header = record {
 
 -- the lines of the rows that are in no tree, behind a line that says so
 abbrev pub strays_text : Widths → List CellsView → List ℕ
-strays_text w [] = []
-strays_text w (c ∷ cs) = codes "not in a tree:\n" ++ flat_map (cells_line w) (c ∷ cs)
+strays_text w cs = cond (length cs == 0) [] (codes "not in a tree:\n" ++ flat_map (cells_line w) cs)
 
 -- lines in columns that fit them all
 abbrev pub columns_text : Widths → List CellsView → List CellsView → List ℕ
@@ -74,13 +73,13 @@ abbrev pub fitted_text : List CellsView → List CellsView → List ℕ
 fitted_text lines others = columns_text (fold widened (fold widened no_widths lines) others) lines others
 
 -- the table of a namespace, with its number
-unfoldable pub part_text : Strokes → MirrorView → List ℕ
-part_text s m = codes "namespace " ++ (decimal m.space ++ (codes "\n" ++ fitted_text (header ∷ map (cells s) (tree m.rows)) (map (cells s) (strays m.rows))))
+unfoldable pub part_tree : Strokes → MirrorView → List ℕ
+part_tree s m = codes "namespace " ++ (decimal m.space ++ (codes "\n" ++ fitted_text (header ∷ map (cells s) (tree m.rows)) (map (cells s) (strays m.rows))))
 
 -- tables, each but the first behind an empty line
 abbrev pub apart : Strokes → List MirrorView → List ℕ
-apart s parts = flat_map (λ m. 10 ∷ part_text s m) parts
+apart s parts = flat_map (λ m. 10 ∷ part_tree s m) parts
 
 abbrev pub trees_text : Strokes → List MirrorView → List ℕ
 trees_text s [] = []
-trees_text s (m ∷ later) = part_text s m ++ apart s later
+trees_text s (m ∷ later) = part_tree s m ++ apart s later

@@ -3,7 +3,7 @@ ghost use Rattle.std.specs.Prelude.{◌≡◌, ◌++◌, ◌∷◌, [], reverse,
 ghost use Rattle.std.specs.List.{filter};
 ghost use Rattle.mt_skel.specs.Keyed.{rises};
 ghost use Rattle.mt_info.specs.Table.{row_id};
-ghost use Rattle.mt_draw.specs.Forest.{alone, is_top, is_child, children, branches, next_below, grown, tree, is_drawn, strays};
+ghost use Rattle.mt_draw.specs.Forest.{without_lines, is_top, is_child, child_rows, branches, next_below, drawn_from, tree, is_drawn, strays};
 
 use mt_info::row::Row;
 use mt_info::table::{Table, find_row};
@@ -35,7 +35,7 @@ impl<'a> Model for Branch<'a> {
 impl<'a> Branch<'a> {
     /// A row to which no line leads.
     fn alone(alloc: Global, row: &'a Row) -> Branch<'a>
-        ensures { result ≡ alone row.now }
+        ensures { result ≡ without_lines row.now }
     {
         Branch {
             lasts: Vec::new(alloc),
@@ -89,7 +89,7 @@ fn push_children<'a>(
     rows: &'a [Row],
     parent: &Branch<'a>,
 ) -> Result<(), AllocError>
-    ensures { OnOk result (stack.new.items ≡ stack.old.items ++ reverse (branches parent.now.lasts (children rows.now parent.now.row))) }
+    ensures { OnOk result (stack.new.items ≡ stack.old.items ++ reverse (branches parent.now.lasts (child_rows rows.now parent.now.row))) }
 {
     let id = parent.row().id;
     let mut is_last = true;
@@ -124,7 +124,7 @@ fn push_grown<'a>(
     rows: &'a [Row],
     top: &'a Row,
 ) -> Result<(), AllocError>
-    ensures { OnOk result (drawn.new.items ≡ drawn.old.items ++ grown rows.now (length rows.now) (alone top.now)) }
+    ensures { OnOk result (drawn.new.items ≡ drawn.old.items ++ drawn_from rows.now (length rows.now) (without_lines top.now)) }
 {
     let mut stack = Vec::new(alloc);
     stack.push(Branch::alone(alloc, top))?;

@@ -142,6 +142,7 @@ fn push_lines(text: &mut Vec<u8>, row: &Row) -> Result<(), AllocError>
 }
 
 /// Appends the line of a mount.
+#[tactic(auto, unfolding(crate::specs::Graphs::node_line))]
 fn push_node(text: &mut Vec<u8>, space: SpaceId, row: &Row) -> Result<(), AllocError>
     ensures { OnOk result (text.new.items ≡ text.old.items ++ node_line space row.now) }
 {

@@ -2,7 +2,7 @@
 ghost use Rattle.std.specs.Prelude.{◌≡◌, ◌++◌, ◌∷◌, cond, map, codes, OnOk, IfOk};
 ghost use Rattle.std.specs.List.{flat_map};
 ghost use Rattle.mt_draw.specs.Columns.{cells_line};
-ghost use Rattle.mt_draw.specs.Trees.{tee, corner, bar, lead, propagation, cells, header, strays_text, columns_text, fitted_text, part_text, apart, trees_text};
+ghost use Rattle.mt_draw.specs.Trees.{tee, corner, bar, lead, propagation, cells, header, strays_text, columns_text, fitted_text, part_tree, apart, trees_text};
 
 use crate::columns::{Cells, Widths, push_lines};
 use crate::forest::{Branch, strays, tree};
@@ -164,14 +164,14 @@ fn push_columns(text: &mut Vec<u8>, lines: &[Cells], others: &[Cells]) -> Result
 }
 
 /// Appends the number of a namespace and its table as a tree.
-#[tactic(auto, unfolding(crate::specs::Trees::part_text))]
+#[tactic(auto, unfolding(crate::specs::Trees::part_tree))]
 fn push_part(
     text: &mut Vec<u8>,
     alloc: Global,
     strokes: Strokes,
     part: &Mirror,
 ) -> Result<(), AllocError>
-    ensures { OnOk result (text.new.items ≡ text.old.items ++ part_text strokes part.now) }
+    ensures { OnOk result (text.new.items ≡ text.old.items ++ part_tree strokes part.now) }
 {
     let drawn = tree(part.table())?;
     let strays = strays(part.table(), &drawn)?;
