@@ -12,6 +12,7 @@ mod block;
 pub mod fault;
 pub mod mirror;
 mod opening;
+mod parts;
 mod posts;
 pub mod relay;
 pub mod request;

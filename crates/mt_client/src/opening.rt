@@ -25,8 +25,8 @@ use std::alloc::Global;
 /// What the first line of a namespace says.
 #[derive(Clone, Copy)]
 pub(crate) struct Heading {
-    space: SpaceId,
-    number: u64,
+    pub(crate) space: SpaceId,
+    pub(crate) number: u64,
     pub(crate) count: u64,
 }
 
@@ -102,7 +102,7 @@ fn read_row_line<R: Input + Drop>(
 }
 
 /// The rows that so many lines say.
-fn read_rows<R: Input + Drop>(
+pub(crate) fn read_rows<R: Input + Drop>(
     alloc: Global,
     lines: &mut LineReader<R>,
     count: u64,
