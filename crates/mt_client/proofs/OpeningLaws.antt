@@ -39,7 +39,7 @@ needs_line before some none lines later k e =
     let s = some lines k in
     none (s.0 ∷ []) (texts s.1 ++ later) refl (e ∙ ap (λ ls. texts ls ++ later) s.2)
 
-refused_some : {kind : List (List ℕ) → Type 0} → ((lines : List (List ℕ)) → kind lines → (first : List ℕ) × (others : List (List ℕ)) × (lines ≡ first ∷ others)) → (lines : List (List ℕ)) → IsRefusedOr kind lines → (first : List ℕ) × (others : List (List ℕ)) × (lines ≡ first ∷ others)
+pub refused_some : {kind : List (List ℕ) → Type 0} → ((lines : List (List ℕ)) → kind lines → (first : List ℕ) × (others : List (List ℕ)) × (lines ≡ first ∷ others)) → (lines : List (List ℕ)) → IsRefusedOr kind lines → (first : List ℕ) × (others : List (List ℕ)) × (lines ≡ first ∷ others)
 refused_some some lines (inl r) = (r.0, [], r.2)
 refused_some some lines (inr k) = some lines k
 
@@ -111,7 +111,7 @@ rows_alike (r ∷ rows) (n ∷ news) middle later many e p q =
     let same = line-injective r n p.0 q.0 here in
     λ i. same i ∷ rows_alike rows news middle later (omega (arith, many)) rest p.1 q.1 i
 
-behind_rows : (rows news : List Row) (middle later : List Item) → length rows ≡ length news → texts (map line rows) ++ middle ≡ texts (map line news) ++ later → middle ≡ later
+pub behind_rows : (rows news : List Row) (middle later : List Item) → length rows ≡ length news → texts (map line rows) ++ middle ≡ texts (map line news) ++ later → middle ≡ later
 behind_rows [] [] middle later many e = e
 behind_rows [] (n ∷ news) middle later many e = absurd (omega (arith, many))
 behind_rows (r ∷ rows) [] middle later many e = absurd (omega (arith, many))
@@ -123,7 +123,7 @@ behind_rows (r ∷ rows) (n ∷ news) middle later many e =
 pub part_needs_line : (space count : ℕ) (before : List Item) → NoneFirst (AreSoMany 1) before → NoneFirst (IsShownPart space count) before
 part_needs_line space count before none = needs_line before (λ lines k. (heading_line k.found, map line k.found.rows, k.all)) none
 
-few : (n : ℕ) → 1 + n < 2 ^ 64 → n < 2 ^ 64
+pub few : (n : ℕ) → 1 + n < 2 ^ 64 → n < 2 ^ 64
 few n lt = omega (arith, lt)
 
 -- the numbers of a heading, and what is behind it, where the lines of a namespace come first

@@ -14,7 +14,7 @@ use crate::opening::{read_count, read_heading, read_rows};
 use crate::relay::next_text;
 use mt_events::mirror::Mirror;
 use mt_events::opening::Scope;
-use mt_info::table::Table;
+use mt_info::table::{Table, is_above};
 use mt_lines::line::LineReader;
 use mt_lines::stream::Input;
 use mt_mounts::mount::SpaceId;
@@ -80,14 +80,6 @@ fn read_parts<R: Input + Drop>(
         parts.push(part)?;
     }
     Ok(parts)
-}
-
-/// Whether a number is above the last one, if there was one.
-fn is_above(last: Option<SpaceId>, space: SpaceId) -> bool {
-    match last {
-        Some(last) => last < space,
-        None => true,
-    }
 }
 
 /// Whether the numbers of namespaces strictly rise.
