@@ -1,6 +1,6 @@
 -- What a watcher finds: the namespaces of its scope, each with the number of its last post and its table.
 -- A word with no source is this project's rule.
-use Rattle.std.specs.Prelude.{◌≡◌, ℕ, ◌+◌, ◌≤◌, ◌<◌, ◌^◌, List, [], ◌∷◌, ◌++◌, map, length, IsTrue}
+use Rattle.std.specs.Prelude.{◌≡◌, ℕ, ◌+◌, ◌≤◌, ◌<◌, ◌^◌, List, [], ◌∷◌, ◌++◌, map, length, IsTrue, codes}
 use Rattle.std.specs.List.{flat_map, AllByRecursion}
 use Rattle.mt_skel.specs.Keyed.{rises}
 use Rattle.mt_lines.specs.Lines.{Item}
@@ -10,8 +10,14 @@ use Rattle.mt_events.specs.declared.opening.Part.{Part}
 use Rattle.mt_events.specs.declared.opening.Scope.{Scope}
 use Rattle.mt_events.specs.declared.opening.Scope.TheVariants.{One, All}
 use Rattle.mt_session.specs.Answers.{opening_text}
+use Rattle.mt_client.specs.Requests.{numbered_text}
 use Rattle.mt_client.specs.Reading.{texts, printed}
 use Rattle.mt_client.specs.Mirroring.{IsShown, counted_line, part_lines}
+
+-- the line of the request of a watcher
+abbrev pub watch_text : Scope → List ℕ
+watch_text (One space) = numbered_text (codes "watch") space
+watch_text All = codes "watch all"
 
 -- a mirror goes by its namespace
 abbrev pub mirror_space : MirrorView → ℕ

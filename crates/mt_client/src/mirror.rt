@@ -14,24 +14,12 @@ use crate::fault::ClientFault;
 use crate::opening::{read_count, read_part};
 use crate::posts::apply_post;
 use crate::relay::{next_text, print_line, print_text};
-use crate::request::send_request;
+use crate::request::{numbered_line, send_request};
 use mt_events::mirror::Mirror;
-use mt_info::print::push_number;
 use mt_lines::line::LineReader;
 use mt_lines::stream::{Input, Output};
 use mt_session::text::Text;
-use std::alloc::{AllocError, Global};
-
-/// The line of a request that is a word and a number, without its line end. Fails for want of memory alone.
-fn numbered_line(alloc: Global, command: &[u8], number: u64) -> Result<Vec<u8>, AllocError>
-    ensures { IfOk result (λ line. line.items ≡ numbered_text command.now number) }
-{
-    let mut line = Vec::new(alloc);
-    line.extend_from_slice(command)?;
-    line.extend_from_slice(b" ")?;
-    push_number(&mut line, number)?;
-    Ok(line)
-}
+use std::alloc::Global;
 
 /// Sends a request that is a word and a number.
 fn send_numbered<W: Output>(
