@@ -1,10 +1,10 @@
 -- What was read of an opening, and what cannot come first where one is refused.
-use Rattle.std.proofs.Common.{◌≡◌, ◌≢◌, Bool, MatchBool, ◌==◌, true, false, ℕ, ◌+◌, ◌<◌, ◌≤◌, ◌^◌, List, [], ◌∷◌, ◌++◌, map, length, refl, sym, ap, ◌∙◌, subst, arith, append_assoc, append-nil, length-append, decimal, fold, IsTrue}
+use Rattle.std.proofs.Common.{◌≡◌, ◌≢◌, Bool, MatchBool, ◌==◌, true, false, ℕ, ◌+◌, ◌<◌, ◌≤◌, ◌^◌, List, [], ◌∷◌, ◌++◌, map, length, refl, sym, ap, ◌∙◌, subst, arith, append-nil, length-append, fold, IsTrue, Option, Some, None, MatchOption, inl, inr}
 use Rattle.std.proofs.lemmas.Bool.Decides.{nat_tests}
 use Rattle.std.proofs.lemmas.Grind.{flat_map-append}
 use Rattle.std.specs.List.{flat_map, join_with_byte, AllByRecursion}
 use Rattle.mt_lines.specs.Lines.{Item, Text}
-use Rattle.mt_info.specs.RowLine.{line, row_line}
+use Rattle.mt_info.specs.RowLine.{line}
 use Rattle.mt_info.specs.declared.row.Row.{Row}
 use Rattle.mt_info.specs.Laws.{IsRow}
 use Rattle.mt_info.specs.Table.{row_id}
@@ -13,13 +13,14 @@ use Rattle.mt_events.specs.Mirrors.{MirrorView}
 use Rattle.mt_events.specs.Posts.{ended}
 use Rattle.mt_events.specs.declared.opening.Part.{Part}
 use Rattle.mt_events.specs.declared.opening.Scope.{Scope}
-use Rattle.mt_session.specs.Answers.{count_text, part_text, lines_of_parts, opening_text}
+use Rattle.mt_events.specs.declared.opening.Scope.TheVariants.{One}
+use Rattle.mt_session.specs.Answers.{count_text, part_text, opening_text}
 use Rattle.mt_client.specs.declared.opening.Heading.{Heading}
 use Rattle.mt_client.specs.Requests.{is_refusal}
 use Rattle.mt_client.specs.Reading.{texts, printed, NoneFirst, AreSoMany}
-use Rattle.mt_client.specs.Mirroring.{IsShown, counted_line, heading_words, heading_line, part_lines}
-use Rattle.mt_client.specs.Awaited.{IsRefusedOr, AreRowLines}
-use Rattle.mt_client.specs.Finding.{mirror_space, parts_lines, found_lines, AreOf, AreShown, part_of, opening_of, HasFound, HasWatched, IsFinding, IsPartWithin, ArePartLines}
+use Rattle.mt_client.specs.Mirroring.{IsShown, counted_line, heading_words, heading_line, part_lines, opening_lines, HasOpened}
+use Rattle.mt_client.specs.Awaited.{IsRefusedOr, AreRowLines, IsOpening}
+use Rattle.mt_client.specs.Finding.{mirror_space, parts_lines, found_lines, AreOf, part_of, opening_of, HasFound, HasWatched, IsFinding, IsPartWithin, ArePartLines}
 use Rattle.mt_client.proofs.RelayLaws.{printed-append}
 use Rattle.mt_client.proofs.MirrorLaws.{runs_read, part_is}
 use Rattle.mt_client.proofs.ReplyLaws.{many_lines}
@@ -104,42 +105,42 @@ parts_cut count left parts before middle came many some shown none lines later k
     none (part_lines r.0) r.1 (record { found = r.0; shown = r.2; within = r.3; all = refl }) r.4
 
 -- a namespace
-pub next_needs_line : (left : ℕ) (before : List Item) → NoneFirst (AreSoMany 1) before → NoneFirst (IsPartWithin left) before
-next_needs_line left before none = needs_line before (λ lines k. (heading_line k.found, map line k.found.rows, k.all)) none
+pub within_needs_line : (left : ℕ) (before : List Item) → NoneFirst (AreSoMany 1) before → NoneFirst (IsPartWithin left) before
+within_needs_line left before none = needs_line before (λ lines k. (heading_line k.found, map line k.found.rows, k.all)) none
 
 -- the numbers of a first line, and what is behind it, where the lines of a namespace come first
-next_told : (left : ℕ) (h : Heading) (seen : List ℕ) (before middle later : List Item) (lines : List (List ℕ)) → before ≡ Text seen ∷ middle → seen ≡ join_with_byte 32 (heading_words h.space h.number h.count)
+within_told : (left : ℕ) (h : Heading) (seen : List ℕ) (before middle later : List Item) (lines : List (List ℕ)) → before ≡ Text seen ∷ middle → seen ≡ join_with_byte 32 (heading_words h.space h.number h.count)
     → (h.space < 2 ^ 64) × (h.number < 2 ^ 64) × (h.count < 2 ^ 64) → (k : IsPartWithin left lines) → before ≡ texts lines ++ later → (h.count ≡ length k.found.rows) × (middle ≡ texts (map line k.found.rows) ++ later)
-next_told left h seen before middle later lines there is small k e =
+within_told left h seen before middle later lines there is small k e =
     let t = first_taken seen (heading_line k.found) lines (map line k.found.rows) before middle later there k.all e in
     let w = heading_tells h.space h.number h.count k.found.space k.found.number (length k.found.rows) small.0 small.1 small.2 k.shown.space k.shown.number (few (length k.found.rows) k.shown.counted) (sym is ∙ sym t.0) in
     (w.2, t.1)
 
-pub next_needs_heading : (left : ℕ) (seen : List ℕ) (before middle : List Item) → before ≡ Text seen ∷ middle
+pub within_needs_heading : (left : ℕ) (seen : List ℕ) (before middle : List Item) → before ≡ Text seen ∷ middle
     → ((space number count : ℕ) → space < 2 ^ 64 → number < 2 ^ 64 → count < 2 ^ 64 → seen ≢ join_with_byte 32 (heading_words space number count)) → NoneFirst (IsPartWithin left) before
-next_needs_heading left seen before middle there none lines later k e =
+within_needs_heading left seen before middle there none lines later k e =
     let t = first_taken seen (heading_line k.found) lines (map line k.found.rows) before middle later there k.all e in
     none k.found.space k.found.number (length k.found.rows) k.shown.space k.shown.number (few (length k.found.rows) k.shown.counted) (sym t.0)
 
-pub next_needs_room : (left : ℕ) (h : Heading) (seen : List ℕ) (before middle : List Item) → before ≡ Text seen ∷ middle → seen ≡ join_with_byte 32 (heading_words h.space h.number h.count)
+pub within_needs_room : (left : ℕ) (h : Heading) (seen : List ℕ) (before middle : List Item) → before ≡ Text seen ∷ middle → seen ≡ join_with_byte 32 (heading_words h.space h.number h.count)
     → (h.space < 2 ^ 64) × (h.number < 2 ^ 64) × (h.count < 2 ^ 64) → left ≤ h.count → NoneFirst (IsPartWithin left) before
-next_needs_room left h seen before middle there is small over lines later k e =
-    let t = next_told left h seen before middle later lines there is small k e in
+within_needs_room left h seen before middle there is small over lines later k e =
+    let t = within_told left h seen before middle later lines there is small k e in
     let same = t.0 in
     let within = k.within in
     omega (arith, same, within, over)
 
-pub next_needs_rows : (left : ℕ) (h : Heading) (seen : List ℕ) (before middle : List Item) → before ≡ Text seen ∷ middle → seen ≡ join_with_byte 32 (heading_words h.space h.number h.count)
+pub within_needs_rows : (left : ℕ) (h : Heading) (seen : List ℕ) (before middle : List Item) → before ≡ Text seen ∷ middle → seen ≡ join_with_byte 32 (heading_words h.space h.number h.count)
     → (h.space < 2 ^ 64) × (h.number < 2 ^ 64) × (h.count < 2 ^ 64) → NoneFirst (AreRowLines h.count) middle → NoneFirst (IsPartWithin left) before
-next_needs_rows left h seen before middle there is small none lines later k e =
-    let t = next_told left h seen before middle later lines there is small k e in
+within_needs_rows left h seen before middle there is small none lines later k e =
+    let t = within_told left h seen before middle later lines there is small k e in
     none (map line k.found.rows) later (record { rows = k.found.rows; valid = k.shown.rows; many = sym t.0; all = refl }) t.1
 
-pub next_needs_rising : (left : ℕ) (h : Heading) (seen : List ℕ) (rows : List Row) (before middle after : List Item) → before ≡ Text seen ∷ middle → seen ≡ join_with_byte 32 (heading_words h.space h.number h.count)
+pub within_needs_rising : (left : ℕ) (h : Heading) (seen : List ℕ) (rows : List Row) (before middle after : List Item) → before ≡ Text seen ∷ middle → seen ≡ join_with_byte 32 (heading_words h.space h.number h.count)
     → (h.space < 2 ^ 64) × (h.number < 2 ^ 64) × (h.count < 2 ^ 64) → middle ≡ texts (map line rows) ++ after → length rows ≡ h.count → AllByRecursion IsRow rows → (IsTrue (rises row_id rows) → ⊥)
     → NoneFirst (IsPartWithin left) before
-next_needs_rising left h seen rows before middle after there is small came many valid falls lines later k e =
-    let t = next_told left h seen before middle later lines there is small k e in
+within_needs_rising left h seen rows before middle after there is small came many valid falls lines later k e =
+    let t = within_told left h seen before middle later lines there is small k e in
     let same = rows_alike rows k.found.rows after later (many ∙ t.0) (sym came ∙ t.1) valid k.shown.rows in
     falls (subst (λ rs. IsTrue (rises row_id rs)) (sym same) k.shown.rising)
 
@@ -212,3 +213,38 @@ one_told m space = go (m.space == space) refl
     go : (same : Bool) → (m.space == space) ≡ same → MatchBool same (map mirror_space (m ∷ []) ≡ space ∷ []) (map mirror_space (m ∷ []) ≢ space ∷ [])
     go true e = let n : m.space ≡ space = grind (arith, nat_tests) in ap (λ k. k ∷ []) n
     go false e = λ f. let n : m.space ≡ space = cc in grind (arith, nat_tests)
+
+-- the opening of a watcher of one namespace
+one_opening : (m : MirrorView) → found_lines (m ∷ []) ≡ opening_lines m
+one_opening m =
+    let c = part_count m [] in
+    let many : length (parts_lines (m ∷ [])) ≡ 1 + length m.rows = omega (arith, c) in
+    λ i. counted_line (many i) ∷ append-nil (part_lines m) i
+
+one_counted : (m : MirrorView) → IsShown m → length (parts_lines (m ∷ [])) < 2 ^ 64
+one_counted m s =
+    let c = part_count m [] in
+    let small = s.counted in
+    omega (arith, c, small)
+
+pub opened_one : (space : ℕ) (refused : Type 0) (parts : List MirrorView) (o : Option MirrorView) (before after : List Item) → HasFound (One space) before after parts → MatchOption o (parts ≡ []) (λ m. (others : List MirrorView) × (parts ≡ others ++ m ∷ []))
+    → MatchOption o refused (λ m. HasOpened space before after m)
+opened_one space refused parts None before after f is = let no : map mirror_space [] ≡ space ∷ [] = subst (λ ps. map mirror_space ps ≡ space ∷ []) is f.shown.of in cc
+opened_one space refused parts (Some m) before after f is = go is.0 (subst (λ ps. HasFound (One space) before after ps) is.1 f)
+  where
+    go : (others : List MirrorView) → HasFound (One space) before after (others ++ m ∷ []) → HasOpened space before after m
+    go [] g =
+        let of : m.space ∷ [] ≡ space ∷ [] = g.shown.of in
+        record { shown = g.shown.each.0; of = cc; read = g.read ∙ ap (λ ls. texts ls ++ after) (one_opening m) }
+    go (n ∷ []) g = let no : n.space ∷ (m.space ∷ []) ≡ space ∷ [] = g.shown.of in cc
+    go (n ∷ (k ∷ others)) g = let no : n.space ∷ (k.space ∷ map mirror_space (others ++ m ∷ [])) ≡ space ∷ [] = g.shown.of in cc
+
+pub opening_needs_finding : (space : ℕ) (before : List Item) → NoneFirst (IsRefusedOr (IsFinding (One space))) before → NoneFirst (IsRefusedOr (IsOpening space)) before
+opening_needs_finding space before none lines later (inl r) e = none lines later (inl r) e
+opening_needs_finding space before none lines later (inr k) e =
+    none lines later
+    (inr (record {
+      found = k.found ∷ [];
+      shown = record { each = (k.shown, tt); counted = one_counted k.found k.shown; of = ap (λ n. n ∷ []) k.of };
+      all = k.all ∙ sym (one_opening k.found);
+    })) e
