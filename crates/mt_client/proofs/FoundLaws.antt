@@ -20,7 +20,7 @@ use Rattle.mt_client.specs.Requests.{is_refusal}
 use Rattle.mt_client.specs.Reading.{texts, printed, NoneFirst, AreSoMany}
 use Rattle.mt_client.specs.Mirroring.{IsShown, counted_line, heading_words, heading_line, part_lines, opening_lines, HasOpened}
 use Rattle.mt_client.specs.Awaited.{IsRefusedOr, AreRowLines, IsOpening}
-use Rattle.mt_client.specs.Finding.{mirror_space, parts_lines, found_lines, AreOf, part_of, opening_of, HasFound, HasWatched, IsFinding, IsPartWithin, ArePartLines}
+use Rattle.mt_client.specs.Finding.{mirror_space, parts_lines, found_lines, AreOf, part_found, opening_found, HasFound, HasWatched, IsFinding, IsPartWithin, ArePartLines}
 use Rattle.mt_client.proofs.RelayLaws.{printed-append}
 use Rattle.mt_client.proofs.MirrorLaws.{runs_read, part_is}
 use Rattle.mt_client.proofs.ReplyLaws.{many_lines}
@@ -189,19 +189,19 @@ found_whole scope count seen parts before middle after there is small came many 
 }
 
 -- the text of an opening
-parts_text : (parts : List MirrorView) → printed (parts_lines parts) ≡ flat_map part_text (map part_of parts)
+parts_text : (parts : List MirrorView) → printed (parts_lines parts) ≡ flat_map part_text (map part_found parts)
 parts_text [] = refl
 parts_text (m ∷ parts) = printed-append (part_lines m) (parts_lines parts) ∙ (λ i. part_is m i ++ parts_text parts i)
 
-lines_from : (n : ℕ) (parts : List MirrorView) → fold (λ n (p : Part). n + (1 + length p.table)) n (map part_of parts) ≡ n + length (parts_lines parts)
+lines_from : (n : ℕ) (parts : List MirrorView) → fold (λ n (p : Part). n + (1 + length p.table)) n (map part_found parts) ≡ n + length (parts_lines parts)
 lines_from n [] = omega arith
 lines_from n (m ∷ parts) =
     let ih = lines_from (n + (1 + length m.rows)) parts in
     let c = part_count m parts in
     omega (arith, ih, c)
 
-found_is : (scope : Scope) (parts : List MirrorView) → printed (found_lines parts) ≡ opening_text (opening_of scope parts)
-found_is scope parts = (λ i. ended (counted_line (length (parts_lines parts))) ++ parts_text parts i) ∙ ap (λ n. count_text n ++ flat_map part_text (map part_of parts)) (sym (lines_from 0 parts))
+found_is : (scope : Scope) (parts : List MirrorView) → printed (found_lines parts) ≡ opening_text (opening_found scope parts)
+found_is scope parts = (λ i. ended (counted_line (length (parts_lines parts))) ++ parts_text parts i) ∙ ap (λ n. count_text n ++ flat_map part_text (map part_found parts)) (sym (lines_from 0 parts))
 
 pub watched_whole : (scope : Scope) (parts : List MirrorView) (before after : List Item) → HasFound scope before after parts → HasWatched scope before after parts
 watched_whole scope parts before after f = record { lines = found_lines parts; shown = f.shown; read = f.read; text = found_is scope parts }

@@ -43,12 +43,12 @@ pub record AreShown (scope : Scope) (parts : List MirrorView) : Type 0 where
   pub of : AreOf scope parts
 
 -- a namespace as a server tells it to a watcher
-abbrev pub part_of : MirrorView → Part
-part_of m = record { space = m.space; number = m.number; table = m.rows }
+abbrev pub part_found : MirrorView → Part
+part_found m = record { space = m.space; number = m.number; table = m.rows }
 
 -- the opening of a watcher that finds these namespaces
-abbrev pub opening_of : Scope → List MirrorView → Opening
-opening_of scope parts = record { scope = scope; parts = map part_of parts }
+abbrev pub opening_found : Scope → List MirrorView → Opening
+opening_found scope parts = record { scope = scope; parts = map part_found parts }
 
 -- the lines that were read are those of these namespaces, which a server can show to a watcher of this scope
 pub record HasFound (scope : Scope) (before after : List Item) (parts : List MirrorView) : Type 0 where
@@ -60,7 +60,7 @@ pub record HasWatched (scope : Scope) (before after : List Item) (parts : List M
   pub lines : List (List ℕ)
   pub shown : AreShown scope parts
   pub read : before ≡ texts lines ++ after
-  pub text : printed lines ≡ opening_text (opening_of scope parts)
+  pub text : printed lines ≡ opening_text (opening_found scope parts)
 
 -- the lines of what a watcher of this scope finds
 pub record IsFinding (scope : Scope) (lines : List (List ℕ)) : Type 0 where

@@ -46,7 +46,11 @@ pub fn request_line(alloc: Global, words: &[&[u8]]) -> Result<Vec<u8>, AllocErro
 }
 
 /// The line of a request that is a word and a number, without its line end. Fails for want of memory alone.
-pub(crate) fn numbered_line(alloc: Global, command: &[u8], number: u64) -> Result<Vec<u8>, AllocError>
+pub(crate) fn numbered_line(
+    alloc: Global,
+    command: &[u8],
+    number: u64,
+) -> Result<Vec<u8>, AllocError>
     ensures { IfOk result (λ line. line.items ≡ numbered_text command.now number) }
 {
     let mut line = Vec::new(alloc);

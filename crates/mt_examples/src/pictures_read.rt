@@ -37,6 +37,7 @@ const FOUND_ONE: &[u8] = b"ok 2
 space 2 0 1
 3 3 0:1 / / rw,relatime master:1 - rootfs none rw
 ";
+
 const DRAWN_ONE: &[u8] = b"namespace 2
 TARGET SOURCE FSTYPE OPTIONS     PROPAGATION
 /      none   rootfs rw,relatime master:1
@@ -49,6 +50,7 @@ space 2 0 1
 space 1 3 1
 1 1 0:1 / / rw,relatime shared:1 - rootfs none rw
 ";
+
 const TWICE: &[u8] = b"ok 2
 space 2 0 0
 space 2 0 0
@@ -60,11 +62,13 @@ space 1 3 2
 1 1 0:1 / / rw,relatime shared:1 - rootfs none rw
 2 1 0:2 / /mnt ro,relatime - ext4 d rw
 ";
+
 const OVER: &[u8] = b"ok 2
 space 1 3 2
 1 1 0:1 / / rw,relatime shared:1 - rootfs none rw
 2 1 0:2 / /mnt ro,relatime - ext4 d rw
 ";
+
 const UNDER: &[u8] = b"ok 3
 space 2 0 1
 3 3 0:1 / / rw,relatime master:1 - rootfs none rw
@@ -102,7 +106,14 @@ fn draws_all_namespaces(rt: HostRuntime) -> Result<(), Fail> {
         (TWICE, b"", cut),
     ];
     for (answers, printed, wanted) in table {
-        let drawn = is_drawn(rt.alloc(), Scope::All, b"watch all\n", answers, printed, wanted)?;
+        let drawn = is_drawn(
+            rt.alloc(),
+            Scope::All,
+            b"watch all\n",
+            answers,
+            printed,
+            wanted,
+        )?;
         assert!(rt; drawn, "{answers:?}");
     }
     Ok(())
@@ -118,7 +129,14 @@ fn draws_one_namespace(rt: HostRuntime) -> Result<(), Fail> {
         (b"ok 1\nspace 1 0 0\n", b"", cut),
     ];
     for (answers, printed, wanted) in table {
-        let drawn = is_drawn(rt.alloc(), Scope::One(2), b"watch 2\n", answers, printed, wanted)?;
+        let drawn = is_drawn(
+            rt.alloc(),
+            Scope::One(2),
+            b"watch 2\n",
+            answers,
+            printed,
+            wanted,
+        )?;
         assert!(rt; drawn, "{answers:?}");
     }
     Ok(())
