@@ -1,6 +1,5 @@
 -- What was read of an opening, and what cannot come first where one is refused.
-use Rattle.std.proofs.Common.{◌≡◌, ◌≢◌, Bool, MatchBool, ◌==◌, true, false, ℕ, ◌+◌, ◌<◌, ◌≤◌, ◌^◌, List, [], ◌∷◌, ◌++◌, map, length, refl, sym, ap, ◌∙◌, subst, arith, append-nil, length-append, fold, IsTrue, Option, Some, None, MatchOption, inl, inr}
-use Rattle.std.proofs.lemmas.Bool.Decides.{nat_tests}
+use Rattle.std.proofs.Common.{◌≡◌, ◌≢◌, true, false, ℕ, ◌+◌, ◌<◌, ◌≤◌, ◌^◌, List, [], ◌∷◌, ◌++◌, map, length, refl, sym, ap, ◌∙◌, subst, arith, append-nil, length-append, fold, drop, get_or, IsTrue, Option, Some, None, MatchOption, inl, inr}
 use Rattle.std.proofs.lemmas.Grind.{flat_map-append}
 use Rattle.std.specs.List.{flat_map, join_with_byte, AllByRecursion}
 use Rattle.mt_lines.specs.Lines.{Item, Text}
@@ -8,6 +7,8 @@ use Rattle.mt_info.specs.RowLine.{line}
 use Rattle.mt_info.specs.declared.row.Row.{Row}
 use Rattle.mt_info.specs.Laws.{IsRow}
 use Rattle.mt_info.specs.Table.{row_id}
+use Rattle.mt_info.specs.Building.{is_above, rises_after}
+use Rattle.mt_info.proofs.RisingLaws.{after_kept}
 use Rattle.mt_skel.specs.Keyed.{rises}
 use Rattle.mt_events.specs.Mirrors.{MirrorView}
 use Rattle.mt_events.specs.Posts.{ended}
@@ -180,14 +181,6 @@ finding_needs_scope scope count seen parts before middle after there tells is sm
     let same = parts_alike parts k.found after later shown k.shown.each (omega (arith, many, n)) (sym came ∙ t.1) in
     other (subst (AreOf scope) (sym same) k.shown.of))
 
--- the lines of an opening that came, behind its first line
-pub found_whole : (scope : Scope) (count : ℕ) (seen : List ℕ) (parts : List MirrorView) (before middle after : List Item) → before ≡ Text seen ∷ middle → seen ≡ counted_line count → count < 2 ^ 64
-    → middle ≡ texts (parts_lines parts) ++ after → length (parts_lines parts) ≡ count → AllByRecursion IsShown parts → AreOf scope parts → HasFound scope before after parts
-found_whole scope count seen parts before middle after there is small came many shown of = record {
-  shown = record { each = shown; counted = omega (arith, many, small); of = of };
-  read = there ∙ (λ i. Text ((is ∙ ap counted_line (sym many)) i) ∷ came i);
-}
-
 -- the text of an opening
 parts_text : (parts : List MirrorView) → printed (parts_lines parts) ≡ flat_map part_text (map part_found parts)
 parts_text [] = refl
@@ -206,13 +199,11 @@ found_is scope parts = (λ i. ended (counted_line (length (parts_lines parts))) 
 pub watched_whole : (scope : Scope) (parts : List MirrorView) (before after : List Item) → HasFound scope before after parts → HasWatched scope before after parts
 watched_whole scope parts before after f = record { lines = found_lines parts; shown = f.shown; read = f.read; text = found_is scope parts }
 
--- one namespace, and its number
-pub one_told : (m : MirrorView) (space : ℕ) → MatchBool (m.space == space) (map mirror_space (m ∷ []) ≡ space ∷ []) (map mirror_space (m ∷ []) ≢ space ∷ [])
-one_told m space = go (m.space == space) refl
-  where
-    go : (same : Bool) → (m.space == space) ≡ same → MatchBool same (map mirror_space (m ∷ []) ≡ space ∷ []) (map mirror_space (m ∷ []) ≢ space ∷ [])
-    go true e = let n : m.space ≡ space = grind (arith, nat_tests) in ap (λ k. k ∷ []) n
-    go false e = λ f. let n : m.space ≡ space = cc in grind (arith, nat_tests)
+-- numbers that rise, one namespace after another
+pub rising_kept : (o : Option ℕ) (i : ℕ) (x d : MirrorView) (space : ℕ) (all : List MirrorView) → x ≡ get_or all i d → i < length all → rises_after mirror_space o (drop i all) ≡ rises mirror_space all → space ≡ x.space → true ≡ is_above o space
+    → rises_after mirror_space (Some space) (drop (i + 1) all) ≡ rises mirror_space all
+rising_kept o i x d space all at lt e same above =
+    ap (λ k. rises_after mirror_space (Some k) (drop (i + 1) all)) same ∙ after_kept mirror_space o i x d all at lt e (above ∙ ap (is_above o) same)
 
 -- the opening of a watcher of one namespace
 one_opening : (m : MirrorView) → found_lines (m ∷ []) ≡ opening_lines m

@@ -88,10 +88,11 @@ fn is_rising(parts: &[Mirror]) -> bool
 {
     let mut last = None;
     'parts: for part in parts {
-        if !is_above(last, part.space()) {
+        let space = part.space();
+        if !is_above(last, space) {
             return false;
         }
-        last = Some(part.space());
+        last = Some(space);
     }
     true
 }
