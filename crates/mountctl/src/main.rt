@@ -1,17 +1,19 @@
 //! `mountctl`: a client of the mount server.
 #![tactic(auto)]
 
-ghost use Rattle.std.specs.Prelude.{◌≡◌, None};
-ghost use Rattle.mt_lines.specs.Reading.{fault_of};
+mod connection;
+mod fault;
+mod script;
 
+use crate::connection::connect;
+use crate::fault::Fault;
+use crate::script::{SCRIPT_LIMIT, run_script};
 use clap::error::ErrorKind;
 use clap::{Arg, ArgAction, Command, Error};
-use mt_client::ask::{ask, ask_line};
-use mt_client::fault::ClientFault;
+use mt_client::ask::ask;
 use mt_client::mirror::mirror;
-use mt_client::relay::print_text;
-use mt_lines::line::{Line, LineReader, ReadFault};
-use mt_lines::stream::{Input, Output, Reading, Writing};
+use mt_lines::line::LineReader;
+use mt_lines::stream::{Reading, Writing};
 use mt_words::words::number;
 use std::alloc::Global;
 use std::os::unix::net::UnixStream;
@@ -23,12 +25,6 @@ const PROGRAM: &str = "mountctl";
 
 /// The longest line of an answer, in bytes before its line end.
 const LINE_LIMIT: u32 = 134_217_728;
-
-/// The longest line of a script, in bytes before its line end: that of a session.
-const SCRIPT_LIMIT: u32 = 8_192;
-
-/// The most lines of a script.
-const MOST_LINES: u64 = u64::MAX;
 
 /// The most posts that a mirror follows.
 const MOST_POSTS: u64 = 1_048_576;
@@ -107,98 +103,71 @@ fn parser<'a>(alloc: Global) -> Result<Command<'a>, Error> {
     Ok(command)
 }
 
-/// Whether a line that was answered `ok` has ended its session.
-fn ends_session(line: &[u8]) -> bool {
-    line == b"quit".as_slice() || line == b"stop".as_slice()
-}
-
-/// Sends the lines of an input, one after another, and prints what answers each: whether each was answered `ok`.
-fn run_script<I: Input + Drop, R: Input + Drop, W: Output, O: Output>(
-    alloc: Global,
-    input: &mut LineReader<I>,
-    lines: &mut LineReader<R>,
-    writer: &mut W,
-    out: &mut O,
-) -> Result<bool, ClientFault>
-    requires fresh { fault_of lines.old ≡ None }
-{
-    let mut all = true;
-    'lines: for _line in 0..MOST_LINES {
-        match input.next() {
-            Ok(Line::Text) => {
-                let told = ask_line(alloc, lines, writer, input.line(), out)?;
-                all = all && told;
-                if told && ends_session(input.line()) {
-                    return Ok(all);
-                }
-            }
-            Ok(Line::TooLong) => {
-                print_text(out, b"no TooLong\n")?;
-                all = false;
-            }
-            Ok(Line::Unended) => {
-                print_text(out, b"no BadLine\n")?;
-                return Ok(false);
-            }
-            Ok(Line::End) => return Ok(all),
-            Err(ReadFault::NoMemory) => return Err(ClientFault::NoMemory),
-            Err(_) => return Err(ClientFault::Connection),
-        }
-    }
-    Ok(all)
-}
-
 /// Does a task over a connection: whether each answer was `ok`.
 fn run_task(
     rt: &HostRuntime,
     stream: &UnixStream,
     task: Task,
     words: &[&str],
-) -> Result<bool, ClientFault> {
+) -> Result<bool, Fault> {
     let alloc = rt.alloc();
     let mut lines = LineReader::new(alloc, Reading::new(stream), LINE_LIMIT)?;
     let mut writer = Writing::new(stream);
     let mut out = Writing::new(io::writer(rt));
-    match task {
+    let told = match task {
         Task::Ask => {
             let mut bytes = Vec::new(alloc);
             for word in words {
                 bytes.push(word.as_bytes())?;
             }
-            ask(alloc, &mut lines, &mut writer, bytes.as_slice(), &mut out)
+            ask(alloc, &mut lines, &mut writer, bytes.as_slice(), &mut out)?
         }
         Task::Script => {
             let mut input = LineReader::new(alloc, Reading::new(rt.reader()), SCRIPT_LIMIT)?;
-            run_script(alloc, &mut input, &mut lines, &mut writer, &mut out)
+            run_script(alloc, &mut input, &mut lines, &mut writer, &mut out)?
         }
         Task::Mirror { space, count } => {
-            mirror(alloc, &mut lines, &mut writer, space, count, &mut out)
+            mirror(alloc, &mut lines, &mut writer, space, count, &mut out)?
         }
-    }
+    };
+    Ok(told)
 }
 
-/// Says a line on standard error, and answers this status.
-fn fail(rt: &HostRuntime, line: &str, status: u8) -> ExitCode {
+/// Says that the arguments are faulty.
+fn refuse(rt: &HostRuntime, line: &str) -> ExitCode {
     let _ = rt.eprintln(line);
-    ExitCode::from(status)
+    ExitCode::from(2)
+}
+
+/// Says why a task was not done to its end.
+fn fail(rt: &HostRuntime, fault: Fault) -> ExitCode {
+    let _ = rt.eprintln(fault.message());
+    ExitCode::from(3)
 }
 
 /// Connects to a socket and does what the words ask for.
 fn run_words(rt: &HostRuntime, socket: &str, words: &[&str]) -> ExitCode {
     let Some(task) = task_of(words) else {
-        return fail(
+        return refuse(
             rt,
             "mountctl: mirror takes a namespace and a count of 1 to 1048576",
-            2,
         );
     };
-    let Ok(stream) = UnixStream::connect(rt, socket) else {
-        return fail(rt, "mountctl: connection fault", 3);
+    let Ok(stream) = connect(rt, socket) else {
+        return fail(rt, Fault::Connection);
     };
     match run_task(rt, &stream, task, words) {
         Ok(true) => ExitCode::SUCCESS,
         Ok(false) => ExitCode::from(1),
-        Err(_) => fail(rt, "mountctl: connection fault", 3),
+        Err(fault) => fail(rt, fault),
+    }
+}
+
+/// Prints the help.
+fn help(rt: &HostRuntime, error: &Error) -> ExitCode {
+    match print!(rt; "{error}") {
+        Ok(()) => ExitCode::SUCCESS,
+        Err(_) => fail(rt, Fault::Output),
     }
 }
 
@@ -206,11 +175,8 @@ fn run_words(rt: &HostRuntime, socket: &str, words: &[&str]) -> ExitCode {
 /// standard error.
 fn explain(rt: &HostRuntime, error: &Error) -> ExitCode {
     match error.kind() {
-        ErrorKind::DisplayHelp => {
-            let _ = print!(rt; "{error}");
-            ExitCode::SUCCESS
-        }
-        ErrorKind::OutOfMemory => fail(rt, "mountctl: connection fault", 3),
+        ErrorKind::DisplayHelp => help(rt, error),
+        ErrorKind::OutOfMemory => fail(rt, Fault::NoMemory),
         _ => {
             let _ = eprint!(rt; "{error}");
             ExitCode::from(2)
@@ -246,8 +212,8 @@ fn run(rt: &HostRuntime) -> io::Result<ExitCode> {
 /// Says why the arguments could not be read: there was no memory for them, or one is no text.
 fn explain_arguments(rt: &HostRuntime, error: &io::Error) -> ExitCode {
     match error.kind() {
-        io::ErrorKind::OutOfMemory => fail(rt, "mountctl: connection fault", 3),
-        _ => fail(rt, "mountctl: an argument is not UTF-8", 2),
+        io::ErrorKind::OutOfMemory => fail(rt, Fault::NoMemory),
+        _ => refuse(rt, "mountctl: an argument is not UTF-8"),
     }
 }
 
