@@ -152,7 +152,9 @@ def check_statuses():
         text = section(f"{program}.1", "EXIT STATUS")
         check_same(f"the statuses of {program}.1", wanted, re.findall(r"(?m)^\.It (\d)$", text))
         told = re.findall(rf"`({program}: [^`]*)`", shown(read("README.md")))
-        source = re.findall(rf'"({program}: [^"]*)"', shown(read("crates", program, "src", "main.rt")))
+        folder = os.path.join("crates", program, "src")
+        texts = [shown(read(folder, name)) for name in sorted(os.listdir(os.path.join(TOP, folder)))]
+        source = re.findall(rf'"({program}: [^"]*)"', "".join(texts))
         check_same(f"the messages of {program}.1", {*told, *source}, MESSAGE.findall(text))
 
 

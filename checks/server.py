@@ -21,7 +21,16 @@ import threading
 import time
 
 import cases
-from clients import check_client, check_no_answers, check_refused, check_retold, check_scripts, check_statuses
+from clients import (
+    check_client,
+    check_closed,
+    check_comments,
+    check_no_answers,
+    check_refused,
+    check_retold,
+    check_scripts,
+    check_statuses,
+)
 from limits import COMMANDS
 from running import MOST_SECONDS, check, difference, failures, library, shown
 from serving import START, STOP, Broken, Client, Server, send_input, stop_behind, until_it_rests
@@ -308,6 +317,8 @@ def check_server(program, seconds, mountctl, only):
     if mountctl:
         parts["client"] = lambda program: check_client(program, mountctl)
         parts["statuses"] = lambda program: check_statuses(program, mountctl)
+        parts["closed"] = lambda program: check_closed(mountctl)
+        parts["comments"] = lambda program: check_comments(program, mountctl)
         parts["refused"] = lambda program: check_refused(program, mountctl)
         parts["no answers"] = lambda program: check_no_answers(mountctl)
         parts["retold"] = lambda program: check_retold(program, mountctl)

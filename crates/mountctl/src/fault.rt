@@ -2,7 +2,7 @@
 
 use mt_client::fault::ClientFault;
 use mt_lines::line::ReadFault;
-use std::alloc::AllocError;
+use std::alloc::{AllocError, AllocFailed};
 
 /// Why a task was not done to its end.
 #[derive(Clone, Copy)]
@@ -49,6 +49,12 @@ impl From<ClientFault> for Fault {
 
 impl From<AllocError> for Fault {
     fn from(_error: AllocError) -> Fault {
+        Fault::NoMemory
+    }
+}
+
+impl<T: Drop> From<AllocFailed<T>> for Fault {
+    fn from(_error: AllocFailed<T>) -> Fault {
         Fault::NoMemory
     }
 }
