@@ -4,17 +4,18 @@
 mod connection;
 mod fault;
 mod script;
+mod task;
 
 use crate::connection::connect;
 use crate::fault::Fault;
 use crate::script::{SCRIPT_LIMIT, run_script};
+use crate::task::{Task, task_of};
 use clap::error::ErrorKind;
 use clap::{Arg, ArgAction, Command, Error};
 use mt_client::ask::ask;
 use mt_client::mirror::mirror;
 use mt_lines::line::LineReader;
 use mt_lines::stream::{Reading, Writing};
-use mt_words::words::number;
 use std::alloc::Global;
 use std::os::unix::net::UnixStream;
 use std::process::ExitCode;
@@ -25,9 +26,6 @@ const PROGRAM: &str = "mountctl";
 
 /// The longest line of an answer, in bytes before its line end.
 const LINE_LIMIT: u32 = 134_217_728;
-
-/// The most posts that a mirror follows.
-const MOST_POSTS: u64 = 1_048_576;
 
 /// The lines of a session, for the help.
 const LINES: &str = "The lines of a session:
@@ -54,34 +52,6 @@ const LINES: &str = "The lines of a session:
 In the place of WORD..:
   -                       sends the lines of standard input, one after another
   mirror NS K             follows K posts of a namespace, and shows the table that they lead to";
-
-/// What the words behind the socket ask for.
-#[derive(Clone, Copy)]
-enum Task {
-    /// The answer to the request of these words.
-    Ask,
-    /// The answers to the lines of standard input.
-    Script,
-    /// The table of a namespace that so many posts lead to.
-    Mirror { space: u64, count: u64 },
-}
-
-/// The task of these words, or None where they begin with `mirror` and are no namespace and count behind it.
-fn task_of(words: &[&str]) -> Option<Task> {
-    match words {
-        ["-"] => Some(Task::Script),
-        ["mirror", space, count] => {
-            let space = number(space.as_bytes())?;
-            let count = number(count.as_bytes())?;
-            if count == 0 || count > MOST_POSTS {
-                return None;
-            }
-            Some(Task::Mirror { space, count })
-        }
-        ["mirror", ..] => None,
-        _ => Some(Task::Ask),
-    }
-}
 
 /// What the program takes: a socket, and the words of a request.
 fn parser<'a>(alloc: Global) -> Result<Command<'a>, Error> {
@@ -147,11 +117,9 @@ fn fail(rt: &HostRuntime, fault: Fault) -> ExitCode {
 
 /// Connects to a socket and does what the words ask for.
 fn run_words(rt: &HostRuntime, socket: &str, words: &[&str]) -> ExitCode {
-    let Some(task) = task_of(words) else {
-        return refuse(
-            rt,
-            "mountctl: mirror takes a namespace and a count of 1 to 1048576",
-        );
+    let task = match task_of(words) {
+        Ok(task) => task,
+        Err(fault) => return refuse(rt, fault.message()),
     };
     let Ok(stream) = connect(rt, socket) else {
         return fail(rt, Fault::Connection);
