@@ -64,9 +64,15 @@ def check_client(program, mountctl):
         check("mountctl: stop", found == (0, b"ok\n", b"") and server.ends() == (0, b""), repr(found))
 
 
-# Words of a mirror that is none, and what is said of them.
+# Words of a mirror and of drawings that are none, and what is said of them.
 NO_MIRRORS = "mirror", "mirror 1", "mirror x 1", "mirror 01 1", "mirror 1 0", "mirror 1 1048577", "mirror 1 1 1", "mirror 1 -1"
-MIRROR_WORDS = b"mountctl: mirror takes a namespace and a count of 1 to 1048576\n"
+NO_TREES = "tree x", "tree 01", "tree 1 2", "tree --ascii --ascii", "tree 1 --ascii 2", "tree --plain", "tree 1 -a"
+NO_GRAPHS = "dot 1", "dot --ascii"
+NO_TASKS = (
+    (NO_MIRRORS, b"mountctl: mirror takes a namespace and a count of 1 to 1048576\n"),
+    (NO_TREES, b"mountctl: tree takes a namespace, or none, and --ascii\n"),
+    (NO_GRAPHS, b"mountctl: dot takes no words\n"),
+)
 CONNECTION_FAULT = 3, b"", b"mountctl: connection fault\n"
 READ_FAULT = 3, b"", b"mountctl: read fault\n"
 WRITE_FAULT = 3, b"", b"mountctl: write fault\n"
@@ -76,6 +82,8 @@ OUT_OF_MEMORY = 3, b"", b"mountctl: out of memory\n"
 # a folder.
 FAULTY_STREAMS = (
     ("show 1", "1>/dev/full", WRITE_FAULT),
+    ("tree", "1>/dev/full", WRITE_FAULT),
+    ("dot", "1>/dev/full", WRITE_FAULT),
     ("-", "1>/dev/full", WRITE_FAULT),
     ("-", "0</", READ_FAULT),
 )
@@ -113,9 +121,9 @@ def redirected(mountctl, streams, *words, text=b""):
 def check_faulty_words(mountctl):
     """Faulty arguments have status 2 and say what is wrong, also where there is no server."""
     none = os.path.join(os.path.dirname(mountctl), "none", "socket")
-    for words in NO_MIRRORS:
+    for words, said in [(words, said) for many, said in NO_TASKS for words in many]:
         found = run(mountctl, b"", none, *words.split())
-        check(f"mountctl {words}", found == (2, b"", MIRROR_WORDS), repr(found))
+        check(f"mountctl {words}", found == (2, b"", said), repr(found))
     found = run(mountctl, b"", none, b"\xff")
     check("mountctl: a word that is no text", found == (2, b"", b"mountctl: an argument is not UTF-8\n"), repr(found))
     for words, said in ([none], b"WORD"), (["--frobnicate", none], b"'--frobnicate'"):
@@ -196,7 +204,8 @@ def check_refused(program, mountctl):
             for line in START:
                 client.ask(line)
         refusing, total = Refusing(folder), 0
-        for kind, words in (Asked, "show 1"), (Asked, "watch all"), (Asked, "mirror 9 1"), (Script, "-"):
+        for words in "show 1", "watch all", "mirror 9 1", "tree", "tree 2 --ascii", "dot", "-":
+            kind = Script if words == "-" else Asked
             asked = kind(mountctl, [server.path, *words.split()])
             count = refusing.count(asked)
             refusing.each(asked, f"mountctl {words}", count)
@@ -206,27 +215,31 @@ def check_refused(program, mountctl):
         check("mountctl without memory: the server's end", ended == (0, b""), repr(ended))
 
 
-# A request, what a server of no worth writes to it, and how much of that is printed.
+# Words, the request that they send, what a server of no worth writes to it, and how much of that is printed.
 NO_ANSWERS = (
-    ("show 1", b"ok 1 1\nnonsense\n", 7),
-    ("show 1", b"no Such\n", 0),
-    ("newns a", b"ok\n", 0),
-    ("take 1", b"ok 2\nevent 1 1 1\n- 2 2\n", 5),
-    ("follow 1", b"event 1 1 1\n- 2\nok 2\n", 16),
+    ("show 1", b"show 1", b"ok 1 1\nnonsense\n", 7),
+    ("show 1", b"show 1", b"no Such\n", 0),
+    ("newns a", b"newns a", b"ok\n", 0),
+    ("take 1", b"take 1", b"ok 2\nevent 1 1 1\n- 2 2\n", 5),
+    ("follow 1", b"follow 1", b"event 1 1 1\n- 2\nok 2\n", 16),
+    ("tree", b"watch all", b"ok 2\nspace 1 1 1\nnonsense\n", 0),
+    ("tree", b"watch all", b"ok 2\nspace 2 1 0\nspace 1 1 0\n", 0),
+    ("tree 1", b"watch 1", b"ok 1\nspace 2 1 0\n", 0),
+    ("dot", b"watch all", b"ok 2\nspace 1 1 0\n", 0),
 )
 
 
 def check_no_answers(mountctl):
     """What is no answer to a request is a connection fault, and is not printed."""
     with Door() as door:
-        for request, answer, printed in NO_ANSWERS:
-            words = [mountctl, door.path, *request.split()]
+        for asked_for, request, answer, printed in NO_ANSWERS:
+            words = [mountctl, door.path, *asked_for.split()]
             with subprocess.Popen(words, stdout=subprocess.PIPE, stderr=subprocess.PIPE) as client:
                 asked = door.answers(answer)
                 found = client.communicate(timeout=MOST_SECONDS)
-            check(f"mountctl {request}, and {answer!r}: its line", asked == request.encode() + b"\n", repr(asked))
+            check(f"mountctl {asked_for}, and {answer!r}: its line", asked == request + b"\n", repr(asked))
             wanted = (3, (answer[:printed], b"mountctl: connection fault\n"))
-            check(f"mountctl {request}, and {answer!r}", (client.returncode, found) == wanted, repr(found))
+            check(f"mountctl {asked_for}, and {answer!r}", (client.returncode, found) == wanted, repr(found))
 
 
 # What a mirror of namespace 1 prints once the group of its slave's master has no mount there any more.

@@ -93,8 +93,9 @@ def options(text):
 
 
 def words_in_place(text):
-    """What a help says may stand in the place of a line."""
-    return re.findall(r"(?m)^  (\S+)", text.split("In the place of WORD..:\n")[1])
+    """What a help says may stand in the place of a line, each by its first word: what may stand behind it."""
+    lines = re.findall(r"(?m)^  \S.*", text.split("In the place of WORD..:\n")[1])
+    return {line.split()[0]: line.strip().split("  ")[0] for line in lines}
 
 
 def check_help(helps):
@@ -215,8 +216,8 @@ def check_offers(helps):
     check_same("the options that the completion offers", options(helps["mountctl"]), offered("-"))
     there = usages(helps["mountctl"])
     check_same("the words that the completion offers", [*there, *words_in_place(helps["mountctl"])], offered("socket", ""))
-    for word, usage in usages(helps["mountd"]).items():
-        wanted = set(re.findall(r"(?<![^\s\[])[a-z]+=?", usage)) - {word}
+    for word, usage in (there | words_in_place(helps["mountctl"])).items():
+        wanted = set(re.findall(r"(?<![^\s\[])(?:--)?[a-z]+=?", usage)) - {word}
         found = {offer for count in range(4) for offer in offered("socket", word, *["1"] * count, "")}
         check(f"what the completion offers behind {word}", found == wanted, " ".join(sorted(found)))
 

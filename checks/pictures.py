@@ -184,7 +184,13 @@ def check_large(program, mountctl):
 
 
 def check_refusals(program, mountctl):
-    """A namespace that is not there, and words that are none of a drawing."""
+    """A namespace that is not there, and no namespace at all."""
+    with Server(program) as server:
+        for words in "tree 99", "tree 99 --ascii":
+            found = run(mountctl, b"", server.path, *words.split())
+            check(f"mountctl {words}", found == (1, b"no NoNamespace\n", b""), repr(found))
+        check_trees("no namespace", mountctl, server.path, {})
+        check_graph("no namespace", mountctl, server.path, {})
 
 
 def check_pictures(program, mountctl):
