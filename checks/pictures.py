@@ -1,18 +1,16 @@
 """Pictures of tables, which the other program draws: a module, a part of server.py.
 
 Each world is drawn here as well, of what `show` answers, by what docs/RULES.md says of pictures and by no
-other code. dot(1) reads each graph, where it is there.
+other code. Where dot(1) is there, it reads each graph (graphs.py).
 """
 import collections
-import re
 import shutil
-import subprocess
-import tempfile
 import time
 from typing import NamedTuple
 
 import cases
-from running import MOST_SECONDS, check, difference, run, shown
+from graphs import check_graph
+from running import check, difference, run, shown
 from serving import Server
 
 # The lines that make a world.
@@ -85,9 +83,9 @@ def width(cell):
     return sum(byte & 0xC0 != 0x80 for byte in cell)
 
 
-def drawn_part(space, lines, pieces):
+def drawn_part(space, mounts, pieces):
     """The tree of one namespace."""
-    rows = [HEADER, *drawn_rows([mount_of(line) for line in lines], pieces)]
+    rows = [HEADER, *drawn_rows(mounts, pieces)]
     widths = [max(map(width, column)) for column in zip(*rows)]
     text = b"namespace %d\n" % space
     for *row, last in rows:
@@ -97,13 +95,13 @@ def drawn_part(space, lines, pieces):
 
 def drawn(tables, pieces=LINES):
     """The trees of these tables, by their namespaces."""
-    return b"\n".join(drawn_part(space, lines, pieces) for space, lines in tables.items())
+    return b"\n".join(drawn_part(space, mounts, pieces) for space, mounts in tables.items())
 
 
 def tables_of(client, most):
-    """The lines of each namespace up to this one that is there."""
+    """The mounts of each namespace up to this one that is there."""
     answers = {space: client.ask(b"show %d" % space) for space in range(1, most + 1)}
-    return {space: lines for space, (told, *lines) in answers.items() if told.startswith(b"ok")}
+    return {space: list(map(mount_of, lines)) for space, (told, *lines) in answers.items() if told.startswith(b"ok")}
 
 
 def world_of(case):
@@ -124,20 +122,9 @@ def check_trees(name, mountctl, path, tables):
     """All namespaces together, and each alone, with both kinds of lines."""
     check_drawn(name, mountctl, path, "tree", drawn(tables))
     check_drawn(name, mountctl, path, "tree --ascii", drawn(tables, PLAIN))
-    for space, lines in tables.items():
-        check_drawn(name, mountctl, path, f"tree {space}", drawn({space: lines}))
-        check_drawn(name, mountctl, path, f"tree {space} --ascii", drawn({space: lines}, PLAIN))
-
-
-def check_graph(name, mountctl, path, tables):
-    """A graph has each mount and each parent, and dot accepts it without a word."""
-    status, text, complaint = run(mountctl, b"", path, "dot")
-    check(f"{name}: mountctl dot: its end", (status, complaint) == (0, b""), f"{status}, {shown(complaint)}")
-    if shutil.which("dot"):
-        words = ["dot", "-Tsvg"]
-        done = subprocess.run(words, input=text, capture_output=True, timeout=MOST_SECONDS, check=False)
-        ended = done.returncode, done.stderr
-        check(f"{name}: dot accepts the graph", ended == (0, b"") and b"</svg>" in done.stdout, repr(ended))
+    for space, mounts in tables.items():
+        check_drawn(name, mountctl, path, f"tree {space}", drawn({space: mounts}))
+        check_drawn(name, mountctl, path, f"tree {space} --ascii", drawn({space: mounts}, PLAIN))
 
 
 def check_cases(program, mountctl):
