@@ -14,9 +14,11 @@ use clap::error::ErrorKind;
 use clap::{Arg, ArgAction, Command, Error};
 use mt_client::ask::ask;
 use mt_client::mirror::mirror;
+use mt_client::picture::draw;
 use mt_lines::line::LineReader;
 use mt_lines::stream::{Reading, Writing};
-use std::alloc::Global;
+use mt_requests::help::LINES;
+use std::alloc::{AllocError, Global};
 use std::os::unix::net::UnixStream;
 use std::process::ExitCode;
 use std::{env, io};
@@ -27,40 +29,30 @@ const PROGRAM: &str = "mountctl";
 /// The longest line of an answer, in bytes before its line end.
 const LINE_LIMIT: u32 = 134_217_728;
 
-/// The lines of a session, for the help.
-const LINES: &str = "The lines of a session:
-  mkfs NAME TYPE SOURCE   makes a filesystem, and answers its minor number
-  mkdir FS DIR            makes a directory in a filesystem
-  newns FS                makes a namespace with a filesystem at its root
-  copyns NS [less]        makes a copy of a namespace, or one that is less privileged
-  dropns NS               ends a namespace with all its mounts
-  mount NS FS PATH        mounts a filesystem on a directory
-  bind NS SRC DST         mounts a directory on another one
-  rbind NS SRC DST        does so with all that is mounted below it
-  move NS SRC DST         moves a mount to another directory
-  umount NS PATH          unmounts a mount
-  setattr NS PATH OPTION..  sets attributes: rec, set=W,.., clr=W,.., prop=K
-  show NS                 shows the table of a namespace
-  find NS PATH            says in which mount and directory a path ends
-  watch NS, watch all     begins to watch one namespace, or all, and shows their tables
-  take K                  takes up to K posts of the watcher
-  follow K                takes K posts of the watcher as they come
-  close                   ends the watcher, and takes the posts that were not taken
-  quit                    ends the session
-  stop                    stops the server
+/// What may stand in the place of a line, for the help, behind the lines.
+const TASKS: &str = "
 
 In the place of WORD..:
-  -                       sends the lines of standard input, one after another
-  mirror NS K             follows K posts of a namespace, and shows the table that they lead to";
+  -                        sends the lines of standard input, one after another, but for comments
+  mirror NS K              follows K posts of a namespace, and shows the table that they lead to
+  tree [NS] [--ascii]      draws the mounts of a namespace, or of all, each below its parent
+  dot                      draws all mounts and peer groups as a graph for Graphviz";
 
-/// What the program takes: a socket, and the words of a request.
-fn parser<'a>(alloc: Global) -> Result<Command<'a>, Error> {
+/// The lines of a session, and what may stand in their place.
+fn usage(alloc: Global) -> Result<String, AllocError> {
+    let mut text = String::from_str(alloc, LINES)?;
+    text.push_str(TASKS)?;
+    Ok(text)
+}
+
+/// What the program takes: a socket, and the words of a request. `usage` stands behind its help.
+fn parser<'a>(alloc: Global, usage: &'a str) -> Result<Command<'a>, Error> {
     let socket = Arg::new(alloc, "SOCKET")
         .help("The socket of the server")
         .required(true)
         .action(ArgAction::Set);
     let words = Arg::new(alloc, "WORD")
-        .help("The words of a request, or -, or mirror NS K")
+        .help("The words of a line, or what may stand in its place")
         .required(true)
         .num_args(1..)
         .trailing_var_arg(true)
@@ -69,7 +61,7 @@ fn parser<'a>(alloc: Global) -> Result<Command<'a>, Error> {
     let command = Command::new(alloc, PROGRAM)
         .arg(socket)?
         .arg(words)?
-        .after_help(LINES);
+        .after_help(usage);
     Ok(command)
 }
 
@@ -98,6 +90,9 @@ fn run_task(
         }
         Task::Mirror { space, count } => {
             mirror(alloc, &mut lines, &mut writer, space, count, &mut out)?
+        }
+        Task::Draw { scope, drawing } => {
+            draw(alloc, &mut lines, &mut writer, scope, drawing, &mut out)?
         }
     };
     Ok(told)
@@ -154,7 +149,8 @@ fn explain(rt: &HostRuntime, error: &Error) -> ExitCode {
 
 /// Reads the arguments and does what they ask for.
 fn run_arguments(rt: &HostRuntime, arguments: &[&str]) -> Result<ExitCode, Error> {
-    let matches = parser(rt.alloc())?.try_get_matches_from(arguments)?;
+    let usage = usage(rt.alloc())?;
+    let matches = parser(rt.alloc(), usage.as_str())?.try_get_matches_from(arguments)?;
     let socket = matches.get_str("SOCKET").unwrap_or("");
     let words = matches.get_strs("WORD").unwrap_or(&[]);
     Ok(run_words(rt, socket, words))

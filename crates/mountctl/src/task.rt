@@ -1,5 +1,7 @@
 //! What the words behind the socket ask for.
 
+use mt_draw::drawing::Drawing;
+use mt_events::opening::Scope;
 use mt_words::words::number;
 
 /// The most posts that a mirror follows.
@@ -14,6 +16,8 @@ pub(crate) enum Task {
     Script,
     /// The table of a namespace that so many posts lead to.
     Mirror { space: u64, count: u64 },
+    /// A drawing of the tables of these namespaces.
+    Draw { scope: Scope, drawing: Drawing },
 }
 
 /// Words that begin as those of a task which is no request, and go on in another way.
@@ -21,6 +25,10 @@ pub(crate) enum Task {
 pub(crate) enum WordFault {
     /// Behind `mirror`.
     Mirror,
+    /// Behind `tree`.
+    Tree,
+    /// Behind `dot`.
+    Graph,
 }
 
 impl WordFault {
@@ -28,12 +36,17 @@ impl WordFault {
     pub(crate) fn message(self) -> &'static str {
         match self {
             WordFault::Mirror => "mountctl: mirror takes a namespace and a count of 1 to 1048576",
+            WordFault::Tree => "mountctl: tree takes a namespace, or none, and --ascii",
+            WordFault::Graph => "mountctl: dot takes no words",
         }
     }
 }
 
-/// The mirror of a namespace and a count, or None where they are none.
-fn mirror_of(space: &str, count: &str) -> Option<Task> {
+/// The mirror of these words, or None where they are no namespace and count.
+fn mirror_of(words: &[&str]) -> Option<Task> {
+    let [space, count] = words else {
+        return None;
+    };
     let space = number(space.as_bytes())?;
     let count = number(count.as_bytes())?;
     if count == 0 || count > MOST_POSTS {
@@ -42,12 +55,36 @@ fn mirror_of(space: &str, count: &str) -> Option<Task> {
     Some(Task::Mirror { space, count })
 }
 
+/// The namespaces of these words: one, or all where there is no word. None where they are neither.
+fn scope_of(words: &[&str]) -> Option<Scope> {
+    match words {
+        [] => Some(Scope::All),
+        [space] => Some(Scope::One(number(space.as_bytes())?)),
+        _ => None,
+    }
+}
+
+/// The tree of these words, or None where they are no namespace, or none, and `--ascii` before or behind it.
+fn tree_of(words: &[&str]) -> Option<Task> {
+    let (words, drawing) = match words {
+        [words @ .., "--ascii"] | ["--ascii", words @ ..] => (words, Drawing::PlainTree),
+        _ => (words, Drawing::Tree),
+    };
+    let scope = scope_of(words)?;
+    Some(Task::Draw { scope, drawing })
+}
+
 /// The task of these words.
 pub(crate) fn task_of(words: &[&str]) -> Result<Task, WordFault> {
     match words {
         ["-"] => Ok(Task::Script),
-        ["mirror", space, count] => mirror_of(space, count).ok_or(WordFault::Mirror),
-        ["mirror", ..] => Err(WordFault::Mirror),
+        ["mirror", behind @ ..] => mirror_of(behind).ok_or(WordFault::Mirror),
+        ["tree", behind @ ..] => tree_of(behind).ok_or(WordFault::Tree),
+        ["dot"] => Ok(Task::Draw {
+            scope: Scope::All,
+            drawing: Drawing::Graph,
+        }),
+        ["dot", ..] => Err(WordFault::Graph),
         _ => Ok(Task::Ask),
     }
 }
