@@ -16,8 +16,8 @@ from serving import Server
 # The lines that make a world.
 COMMANDS = b"mkfs mkdir newns copyns dropns mount bind rbind move umount setattr".split()
 
-# A world of more mounts is drawn as a tree alone.
-MOST_NODES = 200
+# Cases of more commands are left out.
+MOST_COMMANDS = 500
 
 # How long the largest world may take, in seconds.
 MOST_DRAWING = 5
@@ -129,24 +129,24 @@ def check_trees(name, mountctl, path, tables):
 
 def check_cases(program, mountctl):
     """The world that each case leaves is drawn as it is shown."""
-    mounts = 0
+    worlds, mounts = 0, 0
     for name in cases.names():
         case = cases.load(name)
         lines, spaces = world_of(case)
+        if len(lines) > MOST_COMMANDS:
+            continue
         with Server(program, *case.arguments) as server, server.client() as client:
             for line in lines:
                 client.ask(line)
             tables = tables_of(client, spaces)
-            count = sum(map(len, tables.values()))
-            mounts += count
             check_trees(f"case {name}", mountctl, server.path, tables)
-            if count <= MOST_NODES:
-                check_graph(f"case {name}", mountctl, server.path, tables)
+            check_graph(f"case {name}", mountctl, server.path, tables)
+        worlds, mounts = worlds + 1, mounts + sum(map(len, tables.values()))
     check("mounts of cases are drawn", mounts > 0)
-    print(f"{mounts} mounts of {len(cases.names())} cases drawn", flush=True)
+    print(f"{mounts} mounts of {worlds} cases drawn", flush=True)
 
 
-# A world of 4,000 mounts: on each of 64 directories a stack of 62, and as many again but for some.
+# A world of some 4,000 mounts: a stack of 62 on each of 64 directories.
 LARGE = [
     b"mkfs a tmpfs none",
     *[b"mkdir a /%d" % at for at in range(64)],
