@@ -204,11 +204,11 @@ def check_refused(program, mountctl):
             for line in START:
                 client.ask(line)
         refusing, total = Refusing(folder), 0
-        for words in "show 1", "watch all", "mirror 9 1", "tree", "tree 2 --ascii", "dot", "-":
-            kind = Script if words == "-" else Asked
-            asked = kind(mountctl, [server.path, *words.split()])
+        tasks = "show 1", "watch all", "mirror 9 1", "tree", "tree 2 --ascii", "dot", "-"
+        for words in ["--help"], *[[server.path, *task.split()] for task in tasks]:
+            asked = (Script if words[-1] == "-" else Asked)(mountctl, words)
             count = refusing.count(asked)
-            refusing.each(asked, f"mountctl {words}", count)
+            refusing.each(asked, f"mountctl {' '.join(words)}", count)
             total += count
         print(f"{total} allocations of mountctl refused in turn", flush=True)
         ended = server.stop()
