@@ -5,3 +5,4 @@ pub mod OpeningLaws
 pub mod FollowLaws
 pub mod ReplyLaws
 pub mod EndingLaws
+pub mod FoundLaws

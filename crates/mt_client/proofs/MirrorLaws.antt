@@ -16,7 +16,8 @@ use Rattle.mt_events.specs.Posts.{PostView, IsPost, post_text, ended}
 use Rattle.mt_events.specs.Mirrors.{MirrorView, is_next, are_next, mirrored, mirrored_by}
 use Rattle.mt_session.specs.Answers.{count_text, part_text, opening_text}
 use Rattle.mt_client.specs.Reading.{texts, printed}
-use Rattle.mt_client.specs.Mirroring.{counted_line, heading_words, heading_line, opening_lines, opening_with, Follows, HasOpened, HasPosted, HasFollowed, HasFollowedSome, HasFollowedAll, HasRefused, HasMirrored, IsLeft}
+use Rattle.mt_client.specs.Mirroring.{counted_line, heading_words, heading_line, part_lines, opening_lines, opening_with, Follows, HasOpened, HasPosted, HasFollowed, HasFollowedSome, HasFollowedAll, HasRefused, HasMirrored, IsLeft}
+use Rattle.mt_client.specs.Finding.{part_found}
 use Rattle.mt_client.proofs.RelayLaws.{read_more, texts-append, printed-append}
 
 -- lines that were appended, and one more
@@ -100,11 +101,13 @@ heading_text : (space number count rest : List ℕ)
     → ended (join_with_byte 32 (codes "space" ∷ space ∷ number ∷ count ∷ [])) ++ rest ≡ codes "space " ++ space ++ codes " " ++ number ++ codes " " ++ count ++ 10 ∷ [] ++ rest
 heading_text space number count rest = simp append_assoc refl
 
+pub part_is : (m : MirrorView) → printed (part_lines m) ≡ part_text (part_found m)
+part_is m = ap (λ x. ended (heading_line m) ++ x) (rows_text m.rows) ∙ heading_text (decimal m.space) (decimal m.number) (decimal (length m.rows)) (flat_map row_line m.rows)
+
 pub opening_is : (m : MirrorView) → printed (opening_lines m) ≡ opening_text (opening_with m)
 opening_is m =
     let n : 1 + length m.rows ≡ 0 + (1 + length m.rows) = omega arith in
-    let part = ap (λ x. ended (heading_line m) ++ x) (rows_text m.rows) ∙ heading_text (decimal m.space) (decimal m.number) (decimal (length m.rows)) (flat_map row_line m.rows) in
-    ap (λ x. ended (counted_line (1 + length m.rows)) ++ x) (part ∙ sym (append-nil _)) ∙ ap (λ x. count_text x ++ flat_map part_text (opening_with m).parts) n
+    ap (λ x. ended (counted_line (1 + length m.rows)) ++ x) (part_is m ∙ sym (append-nil _)) ∙ ap (λ x. count_text x ++ flat_map part_text (opening_with m).parts) n
 
 pub mirrored_whole : (space count : ℕ) (before middle after : List Item) (found made : MirrorView) → HasOpened space before middle found → HasFollowedAll count middle after found made → HasMirrored space count before after made
 mirrored_whole space count before middle after found made o f = record {

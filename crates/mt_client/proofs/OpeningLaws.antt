@@ -1,25 +1,22 @@
--- What cannot come first where an opening is refused, and what was read of one.
-use Rattle.std.proofs.Common.{◌≡◌, ◌≢◌, ◌==◌, Bool, MatchBool, ℕ, ◌+◌, ◌<◌, ◌^◌, true, false, List, [], ◌∷◌, ◌++◌, map, length, refl, sym, ap, subst, ◌∙◌, arith, append_assoc, codes, decimal, inl, inr, IsTrue}
+-- What cannot come first where a line, a row or a heading is refused, and what was read of an opening.
+use Rattle.std.proofs.Common.{◌≡◌, ◌≢◌, ◌==◌, Bool, MatchBool, ℕ, ◌+◌, ◌<◌, ◌^◌, true, false, List, [], ◌∷◌, ◌++◌, map, length, refl, sym, ap, ◌∙◌, arith, append_assoc, codes, decimal, inl, inr}
 use Rattle.std.specs.List.{join_with_byte, AllByRecursion}
 use Rattle.std.proofs.lemmas.List.{append_cancel_left}
 use Rattle.std.proofs.lemmas.Bool.{false≢true}
 use Rattle.std.proofs.lemmas.Bool.Decides.{nat_tests}
 use Rattle.std.proofs.lemmas.Fmt.{decimal_injective}
-use Rattle.mt_skel.specs.Keyed.{rises}
 use Rattle.mt_words.specs.Words.{words}
 use Rattle.mt_words.proofs.PieceLaws.{pieces_joined}
 use Rattle.mt_lines.specs.Lines.{Item, Text}
-use Rattle.mt_info.specs.Table.{row_id}
 use Rattle.mt_info.specs.Laws.{IsRow}
 use Rattle.mt_info.specs.RowLine.{line}
 use Rattle.mt_info.specs.declared.row.Row.{Row}
 use Rattle.mt_info.proofs.RowLineLaws.{line-injective}
 use Rattle.mt_events.specs.Mirrors.{MirrorView}
-use Rattle.mt_client.specs.declared.opening.Heading.{Heading}
 use Rattle.mt_client.specs.Requests.{is_refusal}
 use Rattle.mt_client.specs.Reading.{texts, NoneFirst, AreSoMany}
 use Rattle.mt_client.specs.Mirroring.{IsShown, counted_line, heading_words, heading_line, part_lines, opening_lines, HasOpened}
-use Rattle.mt_client.specs.Awaited.{IsOneRefusal, IsRefusedOr, IsRowLine, AreRowLines, IsShownPart, IsOpening}
+use Rattle.mt_client.specs.Awaited.{IsOneRefusal, IsRefusedOr, IsRowLine, AreRowLines}
 use Rattle.mt_client.proofs.MirrorLaws.{heading_lacks}
 use Rattle.mt_client.proofs.RelayLaws.{texts-append}
 
@@ -39,7 +36,7 @@ needs_line before some none lines later k e =
     let s = some lines k in
     none (s.0 ∷ []) (texts s.1 ++ later) refl (e ∙ ap (λ ls. texts ls ++ later) s.2)
 
-refused_some : {kind : List (List ℕ) → Type 0} → ((lines : List (List ℕ)) → kind lines → (first : List ℕ) × (others : List (List ℕ)) × (lines ≡ first ∷ others)) → (lines : List (List ℕ)) → IsRefusedOr kind lines → (first : List ℕ) × (others : List (List ℕ)) × (lines ≡ first ∷ others)
+pub refused_some : {kind : List (List ℕ) → Type 0} → ((lines : List (List ℕ)) → kind lines → (first : List ℕ) × (others : List (List ℕ)) × (lines ≡ first ∷ others)) → (lines : List (List ℕ)) → IsRefusedOr kind lines → (first : List ℕ) × (others : List (List ℕ)) × (lines ≡ first ∷ others)
 refused_some some lines (inl r) = (r.0, [], r.2)
 refused_some some lines (inr k) = some lines k
 
@@ -111,7 +108,7 @@ rows_alike (r ∷ rows) (n ∷ news) middle later many e p q =
     let same = line-injective r n p.0 q.0 here in
     λ i. same i ∷ rows_alike rows news middle later (omega (arith, many)) rest p.1 q.1 i
 
-behind_rows : (rows news : List Row) (middle later : List Item) → length rows ≡ length news → texts (map line rows) ++ middle ≡ texts (map line news) ++ later → middle ≡ later
+pub behind_rows : (rows news : List Row) (middle later : List Item) → length rows ≡ length news → texts (map line rows) ++ middle ≡ texts (map line news) ++ later → middle ≡ later
 behind_rows [] [] middle later many e = e
 behind_rows [] (n ∷ news) middle later many e = absurd (omega (arith, many))
 behind_rows (r ∷ rows) [] middle later many e = absurd (omega (arith, many))
@@ -119,50 +116,8 @@ behind_rows (r ∷ rows) (n ∷ news) middle later many e =
     let both : Text (line r) ∷ (texts (map line rows) ++ middle) ≡ Text (line n) ∷ (texts (map line news) ++ later) = e in
     behind_rows rows news middle later (omega (arith, many)) (cc)
 
--- a namespace behind the line that counts its lines
-pub part_needs_line : (space count : ℕ) (before : List Item) → NoneFirst (AreSoMany 1) before → NoneFirst (IsShownPart space count) before
-part_needs_line space count before none = needs_line before (λ lines k. (heading_line k.found, map line k.found.rows, k.all)) none
-
-few : (n : ℕ) → 1 + n < 2 ^ 64 → n < 2 ^ 64
+pub few : (n : ℕ) → 1 + n < 2 ^ 64 → n < 2 ^ 64
 few n lt = omega (arith, lt)
-
--- the numbers of a heading, and what is behind it, where the lines of a namespace come first
-part_told : (space count : ℕ) (h : Heading) (seen : List ℕ) (before middle later : List Item) (lines : List (List ℕ)) → before ≡ Text seen ∷ middle → seen ≡ join_with_byte 32 (heading_words h.space h.number h.count)
-    → h.space < 2 ^ 64 → h.number < 2 ^ 64 → h.count < 2 ^ 64 → (k : IsShownPart space count lines) → before ≡ texts lines ++ later
-    → (h.space ≡ k.found.space) × (h.count ≡ length k.found.rows) × (middle ≡ texts (map line k.found.rows) ++ later)
-part_told space count h seen before middle later lines there is a b d k e =
-    let t = first_taken seen (heading_line k.found) lines (map line k.found.rows) before middle later there k.all e in
-    let w = heading_tells h.space h.number h.count k.found.space k.found.number (length k.found.rows) a b d k.shown.space k.shown.number (few (length k.found.rows) k.shown.counted) (sym is ∙ sym t.0) in
-    (w.0, w.2, t.1)
-
-pub part_needs_space : (space count : ℕ) (h : Heading) (seen : List ℕ) (before middle : List Item) → before ≡ Text seen ∷ middle → seen ≡ join_with_byte 32 (heading_words h.space h.number h.count)
-    → (h.space < 2 ^ 64) × (h.number < 2 ^ 64) × (h.count < 2 ^ 64) → (h.space ≡ space → 1 + h.count ≡ count → ⊥) → NoneFirst (IsShownPart space count) before
-part_needs_space space count h seen before middle there is small other lines later k e =
-    let t = part_told space count h seen before middle later lines there is small.0 small.1 small.2 k e in
-    other (t.0 ∙ k.of) (ap (λ n. 1 + n) t.1 ∙ k.many)
-
-pub part_needs_rising : (space count : ℕ) (h : Heading) (seen : List ℕ) (rows : List Row) (before middle after : List Item) → before ≡ Text seen ∷ middle → seen ≡ join_with_byte 32 (heading_words h.space h.number h.count)
-    → (h.space < 2 ^ 64) × (h.number < 2 ^ 64) × (h.count < 2 ^ 64) → middle ≡ texts (map line rows) ++ after → length rows ≡ h.count → AllByRecursion IsRow rows → (IsTrue (rises row_id rows) → ⊥)
-    → NoneFirst (IsShownPart space count) before
-part_needs_rising space count h seen rows before middle after there is small came many valid falls lines later k e =
-    let t = part_told space count h seen before middle later lines there is small.0 small.1 small.2 k e in
-    let same = rows_alike rows k.found.rows after later (many ∙ t.1) (sym came ∙ t.2) valid k.shown.rows in
-    falls (subst (λ rs. IsTrue (rises row_id rs)) (sym same) k.shown.rising)
-
--- an opening
-opening_some : (space : ℕ) (lines : List (List ℕ)) → IsOpening space lines → (first : List ℕ) × (others : List (List ℕ)) × (lines ≡ first ∷ others)
-opening_some space lines k = (counted_line (1 + length k.found.rows), part_lines k.found, k.all)
-
-pub opening_needs_line : (space : ℕ) (before : List Item) → NoneFirst (AreSoMany 1) before → NoneFirst (IsRefusedOr (IsOpening space)) before
-opening_needs_line space before none = needs_line before (refused_some (opening_some space)) none
-
-pub opening_needs_part : (space count : ℕ) (seen : List ℕ) (before middle : List Item) → before ≡ Text seen ∷ middle → is_refusal seen ≡ false → seen ≡ counted_line count → count < 2 ^ 64 → NoneFirst (IsShownPart space count) middle
-    → NoneFirst (IsRefusedOr (IsOpening space)) before
-opening_needs_part space count seen before middle there tells is small none =
-    unrefused_or before (no_refusal seen before middle there tells) (λ lines later k e.
-    let t = first_taken seen (counted_line (1 + length k.found.rows)) lines (part_lines k.found) before middle later there k.all e in
-    let n = counted_tells (1 + length k.found.rows) count k.shown.counted small (t.0 ∙ is) in
-    none (part_lines k.found) later (record { found = k.found; shown = k.shown; of = k.of; many = n; all = refl }) t.1)
 
 -- two openings that come first are of one number, and end in one place
 pub opened_alike : (space : ℕ) (before middle later : List Item) (mirror found : MirrorView) → HasOpened space before middle mirror → IsShown found → before ≡ texts (opening_lines found) ++ later

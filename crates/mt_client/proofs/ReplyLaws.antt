@@ -54,7 +54,7 @@ rows_join n ls ms a r =
 pub rows_ended : (n count : ℕ) (before middle : List Item) → HasRead (AreRowLines n) before middle → n < count → NoneFirst IsRowLine middle → NoneFirst (AreRowLines count) before
 rows_ended n count before middle h lt none = rows_cut n count h.1.rows before middle (h.2 ∙ ap (λ ls. texts ls ++ middle) h.1.all) h.1.many lt none
 
-many_lines : (rows : List Row) → length (map line rows) ≡ length rows
+pub many_lines : (rows : List Row) → length (map line rows) ≡ length rows
 many_lines [] = refl
 many_lines (r ∷ rows) = let ih = many_lines rows in omega (arith, ih)
 

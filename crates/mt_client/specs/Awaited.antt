@@ -11,7 +11,7 @@ use Rattle.mt_info.specs.declared.row.Row.{Row}
 use Rattle.mt_events.specs.Posts.{PostView, IsPost, post_lines}
 use Rattle.mt_events.specs.Mirrors.{MirrorView, is_next, are_next}
 use Rattle.mt_client.specs.Reading.{texts}
-use Rattle.mt_client.specs.Mirroring.{IsRefusal, IsShown, counted_line, part_lines, opening_lines}
+use Rattle.mt_client.specs.Mirroring.{IsRefusal, IsShown, counted_line, opening_lines}
 
 -- how many lines stand behind the first line of a post: the fourth of its words, of which the first is `event`
 abbrev pub event_count : List (List ℕ) → Option ℕ
@@ -36,14 +36,6 @@ pub record AreRowLines (count : ℕ) (lines : List (List ℕ)) : Type 0 where
   pub valid : AllByRecursion IsRow rows
   pub many : length rows ≡ count
   pub all : lines ≡ map line rows
-
--- so many lines, which show this namespace
-pub record IsShownPart (space count : ℕ) (lines : List (List ℕ)) : Type 0 where
-  pub found : MirrorView
-  pub shown : IsShown found
-  pub of : found.space ≡ space
-  pub many : 1 + length found.rows ≡ count
-  pub all : lines ≡ part_lines found
 
 -- the lines of an opening of this namespace
 pub record IsOpening (space : ℕ) (lines : List (List ℕ)) : Type 0 where

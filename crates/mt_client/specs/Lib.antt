@@ -2,4 +2,5 @@ pub mod Requests
 pub mod Reading
 pub mod Mirroring
 pub mod Awaited
+pub mod Finding
 pub mod Replies

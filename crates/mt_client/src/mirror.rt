@@ -11,27 +11,17 @@ ghost use Rattle.mt_client.specs.Awaited.{IsOneRefusal, IsRefusedOr, IsOpening, 
 
 use crate::answer::is_refusal;
 use crate::fault::ClientFault;
-use crate::opening::{read_count, read_part};
+use crate::opening::read_count;
+use crate::parts::read_found;
 use crate::posts::apply_post;
 use crate::relay::{next_text, print_line, print_text};
-use crate::request::send_request;
+use crate::request::{numbered_line, send_request};
 use mt_events::mirror::Mirror;
-use mt_info::print::push_number;
+use mt_events::opening::Scope;
 use mt_lines::line::LineReader;
 use mt_lines::stream::{Input, Output};
 use mt_session::text::Text;
-use std::alloc::{AllocError, Global};
-
-/// The line of a request that is a word and a number, without its line end. Fails for want of memory alone.
-fn numbered_line(alloc: Global, command: &[u8], number: u64) -> Result<Vec<u8>, AllocError>
-    ensures { IfOk result (λ line. line.items ≡ numbered_text command.now number) }
-{
-    let mut line = Vec::new(alloc);
-    line.extend_from_slice(command)?;
-    line.extend_from_slice(b" ")?;
-    push_number(&mut line, number)?;
-    Ok(line)
-}
+use std::alloc::Global;
 
 /// Sends a request that is a word and a number.
 fn send_numbered<W: Output>(
@@ -53,6 +43,13 @@ fn send_numbered<W: Output>(
     send_request(writer, line.as_slice())
 }
 
+/// The last of these namespaces, if there is one.
+fn last_of(mut parts: Vec<Mirror>) -> Option<Mirror>
+    ensures { MatchOption result (parts.items ≡ []) (λ mirror. (others : List MirrorView) × (parts.items ≡ others ++ mirror ∷ [])) }
+{
+    parts.pop()
+}
+
 /// What a watcher of one namespace found, or None where a refusal stands in its place, which the reader lends.
 fn read_opening<R: Input + Drop>(
     alloc: Global,
@@ -72,13 +69,9 @@ fn read_opening<R: Input + Drop>(
     ensures reads { OnOk result (IsTrue R.counts → last_faults lines.old ≡ [] → last_faults lines.new ≡ []) }
     ensures limit { limit_of lines.new ≡ limit_of lines.old }
 {
-    next_text(lines)?;
-    if is_refusal(lines.line()) {
-        return Ok(None);
-    }
-    match read_count(lines.line()) {
-        Some(count) => Ok(Some(read_part(alloc, lines, space, count)?)),
-        None => Err(ClientFault::Connection),
+    match read_found(alloc, lines, Scope::One(space))? {
+        Some(parts) => Ok(last_of(parts)),
+        None => Ok(None),
     }
 }
 

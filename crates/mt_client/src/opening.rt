@@ -1,20 +1,18 @@
-//! The table that a watcher of one namespace found.
-ghost use Rattle.std.specs.Prelude.{◌≡◌, ◌≢◌, ℕ, ◌+◌, ◌<◌, ◌≤◌, ◌^◌, [], ◌∷◌, ◌++◌, map, length, Some, None, Err, IfOk, IfSome, OnOk, IsTrue, MatchBool, MatchOption};
+//! The lines of what a watcher found.
+ghost use Rattle.std.specs.Prelude.{◌≡◌, ◌≢◌, ℕ, ◌+◌, ◌<◌, ◌≤◌, ◌^◌, [], ◌∷◌, ◌++◌, map, length, Some, None, Err, IfOk, IfSome, OnOk, IsTrue, MatchOption};
 ghost use Rattle.std.specs.List.{join_with_byte, AllByRecursion};
 ghost use Rattle.mt_lines.specs.Lines.{Text};
 ghost use Rattle.mt_lines.specs.Reading.{failed_calls, last_faults, fault_of, limit_of};
 ghost use Rattle.mt_info.specs.Laws.{IsRow};
 ghost use Rattle.mt_info.specs.RowLine.{line};
 ghost use Rattle.mt_client.specs.Reading.{lines_left, texts, IsCut};
-ghost use Rattle.mt_client.specs.Mirroring.{IsShown, counted_line, heading_words, part_lines};
-ghost use Rattle.mt_client.specs.Awaited.{IsRowLine, AreRowLines, IsShownPart};
+ghost use Rattle.mt_client.specs.Mirroring.{counted_line, heading_words};
+ghost use Rattle.mt_client.specs.Awaited.{IsRowLine, AreRowLines};
 
 use crate::fault::ClientFault;
 use crate::relay::next_text;
-use mt_events::mirror::Mirror;
 use mt_info::read::read_row;
 use mt_info::row::Row;
-use mt_info::table::Table;
 use mt_lines::line::LineReader;
 use mt_lines::stream::Input;
 use mt_mounts::mount::SpaceId;
@@ -25,8 +23,8 @@ use std::alloc::Global;
 /// What the first line of a namespace says.
 #[derive(Clone, Copy)]
 pub(crate) struct Heading {
-    space: SpaceId,
-    number: u64,
+    pub(crate) space: SpaceId,
+    pub(crate) number: u64,
     pub(crate) count: u64,
 }
 
@@ -102,7 +100,7 @@ fn read_row_line<R: Input + Drop>(
 }
 
 /// The rows that so many lines say.
-fn read_rows<R: Input + Drop>(
+pub(crate) fn read_rows<R: Input + Drop>(
     alloc: Global,
     lines: &mut LineReader<R>,
     count: u64,
@@ -125,46 +123,4 @@ fn read_rows<R: Input + Drop>(
         rows.push(read_row_line(alloc, lines)?)?;
     }
     Ok(rows)
-}
-
-/// Whether the first line of a namespace is of this one, and is the first of so many lines.
-fn is_of(heading: Heading, space: SpaceId, count: u64) -> bool
-    ensures { MatchBool result ((heading.space ≡ space) × (1 + heading.count ≡ count)) (heading.space ≡ space → 1 + heading.count ≡ count → ⊥) }
-{
-    heading.space == space && heading.count.checked_add(1) == Some(count)
-}
-
-/// The namespace of a watcher, behind a first line that says how many lines it has.
-pub(crate) fn read_part<R: Input + Drop>(
-    alloc: Global,
-    lines: &mut LineReader<R>,
-    space: SpaceId,
-    count: u64,
-) -> Result<Mirror, ClientFault>
-    requires fresh { fault_of lines.old ≡ None }
-    ensures part { IfOk result (λ mirror. IsTrue R.tells
-        → lines_left lines.old ≡ texts (part_lines mirror) ++ lines_left lines.new) }
-    ensures space { IfOk result (λ mirror. mirror.space ≡ space) }
-    ensures many { IfOk result (λ mirror. 1 + length mirror.rows ≡ count) }
-    ensures fresh { OnOk result (fault_of lines.new ≡ None) }
-    ensures kind { result ≢ Err ClientFault.Output }
-    ensures shown { IfOk result (λ mirror. IsShown mirror) }
-    ensures cut { result ≡ Err ClientFault.Connection → IsTrue R.tells → IsTrue R.counts
-        → IsCut (IsShownPart space count) lines.old lines.new }
-    ensures counted { IsTrue R.counts → failed_calls lines.old ≤ failed_calls lines.new }
-    ensures reads { OnOk result (IsTrue R.counts → last_faults lines.old ≡ [] → last_faults lines.new ≡ []) }
-    ensures limit { limit_of lines.new ≡ limit_of lines.old }
-{
-    next_text(lines)?;
-    let Some(heading) = read_heading(lines.line()) else {
-        return Err(ClientFault::Connection);
-    };
-    if !is_of(heading, space, count) {
-        return Err(ClientFault::Connection);
-    }
-    let rows = read_rows(alloc, lines, heading.count)?;
-    match Table::from_rows(rows) {
-        Some(table) => Ok(Mirror::new(space, heading.number, table)),
-        None => Err(ClientFault::Connection),
-    }
 }

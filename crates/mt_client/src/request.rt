@@ -3,10 +3,11 @@ ghost use Rattle.std.specs.Prelude.{◌≡◌, ◌≤◌, [], ◌++◌, ◌∷�
 ghost use Rattle.std.specs.List.{flat_map};
 ghost use Rattle.mt_skel.specs.Escapes.{escaped};
 ghost use Rattle.mt_events.specs.Posts.{ended};
-ghost use Rattle.mt_client.specs.Requests.{request_text};
+ghost use Rattle.mt_client.specs.Requests.{request_text, numbered_text};
 ghost use Rattle.mt_client.specs.Reading.{HasBroken, IsCutOff};
 
 use crate::fault::ClientFault;
+use mt_info::print::push_number;
 use mt_lines::stream::{Cut, Output, send};
 use mt_skel::escape::push_escaped;
 use std::alloc::{AllocError, Global};
@@ -41,6 +42,21 @@ pub fn request_line(alloc: Global, words: &[&[u8]]) -> Result<Vec<u8>, AllocErro
     };
     push_escaped(&mut line, first)?;
     push_words(&mut line, others)?;
+    Ok(line)
+}
+
+/// The line of a request that is a word and a number, without its line end. Fails for want of memory alone.
+pub(crate) fn numbered_line(
+    alloc: Global,
+    command: &[u8],
+    number: u64,
+) -> Result<Vec<u8>, AllocError>
+    ensures { IfOk result (λ line. line.items ≡ numbered_text command.now number) }
+{
+    let mut line = Vec::new(alloc);
+    line.extend_from_slice(command)?;
+    line.extend_from_slice(b" ")?;
+    push_number(&mut line, number)?;
     Ok(line)
 }
 

@@ -144,6 +144,13 @@ impl Mirror {
         }
     }
 
+    /// The namespace.
+    pub fn space(&self) -> SpaceId
+        ensures { result ≡ self.now.space }
+    {
+        self.space
+    }
+
     /// The table, as the posts told it.
     pub fn table(&self) -> &Table
         ensures { result.now ≡ self.now.rows }

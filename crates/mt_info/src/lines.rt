@@ -63,7 +63,7 @@ fn push_line(
     push_point(text, world, above, mount.id)?;
     text.extend_from_slice(b" ")?;
     push_options(text, &mount.attrs)?;
-    push_tags(text, state.group, state.master, via, state.unbindable)?;
+    push_tags(text, b' ', state.group, state.master, via, state.unbindable)?;
     push_end(text, world.skel.kind(minor), world.skel.source(minor))?;
     Ok(())
 }

@@ -1,0 +1,241 @@
+-- What was read of an opening, and what cannot come first where one is refused.
+use Rattle.std.proofs.Common.{◌≡◌, ◌≢◌, true, false, ℕ, ◌+◌, ◌<◌, ◌≤◌, ◌^◌, List, [], ◌∷◌, ◌++◌, map, length, refl, sym, ap, ◌∙◌, subst, arith, append-nil, length-append, fold, drop, get_or, IsTrue, Option, Some, None, MatchOption, inl, inr}
+use Rattle.std.proofs.lemmas.Grind.{flat_map-append}
+use Rattle.std.specs.List.{flat_map, join_with_byte, AllByRecursion}
+use Rattle.mt_lines.specs.Lines.{Item, Text}
+use Rattle.mt_info.specs.RowLine.{line}
+use Rattle.mt_info.specs.declared.row.Row.{Row}
+use Rattle.mt_info.specs.Laws.{IsRow}
+use Rattle.mt_info.specs.Table.{row_id}
+use Rattle.mt_info.specs.Building.{is_above, rises_after}
+use Rattle.mt_info.proofs.RisingLaws.{after_kept}
+use Rattle.mt_skel.specs.Keyed.{rises}
+use Rattle.mt_events.specs.Mirrors.{MirrorView}
+use Rattle.mt_events.specs.Posts.{ended}
+use Rattle.mt_events.specs.declared.opening.Part.{Part}
+use Rattle.mt_events.specs.declared.opening.Scope.{Scope}
+use Rattle.mt_events.specs.declared.opening.Scope.TheVariants.{One}
+use Rattle.mt_session.specs.Answers.{count_text, part_text, opening_text}
+use Rattle.mt_client.specs.declared.opening.Heading.{Heading}
+use Rattle.mt_client.specs.Requests.{is_refusal}
+use Rattle.mt_client.specs.Reading.{texts, printed, NoneFirst, AreSoMany}
+use Rattle.mt_client.specs.Mirroring.{IsShown, counted_line, heading_words, heading_line, part_lines, opening_lines, HasOpened}
+use Rattle.mt_client.specs.Awaited.{IsRefusedOr, AreRowLines, IsOpening}
+use Rattle.mt_client.specs.Finding.{mirror_space, parts_lines, found_lines, AreOf, part_found, opening_found, HasFound, HasWatched, IsFinding, IsPartWithin, ArePartLines}
+use Rattle.mt_client.proofs.RelayLaws.{printed-append}
+use Rattle.mt_client.proofs.MirrorLaws.{runs_read, part_is}
+use Rattle.mt_client.proofs.ReplyLaws.{many_lines}
+use Rattle.mt_client.proofs.OpeningLaws.{first_taken, texts_split, needs_line, refused_some, no_refusal, unrefused_or, counted_tells, heading_tells, few, rows_alike, behind_rows}
+
+abbrev AllShown : List MirrorView → Type 0
+AllShown parts = AllByRecursion IsShown parts
+
+-- how many lines namespaces have
+part_count : (m : MirrorView) (parts : List MirrorView) → length (parts_lines (m ∷ parts)) ≡ 1 + length m.rows + length (parts_lines parts)
+part_count m parts =
+    let l = length-append (map line m.rows) (parts_lines parts) in
+    let r = many_lines m.rows in
+    omega (arith, l, r)
+
+-- the lines of one namespace more
+more_lines : (parts : List MirrorView) (m : MirrorView) → parts_lines (parts ++ m ∷ []) ≡ parts_lines parts ++ part_lines m
+more_lines parts m = flat_map-append part_lines parts (m ∷ []) ∙ ap (λ x. parts_lines parts ++ x) (append-nil (part_lines m))
+
+pub more_read : (parts : List MirrorView) (m : MirrorView) (before middle after : List Item) → before ≡ texts (parts_lines parts) ++ middle → middle ≡ texts (part_lines m) ++ after → before ≡ texts (parts_lines (parts ++ m ∷ [])) ++ after
+more_read parts m before middle after came next =
+    runs_read (parts_lines parts) (part_lines m) before middle after came next ∙ ap (λ ls. texts ls ++ after) (sym (more_lines parts m))
+
+pub more_counted : (parts : List MirrorView) (m : MirrorView) (count left rest : ℕ) → length (parts_lines parts) + left ≡ count → left ≡ 1 + length m.rows + rest → length (parts_lines (parts ++ m ∷ [])) + rest ≡ count
+more_counted parts m count left rest many less =
+    let l = ap length (more_lines parts m) ∙ length-append (parts_lines parts) (part_lines m) in
+    let r = many_lines m.rows in
+    omega (arith, l, r, many, less)
+
+-- lines determine the namespace that they show
+view_is : (m n : MirrorView) → m.space ≡ n.space → m.number ≡ n.number → m.rows ≡ n.rows → m ≡ n
+view_is m n space number rows = λ i. record { space = space i; number = number i; rows = rows i }
+
+shown_alike : (m n : MirrorView) (middle later : List Item) → IsShown m → IsShown n → texts (part_lines m) ++ middle ≡ texts (part_lines n) ++ later → (m ≡ n) × (middle ≡ later)
+shown_alike m n middle later s t e =
+    let both : Text (heading_line m) ∷ (texts (map line m.rows) ++ middle) ≡ Text (heading_line n) ∷ (texts (map line n.rows) ++ later) = e in
+    let here : heading_line m ≡ heading_line n = cc in
+    let rest : texts (map line m.rows) ++ middle ≡ texts (map line n.rows) ++ later = cc in
+    let w = heading_tells m.space m.number (length m.rows) n.space n.number (length n.rows) s.space s.number (few (length m.rows) s.counted) t.space t.number (few (length n.rows) t.counted) here in
+    (view_is m n w.0 w.1 (rows_alike m.rows n.rows middle later w.2 rest s.rows t.rows), behind_rows m.rows n.rows middle later w.2 rest)
+
+-- the first of two lists of namespaces that come first are one
+firsts_alike : (m n : MirrorView) (parts news : List MirrorView) (middle later : List Item) → IsShown m → IsShown n → texts (parts_lines (m ∷ parts)) ++ middle ≡ texts (parts_lines (n ∷ news)) ++ later
+    → (m ≡ n) × (texts (parts_lines parts) ++ middle ≡ texts (parts_lines news) ++ later)
+firsts_alike m n parts news middle later s t e =
+    shown_alike m n (texts (parts_lines parts) ++ middle) (texts (parts_lines news) ++ later) s t
+    (sym (texts_split (part_lines m) (parts_lines parts) middle) ∙ e ∙ texts_split (part_lines n) (parts_lines news) later)
+
+-- the same number of lines behind it
+fewer : (m n : MirrorView) (parts news : List MirrorView) (left : ℕ) → m ≡ n → length (parts_lines (m ∷ parts)) + left ≡ length (parts_lines (n ∷ news)) → length (parts_lines parts) + left ≡ length (parts_lines news)
+fewer m n parts news left same many =
+    let a = part_count m parts in
+    let b = part_count n news in
+    let rows : length m.rows ≡ length n.rows = ap (λ (k : MirrorView). length k.rows) same in
+    omega (arith, a, b, rows, many)
+
+parts_alike : (parts news : List MirrorView) (middle later : List Item) → AllShown parts → AllShown news → length (parts_lines parts) + 0 ≡ length (parts_lines news) → texts (parts_lines parts) ++ middle ≡ texts (parts_lines news) ++ later → parts ≡ news
+parts_alike [] [] middle later s t many e = refl
+parts_alike [] (n ∷ news) middle later s t many e = let b = part_count n news in absurd (omega (arith, b, many))
+parts_alike (m ∷ parts) [] middle later s t many e = let a = part_count m parts in absurd (omega (arith, a, many))
+parts_alike (m ∷ parts) (n ∷ news) middle later s t many e =
+    let k = firsts_alike m n parts news middle later s.0 t.0 e in
+    let rest = parts_alike parts news middle later s.1 t.1 (fewer m n parts news 0 k.0 many) k.1 in
+    λ i. k.0 i ∷ rest i
+
+-- the namespace that is next where more of them came
+next_part : (parts news : List MirrorView) (left : ℕ) (middle later : List Item) → AllShown parts → AllShown news → length (parts_lines parts) + left ≡ length (parts_lines news) → 0 < left → texts (parts_lines parts) ++ middle ≡ texts (parts_lines news) ++ later
+    → (m : MirrorView) × (rest : List Item) × IsShown m × (1 + length m.rows ≤ left) × (middle ≡ texts (part_lines m) ++ rest)
+next_part [] [] left middle later s t many some e = absurd (omega (arith, many, some))
+next_part [] (n ∷ news) left middle later s t many some e =
+    let b = part_count n news in
+    (n, texts (parts_lines news) ++ later, t.0, omega (arith, b, many), e ∙ texts_split (part_lines n) (parts_lines news) later)
+next_part (m ∷ parts) [] left middle later s t many some e = let a = part_count m parts in absurd (omega (arith, a, many))
+next_part (m ∷ parts) (n ∷ news) left middle later s t many some e =
+    let k = firsts_alike m n parts news middle later s.0 t.0 e in
+    next_part parts news left middle later s.1 t.1 (fewer m n parts news left k.0 many) some k.1
+
+pub parts_cut : (count left : ℕ) (parts : List MirrorView) (before middle : List Item) → before ≡ texts (parts_lines parts) ++ middle → length (parts_lines parts) + left ≡ count → 0 < left → AllByRecursion IsShown parts → NoneFirst (IsPartWithin left) middle
+    → NoneFirst (ArePartLines count) before
+parts_cut count left parts before middle came many some shown none lines later k e =
+    let r = next_part parts k.found left middle later shown k.shown (many ∙ sym k.many) some (sym came ∙ e ∙ ap (λ ls. texts ls ++ later) k.all) in
+    none (part_lines r.0) r.1 (record { found = r.0; shown = r.2; within = r.3; all = refl }) r.4
+
+-- a namespace
+pub within_needs_line : (left : ℕ) (before : List Item) → NoneFirst (AreSoMany 1) before → NoneFirst (IsPartWithin left) before
+within_needs_line left before none = needs_line before (λ lines k. (heading_line k.found, map line k.found.rows, k.all)) none
+
+-- the numbers of a first line, and what is behind it, where the lines of a namespace come first
+within_told : (left : ℕ) (h : Heading) (seen : List ℕ) (before middle later : List Item) (lines : List (List ℕ)) → before ≡ Text seen ∷ middle → seen ≡ join_with_byte 32 (heading_words h.space h.number h.count)
+    → (h.space < 2 ^ 64) × (h.number < 2 ^ 64) × (h.count < 2 ^ 64) → (k : IsPartWithin left lines) → before ≡ texts lines ++ later → (h.count ≡ length k.found.rows) × (middle ≡ texts (map line k.found.rows) ++ later)
+within_told left h seen before middle later lines there is small k e =
+    let t = first_taken seen (heading_line k.found) lines (map line k.found.rows) before middle later there k.all e in
+    let w = heading_tells h.space h.number h.count k.found.space k.found.number (length k.found.rows) small.0 small.1 small.2 k.shown.space k.shown.number (few (length k.found.rows) k.shown.counted) (sym is ∙ sym t.0) in
+    (w.2, t.1)
+
+pub within_needs_heading : (left : ℕ) (seen : List ℕ) (before middle : List Item) → before ≡ Text seen ∷ middle
+    → ((space number count : ℕ) → space < 2 ^ 64 → number < 2 ^ 64 → count < 2 ^ 64 → seen ≢ join_with_byte 32 (heading_words space number count)) → NoneFirst (IsPartWithin left) before
+within_needs_heading left seen before middle there none lines later k e =
+    let t = first_taken seen (heading_line k.found) lines (map line k.found.rows) before middle later there k.all e in
+    none k.found.space k.found.number (length k.found.rows) k.shown.space k.shown.number (few (length k.found.rows) k.shown.counted) (sym t.0)
+
+pub within_needs_room : (left : ℕ) (h : Heading) (seen : List ℕ) (before middle : List Item) → before ≡ Text seen ∷ middle → seen ≡ join_with_byte 32 (heading_words h.space h.number h.count)
+    → (h.space < 2 ^ 64) × (h.number < 2 ^ 64) × (h.count < 2 ^ 64) → left ≤ h.count → NoneFirst (IsPartWithin left) before
+within_needs_room left h seen before middle there is small over lines later k e =
+    let t = within_told left h seen before middle later lines there is small k e in
+    let same = t.0 in
+    let within = k.within in
+    omega (arith, same, within, over)
+
+pub within_needs_rows : (left : ℕ) (h : Heading) (seen : List ℕ) (before middle : List Item) → before ≡ Text seen ∷ middle → seen ≡ join_with_byte 32 (heading_words h.space h.number h.count)
+    → (h.space < 2 ^ 64) × (h.number < 2 ^ 64) × (h.count < 2 ^ 64) → NoneFirst (AreRowLines h.count) middle → NoneFirst (IsPartWithin left) before
+within_needs_rows left h seen before middle there is small none lines later k e =
+    let t = within_told left h seen before middle later lines there is small k e in
+    none (map line k.found.rows) later (record { rows = k.found.rows; valid = k.shown.rows; many = sym t.0; all = refl }) t.1
+
+pub within_needs_rising : (left : ℕ) (h : Heading) (seen : List ℕ) (rows : List Row) (before middle after : List Item) → before ≡ Text seen ∷ middle → seen ≡ join_with_byte 32 (heading_words h.space h.number h.count)
+    → (h.space < 2 ^ 64) × (h.number < 2 ^ 64) × (h.count < 2 ^ 64) → middle ≡ texts (map line rows) ++ after → length rows ≡ h.count → AllByRecursion IsRow rows → (IsTrue (rises row_id rows) → ⊥)
+    → NoneFirst (IsPartWithin left) before
+within_needs_rising left h seen rows before middle after there is small came many valid falls lines later k e =
+    let t = within_told left h seen before middle later lines there is small k e in
+    let same = rows_alike rows k.found.rows after later (many ∙ t.0) (sym came ∙ t.1) valid k.shown.rows in
+    falls (subst (λ rs. IsTrue (rises row_id rs)) (sym same) k.shown.rising)
+
+-- an opening
+finding_some : (scope : Scope) (lines : List (List ℕ)) → IsFinding scope lines → (first : List ℕ) × (others : List (List ℕ)) × (lines ≡ first ∷ others)
+finding_some scope lines k = (counted_line (length (parts_lines k.found)), parts_lines k.found, k.all)
+
+pub finding_needs_line : (scope : Scope) (before : List Item) → NoneFirst (AreSoMany 1) before → NoneFirst (IsRefusedOr (IsFinding scope)) before
+finding_needs_line scope before none = needs_line before (refused_some (finding_some scope)) none
+
+pub finding_needs_count : (scope : Scope) (seen : List ℕ) (before middle : List Item) → before ≡ Text seen ∷ middle → is_refusal seen ≡ false → ((n : ℕ) → n < 2 ^ 64 → seen ≢ counted_line n) → NoneFirst (IsRefusedOr (IsFinding scope)) before
+finding_needs_count scope seen before middle there tells none =
+    unrefused_or before (no_refusal seen before middle there tells) (λ lines later k e.
+    let t = first_taken seen (counted_line (length (parts_lines k.found))) lines (parts_lines k.found) before middle later there k.all e in
+    none (length (parts_lines k.found)) k.shown.counted (sym t.0))
+
+-- how many lines come for the namespaces, and what is behind the first line, where the lines of an opening come first
+finding_told : (scope : Scope) (count : ℕ) (seen : List ℕ) (before middle later : List Item) (lines : List (List ℕ)) → before ≡ Text seen ∷ middle → seen ≡ counted_line count → count < 2 ^ 64 → (k : IsFinding scope lines) → before ≡ texts lines ++ later
+    → (length (parts_lines k.found) ≡ count) × (middle ≡ texts (parts_lines k.found) ++ later)
+finding_told scope count seen before middle later lines there is small k e =
+    let t = first_taken seen (counted_line (length (parts_lines k.found))) lines (parts_lines k.found) before middle later there k.all e in
+    (counted_tells (length (parts_lines k.found)) count k.shown.counted small (t.0 ∙ is), t.1)
+
+pub finding_needs_parts : (scope : Scope) (count : ℕ) (seen : List ℕ) (before middle : List Item) → before ≡ Text seen ∷ middle → is_refusal seen ≡ false → seen ≡ counted_line count → count < 2 ^ 64 → NoneFirst (ArePartLines count) middle
+    → NoneFirst (IsRefusedOr (IsFinding scope)) before
+finding_needs_parts scope count seen before middle there tells is small none =
+    unrefused_or before (no_refusal seen before middle there tells) (λ lines later k e.
+    let t = finding_told scope count seen before middle later lines there is small k e in
+    none (parts_lines k.found) later (record { found = k.found; shown = k.shown.each; many = t.0; all = refl }) t.1)
+
+pub finding_needs_scope : (scope : Scope) (count : ℕ) (seen : List ℕ) (parts : List MirrorView) (before middle after : List Item) → before ≡ Text seen ∷ middle → is_refusal seen ≡ false → seen ≡ counted_line count → count < 2 ^ 64
+    → middle ≡ texts (parts_lines parts) ++ after → length (parts_lines parts) ≡ count → AllByRecursion IsShown parts → (AreOf scope parts → ⊥) → NoneFirst (IsRefusedOr (IsFinding scope)) before
+finding_needs_scope scope count seen parts before middle after there tells is small came many shown other =
+    unrefused_or before (no_refusal seen before middle there tells) (λ lines later k e.
+    let t = finding_told scope count seen before middle later lines there is small k e in
+    let n = t.0 in
+    let same = parts_alike parts k.found after later shown k.shown.each (omega (arith, many, n)) (sym came ∙ t.1) in
+    other (subst (AreOf scope) (sym same) k.shown.of))
+
+-- the text of an opening
+parts_text : (parts : List MirrorView) → printed (parts_lines parts) ≡ flat_map part_text (map part_found parts)
+parts_text [] = refl
+parts_text (m ∷ parts) = printed-append (part_lines m) (parts_lines parts) ∙ (λ i. part_is m i ++ parts_text parts i)
+
+lines_from : (n : ℕ) (parts : List MirrorView) → fold (λ n (p : Part). n + (1 + length p.table)) n (map part_found parts) ≡ n + length (parts_lines parts)
+lines_from n [] = omega arith
+lines_from n (m ∷ parts) =
+    let ih = lines_from (n + (1 + length m.rows)) parts in
+    let c = part_count m parts in
+    omega (arith, ih, c)
+
+found_is : (scope : Scope) (parts : List MirrorView) → printed (found_lines parts) ≡ opening_text (opening_found scope parts)
+found_is scope parts = (λ i. ended (counted_line (length (parts_lines parts))) ++ parts_text parts i) ∙ ap (λ n. count_text n ++ flat_map part_text (map part_found parts)) (sym (lines_from 0 parts))
+
+pub watched_whole : (scope : Scope) (parts : List MirrorView) (before after : List Item) → HasFound scope before after parts → HasWatched scope before after parts
+watched_whole scope parts before after f = record { lines = found_lines parts; shown = f.shown; read = f.read; text = found_is scope parts }
+
+-- numbers that rise, one namespace after another
+pub rising_kept : (o : Option ℕ) (i : ℕ) (x d : MirrorView) (space : ℕ) (all : List MirrorView) → x ≡ get_or all i d → i < length all → rises_after mirror_space o (drop i all) ≡ rises mirror_space all → space ≡ x.space → true ≡ is_above o space
+    → rises_after mirror_space (Some space) (drop (i + 1) all) ≡ rises mirror_space all
+rising_kept o i x d space all at lt e same above =
+    ap (λ k. rises_after mirror_space (Some k) (drop (i + 1) all)) same ∙ after_kept mirror_space o i x d all at lt e (above ∙ ap (is_above o) same)
+
+-- the opening of a watcher of one namespace
+one_opening : (m : MirrorView) → found_lines (m ∷ []) ≡ opening_lines m
+one_opening m =
+    let c = part_count m [] in
+    let many : length (parts_lines (m ∷ [])) ≡ 1 + length m.rows = omega (arith, c) in
+    λ i. counted_line (many i) ∷ append-nil (part_lines m) i
+
+one_counted : (m : MirrorView) → IsShown m → length (parts_lines (m ∷ [])) < 2 ^ 64
+one_counted m s =
+    let c = part_count m [] in
+    let small = s.counted in
+    omega (arith, c, small)
+
+pub opened_one : (space : ℕ) (refused : Type 0) (parts : List MirrorView) (o : Option MirrorView) (before after : List Item) → HasFound (One space) before after parts → MatchOption o (parts ≡ []) (λ m. (others : List MirrorView) × (parts ≡ others ++ m ∷ []))
+    → MatchOption o refused (λ m. HasOpened space before after m)
+opened_one space refused parts None before after f is = let no : map mirror_space [] ≡ space ∷ [] = subst (λ ps. map mirror_space ps ≡ space ∷ []) is f.shown.of in cc
+opened_one space refused parts (Some m) before after f is = go is.0 (subst (λ ps. HasFound (One space) before after ps) is.1 f)
+  where
+    go : (others : List MirrorView) → HasFound (One space) before after (others ++ m ∷ []) → HasOpened space before after m
+    go [] g =
+        let of : m.space ∷ [] ≡ space ∷ [] = g.shown.of in
+        record { shown = g.shown.each.0; of = cc; read = g.read ∙ ap (λ ls. texts ls ++ after) (one_opening m) }
+    go (n ∷ []) g = let no : n.space ∷ (m.space ∷ []) ≡ space ∷ [] = g.shown.of in cc
+    go (n ∷ (k ∷ others)) g = let no : n.space ∷ (k.space ∷ map mirror_space (others ++ m ∷ [])) ≡ space ∷ [] = g.shown.of in cc
+
+pub opening_needs_finding : (space : ℕ) (before : List Item) → NoneFirst (IsRefusedOr (IsFinding (One space))) before → NoneFirst (IsRefusedOr (IsOpening space)) before
+opening_needs_finding space before none lines later (inl r) e = none lines later (inl r) e
+opening_needs_finding space before none lines later (inr k) e =
+    none lines later
+    (inr (record {
+      found = k.found ∷ [];
+      shown = record { each = (k.shown, tt); counted = one_counted k.found k.shown; of = ap (λ n. n ∷ []) k.of };
+      all = k.all ∙ sym (one_opening k.found);
+    })) e

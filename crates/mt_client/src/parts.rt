@@ -1,0 +1,152 @@
+//! The namespaces that a watcher found.
+ghost use Rattle.std.specs.Prelude.{◌≡◌, ◌≢◌, ◌+◌, ◌≤◌, [], ◌∷◌, ◌++◌, map, length, None, Err, IfOk, IfSome, OnOk, IsTrue, MatchBool, MatchOption};
+ghost use Rattle.std.specs.List.{AllByRecursion};
+ghost use Rattle.mt_skel.specs.Keyed.{rises};
+ghost use Rattle.mt_lines.specs.Reading.{failed_calls, last_faults, fault_of, last_line, limit_of};
+ghost use Rattle.mt_client.specs.Reading.{lines_left, texts, NoneFirst, IsCut};
+ghost use Rattle.mt_client.specs.Mirroring.{IsShown, part_lines, HasRefused};
+ghost use Rattle.mt_client.specs.Awaited.{IsOneRefusal, IsRefusedOr};
+ghost use Rattle.mt_client.specs.Finding.{mirror_space, parts_lines, AreOf, HasFound, IsFinding, IsPartWithin, ArePartLines};
+
+use crate::answer::is_refusal;
+use crate::fault::ClientFault;
+use crate::opening::{read_count, read_heading, read_rows};
+use crate::relay::next_text;
+use mt_events::mirror::Mirror;
+use mt_events::opening::Scope;
+use mt_info::table::{Table, is_above};
+use mt_lines::line::LineReader;
+use mt_lines::stream::Input;
+use mt_mounts::mount::SpaceId;
+use std::alloc::Global;
+
+/// The next namespace, which has at most so many lines.
+fn read_next<R: Input + Drop>(
+    alloc: Global,
+    lines: &mut LineReader<R>,
+    left: u64,
+) -> Result<Mirror, ClientFault>
+    requires fresh { fault_of lines.old ≡ None }
+    ensures part { IfOk result (λ mirror. IsTrue R.tells
+        → lines_left lines.old ≡ texts (part_lines mirror) ++ lines_left lines.new) }
+    ensures within { IfOk result (λ mirror. 1 + length mirror.rows ≤ left) }
+    ensures fresh { OnOk result (fault_of lines.new ≡ None) }
+    ensures kind { result ≢ Err ClientFault.Output }
+    ensures shown { IfOk result (λ mirror. IsShown mirror) }
+    ensures cut { result ≡ Err ClientFault.Connection → IsTrue R.tells → IsTrue R.counts
+        → IsCut (IsPartWithin left) lines.old lines.new }
+    ensures counted { IsTrue R.counts → failed_calls lines.old ≤ failed_calls lines.new }
+    ensures reads { OnOk result (IsTrue R.counts → last_faults lines.old ≡ [] → last_faults lines.new ≡ []) }
+    ensures limit { limit_of lines.new ≡ limit_of lines.old }
+{
+    next_text(lines)?;
+    let Some(heading) = read_heading(lines.line()) else {
+        return Err(ClientFault::Connection);
+    };
+    if heading.count >= left {
+        return Err(ClientFault::Connection);
+    }
+    let rows = read_rows(alloc, lines, heading.count)?;
+    match Table::from_rows(rows) {
+        Some(table) => Ok(Mirror::new(heading.space, heading.number, table)),
+        None => Err(ClientFault::Connection),
+    }
+}
+
+/// The namespaces that so many lines show.
+fn read_parts<R: Input + Drop>(
+    alloc: Global,
+    lines: &mut LineReader<R>,
+    count: u64,
+) -> Result<Vec<Mirror>, ClientFault>
+    requires fresh { fault_of lines.old ≡ None }
+    ensures parts { IfOk result (λ parts. IsTrue R.tells
+        → lines_left lines.old ≡ texts (parts_lines parts.items) ++ lines_left lines.new) }
+    ensures many { IfOk result (λ parts. length (parts_lines parts.items) ≡ count) }
+    ensures fresh { OnOk result (fault_of lines.new ≡ None) }
+    ensures kind { result ≢ Err ClientFault.Output }
+    ensures shown { IfOk result (λ parts. AllByRecursion IsShown parts.items) }
+    ensures cut { result ≡ Err ClientFault.Connection → IsTrue R.tells → IsTrue R.counts
+        → IsCut (ArePartLines count) lines.old lines.new }
+    ensures counted { IsTrue R.counts → failed_calls lines.old ≤ failed_calls lines.new }
+    ensures reads { OnOk result (IsTrue R.counts → last_faults lines.old ≡ [] → last_faults lines.new ≡ []) }
+    ensures limit { limit_of lines.new ≡ limit_of lines.old }
+{
+    let mut parts = Vec::new(alloc);
+    let mut left = count;
+    'parts: while left > 0 {
+        let part = read_next(alloc, lines, left)?;
+        left = left - 1 - part.table().rows().len() as u64;
+        parts.push(part)?;
+    }
+    Ok(parts)
+}
+
+/// Whether the numbers of namespaces strictly rise.
+fn is_rising(parts: &[Mirror]) -> bool
+    ensures { result ≡ rises mirror_space parts.now }
+{
+    let mut last = None;
+    'parts: for part in parts {
+        let space = part.space();
+        if !is_above(last, space) {
+            return false;
+        }
+        last = Some(space);
+    }
+    true
+}
+
+/// Whether this is one namespace, of this number.
+fn is_one(parts: &[Mirror], space: SpaceId) -> bool
+    ensures { MatchBool result (map mirror_space parts.now ≡ space ∷ []) (map mirror_space parts.now ≢ space ∷ []) }
+{
+    match parts {
+        [part] => part.space() == space,
+        _ => false,
+    }
+}
+
+/// Whether these are namespaces of this scope: the one, or any by rising number.
+fn are_of(scope: Scope, parts: &[Mirror]) -> bool
+    ensures { MatchBool result (AreOf scope parts.now) (AreOf scope parts.now → ⊥) }
+{
+    match scope {
+        Scope::One(space) => is_one(parts, space),
+        Scope::All => is_rising(parts),
+    }
+}
+
+/// What a watcher of a scope found, or None where a refusal stands in its place, which the reader lends.
+pub(crate) fn read_found<R: Input + Drop>(
+    alloc: Global,
+    lines: &mut LineReader<R>,
+    scope: Scope,
+) -> Result<Option<Vec<Mirror>>, ClientFault>
+    requires fresh { fault_of lines.old ≡ None }
+    ensures found { IfOk result (λ found. IsTrue R.tells → MatchOption found
+        (HasRefused (last_line lines.new) (lines_left lines.old) (lines_left lines.new))
+        (λ parts. HasFound scope (lines_left lines.old) (lines_left lines.new) parts.items)) }
+    ensures fresh { OnOk result (fault_of lines.new ≡ None) }
+    ensures kind { result ≢ Err ClientFault.Output }
+    ensures unrefused { IfOk result (λ found. IsTrue R.tells → IfSome found (λ parts. NoneFirst IsOneRefusal (lines_left lines.old))) }
+    ensures cut { result ≡ Err ClientFault.Connection → IsTrue R.tells → IsTrue R.counts
+        → IsCut (IsRefusedOr (IsFinding scope)) lines.old lines.new }
+    ensures counted { IsTrue R.counts → failed_calls lines.old ≤ failed_calls lines.new }
+    ensures reads { OnOk result (IsTrue R.counts → last_faults lines.old ≡ [] → last_faults lines.new ≡ []) }
+    ensures limit { limit_of lines.new ≡ limit_of lines.old }
+{
+    next_text(lines)?;
+    if is_refusal(lines.line()) {
+        return Ok(None);
+    }
+    let Some(count) = read_count(lines.line()) else {
+        return Err(ClientFault::Connection);
+    };
+    let parts = read_parts(alloc, lines, count)?;
+    if are_of(scope, parts.as_slice()) {
+        Ok(Some(parts))
+    } else {
+        Err(ClientFault::Connection)
+    }
+}

@@ -1,0 +1,134 @@
+//! A drawing of the tables that a watcher found.
+ghost use Rattle.std.specs.Prelude.{◌≡◌, ◌≢◌, ◌⊎◌, List, ℕ, [], ◌++◌, true, false, None, Ok, Err, IfOk, IfErr, OnOk, OnErr, IsTrue};
+ghost use Rattle.mt_lines.specs.Reading.{last_faults, fault_of, limit_of};
+ghost use Rattle.mt_events.specs.Mirrors.{MirrorView};
+ghost use Rattle.mt_events.specs.Posts.{ended};
+ghost use Rattle.mt_draw.specs.Drawings.{drawing_text};
+ghost use Rattle.mt_client.specs.Reading.{lines_left, HasBroken, IsSentPart, IsCut};
+ghost use Rattle.mt_client.specs.Mirroring.{HasRefused};
+ghost use Rattle.mt_client.specs.Awaited.{IsRefusedOr};
+ghost use Rattle.mt_client.specs.Finding.{watch_text, HasWatched, IsFinding};
+
+use crate::fault::ClientFault;
+use crate::parts::read_found;
+use crate::relay::{print_line, print_text};
+use crate::request::{numbered_line, send_request};
+use mt_draw::drawing::{Drawing, push_drawing};
+use mt_events::mirror::Mirror;
+use mt_events::opening::Scope;
+use mt_lines::line::LineReader;
+use mt_lines::stream::{Input, Output};
+use std::alloc::{AllocError, Global};
+
+/// The line of the request of a watcher, without its line end. Fails for want of memory alone.
+fn watch_line(alloc: Global, scope: Scope) -> Result<Vec<u8>, AllocError>
+    ensures { IfOk result (λ line. line.items ≡ watch_text scope) }
+{
+    match scope {
+        Scope::One(space) => numbered_line(alloc, b"watch", space),
+        Scope::All => {
+            let mut line = Vec::new(alloc);
+            line.extend_from_slice(b"watch all")?;
+            Ok(line)
+        }
+    }
+}
+
+/// Sends the request of a watcher.
+fn send_watch<W: Output>(alloc: Global, writer: &mut W, scope: Scope) -> Result<(), ClientFault>
+    ensures sent { OnOk result (IsTrue W.tells
+        → W.written writer.new ≡ W.written writer.old ++ ended (watch_text scope)) }
+    ensures part { IsTrue W.tells
+        → IsSentPart (ended (watch_text scope)) (W.written writer.old) (W.written writer.new) }
+    ensures kind { result ≢ Err ClientFault.Output }
+    ensures cause { result ≡ Err ClientFault.Connection → IsTrue W.counts → HasBroken (W.failed writer.old) (W.failed writer.new) (W.faults writer.old) (W.faults writer.new) }
+    ensures writes { OnOk result (IsTrue W.counts → W.faults writer.old ≡ [] → W.faults writer.new ≡ []) }
+{
+    let line = watch_line(alloc, scope)?;
+    send_request(writer, line.as_slice())
+}
+
+/// Prints a drawing of tables.
+fn print_drawing<O: Output>(
+    alloc: Global,
+    out: &mut O,
+    drawing: Drawing,
+    parts: &[Mirror],
+) -> Result<(), ClientFault>
+    ensures printed { OnOk result (IsTrue O.tells
+        → O.written out.new ≡ O.written out.old ++ drawing_text drawing parts.now) }
+    ensures kept { OnErr result (result ≢ Err ClientFault.Output → IsTrue O.tells
+        → O.written out.new ≡ O.written out.old) }
+    ensures kind { result ≢ Err ClientFault.Connection }
+    ensures cause { result ≡ Err ClientFault.Output → IsTrue O.counts
+        → HasBroken (O.failed out.old) (O.failed out.new) (O.faults out.old) (O.faults out.new) }
+    ensures prints { OnOk result (IsTrue O.counts → O.faults out.old ≡ [] → O.faults out.new ≡ []) }
+{
+    let mut text = Vec::new(alloc);
+    push_drawing(&mut text, drawing, parts)?;
+    print_text(out, text.as_slice())
+}
+
+/// Watches a scope and prints a drawing of the tables that the watcher found.
+///
+/// The reader has met no fault, and serves what comes over the connection. Nothing is sent behind the request, so the
+/// session has a watcher for as long as the connection stays. Answers true where the drawing was printed, and false
+/// where the refusal of the request was.
+///
+/// Refused as `Connection` where the connection fails or ends early, or where what comes is neither: namespaces that
+/// are not those of the scope or do not rise by number, other lines than were counted, or rows that are not well-formed
+/// or do not rise by ID. Refused as `Output` where what was to be printed does not go out, and else as `NoMemory`.
+/// But for `Output` nothing was printed then.
+pub fn draw<R: Input + Drop, W: Output, O: Output>(
+    alloc: Global,
+    lines: &mut LineReader<R>,
+    writer: &mut W,
+    scope: Scope,
+    drawing: Drawing,
+    out: &mut O,
+) -> Result<bool, ClientFault>
+    requires fresh { fault_of lines.old ≡ None }
+
+    // Where a drawing is printed, the lines that were read are the text of an opening that a server can show to a
+    // watcher of the scope, and it is the drawing of all that it has.
+    ensures drawn { result ≡ Ok true → IsTrue R.tells → IsTrue O.tells → (parts : List MirrorView)
+        × HasWatched scope (lines_left lines.old) (lines_left lines.new) parts
+        × (O.written out.new ≡ O.written out.old ++ drawing_text drawing parts) }
+
+    // Else the refusal was printed that stands in the place of the opening.
+    ensures refused { result ≡ Ok false → IsTrue R.tells → IsTrue O.tells → (refusal : List ℕ)
+        × HasRefused refusal (lines_left lines.old) (lines_left lines.new)
+        × (O.written out.new ≡ O.written out.old ++ ended refusal) }
+
+    // The request went out, or a part of it up to a fault, and nothing else.
+    ensures sent { OnOk result (IsTrue W.tells
+        → W.written writer.new ≡ W.written writer.old ++ ended (watch_text scope)) }
+    ensures part { IsTrue W.tells
+        → IsSentPart (ended (watch_text scope)) (W.written writer.old) (W.written writer.new) }
+
+    // `Connection` only where calls of the reader or the writer failed, or the lines begin neither with such an
+    // opening nor with a refusal. Where no fault of the stream stood, the last call failed then, or was the last of as
+    // many interrupted ones in succession as end a read or a send. So it is with `Output`.
+    ensures connection { result ≡ Err ClientFault.Connection → IsTrue R.tells → IsTrue R.counts → IsTrue W.counts
+        → HasBroken (W.failed writer.old) (W.failed writer.new) (W.faults writer.old) (W.faults writer.new) ⊎ IsCut (IsRefusedOr (IsFinding scope)) lines.old lines.new }
+
+    // Nothing was printed where the output did not fail, and `Output` comes only where calls of it failed.
+    ensures kept { IfErr result (λ fault. fault ≢ ClientFault.Output → IsTrue O.tells
+        → O.written out.new ≡ O.written out.old) }
+    ensures output { result ≡ Err ClientFault.Output → IsTrue O.counts
+        → HasBroken (O.failed out.old) (O.failed out.new) (O.faults out.old) (O.faults out.new) }
+    // What the next call finds: a reader that has met no fault, and where none of a stream stood, none.
+    ensures fresh { OnOk result (fault_of lines.new ≡ None) }
+    ensures reads { OnOk result (IsTrue R.counts → last_faults lines.old ≡ [] → last_faults lines.new ≡ []) }
+    ensures writes { OnOk result (IsTrue W.counts → W.faults writer.old ≡ [] → W.faults writer.new ≡ []) }
+    ensures prints { OnOk result (IsTrue O.counts → O.faults out.old ≡ [] → O.faults out.new ≡ []) }
+    ensures limit { limit_of lines.new ≡ limit_of lines.old }
+{
+    send_watch(alloc, writer, scope)?;
+    let Some(parts) = read_found(alloc, lines, scope)? else {
+        print_line(out, lines.line())?;
+        return Ok(false);
+    };
+    print_drawing(alloc, out, drawing, parts.as_slice())?;
+    Ok(true)
+}

@@ -1,0 +1,4 @@
+pub mod AppendLaws
+pub mod ForestLaws
+pub mod OnceLaws
+pub mod BelowLaws

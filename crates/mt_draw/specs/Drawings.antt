@@ -1,0 +1,15 @@
+-- What each drawing is.
+-- A word with no source is this project's rule.
+use Rattle.std.specs.Prelude.{ℕ, List}
+use Rattle.mt_events.specs.Mirrors.{MirrorView}
+use Rattle.mt_draw.specs.declared.drawing.Drawing.{Drawing}
+use Rattle.mt_draw.specs.declared.drawing.Drawing.TheVariants.{Tree, PlainTree, Graph}
+use Rattle.mt_draw.specs.declared.trees.Strokes.TheVariants.{Lines, Ascii}
+use Rattle.mt_draw.specs.Trees.{trees_text}
+use Rattle.mt_draw.specs.Graphs.{graph_text}
+
+-- tables as they are drawn
+unfoldable pub drawing_text : Drawing → List MirrorView → List ℕ
+drawing_text Tree parts = trees_text Lines parts
+drawing_text PlainTree parts = trees_text Ascii parts
+drawing_text Graph parts = graph_text parts

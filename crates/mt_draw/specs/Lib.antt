@@ -1,0 +1,6 @@
+pub mod Columns
+pub mod Forest
+pub mod Trees
+pub mod Graphs
+pub mod Drawings
+pub mod Laws

@@ -1,0 +1,37 @@
+//! Drawings of tables.
+ghost use Rattle.std.specs.Prelude.{◌≡◌, ◌++◌, OnOk};
+ghost use Rattle.mt_draw.specs.Drawings.{drawing_text};
+
+use crate::graph::push_graph;
+use crate::trees::{Strokes, push_trees};
+use mt_events::mirror::Mirror;
+use std::alloc::AllocError;
+
+/// How a drawing looks.
+#[derive(Clone, Copy, PartialEq, Eq, Debug)]
+pub enum Drawing {
+    /// A tree for each table, with lines of UTF-8, as findmnt(8) draws it.
+    Tree,
+    /// A tree for each table, in ASCII where names are.
+    PlainTree,
+    /// One graph of all tables for Graphviz, in ASCII.
+    Graph,
+}
+
+/// Appends a drawing of the tables of namespaces, which stand in it in their order. Each of them should be of another
+/// namespace. Fails for want of memory alone.
+#[tactic(auto, unfolding(crate::specs::Drawings::drawing_text))]
+pub fn push_drawing(
+    text: &mut Vec<u8>,
+    drawing: Drawing,
+    parts: &[Mirror],
+) -> Result<(), AllocError>
+    ensures drawn { OnOk result (text.new.items ≡ text.old.items ++ drawing_text drawing parts.now) }
+{
+    let alloc = *text.allocator();
+    match drawing {
+        Drawing::Tree => push_trees(text, alloc, Strokes::Lines, parts),
+        Drawing::PlainTree => push_trees(text, alloc, Strokes::Ascii, parts),
+        Drawing::Graph => push_graph(text, alloc, parts),
+    }
+}
