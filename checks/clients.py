@@ -82,7 +82,6 @@ OUT_OF_MEMORY = 3, b"", b"mountctl: out of memory\n"
 # a folder.
 FAULTY_STREAMS = (
     ("show 1", "1>/dev/full", WRITE_FAULT),
-    ("tree", "1>/dev/full", WRITE_FAULT),
     ("dot", "1>/dev/full", WRITE_FAULT),
     ("-", "1>/dev/full", WRITE_FAULT),
     ("-", "0</", READ_FAULT),
