@@ -15,7 +15,7 @@ use Rattle.mt_events.specs.Posts.{ended}
 use Rattle.mt_events.specs.declared.opening.Part.{Part}
 use Rattle.mt_events.specs.declared.opening.Scope.{Scope}
 use Rattle.mt_events.specs.declared.opening.Scope.TheVariants.{One}
-use Rattle.mt_session.specs.Answers.{count_text, part_text, opening_text}
+use Rattle.mt_session.specs.Answers.{count_text, part_text, lines_of_parts, opening_text}
 use Rattle.mt_client.specs.declared.opening.Heading.{Heading}
 use Rattle.mt_client.specs.Requests.{is_refusal}
 use Rattle.mt_client.specs.Reading.{texts, printed, NoneFirst, AreSoMany}
@@ -194,7 +194,10 @@ lines_from n (m ∷ parts) =
     omega (arith, ih, c)
 
 found_is : (scope : Scope) (parts : List MirrorView) → printed (found_lines parts) ≡ opening_text (opening_found scope parts)
-found_is scope parts = (λ i. ended (counted_line (length (parts_lines parts))) ++ parts_text parts i) ∙ ap (λ n. count_text n ++ flat_map part_text (map part_found parts)) (sym (lines_from 0 parts))
+found_is scope parts =
+    let l = lines_from 0 parts in
+    let many : length (parts_lines parts) ≡ lines_of_parts (map part_found parts) = omega (arith, l) in
+    (λ i. ended (counted_line (length (parts_lines parts))) ++ parts_text parts i) ∙ ap (λ n. count_text n ++ flat_map part_text (map part_found parts)) many
 
 pub watched_whole : (scope : Scope) (parts : List MirrorView) (before after : List Item) → HasFound scope before after parts → HasWatched scope before after parts
 watched_whole scope parts before after f = record { lines = found_lines parts; shown = f.shown; read = f.read; text = found_is scope parts }

@@ -149,8 +149,8 @@ pub when_true : (A B : Type 0) (b : Bool) → b ≡ true → MatchBool b A B →
 when_true A B true e m = m
 when_true A B false e m = cc
 
-pub when_some : (A : Type 0) (P : MirrorView → Type 0) (o : Option MirrorView) (mirror : MirrorView) → o ≡ Some mirror → MatchOption o A P → P mirror
-when_some A P o mirror e m = subst (λ x. MatchOption x A P) e m
+pub when_some : {X : Type 0} (A : Type 0) (P : X → Type 0) (o : Option X) (x : X) → o ≡ Some x → MatchOption o A P → P x
+when_some A P o x e m = subst (λ y. MatchOption y A P) e m
 
 -- the line behind so many posts
 pub all_followed : {T : Type 0} (r : Result Bool ClientFault) (count n : ℕ) (refusal : List ℕ) (before middle after : List Item) (old new : MirrorView) → n ≡ count → (T → HasFollowedSome n before middle old new)

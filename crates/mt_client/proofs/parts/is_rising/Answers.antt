@@ -3,4 +3,4 @@ use Rattle.mt_client.proofs.parts.is_rising.Goals as goal
 
 pub parts-preserved : goal.parts-preserved
 parts-preserved c =
-    rising_kept c.parts.last c.parts.part-index c.part-item.result c.part-item.result c.space.result c.args.parts.now c.part-item.is c.parts-test.true c.parts.invariant c.space.ensures c.if-not-is_above.ensures
+    rising_kept c.parts.last c.parts.part-index c.part-item.result c.part-item.result c.space-space.result c.args.parts.now c.part-item.is c.parts-test.true c.parts.invariant c.space-space.ensures c.if-not-is_above.ensures
