@@ -2,9 +2,9 @@
 
 A module, a part of server.py.
 """
+import concurrent.futures
 import os
 import re
-import socket
 import subprocess
 import tempfile
 import time
@@ -12,14 +12,20 @@ import time
 import cases
 from memory import Refusing, Words
 from running import MOST_SECONDS, check, difference, run, shown
-from serving import START, STOP, Server, stop_behind, until_it_rests
+from serving import START, STOP, Door, Server, stop_behind, until_it_rests
+
+
+def without_comments(case):
+    """The case without what a script does not send: empty lines, and those that begin with `#`."""
+    return case._replace(turns=[turn for turn in case.turns if turn.sent()[:1] not in (b"\n", b"#")])
 
 
 def check_scripts(program, mountctl):
-    """Each of these cases, as a script of the other program, is answered as its file says."""
+    """Each of these cases, as a script of the other program, is answered as its file says, but for its comments."""
     for name in cases.names():
         case = cases.load(name)
-        text, wanted, rests = until_it_rests(case)
+        text, _, rests = until_it_rests(case)
+        _, wanted, _ = until_it_rests(without_comments(case))
         with Server(program, *case.arguments) as server:
             words = [mountctl, server.path, "-"]
             with subprocess.Popen(words, stdin=subprocess.PIPE, stdout=subprocess.PIPE, stderr=subprocess.PIPE) as script:
@@ -58,18 +64,65 @@ def check_client(program, mountctl):
         check("mountctl: stop", found == (0, b"ok\n", b"") and server.ends() == (0, b""), repr(found))
 
 
-# Words of a mirror that is none, and what is said of them.
+# Words of a mirror and of drawings that are none, and what is said of them.
 NO_MIRRORS = "mirror", "mirror 1", "mirror x 1", "mirror 01 1", "mirror 1 0", "mirror 1 1048577", "mirror 1 1 1", "mirror 1 -1"
-MIRROR_WORDS = b"mountctl: mirror takes a namespace and a count of 1 to 1048576\n"
+NO_TREES = "tree x", "tree 01", "tree 1 2", "tree --ascii --ascii", "tree 1 --ascii 2", "tree --plain", "tree 1 -a"
+NO_GRAPHS = "dot 1", "dot --ascii"
+NO_TASKS = (
+    (NO_MIRRORS, b"mountctl: mirror takes a namespace and a count of 1 to 1048576\n"),
+    (NO_TREES, b"mountctl: tree takes a namespace, or none, and --ascii\n"),
+    (NO_GRAPHS, b"mountctl: dot takes no words\n"),
+)
 CONNECTION_FAULT = 3, b"", b"mountctl: connection fault\n"
+READ_FAULT = 3, b"", b"mountctl: read fault\n"
+WRITE_FAULT = 3, b"", b"mountctl: write fault\n"
+OUT_OF_MEMORY = 3, b"", b"mountctl: out of memory\n"
+
+# Words, a standard stream, and how the program ends: an output that takes nothing, and an input that cannot be read,
+# a folder.
+FAULTY_STREAMS = (
+    ("show 1", "1>/dev/full", WRITE_FAULT),
+    ("dot", "1>/dev/full", WRITE_FAULT),
+    ("-", "1>/dev/full", WRITE_FAULT),
+    ("-", "0</", READ_FAULT),
+)
+
+# Standard streams that are closed at the start, words, what the server is sent by them and what it answers, and how
+# the program ends.
+NAMELESS = b"no NoNamespace\n"
+CLOSED = (
+    ("0<&-", "show 1", b"show 1\n", NAMELESS, (1, NAMELESS, b"")),
+    ("0<&-", "-", b"", b"", READ_FAULT),
+    ("1>&-", "show 1", b"show 1\n", NAMELESS, WRITE_FAULT),
+    ("2>&-", "show 1", b"show 1\n", NAMELESS, (1, NAMELESS, b"")),
+    ("2>&-", "show 1", b"show 1\n", b"nonsense\n", (3, b"", b"")),
+    ("0<&- 1>&-", "show 1", b"show 1\n", NAMELESS, WRITE_FAULT),
+    ("0<&- 1>&- 2>&-", "show 1", b"show 1\n", NAMELESS, (3, b"", b"")),
+)
+
+# A script with comments, and what answers it. A line with a space before its `#` is no comment, nor is a word of one.
+COMMENTED = b"""# Makes a filesystem.
+
+mkfs a#b tmpfs #
+#
+ # no comment
+mkdir a#b /#
+# the end
+"""
+COMMENTED_ANSWERS = b"ok 1\nno BadLine\nok\n"
+
+
+def redirected(mountctl, streams, *words, text=b""):
+    """How the program ends where a shell has set its standard streams so."""
+    return run("sh", text, "-c", f'exec "$0" "$@" {streams}', mountctl, *words)
 
 
 def check_faulty_words(mountctl):
     """Faulty arguments have status 2 and say what is wrong, also where there is no server."""
     none = os.path.join(os.path.dirname(mountctl), "none", "socket")
-    for words in NO_MIRRORS:
+    for words, said in [(words, said) for many, said in NO_TASKS for words in many]:
         found = run(mountctl, b"", none, *words.split())
-        check(f"mountctl {words}", found == (2, b"", MIRROR_WORDS), repr(found))
+        check(f"mountctl {words}", found == (2, b"", said), repr(found))
     found = run(mountctl, b"", none, b"\xff")
     check("mountctl: a word that is no text", found == (2, b"", b"mountctl: an argument is not UTF-8\n"), repr(found))
     for words, said in ([none], b"WORD"), (["--frobnicate", none], b"'--frobnicate'"):
@@ -77,6 +130,33 @@ def check_faulty_words(mountctl):
         check(f"mountctl: faulty arguments {words}", (status, text) == (2, b"") and said in complaint, shown(complaint))
     status, text, complaint = run(mountctl, b"", "--help")
     check("mountctl: help", (status, complaint) == (0, b"") and text.startswith(b"Usage: mountctl"), shown(text))
+    found = redirected(mountctl, "1>/dev/full", "--help")
+    check("mountctl: a help that does not go out", found == WRITE_FAULT, repr(found))
+
+
+def check_closed(mountctl):
+    """A connection gets the number of no standard stream that is closed: the server is sent nothing but the requests."""
+    for streams, words, sent, answer, ended in CLOSED:
+        with Door() as door, concurrent.futures.ThreadPoolExecutor(1) as pool:
+            running = pool.submit(redirected, mountctl, streams, door.path, *words.split())
+            found = door.answers(answer)
+            check(f"mountctl {words} {streams}: what is sent", found == sent, repr(found))
+            found = running.result()
+            check(f"mountctl {words} {streams}", found == ended, repr(found))
+
+
+def check_comments(program, mountctl):
+    """A script's empty lines and comments are not sent."""
+    with Server(program) as server:
+        found = run(mountctl, COMMENTED, server.path, "-")
+        check("mountctl: a script with comments", found == (1, COMMENTED_ANSWERS, b""), repr(found))
+        for text, answer in (b"#" * 8_193 + b"\n", b"no TooLong\n"), (b"# no line end", b"no BadLine\n"):
+            found = run(mountctl, text, server.path, "-")
+            check(f"mountctl: {shown(text[-20:])!r} in a script", found == (1, answer, b""), repr(found))
+        found = run(mountctl, b"# nothing\n\n", server.path, "-")
+        check("mountctl: a script of comments", found == (0, b"", b""), repr(found))
+        ended = server.stop()
+        check("mountctl: the server's end behind comments", ended == (0, b""), repr(ended))
 
 
 def check_statuses(program, mountctl):
@@ -91,10 +171,12 @@ def check_statuses(program, mountctl):
         for count, end, answer in (8_192, b"", b"no BadLine\n"), (8_193, b"", b"no TooLong\n"), (8_193, b"\n", b"no TooLong\n"):
             found = run(mountctl, b"x" * count + end, server.path, "-")
             check(f"mountctl: a script of {count} bytes and {shown(end)}", found == (1, answer, b""), repr(found))
-        # An output that takes nothing, and an input that cannot be read: a folder.
-        for words, stream in ("show 1", "1>/dev/full"), ("-", "1>/dev/full"), ("-", "0</"):
-            found = run("sh", b"show 1\n", "-c", f'exec "$0" "$1" {words} {stream}', mountctl, server.path)
-            check(f"mountctl {words} {stream}", found == CONNECTION_FAULT, repr(found))
+        for words, stream, wanted in FAULTY_STREAMS:
+            found = redirected(mountctl, stream, server.path, *words.split(), text=b"show 1\n")
+            check(f"mountctl {words} {stream}", found == wanted, repr(found))
+        # As long a line as a session reads no end of.
+        found = run(mountctl, b"x" * 2_000_000, server.path, "-")
+        check("mountctl: a script without a line end", found == READ_FAULT, repr(found))
         found = run(mountctl, b"", server.path + "s", "show", "1")
         check("mountctl without a server", found == CONNECTION_FAULT, repr(found))
         ended = server.stop()
@@ -102,10 +184,10 @@ def check_statuses(program, mountctl):
 
 
 class Asked(Words):
-    """A run of the other program, of which a refused allocation is a connection fault behind a part of what it prints."""
+    """A run of the other program, which says behind a part of what it prints that memory is missing."""
 
     def allows(self, status, text, complaint):
-        return (status, b"", complaint) == CONNECTION_FAULT and self.plain[1].startswith(text)
+        return (status, b"", complaint) == OUT_OF_MEMORY and self.plain[1].startswith(text)
 
 
 class Script(Asked):
@@ -121,43 +203,42 @@ def check_refused(program, mountctl):
             for line in START:
                 client.ask(line)
         refusing, total = Refusing(folder), 0
-        for kind, words in (Asked, "show 1"), (Asked, "watch all"), (Asked, "mirror 9 1"), (Script, "-"):
-            asked = kind(mountctl, [server.path, *words.split()])
+        tasks = "show 1", "watch all", "mirror 9 1", "tree", "tree 2 --ascii", "dot", "-"
+        for words in ["--help"], *[[server.path, *task.split()] for task in tasks]:
+            asked = (Script if words[-1] == "-" else Asked)(mountctl, words)
             count = refusing.count(asked)
-            refusing.each(asked, f"mountctl {words}", count)
+            refusing.each(asked, f"mountctl {' '.join(words)}", count)
             total += count
         print(f"{total} allocations of mountctl refused in turn", flush=True)
         ended = server.stop()
         check("mountctl without memory: the server's end", ended == (0, b""), repr(ended))
 
 
-# A request, what a server of no worth writes to it, and how much of that is printed.
+# Words, the request that they send, what a server of no worth writes to it, and how much of that is printed.
 NO_ANSWERS = (
-    ("show 1", b"ok 1 1\nnonsense\n", 7),
-    ("show 1", b"no Such\n", 0),
-    ("newns a", b"ok\n", 0),
-    ("take 1", b"ok 2\nevent 1 1 1\n- 2 2\n", 5),
-    ("follow 1", b"event 1 1 1\n- 2\nok 2\n", 16),
+    ("show 1", b"show 1", b"ok 1 1\nnonsense\n", 7),
+    ("show 1", b"show 1", b"no Such\n", 0),
+    ("newns a", b"newns a", b"ok\n", 0),
+    ("take 1", b"take 1", b"ok 2\nevent 1 1 1\n- 2 2\n", 5),
+    ("follow 1", b"follow 1", b"event 1 1 1\n- 2\nok 2\n", 16),
+    ("tree", b"watch all", b"ok 2\nspace 1 1 1\nnonsense\n", 0),
+    ("tree", b"watch all", b"ok 2\nspace 2 1 0\nspace 1 1 0\n", 0),
+    ("tree 1", b"watch 1", b"ok 1\nspace 2 1 0\n", 0),
+    ("dot", b"watch all", b"ok 2\nspace 1 1 0\n", 0),
 )
 
 
 def check_no_answers(mountctl):
     """What is no answer to a request is a connection fault, and is not printed."""
-    with tempfile.TemporaryDirectory() as folder, socket.socket(socket.AF_UNIX) as door:
-        path = os.path.join(folder, "s")
-        door.bind(path)
-        door.listen()
-        door.settimeout(MOST_SECONDS)
-        for request, answer, printed in NO_ANSWERS:
-            words = [mountctl, path, *request.split()]
+    with Door() as door:
+        for asked_for, request, answer, printed in NO_ANSWERS:
+            words = [mountctl, door.path, *asked_for.split()]
             with subprocess.Popen(words, stdout=subprocess.PIPE, stderr=subprocess.PIPE) as client:
-                with door.accept()[0] as stream, stream.makefile("rb") as lines:
-                    asked = lines.readline()
-                    stream.sendall(answer)
+                asked = door.answers(answer)
                 found = client.communicate(timeout=MOST_SECONDS)
-            check(f"mountctl {request}, and {answer!r}: its line", asked == request.encode() + b"\n", repr(asked))
+            check(f"mountctl {asked_for}, and {answer!r}: its line", asked == request + b"\n", repr(asked))
             wanted = (3, (answer[:printed], b"mountctl: connection fault\n"))
-            check(f"mountctl {request}, and {answer!r}", (client.returncode, found) == wanted, repr(found))
+            check(f"mountctl {asked_for}, and {answer!r}", (client.returncode, found) == wanted, repr(found))
 
 
 # What a mirror of namespace 1 prints once the group of its slave's master has no mount there any more.
@@ -175,14 +256,10 @@ def check_retold(program, mountctl):
     with Server(program) as server, server.client() as client, server.client() as passed_on:
         for line in lines[:opening]:
             client.ask(line)
-        with tempfile.TemporaryDirectory() as folder, socket.socket(socket.AF_UNIX) as door:
-            path = os.path.join(folder, "s")
-            door.bind(path)
-            door.listen()
-            door.settimeout(MOST_SECONDS)
-            words = [mountctl, path, "mirror", "1", "1"]
+        with Door() as door:
+            words = [mountctl, door.path, "mirror", "1", "1"]
             with subprocess.Popen(words, stdout=subprocess.PIPE, stderr=subprocess.PIPE) as mirror:
-                with door.accept()[0] as stream, stream.makefile("rb") as requests:
+                with door.accept() as stream, stream.makefile("rb") as requests:
                     for changes in ([lines[opening + 1]], []):
                         answer = passed_on.ask(requests.readline().removesuffix(b"\n"))
                         for change in changes:

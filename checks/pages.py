@@ -93,8 +93,9 @@ def options(text):
 
 
 def words_in_place(text):
-    """What a help says may stand in the place of a line."""
-    return re.findall(r"(?m)^  (\S+)", text.split("In the place of WORD..:\n")[1])
+    """What a help says may stand in the place of a line, each by its first word: what may stand behind it."""
+    lines = re.findall(r"(?m)^  \S.*", text.split("In the place of WORD..:\n")[1])
+    return {line.split()[0]: line.strip().split("  ")[0] for line in lines}
 
 
 def check_help(helps):
@@ -152,7 +153,9 @@ def check_statuses():
         text = section(f"{program}.1", "EXIT STATUS")
         check_same(f"the statuses of {program}.1", wanted, re.findall(r"(?m)^\.It (\d)$", text))
         told = re.findall(rf"`({program}: [^`]*)`", shown(read("README.md")))
-        source = re.findall(rf'"({program}: [^"]*)"', shown(read("crates", program, "src", "main.rt")))
+        folder = os.path.join("crates", program, "src")
+        texts = [shown(read(folder, name)) for name in sorted(os.listdir(os.path.join(TOP, folder)))]
+        source = re.findall(rf'"({program}: [^"]*)"', "".join(texts))
         check_same(f"the messages of {program}.1", {*told, *source}, MESSAGE.findall(text))
 
 
@@ -213,8 +216,8 @@ def check_offers(helps):
     check_same("the options that the completion offers", options(helps["mountctl"]), offered("-"))
     there = usages(helps["mountctl"])
     check_same("the words that the completion offers", [*there, *words_in_place(helps["mountctl"])], offered("socket", ""))
-    for word, usage in usages(helps["mountd"]).items():
-        wanted = set(re.findall(r"(?<![^\s\[])[a-z]+=?", usage)) - {word}
+    for word, usage in {**usages(helps["mountd"]), **words_in_place(helps["mountctl"])}.items():
+        wanted = set(re.findall(r"(?<![^\s\[])(?:--)?[a-z]+=?", usage)) - {word}
         found = {offer for count in range(4) for offer in offered("socket", word, *["1"] * count, "")}
         check(f"what the completion offers behind {word}", found == wanted, " ".join(sorted(found)))
 

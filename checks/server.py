@@ -6,7 +6,7 @@ Usage: checks/server.py MOUNTD [MOUNTCTL] [--seconds N]
 A plain client speaks with servers that are started here, each in a folder of its own: the cases,
 sockets that cannot be made, accepts that fail, the limit of sessions, a stop (stopping.py), clients that are
 gone or do not read, many connections, allocations that are refused (wanting.py), and then 32 sessions at once for
-N seconds, 20 if not said (soak.py). With MOUNTCTL that program is checked too (clients.py), the cases are sent as its
+N seconds, 20 if not said (soak.py). With MOUNTCTL that program is checked too (clients.py, pictures.py), the cases are sent as its
 scripts, and a quarter of the 32 sessions are its mirrors.
 """
 import argparse
@@ -21,8 +21,18 @@ import threading
 import time
 
 import cases
-from clients import check_client, check_no_answers, check_refused, check_retold, check_scripts, check_statuses
+from clients import (
+    check_client,
+    check_closed,
+    check_comments,
+    check_no_answers,
+    check_refused,
+    check_retold,
+    check_scripts,
+    check_statuses,
+)
 from limits import COMMANDS
+from pictures import check_pictures
 from running import MOST_SECONDS, check, difference, failures, library, shown
 from serving import START, STOP, Broken, Client, Server, send_input, stop_behind, until_it_rests
 from soak import check_soak
@@ -308,9 +318,12 @@ def check_server(program, seconds, mountctl, only):
     if mountctl:
         parts["client"] = lambda program: check_client(program, mountctl)
         parts["statuses"] = lambda program: check_statuses(program, mountctl)
+        parts["closed"] = lambda program: check_closed(mountctl)
+        parts["comments"] = lambda program: check_comments(program, mountctl)
         parts["refused"] = lambda program: check_refused(program, mountctl)
         parts["no answers"] = lambda program: check_no_answers(mountctl)
         parts["retold"] = lambda program: check_retold(program, mountctl)
+        parts["pictures"] = lambda program: check_pictures(program, mountctl)
         parts["scripts"] = lambda program: check_scripts(program, mountctl)
     for name in [only] if only else parts:
         start = time.monotonic()

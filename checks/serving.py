@@ -131,6 +131,39 @@ def stop_behind(server, lines, output):
     return begun + output.read()
 
 
+class Door:
+    """A socket at which this program takes connections itself, in the place of a server."""
+
+    def __enter__(self):
+        self.folder = tempfile.mkdtemp()
+        self.path = os.path.join(self.folder, "socket")
+        self.socket = socket.socket(socket.AF_UNIX)
+        self.socket.settimeout(MOST_SECONDS)
+        self.socket.bind(self.path)
+        self.socket.listen()
+        return self
+
+    def __exit__(self, *_):
+        self.socket.close()
+        shutil.rmtree(self.folder)
+
+    def accept(self):
+        """The next connection."""
+        stream, _ = self.socket.accept()
+        stream.settimeout(MOST_SECONDS)
+        return stream
+
+    def answers(self, text):
+        """All that comes over the next connection, to which a text is written and then its end."""
+        parts = [b""]
+        with self.accept() as stream, contextlib.suppress(ConnectionError):
+            stream.sendall(text)
+            stream.shutdown(socket.SHUT_WR)
+            while more := stream.recv(1 << 16):
+                parts.append(more)
+        return b"".join(parts)
+
+
 class Server:
     """A server in a folder of its own, which ends with the block."""
 

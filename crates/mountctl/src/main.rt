@@ -1,19 +1,24 @@
 //! `mountctl`: a client of the mount server.
 #![tactic(auto)]
 
-ghost use Rattle.std.specs.Prelude.{◌≡◌, None};
-ghost use Rattle.mt_lines.specs.Reading.{fault_of};
+mod connection;
+mod fault;
+mod script;
+mod task;
 
+use crate::connection::connect;
+use crate::fault::Fault;
+use crate::script::{SCRIPT_LIMIT, run_script};
+use crate::task::{Task, task_of};
 use clap::error::ErrorKind;
 use clap::{Arg, ArgAction, Command, Error};
-use mt_client::ask::{ask, ask_line};
-use mt_client::fault::ClientFault;
+use mt_client::ask::ask;
 use mt_client::mirror::mirror;
-use mt_client::relay::print_text;
-use mt_lines::line::{Line, LineReader, ReadFault};
-use mt_lines::stream::{Input, Output, Reading, Writing};
-use mt_words::words::number;
-use std::alloc::Global;
+use mt_client::picture::draw;
+use mt_lines::line::LineReader;
+use mt_lines::stream::{Reading, Writing};
+use mt_requests::help::LINES;
+use std::alloc::{AllocError, Global};
 use std::os::unix::net::UnixStream;
 use std::process::ExitCode;
 use std::{env, io};
@@ -24,77 +29,30 @@ const PROGRAM: &str = "mountctl";
 /// The longest line of an answer, in bytes before its line end.
 const LINE_LIMIT: u32 = 134_217_728;
 
-/// The longest line of a script, in bytes before its line end: that of a session.
-const SCRIPT_LIMIT: u32 = 8_192;
-
-/// The most lines of a script.
-const MOST_LINES: u64 = u64::MAX;
-
-/// The most posts that a mirror follows.
-const MOST_POSTS: u64 = 1_048_576;
-
-/// The lines of a session, for the help.
-const LINES: &str = "The lines of a session:
-  mkfs NAME TYPE SOURCE   makes a filesystem, and answers its minor number
-  mkdir FS DIR            makes a directory in a filesystem
-  newns FS                makes a namespace with a filesystem at its root
-  copyns NS [less]        makes a copy of a namespace, or one that is less privileged
-  dropns NS               ends a namespace with all its mounts
-  mount NS FS PATH        mounts a filesystem on a directory
-  bind NS SRC DST         mounts a directory on another one
-  rbind NS SRC DST        does so with all that is mounted below it
-  move NS SRC DST         moves a mount to another directory
-  umount NS PATH          unmounts a mount
-  setattr NS PATH OPTION..  sets attributes: rec, set=W,.., clr=W,.., prop=K
-  show NS                 shows the table of a namespace
-  find NS PATH            says in which mount and directory a path ends
-  watch NS, watch all     begins to watch one namespace, or all, and shows their tables
-  take K                  takes up to K posts of the watcher
-  follow K                takes K posts of the watcher as they come
-  close                   ends the watcher, and takes the posts that were not taken
-  quit                    ends the session
-  stop                    stops the server
+/// What may stand in the place of a line, for the help, behind the lines.
+const TASKS: &str = "
 
 In the place of WORD..:
-  -                       sends the lines of standard input, one after another
-  mirror NS K             follows K posts of a namespace, and shows the table that they lead to";
+  -                        sends the lines of standard input, one after another, but for comments
+  mirror NS K              follows K posts of a namespace, and shows the table that they lead to
+  tree [NS] [--ascii]      draws the mounts of a namespace, or of all, each below its parent
+  dot                      draws all mounts and peer groups as a graph for Graphviz";
 
-/// What the words behind the socket ask for.
-#[derive(Clone, Copy)]
-enum Task {
-    /// The answer to the request of these words.
-    Ask,
-    /// The answers to the lines of standard input.
-    Script,
-    /// The table of a namespace that so many posts lead to.
-    Mirror { space: u64, count: u64 },
+/// The lines of a session, and what may stand in their place.
+fn usage(alloc: Global) -> Result<String, AllocError> {
+    let mut text = String::from_str(alloc, LINES)?;
+    text.push_str(TASKS)?;
+    Ok(text)
 }
 
-/// The task of these words, or None where they begin with `mirror` and are no namespace and count behind it.
-fn task_of(words: &[&str]) -> Option<Task> {
-    match words {
-        ["-"] => Some(Task::Script),
-        ["mirror", space, count] => {
-            let space = number(space.as_bytes())?;
-            let count = number(count.as_bytes())?;
-            if count == 0 || count > MOST_POSTS {
-                return None;
-            }
-            Some(Task::Mirror { space, count })
-        }
-        ["mirror", ..] => None,
-        _ => Some(Task::Ask),
-    }
-}
-
-/// What the program takes: a socket, and the words of a request.
-fn parser<'a>(alloc: Global) -> Result<Command<'a>, Error> {
+/// What the program takes: a socket, and the words of a request. `usage` stands behind its help.
+fn parser<'a>(alloc: Global, usage: &'a str) -> Result<Command<'a>, Error> {
     let socket = Arg::new(alloc, "SOCKET")
         .help("The socket of the server")
         .required(true)
         .action(ArgAction::Set);
     let words = Arg::new(alloc, "WORD")
-        .help("The words of a request, or -, or mirror NS K")
+        .help("The words of a line, or what may stand in its place")
         .required(true)
         .num_args(1..)
         .trailing_var_arg(true)
@@ -103,49 +61,8 @@ fn parser<'a>(alloc: Global) -> Result<Command<'a>, Error> {
     let command = Command::new(alloc, PROGRAM)
         .arg(socket)?
         .arg(words)?
-        .after_help(LINES);
+        .after_help(usage);
     Ok(command)
-}
-
-/// Whether a line that was answered `ok` has ended its session.
-fn ends_session(line: &[u8]) -> bool {
-    line == b"quit".as_slice() || line == b"stop".as_slice()
-}
-
-/// Sends the lines of an input, one after another, and prints what answers each: whether each was answered `ok`.
-fn run_script<I: Input + Drop, R: Input + Drop, W: Output, O: Output>(
-    alloc: Global,
-    input: &mut LineReader<I>,
-    lines: &mut LineReader<R>,
-    writer: &mut W,
-    out: &mut O,
-) -> Result<bool, ClientFault>
-    requires fresh { fault_of lines.old ≡ None }
-{
-    let mut all = true;
-    'lines: for _line in 0..MOST_LINES {
-        match input.next() {
-            Ok(Line::Text) => {
-                let told = ask_line(alloc, lines, writer, input.line(), out)?;
-                all = all && told;
-                if told && ends_session(input.line()) {
-                    return Ok(all);
-                }
-            }
-            Ok(Line::TooLong) => {
-                print_text(out, b"no TooLong\n")?;
-                all = false;
-            }
-            Ok(Line::Unended) => {
-                print_text(out, b"no BadLine\n")?;
-                return Ok(false);
-            }
-            Ok(Line::End) => return Ok(all),
-            Err(ReadFault::NoMemory) => return Err(ClientFault::NoMemory),
-            Err(_) => return Err(ClientFault::Connection),
-        }
-    }
-    Ok(all)
 }
 
 /// Does a task over a connection: whether each answer was `ok`.
@@ -154,51 +71,66 @@ fn run_task(
     stream: &UnixStream,
     task: Task,
     words: &[&str],
-) -> Result<bool, ClientFault> {
+) -> Result<bool, Fault> {
     let alloc = rt.alloc();
     let mut lines = LineReader::new(alloc, Reading::new(stream), LINE_LIMIT)?;
     let mut writer = Writing::new(stream);
     let mut out = Writing::new(io::writer(rt));
-    match task {
+    let told = match task {
         Task::Ask => {
             let mut bytes = Vec::new(alloc);
             for word in words {
                 bytes.push(word.as_bytes())?;
             }
-            ask(alloc, &mut lines, &mut writer, bytes.as_slice(), &mut out)
+            ask(alloc, &mut lines, &mut writer, bytes.as_slice(), &mut out)?
         }
         Task::Script => {
             let mut input = LineReader::new(alloc, Reading::new(rt.reader()), SCRIPT_LIMIT)?;
-            run_script(alloc, &mut input, &mut lines, &mut writer, &mut out)
+            run_script(alloc, &mut input, &mut lines, &mut writer, &mut out)?
         }
         Task::Mirror { space, count } => {
-            mirror(alloc, &mut lines, &mut writer, space, count, &mut out)
+            mirror(alloc, &mut lines, &mut writer, space, count, &mut out)?
         }
-    }
+        Task::Draw { scope, drawing } => {
+            draw(alloc, &mut lines, &mut writer, scope, drawing, &mut out)?
+        }
+    };
+    Ok(told)
 }
 
-/// Says a line on standard error, and answers this status.
-fn fail(rt: &HostRuntime, line: &str, status: u8) -> ExitCode {
+/// Says that the arguments are faulty.
+fn refuse(rt: &HostRuntime, line: &str) -> ExitCode {
     let _ = rt.eprintln(line);
-    ExitCode::from(status)
+    ExitCode::from(2)
+}
+
+/// Says why a task was not done to its end.
+fn fail(rt: &HostRuntime, fault: Fault) -> ExitCode {
+    let _ = rt.eprintln(fault.message());
+    ExitCode::from(3)
 }
 
 /// Connects to a socket and does what the words ask for.
 fn run_words(rt: &HostRuntime, socket: &str, words: &[&str]) -> ExitCode {
-    let Some(task) = task_of(words) else {
-        return fail(
-            rt,
-            "mountctl: mirror takes a namespace and a count of 1 to 1048576",
-            2,
-        );
+    let task = match task_of(words) {
+        Ok(task) => task,
+        Err(fault) => return refuse(rt, fault.message()),
     };
-    let Ok(stream) = UnixStream::connect(rt, socket) else {
-        return fail(rt, "mountctl: connection fault", 3);
+    let Ok(stream) = connect(rt, socket) else {
+        return fail(rt, Fault::Connection);
     };
     match run_task(rt, &stream, task, words) {
         Ok(true) => ExitCode::SUCCESS,
         Ok(false) => ExitCode::from(1),
-        Err(_) => fail(rt, "mountctl: connection fault", 3),
+        Err(fault) => fail(rt, fault),
+    }
+}
+
+/// Prints the help.
+fn help(rt: &HostRuntime, error: &Error) -> ExitCode {
+    match print!(rt; "{error}") {
+        Ok(()) => ExitCode::SUCCESS,
+        Err(_) => fail(rt, Fault::Output),
     }
 }
 
@@ -206,11 +138,8 @@ fn run_words(rt: &HostRuntime, socket: &str, words: &[&str]) -> ExitCode {
 /// standard error.
 fn explain(rt: &HostRuntime, error: &Error) -> ExitCode {
     match error.kind() {
-        ErrorKind::DisplayHelp => {
-            let _ = print!(rt; "{error}");
-            ExitCode::SUCCESS
-        }
-        ErrorKind::OutOfMemory => fail(rt, "mountctl: connection fault", 3),
+        ErrorKind::DisplayHelp => help(rt, error),
+        ErrorKind::OutOfMemory => fail(rt, Fault::NoMemory),
         _ => {
             let _ = eprint!(rt; "{error}");
             ExitCode::from(2)
@@ -220,7 +149,8 @@ fn explain(rt: &HostRuntime, error: &Error) -> ExitCode {
 
 /// Reads the arguments and does what they ask for.
 fn run_arguments(rt: &HostRuntime, arguments: &[&str]) -> Result<ExitCode, Error> {
-    let matches = parser(rt.alloc())?.try_get_matches_from(arguments)?;
+    let usage = usage(rt.alloc())?;
+    let matches = parser(rt.alloc(), usage.as_str())?.try_get_matches_from(arguments)?;
     let socket = matches.get_str("SOCKET").unwrap_or("");
     let words = matches.get_strs("WORD").unwrap_or(&[]);
     Ok(run_words(rt, socket, words))
@@ -246,8 +176,8 @@ fn run(rt: &HostRuntime) -> io::Result<ExitCode> {
 /// Says why the arguments could not be read: there was no memory for them, or one is no text.
 fn explain_arguments(rt: &HostRuntime, error: &io::Error) -> ExitCode {
     match error.kind() {
-        io::ErrorKind::OutOfMemory => fail(rt, "mountctl: connection fault", 3),
-        _ => fail(rt, "mountctl: an argument is not UTF-8", 2),
+        io::ErrorKind::OutOfMemory => fail(rt, Fault::NoMemory),
+        _ => refuse(rt, "mountctl: an argument is not UTF-8"),
     }
 }
 

@@ -1,11 +1,11 @@
 //! `mountd`: the mount server, for sessions on a Unix socket, or for one on standard input and output.
 #![tactic(auto)]
 
-mod help;
 mod socket;
 
 use clap::error::ErrorKind;
 use clap::{Arg, ArgAction, Command, Error, value_parser};
+use mt_requests::help::LINES;
 use mt_session::floor::Floor;
 use mt_session::line::{LineReader, ReadFault};
 use mt_session::serving::{End, LINE_LIMIT, serve_plain};
@@ -61,7 +61,7 @@ fn parser<'a>(alloc: Global) -> Result<Command<'a>, Error> {
         .default_value("32");
     let command = Command::new(alloc, PROGRAM)
         .arg(socket)?
-        .after_help(help::LINES)
+        .after_help(LINES)
         .arg(queue)?
         .arg(sessions)?;
     Ok(command)

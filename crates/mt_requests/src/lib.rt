@@ -3,9 +3,11 @@
 //! [`request::read_request`] takes the words of a line apart and makes a [`request::Request`] of
 //! them, or says why there is none.
 //!
-//! Its words are read by [`label`] and [`path`], and those of a `setattr` line by [`options`].
+//! Its words are read by [`label`] and [`path`], and those of a `setattr` line by [`options`]. [`help`] says all lines
+//! in words.
 #![tactic(auto)]
 
+pub mod help;
 mod label;
 mod options;
 mod path;

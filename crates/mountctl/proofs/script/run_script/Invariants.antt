@@ -1,6 +1,6 @@
 use Rattle.std.proofs.Common.{◌≡◌, None}
 use Rattle.mt_lines.specs.Reading.{fault_of}
-use Rattle.mountctl.proofs.run_script.Given as goal
+use Rattle.mountctl.proofs.script.run_script.Given as goal
 
 -- the reader of the connection has met no fault
 abbrev pub invariant-lines : goal.invariant-lines

@@ -1,6 +1,6 @@
-//! What the program says of the lines of a session.
+//! The lines of a session in words, for the helps of programs.
 
-/// The lines of a session, one sentence each.
+/// The lines of a session, each with what it does, and how they are answered. The last line has no line end.
 pub const LINES: &str = "\
 Lines of a session:
   mkfs NAME TYPE SOURCE    makes a filesystem with a root directory

@@ -1,0 +1,60 @@
+//! Why a run of the program did not end with an answer, and what is said of it.
+
+use mt_client::fault::ClientFault;
+use mt_lines::line::ReadFault;
+use std::alloc::{AllocError, AllocFailed};
+
+/// Why a task was not done to its end.
+#[derive(Clone, Copy)]
+pub(crate) enum Fault {
+    /// There is no server, the connection failed or ended early, or what came over it is no answer.
+    Connection,
+    /// Standard input could not be read.
+    Input,
+    /// What was to be printed did not go out.
+    Output,
+    /// A growth was refused for want of memory.
+    NoMemory,
+}
+
+impl Fault {
+    /// The line on standard error.
+    pub(crate) fn message(self) -> &'static str {
+        match self {
+            Fault::Connection => "mountctl: connection fault",
+            Fault::Input => "mountctl: read fault",
+            Fault::Output => "mountctl: write fault",
+            Fault::NoMemory => "mountctl: out of memory",
+        }
+    }
+
+    /// What a fault of the reader of standard input is.
+    pub(crate) fn of_input(fault: ReadFault) -> Fault {
+        match fault {
+            ReadFault::NoMemory => Fault::NoMemory,
+            ReadFault::Device | ReadFault::Interrupted | ReadFault::Endless => Fault::Input,
+        }
+    }
+}
+
+impl From<ClientFault> for Fault {
+    fn from(fault: ClientFault) -> Fault {
+        match fault {
+            ClientFault::Connection => Fault::Connection,
+            ClientFault::Output => Fault::Output,
+            ClientFault::NoMemory => Fault::NoMemory,
+        }
+    }
+}
+
+impl From<AllocError> for Fault {
+    fn from(_error: AllocError) -> Fault {
+        Fault::NoMemory
+    }
+}
+
+impl<T: Drop> From<AllocFailed<T>> for Fault {
+    fn from(_error: AllocFailed<T>) -> Fault {
+        Fault::NoMemory
+    }
+}

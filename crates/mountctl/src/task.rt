@@ -1,0 +1,90 @@
+//! What the words behind the socket ask for.
+
+use mt_draw::drawing::Drawing;
+use mt_events::opening::Scope;
+use mt_words::words::number;
+
+/// The most posts that a mirror follows.
+const MOST_POSTS: u64 = 1_048_576;
+
+/// What the words behind the socket ask for.
+#[derive(Clone, Copy)]
+pub(crate) enum Task {
+    /// The answer to the request of these words.
+    Ask,
+    /// The answers to the lines of standard input.
+    Script,
+    /// The table of a namespace that so many posts lead to.
+    Mirror { space: u64, count: u64 },
+    /// A drawing of the tables of these namespaces.
+    Draw { scope: Scope, drawing: Drawing },
+}
+
+/// Words that begin as those of a task which is no request, and go on in another way.
+#[derive(Clone, Copy)]
+pub(crate) enum WordFault {
+    /// Behind `mirror`.
+    Mirror,
+    /// Behind `tree`.
+    Tree,
+    /// Behind `dot`.
+    Graph,
+}
+
+impl WordFault {
+    /// The line on standard error.
+    pub(crate) fn message(self) -> &'static str {
+        match self {
+            WordFault::Mirror => "mountctl: mirror takes a namespace and a count of 1 to 1048576",
+            WordFault::Tree => "mountctl: tree takes a namespace, or none, and --ascii",
+            WordFault::Graph => "mountctl: dot takes no words",
+        }
+    }
+}
+
+/// The mirror of these words, or None where they are no namespace and count.
+fn mirror_of(words: &[&str]) -> Option<Task> {
+    let [space, count] = words else {
+        return None;
+    };
+    let space = number(space.as_bytes())?;
+    let count = number(count.as_bytes())?;
+    if count == 0 || count > MOST_POSTS {
+        return None;
+    }
+    Some(Task::Mirror { space, count })
+}
+
+/// The namespaces of these words: one, or all where there is no word. None where they are neither.
+fn scope_of(words: &[&str]) -> Option<Scope> {
+    match words {
+        [] => Some(Scope::All),
+        [space] => Some(Scope::One(number(space.as_bytes())?)),
+        _ => None,
+    }
+}
+
+/// The tree of these words, or None where they are no namespace, or none, and `--ascii` before or behind it.
+fn tree_of(words: &[&str]) -> Option<Task> {
+    let (words, drawing) = match words {
+        [words @ .., "--ascii"] | ["--ascii", words @ ..] => (words, Drawing::PlainTree),
+        _ => (words, Drawing::Tree),
+    };
+    let scope = scope_of(words)?;
+    Some(Task::Draw { scope, drawing })
+}
+
+/// The task of these words.
+pub(crate) fn task_of(words: &[&str]) -> Result<Task, WordFault> {
+    match words {
+        ["-"] => Ok(Task::Script),
+        ["mirror", behind @ ..] => mirror_of(behind).ok_or(WordFault::Mirror),
+        ["tree", behind @ ..] => tree_of(behind).ok_or(WordFault::Tree),
+        ["dot"] => Ok(Task::Draw {
+            scope: Scope::All,
+            drawing: Drawing::Graph,
+        }),
+        ["dot", ..] => Err(WordFault::Graph),
+        _ => Ok(Task::Ask),
+    }
+}
