@@ -22,21 +22,21 @@ abbrev pub fields : List Field
 fields = Point ∷ Parent ∷ Root ∷ ReadOnly ∷ Nosuid ∷ Nodev ∷ Noexec ∷ Nosymfollow ∷ Nodiratime ∷ AccessTimes ∷ Shared ∷ Master ∷ Via ∷ Unbindable ∷ []
 
 -- whether two rows differ in a field
-abbrev pub differs : Row → Row → Field → Bool
-differs r s Point = not (path_eq r.point s.point)
-differs r s Parent = not (r.parent == s.parent)
-differs r s Root = not (path_eq r.root s.root)
-differs r s ReadOnly = not (bool_eq r.attrs.ro s.attrs.ro)
-differs r s Nosuid = not (bool_eq r.attrs.nosuid s.attrs.nosuid)
-differs r s Nodev = not (bool_eq r.attrs.nodev s.attrs.nodev)
-differs r s Noexec = not (bool_eq r.attrs.noexec s.attrs.noexec)
-differs r s Nosymfollow = not (bool_eq r.attrs.nosymfollow s.attrs.nosymfollow)
-differs r s Nodiratime = not (bool_eq r.attrs.nodiratime s.attrs.nodiratime)
-differs r s AccessTimes = not (atime_eq r.attrs.atime s.attrs.atime)
-differs r s Shared = not (number_eq r.shared s.shared)
-differs r s Master = not (number_eq r.master s.master)
-differs r s Via = not (number_eq r.via s.via)
-differs r s Unbindable = not (bool_eq r.unbindable s.unbindable)
+abbrev pub field_differs : Row → Row → Field → Bool
+field_differs r s Point = not (path_eq r.point s.point)
+field_differs r s Parent = not (r.parent == s.parent)
+field_differs r s Root = not (path_eq r.root s.root)
+field_differs r s ReadOnly = not (bool_eq r.attrs.ro s.attrs.ro)
+field_differs r s Nosuid = not (bool_eq r.attrs.nosuid s.attrs.nosuid)
+field_differs r s Nodev = not (bool_eq r.attrs.nodev s.attrs.nodev)
+field_differs r s Noexec = not (bool_eq r.attrs.noexec s.attrs.noexec)
+field_differs r s Nosymfollow = not (bool_eq r.attrs.nosymfollow s.attrs.nosymfollow)
+field_differs r s Nodiratime = not (bool_eq r.attrs.nodiratime s.attrs.nodiratime)
+field_differs r s AccessTimes = not (atime_eq r.attrs.atime s.attrs.atime)
+field_differs r s Shared = not (number_eq r.shared s.shared)
+field_differs r s Master = not (number_eq r.master s.master)
+field_differs r s Via = not (number_eq r.via s.via)
+field_differs r s Unbindable = not (bool_eq r.unbindable s.unbindable)
 
 -- what holds now, or no longer
 abbrev pub flag_words : Bool → List ℕ → List ℕ
@@ -76,7 +76,7 @@ listed (w ∷ ws) = w ++ flat_map (λ v. codes ", " ++ v) ws
 
 -- what of the second row is not as in the first
 abbrev pub changes_text : Row → Row → List ℕ
-changes_text r s = listed (map (field_words s) (filter (differs r s) fields))
+changes_text r s = listed (map (field_words s) (filter (field_differs r s) fields))
 
 -- a mount and its mount point
 abbrev pub mount_words : Row → List ℕ

@@ -1,7 +1,7 @@
 //! What of a mount is not as it was, in words.
 ghost use Rattle.std.specs.Prelude.{◌≡◌, ◌++◌, cond, map, codes, OnOk, IfOk};
 ghost use Rattle.std.specs.List.{filter};
-ghost use Rattle.mt_told.specs.Told.{differs, fields, flag_words, group_words, atime_word, field_words, listed};
+ghost use Rattle.mt_told.specs.Told.{field_differs, fields, flag_words, group_words, atime_word, field_words, listed};
 
 use mt_info::print::{push_number, push_path};
 use mt_info::row::Row;
@@ -61,8 +61,8 @@ const FIELDS: [Field; 14] = [
 ];
 
 /// Whether two rows differ in a field.
-fn differs(before: &Row, after: &Row, field: Field) -> bool
-    ensures { result ≡ differs before.now after.now field }
+fn field_differs(before: &Row, after: &Row, field: Field) -> bool
+    ensures { result ≡ field_differs before.now after.now field }
 {
     match field {
         Field::Point => before.point.as_slice() != after.point.as_slice(),
@@ -88,11 +88,11 @@ pub(crate) fn changed_fields(
     before: &Row,
     after: &Row,
 ) -> Result<Vec<Field>, AllocError>
-    ensures { IfOk result (λ changed. changed.items ≡ filter (differs before.now after.now) fields) }
+    ensures { IfOk result (λ changed. changed.items ≡ filter (field_differs before.now after.now) fields) }
 {
     let mut changed = Vec::new(alloc);
     'fields: for field in &FIELDS {
-        if differs(before, after, *field) {
+        if field_differs(before, after, *field) {
             changed.push(*field)?;
         }
     }
