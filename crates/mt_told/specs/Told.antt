@@ -1,6 +1,6 @@
 -- Posts in words: a line for each mount.
 -- A word with no source is this project's rule.
-use Rattle.std.specs.Prelude.{ℕ, Bool, ◌==◌, not, cond, List, [], ◌∷◌, ◌++◌, map, Option, Some, None, codes, decimal}
+use Rattle.std.specs.Prelude.{ℕ, Bool, ◌==◌, not, cond, List, [], ◌∷◌, ◌++◌, Option, Some, None, codes, decimal}
 use Rattle.std.specs.List.{filter, flat_map}
 use Rattle.std.specs.Option.{option_map_or}
 use Rattle.mt_skel.specs.Escapes.{escaped}
@@ -69,14 +69,18 @@ field_words r Master = group_words r.master (codes "master") (codes "a slave")
 field_words r Via = group_words r.via (codes "propagate_from") (codes "propagate_from")
 field_words r Unbindable = flag_words r.unbindable (codes "unbindable")
 
--- words joined by commas; where there are none, nothing changed
-abbrev pub listed : List (List ℕ) → List ℕ
-listed [] = codes "as before"
-listed (w ∷ ws) = w ++ flat_map (λ v. codes ", " ++ v) ws
+-- each of these fields behind a comma
+abbrev pub further_words : Row → List Field → List ℕ
+further_words r fs = flat_map (λ f. codes ", " ++ field_words r f) fs
+
+-- what these fields of a row are now; where there are none, it is as before
+abbrev pub listed : Row → List Field → List ℕ
+listed r [] = codes "as before"
+listed r (f ∷ fs) = field_words r f ++ further_words r fs
 
 -- what of the second row is not as in the first
 abbrev pub changes_text : Row → Row → List ℕ
-changes_text r s = listed (map (field_words s) (filter (field_differs r s) fields))
+changes_text r s = listed s (filter (field_differs r s) fields)
 
 -- a mount and its mount point
 abbrev pub mount_words : Row → List ℕ

@@ -1,7 +1,7 @@
 //! What of a mount is not as it was, in words.
-ghost use Rattle.std.specs.Prelude.{◌≡◌, ◌++◌, cond, map, codes, OnOk, IfOk};
+ghost use Rattle.std.specs.Prelude.{◌≡◌, ◌++◌, cond, codes, OnOk, IfOk};
 ghost use Rattle.std.specs.List.{filter};
-ghost use Rattle.mt_told.specs.Told.{field_differs, fields, flag_words, group_words, atime_word, field_words, listed};
+ghost use Rattle.mt_told.specs.Told.{field_differs, fields, flag_words, group_words, atime_word, field_words, further_words, listed};
 
 use mt_info::print::{push_number, push_path};
 use mt_info::row::Row;
@@ -99,15 +99,18 @@ pub(crate) fn changed_fields(
     Ok(changed)
 }
 
+/// What stands in front of something that holds now, or no longer.
+fn now_or_no_longer(holds: bool) -> &'static [u8]
+    ensures { result.now ≡ cond holds (codes "now ") (codes "no longer ") }
+{
+    if holds { b"now " } else { b"no longer " }
+}
+
 /// Appends that something holds now, or no longer.
 fn push_flag(text: &mut Vec<u8>, holds: bool, word: &[u8]) -> Result<(), AllocError>
     ensures { OnOk result (text.new.items ≡ text.old.items ++ flag_words holds word.now) }
 {
-    text.extend_from_slice(if holds {
-        b"now ".as_slice()
-    } else {
-        b"no longer ".as_slice()
-    })?;
+    text.extend_from_slice(now_or_no_longer(holds))?;
     text.extend_from_slice(word)?;
     Ok(())
 }
@@ -173,21 +176,30 @@ fn push_field(text: &mut Vec<u8>, row: &Row, field: Field) -> Result<(), AllocEr
     }
 }
 
-/// Appends what these fields of a row are now, joined by commas, or that there are none.
+/// Appends what each of these fields of a row is now, each behind a comma.
+fn push_further(text: &mut Vec<u8>, row: &Row, changed: &[Field]) -> Result<(), AllocError>
+    ensures { OnOk result (text.new.items ≡ text.old.items ++ further_words row.now changed.now) }
+{
+    'changed: for field in changed {
+        text.extend_from_slice(b", ")?;
+        push_field(text, row, *field)?;
+    }
+    Ok(())
+}
+
+/// Appends what each of these fields of a row is now, joined by commas, or that nothing changed.
 pub(crate) fn push_fields(
     text: &mut Vec<u8>,
     row: &Row,
     changed: &[Field],
 ) -> Result<(), AllocError>
-    ensures { OnOk result (text.new.items ≡ text.old.items ++ listed (map (field_words row.now) changed.now)) }
+    ensures { OnOk result (text.new.items ≡ text.old.items ++ listed row.now changed.now) }
 {
-    let Some((first, others)) = changed.split_first() else {
-        return text.extend_from_slice(b"as before");
-    };
-    push_field(text, row, *first)?;
-    'others: for field in others {
-        text.extend_from_slice(b", ")?;
-        push_field(text, row, *field)?;
+    match changed {
+        [first, others @ ..] => {
+            push_field(text, row, *first)?;
+            push_further(text, row, others)
+        }
+        [] => text.extend_from_slice(b"as before"),
     }
-    Ok(())
 }
