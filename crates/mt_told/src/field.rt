@@ -1,7 +1,7 @@
 //! What of a mount is not as it was, in words.
 ghost use Rattle.std.specs.Prelude.{◌≡◌, ◌++◌, cond, codes, OnOk, IfOk};
 ghost use Rattle.std.specs.List.{filter};
-ghost use Rattle.mt_told.specs.Told.{field_differs, fields, flag_words, group_words, atime_word, field_words, further_words, listed};
+ghost use Rattle.mt_told.specs.Told.{field_differs, flag_words, group_words, atime_word, field_words, further_words, listed, changes_text};
 
 use mt_info::print::{push_number, push_path};
 use mt_info::row::Row;
@@ -82,16 +82,17 @@ fn field_differs(before: &Row, after: &Row, field: Field) -> bool
     }
 }
 
-/// The fields in which two rows differ, in the order in which they are told.
-pub(crate) fn changed_fields(
+/// Those of some fields in which two rows differ.
+fn changed_fields(
     alloc: Global,
+    fields: &[Field],
     before: &Row,
     after: &Row,
 ) -> Result<Vec<Field>, AllocError>
-    ensures { IfOk result (λ changed. changed.items ≡ filter (field_differs before.now after.now) fields) }
+    ensures { IfOk result (λ changed. changed.items ≡ filter (field_differs before.now after.now) fields.now) }
 {
     let mut changed = Vec::new(alloc);
-    'fields: for field in &FIELDS {
+    'fields: for field in fields {
         if field_differs(before, after, *field) {
             changed.push(*field)?;
         }
@@ -188,11 +189,7 @@ fn push_further(text: &mut Vec<u8>, row: &Row, changed: &[Field]) -> Result<(), 
 }
 
 /// Appends what each of these fields of a row is now, joined by commas, or that nothing changed.
-pub(crate) fn push_fields(
-    text: &mut Vec<u8>,
-    row: &Row,
-    changed: &[Field],
-) -> Result<(), AllocError>
+fn push_fields(text: &mut Vec<u8>, row: &Row, changed: &[Field]) -> Result<(), AllocError>
     ensures { OnOk result (text.new.items ≡ text.old.items ++ listed row.now changed.now) }
 {
     match changed {
@@ -202,4 +199,13 @@ pub(crate) fn push_fields(
         }
         [] => text.extend_from_slice(b"as before"),
     }
+}
+
+/// Appends what of the second row is not as in the first.
+pub(crate) fn push_changes(text: &mut Vec<u8>, before: &Row, after: &Row) -> Result<(), AllocError>
+    ensures { OnOk result (text.new.items ≡ text.old.items ++ changes_text before.now after.now) }
+{
+    let changed = changed_fields(*text.allocator(), &FIELDS, before, after)?;
+    push_fields(text, after, &changed)?;
+    Ok(())
 }

@@ -5,7 +5,7 @@ ghost use Rattle.mt_skel.specs.Keyed.{rises};
 ghost use Rattle.mt_info.specs.Table.{row_id};
 ghost use Rattle.mt_told.specs.Told.{mount_words, space_words, left_words, left_text, new_text, changed_text, row_text, told_text};
 
-use crate::field::{changed_fields, push_fields};
+use crate::field::push_changes;
 use mt_events::mirror::Mirror;
 use mt_events::post::Post;
 use mt_info::print::{push_number, push_path};
@@ -130,12 +130,11 @@ fn push_changed_line(
 ) -> Result<(), AllocError>
     ensures { OnOk result (text.new.items ≡ text.old.items ++ changed_text space before.now after.now) }
 {
-    let changed = changed_fields(*text.allocator(), before, after)?;
     text.extend_from_slice(b"~ ")?;
     push_mount(text, after)?;
     push_space(text, space)?;
     text.extend_from_slice(b": ")?;
-    push_fields(text, after, &changed)?;
+    push_changes(text, before, after)?;
     text.extend_from_slice(b"\n")?;
     Ok(())
 }
