@@ -79,7 +79,7 @@ listed r [] = codes "as before"
 listed r (f ∷ fs) = field_words r f ++ further_words r fs
 
 -- what of the second row is not as in the first
-abbrev pub changes_text : Row → Row → List ℕ
+unfoldable pub changes_text : Row → Row → List ℕ
 changes_text r s = listed s (filter (field_differs r s) fields)
 
 -- a mount and its mount point

@@ -202,6 +202,7 @@ fn push_fields(text: &mut Vec<u8>, row: &Row, changed: &[Field]) -> Result<(), A
 }
 
 /// Appends what of the second row is not as in the first.
+#[tactic(auto, unfolding(crate::specs::Told::changes_text))]
 pub(crate) fn push_changes(text: &mut Vec<u8>, before: &Row, after: &Row) -> Result<(), AllocError>
     ensures { OnOk result (text.new.items ≡ text.old.items ++ changes_text before.now after.now) }
 {
