@@ -1,0 +1,156 @@
+//! A post in words, a line for each mount.
+ghost use Rattle.std.specs.Prelude.{◌≡◌, ◌++◌, OnOk, IsTrue};
+ghost use Rattle.std.specs.List.{flat_map};
+ghost use Rattle.mt_skel.specs.Keyed.{rises};
+ghost use Rattle.mt_info.specs.Table.{row_id};
+ghost use Rattle.mt_told.specs.Told.{mount_words, space_words, left_words, left_text, new_text, changed_text, row_text, told_text};
+
+use crate::field::push_changes;
+use mt_events::mirror::Mirror;
+use mt_events::post::Post;
+use mt_info::print::{push_number, push_path};
+use mt_info::row::Row;
+use mt_info::table::find_row;
+use mt_mounts::mount::{MountId, SpaceId};
+use mt_skel::escape::push_escaped;
+use std::alloc::AllocError;
+
+/// Appends what a post says of its namespace, in words: first a line for each mount that left, by rising ID, and then
+/// one for each row, by rising ID. The mirror has the table before the post: from it are the mount points of the mounts
+/// that left, and what of a mount is not as it was. Each name is written with its escapes, so that each line is that of
+/// one mount. Fails for want of memory alone.
+#[tactic(auto, unfolding(crate::specs::Told::told_text))]
+pub fn push_told(text: &mut Vec<u8>, mirror: &Mirror, post: &Post) -> Result<(), AllocError>
+    ensures told { OnOk result (text.new.items ≡ text.old.items ++ told_text mirror.now post.now) }
+{
+    let rows = mirror.table().rows();
+    push_left(text, rows, post.space, post.gone.as_slice())?;
+    push_rows(text, rows, post.space, post.rows.as_slice())?;
+    Ok(())
+}
+
+/// Appends the lines of mounts that left.
+fn push_left(
+    text: &mut Vec<u8>,
+    rows: &[Row],
+    space: SpaceId,
+    gone: &[MountId],
+) -> Result<(), AllocError>
+    requires { IsTrue (rises row_id rows.now) }
+    ensures { OnOk result (text.new.items ≡ text.old.items ++ flat_map (left_text rows.now space) gone.now) }
+{
+    'gone: for id in gone {
+        push_left_line(text, rows, space, *id)?;
+    }
+    Ok(())
+}
+
+/// Appends the lines of rows that are new or not as they were.
+fn push_rows(
+    text: &mut Vec<u8>,
+    rows: &[Row],
+    space: SpaceId,
+    news: &[Row],
+) -> Result<(), AllocError>
+    requires { IsTrue (rises row_id rows.now) }
+    ensures { OnOk result (text.new.items ≡ text.old.items ++ flat_map (row_text rows.now space) news.now) }
+{
+    'news: for row in news {
+        push_row_line(text, rows, space, row)?;
+    }
+    Ok(())
+}
+
+/// Appends the ID of a mount and its mount point.
+fn push_mount(text: &mut Vec<u8>, row: &Row) -> Result<(), AllocError>
+    ensures { OnOk result (text.new.items ≡ text.old.items ++ mount_words row.now) }
+{
+    push_number(text, row.id)?;
+    text.extend_from_slice(b" ")?;
+    push_path(text, row.point.as_slice())?;
+    Ok(())
+}
+
+/// Appends in which namespace a mount is.
+fn push_space(text: &mut Vec<u8>, space: SpaceId) -> Result<(), AllocError>
+    ensures { OnOk result (text.new.items ≡ text.old.items ++ space_words space) }
+{
+    text.extend_from_slice(b" in namespace ")?;
+    push_number(text, space)?;
+    Ok(())
+}
+
+/// Appends the ID of a mount that left, and its mount point where a row tells it.
+fn push_left_mount(text: &mut Vec<u8>, rows: &[Row], id: MountId) -> Result<(), AllocError>
+    requires { IsTrue (rises row_id rows.now) }
+    ensures { OnOk result (text.new.items ≡ text.old.items ++ left_words rows.now id) }
+{
+    match find_row(rows, id) {
+        Some(row) => push_mount(text, row),
+        None => push_number(text, id),
+    }
+}
+
+/// Appends the line of a mount that left.
+fn push_left_line(
+    text: &mut Vec<u8>,
+    rows: &[Row],
+    space: SpaceId,
+    id: MountId,
+) -> Result<(), AllocError>
+    requires { IsTrue (rises row_id rows.now) }
+    ensures { OnOk result (text.new.items ≡ text.old.items ++ left_text rows.now space id) }
+{
+    text.extend_from_slice(b"- ")?;
+    push_left_mount(text, rows, id)?;
+    push_space(text, space)?;
+    text.extend_from_slice(b"\n")?;
+    Ok(())
+}
+
+/// Appends the line of a mount that is new.
+fn push_new_line(text: &mut Vec<u8>, space: SpaceId, row: &Row) -> Result<(), AllocError>
+    ensures { OnOk result (text.new.items ≡ text.old.items ++ new_text space row.now) }
+{
+    text.extend_from_slice(b"+ ")?;
+    push_mount(text, row)?;
+    text.extend_from_slice(b" ")?;
+    push_escaped(text, row.kind.bytes())?;
+    push_space(text, space)?;
+    text.extend_from_slice(b"\n")?;
+    Ok(())
+}
+
+/// Appends the line of a mount that was there before.
+fn push_changed_line(
+    text: &mut Vec<u8>,
+    space: SpaceId,
+    before: &Row,
+    after: &Row,
+) -> Result<(), AllocError>
+    ensures { OnOk result (text.new.items ≡ text.old.items ++ changed_text space before.now after.now) }
+{
+    text.extend_from_slice(b"~ ")?;
+    push_mount(text, after)?;
+    push_space(text, space)?;
+    text.extend_from_slice(b": ")?;
+    push_changes(text, before, after)?;
+    text.extend_from_slice(b"\n")?;
+    Ok(())
+}
+
+/// Appends the line of a row, new or not as it was.
+fn push_row_line(
+    text: &mut Vec<u8>,
+    rows: &[Row],
+    space: SpaceId,
+    row: &Row,
+) -> Result<(), AllocError>
+    requires { IsTrue (rises row_id rows.now) }
+    ensures { OnOk result (text.new.items ≡ text.old.items ++ row_text rows.now space row.now) }
+{
+    match find_row(rows, row.id) {
+        Some(before) => push_changed_line(text, space, before, row),
+        None => push_new_line(text, space, row),
+    }
+}
