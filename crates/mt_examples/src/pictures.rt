@@ -45,7 +45,7 @@ TARGET         SOURCE FSTYPE OPTIONS     PROPAGATION
 \xe2\x94\x82   \xe2\x94\x9c\xe2\x94\x80/mnt/a   d      ext4   ro,relatime private
 \xe2\x94\x82   \xe2\x94\x94\xe2\x94\x80/mnt/a/n none   tmpfs  rw,relatime private
 \xe2\x94\x9c\xe2\x94\x80/proc        p      proc   rw,relatime unbindable
-\xe2\x94\x94\xe2\x94\x80/k\xc3\xa4\\040b      none   tmpfs  rw,relatime private
+\xe2\x94\x94\xe2\x94\x80/k\xc3\xa4\\040b     none   tmpfs  rw,relatime private
 ";
 
 /// A table of mounts 3 and 4 that stand on each other, 5 that stands on one of them, and 6, whose parent is not there.
