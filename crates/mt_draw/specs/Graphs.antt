@@ -1,15 +1,13 @@
 -- Tables as a graph for Graphviz (the form: the DOT language of Graphviz).
 -- A word with no source is this project's rule.
-use Rattle.std.specs.Prelude.{ℕ, ◌+◌, ◌/◌, ◌%◌, Bool, false, not, ◌&&◌, ◌==◌, nat_le, cond, if◌then◌else◌, List, [], ◌∷◌, ◌++◌, map, length, Option, Some, None, codes, decimal, refl}
+use Rattle.std.specs.Prelude.{ℕ, ◌%◌, Bool, false, ◌==◌, nat_le, cond, if◌then◌else◌, List, [], ◌∷◌, ◌++◌, map, length, Option, Some, None, codes, decimal, refl}
 use Rattle.std.specs.Coded.{Coded, code_by, coded×, coded_ℕ}
-use Rattle.std.specs.List.{filter, find, flat_map, join_with_byte}
+use Rattle.std.specs.List.{filter, find, flat_map}
 use Rattle.std.specs.Option.{option_map_or, option_or}
-use Rattle.mt_skel.specs.Escapes.{escaped}
 use Rattle.mt_info.specs.declared.row.Row.{Row}
-use Rattle.mt_info.specs.RowLine.{path_text, option_words}
 use Rattle.mt_events.specs.Mirrors.{MirrorView}
 use Rattle.mt_draw.specs.Forest.{is_top}
-use Rattle.mt_draw.specs.Trees.{propagation}
+use Rattle.mt_draw.specs.Labels.{label}
 
 -- a mount in a graph: its namespace and its row
 pub record NodeView : Type 0 where
@@ -26,20 +24,6 @@ part_nodes m = map (λ r. record { space = m.space; row = r }) m.rows
 
 abbrev pub nodes : List MirrorView → List NodeView
 nodes parts = flat_map part_nodes parts
-
--- a byte that stands for itself in a label: printable ASCII but for the quote, the ampersand, which begins a character
--- by name, and the backslash
-abbrev pub is_plain : ℕ → Bool
-is_plain b = nat_le 32 b && nat_le b 126 && not (b == 34) && not (b == 38) && not (b == 92)
-
--- a byte in a label: a backslash is written twice, and any other that does not stand for itself as a backslash, written twice
--- too, and three octal digits
-abbrev pub label_byte : ℕ → List ℕ
-label_byte b =
-    cond (is_plain b) (b ∷ []) (cond (b == 92) (codes "\\\\") (codes "\\\\" ++ (48 + b / 64) ∷ (48 + b / 8 % 8) ∷ (48 + b % 8) ∷ []))
-
-abbrev pub label_text : List ℕ → List ℕ
-label_text bytes = flat_map label_byte bytes
 
 -- the colour of a peer group: one of eight, by its number
 abbrev pub colour : ℕ → List ℕ
@@ -62,11 +46,6 @@ group_name g = codes "\"group " ++ (decimal g ++ codes "\"")
 abbrev pub outline : Option ℕ → List ℕ
 outline None = []
 outline (Some g) = codes ", penwidth=2, color=" ++ colour g
-
--- the label of a mount: mount point, type, options and propagation, below each other
-abbrev pub label : Row → List ℕ
-label r =
-    label_text (path_text r.point) ++ (codes "\\n" ++ (label_text (escaped r.kind) ++ (codes "\\n" ++ (join_with_byte 44 (option_words r.attrs) ++ (codes "\\n" ++ propagation r)))))
 
 -- the line of a mount
 unfoldable pub node_line : ℕ → Row → List ℕ

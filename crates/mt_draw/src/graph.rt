@@ -2,15 +2,13 @@
 ghost use Rattle.std.specs.Prelude.{◌≡◌, ◌++◌, cond, nat_le, length, map, codes, OnOk, IfOk, Some, None, MatchOption, IsTrue};
 ghost use Rattle.std.specs.List.{filter, find, flat_map};
 ghost use Rattle.mt_skel.specs.Keyed.{rises};
-ghost use Rattle.mt_skel.specs.Escapes.{escaped};
-ghost use Rattle.mt_info.specs.RowLine.{path_text};
 ghost use Rattle.mt_info.specs.Table.{row_id};
-ghost use Rattle.mt_draw.specs.Graphs.{part_nodes, nodes, is_plain, label_byte, label_text, colour, name, node_name, group_name, outline, label, node_line, box, cluster, arrow, child_edge, parent_edge, parent_edges, is_member, closing, next_in_ring, peer_edge, ring_edge, ring_edges, master_name, slave_edge, group_edges, graph_text};
+ghost use Rattle.mt_draw.specs.Graphs.{part_nodes, nodes, colour, name, node_name, group_name, outline, node_line, box, cluster, arrow, child_edge, parent_edge, parent_edges, is_member, closing, next_in_ring, peer_edge, ring_edge, ring_edges, master_name, slave_edge, group_edges, graph_text};
 
 use crate::forest::is_top;
-use crate::trees::push_propagation;
+use crate::labels::push_node_label;
 use mt_events::mirror::Mirror;
-use mt_info::print::{push_label, push_number, push_options, push_path};
+use mt_info::print::push_number;
 use mt_info::row::Row;
 use mt_mounts::mount::{MountId, SpaceId};
 use mt_peers::state::GroupId;
@@ -34,40 +32,6 @@ impl<'a> Model for Node<'a> {
     ghost coded = { node_code table_row.the_row.coded };
 
     ghost view = { λ n. record { space = n.space; row = n.row.now } };
-}
-
-/// Whether a byte stands for itself in a label.
-fn is_plain(byte: u8) -> bool
-    ensures { result ≡ is_plain byte }
-{
-    32 <= byte && byte <= 126 && byte != b'"' && byte != b'&' && byte != b'\\'
-}
-
-/// Appends a byte of a label.
-fn push_label_byte(text: &mut Vec<u8>, byte: u8) -> Result<(), AllocError>
-    ensures { OnOk result (text.new.items ≡ text.old.items ++ label_byte byte) }
-{
-    if is_plain(byte) {
-        text.push(byte)?;
-        return Ok(());
-    }
-    text.extend_from_slice(b"\\\\")?;
-    if byte != b'\\' {
-        text.push(b'0' + byte / 64)?;
-        text.push(b'0' + byte / 8 % 8)?;
-        text.push(b'0' + byte % 8)?;
-    }
-    Ok(())
-}
-
-/// Appends bytes of a label.
-fn push_label_bytes(text: &mut Vec<u8>, bytes: &[u8]) -> Result<(), AllocError>
-    ensures { OnOk result (text.new.items ≡ text.old.items ++ label_text bytes.now) }
-{
-    for byte in bytes {
-        push_label_byte(text, *byte)?;
-    }
-    Ok(())
 }
 
 /// The colour of a peer group.
@@ -109,38 +73,6 @@ fn push_outline(text: &mut Vec<u8>, shared: Option<GroupId>) -> Result<(), Alloc
     Ok(())
 }
 
-/// Appends the path where a mount stands, in a label.
-fn push_point(text: &mut Vec<u8>, row: &Row) -> Result<(), AllocError>
-    ensures { OnOk result (text.new.items ≡ text.old.items ++ label_text (path_text row.now.point)) }
-{
-    let mut path = Vec::new(*text.allocator());
-    push_path(&mut path, row.point.as_slice())?;
-    push_label_bytes(text, &path)
-}
-
-/// Appends the type of a mount's filesystem, in a label.
-fn push_kind(text: &mut Vec<u8>, row: &Row) -> Result<(), AllocError>
-    ensures { OnOk result (text.new.items ≡ text.old.items ++ label_text (escaped row.now.kind)) }
-{
-    let mut kind = Vec::new(*text.allocator());
-    push_label(&mut kind, &row.kind)?;
-    push_label_bytes(text, &kind)
-}
-
-/// Appends the label of a mount.
-fn push_lines(text: &mut Vec<u8>, row: &Row) -> Result<(), AllocError>
-    ensures { OnOk result (text.new.items ≡ text.old.items ++ label row.now) }
-{
-    push_point(text, row)?;
-    text.extend_from_slice(b"\\n")?;
-    push_kind(text, row)?;
-    text.extend_from_slice(b"\\n")?;
-    push_options(text, &row.attrs)?;
-    text.extend_from_slice(b"\\n")?;
-    push_propagation(text, row)?;
-    Ok(())
-}
-
 /// Appends the line of a mount.
 #[tactic(auto, unfolding(crate::specs::Graphs::node_line))]
 fn push_node(text: &mut Vec<u8>, space: SpaceId, row: &Row) -> Result<(), AllocError>
@@ -148,7 +80,7 @@ fn push_node(text: &mut Vec<u8>, space: SpaceId, row: &Row) -> Result<(), AllocE
 {
     push_name(text, space, row.id)?;
     text.extend_from_slice(b" [label=\"")?;
-    push_lines(text, row)?;
+    push_node_label(text, row)?;
     text.extend_from_slice(b"\"")?;
     push_outline(text, row.shared)?;
     text.extend_from_slice(b"];\n")?;
