@@ -120,7 +120,8 @@ module _ (rows : List Row) (rising : rises row_id rows ≡ true) where
       go None = refl
       go (Some y) = refl
   followed (suc n) b r there =
-      split (is_child b.id r) _ ∙ ap (λ k. k + _) (child-is b r there) ∙ go (parent_row rows r) (λ y. followed n b y there)
+      let rest = count (is_child b.id) (option_map_or (λ y. chain (parent_row rows) n y) (parent_row rows r) []) in
+      split (is_child b.id r) rest ∙ ap (λ k. k + rest) (child-is b r there) ∙ go (parent_row rows r) (λ y. followed n b y there)
     where
       split : (u : Bool) (m : ℕ) → cond u (suc m) m ≡ cond u 1 0 + m
       split true m = omega arith
@@ -131,7 +132,7 @@ module _ (rows : List Row) (rising : rises row_id rows ≡ true) where
           → option_map_or (λ (y : Row). one_if (y.id == b.id)) o 0 + count (is_child b.id) (option_map_or (λ y. chain (parent_row rows) n y) o [])
           ≡ count (λ a. a.id == b.id) (option_map_or (λ y. chain (parent_row rows) (suc n) y) o [])
       go None ih = refl
-      go (Some y) ih = ap (λ k. one_if (y.id == b.id) + k) (ih y) ∙ sym (split (y.id == b.id) _)
+      go (Some y) ih = ap (λ k. one_if (y.id == b.id) + k) (ih y) ∙ sym (split (y.id == b.id) (count (λ a. a.id == b.id) (option_map_or (λ z. chain (parent_row rows) n z) (parent_row rows y) [])))
 
   -- branches, counted by the chain of a row's parents
   spread : (n : ℕ) (r : Row)
