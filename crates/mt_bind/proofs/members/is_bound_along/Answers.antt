@@ -1,4 +1,4 @@
-use Rattle.std.proofs.Common.{◌≡◌, false, ◌<◌, ap, ◌∙◌, sym, arith, length, ◌+◌, ◌-◌}
+use Rattle.std.proofs.Common.{◌<◌, ap, ◌∙◌, sym, arith, length, ◌+◌, ◌-◌}
 use Rattle.mt_skel.specs.Chain.{ends}
 use Rattle.mt_mounts.specs.Forest.{parent}
 use Rattle.mt_mounts.proofs.Walks.{fuel_step}
