@@ -10,6 +10,7 @@ use Rattle.mt_draw.specs.Laws.{is_parent_branch}
 
 or-left : (a b : Bool) → a ≡ true → (a || b) ≡ true
 or-left true b e = refl
+or-left false b e = absurd (cc)
 
 or-right : (a b : Bool) → b ≡ true → (a || b) ≡ true
 or-right true b e = refl
@@ -17,7 +18,7 @@ or-right false b e = e
 
 module _ (rows : List Row) where
   -- rows are top rows or stand below their parents', where these were passed before
-  placed : List BranchView → List BranchView → Bool
+  abbrev placed : List BranchView → List BranchView → Bool
   placed seen [] = true
   placed seen (b ∷ bs) = (is_top rows b.row || list_any (λ p. is_parent_branch p b) seen) && placed (b ∷ seen) bs
 
@@ -70,13 +71,13 @@ module _ (rows : List Row) where
 
   tops-placed : (n : ℕ) (rs : List Row) (seen : List BranchView) → placed seen (flat_map (λ t. drawn_from rows n (without_lines t)) (filter (is_top rows) rs)) ≡ true
   tops-placed n [] seen = refl
-  tops-placed n (r ∷ rs) seen = go (is_top rows r) refl
+  tops-placed n (r ∷ rs) seen = go (is_top rows r) refl (tops-placed n rs)
     where
-      go : (u : Bool) → is_top rows r ≡ u → placed seen (flat_map (λ t. drawn_from rows n (without_lines t)) (cond u (r ∷ filter (is_top rows) rs) (filter (is_top rows) rs))) ≡ true
-      go true e =
+      go : (u : Bool) → is_top rows r ≡ u → ((more : List BranchView) → placed more (flat_map (λ t. drawn_from rows n (without_lines t)) (filter (is_top rows) rs)) ≡ true) → placed seen (flat_map (λ t. drawn_from rows n (without_lines t)) (cond u (r ∷ filter (is_top rows) rs) (filter (is_top rows) rs))) ≡ true
+      go true e ih =
           append-placed (drawn_from rows n (without_lines r)) (flat_map (λ t. drawn_from rows n (without_lines t)) (filter (is_top rows) rs)) seen
-          (grown-placed n (without_lines r) seen (or-left (is_top rows r) (list_any (λ p. is_parent_branch p (without_lines r)) seen) e)) (λ more has. tops-placed n rs more)
-      go false e = tops-placed n rs seen
+          (grown-placed n (without_lines r) seen (or-left (is_top rows r) (list_any (λ p. is_parent_branch p (without_lines r)) seen) e)) (λ more has. ih more)
+      go false e ih = ih seen
 
   above-in : (front : List BranchView) (b : BranchView) (back seen : List BranchView) → placed seen (front ++ b ∷ back) ≡ true → is_top rows b.row ≡ false
       → (list_any (λ p. is_parent_branch p b) seen || list_any (λ p. is_parent_branch p b) front) ≡ true

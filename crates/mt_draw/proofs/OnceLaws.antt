@@ -15,16 +15,19 @@ use Rattle.mt_draw.specs.Forest.{BranchView, without_lines, parent_row, is_top, 
 use Rattle.mt_draw.specs.Laws.{IsIn, is_of}
 
 -- the sum of these numbers
-sum_over : {X : Type 0} → (X → ℕ) → List X → ℕ
+abbrev sum_over : {X : Type 0} → (X → ℕ) → List X → ℕ
 sum_over f [] = 0
 sum_over f (x ∷ xs) = f x + sum_over f xs
+
+abbrev one_if : Bool → ℕ
+one_if b = cond b 1 0
 
 same_turned : (a b : ℕ) → (a == b) ≡ (b == a)
 same_turned a b = grind (arith, nat_tests)
 
 sum-zero : {X : Type 0} (xs : List X) → sum_over (λ (x : X). 0) xs ≡ 0
 sum-zero [] = refl
-sum-zero (x ∷ xs) = sum-zero xs
+sum-zero (x ∷ xs) = ap (λ n. 0 + n) (sum-zero xs)
 
 -- one more for each that passes a test
 sum-more : {X : Type 0} (t : X → Bool) (f : X → ℕ) (xs : List X) → sum_over (λ x. cond (t x) (suc (f x)) (f x)) xs ≡ count t xs + sum_over f xs
@@ -62,7 +65,7 @@ module _ (rows : List Row) (rising : rises row_id rows ≡ true) where
     where
       put : (b : Bool) (n : ℕ) → cond b 1 0 + n ≡ cond b (suc n) n
       put true n = omega arith
-      put false n = refl
+      put false n = omega arith
 
   -- a parent's row is one of the table
   parent-in : (r y : Row) → parent_row rows r ≡ Some y → IsIn rows y
@@ -74,23 +77,23 @@ module _ (rows : List Row) (rising : rises row_id rows ≡ true) where
 
   chain-in : (n : ℕ) (r : Row) → IsIn rows r → AllByRecursion (IsIn rows) (chain (parent_row rows) n r)
   chain-in zero r there = (there, tt)
-  chain-in (suc n) r there = (there, rest (parent_row rows r) refl)
+  chain-in (suc n) r there = (there, rest (parent_row rows r) refl (chain-in n))
     where
-      rest : (o : Option Row) → parent_row rows r ≡ o → AllByRecursion (IsIn rows) (option_map_or (λ y. chain (parent_row rows) n y) o [])
-      rest None e = tt
-      rest (Some y) e = chain-in n y (parent-in r y e)
+      rest : (o : Option Row) → parent_row rows r ≡ o → ((y : Row) → IsIn rows y → AllByRecursion (IsIn rows) (chain (parent_row rows) n y)) → AllByRecursion (IsIn rows) (option_map_or (λ y. chain (parent_row rows) n y) o [])
+      rest None e ih = tt
+      rest (Some y) e ih = ih y (parent-in r y e)
 
   -- a row is a child of a row of the table exactly if that is its parent's
-  child-is : (b r : Row) → IsIn rows b → cond (is_child b.id r) 1 0 ≡ option_map_or (λ y. cond (y.id == b.id) 1 0) (parent_row rows r) 0
+  child-is : (b r : Row) → IsIn rows b → one_if (is_child b.id r) ≡ option_map_or (λ y. one_if (y.id == b.id)) (parent_row rows r) 0
   child-is b r there = go (r.parent == b.id) refl (r.parent == r.id) refl (row_at row_id r.parent rows) refl
     where
       go : (u : Bool) → (r.parent == b.id) ≡ u → (v : Bool) → (r.parent == r.id) ≡ v → (o : Option Row) → row_at row_id r.parent rows ≡ o
-          → cond (u && not (r.id == b.id)) 1 0 ≡ option_map_or (λ y. cond (y.id == b.id) 1 0) (cond v None o) 0
+          → one_if (u && not (r.id == b.id)) ≡ option_map_or (λ y. one_if (y.id == b.id)) (cond v None o) 0
       go true eu true ev o eo =
           let one : r.parent ≡ b.id = eqb-true r.parent b.id eu in
           let two : r.parent ≡ r.id = eqb-true r.parent r.id ev in
           let same : (r.id == b.id) ≡ true = grind (arith, nat_tests) in
-          ap (λ k. cond (not k) 1 0) same
+          ap (λ k. one_if (not k)) same
       go true eu false ev None eo =
           let one : r.parent ≡ b.id = eqb-true r.parent b.id eu in
           let none : None ≡ Some b = sym eo ∙ ap (λ k. row_at row_id k rows) one ∙ there in
@@ -100,35 +103,36 @@ module _ (rows : List Row) (rising : rises row_id rows ≡ true) where
           let key : y.id ≡ r.parent = row_at-key row_id r.parent rows y eo in
           let apart : (r.id == b.id) ≡ false = grind (arith, nat_tests) in
           let same : (y.id == b.id) ≡ true = grind (arith, nat_tests) in
-          ap (λ k. cond (not k) 1 0) apart ∙ ap (λ k. cond k 1 0) (sym same)
+          ap (λ k. one_if (not k)) apart ∙ ap (λ k. one_if k) (sym same)
       go false eu true ev o eo = refl
       go false eu false ev None eo = refl
       go false eu false ev (Some y) eo =
           let key : y.id ≡ r.parent = row_at-key row_id r.parent rows y eo in
           let apart : (y.id == b.id) ≡ false = grind (arith, nat_tests) in
-          ap (λ k. cond k 1 0) (sym apart)
+          ap (λ k. one_if k) (sym apart)
 
   -- the children of a row on a chain of parents are followed by it
   followed : (n : ℕ) (b r : Row) → IsIn rows b
       → count (is_child b.id) (chain (parent_row rows) n r) ≡ count (λ a. a.id == b.id) (option_map_or (λ y. chain (parent_row rows) n y) (parent_row rows r) [])
   followed zero b r there = child-is b r there ∙ go (parent_row rows r)
     where
-      go : (o : Option Row) → option_map_or (λ (y : Row). cond (y.id == b.id) 1 0) o 0 ≡ count (λ a. a.id == b.id) (option_map_or (λ y. chain (parent_row rows) zero y) o [])
+      go : (o : Option Row) → option_map_or (λ (y : Row). one_if (y.id == b.id)) o 0 ≡ count (λ a. a.id == b.id) (option_map_or (λ y. chain (parent_row rows) zero y) o [])
       go None = refl
       go (Some y) = refl
   followed (suc n) b r there =
-      split (is_child b.id r) _ ∙ ap (λ k. k + _) (child-is b r there) ∙ go (parent_row rows r) (λ y. followed n b y there)
+      let rest = count (is_child b.id) (option_map_or (λ y. chain (parent_row rows) n y) (parent_row rows r) []) in
+      split (is_child b.id r) rest ∙ ap (λ k. k + rest) (child-is b r there) ∙ go (parent_row rows r) (λ y. followed n b y there)
     where
       split : (u : Bool) (m : ℕ) → cond u (suc m) m ≡ cond u 1 0 + m
       split true m = omega arith
-      split false m = refl
+      split false m = omega arith
 
       go : (o : Option Row)
           → ((y : Row) → count (is_child b.id) (chain (parent_row rows) n y) ≡ count (λ a. a.id == b.id) (option_map_or (λ z. chain (parent_row rows) n z) (parent_row rows y) []))
-          → option_map_or (λ (y : Row). cond (y.id == b.id) 1 0) o 0 + count (is_child b.id) (option_map_or (λ y. chain (parent_row rows) n y) o [])
+          → option_map_or (λ (y : Row). one_if (y.id == b.id)) o 0 + count (is_child b.id) (option_map_or (λ y. chain (parent_row rows) n y) o [])
           ≡ count (λ a. a.id == b.id) (option_map_or (λ y. chain (parent_row rows) (suc n) y) o [])
       go None ih = refl
-      go (Some y) ih = ap (λ k. cond (y.id == b.id) 1 0 + k) (ih y) ∙ sym (split (y.id == b.id) _)
+      go (Some y) ih = ap (λ k. one_if (y.id == b.id) + k) (ih y) ∙ sym (split (y.id == b.id) (count (λ a. a.id == b.id) (option_map_or (λ z. chain (parent_row rows) n z) (parent_row rows y) [])))
 
   -- branches, counted by the chain of a row's parents
   spread : (n : ℕ) (r : Row)

@@ -1,72 +1,18 @@
 -- Tables as a graph for Graphviz (the form: the DOT language of Graphviz).
 -- A word with no source is this project's rule.
-use Rattle.std.specs.Prelude.{ℕ, ◌+◌, ◌/◌, ◌%◌, Bool, false, not, ◌&&◌, ◌==◌, nat_le, cond, if◌then◌else◌, List, [], ◌∷◌, ◌++◌, map, length, Option, Some, None, codes, decimal, refl}
-use Rattle.std.specs.Coded.{Coded, code_by, coded×, coded_ℕ}
-use Rattle.std.specs.List.{filter, find, flat_map, join_with_byte}
-use Rattle.std.specs.Option.{option_map_or, option_or}
-use Rattle.mt_skel.specs.Escapes.{escaped}
+use Rattle.std.specs.Prelude.{ℕ, cond, List, [], ◌++◌, Option, Some, None, codes, decimal}
+use Rattle.std.specs.List.{flat_map}
 use Rattle.mt_info.specs.declared.row.Row.{Row}
-use Rattle.mt_info.specs.RowLine.{path_text, option_words}
 use Rattle.mt_events.specs.Mirrors.{MirrorView}
 use Rattle.mt_draw.specs.Forest.{is_top}
-use Rattle.mt_draw.specs.Trees.{propagation}
-
--- a mount in a graph: its namespace and its row
-pub record NodeView : Type 0 where
-  pub space : ℕ
-  pub row : Row
-
--- a mount in a graph is stored as the pair of its fields
-abbrev pub node_code : Coded Row → Coded NodeView
-node_code code = code_by (ℕ × Row) (coded× coded_ℕ code) (λ n. (n.space, n.row)) (λ t. record { space = t.0; row = t.1 }) (λ _. refl)
-
--- the mounts of all parts, in order of namespace and ID
-abbrev pub part_nodes : MirrorView → List NodeView
-part_nodes m = map (λ r. record { space = m.space; row = r }) m.rows
-
-abbrev pub nodes : List MirrorView → List NodeView
-nodes parts = flat_map part_nodes parts
-
--- a byte that stands for itself in a label: printable ASCII but for the quote, the ampersand, which begins a character
--- by name, and the backslash
-abbrev pub is_plain : ℕ → Bool
-is_plain b = nat_le 32 b && nat_le b 126 && not (b == 34) && not (b == 38) && not (b == 92)
-
--- a byte in a label: a backslash is written twice, and any other that does not stand for itself as a backslash, written twice
--- too, and three octal digits
-abbrev pub label_byte : ℕ → List ℕ
-label_byte b =
-    cond (is_plain b) (b ∷ []) (cond (b == 92) (codes "\\\\") (codes "\\\\" ++ (48 + b / 64) ∷ (48 + b / 8 % 8) ∷ (48 + b % 8) ∷ []))
-
-abbrev pub label_text : List ℕ → List ℕ
-label_text bytes = flat_map label_byte bytes
-
--- the colour of a peer group: one of eight, by its number
-abbrev pub colour : ℕ → List ℕ
-colour g =
-    if g % 8 == 0 then codes "red3" else (if g % 8 == 1 then codes "blue3" else (if g % 8 == 2 then codes "green4" else (if g % 8 == 3 then codes "darkorange2"
-    else (if g % 8 == 4 then codes "purple3" else (if g % 8 == 5 then codes "turquoise4" else (if g % 8 == 6 then codes "deeppink2" else codes "goldenrod3"))))))
-
--- the name of a mount in a graph: its namespace and its ID
-abbrev pub name : ℕ → ℕ → List ℕ
-name space id = codes "\"" ++ (decimal space ++ (codes "." ++ (decimal id ++ codes "\"")))
-
-abbrev pub node_name : NodeView → List ℕ
-node_name n = name n.space n.row.id
-
--- the name of a peer group of which no member is in sight
-abbrev pub group_name : ℕ → List ℕ
-group_name g = codes "\"group " ++ (decimal g ++ codes "\"")
+use Rattle.mt_draw.specs.Labels.{label}
+use Rattle.mt_draw.specs.Edges.{colour, name, arrow}
+use Rattle.mt_draw.specs.Groups.{nodes, group_edges}
 
 -- the outline of a mount, in the colour of its peer group
 abbrev pub outline : Option ℕ → List ℕ
 outline None = []
 outline (Some g) = codes ", penwidth=2, color=" ++ colour g
-
--- the label of a mount: mount point, type, options and propagation, below each other
-abbrev pub label : Row → List ℕ
-label r =
-    label_text (path_text r.point) ++ (codes "\\n" ++ (label_text (escaped r.kind) ++ (codes "\\n" ++ (join_with_byte 44 (option_words r.attrs) ++ (codes "\\n" ++ propagation r)))))
 
 -- the line of a mount
 unfoldable pub node_line : ℕ → Row → List ℕ
@@ -80,10 +26,6 @@ box space rows =
 unfoldable pub cluster : MirrorView → List ℕ
 cluster m = box m.space m.rows
 
--- the rest of the line of an edge, behind the name where it begins: the mount where it ends, its form and its colour
-abbrev pub arrow : ℕ → ℕ → List ℕ → List ℕ → List ℕ
-arrow space id form colour = codes " -> " ++ (name space id ++ (codes " [" ++ (form ++ (codes ", color=" ++ (colour ++ codes "];\n")))))
-
 -- the edge from a mount to a child
 abbrev pub child_edge : ℕ → ℕ → ℕ → List ℕ
 child_edge space parent child = name space parent ++ arrow space child (codes "arrowhead=none") (codes "black")
@@ -94,40 +36,6 @@ parent_edge space rows r = cond (is_top rows r) [] (child_edge space r.parent r.
 
 unfoldable pub parent_edges : MirrorView → List ℕ
 parent_edges m = flat_map (parent_edge m.space m.rows) m.rows
-
--- a mount is in a peer group
-abbrev pub is_member : ℕ → NodeView → Bool
-is_member g n = option_map_or (λ k. k == g) n.row.shared false
-
--- the member that follows in the ring of a group: the next of the later ones, and behind the last of three or more the first
-abbrev pub closing : List NodeView → ℕ → Option NodeView
-closing all g = cond (nat_le 3 (length (filter (is_member g) all))) (find (is_member g) all) None
-
-abbrev pub next_in_ring : List NodeView → List NodeView → ℕ → Option NodeView
-next_in_ring all later g = option_or (find (is_member g) later) (closing all g)
-
--- the edge from a mount to the member that follows it, before these later ones
-abbrev pub peer_edge : NodeView → ℕ → NodeView → List ℕ
-peer_edge n g m = node_name n ++ arrow m.space m.row.id (codes "dir=none, constraint=false, style=bold") (colour g)
-
-abbrev pub ring_edge : List NodeView → List NodeView → NodeView → List ℕ
-ring_edge all later n = option_map_or (λ g. option_map_or (peer_edge n g) (next_in_ring all later g) []) n.row.shared []
-
--- the rings of all peer groups
-abbrev pub ring_edges : List NodeView → List NodeView → List ℕ
-ring_edges all [] = []
-ring_edges all (n ∷ later) = ring_edge all later n ++ ring_edges all later
-
--- where the edges to the slaves of a group begin: at the first member in sight, or at a box of the group's own
-abbrev pub master_name : List NodeView → ℕ → List ℕ
-master_name all g = option_map_or node_name (find (is_member g) all) (group_name g)
-
-abbrev pub slave_edge : List NodeView → NodeView → List ℕ
-slave_edge all n = option_map_or (λ g. master_name all g ++ arrow n.space n.row.id (codes "style=dashed") (colour g)) n.row.master []
-
--- the edges of groups
-abbrev pub group_edges : List NodeView → List ℕ
-group_edges all = ring_edges all all ++ flat_map (slave_edge all) all
 
 -- the graph of all parts
 abbrev pub graph_text : List MirrorView → List ℕ

@@ -1,6 +1,9 @@
 pub mod Columns
 pub mod Forest
 pub mod Trees
+pub mod Labels
+pub mod Edges
+pub mod Groups
 pub mod Graphs
 pub mod Drawings
 pub mod Laws

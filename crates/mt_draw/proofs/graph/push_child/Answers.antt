@@ -1,5 +1,5 @@
 use Rattle.std.proofs.Common.{codes}
-use Rattle.mt_draw.specs.Graphs.{name, arrow}
+use Rattle.mt_draw.specs.Edges.{name, arrow}
 use Rattle.mt_draw.proofs.AppendLaws.{two}
 use Rattle.mt_draw.proofs.graph.push_child.Goals as goal
 

@@ -1,7 +1,7 @@
 use Rattle.std.proofs.Common.{◌≡◌, ◌++◌, drop}
 use Rattle.std.specs.List.{flat_map}
-use Rattle.mt_draw.specs.Graphs.{label_byte}
-use Rattle.mt_draw.proofs.graph.push_label_bytes.Given as goal
+use Rattle.mt_draw.specs.Labels.{label_byte}
+use Rattle.mt_draw.proofs.labels.push_label_bytes.Given as goal
 
 -- what was appended, and what is to come
 abbrev pub invariant-loop-byte : goal.invariant-loop-byte

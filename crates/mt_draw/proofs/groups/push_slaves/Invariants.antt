@@ -1,7 +1,7 @@
 use Rattle.std.proofs.Common.{◌≡◌, ◌++◌, drop}
 use Rattle.std.specs.List.{flat_map}
-use Rattle.mt_draw.specs.Graphs.{slave_edge}
-use Rattle.mt_draw.proofs.graph.push_slaves.Given as goal
+use Rattle.mt_draw.specs.Groups.{slave_edge}
+use Rattle.mt_draw.proofs.groups.push_slaves.Given as goal
 
 -- what was appended, and what is to come
 abbrev pub invariant-nodes : goal.invariant-nodes

@@ -1,6 +1,6 @@
 use Rattle.std.proofs.Common.{◌≡◌, ◌++◌, length}
-use Rattle.mt_draw.specs.Graphs.{ring_edges}
-use Rattle.mt_draw.proofs.graph.push_rings.Given as goal
+use Rattle.mt_draw.specs.Groups.{ring_edges}
+use Rattle.mt_draw.proofs.groups.push_rings.Given as goal
 
 -- what was appended, and what is to come
 abbrev pub invariant-nodes : goal.invariant-nodes

@@ -1,7 +1,7 @@
 use Rattle.std.proofs.Common.{◌≡◌, ◌++◌, drop}
 use Rattle.std.specs.List.{flat_map}
-use Rattle.mt_draw.specs.Graphs.{part_nodes, nodes}
-use Rattle.mt_draw.proofs.graph.nodes_of.Given as goal
+use Rattle.mt_draw.specs.Groups.{part_nodes, nodes}
+use Rattle.mt_draw.proofs.groups.nodes_of.Given as goal
 
 -- what was appended, and what is to come
 abbrev pub invariant-parts : goal.invariant-parts

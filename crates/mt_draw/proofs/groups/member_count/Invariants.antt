@@ -1,7 +1,7 @@
 use Rattle.std.proofs.Common.{◌≡◌, ◌+◌, ◌≤◌, length, drop}
 use Rattle.std.specs.List.{filter}
-use Rattle.mt_draw.specs.Graphs.{is_member}
-use Rattle.mt_draw.proofs.graph.member_count.Given as goal
+use Rattle.mt_draw.specs.Groups.{is_member}
+use Rattle.mt_draw.proofs.groups.member_count.Given as goal
 
 -- the members passed, and those to come
 abbrev pub invariant-loop-node : goal.invariant-loop-node

@@ -1,6 +1,6 @@
 use Rattle.std.proofs.Common.{◌≡◌, ◌++◌, map, drop}
-use Rattle.mt_draw.specs.Graphs.{NodeView, part_nodes}
-use Rattle.mt_draw.proofs.graph.push_part_nodes.Given as goal
+use Rattle.mt_draw.specs.Groups.{NodeView, part_nodes}
+use Rattle.mt_draw.proofs.groups.push_part_nodes.Given as goal
 
 -- what was appended, and what is to come
 abbrev pub invariant-rows : goal.invariant-rows

@@ -1,0 +1,76 @@
+//! The labels of mounts in a graph.
+ghost use Rattle.std.specs.Prelude.{◌≡◌, ◌++◌, OnOk};
+ghost use Rattle.mt_skel.specs.Escapes.{escaped};
+ghost use Rattle.mt_info.specs.RowLine.{path_text};
+ghost use Rattle.mt_draw.specs.Labels.{is_plain, label_byte, label_text, label};
+
+use crate::trees::push_propagation;
+use mt_info::print::{push_label, push_options, push_path};
+use mt_info::row::Row;
+use std::alloc::AllocError;
+
+/// Whether a byte stands for itself in a label.
+fn is_plain(byte: u8) -> bool
+    ensures { result ≡ is_plain byte }
+{
+    32 <= byte && byte <= 126 && byte != b'"' && byte != b'&' && byte != b'\\'
+}
+
+/// Appends a byte of a label.
+fn push_label_byte(text: &mut Vec<u8>, byte: u8) -> Result<(), AllocError>
+    ensures { OnOk result (text.new.items ≡ text.old.items ++ label_byte byte) }
+{
+    if is_plain(byte) {
+        text.push(byte)?;
+        return Ok(());
+    }
+    text.extend_from_slice(b"\\\\")?;
+    if byte != b'\\' {
+        text.push(b'0' + byte / 64)?;
+        text.push(b'0' + byte / 8 % 8)?;
+        text.push(b'0' + byte % 8)?;
+    }
+    Ok(())
+}
+
+/// Appends bytes of a label.
+fn push_label_bytes(text: &mut Vec<u8>, bytes: &[u8]) -> Result<(), AllocError>
+    ensures { OnOk result (text.new.items ≡ text.old.items ++ label_text bytes.now) }
+{
+    for byte in bytes {
+        push_label_byte(text, *byte)?;
+    }
+    Ok(())
+}
+
+/// Appends the path where a mount stands, in a label.
+fn push_point(text: &mut Vec<u8>, row: &Row) -> Result<(), AllocError>
+    ensures { OnOk result (text.new.items ≡ text.old.items ++ label_text (path_text row.now.point)) }
+{
+    let mut path = Vec::new(*text.allocator());
+    push_path(&mut path, row.point.as_slice())?;
+    push_label_bytes(text, &path)
+}
+
+/// Appends the type of a mount's filesystem, in a label.
+fn push_kind(text: &mut Vec<u8>, row: &Row) -> Result<(), AllocError>
+    ensures { OnOk result (text.new.items ≡ text.old.items ++ label_text (escaped row.now.kind)) }
+{
+    let mut kind = Vec::new(*text.allocator());
+    push_label(&mut kind, &row.kind)?;
+    push_label_bytes(text, &kind)
+}
+
+/// Appends the label of a mount.
+pub(crate) fn push_node_label(text: &mut Vec<u8>, row: &Row) -> Result<(), AllocError>
+    ensures { OnOk result (text.new.items ≡ text.old.items ++ label row.now) }
+{
+    push_point(text, row)?;
+    text.extend_from_slice(b"\\n")?;
+    push_kind(text, row)?;
+    text.extend_from_slice(b"\\n")?;
+    push_options(text, &row.attrs)?;
+    text.extend_from_slice(b"\\n")?;
+    push_propagation(text, row)?;
+    Ok(())
+}
