@@ -3,5 +3,5 @@
 //! [`told`] writes what a post says, a line for each mount, and [`field`] what of a mount is not as it was.
 #![tactic(auto)]
 
-mod field;
+pub mod field;
 pub mod told;
