@@ -1,5 +1,6 @@
-use Rattle.mt_client.proofs.RequestLaws.{sent_whole}
+use Rattle.std.proofs.Common.{rules}
+use Rattle.mt_client.proofs.SendingLaws.{refused_passed}
 use Rattle.mt_client.proofs.ask.ask_line.Goals as goal
 
-pub returns-clause-part : goal.returns-clause-part
-returns-clause-part g c u = sent_whole _ _ _ (c.in_ok-send_request.ensures.sent u)
+pub returns-then-not-branch-clause-answer : goal.returns-then-not-branch-clause-answer
+returns-then-not-branch-clause-answer g c t u = refused_passed _ _ _ _ _ _ (c.send_request.ensures.refused (search rules) t) (c.send_request.ensures.printed (search rules) u)
