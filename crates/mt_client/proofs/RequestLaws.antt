@@ -1,9 +1,8 @@
 -- The lines of requests, and what of them went out.
-use Rattle.std.proofs.Common.{Bor, ◌≡◌, ℕ, zero, suc, ◌+◌, ◌<◌, List, [], ◌∷◌, ◌++◌, map, length, take, refl, sym, ap, subst, ◌∙◌, arith, append_assoc, length-append, Result, Ok, Err, OnErr, OnOk}
+use Rattle.std.proofs.Common.{Bor, ◌≡◌, ℕ, zero, suc, ◌+◌, ◌<◌, List, [], ◌∷◌, ◌++◌, map, length, take, refl, sym, ap, ◌∙◌, arith, append_assoc, length-append, Result, Ok, Err, OnErr}
 use Rattle.std.proofs.lemmas.List.{append-nil, take-append-le}
 use Rattle.std.specs.List.{flat_map, join_with_byte}
 use Rattle.mt_skel.specs.Escapes.{escaped}
-use Rattle.mt_events.specs.Posts.{ended}
 use Rattle.mt_client.specs.Requests.{request_text}
 use Rattle.mt_client.specs.Reading.{IsCutOff, IsSentPart}
 
