@@ -12,8 +12,7 @@ pub returns-clause-mirrored : goal.returns-clause-mirrored
 returns-clause-mirrored g c is t u =
     let found = rw (c.send_request.ensures.unread (search rules)) at (c.in_ok-mirror.ensures.found t) in
     let followed = rw (c.send_request-2.ensures.unread (search rules)) at (c.in_ok-follow_posts.ensures.followed t) in
-    let printed = rw (c.send_request-2.ensures.unprinted (search rules), c.send_request.ensures.unprinted (search rules)) at (c.in_ok-print_mirror.ensures.printed u) in
-    (
+    let printed = rw (c.send_request-2.ensures.unprinted (search rules), c.send_request.ensures.unprinted (search rules)) at (c.in_ok-print_mirror.ensures.printed u) in (
       c.follow_posts.new.mirror,
       mirrored_whole c.args.space c.args.count _ _ _ _ _ (when_some _ _ c.in_ok-mirror.field-0 c.in-Some.mirror (search rules) found) (when_true _ _ _ c.if-not-branch-3.false followed),
       printed,
@@ -70,8 +69,7 @@ returns-then-not-branch-2-clause-refused g c is t u =
     let found = rw (c.send_request.ensures.unread (search rules)) at (c.in_ok-mirror.ensures.found t) in
     let opened = when_some _ _ c.in_ok-mirror.field-0 c.in-Some.mirror (search rules) found in
     let printed = rw (c.send_request.ensures.unprinted (search rules)) at (c.send_request-2.ensures.printed (search rules) u) in
-    let m = c.in-Some.mirror in
-    (
+    let m = c.in-Some.mirror in (
       last_line c.send_request-2.new.lines,
       inr (m, m, lines_left c.read_opening.new.lines, opened, left_behind c.args.count 0 _ _ _ _ m m (omega arith) (none_followed _ m) (c.send_request-2.ensures.refused (search rules) t)),
       printed,

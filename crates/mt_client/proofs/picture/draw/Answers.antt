@@ -9,8 +9,7 @@ use Rattle.mt_client.proofs.picture.draw.Goals as goal
 pub returns-clause-drawn : goal.returns-clause-drawn
 returns-clause-drawn g c is t u =
     let found = rw (c.send_request.ensures.unread (search rules)) at (c.in_ok-parts.ensures.found t) in
-    let printed = rw (c.send_request.ensures.unprinted (search rules)) at (c.in_ok-print_drawing.ensures.printed u) in
-    (
+    let printed = rw (c.send_request.ensures.unprinted (search rules)) at (c.in_ok-print_drawing.ensures.printed u) in (
       c.in-Some.parts.items,
       watched_whole c.args.scope c.in-Some.parts.items _ _ (when_some _ _ c.in_ok-parts.field-0 c.in-Some.parts (search rules) found),
       printed ∙ ap (λ ps. g.O.Output.written c.args.out.now ++ drawing_text c.args.drawing ps) c.as_slice-2.ensures.value,
