@@ -9,11 +9,13 @@ use Rattle.mt_events.specs.Posts.{ended}
 use Rattle.mt_client.specs.declared.answer.Form.{Form}
 use Rattle.mt_client.specs.declared.answer.Form.TheVariants.{Done, Number, Place, Table, Opening, Posts, Followed, Never}
 use Rattle.mt_client.specs.Requests.{first_of, refuses, is_refusal, is_refusal_name, verdict}
-use Rattle.mt_client.specs.Reading.{HasPassed, IsCutOff, IsSentPart}
+use Rattle.mt_client.specs.Reading.{HasPassed, IsCutOff, IsSentPart, NoneFirst, AreSoMany}
+use Rattle.mt_client.specs.Awaited.{IsOneRefusal}
 use Rattle.mt_client.specs.Mirroring.{HasRefused}
 use Rattle.mt_client.specs.Replies.{AreBehind, IsHeaded, IsAnswer}
 use Rattle.mt_client.proofs.RequestLaws.{sent_whole}
 use Rattle.mt_client.proofs.RelayLaws.{one_passed}
+use Rattle.mt_client.proofs.OpeningLaws.{needs_line}
 use Rattle.mt_client.proofs.ReplyLaws.{no_rows}
 
 -- a line that refuses tells `no`
@@ -53,3 +55,7 @@ refused_passed form refusal before after old new refused e = (refusal ∷ [], re
 pub part_sent : {T : Type 0} (r : Result (Unit {0}) Cut) (text old new : List ℕ) → T → OnOk r (T → new ≡ old ++ text) → OnErr r (T → IsCutOff text old new) → IsSentPart text old new
 part_sent (Ok u) text old new t sent cut = sent_whole text old new (sent t)
 part_sent (Err f) text old new t sent cut = let k = cut t in record { count = k.count; out = k.out }
+
+-- where no line comes first, no refusal does
+pub refusal_needs_line : (before : List Item) → NoneFirst (AreSoMany 1) before → NoneFirst IsOneRefusal before
+refusal_needs_line before none = needs_line before (λ lines r. (r.0, [], r.2)) none

@@ -18,6 +18,12 @@ returns-clause-mirrored g c is t u =
       printed,
     )
 
+pub returns-in_err-send_request-clause-connection : goal.returns-in_err-send_request-clause-connection
+returns-in_err-send_request-clause-connection g c is t u v =
+    let p = err_from_is_err_and c.from_residual-in_err-send_request.result c.from_residual-in_err-send_request.ensures.1 in
+    let same = same_fault _ _ _ _ p.1 p.2 is in
+    inl (c.send_request.ensures.cause (search rules) v, c.in_err-send_request.ensures.cut (ap Err same) t u)
+
 pub returns-in_err-send_request-clause-part : goal.returns-in_err-send_request-clause-part
 returns-in_err-send_request-clause-part g c u = part_first _ _ _ _ (rw (c.as_slice.ensures.value, c.in_ok-watch.ensures) at (c.send_request.ensures.part u))
 
@@ -84,14 +90,18 @@ returns-in_err-mirror-clause-connection g c is t u v =
 
 pub returns-in_err-send_request-2-clause-connection : goal.returns-in_err-send_request-2-clause-connection
 returns-in_err-send_request-2-clause-connection g c is t u v =
-    inl (broken_later _ _ _ _ _ _ (c.send_request.ensures.counted v) (c.send_request.ensures.writes (search rules) v) (c.send_request-2.ensures.cause (search rules) v))
+    let p = err_from_is_err_and c.from_residual-in_err-send_request-2.result c.from_residual-in_err-send_request-2.ensures.1 in
+    let same = same_fault _ _ _ _ p.1 p.2 is in
+    let broken = broken_later _ _ _ _ _ _ (c.send_request.ensures.counted v) (c.send_request.ensures.writes (search rules) v) (c.send_request-2.ensures.cause (search rules) v) in
+    let counted = rw (c.send_request.ensures.unread (search rules)) at (c.in_ok-mirror.ensures.counted u) in
+    let reads = rw (c.send_request.ensures.unread (search rules)) at (c.in_ok-mirror.ensures.reads u) in
+    inl (broken, cut_within _ _ _ _ _ _ _ _ counted reads (λ none. (search rules)) (c.in_err-send_request-2.ensures.cut (ap Err same) t u))
 
 pub returns-in_err-follow_posts-clause-connection : goal.returns-in_err-follow_posts-clause-connection
 returns-in_err-follow_posts-clause-connection g c is t u v =
     let p = err_from_is_err_and c.from_residual-in_err-follow_posts.result c.from_residual-in_err-follow_posts.ensures.1 in
     let same = same_fault _ _ _ _ p.1 p.2 is in
     let found = rw (c.send_request.ensures.unread (search rules)) at (c.in_ok-mirror.ensures.found t) in
-    let unrefused = rw (c.send_request.ensures.unread (search rules)) at (c.in_ok-mirror.ensures.unrefused t) in
     let counted = rw (c.send_request.ensures.unread (search rules)) at (c.in_ok-mirror.ensures.counted u) in
     let reads = rw (c.send_request.ensures.unread (search rules)) at (c.in_ok-mirror.ensures.reads u) in
     let cut = rw (c.send_request-2.ensures.unread (search rules)) at (c.in_err-follow_posts.ensures.cut (ap Err same) t u) in

@@ -1,4 +1,4 @@
-use Rattle.std.proofs.Common.{rules, Err, ap, inr, ◌∙◌, ◌++◌}
+use Rattle.std.proofs.Common.{rules, Err, ap, inl, inr, ◌∙◌, ◌++◌}
 use Rattle.std.proofs.lemmas.Result.{err_from_is_err_and}
 use Rattle.mt_draw.specs.Drawings.{drawing_text}
 use Rattle.mt_client.proofs.MirrorLaws.{when_some}
@@ -20,3 +20,9 @@ returns-in_err-parts-clause-connection g c is t u v =
     let p = err_from_is_err_and c.from_residual-in_err-parts.result c.from_residual-in_err-parts.ensures.1 in
     let same = same_fault _ _ _ _ p.1 p.2 is in
     inr (rw (c.send_request.ensures.unread (search rules)) at (c.in_err-parts.ensures.cut (ap Err same) t u))
+
+pub returns-in_err-send_request-clause-connection : goal.returns-in_err-send_request-clause-connection
+returns-in_err-send_request-clause-connection g c is t u v =
+    let p = err_from_is_err_and c.from_residual-in_err-send_request.result c.from_residual-in_err-send_request.ensures.1 in
+    let same = same_fault _ _ _ _ p.1 p.2 is in
+    inl (c.send_request.ensures.cause (search rules) v, c.in_err-send_request.ensures.cut (ap Err same) t u)
