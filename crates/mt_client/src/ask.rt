@@ -50,8 +50,9 @@ pub fn ask_line<R: Input + Drop, W: Output, O: Output>(
         (λ fault. IsBroken fault (lines_left lines.old) (O.written out.old) (O.written out.new)) }
 
     // `Connection` only where calls of the reader failed, or no whole answer to the request comes first, or where calls of
-    // the writer failed and no refusal comes first, and `Output` only where calls of the output failed; where no fault of the stream stood, the last call
-    // failed then, or was the last of as many interrupted ones in succession as end a read or a send.
+    // the writer failed and no refusal comes first, and `Output` only where calls of the output failed; where no fault of
+    // the stream stood, the last call failed then, or was the last of as many interrupted ones in succession as end a
+    // read or a send.
     ensures connection { result ≡ Err ClientFault.Connection → IsTrue R.tells → IsTrue R.counts → IsTrue W.counts
         → (HasBroken (W.failed writer.old) (W.failed writer.new) (W.faults writer.old) (W.faults writer.new) × IsCut IsOneRefusal lines.old lines.new) ⊎ IsCut (λ all. (told : Bool) × IsAnswer (form_of line.now) all told) lines.old lines.new }
     ensures output { result ≡ Err ClientFault.Output → IsTrue O.counts
@@ -107,8 +108,9 @@ pub fn ask<R: Input + Drop, W: Output, O: Output>(
         (λ fault. IsBroken fault (lines_left lines.old) (O.written out.old) (O.written out.new)) }
 
     // `Connection` only where calls of the reader failed, or no whole answer to the request comes first, or where calls of
-    // the writer failed and no refusal comes first, and `Output` only where calls of the output failed; where no fault of the stream stood, the last call
-    // failed then, or was the last of as many interrupted ones in succession as end a read or a send.
+    // the writer failed and no refusal comes first, and `Output` only where calls of the output failed; where no fault of
+    // the stream stood, the last call failed then, or was the last of as many interrupted ones in succession as end a
+    // read or a send.
     ensures connection { result ≡ Err ClientFault.Connection → IsTrue R.tells → IsTrue R.counts → IsTrue W.counts
         → (HasBroken (W.failed writer.old) (W.failed writer.new) (W.faults writer.old) (W.faults writer.new) × IsCut IsOneRefusal lines.old lines.new) ⊎ IsCut (λ all. (told : Bool) × IsAnswer (form_of (request_text (map (λ word. word.now) words.now))) all told) lines.old lines.new }
     ensures output { result ≡ Err ClientFault.Output → IsTrue O.counts
