@@ -6,3 +6,5 @@ pub mod FollowLaws
 pub mod ReplyLaws
 pub mod EndingLaws
 pub mod FoundLaws
+pub mod PlaceLaws
+pub mod TellingLaws

@@ -3,4 +3,5 @@ pub mod Reading
 pub mod Mirroring
 pub mod Awaited
 pub mod Finding
+pub mod Telling
 pub mod Replies
