@@ -1,5 +1,5 @@
 -- What cannot come first where a post or the end of posts is refused, and what was read of posts.
-use Rattle.std.proofs.Common.{◌≡◌, ◌≢◌, ℕ, zero, suc, ◌+◌, ◌<◌, ◌≤◌, ◌^◌, true, false, ◌&&◌, ◌==◌, List, [], ◌∷◌, ◌++◌, map, length, refl, sym, ap, subst, ◌∙◌, arith, append_assoc, codes, decimal, Some, None, Option, inl, inr, Result, Ok, Err, OnOk}
+use Rattle.std.proofs.Common.{◌≡◌, ◌≢◌, ℕ, zero, suc, ◌+◌, ◌<◌, ◌≤◌, ◌^◌, true, false, ◌&&◌, ◌==◌, List, [], ◌∷◌, ◌++◌, map, length, refl, sym, ap, subst, ◌∙◌, arith, append_assoc, codes, decimal, Some, None, Option, inl, inr, Result, Ok, Err, IfOk, OnOk}
 use Rattle.std.specs.List.{flat_map, join_with_byte, list_all, AllByRecursion}
 use Rattle.std.proofs.lemmas.Bool.Decides.{nat_tests}
 use Rattle.std.proofs.lemmas.Bool.{false≢true}
@@ -21,6 +21,10 @@ use Rattle.mt_client.proofs.OpeningLaws.{texts_split, needs_line, unrefused_or, 
 pub on_ok : {A E : Type 0} {P : Type 0} (r : Result A E) → P → OnOk r P
 on_ok (Ok a) p = p
 on_ok (Err e) p = tt
+
+pub ok_both : {A E : Type 0} {P Q R : A → Type 0} (r : Result A E) → ((a : A) → P a → Q a → R a) → IfOk r P → IfOk r Q → IfOk r R
+ok_both (Ok a) go p q = go a p q
+ok_both (Err e) go p q = tt
 
 -- lists of lines of one length that come first are equal, and end in one place
 pub lines_alike : (xs ys : List (List ℕ)) (middle later : List Item) → length xs ≡ length ys → texts xs ++ middle ≡ texts ys ++ later → (xs ≡ ys) × (middle ≡ later)

@@ -17,7 +17,7 @@ use Rattle.mt_client.specs.Requests.{numbered_text}
 use Rattle.mt_client.specs.Reading.{texts, printed, IsCutOff, IsPart, IsBroken, IsSentPart}
 use Rattle.mt_client.specs.Mirroring.{HasRefused, IsPosted, counted_line}
 use Rattle.mt_client.specs.Finding.{watch_text, HasFound, HasWatched, opening_found}
-use Rattle.mt_client.specs.Telling.{mirror_in, mirrors_with, mirrors_by, is_due, are_due, posts_told, portion, follows_text, telling_text, in_order, portions_text, HasCome, HasTold, IsUnsaid, IsHalfTold, IsStopped, IsTelling, AreTold, HasToldPost, HasToldSome, HasToldPortion, HasToldSo, HasToldAll, HasToldAllOut, IsToldUpTo}
+use Rattle.mt_client.specs.Telling.{mirror_in, mirrors_with, mirrors_by, is_due, are_due, posts_told, portion, follows_text, telling_text, in_order, portions_text, HasCome, HasTold, IsUnsaid, IsHalfTold, IsStopped, IsBrokenOff, AreTold, HasToldPost, HasToldSome, HasToldPortion, HasToldSo, HasToldAll, HasToldAllOut, IsToldUpTo}
 use Rattle.mt_client.proofs.RequestLaws.{sent_whole, part_first, part_second}
 use Rattle.mt_client.proofs.RelayLaws.{printed-append, broken_cut}
 use Rattle.mt_client.proofs.MirrorLaws.{runs_read}
@@ -314,7 +314,7 @@ told_whole scope found before opened after begun done f h =
       h.3 ∙ ap (λ x. x ++ ended h.0) t.out,
     )
 
-pub telling_stopped : (fault : ClientFault) (scope : Scope) (found : List MirrorView) (before opened : List Item) (begun done : List ℕ) → HasFound scope before opened found → IsToldUpTo fault portion scope found opened begun done → IsTelling fault scope before begun done
+pub telling_stopped : (fault : ClientFault) (scope : Scope) (found : List MirrorView) (before opened : List Item) (begun done : List ℕ) → HasFound scope before opened found → IsToldUpTo fault portion scope found opened begun done → IsBrokenOff fault scope before begun done
 telling_stopped fault scope found before opened begun done f h =
     let s = h.so in
     let t = s.told in

@@ -4,4 +4,5 @@ pub mod Mirroring
 pub mod Awaited
 pub mod Finding
 pub mod Telling
+pub mod Due
 pub mod Replies

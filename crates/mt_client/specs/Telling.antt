@@ -107,8 +107,8 @@ abbrev pub IsStopped : ClientFault → Scope → List MirrorView → List Item �
 IsStopped fault scope mirrors before old new = IsUnsaid fault before old new ⊎ ((fault ≡ Output) × IsHalfTold scope mirrors before old new)
 
 -- the same of a whole telling: nothing had come, or the posts that had come were told
-abbrev pub IsTelling : ClientFault → Scope → List Item → List ℕ → List ℕ → Type 0
-IsTelling fault scope before old new =
+abbrev pub IsBrokenOff : ClientFault → Scope → List Item → List ℕ → List ℕ → Type 0
+IsBrokenOff fault scope before old new =
     IsUnsaid fault before old new
     ⊎ ((found : List MirrorView) × (portions : List (List PostView)) × (rest : List PostView) × (middle : List Item) × HasCome scope portions rest before middle found
         × IsStopped fault scope (mirrors_by found (in_order portions rest)) middle (old ++ posts_told found (in_order portions rest)) new)

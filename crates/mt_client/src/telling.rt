@@ -9,7 +9,7 @@ ghost use Rattle.mt_client.specs.Requests.{numbered_text};
 ghost use Rattle.mt_client.specs.Reading.{lines_left, HasBroken, IsSentPart, IsCutOff};
 ghost use Rattle.mt_client.specs.Mirroring.{HasRefused};
 ghost use Rattle.mt_client.specs.Finding.{mirror_space};
-ghost use Rattle.mt_client.specs.Telling.{mirror_in, mirrors_with, is_due, posts_told, follows_text, telling_text, in_order, HasTold, IsStopped, IsTelling, HasToldPost, HasToldPortion, HasToldAll, HasToldAllOut, IsToldUpTo};
+ghost use Rattle.mt_client.specs.Telling.{mirror_in, mirrors_with, is_due, posts_told, follows_text, telling_text, in_order, HasTold, IsStopped, IsBrokenOff, HasToldPost, HasToldPortion, HasToldAll, HasToldAllOut, IsToldUpTo};
 
 use crate::answer::is_refusal;
 use crate::fault::ClientFault;
@@ -160,9 +160,9 @@ fn tell_portion<R: Input + Drop, W: Output, O: Output>(
     ensures fresh { OnOk result (fault_of lines.new ≡ None) }
     ensures cause { result ≡ Err ClientFault.Output → IsTrue O.counts
         → HasBroken (O.failed out.old) (O.failed out.new) (O.faults out.old) (O.faults out.new) }
-    ensures counted { IsTrue R.counts → failed_calls lines.old ≤ failed_calls lines.new }
+    ensures counted { result ≡ Ok true → IsTrue R.counts → failed_calls lines.old ≤ failed_calls lines.new }
     ensures reads { OnOk result (IsTrue R.counts → last_faults lines.old ≡ [] → last_faults lines.new ≡ []) }
-    ensures printed { IsTrue O.counts → O.failed out.old ≤ O.failed out.new }
+    ensures printed { result ≡ Ok true → IsTrue O.counts → O.failed out.old ≤ O.failed out.new }
     ensures prints { OnOk result (IsTrue O.counts → O.faults out.old ≡ [] → O.faults out.new ≡ []) }
     ensures limit { limit_of lines.new ≡ limit_of lines.old }
 {
@@ -198,9 +198,7 @@ fn tell_portions<R: Input + Drop, W: Output, O: Output>(
     ensures fresh { OnOk result (fault_of lines.new ≡ None) }
     ensures cause { result ≡ Err ClientFault.Output → IsTrue O.counts
         → HasBroken (O.failed out.old) (O.failed out.new) (O.faults out.old) (O.faults out.new) }
-    ensures counted { IsTrue R.counts → failed_calls lines.old ≤ failed_calls lines.new }
     ensures reads { OnOk result (IsTrue R.counts → last_faults lines.old ≡ [] → last_faults lines.new ≡ []) }
-    ensures printed { IsTrue O.counts → O.failed out.old ≤ O.failed out.new }
     ensures prints { OnOk result (IsTrue O.counts → O.faults out.old ≡ [] → O.faults out.new ≡ []) }
     ensures limit { limit_of lines.new ≡ limit_of lines.old }
 {
@@ -248,7 +246,7 @@ pub fn tell<R: Input + Drop, W: Output, O: Output>(
     // Up to a fault nothing had come, and nothing was printed, or the posts that had come were told. Where the output
     // failed, a part of one more text was printed, that of a post that is due, or of lines that had come.
     ensures broken { IsTrue R.tells → IsTrue O.tells → IfErr result
-        (λ fault. IsTelling fault scope (lines_left lines.old) (O.written out.old) (O.written out.new)) }
+        (λ fault. IsBrokenOff fault scope (lines_left lines.old) (O.written out.old) (O.written out.new)) }
 
     // A part of the requests went out, that of the watcher and some for posts, and nothing else.
     ensures part { IsTrue W.tells
