@@ -116,6 +116,10 @@ mirror_is n at xs m rising is there begun = go (here n at xs) refl
     go true e = ap (λ o. option_map_or (λ (y : MirrorView). y) o (mirror_begun n)) (sym (there e) ∙ ap (λ b. cond b (slice_get xs at) None) (sym e) ∙ sym row)
     go false e = begun e ∙ ap (λ o. option_map_or (λ (y : MirrorView). y) o (mirror_begun n)) (ap (λ b. cond b (slice_get xs at) None) (sym e) ∙ sym row)
 
+pub found_there : (n k at : ℕ) (shown old : List MirrorView) (m : MirrorView) → k ≡ n → shown ≡ old → IsTrue (rises mirror_space old) → at ≡ place k shown
+    → (here k at old ≡ true → slice_get old at ≡ Some m) → (here k at old ≡ false → m ≡ mirror_begun k) → m ≡ mirror_in old n
+found_there n k at shown old m same is rising e there begun = mirror_is k at old m rising (e ∙ ap (place k) is) there begun ∙ ap (mirror_in old) same
+
 -- it is of its namespace
 pub mirror_of : (n : ℕ) (xs : List MirrorView) → mirror_space (mirror_in xs n) ≡ n
 mirror_of n xs = go (row_at mirror_space n xs) refl
@@ -125,11 +129,11 @@ mirror_of n xs = go (row_at mirror_space n xs) refl
     go (Some m) e = row_at-key mirror_space n xs m e
 
 -- a post applied in that place
-pub applied_there : (p : PostView) (at : ℕ) (m x : MirrorView) (old middle new : List MirrorView) → m ≡ mirror_in old p.space → x ≡ mirrored m p → at ≡ place p.space old → middle ≡ without_here p.space at old → new ≡ insert middle at x
+pub applied_there : (p : PostView) (k at : ℕ) (m x : MirrorView) (shown old middle new : List MirrorView) → k ≡ p.space → shown ≡ old → m ≡ mirror_in old p.space → x ≡ mirrored m p → at ≡ place k shown → middle ≡ without_here k at old → new ≡ insert middle at x
     → new ≡ mirrors_with old p
-applied_there p at m x old middle new is made there taken e =
-    let whole : x ≡ mirrored (mirror_in old p.space) p = made ∙ ap (λ k. mirrored k p) is in
-    placed p.space at x old middle new (ap mirror_space whole ∙ mirror_of p.space old) there taken e ∙ ap (λ y. put mirror_space y old) whole
+applied_there p k at m x shown old middle new same shown_is is made there taken e =
+    let whole : x ≡ mirrored (mirror_in old p.space) p = made ∙ ap (λ y. mirrored y p) is in
+    placed k at x old middle new (ap mirror_space whole ∙ mirror_of p.space old ∙ sym same) (there ∙ ap (place k) shown_is) taken e ∙ ap (λ y. put mirror_space y old) whole
 
 pub rises_with : (p : PostView) (old new : List MirrorView) → IsTrue (rises mirror_space old) → new ≡ mirrors_with old p → IsTrue (rises mirror_space new)
 rises_with p old new rising e = ap (rises mirror_space) e ∙ rises-put mirror_space (mirrored (mirror_in old p.space) p) old rising
