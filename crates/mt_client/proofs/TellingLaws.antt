@@ -1,5 +1,5 @@
 -- Posts that were told, one after another, and what stands behind them.
-use Rattle.std.proofs.Common.{◌≡◌, ◌≢◌, ℕ, zero, suc, ◌+◌, ◌≤◌, MatchBool, IfOk, Result, Ok, Err, OnOk, Bool, true, false, ◌&&◌, List, [], ◌∷◌, ◌++◌, length, replicate, refl, sym, ap, subst, ◌∙◌, arith, append_assoc, length-append, codes, ◌⊎◌, inl, inr}
+use Rattle.std.proofs.Common.{◌≡◌, ◌≢◌, ℕ, zero, suc, ◌+◌, ◌≤◌, MatchBool, IfOk, IfErr, Result, Ok, Err, OnOk, Bool, true, false, ◌&&◌, List, [], ◌∷◌, ◌++◌, length, replicate, refl, sym, ap, subst, ◌∙◌, arith, append_assoc, length-append, codes, ◌⊎◌, inl, inr}
 use Rattle.std.proofs.lemmas.List.{append-nil}
 use Rattle.std.proofs.lemmas.Grind.{flat_map-append}
 use Rattle.std.specs.List.{flat_map, AllByRecursion}
@@ -24,9 +24,9 @@ use Rattle.mt_client.proofs.MirrorLaws.{runs_read}
 use Rattle.mt_client.proofs.FoundLaws.{watched_whole}
 
 -- posts behind posts
-pub all_both : {X : Type 0} {P : X → Type 0} (xs ys : List X) → AllByRecursion P xs → AllByRecursion P ys → AllByRecursion P (xs ++ ys)
-all_both [] ys all more = more
-all_both (x ∷ xs) ys all more = (all.0, all_both xs ys all.1 more)
+pub all_both : {X : Type 0} (P : X → Type 0) (xs ys : List X) → AllByRecursion P xs → AllByRecursion P ys → AllByRecursion P (xs ++ ys)
+all_both P [] ys all more = more
+all_both P (x ∷ xs) ys all more = (all.0, all_both P xs ys all.1 more)
 
 due_both : (scope : Scope) (ps qs : List PostView) (old : List MirrorView) → are_due scope old ps ≡ true → are_due scope (mirrors_by old ps) qs ≡ true → are_due scope old (ps ++ qs) ≡ true
 due_both scope [] qs old h k = k
@@ -48,7 +48,7 @@ pub both_told : (scope : Scope) (ps qs : List PostView) (s t : List ℕ) (old mi
     → AreTold scope ps s old mid before middle begun between → AreTold scope qs t mid new middle after between done → AreTold scope (ps ++ qs) (s ++ t) old new before after begun done
 both_told scope ps qs s t old mid new before middle after begun between done f h = record {
   lines = f.lines ++ h.lines;
-  valid = all_both ps qs f.valid h.valid;
+  valid = all_both IsPost ps qs f.valid h.valid;
   due = due_both scope ps qs old f.due (subst (λ ms. are_due scope ms qs ≡ true) f.make h.due);
   make = h.make ∙ ap (λ ms. mirrors_by ms qs) f.make ∙ sym (by_both ps qs old);
   read = runs_read f.lines h.lines before middle after f.read h.read;
@@ -114,6 +114,10 @@ stopped_post f scope first post old before middle after begun done there p valid
     go NoMemory same half = inl (same (λ e. let no : ◌≡◌ {A = ClientFault} NoMemory Output = e in cc))
     go Output same half = let h = half refl in inr (refl, half_told scope first post old before middle after begun done there p valid h.0 h.1)
 
+pub when_false : (A B : Type 0) (b : Bool) → b ≡ false → MatchBool b A B → B
+when_false A B false e m = m
+when_false A B true e m = cc
+
 -- so many posts
 pub none_yet : (scope : Scope) (old : List MirrorView) (before : List Item) (begun : List ℕ) → HasToldSome 0 scope old old before before begun begun
 none_yet scope old before begun = record { posts = []; many = refl; told = none_told scope old before begun }
@@ -177,7 +181,7 @@ whole_more count scope old mid new before middle after begun between done f h =
     ap (λ x. said f.portions ++ x) (sym (append-nil (followed_text h.posts (count_text count)))) ∙ sym (flat_map-append (λ posts. followed_text posts (count_text count)) f.portions (h.posts ∷ [])) in
     record {
       portions = f.portions ++ h.posts ∷ [];
-      whole = all_both f.portions (h.posts ∷ []) f.whole (h.many, tt);
+      whole = all_both (λ (posts : List PostView). length posts ≡ count) f.portions (h.posts ∷ []) f.whole (h.many, tt);
       told = subst (λ x. AreTold scope x (said (f.portions ++ h.posts ∷ [])) old new before after begun done) posts
           (subst (λ x. AreTold scope (flat_map (λ posts. posts) f.portions ++ h.posts) x old new before after begun done) text
           (both_told scope (flat_map (λ posts. posts) f.portions) h.posts (said f.portions) (followed_text h.posts (count_text count)) old mid new before middle after begun between done f.told h.told));
@@ -195,7 +199,7 @@ so_behind count scope old mid new before middle after begun between done f h =
     record {
       portions = f.portions ++ h.portions;
       rest = h.rest;
-      whole = all_both f.portions h.portions f.whole h.whole;
+      whole = all_both (λ (posts : List PostView). length posts ≡ count) f.portions h.portions f.whole h.whole;
       within = h.within;
       told = subst (λ x. AreTold scope x (portions_text count (f.portions ++ h.portions) h.rest) old new before after begun done) posts
           (subst (λ x. AreTold scope (all f.portions ++ in_order h.portions h.rest) x old new before after begun done) text
@@ -240,8 +244,16 @@ pub up_to_some : (fault : ClientFault) (count n : ℕ) (scope : Scope) (old new 
 up_to_some fault count n scope old new before middle begun between done le f s =
     record { made = new; middle = middle; between = between; so = so_few count n scope old new before middle begun between le f; stopped = s }
 
+pub end_broken : (r : Result Bool ClientFault) (count n : ℕ) (scope : Scope) (old new : List MirrorView) (before middle : List Item) (begun done : List ℕ) → r ≢ Err Output → n ≤ count → HasToldSome n scope old new before middle begun done
+    → IfErr r (λ fault. IsToldUpTo fault count scope old before begun done)
+end_broken (Ok b) count n scope old new before middle begun done kind le f = tt
+end_broken (Err k) count n scope old new before middle begun done kind le f = up_to_some k count n scope old new before middle begun done done le f (inl (unsaid k middle done done (λ e. kind (ap Err e)) refl))
+
 pub up_to_none : (fault : ClientFault) (count : ℕ) (scope : Scope) (old : List MirrorView) (before : List Item) (begun done : List ℕ) → IsUnsaid fault before begun done → IsToldUpTo fault count scope old before begun done
 up_to_none fault count scope old before begun done u = record { made = old; middle = before; between = begun; so = so_none count scope old before begun; stopped = inl u }
+
+pub no_memory_told : (fault : ClientFault) (count : ℕ) (scope : Scope) (old : List MirrorView) (before : List Item) (begun : List ℕ) → fault ≡ NoMemory → IsToldUpTo fault count scope old before begun begun
+no_memory_told fault count scope old before begun kind = up_to_none fault count scope old before begun begun (subst (λ f. IsUnsaid f before begun begun) (sym kind) refl)
 
 -- a refusal that is printed, in part or whole
 pub refused_at_once : (count : ℕ) (scope : Scope) (refusal : List ℕ) (old : List MirrorView) (before after : List Item) (begun done : List ℕ) → HasRefused refusal before after → done ≡ begun ++ ended refusal → HasToldAllOut count scope old before after begun done
