@@ -6,5 +6,6 @@ pub mod FollowLaws
 pub mod ReplyLaws
 pub mod EndingLaws
 pub mod FoundLaws
+pub mod SendingLaws
 pub mod PlaceLaws
 pub mod TellingLaws

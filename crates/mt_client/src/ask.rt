@@ -3,6 +3,7 @@ ghost use Rattle.std.specs.Prelude.{◌≡◌, Bool, true, false, [], ◌++◌, 
 ghost use Rattle.mt_lines.specs.Reading.{last_faults, fault_of, limit_of};
 ghost use Rattle.mt_events.specs.Posts.{ended};
 ghost use Rattle.mt_client.specs.Requests.{request_text, form_of};
+ghost use Rattle.mt_client.specs.Awaited.{IsOneRefusal};
 ghost use Rattle.mt_client.specs.Replies.{IsAnswer};
 ghost use Rattle.mt_client.specs.Reading.{lines_left, HasPassed, HasBroken, IsBroken, IsSentPart, IsCut};
 
@@ -48,11 +49,12 @@ pub fn ask_line<R: Input + Drop, W: Output, O: Output>(
     ensures broken { IsTrue R.tells → IsTrue O.tells → IfErr result
         (λ fault. IsBroken fault (lines_left lines.old) (O.written out.old) (O.written out.new)) }
 
-    // `Connection` only where calls of the reader or the writer failed, or no whole answer to the request comes
-    // first, and `Output` only where calls of the output failed; where no fault of the stream stood, the last call
-    // failed then, or was the last of as many interrupted ones in succession as end a read or a send.
+    // `Connection` only where calls of the reader failed, or no whole answer to the request comes first, or where calls of
+    // the writer failed and no refusal comes first, and `Output` only where calls of the output failed; where no fault of
+    // the stream stood, the last call failed then, or was the last of as many interrupted ones in succession as end a
+    // read or a send.
     ensures connection { result ≡ Err ClientFault.Connection → IsTrue R.tells → IsTrue R.counts → IsTrue W.counts
-        → HasBroken (W.failed writer.old) (W.failed writer.new) (W.faults writer.old) (W.faults writer.new) ⊎ IsCut (λ all. (told : Bool) × IsAnswer (form_of line.now) all told) lines.old lines.new }
+        → (HasBroken (W.failed writer.old) (W.failed writer.new) (W.faults writer.old) (W.faults writer.new) × IsCut IsOneRefusal lines.old lines.new) ⊎ IsCut (λ all. (told : Bool) × IsAnswer (form_of line.now) all told) lines.old lines.new }
     ensures output { result ≡ Err ClientFault.Output → IsTrue O.counts
         → HasBroken (O.failed out.old) (O.failed out.new) (O.faults out.old) (O.faults out.new) }
 
@@ -105,11 +107,12 @@ pub fn ask<R: Input + Drop, W: Output, O: Output>(
     ensures broken { IsTrue R.tells → IsTrue O.tells → IfErr result
         (λ fault. IsBroken fault (lines_left lines.old) (O.written out.old) (O.written out.new)) }
 
-    // `Connection` only where calls of the reader or the writer failed, or no whole answer to the request comes
-    // first, and `Output` only where calls of the output failed; where no fault of the stream stood, the last call
-    // failed then, or was the last of as many interrupted ones in succession as end a read or a send.
+    // `Connection` only where calls of the reader failed, or no whole answer to the request comes first, or where calls of
+    // the writer failed and no refusal comes first, and `Output` only where calls of the output failed; where no fault of
+    // the stream stood, the last call failed then, or was the last of as many interrupted ones in succession as end a
+    // read or a send.
     ensures connection { result ≡ Err ClientFault.Connection → IsTrue R.tells → IsTrue R.counts → IsTrue W.counts
-        → HasBroken (W.failed writer.old) (W.failed writer.new) (W.faults writer.old) (W.faults writer.new) ⊎ IsCut (λ all. (told : Bool) × IsAnswer (form_of (request_text (map (λ word. word.now) words.now))) all told) lines.old lines.new }
+        → (HasBroken (W.failed writer.old) (W.failed writer.new) (W.faults writer.old) (W.faults writer.new) × IsCut IsOneRefusal lines.old lines.new) ⊎ IsCut (λ all. (told : Bool) × IsAnswer (form_of (request_text (map (λ word. word.now) words.now))) all told) lines.old lines.new }
     ensures output { result ≡ Err ClientFault.Output → IsTrue O.counts
         → HasBroken (O.failed out.old) (O.failed out.new) (O.faults out.old) (O.faults out.new) }
 

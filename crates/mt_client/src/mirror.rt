@@ -203,12 +203,13 @@ pub fn mirror<R: Input + Drop, W: Output, O: Output>(
     ensures part { IsTrue W.tells
         → IsSentPart (requests_text space count) (W.written writer.old) (W.written writer.new) }
 
-    // `Connection` only where calls of the reader or the writer failed, or the lines do not begin with an opening of
-    // the namespace, so many posts that follow it, and their end, nor with a refusal in the place of one of these.
+    // `Connection` only where calls of the reader failed, or the lines do not begin with an opening of the namespace, so
+    // many posts that follow it, and their end, nor with a refusal in the place of one of these, or where calls of the
+    // writer failed and no refusal comes first.
     // Where no fault of the stream stood, the last call failed then, or was the last of as many interrupted ones in
     // succession as end a read or a send. So it is with `Output`.
     ensures connection { result ≡ Err ClientFault.Connection → IsTrue R.tells → IsTrue R.counts → IsTrue W.counts
-        → HasBroken (W.failed writer.old) (W.failed writer.new) (W.faults writer.old) (W.faults writer.new) ⊎ IsCut (IsRefusedOr (IsMirroring space count)) lines.old lines.new }
+        → (HasBroken (W.failed writer.old) (W.failed writer.new) (W.faults writer.old) (W.faults writer.new) × IsCut IsOneRefusal lines.old lines.new) ⊎ IsCut (IsRefusedOr (IsMirroring space count)) lines.old lines.new }
 
     // Nothing was printed where the output did not fail, and `Output` comes only where calls of it failed.
     ensures kept { IfErr result (λ fault. fault ≢ ClientFault.Output → IsTrue O.tells

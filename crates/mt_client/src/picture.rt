@@ -6,7 +6,7 @@ ghost use Rattle.mt_events.specs.Posts.{ended};
 ghost use Rattle.mt_draw.specs.Drawings.{drawing_text};
 ghost use Rattle.mt_client.specs.Reading.{lines_left, HasBroken, IsSentPart, IsCut};
 ghost use Rattle.mt_client.specs.Mirroring.{HasRefused};
-ghost use Rattle.mt_client.specs.Awaited.{IsRefusedOr};
+ghost use Rattle.mt_client.specs.Awaited.{IsOneRefusal, IsRefusedOr};
 ghost use Rattle.mt_client.specs.Finding.{watch_text, HasWatched, IsFinding};
 
 use crate::fault::ClientFault;
@@ -96,11 +96,11 @@ pub fn draw<R: Input + Drop, W: Output, O: Output>(
     ensures part { IsTrue W.tells
         → IsSentPart (ended (watch_text scope)) (W.written writer.old) (W.written writer.new) }
 
-    // `Connection` only where calls of the reader or the writer failed, or the lines begin neither with such an
-    // opening nor with a refusal. Where no fault of the stream stood, the last call failed then, or was the last of as
+    // `Connection` only where calls of the reader failed, or the lines begin neither with such an opening nor with a
+    // refusal, or where calls of the writer failed and no refusal comes first. Where no fault of the stream stood, the last call failed then, or was the last of as
     // many interrupted ones in succession as end a read or a send. So it is with `Output`.
     ensures connection { result ≡ Err ClientFault.Connection → IsTrue R.tells → IsTrue R.counts → IsTrue W.counts
-        → HasBroken (W.failed writer.old) (W.failed writer.new) (W.faults writer.old) (W.faults writer.new) ⊎ IsCut (IsRefusedOr (IsFinding scope)) lines.old lines.new }
+        → (HasBroken (W.failed writer.old) (W.failed writer.new) (W.faults writer.old) (W.faults writer.new) × IsCut IsOneRefusal lines.old lines.new) ⊎ IsCut (IsRefusedOr (IsFinding scope)) lines.old lines.new }
 
     // Nothing was printed where the output did not fail, and `Output` comes only where calls of it failed.
     ensures kept { IfErr result (λ fault. fault ≢ ClientFault.Output → IsTrue O.tells

@@ -27,6 +27,8 @@ fn pass_refusal<R: Input + Drop, O: Output>(
         → O.written out.new ≡ O.written out.old ++ ended (last_line lines.new)) }
     ensures broken { IsTrue R.tells → IsTrue O.tells → IfErr result
         (λ fault. IsBroken fault (lines_left lines.old) (O.written out.old) (O.written out.new)) }
+    ensures cut { result ≡ Err ClientFault.Connection → IsTrue R.tells → IsTrue R.counts
+        → IsCut IsOneRefusal lines.old lines.new }
     ensures kept { OnErr result (result ≢ Err ClientFault.Output → IsTrue O.tells
         → O.written out.new ≡ O.written out.old) }
     ensures cause { result ≡ Err ClientFault.Output → IsTrue O.counts
@@ -64,6 +66,8 @@ pub(crate) fn send_request<R: Input + Drop, W: Output, O: Output>(
         → O.written out.new ≡ O.written out.old ++ ended (last_line lines.new) }
     ensures broken { IsTrue R.tells → IsTrue O.tells → IfErr result
         (λ fault. IsBroken fault (lines_left lines.old) (O.written out.old) (O.written out.new)) }
+    ensures cut { result ≡ Err ClientFault.Connection → IsTrue R.tells → IsTrue R.counts
+        → IsCut IsOneRefusal lines.old lines.new }
     ensures kept { OnErr result (result ≢ Err ClientFault.Output → IsTrue O.tells
         → O.written out.new ≡ O.written out.old) }
     // It did not go out only where calls of the writer failed.
