@@ -14,7 +14,7 @@ use Rattle.mt_events.specs.Mirrors.{MirrorView}
 use Rattle.mt_events.specs.Posts.{ended}
 use Rattle.mt_events.specs.declared.opening.Part.{Part}
 use Rattle.mt_events.specs.declared.opening.Scope.{Scope}
-use Rattle.mt_events.specs.declared.opening.Scope.TheVariants.{One}
+use Rattle.mt_events.specs.declared.opening.Scope.TheVariants.{One, All}
 use Rattle.mt_events.specs.Texts.{count_text, part_text, lines_of_parts, opening_text}
 use Rattle.mt_client.specs.declared.opening.Heading.{Heading}
 use Rattle.mt_client.specs.Requests.{is_refusal}
@@ -242,3 +242,10 @@ opening_needs_finding space before none lines later (inr k) e =
       shown = record { each = (k.shown, tt); counted = one_counted k.found k.shown; of = ap (λ n. n ∷ []) k.of };
       all = k.all ∙ sym (one_opening k.found);
     })) e
+
+-- the namespaces of a scope rise
+pub rises_of : (scope : Scope) (parts : List MirrorView) → AreOf scope parts → IsTrue (rises mirror_space parts)
+rises_of All parts of = of
+rises_of (One space) [] of = let no : [] ≡ space ∷ [] = of in cc
+rises_of (One space) (m ∷ []) of = refl
+rises_of (One space) (m ∷ n ∷ parts) of = let no : m.space ∷ (n.space ∷ map mirror_space parts) ≡ space ∷ [] = of in cc

@@ -1,5 +1,5 @@
 -- Posts that were told, one after another, and what stands behind them.
-use Rattle.std.proofs.Common.{◌≡◌, ◌≢◌, ℕ, zero, suc, ◌+◌, ◌≤◌, MatchBool, IfOk, IfErr, Result, Ok, Err, OnOk, Bool, true, false, ◌&&◌, List, [], ◌∷◌, ◌++◌, length, replicate, refl, sym, ap, subst, ◌∙◌, arith, append_assoc, length-append, codes, ◌⊎◌, inl, inr}
+use Rattle.std.proofs.Common.{◌≡◌, ◌≢◌, ℕ, zero, suc, ◌+◌, ◌≤◌, MatchBool, MatchOption, Option, None, IfOk, IfErr, Result, Ok, Err, OnOk, OnErr, Bool, true, false, ◌&&◌, List, [], ◌∷◌, ◌++◌, length, replicate, refl, sym, ap, subst, ◌∙◌, arith, append_assoc, length-append, codes, ◌⊎◌, inl, inr}
 use Rattle.std.proofs.lemmas.List.{append-nil}
 use Rattle.std.proofs.lemmas.Grind.{flat_map-append}
 use Rattle.std.specs.List.{flat_map, AllByRecursion}
@@ -118,6 +118,9 @@ pub when_false : (A B : Type 0) (b : Bool) → b ≡ false → MatchBool b A B �
 when_false A B false e m = m
 when_false A B true e m = cc
 
+pub when_none : {X : Type 0} (A : Type 0) (P : X → Type 0) (o : Option X) → o ≡ None → MatchOption o A P → A
+when_none A P o e m = subst (λ y. MatchOption y A P) e m
+
 -- so many posts
 pub none_yet : (scope : Scope) (old : List MirrorView) (before : List Item) (begun : List ℕ) → HasToldSome 0 scope old old before before begun begun
 none_yet scope old before begun = record { posts = []; many = refl; told = none_told scope old before begun }
@@ -221,6 +224,9 @@ pub up_to_behind : (fault : ClientFault) (count : ℕ) (scope : Scope) (old mid 
 up_to_behind fault count scope old mid before middle begun between done f h =
     record { made = h.made; middle = h.middle; between = h.between; so = so_behind count scope old mid h.made before middle h.middle begun between h.between f h.so; stopped = h.stopped }
 
+pub up_to_whole : (count : ℕ) (scope : Scope) (old new : List MirrorView) (before middle : List Item) (begun done : List ℕ) → HasToldWhole count scope old new before middle begun done → IsToldUpTo Connection count scope old before begun done
+up_to_whole count scope old new before middle begun done f = record { made = new; middle = middle; between = done; so = so_whole count scope old new before middle begun done f; stopped = inl refl }
+
 -- the line behind so many posts
 pub all_told : {T O : Type 0} (r : Result Bool ClientFault) (count n : ℕ) (scope : Scope) (refusal : List ℕ) (old new : List MirrorView) (before middle after : List Item) (begun done : List ℕ) → n ≡ count → (T → O → HasToldSome n scope old new before middle begun done)
     → IfOk r (λ going. T → MatchBool going (middle ≡ texts (counted_line count ∷ []) ++ after) (HasRefused refusal middle after))
@@ -293,6 +299,9 @@ follows_whole count k old new e = (k, sent_whole (follows_text count k) old new 
 pub telling_first : (scope : Scope) (old new : List ℕ) → IsSentPart (ended (watch_text scope)) old new → (times : ℕ) × IsSentPart (telling_text scope times) old new
 telling_first scope old new p = (0, part_first (ended (watch_text scope)) (follows_text portion 0) old new p)
 
+pub telling_sent : (scope : Scope) (old new : List ℕ) → new ≡ old ++ ended (watch_text scope) → (times : ℕ) × IsSentPart (telling_text scope times) old new
+telling_sent scope old new e = telling_first scope old new (sent_whole (ended (watch_text scope)) old new e)
+
 pub telling_second : (scope : Scope) (old mid new : List ℕ) → mid ≡ old ++ ended (watch_text scope) → ((times : ℕ) × IsSentPart (follows_text portion times) mid new) → (times : ℕ) × IsSentPart (telling_text scope times) old new
 telling_second scope old mid new e p = (p.0, part_second (ended (watch_text scope)) (follows_text portion p.0) old mid new e p.1)
 
@@ -339,3 +348,30 @@ telling_stopped fault scope found before opened begun done f h =
       subst (λ x. IsStopped fault scope (mirrors_by found (in_order s.portions s.rest)) h.middle x done) t.out
       (subst (λ ms. IsStopped fault scope ms h.middle h.between done) t.make h.stopped),
     )
+
+pub stopped_behind : (r : Result (Unit {0}) ClientFault) (scope : Scope) (found : List MirrorView) (before opened : List Item) (begun done : List ℕ) → HasFound scope before opened found → IfErr r (λ fault. IsToldUpTo fault portion scope found opened begun done)
+    → IfErr r (λ fault. IsBrokenOff fault scope before begun done)
+stopped_behind (Ok u) scope found before opened begun done f h = tt
+stopped_behind (Err k) scope found before opened begun done f h = telling_stopped k scope found before opened begun done f h
+
+pub told_behind : (T U Y : Type 0) (r : Result (Unit {0}) ClientFault) (scope : Scope) (found : List MirrorView) (before opened after : List Item) (begun done : List ℕ) → (T → HasFound scope before opened found) → OnOk r (T → U → HasToldAllOut portion scope found opened after begun done)
+    → OnOk r (T → U → Y ⊎ ((mirrors : List MirrorView) × (portions : List (List PostView)) × (rest : List PostView) × (refusal : List ℕ) × HasTold scope portions rest refusal before after mirrors × (done ≡ begun ++ posts_told mirrors (in_order portions rest) ++ ended refusal)))
+told_behind T U Y (Ok x) scope found before opened after begun done f h = λ t u. inr (told_whole scope found before opened after begun done (f t) (h t u))
+told_behind T U Y (Err k) scope found before opened after begun done f h = tt
+
+-- a refusal in the place of an opening
+pub refused_out : (T U Y : Type 0) (r : Result (Unit {0}) ClientFault) (refusal : List ℕ) (before after : List Item) (old new : List ℕ) → (T → HasRefused refusal before after) → OnOk r (U → new ≡ old ++ ended refusal)
+    → OnOk r (T → U → ((x : List ℕ) × HasRefused x before after × (new ≡ old ++ ended x)) ⊎ Y)
+refused_out T U Y (Ok u) refusal before after old new h e = λ t v. inl (refusal, h t, e v)
+refused_out T U Y (Err f) refusal before after old new h e = tt
+
+pub cut_told : (T Q : Type 0) (r : Result (Unit {0}) ClientFault) → T → OnErr r (T → Q) → OnErr r Q
+cut_told T Q (Ok u) t h = tt
+cut_told T Q (Err f) t h = h t
+
+pub refused_part : (r : Result (Unit {0}) ClientFault) (scope : Scope) (refusal : List ℕ) (before after : List Item) (old new : List ℕ) → HasRefused refusal before after → IfErr r (λ f. f ≡ Output) → OnErr r (IsCutOff (ended refusal) old new)
+    → IfErr r (λ fault. IsBrokenOff fault scope before old new)
+refused_part (Ok u) scope refusal before after old new h kind cut = tt
+refused_part (Err f) scope refusal before after old new h kind cut =
+    let part : IsUnsaid Output before old new = broken_cut Output refusal before after old new h.read refl cut in
+    inl (subst (λ k. IsUnsaid k before old new) (sym kind) part)

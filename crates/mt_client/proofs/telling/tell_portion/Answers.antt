@@ -1,4 +1,4 @@
-use Rattle.std.proofs.Common.{Ok, refl, ap}
+use Rattle.std.proofs.Common.{rules, Ok, refl, ap}
 use Rattle.std.proofs.lemmas.Result.{err_from_is_err_and}
 use Rattle.mt_lines.specs.Reading.{last_line}
 use Rattle.mt_client.specs.declared.fault.ClientFault.TheVariants.{Output}
@@ -28,6 +28,7 @@ pub returns-in_err-print_line-clause-broken : goal.returns-in_err-print_line-cla
 returns-in_err-print_line-clause-broken g c t u =
     let p = err_from_is_err_and c.from_residual-in_err-print_line.result c.from_residual-in_err-print_line.ensures.1 in
     let f = c.in_err-print_line.field-0.0 in
+    let told = rw (c.send_request.ensures.unread (search rules), c.send_request.ensures.unprinted (search rules)) at (c.in_ok-tell_posts.ensures.told t u) in
     rw (p.1, p.2)
     (refusal_cut f c.args.count c.args.scope (last_line c.tell_posts.new.lines) c.args.mirrors.now.items _ _ _ _ _ c.in_err-print_line.ensures.kind
-    (when_false _ _ _ c.if-branch.false (c.in_ok-tell_posts.ensures.told t u)) (rw c.line.ensures at c.in_err-print_line.ensures.cut u))
+    (when_false _ _ _ c.if-branch.false told) (rw c.line.ensures at c.in_err-print_line.ensures.cut u))
