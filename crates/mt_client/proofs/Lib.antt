@@ -9,3 +9,4 @@ pub mod FoundLaws
 pub mod SendingLaws
 pub mod PlaceLaws
 pub mod TellingLaws
+pub mod AheadLaws

@@ -6,10 +6,12 @@ ghost use Rattle.mt_events.specs.Mirrors.{MirrorView};
 ghost use Rattle.mt_events.specs.Posts.{PostView, ended};
 ghost use Rattle.mt_told.specs.Told.{told_text};
 ghost use Rattle.mt_client.specs.Requests.{numbered_text};
-ghost use Rattle.mt_client.specs.Reading.{lines_left, HasBroken, IsSentPart, IsCutOff};
+ghost use Rattle.mt_client.specs.Reading.{lines_left, HasBroken, IsSentPart, IsCutOff, NoneFirst, IsCut};
 ghost use Rattle.mt_client.specs.Mirroring.{HasRefused};
+ghost use Rattle.mt_client.specs.Awaited.{IsOneRefusal, IsRefusedOr};
 ghost use Rattle.mt_client.specs.Finding.{mirror_space};
 ghost use Rattle.mt_client.specs.Telling.{mirror_in, mirrors_with, is_due, posts_told, follows_text, telling_text, in_order, HasTold, IsStopped, IsBrokenOff, HasToldPost, HasToldPortion, HasToldAll, HasToldAllOut, IsToldUpTo};
+ghost use Rattle.mt_client.specs.Due.{IsDuePost, AreDuePosts, AreDuePortions, IsTelling, IsOnlyApplied, AreOnlyApplied};
 
 use crate::answer::is_refusal;
 use crate::fault::ClientFault;
@@ -82,6 +84,11 @@ fn tell_post<R: Input + Drop, O: Output>(
     ensures rising { OnOk result (IsTrue (rises mirror_space mirrors.new.items)) }
     ensures broken { IsTrue R.tells → IsTrue O.tells → IfErr result
         (λ fault. IsStopped fault scope mirrors.old.items (lines_left lines.old) (O.written out.old) (O.written out.new)) }
+    ensures applied { result ≡ Ok true → IsTrue R.tells
+        → IsOnlyApplied mirrors.old.items mirrors.new.items (lines_left lines.old) (lines_left lines.new) }
+    ensures unrefused { result ≡ Ok true → IsTrue R.tells → NoneFirst IsOneRefusal (lines_left lines.old) }
+    ensures cut { result ≡ Err ClientFault.Connection → IsTrue R.tells → IsTrue R.counts
+        → IsCut (IsRefusedOr (IsDuePost scope mirrors.old.items)) lines.old lines.new }
     ensures fresh { OnOk result (fault_of lines.new ≡ None) }
     ensures cause { result ≡ Err ClientFault.Output → IsTrue O.counts
         → HasBroken (O.failed out.old) (O.failed out.new) (O.faults out.old) (O.faults out.new) }
@@ -118,6 +125,10 @@ fn tell_posts<R: Input + Drop, O: Output>(
     ensures rising { OnOk result (IsTrue (rises mirror_space mirrors.new.items)) }
     ensures broken { IsTrue R.tells → IsTrue O.tells → IfErr result
         (λ fault. IsToldUpTo fault count scope mirrors.old.items (lines_left lines.old) (O.written out.old) (O.written out.new)) }
+    ensures applied { result ≡ Ok true → IsTrue R.tells
+        → AreOnlyApplied count scope mirrors.old.items mirrors.new.items (lines_left lines.old) (lines_left lines.new) }
+    ensures cut { result ≡ Err ClientFault.Connection → IsTrue R.tells → IsTrue R.counts
+        → IsCut (AreDuePosts count scope mirrors.old.items) lines.old lines.new }
     ensures fresh { OnOk result (fault_of lines.new ≡ None) }
     ensures cause { result ≡ Err ClientFault.Output → IsTrue O.counts
         → HasBroken (O.failed out.old) (O.failed out.new) (O.faults out.old) (O.faults out.new) }
@@ -157,6 +168,12 @@ fn tell_portion<R: Input + Drop, W: Output, O: Output>(
         → W.written writer.new ≡ W.written writer.old ++ ended (numbered_text (codes "follow") count) }
     ensures part { IsTrue W.tells
         → IsSentPart (ended (numbered_text (codes "follow") count)) (W.written writer.old) (W.written writer.new) }
+    ensures applied { result ≡ Ok true → IsTrue R.tells
+        → AreOnlyApplied count scope mirrors.old.items mirrors.new.items (lines_left lines.old) (lines_left lines.new) }
+    ensures connection { result ≡ Err ClientFault.Connection → IsTrue R.tells → IsTrue R.counts → IsTrue W.counts
+        → HasBroken (W.failed writer.old) (W.failed writer.new) (W.faults writer.old) (W.faults writer.new) ⊎ IsCut (AreDuePosts count scope mirrors.old.items) lines.old lines.new }
+    ensures wrote { result ≡ Ok true → IsTrue W.counts → W.failed writer.old ≤ W.failed writer.new }
+    ensures writes { result ≡ Ok true → IsTrue W.counts → W.faults writer.old ≡ [] → W.faults writer.new ≡ [] }
     ensures fresh { OnOk result (fault_of lines.new ≡ None) }
     ensures cause { result ≡ Err ClientFault.Output → IsTrue O.counts
         → HasBroken (O.failed out.old) (O.failed out.new) (O.faults out.old) (O.faults out.new) }
@@ -195,6 +212,8 @@ fn tell_portions<R: Input + Drop, W: Output, O: Output>(
         (λ fault. IsToldUpTo fault count scope mirrors.old.items (lines_left lines.old) (O.written out.old) (O.written out.new)) }
     ensures part { IsTrue W.tells
         → (times : ℕ) × IsSentPart (follows_text count times) (W.written writer.old) (W.written writer.new) }
+    ensures connection { result ≡ Err ClientFault.Connection → IsTrue R.tells → IsTrue R.counts → IsTrue W.counts
+        → HasBroken (W.failed writer.old) (W.failed writer.new) (W.faults writer.old) (W.faults writer.new) ⊎ IsCut (AreDuePortions count scope mirrors.old.items) lines.old lines.new }
     ensures fresh { OnOk result (fault_of lines.new ≡ None) }
     ensures cause { result ≡ Err ClientFault.Output → IsTrue O.counts
         → HasBroken (O.failed out.old) (O.failed out.new) (O.faults out.old) (O.faults out.new) }
@@ -251,6 +270,13 @@ pub fn tell<R: Input + Drop, W: Output, O: Output>(
     // A part of the requests went out, that of the watcher and some for posts, and nothing else.
     ensures part { IsTrue W.tells
         → (times : ℕ) × IsSentPart (telling_text scope times) (W.written writer.old) (W.written writer.new) }
+
+    // `Connection` only where calls of the reader failed, or the lines do not begin with an opening of the scope, posts
+    // that are due to it, each portion with its end, and a refusal, nor with a refusal in the place of the opening, or
+    // where calls of the writer failed and no refusal comes first. Where no fault of the stream stood, the last call
+    // failed then, or was the last of as many interrupted ones in succession as end a read or a send.
+    ensures connection { result ≡ Err ClientFault.Connection → IsTrue R.tells → IsTrue R.counts → IsTrue W.counts
+        → (HasBroken (W.failed writer.old) (W.failed writer.new) (W.faults writer.old) (W.faults writer.new) × IsCut IsOneRefusal lines.old lines.new) ⊎ IsCut (IsRefusedOr (IsTelling scope)) lines.old lines.new }
 
     // `Output` comes only where calls of the output failed. Where no fault of it stood, the last call failed then, or
     // was the last of as many interrupted ones in succession as end a send.

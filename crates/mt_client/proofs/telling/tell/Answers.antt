@@ -1,8 +1,11 @@
-use Rattle.std.proofs.Common.{rules, IsTrue}
+use Rattle.std.proofs.Common.{rules, Err, IsTrue, arith, ap, inl, inr}
 use Rattle.mt_lines.specs.Reading.{last_line}
 use Rattle.mt_client.specs.Reading.{lines_left}
+use Rattle.std.proofs.lemmas.Result.{err_from_is_err_and}
 use Rattle.mt_client.proofs.MirrorLaws.{when_some}
-use Rattle.mt_client.proofs.TellingLaws.{telling_first, telling_sent, telling_second, told_behind, when_none, cut_told, stopped_behind, refused_out, refused_part}
+use Rattle.mt_client.proofs.RelayLaws.{broken_later, cut_within, same_fault}
+use Rattle.mt_client.proofs.AheadLaws.{either, telling_needs_opening, telling_needs_posts}
+use Rattle.mt_client.proofs.TellingLaws.{telling_first, telling_sent, telling_second, told_behind, when_none, when_present, cut_told, stopped_behind, refused_out, refused_part}
 use Rattle.mt_client.proofs.telling.tell.Goals as goal
 
 pub returns-in_err-send_request-clause-part : goal.returns-in_err-send_request-clause-part
@@ -43,3 +46,26 @@ returns-clause-broken g c t u =
     stopped_behind c.tell_portions.result c.args.scope c.in-Some.mirrors.items (lines_left c.args.lines.now) (lines_left c.read_found.new.lines) _ _
     (when_some _ _ c.in_ok-mirrors.field-0 c.in-Some.mirrors (search rules) (rw (c.send_request.ensures.unread (search rules)) at (c.in_ok-mirrors.ensures.found t)))
     (rw (c.send_request.ensures.unprinted (search rules)) at (c.tell_portions.ensures.broken t u))
+
+pub returns-in_err-send_request-clause-connection : goal.returns-in_err-send_request-clause-connection
+returns-in_err-send_request-clause-connection g c is t u v =
+    let p = err_from_is_err_and c.from_residual-in_err-send_request.result c.from_residual-in_err-send_request.ensures.1 in
+    let same = same_fault _ _ _ _ p.1 p.2 is in
+    inl (c.send_request.ensures.cause (search rules) v, c.in_err-send_request.ensures.cut (ap Err same) t u)
+
+pub returns-in_err-mirrors-clause-connection : goal.returns-in_err-mirrors-clause-connection
+returns-in_err-mirrors-clause-connection g c is t u v =
+    let p = err_from_is_err_and c.from_residual-in_err-mirrors.result c.from_residual-in_err-mirrors.ensures.1 in
+    let same = same_fault _ _ _ _ p.1 p.2 is in
+    let cut = rw (c.send_request.ensures.unread (search rules)) at (c.in_err-mirrors.ensures.cut (ap Err same) t u) in
+    inr (cut_within _ _ _ _ _ _ _ _ (omega arith) (λ e. e) (telling_needs_opening c.args.scope _) cut)
+
+pub returns-clause-connection : goal.returns-clause-connection
+returns-clause-connection g c is t u v =
+    let found = when_some _ _ c.in_ok-mirrors.field-0 c.in-Some.mirrors (search rules) (rw (c.send_request.ensures.unread (search rules)) at (c.in_ok-mirrors.ensures.found t)) in
+    let unrefused = when_present _ c.in_ok-mirrors.field-0 c.in-Some.mirrors (search rules) (rw (c.send_request.ensures.unread (search rules)) at (c.in_ok-mirrors.ensures.unrefused t)) in
+    let counted = rw (c.send_request.ensures.unread (search rules)) at (c.in_ok-mirrors.ensures.counted u) in
+    let reads = rw (c.send_request.ensures.unread (search rules)) at (c.in_ok-mirrors.ensures.reads u) in
+    either (λ broken. (broken_later _ _ _ _ _ _ (c.send_request.ensures.counted v) (c.send_request.ensures.writes (search rules) v) broken, inr unrefused))
+    (cut_within _ _ _ _ _ _ _ _ counted reads (telling_needs_posts c.args.scope c.in-Some.mirrors.items _ _ found unrefused))
+    (c.tell_portions.ensures.connection is t u v)

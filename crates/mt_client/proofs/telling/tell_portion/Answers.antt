@@ -1,4 +1,4 @@
-use Rattle.std.proofs.Common.{rules, Ok, refl, ap}
+use Rattle.std.proofs.Common.{rules, Ok, Err, refl, ap, inl, inr}
 use Rattle.std.proofs.lemmas.Result.{err_from_is_err_and}
 use Rattle.mt_lines.specs.Reading.{last_line}
 use Rattle.mt_client.specs.declared.fault.ClientFault.TheVariants.{Output}
@@ -32,3 +32,15 @@ returns-in_err-print_line-clause-broken g c t u =
     rw (p.1, p.2)
     (refusal_cut f c.args.count c.args.scope (last_line c.tell_posts.new.lines) c.args.mirrors.now.items _ _ _ _ _ c.in_err-print_line.ensures.kind
     (when_false _ _ _ c.if-branch.false told) (rw c.line.ensures at c.in_err-print_line.ensures.cut u))
+
+pub returns-in_err-send_request-clause-connection : goal.returns-in_err-send_request-clause-connection
+returns-in_err-send_request-clause-connection g c is t u v = inl (c.send_request.ensures.cause (search rules) v)
+
+pub returns-in_err-tell_posts-clause-connection : goal.returns-in_err-tell_posts-clause-connection
+returns-in_err-tell_posts-clause-connection g c is t u v =
+    let p = err_from_is_err_and c.from_residual-in_err-tell_posts.result c.from_residual-in_err-tell_posts.ensures.1 in
+    let same = same_fault _ _ _ _ p.1 p.2 is in
+    inr (rw (c.send_request.ensures.unread (search rules)) at (c.in_err-tell_posts.ensures.cut (ap Err same) t u))
+
+pub returns-then-branch-clause-applied : goal.returns-then-branch-clause-applied
+returns-then-branch-clause-applied g c is t = rw (c.send_request.ensures.unread (search rules)) at (c.in_ok-tell_posts.ensures.applied (ap Ok c.if-branch.true) t)

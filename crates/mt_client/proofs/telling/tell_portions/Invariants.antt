@@ -5,6 +5,7 @@ use Rattle.mt_client.specs.Reading.{lines_left}
 use Rattle.mt_client.specs.Finding.{mirror_space}
 use Rattle.mt_client.specs.Telling.{follows_text}
 use Rattle.mt_client.proofs.TellingLaws.{HasToldWhole}
+use Rattle.mt_client.proofs.AheadLaws.{HaveCome}
 use Rattle.mt_client.proofs.telling.tell_portions.Given as goal
 
 -- whole portions were told, each behind its request
@@ -17,6 +18,9 @@ invariant-portions g l = record {
   reads : IsTrue g.R.Input.counts → last_faults l.initial.lines ≡ [] → last_faults l.lines ≡ [];
   printed : IsTrue g.O.Output.counts → g.O.Output.failed l.initial.out ≤ g.O.Output.failed l.out;
   prints : IsTrue g.O.Output.counts → g.O.Output.faults l.initial.out ≡ [] → g.O.Output.faults l.out ≡ [];
+  wrote : IsTrue g.W.Output.counts → g.W.Output.failed l.initial.writer ≤ g.W.Output.failed l.writer;
+  writes : IsTrue g.W.Output.counts → g.W.Output.faults l.initial.writer ≡ [] → g.W.Output.faults l.writer ≡ [];
+  goes : IsTrue g.R.Input.tells → HaveCome l.initial.count l._portion l.initial.scope l.initial.mirrors.items l.mirrors.items (lines_left l.initial.lines) (lines_left l.lines);
   sent : IsTrue g.W.Output.tells → g.W.Output.written l.writer ≡ g.W.Output.written l.initial.writer ++ follows_text l.initial.count l._portion;
   told : IsTrue g.R.Input.tells → IsTrue g.O.Output.tells → HasToldWhole l.initial.count l.initial.scope l.initial.mirrors.items l.mirrors.items (lines_left l.initial.lines) (lines_left l.lines) (g.O.Output.written l.initial.out) (g.O.Output.written l.out);
 }

@@ -1,10 +1,41 @@
-use Rattle.std.proofs.Common.{rules, refl, Err, ap, arith, ◌∙◌}
+use Rattle.std.proofs.Common.{rules, refl, Ok, Err, ap, arith, ◌∙◌}
 use Rattle.std.proofs.lemmas.Result.{err_from_is_err_and, on_ok_weaker}
 use Rattle.mt_lines.specs.Reading.{last_line}
 use Rattle.mt_client.specs.Reading.{lines_left}
 use Rattle.mt_client.proofs.MirrorLaws.{when_true}
-use Rattle.mt_client.proofs.TellingLaws.{when_false, some_more, all_told, all_few, up_to_some, end_broken}
+use Rattle.mt_client.proofs.RelayLaws.{cut_within, same_fault}
+use Rattle.mt_client.proofs.AheadLaws.{when_ok_true, came_at_first, came_more, came_cut, came_whole, came_to_end}
+use Rattle.mt_client.proofs.TellingLaws.{when_false, none_yet, some_more, all_told, all_few, up_to_some, end_broken}
 use Rattle.mt_client.proofs.telling.tell_posts.Goals as goal
+
+pub posts-init : goal.posts-init
+posts-init g c = record {
+  fresh = c.requires.fresh;
+  limit = refl;
+  rising = c.requires.rising;
+  read = λ u. omega arith;
+  reads = λ u e. e;
+  printed = λ u. omega arith;
+  prints = λ u e. e;
+  goes = λ t. came_at_first c.args.count c.args.scope c.args.mirrors.now.items _;
+  told = λ t u. none_yet c.args.scope c.args.mirrors.now.items _ _;
+}
+
+pub returns-in_err-tell_post-clause-cut : goal.returns-in_err-tell_post-clause-cut
+returns-in_err-tell_post-clause-cut g c is t u =
+    let p = err_from_is_err_and c.from_residual.result c.from_residual.ensures.1 in
+    let same = same_fault _ _ _ _ p.1 p.2 is in
+    cut_within _ _ _ _ _ _ _ _ (c.posts.invariant.read u) (c.posts.invariant.reads u)
+    (came_cut c.args.count c.posts._post c.args.scope _ _ _ _ c.posts-test.true (c.posts.invariant.goes t)) (c.in_err-tell_post.ensures.cut (ap Err same) t u)
+
+pub returns-clause-cut : goal.returns-clause-cut
+returns-clause-cut g c is t u =
+    cut_within _ _ _ _ _ _ _ _ (c.posts.invariant.read u) (c.posts.invariant.reads u)
+    (came_to_end c.args.count c.posts._post c.args.scope _ _ _ _ c.posts-test.false (c.posts.invariant.goes t)) (c.read_end.ensures.cut is t u)
+
+pub returns-clause-applied : goal.returns-clause-applied
+returns-clause-applied g c is t =
+    came_whole c.args.count c.posts._post c.args.scope _ _ _ _ _ c.posts-test.false (c.posts.invariant.goes t) (c.read_end.ensures.unrefused is t) (when_ok_true _ _ _ c.read_end.result is c.read_end.ensures.ended t)
 
 pub returns-in_err-tell_post-clause-broken : goal.returns-in_err-tell_post-clause-broken
 returns-in_err-tell_post-clause-broken g c t u =
@@ -17,6 +48,7 @@ returns-then-not-branch-clause-told g c t u =
 
 pub posts-preserved : goal.posts-preserved
 posts-preserved g c = record {
+  goes = λ t. came_more c.args.count c.posts._post c.args.scope _ _ _ _ _ _ c.posts-test.true (c.posts.invariant.goes t) (c.in_ok-tell_post.ensures.unrefused (ap Ok c.if-not-branch.false) t) (c.in_ok-tell_post.ensures.applied (ap Ok c.if-not-branch.false) t);
   fresh = c.in_ok-tell_post.ensures.fresh;
   limit = c.in_ok-tell_post.ensures.limit ∙ c.posts.invariant.limit;
   rising = c.in_ok-tell_post.ensures.rising;

@@ -4,6 +4,7 @@ use Rattle.mt_lines.specs.Reading.{failed_calls, last_faults, fault_of, limit_of
 use Rattle.mt_client.specs.Reading.{lines_left}
 use Rattle.mt_client.specs.Finding.{mirror_space}
 use Rattle.mt_client.specs.Telling.{HasToldSome}
+use Rattle.mt_client.proofs.AheadLaws.{Came}
 use Rattle.mt_client.proofs.telling.tell_posts.Given as goal
 
 -- so many posts were told
@@ -16,5 +17,6 @@ invariant-posts g l = record {
   reads : IsTrue g.R.Input.counts → last_faults l.initial.lines ≡ [] → last_faults l.lines ≡ [];
   printed : IsTrue g.O.Output.counts → g.O.Output.failed l.initial.out ≤ g.O.Output.failed l.out;
   prints : IsTrue g.O.Output.counts → g.O.Output.faults l.initial.out ≡ [] → g.O.Output.faults l.out ≡ [];
+  goes : IsTrue g.R.Input.tells → Came l.initial.count l._post l.initial.scope l.initial.mirrors.items l.mirrors.items (lines_left l.initial.lines) (lines_left l.lines);
   told : IsTrue g.R.Input.tells → IsTrue g.O.Output.tells → HasToldSome l._post l.initial.scope l.initial.mirrors.items l.mirrors.items (lines_left l.initial.lines) (lines_left l.lines) (g.O.Output.written l.initial.out) (g.O.Output.written l.out);
 }
