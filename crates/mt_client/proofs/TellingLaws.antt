@@ -1,22 +1,21 @@
 -- Posts that were told, one after another, and what stands behind them.
-use Rattle.std.proofs.Common.{◌≡◌, ◌≢◌, ℕ, zero, suc, ◌+◌, ◌≤◌, MatchBool, MatchOption, Option, Some, None, IfSome, IfOk, IfErr, Result, Ok, Err, OnOk, OnErr, Bool, true, false, ◌&&◌, List, [], ◌∷◌, ◌++◌, length, replicate, refl, sym, ap, subst, ◌∙◌, arith, append_assoc, length-append, codes, ◌⊎◌, inl, inr}
+use Rattle.std.proofs.Common.{◌≡◌, ◌≢◌, ℕ, zero, suc, ◌+◌, ◌≤◌, MatchBool, MatchOption, Option, Some, None, IfSome, IfOk, IfErr, Result, Ok, Err, OnOk, OnErr, Bool, true, false, List, [], ◌∷◌, ◌++◌, length, replicate, refl, sym, ap, subst, ◌∙◌, arith, append_assoc, length-append, codes, ◌⊎◌, inl, inr}
 use Rattle.std.proofs.lemmas.List.{append-nil}
 use Rattle.std.proofs.lemmas.Grind.{flat_map-append}
 use Rattle.std.specs.List.{flat_map, AllByRecursion}
 use Rattle.mt_skel.proofs.MiddleLaws.{and-true, and_first, and_second}
 use Rattle.mt_lines.specs.Lines.{Item, Text}
 use Rattle.mt_events.specs.Posts.{PostView, IsPost, post_text, ended}
-use Rattle.mt_events.specs.Mirrors.{MirrorView, is_next}
-use Rattle.mt_events.specs.Following.{names_space}
-use Rattle.mt_events.specs.Texts.{count_text, followed_text, opening_text}
+use Rattle.mt_events.specs.Mirrors.{MirrorView}
+use Rattle.mt_events.specs.Texts.{count_text, followed_text}
 use Rattle.mt_events.specs.declared.opening.Scope.{Scope}
 use Rattle.mt_told.specs.Told.{told_text}
 use Rattle.mt_client.specs.declared.fault.ClientFault.{ClientFault}
 use Rattle.mt_client.specs.declared.fault.ClientFault.TheVariants.{Connection, Output, NoMemory}
 use Rattle.mt_client.specs.Requests.{numbered_text}
-use Rattle.mt_client.specs.Reading.{texts, printed, IsCutOff, IsPart, IsBroken, IsSentPart}
+use Rattle.mt_client.specs.Reading.{texts, IsCutOff, IsBroken, IsSentPart}
 use Rattle.mt_client.specs.Mirroring.{HasRefused, IsPosted, counted_line}
-use Rattle.mt_client.specs.Finding.{watch_text, HasFound, HasWatched, opening_found}
+use Rattle.mt_client.specs.Finding.{watch_text, HasFound}
 use Rattle.mt_client.specs.Telling.{mirror_in, mirrors_with, mirrors_by, is_due, are_due, posts_told, portion, follows_text, telling_text, in_order, portions_text, HasCome, HasTold, IsUnsaid, IsHalfTold, IsStopped, IsBrokenOff, AreTold, HasToldPost, HasToldSome, HasToldPortion, HasToldSo, HasToldAll, HasToldAllOut, IsToldUpTo}
 use Rattle.mt_client.proofs.RequestLaws.{sent_whole, part_first, part_second}
 use Rattle.mt_client.proofs.RelayLaws.{printed-append, broken_cut}
@@ -349,7 +348,7 @@ telling_stopped fault scope found before opened begun done f h =
       h.middle,
       come_whole scope found h.made before opened h.middle begun h.between f s,
       subst (λ x. IsStopped fault scope (mirrors_by found (in_order s.portions s.rest)) h.middle x done) t.out
-      (subst (λ ms. IsStopped fault scope ms h.middle h.between done) t.make h.stopped),
+          (subst (λ ms. IsStopped fault scope ms h.middle h.between done) t.make h.stopped),
     )
 
 pub stopped_behind : (r : Result (Unit {0}) ClientFault) (scope : Scope) (found : List MirrorView) (before opened : List Item) (begun done : List ℕ) → HasFound scope before opened found → IfErr r (λ fault. IsToldUpTo fault portion scope found opened begun done)

@@ -111,7 +111,7 @@ abbrev pub IsBrokenOff : ClientFault → Scope → List Item → List ℕ → Li
 IsBrokenOff fault scope before old new =
     IsUnsaid fault before old new
     ⊎ ((found : List MirrorView) × (portions : List (List PostView)) × (rest : List PostView) × (middle : List Item) × HasCome scope portions rest before middle found
-        × IsStopped fault scope (mirrors_by found (in_order portions rest)) middle (old ++ posts_told found (in_order portions rest)) new)
+    × IsStopped fault scope (mirrors_by found (in_order portions rest)) middle (old ++ posts_told found (in_order portions rest)) new)
 
 -- lines were read that are this text, of these posts, which are due; they were told, and the mirrors have followed
 pub record AreTold (scope : Scope) (posts : List PostView) (said : List ℕ) (old new : List MirrorView) (before after : List Item) (begun done : List ℕ) : Type 0 where

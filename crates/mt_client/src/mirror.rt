@@ -96,7 +96,10 @@ pub(crate) fn is_end(line: &[u8], count: u64) -> bool
 }
 
 /// Reads the line behind so many posts: false where it is a refusal, which the reader lends.
-pub(crate) fn read_end<R: Input + Drop>(lines: &mut LineReader<R>, count: u64) -> Result<bool, ClientFault>
+pub(crate) fn read_end<R: Input + Drop>(
+    lines: &mut LineReader<R>,
+    count: u64,
+) -> Result<bool, ClientFault>
     requires fresh { fault_of lines.old ≡ None }
     ensures ended { IfOk result (λ going. IsTrue R.tells → MatchBool going
         (lines_left lines.old ≡ texts (counted_line count ∷ []) ++ lines_left lines.new)

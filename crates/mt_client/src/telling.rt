@@ -259,8 +259,8 @@ pub fn tell<R: Input + Drop, W: Output, O: Output>(
     ensures told { OnOk result (IsTrue R.tells → IsTrue O.tells
         → ((refusal : List ℕ) × HasRefused refusal (lines_left lines.old) (lines_left lines.new) × (O.written out.new ≡ O.written out.old ++ ended refusal))
         ⊎ ((found : List MirrorView) × (portions : List (List PostView)) × (rest : List PostView) × (refusal : List ℕ)
-            × HasTold scope portions rest refusal (lines_left lines.old) (lines_left lines.new) found
-            × (O.written out.new ≡ O.written out.old ++ posts_told found (in_order portions rest) ++ ended refusal))) }
+        × HasTold scope portions rest refusal (lines_left lines.old) (lines_left lines.new) found
+        × (O.written out.new ≡ O.written out.old ++ posts_told found (in_order portions rest) ++ ended refusal))) }
 
     // Up to a fault nothing had come, and nothing was printed, or the posts that had come were told. Where the output
     // failed, a part of one more text was printed, that of a post that is due, or of lines that had come.

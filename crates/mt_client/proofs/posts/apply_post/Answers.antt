@@ -1,9 +1,5 @@
-use Rattle.std.proofs.Common.{Err, arith, ap, inr, IfOk}
-use Rattle.std.proofs.lemmas.Result.{err_from_is_err_and}
-use Rattle.mt_lines.specs.Reading.{last_line}
-use Rattle.mt_client.specs.Reading.{lines_left}
-use Rattle.mt_client.proofs.RelayLaws.{cut_within, same_fault}
-use Rattle.mt_client.proofs.FollowLaws.{on_ok, posted_next, taken_behind, behind_any, behind_needs_next}
+use Rattle.std.proofs.Common.{inr}
+use Rattle.mt_client.proofs.FollowLaws.{on_ok, taken_behind, behind_needs_next}
 use Rattle.mt_client.proofs.posts.apply_post.Goals as goal
 
 pub returns-clause-taken : goal.returns-clause-taken
