@@ -14,7 +14,7 @@ use Rattle.mt_client.specs.Reading.{texts, NoneFirst, AreSoMany}
 use Rattle.mt_client.specs.Mirroring.{IsRefusal, counted_line}
 use Rattle.mt_client.specs.Awaited.{IsOneRefusal, IsRefusedOr, IsPostBehind, IsOnlyPost, IsLast, IsEnd}
 use Rattle.mt_client.specs.Finding.{found_lines, HasFound, IsFinding}
-use Rattle.mt_client.specs.Telling.{mirrors_with, mirrors_by, is_due, are_due, portion, in_order}
+use Rattle.mt_client.specs.Telling.{mirrors_with, mirrors_by, is_due, are_due, portion, all_posts}
 use Rattle.mt_client.specs.Due.{IsDuePost, AreDuePosts, most_portions, portion_lines, AreDuePortions, IsTelling, IsOnlyApplied, AreOnlyApplied}
 use Rattle.mt_client.proofs.OpeningLaws.{first_taken, texts_split, needs_line, refused_some, no_refusal, unrefused_or}
 use Rattle.mt_client.proofs.FoundLaws.{found_alike}
@@ -203,14 +203,14 @@ HaveCome count taken scope old now before middle =
 pub come_at_first : (count : ℕ) (scope : Scope) (mirrors : List MirrorView) (before : List Item) → HaveCome count 0 scope mirrors mirrors before before
 come_at_first count scope mirrors before lines later a e = ([], a.portions, refl, refl, refl, e ∙ ap (λ ls. texts ls ++ later) a.all)
 
-flat_both : (front back : List (List PostView)) (rest : List PostView) → in_order (front ++ back) rest ≡ flat front ++ in_order back rest
+flat_both : (front back : List (List PostView)) (rest : List PostView) → all_posts (front ++ back) rest ≡ flat front ++ all_posts back rest
 flat_both front back rest = ap (λ x. x ++ rest) (flat_map-append (λ posts. posts) front back) ∙ append_assoc (flat front) (flat back) rest
 
 -- the rest, and a portion, as they are due to the mirrors that the portions before them have made
 abbrev rest_due : (count : ℕ) (scope : Scope) (old now : List MirrorView) (lines : List (List ℕ)) (a : AreDuePortions count scope old lines) (front : List (List PostView)) → a.portions ≡ front ++ [] → now ≡ mirrors_by old (flat front)
     → AreDuePosts count scope now (rest_lines a.rest a.refusal)
 rest_due count scope old now lines a front is by =
-    let e : in_order a.portions a.rest ≡ flat front ++ a.rest = ap (λ ps. in_order ps a.rest) is ∙ flat_both front [] a.rest in
+    let e : all_posts a.portions a.rest ≡ flat front ++ a.rest = ap (λ ps. all_posts ps a.rest) is ∙ flat_both front [] a.rest in
     record {
       posts = a.rest;
       last = a.refusal;
@@ -223,17 +223,17 @@ rest_due count scope old now lines a front is by =
 abbrev portion_due : (count : ℕ) (scope : Scope) (old now : List MirrorView) (lines : List (List ℕ)) (a : AreDuePortions count scope old lines) (front back : List (List PostView)) (q : List PostView) → a.portions ≡ front ++ q ∷ back → now ≡ mirrors_by old (flat front)
     → AreDuePosts count scope now (portion_lines count q)
 portion_due count scope old now lines a front back q is by =
-    let e : in_order a.portions a.rest ≡ flat front ++ (q ++ in_order back a.rest) =
-    ap (λ ps. in_order ps a.rest) is ∙ flat_both front (q ∷ back) a.rest ∙ ap (λ x. flat front ++ x) (append_assoc q (flat back) a.rest) in
-    let valid = all_back IsPost (flat front) (q ++ in_order back a.rest) (subst (AllByRecursion IsPost) e a.valid) in
-    let due = due_back scope (flat front) (q ++ in_order back a.rest) old (ap (are_due scope old) (sym e) ∙ a.due) in
+    let e : all_posts a.portions a.rest ≡ flat front ++ (q ++ all_posts back a.rest) =
+    ap (λ ps. all_posts ps a.rest) is ∙ flat_both front (q ∷ back) a.rest ∙ ap (λ x. flat front ++ x) (append_assoc q (flat back) a.rest) in
+    let valid = all_back IsPost (flat front) (q ++ all_posts back a.rest) (subst (AllByRecursion IsPost) e a.valid) in
+    let due = due_back scope (flat front) (q ++ all_posts back a.rest) old (ap (are_due scope old) (sym e) ∙ a.due) in
     let whole = all_back (λ (posts : List PostView). length posts ≡ count) front (q ∷ back) (subst (AllByRecursion (λ (posts : List PostView). length posts ≡ count)) is a.whole) in
     record {
       posts = q;
       last = counted_line count;
       all = refl;
-      valid = all_front IsPost q (in_order back a.rest) valid;
-      due = ap (λ ms. are_due scope ms q) by ∙ due_front scope q (in_order back a.rest) (mirrors_by old (flat front)) due;
+      valid = all_front IsPost q (all_posts back a.rest) valid;
+      due = ap (λ ms. are_due scope ms q) by ∙ due_front scope q (all_posts back a.rest) (mirrors_by old (flat front)) due;
       ends = inl (whole.0, refl);
     }
 

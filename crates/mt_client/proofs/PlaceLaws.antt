@@ -21,8 +21,14 @@ unwrap-within : (a n : ℕ) → a ≤ n → unwrap_or (cond (ltb a n) (Some a) N
 unwrap-within a n h = grind (arith, common_steps)
 
 -- where the test passes first, or else the length
-pub first-or-length : (p : MirrorView → Bool) (xs : List MirrorView) → unwrap_or (position_from p 0 xs) (length xs) ≡ position_or_len p xs
+first-or-length : (p : MirrorView → Bool) (xs : List MirrorView) → unwrap_or (position_from p 0 xs) (length xs) ≡ position_or_len p xs
 first-or-length p xs = rw (← position_from-zero p xs) (unwrap-within (position_or_len p xs) (length xs) (place-within p xs))
+
+pub place_found : (o : Option ℕ) (at : ℕ) (p : MirrorView → Bool) (xs : List MirrorView) → o ≡ position_from p 0 xs → o ≡ Some at → at ≡ position_or_len p xs
+place_found o at p xs e is = ap (λ k. unwrap_or k (length xs)) (sym is ∙ e) ∙ first-or-length p xs
+
+pub place_behind : (o : Option ℕ) (p : MirrorView → Bool) (xs : List MirrorView) → o ≡ position_from p 0 xs → o ≡ None → length xs ≡ position_or_len p xs
+place_behind o p xs e is = ap (λ k. unwrap_or k (length xs)) (sym is ∙ e) ∙ first-or-length p xs
 
 abbrev pub from : ℕ → MirrorView → Bool
 from n y = nat_le n y.space

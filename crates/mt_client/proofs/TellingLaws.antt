@@ -16,7 +16,7 @@ use Rattle.mt_client.specs.Requests.{numbered_text}
 use Rattle.mt_client.specs.Reading.{texts, IsCutOff, IsBroken, IsSentPart}
 use Rattle.mt_client.specs.Mirroring.{HasRefused, IsPosted, counted_line}
 use Rattle.mt_client.specs.Finding.{watch_text, HasFound}
-use Rattle.mt_client.specs.Telling.{mirror_in, mirrors_with, mirrors_by, is_due, are_due, posts_told, portion, follows_text, telling_text, in_order, portions_text, HasCome, HasTold, IsUnsaid, IsHalfTold, IsStopped, IsBrokenOff, AreTold, HasToldPost, HasToldSome, HasToldPortion, HasToldSo, HasToldAll, HasToldAllOut, IsToldUpTo}
+use Rattle.mt_client.specs.Telling.{mirror_in, mirrors_with, mirrors_by, is_due, are_due, posts_told, portion, follows_text, telling_text, all_posts, portions_text, HasCome, HasTold, IsUnsaid, IsHalfTold, IsStopped, IsBrokenOff, AreTold, HasToldPost, HasToldSome, HasToldPortion, HasToldSo, HasToldAll, HasToldAllOut, IsToldUpTo}
 use Rattle.mt_client.proofs.RequestLaws.{sent_whole, part_first, part_second}
 use Rattle.mt_client.proofs.RelayLaws.{printed-append, broken_cut}
 use Rattle.mt_client.proofs.MirrorLaws.{runs_read}
@@ -197,7 +197,7 @@ pub so_behind : (count : ℕ) (scope : Scope) (old mid new : List MirrorView) (b
 so_behind count scope old mid new before middle after begun between done f h =
     let all : List (List PostView) → List PostView = λ portions. flat_map (λ posts. posts) portions in
     let said : List (List PostView) → List ℕ = λ portions. flat_map (λ posts. followed_text posts (count_text count)) portions in
-    let posts : all f.portions ++ in_order h.portions h.rest ≡ in_order (f.portions ++ h.portions) h.rest =
+    let posts : all f.portions ++ all_posts h.portions h.rest ≡ all_posts (f.portions ++ h.portions) h.rest =
     sym (append_assoc (all f.portions) (all h.portions) h.rest) ∙ ap (λ x. x ++ h.rest) (sym (flat_map-append (λ posts. posts) f.portions h.portions)) in
     let text : said f.portions ++ portions_text count h.portions h.rest ≡ portions_text count (f.portions ++ h.portions) h.rest =
     sym (append_assoc (said f.portions) (said h.portions) (flat_map post_text h.rest)) ∙ ap (λ x. x ++ flat_map post_text h.rest) (sym (flat_map-append (λ posts. followed_text posts (count_text count)) f.portions h.portions)) in
@@ -207,8 +207,8 @@ so_behind count scope old mid new before middle after begun between done f h =
       whole = all_both (λ (posts : List PostView). length posts ≡ count) f.portions h.portions f.whole h.whole;
       within = h.within;
       told = subst (λ x. AreTold scope x (portions_text count (f.portions ++ h.portions) h.rest) old new before after begun done) posts
-          (subst (λ x. AreTold scope (all f.portions ++ in_order h.portions h.rest) x old new before after begun done) text
-          (both_told scope (all f.portions) (in_order h.portions h.rest) (said f.portions) (portions_text count h.portions h.rest) old mid new before middle after begun between done f.told h.told));
+          (subst (λ x. AreTold scope (all f.portions ++ all_posts h.portions h.rest) x old new before after begun done) text
+          (both_told scope (all f.portions) (all_posts h.portions h.rest) (said f.portions) (portions_text count h.portions h.rest) old mid new before middle after begun between done f.told h.told));
     }
 
 pub so_whole : (count : ℕ) (scope : Scope) (old new : List MirrorView) (before after : List Item) (begun done : List ℕ) → HasToldWhole count scope old new before after begun done → HasToldSo count scope old new before after begun done
@@ -324,7 +324,7 @@ come_whole scope found made before opened after begun done f s =
     }
 
 pub told_whole : (scope : Scope) (found : List MirrorView) (before opened after : List Item) (begun done : List ℕ) → HasFound scope before opened found → HasToldAllOut portion scope found opened after begun done
-    → (mirrors : List MirrorView) × (portions : List (List PostView)) × (rest : List PostView) × (refusal : List ℕ) × HasTold scope portions rest refusal before after mirrors × (done ≡ begun ++ posts_told mirrors (in_order portions rest) ++ ended refusal)
+    → (mirrors : List MirrorView) × (portions : List (List PostView)) × (rest : List PostView) × (refusal : List ℕ) × HasTold scope portions rest refusal before after mirrors × (done ≡ begun ++ posts_told mirrors (all_posts portions rest) ++ ended refusal)
 told_whole scope found before opened after begun done f h =
     let a : HasToldAll portion scope h.0 found opened after begun h.1 = h.2 in
     let s = a.so in
@@ -347,7 +347,7 @@ telling_stopped fault scope found before opened begun done f h =
       s.rest,
       h.middle,
       come_whole scope found h.made before opened h.middle begun h.between f s,
-      subst (λ x. IsStopped fault scope (mirrors_by found (in_order s.portions s.rest)) h.middle x done) t.out
+      subst (λ x. IsStopped fault scope (mirrors_by found (all_posts s.portions s.rest)) h.middle x done) t.out
           (subst (λ ms. IsStopped fault scope ms h.middle h.between done) t.make h.stopped),
     )
 
@@ -357,7 +357,7 @@ stopped_behind (Ok u) scope found before opened begun done f h = tt
 stopped_behind (Err k) scope found before opened begun done f h = telling_stopped k scope found before opened begun done f h
 
 pub told_behind : (T U Y : Type 0) (r : Result (Unit {0}) ClientFault) (scope : Scope) (found : List MirrorView) (before opened after : List Item) (begun done : List ℕ) → (T → HasFound scope before opened found) → OnOk r (T → U → HasToldAllOut portion scope found opened after begun done)
-    → OnOk r (T → U → Y ⊎ ((mirrors : List MirrorView) × (portions : List (List PostView)) × (rest : List PostView) × (refusal : List ℕ) × HasTold scope portions rest refusal before after mirrors × (done ≡ begun ++ posts_told mirrors (in_order portions rest) ++ ended refusal)))
+    → OnOk r (T → U → Y ⊎ ((mirrors : List MirrorView) × (portions : List (List PostView)) × (rest : List PostView) × (refusal : List ℕ) × HasTold scope portions rest refusal before after mirrors × (done ≡ begun ++ posts_told mirrors (all_posts portions rest) ++ ended refusal)))
 told_behind T U Y (Ok x) scope found before opened after begun done f h = λ t u. inr (told_whole scope found before opened after begun done (f t) (h t u))
 told_behind T U Y (Err k) scope found before opened after begun done f h = tt
 

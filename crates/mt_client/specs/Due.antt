@@ -10,7 +10,7 @@ use Rattle.mt_client.specs.Reading.{texts}
 use Rattle.mt_client.specs.Mirroring.{IsRefusal, counted_line}
 use Rattle.mt_client.specs.Awaited.{IsLast}
 use Rattle.mt_client.specs.Finding.{AreShown, found_lines}
-use Rattle.mt_client.specs.Telling.{mirrors_with, mirrors_by, is_due, are_due, portion, in_order}
+use Rattle.mt_client.specs.Telling.{mirrors_with, mirrors_by, is_due, are_due, portion, all_posts}
 
 -- the lines of a post that is due
 pub record IsDuePost (scope : Scope) (mirrors : List MirrorView) (lines : List (List ℕ)) : Type 0 where
@@ -44,8 +44,8 @@ pub record AreDuePortions (count : ℕ) (scope : Scope) (mirrors : List MirrorVi
   pub whole : AllByRecursion (λ posts. length posts ≡ count) portions
   pub within : length rest ≤ count
   pub bounded : length portions < most_portions
-  pub valid : AllByRecursion IsPost (in_order portions rest)
-  pub due : are_due scope mirrors (in_order portions rest) ≡ true
+  pub valid : AllByRecursion IsPost (all_posts portions rest)
+  pub due : are_due scope mirrors (all_posts portions rest) ≡ true
   pub refused : IsRefusal refusal
   pub all : lines ≡ flat_map (portion_lines count) portions ++ (flat_map post_lines rest ++ refusal ∷ [])
 

@@ -61,8 +61,8 @@ abbrev pub telling_text : Scope → ℕ → List ℕ
 telling_text scope times = ended (watch_text scope) ++ follows_text portion times
 
 -- all posts: those of whole portions, and the rest
-abbrev pub in_order : List (List PostView) → List PostView → List PostView
-in_order portions rest = flat_map (λ posts. posts) portions ++ rest
+abbrev pub all_posts : List (List PostView) → List PostView → List PostView
+all_posts portions rest = flat_map (λ posts. posts) portions ++ rest
 
 -- their texts, with the end of each whole portion
 abbrev pub portions_text : ℕ → List (List PostView) → List PostView → List ℕ
@@ -74,8 +74,8 @@ pub record HasCome (scope : Scope) (portions : List (List PostView)) (rest : Lis
   pub shown : AreShown scope found
   pub whole : AllByRecursion (λ posts. length posts ≡ portion) portions
   pub within : length rest ≤ portion
-  pub valid : AllByRecursion IsPost (in_order portions rest)
-  pub due : are_due scope found (in_order portions rest) ≡ true
+  pub valid : AllByRecursion IsPost (all_posts portions rest)
+  pub due : are_due scope found (all_posts portions rest) ≡ true
   pub read : before ≡ texts lines ++ after
   pub text : printed lines ≡ opening_text (opening_found scope found) ++ portions_text portion portions rest
 
@@ -111,7 +111,7 @@ abbrev pub IsBrokenOff : ClientFault → Scope → List Item → List ℕ → Li
 IsBrokenOff fault scope before old new =
     IsUnsaid fault before old new
     ⊎ ((found : List MirrorView) × (portions : List (List PostView)) × (rest : List PostView) × (middle : List Item) × HasCome scope portions rest before middle found
-    × IsStopped fault scope (mirrors_by found (in_order portions rest)) middle (old ++ posts_told found (in_order portions rest)) new)
+    × IsStopped fault scope (mirrors_by found (all_posts portions rest)) middle (old ++ posts_told found (all_posts portions rest)) new)
 
 -- lines were read that are this text, of these posts, which are due; they were told, and the mirrors have followed
 pub record AreTold (scope : Scope) (posts : List PostView) (said : List ℕ) (old new : List MirrorView) (before after : List Item) (begun done : List ℕ) : Type 0 where
@@ -145,7 +145,7 @@ pub record HasToldSo (count : ℕ) (scope : Scope) (old new : List MirrorView) (
   pub rest : List PostView
   pub whole : AllByRecursion (λ posts. length posts ≡ count) portions
   pub within : length rest ≤ count
-  pub told : AreTold scope (in_order portions rest) (portions_text count portions rest) old new before after begun done
+  pub told : AreTold scope (all_posts portions rest) (portions_text count portions rest) old new before after begun done
 
 -- and behind them a refusal was read
 pub record HasToldAll (count : ℕ) (scope : Scope) (refusal : List ℕ) (old : List MirrorView) (before after : List Item) (begun done : List ℕ) : Type 0 where

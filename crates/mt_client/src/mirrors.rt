@@ -29,7 +29,10 @@ fn place_for(mirrors: &[Mirror], space: SpaceId) -> usize
     ensures place { result ≡ position_or_len (λ (m : MirrorView). nat_le space m.space) mirrors.now }
     ensures within { result ≤ length mirrors.now }
 {
-    first_from(mirrors, space).unwrap_or(mirrors.len())
+    match first_from(mirrors, space) {
+        Some(place) => place,
+        None => mirrors.len(),
+    }
 }
 
 /// Whether the mirror at this place is of this namespace.

@@ -10,7 +10,7 @@ ghost use Rattle.mt_client.specs.Reading.{lines_left, HasBroken, IsSentPart, IsC
 ghost use Rattle.mt_client.specs.Mirroring.{HasRefused};
 ghost use Rattle.mt_client.specs.Awaited.{IsOneRefusal, IsRefusedOr};
 ghost use Rattle.mt_client.specs.Finding.{mirror_space};
-ghost use Rattle.mt_client.specs.Telling.{mirror_in, mirrors_with, is_due, posts_told, follows_text, telling_text, in_order, HasTold, IsStopped, IsBrokenOff, HasToldPost, HasToldPortion, HasToldAll, HasToldAllOut, IsToldUpTo};
+ghost use Rattle.mt_client.specs.Telling.{mirror_in, mirrors_with, is_due, posts_told, follows_text, telling_text, all_posts, HasTold, IsStopped, IsBrokenOff, HasToldPost, HasToldPortion, HasToldAll, HasToldAllOut, IsToldUpTo};
 ghost use Rattle.mt_client.specs.Due.{IsDuePost, AreDuePosts, AreDuePortions, IsTelling, IsOnlyApplied, AreOnlyApplied};
 
 use crate::answer::is_refusal;
@@ -260,7 +260,7 @@ pub fn tell<R: Input + Drop, W: Output, O: Output>(
         → ((refusal : List ℕ) × HasRefused refusal (lines_left lines.old) (lines_left lines.new) × (O.written out.new ≡ O.written out.old ++ ended refusal))
         ⊎ ((found : List MirrorView) × (portions : List (List PostView)) × (rest : List PostView) × (refusal : List ℕ)
         × HasTold scope portions rest refusal (lines_left lines.old) (lines_left lines.new) found
-        × (O.written out.new ≡ O.written out.old ++ posts_told found (in_order portions rest) ++ ended refusal))) }
+        × (O.written out.new ≡ O.written out.old ++ posts_told found (all_posts portions rest) ++ ended refusal))) }
 
     // Up to a fault nothing had come, and nothing was printed, or the posts that had come were told. Where the output
     // failed, a part of one more text was printed, that of a post that is due, or of lines that had come.
