@@ -64,11 +64,13 @@ def check_client(program, mountctl):
         check("mountctl: stop", found == (0, b"ok\n", b"") and server.ends() == (0, b""), repr(found))
 
 
-# Words of a mirror and of drawings that are none, and what is said of them.
+# Words of a mirror, of a watch and of drawings that are none, and what is said of them.
 NO_MIRRORS = "mirror", "mirror 1", "mirror x 1", "mirror 01 1", "mirror 1 0", "mirror 1 1048577", "mirror 1 1 1", "mirror 1 -1"
+NO_WATCHES = "watch", "watch x", "watch 01", "watch 1 2", "watch all all", "watch -1"
 NO_TREES = "tree x", "tree 01", "tree 1 2", "tree --ascii --ascii", "tree 1 --ascii 2", "tree --plain", "tree 1 -a"
 NO_GRAPHS = "dot 1", "dot --ascii"
 NO_TASKS = (
+    (NO_WATCHES, b"mountctl: watch takes a namespace, or all\n"),
     (NO_MIRRORS, b"mountctl: mirror takes a namespace and a count of 1 to 1048576\n"),
     (NO_TREES, b"mountctl: tree takes a namespace, or none, and --ascii\n"),
     (NO_GRAPHS, b"mountctl: dot takes no words\n"),
@@ -203,7 +205,7 @@ def check_refused(program, mountctl):
             for line in START:
                 client.ask(line)
         refusing, total = Refusing(folder), 0
-        tasks = "show 1", "watch all", "mirror 9 1", "tree", "tree 2 --ascii", "dot", "-"
+        tasks = "show 1", "watch 9", "mirror 9 1", "tree", "tree 2 --ascii", "dot", "-"
         for words in ["--help"], *[[server.path, *task.split()] for task in tasks]:
             asked = (Script if words[-1] == "-" else Asked)(mountctl, words)
             count = refusing.count(asked)

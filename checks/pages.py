@@ -215,7 +215,7 @@ def check_offers(helps):
     """The completion offers the options and words of mountctl --help, and behind each word what may stand there."""
     check_same("the options that the completion offers", options(helps["mountctl"]), offered("-"))
     there = usages(helps["mountctl"])
-    check_same("the words that the completion offers", [*there, *words_in_place(helps["mountctl"])], offered("socket", ""))
+    check_same("the words that the completion offers", {*there, *words_in_place(helps["mountctl"])}, offered("socket", ""))
     for word, usage in {**usages(helps["mountd"]), **words_in_place(helps["mountctl"])}.items():
         wanted = set(re.findall(r"(?<![^\s\[])(?:--)?[a-z]+=?", usage)) - {word}
         found = {offer for count in range(4) for offer in offered("socket", word, *["1"] * count, "")}

@@ -6,8 +6,8 @@ Usage: checks/server.py MOUNTD [MOUNTCTL] [--seconds N]
 A plain client speaks with servers that are started here, each in a folder of its own: the cases,
 sockets that cannot be made, accepts that fail, the limit of sessions, a stop (stopping.py), clients that are
 gone or do not read, many connections, allocations that are refused (wanting.py), and then 32 sessions at once for
-N seconds, 20 if not said (soak.py). With MOUNTCTL that program is checked too (clients.py, pictures.py), the cases are sent as its
-scripts, and a quarter of the 32 sessions are its mirrors.
+N seconds, 20 if not said (soak.py). With MOUNTCTL that program is checked too (clients.py, pictures.py, telling.py), the cases are
+sent as its scripts, and a quarter of the 32 sessions are its mirrors.
 """
 import argparse
 import contextlib
@@ -37,6 +37,7 @@ from running import MOST_SECONDS, check, difference, failures, library, shown
 from serving import START, STOP, Broken, Client, Server, send_input, stop_behind, until_it_rests
 from soak import check_soak
 from stopping import check_cut_off, check_stop
+from telling import check_telling
 from wanting import check_wanting
 
 # How many failed accepts in succession end a server.
@@ -324,6 +325,7 @@ def check_server(program, seconds, mountctl, only):
         parts["no answers"] = lambda program: check_no_answers(mountctl)
         parts["retold"] = lambda program: check_retold(program, mountctl)
         parts["pictures"] = lambda program: check_pictures(program, mountctl)
+        parts["telling"] = lambda program: check_telling(program, mountctl)
         parts["scripts"] = lambda program: check_scripts(program, mountctl)
     for name in [only] if only else parts:
         start = time.monotonic()

@@ -15,6 +15,7 @@ use clap::{Arg, ArgAction, Command, Error};
 use mt_client::ask::ask;
 use mt_client::mirror::mirror;
 use mt_client::picture::draw;
+use mt_client::telling::tell;
 use mt_lines::line::LineReader;
 use mt_lines::stream::{Reading, Writing};
 use mt_requests::help::LINES;
@@ -34,6 +35,7 @@ const TASKS: &str = "
 
 In the place of WORD..:
   -                        sends the lines of standard input, one after another, but for comments
+  watch NS, watch all      tells each change as it comes, in words
   mirror NS K              follows K posts of a namespace, and shows the table that they lead to
   tree [NS] [--ascii]      draws the mounts of a namespace, or of all, each below its parent
   dot                      draws all mounts and peer groups as a graph for Graphviz";
@@ -93,6 +95,10 @@ fn run_task(
         }
         Task::Draw { scope, drawing } => {
             draw(alloc, &mut lines, &mut writer, scope, drawing, &mut out)?
+        }
+        Task::Tell { scope } => {
+            tell(alloc, &mut lines, &mut writer, scope, &mut out)?;
+            false
         }
     };
     Ok(told)

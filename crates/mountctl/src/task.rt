@@ -18,11 +18,15 @@ pub(crate) enum Task {
     Mirror { space: u64, count: u64 },
     /// A drawing of the tables of these namespaces.
     Draw { scope: Scope, drawing: Drawing },
+    /// Each change of these namespaces as it comes, in words.
+    Tell { scope: Scope },
 }
 
 /// Words that begin as those of a task which is no request, and go on in another way.
 #[derive(Clone, Copy)]
 pub(crate) enum WordFault {
+    /// Behind `watch`.
+    Watch,
     /// Behind `mirror`.
     Mirror,
     /// Behind `tree`.
@@ -35,11 +39,25 @@ impl WordFault {
     /// The line on standard error.
     pub(crate) fn message(self) -> &'static str {
         match self {
+            WordFault::Watch => "mountctl: watch takes a namespace, or all",
             WordFault::Mirror => "mountctl: mirror takes a namespace and a count of 1 to 1048576",
             WordFault::Tree => "mountctl: tree takes a namespace, or none, and --ascii",
             WordFault::Graph => "mountctl: dot takes no words",
         }
     }
+}
+
+/// The watch of these words, or None where they are neither a namespace nor `all`.
+fn watch_of(words: &[&str]) -> Option<Task> {
+    let [word] = words else {
+        return None;
+    };
+    let scope = if *word == "all" {
+        Scope::All
+    } else {
+        Scope::One(number(word.as_bytes())?)
+    };
+    Some(Task::Tell { scope })
 }
 
 /// The mirror of these words, or None where they are no namespace and count.
@@ -78,6 +96,7 @@ fn tree_of(words: &[&str]) -> Option<Task> {
 pub(crate) fn task_of(words: &[&str]) -> Result<Task, WordFault> {
     match words {
         ["-"] => Ok(Task::Script),
+        ["watch", behind @ ..] => watch_of(behind).ok_or(WordFault::Watch),
         ["mirror", behind @ ..] => mirror_of(behind).ok_or(WordFault::Mirror),
         ["tree", behind @ ..] => tree_of(behind).ok_or(WordFault::Tree),
         ["dot"] => Ok(Task::Draw {

@@ -1,26 +1,30 @@
 -- What cannot come first where a post or the end of posts is refused, and what was read of posts.
-use Rattle.std.proofs.Common.{◌≡◌, ℕ, zero, suc, ◌+◌, ◌<◌, ◌≤◌, ◌^◌, true, false, ◌&&◌, ◌==◌, List, [], ◌∷◌, ◌++◌, map, length, refl, sym, ap, subst, ◌∙◌, arith, append_assoc, codes, decimal, Some, None, Option, inl, inr, Result, Ok, Err, OnOk}
+use Rattle.std.proofs.Common.{◌≡◌, ◌≢◌, ℕ, zero, suc, ◌+◌, ◌<◌, ◌≤◌, ◌^◌, true, false, ◌&&◌, ◌==◌, List, [], ◌∷◌, ◌++◌, map, length, refl, sym, ap, subst, ◌∙◌, arith, append_assoc, codes, decimal, Some, None, Option, inl, inr, Result, Ok, Err, IfOk, OnOk}
 use Rattle.std.specs.List.{flat_map, join_with_byte, list_all, AllByRecursion}
-use Rattle.std.proofs.lemmas.List.{append_cancel_left}
 use Rattle.std.proofs.lemmas.Bool.Decides.{nat_tests}
-use Rattle.std.proofs.lemmas.Fmt.{decimal_injective}
+use Rattle.std.proofs.lemmas.Bool.{false≢true}
 use Rattle.mt_skel.proofs.MiddleLaws.{and-true, and_first, and_second}
 use Rattle.mt_words.specs.Words.{words}
 use Rattle.mt_words.proofs.NumberLaws.{number_decimal}
 use Rattle.mt_words.proofs.PieceLaws.{pieces_joined}
 use Rattle.mt_lines.specs.Lines.{Item, Text}
-use Rattle.mt_info.proofs.WordLaws.{lacks, decimal-lacks, word_end}
+use Rattle.mt_info.proofs.WordLaws.{lacks, decimal-lacks}
 use Rattle.mt_info.specs.declared.row.Row.{Row}
 use Rattle.mt_events.specs.Posts.{PostView, IsPost, event_words, gone_line, row_line, post_lines, post_text, ended}
 use Rattle.mt_events.specs.Mirrors.{MirrorView, is_next, are_next, mirrored}
+use Rattle.mt_events.proofs.PostLaws.{text_tells}
 use Rattle.mt_client.specs.Reading.{texts, printed, NoneFirst, AreSoMany}
-use Rattle.mt_client.specs.Mirroring.{IsRefusal, counted_line, opening_lines, Follows, HasOpened, HasFollowed}
-use Rattle.mt_client.specs.Awaited.{event_count, IsOneRefusal, IsRefusedOr, IsOpening, IsNextPost, IsBehind, TakesPost, TakesBehind, IsLast, IsFollowing, IsEnd, IsMirroring}
+use Rattle.mt_client.specs.Mirroring.{IsRefusal, counted_line, opening_lines, Follows, HasOpened, IsPosted, HasPosted, HasFollowed}
+use Rattle.mt_client.specs.Awaited.{event_count, IsOneRefusal, IsRefusedOr, IsOpening, IsNextPost, IsBehind, IsPostBehind, IsOnlyPost, TakesPost, TakesBehind, IsLast, IsFollowing, IsEnd, IsMirroring}
 use Rattle.mt_client.proofs.OpeningLaws.{texts_split, needs_line, unrefused_or, opened_alike}
 
 pub on_ok : {A E : Type 0} {P : Type 0} (r : Result A E) → P → OnOk r P
 on_ok (Ok a) p = p
 on_ok (Err e) p = tt
+
+pub ok_both : {A E : Type 0} {P Q R : A → Type 0} (r : Result A E) → ((a : A) → P a → Q a → R a) → IfOk r P → IfOk r Q → IfOk r R
+ok_both (Ok a) go p q = go a p q
+ok_both (Err e) go p q = tt
 
 -- lists of lines of one length that come first are equal, and end in one place
 pub lines_alike : (xs ys : List (List ℕ)) (middle later : List Item) → length xs ≡ length ys → texts xs ++ middle ≡ texts ys ++ later → (xs ≡ ys) × (middle ≡ later)
@@ -70,62 +74,77 @@ event_many r n seen others p is counts valid all =
     let m = counts ∙ event_counts seen p valid f.0 in
     ap length f.1 ∙ lengths p.gone p.rows ∙ some_same (length p.gone + length p.rows) n (sym m ∙ is)
 
-pub behind_needs_event : (r : Option ℕ) (seen : List ℕ) (mirror : MirrorView) (before : List Item) → r ≡ None
+pub behind_needs_event : (r : Option ℕ) (seen : List ℕ) (before : List Item) → r ≡ None
     → r ≡ event_count (words seen)
-    → NoneFirst (IsBehind seen mirror) before
-behind_needs_event r seen mirror before is counts lines later k e =
-    let f = first_is seen lines k.post k.all in
-    let m = counts ∙ event_counts seen k.post k.valid f.0 in
-    let no : None ≡ Some (length k.post.gone + length k.post.rows) = sym is ∙ m in cc
+    → NoneFirst (IsPostBehind seen) before
+behind_needs_event r seen before is counts lines later k e =
+    let p : PostView = k.0 in
+    let f = first_is seen lines p k.2 in
+    let m = counts ∙ event_counts seen p k.1 f.0 in
+    let no : None ≡ Some (length p.gone + length p.rows) = sym is ∙ m in cc
 
-pub behind_needs_lines : (r : Option ℕ) (n : ℕ) (seen : List ℕ) (mirror : MirrorView) (before : List Item) → r ≡ Some n
+pub behind_needs_lines : (r : Option ℕ) (n : ℕ) (seen : List ℕ) (before : List Item) → r ≡ Some n
     → r ≡ event_count (words seen)
-    → NoneFirst (AreSoMany n) before → NoneFirst (IsBehind seen mirror) before
-behind_needs_lines r n seen mirror before is counts none lines later k e = none lines later (event_many r n seen lines k.post is counts k.valid k.all) e
+    → NoneFirst (AreSoMany n) before → NoneFirst (IsPostBehind seen) before
+behind_needs_lines r n seen before is counts none lines later k e = none lines later (event_many r n seen lines k.0 is counts k.1 k.2) e
 
 printed_post : (lines : List (List ℕ)) (p : PostView) → lines ≡ post_lines p → printed lines ≡ post_text p
 unfolding post_text
 printed_post lines p e = ap printed e
 
-pub behind_needs_next : (r : Option ℕ) (n : ℕ) (seen : List ℕ) (mirror : MirrorView) (before after : List Item) (begun text : List ℕ) → r ≡ Some n
+-- lines that were read behind the first one of a post
+abbrev HasReadMore : ℕ → List Item → List Item → List ℕ → List ℕ → Type 0
+HasReadMore n before after begun text = (all : List (List ℕ)) × (length all ≡ n) × (before ≡ texts all ++ after) × (text ≡ begun ++ printed all)
+
+pub behind_needs_post : (r : Option ℕ) (n : ℕ) (seen : List ℕ) (before after : List Item) (begun text : List ℕ) → r ≡ Some n
     → r ≡ event_count (words seen)
-    → begun ≡ ended seen → ((all : List (List ℕ)) × (length all ≡ n) × (before ≡ texts all ++ after) × (text ≡ begun ++ printed all))
-    → ((post : PostView) → IsPost post → text ≡ post_text post → is_next mirror post ≡ false) → NoneFirst (IsBehind seen mirror) before
-behind_needs_next r n seen mirror before after begun text is counts began read refused lines later k e =
-    let many = event_many r n seen lines k.post is counts k.valid k.all in
+    → begun ≡ ended seen → HasReadMore n before after begun text
+    → ((post : PostView) → IsPost post → text ≢ post_text post) → NoneFirst (IsPostBehind seen) before
+behind_needs_post r n seen before after begun text is counts began read refused lines later k e =
+    let many = event_many r n seen lines k.0 is counts k.1 k.2 in
     let a = lines_alike read.0 lines after later (read.1 ∙ sym many) (sym read.2 ∙ e) in
     let whole : text ≡ printed (seen ∷ lines) = read.3 ∙ (λ i. began i ++ printed (a.0 i)) in
-    let no : is_next mirror k.post ≡ false = refused k.post k.valid (whole ∙ printed_post (seen ∷ lines) k.post k.all) in
-    let yes : is_next mirror k.post ≡ true = k.next in
-    cc
+    refused k.0 k.1 (whole ∙ printed_post (seen ∷ lines) k.0 k.2)
 
-pub behind_taken : (r : Option ℕ) (n : ℕ) (seen : List ℕ) (before after : List Item) (begun text : List ℕ) → r ≡ Some n
+pub behind_only : (r : Option ℕ) (n : ℕ) (seen : List ℕ) (before after : List Item) (begun text : List ℕ) (post : PostView) → r ≡ Some n
     → r ≡ event_count (words seen)
-    → ((all : List (List ℕ)) × (length all ≡ n) × (before ≡ texts all ++ after) × (text ≡ begun ++ printed all))
-    → TakesBehind seen before after
-behind_taken r n seen before after begun text is counts read post others rest valid all e =
-    (lines_alike read.0 others after rest (read.1 ∙ sym (event_many r n seen others post is counts valid all)) (sym read.2 ∙ e)).1
+    → begun ≡ ended seen → HasReadMore n before after begun text
+    → IsPost post → text ≡ post_text post → IsOnlyPost seen before after post
+behind_only r n seen before after begun text post is counts began read valid said other others rest valid_other all e =
+    let many = event_many r n seen others other is counts valid_other all in
+    let a = lines_alike read.0 others after rest (read.1 ∙ sym many) (sym read.2 ∙ e) in
+    let whole : text ≡ printed (seen ∷ others) = read.3 ∙ (λ i. began i ++ printed (a.0 i)) in
+    (text_tells other post valid_other valid (sym (printed_post (seen ∷ others) other all) ∙ sym whole ∙ said), a.1)
 
--- the text of a post tells its namespace and its number
-grouped : (space number count rest : List ℕ)
-    → ended (join_with_byte 32 (codes "event" ∷ space ∷ number ∷ count ∷ [])) ++ rest ≡ codes "event " ++ (space ++ 32 ∷ (number ++ 32 ∷ (count ++ 10 ∷ rest)))
-grouped space number count rest = simp append_assoc refl
+pub behind_posted : {n : ℕ} (seen : List ℕ) (before after : List Item) (begun text : List ℕ) (post : PostView) → begun ≡ ended seen → HasReadMore n before after begun text → text ≡ post_text post → IsPosted seen before after post
+behind_posted seen before after begun text post began read said = record {
+  others = read.0;
+  read = read.2;
+  text = ap (λ b. b ++ printed read.0) (sym began) ∙ sym read.3 ∙ said;
+}
 
-abbrev later_text : PostView → List ℕ
-later_text p = decimal (length p.gone + length p.rows) ++ 10 ∷ flat_map ended (behind_lines p)
+-- a post that was read, and applied
+pub posted_next : (seen : List ℕ) (before after : List Item) (post : PostView) (old new : MirrorView) → IsPosted seen before after post → IsPost post → (is_next old post ≡ true) × (new ≡ mirrored old post) → HasPosted seen before after old new
+posted_next seen before after post old new p valid applied = record {
+  others = p.others;
+  post = post;
+  valid = valid;
+  read = p.read;
+  text = p.text;
+  follows = record { are = and-true (is_next old post) true applied.0 refl; make = applied.1 };
+}
 
-post_grouped : (p : PostView) → post_text p ≡ codes "event " ++ (decimal p.space ++ 32 ∷ (decimal p.number ++ 32 ∷ later_text p))
-unfolding post_text
-post_grouped p = grouped (decimal p.space) (decimal p.number) (decimal (length p.gone + length p.rows)) (flat_map ended (behind_lines p))
+pub taken_behind : (seen : List ℕ) (before after : List Item) (post : PostView) → IsOnlyPost seen before after post → TakesBehind seen before after
+taken_behind seen before after post only other others rest valid all e = (only other others rest valid all e).1
 
-pub next_alike : (mirror : MirrorView) (p q : PostView) → p.space < 2 ^ 64 → p.number < 2 ^ 64 → q.space < 2 ^ 64 → q.number < 2 ^ 64 → post_text p ≡ post_text q → is_next mirror p ≡ is_next mirror q
-next_alike mirror p q a b d f e =
-    let s = append_cancel_left (codes "event ") (decimal p.space ++ 32 ∷ (decimal p.number ++ 32 ∷ later_text p)) (decimal q.space ++ 32 ∷ (decimal q.number ++ 32 ∷ later_text q)) (sym (post_grouped p) ∙ e ∙ post_grouped q) in
-    let w = word_end 32 (decimal p.space) (decimal q.space) (decimal p.number ++ 32 ∷ later_text p) (decimal q.number ++ 32 ∷ later_text q) (decimal-lacks p.space a) (decimal-lacks q.space d) s in
-    let v = word_end 32 (decimal p.number) (decimal q.number) (later_text p) (later_text q) (decimal-lacks p.number b) (decimal-lacks q.number f) w.1 in
-    let space = decimal_injective p.space q.space a d w.0 in
-    let number = decimal_injective p.number q.number b f v.0 in
-    λ i. (space i == mirror.space) && (number i == mirror.number + 1)
+pub behind_any : (seen : List ℕ) (mirror : MirrorView) (before : List Item) → NoneFirst (IsPostBehind seen) before → NoneFirst (IsBehind seen mirror) before
+behind_any seen mirror before none lines later k e = none lines later (k.post, k.valid, k.all) e
+
+pub behind_needs_next : (seen : List ℕ) (mirror : MirrorView) (before after : List Item) (post : PostView) → IsOnlyPost seen before after post → is_next mirror post ≡ false → NoneFirst (IsBehind seen mirror) before
+behind_needs_next seen mirror before after post only other lines later k e =
+    let o = only k.post lines later k.valid k.all e in
+    let yes : is_next mirror post ≡ true = sym (ap (is_next mirror) o.0) ∙ k.next in
+    false≢true (sym other ∙ yes)
 
 -- a post, or a refusal in its place
 next_some : (mirror : MirrorView) (lines : List (List ℕ)) → IsRefusedOr (IsNextPost mirror) lines → (first : List ℕ) × (others : List (List ℕ)) × (lines ≡ first ∷ others)

@@ -1,5 +1,6 @@
 -- What was read of an opening, and what cannot come first where one is refused.
 use Rattle.std.proofs.Common.{◌≡◌, ◌≢◌, true, false, ℕ, ◌+◌, ◌<◌, ◌≤◌, ◌^◌, List, [], ◌∷◌, ◌++◌, map, length, refl, sym, ap, ◌∙◌, subst, arith, append-nil, length-append, fold, drop, get_or, IsTrue, Option, Some, None, MatchOption, inl, inr}
+use Rattle.std.proofs.lemmas.List.{append_cancel_left}
 use Rattle.std.proofs.lemmas.Grind.{flat_map-append}
 use Rattle.std.specs.List.{flat_map, join_with_byte, AllByRecursion}
 use Rattle.mt_lines.specs.Lines.{Item, Text}
@@ -14,14 +15,14 @@ use Rattle.mt_events.specs.Mirrors.{MirrorView}
 use Rattle.mt_events.specs.Posts.{ended}
 use Rattle.mt_events.specs.declared.opening.Part.{Part}
 use Rattle.mt_events.specs.declared.opening.Scope.{Scope}
-use Rattle.mt_events.specs.declared.opening.Scope.TheVariants.{One}
+use Rattle.mt_events.specs.declared.opening.Scope.TheVariants.{One, All}
 use Rattle.mt_events.specs.Texts.{count_text, part_text, lines_of_parts, opening_text}
 use Rattle.mt_client.specs.declared.opening.Heading.{Heading}
 use Rattle.mt_client.specs.Requests.{is_refusal}
 use Rattle.mt_client.specs.Reading.{texts, printed, NoneFirst, AreSoMany}
 use Rattle.mt_client.specs.Mirroring.{IsShown, counted_line, heading_words, heading_line, part_lines, opening_lines, HasOpened}
 use Rattle.mt_client.specs.Awaited.{IsRefusedOr, AreRowLines, IsOpening}
-use Rattle.mt_client.specs.Finding.{mirror_space, parts_lines, found_lines, AreOf, part_found, opening_found, HasFound, HasWatched, IsFinding, IsPartWithin, ArePartLines}
+use Rattle.mt_client.specs.Finding.{mirror_space, parts_lines, found_lines, AreOf, AreShown, part_found, opening_found, HasFound, HasWatched, IsFinding, IsPartWithin, ArePartLines}
 use Rattle.mt_client.proofs.RelayLaws.{printed-append}
 use Rattle.mt_client.proofs.MirrorLaws.{runs_read, part_is}
 use Rattle.mt_client.proofs.ReplyLaws.{many_lines}
@@ -181,6 +182,14 @@ finding_needs_scope scope count seen parts before middle after there tells is sm
     let same = parts_alike parts k.found after later shown k.shown.each (omega (arith, many, n)) (sym came ∙ t.1) in
     other (subst (AreOf scope) (sym same) k.shown.of))
 
+-- the namespaces of an opening that comes first are those that were found, and end in one place
+pub found_alike : (scope : Scope) (before middle later : List Item) (parts news : List MirrorView) → HasFound scope before middle parts → AreShown scope news → before ≡ texts (found_lines news) ++ later → (parts ≡ news) × (middle ≡ later)
+found_alike scope before middle later parts news f s e =
+    let t = first_taken (counted_line (length (parts_lines parts))) (counted_line (length (parts_lines news))) (found_lines news) (parts_lines news) before (texts (parts_lines parts) ++ middle) later f.read refl e in
+    let n = counted_tells (length (parts_lines news)) (length (parts_lines parts)) s.counted f.shown.counted t.0 in
+    let same = parts_alike parts news middle later f.shown.each s.each (omega (arith, n)) t.1 in
+    (same, append_cancel_left (texts (parts_lines news)) middle later (ap (λ ps. texts (parts_lines ps) ++ middle) (sym same) ∙ t.1))
+
 -- the text of an opening
 parts_text : (parts : List MirrorView) → printed (parts_lines parts) ≡ flat_map part_text (map part_found parts)
 parts_text [] = refl
@@ -242,3 +251,10 @@ opening_needs_finding space before none lines later (inr k) e =
       shown = record { each = (k.shown, tt); counted = one_counted k.found k.shown; of = ap (λ n. n ∷ []) k.of };
       all = k.all ∙ sym (one_opening k.found);
     })) e
+
+-- the namespaces of a scope rise
+pub rises_of : (scope : Scope) (parts : List MirrorView) → AreOf scope parts → IsTrue (rises mirror_space parts)
+rises_of All parts of = of
+rises_of (One space) [] of = let no : [] ≡ space ∷ [] = of in cc
+rises_of (One space) (m ∷ []) of = refl
+rises_of (One space) (m ∷ n ∷ parts) of = let no : m.space ∷ (n.space ∷ map mirror_space parts) ≡ space ∷ [] = of in cc

@@ -7,3 +7,6 @@ pub mod ReplyLaws
 pub mod EndingLaws
 pub mod FoundLaws
 pub mod SendingLaws
+pub mod PlaceLaws
+pub mod TellingLaws
+pub mod AheadLaws

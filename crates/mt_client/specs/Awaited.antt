@@ -54,6 +54,18 @@ pub record IsNextPost (mirror : MirrorView) (lines : List (List ℕ)) : Type 0 w
 abbrev pub IsBehind : List ℕ → MirrorView → List (List ℕ) → Type 0
 IsBehind first mirror others = IsNextPost mirror (first ∷ others)
 
+-- the lines of a post
+abbrev pub IsAnyPost : List (List ℕ) → Type 0
+IsAnyPost lines = (post : PostView) × IsPost post × (lines ≡ post_lines post)
+
+-- the same behind a first line
+abbrev pub IsPostBehind : List ℕ → List (List ℕ) → Type 0
+IsPostBehind first others = IsAnyPost (first ∷ others)
+
+-- where the lines of a post come behind a first line, it is this one, and all of them are read, and no others
+abbrev pub IsOnlyPost : List ℕ → List Item → List Item → PostView → Type 0
+IsOnlyPost first before after post = (other : PostView) (others : List (List ℕ)) (rest : List Item) → IsPost other → first ∷ others ≡ post_lines other → before ≡ texts others ++ rest → (other ≡ post) × (after ≡ rest)
+
 -- where the lines of a post come first, all of them are read, and no others
 abbrev pub TakesPost : List Item → List Item → Type 0
 TakesPost before after = (post : PostView) (rest : List Item) → IsPost post → before ≡ texts (post_lines post) ++ rest → after ≡ rest

@@ -61,6 +61,12 @@ pub record HasOpened (space : ℕ) (before after : List Item) (found : MirrorVie
   pub of : found.space ≡ space
   pub read : before ≡ texts (opening_lines found) ++ after
 
+-- lines were read that are, behind a first line, the text of this post
+pub record IsPosted (first : List ℕ) (before after : List Item) (post : PostView) : Type 0 where
+  pub others : List (List ℕ)
+  pub read : before ≡ texts others ++ after
+  pub text : printed (first ∷ others) ≡ post_text post
+
 -- lines were read that are, behind a first line, the text of a next post
 pub record HasPosted (first : List ℕ) (before after : List Item) (old new : MirrorView) : Type 0 where
   pub others : List (List ℕ)

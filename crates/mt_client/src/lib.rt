@@ -1,9 +1,10 @@
 //! What a client of the mount server does over a connection: it asks, passes answers on, follows the table of a
-//! namespace, and draws tables.
+//! namespace, draws tables, and tells posts in words.
 //!
 //! A request is a line ([`request`]). How many lines answer it is known by its first word and by the first line of the
 //! answer ([`answer`]). [`ask`] sends a request and prints its answer, [`mirror`] applies posts to the table
-//! that a watcher found, and [`picture`] prints a drawing of the tables that it found.
+//! that a watcher found, [`picture`] prints a drawing of the tables that it found, and [`telling`] prints the posts that
+//! it is sent, in words.
 #![tactic(auto)]
 
 pub mod answer;
@@ -11,6 +12,7 @@ pub mod ask;
 mod block;
 pub mod fault;
 pub mod mirror;
+mod mirrors;
 mod opening;
 mod parts;
 pub mod picture;
@@ -18,3 +20,4 @@ mod posts;
 pub mod relay;
 pub mod request;
 mod sending;
+pub mod telling;

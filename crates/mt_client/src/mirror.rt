@@ -96,12 +96,16 @@ pub(crate) fn is_end(line: &[u8], count: u64) -> bool
 }
 
 /// Reads the line behind so many posts: false where it is a refusal, which the reader lends.
-fn read_end<R: Input + Drop>(lines: &mut LineReader<R>, count: u64) -> Result<bool, ClientFault>
+pub(crate) fn read_end<R: Input + Drop>(
+    lines: &mut LineReader<R>,
+    count: u64,
+) -> Result<bool, ClientFault>
     requires fresh { fault_of lines.old ≡ None }
     ensures ended { IfOk result (λ going. IsTrue R.tells → MatchBool going
         (lines_left lines.old ≡ texts (counted_line count ∷ []) ++ lines_left lines.new)
         (HasRefused (last_line lines.new) (lines_left lines.old) (lines_left lines.new))) }
     ensures fresh { OnOk result (fault_of lines.new ≡ None) }
+    ensures unrefused { result ≡ Ok true → IsTrue R.tells → NoneFirst IsOneRefusal (lines_left lines.old) }
     ensures kind { result ≢ Err ClientFault.Output }
     ensures cut { result ≡ Err ClientFault.Connection → IsTrue R.tells → IsTrue R.counts
         → IsCut (IsRefusedOr (IsEnd count)) lines.old lines.new }

@@ -127,6 +127,7 @@ pub(crate) fn read_found<R: Input + Drop>(
     ensures found { IfOk result (λ found. IsTrue R.tells → MatchOption found
         (HasRefused (last_line lines.new) (lines_left lines.old) (lines_left lines.new))
         (λ parts. HasFound scope (lines_left lines.old) (lines_left lines.new) parts.items)) }
+    ensures rising { IfOk result (λ found. IfSome found (λ parts. IsTrue (rises mirror_space parts.items))) }
     ensures fresh { OnOk result (fault_of lines.new ≡ None) }
     ensures kind { result ≢ Err ClientFault.Output }
     ensures unrefused { IfOk result (λ found. IsTrue R.tells → IfSome found (λ parts. NoneFirst IsOneRefusal (lines_left lines.old))) }

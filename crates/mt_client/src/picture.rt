@@ -22,7 +22,7 @@ use mt_lines::stream::{Input, Output};
 use std::alloc::{AllocError, Global};
 
 /// The line of the request of a watcher, without its line end. Fails for want of memory alone.
-fn watch_line(alloc: Global, scope: Scope) -> Result<Vec<u8>, AllocError>
+pub(crate) fn watch_line(alloc: Global, scope: Scope) -> Result<Vec<u8>, AllocError>
     ensures { IfOk result (λ line. line.items ≡ watch_text scope) }
 {
     match scope {

@@ -1,16 +1,17 @@
 //! Posts as they are followed.
-ghost use Rattle.std.specs.Prelude.{◌≡◌, ◌≢◌, ℕ, ◌+◌, ◌≤◌, List, [], ◌∷◌, ◌++◌, length, false, Some, None, Err, OnOk, IsTrue};
+ghost use Rattle.std.specs.Prelude.{◌≡◌, ◌≢◌, ℕ, ◌+◌, ◌≤◌, List, [], ◌∷◌, ◌++◌, length, true, false, Some, None, Err, IfOk, OnOk, IsTrue};
 ghost use Rattle.mt_lines.specs.Reading.{failed_calls, last_faults, fault_of, last_line, limit_of};
 ghost use Rattle.mt_words.specs.Words.{words};
 ghost use Rattle.mt_events.specs.Posts.{PostView, IsPost, post_text, ended};
-ghost use Rattle.mt_events.specs.Mirrors.{is_next};
+ghost use Rattle.mt_events.specs.Mirrors.{is_next, mirrored};
 ghost use Rattle.mt_client.specs.Reading.{lines_left, texts, printed, AreSoMany, IsCut};
-ghost use Rattle.mt_client.specs.Mirroring.{Follows, HasPosted};
-ghost use Rattle.mt_client.specs.Awaited.{event_count, IsBehind, TakesBehind};
+ghost use Rattle.mt_client.specs.Mirroring.{HasPosted, IsPosted};
+ghost use Rattle.mt_client.specs.Awaited.{event_count, IsBehind, IsPostBehind, IsOnlyPost, TakesBehind};
 
 use crate::fault::ClientFault;
 use crate::relay::next_text;
 use mt_events::mirror::Mirror;
+use mt_events::post::Post;
 use mt_events::read::read_post;
 use mt_lines::line::LineReader;
 use mt_lines::stream::Input;
@@ -82,17 +83,54 @@ fn client_fault(fault: Fault) -> ClientFault
     }
 }
 
-/// Applies the post that a text says.
-fn apply_text(alloc: Global, mirror: &mut Mirror, text: &[u8]) -> Result<(), ClientFault>
-    ensures applied { OnOk result ((post : PostView) × IsPost post × (text.now ≡ post_text post) × Follows (post ∷ []) mirror.old mirror.new) }
-    ensures refused { result ≡ Err ClientFault.Connection → (post : PostView) → IsPost post → text.now ≡ post_text post → is_next mirror.old post ≡ false }
+/// Reads the post of which the reader lends the first line.
+pub(crate) fn read_posted<R: Input + Drop>(
+    alloc: Global,
+    lines: &mut LineReader<R>,
+) -> Result<Post, ClientFault>
+    requires fresh { fault_of lines.old ≡ None }
+    ensures posted { IfOk result (λ post. IsTrue R.tells
+        → IsPosted (last_line lines.old) (lines_left lines.old) (lines_left lines.new) post) }
+    ensures valid { IfOk result (λ post. IsPost post) }
+    ensures fresh { OnOk result (fault_of lines.new ≡ None) }
+    ensures kind { result ≢ Err ClientFault.Output }
+    ensures only { IfOk result (λ post. IsTrue R.tells
+        → IsOnlyPost (last_line lines.old) (lines_left lines.old) (lines_left lines.new) post) }
+    ensures cut { result ≡ Err ClientFault.Connection → IsTrue R.tells → IsTrue R.counts
+        → IsCut (IsPostBehind (last_line lines.old)) lines.old lines.new }
+    ensures counted { IsTrue R.counts → failed_calls lines.old ≤ failed_calls lines.new }
+    ensures reads { OnOk result (IsTrue R.counts → last_faults lines.old ≡ [] → last_faults lines.new ≡ []) }
+    ensures limit { limit_of lines.new ≡ limit_of lines.old }
+{
+    let Some(count) = lines_of_event(lines.line()) else {
+        return Err(ClientFault::Connection);
+    };
+    let mut text = Vec::new(alloc);
+    push_line(&mut text, lines.line())?;
+    push_lines(&mut text, lines, count)?;
+    read_text(alloc, &text)
+}
+
+/// The post that a text says.
+fn read_text(alloc: Global, text: &[u8]) -> Result<Post, ClientFault>
+    ensures post { IfOk result (λ post. text.now ≡ post_text post) }
+    ensures valid { IfOk result (λ post. IsPost post) }
+    ensures refused { result ≡ Err ClientFault.Connection → (post : PostView) → IsPost post → text.now ≢ post_text post }
     ensures kind { result ≢ Err ClientFault.Output }
 {
-    let post = match read_post(alloc, text) {
-        Ok(post) => post,
-        Err(fault) => return Err(client_fault(fault)),
-    };
-    match mirror.apply(&post) {
+    match read_post(alloc, text) {
+        Ok(post) => Ok(post),
+        Err(fault) => Err(client_fault(fault)),
+    }
+}
+
+/// Applies a post to a mirror, where it is the next one.
+pub(crate) fn apply_next(mirror: &mut Mirror, post: &Post) -> Result<(), ClientFault>
+    ensures applied { OnOk result ((is_next mirror.old post.now ≡ true) × (mirror.new ≡ mirrored mirror.old post.now)) }
+    ensures refused { result ≡ Err ClientFault.Connection → is_next mirror.old post.now ≡ false }
+    ensures kind { result ≢ Err ClientFault.Output }
+{
+    match mirror.apply(post) {
         Ok(()) => Ok(()),
         Err(fault) => Err(client_fault(fault)),
     }
@@ -117,11 +155,6 @@ pub(crate) fn apply_post<R: Input + Drop>(
     ensures reads { OnOk result (IsTrue R.counts → last_faults lines.old ≡ [] → last_faults lines.new ≡ []) }
     ensures limit { limit_of lines.new ≡ limit_of lines.old }
 {
-    let Some(count) = lines_of_event(lines.line()) else {
-        return Err(ClientFault::Connection);
-    };
-    let mut text = Vec::new(alloc);
-    push_line(&mut text, lines.line())?;
-    push_lines(&mut text, lines, count)?;
-    apply_text(alloc, mirror, &text)
+    let post = read_posted(alloc, lines)?;
+    apply_next(mirror, &post)
 }

@@ -1,0 +1,379 @@
+-- Posts that were told, one after another, and what stands behind them.
+use Rattle.std.proofs.Common.{◌≡◌, ◌≢◌, ℕ, zero, suc, ◌+◌, ◌≤◌, MatchBool, MatchOption, Option, Some, None, IfSome, IfOk, IfErr, Result, Ok, Err, OnOk, OnErr, Bool, true, false, List, [], ◌∷◌, ◌++◌, length, replicate, refl, sym, ap, subst, ◌∙◌, arith, append_assoc, length-append, codes, ◌⊎◌, inl, inr}
+use Rattle.std.proofs.lemmas.List.{append-nil}
+use Rattle.std.proofs.lemmas.Grind.{flat_map-append}
+use Rattle.std.specs.List.{flat_map, AllByRecursion}
+use Rattle.mt_skel.proofs.MiddleLaws.{and-true, and_first, and_second}
+use Rattle.mt_lines.specs.Lines.{Item, Text}
+use Rattle.mt_events.specs.Posts.{PostView, IsPost, post_text, ended}
+use Rattle.mt_events.specs.Mirrors.{MirrorView}
+use Rattle.mt_events.specs.Texts.{count_text, followed_text}
+use Rattle.mt_events.specs.declared.opening.Scope.{Scope}
+use Rattle.mt_told.specs.Told.{told_text}
+use Rattle.mt_client.specs.declared.fault.ClientFault.{ClientFault}
+use Rattle.mt_client.specs.declared.fault.ClientFault.TheVariants.{Connection, Output, NoMemory}
+use Rattle.mt_client.specs.Requests.{numbered_text}
+use Rattle.mt_client.specs.Reading.{texts, IsCutOff, IsBroken, IsSentPart}
+use Rattle.mt_client.specs.Mirroring.{HasRefused, IsPosted, counted_line}
+use Rattle.mt_client.specs.Finding.{watch_text, HasFound}
+use Rattle.mt_client.specs.Telling.{mirror_in, mirrors_with, mirrors_by, is_due, are_due, posts_told, portion, follows_text, telling_text, all_posts, portions_text, HasCome, HasTold, IsUnsaid, IsHalfTold, IsStopped, IsBrokenOff, AreTold, HasToldPost, HasToldSome, HasToldPortion, HasToldSo, HasToldAll, HasToldAllOut, IsToldUpTo}
+use Rattle.mt_client.proofs.RequestLaws.{sent_whole, part_first, part_second}
+use Rattle.mt_client.proofs.RelayLaws.{printed-append, broken_cut}
+use Rattle.mt_client.proofs.MirrorLaws.{runs_read}
+use Rattle.mt_client.proofs.FoundLaws.{watched_whole}
+
+-- posts behind posts
+pub all_both : {X : Type 0} (P : X → Type 0) (xs ys : List X) → AllByRecursion P xs → AllByRecursion P ys → AllByRecursion P (xs ++ ys)
+all_both P [] ys all more = more
+all_both P (x ∷ xs) ys all more = (all.0, all_both P xs ys all.1 more)
+
+due_both : (scope : Scope) (ps qs : List PostView) (old : List MirrorView) → are_due scope old ps ≡ true → are_due scope (mirrors_by old ps) qs ≡ true → are_due scope old (ps ++ qs) ≡ true
+due_both scope [] qs old h k = k
+due_both scope (p ∷ ps) qs old h k =
+    and-true (is_due scope old p) (are_due scope (mirrors_with old p) (ps ++ qs)) (and_first (is_due scope old p) (are_due scope (mirrors_with old p) ps) h)
+    (due_both scope ps qs (mirrors_with old p) (and_second (is_due scope old p) (are_due scope (mirrors_with old p) ps) h) k)
+
+pub by_both : (ps qs : List PostView) (old : List MirrorView) → mirrors_by old (ps ++ qs) ≡ mirrors_by (mirrors_by old ps) qs
+by_both [] qs old = refl
+by_both (p ∷ ps) qs old = by_both ps qs (mirrors_with old p)
+
+told_both : (ps qs : List PostView) (old : List MirrorView) → posts_told old (ps ++ qs) ≡ posts_told old ps ++ posts_told (mirrors_by old ps) qs
+told_both [] qs old = refl
+told_both (p ∷ ps) qs old =
+    ap (λ t. told_text (mirror_in old p.space) p ++ t) (told_both ps qs (mirrors_with old p))
+    ∙ sym (append_assoc (told_text (mirror_in old p.space) p) (posts_told (mirrors_with old p) ps) (posts_told (mirrors_by (mirrors_with old p) ps) qs))
+
+pub both_told : (scope : Scope) (ps qs : List PostView) (s t : List ℕ) (old mid new : List MirrorView) (before middle after : List Item) (begun between done : List ℕ)
+    → AreTold scope ps s old mid before middle begun between → AreTold scope qs t mid new middle after between done → AreTold scope (ps ++ qs) (s ++ t) old new before after begun done
+both_told scope ps qs s t old mid new before middle after begun between done f h = record {
+  lines = f.lines ++ h.lines;
+  valid = all_both IsPost ps qs f.valid h.valid;
+  due = due_both scope ps qs old f.due (subst (λ ms. are_due scope ms qs ≡ true) f.make h.due);
+  make = h.make ∙ ap (λ ms. mirrors_by ms qs) f.make ∙ sym (by_both ps qs old);
+  read = runs_read f.lines h.lines before middle after f.read h.read;
+  text = printed-append f.lines h.lines ∙ (λ k. f.text k ++ h.text k);
+  out =
+      h.out ∙ (λ k. f.out k ++ posts_told (f.make k) qs)
+      ∙ append_assoc begun (posts_told old ps) (posts_told (mirrors_by old ps) qs)
+      ∙ ap (λ x. begun ++ x) (sym (told_both ps qs old));
+}
+
+none_told : (scope : Scope) (old : List MirrorView) (before : List Item) (begun : List ℕ) → AreTold scope [] [] old old before before begun begun
+none_told scope old before begun = record { lines = []; valid = tt; due = refl; make = refl; read = refl; text = refl; out = sym (append-nil begun) }
+
+said_so : (scope : Scope) (ps : List PostView) (s t : List ℕ) (old new : List MirrorView) (before after : List Item) (begun done : List ℕ) → s ≡ t → AreTold scope ps s old new before after begun done → AreTold scope ps t old new before after begun done
+said_so scope ps s t old new before after begun done e f = subst (λ x. AreTold scope ps x old new before after begun done) e f
+
+-- one post
+pub post_told : (scope : Scope) (first : List ℕ) (post : PostView) (old new : List MirrorView) (before middle after : List Item) (begun done : List ℕ) → before ≡ Text first ∷ middle → IsPosted first middle after post → IsPost post
+    → is_due scope old post ≡ true → new ≡ mirrors_with old post → done ≡ begun ++ told_text (mirror_in old post.space) post → HasToldPost scope old new before after begun done
+post_told scope first post old new before middle after begun done there p valid due make out = (
+  post,
+  record {
+    lines = first ∷ p.others;
+    valid = (valid, tt);
+    due = and-true (is_due scope old post) true due refl;
+    make = make;
+    read = there ∙ ap (λ x. Text first ∷ x) p.read;
+    text = p.text;
+    out = out ∙ ap (λ x. begun ++ x) (sym (append-nil (told_text (mirror_in old post.space) post)));
+  },
+)
+
+pub half_told : (scope : Scope) (first : List ℕ) (post : PostView) (old : List MirrorView) (before middle after : List Item) (begun done : List ℕ) → before ≡ Text first ∷ middle → IsPosted first middle after post → IsPost post → is_due scope old post ≡ true
+    → IsCutOff (told_text (mirror_in old post.space) post) begun done → IsHalfTold scope old before begun done
+half_told scope first post old before middle after begun done there p valid due out = record {
+  post = post;
+  lines = first ∷ p.others;
+  later = after;
+  valid = valid;
+  due = due;
+  read = there ∙ ap (λ x. Text first ∷ x) p.read;
+  text = p.text;
+  out = out;
+}
+
+-- what was printed up to a fault
+pub unsaid : (f : ClientFault) (before : List Item) (old new : List ℕ) → f ≢ Output → new ≡ old → IsUnsaid f before old new
+unsaid Connection before old new other same = same
+unsaid NoMemory before old new other same = same
+unsaid Output before old new other same = absurd (other refl)
+
+pub unsaid_of : (f : ClientFault) (before : List Item) (old new : List ℕ) → IsBroken f before old new → (f ≢ Output → new ≡ old) → IsUnsaid f before old new
+unsaid_of Connection before old new b kept = kept (λ e. let no : ◌≡◌ {A = ClientFault} Connection Output = e in cc)
+unsaid_of NoMemory before old new b kept = kept (λ e. let no : ◌≡◌ {A = ClientFault} NoMemory Output = e in cc)
+unsaid_of Output before old new b kept = b
+
+pub stopped_post : (f : ClientFault) (scope : Scope) (first : List ℕ) (post : PostView) (old : List MirrorView) (before middle after : List Item) (begun done : List ℕ) → before ≡ Text first ∷ middle → IsPosted first middle after post → IsPost post
+    → (f ≢ Output → done ≡ begun) → (f ≡ Output → (is_due scope old post ≡ true) × IsCutOff (told_text (mirror_in old post.space) post) begun done) → IsStopped f scope old before begun done
+stopped_post f scope first post old before middle after begun done there p valid kept cut = go f kept cut
+  where
+    go : (f : ClientFault) → (f ≢ Output → done ≡ begun) → (f ≡ Output → (is_due scope old post ≡ true) × IsCutOff (told_text (mirror_in old post.space) post) begun done) → IsStopped f scope old before begun done
+    go Connection same half = inl (same (λ e. let no : ◌≡◌ {A = ClientFault} Connection Output = e in cc))
+    go NoMemory same half = inl (same (λ e. let no : ◌≡◌ {A = ClientFault} NoMemory Output = e in cc))
+    go Output same half = let h = half refl in inr (refl, half_told scope first post old before middle after begun done there p valid h.0 h.1)
+
+pub when_false : (A B : Type 0) (b : Bool) → b ≡ false → MatchBool b A B → B
+when_false A B false e m = m
+when_false A B true e m = cc
+
+pub when_present : {X : Type 0} (P : X → Type 0) (o : Option X) (x : X) → o ≡ Some x → IfSome o P → P x
+when_present P o x e m = subst (λ y. IfSome y P) e m
+
+pub when_none : {X : Type 0} (A : Type 0) (P : X → Type 0) (o : Option X) → o ≡ None → MatchOption o A P → A
+when_none A P o e m = subst (λ y. MatchOption y A P) e m
+
+-- so many posts
+pub none_yet : (scope : Scope) (old : List MirrorView) (before : List Item) (begun : List ℕ) → HasToldSome 0 scope old old before before begun begun
+none_yet scope old before begun = record { posts = []; many = refl; told = none_told scope old before begun }
+
+pub some_more : (n : ℕ) (scope : Scope) (old mid new : List MirrorView) (before middle after : List Item) (begun between done : List ℕ) → HasToldSome n scope old mid before middle begun between → HasToldPost scope mid new middle after between done
+    → HasToldSome (n + 1) scope old new before after begun done
+some_more n scope old mid new before middle after begun between done f h =
+    let p : PostView = h.0 in
+    let l = length-append f.posts (p ∷ []) in
+    let m = f.many in
+    record {
+      posts = f.posts ++ p ∷ [];
+      many = omega (arith, l, m);
+      told = said_so scope (f.posts ++ p ∷ []) (flat_map post_text f.posts ++ post_text p) (flat_map post_text (f.posts ++ p ∷ [])) old new before after begun done
+          (ap (λ x. flat_map post_text f.posts ++ x) (sym (append-nil (post_text p))) ∙ sym (flat_map-append post_text f.posts (p ∷ [])))
+          (both_told scope f.posts (p ∷ []) (flat_map post_text f.posts) (post_text p) old mid new before middle after begun between done f.told h.1);
+    }
+
+-- their end
+pub portion_whole : (count n : ℕ) (scope : Scope) (old new : List MirrorView) (before middle after : List Item) (begun done : List ℕ) → n ≡ count → HasToldSome n scope old new before middle begun done → middle ≡ texts (counted_line count ∷ []) ++ after
+    → HasToldPortion count scope old new before after begun done
+portion_whole count n scope old new before middle after begun done all f e =
+    let t = f.told in
+    record {
+      posts = f.posts;
+      many = f.many ∙ all;
+      told = record {
+        lines = t.lines ++ counted_line count ∷ [];
+        valid = t.valid;
+        due = t.due;
+        make = t.make;
+        read = runs_read t.lines (counted_line count ∷ []) before middle after t.read e;
+        text = printed-append t.lines (counted_line count ∷ []) ∙ (λ k. t.text k ++ append-nil (count_text count) k);
+        out = t.out;
+      };
+    }
+
+-- at most so many posts, and no whole portion before them
+pub so_few : (count n : ℕ) (scope : Scope) (old new : List MirrorView) (before after : List Item) (begun done : List ℕ) → n ≤ count → HasToldSome n scope old new before after begun done → HasToldSo count scope old new before after begun done
+so_few count n scope old new before after begun done le f = record { portions = []; rest = f.posts; whole = tt; within = let m = f.many in omega (arith, m, le); told = f.told }
+
+pub so_none : (count : ℕ) (scope : Scope) (old : List MirrorView) (before : List Item) (begun : List ℕ) → HasToldSo count scope old old before before begun begun
+so_none count scope old before begun = so_few count 0 scope old old before before begun begun (omega arith) (none_yet scope old before begun)
+
+-- whole portions
+pub record HasToldWhole (count : ℕ) (scope : Scope) (old new : List MirrorView) (before after : List Item) (begun done : List ℕ) : Type 0 where
+  pub portions : List (List PostView)
+  pub whole : AllByRecursion (λ posts. length posts ≡ count) portions
+  pub told : AreTold scope (flat_map (λ posts. posts) portions) (flat_map (λ posts. followed_text posts (count_text count)) portions) old new before after begun done
+
+pub none_whole : (count : ℕ) (scope : Scope) (old : List MirrorView) (before : List Item) (begun : List ℕ) → HasToldWhole count scope old old before before begun begun
+none_whole count scope old before begun = record { portions = []; whole = tt; told = none_told scope old before begun }
+
+pub whole_more : (count : ℕ) (scope : Scope) (old mid new : List MirrorView) (before middle after : List Item) (begun between done : List ℕ) → HasToldWhole count scope old mid before middle begun between → HasToldPortion count scope mid new middle after between done
+    → HasToldWhole count scope old new before after begun done
+whole_more count scope old mid new before middle after begun between done f h =
+    let said : List (List PostView) → List ℕ = λ portions. flat_map (λ posts. followed_text posts (count_text count)) portions in
+    let posts : flat_map (λ posts. posts) f.portions ++ h.posts ≡ flat_map (λ posts. posts) (f.portions ++ h.posts ∷ []) =
+    ap (λ x. flat_map (λ posts. posts) f.portions ++ x) (sym (append-nil h.posts)) ∙ sym (flat_map-append (λ posts. posts) f.portions (h.posts ∷ [])) in
+    let text : said f.portions ++ followed_text h.posts (count_text count) ≡ said (f.portions ++ h.posts ∷ []) =
+    ap (λ x. said f.portions ++ x) (sym (append-nil (followed_text h.posts (count_text count)))) ∙ sym (flat_map-append (λ posts. followed_text posts (count_text count)) f.portions (h.posts ∷ [])) in
+    record {
+      portions = f.portions ++ h.posts ∷ [];
+      whole = all_both (λ (posts : List PostView). length posts ≡ count) f.portions (h.posts ∷ []) f.whole (h.many, tt);
+      told = subst (λ x. AreTold scope x (said (f.portions ++ h.posts ∷ [])) old new before after begun done) posts
+          (subst (λ x. AreTold scope (flat_map (λ posts. posts) f.portions ++ h.posts) x old new before after begun done) text
+          (both_told scope (flat_map (λ posts. posts) f.portions) h.posts (said f.portions) (followed_text h.posts (count_text count)) old mid new before middle after begun between done f.told h.told));
+    }
+
+pub so_behind : (count : ℕ) (scope : Scope) (old mid new : List MirrorView) (before middle after : List Item) (begun between done : List ℕ) → HasToldWhole count scope old mid before middle begun between → HasToldSo count scope mid new middle after between done
+    → HasToldSo count scope old new before after begun done
+so_behind count scope old mid new before middle after begun between done f h =
+    let all : List (List PostView) → List PostView = λ portions. flat_map (λ posts. posts) portions in
+    let said : List (List PostView) → List ℕ = λ portions. flat_map (λ posts. followed_text posts (count_text count)) portions in
+    let posts : all f.portions ++ all_posts h.portions h.rest ≡ all_posts (f.portions ++ h.portions) h.rest =
+    sym (append_assoc (all f.portions) (all h.portions) h.rest) ∙ ap (λ x. x ++ h.rest) (sym (flat_map-append (λ posts. posts) f.portions h.portions)) in
+    let text : said f.portions ++ portions_text count h.portions h.rest ≡ portions_text count (f.portions ++ h.portions) h.rest =
+    sym (append_assoc (said f.portions) (said h.portions) (flat_map post_text h.rest)) ∙ ap (λ x. x ++ flat_map post_text h.rest) (sym (flat_map-append (λ posts. followed_text posts (count_text count)) f.portions h.portions)) in
+    record {
+      portions = f.portions ++ h.portions;
+      rest = h.rest;
+      whole = all_both (λ (posts : List PostView). length posts ≡ count) f.portions h.portions f.whole h.whole;
+      within = h.within;
+      told = subst (λ x. AreTold scope x (portions_text count (f.portions ++ h.portions) h.rest) old new before after begun done) posts
+          (subst (λ x. AreTold scope (all f.portions ++ all_posts h.portions h.rest) x old new before after begun done) text
+          (both_told scope (all f.portions) (all_posts h.portions h.rest) (said f.portions) (portions_text count h.portions h.rest) old mid new before middle after begun between done f.told h.told));
+    }
+
+pub so_whole : (count : ℕ) (scope : Scope) (old new : List MirrorView) (before after : List Item) (begun done : List ℕ) → HasToldWhole count scope old new before after begun done → HasToldSo count scope old new before after begun done
+so_whole count scope old new before after begun done f = so_behind count scope old new new before after after begun done done f (so_none count scope new after done)
+
+-- a refusal behind them, and a fault
+pub all_behind : (count : ℕ) (scope : Scope) (old mid : List MirrorView) (before middle after : List Item) (begun between done : List ℕ) → HasToldWhole count scope old mid before middle begun between → HasToldAllOut count scope mid middle after between done
+    → HasToldAllOut count scope old before after begun done
+all_behind count scope old mid before middle after begun between done f h =
+    let a : HasToldAll count scope h.0 mid middle after between h.1 = h.2 in
+    (h.0, h.1, record { made = a.made; middle = a.middle; so = so_behind count scope old mid a.made before middle a.middle begun between h.1 f a.so; refused = a.refused }, h.3)
+
+pub up_to_behind : (fault : ClientFault) (count : ℕ) (scope : Scope) (old mid : List MirrorView) (before middle : List Item) (begun between done : List ℕ) → HasToldWhole count scope old mid before middle begun between → IsToldUpTo fault count scope mid middle between done
+    → IsToldUpTo fault count scope old before begun done
+up_to_behind fault count scope old mid before middle begun between done f h =
+    record { made = h.made; middle = h.middle; between = h.between; so = so_behind count scope old mid h.made before middle h.middle begun between h.between f h.so; stopped = h.stopped }
+
+pub up_to_whole : (count : ℕ) (scope : Scope) (old new : List MirrorView) (before middle : List Item) (begun done : List ℕ) → HasToldWhole count scope old new before middle begun done → IsToldUpTo Connection count scope old before begun done
+up_to_whole count scope old new before middle begun done f = record { made = new; middle = middle; between = done; so = so_whole count scope old new before middle begun done f; stopped = inl refl }
+
+-- the line behind so many posts
+pub all_told : {T O : Type 0} (r : Result Bool ClientFault) (count n : ℕ) (scope : Scope) (refusal : List ℕ) (old new : List MirrorView) (before middle after : List Item) (begun done : List ℕ) → n ≡ count → (T → O → HasToldSome n scope old new before middle begun done)
+    → IfOk r (λ going. T → MatchBool going (middle ≡ texts (counted_line count ∷ []) ++ after) (HasRefused refusal middle after))
+    → IfOk r (λ going. T → O → MatchBool going (HasToldPortion count scope old new before after begun done) (HasToldAll count scope refusal old before after begun done))
+all_told (Ok true) count n scope refusal old new before middle after begun done e f h = λ t u. portion_whole count n scope old new before middle after begun done e (f t u) (h t)
+all_told (Ok false) count n scope refusal old new before middle after begun done e f h =
+    λ t u. record { made = new; middle = middle; so = so_few count n scope old new before middle begun done (omega (arith, e)) (f t u); refused = h t }
+all_told (Err k) count n scope refusal old new before middle after begun done e f h = tt
+
+pub all_few : (count n : ℕ) (scope : Scope) (refusal : List ℕ) (old new : List MirrorView) (before middle after : List Item) (begun between done : List ℕ) → n ≤ count → HasToldSome n scope old new before middle begun between → (done ≡ between) × HasRefused refusal middle after
+    → HasToldAll count scope refusal old before after begun done
+all_few count n scope refusal old new before middle after begun between done le f r = record {
+  made = new;
+  middle = middle;
+  so = subst (λ x. HasToldSo count scope old new before middle begun x) (sym r.0) (so_few count n scope old new before middle begun between le f);
+  refused = r.1;
+}
+
+pub up_to_some : (fault : ClientFault) (count n : ℕ) (scope : Scope) (old new : List MirrorView) (before middle : List Item) (begun between done : List ℕ) → n ≤ count → HasToldSome n scope old new before middle begun between → IsStopped fault scope new middle between done
+    → IsToldUpTo fault count scope old before begun done
+up_to_some fault count n scope old new before middle begun between done le f s =
+    record { made = new; middle = middle; between = between; so = so_few count n scope old new before middle begun between le f; stopped = s }
+
+pub end_broken : (r : Result Bool ClientFault) (count n : ℕ) (scope : Scope) (old new : List MirrorView) (before middle : List Item) (begun done : List ℕ) → r ≢ Err Output → n ≤ count → HasToldSome n scope old new before middle begun done
+    → IfErr r (λ fault. IsToldUpTo fault count scope old before begun done)
+end_broken (Ok b) count n scope old new before middle begun done kind le f = tt
+end_broken (Err k) count n scope old new before middle begun done kind le f = up_to_some k count n scope old new before middle begun done done le f (inl (unsaid k middle done done (λ e. kind (ap Err e)) refl))
+
+pub up_to_none : (fault : ClientFault) (count : ℕ) (scope : Scope) (old : List MirrorView) (before : List Item) (begun done : List ℕ) → IsUnsaid fault before begun done → IsToldUpTo fault count scope old before begun done
+up_to_none fault count scope old before begun done u = record { made = old; middle = before; between = begun; so = so_none count scope old before begun; stopped = inl u }
+
+pub no_memory_told : (fault : ClientFault) (count : ℕ) (scope : Scope) (old : List MirrorView) (before : List Item) (begun : List ℕ) → fault ≡ NoMemory → IsToldUpTo fault count scope old before begun begun
+no_memory_told fault count scope old before begun kind = up_to_none fault count scope old before begun begun (subst (λ f. IsUnsaid f before begun begun) (sym kind) refl)
+
+-- a refusal that is printed, in part or whole
+pub refused_at_once : (count : ℕ) (scope : Scope) (refusal : List ℕ) (old : List MirrorView) (before after : List Item) (begun done : List ℕ) → HasRefused refusal before after → done ≡ begun ++ ended refusal → HasToldAllOut count scope old before after begun done
+refused_at_once count scope refusal old before after begun done r e = (refusal, begun, record { made = old; middle = before; so = so_none count scope old before begun; refused = r }, e)
+
+pub refusal_cut : (fault : ClientFault) (count : ℕ) (scope : Scope) (refusal : List ℕ) (old : List MirrorView) (before after : List Item) (begun between done : List ℕ) → fault ≡ Output → HasToldAll count scope refusal old before after begun between → IsCutOff (ended refusal) between done
+    → IsToldUpTo fault count scope old before begun done
+refusal_cut fault count scope refusal old before after begun between done kind a cut =
+    let r = a.refused in
+    let part : IsUnsaid Output a.middle between done = broken_cut Output refusal a.middle after between done r.read refl cut in
+    record { made = a.made; middle = a.middle; between = between; so = a.so; stopped = inl (subst (λ f. IsUnsaid f a.middle between done) (sym kind) part) }
+
+-- the requests for posts
+follow_line : ℕ → List ℕ
+follow_line count = numbered_text (codes "follow") count
+
+follows_again : (line : List ℕ) (k : ℕ) → flat_map ended (replicate k line) ++ ended line ≡ ended line ++ flat_map ended (replicate k line)
+follows_again line zero = sym (append-nil (ended line))
+follows_again line (suc k) = append_assoc (ended line) (flat_map ended (replicate k line)) (ended line) ∙ ap (λ x. ended line ++ x) (follows_again line k)
+
+pub follows_more : (count k : ℕ) → follows_text count (k + 1) ≡ follows_text count k ++ ended (numbered_text (codes "follow") count)
+follows_more count k =
+    let e : k + 1 ≡ suc k = omega arith in
+    ap (follows_text count) e ∙ sym (follows_again (numbered_text (codes "follow") count) k)
+
+pub follows_sent : (count k : ℕ) (old mid new : List ℕ) → mid ≡ old ++ follows_text count k → new ≡ mid ++ ended (numbered_text (codes "follow") count) → new ≡ old ++ follows_text count (k + 1)
+follows_sent count k old mid new e f =
+    f ∙ ap (λ x. x ++ ended (numbered_text (codes "follow") count)) e ∙ append_assoc old (follows_text count k) (ended (numbered_text (codes "follow") count)) ∙ ap (λ x. old ++ x) (sym (follows_more count k))
+
+pub follows_part : (count k : ℕ) (old mid new : List ℕ) → mid ≡ old ++ follows_text count k → IsSentPart (ended (numbered_text (codes "follow") count)) mid new → (times : ℕ) × IsSentPart (follows_text count times) old new
+follows_part count k old mid new e p =
+    (k + 1, subst (λ t. IsSentPart t old new) (sym (follows_more count k)) (part_second (follows_text count k) (ended (numbered_text (codes "follow") count)) old mid new e p))
+
+pub follows_whole : (count k : ℕ) (old new : List ℕ) → new ≡ old ++ follows_text count k → (times : ℕ) × IsSentPart (follows_text count times) old new
+follows_whole count k old new e = (k, sent_whole (follows_text count k) old new e)
+
+pub telling_first : (scope : Scope) (old new : List ℕ) → IsSentPart (ended (watch_text scope)) old new → (times : ℕ) × IsSentPart (telling_text scope times) old new
+telling_first scope old new p = (0, part_first (ended (watch_text scope)) (follows_text portion 0) old new p)
+
+pub telling_sent : (scope : Scope) (old new : List ℕ) → new ≡ old ++ ended (watch_text scope) → (times : ℕ) × IsSentPart (telling_text scope times) old new
+telling_sent scope old new e = telling_first scope old new (sent_whole (ended (watch_text scope)) old new e)
+
+pub telling_second : (scope : Scope) (old mid new : List ℕ) → mid ≡ old ++ ended (watch_text scope) → ((times : ℕ) × IsSentPart (follows_text portion times) mid new) → (times : ℕ) × IsSentPart (telling_text scope times) old new
+telling_second scope old mid new e p = (p.0, part_second (ended (watch_text scope)) (follows_text portion p.0) old mid new e p.1)
+
+-- a whole telling
+come_whole : (scope : Scope) (found made : List MirrorView) (before opened after : List Item) (begun done : List ℕ) → HasFound scope before opened found → (s : HasToldSo portion scope found made opened after begun done) → HasCome scope s.portions s.rest before after found
+come_whole scope found made before opened after begun done f s =
+    let w = watched_whole scope found before opened f in
+    let t = s.told in
+    record {
+      lines = w.lines ++ t.lines;
+      shown = w.shown;
+      whole = s.whole;
+      within = s.within;
+      valid = t.valid;
+      due = t.due;
+      read = runs_read w.lines t.lines before opened after w.read t.read;
+      text = printed-append w.lines t.lines ∙ (λ k. w.text k ++ t.text k);
+    }
+
+pub told_whole : (scope : Scope) (found : List MirrorView) (before opened after : List Item) (begun done : List ℕ) → HasFound scope before opened found → HasToldAllOut portion scope found opened after begun done
+    → (mirrors : List MirrorView) × (portions : List (List PostView)) × (rest : List PostView) × (refusal : List ℕ) × HasTold scope portions rest refusal before after mirrors × (done ≡ begun ++ posts_told mirrors (all_posts portions rest) ++ ended refusal)
+told_whole scope found before opened after begun done f h =
+    let a : HasToldAll portion scope h.0 found opened after begun h.1 = h.2 in
+    let s = a.so in
+    let t = s.told in (
+      found,
+      s.portions,
+      s.rest,
+      h.0,
+      record { middle = a.middle; came = come_whole scope found a.made before opened a.middle begun h.1 f s; refused = a.refused },
+      h.3 ∙ ap (λ x. x ++ ended h.0) t.out,
+    )
+
+pub telling_stopped : (fault : ClientFault) (scope : Scope) (found : List MirrorView) (before opened : List Item) (begun done : List ℕ) → HasFound scope before opened found → IsToldUpTo fault portion scope found opened begun done → IsBrokenOff fault scope before begun done
+telling_stopped fault scope found before opened begun done f h =
+    let s = h.so in
+    let t = s.told in
+    inr (
+      found,
+      s.portions,
+      s.rest,
+      h.middle,
+      come_whole scope found h.made before opened h.middle begun h.between f s,
+      subst (λ x. IsStopped fault scope (mirrors_by found (all_posts s.portions s.rest)) h.middle x done) t.out
+          (subst (λ ms. IsStopped fault scope ms h.middle h.between done) t.make h.stopped),
+    )
+
+pub stopped_behind : (r : Result (Unit {0}) ClientFault) (scope : Scope) (found : List MirrorView) (before opened : List Item) (begun done : List ℕ) → HasFound scope before opened found → IfErr r (λ fault. IsToldUpTo fault portion scope found opened begun done)
+    → IfErr r (λ fault. IsBrokenOff fault scope before begun done)
+stopped_behind (Ok u) scope found before opened begun done f h = tt
+stopped_behind (Err k) scope found before opened begun done f h = telling_stopped k scope found before opened begun done f h
+
+pub told_behind : (T U Y : Type 0) (r : Result (Unit {0}) ClientFault) (scope : Scope) (found : List MirrorView) (before opened after : List Item) (begun done : List ℕ) → (T → HasFound scope before opened found) → OnOk r (T → U → HasToldAllOut portion scope found opened after begun done)
+    → OnOk r (T → U → Y ⊎ ((mirrors : List MirrorView) × (portions : List (List PostView)) × (rest : List PostView) × (refusal : List ℕ) × HasTold scope portions rest refusal before after mirrors × (done ≡ begun ++ posts_told mirrors (all_posts portions rest) ++ ended refusal)))
+told_behind T U Y (Ok x) scope found before opened after begun done f h = λ t u. inr (told_whole scope found before opened after begun done (f t) (h t u))
+told_behind T U Y (Err k) scope found before opened after begun done f h = tt
+
+-- a refusal in the place of an opening
+pub refused_out : (T U Y : Type 0) (r : Result (Unit {0}) ClientFault) (refusal : List ℕ) (before after : List Item) (old new : List ℕ) → (T → HasRefused refusal before after) → OnOk r (U → new ≡ old ++ ended refusal)
+    → OnOk r (T → U → ((x : List ℕ) × HasRefused x before after × (new ≡ old ++ ended x)) ⊎ Y)
+refused_out T U Y (Ok u) refusal before after old new h e = λ t v. inl (refusal, h t, e v)
+refused_out T U Y (Err f) refusal before after old new h e = tt
+
+pub cut_told : (T Q : Type 0) (r : Result (Unit {0}) ClientFault) → T → OnErr r (T → Q) → OnErr r Q
+cut_told T Q (Ok u) t h = tt
+cut_told T Q (Err f) t h = h t
+
+pub refused_part : (r : Result (Unit {0}) ClientFault) (scope : Scope) (refusal : List ℕ) (before after : List Item) (old new : List ℕ) → HasRefused refusal before after → IfErr r (λ f. f ≡ Output) → OnErr r (IsCutOff (ended refusal) old new)
+    → IfErr r (λ fault. IsBrokenOff fault scope before old new)
+refused_part (Ok u) scope refusal before after old new h kind cut = tt
+refused_part (Err f) scope refusal before after old new h kind cut =
+    let part : IsUnsaid Output before old new = broken_cut Output refusal before after old new h.read refl cut in
+    inl (subst (λ k. IsUnsaid k before old new) (sym kind) part)

@@ -1,0 +1,168 @@
+-- What a watcher is told in words: the posts that it is sent, each against the mirror of its namespace.
+-- A word with no source is this project's rule.
+use Rattle.std.specs.Prelude.{◌≡◌, ℕ, ◌≤◌, true, Bool, ◌&&◌, List, [], ◌∷◌, ◌++◌, length, replicate, codes, fold, ◌⊎◌}
+use Rattle.std.specs.List.{flat_map, AllByRecursion}
+use Rattle.std.specs.Option.{option_map_or}
+use Rattle.mt_skel.specs.Keyed.{put, row_at}
+use Rattle.mt_lines.specs.Lines.{Item}
+use Rattle.mt_events.specs.Posts.{PostView, IsPost, post_text, ended}
+use Rattle.mt_events.specs.Mirrors.{MirrorView, is_next, mirrored}
+use Rattle.mt_events.specs.Following.{names_space}
+use Rattle.mt_events.specs.Texts.{count_text, opening_text, followed_text}
+use Rattle.mt_events.specs.declared.opening.Scope.{Scope}
+use Rattle.mt_told.specs.Told.{told_text}
+use Rattle.mt_client.specs.declared.fault.ClientFault.{ClientFault}
+use Rattle.mt_client.specs.declared.fault.ClientFault.TheVariants.{Connection, Output, NoMemory}
+use Rattle.mt_client.specs.Requests.{numbered_text}
+use Rattle.mt_client.specs.Reading.{texts, printed, IsCutOff, IsPart}
+use Rattle.mt_client.specs.Mirroring.{HasRefused}
+use Rattle.mt_client.specs.Finding.{mirror_space, watch_text, AreShown, opening_found}
+
+-- the mirror of a namespace that came later
+abbrev pub mirror_begun : ℕ → MirrorView
+mirror_begun n = record { space = n; number = 0; rows = [] }
+
+-- the mirror of a namespace among these; one that came later begins at 0 with the empty table
+abbrev pub mirror_in : List MirrorView → ℕ → MirrorView
+mirror_in mirrors n = option_map_or (λ (m : MirrorView). m) (row_at mirror_space n mirrors) (mirror_begun n)
+
+-- the mirrors once a post was applied to that of its namespace
+abbrev pub mirrors_with : List MirrorView → PostView → List MirrorView
+mirrors_with mirrors p = put mirror_space (mirrored (mirror_in mirrors p.space) p) mirrors
+
+-- the mirrors once posts were applied, one after another
+abbrev pub mirrors_by : List MirrorView → List PostView → List MirrorView
+mirrors_by mirrors posts = fold mirrors_with mirrors posts
+
+-- a post is of a namespace of the scope, and the next one of its mirror
+abbrev pub is_due : Scope → List MirrorView → PostView → Bool
+is_due scope mirrors p = names_space scope p.space && is_next (mirror_in mirrors p.space) p
+
+-- each of the posts is due to the mirrors that those before it have made
+abbrev pub are_due : Scope → List MirrorView → List PostView → Bool
+are_due scope mirrors [] = true
+are_due scope mirrors (p ∷ ps) = is_due scope mirrors p && are_due scope (mirrors_with mirrors p) ps
+
+-- posts in words, each against the mirror that those before it have made
+abbrev pub posts_told : List MirrorView → List PostView → List ℕ
+posts_told mirrors [] = []
+posts_told mirrors (p ∷ ps) = told_text (mirror_in mirrors p.space) p ++ posts_told (mirrors_with mirrors p) ps
+
+-- how many posts a request asks for
+abbrev pub portion : ℕ
+portion = 1048576
+
+-- so many requests for posts
+abbrev pub follows_text : ℕ → ℕ → List ℕ
+follows_text count times = flat_map ended (replicate times (numbered_text (codes "follow") count))
+
+-- the requests: that of a watcher, and so many for a portion of posts
+abbrev pub telling_text : Scope → ℕ → List ℕ
+telling_text scope times = ended (watch_text scope) ++ follows_text portion times
+
+-- all posts: those of whole portions, and the rest
+abbrev pub all_posts : List (List PostView) → List PostView → List PostView
+all_posts portions rest = flat_map (λ posts. posts) portions ++ rest
+
+-- their texts, with the end of each whole portion
+abbrev pub portions_text : ℕ → List (List PostView) → List PostView → List ℕ
+portions_text count portions rest = flat_map (λ posts. followed_text posts (count_text count)) portions ++ flat_map post_text rest
+
+-- lines were read that are the text of an opening that a server can show, of whole portions of posts that are due, each with its end, and of at most one portion more
+pub record HasCome (scope : Scope) (portions : List (List PostView)) (rest : List PostView) (before after : List Item) (found : List MirrorView) : Type 0 where
+  pub lines : List (List ℕ)
+  pub shown : AreShown scope found
+  pub whole : AllByRecursion (λ posts. length posts ≡ portion) portions
+  pub within : length rest ≤ portion
+  pub valid : AllByRecursion IsPost (all_posts portions rest)
+  pub due : are_due scope found (all_posts portions rest) ≡ true
+  pub read : before ≡ texts lines ++ after
+  pub text : printed lines ≡ opening_text (opening_found scope found) ++ portions_text portion portions rest
+
+-- and behind them a refusal
+pub record HasTold (scope : Scope) (portions : List (List PostView)) (rest : List PostView) (refusal : List ℕ) (before after : List Item) (found : List MirrorView) : Type 0 where
+  pub middle : List Item
+  pub came : HasCome scope portions rest before middle found
+  pub refused : HasRefused refusal middle after
+
+-- what was printed of lines up to a fault: nothing, or of lines that were read a part, and not all
+abbrev pub IsUnsaid : ClientFault → List Item → List ℕ → List ℕ → Type 0
+IsUnsaid Output before old new = IsPart before old new
+IsUnsaid Connection before old new = new ≡ old
+IsUnsaid NoMemory before old new = new ≡ old
+
+-- a post was read that is due, and a part of its words was printed, not all
+pub record IsHalfTold (scope : Scope) (mirrors : List MirrorView) (before : List Item) (old new : List ℕ) : Type 0 where
+  pub post : PostView
+  pub lines : List (List ℕ)
+  pub later : List Item
+  pub valid : IsPost post
+  pub due : is_due scope mirrors post ≡ true
+  pub read : before ≡ texts lines ++ later
+  pub text : printed lines ≡ post_text post
+  pub out : IsCutOff (told_text (mirror_in mirrors post.space) post) old new
+
+-- what was printed up to a fault, where these mirrors have followed
+abbrev pub IsStopped : ClientFault → Scope → List MirrorView → List Item → List ℕ → List ℕ → Type 0
+IsStopped fault scope mirrors before old new = IsUnsaid fault before old new ⊎ ((fault ≡ Output) × IsHalfTold scope mirrors before old new)
+
+-- the same of a whole telling: nothing had come, or the posts that had come were told
+abbrev pub IsBrokenOff : ClientFault → Scope → List Item → List ℕ → List ℕ → Type 0
+IsBrokenOff fault scope before old new =
+    IsUnsaid fault before old new
+    ⊎ ((found : List MirrorView) × (portions : List (List PostView)) × (rest : List PostView) × (middle : List Item) × HasCome scope portions rest before middle found
+    × IsStopped fault scope (mirrors_by found (all_posts portions rest)) middle (old ++ posts_told found (all_posts portions rest)) new)
+
+-- lines were read that are this text, of these posts, which are due; they were told, and the mirrors have followed
+pub record AreTold (scope : Scope) (posts : List PostView) (said : List ℕ) (old new : List MirrorView) (before after : List Item) (begun done : List ℕ) : Type 0 where
+  pub lines : List (List ℕ)
+  pub valid : AllByRecursion IsPost posts
+  pub due : are_due scope old posts ≡ true
+  pub make : new ≡ mirrors_by old posts
+  pub read : before ≡ texts lines ++ after
+  pub text : printed lines ≡ said
+  pub out : done ≡ begun ++ posts_told old posts
+
+-- one post was told
+abbrev pub HasToldPost : Scope → List MirrorView → List MirrorView → List Item → List Item → List ℕ → List ℕ → Type 0
+HasToldPost scope old new before after begun done = (post : PostView) × AreTold scope (post ∷ []) (post_text post) old new before after begun done
+
+-- so many posts were told
+pub record HasToldSome (count : ℕ) (scope : Scope) (old new : List MirrorView) (before after : List Item) (begun done : List ℕ) : Type 0 where
+  pub posts : List PostView
+  pub many : length posts ≡ count
+  pub told : AreTold scope posts (flat_map post_text posts) old new before after begun done
+
+-- so many posts were told, and their end was read
+pub record HasToldPortion (count : ℕ) (scope : Scope) (old new : List MirrorView) (before after : List Item) (begun done : List ℕ) : Type 0 where
+  pub posts : List PostView
+  pub many : length posts ≡ count
+  pub told : AreTold scope posts (followed_text posts (count_text count)) old new before after begun done
+
+-- portions of so many posts were told, and at most so many posts more
+pub record HasToldSo (count : ℕ) (scope : Scope) (old new : List MirrorView) (before after : List Item) (begun done : List ℕ) : Type 0 where
+  pub portions : List (List PostView)
+  pub rest : List PostView
+  pub whole : AllByRecursion (λ posts. length posts ≡ count) portions
+  pub within : length rest ≤ count
+  pub told : AreTold scope (all_posts portions rest) (portions_text count portions rest) old new before after begun done
+
+-- and behind them a refusal was read
+pub record HasToldAll (count : ℕ) (scope : Scope) (refusal : List ℕ) (old : List MirrorView) (before after : List Item) (begun done : List ℕ) : Type 0 where
+  pub made : List MirrorView
+  pub middle : List Item
+  pub so : HasToldSo count scope old made before middle begun done
+  pub refused : HasRefused refusal middle after
+
+-- and it was printed
+abbrev pub HasToldAllOut : ℕ → Scope → List MirrorView → List Item → List Item → List ℕ → List ℕ → Type 0
+HasToldAllOut count scope old before after begun done =
+    (refusal : List ℕ) × (between : List ℕ) × HasToldAll count scope refusal old before after begun between × (done ≡ between ++ ended refusal)
+
+-- posts were told up to a fault
+pub record IsToldUpTo (fault : ClientFault) (count : ℕ) (scope : Scope) (old : List MirrorView) (before : List Item) (begun done : List ℕ) : Type 0 where
+  pub made : List MirrorView
+  pub middle : List Item
+  pub between : List ℕ
+  pub so : HasToldSo count scope old made before middle begun between
+  pub stopped : IsStopped fault scope made middle between done

@@ -1,0 +1,92 @@
+//! Mirrors of several namespaces, by rising number.
+ghost use Rattle.std.specs.Prelude.{cond, ◌++◌, ◌≡◌, ◌≡◌, ◌≢◌, ◌≤◌, ◌==◌, false, true, nat_le, length, slice_get, IsTrue, OnOk, Some, Err};
+ghost use Rattle.std.specs.List.{remove, position_from, position_or_len};
+ghost use Rattle.std.specs.Option.{option_map_or};
+ghost use Rattle.mt_skel.specs.Keyed.{rises};
+ghost use Rattle.mt_events.specs.Mirrors.{MirrorView, is_next};
+ghost use Rattle.mt_told.specs.Told.{told_text};
+ghost use Rattle.mt_client.specs.Finding.{mirror_space};
+ghost use Rattle.mt_client.specs.Telling.{mirror_begun, mirror_in, mirrors_with};
+
+use crate::fault::ClientFault;
+use crate::posts::apply_next;
+use mt_events::mirror::Mirror;
+use mt_events::post::Post;
+use mt_info::table::Table;
+use mt_mounts::mount::SpaceId;
+use mt_told::told::push_told;
+use std::alloc::Global;
+
+/// The index of the first mirror that is not of a lesser namespace.
+fn first_from(mirrors: &[Mirror], space: SpaceId) -> Option<usize>
+    ensures { result ≡ position_from (λ (m : MirrorView). nat_le space m.space) 0 mirrors.now }
+{
+    mirrors.iter().position(|mirror| space <= mirror.space())
+}
+
+/// Where the mirror of a namespace goes.
+fn place_for(mirrors: &[Mirror], space: SpaceId) -> usize
+    ensures place { result ≡ position_or_len (λ (m : MirrorView). nat_le space m.space) mirrors.now }
+    ensures within { result ≤ length mirrors.now }
+{
+    match first_from(mirrors, space) {
+        Some(place) => place,
+        None => mirrors.len(),
+    }
+}
+
+/// Whether the mirror at this place is of this namespace.
+fn is_at(mirrors: &[Mirror], place: usize, space: SpaceId) -> bool
+    ensures { result ≡ option_map_or (λ (m : MirrorView). m.space == space) (slice_get mirrors.now place) false }
+{
+    match mirrors.get(place) {
+        Some(mirror) => mirror.space() == space,
+        None => false,
+    }
+}
+
+/// The mirror of a namespace that came later.
+fn begun(alloc: Global, space: SpaceId) -> Mirror
+    ensures { result ≡ mirror_begun space }
+{
+    Mirror::new(space, 0, Table::new(Vec::new(alloc)))
+}
+
+/// Takes out the mirror at this place, if it is of this namespace, or else begins one.
+fn take_at(alloc: Global, mirrors: &mut Vec<Mirror>, place: usize, space: SpaceId) -> Mirror
+    requires { place ≤ length mirrors.old.items }
+    ensures there { option_map_or (λ (m : MirrorView). m.space == space) (slice_get mirrors.old.items place) false ≡ true → slice_get mirrors.old.items place ≡ Some result }
+    ensures begun { option_map_or (λ (m : MirrorView). m.space == space) (slice_get mirrors.old.items place) false ≡ false → result ≡ mirror_begun space }
+    ensures taken { mirrors.new.items ≡ cond (option_map_or (λ (m : MirrorView). m.space == space) (slice_get mirrors.old.items place) false) (remove mirrors.old.items place) mirrors.old.items }
+    ensures within { place ≤ length mirrors.new.items }
+{
+    if is_at(mirrors.as_slice(), place, space) {
+        mirrors.remove(place)
+    } else {
+        begun(alloc, space)
+    }
+}
+
+/// Appends a post in words, and applies it to the mirror of its namespace; one that came later begins at 0 with the
+/// empty table. Refused as `Connection` where the post is not the next one, and else as `NoMemory` alone.
+pub(crate) fn apply_told(
+    alloc: Global,
+    text: &mut Vec<u8>,
+    mirrors: &mut Vec<Mirror>,
+    post: &Post,
+) -> Result<(), ClientFault>
+    requires rising { IsTrue (rises mirror_space mirrors.old.items) }
+    ensures told { OnOk result (text.new.items ≡ text.old.items ++ told_text (mirror_in mirrors.old.items post.now.space) post.now) }
+    ensures applied { OnOk result (mirrors.new.items ≡ mirrors_with mirrors.old.items post.now) }
+    ensures next { OnOk result (is_next (mirror_in mirrors.old.items post.now.space) post.now ≡ true) }
+    ensures refused { result ≡ Err ClientFault.Connection → is_next (mirror_in mirrors.old.items post.now.space) post.now ≡ false }
+    ensures rising { OnOk result (IsTrue (rises mirror_space mirrors.new.items)) }
+    ensures kind { result ≢ Err ClientFault.Output }
+{
+    let place = place_for(mirrors.as_slice(), post.space);
+    let mut mirror = take_at(alloc, mirrors, place, post.space);
+    push_told(text, &mirror, post)?;
+    apply_next(&mut mirror, post)?;
+    mirrors.insert(place, mirror)?;
+    Ok(())
+}

@@ -1,0 +1,299 @@
+//! The posts of a watcher, told in words as they come.
+ghost use Rattle.std.specs.Prelude.{◌≡◌, ◌≢◌, ℕ, ◌≤◌, ◌⊎◌, List, [], ◌++◌, true, false, None, Ok, Err, IfOk, IfErr, OnOk, OnErr, IsTrue, MatchBool, codes};
+ghost use Rattle.mt_skel.specs.Keyed.{rises};
+ghost use Rattle.mt_lines.specs.Reading.{failed_calls, last_faults, fault_of, last_line, limit_of};
+ghost use Rattle.mt_events.specs.Mirrors.{MirrorView};
+ghost use Rattle.mt_events.specs.Posts.{PostView, ended};
+ghost use Rattle.mt_told.specs.Told.{told_text};
+ghost use Rattle.mt_client.specs.Requests.{numbered_text};
+ghost use Rattle.mt_client.specs.Reading.{lines_left, HasBroken, IsSentPart, IsCutOff, NoneFirst, IsCut};
+ghost use Rattle.mt_client.specs.Mirroring.{HasRefused};
+ghost use Rattle.mt_client.specs.Awaited.{IsOneRefusal, IsRefusedOr};
+ghost use Rattle.mt_client.specs.Finding.{mirror_space};
+ghost use Rattle.mt_client.specs.Telling.{mirror_in, mirrors_with, is_due, posts_told, follows_text, telling_text, all_posts, HasTold, IsStopped, IsBrokenOff, HasToldPost, HasToldPortion, HasToldAll, HasToldAllOut, IsToldUpTo};
+ghost use Rattle.mt_client.specs.Due.{IsDuePost, AreDuePosts, AreDuePortions, IsTelling, IsOnlyApplied, AreOnlyApplied};
+
+use crate::answer::is_refusal;
+use crate::fault::ClientFault;
+use crate::mirror::read_end;
+use crate::mirrors::apply_told;
+use crate::parts::read_found;
+use crate::picture::watch_line;
+use crate::posts::read_posted;
+use crate::relay::{next_text, print_line, print_text};
+use crate::request::numbered_line;
+use crate::sending::send_request;
+use mt_events::mirror::Mirror;
+use mt_events::opening::Scope;
+use mt_events::post::Post;
+use mt_lines::line::LineReader;
+use mt_lines::stream::{Input, Output};
+use std::alloc::Global;
+
+/// How many posts a request asks for, the most that one may.
+const PORTION: u64 = 1_048_576;
+
+/// The most requests for posts, this project's rule.
+const MOST_PORTIONS: u64 = u64::MAX;
+
+/// Prints a post in words and applies it, where it is of a namespace of the scope and the next one.
+fn tell_due<O: Output>(
+    alloc: Global,
+    scope: Scope,
+    mirrors: &mut Vec<Mirror>,
+    post: &Post,
+    out: &mut O,
+) -> Result<(), ClientFault>
+    requires rising { IsTrue (rises mirror_space mirrors.old.items) }
+    ensures told { OnOk result (IsTrue O.tells
+        → O.written out.new ≡ O.written out.old ++ told_text (mirror_in mirrors.old.items post.now.space) post.now) }
+    ensures applied { OnOk result (mirrors.new.items ≡ mirrors_with mirrors.old.items post.now) }
+    ensures due { OnOk result (is_due scope mirrors.old.items post.now ≡ true) }
+    ensures rising { OnOk result (IsTrue (rises mirror_space mirrors.new.items)) }
+    ensures refused { result ≡ Err ClientFault.Connection → is_due scope mirrors.old.items post.now ≡ false }
+    ensures kept { OnErr result (result ≢ Err ClientFault.Output → IsTrue O.tells
+        → O.written out.new ≡ O.written out.old) }
+    ensures cut { result ≡ Err ClientFault.Output → (is_due scope mirrors.old.items post.now ≡ true) × (IsTrue O.tells
+        → IsCutOff (told_text (mirror_in mirrors.old.items post.now.space) post.now) (O.written out.old) (O.written out.new)) }
+    ensures cause { result ≡ Err ClientFault.Output → IsTrue O.counts
+        → HasBroken (O.failed out.old) (O.failed out.new) (O.faults out.old) (O.faults out.new) }
+    ensures printed { IsTrue O.counts → O.failed out.old ≤ O.failed out.new }
+    ensures prints { OnOk result (IsTrue O.counts → O.faults out.old ≡ [] → O.faults out.new ≡ []) }
+{
+    if !scope.names(post.space) {
+        return Err(ClientFault::Connection);
+    }
+    let mut text = Vec::new(alloc);
+    apply_told(alloc, &mut text, mirrors, post)?;
+    print_text(out, text.as_slice())
+}
+
+/// Tells the next post: false where a refusal stands in its place, which the reader lends.
+fn tell_post<R: Input + Drop, O: Output>(
+    alloc: Global,
+    lines: &mut LineReader<R>,
+    scope: Scope,
+    mirrors: &mut Vec<Mirror>,
+    out: &mut O,
+) -> Result<bool, ClientFault>
+    requires fresh { fault_of lines.old ≡ None }
+    requires rising { IsTrue (rises mirror_space mirrors.old.items) }
+    ensures told { IfOk result (λ going. IsTrue R.tells → IsTrue O.tells → MatchBool going
+        (HasToldPost scope mirrors.old.items mirrors.new.items (lines_left lines.old) (lines_left lines.new) (O.written out.old) (O.written out.new))
+        ((O.written out.new ≡ O.written out.old) × HasRefused (last_line lines.new) (lines_left lines.old) (lines_left lines.new))) }
+    ensures rising { OnOk result (IsTrue (rises mirror_space mirrors.new.items)) }
+    ensures broken { IsTrue R.tells → IsTrue O.tells → IfErr result
+        (λ fault. IsStopped fault scope mirrors.old.items (lines_left lines.old) (O.written out.old) (O.written out.new)) }
+    ensures applied { result ≡ Ok true → IsTrue R.tells
+        → IsOnlyApplied mirrors.old.items mirrors.new.items (lines_left lines.old) (lines_left lines.new) }
+    ensures unrefused { result ≡ Ok true → IsTrue R.tells → NoneFirst IsOneRefusal (lines_left lines.old) }
+    ensures cut { result ≡ Err ClientFault.Connection → IsTrue R.tells → IsTrue R.counts
+        → IsCut (IsRefusedOr (IsDuePost scope mirrors.old.items)) lines.old lines.new }
+    ensures fresh { OnOk result (fault_of lines.new ≡ None) }
+    ensures cause { result ≡ Err ClientFault.Output → IsTrue O.counts
+        → HasBroken (O.failed out.old) (O.failed out.new) (O.faults out.old) (O.faults out.new) }
+    ensures counted { IsTrue R.counts → failed_calls lines.old ≤ failed_calls lines.new }
+    ensures reads { OnOk result (IsTrue R.counts → last_faults lines.old ≡ [] → last_faults lines.new ≡ []) }
+    ensures printed { IsTrue O.counts → O.failed out.old ≤ O.failed out.new }
+    ensures prints { OnOk result (IsTrue O.counts → O.faults out.old ≡ [] → O.faults out.new ≡ []) }
+    ensures limit { limit_of lines.new ≡ limit_of lines.old }
+{
+    next_text(lines)?;
+    if is_refusal(lines.line()) {
+        return Ok(false);
+    }
+    let post = read_posted(alloc, lines)?;
+    tell_due(alloc, scope, mirrors, &post, out)?;
+    Ok(true)
+}
+
+/// Tells so many posts and reads the line behind them: false where a refusal stands in the place of a line, which the
+/// reader lends.
+fn tell_posts<R: Input + Drop, O: Output>(
+    alloc: Global,
+    lines: &mut LineReader<R>,
+    scope: Scope,
+    count: u64,
+    mirrors: &mut Vec<Mirror>,
+    out: &mut O,
+) -> Result<bool, ClientFault>
+    requires fresh { fault_of lines.old ≡ None }
+    requires rising { IsTrue (rises mirror_space mirrors.old.items) }
+    ensures told { IfOk result (λ going. IsTrue R.tells → IsTrue O.tells → MatchBool going
+        (HasToldPortion count scope mirrors.old.items mirrors.new.items (lines_left lines.old) (lines_left lines.new) (O.written out.old) (O.written out.new))
+        (HasToldAll count scope (last_line lines.new) mirrors.old.items (lines_left lines.old) (lines_left lines.new) (O.written out.old) (O.written out.new))) }
+    ensures rising { OnOk result (IsTrue (rises mirror_space mirrors.new.items)) }
+    ensures broken { IsTrue R.tells → IsTrue O.tells → IfErr result
+        (λ fault. IsToldUpTo fault count scope mirrors.old.items (lines_left lines.old) (O.written out.old) (O.written out.new)) }
+    ensures applied { result ≡ Ok true → IsTrue R.tells
+        → AreOnlyApplied count scope mirrors.old.items mirrors.new.items (lines_left lines.old) (lines_left lines.new) }
+    ensures cut { result ≡ Err ClientFault.Connection → IsTrue R.tells → IsTrue R.counts
+        → IsCut (AreDuePosts count scope mirrors.old.items) lines.old lines.new }
+    ensures fresh { OnOk result (fault_of lines.new ≡ None) }
+    ensures cause { result ≡ Err ClientFault.Output → IsTrue O.counts
+        → HasBroken (O.failed out.old) (O.failed out.new) (O.faults out.old) (O.faults out.new) }
+    ensures counted { IsTrue R.counts → failed_calls lines.old ≤ failed_calls lines.new }
+    ensures reads { OnOk result (IsTrue R.counts → last_faults lines.old ≡ [] → last_faults lines.new ≡ []) }
+    ensures printed { IsTrue O.counts → O.failed out.old ≤ O.failed out.new }
+    ensures prints { OnOk result (IsTrue O.counts → O.faults out.old ≡ [] → O.faults out.new ≡ []) }
+    ensures limit { limit_of lines.new ≡ limit_of lines.old }
+{
+    'posts: for _post in 0..count {
+        if !tell_post(alloc, lines, scope, mirrors, out)? {
+            return Ok(false);
+        }
+    }
+    read_end(lines, count)
+}
+
+/// Asks for so many posts and tells them: false where a refusal stands in the place of a line, which is printed.
+fn tell_portion<R: Input + Drop, W: Output, O: Output>(
+    alloc: Global,
+    lines: &mut LineReader<R>,
+    writer: &mut W,
+    scope: Scope,
+    count: u64,
+    mirrors: &mut Vec<Mirror>,
+    out: &mut O,
+) -> Result<bool, ClientFault>
+    requires fresh { fault_of lines.old ≡ None }
+    requires rising { IsTrue (rises mirror_space mirrors.old.items) }
+    ensures told { IfOk result (λ going. IsTrue R.tells → IsTrue O.tells → MatchBool going
+        (HasToldPortion count scope mirrors.old.items mirrors.new.items (lines_left lines.old) (lines_left lines.new) (O.written out.old) (O.written out.new))
+        (HasToldAllOut count scope mirrors.old.items (lines_left lines.old) (lines_left lines.new) (O.written out.old) (O.written out.new))) }
+    ensures rising { OnOk result (IsTrue (rises mirror_space mirrors.new.items)) }
+    ensures broken { IsTrue R.tells → IsTrue O.tells → IfErr result
+        (λ fault. IsToldUpTo fault count scope mirrors.old.items (lines_left lines.old) (O.written out.old) (O.written out.new)) }
+    ensures sent { result ≡ Ok true → IsTrue W.tells
+        → W.written writer.new ≡ W.written writer.old ++ ended (numbered_text (codes "follow") count) }
+    ensures part { IsTrue W.tells
+        → IsSentPart (ended (numbered_text (codes "follow") count)) (W.written writer.old) (W.written writer.new) }
+    ensures applied { result ≡ Ok true → IsTrue R.tells
+        → AreOnlyApplied count scope mirrors.old.items mirrors.new.items (lines_left lines.old) (lines_left lines.new) }
+    ensures connection { result ≡ Err ClientFault.Connection → IsTrue R.tells → IsTrue R.counts → IsTrue W.counts
+        → HasBroken (W.failed writer.old) (W.failed writer.new) (W.faults writer.old) (W.faults writer.new) ⊎ IsCut (AreDuePosts count scope mirrors.old.items) lines.old lines.new }
+    ensures wrote { result ≡ Ok true → IsTrue W.counts → W.failed writer.old ≤ W.failed writer.new }
+    ensures writes { result ≡ Ok true → IsTrue W.counts → W.faults writer.old ≡ [] → W.faults writer.new ≡ [] }
+    ensures fresh { OnOk result (fault_of lines.new ≡ None) }
+    ensures cause { result ≡ Err ClientFault.Output → IsTrue O.counts
+        → HasBroken (O.failed out.old) (O.failed out.new) (O.faults out.old) (O.faults out.new) }
+    ensures counted { result ≡ Ok true → IsTrue R.counts → failed_calls lines.old ≤ failed_calls lines.new }
+    ensures reads { OnOk result (IsTrue R.counts → last_faults lines.old ≡ [] → last_faults lines.new ≡ []) }
+    ensures printed { result ≡ Ok true → IsTrue O.counts → O.failed out.old ≤ O.failed out.new }
+    ensures prints { OnOk result (IsTrue O.counts → O.faults out.old ≡ [] → O.faults out.new ≡ []) }
+    ensures limit { limit_of lines.new ≡ limit_of lines.old }
+{
+    let follow = numbered_line(alloc, b"follow", count)?;
+    if !send_request(lines, writer, follow.as_slice(), out)? {
+        return Ok(false);
+    }
+    if tell_posts(alloc, lines, scope, count, mirrors, out)? {
+        return Ok(true);
+    }
+    print_line(out, lines.line())?;
+    Ok(false)
+}
+
+/// Asks for so many posts, again and again, and tells them, until a refusal stands in the place of a line.
+fn tell_portions<R: Input + Drop, W: Output, O: Output>(
+    alloc: Global,
+    lines: &mut LineReader<R>,
+    writer: &mut W,
+    scope: Scope,
+    count: u64,
+    mirrors: &mut Vec<Mirror>,
+    out: &mut O,
+) -> Result<(), ClientFault>
+    requires fresh { fault_of lines.old ≡ None }
+    requires rising { IsTrue (rises mirror_space mirrors.old.items) }
+    ensures told { OnOk result (IsTrue R.tells → IsTrue O.tells
+        → HasToldAllOut count scope mirrors.old.items (lines_left lines.old) (lines_left lines.new) (O.written out.old) (O.written out.new)) }
+    ensures broken { IsTrue R.tells → IsTrue O.tells → IfErr result
+        (λ fault. IsToldUpTo fault count scope mirrors.old.items (lines_left lines.old) (O.written out.old) (O.written out.new)) }
+    ensures part { IsTrue W.tells
+        → (times : ℕ) × IsSentPart (follows_text count times) (W.written writer.old) (W.written writer.new) }
+    ensures connection { result ≡ Err ClientFault.Connection → IsTrue R.tells → IsTrue R.counts → IsTrue W.counts
+        → HasBroken (W.failed writer.old) (W.failed writer.new) (W.faults writer.old) (W.faults writer.new) ⊎ IsCut (AreDuePortions count scope mirrors.old.items) lines.old lines.new }
+    ensures fresh { OnOk result (fault_of lines.new ≡ None) }
+    ensures cause { result ≡ Err ClientFault.Output → IsTrue O.counts
+        → HasBroken (O.failed out.old) (O.failed out.new) (O.faults out.old) (O.faults out.new) }
+    ensures reads { OnOk result (IsTrue R.counts → last_faults lines.old ≡ [] → last_faults lines.new ≡ []) }
+    ensures prints { OnOk result (IsTrue O.counts → O.faults out.old ≡ [] → O.faults out.new ≡ []) }
+    ensures limit { limit_of lines.new ≡ limit_of lines.old }
+{
+    'portions: for _portion in 0..MOST_PORTIONS {
+        if !tell_portion(alloc, lines, writer, scope, count, mirrors, out)? {
+            return Ok(());
+        }
+    }
+    Err(ClientFault::Connection)
+}
+
+/// Watches a scope and prints each post that comes, in words, until a refusal comes in the place of a line, which is
+/// printed.
+///
+/// The reader has met no fault, and serves what comes over the connection. What the watcher found is read and not
+/// printed; a namespace that comes later begins with the empty table. Posts are asked for 1,048,576 at a time, and again
+/// when so many have come. A post is printed once it is read whole and applied.
+///
+/// Answers where a refusal was printed: that of the first request, or the one that ends the posts, as `no Stopped` behind
+/// a stop; also one that was sent before the server ended a connection over which a request did not go out.
+///
+/// Refused as `Connection` where the connection fails or ends early, or where what comes is no opening of the scope,
+/// no post, a post of another namespace or not the next one of its namespace, or an end that counts other posts.
+/// Refused as `Output` where what was to be printed does not go out, and else as `NoMemory`. But for `Output` the
+/// posts that had come were printed then, and nothing else.
+pub fn tell<R: Input + Drop, W: Output, O: Output>(
+    alloc: Global,
+    lines: &mut LineReader<R>,
+    writer: &mut W,
+    scope: Scope,
+    out: &mut O,
+) -> Result<(), ClientFault>
+    requires fresh { fault_of lines.old ≡ None }
+
+    // A refusal was printed that stood in the place of the opening, or the lines that were read are the text of an
+    // opening that a server can show to a watcher of the scope, and of posts that are due to it, each the next one of its
+    // namespace, and a refusal; each of the posts was told in words, against the tables that those before it had led
+    // to, and then the refusal was printed.
+    ensures told { OnOk result (IsTrue R.tells → IsTrue O.tells
+        → ((refusal : List ℕ) × HasRefused refusal (lines_left lines.old) (lines_left lines.new) × (O.written out.new ≡ O.written out.old ++ ended refusal))
+        ⊎ ((found : List MirrorView) × (portions : List (List PostView)) × (rest : List PostView) × (refusal : List ℕ)
+        × HasTold scope portions rest refusal (lines_left lines.old) (lines_left lines.new) found
+        × (O.written out.new ≡ O.written out.old ++ posts_told found (all_posts portions rest) ++ ended refusal))) }
+
+    // Up to a fault nothing had come, and nothing was printed, or the posts that had come were told. Where the output
+    // failed, a part of one more text was printed, that of a post that is due, or of lines that had come.
+    ensures broken { IsTrue R.tells → IsTrue O.tells → IfErr result
+        (λ fault. IsBrokenOff fault scope (lines_left lines.old) (O.written out.old) (O.written out.new)) }
+
+    // A part of the requests went out, that of the watcher and some for posts, and nothing else.
+    ensures part { IsTrue W.tells
+        → (times : ℕ) × IsSentPart (telling_text scope times) (W.written writer.old) (W.written writer.new) }
+
+    // `Connection` only where calls of the reader failed, or the lines do not begin with an opening of the scope, posts
+    // that are due to it, each portion with its end, and a refusal, nor with a refusal in the place of the opening, or
+    // where calls of the writer failed and no refusal comes first. Where no fault of the stream stood, the last call
+    // failed then, or was the last of as many interrupted ones in succession as end a read or a send.
+    ensures connection { result ≡ Err ClientFault.Connection → IsTrue R.tells → IsTrue R.counts → IsTrue W.counts
+        → (HasBroken (W.failed writer.old) (W.failed writer.new) (W.faults writer.old) (W.faults writer.new) × IsCut IsOneRefusal lines.old lines.new) ⊎ IsCut (IsRefusedOr (IsTelling scope)) lines.old lines.new }
+
+    // `Output` comes only where calls of the output failed. Where no fault of it stood, the last call failed then, or
+    // was the last of as many interrupted ones in succession as end a send.
+    ensures output { result ≡ Err ClientFault.Output → IsTrue O.counts
+        → HasBroken (O.failed out.old) (O.failed out.new) (O.faults out.old) (O.faults out.new) }
+    // What the next call finds: a reader that has met no fault, and where none of a stream stood, none.
+    ensures fresh { OnOk result (fault_of lines.new ≡ None) }
+    ensures reads { OnOk result (IsTrue R.counts → last_faults lines.old ≡ [] → last_faults lines.new ≡ []) }
+    ensures prints { OnOk result (IsTrue O.counts → O.faults out.old ≡ [] → O.faults out.new ≡ []) }
+    ensures limit { limit_of lines.new ≡ limit_of lines.old }
+{
+    let watch = watch_line(alloc, scope)?;
+    if !send_request(lines, writer, watch.as_slice(), out)? {
+        return Ok(());
+    }
+    let Some(mut mirrors) = read_found(alloc, lines, scope)? else {
+        return print_line(out, lines.line());
+    };
+    tell_portions(alloc, lines, writer, scope, PORTION, &mut mirrors, out)
+}
