@@ -1,0 +1,140 @@
+//! The order in which mounts are made: the one that it stands on before each, and what another one hides before that.
+ghost use Rattle.std.specs.Prelude.{IsOkUnless};
+
+use crate::groups::Groups;
+use crate::path::{below_root, names};
+use crate::script::Script;
+use crate::standing::{Judged, Standing, judge};
+use crate::told::HostMount;
+use crate::writer::left_out;
+use mt_skel::fault::Fault;
+use std::alloc::{AllocError, Global};
+use std::collections::BTreeSet;
+
+/// A mount that is made.
+#[derive(Drop)]
+pub(crate) struct Mount<'a> {
+    /// What its line tells.
+    pub(crate) row: &'a HostMount,
+    /// Which mount it stands on, counted in the order; the root mount's is its own.
+    pub(crate) above: usize,
+    /// The path of the directory that it shows.
+    pub(crate) root: &'a [u8],
+    /// The path where it stands, from the root of the namespace down.
+    pub(crate) point: &'a [u8],
+    /// The path of the directory where it stands, in the filesystem of the mount that it stands on.
+    pub(crate) place: Vec<u8>,
+}
+
+/// A row below its parent.
+#[derive(Clone, Copy)]
+struct Below {
+    parent: u64,
+    names: usize,
+    index: usize,
+}
+
+/// The numbers of rows. Fails for want of memory alone.
+fn ids_of(alloc: Global, rows: &[HostMount]) -> Result<BTreeSet<u64>, AllocError> {
+    let mut ids = BTreeSet::new(alloc);
+    for row in rows {
+        ids.insert(row.id)?;
+    }
+    Ok(ids)
+}
+
+/// Whether a row stands on none of the others.
+fn is_top(ids: &BTreeSet<u64>, row: &HostMount) -> bool {
+    row.parent == row.id || !ids.contains(&row.parent)
+}
+
+/// Which row is the root mount, if one is.
+fn root_of(ids: &BTreeSet<u64>, rows: &[HostMount]) -> Option<usize> {
+    rows.iter().position(|row| is_top(ids, row) && row.point.as_slice() == b"/".as_slice())
+}
+
+/// The rows below parents, by these, and by the count of names of where they stand. Those that stand on none are told
+/// in comments. Refused as `NoMemory` alone.
+fn rows_below(
+    alloc: Global,
+    script: &mut Script,
+    rows: &[HostMount],
+    root: usize,
+) -> Result<Vec<Below>, Fault>
+    ensures memory { IsOkUnless result Fault.NoMemory }
+{
+    let ids = ids_of(alloc, rows)?;
+    let mut below = Vec::new(alloc);
+    for (index, row) in rows.iter().enumerate() {
+        if index == root {
+            continue;
+        }
+        if is_top(&ids, row) {
+            left_out(alloc, script, row.id, b"it stands on no other")?;
+            continue;
+        }
+        below.push(Below {
+            parent: row.parent,
+            names: names(below_root(row.point.as_slice())),
+            index,
+        })?;
+    }
+    below.sort_unstable_by_key(|row| (row.parent, row.names, row.index));
+    Ok(below)
+}
+
+/// Puts the rows below a parent on a stack, that with the most names on top. Fails for want of memory alone.
+fn push_below(
+    stack: &mut Vec<(usize, usize)>,
+    below: &[Below],
+    parent: u64,
+    above: usize,
+) -> Result<(), AllocError> {
+    let start = below.partition_point(|row| row.parent < parent);
+    for row in below.iter().skip(start) {
+        if row.parent != parent {
+            break;
+        }
+        stack.push((row.index, above))?;
+    }
+    Ok(())
+}
+
+/// The mounts that are made of rows, in their order, the root mount first. The others are told in comments. Refused as
+/// `NoMemory` alone.
+pub(crate) fn mounts_of<'a>(
+    alloc: Global,
+    script: &mut Script,
+    rows: &'a [HostMount],
+    groups: &Groups<'a>,
+) -> Result<Vec<Mount<'a>>, Fault>
+    ensures memory { IsOkUnless result Fault.NoMemory }
+{
+    let mut mounts: Vec<Mount<'a>> = Vec::new(alloc);
+    let ids = ids_of(alloc, rows)?;
+    let Some(root) = root_of(&ids, rows) else {
+        let _said = script.push(b"# no mount is the root of a namespace")?;
+        return Ok(mounts);
+    };
+    let below = rows_below(alloc, script, rows, root)?;
+    let mut standing = Standing::new(alloc);
+    let mut stack = Vec::new(alloc);
+    stack.push((root, 0))?;
+    'rows: for _step in 0..=rows.len() {
+        let Some((index, above)) = stack.pop() else {
+            return Ok(mounts);
+        };
+        let Some(row) = rows.get(index) else {
+            return Ok(mounts);
+        };
+        let here = mounts.len();
+        match judge(alloc, row, mounts.as_slice(), above, groups, &mut standing)? {
+            Judged::Made(mount) => {
+                mounts.push(mount)?;
+                push_below(&mut stack, below.as_slice(), row.id, here)?;
+            }
+            Judged::Left(why) => left_out(alloc, script, row.id, why)?,
+        }
+    }
+    Ok(mounts)
+}

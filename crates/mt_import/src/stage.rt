@@ -1,0 +1,260 @@
+//! What stands until the end of the script: a mount of each filesystem of which directories are bound, and a member of
+//! each peer group from which mounts are bound.
+ghost use Rattle.std.specs.Prelude.{IsOkUnless};
+
+use crate::filesystems::Filesystems;
+use crate::groups::Groups;
+use crate::order::Mount;
+use crate::path::STAGE;
+use crate::script::Script;
+use crate::writer::{command, digits_of, joined};
+use mt_skel::fault::Fault;
+use std::alloc::{AllocError, Global};
+use std::collections::BTreeSet;
+
+/// The name of the filesystem on which it stands.
+pub(crate) const STAGE_FS: &[u8] = b"import";
+
+/// What stands until the end.
+#[derive(Drop)]
+pub(crate) struct Stage<'a> {
+    /// The devices of filesystems.
+    pub(crate) devices: Vec<&'a [u8]>,
+    /// The numbers of groups, and those of which no member is made but this.
+    pub(crate) groups: Vec<u64>,
+}
+
+/// The path of what is staged under a name, and of a directory below. Fails for want of memory alone.
+pub(crate) fn staged_path(alloc: Global, name: &[u8], below: &[u8]) -> Result<Vec<u8>, AllocError> {
+    joined(alloc, &[STAGE, b"/", name, below])
+}
+
+/// The path of the staged member of a group. Fails for want of memory alone.
+pub(crate) fn group_path(alloc: Global, group: u64, below: &[u8]) -> Result<Vec<u8>, AllocError> {
+    let number = digits_of(alloc, group)?;
+    staged_path(alloc, number.as_slice(), below)
+}
+
+impl<'a> Stage<'a> {
+    /// Whether nothing stands there.
+    pub(crate) fn is_empty(&self) -> bool {
+        self.devices.is_empty() && self.groups.is_empty()
+    }
+
+    /// Mounts the filesystems. Refused as `NoMemory` alone.
+    pub(crate) fn mount(&self, alloc: Global, script: &mut Script) -> Result<(), Fault>
+        ensures memory { IsOkUnless result Fault.NoMemory }
+    {
+        if self.is_empty() {
+            return Ok(());
+        }
+        command(alloc, script, &[b"mount", b"1", STAGE_FS, STAGE])?;
+        for device in self.devices.iter() {
+            let path = staged_path(alloc, device, b"")?;
+            command(alloc, script, &[b"mount", b"1", device, path.as_slice()])?;
+        }
+        Ok(())
+    }
+
+    /// Unmounts all in a namespace that `is_left` takes.
+    pub(crate) fn unmount(&self, alloc: Global, script: &mut Script) -> Result<(), Fault>
+        ensures memory { IsOkUnless result Fault.NoMemory }
+    {
+        for group in self.groups.iter() {
+            let path = group_path(alloc, *group, b"")?;
+            command(alloc, script, &[b"umount", b"1", path.as_slice()])?;
+        }
+        for device in self.devices.iter() {
+            let path = staged_path(alloc, device, b"")?;
+            command(alloc, script, &[b"umount", b"1", path.as_slice()])?;
+        }
+        if !self.is_empty() {
+            command(alloc, script, &[b"umount", b"1", STAGE])?;
+        }
+        Ok(())
+    }
+
+    /// Makes a second namespace, with a member of each group of which no mount is made, and nothing else that
+    /// propagates. Refused as `NoMemory` alone.
+    pub(crate) fn hold(
+        &self,
+        alloc: Global,
+        script: &mut Script,
+        groups: &Groups<'a>,
+    ) -> Result<(), Fault>
+        ensures memory { IsOkUnless result Fault.NoMemory }
+    {
+        let hidden = |group: &u64| groups.get(*group).is_some_and(|group| group.members == 0);
+        if !self.groups.iter().any(hidden) {
+            return Ok(());
+        }
+        command(alloc, script, &[b"copyns", b"1"])?;
+        command(alloc, script, &[b"setattr", b"2", b"/", b"prop=private"])?;
+        for device in self.devices.iter() {
+            let path = staged_path(alloc, device, b"")?;
+            command(alloc, script, &[b"umount", b"2", path.as_slice()])?;
+        }
+        for group in self.groups.iter() {
+            if !hidden(group) {
+                let path = group_path(alloc, *group, b"")?;
+                command(alloc, script, &[b"umount", b"2", path.as_slice()])?;
+            }
+        }
+        Ok(())
+    }
+}
+
+/// Stages a member of a group, from its master if it has one. Refused as `NoMemory` alone.
+fn stage_group(
+    alloc: Global,
+    script: &mut Script,
+    groups: &Groups<'_>,
+    number: u64,
+) -> Result<(), Fault>
+    ensures memory { IsOkUnless result Fault.NoMemory }
+{
+    let Some(group) = groups.get(number) else {
+        return Ok(());
+    };
+    let path = group_path(alloc, number, b"")?;
+    let source = match group.master {
+        None => staged_path(alloc, group.device, b"")?,
+        Some(master) => group_path(alloc, master, b"")?,
+    };
+    command(
+        alloc,
+        script,
+        &[b"bind", b"1", source.as_slice(), path.as_slice()],
+    )?;
+    if group.master.is_some() {
+        command(
+            alloc,
+            script,
+            &[b"setattr", b"1", path.as_slice(), b"prop=slave"],
+        )?;
+    }
+    command(
+        alloc,
+        script,
+        &[b"setattr", b"1", path.as_slice(), b"prop=shared"],
+    )
+}
+
+/// The groups that the root mount goes through, from the uppermost down to its own. Fails for want of memory alone.
+pub(crate) fn root_chain(
+    alloc: Global,
+    groups: &Groups<'_>,
+    root: &Mount<'_>,
+) -> Result<Vec<u64>, AllocError> {
+    let row = root.row;
+    let mut chain = groups.above(alloc, row.shared.or(row.master))?;
+    chain.reverse();
+    Ok(chain)
+}
+
+/// Has the root mount go through its groups, and stages a member of each that others are bound from. Refused as
+/// `NoMemory` alone.
+fn stage_root(
+    alloc: Global,
+    script: &mut Script,
+    groups: &Groups<'_>,
+    root: &Mount<'_>,
+    chain: &[u64],
+) -> Result<(), Fault>
+    ensures memory { IsOkUnless result Fault.NoMemory }
+{
+    let row = root.row;
+    let own = row.shared;
+    for group in chain {
+        command(alloc, script, &[b"setattr", b"1", b"/", b"prop=shared"])?;
+        if groups.has_receivers(Some(*group)) {
+            let path = group_path(alloc, *group, b"")?;
+            command(alloc, script, &[b"bind", b"1", b"/", path.as_slice()])?;
+        }
+        if own != Some(*group) {
+            command(alloc, script, &[b"setattr", b"1", b"/", b"prop=slave"])?;
+        }
+    }
+    Ok(())
+}
+
+/// Stages a group and those above it that are not yet. Refused as `NoMemory` alone.
+fn stage_above(
+    alloc: Global,
+    script: &mut Script,
+    groups: &Groups<'_>,
+    done: &mut BTreeSet<u64>,
+    number: u64,
+) -> Result<(), Fault>
+    ensures memory { IsOkUnless result Fault.NoMemory }
+{
+    let mut above = Vec::new(alloc);
+    let mut next = Some(number);
+    for _step in 0..groups.len() {
+        let Some(number) = next else {
+            break;
+        };
+        if !done.insert(number)? {
+            break;
+        }
+        above.push(number)?;
+        next = groups.get(number).and_then(|group| group.master);
+    }
+    above.reverse();
+    for group in above.iter() {
+        stage_group(alloc, script, groups, *group)?;
+    }
+    Ok(())
+}
+
+/// Stages a member of each group from which mounts are bound. Refused as `NoMemory` alone.
+pub(crate) fn stage_groups<'a>(
+    alloc: Global,
+    script: &mut Script,
+    groups: &Groups<'a>,
+    root: &Mount<'a>,
+    stage: &Stage<'a>,
+) -> Result<(), Fault>
+    ensures memory { IsOkUnless result Fault.NoMemory }
+{
+    let chain = root_chain(alloc, groups, root)?;
+    stage_root(alloc, script, groups, root, chain.as_slice())?;
+    let mut done = BTreeSet::new(alloc);
+    for group in chain.iter() {
+        done.insert(*group)?;
+    }
+    for group in stage.groups.iter() {
+        stage_above(alloc, script, groups, &mut done, *group)?;
+    }
+    stage.hold(alloc, script, groups)
+}
+
+/// What has to be staged for mounts. Fails for want of memory alone.
+pub(crate) fn stage_of<'a>(
+    alloc: Global,
+    mounts: &[Mount<'a>],
+    groups: &Groups<'a>,
+    filesystems: &mut Filesystems<'a>,
+    root: &Mount<'a>,
+) -> Result<Stage<'a>, AllocError> {
+    for mount in mounts.iter().skip(1) {
+        let row = mount.row;
+        if !mount.root.is_empty() && groups.source_of(row).is_none() {
+            filesystems.stage(row.device.as_slice());
+        }
+    }
+    let chain = root_chain(alloc, groups, root)?;
+    let numbers = groups.staged(alloc)?;
+    for number in numbers.iter() {
+        let Some(group) = groups.get(*number) else {
+            continue;
+        };
+        if group.master.is_none() && !chain.contains(number) {
+            filesystems.stage(group.device);
+        }
+    }
+    Ok(Stage {
+        devices: filesystems.devices(alloc, true)?,
+        groups: numbers,
+    })
+}
