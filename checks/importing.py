@@ -7,10 +7,13 @@ that was imported, up to the numbers of mounts, groups and devices, and without 
 import os
 import random
 import re
+import tempfile
 import time
 from typing import NamedTuple
 
 import cases
+from clients import READ_FAULT, WRITE_FAULT, Asked, redirected
+from memory import Refusing
 from running import answer_groups, check, run, session, shown
 from serving import Server
 
@@ -213,6 +216,29 @@ def check_lines(mountctl):
     check("import of nothing", imported(mountctl, b"")[0] == 0)
 
 
+# Standard streams that fail, and how the program ends: an input that cannot be read, a folder, or is closed, and an
+# output that takes nothing, or is closed.
+FAULTY_STREAMS = ("0</", READ_FAULT), ("0<&-", READ_FAULT), ("1>/dev/full", WRITE_FAULT), ("1>&-", WRITE_FAULT)
+
+
+class Importing(Asked):
+    """An import of a host's table, which says that memory is missing where it is."""
+
+    input = HOST
+
+
+def check_faults(mountctl):
+    """An import whose streams fail, or for which there is no memory, says so."""
+    for streams, wanted in FAULTY_STREAMS:
+        found = redirected(mountctl, streams, "import", text=HOST)
+        check(f"import {streams}", found == wanted, repr(found))
+    with tempfile.TemporaryDirectory() as folder:
+        refusing, asked = Refusing(folder), Importing(mountctl, ["import"])
+        count = refusing.count(asked)
+        refusing.each(asked, "an import", count)
+    print(f"{count} allocations of an import refused in turn", flush=True)
+
+
 def check_host(program, mountctl):
     """A host's table, and this machine's, are accepted as scripts of the other program over a socket."""
     texts = {"a host": HOST}
@@ -246,6 +272,7 @@ def check_large(program, mountctl):
 
 def check_import(program, mountctl):
     check_lines(mountctl)
+    check_faults(mountctl)
     check_tables(program, mountctl)
     check_host(program, mountctl)
     check_large(program, mountctl)

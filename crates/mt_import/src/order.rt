@@ -91,7 +91,7 @@ fn push_below(
     above: usize,
 ) -> Result<(), AllocError> {
     let start = below.partition_point(|row| row.parent < parent);
-    for row in below.iter().skip(start) {
+    for row in &below[start..] {
         if row.parent != parent {
             break;
         }
