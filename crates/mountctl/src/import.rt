@@ -1,12 +1,12 @@
 //! `import`: the script of commands that makes the namespace of which a mountinfo tells.
 
 use crate::fault::Fault;
+use mt_import::fault::Fault as Refusal;
 use mt_import::import::script_of;
 use mt_import::read::read_mount;
 use mt_import::told::HostMount;
 use mt_lines::line::{Line, LineReader};
 use mt_lines::stream::{Input, Output, send};
-use mt_skel::fault::Fault as Refusal;
 use std::alloc::{AllocError, AllocFailed, Global};
 
 /// The longest line of a mountinfo, in bytes before its line end.

@@ -1,2 +1,4 @@
 pub mod ReadLaws
 pub mod ScriptLaws
+pub mod WriterLaws
+pub mod CommandLaws

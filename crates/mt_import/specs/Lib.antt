@@ -1,3 +1,5 @@
 pub mod Reading
 pub mod Script
 pub mod Paths
+pub mod Commands
+pub mod Options

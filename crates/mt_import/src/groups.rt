@@ -110,6 +110,11 @@ impl<'a> Groups<'a> {
         Ok(())
     }
 
+    /// Whether a row is a member of this group.
+    pub(crate) fn has_members(&self, number: u64) -> bool {
+        self.get(number).is_some_and(|group| group.members > 0)
+    }
+
     /// Whether a mount of this group, if it is in one, has others that get what is mounted on it.
     pub(crate) fn has_receivers(&self, shared: Option<u64>) -> bool {
         let Some(number) = shared else {

@@ -1,72 +1,21 @@
 //! The mounts, made one after another.
-ghost use Rattle.std.specs.Prelude.{IsOkUnless};
+ghost use Rattle.std.specs.Prelude.{◌≡◌, ◌++◌, OnOk, IsOkUnless};
+ghost use Rattle.std.specs.Option.{option_map};
+ghost use Rattle.mt_import.specs.Commands.{copies_text, set_text, second_text, attributes_text};
+ghost use Rattle.mt_import.specs.Options.{options_text};
+ghost use Rattle.mt_import.specs.Paths.{path_word};
 
+use crate::commands::{MODEL, bind, mount_filesystem, set_kind, unmount};
 use crate::groups::Groups;
+use crate::options::options_of;
 use crate::order::Mount;
 use crate::path::{STAGE, path_word};
 use crate::script::Script;
 use crate::stage::{STAGE_FS, group_path, staged_path};
 use crate::told::HostMount;
-use crate::writer::{command, joined, one_behind, push_command};
+use crate::writer::{joined, one_behind, push_command};
 use mt_skel::fault::Fault;
-use mt_words::words::Pieces;
-use std::alloc::{AllocError, Global};
-
-/// The options that are set alone.
-const FLAGS: [&[u8]; 6] = [
-    b"ro",
-    b"nosuid",
-    b"nodev",
-    b"noexec",
-    b"nodiratime",
-    b"nosymfollow",
-];
-
-/// Whether a word is among options.
-fn has_option(options: &[u8], word: &[u8]) -> bool {
-    Pieces::new(b',', options).any(|option| option == word)
-}
-
-/// The word of `set=` for the access times of these options, if they are not those of a new mount.
-fn times_of(options: &[u8]) -> Option<&'static [u8]> {
-    if has_option(options, b"noatime") {
-        return Some(b"noatime");
-    }
-    if has_option(options, b"relatime") {
-        return None;
-    }
-    Some(b"strictatime")
-}
-
-/// Appends a word to those of `set=`. Fails for want of memory alone.
-fn push_set(text: &mut Vec<u8>, word: &[u8]) -> Result<(), AllocError> {
-    text.extend_from_slice(if text.is_empty() { b" set=" } else { b"," })?;
-    text.extend_from_slice(word)
-}
-
-/// The words behind a path in a `setattr` line, each behind a space: those for the options of a row, none where they
-/// are those of a new mount, and one for its propagation. Fails for want of memory alone.
-fn options_of(
-    alloc: Global,
-    options: &[u8],
-    kind: Option<&'static [u8]>,
-) -> Result<Vec<u8>, AllocError> {
-    let mut text = Vec::new(alloc);
-    for flag in FLAGS {
-        if has_option(options, flag) {
-            push_set(&mut text, flag)?;
-        }
-    }
-    if let Some(times) = times_of(options) {
-        push_set(&mut text, times)?;
-        text.extend_from_slice(b" clr=atime")?;
-    }
-    if let Some(kind) = kind {
-        text.extend_from_slice(b" ")?;
-        text.extend_from_slice(kind)?;
-    }
-    Ok(text)
-}
+use std::alloc::Global;
 
 /// How the propagation of a mount is changed from what it was made with.
 #[derive(Clone, Copy)]
@@ -111,39 +60,52 @@ fn lone_kind(row: &HostMount, parent: &HostMount) -> Option<&'static [u8]> {
     None
 }
 
-/// Sets options of the mount at a path, each behind a space. Refused as `NoMemory` alone.
+/// Sets options of the mount at a path, each behind a space, if there are any. Refused as `NoMemory` alone.
 fn set_options(alloc: Global, script: &mut Script, path: &[u8], options: &[u8]) -> Result<(), Fault>
+    ensures pushed { OnOk result (script.new ≡ script.old ++ set_text path.now options.now) }
     ensures memory { IsOkUnless result Fault.NoMemory }
 {
+    if options.is_empty() {
+        return Ok(());
+    }
     let line = joined(alloc, &[b"setattr 1 ", path, options])?;
-    push_command(script, line.as_slice())
+    push_command(script, line.as_slice())?;
+    Ok(())
 }
 
-/// Sets the propagation of the mount at a path. Refused as `NoMemory` alone.
-fn set_kind(alloc: Global, script: &mut Script, path: &[u8], kind: &[u8]) -> Result<(), Fault>
+/// Sets the propagation of the mount at a path once more, if it has to be. Refused as `NoMemory` alone.
+fn set_second(
+    alloc: Global,
+    script: &mut Script,
+    path: &[u8],
+    kind: Option<&'static [u8]>,
+) -> Result<(), Fault>
+    ensures pushed { OnOk result (script.new ≡ script.old ++ second_text path.now (option_map (λ word. word.now) kind.entry)) }
     ensures memory { IsOkUnless result Fault.NoMemory }
 {
-    command(alloc, script, &[b"setattr", b"1", path, kind])
+    let Some(kind) = kind else {
+        return Ok(());
+    };
+    set_kind(alloc, script, MODEL, path, kind)?;
+    Ok(())
 }
 
 /// Sets the options and the propagation of a mount. Refused as `NoMemory` alone.
 fn set_attributes(
     alloc: Global,
     script: &mut Script,
-    row: &HostMount,
+    options: &[u8],
     point: &[u8],
     kinds: Kinds,
 ) -> Result<(), Fault>
+    ensures pushed { OnOk result (script.new ≡ script.old ++ attributes_text (path_word point.now) options.now
+        (option_map (λ word. word.now) kinds.first) (option_map (λ word. word.now) kinds.second)) }
     ensures memory { IsOkUnless result Fault.NoMemory }
 {
     let path = path_word(point);
-    let options = options_of(alloc, row.options.as_slice(), kinds.first)?;
-    if !options.is_empty() {
-        set_options(alloc, script, path, options.as_slice())?;
-    }
-    if let Some(kind) = kinds.second {
-        set_kind(alloc, script, path, kind)?;
-    }
+    let words = options_of(alloc, options, kinds.first)?;
+    set_options(alloc, script, path, words.as_slice())?;
+    set_second(alloc, script, path, kinds.second)?;
     Ok(())
 }
 
@@ -161,26 +123,7 @@ pub(crate) fn set_root(alloc: Global, script: &mut Script, root: &Mount<'_>) -> 
         first,
         second: None,
     };
-    set_attributes(alloc, script, row, root.point, kinds)
-}
-
-/// Binds what a path leads to at another one. Refused as `NoMemory` alone.
-fn bind(alloc: Global, script: &mut Script, source: &[u8], path: &[u8]) -> Result<(), Fault>
-    ensures memory { IsOkUnless result Fault.NoMemory }
-{
-    command(alloc, script, &[b"bind", b"1", source, path])
-}
-
-/// Mounts a filesystem at a path. Refused as `NoMemory` alone.
-fn mount_filesystem(
-    alloc: Global,
-    script: &mut Script,
-    filesystem: &[u8],
-    path: &[u8],
-) -> Result<(), Fault>
-    ensures memory { IsOkUnless result Fault.NoMemory }
-{
-    command(alloc, script, &[b"mount", b"1", filesystem, path])
+    set_attributes(alloc, script, row.options.as_slice(), root.point, kinds)
 }
 
 /// Mounts a filesystem, or binds a directory of what is staged. Refused as `NoMemory` alone.
@@ -206,29 +149,29 @@ fn mount_one(
     bind(alloc, script, source.as_slice(), point)
 }
 
-/// Unmounts the copies of a new mount on the other mounts of its parent's group and below it, which are those of the
-/// staged member too. Two mounts keep the new one: one on it, and on that one another, of which there are no copies.
-/// Refused as `NoMemory` alone.
+/// Unmounts the copies of a new mount at a path, by way of the one at another path. Two mounts keep the new one: one on
+/// it, and on that one another, of which there are no copies. Refused as `NoMemory` alone.
 fn unmount_copies(
     alloc: Global,
     script: &mut Script,
-    group: u64,
-    mount: &Mount<'_>,
+    point: &[u8],
+    copy: &[u8],
 ) -> Result<(), Fault>
+    ensures pushed { OnOk result (script.new ≡ script.old ++ copies_text point.now copy.now) }
     ensures memory { IsOkUnless result Fault.NoMemory }
 {
-    let keeper = one_behind(alloc, mount.point, STAGE)?;
+    let keeper = one_behind(alloc, point, STAGE)?;
     let inner = one_behind(alloc, keeper.as_slice(), STAGE)?;
-    let copy = group_path(alloc, group, mount.place.as_slice())?;
-    let kept = one_behind(alloc, copy.as_slice(), STAGE)?;
+    let kept = one_behind(alloc, copy, STAGE)?;
     let (keeper, inner) = (keeper.as_slice(), inner.as_slice());
-    command(alloc, script, &[b"mount", b"1", STAGE_FS, keeper])?;
-    command(alloc, script, &[b"setattr", b"1", keeper, b"prop=private"])?;
-    command(alloc, script, &[b"mount", b"1", STAGE_FS, inner])?;
-    command(alloc, script, &[b"umount", b"1", kept.as_slice()])?;
-    command(alloc, script, &[b"umount", b"1", copy.as_slice()])?;
-    command(alloc, script, &[b"umount", b"1", inner])?;
-    command(alloc, script, &[b"umount", b"1", keeper])
+    mount_filesystem(alloc, script, STAGE_FS, keeper)?;
+    set_kind(alloc, script, MODEL, keeper, b"prop=private")?;
+    mount_filesystem(alloc, script, STAGE_FS, inner)?;
+    unmount(alloc, script, MODEL, kept.as_slice())?;
+    unmount(alloc, script, MODEL, copy)?;
+    unmount(alloc, script, MODEL, inner)?;
+    unmount(alloc, script, MODEL, keeper)?;
+    Ok(())
 }
 
 /// Makes a mount on one that is made. Refused as `NoMemory` alone.
@@ -244,9 +187,11 @@ pub(crate) fn make_mount(
     mount_one(alloc, script, groups, mount)?;
     if let Some(group) = parent.shared {
         if groups.has_receivers(parent.shared) {
-            unmount_copies(alloc, script, group, mount)?;
+            let copy = group_path(alloc, group, mount.place.as_slice())?;
+            unmount_copies(alloc, script, mount.point, copy.as_slice())?;
         }
     }
-    let kinds = kinds_of(groups, mount.row, parent);
-    set_attributes(alloc, script, mount.row, mount.point, kinds)
+    let row = mount.row;
+    let kinds = kinds_of(groups, row, parent);
+    set_attributes(alloc, script, row.options.as_slice(), mount.point, kinds)
 }

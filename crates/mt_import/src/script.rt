@@ -1,8 +1,8 @@
 //! The script: comments and commands.
-ghost use Rattle.std.specs.Prelude.{◌≡◌, not, ◌==◌, [], ◌∷◌, ◌++◌, cond, IfOk, OnOk, IsOkUnless};
+ghost use Rattle.std.specs.Prelude.{◌≡◌, not, ◌==◌, [], ◌∷◌, ◌++◌, IfOk, OnOk, IsOkUnless};
 ghost use Rattle.std.specs.List.{list_all};
 ghost use Rattle.mt_requests.specs.Requests.{request_of};
-ghost use Rattle.mt_import.specs.Script.{is_run, is_script_line, IsScript};
+ghost use Rattle.mt_import.specs.Script.{is_run, is_script_line, IsScript, line_text};
 
 use mt_requests::request::{Request, read_request};
 use mt_skel::fault::Fault;
@@ -89,9 +89,10 @@ impl Script {
     }
 
     /// Appends a line with a line end, if it is a comment or a command: whether it is. Refused as `NoMemory` alone.
+    #[tactic(auto, unfolding(crate::specs::Script::line_text))]
     pub fn push(&mut self, line: &[u8]) -> Result<bool, Fault>
         ensures told { IfOk result (λ is. is ≡ is_script_line line.now) }
-        ensures pushed { OnOk result (self.new ≡ self.old ++ cond (is_script_line line.now) (line.now ++ 10 ∷ []) []) }
+        ensures pushed { OnOk result (self.new ≡ self.old ++ line_text line.now) }
         ensures memory { IsOkUnless result Fault.NoMemory }
     {
         let alloc = *self.text.allocator();

@@ -1,9 +1,12 @@
 //! What stands until the end of the script: a mount of each filesystem of which directories are bound, and a member of
 //! each peer group from which mounts are bound.
-ghost use Rattle.std.specs.Prelude.{IsOkUnless};
+ghost use Rattle.std.specs.Prelude.{◌≡◌, ◌&&◌, nat_eq, ◌++◌, [], decimal, map, length, IfOk, OnOk, IsOkUnless};
+ghost use Rattle.std.specs.Option.{option_map_or};
+ghost use Rattle.mt_import.specs.Commands.{staged_path, staging_text, unstaging_text};
 
+use crate::commands::{HOLDER, MODEL, bind, mount_filesystem, set_kind, unmount};
 use crate::filesystems::Filesystems;
-use crate::groups::Groups;
+use crate::groups::{Group, Groups};
 use crate::order::Mount;
 use crate::path::STAGE;
 use crate::script::Script;
@@ -25,19 +28,25 @@ pub(crate) struct Stage<'a> {
 }
 
 /// The path of what is staged under a name, and of a directory below. Fails for want of memory alone.
-pub(crate) fn staged_path(alloc: Global, name: &[u8], below: &[u8]) -> Result<Vec<u8>, AllocError> {
+pub(crate) fn staged_path(alloc: Global, name: &[u8], below: &[u8]) -> Result<Vec<u8>, AllocError>
+    ensures { IfOk result (λ path. path.items ≡ staged_path name.now below.now) }
+{
     joined(alloc, &[STAGE, b"/", name, below])
 }
 
 /// The path of the staged member of a group. Fails for want of memory alone.
-pub(crate) fn group_path(alloc: Global, group: u64, below: &[u8]) -> Result<Vec<u8>, AllocError> {
+pub(crate) fn group_path(alloc: Global, group: u64, below: &[u8]) -> Result<Vec<u8>, AllocError>
+    ensures { IfOk result (λ path. path.items ≡ staged_path (decimal group) below.now) }
+{
     let number = digits_of(alloc, group)?;
     staged_path(alloc, number.as_slice(), below)
 }
 
 impl<'a> Stage<'a> {
     /// Whether nothing stands there.
-    pub(crate) fn is_empty(&self) -> bool {
+    pub(crate) fn is_empty(&self) -> bool
+        ensures { result ≡ (nat_eq (length self.now.devices.items) 0 && nat_eq (length self.now.groups.items) 0) }
+    {
         self.devices.is_empty() && self.groups.is_empty()
     }
 
@@ -48,30 +57,20 @@ impl<'a> Stage<'a> {
         if self.is_empty() {
             return Ok(());
         }
-        command(alloc, script, &[b"mount", b"1", STAGE_FS, STAGE])?;
-        for device in self.devices.iter() {
-            let path = staged_path(alloc, device, b"")?;
-            command(alloc, script, &[b"mount", b"1", device, path.as_slice()])?;
-        }
-        Ok(())
+        mount_filesystem(alloc, script, STAGE_FS, STAGE)?;
+        mount_devices(alloc, script, self.devices.as_slice())
     }
 
-    /// Unmounts all in a namespace that `is_left` takes.
+    /// Unmounts all of it in the namespace of the script. Refused as `NoMemory` alone.
     pub(crate) fn unmount(&self, alloc: Global, script: &mut Script) -> Result<(), Fault>
         ensures memory { IsOkUnless result Fault.NoMemory }
     {
-        for group in self.groups.iter() {
-            let path = group_path(alloc, *group, b"")?;
-            command(alloc, script, &[b"umount", b"1", path.as_slice()])?;
+        if self.is_empty() {
+            return Ok(());
         }
-        for device in self.devices.iter() {
-            let path = staged_path(alloc, device, b"")?;
-            command(alloc, script, &[b"umount", b"1", path.as_slice()])?;
-        }
-        if !self.is_empty() {
-            command(alloc, script, &[b"umount", b"1", STAGE])?;
-        }
-        Ok(())
+        unmount_groups(alloc, script, MODEL, self.groups.as_slice())?;
+        unmount_devices(alloc, script, MODEL, self.devices.as_slice())?;
+        unmount(alloc, script, MODEL, STAGE)
     }
 
     /// Makes a second namespace, with a member of each group of which no mount is made, and nothing else that
@@ -84,23 +83,86 @@ impl<'a> Stage<'a> {
     ) -> Result<(), Fault>
         ensures memory { IsOkUnless result Fault.NoMemory }
     {
-        let hidden = |group: &u64| groups.get(*group).is_some_and(|group| group.members == 0);
-        if !self.groups.iter().any(hidden) {
+        let seen = seen_groups(alloc, groups, self.groups.as_slice())?;
+        if seen.len() == self.groups.len() {
             return Ok(());
         }
-        command(alloc, script, &[b"copyns", b"1"])?;
-        command(alloc, script, &[b"setattr", b"2", b"/", b"prop=private"])?;
-        for device in self.devices.iter() {
-            let path = staged_path(alloc, device, b"")?;
-            command(alloc, script, &[b"umount", b"2", path.as_slice()])?;
+        command(alloc, script, &[b"copyns", MODEL])?;
+        set_kind(alloc, script, HOLDER, b"/", b"prop=private")?;
+        unmount_devices(alloc, script, HOLDER, self.devices.as_slice())?;
+        unmount_groups(alloc, script, HOLDER, seen.as_slice())
+    }
+}
+
+/// Mounts filesystems where they stand until the end. Refused as `NoMemory` alone.
+fn mount_devices(alloc: Global, script: &mut Script, devices: &[&[u8]]) -> Result<(), Fault>
+    ensures pushed { OnOk result (script.new ≡ script.old ++ staging_text (map (λ device. device.now) devices.now)) }
+    ensures memory { IsOkUnless result Fault.NoMemory }
+{
+    'devices: for device in devices {
+        let path = staged_path(alloc, device, b"")?;
+        mount_filesystem(alloc, script, device, path.as_slice())?;
+    }
+    Ok(())
+}
+
+/// Unmounts filesystems in a namespace where they stand until the end. Refused as `NoMemory` alone.
+fn unmount_devices(
+    alloc: Global,
+    script: &mut Script,
+    space: &[u8],
+    devices: &[&[u8]],
+) -> Result<(), Fault>
+    ensures pushed { OnOk result (script.new ≡ script.old ++ unstaging_text space.now (map (λ device. device.now) devices.now)) }
+    ensures memory { IsOkUnless result Fault.NoMemory }
+{
+    'devices: for device in devices {
+        let path = staged_path(alloc, device, b"")?;
+        unmount(alloc, script, space, path.as_slice())?;
+    }
+    Ok(())
+}
+
+/// Unmounts the staged members of groups in a namespace. Refused as `NoMemory` alone.
+fn unmount_groups(
+    alloc: Global,
+    script: &mut Script,
+    space: &[u8],
+    groups: &[u64],
+) -> Result<(), Fault>
+    ensures pushed { OnOk result (script.new ≡ script.old ++ unstaging_text space.now (map decimal groups.now)) }
+    ensures memory { IsOkUnless result Fault.NoMemory }
+{
+    'groups: for group in groups {
+        let path = group_path(alloc, *group, b"")?;
+        unmount(alloc, script, space, path.as_slice())?;
+    }
+    Ok(())
+}
+
+/// Those of these groups of which a mount is made. Fails for want of memory alone.
+fn seen_groups(
+    alloc: Global,
+    groups: &Groups<'_>,
+    numbers: &[u64],
+) -> Result<Vec<u64>, AllocError> {
+    let mut seen = Vec::new(alloc);
+    'numbers: for number in numbers {
+        if groups.has_members(*number) {
+            seen.push(*number)?;
         }
-        for group in self.groups.iter() {
-            if !hidden(group) {
-                let path = group_path(alloc, *group, b"")?;
-                command(alloc, script, &[b"umount", b"2", path.as_slice()])?;
-            }
-        }
-        Ok(())
+    }
+    Ok(seen)
+}
+
+/// The path from which a member of a group is staged: that of its master, or of the filesystem of its device. Fails for
+/// want of memory alone.
+fn source_path(alloc: Global, group: Group<'_>) -> Result<Vec<u8>, AllocError>
+    ensures { IfOk result (λ path. path.items ≡ staged_path (option_map_or decimal group.entry.master group.entry.device.now) []) }
+{
+    match group.master {
+        Some(master) => group_path(alloc, master, b""),
+        None => staged_path(alloc, group.device, b""),
     }
 }
 
@@ -117,27 +179,12 @@ fn stage_group(
         return Ok(());
     };
     let path = group_path(alloc, number, b"")?;
-    let source = match group.master {
-        None => staged_path(alloc, group.device, b"")?,
-        Some(master) => group_path(alloc, master, b"")?,
-    };
-    command(
-        alloc,
-        script,
-        &[b"bind", b"1", source.as_slice(), path.as_slice()],
-    )?;
+    let source = source_path(alloc, group)?;
+    bind(alloc, script, source.as_slice(), path.as_slice())?;
     if group.master.is_some() {
-        command(
-            alloc,
-            script,
-            &[b"setattr", b"1", path.as_slice(), b"prop=slave"],
-        )?;
+        set_kind(alloc, script, MODEL, path.as_slice(), b"prop=slave")?;
     }
-    command(
-        alloc,
-        script,
-        &[b"setattr", b"1", path.as_slice(), b"prop=shared"],
-    )
+    set_kind(alloc, script, MODEL, path.as_slice(), b"prop=shared")
 }
 
 /// The groups that the root mount goes through, from the uppermost down to its own. Fails for want of memory alone.
@@ -166,13 +213,13 @@ fn stage_root(
     let row = root.row;
     let own = row.shared;
     for group in chain {
-        command(alloc, script, &[b"setattr", b"1", b"/", b"prop=shared"])?;
+        set_kind(alloc, script, MODEL, b"/", b"prop=shared")?;
         if groups.has_receivers(Some(*group)) {
             let path = group_path(alloc, *group, b"")?;
-            command(alloc, script, &[b"bind", b"1", b"/", path.as_slice()])?;
+            bind(alloc, script, b"/", path.as_slice())?;
         }
         if own != Some(*group) {
-            command(alloc, script, &[b"setattr", b"1", b"/", b"prop=slave"])?;
+            set_kind(alloc, script, MODEL, b"/", b"prop=slave")?;
         }
     }
     Ok(())

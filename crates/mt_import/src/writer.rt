@@ -1,6 +1,7 @@
 //! The lines of the script, made of their words.
-ghost use Rattle.std.specs.Prelude.{◌≡◌, ◌++◌, decimal, IfOk, IsOkUnless};
-ghost use Rattle.std.specs.List.{flat_map};
+ghost use Rattle.std.specs.Prelude.{◌≡◌, ◌∷◌, ◌++◌, map, decimal, IfOk, OnOk, IsOkUnless};
+ghost use Rattle.std.specs.List.{flat_map, join_with_byte};
+ghost use Rattle.mt_import.specs.Script.{said, command_text, comment_text, left_out_text};
 
 use crate::script::Script;
 use itoa::Buffer;
@@ -38,22 +39,34 @@ pub(crate) fn digits_of(alloc: Global, number: u64) -> Result<Vec<u8>, AllocErro
     Ok(digits)
 }
 
+/// Appends words, each behind a space.
+fn push_words(line: &mut Vec<u8>, words: &[&[u8]]) -> Result<(), AllocError>
+    ensures { OnOk result (line.new.items ≡ line.old.items ++ flat_map (λ word. 32 ∷ word.now) words.now) }
+{
+    'words: for word in words {
+        line.extend_from_slice(b" ")?;
+        line.extend_from_slice(word)?;
+    }
+    Ok(())
+}
+
 /// Words between single spaces. Fails for want of memory alone.
-pub(crate) fn spaced(alloc: Global, words: &[&[u8]]) -> Result<Vec<u8>, AllocError> {
+pub(crate) fn spaced(alloc: Global, words: &[&[u8]]) -> Result<Vec<u8>, AllocError>
+    ensures { IfOk result (λ line. line.items ≡ join_with_byte 32 (map (λ word. word.now) words.now)) }
+{
     let mut line = Vec::new(alloc);
     let Some((first, others)) = words.split_first() else {
         return Ok(line);
     };
     line.extend_from_slice(first)?;
-    for word in others {
-        line.extend_from_slice(b" ")?;
-        line.extend_from_slice(word)?;
-    }
+    push_words(&mut line, others)?;
     Ok(line)
 }
 
-/// Appends a command, or a comment where the line is none. Refused as `NoMemory` alone.
+/// Appends a line that is to be a command, or a comment in its place. Refused as `NoMemory` alone.
+#[tactic(auto, unfolding(crate::specs::Script::said))]
 pub(crate) fn push_command(script: &mut Script, line: &[u8]) -> Result<(), Fault>
+    ensures pushed { OnOk result (script.new ≡ script.old ++ said line.now) }
     ensures memory { IsOkUnless result Fault.NoMemory }
 {
     if !script.push(line)? {
@@ -62,21 +75,26 @@ pub(crate) fn push_command(script: &mut Script, line: &[u8]) -> Result<(), Fault
     Ok(())
 }
 
-/// Appends a command, or a comment where its words are none. Refused as `NoMemory` alone.
+/// Appends the command of these words, or a comment in its place. Refused as `NoMemory` alone.
+#[tactic(auto, unfolding(crate::specs::Script::command_text))]
 pub(crate) fn command(alloc: Global, script: &mut Script, words: &[&[u8]]) -> Result<(), Fault>
+    ensures pushed { OnOk result (script.new ≡ script.old ++ command_text (map (λ word. word.now) words.now)) }
     ensures memory { IsOkUnless result Fault.NoMemory }
 {
     let line = spaced(alloc, words)?;
-    push_command(script, line.as_slice())
+    push_command(script, line.as_slice())?;
+    Ok(())
 }
 
 /// Appends a comment on a mount. Refused as `NoMemory` alone.
+#[tactic(auto, unfolding(crate::specs::Script::comment_text))]
 pub(crate) fn comment(
     alloc: Global,
     script: &mut Script,
     mount: u64,
     text: &[u8],
 ) -> Result<(), Fault>
+    ensures pushed { OnOk result (script.new ≡ script.old ++ comment_text mount text.now) }
     ensures memory { IsOkUnless result Fault.NoMemory }
 {
     let number = digits_of(alloc, mount)?;
@@ -86,14 +104,17 @@ pub(crate) fn comment(
 }
 
 /// Says that a mount is left out with all below it, and why. Refused as `NoMemory` alone.
+#[tactic(auto, unfolding(crate::specs::Script::left_out_text))]
 pub(crate) fn left_out(
     alloc: Global,
     script: &mut Script,
     mount: u64,
     why: &[u8],
 ) -> Result<(), Fault>
+    ensures pushed { OnOk result (script.new ≡ script.old ++ left_out_text mount why.now) }
     ensures memory { IsOkUnless result Fault.NoMemory }
 {
-    let text = joined(alloc, &[b"is left out with all below it: ", why])?;
-    comment(alloc, script, mount, text.as_slice())
+    let text = one_behind(alloc, b"is left out with all below it: ", why)?;
+    comment(alloc, script, mount, text.as_slice())?;
+    Ok(())
 }

@@ -1,0 +1,59 @@
+-- The commands that the script is made of.
+-- A word with no source is this project's rule.
+use Rattle.std.specs.Prelude.{ℕ, List, [], ◌∷◌, ◌++◌, Option, Some, None, codes}
+use Rattle.std.specs.List.{flat_map}
+use Rattle.mt_import.specs.Options.{options_text}
+use Rattle.mt_import.specs.Script.{said, command_text}
+
+-- the path of what stands until the end under a name, and of a directory below
+abbrev pub staged_path : List ℕ → List ℕ → List ℕ
+staged_path name below = codes "/.import/" ++ (name ++ below)
+
+-- a filesystem is mounted
+abbrev pub mount_text : List ℕ → List ℕ → List ℕ
+mount_text filesystem path = command_text (codes "mount" ∷ codes "1" ∷ filesystem ∷ path ∷ [])
+
+-- what a path leads to is bound at another one
+abbrev pub bind_text : List ℕ → List ℕ → List ℕ
+bind_text source path = command_text (codes "bind" ∷ codes "1" ∷ source ∷ path ∷ [])
+
+-- a mount of a namespace is unmounted
+abbrev pub umount_text : List ℕ → List ℕ → List ℕ
+umount_text space path = command_text (codes "umount" ∷ space ∷ path ∷ [])
+
+-- the propagation of a mount of a namespace is set
+abbrev pub kind_text : List ℕ → List ℕ → List ℕ → List ℕ
+kind_text space path kind = command_text (codes "setattr" ∷ space ∷ path ∷ kind ∷ [])
+
+-- filesystems are mounted where they stand until the end
+abbrev pub staging_text : List (List ℕ) → List ℕ
+staging_text names = flat_map (λ name. mount_text name (staged_path name [])) names
+
+-- what stands until the end under these names is unmounted
+abbrev pub unstaging_text : List ℕ → List (List ℕ) → List ℕ
+unstaging_text space names = flat_map (λ name. umount_text space (staged_path name [])) names
+
+-- the copies of a new mount at a path are unmounted, by way of the one at another path: two mounts keep the new one, the
+-- first of them private, so that there are no copies of the second, and an unmount spares a mount on which another stands
+unfoldable pub copies_text : List ℕ → List ℕ → List ℕ
+copies_text point copy = (((((mount_text (codes "import") (point ++ codes "/.import")
+    ++ kind_text (codes "1") (point ++ codes "/.import") (codes "prop=private"))
+    ++ mount_text (codes "import") ((point ++ codes "/.import") ++ codes "/.import"))
+    ++ umount_text (codes "1") (copy ++ codes "/.import"))
+    ++ umount_text (codes "1") copy)
+    ++ umount_text (codes "1") ((point ++ codes "/.import") ++ codes "/.import"))
+    ++ umount_text (codes "1") (point ++ codes "/.import")
+
+-- options of a mount are set, each behind a space, if there are any
+abbrev pub set_text : List ℕ → List ℕ → List ℕ
+set_text path [] = []
+set_text path (b ∷ options) = said (codes "setattr 1 " ++ (path ++ (b ∷ options)))
+
+-- the propagation of a mount is set once more
+abbrev pub second_text : List ℕ → Option (List ℕ) → List ℕ
+second_text path None = []
+second_text path (Some kind) = kind_text (codes "1") path kind
+
+-- the options and the propagation of a mount are set
+abbrev pub attributes_text : List ℕ → List ℕ → Option (List ℕ) → Option (List ℕ) → List ℕ
+attributes_text path options first second = set_text path (options_text options first) ++ second_text path second
