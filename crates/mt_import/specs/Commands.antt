@@ -1,9 +1,17 @@
 -- The commands that the script is made of.
 -- A word with no source is this project's rule.
-use Rattle.std.specs.Prelude.{ℕ, List, [], ◌∷◌, ◌++◌, Option, Some, None, codes}
+use Rattle.std.specs.Prelude.{ℕ, List, [], ◌∷◌, ◌++◌, ◌==◌, take, drop, position, Option, Some, None, codes}
 use Rattle.std.specs.List.{flat_map}
 use Rattle.mt_import.specs.Options.{options_text}
 use Rattle.mt_import.specs.Script.{said, command_text}
+
+-- a directory, behind its filesystem, is made
+abbrev pub mkdir_at : List ℕ → Option ℕ → List ℕ
+mkdir_at text None = []
+mkdir_at text (Some end) = command_text (codes "mkdir" ∷ take end text ∷ drop end text ∷ [])
+
+abbrev pub mkdir_text : List ℕ → List ℕ
+mkdir_text text = mkdir_at text (position (λ b. b == 47) text)
 
 -- the path of what stands until the end under a name, and of a directory below
 abbrev pub staged_path : List ℕ → List ℕ → List ℕ

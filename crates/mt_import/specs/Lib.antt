@@ -3,3 +3,4 @@ pub mod Script
 pub mod Paths
 pub mod Commands
 pub mod Options
+pub mod Groups

@@ -1,5 +1,7 @@
 //! The directories that are made.
-ghost use Rattle.std.specs.Prelude.{IsOkUnless};
+ghost use Rattle.std.specs.Prelude.{◌≡◌, ◌==◌, ◌++◌, position, OnOk, IsOkUnless};
+ghost use Rattle.std.specs.List.{flat_map};
+ghost use Rattle.mt_import.specs.Commands.{mkdir_text};
 
 use crate::script::Script;
 use crate::writer::{command, joined};
@@ -46,17 +48,37 @@ impl Directories {
         Ok(())
     }
 
-    /// Makes the directories, each below those above it. Refused as `NoMemory` alone.
+    /// Makes the directories, each behind those above it. Refused as `NoMemory` alone.
     pub(crate) fn make(&self, alloc: Global, script: &mut Script) -> Result<(), Fault>
+        ensures pushed { OnOk result (script.new ≡ script.old ++ flat_map (λ directory. mkdir_text directory.items) self.now.all.keys) }
         ensures memory { IsOkUnless result Fault.NoMemory }
     {
-        for directory in self.all.iter() {
-            let text = directory.as_slice();
-            let Some(end) = text.iter().position(|byte| *byte == b'/') else {
-                continue;
-            };
-            command(alloc, script, &[b"mkdir", &text[..end], &text[end..]])?;
+        'all: for directory in self.all.iter() {
+            make_directory(alloc, script, directory.as_slice())?;
         }
         Ok(())
     }
+}
+
+/// Makes a directory that stands behind its filesystem. Refused as `NoMemory` alone.
+fn make_directory(alloc: Global, script: &mut Script, directory: &[u8]) -> Result<(), Fault>
+    ensures pushed { OnOk result (script.new ≡ script.old ++ mkdir_text directory.now) }
+    ensures memory { IsOkUnless result Fault.NoMemory }
+{
+    let Some(end) = first_slash(directory) else {
+        return Ok(());
+    };
+    command(
+        alloc,
+        script,
+        &[b"mkdir", &directory[..end], &directory[end..]],
+    )?;
+    Ok(())
+}
+
+/// Where the first slash of a text stands.
+fn first_slash(text: &[u8]) -> Option<usize>
+    ensures { result ≡ position (λ b. b == 47) text.now }
+{
+    text.iter().position(|byte| *byte == b'/')
 }

@@ -1,4 +1,8 @@
 //! The peer groups that rows name.
+ghost use Rattle.std.specs.Prelude.{◌≡◌, ◌||◌, nat_lt, if◌then◌else◌};
+ghost use Rattle.std.specs.BTreeMap.{get, btree_map_len};
+ghost use Rattle.std.specs.Ordering.{nat_cmp};
+ghost use Rattle.mt_import.specs.Groups.{is_staged, has_members, has_receivers};
 
 use crate::told::HostMount;
 use std::alloc::{AllocError, Global};
@@ -29,7 +33,9 @@ impl<'a> Group<'a> {
     }
 
     /// Whether a member of it is staged, from which others are bound: it has another member or slaves.
-    pub(crate) fn is_staged(&self) -> bool {
+    pub(crate) fn is_staged(&self) -> bool
+        ensures { result ≡ is_staged self.now }
+    {
         self.is_master || self.members > 1
     }
 }
@@ -49,17 +55,23 @@ impl<'a> Groups<'a> {
     }
 
     /// A group, if a row named it.
-    pub(crate) fn get(&self, number: u64) -> Option<Group<'a>> {
+    pub(crate) fn get(&self, number: u64) -> Option<Group<'a>>
+        ensures { result ≡ get nat_cmp self.now.all number }
+    {
         self.all.get(&number).copied()
     }
 
     /// How many groups there are.
-    pub(crate) fn len(&self) -> usize {
+    pub(crate) fn len(&self) -> usize
+        ensures { result ≡ btree_map_len self.now.all }
+    {
         self.all.len()
     }
 
     /// The group from whose staged member a mount is bound, if from one: its own, or its master.
-    pub(crate) fn source_of(&self, row: &HostMount) -> Option<u64> {
+    pub(crate) fn source_of(&self, row: &HostMount) -> Option<u64>
+        ensures { result ≡ (if has_receivers self.now.all row.now.shared then row.now.shared else row.now.master) }
+    {
         if self.has_receivers(row.shared) {
             row.shared
         } else {
@@ -111,12 +123,16 @@ impl<'a> Groups<'a> {
     }
 
     /// Whether a row is a member of this group.
-    pub(crate) fn has_members(&self, number: u64) -> bool {
+    pub(crate) fn has_members(&self, number: u64) -> bool
+        ensures { result ≡ has_members self.now.all number }
+    {
         self.get(number).is_some_and(|group| group.members > 0)
     }
 
     /// Whether a mount of this group, if it is in one, has others that get what is mounted on it.
-    pub(crate) fn has_receivers(&self, shared: Option<u64>) -> bool {
+    pub(crate) fn has_receivers(&self, shared: Option<u64>) -> bool
+        ensures { result ≡ has_receivers self.now.all shared }
+    {
         let Some(number) = shared else {
             return false;
         };

@@ -62,6 +62,7 @@ fn has_only_names(text: &[u8]) -> bool
 }
 
 /// Whether a path, which is empty for the root, is one that the script can name, and what it needs below it.
+#[tactic(auto, unfolding(crate::specs::Paths::can_be_named))]
 pub(crate) fn can_be_named(path: &[u8]) -> bool
     ensures { result ≡ can_be_named path.now }
 {
@@ -72,6 +73,7 @@ pub(crate) fn can_be_named(path: &[u8]) -> bool
 }
 
 /// What stands behind a path in one below it, or None where it is not below.
+#[tactic(auto, unfolding(crate::specs::Paths::path_behind))]
 pub(crate) fn path_behind<'a>(path: &'a [u8], above: &[u8]) -> Option<&'a [u8]>
     ensures { option_copied result ≡ path_behind path.now above.now }
 {

@@ -1,5 +1,6 @@
 //! Where a mount would stand, and why it cannot be made there.
-ghost use Rattle.std.specs.Prelude.{IsOkUnless};
+ghost use Rattle.std.specs.Prelude.{◌≡◌, Some, None, IfOk, IfErr, IsOkUnless};
+ghost use Rattle.mt_import.specs.Paths.{own_names};
 
 use crate::groups::Groups;
 use crate::order::Mount;
@@ -84,7 +85,10 @@ fn own_names<'a>(
     point: &'a [u8],
     parent: &[u8],
     is_on_root: bool,
-) -> Result<&'a [u8], &'static [u8]> {
+) -> Result<&'a [u8], &'static [u8]>
+    ensures made { IfOk result (λ own. own_names root.now point.now parent.now is_on_root ≡ Some own.now) }
+    ensures left { IfErr result (λ why. own_names root.now point.now parent.now is_on_root ≡ None) }
+{
     if !can_be_named(root) || !can_be_named(point) {
         return Err(b"its root or mount point is no directory");
     }
