@@ -2,3 +2,4 @@ pub mod ReadLaws
 pub mod ScriptLaws
 pub mod WriterLaws
 pub mod CommandLaws
+pub mod OrderLaws

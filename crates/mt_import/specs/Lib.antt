@@ -4,3 +4,4 @@ pub mod Paths
 pub mod Commands
 pub mod Options
 pub mod Groups
+pub mod Order

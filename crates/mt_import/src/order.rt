@@ -1,5 +1,9 @@
 //! The order in which mounts are made: the one that it stands on before each, and what another one hides before that.
-ghost use Rattle.std.specs.Prelude.{IsOkUnless};
+ghost use Rattle.std.specs.Prelude.{◌≡◌, ◌+◌, ◌-◌, ◌≤◌, ℕ, true, if◌then◌else◌, ◌==◌, ◌||◌, not, length, IfOk, OnOk, IsOkUnless};
+ghost use Rattle.std.specs.BTreeSet.{contains_by};
+ghost use Rattle.std.specs.List.{list_all};
+ghost use Rattle.std.specs.Ordering.{nat_cmp};
+ghost use Rattle.mt_import.specs.Order.{waits_on, HasParentsFirst};
 
 use crate::groups::Groups;
 use crate::path::{below_root, names};
@@ -34,6 +38,14 @@ struct Below {
     index: usize,
 }
 
+/// A row that waits for its turn.
+#[derive(Clone, Copy)]
+struct Waiting {
+    index: usize,
+    /// Which mount it stands on.
+    above: usize,
+}
+
 /// The numbers of rows. Fails for want of memory alone.
 fn ids_of(alloc: Global, rows: &[HostMount]) -> Result<BTreeSet<u64>, AllocError> {
     let mut ids = BTreeSet::new(alloc);
@@ -44,7 +56,9 @@ fn ids_of(alloc: Global, rows: &[HostMount]) -> Result<BTreeSet<u64>, AllocError
 }
 
 /// Whether a row stands on none of the others.
-fn is_top(ids: &BTreeSet<u64>, row: &HostMount) -> bool {
+fn is_top(ids: &BTreeSet<u64>, row: &HostMount) -> bool
+    ensures { result ≡ (row.now.parent == row.now.id || not (contains_by (nat_cmp row.now.parent) ids.now)) }
+{
     row.parent == row.id || !ids.contains(&row.parent)
 }
 
@@ -83,21 +97,53 @@ fn rows_below(
     Ok(below)
 }
 
-/// Puts the rows below a parent on a stack, that with the most names on top. Fails for want of memory alone.
+/// Appends the rows below a parent to those that wait, that with the most names last. Fails for want of memory alone.
 fn push_below(
-    stack: &mut Vec<(usize, usize)>,
+    waiting: &mut Vec<Waiting>,
     below: &[Below],
     parent: u64,
     above: usize,
-) -> Result<(), AllocError> {
+) -> Result<(), AllocError>
+    ensures { OnOk result ((before after : ℕ) → before ≤ after → above ≤ after
+        → list_all (waits_on before) waiting.old.items ≡ true → list_all (waits_on after) waiting.new.items ≡ true) }
+{
     let start = below.partition_point(|row| row.parent < parent);
-    for row in &below[start..] {
+    'below: for row in &below[start..] {
         if row.parent != parent {
-            break;
+            return Ok(());
         }
-        stack.push((row.index, above))?;
+        waiting.push(Waiting {
+            index: row.index,
+            above,
+        })?;
     }
     Ok(())
+}
+
+/// Makes the mount of a row, or tells why it is not made: whether it is. Refused as `NoMemory` alone.
+fn make_next<'a>(
+    alloc: Global,
+    script: &mut Script,
+    row: &'a HostMount,
+    above: usize,
+    groups: &Groups<'a>,
+    standing: &mut Standing,
+    mounts: &mut Vec<Mount<'a>>,
+) -> Result<bool, Fault>
+    ensures order { OnOk result (above ≤ length mounts.old.items - 1 → HasParentsFirst mounts.old.items → HasParentsFirst mounts.new.items) }
+    ensures made { IfOk result (λ made. length mounts.new.items ≡ (if made then length mounts.old.items + 1 else length mounts.old.items)) }
+    ensures memory { IsOkUnless result Fault.NoMemory }
+{
+    match judge(alloc, row, mounts.as_slice(), above, groups, standing)? {
+        Judged::Made(mount) => {
+            mounts.push(mount)?;
+            Ok(true)
+        }
+        Judged::Left(why) => {
+            left_out(alloc, script, row.id, why)?;
+            Ok(false)
+        }
+    }
 }
 
 /// The mounts that are made of rows, in their order, the root mount first. The others are told in comments. Refused as
@@ -108,6 +154,7 @@ pub(crate) fn mounts_of<'a>(
     rows: &'a [HostMount],
     groups: &Groups<'a>,
 ) -> Result<Vec<Mount<'a>>, Fault>
+    ensures order { IfOk result (λ mounts. HasParentsFirst mounts.items) }
     ensures memory { IsOkUnless result Fault.NoMemory }
 {
     let mut mounts: Vec<Mount<'a>> = Vec::new(alloc);
@@ -118,22 +165,30 @@ pub(crate) fn mounts_of<'a>(
     };
     let below = rows_below(alloc, script, rows, root)?;
     let mut standing = Standing::new(alloc);
-    let mut stack = Vec::new(alloc);
-    stack.push((root, 0))?;
+    let mut waiting = Vec::new(alloc);
+    waiting.push(Waiting {
+        index: root,
+        above: 0,
+    })?;
     'rows: for _step in 0..=rows.len() {
-        let Some((index, above)) = stack.pop() else {
+        let Some(next) = waiting.pop() else {
             return Ok(mounts);
         };
-        let Some(row) = rows.get(index) else {
+        let Some(row) = rows.get(next.index) else {
             return Ok(mounts);
         };
         let here = mounts.len();
-        match judge(alloc, row, mounts.as_slice(), above, groups, &mut standing)? {
-            Judged::Made(mount) => {
-                mounts.push(mount)?;
-                push_below(&mut stack, below.as_slice(), row.id, here)?;
-            }
-            Judged::Left(why) => left_out(alloc, script, row.id, why)?,
+        let made = make_next(
+            alloc,
+            script,
+            row,
+            next.above,
+            groups,
+            &mut standing,
+            &mut mounts,
+        )?;
+        if made {
+            push_below(&mut waiting, below.as_slice(), row.id, here)?;
         }
     }
     Ok(mounts)

@@ -1,5 +1,6 @@
 //! Where a mount would stand, and why it cannot be made there.
 ghost use Rattle.std.specs.Prelude.{◌≡◌, Some, None, IfOk, IfErr, IsOkUnless};
+ghost use Rattle.mt_import.specs.Order.{IsMadeOn};
 ghost use Rattle.mt_import.specs.Paths.{own_names};
 
 use crate::groups::Groups;
@@ -35,8 +36,10 @@ impl Standing {
     }
 }
 
-/// The root mount that a row tells. It shows the root of its filesystem. Fails for want of memory alone.
-pub(crate) fn root_mount(alloc: Global, row: &HostMount) -> Mount<'_> {
+/// The root mount that a row tells. It shows the root of its filesystem, and stands on itself.
+pub(crate) fn root_mount(alloc: Global, row: &HostMount) -> Mount<'_>
+    ensures { result.above ≡ 0 }
+{
     Mount {
         row,
         above: 0,
@@ -149,6 +152,7 @@ pub(crate) fn judge<'a>(
     groups: &Groups<'a>,
     standing: &mut Standing,
 ) -> Result<Judged<'a>, Fault>
+    ensures above { IfOk result (λ judged. IsMadeOn above judged) }
     ensures memory { IsOkUnless result Fault.NoMemory }
 {
     let Some(parent) = mounts.get(above) else {
