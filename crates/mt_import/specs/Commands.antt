@@ -3,7 +3,7 @@
 use Rattle.std.specs.Prelude.{ℕ, List, [], ◌∷◌, ◌++◌, ◌==◌, take, drop, position, Option, Some, None, codes}
 use Rattle.std.specs.List.{flat_map}
 use Rattle.mt_import.specs.Options.{options_text}
-use Rattle.mt_import.specs.Script.{said, command_text}
+use Rattle.mt_import.specs.Script.{line_or_comment, command_text}
 
 -- a directory, behind its filesystem, is made
 abbrev pub mkdir_at : List ℕ → Option ℕ → List ℕ
@@ -55,7 +55,7 @@ copies_text point copy = (((((mount_text (codes "import") (point ++ codes "/.imp
 -- options of a mount are set, each behind a space, if there are any
 abbrev pub set_text : List ℕ → List ℕ → List ℕ
 set_text path [] = []
-set_text path (b ∷ options) = said (codes "setattr 1 " ++ (path ++ (b ∷ options)))
+set_text path (b ∷ options) = line_or_comment (codes "setattr 1 " ++ (path ++ (b ∷ options)))
 
 -- the propagation of a mount is set once more
 abbrev pub second_text : List ℕ → Option (List ℕ) → List ℕ

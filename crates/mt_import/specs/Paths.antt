@@ -49,5 +49,5 @@ abbrev pub free_names : Bool → Option (List ℕ) → Option (List ℕ)
 free_names is_on_root None = None
 free_names is_on_root (Some own) = if has_free_names is_on_root own then Some own else None
 
-abbrev pub own_names : List ℕ → List ℕ → List ℕ → Bool → Option (List ℕ)
-own_names root point parent is_on_root = if can_be_named root && can_be_named point then free_names is_on_root (path_behind point parent) else None
+abbrev pub names_from_parent : List ℕ → List ℕ → List ℕ → Bool → Option (List ℕ)
+names_from_parent root point parent is_on_root = if can_be_named root && can_be_named point then free_names is_on_root (path_behind point parent) else None

@@ -29,12 +29,12 @@ unfoldable pub line_text : List ℕ → List ℕ
 line_text line = cond (is_script_line line) (line ++ 10 ∷ []) []
 
 -- a line that is to be a command, or a comment in its place
-unfoldable pub said : List ℕ → List ℕ
-said line = line_text line ++ cond (is_script_line line) [] (line_text (codes "# a line that the server would not read is left out"))
+unfoldable pub line_or_comment : List ℕ → List ℕ
+line_or_comment line = line_text line ++ cond (is_script_line line) [] (line_text (codes "# a line that the server would not read is left out"))
 
 -- the command of these words, or a comment in its place
 unfoldable pub command_text : List (List ℕ) → List ℕ
-command_text words = said (join_with_byte 32 words)
+command_text words = line_or_comment (join_with_byte 32 words)
 
 -- a comment on a mount
 unfoldable pub comment_text : ℕ → List ℕ → List ℕ

@@ -57,16 +57,28 @@ impl<'a> Filesystems<'a> {
         }
     }
 
-    /// The devices, all or those that are mounted until the end. Fails for want of memory alone.
-    pub(crate) fn devices(&self, alloc: Global, staged: bool) -> Result<Vec<&'a [u8]>, AllocError> {
+    /// The devices of those that are mounted until the end. Fails for want of memory alone.
+    pub(crate) fn staged(&self, alloc: Global) -> Result<Vec<&'a [u8]>, AllocError> {
         let mut devices = Vec::new(alloc);
         for (device, filesystem) in self.all.iter() {
-            if filesystem.is_staged || !staged {
+            if filesystem.is_staged {
                 devices.push(*device)?;
             }
         }
         Ok(devices)
     }
+}
+
+/// The filesystems of mounts. Fails for want of memory alone.
+pub(crate) fn filesystems_of<'a>(
+    alloc: Global,
+    mounts: &[Mount<'a>],
+) -> Result<Filesystems<'a>, AllocError> {
+    let mut filesystems = Filesystems::new(alloc);
+    for mount in mounts {
+        filesystems.add(mount.row)?;
+    }
+    Ok(filesystems)
 }
 
 /// Makes the filesystem of a device. A type or source that no filesystem can have is `none` in its place. Refused as

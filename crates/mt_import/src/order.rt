@@ -10,7 +10,7 @@ use crate::path::{below_root, names};
 use crate::script::Script;
 use crate::standing::{Judged, Standing, judge};
 use crate::told::HostMount;
-use crate::writer::left_out;
+use crate::writer::{comment, left_out};
 use mt_skel::fault::Fault;
 use std::alloc::{AllocError, Global};
 use std::collections::BTreeSet;
@@ -67,31 +67,61 @@ fn root_of(ids: &BTreeSet<u64>, rows: &[HostMount]) -> Option<usize> {
     rows.iter().position(|row| is_top(ids, row) && row.point.as_slice() == b"/".as_slice())
 }
 
-/// The rows below parents, by these, and by the count of names of where they stand. Those that stand on none are told
-/// in comments. Refused as `NoMemory` alone.
+/// What stands below which parent, of a row other than the root mount's. A row that stands on none, or of which the number
+/// came before, is told in a comment, and is None. Refused as `NoMemory` alone.
+fn below_of(
+    alloc: Global,
+    script: &mut Script,
+    ids: &BTreeSet<u64>,
+    came: &mut BTreeSet<u64>,
+    row: &HostMount,
+    index: usize,
+) -> Result<Option<Below>, Fault>
+    ensures memory { IsOkUnless result Fault.NoMemory }
+{
+    if !came.insert(row.id)? {
+        comment(
+            alloc,
+            script,
+            row.id,
+            b"has one more line, which is left out",
+        )?;
+        return Ok(None);
+    }
+    if is_top(ids, row) {
+        left_out(alloc, script, row.id, b"it stands on no other")?;
+        return Ok(None);
+    }
+    Ok(Some(Below {
+        parent: row.parent,
+        names: names(below_root(row.point.as_slice())),
+        index,
+    }))
+}
+
+/// The rows below parents, by these, and by the count of names of where they stand. Those that stand on none, or of which
+/// the number came before, are told in comments. Refused as `NoMemory` alone.
 fn rows_below(
     alloc: Global,
     script: &mut Script,
     rows: &[HostMount],
+    ids: &BTreeSet<u64>,
     root: usize,
 ) -> Result<Vec<Below>, Fault>
     ensures memory { IsOkUnless result Fault.NoMemory }
 {
-    let ids = ids_of(alloc, rows)?;
+    let mut came = BTreeSet::new(alloc);
+    if let Some(row) = rows.get(root) {
+        came.insert(row.id)?;
+    }
     let mut below = Vec::new(alloc);
-    for (index, row) in rows.iter().enumerate() {
+    'rows: for (index, row) in rows.iter().enumerate() {
         if index == root {
             continue;
         }
-        if is_top(&ids, row) {
-            left_out(alloc, script, row.id, b"it stands on no other")?;
-            continue;
+        if let Some(row) = below_of(alloc, script, ids, &mut came, row, index)? {
+            below.push(row)?;
         }
-        below.push(Below {
-            parent: row.parent,
-            names: names(below_root(row.point.as_slice())),
-            index,
-        })?;
     }
     below.sort_unstable_by_key(|row| (row.parent, row.names, row.index));
     Ok(below)
@@ -163,7 +193,7 @@ pub(crate) fn mounts_of<'a>(
         let _said = script.push(b"# no mount is the root of a namespace")?;
         return Ok(mounts);
     };
-    let below = rows_below(alloc, script, rows, root)?;
+    let below = rows_below(alloc, script, rows, &ids, root)?;
     let mut standing = Standing::new(alloc);
     let mut waiting = Vec::new(alloc);
     waiting.push(Waiting {

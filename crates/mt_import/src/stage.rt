@@ -225,19 +225,17 @@ fn stage_root(
     Ok(())
 }
 
-/// Stages a group and those above it that are not yet. Refused as `NoMemory` alone.
-fn stage_above(
+/// A group and those above it that are not done, from the uppermost down, which are done then. Fails for want of memory
+/// alone.
+fn undone_above(
     alloc: Global,
-    script: &mut Script,
     groups: &Groups<'_>,
     done: &mut BTreeSet<u64>,
-    number: u64,
-) -> Result<(), Fault>
-    ensures memory { IsOkUnless result Fault.NoMemory }
-{
+    first: u64,
+) -> Result<Vec<u64>, AllocError> {
     let mut above = Vec::new(alloc);
-    let mut next = Some(number);
-    for _step in 0..groups.len() {
+    let mut next = Some(first);
+    'groups: for _step in 0..groups.len() {
         let Some(number) = next else {
             break;
         };
@@ -248,10 +246,33 @@ fn stage_above(
         next = groups.get(number).and_then(|group| group.master);
     }
     above.reverse();
-    for group in above.iter() {
+    Ok(above)
+}
+
+/// Stages a group and those above it that are not done. Refused as `NoMemory` alone.
+fn stage_above(
+    alloc: Global,
+    script: &mut Script,
+    groups: &Groups<'_>,
+    done: &mut BTreeSet<u64>,
+    number: u64,
+) -> Result<(), Fault>
+    ensures memory { IsOkUnless result Fault.NoMemory }
+{
+    let above = undone_above(alloc, groups, done, number)?;
+    'above: for group in above.iter() {
         stage_group(alloc, script, groups, *group)?;
     }
     Ok(())
+}
+
+/// A set of numbers. Fails for want of memory alone.
+fn set_of(alloc: Global, numbers: &[u64]) -> Result<BTreeSet<u64>, AllocError> {
+    let mut set = BTreeSet::new(alloc);
+    'numbers: for number in numbers {
+        set.insert(*number)?;
+    }
+    Ok(set)
 }
 
 /// Stages a member of each group from which mounts are bound. Refused as `NoMemory` alone.
@@ -266,14 +287,43 @@ pub(crate) fn stage_groups<'a>(
 {
     let chain = root_chain(alloc, groups, root)?;
     stage_root(alloc, script, groups, root, chain.as_slice())?;
-    let mut done = BTreeSet::new(alloc);
-    for group in chain.iter() {
-        done.insert(*group)?;
-    }
-    for group in stage.groups.iter() {
+    let mut done = set_of(alloc, chain.as_slice())?;
+    'groups: for group in stage.groups.iter() {
         stage_above(alloc, script, groups, &mut done, *group)?;
     }
     stage.hold(alloc, script, groups)
+}
+
+/// Has the filesystems staged of which mounts other than the root mount are bound as directories.
+fn stage_directories<'a>(
+    mounts: &[Mount<'a>],
+    groups: &Groups<'a>,
+    filesystems: &mut Filesystems<'a>,
+) {
+    'mounts: for mount in mounts.iter().skip(1) {
+        let row = mount.row;
+        if !mount.root.is_empty() && groups.source_of(row).is_none() {
+            filesystems.stage(row.device.as_slice());
+        }
+    }
+}
+
+/// Has the filesystems staged from which the first members of groups are bound: those of groups without a master, but for
+/// the one that the root mount goes through.
+fn stage_members<'a>(
+    numbers: &[u64],
+    groups: &Groups<'a>,
+    filesystems: &mut Filesystems<'a>,
+    chain: &[u64],
+) {
+    'numbers: for number in numbers {
+        let Some(group) = groups.get(*number) else {
+            continue;
+        };
+        if group.master.is_none() && !chain.contains(number) {
+            filesystems.stage(group.device);
+        }
+    }
 }
 
 /// What has to be staged for mounts. Fails for want of memory alone.
@@ -284,24 +334,12 @@ pub(crate) fn stage_of<'a>(
     filesystems: &mut Filesystems<'a>,
     root: &Mount<'a>,
 ) -> Result<Stage<'a>, AllocError> {
-    for mount in mounts.iter().skip(1) {
-        let row = mount.row;
-        if !mount.root.is_empty() && groups.source_of(row).is_none() {
-            filesystems.stage(row.device.as_slice());
-        }
-    }
+    stage_directories(mounts, groups, filesystems);
     let chain = root_chain(alloc, groups, root)?;
     let numbers = groups.staged(alloc)?;
-    for number in numbers.iter() {
-        let Some(group) = groups.get(*number) else {
-            continue;
-        };
-        if group.master.is_none() && !chain.contains(number) {
-            filesystems.stage(group.device);
-        }
-    }
+    stage_members(numbers.as_slice(), groups, filesystems, chain.as_slice());
     Ok(Stage {
-        devices: filesystems.devices(alloc, true)?,
+        devices: filesystems.staged(alloc)?,
         groups: numbers,
     })
 }

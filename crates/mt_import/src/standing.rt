@@ -1,7 +1,7 @@
 //! Where a mount would stand, and why it cannot be made there.
 ghost use Rattle.std.specs.Prelude.{◌≡◌, Some, None, IfOk, IfErr, IsOkUnless};
 ghost use Rattle.mt_import.specs.Order.{IsMadeOn};
-ghost use Rattle.mt_import.specs.Paths.{own_names};
+ghost use Rattle.mt_import.specs.Paths.{names_from_parent};
 
 use crate::groups::Groups;
 use crate::order::Mount;
@@ -83,14 +83,14 @@ fn may_hide(
 
 /// The names from the point of a mount's parent down to its own, or why the mount cannot be made: the root or point
 /// that it tells, and whether its parent is the root mount.
-fn own_names<'a>(
+fn names_from_parent<'a>(
     root: &[u8],
     point: &'a [u8],
     parent: &[u8],
     is_on_root: bool,
 ) -> Result<&'a [u8], &'static [u8]>
-    ensures made { IfOk result (λ own. own_names root.now point.now parent.now is_on_root ≡ Some own.now) }
-    ensures left { IfErr result (λ why. own_names root.now point.now parent.now is_on_root ≡ None) }
+    ensures made { IfOk result (λ own. names_from_parent root.now point.now parent.now is_on_root ≡ Some own.now) }
+    ensures left { IfErr result (λ why. names_from_parent root.now point.now parent.now is_on_root ≡ None) }
 {
     if !can_be_named(root) || !can_be_named(point) {
         return Err(b"its root or mount point is no directory");
@@ -160,7 +160,7 @@ pub(crate) fn judge<'a>(
     };
     let root = below_root(row.root.as_slice());
     let point = below_root(row.point.as_slice());
-    let own = match own_names(root, point, parent.point, above == 0) {
+    let own = match names_from_parent(root, point, parent.point, above == 0) {
         Ok(own) => own,
         Err(why) => return Ok(Judged::Left(why)),
     };

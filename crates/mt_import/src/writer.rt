@@ -1,7 +1,7 @@
 //! The lines of the script, made of their words.
 ghost use Rattle.std.specs.Prelude.{◌≡◌, ◌∷◌, ◌++◌, map, decimal, IfOk, OnOk, IsOkUnless};
 ghost use Rattle.std.specs.List.{flat_map, join_with_byte};
-ghost use Rattle.mt_import.specs.Script.{said, command_text, comment_text, left_out_text};
+ghost use Rattle.mt_import.specs.Script.{line_or_comment, command_text, comment_text, left_out_text};
 
 use crate::script::Script;
 use itoa::Buffer;
@@ -64,9 +64,9 @@ pub(crate) fn spaced(alloc: Global, words: &[&[u8]]) -> Result<Vec<u8>, AllocErr
 }
 
 /// Appends a line that is to be a command, or a comment in its place. Refused as `NoMemory` alone.
-#[tactic(auto, unfolding(crate::specs::Script::said))]
+#[tactic(auto, unfolding(crate::specs::Script::line_or_comment))]
 pub(crate) fn push_command(script: &mut Script, line: &[u8]) -> Result<(), Fault>
-    ensures pushed { OnOk result (script.new ≡ script.old ++ said line.now) }
+    ensures pushed { OnOk result (script.new ≡ script.old ++ line_or_comment line.now) }
     ensures memory { IsOkUnless result Fault.NoMemory }
 {
     if !script.push(line)? {

@@ -23,12 +23,12 @@ rows-preserved c =
     record {
       first = c.in_ok-made.ensures.order on c.rows.invariant.first;
       there = elim c.if-made.branch [
-        then-made+in_ok-push_below w ↦
-          let place : (before - 1 ≤ after - 1) × (c.len-here.result ≤ after - 1) =
-              next_place c.in_ok-made.made before after c.len-here.result c.in_ok-made.ensures.made w.if-made.true (search rules) in
-          ap (λ rows. list_all (waits_on (after - 1)) rows.items) w.waiting-is ∙ w.in_ok-push_below.ensures (before - 1) (after - 1) place.0 place.1 others
-      | else-made w ↦
-          rows_kept c.in_ok-made.made before after c.pop.new.self.items c.if-made.waiting.items c.in_ok-made.ensures.made w.if-made.false
-          (ap (λ rows. rows.items) w.waiting-is) others
+        | then-made+in_ok-push_below w ↦
+            let place : (before - 1 ≤ after - 1) × (c.len-here.result ≤ after - 1) =
+            next_place c.in_ok-made.made before after c.len-here.result c.in_ok-made.ensures.made w.if-made.true (search rules) in
+            ap (λ rows. list_all (waits_on (after - 1)) rows.items) w.waiting-is ∙ w.in_ok-push_below.ensures (before - 1) (after - 1) place.0 place.1 others
+        | else-made w ↦
+            rows_kept c.in_ok-made.made before after c.pop.new.self.items c.if-made.waiting.items c.in_ok-made.ensures.made w.if-made.false
+            (ap (λ rows. rows.items) w.waiting-is) others
       ];
     }
