@@ -187,6 +187,26 @@ HOST = b"""\
 44 29 0:31 / /tmp rw - tmpfs  rw
 """
 
+# A table that no kernel prints, and its comments: a second line of a mount, one that stands on no other, and a ring.
+ODD = b"""\
+1 1 0:1 / / rw - tmpfs none rw
+2 1 0:2 / /a rw - tmpfs none rw
+2 1 0:3 / /b rw - tmpfs none rw
+3 9 0:2 / /c rw - tmpfs none rw
+4 3 0:2 / /c/d rw - tmpfs none rw
+5 6 0:2 / /e/f rw - tmpfs none rw
+6 5 0:2 / /e rw - tmpfs none rw
+7 2 0:2 / / rw - tmpfs none rw
+8 7 0:2 / /x rw - tmpfs none rw
+"""
+ODD_COMMENTS = [
+    b"# mount 2 has one more line, which is left out",
+    b"# mount 3 is left out with all below it: it stands on no other",
+    b"# mount 7 is left out with all below it: it stands elsewhere than below its parent",
+    b"# mount 5 is left out with all below it: its parents go round in a ring",
+    b"# mount 6 is left out with all below it: its parents go round in a ring",
+]
+
 NO_ROWS = [
     b"",
     b"1 1 0:1 / / rw,relatime tmpfs none rw",
@@ -214,6 +234,8 @@ def check_lines(mountctl):
     found = imported(mountctl, good[:-1])
     check("import of a line without end", found == (1, b"", b"mountctl: line 1 is no row of a mountinfo\n"), repr(found))
     check("import of nothing", imported(mountctl, b"")[0] == 0)
+    comments = [line for line in imported(mountctl, ODD)[1].split(b"\n") if line.startswith(b"#")]
+    check("import of a table that no kernel prints", comments == ODD_COMMENTS, shown(b"\n".join(comments)))
 
 
 # Standard streams that fail, and how the program ends: an input that cannot be read, a folder, or is closed, and an

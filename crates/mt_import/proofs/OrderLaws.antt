@@ -59,18 +59,8 @@ other_rows last old rest row is all = go rest (sym (ap (list_all (waits_on last)
 pub none_first : (mounts : List Mount) → mounts ≡ [] → HasParentsFirst mounts
 none_first mounts is = ap (λ ms. stand_on_earlier 0 (map (λ (m : Mount). m.above) ms)) is
 
--- one row that waits alone
-pub row_alone : (last : ℕ) (old new : List Waiting) (row : Waiting) → old ≡ [] → new ≡ old ++ row ∷ [] → row.above ≤ last → list_all (waits_on last) new ≡ true
-row_alone last old new row none is on = row_more last old new row is on (ap (list_all (waits_on last)) none)
-
--- where the next rows wait once a mount is made
-pub next_place : (made : Bool) (before after here : ℕ) → after ≡ (if made then before + 1 else before) → made ≡ true → here ≡ before
-    → (before - 1 ≤ after - 1) × (here ≤ after - 1)
-next_place true before after here is was e = (omega (arith, is), omega (arith, is, e))
-next_place false before after here is was e = cc
-
--- what waits where none is made
-pub rows_kept : (made : Bool) (before after : ℕ) (rows new : List Waiting) → after ≡ (if made then before + 1 else before) → made ≡ false → new ≡ rows
-    → list_all (waits_on (before - 1)) rows ≡ true → list_all (waits_on (after - 1)) new ≡ true
-rows_kept true before after rows new is none e all = cc
-rows_kept false before after rows new is none e all = ap (λ n. list_all (waits_on (n - 1)) new) is ∙ ap (list_all (waits_on (before - 1))) e ∙ all
+-- where the next rows wait
+pub next_place : (made : Bool) (before after here place : ℕ) → after ≡ (if made then before + 1 else before) → here ≡ before
+    → place ≡ (if made then here else 0) → (before - 1 ≤ after - 1) × (place ≤ after - 1)
+next_place true before after here place is e on = (omega (arith, is), omega (arith, is, e, on))
+next_place false before after here place is e on = (omega (arith, is), omega (arith, on))

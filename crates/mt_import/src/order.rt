@@ -1,5 +1,5 @@
 //! The order in which mounts are made: the one that it stands on before each, and what another one hides before that.
-ghost use Rattle.std.specs.Prelude.{◌≡◌, ◌+◌, ◌-◌, ◌≤◌, ℕ, true, if◌then◌else◌, ◌==◌, ◌||◌, not, length, IfOk, OnOk, IsOkUnless};
+ghost use Rattle.std.specs.Prelude.{◌≡◌, ◌+◌, ◌-◌, ◌≤◌, ℕ, true, [], if◌then◌else◌, ◌==◌, ◌||◌, not, length, IfOk, OnOk, IsOkUnless};
 ghost use Rattle.std.specs.BTreeSet.{contains_by};
 ghost use Rattle.std.specs.List.{list_all};
 ghost use Rattle.std.specs.Ordering.{nat_cmp};
@@ -44,6 +44,8 @@ struct Waiting {
     index: usize,
     /// Which mount it stands on.
     above: usize,
+    /// Whether what it stands on is left out.
+    is_left: bool,
 }
 
 /// The numbers of rows. Fails for want of memory alone.
@@ -67,64 +69,116 @@ fn root_of(ids: &BTreeSet<u64>, rows: &[HostMount]) -> Option<usize> {
     rows.iter().position(|row| is_top(ids, row) && row.point.as_slice() == b"/".as_slice())
 }
 
-/// What stands below which parent, of a row other than the root mount's. A row that stands on none, or of which the number
-/// came before, is told in a comment, and is None. Refused as `NoMemory` alone.
-fn below_of(
-    alloc: Global,
-    script: &mut Script,
-    ids: &BTreeSet<u64>,
-    came: &mut BTreeSet<u64>,
-    row: &HostMount,
-    index: usize,
-) -> Result<Option<Below>, Fault>
-    ensures memory { IsOkUnless result Fault.NoMemory }
-{
-    if !came.insert(row.id)? {
-        comment(
-            alloc,
-            script,
-            row.id,
-            b"has one more line, which is left out",
-        )?;
-        return Ok(None);
-    }
-    if is_top(ids, row) {
-        left_out(alloc, script, row.id, b"it stands on no other")?;
-        return Ok(None);
-    }
-    Ok(Some(Below {
-        parent: row.parent,
-        names: names(below_root(row.point.as_slice())),
-        index,
-    }))
+/// The rows, sorted by where they stand.
+#[derive(Drop)]
+struct Sorted {
+    /// Those that stand on others.
+    below: Vec<Below>,
+    /// Those of which the turn comes first: the root mount's comes last of all in the list, behind those that stand on none
+    /// and are left out.
+    waiting: Vec<Waiting>,
+    /// The numbers that came.
+    numbers: BTreeSet<u64>,
 }
 
-/// The rows below parents, by these, and by the count of names of where they stand. Those that stand on none, or of which
-/// the number came before, are told in comments. Refused as `NoMemory` alone.
-fn rows_below(
+impl Sorted {
+    /// No rows.
+    fn new(alloc: Global) -> Sorted
+        ensures { result.waiting.items ≡ [] }
+    {
+        Sorted {
+            below: Vec::new(alloc),
+            waiting: Vec::new(alloc),
+            numbers: BTreeSet::new(alloc),
+        }
+    }
+
+    /// Adds a row other than the root mount's. One that stands on none, and one of which the number came before, is told in
+    /// a comment. Refused as `NoMemory` alone.
+    fn add(
+        &mut self,
+        alloc: Global,
+        script: &mut Script,
+        ids: &BTreeSet<u64>,
+        row: &HostMount,
+        index: usize,
+    ) -> Result<(), Fault>
+        ensures waits { OnOk result (list_all (waits_on 0) self.old.waiting.items ≡ true → list_all (waits_on 0) self.new.waiting.items ≡ true) }
+        ensures memory { IsOkUnless result Fault.NoMemory }
+    {
+        if !self.numbers.insert(row.id)? {
+            comment(
+                alloc,
+                script,
+                row.id,
+                b"has one more line, which is left out",
+            )?;
+            return Ok(());
+        }
+        if is_top(ids, row) {
+            left_out(alloc, script, row.id, b"it stands on no other")?;
+            self.waiting.push(Waiting {
+                index,
+                above: 0,
+                is_left: true,
+            })?;
+            return Ok(());
+        }
+        self.below.push(Below {
+            parent: row.parent,
+            names: names(below_root(row.point.as_slice())),
+            index,
+        })?;
+        Ok(())
+    }
+
+    /// Adds the rows other than that of the root mount. Refused as `NoMemory` alone.
+    fn add_all(
+        &mut self,
+        alloc: Global,
+        script: &mut Script,
+        rows: &[HostMount],
+        ids: &BTreeSet<u64>,
+        root: usize,
+    ) -> Result<(), Fault>
+        ensures waits { OnOk result (list_all (waits_on 0) self.old.waiting.items ≡ true → list_all (waits_on 0) self.new.waiting.items ≡ true) }
+        ensures memory { IsOkUnless result Fault.NoMemory }
+    {
+        'rows: for (index, row) in rows.iter().enumerate() {
+            if index != root {
+                self.add(alloc, script, ids, row, index)?;
+            }
+        }
+        Ok(())
+    }
+}
+
+/// The rows, those that stand on others by the parents, and by the count of names of where they stand. Those that stand on
+/// none, or of which the number came before, are told in comments. Refused as `NoMemory` alone.
+fn sorted_rows(
     alloc: Global,
     script: &mut Script,
     rows: &[HostMount],
     ids: &BTreeSet<u64>,
     root: usize,
-) -> Result<Vec<Below>, Fault>
+) -> Result<Sorted, Fault>
+    ensures waits { IfOk result (λ sorted. list_all (waits_on 0) sorted.waiting.items ≡ true) }
     ensures memory { IsOkUnless result Fault.NoMemory }
 {
-    let mut came = BTreeSet::new(alloc);
+    let mut sorted = Sorted::new(alloc);
     if let Some(row) = rows.get(root) {
-        came.insert(row.id)?;
+        sorted.numbers.insert(row.id)?;
     }
-    let mut below = Vec::new(alloc);
-    'rows: for (index, row) in rows.iter().enumerate() {
-        if index == root {
-            continue;
-        }
-        if let Some(row) = below_of(alloc, script, ids, &mut came, row, index)? {
-            below.push(row)?;
-        }
-    }
-    below.sort_unstable_by_key(|row| (row.parent, row.names, row.index));
-    Ok(below)
+    sorted.add_all(alloc, script, rows, ids, root)?;
+    sorted
+        .below
+        .sort_unstable_by_key(|row| (row.parent, row.names, row.index));
+    sorted.waiting.push(Waiting {
+        index: root,
+        above: 0,
+        is_left: false,
+    })?;
+    Ok(sorted)
 }
 
 /// Appends the rows below a parent to those that wait, that with the most names last. Fails for want of memory alone.
@@ -133,6 +187,7 @@ fn push_below(
     below: &[Below],
     parent: u64,
     above: usize,
+    is_left: bool,
 ) -> Result<(), AllocError>
     ensures { OnOk result ((before after : ℕ) → before ≤ after → above ≤ after
         → list_all (waits_on before) waiting.old.items ≡ true → list_all (waits_on after) waiting.new.items ≡ true) }
@@ -145,26 +200,31 @@ fn push_below(
         waiting.push(Waiting {
             index: row.index,
             above,
+            is_left,
         })?;
     }
     Ok(())
 }
 
-/// Makes the mount of a row, or tells why it is not made: whether it is. Refused as `NoMemory` alone.
+/// Makes the mount of a row that waits, or tells why it is not made, unless that is told of what it stands on: whether it
+/// is made. Refused as `NoMemory` alone.
 fn make_next<'a>(
     alloc: Global,
     script: &mut Script,
     row: &'a HostMount,
-    above: usize,
+    next: Waiting,
     groups: &Groups<'a>,
     standing: &mut Standing,
     mounts: &mut Vec<Mount<'a>>,
 ) -> Result<bool, Fault>
-    ensures order { OnOk result (above ≤ length mounts.old.items - 1 → HasParentsFirst mounts.old.items → HasParentsFirst mounts.new.items) }
+    ensures order { OnOk result (next.above ≤ length mounts.old.items - 1 → HasParentsFirst mounts.old.items → HasParentsFirst mounts.new.items) }
     ensures made { IfOk result (λ made. length mounts.new.items ≡ (if made then length mounts.old.items + 1 else length mounts.old.items)) }
     ensures memory { IsOkUnless result Fault.NoMemory }
 {
-    match judge(alloc, row, mounts.as_slice(), above, groups, standing)? {
+    if next.is_left {
+        return Ok(false);
+    }
+    match judge(alloc, row, mounts.as_slice(), next.above, groups, standing)? {
         Judged::Made(mount) => {
             mounts.push(mount)?;
             Ok(true)
@@ -174,6 +234,34 @@ fn make_next<'a>(
             Ok(false)
         }
     }
+}
+
+/// Which mount rows below this one stand on, if it is made.
+fn place_below(made: bool, here: usize) -> usize
+    ensures { result ≡ (if made then here else 0) }
+{
+    if made { here } else { 0 }
+}
+
+/// Tells the rows of which the turn never came. Refused as `NoMemory` alone.
+fn tell_rings(
+    alloc: Global,
+    script: &mut Script,
+    rows: &[HostMount],
+    below: &[Below],
+    came: &BTreeSet<u64>,
+) -> Result<(), Fault>
+    ensures memory { IsOkUnless result Fault.NoMemory }
+{
+    'below: for row in below {
+        let Some(row) = rows.get(row.index) else {
+            continue;
+        };
+        if !came.contains(&row.id) {
+            left_out(alloc, script, row.id, b"its parents go round in a ring")?;
+        }
+    }
+    Ok(())
 }
 
 /// The mounts that are made of rows, in their order, the root mount first. The others are told in comments. Refused as
@@ -187,19 +275,48 @@ pub(crate) fn mounts_of<'a>(
     ensures order { IfOk result (λ mounts. HasParentsFirst mounts.items) }
     ensures memory { IsOkUnless result Fault.NoMemory }
 {
-    let mut mounts: Vec<Mount<'a>> = Vec::new(alloc);
     let ids = ids_of(alloc, rows)?;
     let Some(root) = root_of(&ids, rows) else {
         let _said = script.push(b"# no mount is the root of a namespace")?;
-        return Ok(mounts);
+        return Ok(Vec::new(alloc));
     };
-    let below = rows_below(alloc, script, rows, &ids, root)?;
+    let Sorted {
+        below,
+        waiting,
+        numbers: _numbers,
+    } = sorted_rows(alloc, script, rows, &ids, root)?;
+    let mut came = BTreeSet::new(alloc);
+    let mounts = mounts_below(
+        alloc,
+        script,
+        rows,
+        below.as_slice(),
+        waiting,
+        groups,
+        &mut came,
+    )?;
+    tell_rings(alloc, script, rows, below.as_slice(), &came)?;
+    Ok(mounts)
+}
+
+/// The mounts that are made of rows that wait and those below them, in their order, with the numbers of all rows of which
+/// the turn came. Refused as `NoMemory` alone.
+fn mounts_below<'a>(
+    alloc: Global,
+    script: &mut Script,
+    rows: &'a [HostMount],
+    below: &[Below],
+    waiting: Vec<Waiting>,
+    groups: &Groups<'a>,
+    came: &mut BTreeSet<u64>,
+) -> Result<Vec<Mount<'a>>, Fault>
+    requires { list_all (waits_on 0) waiting.items ≡ true }
+    ensures order { IfOk result (λ mounts. HasParentsFirst mounts.items) }
+    ensures memory { IsOkUnless result Fault.NoMemory }
+{
+    let mut mounts: Vec<Mount<'a>> = Vec::new(alloc);
     let mut standing = Standing::new(alloc);
-    let mut waiting = Vec::new(alloc);
-    waiting.push(Waiting {
-        index: root,
-        above: 0,
-    })?;
+    let mut waiting = waiting;
     'rows: for _step in 0..=rows.len() {
         let Some(next) = waiting.pop() else {
             return Ok(mounts);
@@ -207,19 +324,11 @@ pub(crate) fn mounts_of<'a>(
         let Some(row) = rows.get(next.index) else {
             return Ok(mounts);
         };
+        came.insert(row.id)?;
         let here = mounts.len();
-        let made = make_next(
-            alloc,
-            script,
-            row,
-            next.above,
-            groups,
-            &mut standing,
-            &mut mounts,
-        )?;
-        if made {
-            push_below(&mut waiting, below.as_slice(), row.id, here)?;
-        }
+        let made = make_next(alloc, script, row, next, groups, &mut standing, &mut mounts)?;
+        let place = place_below(made, here);
+        push_below(&mut waiting, below, row.id, place, !made)?;
     }
     Ok(mounts)
 }

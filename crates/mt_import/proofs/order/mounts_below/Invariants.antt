@@ -1,7 +1,7 @@
 use Rattle.std.proofs.Common.{◌≡◌, ◌-◌, length, true}
 use Rattle.std.specs.List.{list_all}
 use Rattle.mt_import.specs.Order.{HasParentsFirst, waits_on}
-use Rattle.mt_import.proofs.order.mounts_of.Given as goal
+use Rattle.mt_import.proofs.order.mounts_below.Given as goal
 
 -- parents come first, and no row waits on a mount that is not made
 abbrev pub invariant-rows : goal.invariant-rows
