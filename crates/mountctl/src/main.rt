@@ -144,7 +144,7 @@ fn run_import(rt: &HostRuntime) -> ExitCode {
     match import_input(rt) {
         Ok(()) => ExitCode::SUCCESS,
         Err(ImportFault::Row(number)) => {
-            let _ = eprintln!(rt; "mountctl: line {number} is no row of a mountinfo");
+            let _ = eprintln!(rt; "{PROGRAM}: line {number} is no row of a mountinfo");
             ExitCode::from(1)
         }
         Err(ImportFault::Run(fault)) => fail(rt, fault),
