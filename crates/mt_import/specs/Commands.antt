@@ -1,6 +1,6 @@
 -- The commands that the script is made of.
 -- A word with no source is this project's rule.
-use Rattle.std.specs.Prelude.{ℕ, List, [], ◌∷◌, ◌++◌, ◌==◌, take, drop, position, Option, Some, None, codes}
+use Rattle.std.specs.Prelude.{ℕ, Bool, true, false, if◌then◌else◌, List, [], ◌∷◌, ◌++◌, ◌==◌, take, drop, position, Option, Some, None, codes, decimal}
 use Rattle.std.specs.List.{flat_map}
 use Rattle.mt_import.specs.Options.{options_text}
 use Rattle.mt_import.specs.Script.{line_or_comment, command_text}
@@ -40,6 +40,36 @@ staging_text names = flat_map (λ name. mount_text name (staged_path name [])) n
 -- what stands until the end under these names is unmounted
 abbrev pub unstaging_text : List ℕ → List (List ℕ) → List ℕ
 unstaging_text space names = flat_map (λ name. umount_text space (staged_path name [])) names
+
+-- a filesystem is mounted for what is staged, and there the filesystems of devices, if anything is staged
+abbrev pub stage_text : Bool → List (List ℕ) → List ℕ
+stage_text true devices = []
+stage_text false devices = mount_text (codes "import") (codes "/.import") ++ staging_text devices
+
+-- all of that is unmounted
+abbrev pub unstage_text : Bool → List (List ℕ) → List (List ℕ) → List ℕ
+unstage_text true groups devices = []
+unstage_text false groups devices =
+    (unstaging_text (codes "1") groups ++ unstaging_text (codes "1") devices) ++ umount_text (codes "1") (codes "/.import")
+
+-- a staged mount is made a slave, if its group has a master
+abbrev pub slave_text : List ℕ → Bool → List ℕ
+slave_text path has_master = if has_master then kind_text (codes "1") path (codes "prop=slave") else []
+
+-- a member of a group is staged: bound from a source, and made a slave if the group has a master, and shared
+abbrev pub member_text : List ℕ → List ℕ → Bool → List ℕ
+member_text source path has_master =
+    (bind_text source path ++ slave_text path has_master) ++ kind_text (codes "1") path (codes "prop=shared")
+
+-- a mount is bound from the staged member of its group or its master, if there is one; else it is of its filesystem, or bound
+-- from a directory of it
+abbrev pub own_mount_text : List ℕ → List ℕ → List ℕ → List ℕ
+own_mount_text device [] point = mount_text device point
+own_mount_text device (b ∷ root) point = bind_text (staged_path device (b ∷ root)) point
+
+abbrev pub one_text : Option ℕ → List ℕ → List ℕ → List ℕ → List ℕ
+one_text None device root point = own_mount_text device root point
+one_text (Some group) device root point = bind_text (staged_path (decimal group) root) point
 
 -- the copies of a new mount at a path are unmounted, by way of the one at another path: two mounts keep the new one, the
 -- first of them private, so that there are no copies of the second, and an unmount spares a mount on which another stands

@@ -11,7 +11,7 @@ abbrev pub is_staged : Group → Bool
 is_staged group = group.is_master || nat_lt 1 group.members
 
 -- whether a row is a member of a group
-abbrev pub has_members : BTreeMap ℕ Group → ℕ → Bool
+unfoldable pub has_members : BTreeMap ℕ Group → ℕ → Bool
 has_members groups number = option_map_or (λ group. nat_lt 0 group.members) (get nat_cmp groups number) false
 
 -- whether others get what is mounted on a mount of this group, if it is in one

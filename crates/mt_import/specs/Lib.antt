@@ -5,3 +5,4 @@ pub mod Commands
 pub mod Options
 pub mod Groups
 pub mod Order
+pub mod Staging

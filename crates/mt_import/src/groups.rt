@@ -123,6 +123,7 @@ impl<'a> Groups<'a> {
     }
 
     /// Whether a row is a member of this group.
+    #[tactic(auto, unfolding(crate::specs::Groups::has_members))]
     pub(crate) fn has_members(&self, number: u64) -> bool
         ensures { result ≡ has_members self.now.all number }
     {

@@ -1,7 +1,7 @@
 //! The mounts, made one after another.
 ghost use Rattle.std.specs.Prelude.{◌≡◌, ◌++◌, OnOk, IsOkUnless};
 ghost use Rattle.std.specs.Option.{option_map};
-ghost use Rattle.mt_import.specs.Commands.{copies_text, set_text, second_text, attributes_text};
+ghost use Rattle.mt_import.specs.Commands.{own_mount_text, one_text, copies_text, set_text, second_text, attributes_text};
 ghost use Rattle.mt_import.specs.Options.{options_text};
 ghost use Rattle.mt_import.specs.Paths.{path_word};
 
@@ -126,27 +126,46 @@ pub(crate) fn set_root(alloc: Global, script: &mut Script, root: &Mount<'_>) -> 
     set_attributes(alloc, script, row.options.as_slice(), root.point, kinds)
 }
 
-/// Mounts a filesystem, or binds a directory of what is staged. Refused as `NoMemory` alone.
+/// Mounts a filesystem at a path, or binds a directory of it, which is empty for its root. Refused as `NoMemory` alone.
+fn mount_directory(
+    alloc: Global,
+    script: &mut Script,
+    device: &[u8],
+    root: &[u8],
+    point: &[u8],
+) -> Result<(), Fault>
+    ensures pushed { OnOk result (script.new ≡ script.old ++ own_mount_text device.now root.now point.now) }
+    ensures memory { IsOkUnless result Fault.NoMemory }
+{
+    if root.is_empty() {
+        mount_filesystem(alloc, script, device, point)?;
+        return Ok(());
+    }
+    let source = staged_path(alloc, device, root)?;
+    bind(alloc, script, source.as_slice(), point)?;
+    Ok(())
+}
+
+/// Binds a mount from the staged member of a group, if from one, or else mounts a filesystem or binds a directory of it.
+/// Refused as `NoMemory` alone.
 fn mount_one(
     alloc: Global,
     script: &mut Script,
-    groups: &Groups<'_>,
-    mount: &Mount<'_>,
+    group: Option<u64>,
+    device: &[u8],
+    root: &[u8],
+    point: &[u8],
 ) -> Result<(), Fault>
+    ensures pushed { OnOk result (script.new ≡ script.old ++ one_text group device.now root.now point.now) }
     ensures memory { IsOkUnless result Fault.NoMemory }
 {
-    let row = mount.row;
-    let device = row.device.as_slice();
-    let point = path_word(mount.point);
-    if let Some(group) = groups.source_of(row) {
-        let source = group_path(alloc, group, mount.root)?;
-        return bind(alloc, script, source.as_slice(), point);
-    }
-    if mount.root.is_empty() {
-        return mount_filesystem(alloc, script, device, point);
-    }
-    let source = staged_path(alloc, device, mount.root)?;
-    bind(alloc, script, source.as_slice(), point)
+    let Some(group) = group else {
+        mount_directory(alloc, script, device, root, point)?;
+        return Ok(());
+    };
+    let source = group_path(alloc, group, root)?;
+    bind(alloc, script, source.as_slice(), point)?;
+    Ok(())
 }
 
 /// Unmounts the copies of a new mount at a path, by way of the one at another path. Two mounts keep the new one: one on
@@ -184,14 +203,22 @@ pub(crate) fn make_mount(
 ) -> Result<(), Fault>
     ensures memory { IsOkUnless result Fault.NoMemory }
 {
-    mount_one(alloc, script, groups, mount)?;
+    let row = mount.row;
+    let (source, point) = (groups.source_of(row), path_word(mount.point));
+    mount_one(
+        alloc,
+        script,
+        source,
+        row.device.as_slice(),
+        mount.root,
+        point,
+    )?;
     if let Some(group) = parent.shared {
         if groups.has_receivers(parent.shared) {
             let copy = group_path(alloc, group, mount.place.as_slice())?;
             unmount_copies(alloc, script, mount.point, copy.as_slice())?;
         }
     }
-    let row = mount.row;
     let kinds = kinds_of(groups, row, parent);
     set_attributes(alloc, script, row.options.as_slice(), mount.point, kinds)
 }

@@ -1,8 +1,11 @@
 //! What stands until the end of the script: a mount of each filesystem of which directories are bound, and a member of
 //! each peer group from which mounts are bound.
-ghost use Rattle.std.specs.Prelude.{◌≡◌, ◌&&◌, nat_eq, ◌++◌, [], decimal, map, length, IfOk, OnOk, IsOkUnless};
+ghost use Rattle.std.specs.Prelude.{◌≡◌, ◌++◌, [], decimal, map, is_some, IfOk, OnOk, IsOkUnless};
+ghost use Rattle.std.specs.List.{filter};
 ghost use Rattle.std.specs.Option.{option_map_or};
-ghost use Rattle.mt_import.specs.Commands.{staged_path, staging_text, unstaging_text};
+ghost use Rattle.mt_import.specs.Groups.{has_members};
+ghost use Rattle.mt_import.specs.Staging.{is_empty};
+ghost use Rattle.mt_import.specs.Commands.{staged_path, staging_text, unstaging_text, stage_text, unstage_text, slave_text, member_text};
 
 use crate::commands::{HOLDER, MODEL, bind, mount_filesystem, set_kind, unmount};
 use crate::filesystems::Filesystems;
@@ -45,24 +48,28 @@ pub(crate) fn group_path(alloc: Global, group: u64, below: &[u8]) -> Result<Vec<
 impl<'a> Stage<'a> {
     /// Whether nothing stands there.
     pub(crate) fn is_empty(&self) -> bool
-        ensures { result ≡ (nat_eq (length self.now.devices.items) 0 && nat_eq (length self.now.groups.items) 0) }
+        ensures { result ≡ is_empty self.now }
     {
         self.devices.is_empty() && self.groups.is_empty()
     }
 
     /// Mounts the filesystems. Refused as `NoMemory` alone.
     pub(crate) fn mount(&self, alloc: Global, script: &mut Script) -> Result<(), Fault>
+        ensures pushed { OnOk result (script.new ≡ script.old ++ stage_text (is_empty self.now) (map (λ device. device.now) self.now.devices.items)) }
         ensures memory { IsOkUnless result Fault.NoMemory }
     {
         if self.is_empty() {
             return Ok(());
         }
         mount_filesystem(alloc, script, STAGE_FS, STAGE)?;
-        mount_devices(alloc, script, self.devices.as_slice())
+        mount_devices(alloc, script, self.devices.as_slice())?;
+        Ok(())
     }
 
     /// Unmounts all of it in the namespace of the script. Refused as `NoMemory` alone.
     pub(crate) fn unmount(&self, alloc: Global, script: &mut Script) -> Result<(), Fault>
+        ensures pushed { OnOk result (script.new ≡ script.old
+            ++ unstage_text (is_empty self.now) (map decimal self.now.groups.items) (map (λ device. device.now) self.now.devices.items)) }
         ensures memory { IsOkUnless result Fault.NoMemory }
     {
         if self.is_empty() {
@@ -70,7 +77,8 @@ impl<'a> Stage<'a> {
         }
         unmount_groups(alloc, script, MODEL, self.groups.as_slice())?;
         unmount_devices(alloc, script, MODEL, self.devices.as_slice())?;
-        unmount(alloc, script, MODEL, STAGE)
+        unmount(alloc, script, MODEL, STAGE)?;
+        Ok(())
     }
 
     /// Makes a second namespace, with a member of each group of which no mount is made, and nothing else that
@@ -141,11 +149,9 @@ fn unmount_groups(
 }
 
 /// Those of these groups of which a mount is made. Fails for want of memory alone.
-fn seen_groups(
-    alloc: Global,
-    groups: &Groups<'_>,
-    numbers: &[u64],
-) -> Result<Vec<u64>, AllocError> {
+fn seen_groups(alloc: Global, groups: &Groups<'_>, numbers: &[u64]) -> Result<Vec<u64>, AllocError>
+    ensures { IfOk result (λ seen. seen.items ≡ filter (has_members groups.now.all) numbers.now) }
+{
     let mut seen = Vec::new(alloc);
     'numbers: for number in numbers {
         if groups.has_members(*number) {
@@ -166,7 +172,37 @@ fn source_path(alloc: Global, group: Group<'_>) -> Result<Vec<u8>, AllocError>
     }
 }
 
+/// Makes a staged mount a slave, if its group has a master. Refused as `NoMemory` alone.
+fn set_slave(alloc: Global, script: &mut Script, path: &[u8], has_master: bool) -> Result<(), Fault>
+    ensures pushed { OnOk result (script.new ≡ script.old ++ slave_text path.now has_master) }
+    ensures memory { IsOkUnless result Fault.NoMemory }
+{
+    if !has_master {
+        return Ok(());
+    }
+    set_kind(alloc, script, MODEL, path, b"prop=slave")?;
+    Ok(())
+}
+
 /// Stages a member of a group, from its master if it has one. Refused as `NoMemory` alone.
+fn stage_member(
+    alloc: Global,
+    script: &mut Script,
+    group: Group<'_>,
+    path: &[u8],
+) -> Result<(), Fault>
+    ensures pushed { OnOk result (script.new ≡ script.old ++ member_text (staged_path (option_map_or decimal group.entry.master group.entry.device.now) []) path.now (is_some group.entry.master)) }
+    ensures memory { IsOkUnless result Fault.NoMemory }
+{
+    let has_master = group.master.is_some();
+    let source = source_path(alloc, group)?;
+    bind(alloc, script, source.as_slice(), path)?;
+    set_slave(alloc, script, path, has_master)?;
+    set_kind(alloc, script, MODEL, path, b"prop=shared")?;
+    Ok(())
+}
+
+/// Stages a member of a group that a row named. Refused as `NoMemory` alone.
 fn stage_group(
     alloc: Global,
     script: &mut Script,
@@ -179,12 +215,7 @@ fn stage_group(
         return Ok(());
     };
     let path = group_path(alloc, number, b"")?;
-    let source = source_path(alloc, group)?;
-    bind(alloc, script, source.as_slice(), path.as_slice())?;
-    if group.master.is_some() {
-        set_kind(alloc, script, MODEL, path.as_slice(), b"prop=slave")?;
-    }
-    set_kind(alloc, script, MODEL, path.as_slice(), b"prop=shared")
+    stage_member(alloc, script, group, path.as_slice())
 }
 
 /// The groups that the root mount goes through, from the uppermost down to its own. Fails for want of memory alone.
