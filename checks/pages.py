@@ -92,9 +92,9 @@ def options(text):
     return [word for pair in re.findall(r"(?m)^ +(-\w)?(?:, )?(--[\w-]+)", part) for word in pair if word]
 
 
-def words_in_place(text):
-    """What a help says may stand in the place of a line, each by its first word: what may stand behind it."""
-    lines = re.findall(r"(?m)^  \S.*", text.split("In the place of WORD..:\n")[1])
+def words_in_place(text, of="WORD.."):
+    """What a help says may stand in the place of a line, or of all arguments, each by its first word: what may stand behind it."""
+    lines = re.findall(r"(?m)^  \S.*", text.split(f"In the place of {of}:\n")[1].split("\n\n")[0])
     return {line.split()[0]: line.strip().split("  ")[0] for line in lines}
 
 
@@ -107,7 +107,8 @@ def check_help(helps):
         entries = [word for word, _ in ENTRY.findall(section("mountd-lines.7", "LINES"))]
         check_same(f"the lines of mountd-lines.7, by the help of {program}", usages(text), entries)
     found = [word.replace("\\-", "-") for word in re.findall(r"(?m)^\.It Cm (\S+)", page("mountctl.1"))]
-    check_same("the words of mountctl.1", words_in_place(helps["mountctl"]), found)
+    wanted = [*words_in_place(helps["mountctl"]), *words_in_place(helps["mountctl"], "SOCKET WORD..")]
+    check_same("the words of mountctl.1", wanted, found)
 
 
 def refusals_by_line():
@@ -214,6 +215,7 @@ def offered(*words):
 def check_offers(helps):
     """The completion offers the options and words of mountctl --help, and behind each word what may stand there."""
     check_same("the options that the completion offers", options(helps["mountctl"]), offered("-"))
+    check_same("the words that the completion offers alone", words_in_place(helps["mountctl"], "SOCKET WORD.."), offered("imp"))
     there = usages(helps["mountctl"])
     check_same("the words that the completion offers", {*there, *words_in_place(helps["mountctl"])}, offered("socket", ""))
     for word, usage in {**usages(helps["mountd"]), **words_in_place(helps["mountctl"])}.items():

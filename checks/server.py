@@ -7,7 +7,7 @@ A plain client speaks with servers that are started here, each in a folder of it
 sockets that cannot be made, accepts that fail, the limit of sessions, a stop (stopping.py), clients that are
 gone or do not read, many connections, allocations that are refused (wanting.py), and then 32 sessions at once for
 N seconds, 20 if not said (soak.py). With MOUNTCTL that program is checked too (clients.py, pictures.py, telling.py), the cases are
-sent as its scripts, and a quarter of the 32 sessions are its mirrors.
+sent as its scripts, tables are imported (importing.py), and a quarter of the 32 sessions are its mirrors.
 """
 import argparse
 import contextlib
@@ -31,6 +31,7 @@ from clients import (
     check_scripts,
     check_statuses,
 )
+from importing import check_import
 from limits import COMMANDS
 from pictures import check_pictures
 from running import MOST_SECONDS, check, difference, failures, library, shown
@@ -327,6 +328,7 @@ def check_server(program, seconds, mountctl, only):
         parts["pictures"] = lambda program: check_pictures(program, mountctl)
         parts["telling"] = lambda program: check_telling(program, mountctl)
         parts["scripts"] = lambda program: check_scripts(program, mountctl)
+        parts["import"] = lambda program: check_import(program, mountctl)
     for name in [only] if only else parts:
         start = time.monotonic()
         try:

@@ -68,7 +68,7 @@ _mountctl()
     current=${words[-1]}
     unset "words[-1]"
     if ((${#words[@]} == 0)); then
-        mapfile -t COMPREPLY < <(_mountctl_sockets "$current"; compgen -W "-h --help" -- "$current")
+        mapfile -t COMPREPLY < <(_mountctl_sockets "$current"; compgen -W "-h --help import" -- "$current")
         compopt -o filenames 2> /dev/null
         return
     fi

@@ -3,11 +3,13 @@
 
 mod connection;
 mod fault;
+mod import;
 mod script;
 mod task;
 
 use crate::connection::connect;
 use crate::fault::Fault;
+use crate::import::{ImportFault, ROW_LIMIT, import};
 use crate::script::{SCRIPT_LIMIT, run_script};
 use crate::task::{Task, task_of};
 use clap::error::ErrorKind;
@@ -38,7 +40,10 @@ In the place of WORD..:
   watch NS, watch all      tells each change as it comes, in words
   mirror NS K              follows K posts of a namespace, and shows the table that they lead to
   tree [NS] [--ascii]      draws the mounts of a namespace, or of all, each below its parent
-  dot                      draws all mounts and peer groups as a graph for Graphviz";
+  dot                      draws all mounts and peer groups as a graph for Graphviz
+
+In the place of SOCKET WORD..:
+  import                   reads the lines of a mountinfo, and prints a script that makes its namespace";
 
 /// The lines of a session, and what may stand in their place.
 fn usage(alloc: Global) -> Result<String, AllocError> {
@@ -132,6 +137,26 @@ fn run_words(rt: &HostRuntime, socket: &str, words: &[&str]) -> ExitCode {
     }
 }
 
+/// Imports the mountinfo on standard input.
+fn import_input(rt: &HostRuntime) -> Result<(), ImportFault> {
+    let alloc = rt.alloc();
+    let mut input = LineReader::new(alloc, Reading::new(rt.reader()), ROW_LIMIT)?;
+    let mut out = Writing::new(io::writer(rt));
+    import(alloc, &mut input, &mut out)
+}
+
+/// Imports the mountinfo on standard input, or says why it does not.
+fn run_import(rt: &HostRuntime) -> ExitCode {
+    match import_input(rt) {
+        Ok(()) => ExitCode::SUCCESS,
+        Err(ImportFault::Row(number)) => {
+            let _ = eprintln!(rt; "{PROGRAM}: line {number} is no row of a mountinfo");
+            ExitCode::from(1)
+        }
+        Err(ImportFault::Run(fault)) => fail(rt, fault),
+    }
+}
+
 /// Prints the help.
 fn help(rt: &HostRuntime, error: &Error) -> ExitCode {
     match print!(rt; "{error}") {
@@ -172,6 +197,9 @@ fn run(rt: &HostRuntime) -> io::Result<ExitCode> {
     words.push(PROGRAM)?;
     for argument in arguments.iter().skip(1) {
         words.push(argument.as_str())?;
+    }
+    if words.as_slice() == [PROGRAM, "import"].as_slice() {
+        return Ok(run_import(rt));
     }
     match run_arguments(rt, words.as_slice()) {
         Ok(code) => Ok(code),

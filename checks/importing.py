@@ -1,0 +1,300 @@
+"""What `mountctl import` makes of tables: a script that builds them again. A module, a part of server.py.
+
+The tables are those of the namespaces of each case, of random worlds, of a namespace with as many mounts as may be, and
+of this machine. Each script is sent to a plain session, which accepts each line; then the table of namespace 1 is the one
+that was imported, up to the numbers of mounts, groups and devices, and without the mounts that comments say are left out.
+"""
+import os
+import random
+import re
+import tempfile
+import time
+from typing import NamedTuple
+
+import cases
+from clients import READ_FAULT, WRITE_FAULT, Asked, redirected
+from memory import Refusing
+from running import answer_groups, check, run, session, shown
+from serving import Server
+
+# How many random worlds there are, and how many commands lead to each.
+WORLDS = 100
+COMMANDS = 10, 30, 60
+
+# The most rows of a random table that is imported.
+MOST_ROWS = 400
+
+# Of so many tables fewer than one may be made with mounts left out.
+LEFT_OUT_IN = 10
+
+LEFT_OUT = re.compile(rb"# mount (\d+) is left out with all below it: ")
+OPTIONS = {b"ro", b"nosuid", b"nodev", b"noexec", b"noatime", b"nodiratime", b"relatime", b"nosymfollow"}
+
+
+class Row(NamedTuple):
+    """A line of a table; what it has in the place of a number that may be another is apart."""
+
+    id: int
+    parent: int
+    device: bytes
+    point: bytes
+    groups: tuple
+    rest: tuple
+
+
+def row_of(line):
+    front, _, back = line.partition(b" - ")
+    number, parent, device, root, point, options, *tags = front.split(b" ")
+    kind, source, _ = back.split(b" ")
+    numbers = dict(tag.split(b":") for tag in tags if b":" in tag)
+    groups = tuple(numbers.get(name) for name in (b"shared", b"master", b"propagate_from"))
+    known = frozenset(OPTIONS & set(options.split(b",")))
+    return Row(int(number), int(parent), device, point, groups, (root, known, b"unbindable" in tags, kind, source))
+
+
+class Renaming:
+    """Numbers of one table and those in their places in another, each in one place alone."""
+
+    def __init__(self):
+        self.to, self.back = {}, {}
+
+    def fits(self, old, new):
+        if old is None or new is None:
+            return old is new
+        return self.to.setdefault(old, new) == new and self.back.setdefault(new, old) == old
+
+
+def kept_rows(rows, script):
+    """The rows of the mounts that the script makes, each behind the one that it stands on."""
+    left_out = {int(found[1]) for found in map(LEFT_OUT.match, script) if found}
+    kept, ids, below = [], set(), {}
+    for row in rows:
+        below.setdefault(row.parent, []).append(row)
+    numbers = {row.id for row in rows}
+    waiting = [row for row in rows if row.parent == row.id or row.parent not in numbers]
+    while waiting:
+        row = waiting.pop()
+        if row.id not in left_out and row.id not in ids:
+            kept.append(row)
+            ids.add(row.id)
+            waiting += below.get(row.id, [])
+    return kept
+
+
+def why_other(kept, found):
+    """How a table differs from the rows that it was made of by more than numbers, or None."""
+    if len(kept) != len(found):
+        return f"{len(kept)} mounts are wanted, and {len(found)} are there"
+    mounts, devices, groups = Renaming(), Renaming(), Renaming()
+    places = {(None if row.parent == row.id else row.parent, row.point): row for row in found}
+    for row in kept:
+        other = places.get((mounts.to.get(row.parent), row.point))
+        if other is None:
+            return f"no mount stands in the place of {row}"
+        same = mounts.fits(row.id, other.id) and devices.fits(row.device, other.device)
+        same = same and all(groups.fits(old, new) for old, new in zip(row.groups, other.groups))
+        if not same or row.rest != other.rest:
+            return f"wanted {row}\nfound  {other}"
+    return None
+
+
+def imported(mountctl, text):
+    return run(mountctl, text, "import")
+
+
+def check_table(program, mountctl, name, lines):
+    """Imports a table and builds it: whether nothing is left out."""
+    status, text, complaint = imported(mountctl, b"".join(line + b"\n" for line in lines))
+    check(f"{name}: imported", (status, complaint) == (0, b""), shown(complaint))
+    script = text.split(b"\n")[:-1]
+    commands = [line for line in script if not line.startswith(b"#")]
+    asked = commands + [b"show 1"]
+    groups = answer_groups(session(program, asked)[1], asked)
+    refused = [line for line, answer in zip(asked, groups) if not answer or not answer[0].startswith(b"ok")]
+    check(f"{name}: each command is accepted", not refused, shown(b"\n".join(refused[:3] + lines + script)))
+    if not refused:
+        why = why_other(kept_rows([row_of(line) for line in lines], script), [row_of(line) for line in groups[-1][1:]])
+        check(f"{name}: the table that is built", why is None, "\n".join([str(why), *map(shown, lines + script)]))
+    return not any(map(LEFT_OUT.match, script))
+
+
+def tables(program, lines):
+    """The tables of the namespaces that are there behind these lines."""
+    asked = lines + [b"show %d" % number for number in range(1, 65)]
+    for group in answer_groups(session(program, asked)[1], asked)[len(lines) :]:
+        if 1 < len(group) <= MOST_ROWS:
+            yield group[1:]
+
+
+PATHS = [b"/a", b"/b", b"/a/a", b"/a/b", b"/b/a", b"/a/a/b", b"/b/b/a", b"/a/b/a/b", b"/c", b"/c/a", b"/a/c/b"]
+CHANGES = [b"prop=shared"] * 3 + [b"prop=slave"] * 2 + [b"prop=private", b"prop=unbindable", b"rec prop=shared", b"rec prop=slave"]
+CHANGES += [b"set=ro,nosuid", b"set=noatime clr=atime", b"set=strictatime clr=atime", b"set=nodev,nosymfollow", b"set=noexec,nodiratime"]
+WORDS = [b"mount", b"bind", b"bind", b"rbind", b"move", b"umount", b"setattr", b"setattr", b"setattr", b"copyns"]
+
+
+def directories():
+    """Two filesystems with the same directories, and a namespace."""
+    for fs in b"x", b"y":
+        yield b"mkfs %s tmpfs %s" % (fs, fs)
+        for first in b"/a", b"/b", b"/c":
+            for second in b"", b"/a", b"/b", b"/c":
+                for third in (b"", b"/a", b"/b") if second else [b""]:
+                    yield b"mkdir %s %s" % (fs, first + second + third)
+    yield b"newns x"
+
+
+def random_command(source):
+    def path():
+        return b"".join(source.choice(PATHS) for _ in range(source.choice((1, 1, 1, 2)))) if source.random() < 0.9 else b"/"
+
+    space, word = source.choice((1, 1, 1, 2, 3)), source.choice(WORDS)
+    if word == b"mount":
+        return b"mount %d %s %s" % (space, source.choice((b"x", b"y")), path())
+    if word in (b"bind", b"rbind", b"move"):
+        return b"%s %d %s %s" % (word, space, path(), path())
+    if word == b"umount":
+        return b"umount %d %s" % (space, path())
+    if word == b"setattr" or source.random() < 0.7:
+        return b"setattr %d %s %s" % (space, path(), source.choice(CHANGES))
+    return b"copyns %d%s" % (space, source.choice((b"", b" less")))
+
+
+def check_tables(program, mountctl):
+    """The tables of the cases and of random worlds."""
+    worlds = {}
+    for name in cases.names():
+        case = cases.load(name)
+        lines = case.requests()
+        if not case.arguments and b"quit" not in lines and b"stop" not in lines:
+            worlds[f"case {name}"] = lines
+    for seed in range(WORLDS):
+        source = random.Random(seed)
+        worlds[f"world {seed}"] = [*directories(), *(random_command(source) for _ in range(source.choice(COMMANDS)))]
+    whole = [check_table(program, mountctl, f"import of {name}", table) for name, lines in worlds.items() for table in tables(program, lines)]
+    check("tables are imported as a whole", whole.count(False) * LEFT_OUT_IN < len(whole))
+    print(f"{len(whole)} tables imported, {whole.count(False)} with mounts left out")
+
+
+# A host's table: a root mount whose parent is not in sight, devices with a major number, and words that the server has not.
+HOST = b"""\
+29 1 8:2 / / rw,relatime shared:1 - ext4 /dev/sda2 rw,errors=remount-ro
+25 29 0:22 / /sys rw,nosuid,nodev,noexec,relatime shared:7 - sysfs sysfs rw
+26 29 0:23 / /proc rw,nosuid,nodev,noexec,relatime shared:12 - proc proc rw,hidepid=2
+40 29 8:2 /srv/my\\040data /mnt/data rw,idmapped,relatime shared:1 future:9 - ext4 /dev/sda2 rw,errors=remount-ro
+41 29 8:2 /gone//deleted /mnt/gone rw,relatime - ext4 /dev/sda2 rw
+42 29 0:4 net:[4026532293] /run/netns/x rw shared:30 - nsfs nsfs rw
+43 40 0:31 / /mnt/data/t ro,noatime master:3 - tmpfs a\\043b rw,size=4k
+44 29 0:31 / /tmp rw - tmpfs  rw
+"""
+
+# A table that no kernel prints, and its comments: a second line of a mount, one that stands on no other, and a ring.
+ODD = b"""\
+1 1 0:1 / / rw - tmpfs none rw
+2 1 0:2 / /a rw - tmpfs none rw
+2 1 0:3 / /b rw - tmpfs none rw
+3 9 0:2 / /c rw - tmpfs none rw
+4 3 0:2 / /c/d rw - tmpfs none rw
+5 6 0:2 / /e/f rw - tmpfs none rw
+6 5 0:2 / /e rw - tmpfs none rw
+7 2 0:2 / / rw - tmpfs none rw
+8 7 0:2 / /x rw - tmpfs none rw
+"""
+ODD_COMMENTS = [
+    b"# mount 2 has one more line, which is left out",
+    b"# mount 3 is left out with all below it: it stands on no other",
+    b"# mount 7 is left out with all below it: it stands elsewhere than below its parent",
+    b"# mount 5 is left out with all below it: its parents go round in a ring",
+    b"# mount 6 is left out with all below it: its parents go round in a ring",
+]
+
+NO_ROWS = [
+    b"",
+    b"1 1 0:1 / / rw,relatime tmpfs none rw",
+    b"1 1 0:1 / / rw,relatime - tmpfs none",
+    b"1 1 0:1 / / rw,relatime - tmpfs none rw more",
+    b"1 1 0:1 / / rw,relatime - tmpfs none rw ",
+    b"1 1 0 / / rw,relatime - tmpfs none rw",
+    b"1 1 0:x / / rw,relatime - tmpfs none rw",
+    b"1 1 0:1:2 / / rw,relatime - tmpfs none rw",
+    b"x 1 0:1 / / rw,relatime - tmpfs none rw",
+    b"1 01 0:1 / / rw,relatime - tmpfs none rw",
+    b"1 1 0:1 / / rw,relatime shared:x - tmpfs none rw",
+    b"1 1 0:1 / / rw,relatime master: - tmpfs none rw",
+]
+
+
+def check_lines(mountctl):
+    """A line that is none is refused with its number, and nothing is printed."""
+    good = b"1 1 0:1 / / rw,relatime - tmpfs none rw\n"
+    for line in NO_ROWS:
+        for before in 0, 6:
+            found = imported(mountctl, good * before + line + b"\n" + good)
+            wanted = 1, b"", b"mountctl: line %d is no row of a mountinfo\n" % (before + 1)
+            check(f"import of {shown(line)!r}", found == wanted, repr(found))
+    found = imported(mountctl, good[:-1])
+    check("import of a line without end", found == (1, b"", b"mountctl: line 1 is no row of a mountinfo\n"), repr(found))
+    check("import of nothing", imported(mountctl, b"")[0] == 0)
+    comments = [line for line in imported(mountctl, ODD)[1].split(b"\n") if line.startswith(b"#")]
+    check("import of a table that no kernel prints", comments == ODD_COMMENTS, shown(b"\n".join(comments)))
+
+
+# Standard streams that fail, and how the program ends: an input that cannot be read, a folder, or is closed, and an
+# output that takes nothing, or is closed.
+FAULTY_STREAMS = ("0</", READ_FAULT), ("0<&-", READ_FAULT), ("1>/dev/full", WRITE_FAULT), ("1>&-", WRITE_FAULT)
+
+
+class Importing(Asked):
+    """An import of a host's table, which says that memory is missing where it is."""
+
+    input = HOST
+
+
+def check_faults(mountctl):
+    """An import whose streams fail, or for which there is no memory, says so."""
+    for streams, wanted in FAULTY_STREAMS:
+        found = redirected(mountctl, streams, "import", text=HOST)
+        check(f"import {streams}", found == wanted, repr(found))
+    with tempfile.TemporaryDirectory() as folder:
+        refusing, asked = Refusing(folder), Importing(mountctl, ["import"])
+        count = refusing.count(asked)
+        refusing.each(asked, "an import", count)
+    print(f"{count} allocations of an import refused in turn", flush=True)
+
+
+def check_host(program, mountctl):
+    """A host's table, and this machine's, are accepted as scripts of the other program over a socket."""
+    texts = {"a host": HOST}
+    if os.path.exists("/proc/self/mountinfo"):
+        with open("/proc/self/mountinfo", "rb") as file:
+            texts["this machine"] = file.read()
+    for name, text in texts.items():
+        status, script, complaint = imported(mountctl, text)
+        check(f"import of {name}", (status, complaint) == (0, b""), shown(complaint))
+        with Server(program) as server:
+            status, answers, complaint = run(mountctl, script + b"show 1\n", server.path, "-")
+            check(f"the script of {name} is accepted", (status, complaint) == (0, b""), shown(answers))
+            kept = kept_rows([row_of(line) for line in text.split(b"\n")[:-1]], script.split(b"\n"))
+            count = b"\nok %d " % len(kept)
+            check(f"the mounts of {name}", answers.count(count) == 1, shown(script + answers))
+            server.stop()
+
+
+def check_large(program, mountctl):
+    """4,000 mounts are imported in a second."""
+    lines = [b"mkfs a tmpfs none", b"newns a", *(b"mkdir a /d%d" % n for n in range(4_000))]
+    lines += [b"mount 1 a /d%d" % n for n in range(3_999)]
+    asked = lines + [b"show 1"]
+    table = answer_groups(session(program, asked)[1], asked)[-1][1:]
+    start = time.monotonic()
+    imported(mountctl, b"".join(line + b"\n" for line in table))
+    took = time.monotonic() - start
+    check("4,000 mounts are imported in a second", took < 1, f"{took:.1f} s")
+    check("4,000 mounts are imported as a whole", check_table(program, mountctl, "import of 4,000 mounts", table))
+
+
+def check_import(program, mountctl):
+    check_lines(mountctl)
+    check_faults(mountctl)
+    check_tables(program, mountctl)
+    check_host(program, mountctl)
+    check_large(program, mountctl)

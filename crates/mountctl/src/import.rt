@@ -1,0 +1,85 @@
+//! `import`: the script of commands that makes the namespace of which a mountinfo tells.
+
+use crate::fault::Fault;
+use mt_import::fault::Fault as Refusal;
+use mt_import::import::script_of;
+use mt_import::read::read_mount;
+use mt_import::told::HostMount;
+use mt_lines::line::{Line, LineReader};
+use mt_lines::stream::{Input, Output, send};
+use std::alloc::{AllocError, AllocFailed, Global};
+
+/// The longest line of a mountinfo, in bytes before its line end.
+pub(crate) const ROW_LIMIT: u32 = 134_217_728;
+
+/// The most lines of a mountinfo.
+const MOST_LINES: u64 = u64::MAX;
+
+/// Why a mountinfo was not imported.
+#[derive(Clone, Copy)]
+pub(crate) enum ImportFault {
+    /// The line of this number is none of a mountinfo.
+    Row(u64),
+    /// The input or the output failed, or a growth was refused for want of memory.
+    Run(Fault),
+}
+
+impl From<Fault> for ImportFault {
+    fn from(fault: Fault) -> ImportFault {
+        ImportFault::Run(fault)
+    }
+}
+
+impl From<AllocError> for ImportFault {
+    fn from(_error: AllocError) -> ImportFault {
+        ImportFault::Run(Fault::NoMemory)
+    }
+}
+
+impl<T: Drop> From<AllocFailed<T>> for ImportFault {
+    fn from(_error: AllocFailed<T>) -> ImportFault {
+        ImportFault::Run(Fault::NoMemory)
+    }
+}
+
+/// The row that the line of a number tells.
+fn row_of(alloc: Global, line: &[u8], number: u64) -> Result<HostMount, ImportFault> {
+    match read_mount(alloc, line) {
+        Ok(row) => Ok(row),
+        Err(Refusal::NoMemory) => Err(ImportFault::Run(Fault::NoMemory)),
+        Err(_) => Err(ImportFault::Row(number)),
+    }
+}
+
+/// The rows that an input tells, up to its end.
+fn read_rows<I: Input + Drop>(
+    alloc: Global,
+    input: &mut LineReader<I>,
+) -> Result<Vec<HostMount>, ImportFault> {
+    let mut rows = Vec::new(alloc);
+    'lines: for before in 0..MOST_LINES {
+        match input.next() {
+            Ok(Line::Text) => rows.push(row_of(alloc, input.line(), before + 1)?)?,
+            Ok(Line::End) => return Ok(rows),
+            Ok(Line::TooLong | Line::Unended) => return Err(ImportFault::Row(before + 1)),
+            Err(fault) => return Err(ImportFault::Run(Fault::of_input(fault))),
+        }
+    }
+    Ok(rows)
+}
+
+/// Prints the script that makes the namespace of which an input tells. Nothing is printed before all of it is read.
+pub(crate) fn import<I: Input + Drop, O: Output>(
+    alloc: Global,
+    input: &mut LineReader<I>,
+    out: &mut O,
+) -> Result<(), ImportFault> {
+    let rows = read_rows(alloc, input)?;
+    let Ok(script) = script_of(alloc, rows.as_slice()) else {
+        return Err(ImportFault::Run(Fault::NoMemory));
+    };
+    match send(out, script.text()) {
+        Ok(()) => Ok(()),
+        Err(_) => Err(ImportFault::Run(Fault::Output)),
+    }
+}

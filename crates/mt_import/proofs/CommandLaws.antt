@@ -1,0 +1,41 @@
+-- Commands, and the words of one, appended one behind the other.
+use Rattle.std.proofs.Common.{◌≡◌, ℕ, Bool, true, false, List, [], ◌++◌, codes, Option, ap, ◌∙◌, append_assoc}
+use Rattle.mt_import.specs.Commands.{kind_text, slave_text, umount_text, unstaging_text, unstage_text}
+use Rattle.mt_import.specs.Options.{flags, times_of, with_flags, with_times, with_kind, options_text}
+
+-- what seven appended is one text
+seven : (old a b c d e f g : List ℕ) → ((((((old ++ a) ++ b) ++ c) ++ d) ++ e) ++ f) ++ g ≡ old ++ ((((((a ++ b) ++ c) ++ d) ++ e) ++ f) ++ g)
+seven old a b c d e f g = simp append_assoc
+
+pub seven_pushed : (s0 s1 s2 s3 s4 s5 s6 s7 a b c d e f g : List ℕ) → s1 ≡ s0 ++ a → s2 ≡ s1 ++ b → s3 ≡ s2 ++ c → s4 ≡ s3 ++ d → s5 ≡ s4 ++ e
+    → s6 ≡ s5 ++ f → s7 ≡ s6 ++ g → s7 ≡ s0 ++ ((((((a ++ b) ++ c) ++ d) ++ e) ++ f) ++ g)
+seven_pushed s0 s1 s2 s3 s4 s5 s6 s7 a b c d e f g e1 e2 e3 e4 e5 e6 e7 =
+    e7 ∙ ap (λ s. s ++ g) (e6 ∙ ap (λ s. s ++ f) (e5 ∙ ap (λ s. s ++ e) (e4 ∙ ap (λ s. s ++ d) (e3 ∙ ap (λ s. s ++ c) (e2 ∙ ap (λ s. s ++ b) e1))))) ∙ seven s0 a b c d e f g
+
+-- the words of options, appended part by part
+pub options_joined : (options : List ℕ) (kind : Option (List ℕ)) (t0 t1 t2 t3 : List ℕ) → t0 ≡ [] → t1 ≡ with_flags options t0 flags
+    → t2 ≡ with_times (times_of options) t1 → t3 ≡ with_kind kind t2 → t3 ≡ options_text options kind
+unfolding options_text
+options_joined options kind t0 t1 t2 t3 e0 e1 e2 e3 =
+    e3 ∙ ap (λ t. with_kind kind t) (e2 ∙ ap (λ t. with_times (times_of options) t) (e1 ∙ ap (λ t. with_flags options t flags) e0))
+
+-- what three appended is one text
+pub three_pushed : (s0 s1 s2 s3 a b c : List ℕ) → s1 ≡ s0 ++ a → s2 ≡ s1 ++ b → s3 ≡ s2 ++ c → s3 ≡ s0 ++ ((a ++ b) ++ c)
+three_pushed s0 s1 s2 s3 a b c e1 e2 e3 = e3 ∙ ap (λ s. s ++ c) (e2 ∙ ap (λ s. s ++ b) e1) ∙ three s0 a b c
+  where
+    three : (old a b c : List ℕ) → ((old ++ a) ++ b) ++ c ≡ old ++ ((a ++ b) ++ c)
+    three old a b c = simp append_assoc
+
+-- what is staged is unmounted, part by part
+pub unstaged : (empty : Bool) (groups devices : List (List ℕ)) (s0 s1 s2 s3 : List ℕ) → empty ≡ false → s1 ≡ s0 ++ unstaging_text (codes "1") groups
+    → s2 ≡ s1 ++ unstaging_text (codes "1") devices → s3 ≡ s2 ++ umount_text (codes "1") (codes "/.import")
+    → s3 ≡ s0 ++ unstage_text empty groups devices
+unstaged true groups devices s0 s1 s2 s3 is e1 e2 e3 = cc
+unstaged false groups devices s0 s1 s2 s3 is e1 e2 e3 =
+    three_pushed s0 s1 s2 s3 (unstaging_text (codes "1") groups) (unstaging_text (codes "1") devices) (umount_text (codes "1") (codes "/.import")) e1 e2 e3
+
+-- a staged mount is made a slave
+pub slave_pushed : (path : List ℕ) (has_master : Bool) (old new : List ℕ) → has_master ≡ true → new ≡ old ++ kind_text (codes "1") path (codes "prop=slave")
+    → new ≡ old ++ slave_text path has_master
+slave_pushed path true old new is e = e
+slave_pushed path false old new is e = cc

@@ -1,0 +1,5 @@
+pub mod ReadLaws
+pub mod ScriptLaws
+pub mod WriterLaws
+pub mod CommandLaws
+pub mod OrderLaws

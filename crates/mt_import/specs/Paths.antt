@@ -1,0 +1,53 @@
+-- Paths as a mountinfo has them, of which that of a root is empty here.
+-- A word with no source is this project's rule.
+use Rattle.std.specs.Prelude.{ℕ, Bool, true, false, not, nat_eq, nat_le, ◌==◌, ◌&&◌, ◌||◌, if◌then◌else◌, List, [], ◌∷◌, length, take, drop, Option, Some, None, is_some, codes}
+use Rattle.std.specs.List.{filter, list_all, starts_with}
+use Rattle.std.specs.Option.{option_map_or}
+use Rattle.std.specs.Str.{bytes_eq}
+use Rattle.mt_skel.specs.Escapes.{unescaped}
+use Rattle.mt_words.specs.Words.{pieces}
+
+-- a path without its slash, where that is all it is
+abbrev pub below_root : List ℕ → List ℕ
+below_root word = if bytes_eq word (codes "/") then [] else word
+
+-- a path as a word
+abbrev pub path_word : List ℕ → List ℕ
+path_word [] = codes "/"
+path_word (b ∷ bytes) = b ∷ bytes
+
+-- how many names a path has
+abbrev pub name_count : List ℕ → ℕ
+name_count path = length (filter (λ b. b == 47) path)
+
+-- a piece between slashes is a name: it stands for 1 to 255 bytes, and is neither `.` nor `..`
+abbrev pub says_name : List ℕ → Bool
+says_name piece =
+    option_map_or (λ bytes. nat_le 1 (length bytes) && nat_le (length bytes) 255) (unescaped piece) false
+    && not (bytes_eq piece (codes ".")) && not (bytes_eq piece (codes ".."))
+
+-- a path that the script can name: of at most 4,000 bytes, each name of it behind a slash
+unfoldable pub can_be_named : List ℕ → Bool
+can_be_named [] = true
+can_be_named (b ∷ text) = b == 47 && nat_le (length (b ∷ text)) 4000 && list_all says_name (pieces 47 text)
+
+-- what stands behind a path in one that is below it, or is the same
+abbrev pub names_behind : List ℕ → Option (List ℕ)
+names_behind [] = Some []
+names_behind (b ∷ rest) = if b == 47 then Some (b ∷ rest) else None
+
+unfoldable pub path_behind : List ℕ → List ℕ → Option (List ℕ)
+path_behind path above = if starts_with nat_eq path above then names_behind (drop (length above) path) else None
+
+-- the names from the point of a parent down to the point of a mount on it, if the script can make the mount there: root and
+-- point can be named, the point is not above the parent, and on the root mount it is neither the root nor a name of the script
+abbrev pub has_free_names : Bool → List ℕ → Bool
+has_free_names false own = true
+has_free_names true own = not (nat_eq (length own) 0) && not (is_some (path_behind own (codes "/.import")))
+
+abbrev pub free_names : Bool → Option (List ℕ) → Option (List ℕ)
+free_names is_on_root None = None
+free_names is_on_root (Some own) = if has_free_names is_on_root own then Some own else None
+
+abbrev pub names_from_parent : List ℕ → List ℕ → List ℕ → Bool → Option (List ℕ)
+names_from_parent root point parent is_on_root = if can_be_named root && can_be_named point then free_names is_on_root (path_behind point parent) else None

@@ -1,0 +1,167 @@
+//! The peer groups that rows name.
+ghost use Rattle.std.specs.Prelude.{◌≡◌, ◌||◌, nat_lt, if◌then◌else◌};
+ghost use Rattle.std.specs.BTreeMap.{get, btree_map_len};
+ghost use Rattle.std.specs.Ordering.{nat_cmp};
+ghost use Rattle.mt_import.specs.Groups.{is_staged, has_members, has_receivers};
+
+use crate::told::HostMount;
+use std::alloc::{AllocError, Global};
+use std::collections::BTreeMap;
+
+/// What rows tell of a peer group.
+#[derive(Clone, Copy)]
+pub(crate) struct Group<'a> {
+    /// The number of its master group, if that is known.
+    pub(crate) master: Option<u64>,
+    /// The device of its mounts.
+    pub(crate) device: &'a [u8],
+    /// How many rows are members.
+    pub(crate) members: u64,
+    /// Whether a row has it as its master, or as the group that it gets from.
+    is_master: bool,
+}
+
+impl<'a> Group<'a> {
+    /// A group that no row is a member of.
+    fn new(master: Option<u64>, device: &'a [u8]) -> Group<'a> {
+        Group {
+            master,
+            device,
+            members: 0,
+            is_master: false,
+        }
+    }
+
+    /// Whether a member of it is staged, from which others are bound: it has another member or slaves.
+    pub(crate) fn is_staged(&self) -> bool
+        ensures { result ≡ is_staged self.now }
+    {
+        self.is_master || self.members > 1
+    }
+}
+
+/// The groups that rows name, by their numbers.
+#[derive(Drop)]
+pub(crate) struct Groups<'a> {
+    all: BTreeMap<u64, Group<'a>>,
+}
+
+impl<'a> Groups<'a> {
+    /// The groups that no rows name: none.
+    pub(crate) fn new(alloc: Global) -> Groups<'a> {
+        Groups {
+            all: BTreeMap::new(alloc),
+        }
+    }
+
+    /// A group, if a row named it.
+    pub(crate) fn get(&self, number: u64) -> Option<Group<'a>>
+        ensures { result ≡ get nat_cmp self.now.all number }
+    {
+        self.all.get(&number).copied()
+    }
+
+    /// How many groups there are.
+    pub(crate) fn len(&self) -> usize
+        ensures { result ≡ btree_map_len self.now.all }
+    {
+        self.all.len()
+    }
+
+    /// The group from whose staged member a mount is bound, if from one: its own, or its master.
+    pub(crate) fn source_of(&self, row: &HostMount) -> Option<u64>
+        ensures { result ≡ (if has_receivers self.now.all row.now.shared then row.now.shared else row.now.master) }
+    {
+        if self.has_receivers(row.shared) {
+            row.shared
+        } else {
+            row.master
+        }
+    }
+
+    /// Adds what a row tells. Fails for want of memory alone.
+    pub(crate) fn add(&mut self, row: &'a HostMount) -> Result<(), AllocError> {
+        if let Some(number) = row.shared {
+            self.add_member(number, row)?;
+        }
+        if let Some(number) = row.master {
+            self.add_master(number, row.via, row)?;
+        }
+        if let Some(number) = row.via {
+            self.add_master(number, None, row)?;
+        }
+        Ok(())
+    }
+
+    /// Adds a member of a group. Fails for want of memory alone.
+    fn add_member(&mut self, number: u64, row: &'a HostMount) -> Result<(), AllocError> {
+        let old = self.get(number);
+        let group = Group {
+            members: old.map_or(1, |group| group.members.saturating_add(1)),
+            is_master: old.is_some_and(|group| group.is_master),
+            ..Group::new(row.master, row.device.as_slice())
+        };
+        self.all.insert(number, group)?;
+        Ok(())
+    }
+
+    /// Adds a group that others come from; its own master counts where no member told it. Fails for want of memory
+    /// alone.
+    fn add_master(
+        &mut self,
+        number: u64,
+        master: Option<u64>,
+        row: &'a HostMount,
+    ) -> Result<(), AllocError> {
+        let old = self.get(number);
+        let group = Group {
+            is_master: true,
+            ..old.unwrap_or(Group::new(master, row.device.as_slice()))
+        };
+        self.all.insert(number, group)?;
+        Ok(())
+    }
+
+    /// Whether a row is a member of this group.
+    #[tactic(auto, unfolding(crate::specs::Groups::has_members))]
+    pub(crate) fn has_members(&self, number: u64) -> bool
+        ensures { result ≡ has_members self.now.all number }
+    {
+        self.get(number).is_some_and(|group| group.members > 0)
+    }
+
+    /// Whether a mount of this group, if it is in one, has others that get what is mounted on it.
+    pub(crate) fn has_receivers(&self, shared: Option<u64>) -> bool
+        ensures { result ≡ has_receivers self.now.all shared }
+    {
+        let Some(number) = shared else {
+            return false;
+        };
+        self.get(number).is_some_and(|group| group.is_staged())
+    }
+
+    /// The numbers of the groups of which a member is staged, by rising number. Fails for want of memory alone.
+    pub(crate) fn staged(&self, alloc: Global) -> Result<Vec<u64>, AllocError> {
+        let mut numbers = Vec::new(alloc);
+        for (number, group) in self.all.iter() {
+            if group.is_staged() {
+                numbers.push(*number)?;
+            }
+        }
+        Ok(numbers)
+    }
+
+    /// A group and those above it, from it upwards. Fails for want of memory alone.
+    pub(crate) fn above(&self, alloc: Global, first: Option<u64>) -> Result<Vec<u64>, AllocError> {
+        let mut numbers = Vec::new(alloc);
+        let mut next = first;
+        for _step in 0..self.all.len() {
+            let Some(number) = next else {
+                return Ok(numbers);
+            };
+            numbers.push(number)?;
+            next = self.get(number).and_then(|group| group.master);
+        }
+        Ok(numbers)
+    }
+}

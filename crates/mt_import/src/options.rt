@@ -1,0 +1,118 @@
+//! The options of mounts, as words of a `setattr` line.
+ghost use Rattle.std.specs.Prelude.{◌≡◌, ◌++◌, if◌then◌else◌, [], map, IfOk, OnOk};
+ghost use Rattle.std.specs.List.{list_any};
+ghost use Rattle.std.specs.Option.{option_map};
+ghost use Rattle.std.specs.Str.{bytes_eq};
+ghost use Rattle.mt_words.specs.Words.{pieces};
+ghost use Rattle.mt_import.specs.Options.{has_option, times_of, before_set, with_set, with_flag, with_flags, with_times, with_kind, options_text};
+
+use mt_words::words::Pieces;
+use std::alloc::{AllocError, Global};
+
+/// The options that are set alone.
+const FLAGS: [&[u8]; 6] = [
+    b"ro",
+    b"nosuid",
+    b"nodev",
+    b"noexec",
+    b"nodiratime",
+    b"nosymfollow",
+];
+
+/// Whether a word is among options.
+#[tactic(auto, unfolding(crate::specs::Options::has_option))]
+fn has_option(options: &[u8], word: &[u8]) -> bool
+    ensures { result ≡ has_option options.now word.now }
+{
+    Pieces::new(b',', options).any(|option| option == word)
+}
+
+/// The word of `set=` for the access times of these options, if they are not those of a new mount.
+fn times_of(options: &[u8]) -> Option<&'static [u8]>
+    ensures { option_map (λ word. word.now) result ≡ times_of options.now }
+{
+    if has_option(options, b"noatime") {
+        return Some(b"noatime");
+    }
+    if has_option(options, b"relatime") {
+        return None;
+    }
+    Some(b"strictatime")
+}
+
+/// What stands before a word of `set=`.
+fn before_set(text: &[u8]) -> &'static [u8]
+    ensures { result.now ≡ before_set text.now }
+{
+    if text.is_empty() { b" set=" } else { b"," }
+}
+
+/// Appends a word to those of `set=`. Fails for want of memory alone.
+fn push_set(text: &mut Vec<u8>, word: &[u8]) -> Result<(), AllocError>
+    ensures { OnOk result (text.new.items ≡ with_set text.old.items word.now) }
+{
+    let before = before_set(text.as_slice());
+    text.extend_from_slice(before)?;
+    text.extend_from_slice(word)?;
+    Ok(())
+}
+
+/// Appends a flag to the words of `set=`, if it is among options. Fails for want of memory alone.
+fn push_flag(text: &mut Vec<u8>, options: &[u8], flag: &[u8]) -> Result<(), AllocError>
+    ensures { OnOk result (text.new.items ≡ with_flag options.now text.old.items flag.now) }
+{
+    if has_option(options, flag) {
+        push_set(text, flag)?;
+    }
+    Ok(())
+}
+
+/// Appends those of these flags that are among options. Fails for want of memory alone.
+fn push_flags(text: &mut Vec<u8>, options: &[u8], flags: &[&[u8]]) -> Result<(), AllocError>
+    ensures { OnOk result (text.new.items ≡ with_flags options.now text.old.items (map (λ flag. flag.now) flags.now)) }
+{
+    'flags: for flag in flags {
+        push_flag(text, options, flag)?;
+    }
+    Ok(())
+}
+
+/// Appends the access times of options, if they are not those of a new mount. Fails for want of memory alone.
+fn push_times(text: &mut Vec<u8>, options: &[u8]) -> Result<(), AllocError>
+    ensures { OnOk result (text.new.items ≡ with_times (times_of options.now) text.old.items) }
+{
+    let Some(times) = times_of(options) else {
+        return Ok(());
+    };
+    push_set(text, times)?;
+    text.extend_from_slice(b" clr=atime")?;
+    Ok(())
+}
+
+/// Appends a word behind a space, if there is one. Fails for want of memory alone.
+fn push_kind(text: &mut Vec<u8>, kind: Option<&'static [u8]>) -> Result<(), AllocError>
+    ensures { OnOk result (text.new.items ≡ with_kind (option_map (λ word. word.now) kind.entry) text.old.items) }
+{
+    let Some(kind) = kind else {
+        return Ok(());
+    };
+    text.extend_from_slice(b" ")?;
+    text.extend_from_slice(kind)?;
+    Ok(())
+}
+
+/// The words behind a path in a `setattr` line, each behind a space: those for the options of a row, none where they
+/// are those of a new mount, and one for its propagation. Fails for want of memory alone.
+pub(crate) fn options_of(
+    alloc: Global,
+    options: &[u8],
+    kind: Option<&'static [u8]>,
+) -> Result<Vec<u8>, AllocError>
+    ensures { IfOk result (λ text. text.items ≡ options_text options.now (option_map (λ word. word.now) kind.entry)) }
+{
+    let mut text = Vec::new(alloc);
+    push_flags(&mut text, options, FLAGS.as_slice())?;
+    push_times(&mut text, options)?;
+    push_kind(&mut text, kind)?;
+    Ok(text)
+}

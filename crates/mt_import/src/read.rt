@@ -1,0 +1,145 @@
+//! Lines of a mountinfo, read.
+ghost use Rattle.std.specs.Prelude.{◌≡◌, ◌≢◌, Some, None, IfOk, IfErr, MatchOption};
+ghost use Rattle.mt_import.specs.Reading.{mount_in, no_fields, with_field, fields_in, is_device};
+
+use crate::told::HostMount;
+use mt_skel::fault::Fault;
+use mt_words::words::{Pieces, Words, number, words};
+use std::alloc::{AllocError, Global};
+
+/// The optional fields of a line, those that are known.
+#[derive(Clone, Copy)]
+struct Fields {
+    shared: Option<u64>,
+    master: Option<u64>,
+    via: Option<u64>,
+    unbindable: bool,
+}
+
+impl Fields {
+    /// No field.
+    fn new() -> Fields
+        ensures { result ≡ no_fields }
+    {
+        Fields {
+            shared: None,
+            master: None,
+            via: None,
+            unbindable: false,
+        }
+    }
+
+    /// These fields with one more, or `None` where it has a name that is known and no number behind it. A field that
+    /// is not known changes nothing.
+    fn with(self, field: &[u8]) -> Option<Fields>
+        ensures { result ≡ with_field self field.now }
+    {
+        if field == b"unbindable".as_slice() {
+            return Some(Fields {
+                unbindable: true,
+                ..self
+            });
+        }
+        if let Some(group) = field.strip_prefix(b"shared:") {
+            let shared = Some(number(group)?);
+            return Some(Fields { shared, ..self });
+        }
+        if let Some(group) = field.strip_prefix(b"master:") {
+            let master = Some(number(group)?);
+            return Some(Fields { master, ..self });
+        }
+        if let Some(group) = field.strip_prefix(b"propagate_from:") {
+            let via = Some(number(group)?);
+            return Some(Fields { via, ..self });
+        }
+        Some(self)
+    }
+}
+
+/// Takes the optional fields up to the dash, and the dash too. None where there is no dash, and for a field that is
+/// none.
+fn read_fields(words: &mut Words<'_>) -> Option<Fields>
+    ensures { MatchOption result (fields_in no_fields words.old ≡ None) (λ fields. fields_in no_fields words.old ≡ Some (fields, words.new)) }
+{
+    let mut fields = Fields::new();
+    'fields: while let Some(word) = words.next() {
+        if word == b"-".as_slice() {
+            return Some(fields);
+        }
+        fields = fields.with(word)?;
+    }
+    None
+}
+
+/// Whether a word is the numbers of a device, major and minor.
+fn is_device(word: &[u8]) -> bool
+    ensures { result ≡ is_device word.now }
+{
+    let mut pieces = Pieces::new(b':', word);
+    let (Some(major), Some(minor), None) = (pieces.next(), pieces.next(), pieces.next()) else {
+        return false;
+    };
+    number(major).is_some() && number(minor).is_some()
+}
+
+/// A copy of a word. Fails for want of memory alone.
+fn copy_of(alloc: Global, word: &[u8]) -> Result<Vec<u8>, AllocError>
+    ensures { IfOk result (λ copy. copy.items ≡ word.now) }
+{
+    let mut copy = Vec::new(alloc);
+    copy.extend_from_slice(word)?;
+    Ok(copy)
+}
+
+/// The row that a line of a mountinfo tells, without its line end.
+///
+/// Refused as `BadLine` exactly where it is no such line, and else as `NoMemory` alone.
+#[tactic(auto, unfolding(crate::specs::Reading::mount_in))]
+pub fn read_mount(alloc: Global, line: &[u8]) -> Result<HostMount, Fault>
+    ensures row { IfOk result (λ row. mount_in line.now ≡ Some row) }
+    ensures refused { IfErr result (λ fault. fault ≢ Fault.NoMemory → (fault ≡ Fault.BadLine) × (mount_in line.now ≡ None)) }
+{
+    let mut words = words(line);
+    let (Some(id), Some(parent), Some(device), Some(root), Some(point), Some(options)) = (
+        words.next(),
+        words.next(),
+        words.next(),
+        words.next(),
+        words.next(),
+        words.next(),
+    ) else {
+        return Err(Fault::BadLine);
+    };
+    let (Some(id), Some(parent), Some(fields)) = (
+        number(id),
+        number(parent),
+        read_fields(&mut words),
+    ) else {
+        return Err(Fault::BadLine);
+    };
+    let (Some(kind), Some(source), Some(_), None) = (
+        words.next(),
+        words.next(),
+        words.next(),
+        words.next(),
+    ) else {
+        return Err(Fault::BadLine);
+    };
+    if !is_device(device) {
+        return Err(Fault::BadLine);
+    }
+    Ok(HostMount {
+        id,
+        parent,
+        device: copy_of(alloc, device)?,
+        root: copy_of(alloc, root)?,
+        point: copy_of(alloc, point)?,
+        options: copy_of(alloc, options)?,
+        shared: fields.shared,
+        master: fields.master,
+        via: fields.via,
+        unbindable: fields.unbindable,
+        kind: copy_of(alloc, kind)?,
+        source: copy_of(alloc, source)?,
+    })
+}

@@ -1,0 +1,106 @@
+//! The script: comments and commands.
+ghost use Rattle.std.specs.Prelude.{◌≡◌, not, ◌==◌, [], ◌∷◌, ◌++◌, IfOk, OnOk, IsOkUnless};
+ghost use Rattle.std.specs.List.{list_all};
+ghost use Rattle.mt_requests.specs.Requests.{request_of};
+ghost use Rattle.mt_import.specs.Script.{is_run, is_script_line, IsScript, line_text};
+
+use mt_requests::request::{Request, read_request};
+use mt_skel::fault::Fault;
+use std::alloc::{AllocError, Global};
+use std::marker::Model;
+
+/// The lines of a script, each with its line end: comments, which begin with `#`, and lines that the server reads as
+/// commands.
+#[derive(Drop)]
+pub struct Script {
+    text: Vec<u8>,
+}
+
+impl Model for Script {
+    ghost use Rattle.std.specs.Prelude.{ℕ, List};
+    ghost use Rattle.mt_import.specs.Script.{IsScript};
+
+    ghost Value = { List ℕ };
+
+    ghost view = { λ s. s.text.items };
+
+    ghost invariant = { λ s. IsScript s.text.items };
+}
+
+/// Whether no byte ends a line.
+fn is_one_line(line: &[u8]) -> bool
+    ensures { result ≡ list_all (λ b. not (b == 10)) line.now }
+{
+    line.iter().all(|byte| *byte != b'\n')
+}
+
+/// Whether the server reads a line as a command. Refused as `NoMemory` alone.
+fn is_command(alloc: Global, line: &[u8]) -> Result<bool, Fault>
+    ensures asked { IfOk result (λ is. is ≡ is_run (request_of line.now)) }
+    ensures memory { IsOkUnless result Fault.NoMemory }
+{
+    match read_request(alloc, line) {
+        Ok(Request::Run(_)) => Ok(true),
+        Err(Fault::NoMemory) => Err(Fault::NoMemory),
+        _ => Ok(false),
+    }
+}
+
+/// Whether a line can stand in a script. Refused as `NoMemory` alone.
+fn is_script_line(alloc: Global, line: &[u8]) -> Result<bool, Fault>
+    ensures line { IfOk result (λ is. is ≡ is_script_line line.now) }
+    ensures memory { IsOkUnless result Fault.NoMemory }
+{
+    if !is_one_line(line) {
+        return Ok(false);
+    }
+    if line.starts_with(b"#") {
+        return Ok(true);
+    }
+    is_command(alloc, line)
+}
+
+/// A line with its line end. Fails for want of memory alone.
+fn ended(alloc: Global, line: &[u8]) -> Result<Vec<u8>, AllocError>
+    ensures { IfOk result (λ text. text.items ≡ line.now ++ 10 ∷ []) }
+{
+    let mut text = Vec::new(alloc);
+    text.extend_from_slice(line)?;
+    text.push(b'\n')?;
+    Ok(text)
+}
+
+impl Script {
+    /// A script without lines.
+    pub fn new(alloc: Global) -> Script
+        ensures { result ≡ [] }
+    {
+        Script {
+            text: Vec::new(alloc),
+        }
+    }
+
+    /// The text of the script.
+    pub fn text(&self) -> &[u8]
+        ensures text { result.now ≡ self.now }
+        ensures lines { IsScript self.now }
+    {
+        self.text.as_slice()
+    }
+
+    /// Appends a line with a line end, if it is a comment or a command: whether it is. Refused as `NoMemory` alone.
+    #[tactic(auto, unfolding(crate::specs::Script::line_text))]
+    pub fn push(&mut self, line: &[u8]) -> Result<bool, Fault>
+        ensures told { IfOk result (λ is. is ≡ is_script_line line.now) }
+        ensures pushed { OnOk result (self.new ≡ self.old ++ line_text line.now) }
+        ensures memory { IsOkUnless result Fault.NoMemory }
+    {
+        let alloc = *self.text.allocator();
+        if !is_script_line(alloc, line)? {
+            return Ok(false);
+        }
+        let text = ended(alloc, line)?;
+        self.text.extend_from_slice(text.as_slice())?;
+        Ok(true)
+    }
+}

@@ -1,0 +1,120 @@
+//! The lines of the script, made of their words.
+ghost use Rattle.std.specs.Prelude.{◌≡◌, ◌∷◌, ◌++◌, map, decimal, IfOk, OnOk, IsOkUnless};
+ghost use Rattle.std.specs.List.{flat_map, join_with_byte};
+ghost use Rattle.mt_import.specs.Script.{line_or_comment, command_text, comment_text, left_out_text};
+
+use crate::script::Script;
+use itoa::Buffer;
+use mt_skel::fault::Fault;
+use std::alloc::{AllocError, Global};
+
+/// Texts, one behind the other. Fails for want of memory alone.
+pub(crate) fn joined(alloc: Global, texts: &[&[u8]]) -> Result<Vec<u8>, AllocError>
+    ensures { IfOk result (λ all. all.items ≡ flat_map (λ text. text.now) texts.now) }
+{
+    let mut all = Vec::new(alloc);
+    'texts: for text in texts {
+        all.extend_from_slice(text)?;
+    }
+    Ok(all)
+}
+
+/// A text, and one behind it. Fails for want of memory alone.
+pub(crate) fn one_behind(alloc: Global, first: &[u8], second: &[u8]) -> Result<Vec<u8>, AllocError>
+    ensures { IfOk result (λ all. all.items ≡ first.now ++ second.now) }
+{
+    let mut all = Vec::new(alloc);
+    all.extend_from_slice(first)?;
+    all.extend_from_slice(second)?;
+    Ok(all)
+}
+
+/// A number in decimal digits. Fails for want of memory alone.
+pub(crate) fn digits_of(alloc: Global, number: u64) -> Result<Vec<u8>, AllocError>
+    ensures { IfOk result (λ digits. digits.items ≡ decimal number) }
+{
+    let mut digits = Vec::new(alloc);
+    let mut buffer = Buffer::new();
+    digits.extend_from_slice(buffer.format(number).as_bytes())?;
+    Ok(digits)
+}
+
+/// Appends words, each behind a space.
+fn push_words(line: &mut Vec<u8>, words: &[&[u8]]) -> Result<(), AllocError>
+    ensures { OnOk result (line.new.items ≡ line.old.items ++ flat_map (λ word. 32 ∷ word.now) words.now) }
+{
+    'words: for word in words {
+        line.extend_from_slice(b" ")?;
+        line.extend_from_slice(word)?;
+    }
+    Ok(())
+}
+
+/// Words between single spaces. Fails for want of memory alone.
+pub(crate) fn spaced(alloc: Global, words: &[&[u8]]) -> Result<Vec<u8>, AllocError>
+    ensures { IfOk result (λ line. line.items ≡ join_with_byte 32 (map (λ word. word.now) words.now)) }
+{
+    let mut line = Vec::new(alloc);
+    let Some((first, others)) = words.split_first() else {
+        return Ok(line);
+    };
+    line.extend_from_slice(first)?;
+    push_words(&mut line, others)?;
+    Ok(line)
+}
+
+/// Appends a line that is to be a command, or a comment in its place. Refused as `NoMemory` alone.
+#[tactic(auto, unfolding(crate::specs::Script::line_or_comment))]
+pub(crate) fn push_command(script: &mut Script, line: &[u8]) -> Result<(), Fault>
+    ensures pushed { OnOk result (script.new ≡ script.old ++ line_or_comment line.now) }
+    ensures memory { IsOkUnless result Fault.NoMemory }
+{
+    if !script.push(line)? {
+        let _said = script.push(b"# a line that the server would not read is left out")?;
+    }
+    Ok(())
+}
+
+/// Appends the command of these words, or a comment in its place. Refused as `NoMemory` alone.
+#[tactic(auto, unfolding(crate::specs::Script::command_text))]
+pub(crate) fn command(alloc: Global, script: &mut Script, words: &[&[u8]]) -> Result<(), Fault>
+    ensures pushed { OnOk result (script.new ≡ script.old ++ command_text (map (λ word. word.now) words.now)) }
+    ensures memory { IsOkUnless result Fault.NoMemory }
+{
+    let line = spaced(alloc, words)?;
+    push_command(script, line.as_slice())?;
+    Ok(())
+}
+
+/// Appends a comment on a mount. Refused as `NoMemory` alone.
+#[tactic(auto, unfolding(crate::specs::Script::comment_text))]
+pub(crate) fn comment(
+    alloc: Global,
+    script: &mut Script,
+    mount: u64,
+    text: &[u8],
+) -> Result<(), Fault>
+    ensures pushed { OnOk result (script.new ≡ script.old ++ comment_text mount text.now) }
+    ensures memory { IsOkUnless result Fault.NoMemory }
+{
+    let number = digits_of(alloc, mount)?;
+    let line = joined(alloc, &[b"# mount ", number.as_slice(), b" ", text])?;
+    let _said = script.push(line.as_slice())?;
+    Ok(())
+}
+
+/// Says that a mount is left out with all below it, and why. Refused as `NoMemory` alone.
+#[tactic(auto, unfolding(crate::specs::Script::left_out_text))]
+pub(crate) fn left_out(
+    alloc: Global,
+    script: &mut Script,
+    mount: u64,
+    why: &[u8],
+) -> Result<(), Fault>
+    ensures pushed { OnOk result (script.new ≡ script.old ++ left_out_text mount why.now) }
+    ensures memory { IsOkUnless result Fault.NoMemory }
+{
+    let text = one_behind(alloc, b"is left out with all below it: ", why)?;
+    comment(alloc, script, mount, text.as_slice())?;
+    Ok(())
+}
