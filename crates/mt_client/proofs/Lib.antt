@@ -6,3 +6,4 @@ pub mod FollowLaws
 pub mod ReplyLaws
 pub mod EndingLaws
 pub mod FoundLaws
+pub mod SendingLaws

@@ -1,10 +1,8 @@
 -- The lines of requests, and what of them went out.
-use Rattle.std.proofs.Common.{Bor, ◌≡◌, ℕ, zero, suc, ◌+◌, ◌<◌, List, [], ◌∷◌, ◌++◌, map, length, take, refl, sym, ap, subst, ◌∙◌, arith, append_assoc, length-append, Result, Ok, Err, OnErr, OnOk}
+use Rattle.std.proofs.Common.{Bor, ◌≡◌, ℕ, zero, suc, ◌+◌, ◌<◌, List, [], ◌∷◌, ◌++◌, map, length, take, refl, sym, ap, ◌∙◌, arith, append_assoc, length-append, Result, Ok, Err, OnErr}
 use Rattle.std.proofs.lemmas.List.{append-nil, take-append-le}
 use Rattle.std.specs.List.{flat_map, join_with_byte}
 use Rattle.mt_skel.specs.Escapes.{escaped}
-use Rattle.mt_client.specs.declared.fault.ClientFault.{ClientFault}
-use Rattle.mt_events.specs.Posts.{ended}
 use Rattle.mt_client.specs.Requests.{request_text}
 use Rattle.mt_client.specs.Reading.{IsCutOff, IsSentPart}
 
@@ -85,11 +83,3 @@ part_one first second old new e = part_first first second old new (sent_whole fi
 
 pub part_both : (first second old between new : List ℕ) → between ≡ old ++ first → new ≡ between ++ second → IsSentPart (first ++ second) old new
 part_both first second old between new e f = part_second first second old between new e (sent_whole second between new f)
-
--- a line that was sent, or cut off
-pub part_of_send : {T : Type 0} (r : Result (Unit {0}) ClientFault) (line wanted old new : List ℕ) → T → line ≡ wanted → OnOk r (T → new ≡ old ++ ended line) → OnErr r (T → IsCutOff (ended line) old new)
-    → IsSentPart (ended wanted) old new
-part_of_send (Ok u) line wanted old new t e sent cut = subst (λ x. IsSentPart (ended x) old new) e (sent_whole (ended line) old new (sent t))
-part_of_send (Err f) line wanted old new t e sent cut =
-    let k = cut t in
-    subst (λ x. IsSentPart (ended x) old new) e (record { count = k.count; out = k.out })

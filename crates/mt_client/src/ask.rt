@@ -1,15 +1,17 @@
 //! One request and its answer.
-ghost use Rattle.std.specs.Prelude.{◌≡◌, Bool, [], ◌++◌, ◌⊎◌, map, None, Err, IfOk, IfErr, OnOk, IsTrue};
+ghost use Rattle.std.specs.Prelude.{◌≡◌, Bool, true, false, [], ◌++◌, ◌⊎◌, map, None, Ok, Err, IfOk, IfErr, OnOk, IsTrue};
 ghost use Rattle.mt_lines.specs.Reading.{last_faults, fault_of, limit_of};
 ghost use Rattle.mt_events.specs.Posts.{ended};
 ghost use Rattle.mt_client.specs.Requests.{request_text, form_of};
+ghost use Rattle.mt_client.specs.Awaited.{IsOneRefusal};
 ghost use Rattle.mt_client.specs.Replies.{IsAnswer};
 ghost use Rattle.mt_client.specs.Reading.{lines_left, HasPassed, HasBroken, IsBroken, IsSentPart, IsCut};
 
 use crate::answer::form_of;
 use crate::fault::ClientFault;
 use crate::relay::pass_answer;
-use crate::request::{request_line, send_request};
+use crate::request::request_line;
+use crate::sending::send_request;
 use mt_lines::line::LineReader;
 use mt_lines::stream::{Input, Output};
 use std::alloc::Global;
@@ -17,7 +19,8 @@ use std::alloc::Global;
 /// Sends a line as it stands, with the line end that it is given without, and prints the lines that answer it.
 ///
 /// The reader has met no fault, and serves what comes over the connection. As many lines are read as answer the
-/// request, and each is printed with its line end as it is read, a refusal too.
+/// request, and each is printed with its line end as it is read, a refusal too. Where the request does not go out, since
+/// the server has ended the connection, a refusal that it sent before is the answer.
 ///
 /// Answers whether the line that tells begins with `ok`, and not with `no`. Refused as `Connection` where the
 /// connection fails or ends early, or where what comes is no answer to the request, as `Output` where a line cannot
@@ -31,9 +34,11 @@ pub fn ask_line<R: Input + Drop, W: Output, O: Output>(
 ) -> Result<bool, ClientFault>
     requires fresh { fault_of lines.old ≡ None }
 
-    // The whole line of the request went out, or a part of it up to a fault.
-    ensures sent { OnOk result (IsTrue W.tells
-        → W.written writer.new ≡ W.written writer.old ++ ended line.now) }
+    // The whole line of the request went out, or calls of the writer failed, and then a part of it did.
+    ensures sent { result ≡ Ok true → IsTrue W.tells
+        → W.written writer.new ≡ W.written writer.old ++ ended line.now }
+    ensures unsent { result ≡ Ok false → IsTrue W.tells → IsTrue W.counts
+        → (W.written writer.new ≡ W.written writer.old ++ ended line.now) ⊎ HasBroken (W.failed writer.old) (W.failed writer.new) (W.faults writer.old) (W.faults writer.new) }
     ensures part { IsTrue W.tells
         → IsSentPart (ended line.now) (W.written writer.old) (W.written writer.new) }
 
@@ -44,29 +49,35 @@ pub fn ask_line<R: Input + Drop, W: Output, O: Output>(
     ensures broken { IsTrue R.tells → IsTrue O.tells → IfErr result
         (λ fault. IsBroken fault (lines_left lines.old) (O.written out.old) (O.written out.new)) }
 
-    // `Connection` only where calls of the reader or the writer failed, or no whole answer to the request comes
-    // first, and `Output` only where calls of the output failed; where no fault of the stream stood, the last call
-    // failed then, or was the last of as many interrupted ones in succession as end a read or a send.
+    // `Connection` only where calls of the reader failed, or no whole answer to the request comes first, or where calls of
+    // the writer failed and no refusal comes first, and `Output` only where calls of the output failed; where no fault of
+    // the stream stood, the last call failed then, or was the last of as many interrupted ones in succession as end a
+    // read or a send.
     ensures connection { result ≡ Err ClientFault.Connection → IsTrue R.tells → IsTrue R.counts → IsTrue W.counts
-        → HasBroken (W.failed writer.old) (W.failed writer.new) (W.faults writer.old) (W.faults writer.new) ⊎ IsCut (λ all. (told : Bool) × IsAnswer (form_of line.now) all told) lines.old lines.new }
+        → (HasBroken (W.failed writer.old) (W.failed writer.new) (W.faults writer.old) (W.faults writer.new) × IsCut IsOneRefusal lines.old lines.new) ⊎ IsCut (λ all. (told : Bool) × IsAnswer (form_of line.now) all told) lines.old lines.new }
     ensures output { result ≡ Err ClientFault.Output → IsTrue O.counts
         → HasBroken (O.failed out.old) (O.failed out.new) (O.faults out.old) (O.faults out.new) }
 
-    // What the next request finds: a reader that has met no fault, and where none of a stream stood, none.
+    // What the next request finds: a reader that has met no fault, and where none of a stream stood, none, but where
+    // calls of the writer failed.
     ensures fresh { OnOk result (fault_of lines.new ≡ None) }
     ensures reads { OnOk result (IsTrue R.counts → last_faults lines.old ≡ [] → last_faults lines.new ≡ []) }
-    ensures writes { OnOk result (IsTrue W.counts → W.faults writer.old ≡ [] → W.faults writer.new ≡ []) }
+    ensures writes { IfOk result (λ told. IsTrue W.counts → W.faults writer.old ≡ []
+        → (W.faults writer.new ≡ []) ⊎ ((told ≡ false) × HasBroken (W.failed writer.old) (W.failed writer.new) (W.faults writer.old) (W.faults writer.new))) }
     ensures prints { OnOk result (IsTrue O.counts → O.faults out.old ≡ [] → O.faults out.new ≡ []) }
     ensures limit { limit_of lines.new ≡ limit_of lines.old }
 {
-    send_request(writer, line)?;
+    if !send_request(lines, writer, line, out)? {
+        return Ok(false);
+    }
     pass_answer(alloc, lines, form_of(line), out)
 }
 
 /// Sends the request of these words, each with its escapes, and prints the lines that answer it.
 ///
 /// The reader has met no fault, and serves what comes over the connection. As many lines are read as answer the
-/// request, and each is printed with its line end as it is read, a refusal too.
+/// request, and each is printed with its line end as it is read, a refusal too. Where the request does not go out, since
+/// the server has ended the connection, a refusal that it sent before is the answer.
 ///
 /// Answers whether the line that tells begins with `ok`, and not with `no`. Refused as `Connection` where the
 /// connection fails or ends early, or where what comes is no answer to the request, as `Output` where a line cannot
@@ -81,9 +92,11 @@ pub fn ask<R: Input + Drop, W: Output, O: Output>(
 ) -> Result<bool, ClientFault>
     requires fresh { fault_of lines.old ≡ None }
 
-    // The whole line of the request went out, or a part of it up to a fault.
-    ensures sent { OnOk result (IsTrue W.tells
-        → W.written writer.new ≡ W.written writer.old ++ ended (request_text (map (λ word. word.now) words.now))) }
+    // The whole line of the request went out, or calls of the writer failed, and then a part of it did.
+    ensures sent { result ≡ Ok true → IsTrue W.tells
+        → W.written writer.new ≡ W.written writer.old ++ ended (request_text (map (λ word. word.now) words.now)) }
+    ensures unsent { result ≡ Ok false → IsTrue W.tells → IsTrue W.counts
+        → (W.written writer.new ≡ W.written writer.old ++ ended (request_text (map (λ word. word.now) words.now))) ⊎ HasBroken (W.failed writer.old) (W.failed writer.new) (W.faults writer.old) (W.faults writer.new) }
     ensures part { IsTrue W.tells
         → IsSentPart (ended (request_text (map (λ word. word.now) words.now))) (W.written writer.old) (W.written writer.new) }
 
@@ -94,18 +107,21 @@ pub fn ask<R: Input + Drop, W: Output, O: Output>(
     ensures broken { IsTrue R.tells → IsTrue O.tells → IfErr result
         (λ fault. IsBroken fault (lines_left lines.old) (O.written out.old) (O.written out.new)) }
 
-    // `Connection` only where calls of the reader or the writer failed, or no whole answer to the request comes
-    // first, and `Output` only where calls of the output failed; where no fault of the stream stood, the last call
-    // failed then, or was the last of as many interrupted ones in succession as end a read or a send.
+    // `Connection` only where calls of the reader failed, or no whole answer to the request comes first, or where calls of
+    // the writer failed and no refusal comes first, and `Output` only where calls of the output failed; where no fault of
+    // the stream stood, the last call failed then, or was the last of as many interrupted ones in succession as end a
+    // read or a send.
     ensures connection { result ≡ Err ClientFault.Connection → IsTrue R.tells → IsTrue R.counts → IsTrue W.counts
-        → HasBroken (W.failed writer.old) (W.failed writer.new) (W.faults writer.old) (W.faults writer.new) ⊎ IsCut (λ all. (told : Bool) × IsAnswer (form_of (request_text (map (λ word. word.now) words.now))) all told) lines.old lines.new }
+        → (HasBroken (W.failed writer.old) (W.failed writer.new) (W.faults writer.old) (W.faults writer.new) × IsCut IsOneRefusal lines.old lines.new) ⊎ IsCut (λ all. (told : Bool) × IsAnswer (form_of (request_text (map (λ word. word.now) words.now))) all told) lines.old lines.new }
     ensures output { result ≡ Err ClientFault.Output → IsTrue O.counts
         → HasBroken (O.failed out.old) (O.failed out.new) (O.faults out.old) (O.faults out.new) }
 
-    // What the next request finds: a reader that has met no fault, and where none of a stream stood, none.
+    // What the next request finds: a reader that has met no fault, and where none of a stream stood, none, but where
+    // calls of the writer failed.
     ensures fresh { OnOk result (fault_of lines.new ≡ None) }
     ensures reads { OnOk result (IsTrue R.counts → last_faults lines.old ≡ [] → last_faults lines.new ≡ []) }
-    ensures writes { OnOk result (IsTrue W.counts → W.faults writer.old ≡ [] → W.faults writer.new ≡ []) }
+    ensures writes { IfOk result (λ told. IsTrue W.counts → W.faults writer.old ≡ []
+        → (W.faults writer.new ≡ []) ⊎ ((told ≡ false) × HasBroken (W.failed writer.old) (W.failed writer.new) (W.faults writer.old) (W.faults writer.new))) }
     ensures prints { OnOk result (IsTrue O.counts → O.faults out.old ≡ [] → O.faults out.new ≡ []) }
     ensures limit { limit_of lines.new ≡ limit_of lines.old }
 {

@@ -17,3 +17,4 @@ pub mod picture;
 mod posts;
 pub mod relay;
 pub mod request;
+mod sending;

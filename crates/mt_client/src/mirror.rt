@@ -15,33 +15,14 @@ use crate::opening::read_count;
 use crate::parts::read_found;
 use crate::posts::apply_post;
 use crate::relay::{next_text, print_line, print_text};
-use crate::request::{numbered_line, send_request};
+use crate::request::numbered_line;
+use crate::sending::send_request;
 use mt_events::mirror::Mirror;
 use mt_events::opening::Scope;
 use mt_events::texts::table_lines;
 use mt_lines::line::LineReader;
 use mt_lines::stream::{Input, Output};
 use std::alloc::Global;
-
-/// Sends a request that is a word and a number.
-fn send_numbered<W: Output>(
-    alloc: Global,
-    writer: &mut W,
-    command: &[u8],
-    number: u64,
-) -> Result<(), ClientFault>
-    ensures sent { OnOk result (IsTrue W.tells
-        → W.written writer.new ≡ W.written writer.old ++ ended (numbered_text command.now number)) }
-    ensures part { IsTrue W.tells
-        → IsSentPart (ended (numbered_text command.now number)) (W.written writer.old) (W.written writer.new) }
-    ensures kind { result ≢ Err ClientFault.Output }
-    ensures cause { result ≡ Err ClientFault.Connection → IsTrue W.counts → HasBroken (W.failed writer.old) (W.failed writer.new) (W.faults writer.old) (W.faults writer.new) }
-    ensures counted { IsTrue W.counts → W.failed writer.old ≤ W.failed writer.new }
-    ensures writes { OnOk result (IsTrue W.counts → W.faults writer.old ≡ [] → W.faults writer.new ≡ []) }
-{
-    let line = numbered_line(alloc, command, number)?;
-    send_request(writer, line.as_slice())
-}
 
 /// The last of these namespaces, if there is one.
 fn last_of(mut parts: Vec<Mirror>) -> Option<Mirror>
@@ -186,7 +167,8 @@ fn print_mirror<O: Output>(alloc: Global, out: &mut O, mirror: &Mirror) -> Resul
 /// lead to, and its rows, as the server shows it.
 ///
 /// The reader has met no fault, and serves what comes over the connection. Answers true where the table was printed,
-/// and false where a refusal was, that of the first request, or one that comes in the place of a post.
+/// and false where a refusal was, that of the first request, or one that comes in the place of a post. Where a request
+/// does not go out, since the server has ended the connection, a refusal that it sent before is read.
 ///
 /// Refused as `Connection` where the connection fails or ends early, or where what comes is neither: the opening of
 /// another namespace, or of several, rows that are not well-formed or do not rise by ID, what is no post, a post that
@@ -221,31 +203,40 @@ pub fn mirror<R: Input + Drop, W: Output, O: Output>(
     ensures part { IsTrue W.tells
         → IsSentPart (requests_text space count) (W.written writer.old) (W.written writer.new) }
 
-    // `Connection` only where calls of the reader or the writer failed, or the lines do not begin with an opening of
-    // the namespace, so many posts that follow it, and their end, nor with a refusal in the place of one of these.
+    // `Connection` only where calls of the reader failed, or the lines do not begin with an opening of the namespace, so
+    // many posts that follow it, and their end, nor with a refusal in the place of one of these, or where calls of the
+    // writer failed and no refusal comes first.
     // Where no fault of the stream stood, the last call failed then, or was the last of as many interrupted ones in
     // succession as end a read or a send. So it is with `Output`.
     ensures connection { result ≡ Err ClientFault.Connection → IsTrue R.tells → IsTrue R.counts → IsTrue W.counts
-        → HasBroken (W.failed writer.old) (W.failed writer.new) (W.faults writer.old) (W.faults writer.new) ⊎ IsCut (IsRefusedOr (IsMirroring space count)) lines.old lines.new }
+        → (HasBroken (W.failed writer.old) (W.failed writer.new) (W.faults writer.old) (W.faults writer.new) × IsCut IsOneRefusal lines.old lines.new) ⊎ IsCut (IsRefusedOr (IsMirroring space count)) lines.old lines.new }
 
     // Nothing was printed where the output did not fail, and `Output` comes only where calls of it failed.
     ensures kept { IfErr result (λ fault. fault ≢ ClientFault.Output → IsTrue O.tells
         → O.written out.new ≡ O.written out.old) }
     ensures output { result ≡ Err ClientFault.Output → IsTrue O.counts
         → HasBroken (O.failed out.old) (O.failed out.new) (O.faults out.old) (O.faults out.new) }
-    // What the next call finds: a reader that has met no fault, and where none of a stream stood, none.
+    // What the next call finds: a reader that has met no fault, and where none of a stream stood, none, but where calls
+    // of the writer failed.
     ensures fresh { OnOk result (fault_of lines.new ≡ None) }
     ensures reads { OnOk result (IsTrue R.counts → last_faults lines.old ≡ [] → last_faults lines.new ≡ []) }
-    ensures writes { OnOk result (IsTrue W.counts → W.faults writer.old ≡ [] → W.faults writer.new ≡ []) }
+    ensures writes { IfOk result (λ told. IsTrue W.counts → W.faults writer.old ≡ []
+        → (W.faults writer.new ≡ []) ⊎ ((told ≡ false) × HasBroken (W.failed writer.old) (W.failed writer.new) (W.faults writer.old) (W.faults writer.new))) }
     ensures prints { OnOk result (IsTrue O.counts → O.faults out.old ≡ [] → O.faults out.new ≡ []) }
     ensures limit { limit_of lines.new ≡ limit_of lines.old }
 {
-    send_numbered(alloc, writer, b"watch", space)?;
+    let watch = numbered_line(alloc, b"watch", space)?;
+    if !send_request(lines, writer, watch.as_slice(), out)? {
+        return Ok(false);
+    }
     let Some(mut mirror) = read_opening(alloc, lines, space)? else {
         print_line(out, lines.line())?;
         return Ok(false);
     };
-    send_numbered(alloc, writer, b"follow", count)?;
+    let follow = numbered_line(alloc, b"follow", count)?;
+    if !send_request(lines, writer, follow.as_slice(), out)? {
+        return Ok(false);
+    }
     if !follow_posts(alloc, lines, &mut mirror, count)? {
         print_line(out, lines.line())?;
         return Ok(false);

@@ -6,13 +6,14 @@ ghost use Rattle.mt_events.specs.Posts.{ended};
 ghost use Rattle.mt_draw.specs.Drawings.{drawing_text};
 ghost use Rattle.mt_client.specs.Reading.{lines_left, HasBroken, IsSentPart, IsCut};
 ghost use Rattle.mt_client.specs.Mirroring.{HasRefused};
-ghost use Rattle.mt_client.specs.Awaited.{IsRefusedOr};
+ghost use Rattle.mt_client.specs.Awaited.{IsOneRefusal, IsRefusedOr};
 ghost use Rattle.mt_client.specs.Finding.{watch_text, HasWatched, IsFinding};
 
 use crate::fault::ClientFault;
 use crate::parts::read_found;
 use crate::relay::{print_line, print_text};
-use crate::request::{numbered_line, send_request};
+use crate::request::numbered_line;
+use crate::sending::send_request;
 use mt_draw::drawing::{Drawing, push_drawing};
 use mt_events::mirror::Mirror;
 use mt_events::opening::Scope;
@@ -32,20 +33,6 @@ fn watch_line(alloc: Global, scope: Scope) -> Result<Vec<u8>, AllocError>
             Ok(line)
         }
     }
-}
-
-/// Sends the request of a watcher.
-fn send_watch<W: Output>(alloc: Global, writer: &mut W, scope: Scope) -> Result<(), ClientFault>
-    ensures sent { OnOk result (IsTrue W.tells
-        → W.written writer.new ≡ W.written writer.old ++ ended (watch_text scope)) }
-    ensures part { IsTrue W.tells
-        → IsSentPart (ended (watch_text scope)) (W.written writer.old) (W.written writer.new) }
-    ensures kind { result ≢ Err ClientFault.Output }
-    ensures cause { result ≡ Err ClientFault.Connection → IsTrue W.counts → HasBroken (W.failed writer.old) (W.failed writer.new) (W.faults writer.old) (W.faults writer.new) }
-    ensures writes { OnOk result (IsTrue W.counts → W.faults writer.old ≡ [] → W.faults writer.new ≡ []) }
-{
-    let line = watch_line(alloc, scope)?;
-    send_request(writer, line.as_slice())
 }
 
 /// Prints a drawing of tables.
@@ -73,7 +60,8 @@ fn print_drawing<O: Output>(
 ///
 /// The reader has met no fault, and serves what comes over the connection. Nothing is sent behind the request, so the
 /// session has a watcher for as long as the connection stays. Answers true where the drawing was printed, and false
-/// where the refusal of the request was.
+/// where the refusal of the request was, also one that was sent before the server ended a connection over which the
+/// request did not go out.
 ///
 /// Refused as `Connection` where the connection fails or ends early, or where what comes is neither: namespaces that
 /// are not those of the scope or do not rise by number, other lines than were counted, or rows that are not well-formed
@@ -100,31 +88,38 @@ pub fn draw<R: Input + Drop, W: Output, O: Output>(
         × HasRefused refusal (lines_left lines.old) (lines_left lines.new)
         × (O.written out.new ≡ O.written out.old ++ ended refusal) }
 
-    // The request went out, or a part of it up to a fault, and nothing else.
-    ensures sent { OnOk result (IsTrue W.tells
-        → W.written writer.new ≡ W.written writer.old ++ ended (watch_text scope)) }
+    // The request went out, or calls of the writer failed, and then a part of it did; and nothing else.
+    ensures sent { result ≡ Ok true → IsTrue W.tells
+        → W.written writer.new ≡ W.written writer.old ++ ended (watch_text scope) }
+    ensures unsent { result ≡ Ok false → IsTrue W.tells → IsTrue W.counts
+        → (W.written writer.new ≡ W.written writer.old ++ ended (watch_text scope)) ⊎ HasBroken (W.failed writer.old) (W.failed writer.new) (W.faults writer.old) (W.faults writer.new) }
     ensures part { IsTrue W.tells
         → IsSentPart (ended (watch_text scope)) (W.written writer.old) (W.written writer.new) }
 
-    // `Connection` only where calls of the reader or the writer failed, or the lines begin neither with such an
-    // opening nor with a refusal. Where no fault of the stream stood, the last call failed then, or was the last of as
+    // `Connection` only where calls of the reader failed, or the lines begin neither with such an opening nor with a
+    // refusal, or where calls of the writer failed and no refusal comes first. Where no fault of the stream stood, the last call failed then, or was the last of as
     // many interrupted ones in succession as end a read or a send. So it is with `Output`.
     ensures connection { result ≡ Err ClientFault.Connection → IsTrue R.tells → IsTrue R.counts → IsTrue W.counts
-        → HasBroken (W.failed writer.old) (W.failed writer.new) (W.faults writer.old) (W.faults writer.new) ⊎ IsCut (IsRefusedOr (IsFinding scope)) lines.old lines.new }
+        → (HasBroken (W.failed writer.old) (W.failed writer.new) (W.faults writer.old) (W.faults writer.new) × IsCut IsOneRefusal lines.old lines.new) ⊎ IsCut (IsRefusedOr (IsFinding scope)) lines.old lines.new }
 
     // Nothing was printed where the output did not fail, and `Output` comes only where calls of it failed.
     ensures kept { IfErr result (λ fault. fault ≢ ClientFault.Output → IsTrue O.tells
         → O.written out.new ≡ O.written out.old) }
     ensures output { result ≡ Err ClientFault.Output → IsTrue O.counts
         → HasBroken (O.failed out.old) (O.failed out.new) (O.faults out.old) (O.faults out.new) }
-    // What the next call finds: a reader that has met no fault, and where none of a stream stood, none.
+    // What the next call finds: a reader that has met no fault, and where none of a stream stood, none, but where calls
+    // of the writer failed.
     ensures fresh { OnOk result (fault_of lines.new ≡ None) }
     ensures reads { OnOk result (IsTrue R.counts → last_faults lines.old ≡ [] → last_faults lines.new ≡ []) }
-    ensures writes { OnOk result (IsTrue W.counts → W.faults writer.old ≡ [] → W.faults writer.new ≡ []) }
+    ensures writes { IfOk result (λ told. IsTrue W.counts → W.faults writer.old ≡ []
+        → (W.faults writer.new ≡ []) ⊎ ((told ≡ false) × HasBroken (W.failed writer.old) (W.failed writer.new) (W.faults writer.old) (W.faults writer.new))) }
     ensures prints { OnOk result (IsTrue O.counts → O.faults out.old ≡ [] → O.faults out.new ≡ []) }
     ensures limit { limit_of lines.new ≡ limit_of lines.old }
 {
-    send_watch(alloc, writer, scope)?;
+    let line = watch_line(alloc, scope)?;
+    if !send_request(lines, writer, line.as_slice(), out)? {
+        return Ok(false);
+    }
     let Some(parts) = read_found(alloc, lines, scope)? else {
         print_line(out, lines.line())?;
         return Ok(false);

@@ -1,12 +1,11 @@
 //! The lines of requests, and sending them.
-ghost use Rattle.std.specs.Prelude.{◌≡◌, ◌≤◌, [], ◌++◌, ◌∷◌, map, IfOk, IfErr, OnOk, OnErr, IsTrue};
+ghost use Rattle.std.specs.Prelude.{◌≡◌, ◌≤◌, [], ◌++◌, ◌∷◌, map, IfOk, OnOk, OnErr, IsTrue};
 ghost use Rattle.std.specs.List.{flat_map};
 ghost use Rattle.mt_skel.specs.Escapes.{escaped};
 ghost use Rattle.mt_events.specs.Posts.{ended};
 ghost use Rattle.mt_client.specs.Requests.{request_text, numbered_text};
 ghost use Rattle.mt_client.specs.Reading.{HasBroken, IsCutOff};
 
-use crate::fault::ClientFault;
 use mt_info::print::push_number;
 use mt_lines::stream::{Cut, Output, send};
 use mt_skel::escape::push_escaped;
@@ -73,21 +72,4 @@ pub(crate) fn send_line<W: Output>(writer: &mut W, line: &[u8]) -> Result<(), Cu
     send(writer, line)?;
     send(writer, b"\n")?;
     Ok(())
-}
-
-/// Sends a line and its line end. After a fault, which is `Connection`, a part of them went out, and not all.
-pub fn send_request<W: Output>(writer: &mut W, line: &[u8]) -> Result<(), ClientFault>
-    ensures sent { OnOk result (IsTrue W.tells
-        → W.written writer.new ≡ W.written writer.old ++ ended line.now) }
-    ensures cut { OnErr result (IsTrue W.tells
-        → IsCutOff (ended line.now) (W.written writer.old) (W.written writer.new)) }
-    ensures kind { IfErr result (λ fault. fault ≡ ClientFault.Connection) }
-    ensures cause { OnErr result (IsTrue W.counts → HasBroken (W.failed writer.old) (W.failed writer.new) (W.faults writer.old) (W.faults writer.new)) }
-    ensures counted { IsTrue W.counts → W.failed writer.old ≤ W.failed writer.new }
-    ensures writes { OnOk result (IsTrue W.counts → W.faults writer.old ≡ [] → W.faults writer.new ≡ []) }
-{
-    match send_line(writer, line) {
-        Ok(()) => Ok(()),
-        Err(_) => Err(ClientFault::Connection),
-    }
 }

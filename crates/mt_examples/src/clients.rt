@@ -27,6 +27,37 @@ fn is_asked(
     Ok(told == wanted && writer.bytes() == line && out.bytes() == printed)
 }
 
+/// Whether a request of which four bytes go out ends so over these bytes, and prints this text.
+fn is_turned_away(
+    alloc: Global,
+    answer: &[u8],
+    printed: &[u8],
+    wanted: Result<bool, ClientFault>,
+) -> Result<bool, Fault> {
+    let mut lines = LineReader::new(alloc, Portions::new(answer, 5), LINE_LIMIT)?;
+    let mut writer = Sink::new(alloc, 3, 4)?;
+    let mut out = Sink::new(alloc, 7, 65_536)?;
+    let words: [&[u8]; 2] = [b"show", b"1"];
+    let told = ask(alloc, &mut lines, &mut writer, &words, &mut out);
+    Ok(told == wanted && writer.bytes() == b"show".as_slice() && out.bytes() == printed)
+}
+
+#[test]
+fn reads_why_a_request_does_not_go_out(rt: HostRuntime) -> Result<(), Fail> {
+    let cut = Err(ClientFault::Connection);
+    let table: [(&[u8], &[u8], Result<bool, ClientFault>); 4] = [
+        (b"no TooMany\n", b"no TooMany\n", Ok(false)),
+        (b"", b"", cut),
+        (b"ok 0 1\n", b"", cut),
+        (b"no TooManyOfThem\n", b"", cut),
+    ];
+    for (answer, printed, wanted) in table {
+        let turned_away = is_turned_away(rt.alloc(), answer, printed, wanted)?;
+        assert!(rt; turned_away, "{answer:?}");
+    }
+    Ok(())
+}
+
 /// Two rows of a table.
 const ROWS: &[u8] = b"2 2 0:1 / / rw,relatime master:1 - tmpfs none rw
 5 2 0:2 / /m rw,relatime master:2 - ext4 /dev/x rw

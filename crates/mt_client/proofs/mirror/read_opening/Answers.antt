@@ -1,7 +1,7 @@
 use Rattle.std.proofs.Common.{Err, arith, ap}
 use Rattle.std.proofs.lemmas.Result.{err_from_is_err_and}
 use Rattle.mt_client.proofs.RelayLaws.{cut_within, same_fault}
-use Rattle.mt_client.proofs.FoundLaws.{opened_one, opening_needs_finding}
+use Rattle.mt_client.proofs.FoundLaws.{opening_needs_finding}
 use Rattle.mt_client.proofs.mirror.read_opening.Goals as goal
 
 pub returns-in_err-parts-clause-cut : goal.returns-in_err-parts-clause-cut

@@ -1,7 +1,7 @@
 use Rattle.std.proofs.Common.{Err, ap}
 use Rattle.std.proofs.lemmas.Result.{err_from_is_err_and}
 use Rattle.mt_client.proofs.RelayLaws.{cut_within, same_fault}
-use Rattle.mt_client.proofs.FoundLaws.{parts_cut, more_read, more_counted}
+use Rattle.mt_client.proofs.FoundLaws.{parts_cut}
 use Rattle.mt_client.proofs.parts.read_parts.Goals as goal
 
 pub returns-in_err-part-clause-cut : goal.returns-in_err-part-clause-cut
