@@ -18,9 +18,12 @@ use std::process::ExitCode;
 /// The name of the socket that stands for standard input and output.
 const STANDARD: &str = "-";
 
+/// The name that the program goes by in its messages.
+const NAME: &str = "mountd";
+
 /// The program, as it speaks of itself.
 const PROGRAM: Program = Program {
-    name: "mountd",
+    name: NAME,
     failed: 1,
 };
 
@@ -59,7 +62,7 @@ fn parser<'a>(alloc: Global) -> Result<Command<'a>, Error> {
         .help("How many sessions there may be at once, from 1 to 32")
         .value_parser(value_parser!(u16).range(1..=32))
         .default_value("32");
-    let command = Command::new(alloc, PROGRAM.name)
+    let command = Command::new(alloc, NAME)
         .arg(socket)?
         .after_help(LINES)
         .arg(queue)?
