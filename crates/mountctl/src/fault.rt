@@ -1,5 +1,6 @@
 //! Why a run of the program did not end with an answer, and what is said of it.
 
+use mt_arguments::program::{OUT_OF_MEMORY, WRITE_FAULT};
 use mt_client::fault::ClientFault;
 use mt_lines::line::ReadFault;
 use std::alloc::{AllocError, AllocFailed};
@@ -18,13 +19,13 @@ pub(crate) enum Fault {
 }
 
 impl Fault {
-    /// The line on standard error.
+    /// What is said on standard error.
     pub(crate) fn message(self) -> &'static str {
         match self {
-            Fault::Connection => "mountctl: connection fault",
-            Fault::Input => "mountctl: read fault",
-            Fault::Output => "mountctl: write fault",
-            Fault::NoMemory => "mountctl: out of memory",
+            Fault::Connection => "connection fault",
+            Fault::Input => "read fault",
+            Fault::Output => WRITE_FAULT,
+            Fault::NoMemory => OUT_OF_MEMORY,
         }
     }
 

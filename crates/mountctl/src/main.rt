@@ -12,8 +12,8 @@ use crate::fault::Fault;
 use crate::import::{ImportFault, ROW_LIMIT, import};
 use crate::script::{SCRIPT_LIMIT, run_script};
 use crate::task::{Task, task_of};
-use clap::error::ErrorKind;
 use clap::{Arg, ArgAction, Command, Error};
+use mt_arguments::program::{Program, read_arguments};
 use mt_client::ask::ask;
 use mt_client::mirror::mirror;
 use mt_client::picture::draw;
@@ -24,10 +24,16 @@ use mt_requests::help::LINES;
 use std::alloc::{AllocError, Global};
 use std::os::unix::net::UnixStream;
 use std::process::ExitCode;
-use std::{env, io};
+use std::io;
 
 /// The name that the program goes by in its messages.
-const PROGRAM: &str = "mountctl";
+const NAME: &str = "mountctl";
+
+/// The program, as it speaks of itself.
+const PROGRAM: Program = Program {
+    name: NAME,
+    failed: 3,
+};
 
 /// The longest line of an answer, in bytes before its line end.
 const LINE_LIMIT: u32 = 134_217_728;
@@ -65,7 +71,7 @@ fn parser<'a>(alloc: Global, usage: &'a str) -> Result<Command<'a>, Error> {
         .trailing_var_arg(true)
         .allow_hyphen_values(true)
         .action(ArgAction::Append);
-    let command = Command::new(alloc, PROGRAM)
+    let command = Command::new(alloc, NAME)
         .arg(socket)?
         .arg(words)?
         .after_help(usage);
@@ -109,31 +115,19 @@ fn run_task(
     Ok(told)
 }
 
-/// Says that the arguments are faulty.
-fn refuse(rt: &HostRuntime, line: &str) -> ExitCode {
-    let _ = rt.eprintln(line);
-    ExitCode::from(2)
-}
-
-/// Says why a task was not done to its end.
-fn fail(rt: &HostRuntime, fault: Fault) -> ExitCode {
-    let _ = rt.eprintln(fault.message());
-    ExitCode::from(3)
-}
-
 /// Connects to a socket and does what the words ask for.
 fn run_words(rt: &HostRuntime, socket: &str, words: &[&str]) -> ExitCode {
     let task = match task_of(words) {
         Ok(task) => task,
-        Err(fault) => return refuse(rt, fault.message()),
+        Err(fault) => return PROGRAM.refuse(rt, fault.message()),
     };
     let Ok(stream) = connect(rt, socket) else {
-        return fail(rt, Fault::Connection);
+        return PROGRAM.fail(rt, Fault::Connection.message());
     };
     match run_task(rt, &stream, task, words) {
         Ok(true) => ExitCode::SUCCESS,
         Ok(false) => ExitCode::from(1),
-        Err(fault) => fail(rt, fault),
+        Err(fault) => PROGRAM.fail(rt, fault.message()),
     }
 }
 
@@ -150,31 +144,10 @@ fn run_import(rt: &HostRuntime) -> ExitCode {
     match import_input(rt) {
         Ok(()) => ExitCode::SUCCESS,
         Err(ImportFault::Row(number)) => {
-            let _ = eprintln!(rt; "{PROGRAM}: line {number} is no row of a mountinfo");
+            let _ = eprintln!(rt; "{NAME}: line {number} is no row of a mountinfo");
             ExitCode::from(1)
         }
-        Err(ImportFault::Run(fault)) => fail(rt, fault),
-    }
-}
-
-/// Prints the help.
-fn help(rt: &HostRuntime, error: &Error) -> ExitCode {
-    match print!(rt; "{error}") {
-        Ok(()) => ExitCode::SUCCESS,
-        Err(_) => fail(rt, Fault::Output),
-    }
-}
-
-/// Says what the parser of the arguments says: its help on standard output, its complaints on
-/// standard error.
-fn explain(rt: &HostRuntime, error: &Error) -> ExitCode {
-    match error.kind() {
-        ErrorKind::DisplayHelp => help(rt, error),
-        ErrorKind::OutOfMemory => fail(rt, Fault::NoMemory),
-        _ => {
-            let _ = eprint!(rt; "{error}");
-            ExitCode::from(2)
-        }
+        Err(ImportFault::Run(fault)) => PROGRAM.fail(rt, fault.message()),
     }
 }
 
@@ -189,35 +162,20 @@ fn run_arguments(rt: &HostRuntime, arguments: &[&str]) -> Result<ExitCode, Error
 
 /// Does what the arguments ask for.
 fn run(rt: &HostRuntime) -> io::Result<ExitCode> {
-    let mut arguments = Vec::new(rt.alloc());
-    for argument in env::args(rt)? {
-        arguments.push(argument)?;
-    }
-    let mut words = Vec::new(rt.alloc());
-    words.push(PROGRAM)?;
-    for argument in arguments.iter().skip(1) {
-        words.push(argument.as_str())?;
-    }
-    if words.as_slice() == [PROGRAM, "import"].as_slice() {
+    let arguments = read_arguments(rt)?;
+    let words = PROGRAM.words(rt.alloc(), arguments.as_slice())?;
+    if words.as_slice() == [NAME, "import"].as_slice() {
         return Ok(run_import(rt));
     }
     match run_arguments(rt, words.as_slice()) {
         Ok(code) => Ok(code),
-        Err(error) => Ok(explain(rt, &error)),
-    }
-}
-
-/// Says why the arguments could not be read: there was no memory for them, or one is no text.
-fn explain_arguments(rt: &HostRuntime, error: &io::Error) -> ExitCode {
-    match error.kind() {
-        io::ErrorKind::OutOfMemory => fail(rt, Fault::NoMemory),
-        _ => refuse(rt, "mountctl: an argument is not UTF-8"),
+        Err(error) => Ok(PROGRAM.explain(rt, &error)),
     }
 }
 
 fn main(rt: HostRuntime) -> ExitCode {
     match run(&rt) {
         Ok(code) => code,
-        Err(error) => explain_arguments(&rt, &error),
+        Err(error) => PROGRAM.explain_unread(&rt, &error),
     }
 }

@@ -36,13 +36,13 @@ pub(crate) enum WordFault {
 }
 
 impl WordFault {
-    /// The line on standard error.
+    /// What is said on standard error.
     pub(crate) fn message(self) -> &'static str {
         match self {
-            WordFault::Watch => "mountctl: watch takes a namespace, or all",
-            WordFault::Mirror => "mountctl: mirror takes a namespace and a count of 1 to 1048576",
-            WordFault::Tree => "mountctl: tree takes a namespace, or none, and --ascii",
-            WordFault::Graph => "mountctl: dot takes no words",
+            WordFault::Watch => "watch takes a namespace, or all",
+            WordFault::Mirror => "mirror takes a namespace and a count of 1 to 1048576",
+            WordFault::Tree => "tree takes a namespace, or none, and --ascii",
+            WordFault::Graph => "dot takes no words",
         }
     }
 }

@@ -3,8 +3,8 @@
 
 mod socket;
 
-use clap::error::ErrorKind;
 use clap::{Arg, ArgAction, Command, Error, value_parser};
+use mt_arguments::program::{OUT_OF_MEMORY, Program, WRITE_FAULT, read_arguments};
 use mt_requests::help::LINES;
 use mt_session::floor::Floor;
 use mt_session::line::{LineReader, ReadFault};
@@ -12,17 +12,20 @@ use mt_session::serving::{End, LINE_LIMIT, serve_plain};
 use mt_session::stream::{Reading, Writing};
 use socket::{MOST_POSTS, Served, serve_socket};
 use std::alloc::Global;
+use std::io;
 use std::process::ExitCode;
-use std::{env, io};
 
 /// The name of the socket that stands for standard input and output.
 const STANDARD: &str = "-";
 
 /// The name that the program goes by in its messages.
-const PROGRAM: &str = "mountd";
+const NAME: &str = "mountd";
 
-/// The line on standard error where there is no memory.
-const OUT_OF_MEMORY: &str = "mountd: out of memory";
+/// The program, as it speaks of itself.
+const PROGRAM: Program = Program {
+    name: NAME,
+    failed: 1,
+};
 
 /// How many posts the queue of a watcher holds, if the arguments do not say.
 const QUEUE: usize = 256;
@@ -59,7 +62,7 @@ fn parser<'a>(alloc: Global) -> Result<Command<'a>, Error> {
         .help("How many sessions there may be at once, from 1 to 32")
         .value_parser(value_parser!(u16).range(1..=32))
         .default_value("32");
-    let command = Command::new(alloc, PROGRAM)
+    let command = Command::new(alloc, NAME)
         .arg(socket)?
         .after_help(LINES)
         .arg(queue)?
@@ -78,35 +81,29 @@ fn read_options(alloc: Global, words: &[&str]) -> Result<Options, Error> {
     })
 }
 
-/// The line on standard error for the end of a session, if that is a fault.
+/// What is said on standard error of the end of a session, if that is a fault.
 fn complaint(end: End) -> Option<&'static str> {
     match end {
         End::Quit | End::Stop | End::Input => None,
         End::Read(ReadFault::NoMemory) | End::Memory => Some(OUT_OF_MEMORY),
-        End::Read(_) => Some("mountd: read fault"),
-        End::Cut(_) => Some("mountd: write fault"),
-        End::Spent => Some("mountd: too many lines"),
+        End::Read(_) => Some("read fault"),
+        End::Cut(_) => Some(WRITE_FAULT),
+        End::Spent => Some("too many lines"),
     }
-}
-
-/// Says a line on standard error, and answers the status of a failed run.
-fn fail(rt: &HostRuntime, line: &str) -> ExitCode {
-    let _ = rt.eprintln(line);
-    ExitCode::from(1)
 }
 
 /// Serves one session on standard input and output, with queues of so many posts, 1 to 1,024.
 fn serve_standard(rt: &HostRuntime, queue: usize) -> ExitCode {
     let reader = Reading::new(rt.reader());
     let Ok(mut lines) = LineReader::new(rt.alloc(), reader, LINE_LIMIT) else {
-        return fail(rt, OUT_OF_MEMORY);
+        return PROGRAM.fail(rt, OUT_OF_MEMORY);
     };
     let mut writer = Writing::new(io::writer(rt));
     let mut floor = Floor::new(rt.alloc(), queue.clamp(1, MOST_POSTS));
     let end = serve_plain(rt.alloc(), &mut lines, &mut writer, &mut floor);
     match complaint(end) {
         None => ExitCode::SUCCESS,
-        Some(line) => fail(rt, line),
+        Some(why) => PROGRAM.fail(rt, why),
     }
 }
 
@@ -114,53 +111,19 @@ fn serve_standard(rt: &HostRuntime, queue: usize) -> ExitCode {
 fn tell(rt: &HostRuntime, served: Served) -> ExitCode {
     match served {
         Served::Stopped => ExitCode::SUCCESS,
-        Served::NotListening => fail(rt, "mountd: cannot listen"),
-        Served::NotAccepting => fail(rt, "mountd: cannot accept"),
-        Served::NoMemory => fail(rt, OUT_OF_MEMORY),
-    }
-}
-
-/// Says what the parser of the arguments says: its help on standard output, its complaints on
-/// standard error.
-fn explain(rt: &HostRuntime, error: &Error) -> ExitCode {
-    match error.kind() {
-        ErrorKind::DisplayHelp => {
-            let _ = print!(rt; "{error}");
-            ExitCode::SUCCESS
-        }
-        ErrorKind::OutOfMemory => fail(rt, OUT_OF_MEMORY),
-        _ => {
-            let _ = eprint!(rt; "{error}");
-            ExitCode::from(2)
-        }
+        Served::NotListening => PROGRAM.fail(rt, "cannot listen"),
+        Served::NotAccepting => PROGRAM.fail(rt, "cannot accept"),
+        Served::NoMemory => PROGRAM.fail(rt, OUT_OF_MEMORY),
     }
 }
 
 /// What the arguments ask for, or the status with which the program ends at once.
 fn find_options(rt: &HostRuntime) -> io::Result<Result<Options, ExitCode>> {
-    let mut arguments = Vec::new(rt.alloc());
-    for argument in env::args(rt)? {
-        arguments.push(argument)?;
-    }
-    let mut words = Vec::new(rt.alloc());
-    words.push(PROGRAM)?;
-    for argument in arguments.iter().skip(1) {
-        words.push(argument.as_str())?;
-    }
+    let arguments = read_arguments(rt)?;
+    let words = PROGRAM.words(rt.alloc(), arguments.as_slice())?;
     match read_options(rt.alloc(), words.as_slice()) {
         Ok(options) => Ok(Ok(options)),
-        Err(error) => Ok(Err(explain(rt, &error))),
-    }
-}
-
-/// Says why the arguments could not be read: there was no memory for them, or one is no text.
-fn explain_arguments(rt: &HostRuntime, error: &io::Error) -> ExitCode {
-    match error.kind() {
-        io::ErrorKind::OutOfMemory => fail(rt, OUT_OF_MEMORY),
-        _ => {
-            let _ = rt.eprintln("mountd: an argument is not UTF-8");
-            ExitCode::from(2)
-        }
+        Err(error) => Ok(Err(PROGRAM.explain(rt, &error))),
     }
 }
 
@@ -168,7 +131,7 @@ fn main(rt: HostRuntime) -> ExitCode {
     let options = match find_options(&rt) {
         Ok(Ok(options)) => options,
         Ok(Err(status)) => return status,
-        Err(error) => return explain_arguments(&rt, &error),
+        Err(error) => return PROGRAM.explain_unread(&rt, &error),
     };
     if options.socket.as_str() == STANDARD {
         return serve_standard(&rt, options.queue);

@@ -163,15 +163,10 @@ abbrev pub find_of : List (List ℕ) → Result Request Fault
 find_of (space ∷ path ∷ []) = option_map_or (λ n. unless (path_fault path) (request.Find n (path_names path))) (number_in_text space) (Err BadLine)
 find_of _ = Err BadLine
 
--- `quit` ends the session
-abbrev pub quit_of : List (List ℕ) → Result Request Fault
-quit_of [] = Ok request.Quit
-quit_of _ = Err BadLine
-
--- `stop` stops the server
-abbrev pub stop_of : List (List ℕ) → Result Request Fault
-stop_of [] = Ok request.Stop
-stop_of _ = Err BadLine
+-- a line of one word asks for this, with nothing behind the word
+abbrev pub alone : Request → List (List ℕ) → Result Request Fault
+alone r [] = Ok r
+alone r _ = Err BadLine
 
 -- `watch NS` watches a namespace, and `watch all` all of them
 abbrev pub watch_of : List (List ℕ) → Result Request Fault
@@ -207,18 +202,13 @@ HasRightCount (request.Take k) = (0 < k) × (k ≤ most_taken)
 HasRightCount (request.Follow k) = (0 < k) × (k ≤ most_followed)
 HasRightCount r = Unit {0}
 
--- `close` ends the watcher
-abbrev pub close_of : List (List ℕ) → Result Request Fault
-close_of [] = Ok request.Close
-close_of _ = Err BadLine
-
 -- how the words behind the first are read
 abbrev pub Reader : Type 0
 Reader = List (List ℕ) → Result Request Fault
 
--- the first words of the lines, each with its reader: those of watchers, and all
+-- the first words of the lines, each with its reader: those of watchers, and all; `close` ends the watcher, `quit` the session, and `stop` the server
 abbrev pub watching_lines : List (List ℕ × Reader)
-watching_lines = (codes "watch", watch_of) ∷ (codes "take", take_of) ∷ (codes "follow", follow_of) ∷ (codes "close", close_of) ∷ []
+watching_lines = (codes "watch", watch_of) ∷ (codes "take", take_of) ∷ (codes "follow", follow_of) ∷ (codes "close", alone request.Close) ∷ []
 
 abbrev pub lines : List (List ℕ × Reader)
 lines =
@@ -235,8 +225,8 @@ lines =
     ∷ (codes "setattr", setattr_of)
     ∷ (codes "show", show_of)
     ∷ (codes "find", find_of)
-    ∷ (codes "quit", quit_of)
-    ∷ (codes "stop", stop_of)
+    ∷ (codes "quit", alone request.Quit)
+    ∷ (codes "stop", alone request.Stop)
     ∷ watching_lines
 
 -- the reader of a first word reads the others; no other first word has one

@@ -3,8 +3,8 @@
 //! [`request::read_request`] takes the words of a line apart and makes a [`request::Request`] of
 //! them, or says why there is none.
 //!
-//! Its words are read by [`label`] and [`path`], and those of a `setattr` line by [`options`]. [`help`] says all lines
-//! in words.
+//! Its words are read by [`label`] and [`path`], and those of a `setattr` line by [`options`]; [`watching`] reads the
+//! lines of watchers. [`help`] says all lines in words.
 #![tactic(auto)]
 
 pub mod help;
@@ -12,3 +12,4 @@ mod label;
 mod options;
 mod path;
 pub mod request;
+mod watching;

@@ -1,10 +1,11 @@
 //! Requests, as lines say them.
 ghost use Rattle.std.specs.Prelude.{◌≡◌, IfOk, None, Some};
-ghost use Rattle.mt_requests.specs.Requests.{ReadsAs, request_of, HasNoFault, prior_of_two, prior_fault, Reads, two_paths_of, mkfs_of, mkdir_of, newns_of, copy_said, copyns_of, dropns_of, mount_of, bind_of, move_of, umount_of, setattr_of, show_of, find_of, quit_of, stop_of, watch_of, count_of, take_of, follow_of, close_of, HasRightCount, watching_lines, read_by};
+ghost use Rattle.mt_requests.specs.Requests.{ReadsAs, request_of, HasNoFault, prior_of_two, prior_fault, Reads, two_paths_of, mkfs_of, mkdir_of, newns_of, copy_said, copyns_of, dropns_of, mount_of, bind_of, move_of, umount_of, setattr_of, show_of, find_of, alone, HasRightCount};
 
 use crate::label::{label_fault, label_of};
 use crate::options::change_of;
 use crate::path::{path_fault, path_of};
+use crate::watching::read_watching;
 use mt_book::command::Command;
 use mt_events::opening::Scope;
 use mt_skel::fault::Fault;
@@ -34,12 +35,6 @@ pub enum Request {
     /// `stop` stops the server, and ends the session.
     Stop,
 }
-
-/// The most posts of one `take`.
-const MOST_TAKEN: u64 = 1_024;
-
-/// The most posts of one `follow`.
-const MOST_FOLLOWED: u64 = 1_048_576;
 
 /// The fault of two words that is refused first.
 fn prior_of_two(first: Option<Fault>, second: Option<Fault>) -> Option<Fault>
@@ -282,98 +277,13 @@ fn read_find(alloc: Global, words: &mut Words<'_>) -> Result<Request, Fault>
     Ok(Request::Find { space, path })
 }
 
-/// The request of a line `quit`, behind the first word.
-fn read_quit(words: &mut Words<'_>) -> Result<Request, Fault>
-    ensures { result ≡ quit_of words.old }
+/// The request of a line of one word, behind it.
+pub(crate) fn read_alone(words: &mut Words<'_>, request: Request) -> Result<Request, Fault>
+    ensures { result ≡ alone request words.old }
 {
     match words.next() {
         Some(_) => Err(Fault::BadLine),
-        None => Ok(Request::Quit),
-    }
-}
-
-/// The request of a line `stop`, behind the first word.
-fn read_stop(words: &mut Words<'_>) -> Result<Request, Fault>
-    ensures { result ≡ stop_of words.old }
-{
-    match words.next() {
-        Some(_) => Err(Fault::BadLine),
-        None => Ok(Request::Stop),
-    }
-}
-
-/// The request of a line `watch NS` or `watch all`, behind the first word.
-fn read_watch(words: &mut Words<'_>) -> Result<Request, Fault>
-    ensures { result ≡ watch_of words.old }
-{
-    let (Some(space), None) = (words.next(), words.next()) else {
-        return Err(Fault::BadLine);
-    };
-    if space == b"all".as_slice() {
-        return Ok(Request::Watch(Scope::All));
-    }
-    let space = number(space).ok_or(Fault::BadLine)?;
-    Ok(Request::Watch(Scope::One(space)))
-}
-
-/// How many posts a word asks for, of at most so many and at least one.
-fn count_of(word: &[u8], most: u64) -> Option<u64>
-    ensures { result ≡ count_of most word.now }
-{
-    let count = number(word)?;
-    if 0 < count && count <= most {
-        Some(count)
-    } else {
-        None
-    }
-}
-
-/// The request of a line `take K`, behind the first word.
-fn read_take(words: &mut Words<'_>) -> Result<Request, Fault>
-    ensures { result ≡ take_of words.old }
-{
-    let (Some(count), None) = (words.next(), words.next()) else {
-        return Err(Fault::BadLine);
-    };
-    let count = count_of(count, MOST_TAKEN).ok_or(Fault::BadLine)?;
-    Ok(Request::Take(count))
-}
-
-/// The request of a line `follow K`, behind the first word.
-fn read_follow(words: &mut Words<'_>) -> Result<Request, Fault>
-    ensures { result ≡ follow_of words.old }
-{
-    let (Some(count), None) = (words.next(), words.next()) else {
-        return Err(Fault::BadLine);
-    };
-    let count = count_of(count, MOST_FOLLOWED).ok_or(Fault::BadLine)?;
-    Ok(Request::Follow(count))
-}
-
-/// The request of a line `close`, behind the first word.
-fn read_close(words: &mut Words<'_>) -> Result<Request, Fault>
-    ensures { result ≡ close_of words.old }
-{
-    match words.next() {
-        Some(_) => Err(Fault::BadLine),
-        None => Ok(Request::Close),
-    }
-}
-
-/// The request of a line of a watcher, of which this is the first word.
-fn read_watching(command: &[u8], words: &mut Words<'_>) -> Result<Request, Fault>
-    ensures { result ≡ read_by watching_lines command.now words.old }
-{
-    if command == b"watch".as_slice() {
-        read_watch(words)
-    } else if command == b"take".as_slice() {
-        read_take(words)
-    } else if command == b"follow".as_slice() {
-        read_follow(words)
-    } else if command == b"close".as_slice() {
-        read_close(words)
-    } else {
-        Err(Fault::BadLine)
+        None => Ok(request),
     }
 }
 
@@ -413,9 +323,9 @@ fn read_line(alloc: Global, line: &[u8]) -> Result<Request, Fault>
     } else if command == b"find".as_slice() {
         read_find(alloc, &mut words)
     } else if command == b"quit".as_slice() {
-        read_quit(&mut words)
+        read_alone(&mut words, Request::Quit)
     } else if command == b"stop".as_slice() {
-        read_stop(&mut words)
+        read_alone(&mut words, Request::Stop)
     } else {
         read_watching(command, &mut words)
     }

@@ -1,0 +1,79 @@
+//! The lines of watchers.
+ghost use Rattle.std.specs.Prelude.{◌≡◌};
+ghost use Rattle.mt_requests.specs.Requests.{watch_of, count_of, take_of, follow_of, watching_lines, read_by};
+
+use crate::request::{Request, read_alone};
+use mt_events::opening::Scope;
+use mt_skel::fault::Fault;
+use mt_words::words::{Words, number};
+
+/// The most posts of one `take`.
+const MOST_TAKEN: u64 = 1_024;
+
+/// The most posts of one `follow`.
+const MOST_FOLLOWED: u64 = 1_048_576;
+
+/// The request of a line `watch NS` or `watch all`, behind the first word.
+fn read_watch(words: &mut Words<'_>) -> Result<Request, Fault>
+    ensures { result ≡ watch_of words.old }
+{
+    let (Some(space), None) = (words.next(), words.next()) else {
+        return Err(Fault::BadLine);
+    };
+    if space == b"all".as_slice() {
+        return Ok(Request::Watch(Scope::All));
+    }
+    let space = number(space).ok_or(Fault::BadLine)?;
+    Ok(Request::Watch(Scope::One(space)))
+}
+
+/// How many posts a word asks for, of at most so many and at least one.
+fn count_of(word: &[u8], most: u64) -> Option<u64>
+    ensures { result ≡ count_of most word.now }
+{
+    let count = number(word)?;
+    if 0 < count && count <= most {
+        Some(count)
+    } else {
+        None
+    }
+}
+
+/// The request of a line `take K`, behind the first word.
+fn read_take(words: &mut Words<'_>) -> Result<Request, Fault>
+    ensures { result ≡ take_of words.old }
+{
+    let (Some(count), None) = (words.next(), words.next()) else {
+        return Err(Fault::BadLine);
+    };
+    let count = count_of(count, MOST_TAKEN).ok_or(Fault::BadLine)?;
+    Ok(Request::Take(count))
+}
+
+/// The request of a line `follow K`, behind the first word.
+fn read_follow(words: &mut Words<'_>) -> Result<Request, Fault>
+    ensures { result ≡ follow_of words.old }
+{
+    let (Some(count), None) = (words.next(), words.next()) else {
+        return Err(Fault::BadLine);
+    };
+    let count = count_of(count, MOST_FOLLOWED).ok_or(Fault::BadLine)?;
+    Ok(Request::Follow(count))
+}
+
+/// The request of a line of a watcher, of which this is the first word.
+pub(crate) fn read_watching(command: &[u8], words: &mut Words<'_>) -> Result<Request, Fault>
+    ensures { result ≡ read_by watching_lines command.now words.old }
+{
+    if command == b"watch".as_slice() {
+        read_watch(words)
+    } else if command == b"take".as_slice() {
+        read_take(words)
+    } else if command == b"follow".as_slice() {
+        read_follow(words)
+    } else if command == b"close".as_slice() {
+        read_alone(words, Request::Close)
+    } else {
+        Err(Fault::BadLine)
+    }
+}
