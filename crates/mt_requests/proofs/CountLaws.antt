@@ -10,7 +10,7 @@ use Rattle.mt_events.specs.declared.opening.Scope.TheVariants.{One, All}
 use Rattle.mt_requests.specs.Options.{change_of}
 use Rattle.mt_requests.specs.declared.request.Request.{Request}
 use Rattle.mt_requests.specs.declared.request.Request.TheVariants.{Watch, Take, Follow, Close, Quit, Stop}
-use Rattle.mt_requests.specs.Requests.{unless, request_from, mkfs_of, mkdir_of, newns_of, copy_said, copyns_of, dropns_of, mount_of, two_paths_of, bind_of, move_of, umount_of, setattr_of, show_of, find_of, alone, watch_of, most_taken, most_followed, count_of, take_of, follow_of, HasRightCount, Reader, watching_lines, lines, read_by, by_words, request_of, ReadsAs}
+use Rattle.mt_requests.specs.Requests.{unless, request_from, mkfs_of, mkdir_of, newns_of, copy_said, copyns_of, dropns_of, mount_of, two_paths_of, bind_of, move_of, umount_of, setattr_of, show_of, find_of, one_word, watch_of, most_taken, most_followed, count_of, take_of, follow_of, HasRightCount, Reader, watching_lines, lines, read_by, by_words, request_of, ReadsAs}
 
 -- what is said
 of_said : (said r : Request) → ◌≡◌ {A = Result Request Fault} (Ok said) (Ok r) → HasRightCount said → HasRightCount r
@@ -108,9 +108,9 @@ find_right : IsRight find_of
 find_right (space ∷ path ∷ []) r e = of_some _ (number_in_text space) r e (λ n f. of_unless _ _ r f tt)
 find_right _ r e = cc
 
-alone_right : (asked : Request) → HasRightCount asked → IsRight (alone asked)
-alone_right asked right [] r e = of_said asked r e right
-alone_right asked right (word ∷ words) r e = cc
+one_word_right : (asked : Request) → HasRightCount asked → IsRight (one_word asked)
+one_word_right asked right [] r e = of_said asked r e right
+one_word_right asked right (word ∷ words) r e = cc
 
 watch_right : IsRight watch_of
 watch_right (space ∷ []) r e = go (bytes_eq space (codes "all")) e
@@ -142,10 +142,10 @@ read_by_right (l ∷ ls) word rest r right e = go (bytes_eq word l.0) (read_by_r
     go false later f = later f
 
 watching_right : AreRight watching_lines
-watching_right = (watch_right, (take_right, (follow_right, (alone_right Close tt, tt))))
+watching_right = (watch_right, (take_right, (follow_right, (one_word_right Close tt, tt))))
 
-finding_right : AreRight ((codes "show", show_of) ∷ (codes "find", find_of) ∷ (codes "quit", alone Quit) ∷ (codes "stop", alone Stop) ∷ watching_lines)
-finding_right = (show_right, (find_right, (alone_right Quit tt, (alone_right Stop tt, watching_right))))
+finding_right : AreRight ((codes "show", show_of) ∷ (codes "find", find_of) ∷ (codes "quit", one_word Quit) ∷ (codes "stop", one_word Stop) ∷ watching_lines)
+finding_right = (show_right, (find_right, (one_word_right Quit tt, (one_word_right Stop tt, watching_right))))
 
 all_right : AreRight lines
 all_right =

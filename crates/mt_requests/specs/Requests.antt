@@ -164,9 +164,9 @@ find_of (space ∷ path ∷ []) = option_map_or (λ n. unless (path_fault path) 
 find_of _ = Err BadLine
 
 -- a line of one word asks for this, with nothing behind the word
-abbrev pub alone : Request → List (List ℕ) → Result Request Fault
-alone r [] = Ok r
-alone r _ = Err BadLine
+abbrev pub one_word : Request → List (List ℕ) → Result Request Fault
+one_word r [] = Ok r
+one_word r _ = Err BadLine
 
 -- `watch NS` watches a namespace, and `watch all` all of them
 abbrev pub watch_of : List (List ℕ) → Result Request Fault
@@ -208,7 +208,7 @@ Reader = List (List ℕ) → Result Request Fault
 
 -- the first words of the lines, each with its reader: those of watchers, and all; `close` ends the watcher, `quit` the session, and `stop` the server
 abbrev pub watching_lines : List (List ℕ × Reader)
-watching_lines = (codes "watch", watch_of) ∷ (codes "take", take_of) ∷ (codes "follow", follow_of) ∷ (codes "close", alone request.Close) ∷ []
+watching_lines = (codes "watch", watch_of) ∷ (codes "take", take_of) ∷ (codes "follow", follow_of) ∷ (codes "close", one_word request.Close) ∷ []
 
 abbrev pub lines : List (List ℕ × Reader)
 lines =
@@ -225,8 +225,8 @@ lines =
     ∷ (codes "setattr", setattr_of)
     ∷ (codes "show", show_of)
     ∷ (codes "find", find_of)
-    ∷ (codes "quit", alone request.Quit)
-    ∷ (codes "stop", alone request.Stop)
+    ∷ (codes "quit", one_word request.Quit)
+    ∷ (codes "stop", one_word request.Stop)
     ∷ watching_lines
 
 -- the reader of a first word reads the others; no other first word has one

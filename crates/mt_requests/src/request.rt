@@ -1,6 +1,6 @@
 //! Requests, as lines say them.
 ghost use Rattle.std.specs.Prelude.{◌≡◌, IfOk, None, Some};
-ghost use Rattle.mt_requests.specs.Requests.{ReadsAs, request_of, HasNoFault, prior_of_two, prior_fault, Reads, two_paths_of, mkfs_of, mkdir_of, newns_of, copy_said, copyns_of, dropns_of, mount_of, bind_of, move_of, umount_of, setattr_of, show_of, find_of, alone, HasRightCount};
+ghost use Rattle.mt_requests.specs.Requests.{ReadsAs, request_of, HasNoFault, prior_of_two, prior_fault, Reads, two_paths_of, mkfs_of, mkdir_of, newns_of, copy_said, copyns_of, dropns_of, mount_of, bind_of, move_of, umount_of, setattr_of, show_of, find_of, one_word, HasRightCount};
 
 use crate::label::{label_fault, label_of};
 use crate::options::change_of;
@@ -278,8 +278,8 @@ fn read_find(alloc: Global, words: &mut Words<'_>) -> Result<Request, Fault>
 }
 
 /// The request of a line of one word, behind it.
-pub(crate) fn read_alone(words: &mut Words<'_>, request: Request) -> Result<Request, Fault>
-    ensures { result ≡ alone request words.old }
+pub(crate) fn read_one_word(words: &mut Words<'_>, request: Request) -> Result<Request, Fault>
+    ensures { result ≡ one_word request words.old }
 {
     match words.next() {
         Some(_) => Err(Fault::BadLine),
@@ -323,9 +323,9 @@ fn read_line(alloc: Global, line: &[u8]) -> Result<Request, Fault>
     } else if command == b"find".as_slice() {
         read_find(alloc, &mut words)
     } else if command == b"quit".as_slice() {
-        read_alone(&mut words, Request::Quit)
+        read_one_word(&mut words, Request::Quit)
     } else if command == b"stop".as_slice() {
-        read_alone(&mut words, Request::Stop)
+        read_one_word(&mut words, Request::Stop)
     } else {
         read_watching(command, &mut words)
     }

@@ -2,7 +2,7 @@
 ghost use Rattle.std.specs.Prelude.{◌≡◌};
 ghost use Rattle.mt_requests.specs.Requests.{watch_of, count_of, take_of, follow_of, watching_lines, read_by};
 
-use crate::request::{Request, read_alone};
+use crate::request::{Request, read_one_word};
 use mt_events::opening::Scope;
 use mt_skel::fault::Fault;
 use mt_words::words::{Words, number};
@@ -72,7 +72,7 @@ pub(crate) fn read_watching(command: &[u8], words: &mut Words<'_>) -> Result<Req
     } else if command == b"follow".as_slice() {
         read_follow(words)
     } else if command == b"close".as_slice() {
-        read_alone(words, Request::Close)
+        read_one_word(words, Request::Close)
     } else {
         Err(Fault::BadLine)
     }
