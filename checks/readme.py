@@ -17,9 +17,10 @@ proved and built it from nothing.
 
 A fenced block directly behind a line `<!-- case: NAME -->` is the case NAME without its comments.
 
-The blocks behind `<!-- terminal 1 -->` and `<!-- terminal 2 -->` are what two terminals show: commands behind
-`$ `, and what each prints. The first command starts the server; the last one of terminal 1 runs while those of
-terminal 2 are done, once it has printed its first answer. With --built they are run too.
+The blocks behind `<!-- terminal 1 -->` to `<!-- terminal 3 -->` are what three terminals show: commands behind
+`$ `, and what each prints. The first command starts the server; the last one of terminal 1 and the one of terminal 3
+run while those of terminal 2 are done, once the first has printed its first answer and the other has had a second to
+begin. With --built they are run too.
 """
 import os
 import re
@@ -38,11 +39,14 @@ STREAMS = ("crates", "mountd")
 CASE_BLOCK = cases.marked(b"case")
 BLOCK = re.compile(rb"(?m)^(?:<!-- (.*) -->\n)?```(.*)\n((?:(?!```).*\n)*?)```$")
 PROVED_RUN = re.compile(rb"cd crates/(\w+) && rt run -- ")
-TERMINAL = re.compile(rb"(?m)^<!-- terminal ([12]) -->\n```.*\n((?:(?!```).*\n)*?)```$")
+TERMINAL = re.compile(rb"(?m)^<!-- terminal ([123]) -->\n```.*\n((?:(?!```).*\n)*?)```$")
 STEP = re.compile(rb"(?m)^\$ (.*)\n((?:(?!\$ ).*\n)*)")
 
 # How long the server may take to listen, and a command of a terminal to end, in seconds.
 MOST_SECONDS = 30
+
+# How long a command that prints nothing at first has to begin, in seconds.
+SECONDS_TO_BEGIN = 1
 
 
 def block_of(name):
@@ -116,8 +120,8 @@ def first_answer(stream):
 
 
 def check_terminals():
-    """What README.md's two terminals show is what the programs print."""
-    first, second = (STEP.findall(text) for _, text in sorted(TERMINAL.findall(read("README.md"))))
+    """What README.md's three terminals show is what the programs print."""
+    first, second, [(watched, told)] = (STEP.findall(text) for _, text in sorted(TERMINAL.findall(read("README.md"))))
     folders = [os.path.join(TOP, "crates", name, "out") for name in ("mountd", "mountctl")]
     environment = dict(os.environ, PATH=os.pathsep.join([*folders, os.environ["PATH"]]))
     (start, _), *made, (followed, posts) = first
@@ -127,11 +131,14 @@ def check_terminals():
             wait_for_socket(folder)
             for command, wanted in made:
                 check_printed(command, wanted, subprocess.run(["sh", "-ec", command], **settings).stdout)
-            with subprocess.Popen(["sh", "-ec", followed], **settings) as follower:
+            follow, watch = (["sh", "-ec", command] for command in (followed, watched))
+            with subprocess.Popen(follow, **settings) as follower, subprocess.Popen(watch, **settings) as watcher:
                 found = first_answer(follower.stdout)
+                time.sleep(SECONDS_TO_BEGIN)
                 for command, wanted in second:
                     check_printed(command, wanted, subprocess.run(["sh", "-ec", command], **settings).stdout)
                 check_printed(followed, posts, found + follower.stdout.read())
+                check_printed(watched, told, watcher.stdout.read())
             server.wait(MOST_SECONDS)
             check("README.md's server ends well", server.returncode == 0, f"status {server.returncode}")
 
