@@ -1,6 +1,6 @@
 -- What the lines of a script are.
 -- A word with no source is this project's rule.
-use Rattle.std.specs.Prelude.{◌≡◌, ℕ, Bool, true, false, not, ◌==◌, ◌&&◌, ◌||◌, nat_eq, cond, IsTrue, List, [], ◌∷◌, ◌++◌, Result, Ok, Err, codes, decimal}
+use Rattle.std.specs.Prelude.{◌≡◌, ℕ, Bool, true, false, not, ◌==◌, ◌&&◌, ◌||◌, nat_eq, cond, IsTrue, List, [], ◌∷◌, ◌++◌, Result, Ok, codes, decimal}
 use Rattle.std.specs.List.{list_all, starts_with, flat_map, join_with_byte}
 use Rattle.mt_skel.specs.declared.fault.Fault.{Fault}
 use Rattle.mt_requests.specs.declared.request.Request.{Request}

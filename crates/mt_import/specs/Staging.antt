@@ -4,5 +4,5 @@ use Rattle.std.specs.Prelude.{Bool, ◌&&◌, nat_eq, length}
 use Rattle.mt_import.specs.declared.stage.Stage.{Stage}
 
 -- whether nothing does
-abbrev pub is_empty : Stage → Bool
-is_empty stage = nat_eq (length stage.devices.items) 0 && nat_eq (length stage.groups.items) 0
+abbrev pub has_nothing_staged : Stage → Bool
+has_nothing_staged stage = nat_eq (length stage.devices.items) 0 && nat_eq (length stage.groups.items) 0

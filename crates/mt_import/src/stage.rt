@@ -4,7 +4,7 @@ ghost use Rattle.std.specs.Prelude.{◌≡◌, ◌++◌, [], decimal, map, is_so
 ghost use Rattle.std.specs.List.{filter};
 ghost use Rattle.std.specs.Option.{option_map_or};
 ghost use Rattle.mt_import.specs.Groups.{has_members};
-ghost use Rattle.mt_import.specs.Staging.{is_empty};
+ghost use Rattle.mt_import.specs.Staging.{has_nothing_staged};
 ghost use Rattle.mt_import.specs.Commands.{staged_path, staging_text, unstaging_text, stage_text, unstage_text, slave_text, member_text};
 
 use crate::commands::{HOLDER, MODEL, bind, mount_filesystem, set_kind, unmount};
@@ -48,14 +48,14 @@ pub(crate) fn group_path(alloc: Global, group: u64, below: &[u8]) -> Result<Vec<
 impl<'a> Stage<'a> {
     /// Whether nothing stands there.
     pub(crate) fn is_empty(&self) -> bool
-        ensures { result ≡ is_empty self.now }
+        ensures { result ≡ has_nothing_staged self.now }
     {
         self.devices.is_empty() && self.groups.is_empty()
     }
 
     /// Mounts the filesystems. Refused as `NoMemory` alone.
     pub(crate) fn mount(&self, alloc: Global, script: &mut Script) -> Result<(), Fault>
-        ensures pushed { OnOk result (script.new ≡ script.old ++ stage_text (is_empty self.now) (map (λ device. device.now) self.now.devices.items)) }
+        ensures pushed { OnOk result (script.new ≡ script.old ++ stage_text (has_nothing_staged self.now) (map (λ device. device.now) self.now.devices.items)) }
         ensures memory { IsOkUnless result Fault.NoMemory }
     {
         if self.is_empty() {
@@ -69,7 +69,7 @@ impl<'a> Stage<'a> {
     /// Unmounts all of it in the namespace of the script. Refused as `NoMemory` alone.
     pub(crate) fn unmount(&self, alloc: Global, script: &mut Script) -> Result<(), Fault>
         ensures pushed { OnOk result (script.new ≡ script.old
-            ++ unstage_text (is_empty self.now) (map decimal self.now.groups.items) (map (λ device. device.now) self.now.devices.items)) }
+            ++ unstage_text (has_nothing_staged self.now) (map decimal self.now.groups.items) (map (λ device. device.now) self.now.devices.items)) }
         ensures memory { IsOkUnless result Fault.NoMemory }
     {
         if self.is_empty() {

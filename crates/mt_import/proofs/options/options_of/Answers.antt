@@ -1,4 +1,4 @@
-use Rattle.std.proofs.Common.{rules, ◌≡◌, List, map, ◌∙◌, ap, Bor, ℕ}
+use Rattle.std.proofs.Common.{List, map, ◌∙◌, ap, Bor, ℕ}
 use Rattle.std.specs.Option.{option_map}
 use Rattle.mt_import.specs.Options.{with_flags}
 use Rattle.mt_import.proofs.CommandLaws.{options_joined}

@@ -1,7 +1,5 @@
-use Rattle.std.proofs.Common.{rules, ◌≤◌, ◌-◌, ◌≡◌, if◌then◌else◌, length, arith, ap, ◌∙◌}
-use Rattle.std.specs.List.{list_all}
+use Rattle.std.proofs.Common.{rules, ◌≤◌, ◌-◌, length, arith}
 use Rattle.mt_import.proofs.OrderLaws.{none_first, wait_later, last_row, other_rows, next_place}
-use Rattle.mt_import.specs.Order.{waits_on}
 use Rattle.mt_import.proofs.order.mounts_below.Goals as goal
 
 pub rows-init : goal.rows-init
