@@ -106,7 +106,7 @@ pub record IsHalfTold (scope : Scope) (mirrors : List MirrorView) (before : List
 abbrev pub IsStopped : ClientFault → Scope → List MirrorView → List Item → List ℕ → List ℕ → Type 0
 IsStopped fault scope mirrors before old new = IsUnsaid fault before old new ⊎ ((fault ≡ Output) × IsHalfTold scope mirrors before old new)
 
--- the same of a whole telling: nothing had come, or the posts that had come were told
+-- the same of a whole telling: nothing was told, or posts that had come behind the opening
 abbrev pub IsBrokenOff : ClientFault → Scope → List Item → List ℕ → List ℕ → Type 0
 IsBrokenOff fault scope before old new =
     IsUnsaid fault before old new

@@ -241,8 +241,8 @@ fn tell_portions<R: Input + Drop, W: Output, O: Output>(
 ///
 /// Refused as `Connection` where the connection fails or ends early, or where what comes is no opening of the scope,
 /// no post, a post of another namespace or not the next one of its namespace, or an end that counts other posts.
-/// Refused as `Output` where what was to be printed does not go out, and else as `NoMemory`. But for `Output` the
-/// posts that had come were printed then, and nothing else.
+/// Refused as `Output` where what was to be printed does not go out, and else as `NoMemory`. But for `Output` posts that
+/// had come were printed then, each whole, and nothing else.
 pub fn tell<R: Input + Drop, W: Output, O: Output>(
     alloc: Global,
     lines: &mut LineReader<R>,
@@ -262,8 +262,8 @@ pub fn tell<R: Input + Drop, W: Output, O: Output>(
         × HasTold scope portions rest refusal (lines_left lines.old) (lines_left lines.new) found
         × (O.written out.new ≡ O.written out.old ++ posts_told found (all_posts portions rest) ++ ended refusal))) }
 
-    // Up to a fault nothing had come, and nothing was printed, or the posts that had come were told. Where the output
-    // failed, a part of one more text was printed, that of a post that is due, or of lines that had come.
+    // Up to a fault nothing was printed, or the words of posts that had come, from the first one on, each whole. Where
+    // the output failed, a part of one more text was printed, that of a post that is due, or of lines that had come.
     ensures broken { IsTrue R.tells → IsTrue O.tells → IfErr result
         (λ fault. IsBrokenOff fault scope (lines_left lines.old) (O.written out.old) (O.written out.new)) }
 
