@@ -22,9 +22,9 @@ use mt_lines::line::LineReader;
 use mt_lines::stream::{Reading, Writing};
 use mt_requests::help::LINES;
 use std::alloc::{AllocError, Global};
+use std::io;
 use std::os::unix::net::UnixStream;
 use std::process::ExitCode;
-use std::io;
 
 /// The name that the program goes by in its messages.
 const NAME: &str = "mountctl";
