@@ -3,6 +3,7 @@
 The tables are those of the namespaces of each case, of random worlds, of a namespace with as many mounts as may be, and
 of this machine. Each script is sent to a plain session, which accepts each line; then the table of namespace 1 is the one
 that was imported, up to the numbers of mounts, groups and devices, and without the mounts that comments say are left out.
+Lines that are none are refused by their number, and streams that fail and memory that is missing are told.
 """
 import os
 import random

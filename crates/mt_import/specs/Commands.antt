@@ -1,9 +1,13 @@
 -- The commands that the script is made of.
 -- A word with no source is this project's rule.
 use Rattle.std.specs.Prelude.{ℕ, Bool, true, false, if◌then◌else◌, List, [], ◌∷◌, ◌++◌, ◌==◌, take, drop, position, Option, Some, None, codes, decimal}
-use Rattle.std.specs.List.{flat_map}
+use Rattle.std.specs.List.{flat_map, join_with_byte}
 use Rattle.mt_import.specs.Options.{options_text}
 use Rattle.mt_import.specs.Script.{line_or_comment, command_text}
+
+-- a filesystem is made
+unfoldable pub mkfs_line : List ℕ → List ℕ → List ℕ → List ℕ
+mkfs_line device kind source = join_with_byte 32 (codes "mkfs" ∷ device ∷ kind ∷ source ∷ [])
 
 -- a directory, behind its filesystem, is made
 abbrev pub mkdir_at : List ℕ → Option ℕ → List ℕ

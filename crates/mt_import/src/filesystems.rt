@@ -1,5 +1,7 @@
 //! The filesystems that are made, one for each device.
-ghost use Rattle.std.specs.Prelude.{IsOkUnless};
+ghost use Rattle.std.specs.Prelude.{◌≡◌, ◌++◌, IfOk, OnOk, IsOkUnless};
+ghost use Rattle.mt_import.specs.Commands.{mkfs_line};
+ghost use Rattle.mt_import.specs.Script.{is_script_line, line_text};
 
 use crate::order::Mount;
 use crate::script::Script;
@@ -81,24 +83,46 @@ pub(crate) fn filesystems_of<'a>(
     Ok(filesystems)
 }
 
-/// Makes the filesystem of a device. A type or source that no filesystem can have is `none` in its place. Refused as
-/// `NoMemory` alone.
+/// Appends the command that makes a filesystem, if the server would read it: whether it would. Refused as `NoMemory`
+/// alone.
+#[tactic(auto, unfolding(crate::specs::Commands::mkfs_line))]
+fn push_filesystem(
+    alloc: Global,
+    script: &mut Script,
+    device: &[u8],
+    kind: &[u8],
+    source: &[u8],
+) -> Result<bool, Fault>
+    ensures told { IfOk result (λ is. is ≡ is_script_line (mkfs_line device.now kind.now source.now)) }
+    ensures pushed { OnOk result (script.new ≡ script.old ++ line_text (mkfs_line device.now kind.now source.now)) }
+    ensures memory { IsOkUnless result Fault.NoMemory }
+{
+    let line = spaced(alloc, &[b"mkfs", device, kind, source])?;
+    let is = script.push(line.as_slice())?;
+    Ok(is)
+}
+
+/// Makes the filesystem of a device. A type or source that no filesystem can have is told in a comment, and `none` in its
+/// place. Refused as `NoMemory` alone.
 fn make_filesystem(alloc: Global, script: &mut Script, row: &HostMount) -> Result<(), Fault>
     ensures memory { IsOkUnless result Fault.NoMemory }
 {
     let device = row.device.as_slice();
     let (kind, source) = (row.kind.as_slice(), row.source.as_slice());
-    for words in [[kind, source], [kind, b"none"], [b"none", source]] {
-        let line = spaced(alloc, &[b"mkfs", device, words[0], words[1]])?;
-        if script.push(line.as_slice())? {
-            return Ok(());
-        }
-        comment(
-            alloc,
-            script,
-            row.id,
-            b"has a type or source that no filesystem can have",
-        )?;
+    if push_filesystem(alloc, script, device, kind, source)? {
+        return Ok(());
+    }
+    comment(
+        alloc,
+        script,
+        row.id,
+        b"has a type or source that no filesystem can have",
+    )?;
+    if push_filesystem(alloc, script, device, kind, b"none")? {
+        return Ok(());
+    }
+    if push_filesystem(alloc, script, device, b"none", source)? {
+        return Ok(());
     }
     command(alloc, script, &[b"mkfs", device, b"none", b"none"])
 }
