@@ -204,8 +204,8 @@ ODD_COMMENTS = [
     b"# mount 2 has one more line, which is left out",
     b"# mount 3 is left out with all below it: it stands on no other",
     b"# mount 7 is left out with all below it: it stands elsewhere than below its parent",
-    b"# mount 5 is left out with all below it: its parents go round in a ring",
     b"# mount 6 is left out with all below it: its parents go round in a ring",
+    b"# mount 5 is left out with all below it: its parents go round in a ring",
 ]
 
 NO_ROWS = [
