@@ -148,16 +148,24 @@ def statuses_of_readme():
     }
 
 
+# What stands before a message in the source of a program: a call that says it, or the function that names it.
+SAID = re.compile(r'(?:fail\(rt, |refuse\(rt, |Some\(|=> |&str = )"([a-z][^"{]* [^"{]*)"')
+
+
+def messages_in(program):
+    """The messages in the source of a program, and in that of what both programs say of their arguments."""
+    folders = [os.path.join("crates", crate, "src") for crate in (program, "mt_arguments")]
+    texts = [shown(read(folder, name)) for folder in folders for name in sorted(os.listdir(os.path.join(TOP, folder)))]
+    return {f"{program}: {message}" for text in texts for message in SAID.findall(text)}
+
+
 def check_statuses():
     """The statuses and messages that README.md names, and those in the source, stand in the pages, and no others."""
     for program, wanted in statuses_of_readme().items():
         text = section(f"{program}.1", "EXIT STATUS")
         check_same(f"the statuses of {program}.1", wanted, re.findall(r"(?m)^\.It (\d)$", text))
         told = re.findall(rf"`({program}: [^`]*)`", shown(read("README.md")))
-        folder = os.path.join("crates", program, "src")
-        texts = [shown(read(folder, name)) for name in sorted(os.listdir(os.path.join(TOP, folder)))]
-        source = re.findall(rf'"({program}: [^"]*)"', "".join(texts))
-        check_same(f"the messages of {program}.1", {*told, *source}, MESSAGE.findall(text))
+        check_same(f"the messages of {program}.1", {*told, *messages_in(program)}, MESSAGE.findall(text))
 
 
 def plain(text):

@@ -132,7 +132,8 @@ def check_memory(mountctl):
         finally:
             ended.set()
             with Client(door.path):
-                answering.join()
+                pass
+            answering.join()
         print(f"{count} allocations of a watch refused in turn", flush=True)
 
 
