@@ -38,7 +38,7 @@ def laid(crate):
 
 def is_refused(crate):
     """Whether the prover refuses each wrong body of a crate."""
-    checked = subprocess.run(["rt", "check", crate], cwd=TOP, stdout=subprocess.DEVNULL)
+    checked = subprocess.run(["rt", "check"], cwd=os.path.join(TOP, "crates", crate), stdout=subprocess.DEVNULL)
     if checked.returncode != 0:
         print(f"{crate} is not proved as it stands", flush=True)
         return False
