@@ -19,7 +19,7 @@ from running import answer_groups, check, run, session, shown
 from serving import Server
 
 # How many random worlds there are, and how many commands lead to each.
-WORLDS = 100
+WORLDS = 300
 COMMANDS = 10, 30, 60
 
 # The most rows of a random table that is imported.
