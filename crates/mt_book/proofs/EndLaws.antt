@@ -21,7 +21,15 @@ use Rattle.mt_book.specs.History.{events_from, events, space_number, posts_of, p
 use Rattle.mt_book.proofs.EffectLaws.{done_ok, space_dropped}
 use Rattle.mt_book.proofs.HistoryLaws.{IsGood, next_good, empty_good, after_good, next_higher, no_post, same_table, table_nowhere, given, given_out, posts_of_space, space_events}
 use Rattle.mt_book.proofs.GrowthLaws.{IsReached, step_spaces, next_reached, none_reached}
-use Rattle.mt_book.proofs.SpaceLaws.{next_gone, step_ends, has_row, made_there, late_nowhere}
+use Rattle.mt_book.proofs.SpaceLaws.{step_gone, step_ends, has_row, made_there, late_nowhere}
+
+-- one that is gone does not come again
+next_gone : (n : ℕ) (w : WorldView) (c : Command) → IsGood w → n < w.next_space → is_space w n ≡ false → is_space (next_world w c) n ≡ false
+next_gone n w c g low gone = by (step w c) (λ v r e. step_gone w c v r n g.formed g.skeleton e low gone)
+  where
+    by : (q : Result (WorldView × Reply) Fault) → ((v : WorldView) (r : Reply) → q ≡ Ok (v, r) → is_space v n ≡ false) → is_space (world_or w q) n ≡ false
+    by (Ok p) f = f p.0 p.1 refl
+    by (Err x) f = gone
 
 -- ---- before it is made
 

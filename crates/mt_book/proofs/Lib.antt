@@ -10,6 +10,7 @@ pub mod EndLaws
 pub mod CountLaws
 pub mod PlaceLaws
 pub mod ThereLaws
+pub mod StayLaws
 pub mod NextLaws
 pub mod NumberLaws
 pub mod BookLaws

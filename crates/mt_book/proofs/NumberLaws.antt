@@ -25,7 +25,8 @@ next_tables w c h s d n = by (step w c) (λ v r e. directories_keep w c v r h s 
     by (Ok p) f = f p.0 p.1 refl
     by (Err x) f = refl
 
-unchanged : (w v : WorldView) (n : ℕ) → IsWellFormed w → table_of v n ≡ table_of w n → is_empty (difference (table_of w n) (table_of v n)) ≡ true
+-- an equal table is not told
+pub unchanged : (w v : WorldView) (n : ℕ) → IsWellFormed w → table_of v n ≡ table_of w n → is_empty (difference (table_of w n) (table_of v n)) ≡ true
 unchanged w v n h same =
     ap (λ (l : List Row). is_empty (difference (table_of w n) l)) same ∙ (empty-equal (table_of w n) (table_of w n) (table_rises w n h) (table_rises w n h)).1 refl
 

@@ -1,11 +1,10 @@
 -- A namespace that is there stays until it is dropped, and one that was dropped does not come again: so a namespace has its posts
 -- between these two.
-use Rattle.std.proofs.Common.{◌≡◌, ◌⊎◌, inl, inr, ℕ, ◌<◌, ◌≤◌, Bool, true, false, cond, ◌&&◌, ◌==◌, eqb, eq-eqb, List, [], ◌∷◌, ◌++◌, map, length, Option, Some, None, Ok, Err, refl, sym, ap, ◌∙◌, subst, arith, true≢false}
-use Rattle.std.specs.Prelude.{Result, not}
+use Rattle.std.proofs.Common.{◌≡◌, ◌⊎◌, inl, inr, ℕ, ◌<◌, ◌≤◌, Bool, true, false, cond, ◌&&◌, ◌==◌, eqb, eq-eqb, List, [], ◌∷◌, ◌++◌, map, length, Option, Some, None, Ok, refl, sym, ap, ◌∙◌, subst, arith, true≢false}
+use Rattle.std.specs.Prelude.{not}
 use Rattle.std.specs.List.{filter, list_any}
 use Rattle.std.specs.Option.{option_map_or, is_none, is_some}
 use Rattle.std.proofs.lemmas.Bool.Decides.{nat_tests}
-use Rattle.mt_skel.specs.declared.fault.Fault.{Fault}
 use Rattle.mt_skel.specs.declared.fault.Fault.TheVariants.{NotMountRoot, RootPlace, Busy}
 use Rattle.mt_skel.specs.Keyed.{without}
 use Rattle.mt_skel.specs.Outcome.{refuse_if, fault_of}
@@ -43,10 +42,9 @@ use Rattle.mt_book.specs.declared.command.Command.{Command}
 use Rattle.mt_book.specs.declared.command.Command.TheVariants.{MakeFs, MakeDir, NewSpace, CopySpace, DropSpace, Mount as Mounting, Bind, Move, Unmount, SetAttr}
 use Rattle.mt_book.specs.declared.command.Reply.{Reply}
 use Rattle.mt_book.specs.declared.command.Reply.TheVariants.{Done, Number}
-use Rattle.mt_book.specs.Step.{step, makes_space, ends_space, world_or, next_world}
+use Rattle.mt_book.specs.Step.{step, makes_space, ends_space}
 use Rattle.mt_book.proofs.EffectLaws.{skel_ok, number_ok, done_ok, space_made, copy_made, copy_there, space_dropped, mount_made, bind_made, move_made, mount_gone, change_made}
 use Rattle.mt_book.proofs.StepLaws.{step_kept}
-use Rattle.mt_book.proofs.HistoryLaws.{IsGood}
 
 -- a mount of a namespace
 record Has (n : ℕ) (w : WorldView) : Type 0 where
@@ -397,10 +395,3 @@ step_gone w c v r n g s e low gone = by (is_space v n) refl
           | inl x ↦ absurd (true≢false (sym (has_space n w g x) ∙ gone))
           | inr late ↦ absurd (omega (arith, low, late))
         ]
-
-pub next_gone : (n : ℕ) (w : WorldView) (c : Command) → IsGood w → n < w.next_space → is_space w n ≡ false → is_space (next_world w c) n ≡ false
-next_gone n w c g low gone = by (step w c) (λ v r e. step_gone w c v r n g.formed g.skeleton e low gone)
-  where
-    by : (q : Result (WorldView × Reply) Fault) → ((v : WorldView) (r : Reply) → q ≡ Ok (v, r) → is_space v n ≡ false) → is_space (world_or w q) n ≡ false
-    by (Ok p) f = f p.0 p.1 refl
-    by (Err x) f = gone

@@ -1,16 +1,18 @@
 //! What a command changes in the tables of namespaces.
 ghost use Rattle.std.specs.Prelude.{◌≡◌, ◌+◌, ◌++◌, ◌≤◌, IfOk, OnOk, IsOkUnless, IsTrue, None, cond, [], map};
+ghost use Rattle.std.specs.List.{list_all};
 ghost use Rattle.std.specs.Option.{option_to_list};
+ghost use Rattle.std.specs.Result.{is_ok};
 ghost use Rattle.std.specs.Arc.{arc_value};
 ghost use Rattle.mt_skel.specs.Keyed.{rises};
 ghost use Rattle.mt_skel.specs.Skeleton.{IsSkeleton};
-ghost use Rattle.mt_propagate.specs.World.{world_view};
+ghost use Rattle.mt_propagate.specs.World.{world_view, is_space};
 ghost use Rattle.mt_propagate.specs.WellFormed.{IsWellFormed};
 ghost use Rattle.mt_propagate.specs.Touched.{IsTouched};
 ghost use Rattle.mt_info.specs.Table.{table_of};
 ghost use Rattle.mt_events.specs.Difference.{HoldsChanged};
-ghost use Rattle.mt_book.specs.Step.{next_world, makes_space};
-ghost use Rattle.mt_book.specs.Book.{AreNumbers, next_number, next_post, counted, posted, with_newborn, still_there, command_limit};
+ghost use Rattle.mt_book.specs.Step.{step, next_world, makes_space};
+ghost use Rattle.mt_book.specs.Book.{AreNumbers, next_number, next_post, counted, posted, with_newborn, still_there, space_in, command_limit};
 
 use crate::command::Command;
 use crate::parts::parts_of;
@@ -124,7 +126,8 @@ fn post_between(
     })
 }
 
-/// What changes in a namespace that had this number; its post only where somebody asks for it. Refused as `NoMemory`
+/// What changes in a namespace that had this number, and of which these are the mounts that may have changed; its post
+/// only where somebody asks for it. Where there are none of them, neither world is looked at. Refused as `NoMemory`
 /// alone.
 fn change_between(
     old: &World,
@@ -143,6 +146,9 @@ fn change_between(
     ensures post { IfOk result (λ change. change.post ≡ cond heard (next_post (world_view old.now) (world_view new.now) space number) None) }
     ensures memory { IsOkUnless result Fault.NoMemory }
 {
+    if ids.is_empty() {
+        return Ok(Change { number, post: None });
+    }
     if heard {
         return post_between(old, new, ids, space, number);
     }
@@ -232,9 +238,9 @@ fn changes_of(
     changes_between(alloc, old, new, touched, numbers, heard)
 }
 
-/// What a command changes for namespaces that had these numbers: those that are there. One that it makes had number 0,
-/// and one that it drops has none any more. `touched` has each mount that it changed. Posts are made only where somebody
-/// asks for them. Refused as `NoMemory` alone.
+/// What a command that is accepted changes for namespaces that had these numbers: those that are there. One that it
+/// makes had number 0, and one that it drops has none any more; only then is it asked which are there. `touched` has each
+/// mount that it changed. Posts are made only where somebody asks for them. Refused as `NoMemory` alone.
 pub(crate) fn changes_after(
     alloc: Global,
     old: &World,
@@ -247,8 +253,10 @@ pub(crate) fn changes_after(
     requires old { IsWellFormed (world_view old.now) }
     requires skeleton { IsSkeleton (world_view old.now).skel }
     requires new { IsWellFormed (world_view new.now) }
+    requires accepted { IsTrue (is_ok (step (world_view old.now) command.now)) }
     requires next { world_view new.now ≡ next_world (world_view old.now) command.now }
     requires touched { IsTouched (world_view old.now) (world_view new.now) touched.now }
+    requires there { IsTrue (list_all (λ r. is_space (world_view old.now) (space_in r)) numbers.now) }
     requires numbers { AreNumbers (with_newborn numbers.now (world_view old.now).next_space (makes_space command.now)) }
     ensures numbers { IfOk result (λ changes. changes.numbers.items ≡ still_there (world_view new.now) (counted (world_view old.now) (world_view new.now) (with_newborn numbers.now (world_view old.now).next_space (makes_space command.now)))) }
     ensures posts { IfOk result (λ changes. changes.posts ≡ cond heard (posted (world_view old.now) (world_view new.now) (with_newborn numbers.now (world_view old.now).next_space (makes_space command.now))) []) }
@@ -256,6 +264,9 @@ pub(crate) fn changes_after(
 {
     let before = numbers_before(alloc, numbers, old.next_space, command.makes_space())?;
     let changes = changes_of(alloc, old, new, touched, &before, command, heard)?;
+    if !command.drops_space() {
+        return Ok(changes);
+    }
     let numbers = still_there(alloc, new, &changes.numbers)?;
     Ok(Changes {
         numbers,
