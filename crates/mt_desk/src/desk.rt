@@ -8,7 +8,7 @@ ghost use Rattle.mt_desk.specs.Desk.{IsDesk, floor_of_desk, with_watcher, halted
 ghost use Rattle.mt_desk.specs.Calls.{IsApplied, IsMet, IsClosed};
 
 use crate::due::due_of;
-use crate::lines::{LINE_COUNT, Lines, Naming};
+use crate::lines::{Lines, Naming};
 use crate::places::{close_at, end_all, meet_at, open_at, parked_place, send_all};
 use crate::row::{Slot, is_heard};
 use crate::watcher::Watcher;
@@ -16,7 +16,7 @@ use mt_book::book::Book;
 use mt_book::command::{Command, Reply};
 use mt_events::opening::Scope;
 use mt_events::shared::SharedPosts;
-use mt_floor::finding::{found, is_missing};
+use mt_floor::finding::{found, opening_refusal};
 use mt_floor::watch::{Meeting, WatchKey};
 use mt_skel::fault::Fault;
 use std::alloc::Global;
@@ -108,16 +108,13 @@ impl<J: Naming> Desk<J> {
     fn refuses(&self, scope: Scope) -> Option<Fault>
         ensures { result ≡ opening_refusal (floor_of_desk self.now) scope }
     {
-        if is_missing(&self.book, scope) {
-            return Some(Fault::NoNamespace);
-        }
-        if self.order.len() >= LINE_COUNT || self.last_key == u64::MAX {
-            return Some(Fault::TooManyWatchers);
-        }
-        if self.stopped {
-            return Some(Fault::Stopped);
-        }
-        None
+        opening_refusal(
+            &self.book,
+            scope,
+            self.order.len(),
+            self.last_key,
+            self.stopped,
+        )
     }
 
     /// Begins a watcher, which finds what the book shows now.

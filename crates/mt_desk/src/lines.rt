@@ -2,13 +2,11 @@
 ghost use Rattle.std.specs.Prelude.{◌≡◌, ◌<◌, ◌≤◌, IfOk, IsOkUnless};
 
 use crate::row::Slot;
+use mt_floor::finding::MOST_WATCHERS;
 use mt_queue::line::make_line;
 use mt_skel::fault::Fault;
 use std::alloc::Global;
 use std::marker::{Brand, Model};
-
-/// How many lines a desk has: one for each watcher.
-pub(crate) const LINE_COUNT: usize = 64;
 
 /// The name of a desk tells which lines it has, so that no two desks have one name, and a watcher of another desk does
 /// not fit. Each call of a program picks one, once the lines are made.
@@ -54,9 +52,9 @@ impl Lines {
         ensures capacity { IfOk result (λ l. l.capacity ≡ capacity) }
         ensures memory { IsOkUnless result Fault.NoMemory }
     {
-        let order = Vec::with_capacity(alloc, LINE_COUNT)?;
-        let mut slots = Vec::with_capacity(alloc, LINE_COUNT)?;
-        'lines: for _count in 0..LINE_COUNT {
+        let order = Vec::with_capacity(alloc, MOST_WATCHERS)?;
+        let mut slots = Vec::with_capacity(alloc, MOST_WATCHERS)?;
+        'lines: for _count in 0..MOST_WATCHERS {
             let line = make_line(alloc, capacity)?;
             slots.push(Slot::Parked(line))?;
         }

@@ -1,23 +1,51 @@
 //! What the book shows to a watcher that begins.
-ghost use Rattle.std.specs.Prelude.{◌≡◌, ◌≢◌, ◌++◌, IfOk, IfErr, OnOk};
+ghost use Rattle.std.specs.Prelude.{◌≡◌, ◌≢◌, ◌+◌, ◌++◌, IfOk, IfErr, OnOk, length};
 ghost use Rattle.std.specs.List.{flat_map};
 ghost use Rattle.mt_floor.specs.Watcher.{opening_of, is_missing};
 ghost use Rattle.mt_floor.specs.Finding.{part_if};
+ghost use Rattle.mt_floor.specs.Schedule.{FloorView, opening_refusal};
 
+use crate::watch::WatchKey;
 use mt_book::book::Book;
 use mt_events::opening::{Opening, Part, Parts, Scope};
 use mt_mounts::mount::SpaceId;
 use mt_skel::fault::Fault;
 use std::alloc::Global;
 
+/// The most watchers at once.
+pub const MOST_WATCHERS: usize = 64;
+
 /// Whether the one namespace of a scope is not there. Where the scope names all namespaces, it is not missing.
-pub fn is_missing(book: &Book, scope: Scope) -> bool
+fn is_missing(book: &Book, scope: Scope) -> bool
     ensures { result ≡ is_missing book.now.journal scope }
 {
     match scope {
         Scope::One(space) => book.number(space).is_err(),
         Scope::All => false,
     }
+}
+
+/// Why no watcher of this scope begins at a floor, or at a desk, with this book and so many watchers, of which the last
+/// one to begin got this key, and which has stopped or not: `NoNamespace`, else `TooManyWatchers`, else `Stopped`.
+pub fn opening_refusal(
+    book: &Book,
+    scope: Scope,
+    watchers: usize,
+    last_key: WatchKey,
+    stopped: bool,
+) -> Option<Fault>
+    ensures { (s : FloorView) → s.journal ≡ book.now.journal → length s.watchers ≡ watchers → s.next_key ≡ last_key + 1 → s.stopped ≡ stopped → result ≡ opening_refusal s scope }
+{
+    if is_missing(book, scope) {
+        return Some(Fault::NoNamespace);
+    }
+    if watchers >= MOST_WATCHERS || last_key == u64::MAX {
+        return Some(Fault::TooManyWatchers);
+    }
+    if stopped {
+        return Some(Fault::Stopped);
+    }
+    None
 }
 
 /// Appends the number and the table of a namespace, if it is there and followed. Refused as `NoMemory` alone.

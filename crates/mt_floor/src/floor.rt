@@ -4,7 +4,7 @@ ghost use Rattle.mt_floor.specs.Schedule.{empty_floor, floor_step, run, settled,
 
 use crate::due::{DuePost, due_of, first_key};
 use crate::event::{Answer, Event};
-use crate::finding::{found, is_missing};
+use crate::finding::{found, opening_refusal};
 use crate::row::{Row, is_heard};
 use crate::rows::{end_all, place_of, post_at, take_at};
 use crate::watch::{Phase, WatchKey};
@@ -17,9 +17,6 @@ use mt_skel::fault::Fault;
 use std::alloc::Global;
 use std::collections::VecDeque;
 use std::marker::Model;
-
-/// The most watchers at once.
-const MOST_WATCHERS: usize = 64;
 
 /// The book, its watchers, and the posts that are due to them.
 ///
@@ -157,16 +154,13 @@ impl Floor {
     fn refuses(&self, scope: Scope) -> Option<Fault>
         ensures { result ≡ opening_refusal self.now scope }
     {
-        if is_missing(&self.book, scope) {
-            return Some(Fault::NoNamespace);
-        }
-        if self.rows.len() >= MOST_WATCHERS || self.last_key == u64::MAX {
-            return Some(Fault::TooManyWatchers);
-        }
-        if self.stopped {
-            return Some(Fault::Stopped);
-        }
-        None
+        opening_refusal(
+            &self.book,
+            scope,
+            self.rows.len(),
+            self.last_key,
+            self.stopped,
+        )
     }
 
     /// Begins a watcher. Refused as `NoNamespace`, as `TooManyWatchers`, as `Stopped`, and as `NoMemory`.
