@@ -11,6 +11,7 @@ pub mod CountLaws
 pub mod PlaceLaws
 pub mod ThereLaws
 pub mod StayLaws
+pub mod ChangedLaws
 pub mod NextLaws
 pub mod NumberLaws
 pub mod BookLaws

@@ -11,7 +11,7 @@ use Rattle.mt_skel.proofs.MiddleLaws.{and_first, and_second}
 use Rattle.mt_book.specs.Book.{space_in}
 use Rattle.mt_book.specs.Parts.{space_at, is_at}
 
-above_at : (n : ℕ) (rs : List (ℕ × ℕ)) (j : ℕ) → list_all (λ r. nat_lt n (space_in r)) rs ≡ true → j < length rs → n < space_at rs j
+pub above_at : (n : ℕ) (rs : List (ℕ × ℕ)) (j : ℕ) → list_all (λ r. nat_lt n (space_in r)) rs ≡ true → j < length rs → n < space_at rs j
 above_at n [] j all l = absurd (omega (arith, l))
 above_at n (r ∷ rs) zero all l = let low = and_first (nat_lt n (space_in r)) (list_all (λ q. nat_lt n (space_in q)) rs) all in grind (arith, nat_tests)
 above_at n (r ∷ rs) (suc j) all l = above_at n rs j (and_second (nat_lt n (space_in r)) (list_all (λ q. nat_lt n (space_in q)) rs) all) (omega (arith, l))

@@ -1,12 +1,19 @@
 -- Mounts by the namespaces that they are in. No public clause cites this module.
 -- A word with no source is this project's rule.
 use Rattle.std.specs.Prelude.{ℕ, Bool, false, ◌||◌, ◌==◌, List, [], Option, Some, None, slice_index_or}
+use Rattle.std.specs.List.{list_any}
+use Rattle.std.specs.Option.{option_map, unwrap_or}
+use Rattle.mt_skel.specs.Keyed.{row_at}
 use Rattle.mt_propagate.specs.World.{WorldView, space_of}
 use Rattle.mt_book.specs.Book.{space_in}
 
 -- a mount is in a namespace before or after
 abbrev pub is_part : WorldView → WorldView → ℕ → ℕ → Bool
 is_part w v n i = (space_of w i == n) || (space_of v i == n)
+
+-- one of these mounts is in a namespace before or after
+abbrev pub is_touched : WorldView → WorldView → List ℕ → ℕ → Bool
+is_touched w v ids n = list_any (is_part w v n) ids
 
 -- one of some lists of mounts
 abbrev pub part_at : List (List ℕ) → ℕ → List ℕ
@@ -20,3 +27,7 @@ space_at rs k = space_in (slice_index_or rs k (0, 0))
 abbrev pub is_at : Option ℕ → ℕ → Bool
 is_at None k = false
 is_at (Some at) k = at == k
+
+-- the number of a namespace once some have changed; one that had none has none
+abbrev pub merged : List (ℕ × ℕ) → List (ℕ × ℕ) → ℕ → Option (ℕ × ℕ)
+merged rs changed n = option_map (λ r. unwrap_or (row_at space_in n changed) r) (row_at space_in n rs)

@@ -1,5 +1,5 @@
 //! What a command changes in the tables of namespaces.
-ghost use Rattle.std.specs.Prelude.{◌≡◌, ◌+◌, ◌++◌, ◌≤◌, IfOk, OnOk, IsOkUnless, IsTrue, None, cond, [], map};
+ghost use Rattle.std.specs.Prelude.{◌≡◌, ℕ, ◌+◌, ◌++◌, ◌≤◌, IfOk, OnOk, IsOkUnless, IsTrue, None, cond, [], map};
 ghost use Rattle.std.specs.List.{list_all};
 ghost use Rattle.std.specs.Option.{option_to_list};
 ghost use Rattle.std.specs.Result.{is_ok};
@@ -15,7 +15,8 @@ ghost use Rattle.mt_book.specs.Step.{step, next_world, makes_space};
 ghost use Rattle.mt_book.specs.Book.{AreNumbers, next_number, next_post, counted, posted, with_newborn, still_there, space_in, command_limit};
 
 use crate::command::Command;
-use crate::parts::parts_of;
+use crate::numbers::{numbers_before, numbers_in, still_there, with_numbers};
+use crate::parts::{parts_of, spaces_touched};
 use mt_events::news::is_changed;
 use mt_events::post::Post;
 use mt_events::shared::SharedPosts;
@@ -32,41 +33,6 @@ use std::sync::Arc;
 pub(crate) struct Changes {
     pub(crate) numbers: Vec<(SpaceId, u64)>,
     pub(crate) posts: SharedPosts,
-}
-
-/// The numbers of the namespaces before a command, which may make this one more. Refused as `NoMemory` alone.
-fn numbers_before(
-    alloc: Global,
-    numbers: &[(SpaceId, u64)],
-    newborn: SpaceId,
-    more: bool,
-) -> Result<Vec<(SpaceId, u64)>, Fault>
-    ensures numbers { IfOk result (λ before. before.items ≡ with_newborn numbers.now newborn more) }
-    ensures memory { IsOkUnless result Fault.NoMemory }
-{
-    let mut before = Vec::from_slice(alloc, numbers)?;
-    if more {
-        before.push((newborn, 0))?;
-    }
-    Ok(before)
-}
-
-/// The numbers of those namespaces that are there. Refused as `NoMemory` alone.
-fn still_there(
-    alloc: Global,
-    world: &World,
-    numbers: &[(SpaceId, u64)],
-) -> Result<Vec<(SpaceId, u64)>, Fault>
-    ensures there { IfOk result (λ there. there.items ≡ still_there (world_view world.now) numbers.now) }
-    ensures memory { IsOkUnless result Fault.NoMemory }
-{
-    let mut there = Vec::with_capacity(alloc, numbers.len())?;
-    'spaces: for row in numbers {
-        if world.forest.root(row.0).is_some() {
-            there.push(*row)?;
-        }
-    }
-    Ok(there)
 }
 
 /// What a command changes in one namespace.
@@ -126,8 +92,7 @@ fn post_between(
     })
 }
 
-/// What changes in a namespace that had this number, and of which these are the mounts that may have changed; its post
-/// only where somebody asks for it. Where there are none of them, neither world is looked at. Refused as `NoMemory`
+/// What changes in a namespace that had this number; its post only where somebody asks for it. Refused as `NoMemory`
 /// alone.
 fn change_between(
     old: &World,
@@ -146,9 +111,6 @@ fn change_between(
     ensures post { IfOk result (λ change. change.post ≡ cond heard (next_post (world_view old.now) (world_view new.now) space number) None) }
     ensures memory { IsOkUnless result Fault.NoMemory }
 {
-    if ids.is_empty() {
-        return Ok(Change { number, post: None });
-    }
     if heard {
         return post_between(old, new, ids, space, number);
     }
@@ -169,8 +131,43 @@ fn push_post(alloc: Global, posts: &mut Vec<Arc<Post>>, post: Option<Post>) -> R
     Ok(())
 }
 
-/// What changes between two worlds with the same directories, for namespaces that had these numbers; posts only where
-/// somebody asks for them. `touched` has each mount that changed. Refused as `NoMemory` alone.
+/// What changes between two worlds, for namespaces that had these numbers; posts only where somebody asks for them.
+/// `ids` has each mount whose row changed. Refused as `NoMemory` alone.
+fn changes_in(
+    alloc: Global,
+    old: &World,
+    new: &World,
+    ids: &[MountId],
+    numbers: &[(SpaceId, u64)],
+    heard: bool,
+) -> Result<Changes, Fault>
+    requires old { IsWellFormed (world_view old.now) }
+    requires new { IsWellFormed (world_view new.now) }
+    requires rising { IsTrue (rises (λ k. k) ids.now) }
+    requires held { (n : ℕ) → HoldsChanged (table_of (world_view old.now) n) (table_of (world_view new.now) n) ids.now }
+    requires numbers { AreNumbers numbers.now }
+    ensures numbers { IfOk result (λ changes. changes.numbers.items ≡ counted (world_view old.now) (world_view new.now) numbers.now) }
+    ensures posts { IfOk result (λ changes. changes.posts ≡ cond heard (posted (world_view old.now) (world_view new.now) numbers.now) []) }
+    ensures memory { IsOkUnless result Fault.NoMemory }
+{
+    let parts = parts_of(alloc, old, new, ids, numbers)?;
+    let mut after = Vec::with_capacity(alloc, numbers.len())?;
+    let mut posts = Vec::new(alloc);
+    'spaces: for i in 0..numbers.len() {
+        let part = parts[i].as_slice();
+        let row = numbers[i];
+        let change = change_between(old, new, part, row.0, row.1, heard)?;
+        push_post(alloc, &mut posts, change.post)?;
+        after.push((row.0, change.number))?;
+    }
+    Ok(Changes {
+        numbers: after,
+        posts: SharedPosts::new(posts),
+    })
+}
+
+/// The same between two worlds with the same directories, where `touched` has each mount that changed. Only the
+/// namespaces in which one of these was, or is, are looked at. Refused as `NoMemory` alone.
 fn changes_between(
     alloc: Global,
     old: &World,
@@ -189,19 +186,13 @@ fn changes_between(
     ensures memory { IsOkUnless result Fault.NoMemory }
 {
     let ids = rows_touched(old, new, touched)?;
-    let parts = parts_of(alloc, old, new, &ids, numbers)?;
-    let mut after = Vec::with_capacity(alloc, numbers.len())?;
-    let mut posts = Vec::new(alloc);
-    'spaces: for i in 0..numbers.len() {
-        let part = parts[i].as_slice();
-        let row = numbers[i];
-        let change = change_between(old, new, part, row.0, row.1, heard)?;
-        push_post(alloc, &mut posts, change.post)?;
-        after.push((row.0, change.number))?;
-    }
+    let spaces = spaces_touched(alloc, old, new, &ids)?;
+    let before = numbers_in(alloc, numbers, &spaces)?;
+    let changes = changes_in(alloc, old, new, &ids, &before, heard)?;
+    let numbers = with_numbers(alloc, numbers, &changes.numbers)?;
     Ok(Changes {
-        numbers: after,
-        posts: SharedPosts::new(posts),
+        numbers,
+        posts: changes.posts,
     })
 }
 

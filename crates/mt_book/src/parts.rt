@@ -1,12 +1,14 @@
 //! Mounts by the namespaces that they are in.
-ghost use Rattle.std.specs.Prelude.{◌≡◌, ℕ, ◌++◌, ◌<◌, ◌==◌, [], ◌∷◌, cond, length, IfOk, IfSome, OnOk, IsOkUnless, IsTrue};
+ghost use Rattle.std.specs.Prelude.{◌≡◌, ℕ, ◌++◌, ◌<◌, ◌==◌, [], ◌∷◌, cond, length, slice_index_or, IfOk, IfSome, OnOk, IsOkUnless, IsTrue};
 ghost use Rattle.std.specs.List.{filter};
+ghost use Rattle.std.specs.Option.{option_map};
 ghost use Rattle.mt_propagate.specs.World.{world_view};
-ghost use Rattle.mt_skel.specs.Keyed.{rises};
+ghost use Rattle.mt_skel.specs.Keyed.{among, rises, row_at};
 ghost use Rattle.mt_book.specs.Book.{space_in};
-ghost use Rattle.mt_book.specs.Parts.{is_part, part_at, space_at, is_at};
+ghost use Rattle.mt_book.specs.Parts.{is_part, is_touched, part_at, space_at, is_at};
 
 use mt_mounts::mount::{MountId, SpaceId};
+use mt_propagate::sorted::in_order;
 use mt_propagate::world::{World, space_of};
 use mt_skel::fault::Fault;
 use std::alloc::Global;
@@ -54,10 +56,11 @@ impl Part {
 }
 
 /// Where a namespace stands among some by rising number, if it does.
-fn place_among(numbers: &[(SpaceId, u64)], space: SpaceId) -> Option<usize>
+pub(crate) fn place_among(numbers: &[(SpaceId, u64)], space: SpaceId) -> Option<usize>
     requires rising { IsTrue (rises space_in numbers.now) }
     ensures within { IfSome result (λ at. at < length numbers.now) }
     ensures place { (k : ℕ) → k < length numbers.now → (space == space_at numbers.now k) ≡ is_at result k }
+    ensures row { row_at space_in space numbers.now ≡ option_map (λ at. slice_index_or numbers.now at (0, 0)) result }
 {
     match numbers.binary_search_by_key(&space, |row| row.0) {
         Ok(at) => Some(at),
@@ -142,4 +145,23 @@ pub(crate) fn parts_of(
         push_mount(&mut parts, numbers, old, new, *id)?;
     }
     Ok(parts)
+}
+
+/// The namespaces that one of these mounts was in, or is in, rising. Refused as `NoMemory` alone.
+pub(crate) fn spaces_touched(
+    alloc: Global,
+    old: &World,
+    new: &World,
+    ids: &[MountId],
+) -> Result<Vec<SpaceId>, Fault>
+    ensures rising { IfOk result (λ spaces. IsTrue (rises (λ k. k) spaces.items)) }
+    ensures touched { IfOk result (λ spaces. (n : ℕ) → among spaces.items n ≡ is_touched (world_view old.now) (world_view new.now) ids.now n) }
+    ensures memory { IsOkUnless result Fault.NoMemory }
+{
+    let mut spaces = Vec::new(alloc);
+    'mounts: for id in ids {
+        spaces.push(space_of(old, *id))?;
+        spaces.push(space_of(new, *id))?;
+    }
+    Ok(in_order(spaces))
 }

@@ -1,37 +1,66 @@
-use Rattle.std.proofs.Common.{◌≡◌, ◌∙◌, ℕ, List, true, ap, sym, subst, arith}
+use Rattle.std.proofs.Common.{◌≡◌, ◌∙◌, ℕ, List, [], cond, ap, sym, subst}
 use Rattle.std.specs.List.{filter}
 use Rattle.mt_skel.specs.Keyed.{among, rises}
 use Rattle.mt_skel.proofs.KeyedLaws.{rises-filter}
 use Rattle.mt_propagate.specs.World.{world_view}
-use Rattle.mt_info.specs.Table.{table_of}
-use Rattle.mt_events.specs.Difference.{HoldsChanged}
+use Rattle.mt_events.specs.Posts.{PostView}
 use Rattle.mt_events.proofs.HeldLaws.{rows_held}
-use Rattle.mt_book.specs.Parts.{is_part, space_at}
-use Rattle.mt_book.proofs.TouchedLaws.{part_holds, part_is}
+use Rattle.mt_book.specs.Book.{AreNumbers, space_in, counted, posted}
+use Rattle.mt_book.specs.Parts.{is_touched, merged}
+use Rattle.mt_book.proofs.ChangedLaws.{is_in, few_filter, counted_rises, all_numbers, all_posts}
 use Rattle.mt_book.proofs.changes.changes_between.Goals as goal
 
-pub change_between-requires-clause-rising : goal.change_between-requires-clause-rising
-change_between-requires-clause-rising c =
-    let old = world_view c.args.old.now in
-    let new = world_view c.args.new.now in
-    let t = is_part old new (space_at c.args.numbers.now c.spaces.i) in
-    let ids = c.deref.result.now in
-    let part : c.as_slice-part.result.now ≡ filter t ids =
-    c.as_slice-part.ensures ∙ part_is c.in_ok-parts.parts.items c.index.result.now ids c.spaces.i _ t c.index.ensures c.in_ok-parts.ensures.len (omega (arith, c.spaces-test.true)) (c.in_ok-parts.ensures.parts c.spaces.i) in
-    let up : rises (λ k. k) ids ≡ true = ap (λ (l : List ℕ). rises (λ k. k) l) c.deref.ensures.value ∙ c.in_ok-ids.ensures.rising in
-    subst (λ (l : List ℕ). rises (λ k. k) l ≡ true) (sym part) (rises-filter (λ k. k) t ids up)
+pub changes_in-requires-clause-held : goal.changes_in-requires-clause-held
+changes_in-requires-clause-held c n =
+    rows_held (world_view c.args.old.now) (world_view c.args.new.now) c.args.touched.now c.deref-3.result.now c.requires.old c.requires.new c.requires.skeleton c.requires.touched
+    (λ i. ap (λ (l : List ℕ). among l i) c.deref-3.ensures.value ∙ c.in_ok-ids.ensures.rows i) n
 
-pub change_between-requires-clause-held : goal.change_between-requires-clause-held
-change_between-requires-clause-held c =
-    let old = world_view c.args.old.now in
-    let new = world_view c.args.new.now in
-    let n = space_at c.args.numbers.now c.spaces.i in
-    let t = is_part old new n in
-    let ids = c.deref.result.now in
-    let touched = c.args.touched.now in
-    let part : c.as_slice-part.result.now ≡ filter t ids =
-    c.as_slice-part.ensures ∙ part_is c.in_ok-parts.parts.items c.index.result.now ids c.spaces.i _ t c.index.ensures c.in_ok-parts.ensures.len (omega (arith, c.spaces-test.true)) (c.in_ok-parts.ensures.parts c.spaces.i) in
-    let held =
-    rows_held old new touched ids c.requires.old c.requires.new c.requires.skeleton c.requires.touched
-    (λ i. ap (λ (l : List ℕ). among l i) c.deref.ensures.value ∙ c.in_ok-ids.ensures.rows i) n in
-    subst (HoldsChanged (table_of old n) (table_of new n)) (sym part) (part_holds old new n ids c.requires.old c.requires.new held)
+pub changes_in-requires-clause-numbers : goal.changes_in-requires-clause-numbers
+changes_in-requires-clause-numbers c =
+    let t = is_in c.in_ok-spaces.spaces.items in
+    let rs = c.args.numbers.now in
+    let before : c.deref-4.result.now ≡ filter t rs =
+    c.deref-4.ensures.value ∙ c.in_ok-before.ensures.some ∙ ap (λ (l : List ℕ). filter (is_in l) rs) c.deref-2.ensures.value in
+    subst AreNumbers (sym before) (record { rising = rises-filter space_in t rs c.requires.numbers.rising; few = few_filter t rs c.requires.numbers.few })
+
+pub with_numbers-requires-clause-changed : goal.with_numbers-requires-clause-changed
+with_numbers-requires-clause-changed c =
+    let t = is_in c.in_ok-spaces.spaces.items in
+    let rs = c.args.numbers.now in
+    let before : c.deref-4.result.now ≡ filter t rs =
+    c.deref-4.ensures.value ∙ c.in_ok-before.ensures.some ∙ ap (λ (l : List ℕ). filter (is_in l) rs) c.deref-2.ensures.value in
+    ap (λ (l : List (ℕ × ℕ)). rises space_in l) (c.deref-5.ensures.value ∙ c.in_ok-changes.ensures.numbers)
+    ∙ counted_rises (world_view c.args.old.now) (world_view c.args.new.now) c.deref-4.result.now
+    ∙ ap (λ (l : List (ℕ × ℕ)). rises space_in l) before ∙ rises-filter space_in t rs c.requires.numbers.rising
+
+pub returns-clause-numbers : goal.returns-clause-numbers
+returns-clause-numbers c =
+    let w = world_view c.args.old.now in
+    let v = world_view c.args.new.now in
+    let ids = c.in_ok-ids.ids.items in
+    let spaces = c.in_ok-spaces.spaces.items in
+    let rs = c.args.numbers.now in
+    let before : c.deref-4.result.now ≡ filter (is_in spaces) rs =
+    c.deref-4.ensures.value ∙ c.in_ok-before.ensures.some ∙ ap (λ (l : List ℕ). filter (is_in l) rs) c.deref-2.ensures.value in
+    let changed = c.deref-5.ensures.value ∙ c.in_ok-changes.ensures.numbers ∙ ap (counted w v) before in
+    all_numbers w v ids spaces c.requires.old c.requires.new
+    (λ n. rows_held w v c.args.touched.now ids c.requires.old c.requires.new c.requires.skeleton c.requires.touched c.in_ok-ids.ensures.rows n)
+    (λ n. c.in_ok-spaces.ensures.touched n ∙ ap (λ (l : List ℕ). is_touched w v l n) c.deref.ensures.value)
+    rs c.in_ok-numbers.numbers.items c.requires.numbers.rising c.in_ok-numbers.ensures.rising
+    (λ n. c.in_ok-numbers.ensures.rows n ∙ ap (λ (l : List (ℕ × ℕ)). merged rs l n) changed)
+
+pub returns-clause-posts : goal.returns-clause-posts
+returns-clause-posts c =
+    let w = world_view c.args.old.now in
+    let v = world_view c.args.new.now in
+    let ids = c.in_ok-ids.ids.items in
+    let spaces = c.in_ok-spaces.spaces.items in
+    let rs = c.args.numbers.now in
+    let before : c.deref-4.result.now ≡ filter (is_in spaces) rs =
+    c.deref-4.ensures.value ∙ c.in_ok-before.ensures.some ∙ ap (λ (l : List ℕ). filter (is_in l) rs) c.deref-2.ensures.value in
+    c.in_ok-changes.ensures.posts ∙ ap (λ (l : List (ℕ × ℕ)). cond c.args.heard (posted w v l) []) before
+    ∙ ap (λ (l : List PostView). cond c.args.heard l [])
+    (sym
+    (all_posts w v ids spaces c.requires.old c.requires.new
+    (λ n. rows_held w v c.args.touched.now ids c.requires.old c.requires.new c.requires.skeleton c.requires.touched c.in_ok-ids.ensures.rows n)
+    (λ n. c.in_ok-spaces.ensures.touched n ∙ ap (λ (l : List ℕ). is_touched w v l n) c.deref.ensures.value) rs))

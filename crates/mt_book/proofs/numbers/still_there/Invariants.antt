@@ -1,7 +1,7 @@
 use Rattle.std.proofs.Common.{◌≡◌, ◌++◌, drop}
 use Rattle.mt_propagate.specs.World.{world_view}
 use Rattle.mt_book.specs.Book.{still_there}
-use Rattle.mt_book.proofs.changes.still_there.Given as goal
+use Rattle.mt_book.proofs.numbers.still_there.Given as goal
 
 -- of the namespaces passed, those that are there
 abbrev pub invariant-spaces : goal.invariant-spaces

@@ -1,0 +1,249 @@
+-- Of the numbers of all namespaces only those change in which a mount was touched.
+use Rattle.std.proofs.Common.{◌≡◌, ℕ, zero, suc, ◌+◌, ◌<◌, ◌≤◌, Bool, true, false, cond, ◌||◌, ◌&&◌, ◌==◌, List, [], ◌∷◌, ◌++◌, map, drop, length, slice_index_or, slice_set, Option, Some, None, refl, sym, ap, ◌∙◌, subst, arith, true≢false, append-nil, append_assoc}
+use Rattle.std.specs.Prelude.{nat_eq, nat_lt}
+use Rattle.std.specs.List.{filter, list_all, list_any}
+use Rattle.std.specs.Option.{option_map, option_to_list, unwrap_or}
+use Rattle.std.proofs.lemmas.Bool.Decides.{nat_tests}
+use Rattle.mt_skel.specs.Keyed.{row_at, rises, among}
+use Rattle.mt_skel.proofs.KeyedLaws.{row_at-below, row_at-filter, row_at-map, rises-map, same_rows, passing}
+use Rattle.mt_skel.proofs.MiddleLaws.{and_first, and_second, and-true}
+use Rattle.mt_propagate.specs.World.{WorldView}
+use Rattle.mt_propagate.specs.WellFormed.{IsWellFormed}
+use Rattle.mt_propagate.proofs.PlannedLaws.{left-step}
+use Rattle.mt_info.specs.Table.{table_of}
+use Rattle.mt_events.specs.Posts.{PostView}
+use Rattle.mt_events.specs.Difference.{HoldsChanged}
+use Rattle.mt_book.specs.Book.{space_in, number_in, command_limit, next_number, next_post, counted, posted}
+use Rattle.mt_book.specs.Parts.{is_part, is_touched, space_at, merged}
+use Rattle.mt_book.proofs.PlaceLaws.{above_at}
+use Rattle.mt_book.proofs.StayLaws.{untouched_number, untouched_post}
+use Rattle.mt_book.proofs.ThereLaws.{numbered_row}
+use Rattle.mt_book.proofs.TouchedLaws.{part_holds}
+
+-- the row of one of these namespaces
+abbrev pub is_in : List ℕ → ℕ × ℕ → Bool
+is_in spaces r = among spaces (space_in r)
+
+-- ---- the rows of some namespaces, found one after the other
+
+module _ {X : Type 0} (key : X → ℕ) where
+  all_lower : (j k : ℕ) (xs : List X) → j ≤ k → list_all (λ y. nat_lt k (key y)) xs ≡ true → list_all (λ y. nat_lt j (key y)) xs ≡ true
+  all_lower j k [] l h = refl
+  all_lower j k (y ∷ ys) l h =
+      let ih = all_lower j k ys l in
+      grind (arith, nat_tests)
+
+below : (k : ℕ) (ys : List ℕ) → list_all (λ y. nat_lt k y) ys ≡ true → among ys k ≡ false
+below k [] h = refl
+below k (y ∷ ys) h =
+    let ih = below k ys in
+    grind (arith, nat_tests)
+
+apart : (s : ℕ) (rest : List ℕ) (rs : List (ℕ × ℕ)) → list_all (λ r. nat_lt s (space_in r)) rs ≡ true → filter (is_in (s ∷ rest)) rs ≡ filter (is_in rest) rs
+apart s rest [] h = refl
+apart s rest (r ∷ rs) h =
+    let low = and_first (nat_lt s (space_in r)) (list_all (λ q. nat_lt s (space_in q)) rs) h in
+    let off : nat_eq s (space_in r) ≡ false = grind (arith, nat_tests) in
+    ap (λ b. cond (b || among rest (space_in r)) (r ∷ filter (is_in (s ∷ rest)) rs) (filter (is_in (s ∷ rest)) rs)) off
+    ∙ ap (λ l. cond (among rest (space_in r)) (r ∷ l) l) (apart s rest rs (and_second (nat_lt s (space_in r)) (list_all (λ q. nat_lt s (space_in q)) rs) h))
+
+pub next_row : (s : ℕ) (rest : List ℕ) (rs : List (ℕ × ℕ)) → list_all (λ y. nat_lt s y) rest ≡ true → rises space_in rs ≡ true
+    → filter (is_in (s ∷ rest)) rs ≡ option_to_list (row_at space_in s rs) ++ filter (is_in rest) rs
+next_row s rest [] a up = refl
+next_row s rest (r ∷ rs) a up =
+    by (nat_eq s (space_in r)) refl (among rest (space_in r)) refl (next_row s rest rs a (and_second (list_all (λ q. nat_lt (space_in r) (space_in q)) rs) (rises space_in rs) up))
+  where
+    over : list_all (λ q. nat_lt (space_in r) (space_in q)) rs ≡ true
+    over = and_first (list_all (λ q. nat_lt (space_in r) (space_in q)) rs) (rises space_in rs) up
+
+    by : (b : Bool) → nat_eq s (space_in r) ≡ b → (c : Bool) → among rest (space_in r) ≡ c
+        → filter (is_in (s ∷ rest)) rs ≡ option_to_list (row_at space_in s rs) ++ filter (is_in rest) rs
+        → cond (b || c) (r ∷ filter (is_in (s ∷ rest)) rs) (filter (is_in (s ∷ rest)) rs) ≡ option_to_list (cond b (Some r) (row_at space_in s rs)) ++ cond c (r ∷ filter (is_in rest) rs) (filter (is_in rest) rs)
+    by true e true f ih =
+        let same : s ≡ space_in r = grind (arith, nat_tests) in
+        absurd (true≢false (sym f ∙ ap (among rest) (sym same) ∙ below s rest a))
+    by true e false f ih =
+        let same : s ≡ space_in r = grind (arith, nat_tests) in
+        ap (λ l. r ∷ l) (apart s rest rs (subst (λ k. list_all (λ q. nat_lt k (space_in q)) rs ≡ true) (sym same) over))
+    by false e true f ih =
+        let off : space_in r ≤ s → among rest (space_in r) ≡ false = λ l. below (space_in r) rest (all_lower (λ k. k) (space_in r) s rest l a) in
+        let low : s ≤ space_in r = grind (arith, nat_tests) in
+        let none : row_at space_in s rs ≡ None = row_at-below space_in s rs (all_lower space_in s (space_in r) rs low over) in
+        ap (λ l. r ∷ l) (ih ∙ ap (λ o. option_to_list o ++ filter (is_in rest) rs) none) ∙ sym (ap (λ o. option_to_list o ++ r ∷ filter (is_in rest) rs) none)
+    by false e false f ih = ih
+
+-- rows that are left of rising ones
+pub drop_rises : {X : Type 0} (key : X → ℕ) (xs : List X) (i : ℕ) → rises key xs ≡ true → rises key (drop i xs) ≡ true
+drop_rises key xs zero up = up
+drop_rises key [] (suc i) up = refl
+drop_rises key (x ∷ xs) (suc i) up = drop_rises key xs i (and_second (list_all (λ y. nat_lt (key x) (key y)) xs) (rises key xs) up)
+
+pub next_found : (spaces : List ℕ) (rs found new all : List (ℕ × ℕ)) (i d : ℕ) → i < length spaces → rises (λ k. k) spaces ≡ true → rises space_in rs ≡ true → found ++ filter (is_in (drop i spaces)) rs ≡ all
+    → new ≡ found ++ option_to_list (row_at space_in (slice_index_or spaces i d) rs) → new ++ filter (is_in (drop (i + 1) spaces)) rs ≡ all
+next_found spaces rs found new all i d l rise up before e =
+    let s = slice_index_or spaces i d in
+    let rest = drop (i + 1) spaces in
+    let split = left-step spaces i d l in
+    let above = and_first (list_all (λ y. nat_lt s y) rest) (rises (λ k. k) rest) (ap (rises (λ k. k)) (sym split) ∙ drop_rises (λ k. k) spaces i rise) in
+    ap (λ t. t ++ filter (is_in rest) rs) e ∙ append_assoc found (option_to_list (row_at space_in s rs)) (filter (is_in rest) rs)
+    ∙ ap (λ t. found ++ t) (sym (next_row s rest rs above up)) ∙ ap (λ (t : List ℕ). found ++ filter (is_in t) rs) (sym split) ∙ before
+
+pub last_found : (spaces : List ℕ) (rs found all : List (ℕ × ℕ)) (i : ℕ) → length spaces ≤ i → found ++ filter (is_in (drop i spaces)) rs ≡ all → found ≡ all
+last_found spaces rs found all i l before =
+    sym (append-nil found) ∙ ap (λ t. found ++ t) (sym (ap (λ (t : List ℕ). filter (is_in t) rs) (ended spaces i l) ∙ nothing rs)) ∙ before
+  where
+    ended : (xs : List ℕ) (k : ℕ) → length xs ≤ k → drop k xs ≡ []
+    ended [] zero low = refl
+    ended [] (suc k) low = refl
+    ended (x ∷ xs) zero low = absurd (omega (arith, low))
+    ended (x ∷ xs) (suc k) low = ended xs k (omega (arith, low))
+
+    nothing : (rows : List (ℕ × ℕ)) → filter (is_in []) rows ≡ []
+    nothing [] = refl
+    nothing (r ∷ rows) = nothing rows
+
+-- ---- the rows once some have changed
+
+set_above : (k : ℕ) (rs : List (ℕ × ℕ)) (at : ℕ) (c : ℕ × ℕ) → list_all (λ q. nat_lt k (space_in q)) rs ≡ true → at < length rs → space_in c ≡ space_at rs at → list_all (λ q. nat_lt k (space_in q)) (slice_set rs at c) ≡ true
+set_above k [] at c all l e = absurd (omega (arith, l))
+set_above k (r ∷ rs) zero c all l e = ap (λ n. nat_lt k n && list_all (λ q. nat_lt k (space_in q)) rs) e ∙ all
+set_above k (r ∷ rs) (suc at) c all l e =
+    and-true (nat_lt k (space_in r)) (list_all (λ q. nat_lt k (space_in q)) (slice_set rs at c)) (and_first (nat_lt k (space_in r)) (list_all (λ q. nat_lt k (space_in q)) rs) all)
+    (set_above k rs at c (and_second (nat_lt k (space_in r)) (list_all (λ q. nat_lt k (space_in q)) rs) all) (omega (arith, l)) e)
+
+pub set_rises : (rs : List (ℕ × ℕ)) (at : ℕ) (c : ℕ × ℕ) → rises space_in rs ≡ true → at < length rs → space_in c ≡ space_at rs at → rises space_in (slice_set rs at c) ≡ true
+set_rises [] at c up l e = absurd (omega (arith, l))
+set_rises (r ∷ rs) zero c up l e = ap (λ n. list_all (λ q. nat_lt n (space_in q)) rs && rises space_in rs) e ∙ up
+set_rises (r ∷ rs) (suc at) c up l e =
+    let over = and_first (list_all (λ q. nat_lt (space_in r) (space_in q)) rs) (rises space_in rs) up in
+    and-true (list_all (λ q. nat_lt (space_in r) (space_in q)) (slice_set rs at c)) (rises space_in (slice_set rs at c)) (set_above (space_in r) rs at c over (omega (arith, l)) e)
+    (set_rises rs at c (and_second (list_all (λ q. nat_lt (space_in r) (space_in q)) rs) (rises space_in rs) up) (omega (arith, l)) e)
+
+set_row : (rs : List (ℕ × ℕ)) (at : ℕ) (c : ℕ × ℕ) → rises space_in rs ≡ true → at < length rs → space_in c ≡ space_at rs at → (n : ℕ)
+    → row_at space_in n (slice_set rs at c) ≡ cond (nat_eq n (space_in c)) (Some c) (row_at space_in n rs)
+set_row [] at c up l e n = absurd (omega (arith, l))
+set_row (r ∷ rs) zero c up l e n = by (nat_eq n (space_in c)) refl
+  where
+    by : (b : Bool) → nat_eq n (space_in c) ≡ b → cond b (Some c) (row_at space_in n rs) ≡ cond b (Some c) (row_at space_in n (r ∷ rs))
+    by true q = refl
+    by false q = ap (λ b. cond b (Some r) (row_at space_in n rs)) (sym (ap (nat_eq n) (sym e) ∙ q)) ∙ refl
+set_row (r ∷ rs) (suc at) c up l e n =
+    ap (λ o. cond (nat_eq n (space_in r)) (Some r) o) (set_row rs at c (and_second (list_all (λ q. nat_lt (space_in r) (space_in q)) rs) (rises space_in rs) up) (omega (arith, l)) e n)
+    ∙ by (nat_eq n (space_in r)) refl (nat_eq n (space_in c)) refl
+  where
+    over : space_in r < space_at rs at
+    over = above_at (space_in r) rs at (and_first (list_all (λ q. nat_lt (space_in r) (space_in q)) rs) (rises space_in rs) up) (omega (arith, l))
+
+    by : (a : Bool) → nat_eq n (space_in r) ≡ a → (b : Bool) → nat_eq n (space_in c) ≡ b
+        → cond a (Some r) (cond b (Some c) (row_at space_in n rs)) ≡ cond b (Some c) (cond a (Some r) (row_at space_in n rs))
+    by true p true q = absurd (let bad : space_in r ≡ space_in c = grind (arith, nat_tests) in omega (arith, over, e, bad))
+    by true p false q = refl
+    by false p b q = refl
+
+-- a namespace that has a number gets the new one
+pub put_here : (rs : List (ℕ × ℕ)) (at : ℕ) (c old : ℕ × ℕ) → rises space_in rs ≡ true → at < length rs → space_in c ≡ space_at rs at → row_at space_in (space_in c) rs ≡ Some old
+    → (n : ℕ) → row_at space_in n (slice_set rs at c) ≡ merged rs (c ∷ []) n
+put_here rs at c old up l e is n = set_row rs at c up l e n ∙ by (nat_eq n (space_in c)) refl
+  where
+    by : (b : Bool) → nat_eq n (space_in c) ≡ b → cond b (Some c) (row_at space_in n rs) ≡ option_map (λ r. unwrap_or (cond b (Some c) None) r) (row_at space_in n rs)
+    by false q = self (row_at space_in n rs)
+      where
+        self : (o : Option (ℕ × ℕ)) → o ≡ option_map (λ r. r) o
+        self None = refl
+        self (Some r) = refl
+    by true q =
+        let same : n ≡ space_in c = grind (arith, nat_tests) in
+        sym (ap (option_map (λ r. unwrap_or (Some c) r)) (ap (λ k. row_at space_in k rs) same ∙ is))
+
+-- one change after the other
+pub put_next : (rs new : List (ℕ × ℕ)) (c : ℕ × ℕ) (cs : List (ℕ × ℕ)) → ((n : ℕ) → row_at space_in n new ≡ merged rs (c ∷ []) n) → list_all (λ q. nat_lt (space_in c) (space_in q)) cs ≡ true
+    → (n : ℕ) → merged new cs n ≡ merged rs (c ∷ cs) n
+put_next rs new c cs rows above n = ap (option_map (λ r. unwrap_or (row_at space_in n cs) r)) (rows n) ∙ by (row_at space_in n rs) (nat_eq n (space_in c)) refl
+  where
+    by : (o : Option (ℕ × ℕ)) (b : Bool) → nat_eq n (space_in c) ≡ b
+        → option_map (λ r. unwrap_or (row_at space_in n cs) r) (option_map (λ r. unwrap_or (cond b (Some c) None) r) o) ≡ option_map (λ r. unwrap_or (cond b (Some c) (row_at space_in n cs)) r) o
+    by None b q = refl
+    by (Some r) false q = refl
+    by (Some r) true q =
+        let same : n ≡ space_in c = grind (arith, nat_tests) in
+        let none : row_at space_in n cs ≡ None = ap (λ k. row_at space_in k cs) same ∙ row_at-below space_in (space_in c) cs above in
+        ap (λ o. Some (unwrap_or o c)) none
+
+pub next_merged : (changed rs new : List (ℕ × ℕ)) (i : ℕ) (d : ℕ × ℕ) → i < length changed → rises space_in changed ≡ true → ((n : ℕ) → row_at space_in n new ≡ merged rs (slice_index_or changed i d ∷ []) n)
+    → (n : ℕ) → merged new (drop (i + 1) changed) n ≡ merged rs (drop i changed) n
+next_merged changed rs new i d l up rows n =
+    let c = slice_index_or changed i d in
+    let cs = drop (i + 1) changed in
+    let split = left-step changed i d l in
+    let above = and_first (list_all (λ q. nat_lt (space_in c) (space_in q)) cs) (rises space_in cs) (ap (rises space_in) (sym split) ∙ drop_rises space_in changed i up) in
+    put_next rs new c cs rows above n ∙ ap (λ (t : List (ℕ × ℕ)). merged rs t n) (sym split)
+
+-- ---- numbers and posts of the namespaces touched, and of all
+
+pub few_filter : (t : ℕ × ℕ → Bool) (rs : List (ℕ × ℕ)) → ((i : ℕ) (r : ℕ × ℕ) → i < length rs → r ≡ slice_index_or rs i r → number_in r ≤ command_limit)
+    → (i : ℕ) (r : ℕ × ℕ) → i < length (filter t rs) → r ≡ slice_index_or (filter t rs) i r → number_in r ≤ command_limit
+few_filter t [] few = λ i r l e. absurd (omega (arith, l))
+few_filter t (x ∷ rs) few = by (t x) (few_filter t rs (λ i r l e. few (suc i) r (omega (arith, l)) e))
+  where
+    by : (b : Bool) → ((i : ℕ) (r : ℕ × ℕ) → i < length (filter t rs) → r ≡ slice_index_or (filter t rs) i r → number_in r ≤ command_limit)
+        → (i : ℕ) (r : ℕ × ℕ) → i < length (cond b (x ∷ filter t rs) (filter t rs)) → r ≡ slice_index_or (cond b (x ∷ filter t rs) (filter t rs)) i r → number_in r ≤ command_limit
+    by true ih zero r l e = few zero r (omega arith) e
+    by true ih (suc i) r l e = ih i r (omega (arith, l)) e
+    by false ih i r l e = ih i r l e
+
+filter_nothing : (p : ℕ → Bool) (xs : List ℕ) → list_any p xs ≡ false → filter p xs ≡ []
+filter_nothing p [] e = refl
+filter_nothing p (x ∷ xs) e = by (p x) (filter_nothing p xs) e
+  where
+    by : (b : Bool) → (list_any p xs ≡ false → filter p xs ≡ []) → (b || list_any p xs) ≡ false → cond b (x ∷ filter p xs) (filter p xs) ≡ []
+    by true ih f = absurd (cc)
+    by false ih f = ih f
+
+abbrev pub count_row : WorldView → WorldView → ℕ × ℕ → ℕ × ℕ
+count_row w v r = numbered_row (space_in r) (next_number w v (space_in r) (number_in r))
+
+counted-map : (w v : WorldView) (rs : List (ℕ × ℕ)) → counted w v rs ≡ map (count_row w v) rs
+counted-map w v [] = refl
+counted-map w v (r ∷ rs) = ap (λ l. count_row w v r ∷ l) (counted-map w v rs)
+
+pub counted_rises : (w v : WorldView) (rs : List (ℕ × ℕ)) → rises space_in (counted w v rs) ≡ rises space_in rs
+counted_rises w v rs = ap (rises space_in) (counted-map w v rs) ∙ rises-map space_in (count_row w v) (λ r. refl) rs
+
+counted_at : (w v : WorldView) (q : ℕ) (rs : List (ℕ × ℕ)) → row_at space_in q (counted w v rs) ≡ option_map (count_row w v) (row_at space_in q rs)
+counted_at w v q rs = ap (row_at space_in q) (counted-map w v rs) ∙ row_at-map space_in (count_row w v) (λ r. refl) q rs
+
+module _ (w v : WorldView) (ids spaces : List ℕ) (h : IsWellFormed w) (g : IsWellFormed v) (held : (n : ℕ) → HoldsChanged (table_of w n) (table_of v n) ids)
+    (touched : (n : ℕ) → among spaces n ≡ is_touched w v ids n) where
+  none : (n : ℕ) → among spaces n ≡ false → (length (filter (is_part w v n) ids) == 0) ≡ true
+  none n off = ap (λ (l : List ℕ). length l == 0) (filter_nothing (is_part w v n) ids (sym (touched n) ∙ off))
+
+  same_row : (r : ℕ × ℕ) → is_in spaces r ≡ false → count_row w v r ≡ r
+  same_row r off =
+      ap (numbered_row (space_in r)) (untouched_number w v (space_in r) (filter (is_part w v (space_in r)) ids) h g (part_holds w v (space_in r) ids h g (held (space_in r))) (none (space_in r) off) (number_in r))
+
+  one_number : (q : ℕ) (rs : List (ℕ × ℕ)) → rises space_in rs ≡ true → merged rs (counted w v (filter (is_in spaces) rs)) q ≡ row_at space_in q (counted w v rs)
+  one_number q rs up =
+      ap (λ (o : Option (ℕ × ℕ)). option_map (λ r. unwrap_or o r) (row_at space_in q rs)) (counted_at w v q (filter (is_in spaces) rs) ∙ ap (option_map (count_row w v)) (row_at-filter space_in (is_in spaces) q rs up))
+      ∙ by (row_at space_in q rs) ∙ sym (counted_at w v q rs)
+    where
+      by : (o : Option (ℕ × ℕ)) → option_map (λ r. unwrap_or (option_map (count_row w v) (passing (is_in spaces) o)) r) o ≡ option_map (count_row w v) o
+      by None = refl
+      by (Some r) = go (is_in spaces r) refl
+        where
+          go : (b : Bool) → is_in spaces r ≡ b → Some (unwrap_or (option_map (count_row w v) (cond b (Some r) None)) r) ≡ Some (count_row w v r)
+          go true is = refl
+          go false is = ap Some (sym (same_row r is))
+
+  pub all_numbers : (rs all : List (ℕ × ℕ)) → rises space_in rs ≡ true → rises space_in all ≡ true → ((n : ℕ) → row_at space_in n all ≡ merged rs (counted w v (filter (is_in spaces) rs)) n) → all ≡ counted w v rs
+  all_numbers rs all up rise rows = same_rows space_in all (counted w v rs) rise (counted_rises w v rs ∙ up) (λ q. rows q ∙ one_number q rs up)
+
+  pub all_posts : (rs : List (ℕ × ℕ)) → posted w v rs ≡ posted w v (filter (is_in spaces) rs)
+  all_posts [] = refl
+  all_posts (r ∷ rs) = by (is_in spaces r) refl (all_posts rs)
+    where
+      by : (b : Bool) → is_in spaces r ≡ b → posted w v rs ≡ posted w v (filter (is_in spaces) rs) → posted w v (r ∷ rs) ≡ posted w v (cond b (r ∷ filter (is_in spaces) rs) (filter (is_in spaces) rs))
+      by true is ih = ap (λ (l : List PostView). option_to_list (next_post w v (space_in r) (number_in r)) ++ l) ih
+      by false is ih =
+          ap (λ (o : Option PostView). option_to_list o ++ posted w v rs)
+          (untouched_post w v (space_in r) (filter (is_part w v (space_in r)) ids) h g (part_holds w v (space_in r) ids h g (held (space_in r))) (none (space_in r) is) (number_in r))
+          ∙ ih
