@@ -9,9 +9,11 @@ ghost use Rattle.mt_bind.specs.Mounting.{bound};
 
 use crate::members::members_within;
 use mt_mounts::mount::{MountId, Place, SpaceId};
+use mt_propagate::carry::{carry_out, ready};
+use mt_propagate::copies::Sources;
 use mt_propagate::limits::too_many_mounts;
 use mt_propagate::named::is_root_place;
-use mt_propagate::plan::{Sources, carry_out, make_plan, ready};
+use mt_propagate::plan::make_plan;
 use mt_propagate::world::{World, state_of};
 use mt_skel::fault::Fault;
 use mt_skel::name::Name;

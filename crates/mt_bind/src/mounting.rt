@@ -6,8 +6,10 @@ ghost use Rattle.mt_propagate.specs.Touched.{since_view};
 ghost use Rattle.mt_bind.specs.Mounting.{mounted};
 
 use mt_mounts::mount::{MountId, SpaceId};
+use mt_propagate::carry::{carry_out, ready};
+use mt_propagate::copies::Sources;
 use mt_propagate::named::is_root_place;
-use mt_propagate::plan::{Sources, carry_out, make_plan, ready};
+use mt_propagate::plan::make_plan;
 use mt_propagate::world::World;
 use mt_skel::fault::Fault;
 use mt_skel::name::{Label, Name};

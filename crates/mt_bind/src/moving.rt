@@ -10,8 +10,10 @@ ghost use Rattle.mt_bind.specs.Mounting.{moved};
 
 use crate::binding::is_unbindable;
 use mt_mounts::mount::{MountId, Place, SpaceId};
+use mt_propagate::carry::{carry_out, ready};
+use mt_propagate::copies::Sources;
 use mt_propagate::named::{is_mount_root, is_root_mount, is_root_place};
-use mt_propagate::plan::{Sources, carry_out, make_plan, ready};
+use mt_propagate::plan::make_plan;
 use mt_propagate::world::{World, state_of};
 use mt_skel::fault::Fault;
 use mt_skel::list::is_among;

@@ -26,7 +26,8 @@ use Rattle.mt_floor.specs.declared.event.Answer.TheVariants.{Replied, Opened}
 use Rattle.mt_floor.specs.Watcher.{Watcher, Due, is_open, follows, due_pairs, opening_of, followed_posts}
 use Rattle.mt_floor.specs.Schedule.{Stepped, floor_step, unless, if_idle, replied, applied, opened, opening_refusal}
 use Rattle.mt_floor.specs.Rows.{RowView, new_row, row_follows, due_if, watcher_of, floor_of, IsRow, IsKept}
-use Rattle.mt_floor.proofs.FloorLaws.{followed_more, newcomer}
+use Rattle.mt_floor.proofs.HeldLaws.{followed_more}
+use Rattle.mt_floor.proofs.FloorLaws.{newcomer}
 use Rattle.mt_floor.proofs.BeginLaws.{opens}
 use Rattle.mt_floor.proofs.HeardLaws.{due_asked}
 use Rattle.mt_skel.proofs.MiddleLaws.{each_last, each_still}

@@ -26,7 +26,8 @@ use Rattle.mt_floor.specs.Watcher.{Watcher, Due, key_of, due_for, opening_of, is
 use Rattle.mt_floor.specs.Schedule.{FloorView, Stepped, floor_step, unless, if_idle, at_row, changed, sent_to, is_full, posted, applied, replied, nothing_left, took, met, closed, halted, opened, too_many_watchers, has_open}
 use Rattle.mt_book.specs.Book.{command_limit}
 use Rattle.mt_floor.proofs.RowLaws.{same_key, fresh}
-use Rattle.mt_floor.proofs.FloorLaws.{Kept, IsRowFor, Held, newcomer, newcomer_kept, nothing}
+use Rattle.mt_floor.proofs.HeldLaws.{Kept, IsRowFor, Held}
+use Rattle.mt_floor.proofs.FloorLaws.{newcomer, newcomer_kept, nothing}
 
 -- a watcher has begun, at the end of these commands
 pub record Begun (s : FloorView) (key : ℕ) (o : Opening) (s' : FloorView) : Type 0 where

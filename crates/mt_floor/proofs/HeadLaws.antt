@@ -12,7 +12,7 @@ use Rattle.mt_events.specs.Following.{IsRun}
 use Rattle.mt_floor.specs.Watcher.{due_for, opening_of}
 use Rattle.mt_floor.specs.Schedule.{FloorView, empty_floor, floor_step, run}
 use Rattle.mt_floor.specs.Headline.{accepted_by, accepted, taken_by, taken_posts, posted_by, posted_to, answers, floor_after, accepted_before, accepted_since, taken_since, posted_since, IsInOrder}
-use Rattle.mt_floor.proofs.FloorLaws.{Kept, Held}
+use Rattle.mt_floor.proofs.HeldLaws.{Kept, Held}
 use Rattle.mt_floor.proofs.RunLaws.{run_take, run_drop, run_end, get_drop, get_drop_at, get_take, ran, ran_shut, ran_ended, after_kept, before_told}
 use Rattle.mt_floor.proofs.BeginLaws.{Begun, begins}
 use Rattle.mt_floor.proofs.FollowedLaws.{is_run}

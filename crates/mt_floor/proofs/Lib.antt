@@ -1,5 +1,6 @@
 pub mod DueLaws
 pub mod RowLaws
+pub mod HeldLaws
 pub mod FloorLaws
 pub mod RunLaws
 pub mod BeginLaws

@@ -17,7 +17,7 @@ use Rattle.mt_floor.specs.Watcher.{Watcher, Due, key_of}
 use Rattle.mt_floor.specs.Schedule.{FloorView, empty_floor, floor_step, run, if_idle, met, closed}
 use Rattle.mt_floor.specs.Headline.{answers, floor_after, accepted_before, accepted_since, taken_since, posted_since}
 use Rattle.mt_floor.specs.Laws.{IsTold}
-use Rattle.mt_floor.proofs.FloorLaws.{Held}
+use Rattle.mt_floor.proofs.HeldLaws.{Held}
 use Rattle.mt_floor.proofs.RunLaws.{run_take, run_drop, get_drop_at, get_take}
 use Rattle.mt_floor.proofs.HeadLaws.{held_at}
 

@@ -12,7 +12,8 @@ use Rattle.mt_floor.specs.declared.event.Answer.{Answer}
 use Rattle.mt_floor.specs.Watcher.{Watcher}
 use Rattle.mt_floor.specs.Schedule.{FloorView, empty_floor, floor_step, run, has_open}
 use Rattle.mt_floor.specs.Headline.{accepted_by, accepted, taken_by, taken_posts, posted_by, posted_to, posts_to, ends_watcher, answers, floor_after, accepted_before}
-use Rattle.mt_floor.proofs.FloorLaws.{Kept, Held, goes}
+use Rattle.mt_floor.proofs.HeldLaws.{Kept, Held}
+use Rattle.mt_floor.proofs.FloorLaws.{goes}
 
 pub run_state : (s : FloorView) (xs ys : List Event) → (run s (xs ++ ys)).0 ≡ (run (run s xs).0 ys).0
 run_state s [] ys = refl

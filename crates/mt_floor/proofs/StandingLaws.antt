@@ -16,7 +16,8 @@ use Rattle.mt_floor.specs.Schedule.{FloorView, empty_floor, floor_step, has_open
 use Rattle.mt_floor.specs.Headline.{accepted_by, taken_by, posted_by}
 use Rattle.mt_floor.specs.WellFormed.{IsFollower, IsFloor}
 use Rattle.mt_floor.proofs.RowLaws.{is_low, fresh}
-use Rattle.mt_floor.proofs.FloorLaws.{Kept, IsRowFor, Held, goes}
+use Rattle.mt_floor.proofs.HeldLaws.{Kept, IsRowFor, Held}
+use Rattle.mt_floor.proofs.FloorLaws.{goes}
 use Rattle.mt_floor.proofs.GoneLaws.{none_stays}
 use Rattle.mt_floor.proofs.BoundLaws.{bounded, short_lists}
 use Rattle.mt_floor.proofs.BeginLaws.{begins, counts}

@@ -50,14 +50,15 @@ are_numbers pieces = false
 abbrev pub is_device : List ℕ → Bool
 is_device word = are_numbers (pieces 58 word)
 
--- the type, the source and one word of super options stand behind the dash, whatever they are (proc_pid_mountinfo(5), fields 9 to 11)
-abbrev pub with_end : (List ℕ → List ℕ → ToldMount) → List (List ℕ) → Option ToldMount
-with_end row (kind ∷ source ∷ super ∷ []) = Some (row kind source)
-with_end row words = None
+-- the type and the source stand behind the dash, and one word of super options behind them, whatever they are
+-- (proc_pid_mountinfo(5), fields 9 to 11)
+abbrev pub end_in : List (List ℕ) → Option (List ℕ × List ℕ)
+end_in (kind ∷ source ∷ super ∷ []) = Some (kind, source)
+end_in words = None
 
 -- the row of the words of a line
 abbrev pub mount_with : ℕ → ℕ → List ℕ → List ℕ → List ℕ → List ℕ → Fields × List (List ℕ) → Option ToldMount
-mount_with id parent device root point options (fields, behind) = with_end (λ kind source. record {
+mount_with id parent device root point options (fields, behind) = option_map (λ (kind, source). record {
   id = id;
   parent = parent;
   device = device;
@@ -70,7 +71,7 @@ mount_with id parent device root point options (fields, behind) = with_end (λ k
   unbindable = fields.unbindable;
   kind = kind;
   source = source;
-}) behind
+}) (end_in behind)
 
 abbrev pub mount_of_words : List (List ℕ) → Option ToldMount
 mount_of_words (id ∷ parent ∷ device ∷ root ∷ point ∷ options ∷ rest) =

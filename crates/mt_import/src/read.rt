@@ -1,6 +1,6 @@
 //! Lines of a mountinfo, read.
 ghost use Rattle.std.specs.Prelude.{◌≡◌, ◌≢◌, Some, None, IfOk, IfErr, MatchOption};
-ghost use Rattle.mt_import.specs.Reading.{mount_in, no_fields, with_field, fields_in, is_device};
+ghost use Rattle.mt_import.specs.Reading.{mount_in, no_fields, with_field, fields_in, is_device, end_in};
 
 use crate::told::HostMount;
 use mt_skel::fault::Fault;
@@ -82,6 +82,22 @@ fn is_device(word: &[u8]) -> bool
     number(major).is_some() && number(minor).is_some()
 }
 
+/// The type and the source, which stand behind the dash. None where one word of super options is not all that stands
+/// behind them.
+fn read_end<'a>(words: &mut Words<'a>) -> Option<(&'a [u8], &'a [u8])>
+    ensures { MatchOption result (end_in words.old ≡ None) (λ (kind, source). end_in words.old ≡ Some (kind.now, source.now)) }
+{
+    let (Some(kind), Some(source), Some(_), None) = (
+        words.next(),
+        words.next(),
+        words.next(),
+        words.next(),
+    ) else {
+        return None;
+    };
+    Some((kind, source))
+}
+
 /// A copy of a word. Fails for want of memory alone.
 fn copy_of(alloc: Global, word: &[u8]) -> Result<Vec<u8>, AllocError>
     ensures { IfOk result (λ copy. copy.items ≡ word.now) }
@@ -117,12 +133,7 @@ pub fn read_mount(alloc: Global, line: &[u8]) -> Result<HostMount, Fault>
     ) else {
         return Err(Fault::BadLine);
     };
-    let (Some(kind), Some(source), Some(_), None) = (
-        words.next(),
-        words.next(),
-        words.next(),
-        words.next(),
-    ) else {
+    let Some((kind, source)) = read_end(&mut words) else {
         return Err(Fault::BadLine);
     };
     if !is_device(device) {

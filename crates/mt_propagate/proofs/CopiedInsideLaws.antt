@@ -22,7 +22,7 @@ use Rattle.mt_propagate.specs.World.{WorldView, state_of, group_of, space_of, ro
 use Rattle.mt_propagate.specs.WellFormed.{IsWellFormed}
 use Rattle.mt_propagate.specs.Receivers.{gets_from, propagates_to, hits}
 use Rattle.mt_propagate.specs.Copies.{Source, MountCopy, targets, all_copies, new_copies, copy_id}
-use Rattle.mt_propagate.specs.Groups.{GroupKey, home, key_group, is_new_key, master_key, copy_state}
+use Rattle.mt_propagate.specs.Groups.{GroupKey, key_of, home, key_group, is_new_key, master_key, copy_state}
 use Rattle.mt_propagate.specs.Places.{copy_of, new_mounts, relocated, made_way, stack_end}
 use Rattle.mt_propagate.specs.Copied.{copied, regrouped, is_moved}
 use Rattle.mt_propagate.specs.Sound.{IsSource, IsDestination}
@@ -211,7 +211,7 @@ module _ (w : WorldView) (h : IsWellFormed w) (src : Source) (dest : Place) (s :
             → (b : Bool) → is_new_key w (home w src dest) (record { group = a; source = x.source }) ≡ b → Mastered i g
         at x e sp a m off close up chain same true new =
             let k : GroupKey = record { group = a; source = x.source } in
-            let mk : master_key w (home w src dest) (hits w dest) x ≡ Some k = (λ i. cond (off i) None (option_map (λ v. record { group = v; source = x.source }) (close i))) in
+            let mk : master_key w (home w src dest) (hits w dest) x ≡ Some k = (λ i. key_of (cond (off i) None (close i)) x.source) in
             let r = new_number w h.peering src dest k (key_in w h.peering src dest k x e (inr mk) new) new in
             let far : reaches w.peering.peers m a ≡ true = any_in (λ k. eqb k a) a (groups_up w.peering.peers m) chain (eq-eqb a a refl) in
             inr (k, ap (key_at w h.peering src dest) (sym same) ∙ r.2, subst (λ v. w.peering.next ≤ v) same r.0, λ u there q. sp ∙ c.chains x.target u m a up there q far)

@@ -1,5 +1,5 @@
 -- Where a copy is among the copies of source mounts at targets.
-use Rattle.std.proofs.Common.{◌≡◌, ◌≢◌, ℕ, suc, ◌+◌, ◌*◌, ◌<◌, ◌≤◌, ◌^◌, Bool, true, false, cond, not, ◌&&◌, ◌||◌, List, [], ◌∷◌, ◌++◌, map, length, refl, sym, ◌∙◌, subst, arith, length-append}
+use Rattle.std.proofs.Common.{◌≡◌, ◌≢◌, ℕ, suc, ◌+◌, ◌*◌, ◌<◌, ◌≤◌, ◌^◌, Bool, true, false, cond, not, ◌&&◌, ◌||◌, List, [], ◌∷◌, ◌++◌, map, length, refl, sym, ap, ◌∙◌, subst, arith, length-append}
 use Rattle.std.specs.Prelude.{nat_eq, nat_lt}
 use Rattle.std.specs.List.{list_any, position_or_len}
 use Rattle.std.proofs.lemmas.Bool.Decides.{nat_tests}
@@ -109,19 +109,20 @@ below-count a b m n la lb =
     let row : suc a * n ≤ m * n = mul-le (suc a) n m n (omega (arith, la)) (omega arith) in
     omega (arith, row, lb)
 
--- the same, given how many targets and sources there are, and the two indexes
-module _ (t s : ℕ) (ss ts : List ℕ) (m n a b : ℕ) (targets : m ≡ length ts) (sources : n ≡ length ss) (before : a ≡ position_or_len (nat_eq t) ts) (index : b ≡ position_or_len (nat_eq s) ss) where
-  counted : m * n ≡ length (copies_by ss ts)
-  counted = (λ i. targets i * sources i) ∙ sym (count-by ss ts)
+-- the same, given the list of all copies, how many targets and sources there are, and the two indexes
+module _ (t s : ℕ) (ss ts : List ℕ) (cs : List MountCopy) (m n a b : ℕ) (made : copies_by ss ts ≡ cs) (targets : m ≡ length ts) (sources : n ≡ length ss) (before : a ≡ position_or_len (nat_eq t) ts)
+    (index : b ≡ position_or_len (nat_eq s) ss) where
+  pub count-fits : length cs < 2 ^ 64 → m * n < 2 ^ 64
+  count-fits l = subst (λ k. k < 2 ^ 64) (sym ((λ i. targets i * sources i) ∙ sym (count-by ss ts) ∙ ap length made)) l
 
-  pub count-fits : length (copies_by ss ts) < 2 ^ 64 → m * n < 2 ^ 64
-  count-fits l = subst (λ k. k < 2 ^ 64) (sym counted) l
+  position-is : position_or_len (sought t s) (copies_by ss ts) ≡ position_or_len (sought t s) cs
+  position-is = ap (position_or_len (sought t s)) made
 
-  pub absent-target : a ≡ m → m * n ≡ position_or_len (sought t s) (copies_by ss ts)
-  absent-target e = (λ i. targets i * sources i) ∙ sym (no_target t s ss ts (sym before ∙ e ∙ targets))
+  pub absent-target : a ≡ m → m * n ≡ position_or_len (sought t s) cs
+  absent-target e = (λ i. targets i * sources i) ∙ sym (no_target t s ss ts (sym before ∙ e ∙ targets)) ∙ position-is
 
-  pub absent-source : b ≡ n → m * n ≡ position_or_len (sought t s) (copies_by ss ts)
-  absent-source e = (λ i. targets i * sources i) ∙ sym (no_source t s ss ts (sym index ∙ e ∙ sources))
+  pub absent-source : b ≡ n → m * n ≡ position_or_len (sought t s) cs
+  absent-source e = (λ i. targets i * sources i) ∙ sym (no_source t s ss ts (sym index ∙ e ∙ sources)) ∙ position-is
 
   module _ (there : a ≢ m) (known : b ≢ n) where
     lower : (a < m) × (b < n)
@@ -132,11 +133,11 @@ module _ (t s : ℕ) (ss ts : List ℕ) (m n a b : ℕ) (targets : m ≡ length 
         let lb : b ≤ n = omega (arith, bt, index, sources) in
         (omega (arith, la, there), omega (arith, lb, known))
 
-    pub index-fits : length (copies_by ss ts) < 2 ^ 64 → a * n + b < 2 ^ 64
+    pub index-fits : length cs < 2 ^ 64 → a * n + b < 2 ^ 64
     index-fits l = let low = below-count a b m n lower.0 lower.1 in let fits = count-fits l in omega (arith, low, fits)
 
-    pub present : a * n + b ≡ position_or_len (sought t s) (copies_by ss ts)
+    pub present : a * n + b ≡ position_or_len (sought t s) cs
     present =
         let lt : position_or_len (nat_eq t) ts < length ts = let l = lower.0 in omega (arith, l, before, targets) in
         let ls : position_or_len (nat_eq s) ss < length ss = let l = lower.1 in omega (arith, l, index, sources) in
-        (λ i. before i * sources i + index i) ∙ sym (copy_index t s ss ts lt ls)
+        (λ i. before i * sources i + index i) ∙ sym (copy_index t s ss ts lt ls) ∙ position-is

@@ -10,7 +10,7 @@ use Rattle.mt_events.specs.declared.opening.Scope.TheVariants.{One, All}
 use Rattle.mt_requests.specs.Options.{change_of}
 use Rattle.mt_requests.specs.declared.request.Request.{Request}
 use Rattle.mt_requests.specs.declared.request.Request.TheVariants.{Watch, Take, Follow, Close, Quit, Stop}
-use Rattle.mt_requests.specs.Requests.{unless, request_from, mkfs_of, mkdir_of, newns_of, copy_said, copyns_of, dropns_of, mount_of, two_paths_of, bind_of, move_of, umount_of, setattr_of, show_of, find_of, one_word, watch_of, most_taken, most_followed, count_of, take_of, follow_of, HasRightCount, Reader, watching_lines, lines, read_by, by_words, request_of, ReadsAs}
+use Rattle.mt_requests.specs.Requests.{unless, request_from, mkfs_of, mkdir_of, newns_of, copy_said, copyns_of, dropns_of, space_and_two, mount_of, two_paths_of, bind_of, move_of, one_path_of, umount_of, setattr_of, show_of, find_of, one_word, watch_of, most_taken, most_followed, count_of, take_of, follow_of, HasRightCount, Reader, watching_lines, lines, read_by, by_words, request_of, ReadsAs}
 
 -- what is said
 of_said : (said r : Request) → ◌≡◌ {A = Result Request Fault} (Ok said) (Ok r) → HasRightCount said → HasRightCount r
@@ -82,8 +82,7 @@ dropns_right (space ∷ []) r e = of_some _ (number_in_text space) r e (λ n f. 
 dropns_right _ r e = cc
 
 mount_right : IsRight mount_of
-mount_right (space ∷ fs ∷ path ∷ []) r e = of_some _ (number_in_text space) r e (λ n f. of_unless _ _ r f tt)
-mount_right _ r e = cc
+mount_right rest r e = of_some _ (space_and_two rest) r e (λ parts f. of_unless _ _ r f tt)
 
 bind_right : (recursive : Bool) → IsRight (bind_of recursive)
 bind_right recursive rest r e = of_parts _ (two_paths_of rest) r e (λ parts. tt)
@@ -92,8 +91,7 @@ move_right : IsRight move_of
 move_right rest r e = of_parts _ (two_paths_of rest) r e (λ parts. tt)
 
 umount_right : IsRight umount_of
-umount_right (space ∷ path ∷ []) r e = of_some _ (number_in_text space) r e (λ n f. of_unless _ _ r f tt)
-umount_right _ r e = cc
+umount_right rest r e = of_parts _ (one_path_of rest) r e (λ parts. tt)
 
 setattr_right : IsRight setattr_of
 setattr_right (space ∷ path ∷ options) r e =
@@ -105,8 +103,7 @@ show_right (space ∷ []) r e = of_some _ (number_in_text space) r e (λ n f. of
 show_right _ r e = cc
 
 find_right : IsRight find_of
-find_right (space ∷ path ∷ []) r e = of_some _ (number_in_text space) r e (λ n f. of_unless _ _ r f tt)
-find_right _ r e = cc
+find_right rest r e = of_parts _ (one_path_of rest) r e (λ parts. tt)
 
 one_word_right : (asked : Request) → HasRightCount asked → IsRight (one_word asked)
 one_word_right asked right [] r e = of_said asked r e right

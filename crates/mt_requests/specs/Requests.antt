@@ -120,18 +120,24 @@ abbrev pub dropns_of : List (List ℕ) → Result Request Fault
 dropns_of (space ∷ []) = option_map_or (λ n. Ok (request.Run (command.DropSpace n))) (number_in_text space) (Err BadLine)
 dropns_of _ = Err BadLine
 
--- `mount NS FS PATH` mounts a filesystem in a namespace; a bad number is a bad line, and so comes before every other fault
-abbrev pub mount_of : List (List ℕ) → Result Request Fault
-mount_of (space ∷ fs ∷ path ∷ []) =
-    option_map_or (λ n. unless (prior_fault (label_fault fs ∷ path_fault path ∷ [])) (request.Run (command.Mount n (label_bytes fs) (path_names path))))
-    (number_in_text space) (Err BadLine)
-mount_of _ = Err BadLine
+-- the namespace that a line names, and the two words behind it; without them, or with a bad number, it is a bad line, which comes
+-- before every other fault
+abbrev pub space_and_two : List (List ℕ) → Option (ℕ × List ℕ × List ℕ)
+space_and_two (space ∷ first ∷ second ∷ []) = option_map (λ n. (n, first, second)) (number_in_text space)
+space_and_two _ = None
 
--- the namespace and the two paths that a line says; a bad number is a bad line, and so comes before every other fault
+-- `mount NS FS PATH` mounts a filesystem in a namespace
+abbrev pub mount_of : List (List ℕ) → Result Request Fault
+mount_of words =
+    option_map_or (λ (space, fs, path). unless (prior_fault (label_fault fs ∷ path_fault path ∷ []))
+    (request.Run (command.Mount space (label_bytes fs) (path_names path))))
+    (space_and_two words) (Err BadLine)
+
+-- the namespace and the two paths that a line says
 abbrev pub two_paths_of : List (List ℕ) → Result (ℕ × List (List ℕ) × List (List ℕ)) Fault
-two_paths_of (space ∷ src ∷ dst ∷ []) =
-    option_map_or (λ n. unless (prior_fault (path_fault src ∷ path_fault dst ∷ [])) (n, path_names src, path_names dst)) (number_in_text space) (Err BadLine)
-two_paths_of _ = Err BadLine
+two_paths_of words =
+    option_map_or (λ (space, src, dst). unless (prior_fault (path_fault src ∷ path_fault dst ∷ [])) (space, path_names src, path_names dst))
+    (space_and_two words) (Err BadLine)
 
 -- `bind NS SRC DST` binds a mount, and `rbind NS SRC DST` a tree of mounts
 abbrev pub bind_of : Bool → List (List ℕ) → Result Request Fault
@@ -141,10 +147,14 @@ bind_of recursive words = request_from (λ (space, src, dst). request.Run (comma
 abbrev pub move_of : List (List ℕ) → Result Request Fault
 move_of words = request_from (λ (space, src, dst). request.Run (command.Move space src dst)) (two_paths_of words)
 
+-- the namespace and the path that a line says
+abbrev pub one_path_of : List (List ℕ) → Result (ℕ × List (List ℕ)) Fault
+one_path_of (space ∷ path ∷ []) = option_map_or (λ n. unless (path_fault path) (n, path_names path)) (number_in_text space) (Err BadLine)
+one_path_of _ = Err BadLine
+
 -- `umount NS PATH` unmounts
 abbrev pub umount_of : List (List ℕ) → Result Request Fault
-umount_of (space ∷ path ∷ []) = option_map_or (λ n. unless (path_fault path) (request.Run (command.Unmount n (path_names path)))) (number_in_text space) (Err BadLine)
-umount_of _ = Err BadLine
+umount_of words = request_from (λ (space, path). request.Run (command.Unmount space path)) (one_path_of words)
 
 -- `setattr NS PATH [rec] [set=W,..] [clr=W,..] [prop=K]` changes a mount, or all below it too; the options come in any order
 abbrev pub setattr_of : List (List ℕ) → Result Request Fault
@@ -160,8 +170,7 @@ show_of _ = Err BadLine
 
 -- `find NS PATH` says where a path ends
 abbrev pub find_of : List (List ℕ) → Result Request Fault
-find_of (space ∷ path ∷ []) = option_map_or (λ n. unless (path_fault path) (request.Find n (path_names path))) (number_in_text space) (Err BadLine)
-find_of _ = Err BadLine
+find_of words = request_from (λ (space, path). request.Find space path) (one_path_of words)
 
 -- a line of one word asks for this, with nothing behind the word
 abbrev pub one_word : Request → List (List ℕ) → Result Request Fault

@@ -1,6 +1,6 @@
 //! Requests, as lines say them.
-ghost use Rattle.std.specs.Prelude.{◌≡◌, IfOk, None, Some};
-ghost use Rattle.mt_requests.specs.Requests.{ReadsAs, request_of, HasNoFault, prior_of_two, prior_fault, Reads, two_paths_of, mkfs_of, mkdir_of, newns_of, copy_said, copyns_of, dropns_of, mount_of, bind_of, move_of, umount_of, setattr_of, show_of, find_of, one_word, HasRightCount};
+ghost use Rattle.std.specs.Prelude.{◌≡◌, IfOk, None, Some, MatchOption};
+ghost use Rattle.mt_requests.specs.Requests.{ReadsAs, request_of, HasNoFault, prior_of_two, prior_fault, Reads, two_paths_of, mkfs_of, mkdir_of, newns_of, copy_said, copyns_of, dropns_of, space_and_two, mount_of, bind_of, move_of, one_path_of, umount_of, setattr_of, show_of, find_of, one_word, HasRightCount};
 
 use crate::label::{label_fault, label_of};
 use crate::options::change_of;
@@ -148,21 +148,27 @@ fn read_dropns(words: &mut Words<'_>) -> Result<Request, Fault>
     Ok(Request::Run(Command::DropSpace { space }))
 }
 
-/// The request of a line `mount NS FS PATH`, behind the first word.
-fn read_mount(alloc: Global, words: &mut Words<'_>) -> Result<Request, Fault>
-    ensures { ReadsAs (mount_of words.old) result }
+/// The namespace that a line names, and the two words behind it. None where these are not three words, or the first is
+/// no number.
+fn space_and_two<'a>(words: &mut Words<'a>) -> Option<(u64, &'a [u8], &'a [u8])>
+    ensures { MatchOption result (space_and_two words.old ≡ None) (λ (space, first, second). space_and_two words.old ≡ Some (space, first.now, second.now)) }
 {
-    let (Some(space), Some(fs), Some(path), None) = (
+    let (Some(space), Some(first), Some(second), None) = (
         words.next(),
         words.next(),
         words.next(),
         words.next(),
     ) else {
-        return Err(Fault::BadLine);
+        return None;
     };
-    let Some(space) = number(space) else {
-        return Err(Fault::BadLine);
-    };
+    Some((number(space)?, first, second))
+}
+
+/// The request of a line `mount NS FS PATH`, behind the first word.
+fn read_mount(alloc: Global, words: &mut Words<'_>) -> Result<Request, Fault>
+    ensures { ReadsAs (mount_of words.old) result }
+{
+    let (space, fs, path) = space_and_two(words).ok_or(Fault::BadLine)?;
     if let Some(fault) = prior_fault(&[label_fault(fs), path_fault(path)]) {
         return Err(fault);
     }
@@ -175,17 +181,7 @@ fn read_mount(alloc: Global, words: &mut Words<'_>) -> Result<Request, Fault>
 fn read_two_paths(alloc: Global, words: &mut Words<'_>) -> Result<(u64, Names, Names), Fault>
     ensures { Reads (two_paths_of words.old) result }
 {
-    let (Some(space), Some(src), Some(dst), None) = (
-        words.next(),
-        words.next(),
-        words.next(),
-        words.next(),
-    ) else {
-        return Err(Fault::BadLine);
-    };
-    let Some(space) = number(space) else {
-        return Err(Fault::BadLine);
-    };
+    let (space, src, dst) = space_and_two(words).ok_or(Fault::BadLine)?;
     if let Some(fault) = prior_fault(&[path_fault(src), path_fault(dst)]) {
         return Err(fault);
     }
@@ -216,9 +212,9 @@ fn read_move(alloc: Global, words: &mut Words<'_>) -> Result<Request, Fault>
     Ok(Request::Run(Command::Move { space, src, dst }))
 }
 
-/// The request of a line `umount NS PATH`, behind the first word.
-fn read_umount(alloc: Global, words: &mut Words<'_>) -> Result<Request, Fault>
-    ensures { ReadsAs (umount_of words.old) result }
+/// The namespace and the path of a line, behind its first word.
+fn read_one_path(alloc: Global, words: &mut Words<'_>) -> Result<(u64, Names), Fault>
+    ensures { Reads (one_path_of words.old) result }
 {
     let (Some(space), Some(path), None) = (words.next(), words.next(), words.next()) else {
         return Err(Fault::BadLine);
@@ -228,6 +224,14 @@ fn read_umount(alloc: Global, words: &mut Words<'_>) -> Result<Request, Fault>
         return Err(fault);
     }
     let path = path_of(alloc, path)?;
+    Ok((space, path))
+}
+
+/// The request of a line `umount NS PATH`, behind the first word.
+fn read_umount(alloc: Global, words: &mut Words<'_>) -> Result<Request, Fault>
+    ensures { ReadsAs (umount_of words.old) result }
+{
+    let (space, path) = read_one_path(alloc, words)?;
     Ok(Request::Run(Command::Unmount { space, path }))
 }
 
@@ -266,14 +270,7 @@ fn read_show(words: &mut Words<'_>) -> Result<Request, Fault>
 fn read_find(alloc: Global, words: &mut Words<'_>) -> Result<Request, Fault>
     ensures { ReadsAs (find_of words.old) result }
 {
-    let (Some(space), Some(path), None) = (words.next(), words.next(), words.next()) else {
-        return Err(Fault::BadLine);
-    };
-    let space = number(space).ok_or(Fault::BadLine)?;
-    if let Some(fault) = path_fault(path) {
-        return Err(fault);
-    }
-    let path = path_of(alloc, path)?;
+    let (space, path) = read_one_path(alloc, words)?;
     Ok(Request::Find { space, path })
 }
 

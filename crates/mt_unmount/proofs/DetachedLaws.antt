@@ -41,10 +41,10 @@ module _ (w : WorldView) (h : IsWellFormed w) (i : ℕ) (rooted : is_none (place
       let f = in_filter (λ m. not (goes w i m)) m w.forest e in
       (in_row id_of w.forest m h.forest.rising f.0, stays-not (is_removed w i m.id) f.1)
 
-  fits : Fits (is_removed w i) (slid w i) rest
+  fits : Fits (is_removed w i) (slid w (is_removed w i)) rest
   fits = record {
     rising = rises-filter id_of (λ m. not (goes w i m)) w.forest h.forest.rising;
-    stays = λ p off. follow-stop (slide w i) (length w.forest) p (ap (λ b. cond b (place_of w p.mount) None) off);
+    stays = λ p off. follow-stop (slide w (is_removed w i)) (length w.forest) p (ap (λ b. cond b (place_of w p.mount) None) off);
     lands = λ m p e at.
         let k = known m e in
         (slid-there w h i rooted bare m.id m p k.0 at k.1).1;
@@ -53,26 +53,26 @@ module _ (w : WorldView) (h : IsWellFormed w) (i : ℕ) (rooted : is_none (place
         let k = known b eb in
         let x = slid-there w h i rooted bare a.id a p j.0 pa j.1 in
         let y = slid-there w h i rooted bare b.id b q k.0 pb k.1 in
-        ap id_of (heir-single w i x.0.steps y.0.steps (slid w i p) a b x.0.leads (subst (λ r. heir_at w i y.0.steps r ≡ Some b) (sym same) y.0.leads));
+        ap id_of (heir-single w i x.0.steps y.0.steps (slid w (is_removed w i) p) a b x.0.leads (subst (λ r. heir_at w i y.0.steps r ≡ Some b) (sym same) y.0.leads));
   }
 
   -- what stands on a mount that goes is what is found at its root
-  only : (k j : ℕ) (q : Place) → is_removed w i k ≡ true → relocation_past w (is_removed w i) k ≡ Some (j, q) → Moves (is_removed w i) (slid w i) rest k j q
+  only : (k j : ℕ) (q : Place) → is_removed w i k ≡ true → relocation_past w (is_removed w i) k ≡ Some (j, q) → Moves (is_removed w i) (slid w (is_removed w i)) rest k j q
   only k j q off e = go (mount_at w.forest k) refl e
     where
-      go : (o : Option Mount) → mount_at w.forest k ≡ o → option_and_then (λ (r : Mount). moved_from w (is_removed w i) (root_place r)) o ≡ Some (j, q) → Moves (is_removed w i) (slid w i) rest k j q
+      go : (o : Option Mount) → mount_at w.forest k ≡ o → option_and_then (λ (r : Mount). moved_from w (is_removed w i) (root_place r)) o ≡ Some (j, q) → Moves (is_removed w i) (slid w (is_removed w i)) rest k j q
       go None is e = absurd (let v : None ≡ Some (j, q) = e in cc)
       go (Some r) is e = by (on w.forest (root_place r)) refl e
         where
-          by : (o : Option Mount) → on w.forest (root_place r) ≡ o → option_and_then (λ (m : Mount). unless (is_removed w i m.id) m.id (slid w i (root_place r))) o ≡ Some (j, q)
-              → Moves (is_removed w i) (slid w i) rest k j q
+          by : (o : Option Mount) → on w.forest (root_place r) ≡ o → option_and_then (λ (m : Mount). unless (is_removed w i m.id) m.id (slid w (is_removed w i) (root_place r))) o ≡ Some (j, q)
+              → Moves (is_removed w i) (slid w (is_removed w i)) rest k j q
           by None at e = absurd (let v : None ≡ Some (j, q) = e in cc)
           by (Some m) at e = stay (is_removed w i m.id) refl e
             where
-              stay : (b : Bool) → is_removed w i m.id ≡ b → unless b m.id (slid w i (root_place r)) ≡ Some (j, q) → Moves (is_removed w i) (slid w i) rest k j q
+              stay : (b : Bool) → is_removed w i m.id ≡ b → unless b m.id (slid w (is_removed w i) (root_place r)) ≡ Some (j, q) → Moves (is_removed w i) (slid w (is_removed w i)) rest k j q
               stay true gone e = absurd (let v : None ≡ Some (j, q) = e in cc)
               stay false here e =
-                  let was : ℕ × Place = (m.id, slid w i (root_place r)) in
+                  let was : ℕ × Place = (m.id, slid w (is_removed w i) (root_place r)) in
                   let now : ℕ × Place = (j, q) in
                   let pair : was ≡ now = some-is was now e in
                   let f = find_in (is_at (root_place r)) w.forest m at in
@@ -86,14 +86,14 @@ module _ (w : WorldView) (h : IsWellFormed w) (i : ℕ) (rooted : is_none (place
                     comes = ap (λ (x : ℕ × Place). x.1) pair;
                   }
 
-  finds : Finds (is_removed w i) (slid w i) rest (relocation_past w (is_removed w i))
+  finds : Finds (is_removed w i) (slid w (is_removed w i)) rest (relocation_past w (is_removed w i))
   finds = record {
     each = λ m p e at off.
         let k = known m e in
         let gap = gap-below w h i rooted bare m.id m p k.0 at off in
         let here : on w.forest p ≡ Some m = on-is w.forest h.forest.rising h.forest.apart m.id m p k.0 at in
         ap (option_and_then (λ (r : Mount). moved_from w (is_removed w i) (root_place r))) gap.there ∙ ap (moved_from w (is_removed w i)) gap.at_root
-        ∙ ap (option_and_then (λ (x : Mount). unless (is_removed w i x.id) x.id (slid w i p))) here ∙ ap (λ b. unless b m.id (slid w i p)) k.1;
+        ∙ ap (option_and_then (λ (x : Mount). unless (is_removed w i x.id) x.id (slid w (is_removed w i) p))) here ∙ ap (λ b. unless b m.id (slid w (is_removed w i) p)) k.1;
     only = only;
   }
 
@@ -106,7 +106,7 @@ module _ (w : WorldView) (h : IsWellFormed w) (i : ℕ) (rooted : is_none (place
   all-detached : (ids : List ℕ) → AreRemoved w i ids → Detaches (is_removed w i) ids
   unfolding without_mount
   all-detached ids are =
-      let e = placed-each (is_removed w i) (slid w i) rest fits (relocation_past w (is_removed w i)) finds ids are.rising are.each in
+      let e = placed-each (is_removed w i) (slid w (is_removed w i)) rest fits (relocation_past w (is_removed w i)) finds ids are.rising are.each in
       (e.0, ap with_forest e.1)
     where
       with_forest : List Mount → WorldView

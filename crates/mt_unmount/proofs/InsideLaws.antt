@@ -25,7 +25,7 @@ use Rattle.mt_propagate.proofs.CopyRowLaws.{space_is}
 use Rattle.mt_propagate.proofs.RowLaws.{all-each, found-each, part-kept}
 use Rattle.mt_propagate.proofs.ShownLaws.{state-mount}
 use Rattle.mt_propagate.proofs.WalkLaws.{stands_at}
-use Rattle.mt_unmount.specs.Unmounting.{place_of, may_go, is_removed, slide, slid, without_mount, unmounted}
+use Rattle.mt_unmount.specs.Unmounting.{place_of, may_go, going_at, is_removed, slide, slid, without_mount, unmounted}
 use Rattle.mt_unmount.proofs.RemovedLaws.{placed-mount}
 use Rattle.mt_unmount.proofs.UnmountTreeLaws.{goes, moved, left_mounts, row-of}
 use Rattle.mt_unmount.proofs.UnmountLaws.{unmounted-kept}
@@ -58,7 +58,7 @@ module _ (w : WorldView) (h : IsWellFormed w) (i : ℕ) (n : ℕ) (c : IsContain
         space_is w p.mount q.0 q.1 ∙ q.2 ∙ sym (space_is w i m.0 m.1) ∙ here
 
     -- and so is each mount that goes with it
-    too-inside : (p : Place) (j : ℕ) → place_of w i ≡ Some p → list_any (λ k. k == j) (map id_of (filter (may_go w) (filter_map (λ t. on w.forest (record { mount = t; dir = p.dir })) (hits w p)))) ≡ true → space_of w j ≡ n
+    too-inside : (p : Place) (j : ℕ) → place_of w i ≡ Some p → list_any (λ k. k == j) (going_at w (hits w p) p.dir) ≡ true → space_of w j ≡ n
     too-inside p j own e =
         let at : ℕ → Option Mount = λ t. on w.forest (record { mount = t; dir = p.dir }) in
         let k = in_any (λ k. k == j) (map id_of (filter (may_go w) (filter_map at (hits w p)))) e in
@@ -75,12 +75,12 @@ module _ (w : WorldView) (h : IsWellFormed w) (i : ℕ) (n : ℕ) (c : IsContain
     removed-inside j e = go (eqb i j) refl e
       where
         by : (o : Option Place) → place_of w i ≡ o
-            → list_any (λ k. k == j) (option_map_or (λ (p : Place). map id_of (filter (may_go w) (filter_map (λ t. on w.forest (record { mount = t; dir = p.dir })) (hits w p)))) o []) ≡ true → space_of w j ≡ n
+            → list_any (λ k. k == j) (option_map_or (λ (p : Place). going_at w (hits w p) p.dir) o []) ≡ true → space_of w j ≡ n
         by None own e = absurd (cc)
         by (Some p) own e = too-inside p j own e
 
         go : (b : Bool) → eqb i j ≡ b
-            → (b || list_any (λ k. k == j) (option_map_or (λ (p : Place). map id_of (filter (may_go w) (filter_map (λ t. on w.forest (record { mount = t; dir = p.dir })) (hits w p)))) (place_of w i) [])) ≡ true → space_of w j ≡ n
+            → (b || list_any (λ k. k == j) (option_map_or (λ (p : Place). going_at w (hits w p) p.dir) (place_of w i) [])) ≡ true → space_of w j ≡ n
         go true is e = ap (space_of w) (sym (eqb-true i j is)) ∙ here
         go false is e = by (place_of w i) refl e
 
@@ -95,12 +95,12 @@ module _ (w : WorldView) (h : IsWellFormed w) (i : ℕ) (n : ℕ) (c : IsContain
     unmoved : (m : Mount) → mount_at w.forest m.id ≡ Some m → m.space ≢ n → moved w i m ≡ m
     unmoved m e off = ap (λ (o : Option Place). let y : Mount = record m { place = o } in y) (go m.place refl)
       where
-        go : (o : Option Place) → m.place ≡ o → option_map (slid w i) o ≡ o
+        go : (o : Option Place) → m.place ≡ o → option_map (slid w (is_removed w i)) o ≡ o
         go None is = refl
         go (Some p) is =
             let q = h.forest.placed m.id m p e is in
             let on : is_removed w i p.mount ≡ false = stays p.mount (λ same. off (sym q.2 ∙ sym (space_is w p.mount q.0 q.1) ∙ same)) in
-            ap (λ q. Some q) (follow-stop (slide w i) (length w.forest) p (ap (λ b. cond b (place_of w p.mount) None) on))
+            ap (λ q. Some q) (follow-stop (slide w (is_removed w i)) (length w.forest) p (ap (λ b. cond b (place_of w p.mount) None) on))
 
     same-mounts : (k : ℕ) → k ≢ n → filter (in_space k) (left_mounts w i) ≡ filter (in_space k) w.forest
     same-mounts k off =

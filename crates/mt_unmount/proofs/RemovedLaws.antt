@@ -15,7 +15,7 @@ use Rattle.mt_propagate.specs.Receivers.{hits}
 use Rattle.mt_propagate.specs.WellFormed.{IsWellFormed}
 use Rattle.mt_propagate.proofs.RowLaws.{row-picked, all-row, any-row}
 use Rattle.mt_propagate.proofs.WalkLaws.{stands_at}
-use Rattle.mt_unmount.specs.Unmounting.{place_of, may_go, is_removed}
+use Rattle.mt_unmount.specs.Unmounting.{place_of, may_go, going_at, is_removed}
 
 -- what a list of optional results holds are results
 each-result : {X Y : Type 0} (f : X → Option Y) (xs : List X) → AllByRecursion (λ y. (x : X) × (f x ≡ Some y)) (filter_map f xs)
@@ -49,7 +49,7 @@ module _ (w : WorldView) (h : IsWellFormed w) (i : ℕ) where
     pub may : may_go w mount ≡ true
     pub stands : mount.place ≡ Some place
 
-  goes-too : (p : Place) (j : ℕ) → list_any (λ k. k == j) (map id_of (filter (may_go w) (filter_map (λ t. on w.forest (record { mount = t; dir = p.dir })) (hits w p)))) ≡ true → GoesToo j
+  goes-too : (p : Place) (j : ℕ) → list_any (λ k. k == j) (going_at w (hits w p) p.dir) ≡ true → GoesToo j
   goes-too p j e =
       let at : ℕ → Option Mount = λ t. on w.forest (record { mount = t; dir = p.dir }) in
       let r = any-passed (λ r. (t : ℕ) × (at t ≡ Some r)) (may_go w) j (filter_map at (hits w p)) (each-result at (hits w p)) e in
@@ -66,12 +66,12 @@ module _ (w : WorldView) (h : IsWellFormed w) (i : ℕ) where
   removed-cases j e = go (eqb i j) refl e
     where
       with_place : (o : Option Place)
-          → list_any (λ k. k == j) (option_map_or (λ (p : Place). map id_of (filter (may_go w) (filter_map (λ t. on w.forest (record { mount = t; dir = p.dir })) (hits w p)))) o []) ≡ true → GoesToo j
+          → list_any (λ k. k == j) (option_map_or (λ (p : Place). going_at w (hits w p) p.dir) o []) ≡ true → GoesToo j
       with_place None e = absurd (cc)
       with_place (Some p) e = goes-too p j e
 
       go : (b : Bool) → eqb i j ≡ b
-          → (b || list_any (λ k. k == j) (option_map_or (λ (p : Place). map id_of (filter (may_go w) (filter_map (λ t. on w.forest (record { mount = t; dir = p.dir })) (hits w p)))) (place_of w i) [])) ≡ true
+          → (b || list_any (λ k. k == j) (option_map_or (λ (p : Place). going_at w (hits w p) p.dir) (place_of w i) [])) ≡ true
           → (j ≡ i) ⊎ GoesToo j
       go true is e = inl (sym (eqb-true i j is))
       go false is e = inr (with_place (place_of w i) e)

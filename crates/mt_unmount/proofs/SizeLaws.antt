@@ -24,7 +24,7 @@ gone_sized w v n path few e =
     ∷ refuse_if (is_root_mount w p) RootPlace
     ∷ refuse_if (list_any (stands_on p.mount) w.forest) Busy ∷ []) (without_mount w p.mount) v e).0 in
     let stays : Mount → Bool = λ m. not (is_removed w p.mount m.id) in
-    let slide : Mount → Mount = λ m. record m { place = option_map (slid w p.mount) m.place } in
+    let slide : Mount → Mount = λ m. record m { place = option_map (slid w (is_removed w p.mount)) m.place } in
     subst (λ (x : WorldView). IsSized w x 0) same (record {
       spaces = omega arith;
       mounts = omega arith;

@@ -18,7 +18,7 @@ use Rattle.mt_unmount.specs.Unmounting.{place_of, is_removed, slide, slid}
 use Rattle.mt_unmount.proofs.RemovedLaws.{place-at, placed-mount, gap-below}
 
 module _ (w : WorldView) (i : ℕ) where
-  slide-from : (x y : Place) → slide w i x ≡ Some y → (is_removed w i x.mount ≡ true) × (place_of w x.mount ≡ Some y)
+  slide-from : (x y : Place) → slide w (is_removed w i) x ≡ Some y → (is_removed w i x.mount ≡ true) × (place_of w x.mount ≡ Some y)
   slide-from x y e = go (is_removed w i x.mount) refl e
     where
       go : (b : Bool) → is_removed w i x.mount ≡ b → cond b (place_of w x.mount) None ≡ Some y → (is_removed w i x.mount ≡ true) × (place_of w x.mount ≡ Some y)
@@ -58,15 +58,15 @@ module _ (w : WorldView) (h : IsWellFormed w) (i : ℕ) where
   abbrev rank : ℕ → ℕ
   rank = rank_of w.forest
 
-  falls : (x y : Place) → slide w i x ≡ Some y → rank y.mount < rank x.mount
+  falls : (x y : Place) → slide w (is_removed w i) x ≡ Some y → rank y.mount < rank x.mount
   falls x y e =
       let s = slide-from w i x y e in
       let m = placed-mount w h i x.mount y s.1 in
       rank-fell w.skel w.forest h.forest x.mount m.0 y m.1 m.2
 
-  slide-ends : (p : Place) → ends (slide w i) (length w.forest) p ≡ true
+  slide-ends : (p : Place) → ends (slide w (is_removed w i)) (length w.forest) p ≡ true
   slide-ends p =
-      ends-rank (slide w i) (λ q. rank q.mount - 1)
+      ends-rank (slide w (is_removed w i)) (λ q. rank q.mount - 1)
       (λ x y e. let f = falls x y e in let some = chain-some (parent w.forest) (length w.forest) y.mount in omega arith)
       (length w.forest) p (let l = length-chain-le (parent w.forest) (length w.forest) p.mount in omega arith)
 
@@ -95,7 +95,7 @@ module _ (w : WorldView) (h : IsWellFormed w) (i : ℕ) where
     pub leads : heir_at w i steps q ≡ Some m
 
   module _ (rooted : is_none (place_of w i) ≡ false) (bare : list_any (stands_on i) w.forest ≡ false) where
-    slides-on : (k : ℕ) (m : Mount) (q r : Place) → Slides k m q → slide w i q ≡ Some r → Slides k m r
+    slides-on : (k : ℕ) (m : Mount) (q r : Place) → Slides k m q → slide w (is_removed w i) q ≡ Some r → Slides k m r
     slides-on k m q r s e =
         let from = slide-from w i q r e in
         let gap = gap-below w h i rooted bare s.id s.mount q s.there s.stands from.0 in
@@ -116,14 +116,14 @@ module _ (w : WorldView) (h : IsWellFormed w) (i : ℕ) where
         }
 
     -- a mount that stays comes to a place on a mount that stays
-    pub slid-there : (k : ℕ) (m : Mount) (p : Place) → mount_at w.forest k ≡ Some m → m.place ≡ Some p → is_removed w i k ≡ false → Slides k m (slid w i p) × (is_removed w i (slid w i p).mount ≡ false)
+    pub slid-there : (k : ℕ) (m : Mount) (p : Place) → mount_at w.forest k ≡ Some m → m.place ≡ Some p → is_removed w i k ≡ false → Slides k m (slid w (is_removed w i) p) × (is_removed w i (slid w (is_removed w i) p).mount ≡ false)
     slid-there k m p e at stays =
         let start : Slides k m p =
         record { id = k; mount = m; there = e; stands = at; space = refl; lower = rank-fell w.skel w.forest h.forest k m p e at; steps = 1; leads = heir-here k m p e at stays } in
-        let end = follow-holds (slide w i) (Slides k m) (slides-on k m) (length w.forest) p start (slide-ends p) in
-        (end.0, by (slid w i p) end.0 end.1 (is_removed w i (slid w i p).mount) refl)
+        let end = follow-holds (slide w (is_removed w i)) (Slides k m) (slides-on k m) (length w.forest) p start (slide-ends p) in
+        (end.0, by (slid w (is_removed w i) p) end.0 end.1 (is_removed w i (slid w (is_removed w i) p).mount) refl)
       where
-        by : (q : Place) → Slides k m q → slide w i q ≡ None → (b : Bool) → is_removed w i q.mount ≡ b → b ≡ false
+        by : (q : Place) → Slides k m q → slide w (is_removed w i) q ≡ None → (b : Bool) → is_removed w i q.mount ≡ b → b ≡ false
         by q s none false is = refl
         by q s none true is =
             let gap = gap-below w h i rooted bare s.id s.mount q s.there s.stands is in

@@ -22,18 +22,18 @@ module _ (w : WorldView) (i : ℕ) where
   goes m = is_removed w i m.id
 
   abbrev pub moved : Mount → Mount
-  moved m = record m { place = option_map (slid w i) m.place }
+  moved m = record m { place = option_map (slid w (is_removed w i)) m.place }
 
   abbrev pub left_mounts : List Mount
   left_mounts = map moved (without goes w.forest)
 
-  placed-moved : (o : Option Place) (q : Place) → option_map (slid w i) o ≡ Some q → (p : Place) × (o ≡ Some p) × (q ≡ slid w i p)
+  placed-moved : (o : Option Place) (q : Place) → option_map (slid w (is_removed w i)) o ≡ Some q → (p : Place) × (o ≡ Some p) × (q ≡ slid w (is_removed w i) p)
   placed-moved None q e = absurd (let v : None ≡ Some q = e in cc)
-  placed-moved (Some p) q e = (p, refl, let v : Some (slid w i p) ≡ Some q = e in let same : slid w i p ≡ q = cc in sym same)
+  placed-moved (Some p) q e = (p, refl, let v : Some (slid w (is_removed w i) p) ≡ Some q = e in let same : slid w (is_removed w i) p ≡ q = cc in sym same)
 
-  unplaced-moved : (o : Option Place) → option_map (slid w i) o ≡ None → o ≡ None
+  unplaced-moved : (o : Option Place) → option_map (slid w (is_removed w i)) o ≡ None → o ≡ None
   unplaced-moved None e = refl
-  unplaced-moved (Some p) e = absurd (let v : Some (slid w i p) ≡ None = e in cc)
+  unplaced-moved (Some p) e = absurd (let v : Some (slid w (is_removed w i) p) ≡ None = e in cc)
 
 module _ (w : WorldView) (h : IsWellFormed w) (i : ℕ) where
   -- the mount that stays as y with the ID k
@@ -54,7 +54,7 @@ module _ (w : WorldView) (h : IsWellFormed w) (i : ℕ) where
       row-mapped id_of (moved w i) (λ m. refl) (without (goes w i) w.forest) k m
       (row-kept id_of (goes w i) w.forest h.forest.rising k m (ap (is_removed w i) (row_at-key id_of k w.forest m e) ∙ off) e)
 
-  place-was : (k : ℕ) (y : Mount) (q : Place) (s : Stays k y) → y.place ≡ Some q → (p : Place) × (s.mount.place ≡ Some p) × (q ≡ slid w i p)
+  place-was : (k : ℕ) (y : Mount) (q : Place) (s : Stays k y) → y.place ≡ Some q → (p : Place) × (s.mount.place ≡ Some p) × (q ≡ slid w (is_removed w i) p)
   place-was k y q s e = placed-moved w i s.mount.place q (ap (λ (m : Mount). m.place) (sym s.made) ∙ e)
 
   root-was : (k : ℕ) (y : Mount) (s : Stays k y) → y.place ≡ None → s.mount.place ≡ None
@@ -79,9 +79,9 @@ module _ (w : WorldView) (h : IsWellFormed w) (i : ℕ) where
           let s = row-of k y e in
           let p = place-was k y q s at in
           let t = slid-there w h i rooted bare k s.mount p.0 s.there p.1 s.stays in
-          let on = h.forest.placed t.0.id t.0.mount (slid w i p.0) t.0.there t.0.stands in (
+          let on = h.forest.placed t.0.id t.0.mount (slid w (is_removed w i) p.0) t.0.there t.0.stands in (
             moved w i on.0,
-            ap (λ (q : Place). mount_at (left_mounts w i) q.mount) p.2 ∙ stays-in (slid w i p.0).mount on.0 on.1 t.1,
+            ap (λ (q : Place). mount_at (left_mounts w i) q.mount) p.2 ∙ stays-in (slid w (is_removed w i) p.0).mount on.0 on.1 t.1,
             on.2 ∙ t.0.space ∙ sym (space-was k y s),
             ap (λ (q : Place). holds w.skel on.0.root q.dir) p.2 ∙ on.3,
           );
@@ -93,12 +93,12 @@ module _ (w : WorldView) (h : IsWellFormed w) (i : ℕ) where
           let x = slid-there w h i rooted bare k s.mount p.0 s.there p.1 s.stays in
           let y = slid-there w h i rooted bare j t.mount r.0 t.there r.1 t.stays in
           let same : s.mount ≡ t.mount =
-          heir-single w i x.0.steps y.0.steps (slid w i p.0) s.mount t.mount x.0.leads (subst (λ q. heir_at w i y.0.steps q ≡ Some t.mount) (sym r.2 ∙ p.2) y.0.leads) in
+          heir-single w i x.0.steps y.0.steps (slid w (is_removed w i) p.0) s.mount t.mount x.0.leads (subst (λ q. heir_at w i y.0.steps q ≡ Some t.mount) (sym r.2 ∙ p.2) y.0.leads) in
           sym (row_at-key id_of k w.forest s.mount s.there) ∙ ap id_of same ∙ row_at-key id_of j w.forest t.mount t.there;
       rooted = λ k y e.
           let s = row-of k y e in
           let r = h.forest.rooted k s.mount s.there in
-          (r.0, moved w i r.1, stays-in r.0 r.1 r.2 (root-stays r.0 r.1 r.2 r.3), ap (option_map (slid w i)) r.3, r.4 ∙ sym (space-was k y s));
+          (r.0, moved w i r.1, stays-in r.0 r.1 r.2 (root-stays r.0 r.1 r.2 r.3), ap (option_map (slid w (is_removed w i))) r.3, r.4 ∙ sym (space-was k y s));
       one_root = λ k j a b ea eb pa pb same.
           let s = row-of k a ea in
           let t = row-of j b eb in

@@ -1,37 +1,23 @@
 -- How an unmount is worked out: which mounts go, and where the mounts on them come to stand. No public clause cites this module.
 -- A word with no source is this project's rule.
-use Rattle.std.specs.Prelude.{◌≡◌, ℕ, Bool, cond, List, map, length, Option, Some, None, IsTrue}
-use Rattle.std.specs.List.{filter, filter_map}
+use Rattle.std.specs.Prelude.{◌≡◌, ℕ, Bool, cond, List, Option, Some, None, IsTrue}
 use Rattle.std.specs.Option.{option_and_then}
 use Rattle.mt_skel.specs.Keyed.{among, rises}
-use Rattle.mt_skel.specs.Chain.{follow}
 use Rattle.mt_mounts.specs.declared.mount.Place.{Place}
-use Rattle.mt_mounts.specs.Forest.{id_of, mount_at, on, root_place}
+use Rattle.mt_mounts.specs.Forest.{mount_at, on, root_place}
 use Rattle.mt_peers.specs.Loss.{left}
 use Rattle.mt_propagate.specs.World.{WorldView}
 use Rattle.mt_propagate.specs.Carried.{placed, staying}
-use Rattle.mt_unmount.specs.Unmounting.{place_of, may_go, is_removed}
+use Rattle.mt_unmount.specs.Unmounting.{is_removed, slid}
 
 -- the mounts that go with a mount, by rising ID
 pub record AreRemoved (w : WorldView) (i : ℕ) (ids : List ℕ) : Type 0 where
   pub rising : IsTrue (rises (λ k. k) ids)
   pub each : (j : ℕ) → among ids j ≡ is_removed w i j
 
--- the mounts that go at targets (`sharedsubtree`, unmount semantics)
-abbrev pub going_at : WorldView → List ℕ → ℕ → List ℕ
-going_at w ts d = map id_of (filter (may_go w) (filter_map (λ t. on w.forest (record { mount = t; dir = d })) ts))
-
--- a place on a mount that goes leads to that mount's place
-abbrev pub slide_past : WorldView → (ℕ → Bool) → Place → Option Place
-slide_past w goes p = cond (goes p.mount) (place_of w p.mount) None
-
--- the place where no mount goes any more that a place leads to
-abbrev pub slid_past : WorldView → (ℕ → Bool) → Place → Place
-slid_past w goes p = follow (slide_past w goes) (length w.forest) p
-
 -- the mount at a place, if it stays, with its new place
 abbrev pub moved_from : WorldView → (ℕ → Bool) → Place → Option (ℕ × Place)
-moved_from w goes p = option_and_then (λ m. cond (goes m.id) None (Some (m.id, slid_past w goes p))) (on w.forest p)
+moved_from w goes p = option_and_then (λ m. cond (goes m.id) None (Some (m.id, slid w goes p))) (on w.forest p)
 
 -- the mount that stays and stands at the root of a mount that goes, with its new place
 abbrev pub relocation_past : WorldView → (ℕ → Bool) → ℕ → Option (ℕ × Place)

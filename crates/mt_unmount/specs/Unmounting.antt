@@ -26,29 +26,32 @@ place_of w i = (mount_or_unknown w i).place
 abbrev pub may_go : WorldView → Mount → Bool
 may_go w m = list_all (λ c. option_map_or (λ p. p.dir == m.root) c.place false) (filter (stands_on m.id) w.forest)
 
+-- on each of these mounts the mount at a directory goes, if it may (`sharedsubtree`, unmount semantics)
+abbrev pub going_at : WorldView → List ℕ → ℕ → List ℕ
+going_at w ts d = map id_of (filter (may_go w) (filter_map (λ t. on w.forest (record { mount = t; dir = d })) ts))
+
 -- the named mount goes, and from each mount that its parent propagates to the mount at the same directory, if it may
 -- (`sharedsubtree`, unmount semantics)
 abbrev pub removed : WorldView → ℕ → List ℕ
-removed w i =
-    i ∷ option_map_or (λ p. map id_of (filter (may_go w) (filter_map (λ t. on w.forest (record { mount = t; dir = p.dir })) (hits w p)))) (place_of w i) []
+removed w i = i ∷ option_map_or (λ p. going_at w (hits w p) p.dir) (place_of w i) []
 
 -- a mount goes (`sharedsubtree`, unmount semantics)
 abbrev pub is_removed : WorldView → ℕ → ℕ → Bool
 is_removed w i j = list_any (λ k. k == j) (removed w i)
 
 -- a place on a mount that goes leads to the place of that mount
-abbrev pub slide : WorldView → ℕ → Place → Option Place
-slide w i p = cond (is_removed w i p.mount) (place_of w p.mount) None
+abbrev pub slide : WorldView → (ℕ → Bool) → Place → Option Place
+slide w goes p = cond (goes p.mount) (place_of w p.mount) None
 
 -- a mount that stays slides to the place of a removed parent, and on while the parent there goes too
-abbrev pub slid : WorldView → ℕ → Place → Place
-slid w i p = follow (slide w i) (length w.forest) p
+abbrev pub slid : WorldView → (ℕ → Bool) → Place → Place
+slid w goes p = follow (slide w goes) (length w.forest) p
 
 -- the world once a mount is unmounted, there and wherever that propagates (`sharedsubtree`, unmount semantics; the masters after
 -- it: this project's rule)
 unfoldable pub without_mount : WorldView → ℕ → WorldView
 without_mount w i = record w {
-  forest = map (λ (m : Mount). record m { place = option_map (slid w i) m.place }) (without (λ (m : Mount). is_removed w i m.id) w.forest);
+  forest = map (λ (m : Mount). record m { place = option_map (slid w (is_removed w i)) m.place }) (without (λ (m : Mount). is_removed w i m.id) w.forest);
   peering = left (is_removed w i) w.peering;
 }
 

@@ -9,8 +9,8 @@ ghost use Rattle.mt_propagate.specs.World.{world_view};
 ghost use Rattle.mt_propagate.specs.WellFormed.{IsWellFormed};
 ghost use Rattle.mt_propagate.specs.Touched.{since_view};
 ghost use Rattle.mt_propagate.specs.Carried.{IsFree, staying};
-ghost use Rattle.mt_unmount.specs.Unmounting.{place_of, may_go, removed, unmounted};
-ghost use Rattle.mt_unmount.specs.Detaching.{AreRemoved, going_at, slide_past, slid_past, relocation_past, detached};
+ghost use Rattle.mt_unmount.specs.Unmounting.{place_of, may_go, going_at, removed, slide, slid, unmounted};
+ghost use Rattle.mt_unmount.specs.Detaching.{AreRemoved, relocation_past, detached};
 
 use crate::gone::Gone;
 use mt_mounts::forest::Forest;
@@ -113,7 +113,7 @@ fn gone(world: &World, id: MountId) -> Result<Gone, Fault>
 
 /// Where a place on a mount that goes leads: to that mount's place.
 fn slide(world: &World, gone: &Gone, place: Place) -> Option<Place>
-    ensures { result ≡ slide_past (world_view world.now) (among gone.now) place }
+    ensures { result ≡ slide (world_view world.now) (among gone.now) place }
 {
     if gone.has(place.mount) {
         place_of(world, place.mount)
@@ -124,7 +124,7 @@ fn slide(world: &World, gone: &Gone, place: Place) -> Option<Place>
 
 /// Where a mount of this place comes to stand: it slides on while the mount under it goes.
 fn slid(world: &World, gone: &Gone, place: Place) -> Place
-    ensures { result ≡ slid_past (world_view world.now) (among gone.now) place }
+    ensures { result ≡ slid (world_view world.now) (among gone.now) place }
 {
     let mut here = place;
     'sliding: for _step in 0..world.forest.len() {

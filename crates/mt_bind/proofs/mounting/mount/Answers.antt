@@ -9,7 +9,7 @@ use Rattle.mt_propagate.specs.Copies.{Source, new_copies, copy_id}
 use Rattle.mt_propagate.specs.Copied.{copied}
 use Rattle.mt_propagate.specs.Sound.{IsSource, IsDestination}
 use Rattle.mt_propagate.specs.Plans.{source_of, source_in, place_in}
-use Rattle.mt_propagate.specs.declared.plan.Sources.TheVariants.{Fresh}
+use Rattle.mt_propagate.specs.declared.copies.Sources.TheVariants.{Fresh}
 use Rattle.mt_bind.specs.Sources.{fresh}
 use Rattle.mt_bind.proofs.SourceLaws.{fresh_is_source}
 use Rattle.mt_bind.proofs.MountLaws.{destination}

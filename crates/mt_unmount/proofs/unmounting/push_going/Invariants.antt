@@ -1,6 +1,6 @@
 use Rattle.std.proofs.Common.{◌≡◌, ◌++◌, drop}
 use Rattle.mt_propagate.specs.World.{world_view}
-use Rattle.mt_unmount.specs.Detaching.{going_at}
+use Rattle.mt_unmount.specs.Unmounting.{going_at}
 use Rattle.mt_unmount.proofs.unmounting.push_going.Given as goal
 
 -- the targets passed have what goes there

@@ -4,7 +4,7 @@ use Rattle.mt_skel.specs.Chain.{follow}
 use Rattle.mt_skel.proofs.ChainLaws.{follow-step}
 use Rattle.mt_mounts.proofs.Walks.{fuel_step}
 use Rattle.mt_propagate.specs.World.{world_view}
-use Rattle.mt_unmount.specs.Detaching.{slide_past}
+use Rattle.mt_unmount.specs.Unmounting.{slide}
 use Rattle.mt_unmount.proofs.unmounting.slid.Goals as goal
 
 pub sliding-preserved : goal.sliding-preserved
@@ -16,7 +16,7 @@ sliding-preserved c =
     let next = sym c.slide.ensures ∙ c.in-Some.is in
     record {
       within = omega arith;
-      leads = sym (follow-step (slide_past w goes) (n - (c.sliding._step + 1)) c.sliding.here c.in-Some.next next)
-          ∙ ap (λ k. follow (slide_past w goes) k c.sliding.here) (sym (fuel_step n c.sliding._step more))
+      leads = sym (follow-step (slide w goes) (n - (c.sliding._step + 1)) c.sliding.here c.in-Some.next next)
+          ∙ ap (λ k. follow (slide w goes) k c.sliding.here) (sym (fuel_step n c.sliding._step more))
           ∙ c.sliding.invariant.leads;
     }

@@ -2,12 +2,12 @@ use Rattle.std.proofs.Common.{◌≡◌, ◌-◌, ◌≤◌, length}
 use Rattle.mt_skel.specs.Keyed.{among}
 use Rattle.mt_skel.specs.Chain.{follow}
 use Rattle.mt_propagate.specs.World.{world_view}
-use Rattle.mt_unmount.specs.Detaching.{slide_past, slid_past}
+use Rattle.mt_unmount.specs.Unmounting.{slide, slid}
 use Rattle.mt_unmount.proofs.unmounting.slid.Given as goal
 
 -- the steps that are left lead from here to the end
 abbrev pub invariant-sliding : goal.invariant-sliding
 invariant-sliding l = record {
   within : l._step ≤ length l.world.forest.mounts;
-  leads : follow (slide_past (world_view l.world) (among l.gone)) (length l.world.forest.mounts - l._step) l.here ≡ slid_past (world_view l.world) (among l.gone) l.fn.place;
+  leads : follow (slide (world_view l.world) (among l.gone)) (length l.world.forest.mounts - l._step) l.here ≡ slid (world_view l.world) (among l.gone) l.fn.place;
 }

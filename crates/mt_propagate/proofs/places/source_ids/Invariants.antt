@@ -1,6 +1,6 @@
 use Rattle.std.proofs.Common.{◌≡◌, ◌++◌, map, drop}
 use Rattle.mt_mounts.specs.Forest.{id_of}
-use Rattle.mt_propagate.proofs.plan.source_ids.Given as goal
+use Rattle.mt_propagate.proofs.places.source_ids.Given as goal
 
 -- the mounts passed have their IDs listed
 abbrev pub invariant-loop-mount : goal.invariant-loop-mount

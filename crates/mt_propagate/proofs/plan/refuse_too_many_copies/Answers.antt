@@ -5,7 +5,7 @@ use Rattle.mt_propagate.specs.World.{world_view}
 use Rattle.mt_propagate.specs.Limits.{too_many_mounts}
 use Rattle.mt_propagate.specs.Copies.{copies_at}
 use Rattle.mt_propagate.proofs.PlansLaws.{length-copies}
-use Rattle.mt_propagate.proofs.plan.few_copies.Goals as goal
+use Rattle.mt_propagate.proofs.plan.refuse_too_many_copies.Goals as goal
 
 -- a count that no word holds is above the limit
 beyond : (there n product : ℕ) → n ≡ product → (product < 18446744073709551616 → ⊥) → nat_lt 4096 (there + n) ≡ true
