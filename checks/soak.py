@@ -34,6 +34,11 @@ LAST_POSTS = 50
 # How many posts the queue of a watcher holds: those of all mounts and unmounts beside the stop.
 QUEUE = 64
 
+# How much more memory the sessions of a soak may need, in KiB. The journal has 128 bytes for each command that was
+# accepted, and is moved where it grows.
+MORE = 32 * 1024
+JOURNAL_BYTES = 3 * 128
+
 # What watchers ask behind the stop, one these requests and another those: each gets all that waits for it.
 LAST = [
     [b"close"],
@@ -297,10 +302,14 @@ def check_soak(program, seconds, mountctl):
         with server.free() as client:
             for line in START + [b"mkdir a /m%d" % n for n in range(SESSIONS)]:
                 client.ask(line)
+        before = server.status("VmRSS")
         soak = Soak(server, seconds, mountctl)
         soak.run()
+        grown = server.status("VmRSS") - before
         told = ", ".join(f"{count} {word}" for word, count in soak.counts.items())
-        print(f"soak of {seconds} s: {told}", flush=True)
+        print(f"soak of {seconds} s: {told}, {grown} KiB more resident memory", flush=True)
+        most = MORE + soak.counts["commands"] * JOURNAL_BYTES // 1024
+        check("the memory of a soak is level but for its journal", grown < most, f"{grown} KiB more, of {most}")
         done = {word: count for word, count in soak.counts.items() if word in ("commands", "posts", "lags")}
         check("a soak sends commands, takes posts and lags", min(done.values()) > 0, told)
         compared = soak.counts["mirrors compared"]
