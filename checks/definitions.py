@@ -1,11 +1,11 @@
 #!/usr/bin/env -S python3 -B
-"""docs/ARCHITECTURE.md's table of where definitions stand is what the files of definitions say. A program of the gate.
+"""Says where definitions stand: a line for each file of them. A program of the gate.
 
-    checks/definitions.py [--update]
+    checks/definitions.py [WORD]
 
-The table stands behind `<!-- definitions -->`. It has each file of specs/ of the crates, from below as crates.txt has
-them, with the first sentence of the file's header; but no file of which the header says that no public clause cites it,
-and none whose sentence others have too, as Laws.antt. --update writes it.
+It prints each file of specs/ of the crates, from below as crates.txt has them, with the first sentence of the file's
+header; but no file of which the header says that no public clause cites it, and none whose sentence others have too, as
+Laws.antt. With WORD only the lines that have it. The status is 0 where each file has a header.
 """
 import collections
 import glob
@@ -13,11 +13,7 @@ import os
 import re
 import sys
 
-from running import TOP, check, difference, failures, read, shown, write
-
-PAGE = "docs", "ARCHITECTURE.md"
-TABLE = re.compile(r"(?m)^(<!-- definitions -->\n)((?:\|.*\n)*)")
-HEAD = "| Crate | File | What it has |\n|---|---|---|\n"
+from running import TOP, check, failures, read, shown
 
 # The statements of worked examples, which no clause cites.
 EXAMPLES = "mt_examples"
@@ -33,7 +29,7 @@ def first_sentence(header):
 
 
 def files_of(crate):
-    """The files of definitions of a crate that have a row, each with its sentence."""
+    """The files of definitions of a crate that have a line, each with its sentence."""
     for path in sorted(glob.glob(os.path.join(TOP, "crates", crate, "specs", "*.antt"))):
         name = os.path.basename(path)
         header = re.match(r"(?:--.*\n)*", shown(read("crates", crate, "specs", name)))[0]
@@ -43,31 +39,21 @@ def files_of(crate):
                 yield crate, name, first_sentence(header)
 
 
-def rows():
-    """The rows of the table; a crate is named in its first one."""
+def lines():
+    """A line for each file whose sentence no other has."""
     crates = [line.split(":")[0] for line in shown(read("crates.txt")).splitlines() if not line.startswith("#")]
     files = [file for crate in crates if crate != EXAMPLES for file in files_of(crate)]
-    told, named = collections.Counter(sentence for _, _, sentence in files), set()
-    for crate, name, sentence in files:
-        if told[sentence] == 1:
-            yield f"| {'' if crate in named else crate + ' '}| {name} | {sentence} |\n"
-            named.add(crate)
+    told = collections.Counter(sentence for _, _, sentence in files)
+    return [f"{crate}/specs/{name}: {sentence}" for crate, name, sentence in files if told[sentence] == 1]
 
 
 def main():
-    if sys.argv[1:] not in ([], ["--update"]):
+    if len(sys.argv) > 2 or sys.argv[1:2] in (["-h"], ["--help"]):
         raise SystemExit(__doc__)
-    page = shown(read(*PAGE))
-    wanted = HEAD + "".join(rows())
-    check("docs/ARCHITECTURE.md has one table behind <!-- definitions -->", len(TABLE.findall(page)) == 1)
-    if sys.argv[1:]:
-        write(TABLE.sub(lambda table: table[1] + wanted, page).encode(), *PAGE)
-    else:
-        for _, found in TABLE.findall(page):
-            check("that table", found == wanted, difference(wanted.encode(), found.encode(), "docs/ARCHITECTURE.md"))
+    wanted = "".join(sys.argv[1:])
+    print(*(line for line in lines() if wanted in line), sep="\n")
     if failures:
-        raise SystemExit(f"checks of the table of definitions failed: {len(failures)}")
-    print("the table of definitions says what their files say")
+        raise SystemExit(f"files of definitions without a header: {len(failures)}")
 
 
 if __name__ == "__main__":

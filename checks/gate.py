@@ -66,7 +66,7 @@ def main():
             os.remove(program)
     words_passed, _, words_took = run("self-test of words.py", "checks/words.py", "--self-test")
     named, _, named_took = run("one word, one meaning; each thing once", "checks/words.py")
-    placed, _, placed_took = run("the table of definitions", "checks/definitions.py")
+    placed, _, placed_took = run("where definitions stand", "checks/definitions.py")
     is_proved, verdict, took = run("rt ci", "rt", "ci")
     all_took, others_passed = [words_took, named_took, placed_took, took], [words_passed, named, placed]
     if os.path.isfile(PROGRAM) and os.path.isfile(CLIENT):
