@@ -1,5 +1,5 @@
 #!/usr/bin/env -S python3 -B
-"""Says where one word has two meanings, and where one thing is written twice. A program of the gate.
+"""Says where one word has two meanings, where one thing is written twice, and what is brought in for nothing. A program of the gate.
 
     checks/words.py [--self-test]
 
@@ -12,7 +12,9 @@ It reads the definitions (specs/*.antt) and the code (src/*.rt) of all crates, a
     crates have. Comments, contracts, spaces and the names of parameters do not count; short bodies and
     those that hand on to one other call are left alone;
 (c) public word that two crates have, each with a meaning of its own, but for those of KNOWN; and word of KNOWN of
-    which that is so no more, or in other crates. `pub use` makes no word.
+    which that is so no more, or in other crates. `pub use` makes no word;
+(d) name that a `ghost use` brings in and that nothing says in the block that it stands in: a body without a clause
+    of its own says none.
 
 The status is 0 where there is none. --self-test shows that each is found in texts made for it.
 """
@@ -100,6 +102,9 @@ without_id mt_lists mt_mounts
 PUBLIC_WORD = re.compile(r"^\s*(?:(?:abbrev|unfoldable) pub|pub (?:record|data|abbrev|unfoldable))\s+(\S+)", re.M)
 PUBLIC_LAW = re.compile(r"^\s*pub (?!record\b|data\b|mod\b|use\b)(\S+) :", re.M)
 PUBLIC_ITEM = re.compile(r"^pub (?:const fn|fn|struct|enum|trait|type|const|static) (\w+)", re.M)
+GHOST_USE = re.compile(r"^ *(?:pub )?ghost use ([^;]*);", re.M)
+CODE_USE = re.compile(r"^ *(?:pub(?:\([a-z]+\))? )?use [^;]*;", re.M)
+GHOSTLY = re.compile(r"\b(?:requires|ensures|ghost|prove!)")
 DEFINED = re.compile(r"^\s*(?:abbrev|unfoldable)(?: pub)? (\S+) :")
 HANDED_ON = re.compile(r"\{[\w:.&*$]+\([\w:.,&*$]*\)\??\}")
 
@@ -187,16 +192,21 @@ def unnamed(body, signature):
     return body
 
 
+def functions(text):
+    """The name of each function of a text without comments, where its name ends, and where its body opens and closes."""
+    for found in re.finditer(r"^( *)(?:pub(?:\([a-z]+\))? )?(?:const )?fn (\w+)", text, re.M):
+        # A body opens at the function's own indentation, or behind the signature where there is no contract.
+        start = re.compile(rf"^{found[1]}\{{$|^(?!.*\b(?:requires|ensures)\b).*[\w)>\]] \{{$", re.M).search(text, found.start())
+        if start:
+            yield found[2], found.end(), start.end() - 1, closing(text, start.end() - 1)
+
+
 def bodies(text):
     """The name and the body of each function of a file of code, without its contract."""
     text = without_comments(text, "//")
-    for found in re.finditer(r"^( *)(?:pub(?:\([a-z]+\))? )?(?:const )?fn (\w+)", text, re.M):
-        # A body opens at the function's own indentation, or behind the signature where there is no contract.
-        start = re.compile(rf"^{found[1]}\{{$|^(?!.*\b(?:requires|ensures)\b).*[\w)>] \{{$", re.M).search(text, found.start())
-        if start:
-            brace = start.end() - 1
-            signature = re.split(r"\b(?:requires|ensures)\b", text[found.end() : brace])[0]
-            yield found[2], re.sub(r"\s+", "", unnamed(text[brace : closing(text, brace) + 1], signature))
+    for name, named, start, end in functions(text):
+        signature = re.split(r"\b(?:requires|ensures)\b", text[named:start])[0]
+        yield name, re.sub(r"\s+", "", unnamed(text[start : end + 1], signature))
 
 
 def equation(name, line):
@@ -263,6 +273,51 @@ def twice_meant(files, known):
     return [f"{name}: a meaning in each of {now}; KNOWN has {before}" for name, (now, before) in zip(names, told)]
 
 
+def blanked(text, start, end):
+    """A text with spaces between two places, so that the others stay where they are."""
+    return text[:start] + " " * (end - start) + text[end:]
+
+
+def what_speaks(text):
+    """A text without comments with spaces in the place of what says no ghost name: what brings names in, and bodies without a clause."""
+    for found in [*GHOST_USE.finditer(text), *CODE_USE.finditer(text)]:
+        text = blanked(text, *found.span())
+    for _, _, start, end in functions(text):
+        if not GHOSTLY.search(text, start, end):
+            text = blanked(text, start + 1, end)
+    return text
+
+
+def block_around(text, place):
+    """Where the innermost braces around a place open and close: the whole text where there are none."""
+    around = [(found.start(), closing(text, found.start())) for found in re.finditer(r"\{", text[:place])]
+    return next((block for block in reversed(around) if block[1] > place), (0, len(text)))
+
+
+def brought_in(path):
+    """The names that the path of a `ghost use` brings in, as they are said then."""
+    listed = re.search(r"\{([^}]*)\}", path)
+    return [part.split(" as ")[-1].strip().split(".")[-1] for part in (listed[1] if listed else path).split(",")]
+
+
+def is_said(name, text):
+    """Whether a text says a name: of an operator all its parts."""
+    return all(word(part).search(text) if part[0].isalnum() else part in text for part in name.split("◌") if part)
+
+
+def brought_for_nothing(files):
+    """A line for each name that a `ghost use` brings in and that its block does not say."""
+    found = []
+    for path, text in sorted(files.items()):
+        if path.endswith(".rt"):
+            text = without_comments(text, "//")
+            speaking = what_speaks(text)
+            for use in GHOST_USE.finditer(text):
+                start, end = block_around(text, use.start()) if use[0].startswith(" ") else (0, len(text))
+                found += [f"{name}: brought in for nothing, in {path}" for name in brought_in(use[1]) if not is_said(name, speaking[start:end])]
+    return found
+
+
 def read_all():
     """The texts of all definitions and all code, by their paths below crates/."""
     crates = os.path.join(TOP, "crates")
@@ -278,19 +333,20 @@ TWO_TEXTS = {
     "low/specs/Sizes.antt": "-- how many there are\nabbrev pub count : List ℕ → ℕ\ncount xs = length (filter (λ x. not (x == 0)) xs)\n",
     "low/specs/Parts.antt": "abbrev pub count : ℕ → ℕ\ncount n = n + 1\n",
     "high/specs/Rows.antt": "abbrev pub size_of : List ℕ → ℕ\nsize_of xs = length (filter (λ x. not (x == 0)) xs)\n",
-    "low/src/sizes.rt": "fn sum(xs: &[u64]) -> u64\n    ensures { result ≡ sum xs.now }\n{\n    // All of them.\n    xs.iter().fold(0, |all, x| all + x)\n}\n",
+    "low/src/sizes.rt": "ghost use Rattle.std.specs.Prelude.{◌≡◌, ◌+◌};\nghost use Rattle.std.specs.List.{sum};\n\nfn sum(xs: &[u64]) -> u64\n    ensures { result ≡ sum xs.now }\n{\n    // All of them.\n    xs.iter().fold(0, |all, x| all + x)\n}\n",
     "low/specs/Ones.antt": "abbrev pub one : ℕ\none = 1\n",
     "high/specs/Ones.antt": "abbrev pub one : ℕ\none = 1\n\nabbrev pub count : ℕ → ℕ\ncount n = n\n",
-    "high/src/rows.rt": "pub fn size_of(ys: &[u64]) -> u64 {\n    ys.iter()\n        .fold(0, |all, x| all + x)\n}\n",
+    "high/src/rows.rt": "ghost use Rattle.std.specs.Prelude.{◌≡◌, ◌+◌, length};\n\npub fn size_of(ys: &[u64]) -> u64 {\n    ys.iter()\n        .fold(0, |all, x| all + x)\n}\n",
 }
 
 
 def self_test():
     """Whether all that is twice in the two crates is found, and in one of them only what is twice there."""
     low = {path: text for path, text in TWO_TEXTS.items() if path.startswith("low")}
-    named, written = [[len(found(files)) for files in (TWO_TEXTS, low)] for found in (twice_named, twice_written)]
+    finders = twice_named, twice_written, brought_for_nothing
+    found = [[len(finder(files)) for files in (TWO_TEXTS, low)] for finder in finders]
     tables = "", "count high low", "count high low\nsize_of high low", "count high lower"
-    return (named, written, [len(twice_meant(TWO_TEXTS, known)) for known in tables]) == ([2, 1], [2, 0], [1, 0, 1, 1])
+    return found == [[2, 1], [2, 0], [4, 1]] and [len(twice_meant(TWO_TEXTS, known)) for known in tables] == [1, 0, 1, 1]
 
 
 def main():
@@ -301,9 +357,9 @@ def main():
         print("words.py finds what it looks for" if passed else "words.py misses what it looks for")
         sys.exit(0 if passed else 1)
     files = read_all()
-    found = twice_named(files) + twice_written(files) + twice_meant(files, KNOWN)
+    found = twice_named(files) + twice_written(files) + twice_meant(files, KNOWN) + brought_for_nothing(files)
     known = len(KNOWN.split("\n")) - 2
-    print(*found, f"{len(files)} files, {len(found)} words twice named or things twice written, {known} known", sep="\n")
+    print(*found, f"{len(files)} files, {len(found)} words twice named, things twice written or names brought in for nothing, {known} known", sep="\n")
     sys.exit(1 if found else 0)
 
 

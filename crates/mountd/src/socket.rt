@@ -1,5 +1,5 @@
 //! The server on a Unix socket that it makes, and takes away at its end.
-ghost use Rattle.std.specs.Prelude.{◌≡◌, ◌<◌, ◌≤◌};
+ghost use Rattle.std.specs.Prelude.{◌≡◌, ◌<◌};
 
 use mt_desk::desk::Desk;
 use mt_desk::lines::{Lines, Naming};

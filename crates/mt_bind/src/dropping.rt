@@ -1,5 +1,5 @@
 //! Namespaces that go.
-ghost use Rattle.std.specs.Prelude.{◌≡◌, ◌≢◌, ◌+◌, ◌≤◌, map, length, IfOk, IfErr, OnOk, OnErr, IsOkUnless, Ok, Err};
+ghost use Rattle.std.specs.Prelude.{◌≡◌, ◌≢◌, ◌≤◌, map, length, IfOk, IfErr, OnOk, OnErr, IsOkUnless, Ok, Err};
 ghost use Rattle.mt_mounts.specs.Forest.{id_of};
 ghost use Rattle.mt_peers.specs.Peers.{peering_of};
 ghost use Rattle.mt_peers.specs.WellFormed.{IsPeering};

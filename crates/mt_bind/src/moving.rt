@@ -1,5 +1,5 @@
 //! Moves: a mount and all that stand on it go to another place.
-ghost use Rattle.std.specs.Prelude.{◌≡◌, ◌≢◌, ◌^◌, ◌<◌, ◌==◌, ◌&&◌, false, is_some, IfErr, OnOk, OnErr, Ok, Err};
+ghost use Rattle.std.specs.Prelude.{◌≡◌, ◌≢◌, ◌^◌, ◌<◌, ◌&&◌, false, is_some, IfErr, OnOk, OnErr, Ok, Err};
 ghost use Rattle.std.specs.List.{list_any};
 ghost use Rattle.std.specs.Option.{option_map_or};
 ghost use Rattle.mt_mounts.specs.Forest.{parent};

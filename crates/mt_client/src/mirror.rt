@@ -1,10 +1,9 @@
 //! The table of a namespace, as its posts tell it to a client.
-ghost use Rattle.std.specs.Prelude.{◌≡◌, ◌≢◌, ◌⊎◌, ℕ, ◌+◌, ◌≤◌, List, [], ◌∷◌, ◌++◌, true, false, Some, None, Ok, Err, IfOk, IfErr, IfSome, OnOk, OnErr, IsTrue, MatchBool, MatchOption};
+ghost use Rattle.std.specs.Prelude.{◌≡◌, ◌≢◌, ◌⊎◌, ℕ, ◌+◌, ◌≤◌, List, [], ◌∷◌, ◌++◌, true, false, None, Ok, Err, IfOk, IfErr, IfSome, OnOk, OnErr, IsTrue, MatchBool, MatchOption};
 ghost use Rattle.mt_lines.specs.Reading.{failed_calls, last_faults, fault_of, last_line, limit_of};
 ghost use Rattle.mt_events.specs.Texts.{table_text};
 ghost use Rattle.mt_events.specs.Mirrors.{MirrorView};
 ghost use Rattle.mt_events.specs.Posts.{ended};
-ghost use Rattle.mt_client.specs.Requests.{numbered_text};
 ghost use Rattle.mt_client.specs.Reading.{lines_left, texts, printed, HasBroken, IsSentPart, NoneFirst, IsCut};
 ghost use Rattle.mt_client.specs.Mirroring.{counted_line, HasOpened, HasFollowed, HasFollowedAll, HasRefused, IsLeft, HasMirrored, requests_text, IsRefused};
 ghost use Rattle.mt_client.specs.Awaited.{IsOneRefusal, IsRefusedOr, IsOpening, IsNextPost, TakesPost, IsFollowing, IsEnd, IsMirroring};

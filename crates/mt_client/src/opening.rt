@@ -1,5 +1,5 @@
 //! The lines of what a watcher found.
-ghost use Rattle.std.specs.Prelude.{◌≡◌, ◌≢◌, ℕ, ◌+◌, ◌<◌, ◌≤◌, ◌^◌, [], ◌∷◌, ◌++◌, map, length, Some, None, Err, IfOk, IfSome, OnOk, IsTrue, MatchOption};
+ghost use Rattle.std.specs.Prelude.{◌≡◌, ◌≢◌, ℕ, ◌+◌, ◌<◌, ◌≤◌, ◌^◌, [], ◌∷◌, ◌++◌, map, length, None, Err, IfOk, IfSome, OnOk, IsTrue, MatchOption};
 ghost use Rattle.std.specs.List.{join_with_byte, AllByRecursion};
 ghost use Rattle.mt_lines.specs.Lines.{Text};
 ghost use Rattle.mt_lines.specs.Reading.{failed_calls, last_faults, fault_of, limit_of};

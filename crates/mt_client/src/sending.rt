@@ -2,8 +2,8 @@
 //!
 //! A server that turns a client away tells it so at once and ends the connection. A client that is slower than that
 //! cannot send its request any more, but it can still read why.
-ghost use Rattle.std.specs.Prelude.{◌≡◌, ◌≢◌, ◌≤◌, ◌⊎◌, [], ◌++◌, true, false, None, Ok, Err, IfErr, OnOk, OnErr, IsTrue};
-ghost use Rattle.mt_lines.specs.Reading.{failed_calls, last_faults, fault_of, last_line, limit_of};
+ghost use Rattle.std.specs.Prelude.{◌≡◌, ◌≢◌, ◌≤◌, [], ◌++◌, true, false, None, Ok, Err, IfErr, OnOk, OnErr, IsTrue};
+ghost use Rattle.mt_lines.specs.Reading.{last_faults, fault_of, last_line, limit_of};
 ghost use Rattle.mt_events.specs.Posts.{ended};
 ghost use Rattle.mt_client.specs.Reading.{lines_left, HasBroken, IsBroken, IsSentPart, IsCut};
 ghost use Rattle.mt_client.specs.Mirroring.{HasRefused};

@@ -1,5 +1,5 @@
 //! What stands at the places of a desk: a line that is not in use, or the row of a watcher.
-ghost use Rattle.std.specs.Prelude.{◌≡◌, ◌≤◌, ◌++◌, ◌&&◌, List, [], ◌∷◌, length, vec_capacity, true, false, Some};
+ghost use Rattle.std.specs.Prelude.{◌≡◌, ◌≤◌, ◌++◌, List, [], ◌∷◌, length, vec_capacity, true, false};
 ghost use Rattle.std.specs.List.{list_any};
 ghost use Rattle.std.specs.Arc.{arc_value};
 ghost use Rattle.mt_events.specs.Posts.{PostView};

@@ -1,6 +1,6 @@
 //! Columns: cells that are padded with spaces to the widest one below each other.
-ghost use Rattle.std.specs.Prelude.{◌≡◌, ◌++◌, OnOk, max, replicate};
-ghost use Rattle.std.specs.List.{count_by, fold, flat_map};
+ghost use Rattle.std.specs.Prelude.{◌≡◌, ◌++◌, OnOk, replicate};
+ghost use Rattle.std.specs.List.{fold, flat_map};
 ghost use Rattle.mt_draw.specs.Columns.{begins_character, width, no_widths, widened, padded, cells_line};
 
 use std::alloc::AllocError;

@@ -1,6 +1,5 @@
 //! The rows of a table in the order of a tree: each below its parent's.
-ghost use Rattle.std.specs.Prelude.{◌≡◌, ◌++◌, ◌∷◌, [], reverse, length, map, not, IfOk, OnOk, IsTrue};
-ghost use Rattle.std.specs.List.{filter};
+ghost use Rattle.std.specs.Prelude.{◌≡◌, ◌++◌, ◌∷◌, [], reverse, length, IfOk, OnOk, IsTrue};
 ghost use Rattle.mt_skel.specs.Keyed.{rises};
 ghost use Rattle.mt_info.specs.Table.{row_id};
 ghost use Rattle.mt_draw.specs.Forest.{without_lines, is_top, is_child, child_rows, branches, next_below, drawn_from, tree, is_drawn, strays};

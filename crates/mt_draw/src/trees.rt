@@ -1,8 +1,6 @@
 //! Tables as trees of text, as findmnt(8) draws them.
-ghost use Rattle.std.specs.Prelude.{◌≡◌, ◌++◌, ◌∷◌, cond, map, codes, OnOk, IfOk};
-ghost use Rattle.std.specs.List.{flat_map};
-ghost use Rattle.mt_draw.specs.Columns.{cells_line};
-ghost use Rattle.mt_draw.specs.Trees.{tee, corner, bar, lead, propagation, cells, header, strays_text, columns_text, fitted_text, part_tree, apart, trees_text};
+ghost use Rattle.std.specs.Prelude.{◌≡◌, ◌++◌, cond, map, codes, OnOk, IfOk};
+ghost use Rattle.mt_draw.specs.Trees.{tee, corner, bar, lead, propagation, cells, header, strays_text, fitted_text, part_tree, apart, trees_text};
 
 use crate::columns::{Cells, Widths, push_lines};
 use crate::forest::{Branch, strays, tree};

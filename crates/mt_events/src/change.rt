@@ -1,5 +1,5 @@
 //! What changed from one table to another.
-ghost use Rattle.std.specs.Prelude.{◌≡◌, not, map, IfOk, IfSome, false, IsOkUnless, IsTrue, None, Some};
+ghost use Rattle.std.specs.Prelude.{◌≡◌, not, map, IfOk, IfSome, false, IsOkUnless, IsTrue};
 ghost use Rattle.std.specs.List.{filter};
 ghost use Rattle.mt_skel.specs.Keyed.{rises, has};
 ghost use Rattle.mt_info.specs.Table.{row_id};

@@ -79,7 +79,7 @@ struct Failing<'a> {
 }
 
 impl<'a> Door for Failing<'a> {
-    ghost use Rattle.std.specs.Prelude.{ℕ, false};
+    ghost use Rattle.std.specs.Prelude.{false};
 
     ghost counts = { false };
 

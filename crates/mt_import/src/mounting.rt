@@ -2,7 +2,6 @@
 ghost use Rattle.std.specs.Prelude.{◌≡◌, ◌++◌, OnOk, IsOkUnless};
 ghost use Rattle.std.specs.Option.{option_map};
 ghost use Rattle.mt_import.specs.Commands.{own_mount_text, one_text, copies_text, set_text, second_text, attributes_text};
-ghost use Rattle.mt_import.specs.Options.{options_text};
 ghost use Rattle.mt_import.specs.Paths.{path_word};
 
 use crate::commands::{MODEL, bind, mount_filesystem, set_kind, unmount};

@@ -1,9 +1,6 @@
 //! The options of mounts, as words of a `setattr` line.
-ghost use Rattle.std.specs.Prelude.{◌≡◌, ◌++◌, if◌then◌else◌, [], map, IfOk, OnOk};
-ghost use Rattle.std.specs.List.{list_any};
+ghost use Rattle.std.specs.Prelude.{◌≡◌, map, IfOk, OnOk};
 ghost use Rattle.std.specs.Option.{option_map};
-ghost use Rattle.std.specs.Str.{bytes_eq};
-ghost use Rattle.mt_words.specs.Words.{pieces};
 ghost use Rattle.mt_import.specs.Options.{has_option, times_of, before_set, with_set, with_flag, with_flags, with_times, with_kind, options_text};
 
 use mt_words::words::Pieces;

@@ -1,5 +1,5 @@
 //! The fields of a line, read back from their words.
-ghost use Rattle.std.specs.Prelude.{◌≡◌, ◌≢◌, ℕ, ◌<◌, ◌^◌, ◌++◌, ◌&&◌, List, map, IfOk, IfErr, IsTrue, codes, decimal};
+ghost use Rattle.std.specs.Prelude.{◌≡◌, ◌≢◌, ℕ, ◌<◌, ◌^◌, ◌++◌, List, map, IfOk, IfErr, IsTrue, codes, decimal};
 ghost use Rattle.std.specs.List.{list_all};
 ghost use Rattle.mt_skel.specs.Names.{is_label, is_name};
 ghost use Rattle.mt_skel.specs.Escapes.{escaped};

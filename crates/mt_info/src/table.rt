@@ -4,7 +4,7 @@ ghost use Rattle.std.specs.Option.{option_map_or};
 ghost use Rattle.mt_skel.specs.Keyed.{rises, row_at};
 ghost use Rattle.mt_mounts.specs.declared.mount.Place.{Place as PlaceOf};
 ghost use Rattle.mt_mounts.specs.Forest.{mount_at, parents_up};
-ghost use Rattle.mt_propagate.specs.World.{world_view, is_space, state_of};
+ghost use Rattle.mt_propagate.specs.World.{world_view, is_space};
 ghost use Rattle.mt_propagate.specs.Named.{mount_or_unknown};
 ghost use Rattle.mt_propagate.specs.WellFormed.{IsWellFormed};
 ghost use Rattle.mt_info.specs.Table.{row_id, table_of, row_of, mount_point, own_names};
@@ -29,7 +29,7 @@ pub struct Table {
 
 impl Model for Table {
     ghost use Rattle.std.specs.Prelude.{List, IsTrue};
-    ghost use Rattle.mt_skel.specs.Keyed.{rises, row_at};
+    ghost use Rattle.mt_skel.specs.Keyed.{rises};
     ghost use Rattle.mt_info.specs.declared.row.Row.{Row};
     ghost use Rattle.mt_info.specs.Table.{row_id};
 

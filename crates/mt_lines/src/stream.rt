@@ -199,7 +199,7 @@ impl<R> Reading<R> {
 }
 
 impl<R: Read + Drop> Input for Reading<R> {
-    ghost use Rattle.std.specs.Prelude.{ℕ, ◌≤◌, List, [], length, IfOk, false};
+    ghost use Rattle.std.specs.Prelude.{◌≤◌, [], length, IfOk, false};
     ghost use Rattle.std.specs.Io.KnownBytes.{ReadConsumes};
     ghost use Rattle.mt_lines.specs.Stream.{reading_inner};
 
@@ -271,7 +271,7 @@ impl<W: Write + Drop> Writing<W> {
 }
 
 impl<W: Write + Drop> Output for Writing<W> {
-    ghost use Rattle.std.specs.Prelude.{◌≡◌, ℕ, ◌≤◌, List, [], length, take, IfOk, Err, false};
+    ghost use Rattle.std.specs.Prelude.{◌≡◌, ◌≤◌, [], length, take, IfOk, Err, false};
     ghost use Rattle.std.specs.Io.KnownBytes.{Appends, Keeps};
     ghost use Rattle.mt_lines.specs.Stream.{writing_inner};
 

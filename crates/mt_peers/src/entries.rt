@@ -1,6 +1,6 @@
 //! Mounts with their states, in a list by rising ID.
 ghost use Rattle.std.specs.Prelude.{◌≡◌, ◌+◌, ◌<◌, ◌≤◌, ◌^◌, map, length, cond, not, ◌&&◌, is_none, is_some, nat_eq, nat_lt, None, IsTrue, vec_capacity, vec_len};
-ghost use Rattle.std.specs.List.{filter, insert, position_or_len};
+ghost use Rattle.std.specs.List.{filter, position_or_len};
 ghost use Rattle.mt_skel.specs.Keyed.{put, rises, among};
 ghost use Rattle.mt_peers.specs.Peers.{mount_of, state_at};
 ghost use Rattle.mt_peers.specs.Making.{changed, is_shared, groupless};

@@ -1,5 +1,5 @@
 //! The nearest group upwards at which copies stand.
-ghost use Rattle.std.specs.Prelude.{◌≡◌, ◌+◌, ◌<◌, ◌≤◌, Some, length, IfOk, OnOk, IsOkUnless};
+ghost use Rattle.std.specs.Prelude.{◌≡◌, ◌<◌, ◌≤◌, Some, length, IfOk, OnOk, IsOkUnless};
 ghost use Rattle.std.specs.List.{find};
 ghost use Rattle.mt_peers.specs.Masters.{groups_up, master_of};
 ghost use Rattle.mt_peers.specs.Ways.{IsAbove};

@@ -1,6 +1,6 @@
 //! Peer groups that are seen otherwise after a change than before, and the mounts below them, which may tell another
 //! group above their master.
-ghost use Rattle.std.specs.Prelude.{◌≡◌, ℕ, ◌++◌, [], false, map, nat_eq, IsTrue, OnOk, IfOk, IsOkUnless};
+ghost use Rattle.std.specs.Prelude.{◌≡◌, ℕ, ◌++◌, false, map, nat_eq, IsTrue, OnOk, IfOk, IsOkUnless};
 ghost use Rattle.std.specs.List.{filter_map, flat_map, list_any};
 ghost use Rattle.mt_skel.specs.Keyed.{among};
 ghost use Rattle.mt_peers.specs.Peers.{slaves};

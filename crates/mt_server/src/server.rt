@@ -65,7 +65,7 @@ struct Listening<'a> {
 }
 
 impl<'a> Door for Listening<'a> {
-    ghost use Rattle.std.specs.Prelude.{ℕ, false};
+    ghost use Rattle.std.specs.Prelude.{false};
 
     ghost counts = { false };
 

@@ -1,5 +1,5 @@
 //! A plain session: lines in, answers out.
-ghost use Rattle.std.specs.Prelude.{◌≡◌, ◌≢◌, ◌+◌, ◌<◌, true, IsTrue, IfNone, None, Some, Ok, Err, []};
+ghost use Rattle.std.specs.Prelude.{◌≡◌, ◌≢◌, ◌+◌, ◌<◌, true, IsTrue, IfNone, None, Some, Ok, []};
 ghost use Rattle.std.specs.Option.{ForSome};
 ghost use Rattle.mt_session.specs.Answers.{refusal};
 ghost use Rattle.mt_session.specs.Requests.{state_at, session_at};

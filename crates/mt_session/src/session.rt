@@ -1,5 +1,5 @@
 //! What a session does for a request.
-ghost use Rattle.std.specs.Prelude.{◌≡◌, length, flat_map, IfOk, IfErr, OnOk, OnErr, IsOkUnless, Ok, Err, None, Some, []};
+ghost use Rattle.std.specs.Prelude.{◌≡◌, length, flat_map, IfOk, IfErr, OnOk, OnErr, IsOkUnless, None, Some, []};
 ghost use Rattle.std.specs.Option.{ForSome};
 ghost use Rattle.std.specs.Prelude.{IsSome};
 ghost use Rattle.mt_events.specs.Posts.{post_text};

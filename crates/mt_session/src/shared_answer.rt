@@ -1,8 +1,8 @@
 //! How a session in a thread of its own answers a request.
-ghost use Rattle.std.specs.Prelude.{◌≡◌, ◌≢◌, ◌+◌, ◌++◌, ◌<◌, [], Option, true, IsTrue, IfOk, OnErr, IsOkUnless, Ok, Err, None, Some};
+ghost use Rattle.std.specs.Prelude.{◌≡◌, ◌≢◌, ◌+◌, ◌++◌, ◌<◌, [], Option, true, IsTrue, IfOk, OnErr, IsOkUnless, Ok, None, Some};
 ghost use Rattle.std.specs.Option.{ForSome};
 ghost use Rattle.mt_skel.specs.declared.fault.Fault.TheVariants.{NoMemory};
-ghost use Rattle.mt_requests.specs.declared.request.Request.TheVariants.{Take, Follow};
+ghost use Rattle.mt_requests.specs.declared.request.Request.TheVariants.{Take};
 ghost use Rattle.mt_requests.specs.Requests.{HasRightCount};
 ghost use Rattle.mt_session.specs.declared.serving.End.TheVariants.{Memory};
 ghost use Rattle.mt_events.specs.Texts.{count_text};

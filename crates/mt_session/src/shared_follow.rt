@@ -1,5 +1,5 @@
 //! How a session in a thread of its own follows posts.
-ghost use Rattle.std.specs.Prelude.{◌≡◌, ◌≢◌, ◌+◌, ◌++◌, ◌<◌, ◌≤◌, ℕ, List, [], Option, true, IsTrue, Ok, Err, None, Some};
+ghost use Rattle.std.specs.Prelude.{◌≡◌, ◌≢◌, ◌+◌, ◌++◌, ◌<◌, ◌≤◌, ℕ, List, [], Option, true, IsTrue, Ok, None, Some};
 ghost use Rattle.std.specs.Option.{ForSome};
 ghost use Rattle.mt_skel.specs.declared.fault.Fault.TheVariants.{NoMemory};
 ghost use Rattle.mt_desk.specs.Calls.{WatcherView};

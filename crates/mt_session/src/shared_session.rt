@@ -1,5 +1,5 @@
 //! What a session in a thread of its own does for a request.
-ghost use Rattle.std.specs.Prelude.{◌≡◌, ◌≢◌, ◌≤◌, List, length, map, true, IfOk, IfErr, OnOk, OnErr, IsOkUnless, IsSome, Ok, Err, None, Some};
+ghost use Rattle.std.specs.Prelude.{◌≡◌, ◌≢◌, ◌≤◌, List, length, map, true, IfOk, IfErr, OnOk, OnErr, IsOkUnless, IsSome, Err, None, Some};
 ghost use Rattle.std.specs.Option.{ForSome};
 ghost use Rattle.std.specs.Arc.{arc_value};
 ghost use Rattle.mt_events.specs.Posts.{PostView};

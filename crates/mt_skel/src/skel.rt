@@ -1,8 +1,8 @@
 //! The directories of all filesystems.
-ghost use Rattle.std.specs.Prelude.{◌≡◌, ◌≢◌, ◌↔◌, ◌-◌, ◌<◌, ◌≤◌, [], ◌∷◌, ◌++◌, None, Bool, IsTrue, IfOk, IfErr, IfSome, OnErr, OnOk, IsOkUnless, Ok, Err, length, drop};
+ghost use Rattle.std.specs.Prelude.{◌≡◌, ◌≢◌, ◌-◌, ◌<◌, [], ◌∷◌, ◌++◌, None, IsTrue, IfOk, IfErr, IfSome, OnErr, OnOk, IsOkUnless, Ok, Err, length, drop};
 ghost use Rattle.std.specs.List.{flat_map};
 ghost use Rattle.mt_skel.specs.Escapes.{escaped};
-ghost use Rattle.mt_skel.specs.Skeleton.{Skeleton, Directory, IsSkeleton, Filesystem as filesystem_of, empty_skeleton, is_filesystem, is_directory, filesystem, directory, fs_named, directory_number, root_of, child, holds, added_fs, added_dir, with_dir};
+ghost use Rattle.mt_skel.specs.Skeleton.{Skeleton, IsSkeleton, empty_skeleton, is_filesystem, is_directory, filesystem, directory, fs_named, directory_number, root_of, child, holds, added_fs, added_dir, with_dir};
 
 use crate::children::Children;
 use crate::escape::push_escaped;
