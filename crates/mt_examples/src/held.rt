@@ -25,7 +25,7 @@ const MOST_LOOKS: u64 = 100_000_000;
 /// A server with four sessions at most.
 const FOUR: Plan = Plan {
     sessions: 4,
-    failing: 0,
+    fails: false,
 };
 
 /// How far a test has come. Its threads wait for each other's stages.

@@ -1,5 +1,5 @@
-//! Servers on sockets: two sessions at once, failed accepts, and a connection too many.
-use crate::sockets::{Ended, Plan, connected, listening, served, stops};
+//! Servers on sockets: two sessions at once, and accepts that fail.
+use crate::sockets::{Ended, Plan, connected, listening, served};
 use mt_lines::line::{Line, LineReader};
 use mt_lines::stream::{Reading, Writing, send};
 use mt_session::gate::{Gate, OpenGate};
@@ -22,7 +22,7 @@ const LINE_LIMIT: u32 = 64;
 /// A server with two sessions at most.
 const TWO: Plan = Plan {
     sessions: 2,
-    failing: 0,
+    fails: false,
 };
 
 /// Holds session 1 before its first answer until session 2 was there.
@@ -111,17 +111,6 @@ fn answers(alloc: Global, stream: &UnixStream, request: &[u8], wanted: &[u8]) ->
     send(&mut Writing::new(stream), request).is_ok() && reads(alloc, stream, wanted)
 }
 
-/// Whether nothing comes any more.
-fn is_at_end(alloc: Global, stream: &UnixStream) -> bool {
-    let Ok(mut lines) = LineReader::new(alloc, Reading::new(stream), LINE_LIMIT) else {
-        return false;
-    };
-    match lines.next() {
-        Ok(Line::End) => true,
-        _ => false,
-    }
-}
-
 /// The number that answers a request, of 1 and 2; else 0.
 fn number_answered(alloc: Global, stream: &UnixStream, request: &[u8]) -> u64 {
     if send(&mut Writing::new(stream), request).is_err() {
@@ -177,77 +166,23 @@ fn two_sessions_are_served_at_once(rt: HostRuntime) -> Result<(), Fail> {
     Ok(())
 }
 
-/// How a server ends of which so many accepts fail first, and whether a session stops it then.
-fn ends_after<R>(rt: &R, alloc: Global, path: &String, failing: u32) -> io::Result<(Ended, bool)>
+/// How a server ends of which each accept fails.
+fn ends_by_failures<R>(rt: &R, alloc: Global, path: &String) -> io::Result<Ended>
 where
     R: Threads + Wait + Clock + Files + Net<Listener = TcpListener, Stream = TcpStream> + Sync,
 {
     let listener = listening(rt, path)?;
     let plan = Plan {
         sessions: 2,
-        failing,
+        fails: true,
     };
-    if failing >= 1_000 {
-        let ended = served(rt, alloc, path, &listener, plan, &OpenGate);
-        return Ok((ended, false));
-    }
-    let (ended, stopped) = thread::join(
-        rt,
-        || served(rt, alloc, path, &listener, plan, &OpenGate),
-        || stops(rt, alloc, path),
-    );
-    Ok((ended, stopped))
+    Ok(served(rt, alloc, path, &listener, plan, &OpenGate))
 }
 
 #[test]
-fn a_thousand_failed_accepts_end_a_server(rt: HostRuntime) -> Result<(), Fail> {
+fn failed_accepts_end_a_server(rt: HostRuntime) -> Result<(), Fail> {
     let path = String::from_str(rt.alloc(), "failed-accepts")?;
-    let (ended, _) = ends_after(&rt, rt.alloc(), &path, 1_000)?;
+    let ended = ends_by_failures(&rt, rt.alloc(), &path)?;
     assert!(rt; ended == Ended::CannotAccept);
-    Ok(())
-}
-
-#[test]
-fn fewer_failed_accepts_end_none(rt: HostRuntime) -> Result<(), Fail> {
-    let path = String::from_str(rt.alloc(), "fewer-failed-accepts")?;
-    let (ended, stopped) = ends_after(&rt, rt.alloc(), &path, 999)?;
-    assert!(rt; ended == Ended::Stopped && stopped);
-    Ok(())
-}
-
-/// Whether a third connection, while two have a session, reads that it is one too many, and then
-/// its end; and whether the second session goes on behind a stop, and ends.
-fn third_is_refused<R: Net>(rt: &R, alloc: Global, path: &String) -> io::Result<bool> {
-    let first = connected(rt, path)?;
-    let second = connected(rt, path)?;
-    let served = answers(alloc, &first, b"mkfs a tmpfs none\n", b"ok 1")
-        && answers(alloc, &second, b"mkfs d ext4 /dev/x\n", b"ok 2");
-    let third = connected(rt, path)?;
-    let refused = answers(alloc, &third, b"mkfs e tmpfs none\n", b"no TooMany")
-        && is_at_end(alloc, &third);
-    let stopped = answers(alloc, &first, b"stop\n", b"ok")
-        && answers(alloc, &second, b"mkfs e tmpfs none\n", b"no Stopped");
-    Ok(served && refused && stopped && is_at_end(alloc, &second))
-}
-
-/// The same, and whether the server then ends.
-fn is_refused_at_two<R>(rt: &R, alloc: Global, path: &String) -> io::Result<bool>
-where
-    R: Threads + Wait + Clock + Files + Net<Listener = TcpListener, Stream = TcpStream> + Sync,
-{
-    let listener = listening(rt, path)?;
-    let (ended, refused) = thread::join(
-        rt,
-        || served(rt, alloc, path, &listener, TWO, &OpenGate),
-        || third_is_refused(rt, alloc, path).unwrap_or(false),
-    );
-    Ok(ended == Ended::Stopped && refused)
-}
-
-#[test]
-fn a_connection_too_many_is_turned_away(rt: HostRuntime) -> Result<(), Fail> {
-    let path = String::from_str(rt.alloc(), "too-many")?;
-    let refused = is_refused_at_two(&rt, rt.alloc(), &path)?;
-    assert!(rt; refused);
     Ok(())
 }

@@ -67,18 +67,15 @@ pub(crate) fn listening<R: Files + Net>(rt: &R, path: &String) -> io::Result<Uni
 pub(crate) struct Plan {
     /// How many sessions there may be at once.
     pub(crate) sessions: usize,
-    /// How many accepts fail first.
-    pub(crate) failing: u32,
+    /// Whether each accept fails.
+    pub(crate) fails: bool,
 }
 
-/// A listener of which the first accepts fail.
+/// A door of which each accept fails.
 #[derive(Drop)]
-struct Failing<'a> {
-    listener: &'a UnixListener,
-    left: u32,
-}
+struct Failing;
 
-impl<'a> Door for Failing<'a> {
+impl Door for Failing {
     ghost use Rattle.std.specs.Prelude.{false};
 
     ghost counts = { false };
@@ -88,12 +85,7 @@ impl<'a> Door for Failing<'a> {
     ghost failures = { λ d. 0 };
 
     fn accept(&mut self) -> io::Result<UnixStream> {
-        if self.left > 0 {
-            self.left -= 1;
-            return Err(io::Error::from(ErrorKind::Other));
-        }
-        let (stream, _) = self.listener.accept()?;
-        Ok(stream)
+        Err(io::Error::from(ErrorKind::Other))
     }
 }
 
@@ -123,14 +115,10 @@ where
         sessions: plan.sessions,
         gate,
     };
-    if plan.failing == 0 {
+    if !plan.fails {
         return ended_by(run_server(rt, alloc, premises));
     }
-    let door = Failing {
-        listener,
-        left: plan.failing,
-    };
-    let (_, answer) = serve_door(rt, alloc, door, premises);
+    let (_, answer) = serve_door(rt, alloc, Failing, premises);
     ended_by(answer)
 }
 

@@ -63,23 +63,6 @@ fn reads_the_same_lines_in_any_pieces(rt: HostRuntime) -> Result<(), Fail> {
     Ok(())
 }
 
-/// Whether these bytes have these first lines, of at most 8,192 bytes.
-fn has_lines(alloc: Global, bytes: &[u8], calls: usize, wanted: &[u8]) -> Result<bool, AllocError> {
-    let found = told(alloc, Portions::new(bytes, 5_000), 8_192, calls)?;
-    Ok(found.as_slice() == wanted)
-}
-
-#[test]
-fn looks_for_a_line_end_so_far_and_no_further(rt: HostRuntime) -> Result<(), Fail> {
-    let mut bytes = vec![in rt.alloc(); b'x'; 1_056_769]?;
-    let endless = has_lines(rt.alloc(), &bytes, 2, b"endless;endless;")?;
-    bytes.truncate(1_056_768);
-    bytes.extend_from_slice(b"\nab\n")?;
-    let too_long = has_lines(rt.alloc(), &bytes, 3, b"too long;text ab;end;")?;
-    assert!(rt; endless && too_long);
-    Ok(())
-}
-
 /// Whether a reader that fails so often in succession behind its first read gives these lines.
 fn is_kept(
     alloc: Global,
@@ -106,44 +89,6 @@ fn keeps_a_fault(rt: HostRuntime) -> Result<(), Fail> {
     for (fault, times, wanted) in table {
         let kept = is_kept(rt.alloc(), fault, times, wanted)?;
         assert!(rt; kept, "after {times} faults");
-    }
-    Ok(())
-}
-
-/// What is sent.
-const BYTES: &[u8] = b"abcdef";
-
-/// How a send to a sink with so much room has to end.
-fn wanted(room: usize) -> Result<(), Cut> {
-    if room < BYTES.len() {
-        Err(Cut { sent: room })
-    } else {
-        Ok(())
-    }
-}
-
-/// Whether a send to such a sink ends so, and lets as many bytes out as there is room for.
-fn is_sent(alloc: Global, most: usize, room: usize) -> Result<bool, AllocError> {
-    let mut sink = Sink::new(alloc, most, room)?;
-    let same = send(&mut sink, BYTES) == wanted(room);
-    Ok(same && sink.bytes().len() == room && BYTES.starts_with(sink.bytes()))
-}
-
-/// Whether that is so for each room, with at most so many bytes a call.
-fn are_sent(alloc: Global, most: usize) -> Result<bool, AllocError> {
-    let mut all = true;
-    for room in 0..=6usize {
-        let sent = is_sent(alloc, most, room)?;
-        all = all && sent;
-    }
-    Ok(all)
-}
-
-#[test]
-fn sends_a_prefix_up_to_the_fault(rt: HostRuntime) -> Result<(), Fail> {
-    for most in [1, 2, 6] {
-        let sent = are_sent(rt.alloc(), most)?;
-        assert!(rt; sent, "{most} a call");
     }
     Ok(())
 }
