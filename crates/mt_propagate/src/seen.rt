@@ -63,6 +63,8 @@ pub fn from_group(world: &World, id: MountId) -> Option<GroupId>
     ensures { result ≡ from_group (world_view world.now) id }
 {
     let master = state_of(world, id).master?;
+    // Where no group is above the master, none can be told.
+    let _above = world.peers.master_of(master)?;
     beside(master, nearest_seen(world, space_of(world, id), master))
 }
 
@@ -151,6 +153,10 @@ impl<'a> SeenGroups<'a> {
         let Some(group) = state_of(self.world, id).master else {
             return Ok(None);
         };
+        // Where no group is above the master, none can be told.
+        if self.world.peers.master_of(group).is_none() {
+            return Ok(None);
+        }
         let space = space_of(self.world, id);
         let nearest = self.nearest(Search { space, group })?;
         Ok(beside(group, nearest))
