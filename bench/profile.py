@@ -86,6 +86,16 @@ def chain(count):
     return lines
 
 
+def masters(others):
+    """60 masters in one namespace, and so many other namespaces with a slave of each."""
+    lines = start()
+    for n in range(60):
+        lines += [f"mkdir a /d{n}", f"mount 1 d /d{n}", f"setattr 1 /d{n} prop=shared"]
+    for n in range(others):
+        lines += ["copyns 1", f"setattr {n + 2} / rec prop=slave"]
+    return lines
+
+
 # A world, its sizes, and the commands that are counted together.
 WORLDS = {
     "copies": (many_peers, (10, 100, 1000), ["mount 1 d /w/t", "umount 1 /w/t"]),
@@ -94,6 +104,7 @@ WORLDS = {
     "among mounts": (many_mounts, (40, 400, 2000), ["mount 1 d /x", "umount 1 /x"]),
     "attributes among mounts": (many_mounts, (40, 400, 2000), ["setattr 1 /d7 set=ro", "setattr 1 /d7 clr=ro"]),
     "propagation among mounts": (many_mounts, (40, 400, 2000), ["setattr 1 /d7 prop=shared", "setattr 1 /d7 prop=private"]),
+    "attributes of a master": (masters, (3, 15, 63), ["setattr 1 /d7 set=ro", "setattr 1 /d7 clr=ro"]),
     "among directories": (many_directories, (40, 400, 4000), ["mount 1 d /x", "umount 1 /x"]),
     "beside other namespaces": (many_spaces, (1, 8, 60), ["mount 1 d /x", "umount 1 /x"]),
     "on a stack": (lambda n: start() + ["mount 1 d /x"] * n, (10, 100, 1000), ["mount 1 d /x", "umount 1 /x"]),

@@ -1,5 +1,5 @@
 //! What a command changes in the tables of namespaces.
-ghost use Rattle.std.specs.Prelude.{◌≡◌, ℕ, ◌+◌, ◌++◌, ◌≤◌, IfOk, OnOk, IsOkUnless, IsTrue, None, cond, [], map};
+ghost use Rattle.std.specs.Prelude.{◌≡◌, ℕ, ◌+◌, ◌∷◌, ◌++◌, ◌≤◌, IfOk, OnOk, IsOkUnless, IsTrue, None, cond, [], map};
 ghost use Rattle.std.specs.List.{list_all};
 ghost use Rattle.std.specs.Option.{option_to_list};
 ghost use Rattle.std.specs.Result.{is_ok};
@@ -15,7 +15,7 @@ ghost use Rattle.mt_book.specs.Step.{step, next_world, makes_space};
 ghost use Rattle.mt_book.specs.Book.{AreNumbers, next_number, next_post, counted, posted, with_newborn, still_there, space_in, command_limit};
 
 use crate::command::Command;
-use crate::numbers::{numbers_before, numbers_in, still_there, with_numbers};
+use crate::numbers::{numbers_in, still_there, with_newborn, with_numbers};
 use crate::parts::{parts_of, spaces_touched};
 use mt_events::news::is_changed;
 use mt_events::post::Post;
@@ -131,9 +131,40 @@ fn push_post(alloc: Global, posts: &mut Vec<Arc<Post>>, post: Option<Post>) -> R
     Ok(())
 }
 
-/// What changes between two worlds, for namespaces that had these numbers; posts only where somebody asks for them.
-/// `ids` has each mount whose row changed. Refused as `NoMemory` alone.
-fn changes_in(
+/// What changes between two worlds in a namespace that had this number; its post only where somebody asks for it.
+/// `ids` has each mount of which a row changed there, and may have those of other namespaces: they are not told apart.
+/// Refused as `NoMemory` alone.
+fn changes_in_one(
+    alloc: Global,
+    old: &World,
+    new: &World,
+    ids: &[MountId],
+    row: (SpaceId, u64),
+    heard: bool,
+) -> Result<Changes, Fault>
+    requires old { IsWellFormed (world_view old.now) }
+    requires new { IsWellFormed (world_view new.now) }
+    requires rising { IsTrue (rises (λ k. k) ids.now) }
+    requires held { HoldsChanged (table_of (world_view old.now) row.0) (table_of (world_view new.now) row.0) ids.now }
+    requires few { row.1 ≤ command_limit }
+    ensures numbers { IfOk result (λ changes. changes.numbers.items ≡ counted (world_view old.now) (world_view new.now) (row ∷ [])) }
+    ensures posts { IfOk result (λ changes. changes.posts ≡ cond heard (posted (world_view old.now) (world_view new.now) (row ∷ [])) []) }
+    ensures memory { IsOkUnless result Fault.NoMemory }
+{
+    let change = change_between(old, new, ids, row.0, row.1, heard)?;
+    let mut numbers = Vec::with_capacity(alloc, 1)?;
+    numbers.push((row.0, change.number))?;
+    let mut posts = Vec::new(alloc);
+    push_post(alloc, &mut posts, change.post)?;
+    Ok(Changes {
+        numbers,
+        posts: SharedPosts::new(posts),
+    })
+}
+
+/// The same in namespaces that had these numbers: in each, the mounts that were or are in it are compared. Refused as
+/// `NoMemory` alone.
+fn changes_in_many(
     alloc: Global,
     old: &World,
     new: &World,
@@ -166,6 +197,30 @@ fn changes_in(
     })
 }
 
+/// The same in one namespace, as most commands have it, or in many. Refused as `NoMemory` alone.
+fn changes_in(
+    alloc: Global,
+    old: &World,
+    new: &World,
+    ids: &[MountId],
+    numbers: &[(SpaceId, u64)],
+    heard: bool,
+) -> Result<Changes, Fault>
+    requires old { IsWellFormed (world_view old.now) }
+    requires new { IsWellFormed (world_view new.now) }
+    requires rising { IsTrue (rises (λ k. k) ids.now) }
+    requires held { (n : ℕ) → HoldsChanged (table_of (world_view old.now) n) (table_of (world_view new.now) n) ids.now }
+    requires numbers { AreNumbers numbers.now }
+    ensures numbers { IfOk result (λ changes. changes.numbers.items ≡ counted (world_view old.now) (world_view new.now) numbers.now) }
+    ensures posts { IfOk result (λ changes. changes.posts ≡ cond heard (posted (world_view old.now) (world_view new.now) numbers.now) []) }
+    ensures memory { IsOkUnless result Fault.NoMemory }
+{
+    if let [row] = numbers {
+        return changes_in_one(alloc, old, new, ids, *row, heard);
+    }
+    changes_in_many(alloc, old, new, ids, numbers, heard)
+}
+
 /// The same between two worlds with the same directories, where `touched` has each mount that changed. Only the
 /// namespaces in which one of these was, or is, are looked at. Refused as `NoMemory` alone.
 fn changes_between(
@@ -196,7 +251,7 @@ fn changes_between(
     })
 }
 
-/// What a command changes for all namespaces, and for the one that it makes, of which it knows these numbers.
+/// What a command changes for all namespaces of which it knows these numbers, the one that it makes among them.
 /// Refused as `NoMemory` alone.
 ///
 /// A command that makes directories changes no table, and so none is looked at.
@@ -229,6 +284,33 @@ fn changes_of(
     changes_between(alloc, old, new, touched, numbers, heard)
 }
 
+/// The same with the namespace that the command makes, if it makes one: it had number 0. Refused as `NoMemory` alone.
+fn changes_with_newborn(
+    alloc: Global,
+    old: &World,
+    new: &World,
+    touched: &[MountId],
+    numbers: &[(SpaceId, u64)],
+    command: &Command,
+    heard: bool,
+) -> Result<Changes, Fault>
+    requires old { IsWellFormed (world_view old.now) }
+    requires skeleton { IsSkeleton (world_view old.now).skel }
+    requires new { IsWellFormed (world_view new.now) }
+    requires next { world_view new.now ≡ next_world (world_view old.now) command.now }
+    requires touched { IsTouched (world_view old.now) (world_view new.now) touched.now }
+    requires numbers { AreNumbers (with_newborn numbers.now (world_view old.now).next_space (makes_space command.now)) }
+    ensures numbers { IfOk result (λ changes. changes.numbers.items ≡ counted (world_view old.now) (world_view new.now) (with_newborn numbers.now (world_view old.now).next_space (makes_space command.now))) }
+    ensures posts { IfOk result (λ changes. changes.posts ≡ cond heard (posted (world_view old.now) (world_view new.now) (with_newborn numbers.now (world_view old.now).next_space (makes_space command.now))) []) }
+    ensures memory { IsOkUnless result Fault.NoMemory }
+{
+    if !command.makes_space() {
+        return changes_of(alloc, old, new, touched, numbers, command, heard);
+    }
+    let before = with_newborn(alloc, numbers, old.next_space)?;
+    changes_of(alloc, old, new, touched, &before, command, heard)
+}
+
 /// What a command that is accepted changes for namespaces that had these numbers: those that are there. One that it
 /// makes had number 0, and one that it drops has none any more; only then is it asked which are there. `touched` has each
 /// mount that it changed. Posts are made only where somebody asks for them. Refused as `NoMemory` alone.
@@ -253,8 +335,7 @@ pub(crate) fn changes_after(
     ensures posts { IfOk result (λ changes. changes.posts ≡ cond heard (posted (world_view old.now) (world_view new.now) (with_newborn numbers.now (world_view old.now).next_space (makes_space command.now))) []) }
     ensures memory { IsOkUnless result Fault.NoMemory }
 {
-    let before = numbers_before(alloc, numbers, old.next_space, command.makes_space())?;
-    let changes = changes_of(alloc, old, new, touched, &before, command, heard)?;
+    let changes = changes_with_newborn(alloc, old, new, touched, numbers, command, heard)?;
     if !command.drops_space() {
         return Ok(changes);
     }

@@ -1,5 +1,5 @@
 //! The numbers of namespaces, by rising namespace.
-ghost use Rattle.std.specs.Prelude.{◌≡◌, ℕ, ◌++◌, [], ◌∷◌, IfOk, OnOk, IsOkUnless, IsTrue};
+ghost use Rattle.std.specs.Prelude.{◌≡◌, ℕ, ◌++◌, [], ◌∷◌, IfOk, OnOk, IsOkUnless, IsTrue, true};
 ghost use Rattle.std.specs.List.{filter};
 ghost use Rattle.std.specs.Option.{option_to_list};
 ghost use Rattle.mt_skel.specs.Keyed.{among, rises, row_at};
@@ -13,20 +13,17 @@ use mt_propagate::world::World;
 use mt_skel::fault::Fault;
 use std::alloc::Global;
 
-/// The numbers of the namespaces before a command, which may make this one more. Refused as `NoMemory` alone.
-pub(crate) fn numbers_before(
+/// The numbers of namespaces with that of one that is made: 0. Refused as `NoMemory` alone.
+pub(crate) fn with_newborn(
     alloc: Global,
     numbers: &[(SpaceId, u64)],
     newborn: SpaceId,
-    more: bool,
 ) -> Result<Vec<(SpaceId, u64)>, Fault>
-    ensures numbers { IfOk result (λ before. before.items ≡ with_newborn numbers.now newborn more) }
+    ensures numbers { IfOk result (λ before. before.items ≡ with_newborn numbers.now newborn true) }
     ensures memory { IsOkUnless result Fault.NoMemory }
 {
     let mut before = Vec::from_slice(alloc, numbers)?;
-    if more {
-        before.push((newborn, 0))?;
-    }
+    before.push((newborn, 0))?;
     Ok(before)
 }
 

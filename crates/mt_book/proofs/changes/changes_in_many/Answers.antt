@@ -7,7 +7,7 @@ use Rattle.mt_info.specs.Table.{table_of}
 use Rattle.mt_events.specs.Difference.{HoldsChanged}
 use Rattle.mt_book.specs.Parts.{is_part, space_at}
 use Rattle.mt_book.proofs.TouchedLaws.{part_holds, part_is}
-use Rattle.mt_book.proofs.changes.changes_in.Goals as goal
+use Rattle.mt_book.proofs.changes.changes_in_many.Goals as goal
 
 pub change_between-requires-clause-rising : goal.change_between-requires-clause-rising
 change_between-requires-clause-rising c =
