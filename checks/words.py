@@ -43,7 +43,6 @@ change_of mt_events mt_requests
 changed mt_floor mt_peers
 collected mt_events mt_peers
 copy_of mt_bind mt_propagate
-ended mt_bind mt_desk mt_events mt_floor
 ends mt_session mt_skel
 fault_of mt_lines mt_skel
 Follows mt_client mt_session
@@ -65,7 +64,6 @@ IsLeft mt_client mt_queue
 IsListed mt_peers mt_propagate
 IsPopped mt_queue mt_session
 IsPost mt_desk mt_events
-IsRow mt_desk mt_floor mt_info
 IsSending mt_desk mt_queue
 IsSent mt_desk mt_session
 IsTold mt_floor mt_session
@@ -86,10 +84,8 @@ row_follows mt_desk mt_floor
 row_line mt_events mt_info
 row_of mt_info mt_lists
 rows_of mt_desk mt_lists
-RowView mt_desk mt_floor
 space_of mt_mounts mt_propagate
 state_at mt_peers mt_session
-state_of mt_propagate mt_session
 unless mt_floor mt_requests
 Watcher mt_desk mt_floor
 with_number mt_book mt_lists

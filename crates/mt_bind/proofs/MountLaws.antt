@@ -24,7 +24,7 @@ use Rattle.mt_propagate.proofs.ContainedLaws.{below-space, ended-inside}
 use Rattle.mt_propagate.proofs.CopyRowLaws.{space_is}
 use Rattle.mt_propagate.proofs.MovedLaws.{source_kept}
 use Rattle.mt_bind.specs.Sources.{fresh, alone, tree_within, tree_of}
-use Rattle.mt_bind.specs.Mounting.{mounted, bound, moved, ended, no_end, too_many}
+use Rattle.mt_bind.specs.Mounting.{mounted, bound, moved, path_end, no_end, too_many}
 use Rattle.mt_bind.proofs.BelowLaws.{below_self}
 use Rattle.mt_bind.proofs.SourceLaws.{fresh_is_source, alone_is_source, alone_only, holds_there, no_zero, one_row}
 use Rattle.mt_bind.proofs.WithinLaws.{within_source, within_below}
@@ -64,7 +64,7 @@ fresh_near w h fs dest i m q e f = no_zero w h q (ap (mount_at w.forest) (sym (o
 
 pub mount_copies : (w : WorldView) (n : ℕ) (name : List ℕ) (path : List (List ℕ)) (v : WorldView) (i : ℕ) → IsWellFormed w → mounted w n name path ≡ Ok (v, i) → IsCopying n w v
 mount_copies w n name path v i h e =
-    let p = ended w n path in
+    let p = path_end w n path in
     let fs = unwrap_or (fs_named w.skel name) 0 in
     let src = fresh w fs in
     let none = refuse_if (is_none (fs_named w.skel name)) NoFilesystem in
@@ -98,12 +98,12 @@ bound_near w n from false p dest h e here =
 
 pub bind_copies : (w : WorldView) (n : ℕ) (recursive : Bool) (from to : List (List ℕ)) (v : WorldView) (i : ℕ) → IsWellFormed w → bound w n recursive from to ≡ Ok (v, i) → IsCopying n w v
 bind_copies w n recursive from to v i h e =
-    let p = ended w n to in
-    let src = cond recursive (tree_within w (ended w n from)) (alone w (ended w n from)) in
+    let p = path_end w n to in
+    let src = cond recursive (tree_within w (path_end w n from)) (alone w (path_end w n from)) in
     let lost_from = no_end w n from in
     let lost_to = no_end w n to in
     let root = refuse_if (is_root_place w p) RootPlace in
-    let unbindable = refuse_if (state_of w (ended w n from).mount).unbindable Unbindable in
+    let unbindable = refuse_if (state_of w (path_end w n from).mount).unbindable Unbindable in
     let many = too_many w n src p in
     let ok = outcome_ok (lost_from ∷ lost_to ∷ root ∷ unbindable ∷ many ∷ []) (copied w src p, copy_id w src p p.mount src.top.id) (v, i) e in
     let one = first_none lost_from (lost_to ∷ root ∷ unbindable ∷ many ∷ []) ok.1 in
@@ -115,9 +115,9 @@ bind_copies w n recursive from to v i h e =
       src = src;
       dest = p;
       made = ap (λ x. x.0) ok.0;
-      source = bound_source w n from recursive (ended w n from) p h from_ok;
+      source = bound_source w n from recursive (path_end w n from) p h from_ok;
       destination = destination w n to p h (has_ended (walk w.skel w.forest n to) two.0) (not_refused (is_root_place w p) RootPlace three.0);
-      near = bound_near w n from recursive (ended w n from) p h from_ok here;
+      near = bound_near w n from recursive (path_end w n from) p h from_ok here;
       here = here;
     }
 
@@ -126,12 +126,12 @@ bind_keeps w n recursive from to v i h e = copying_keeps n w v h (bind_copies w 
 
 pub move_copies : (w : WorldView) (n : ℕ) (from to : List (List ℕ)) (v : WorldView) → IsWellFormed w → moved w n from to ≡ Ok v → IsCopying n w v
 move_copies w n from to v h e =
-    let p = ended w n to in
-    let i = (ended w n from).mount in
+    let p = path_end w n to in
+    let i = (path_end w n from).mount in
     let src = tree_of w i in
     let lost_from = no_end w n from in
-    let named = refuse_if (not (is_mount_root w (ended w n from))) NotMountRoot in
-    let root = refuse_if (is_root_mount w (ended w n from)) RootPlace in
+    let named = refuse_if (not (is_mount_root w (path_end w n from))) NotMountRoot in
+    let root = refuse_if (is_root_mount w (path_end w n from)) RootPlace in
     let lost_to = no_end w n to in
     let root_to = refuse_if (is_root_place w p) RootPlace in
     let shared = refuse_if (option_map_or (λ k. is_some (group_of w k)) (parent w.forest i) false) SharedParent in
@@ -147,12 +147,12 @@ move_copies w n from to v h e =
     let six = first_none shared (itself ∷ unbindable ∷ many ∷ []) five.1 in
     let seven = first_none itself (unbindable ∷ many ∷ []) six.1 in
     let to_ok = has_ended (walk w.skel w.forest n to) four.0 in
-    let from_end = (walked w n h from (ended w n from) (has_ended (walk w.skel w.forest n from) one.0)).0 in
+    let from_end = (walked w n h from (path_end w n from) (has_ended (walk w.skel w.forest n from) one.0)).0 in
     let to_end = (walked w n h to p to_ok).0 in
     let d = destination w n to p h to_ok (not_refused (is_root_place w p) RootPlace five.0) in
     let space : (u : Mount) → mount_at w.forest p.mount ≡ Some u → u.space ≡ from_end.0.space =
     (λ u f. (let s : Some u ≡ Some to_end.0 = sym f ∙ to_end.1 in let same : u ≡ to_end.0 = cc in ap (λ (m : Mount). m.space) same ∙ to_end.2 ∙ sym from_end.2)) in
-    let s = tree_source w h i from_end.0 from_end.1 p (not_refused (is_root_mount w (ended w n from)) RootPlace three.0) space (not_refused (is_below w.forest i p.mount) IntoItself seven.0) in
+    let s = tree_source w h i from_end.0 from_end.1 p (not_refused (is_root_mount w (path_end w n from)) RootPlace three.0) space (not_refused (is_below w.forest i p.mount) IntoItself seven.0) in
     let here = ended-inside w h n to four.0 in
     record {
       src = src;

@@ -22,7 +22,7 @@ use Rattle.mt_propagate.proofs.SizeLaws.{IsSized, few_pass, copied_sized}
 use Rattle.mt_bind.specs.Spaces.{originals, new_space, with_space, copy_space, with_copy, drop_space, without_space}
 use Rattle.mt_bind.specs.Copying.{copy_of}
 use Rattle.mt_bind.specs.Sources.{fresh, top_at, alone, is_bound_along, tree_within, tree_of}
-use Rattle.mt_bind.specs.Mounting.{mounted, bound, moved, ended, no_end, too_many}
+use Rattle.mt_bind.specs.Mounting.{mounted, bound, moved, path_end, no_end, too_many}
 
 -- a new namespace
 pub space_sized : (w v : WorldView) (name : List ℕ) (i : ℕ) → new_space w name ≡ Ok (v, i) → IsSized w v 1
@@ -84,7 +84,7 @@ dropped_sized w v n few e =
 -- a mount
 pub mount_sized : (w v : WorldView) (n : ℕ) (name : List ℕ) (path : List (List ℕ)) (i : ℕ) → mounted w n name path ≡ Ok (v, i) → IsSized w v 0
 mount_sized w v n name path i e =
-    let p = ended w n path in
+    let p = path_end w n path in
     let src = fresh w (unwrap_or (fs_named w.skel name) 0) in
     let none = refuse_if (is_none (fs_named w.skel name)) NoFilesystem in
     let lost = no_end w n path in
@@ -100,12 +100,12 @@ mount_sized w v n name path i e =
 -- a bind
 pub bind_sized : (w v : WorldView) (n : ℕ) (recursive : Bool) (from to : List (List ℕ)) (i : ℕ) → length w.forest ≤ 4096 → bound w n recursive from to ≡ Ok (v, i) → IsSized w v 0
 bind_sized w v n recursive from to i few e =
-    let p = ended w n to in
-    let src = cond recursive (tree_within w (ended w n from)) (alone w (ended w n from)) in
+    let p = path_end w n to in
+    let src = cond recursive (tree_within w (path_end w n from)) (alone w (path_end w n from)) in
     let lost_from = no_end w n from in
     let lost_to = no_end w n to in
     let root = refuse_if (is_root_place w p) RootPlace in
-    let unbindable = refuse_if (state_of w (ended w n from).mount).unbindable Unbindable in
+    let unbindable = refuse_if (state_of w (path_end w n from).mount).unbindable Unbindable in
     let many = too_many w n src p in
     let ok = outcome_ok (lost_from ∷ lost_to ∷ root ∷ unbindable ∷ many ∷ []) (copied w src p, copy_id w src p p.mount src.top.id) (v, i) e in
     let one = first_none lost_from (lost_to ∷ root ∷ unbindable ∷ many ∷ []) ok.1 in
@@ -115,9 +115,9 @@ bind_sized w v n recursive from to i few e =
     let five = first_none many [] four.1 in
     subst (λ (x : WorldView). IsSized w x 0) (ap (λ x. x.0) ok.0) (copied_sized w src p (small recursive) (not_refused (too_many_mounts w (length (new_copies w src p))) TooMany five.0))
   where
-    small : (b : Bool) → length (cond b (tree_within w (ended w n from)) (alone w (ended w n from))).mounts ≤ 4096
+    small : (b : Bool) → length (cond b (tree_within w (path_end w n from)) (alone w (path_end w n from))).mounts ≤ 4096
     small true =
-        let q = ended w n from in
+        let q = path_end w n from in
         let within : Mount → Bool = λ m. is_bound_along w q m.id in
         omega (arith, few, few_pass within w.forest, length-map (filter within w.forest) (λ (m : Mount). cond (m.id == q.mount) (top_at w q) m))
     small false = omega arith
@@ -125,12 +125,12 @@ bind_sized w v n recursive from to i few e =
 -- a move
 pub move_sized : (w v : WorldView) (n : ℕ) (from to : List (List ℕ)) → length w.forest ≤ 4096 → moved w n from to ≡ Ok v → IsSized w v 0
 move_sized w v n from to few e =
-    let p = ended w n to in
-    let i = (ended w n from).mount in
+    let p = path_end w n to in
+    let i = (path_end w n from).mount in
     let src = tree_of w i in
     let lost_from = no_end w n from in
-    let named = refuse_if (not (is_mount_root w (ended w n from))) NotMountRoot in
-    let root = refuse_if (is_root_mount w (ended w n from)) RootPlace in
+    let named = refuse_if (not (is_mount_root w (path_end w n from))) NotMountRoot in
+    let root = refuse_if (is_root_mount w (path_end w n from)) RootPlace in
     let lost_to = no_end w n to in
     let root_to = refuse_if (is_root_place w p) RootPlace in
     let shared = refuse_if (option_map_or (λ k. is_some (group_of w k)) (parent w.forest i) false) SharedParent in

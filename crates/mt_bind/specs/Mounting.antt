@@ -20,8 +20,8 @@ use Rattle.mt_bind.specs.Sources.{fresh, alone, tree_within, tree_of}
 
 module _ (w : WorldView) (n : ℕ) where
   -- the place where a path ends in the namespace n
-  abbrev pub ended : List (List ℕ) → Place
-  ended path = place_or_nowhere (walk w.skel w.forest n path)
+  abbrev pub path_end : List (List ℕ) → Place
+  path_end path = place_or_nowhere (walk w.skel w.forest n path)
 
   -- the refusal of a path that ends nowhere
   abbrev pub no_end : List (List ℕ) → Option Fault
@@ -35,7 +35,7 @@ module _ (w : WorldView) (n : ℕ) where
   -- destination is this project's rule)
   abbrev pub mounted : List ℕ → List (List ℕ) → Result (WorldView × ℕ) Fault
   mounted name path =
-      let p = ended path in
+      let p = path_end path in
       let src = fresh w (unwrap_or (fs_named w.skel name) 0) in
       outcome (refuse_if (is_none (fs_named w.skel name)) NoFilesystem
       ∷ no_end path
@@ -47,12 +47,12 @@ module _ (w : WorldView) (n : ℕ) where
   -- rbind semantics)
   abbrev pub bound : Bool → List (List ℕ) → List (List ℕ) → Result (WorldView × ℕ) Fault
   bound recursive from to =
-      let p = ended to in
-      let src = cond recursive (tree_within w (ended from)) (alone w (ended from)) in
+      let p = path_end to in
+      let src = cond recursive (tree_within w (path_end from)) (alone w (path_end from)) in
       outcome (no_end from
       ∷ no_end to
       ∷ refuse_if (is_root_place w p) RootPlace
-      ∷ refuse_if (state_of w (ended from).mount).unbindable Unbindable
+      ∷ refuse_if (state_of w (path_end from).mount).unbindable Unbindable
       ∷ too_many src p ∷ [])
       (copied w src p, copy_id w src p p.mount src.top.id)
 
@@ -60,12 +60,12 @@ module _ (w : WorldView) (n : ℕ) where
   -- below a shared one (`sharedsubtree`, move semantics)
   abbrev pub moved : List (List ℕ) → List (List ℕ) → Result WorldView Fault
   moved from to =
-      let p = ended to in
-      let i = (ended from).mount in
+      let p = path_end to in
+      let i = (path_end from).mount in
       let src = tree_of w i in
       outcome (no_end from
-      ∷ refuse_if (not (is_mount_root w (ended from))) NotMountRoot
-      ∷ refuse_if (is_root_mount w (ended from)) RootPlace
+      ∷ refuse_if (not (is_mount_root w (path_end from))) NotMountRoot
+      ∷ refuse_if (is_root_mount w (path_end from)) RootPlace
       ∷ no_end to
       ∷ refuse_if (is_root_place w p) RootPlace
       ∷ refuse_if (option_map_or (λ k. is_some (group_of w k)) (parent w.forest i) false) SharedParent

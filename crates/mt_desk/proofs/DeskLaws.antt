@@ -24,7 +24,7 @@ use Rattle.mt_floor.proofs.BeginLaws.{opens}
 use Rattle.mt_floor.proofs.StandingLaws.{begins_well}
 use Rattle.mt_desk.specs.Desk.{DeskRow, DeskView, IsDeskRow, IsDesk, row_key, late_watcher, floor_of_desk, new_row, with_watcher, halted_desk}
 use Rattle.mt_desk.specs.Calls.{WatcherView, IsHalved, IsMet, IsClosed, met_row, with_row}
-use Rattle.mt_desk.specs.Rows.{RowView, begun as begun_of, IsBegun, MeetsRow, ClosesRow}
+use Rattle.mt_desk.specs.Rows.{PlacedRowView, begun as begun_of, IsBegun, MeetsRow, ClosesRow}
 use Rattle.mt_desk.specs.declared.row.Slot.{Slot}
 use Rattle.mt_desk.specs.declared.row.Slot.TheVariants.{Parked, Used, Away}
 use Rattle.mt_desk.specs.Places.{line_of, IsParked, IsParkedAt, IsLine, rows_of, desk_of, ended_slot, OpensSlot, OpensAt, ArePlaces, AreLines, IsKept, IsWatcher, IsPlace, MeetsSlot, MeetsAt, ClosesSlot, ClosesAt}
@@ -74,14 +74,14 @@ module _ (lines : List LineId) (c : ℕ) (journal : List Command) (last_key : �
   rising : rises row_key (rows_of slots order) ≡ true
   rising = rows_rise desk h.desk
 
-  capacity_there : (p : ℕ) (r : RowView) → slice_get slots p ≡ Some (Used r) → r.capacity ≡ c
+  capacity_there : (p : ℕ) (r : PlacedRowView) → slice_get slots p ≡ Some (Used r) → r.capacity ≡ c
   capacity_there p r at = (each_get (IsLine c) slots p (Used r) h.places.each at).capacity_is
 
-  row_there : (p key : ℕ) (r : RowView) (half : ReceiverView) → slice_get slots p ≡ Some (Used r) → half.tag ≡ r.row.key → IsWatcher lines key p half → row_at row_key key (rows_of slots order) ≡ Some r.row
+  row_there : (p key : ℕ) (r : PlacedRowView) (half : ReceiverView) → slice_get slots p ≡ Some (Used r) → half.tag ≡ r.row.key → IsWatcher lines key p half → row_at row_key key (rows_of slots order) ≡ Some r.row
   row_there p key r half at tag w = ap (λ k. row_at row_key k (rows_of slots order)) (sym w.tag ∙ tag) ∙ row_of_place lines c slots order h.places rising p r at
 
   -- the row at a watcher's place meets it
-  met_row_at : (w : WatcherView) (r now : RowView) (half' : ReceiverView) (m : Meeting) → IsWatcher lines w.key w.place w.half → slice_get slots w.place ≡ Some (Used r) → MeetsRow r w.half now half' m
+  met_row_at : (w : WatcherView) (r now : PlacedRowView) (half' : ReceiverView) (m : Meeting) → IsWatcher lines w.key w.place w.half → slice_get slots w.place ≡ Some (Used r) → MeetsRow r w.half now half' m
       → IsKept lines (desk_of c journal last_key stopped (set slots w.place (Used now)) order) (set slots w.place (Used now)) order room
       × IsMet desk w m (desk_of c journal last_key stopped (set slots w.place (Used now)) order) (record w { half = half' })
   met_row_at w r now half' m is at meets =
@@ -89,9 +89,9 @@ module _ (lines : List LineId) (c : ℕ) (journal : List Command) (last_key : �
       let taken = length w.half.taken in
       let there = row_there p w.key r w.half at meets.key is in
       let halved = subst (λ n. IsHalved n r.row w.half meets.rest) (capacity_there p r at) meets.halved in
-      let line = ap (λ (x : RowView). x.line) meets.row in
-      let capacity = ap (λ (x : RowView). x.capacity) meets.row in
-      let row : now.row ≡ met_row taken r.row = ap (λ (x : RowView). x.row) meets.row in
+      let line = ap (λ (x : PlacedRowView). x.line) meets.row in
+      let capacity = ap (λ (x : PlacedRowView). x.capacity) meets.row in
+      let row : now.row ≡ met_row taken r.row = ap (λ (x : PlacedRowView). x.row) meets.row in
       let key : now.row.key ≡ r.row.key = ap (λ (x : DeskRow). x.key) row in
       let rows = put_rows lines c slots order h.places rising p r at now line capacity key ∙ ap (λ x. put row_key x (rows_of slots order)) row in
       let now_is : desk_of c journal last_key stopped (set slots p (Used now)) order ≡ with_row desk (met_row taken r.row) = ap (λ (l : List DeskRow). record desk { rows = l }) rows in
@@ -117,7 +117,7 @@ module _ (lines : List LineId) (c : ℕ) (journal : List Command) (last_key : �
       by Away s' there meets = absurd meets
 
   -- and goes
-  closed_row_at : (w : WatcherView) (r : RowView) (l : LineView) (posts : List PostView) (order' : List ℕ) → IsWatcher lines w.key w.place w.half → slice_get slots w.place ≡ Some (Used r) → ClosesRow r w.half l posts
+  closed_row_at : (w : WatcherView) (r : PlacedRowView) (l : LineView) (posts : List PostView) (order' : List ℕ) → IsWatcher lines w.key w.place w.half → slice_get slots w.place ≡ Some (Used r) → ClosesRow r w.half l posts
       → order' ≡ filter (λ k. not (eqb k w.place)) order
       → IsKept lines (desk_of c journal last_key stopped (set slots w.place (Parked l)) order') (set slots w.place (Parked l)) order' room
       × IsClosed desk w posts (desk_of c journal last_key stopped (set slots w.place (Parked l)) order')
@@ -167,16 +167,16 @@ module _ (lines : List LineId) (c : ℕ) (journal : List Command) (last_key : �
   )
 
   -- a watcher begins
-  begun_row_at : (scope : Scope) (p : ℕ) (l : LineView) (now : RowView) (half : ReceiverView) (key since : ℕ) (o : Opening) (order' : List ℕ) → opening_refusal (floor_of_desk desk) scope ≡ None
+  begun_row_at : (scope : Scope) (p : ℕ) (l : LineView) (now : PlacedRowView) (half : ReceiverView) (key since : ℕ) (o : Opening) (order' : List ℕ) → opening_refusal (floor_of_desk desk) scope ≡ None
       → slice_get slots p ≡ Some (Parked l) → IsBegun key scope since o l now half → key ≡ last_key + 1 → since ≡ length journal → o ≡ opening_of journal scope → order' ≡ order ++ p ∷ []
       → IsKept lines (desk_of c journal key stopped (set slots p (Used now)) order') (set slots p (Used now)) order' room
       × (floor_step (floor_of_desk desk) (Open scope) ≡ (floor_of_desk (desk_of c journal key stopped (set slots p (Used now)) order'), Ok (Opened key half.opening)))
       × IsWatcher lines key p half × (half.taken ≡ [])
       × (desk_of c journal key stopped (set slots p (Used now)) order' ≡ with_watcher desk scope)
   begun_row_at scope p l now half key since o order' none at begun key_is since_is o_is more =
-      let line = ap (λ (x : RowView). x.line) begun.row in
-      let capacity = ap (λ (x : RowView). x.capacity) begun.row in
-      let row : now.row ≡ new_row desk scope = ap (λ (x : RowView). x.row) begun.row ∙ (λ i. begun_of (key_is i) scope (since_is i) (o_is i)) in
+      let line = ap (λ (x : PlacedRowView). x.line) begun.row in
+      let capacity = ap (λ (x : PlacedRowView). x.capacity) begun.row in
+      let row : now.row ≡ new_row desk scope = ap (λ (x : PlacedRowView). x.row) begun.row ∙ (λ i. begun_of (key_is i) scope (since_is i) (o_is i)) in
       let rows : rows_of (set slots p (Used now)) order' ≡ rows_of slots order ++ new_row desk scope ∷ [] =
       ap (rows_of (set slots p (Used now))) more ∙ begun_rows lines c slots order h.places p l at now line capacity ∙ ap (λ q. rows_of slots order ++ q ∷ []) row in
       let now_is : desk_of c journal key stopped (set slots p (Used now)) order' ≡ with_watcher desk scope = (λ i. record desk { next_key = key_is i + 1; rows = rows i }) in

@@ -9,8 +9,8 @@ use Rattle.std.proofs.lemmas.List.Elements.{filter-append}
 use Rattle.mt_skel.specs.Keyed.{row_at, put, without, rises}
 use Rattle.mt_queue.specs.Halves.{LineId, LineView}
 use Rattle.mt_skel.proofs.MiddleLaws.{and_first, and_second, row_mid, put_mid, without_mid, each_still}
-use Rattle.mt_desk.specs.Desk.{DeskRow, row_key, ended}
-use Rattle.mt_desk.specs.Rows.{RowView, ended_row}
+use Rattle.mt_desk.specs.Desk.{DeskRow, row_key, desk_row_after_stop}
+use Rattle.mt_desk.specs.Rows.{PlacedRowView, ended_row}
 use Rattle.mt_desk.specs.declared.row.Slot.{Slot}
 use Rattle.mt_desk.specs.declared.row.Slot.TheVariants.{Parked, Used, Away}
 use Rattle.mt_desk.specs.Places.{line_of, IsParked, no_row, slot_row, row_in, rows_of, use_of, uses, IsLine, IsUsed, IsAmong, ArePlaces, AreLines, ended_slot}
@@ -157,7 +157,7 @@ other_used : (slots : List Slot) (p : ℕ) (x : Slot) (ks : List ℕ) → AreOth
 other_used slots p x [] h u = tt
 other_used slots p x (k ∷ ks) h u = (record { row = u.0.row; there = get_other slots p x k h.0 ∙ u.0.there }, other_used slots p x ks h.1 u.1)
 
-still_used : (slots : List Slot) (p : ℕ) (s : Slot) (r : RowView) → slice_get slots p ≡ Some s → (k : ℕ) → IsUsed slots k → IsUsed (set slots p (Used r)) k
+still_used : (slots : List Slot) (p : ℕ) (s : Slot) (r : PlacedRowView) → slice_get slots p ≡ Some s → (k : ℕ) → IsUsed slots k → IsUsed (set slots p (Used r)) k
 still_used slots p s r at k u = by (eqb k p) refl
   where
     by : (b : Bool) → eqb k p ≡ b → IsUsed (set slots p (Used r)) k
@@ -166,7 +166,7 @@ still_used slots p s r at k u = by (eqb k p) refl
 
 -- ---- What happens at one place
 
-module _ (lines : List LineId) (c : ℕ) (slots : List Slot) (order : List ℕ) (places : ArePlaces lines c slots order) (rising : rises row_key (rows_of slots order) ≡ true) (p : ℕ) (r : RowView) (at : slice_get slots p ≡ Some (Used r)) where
+module _ (lines : List LineId) (c : ℕ) (slots : List Slot) (order : List ℕ) (places : ArePlaces lines c slots order) (rising : rises row_key (rows_of slots order) ≡ true) (p : ℕ) (r : PlacedRowView) (at : slice_get slots p ≡ Some (Used r)) where
   here : Around p order
   here = around p order (places.ordered p r at)
 
@@ -191,7 +191,7 @@ module _ (lines : List LineId) (c : ℕ) (slots : List Slot) (order : List ℕ) 
   row_of_place = ap (row_at row_key r.row.key) rows_mid ∙ row_mid row_key (rows_of slots here.front) (rows_of slots here.back) r.row row_rises
 
   -- the row changes, and keeps its line and its key
-  module _ (now : RowView) (line : now.line ≡ r.line) (capacity : now.capacity ≡ r.capacity) (key : now.row.key ≡ r.row.key) where
+  module _ (now : PlacedRowView) (line : now.line ≡ r.line) (capacity : now.capacity ≡ r.capacity) (key : now.row.key ≡ r.row.key) where
     pub put_rows : rows_of (set slots p (Used now)) order ≡ put row_key now.row (rows_of slots order)
     put_rows =
         ap (rows_of (set slots p (Used now))) here.split
@@ -249,7 +249,7 @@ module _ (lines : List LineId) (c : ℕ) (slots : List Slot) (order : List ℕ) 
     }
 
 -- a parked line gets a row
-module _ (lines : List LineId) (c : ℕ) (slots : List Slot) (order : List ℕ) (places : ArePlaces lines c slots order) (p : ℕ) (l : LineView) (at : slice_get slots p ≡ Some (Parked l)) (now : RowView)
+module _ (lines : List LineId) (c : ℕ) (slots : List Slot) (order : List ℕ) (places : ArePlaces lines c slots order) (p : ℕ) (l : LineView) (at : slice_get slots p ≡ Some (Parked l)) (now : PlacedRowView)
     (line : now.line ≡ l.line) (capacity : now.capacity ≡ l.capacity) where
   not_parked : (ks : List ℕ) → AllByRecursion (IsUsed slots) ks → AreOther p ks
   not_parked [] u = tt
@@ -303,12 +303,12 @@ new_places c slots order room h = record {
 }
 
 -- after a stop
-ended_get : (slots : List Slot) (k : ℕ) (r : RowView) → slice_get slots k ≡ Some (Used r) → slice_get (map ended_slot slots) k ≡ Some (Used (ended_row r))
+ended_get : (slots : List Slot) (k : ℕ) (r : PlacedRowView) → slice_get slots k ≡ Some (Used r) → slice_get (map ended_slot slots) k ≡ Some (Used (ended_row r))
 ended_get [] k r e = absurd cc
 ended_get (s ∷ slots) zero r e = let same : s ≡ Used r = cc in ap (λ x. Some (ended_slot x)) same
 ended_get (s ∷ slots) (suc k) r e = ended_get slots k r e
 
-was_used : (slots : List Slot) (k : ℕ) (r : RowView) → slice_get (map ended_slot slots) k ≡ Some (Used r) → (q : RowView) × (slice_get slots k ≡ Some (Used q))
+was_used : (slots : List Slot) (k : ℕ) (r : PlacedRowView) → slice_get (map ended_slot slots) k ≡ Some (Used r) → (q : PlacedRowView) × (slice_get slots k ≡ Some (Used q))
 was_used [] k r e = absurd cc
 was_used (Parked l ∷ slots) zero r e = absurd (let same : ◌≡◌ {A = Slot} (Parked l) (Used r) = cc in cc)
 was_used (Used q ∷ slots) zero r e = (q, refl)
@@ -350,7 +350,7 @@ ended_places lines c slots order h = record {
   count = h.count ∙ sym (ended_uses slots);
 }
 
-pub ended_rows : (slots : List Slot) (ks : List ℕ) → AllByRecursion (IsUsed slots) ks → rows_of (map ended_slot slots) ks ≡ map ended (rows_of slots ks)
+pub ended_rows : (slots : List Slot) (ks : List ℕ) → AllByRecursion (IsUsed slots) ks → rows_of (map ended_slot slots) ks ≡ map desk_row_after_stop (rows_of slots ks)
 ended_rows slots [] u = refl
 ended_rows slots (k ∷ ks) u =
-    (λ i. (row_there (map ended_slot slots) k (Used (ended_row u.0.row)) (ended_get slots k u.0.row u.0.there) ∙ ap ended (sym (row_there slots k (Used u.0.row) u.0.there))) i ∷ ended_rows slots ks u.1 i)
+    (λ i. (row_there (map ended_slot slots) k (Used (ended_row u.0.row)) (ended_get slots k u.0.row u.0.there) ∙ ap desk_row_after_stop (sym (row_there slots k (Used u.0.row) u.0.there))) i ∷ ended_rows slots ks u.1 i)

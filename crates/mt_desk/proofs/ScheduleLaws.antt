@@ -24,7 +24,7 @@ use Rattle.mt_floor.specs.WellFormed.{IsFloor}
 use Rattle.mt_floor.proofs.RowLaws.{put_same}
 use Rattle.mt_floor.proofs.StandingLaws.{stays}
 use Rattle.mt_desk.specs.Late.{late, late_count}
-use Rattle.mt_desk.specs.Desk.{DeskRow, DeskView, IsDeskRow, IsInTime, IsDesk, row_key, late_watcher, floor_of_desk, new_row, with_watcher, ended, halted_desk}
+use Rattle.mt_desk.specs.Desk.{DeskRow, DeskView, IsDeskRow, IsInTime, IsDesk, row_key, late_watcher, floor_of_desk, new_row, with_watcher, desk_row_after_stop, halted_desk}
 use Rattle.mt_desk.specs.Calls.{WatcherView, IsHalved, IsMet, IsClosed, unseen, in_time_after, met_row, with_row}
 use Rattle.mt_desk.proofs.RowsLaws.{watcher_there, put_watchers, without_watchers, rises_watchers, snoc_watchers, each_at, each_put, each_without}
 use Rattle.mt_desk.proofs.LateLaws.{late_met, late_before}
@@ -154,9 +154,9 @@ is_closed d w row posts h at halved =
     record { row = row; there = at; halved = halved; desk = refl; told = m.0; schedule = m.1 }
 
 -- A stop ends the open rows.
-ended_watchers : (c : ℕ) (rs : List DeskRow) → map (λ (w : Watcher). record w { phase = cond (is_open w.phase) Ended w.phase }) (map (late_watcher c) rs) ≡ map (late_watcher c) (map ended rs)
+ended_watchers : (c : ℕ) (rs : List DeskRow) → map (λ (w : Watcher). record w { phase = cond (is_open w.phase) Ended w.phase }) (map (late_watcher c) rs) ≡ map (late_watcher c) (map desk_row_after_stop rs)
 ended_watchers c [] = refl
-ended_watchers c (r ∷ rs) = ap (λ l. late_watcher c (ended r) ∷ l) (ended_watchers c rs)
+ended_watchers c (r ∷ rs) = ap (λ l. late_watcher c (desk_row_after_stop r) ∷ l) (ended_watchers c rs)
 
 pub stop_schedule : (d : DeskView) → floor_step (floor_of_desk d) Stop ≡ (floor_of_desk (halted_desk d), Ok Halted)
 unfolding floor_step
@@ -167,14 +167,14 @@ ended_in_time c n met in_time IsOpen t = t
 ended_in_time c n met in_time Ended t = t
 ended_in_time c n met in_time Lagged t = t
 
-ended_row : (c : ℕ) (r : DeskRow) → IsDeskRow c r → IsDeskRow c (ended r)
+ended_row : (c : ℕ) (r : DeskRow) → IsDeskRow c r → IsDeskRow c (desk_row_after_stop r)
 ended_row c r k = record { met = k.met; in_time = ended_in_time c (length r.sent) r.met r.met_in_time r.phase k.in_time }
 
 pub stopped_stays : (d : DeskView) → IsDesk d → IsDesk (halted_desk d)
 stopped_stays d h = record {
   floor = subst IsFloor (ap (λ (x : Stepped). x.0) (stop_schedule d)) (stays (floor_of_desk d) Stop h.floor);
   room = h.room;
-  rows = each_map (IsDeskRow d.capacity) (IsDeskRow d.capacity) ended (ended_row d.capacity) d.rows h.rows;
+  rows = each_map (IsDeskRow d.capacity) (IsDeskRow d.capacity) desk_row_after_stop (ended_row d.capacity) d.rows h.rows;
 }
 
 -- A watcher begins.

@@ -26,7 +26,7 @@ use Rattle.mt_floor.specs.Schedule.{floor_step}
 use Rattle.mt_desk.specs.Desk.{DeskRow, DeskView, IsDesk, row_key, floor_of_desk}
 use Rattle.mt_desk.specs.Calls.{IsApplied}
 use Rattle.mt_desk.specs.Sent.{IsSentOne, IsSentOneIn, IsSending, sending_floor}
-use Rattle.mt_desk.specs.Rows.{RowView, SendsRow}
+use Rattle.mt_desk.specs.Rows.{PlacedRowView, SendsRow}
 use Rattle.mt_desk.specs.declared.row.Slot.{Slot}
 use Rattle.mt_desk.specs.declared.row.Slot.TheVariants.{Parked, Used, Away}
 use Rattle.mt_desk.specs.Places.{row_in, rows_of, desk_of, slot_row, no_row, IsLine, IsUsed, IsAmong, ArePlaces, IsKept}
@@ -47,7 +47,7 @@ due_then p key ds = record { post = p; key = key } ∷ ds
 
 -- ---- What is due at first
 
-due_at_row : (slots : List Slot) (p : PostView) (k : ℕ) (r : RowView) → slice_get slots k ≡ Some (Used r)
+due_at_row : (slots : List Slot) (p : PostView) (k : ℕ) (r : PlacedRowView) → slice_get slots k ≡ Some (Used r)
     → map (keyed slots) (due_at p slots k) ≡ cond (row_is_due p r.row) (record { post = p; key = r.row.key } ∷ []) []
 due_at_row slots p k r at =
     ap (λ o. map (keyed slots) (cond (option_map_or (slot_follows p) o false) (record { place = k; post = p } ∷ []) [])) at
@@ -142,7 +142,7 @@ key_stays IsOpen c p r now (inr lags) = ap (λ (q : DeskRow). q.key) lags.1
 key_stays Lagged c p r now same = ap (λ (q : DeskRow). q.key) same
 key_stays Ended c p r now same = ap (λ (q : DeskRow). q.key) same
 
-keys_stay : (slots : List Slot) (place : ℕ) (r now : RowView) → slice_get slots place ≡ Some (Used r) → now.row.key ≡ r.row.key → (k : ℕ) → (row_in (set slots place (Used now)) k).key ≡ (row_in slots k).key
+keys_stay : (slots : List Slot) (place : ℕ) (r now : PlacedRowView) → slice_get slots place ≡ Some (Used r) → now.row.key ≡ r.row.key → (k : ℕ) → (row_in (set slots place (Used now)) k).key ≡ (row_in slots k).key
 keys_stay slots place r now at same k = by (eqb k place) refl
   where
     by : (b : Bool) → eqb k place ≡ b → (row_in (set slots place (Used now)) k).key ≡ (row_in slots k).key
@@ -170,7 +170,7 @@ module _ (lines : List LineId) (d : DeskView) (x : Command) (reply : Reply) (h :
     pub places : ArePlaces lines d.capacity slots order
     pub sending : IsSending d x reply (rows_of slots order) (map (keyed slots) ds)
 
-  sent_next : (slots : List Slot) (e : PlaceDue) (ds : List PlaceDue) (r now : RowView) → IsPart slots (e ∷ ds) → slice_get slots e.place ≡ Some (Used r) → SendsRow r e.post now → IsPart (set slots e.place (Used now)) ds
+  sent_next : (slots : List Slot) (e : PlaceDue) (ds : List PlaceDue) (r now : PlacedRowView) → IsPart slots (e ∷ ds) → slice_get slots e.place ≡ Some (Used r) → SendsRow r e.post now → IsPart (set slots e.place (Used now)) ds
   sent_next slots e ds r now part at sends =
       let rising = part.sending.rising in
       let capacity : r.capacity ≡ d.capacity = (each_get (IsLine d.capacity) slots e.place (Used r) part.places.each at).capacity_is in

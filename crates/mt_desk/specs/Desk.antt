@@ -80,9 +80,9 @@ abbrev pub with_watcher : DeskView → Scope → DeskView
 with_watcher d scope = record d { next_key = d.next_key + 1; rows = d.rows ++ new_row d scope ∷ [] }
 
 -- a row after a stop: one that was open has ended
-abbrev pub ended : DeskRow → DeskRow
-ended r = record r { phase = cond (is_open r.phase) Ended r.phase }
+abbrev pub desk_row_after_stop : DeskRow → DeskRow
+desk_row_after_stop r = record r { phase = cond (is_open r.phase) Ended r.phase }
 
 -- a desk after a stop
 abbrev pub halted_desk : DeskView → DeskView
-halted_desk d = record d { stopped = true; rows = map ended d.rows }
+halted_desk d = record d { stopped = true; rows = map desk_row_after_stop d.rows }

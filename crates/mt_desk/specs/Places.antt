@@ -11,7 +11,7 @@ use Rattle.mt_book.specs.declared.command.Command.{Command}
 use Rattle.mt_queue.specs.Halves.{LineId, ReceiverView, no_line}
 use Rattle.mt_floor.specs.declared.watch.Meeting.{Meeting}
 use Rattle.mt_desk.specs.Desk.{DeskRow, DeskView, IsDesk}
-use Rattle.mt_desk.specs.Rows.{RowView, begun, IsBegun, MeetsRow, ClosesRow, ended_row}
+use Rattle.mt_desk.specs.Rows.{PlacedRowView, begun, IsBegun, MeetsRow, ClosesRow, ended_row}
 use Rattle.mt_desk.specs.declared.row.Slot.{Slot}
 use Rattle.mt_desk.specs.declared.row.Slot.TheVariants.{Parked, Used, Away}
 
@@ -81,7 +81,7 @@ pub record IsLine (capacity : ℕ) (s : Slot) : Type 0 where
 
 -- a place with a row
 pub record IsUsed (slots : List Slot) (place : ℕ) : Type 0 where
-  pub row : RowView
+  pub row : PlacedRowView
   pub there : slice_get slots place ≡ Some (Used row)
 
 -- a place is one of these
@@ -95,7 +95,7 @@ pub record ArePlaces (lines : List LineId) (capacity : ℕ) (slots : List Slot) 
   pub number : length slots ≡ line_count
   pub each : AllByRecursion (IsLine capacity) slots
   pub used : AllByRecursion (IsUsed slots) order
-  pub ordered : (place : ℕ) (r : RowView) → slice_get slots place ≡ Some (Used r) → IsAmong place order
+  pub ordered : (place : ℕ) (r : PlacedRowView) → slice_get slots place ≡ Some (Used r) → IsAmong place order
   pub count : length order ≡ uses slots
 
 -- what is always true of a desk

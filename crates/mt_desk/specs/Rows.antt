@@ -11,17 +11,17 @@ use Rattle.mt_floor.specs.declared.watch.Phase.{Phase}
 use Rattle.mt_floor.specs.declared.watch.Phase.TheVariants.{Open as IsOpen}
 use Rattle.mt_floor.specs.declared.watch.Meeting.{Meeting}
 use Rattle.mt_floor.specs.Watcher.{is_open}
-use Rattle.mt_desk.specs.Desk.{DeskRow, ended}
+use Rattle.mt_desk.specs.Desk.{DeskRow, desk_row_after_stop}
 use Rattle.mt_desk.specs.Calls.{IsHalved, met_row}
 use Rattle.mt_desk.specs.Sent.{IsSentOne}
 
 -- a row at its place: which line it has, and how many posts this holds
-pub record RowView : Type 0 where
+pub record PlacedRowView : Type 0 where
   pub row : DeskRow
   pub line : LineId
   pub capacity : ℕ
 
-abbrev pub row_view : ℕ → Scope → ℕ → SenderView → ℕ → Phase → RowView
+abbrev pub row_view : ℕ → Scope → ℕ → SenderView → ℕ → Phase → PlacedRowView
 row_view key scope since s in_time phase = record {
   row = record { key = key; scope = scope; since = since; opening = s.opening; sent = s.sent; met = s.met; met_in_time = in_time; phase = phase };
   line = s.line;
@@ -29,7 +29,7 @@ row_view key scope since s in_time phase = record {
 }
 
 -- a row's sender is of the opening that the key tells, and there is room for what a close answers
-pub record IsRow (key : ℕ) (s : SenderView) (left : List Item) (room : ℕ) : Type 0 where
+pub record HasSender (key : ℕ) (s : SenderView) (left : List Item) (room : ℕ) : Type 0 where
   pub tag : s.tag ≡ key
   pub empty : left ≡ []
   pub room_is : s.capacity ≤ room
@@ -39,12 +39,12 @@ abbrev pub begun : ℕ → Scope → ℕ → Opening → DeskRow
 begun key scope since o = record { key = key; scope = scope; since = since; opening = o; sent = []; met = 0; met_in_time = 0; phase = IsOpen }
 
 -- a line that was not in use gets the row of a watcher that begins, and the watcher's half
-pub record IsBegun (key : ℕ) (scope : Scope) (since : ℕ) (o : Opening) (l : LineView) (now : RowView) (half : ReceiverView) : Type 0 where
+pub record IsBegun (key : ℕ) (scope : Scope) (since : ℕ) (o : Opening) (l : LineView) (now : PlacedRowView) (half : ReceiverView) : Type 0 where
   pub row : now ≡ record { row = begun key scope since o; line = l.line; capacity = l.capacity }
   pub half_is : half ≡ record { line = l.line; opening = o; tag = key; taken = []; told = 0 }
 
 -- a row meets the half of its watcher
-pub record MeetsRow (r : RowView) (half : ReceiverView) (now : RowView) (half' : ReceiverView) (m : Meeting) : Type 0 where
+pub record MeetsRow (r : PlacedRowView) (half : ReceiverView) (now : PlacedRowView) (half' : ReceiverView) (m : Meeting) : Type 0 where
   pub key : half.tag ≡ r.row.key
   pub rest : List PostView
   pub halved : IsHalved r.capacity r.row half rest
@@ -53,7 +53,7 @@ pub record MeetsRow (r : RowView) (half : ReceiverView) (now : RowView) (half' :
   pub half_is : half' ≡ record half { told = length r.row.sent }
 
 -- a row goes: what was sent and not taken is left, and its line is not in use any more
-pub record ClosesRow (r : RowView) (half : ReceiverView) (l : LineView) (posts : List PostView) : Type 0 where
+pub record ClosesRow (r : PlacedRowView) (half : ReceiverView) (l : LineView) (posts : List PostView) : Type 0 where
   pub key : half.tag ≡ r.row.key
   pub halved : IsHalved r.capacity r.row half posts
   pub line : l ≡ record { line = r.line; capacity = r.capacity }
@@ -67,11 +67,11 @@ abbrev pub MayBeSent : DeskRow → List PostView → Type 0
 MayBeSent r posts = r.phase ≡ IsOpen → IsRun r.opening (r.sent ++ posts)
 
 -- an open row is sent a post, or lags; no other row is sent anything
-pub record SendsRow (r : RowView) (p : PostView) (now : RowView) : Type 0 where
+pub record SendsRow (r : PlacedRowView) (p : PostView) (now : PlacedRowView) : Type 0 where
   pub line : now.line ≡ r.line
   pub capacity : now.capacity ≡ r.capacity
   pub sent : IsSentOne r.capacity p r.row now.row
 
 -- a row after a stop
-abbrev pub ended_row : RowView → RowView
-ended_row r = record r { row = ended r.row }
+abbrev pub ended_row : PlacedRowView → PlacedRowView
+ended_row r = record r { row = desk_row_after_stop r.row }

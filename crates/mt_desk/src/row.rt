@@ -26,7 +26,7 @@ use std::sync::{Arc, Wait};
 /// A watcher's row. `met_in_time` is how many posts it had taken at its last meeting, but stays what it was when the row
 /// began to lag; `left` has room for what its close will answer.
 #[derive(Drop)]
-pub(crate) struct Row {
+pub(crate) struct PlacedRow {
     key: WatchKey,
     scope: Scope,
     since: usize,
@@ -36,15 +36,15 @@ pub(crate) struct Row {
     left: Vec<Item>,
 }
 
-impl Model for Row {
+impl Model for PlacedRow {
     ghost use Rattle.std.specs.Prelude.{vec_capacity};
-    ghost use Rattle.mt_desk.specs.Rows.{RowView, row_view, IsRow};
+    ghost use Rattle.mt_desk.specs.Rows.{PlacedRowView, row_view, HasSender};
 
-    ghost Value = { RowView };
+    ghost Value = { PlacedRowView };
 
     ghost view = { λ r. row_view r.key r.scope r.since r.sender r.met_in_time r.phase };
 
-    ghost invariant = { λ r. IsRow r.key r.sender r.left.items (vec_capacity r.left) };
+    ghost invariant = { λ r. HasSender r.key r.sender r.left.items (vec_capacity r.left) };
 }
 
 /// Tells the number of an opening.
@@ -93,7 +93,7 @@ fn drain<R: Wait>(rt: &R, mut tail: Tail, mut left: Vec<Item>) -> (Line, SharedP
     unreachable!()
 }
 
-impl Row {
+impl PlacedRow {
     /// The row of a watcher that begins on this line, and the watcher's half. `left` has room for as many posts as the
     /// line may hold.
     fn new(
@@ -103,13 +103,13 @@ impl Row {
         since: usize,
         opening: Opening,
         left: Vec<Item>,
-    ) -> (Row, Receiver)
+    ) -> (PlacedRow, Receiver)
         requires empty { left.items ≡ [] }
         requires room { line.capacity ≤ vec_capacity left }
         ensures { IsBegun key scope since opening line result.0 result.1 }
     {
         let (sender, half) = open_line::<Brand>(line, opening, key);
-        let row = Row {
+        let row = PlacedRow {
             key,
             scope,
             since,
@@ -140,7 +140,7 @@ impl Row {
         requires { self.line ≡ half.line }
         ensures { ClosesRow self half result.0 result.1 }
     {
-        let Row { sender, left, .. } = self;
+        let PlacedRow { sender, left, .. } = self;
         drain(rt, finish(sender, half), left)
     }
 
@@ -173,7 +173,7 @@ impl Row {
 #[derive(Drop)]
 pub(crate) enum Slot {
     Parked(Line),
-    Used(Row),
+    Used(PlacedRow),
     Away,
 }
 
@@ -205,7 +205,7 @@ pub(crate) fn open_slot(
 {
     match mem::replace(slot, Slot::Away) {
         Slot::Parked(line) => {
-            let (row, half) = Row::new(line, key, scope, since, opening, left);
+            let (row, half) = PlacedRow::new(line, key, scope, since, opening, left);
             *slot = Slot::Used(row);
             half
         }

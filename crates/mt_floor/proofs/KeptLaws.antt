@@ -19,7 +19,7 @@ use Rattle.mt_floor.specs.declared.event.Answer.TheVariants.{Took, Met, Closed, 
 use Rattle.mt_floor.specs.Watcher.{Watcher, Due, key_of, is_open, followed_posts}
 use Rattle.mt_floor.specs.Schedule.{FloorView, Stepped, floor_step, if_idle, at_row, changed, is_full, nothing_left, took, met, closed, halted}
 use Rattle.mt_floor.specs.WellFormed.{IsFloor}
-use Rattle.mt_floor.specs.Rows.{RowView, ended, next_taken, watcher_of, floor_of, IsRow, IsKept}
+use Rattle.mt_floor.specs.Rows.{FloorRowView, row_after_stop, next_taken, watcher_of, floor_of, IsFloorRow, IsKept}
 use Rattle.mt_floor.proofs.StandingLaws.{stays, begins_well, lists_short}
 use Rattle.mt_floor.proofs.PlaceLaws.{IsAt, is_of, found_at, got_at, within_at, row_read, watcher_at, changed_at, without_at, no_watcher}
 use Rattle.mt_skel.proofs.MiddleLaws.{each_mid, each_with, each_without, each_map, set_mid, remove_mid}
@@ -28,23 +28,23 @@ pub kept_new : (c : ℕ) → IsKept c [] 0 false [] []
 kept_new c = record { floor = begins_well c; each = tt }
 
 -- a floor after an event is kept, if its rows are
-pub kept_after : (c c' : ℕ) (j j' : List Command) (l l' : ℕ) (st st' : Bool) (rows rows' : List RowView) (due due' : List Due) (e : Event) (a : Result Answer Fault) → IsKept c j l st rows due
-    → floor_step (floor_of c j l st rows due) e ≡ (floor_of c' j' l' st' rows' due', a) → AllByRecursion (IsRow c' j') rows' → IsKept c' j' l' st' rows' due'
+pub kept_after : (c c' : ℕ) (j j' : List Command) (l l' : ℕ) (st st' : Bool) (rows rows' : List FloorRowView) (due due' : List Due) (e : Event) (a : Result Answer Fault) → IsKept c j l st rows due
+    → floor_step (floor_of c j l st rows due) e ≡ (floor_of c' j' l' st' rows' due', a) → AllByRecursion (IsFloorRow c' j') rows' → IsKept c' j' l' st' rows' due'
 kept_after c c' j j' l l' st st' rows rows' due due' e a h is each = record { floor = subst IsFloor (ap (λ (x : Stepped). x.0) is) (stays (floor_of c j l st rows due) e h.floor); each = each }
 
 -- what a watcher follows
-abbrev pub follows_all : List Command → RowView → List PostView
+abbrev pub follows_all : List Command → FloorRowView → List PostView
 follows_all j r = followed_posts r.scope (take r.since j) (drop r.since j)
 
 -- it has taken so many posts
-taken_count : (c : ℕ) (j : List Command) (r : RowView) → IsRow c j r → length (take r.taken (follows_all j r)) ≡ r.taken
+taken_count : (c : ℕ) (j : List Command) (r : FloorRowView) → IsFloorRow c j r → length (take r.taken (follows_all j r)) ≡ r.taken
 taken_count c j r h = length-take-le r.taken (follows_all j r) h.taken
 
-sent_count : (c : ℕ) (j : List Command) (r : RowView) → IsRow c j r → length (watcher_of j r).sent ≡ r.taken + length r.waiting
+sent_count : (c : ℕ) (j : List Command) (r : FloorRowView) → IsFloorRow c j r → length (watcher_of j r).sent ≡ r.taken + length r.waiting
 sent_count c j r h = omega (arith, length-append (take r.taken (follows_all j r)) r.waiting, taken_count c j r h)
 
 -- its queue is full where so many posts wait
-pub full_is : (c : ℕ) (j : List Command) (r : RowView) → IsRow c j r → is_full c (watcher_of j r) ≡ nat_le c (length r.waiting)
+pub full_is : (c : ℕ) (j : List Command) (r : FloorRowView) → IsFloorRow c j r → is_full c (watcher_of j r) ≡ nat_le c (length r.waiting)
 full_is c j r h = same (length (watcher_of j r).taken + c) (length (watcher_of j r).sent) c (length r.waiting) r.taken (omega (arith, taken_count c j r h)) (sent_count c j r h)
   where
     same : (a b m n t : ℕ) → a ≡ t + m → b ≡ t + n → nat_le a b ≡ nat_le m n
@@ -67,7 +67,7 @@ none_of : {X : Type 0} (xs : List X) → slice_get xs 0 ≡ None → xs ≡ []
 none_of [] e = refl
 none_of (y ∷ ys) e = absurd (let bad : ◌≡◌ {A = Option _} (Some y) None = e in cc)
 
-module _ (c : ℕ) (j : List Command) (l : ℕ) (st : Bool) (rows : List RowView) (due : List Due) (h : IsKept c j l st rows due) where
+module _ (c : ℕ) (j : List Command) (l : ℕ) (st : Bool) (rows : List FloorRowView) (due : List Due) (h : IsKept c j l st rows due) where
   -- no watcher of this key
   pub take_none : (q : ℕ) → position_from (is_of q) 0 rows ≡ None → floor_step (floor_of c j l st rows due) (Take q) ≡ (floor_of c j l st rows due, Err NoWatcher)
   unfolding floor_step
@@ -85,9 +85,9 @@ module _ (c : ℕ) (j : List Command) (l : ℕ) (st : Bool) (rows : List RowView
       ap (λ ds. if_idle ds (floor_of c j l st rows due) (at_row (floor_of c j l st rows due) q (closed (floor_of c j l st rows due)))) idle
       ∙ ap (λ o. option_map_or (closed (floor_of c j l st rows due)) o (floor_of c j l st rows due, Err NoWatcher)) (no_watcher j q 0 rows e)
 
-  module _ (q i : ℕ) (row : RowView) (at : IsAt q i rows row) where
-    pub row_is : IsRow c j row
-    row_is = each_mid (IsRow c j) at.front at.back row (subst (AllByRecursion (IsRow c j)) at.split h.each)
+  module _ (q i : ℕ) (row : FloorRowView) (at : IsAt q i rows row) where
+    pub row_is : IsFloorRow c j row
+    row_is = each_mid (IsFloorRow c j) at.front at.back row (subst (AllByRecursion (IsFloorRow c j)) at.split h.each)
 
     pub found : row_at key_of q (map (watcher_of j) rows) ≡ Some (watcher_of j row)
     found = watcher_at j q i rows row at h.floor.rising
@@ -95,10 +95,10 @@ module _ (c : ℕ) (j : List Command) (l : ℕ) (st : Bool) (rows : List RowView
     pub few : row.taken + length row.waiting ≤ 2 ^ 40
     few = omega (arith, (lists_short (floor_of c j l st rows due) q (watcher_of j row) h.floor found).1, sent_count c j row row_is)
 
-    pub each_set : (new : RowView) → IsRow c j new → AllByRecursion (IsRow c j) (set rows i new)
+    pub each_set : (new : FloorRowView) → IsFloorRow c j new → AllByRecursion (IsFloorRow c j) (set rows i new)
     each_set new p =
-        subst (AllByRecursion (IsRow c j)) (sym (set_mid at.front at.back row new) ∙ (λ k. set (sym at.split k) (sym at.place k) new))
-        (each_with (IsRow c j) at.front at.back row new (subst (AllByRecursion (IsRow c j)) at.split h.each) p)
+        subst (AllByRecursion (IsFloorRow c j)) (sym (set_mid at.front at.back row new) ∙ (λ k. set (sym at.split k) (sym at.place k) new))
+        (each_with (IsFloorRow c j) at.front at.back row new (subst (AllByRecursion (IsFloorRow c j)) at.split h.each) p)
 
     -- Meet
     pub meet_some : due ≡ [] → (m : Meeting) → m ≡ record { posted = row.taken + length row.waiting; taken = row.taken; state = row.phase } → floor_step (floor_of c j l st rows due) (Meet q) ≡ (floor_of c j l st rows due, Ok (Met m))
@@ -115,15 +115,15 @@ module _ (c : ℕ) (j : List Command) (l : ℕ) (st : Bool) (rows : List RowView
         told n e = ap (λ (x : Meeting). (floor_of c j l st rows due, Ok (Met x))) (sym e)
 
     -- Close
-    pub close_some : due ≡ [] → (rows' : List RowView) (ps : List PostView) → rows' ≡ remove rows i → ps ≡ row.waiting
-        → (floor_step (floor_of c j l st rows due) (Close q) ≡ (floor_of c j l st rows' due, Ok (Closed ps))) × AllByRecursion (IsRow c j) rows'
+    pub close_some : due ≡ [] → (rows' : List FloorRowView) (ps : List PostView) → rows' ≡ remove rows i → ps ≡ row.waiting
+        → (floor_step (floor_of c j l st rows due) (Close q) ≡ (floor_of c j l st rows' due, Ok (Closed ps))) × AllByRecursion (IsFloorRow c j) rows'
     unfolding floor_step
     close_some idle rows' ps gone is = (
       ap (λ ds. if_idle ds (floor_of c j l st rows due) (at_row (floor_of c j l st rows due) q (closed (floor_of c j l st rows due)))) idle
           ∙ ap (λ o. option_map_or (closed (floor_of c j l st rows due)) o (floor_of c j l st rows due, Err NoWatcher)) found
           ∙ answered (without_at j q i rows row at h.floor.rising ∙ ap (map (watcher_of j)) (sym gone)) (behind (take row.taken (follows_all j row)) row.waiting ∙ sym is),
-      subst (AllByRecursion (IsRow c j)) ((sym (remove_mid at.front at.back row) ∙ (λ k. remove (sym at.split k) (sym at.place k))) ∙ sym gone)
-          (each_without (IsRow c j) at.front at.back row (subst (AllByRecursion (IsRow c j)) at.split h.each)),
+      subst (AllByRecursion (IsFloorRow c j)) ((sym (remove_mid at.front at.back row) ∙ (λ k. remove (sym at.split k) (sym at.place k))) ∙ sym gone)
+          (each_without (IsFloorRow c j) at.front at.back row (subst (AllByRecursion (IsFloorRow c j)) at.split h.each)),
     )
       where
         behind : {X : Type 0} (xs ys : List X) → drop (length xs) (xs ++ ys) ≡ ys
@@ -163,11 +163,11 @@ module _ (c : ℕ) (j : List Command) (l : ℕ) (st : Bool) (rows : List RowView
             → watcher_of j (record row { taken = row.taken + 1; waiting = drop 1 row.waiting; room = row.room + 1 }) ≡ record (watcher_of j row) { taken = take row.taken (follows_all j row) ++ p ∷ [] }
         moved a b = λ k. record { key = row.key; scope = row.scope; since = row.since; opening = (watcher_of j row).opening; sent = b k; taken = a k; phase = row.phase }
 
-    pub take_some : (rows' : List RowView) (p : PostView) → slice_get row.waiting 0 ≡ Some p → rows' ≡ set rows i (next_taken row.waiting row)
-        → (floor_step (floor_of c j l st rows due) (Take q) ≡ (floor_of c j l st rows' due, Ok (Took (Some p)))) × AllByRecursion (IsRow c j) rows'
+    pub take_some : (rows' : List FloorRowView) (p : PostView) → slice_get row.waiting 0 ≡ Some p → rows' ≡ set rows i (next_taken row.waiting row)
+        → (floor_step (floor_of c j l st rows due) (Take q) ≡ (floor_of c j l st rows' due, Ok (Took (Some p)))) × AllByRecursion (IsFloorRow c j) rows'
     take_some rows' p e is = (
       step_took (Some p) e ∙ answered (changed_at j q i rows row at h.floor.rising (next_taken row.waiting row) (record (watcher_of j row) { taken = take row.taken (follows_all j row) ++ p ∷ [] }) (taken_row p e) refl ∙ ap (map (watcher_of j)) (sym is)),
-      subst (AllByRecursion (IsRow c j)) (sym is) (each_set (next_taken row.waiting row) (subst (λ w. IsRow c j (next_taken w row)) (sym (first_of row.waiting p e)) is_row)),
+      subst (AllByRecursion (IsFloorRow c j)) (sym is) (each_set (next_taken row.waiting row) (subst (λ w. IsFloorRow c j (next_taken w row)) (sym (first_of row.waiting p e)) is_row)),
     )
       where
         answered : put key_of (record (watcher_of j row) { taken = take row.taken (follows_all j row) ++ p ∷ [] }) (map (watcher_of j) rows) ≡ map (watcher_of j) rows'
@@ -180,39 +180,39 @@ module _ (c : ℕ) (j : List Command) (l : ℕ) (st : Bool) (rows : List RowView
             let front = take row.taken (follows_all j row) in
             omega (arith, ap (λ (x : List PostView). length x) f.posted, length-append (front ++ row.waiting) f.not_posted, length-append front row.waiting, taken_count c j row row_is, ap (λ (x : List PostView). length x) (first_of row.waiting p e))
 
-        is_row : IsRow c j (record row { taken = row.taken + 1; waiting = drop 1 row.waiting; room = row.room + 1 })
+        is_row : IsFloorRow c j (record row { taken = row.taken + 1; waiting = drop 1 row.waiting; room = row.room + 1 })
         is_row = record { since = row_is.since; taken = longer; room = omega (arith, row_is.room, ap (λ (x : List PostView). length x) (first_of row.waiting p e)) }
 
-    pub take_last : (rows' : List RowView) → slice_get row.waiting 0 ≡ None → rows' ≡ set rows i (next_taken row.waiting row)
+    pub take_last : (rows' : List FloorRowView) → slice_get row.waiting 0 ≡ None → rows' ≡ set rows i (next_taken row.waiting row)
         → (floor_step (floor_of c j l st rows due) (Take q) ≡ (floor_of c j l st rows' due, nothing_left row.phase)) × (rows' ≡ rows)
     take_last rows' e is =
         let still : rows' ≡ rows = is ∙ ap (λ w. set rows i (next_taken w row)) (none_of row.waiting e) ∙ (λ k. set (at.split k) (at.place k) row) ∙ set_mid at.front at.back row row ∙ sym at.split in
         (step_took None e ∙ ap (λ x. (floor_of c j l st x due, nothing_left row.phase)) (sym still), still)
 
   -- a take, as its search and its rows tell it
-  pub take_given : (q i : ℕ) (rows' : List RowView) (p : PostView) → position_from (is_of q) 0 rows ≡ Some i → ((row : RowView) → slice_get rows i ≡ Some row → Some p ≡ slice_get row.waiting 0)
-      → ((row : RowView) → slice_get rows i ≡ Some row → rows' ≡ set rows i (next_taken row.waiting row))
-      → (floor_step (floor_of c j l st rows due) (Take q) ≡ (floor_of c j l st rows' due, Ok (Took (Some p)))) × AllByRecursion (IsRow c j) rows'
+  pub take_given : (q i : ℕ) (rows' : List FloorRowView) (p : PostView) → position_from (is_of q) 0 rows ≡ Some i → ((row : FloorRowView) → slice_get rows i ≡ Some row → Some p ≡ slice_get row.waiting 0)
+      → ((row : FloorRowView) → slice_get rows i ≡ Some row → rows' ≡ set rows i (next_taken row.waiting row))
+      → (floor_step (floor_of c j l st rows due) (Take q) ≡ (floor_of c j l st rows' due, Ok (Took (Some p)))) × AllByRecursion (IsFloorRow c j) rows'
   take_given q i rows' p e post now =
       let at = found_at q i rows e in
       let got = got_at q i rows at.0 at.1 in
       take_some q i at.0 at.1 rows' p (sym (post at.0 got)) (now at.0 got)
 
-  pub take_empty : (q i : ℕ) (rows' : List RowView) (x : RowView) → position_from (is_of q) 0 rows ≡ Some i → ((row : RowView) → slice_get rows i ≡ Some row → None ≡ slice_get row.waiting 0)
-      → ((row : RowView) → slice_get rows i ≡ Some row → rows' ≡ set rows i (next_taken row.waiting row)) → x ≡ get_or rows' i x
-      → (floor_step (floor_of c j l st rows due) (Take q) ≡ (floor_of c j l st rows' due, nothing_left x.phase)) × AllByRecursion (IsRow c j) rows'
+  pub take_empty : (q i : ℕ) (rows' : List FloorRowView) (x : FloorRowView) → position_from (is_of q) 0 rows ≡ Some i → ((row : FloorRowView) → slice_get rows i ≡ Some row → None ≡ slice_get row.waiting 0)
+      → ((row : FloorRowView) → slice_get rows i ≡ Some row → rows' ≡ set rows i (next_taken row.waiting row)) → x ≡ get_or rows' i x
+      → (floor_step (floor_of c j l st rows due) (Take q) ≡ (floor_of c j l st rows' due, nothing_left x.phase)) × AllByRecursion (IsFloorRow c j) rows'
   take_empty q i rows' x e post now read =
       let at = found_at q i rows e in
       let got = got_at q i rows at.0 at.1 in
       let still = (take_last q i at.0 at.1 rows' (sym (post at.0 got)) (now at.0 got)).1 in
       let there = row_read q i rows x e (read ∙ ap (λ l. get_or l i x) still) in
       let has = got_at q i rows x there in
-      ((take_last q i x there rows' (sym (post x has)) (now x has)).0, subst (AllByRecursion (IsRow c j)) (sym still) h.each)
+      ((take_last q i x there rows' (sym (post x has)) (now x has)).0, subst (AllByRecursion (IsFloorRow c j)) (sym still) h.each)
 
-  pub same_length : (q i : ℕ) (rows' : List RowView) → position_from (is_of q) 0 rows ≡ Some i → ((row : RowView) → slice_get rows i ≡ Some row → rows' ≡ set rows i (next_taken row.waiting row)) → i < length rows'
+  pub same_length : (q i : ℕ) (rows' : List FloorRowView) → position_from (is_of q) 0 rows ≡ Some i → ((row : FloorRowView) → slice_get rows i ≡ Some row → rows' ≡ set rows i (next_taken row.waiting row)) → i < length rows'
   same_length q i rows' e now =
       let at = found_at q i rows e in
-      omega (arith, within_at q i rows at.0 at.1, ap (λ (x : List RowView). length x) (now at.0 (got_at q i rows at.0 at.1)), length-set rows i (next_taken (at.0).waiting at.0))
+      omega (arith, within_at q i rows at.0 at.1, ap (λ (x : List FloorRowView). length x) (now at.0 (got_at q i rows at.0 at.1)), length-set rows i (next_taken (at.0).waiting at.0))
 
 -- the same step, with an equal answer
 pub with_answer : (s : FloorView) (x : Stepped) (a b : Result Answer Fault) → x ≡ (s, a) → a ≡ b → x ≡ (s, b)
@@ -220,17 +220,17 @@ with_answer s x a b e f = e ∙ ap (λ r. (s, r)) f
 
 -- ---- Stop
 
-pub stop_done : (c : ℕ) (j : List Command) (l : ℕ) (st : Bool) (rows rows' : List RowView) (due : List Due) → IsKept c j l st rows due → due ≡ [] → rows' ≡ map ended rows
-    → (floor_step (floor_of c j l st rows due) Stop ≡ (floor_of c j l true rows' due, Ok Halted)) × AllByRecursion (IsRow c j) rows'
+pub stop_done : (c : ℕ) (j : List Command) (l : ℕ) (st : Bool) (rows rows' : List FloorRowView) (due : List Due) → IsKept c j l st rows due → due ≡ [] → rows' ≡ map row_after_stop rows
+    → (floor_step (floor_of c j l st rows due) Stop ≡ (floor_of c j l true rows' due, Ok Halted)) × AllByRecursion (IsFloorRow c j) rows'
 unfolding floor_step
 stop_done c j l st rows rows' due h idle is = (
   ap (λ ds. if_idle ds (floor_of c j l st rows due) (halted (floor_of c j l st rows due))) idle ∙ answered (all_end rows ∙ ap (map (watcher_of j)) (sym is)),
-  subst (AllByRecursion (IsRow c j)) (sym is) (each_map (IsRow c j) (IsRow c j) ended (λ r p. record { since = p.since; taken = p.taken; room = p.room }) rows h.each),
+  subst (AllByRecursion (IsFloorRow c j)) (sym is) (each_map (IsFloorRow c j) (IsFloorRow c j) row_after_stop (λ r p. record { since = p.since; taken = p.taken; room = p.room }) rows h.each),
 )
   where
-    all_end : (rs : List RowView) → map (λ (r : Watcher). record r { phase = cond (is_open r.phase) Ended r.phase }) (map (watcher_of j) rs) ≡ map (watcher_of j) (map ended rs)
+    all_end : (rs : List FloorRowView) → map (λ (r : Watcher). record r { phase = cond (is_open r.phase) Ended r.phase }) (map (watcher_of j) rs) ≡ map (watcher_of j) (map row_after_stop rs)
     all_end [] = refl
-    all_end (r ∷ rs) = ap (λ ws. watcher_of j (ended r) ∷ ws) (all_end rs)
+    all_end (r ∷ rs) = ap (λ ws. watcher_of j (row_after_stop r) ∷ ws) (all_end rs)
 
     answered : map (λ (r : Watcher). record r { phase = cond (is_open r.phase) Ended r.phase }) (map (watcher_of j) rows) ≡ map (watcher_of j) rows' → halted (floor_of c j l st rows due) ≡ (floor_of c j l true rows' due, Ok Halted)
     answered e = λ k. (record { capacity = c; journal = j; next_key = l + 1; stopped = true; watchers = e k; due = due }, Ok Halted)

@@ -7,27 +7,27 @@ use Rattle.mt_skel.specs.Keyed.{row_at, put, rises}
 use Rattle.mt_skel.proofs.MiddleLaws.{row_mid, put_mid, without_mid, set_mid, remove_mid, get_mid}
 use Rattle.mt_book.specs.declared.command.Command.{Command}
 use Rattle.mt_floor.specs.Watcher.{Watcher, key_of}
-use Rattle.mt_floor.specs.Rows.{RowView, watcher_of}
+use Rattle.mt_floor.specs.Rows.{FloorRowView, watcher_of}
 use Rattle.mt_floor.proofs.RowLaws.{is_key, turned}
 
 -- the row of a key, with those before it and those behind it
-pub record IsAt (q i : ℕ) (rows : List RowView) (row : RowView) : Type 0 where
-  pub front : List RowView
-  pub back : List RowView
+pub record IsAt (q i : ℕ) (rows : List FloorRowView) (row : FloorRowView) : Type 0 where
+  pub front : List FloorRowView
+  pub back : List FloorRowView
   pub split : rows ≡ front ++ row ∷ back
   pub place : i ≡ length front
   pub is : row.key ≡ q
 
-abbrev pub is_of : ℕ → RowView → Bool
+abbrev pub is_of : ℕ → FloorRowView → Bool
 is_of q r = eqb r.key q
 
-found_from : (q n i : ℕ) (rows : List RowView) → position_from (is_of q) n rows ≡ Some i → (j : ℕ) × (row : RowView) × (i ≡ n + j) × IsAt q j rows row
+found_from : (q n i : ℕ) (rows : List FloorRowView) → position_from (is_of q) n rows ≡ Some i → (j : ℕ) × (row : FloorRowView) × (i ≡ n + j) × IsAt q j rows row
 found_from q n i [] e = absurd (cc)
 found_from q n i (r ∷ rows) e = by (eqb r.key q) refl e (found_from q (n + 1) i rows)
   where
     by : (b : Bool) → eqb r.key q ≡ b → cond b (Some n) (position_from (is_of q) (n + 1) rows) ≡ Some i
-        → (position_from (is_of q) (n + 1) rows ≡ Some i → (j : ℕ) × (row : RowView) × (i ≡ n + 1 + j) × IsAt q j rows row)
-        → (j : ℕ) × (row : RowView) × (i ≡ n + j) × IsAt q j (r ∷ rows) row
+        → (position_from (is_of q) (n + 1) rows ≡ Some i → (j : ℕ) × (row : FloorRowView) × (i ≡ n + 1 + j) × IsAt q j rows row)
+        → (j : ℕ) × (row : FloorRowView) × (i ≡ n + j) × IsAt q j (r ∷ rows) row
     by true is e ih =
         let same : n ≡ i = cc in
         (0, r, omega (arith, same), record { front = []; back = rows; split = refl; place = refl; is = is_key r.key q is })
@@ -36,34 +36,34 @@ found_from q n i (r ∷ rows) e = by (eqb r.key q) refl e (found_from q (n + 1) 
         let at = f.3 in
         (f.0 + 1, f.1, omega (arith, f.2), record { front = r ∷ at.front; back = at.back; split = ap (λ l. r ∷ l) at.split; place = omega (arith, at.place); is = at.is })
 
-pub found_at : (q i : ℕ) (rows : List RowView) → position_from (is_of q) 0 rows ≡ Some i → (row : RowView) × IsAt q i rows row
+pub found_at : (q i : ℕ) (rows : List FloorRowView) → position_from (is_of q) 0 rows ≡ Some i → (row : FloorRowView) × IsAt q i rows row
 found_at q i rows e =
     let f = found_from q 0 i rows e in
     let same : f.0 ≡ i = omega (arith, f.2) in
     (f.1, subst (λ n. IsAt q n rows f.1) same f.3)
 
-pub got_at : (q i : ℕ) (rows : List RowView) (row : RowView) → IsAt q i rows row → slice_get rows i ≡ Some row
+pub got_at : (q i : ℕ) (rows : List FloorRowView) (row : FloorRowView) → IsAt q i rows row → slice_get rows i ≡ Some row
 got_at q i rows row at = ap (λ l. slice_get l i) at.split ∙ ap (slice_get (at.front ++ row ∷ at.back)) at.place ∙ get_mid at.front at.back row
 
-pub within_at : (q i : ℕ) (rows : List RowView) (row : RowView) → IsAt q i rows row → i < length rows
-within_at q i rows row at = omega (arith, at.place, ap (λ (l : List RowView). length l) at.split, length-append at.front (row ∷ at.back))
+pub within_at : (q i : ℕ) (rows : List FloorRowView) (row : FloorRowView) → IsAt q i rows row → i < length rows
+within_at q i rows row at = omega (arith, at.place, ap (λ (l : List FloorRowView). length l) at.split, length-append at.front (row ∷ at.back))
 
 -- the row that stands there
-pub row_there : (q i : ℕ) (rows : List RowView) (row : RowView) → position_from (is_of q) 0 rows ≡ Some i → slice_get rows i ≡ Some row → IsAt q i rows row
+pub row_there : (q i : ℕ) (rows : List FloorRowView) (row : FloorRowView) → position_from (is_of q) 0 rows ≡ Some i → slice_get rows i ≡ Some row → IsAt q i rows row
 row_there q i rows row e got =
     let f = found_at q i rows e in
-    let two : ◌≡◌ {A = Option RowView} (Some f.0) (Some row) = sym (got_at q i rows f.0 f.1) ∙ got in
+    let two : ◌≡◌ {A = Option FloorRowView} (Some f.0) (Some row) = sym (got_at q i rows f.0 f.1) ∙ got in
     let same : f.0 ≡ row = cc in
     subst (IsAt q i rows) same f.1
 
 -- the one that is read there
-pub row_read : (q i : ℕ) (rows : List RowView) (row : RowView) → position_from (is_of q) 0 rows ≡ Some i → row ≡ get_or rows i row → IsAt q i rows row
+pub row_read : (q i : ℕ) (rows : List FloorRowView) (row : FloorRowView) → position_from (is_of q) 0 rows ≡ Some i → row ≡ get_or rows i row → IsAt q i rows row
 row_read q i rows row e is =
     let f = found_at q i rows e in
     row_there q i rows row e (slice_get_read rows (length rows) i row refl (within_at q i rows f.0 f.1) is)
 
 -- a key without a row has no watcher
-pub no_watcher : (journal : List Command) (q n : ℕ) (rows : List RowView) → position_from (is_of q) n rows ≡ None → row_at key_of q (map (watcher_of journal) rows) ≡ None
+pub no_watcher : (journal : List Command) (q n : ℕ) (rows : List FloorRowView) → position_from (is_of q) n rows ≡ None → row_at key_of q (map (watcher_of journal) rows) ≡ None
 no_watcher journal q n [] e = refl
 no_watcher journal q n (r ∷ rows) e = by (eqb r.key q) refl e (no_watcher journal q (n + 1) rows)
   where
@@ -74,11 +74,11 @@ no_watcher journal q n (r ∷ rows) e = by (eqb r.key q) refl e (no_watcher jour
     by false is e ih = ap (λ b. cond b (Some (watcher_of journal r)) (row_at key_of q (map (watcher_of journal) rows))) (turned r.key q is) ∙ ih e
 
 -- the watchers of rows, around one
-pub watchers_mid : (journal : List Command) (front back : List RowView) (row : RowView)
+pub watchers_mid : (journal : List Command) (front back : List FloorRowView) (row : FloorRowView)
     → map (watcher_of journal) (front ++ row ∷ back) ≡ map (watcher_of journal) front ++ watcher_of journal row ∷ map (watcher_of journal) back
 watchers_mid journal front back row = map-append (watcher_of journal) front (row ∷ back)
 
-module _ (journal : List Command) (q i : ℕ) (rows : List RowView) (row : RowView) (at : IsAt q i rows row) (rising : rises key_of (map (watcher_of journal) rows) ≡ true) where
+module _ (journal : List Command) (q i : ℕ) (rows : List FloorRowView) (row : FloorRowView) (at : IsAt q i rows row) (rising : rises key_of (map (watcher_of journal) rows) ≡ true) where
   mid_rises : rises key_of (map (watcher_of journal) at.front ++ watcher_of journal row ∷ map (watcher_of journal) at.back) ≡ true
   mid_rises = ap (rises key_of) (sym (ap (map (watcher_of journal)) at.split ∙ watchers_mid journal at.front at.back row)) ∙ rising
 
@@ -88,7 +88,7 @@ module _ (journal : List Command) (q i : ℕ) (rows : List RowView) (row : RowVi
       ∙ row_mid key_of (map (watcher_of journal) at.front) (map (watcher_of journal) at.back) (watcher_of journal row) mid_rises
 
   -- a row that changes is put in its place
-  pub changed_at : (new : RowView) (w : Watcher) → watcher_of journal new ≡ w → w.key ≡ row.key → put key_of w (map (watcher_of journal) rows) ≡ map (watcher_of journal) (set rows i new)
+  pub changed_at : (new : FloorRowView) (w : Watcher) → watcher_of journal new ≡ w → w.key ≡ row.key → put key_of w (map (watcher_of journal) rows) ≡ map (watcher_of journal) (set rows i new)
   changed_at new w is same =
       ap (put key_of w) (ap (map (watcher_of journal)) at.split ∙ watchers_mid journal at.front at.back row)
       ∙ put_mid key_of (map (watcher_of journal) at.front) (map (watcher_of journal) at.back) (watcher_of journal row) w same mid_rises
@@ -105,5 +105,5 @@ module _ (journal : List Command) (q i : ℕ) (rows : List RowView) (row : RowVi
       ∙ ap (map (watcher_of journal)) (sym (remove_mid at.front at.back row) ∙ (λ j. remove (sym at.split j) (sym at.place j)))
 
 -- what a search for a key says
-pub sought : (q : ℕ) (rows now : List RowView) (o p : Option ℕ) → now ≡ rows → o ≡ position_from (is_of q) 0 now → o ≡ p → position_from (is_of q) 0 rows ≡ p
+pub sought : (q : ℕ) (rows now : List FloorRowView) (o p : Option ℕ) → now ≡ rows → o ≡ position_from (is_of q) 0 now → o ≡ p → position_from (is_of q) 0 rows ≡ p
 sought q rows now o p same is what = ap (position_from (is_of q) 0) (sym same) ∙ sym is ∙ what

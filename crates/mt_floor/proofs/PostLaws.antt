@@ -12,7 +12,7 @@ use Rattle.mt_floor.specs.declared.event.Event.TheVariants.{PostNext}
 use Rattle.mt_floor.specs.declared.event.Answer.TheVariants.{Posted, NotNow}
 use Rattle.mt_floor.specs.Watcher.{Due, key_of}
 use Rattle.mt_floor.specs.Schedule.{floor_step, sent_to, is_full, posted}
-use Rattle.mt_floor.specs.Rows.{RowView, with_post, lagged, watcher_of, floor_of, IsRow, IsKept}
+use Rattle.mt_floor.specs.Rows.{FloorRowView, with_post, lagged, watcher_of, floor_of, IsFloorRow, IsKept}
 use Rattle.mt_floor.proofs.RowLaws.{same_key}
 use Rattle.mt_floor.proofs.PlaceLaws.{IsAt, is_of, found_at, got_at, changed_at, no_watcher}
 use Rattle.mt_floor.proofs.KeptLaws.{full_is, row_is, each_set, found}
@@ -20,7 +20,7 @@ use Rattle.mt_floor.proofs.KeptLaws.{full_is, row_is, each_set, found}
 abbrev first_for : List Due → Option ℕ
 first_for due = option_map (λ (d : Due). d.key) (slice_get due 0)
 
-module _ (c : ℕ) (j : List Command) (l : ℕ) (st : Bool) (rows : List RowView) (due : List Due) (h : IsKept c j l st rows due) where
+module _ (c : ℕ) (j : List Command) (l : ℕ) (st : Bool) (rows : List FloorRowView) (due : List Due) (h : IsKept c j l st rows due) where
   pub post_none : first_for due ≡ None → floor_step (floor_of c j l st rows due) PostNext ≡ (floor_of c j l st rows due, Ok NotNow)
   unfolding floor_step
   post_none e = by due e
@@ -43,10 +43,10 @@ module _ (c : ℕ) (j : List Command) (l : ℕ) (st : Bool) (rows : List RowView
   pub room_at : (q i : ℕ) → position_from (is_of q) 0 rows ≡ Some i → IfSome (slice_get rows i) (λ row. c ≤ length row.waiting + row.room)
   room_at q i e =
       let at = found_at q i rows e in
-      subst (λ o. IfSome o (λ (row : RowView). c ≤ length row.waiting + row.room)) (sym (got_at q i rows at.0 at.1)) (row_is c j l st rows due h q i at.0 at.1).room
+      subst (λ o. IfSome o (λ (row : FloorRowView). c ≤ length row.waiting + row.room)) (sym (got_at q i rows at.0 at.1)) (row_is c j l st rows due h q i at.0 at.1).room
 
-  module _ (q i : ℕ) (row : RowView) (at : IsAt q i rows row) (d : Due) (ds : List Due) (same : d.key ≡ q) where
-    sent_row : (b : Bool) → nat_le c (length row.waiting) ≡ b → IsRow c j (cond b (lagged row) (with_post row d.post))
+  module _ (q i : ℕ) (row : FloorRowView) (at : IsAt q i rows row) (d : Due) (ds : List Due) (same : d.key ≡ q) where
+    sent_row : (b : Bool) → nat_le c (length row.waiting) ≡ b → IsFloorRow c j (cond b (lagged row) (with_post row d.post))
     sent_row true e = let r = row_is c j l st rows due h q i row at in record { since = r.since; taken = r.taken; room = r.room }
     sent_row false e =
         let r = row_is c j l st rows due h q i row at in
@@ -75,16 +75,16 @@ module _ (c : ℕ) (j : List Command) (l : ℕ) (st : Bool) (rows : List RowView
             → sent_to (floor_of c j l st rows due) d ds false (watcher_of j row) ≡ (floor_of c j l st (set rows i (with_post row d.post)) ds, Ok (Posted q false))
         both a = λ k. (record { capacity = c; journal = j; next_key = l + 1; stopped = st; watchers = a k; due = ds }, Ok (Posted (same k) false))
 
-  pub post_some : (q i : ℕ) (rows' : List RowView) (due' : List Due) (b : Bool) → first_for due ≡ Some q → position_from (is_of q) 0 rows ≡ Some i
-      → ((row : RowView) → slice_get rows i ≡ Some row → b ≡ nat_le c (length row.waiting))
-      → ((row : RowView) (d : Due) → slice_get rows i ≡ Some row → slice_get due 0 ≡ Some d → rows' ≡ set rows i (cond b (lagged row) (with_post row d.post)))
+  pub post_some : (q i : ℕ) (rows' : List FloorRowView) (due' : List Due) (b : Bool) → first_for due ≡ Some q → position_from (is_of q) 0 rows ≡ Some i
+      → ((row : FloorRowView) → slice_get rows i ≡ Some row → b ≡ nat_le c (length row.waiting))
+      → ((row : FloorRowView) (d : Due) → slice_get rows i ≡ Some row → slice_get due 0 ≡ Some d → rows' ≡ set rows i (cond b (lagged row) (with_post row d.post)))
       → due' ≡ cond b (filter (λ (e : Due). not (eqb e.key q)) due) (drop 1 due)
-      → (floor_step (floor_of c j l st rows due) PostNext ≡ (floor_of c j l st rows' due', Ok (Posted q b))) × AllByRecursion (IsRow c j) rows'
+      → (floor_step (floor_of c j l st rows due) PostNext ≡ (floor_of c j l st rows' due', Ok (Posted q b))) × AllByRecursion (IsFloorRow c j) rows'
   unfolding floor_step
   post_some q i rows' due' b e place full sets left = by due refl e left
     where
       by : (ds : List Due) → due ≡ ds → first_for ds ≡ Some q → due' ≡ cond b (filter (λ (e : Due). not (eqb e.key q)) ds) (drop 1 ds)
-          → (posted (floor_of c j l st rows due) ds ≡ (floor_of c j l st rows' due', Ok (Posted q b))) × AllByRecursion (IsRow c j) rows'
+          → (posted (floor_of c j l st rows due) ds ≡ (floor_of c j l st rows' due', Ok (Posted q b))) × AllByRecursion (IsFloorRow c j) rows'
       by [] is f g = absurd (let bad : ◌≡◌ {A = Option ℕ} None (Some q) = f in cc)
       by (d ∷ ds) is f g =
           let same : d.key ≡ q = cc in
@@ -98,5 +98,5 @@ module _ (c : ℕ) (j : List Command) (l : ℕ) (st : Bool) (rows : List RowView
                 ∙ ap (λ x. sent_to (floor_of c j l st rows due) d ds x (watcher_of j row)) filled
                 ∙ sent q i row at.1 d ds same b
                 ∙ (λ k. (floor_of c j l st (sym now k) (sym g k), Ok (Posted q b))),
-            subst (AllByRecursion (IsRow c j)) (sym now) (each_set c j l st rows due h q i row at.1 (cond b (lagged row) (with_post row d.post)) (sent_row q i row at.1 d ds same b (sym (full row got)))),
+            subst (AllByRecursion (IsFloorRow c j)) (sym now) (each_set c j l st rows due h q i row at.1 (cond b (lagged row) (with_post row d.post)) (sent_row q i row at.1 d ds same b (sym (full row got)))),
           )

@@ -5,7 +5,7 @@ ghost use Rattle.std.specs.Option.{option_map};
 ghost use Rattle.std.specs.Arc.{arc_value};
 ghost use Rattle.mt_floor.specs.Rows.{due_if};
 
-use crate::row::Row;
+use crate::row::FloorRow;
 use crate::watch::WatchKey;
 use mt_events::post::Post;
 use mt_skel::fault::Fault;
@@ -47,7 +47,7 @@ impl DuePost {
 }
 
 /// Appends what is due of a post to a watcher, if it follows the post. Refused as `NoMemory` alone.
-fn push_due(due: &mut Vec<DuePost>, post: &Arc<Post>, row: &Row) -> Result<(), Fault>
+fn push_due(due: &mut Vec<DuePost>, post: &Arc<Post>, row: &FloorRow) -> Result<(), Fault>
     ensures due { OnOk result (due.new.items ≡ due.old.items ++ due_if (arc_value post.now) row.now) }
     ensures memory { IsOkUnless result Fault.NoMemory }
 {
@@ -62,7 +62,7 @@ fn push_due(due: &mut Vec<DuePost>, post: &Arc<Post>, row: &Row) -> Result<(), F
 }
 
 /// Appends what is due of a post, by keys. Refused as `NoMemory` alone.
-fn push_post(due: &mut Vec<DuePost>, post: &Arc<Post>, rows: &[Row]) -> Result<(), Fault>
+fn push_post(due: &mut Vec<DuePost>, post: &Arc<Post>, rows: &[FloorRow]) -> Result<(), Fault>
     ensures due { OnOk result (due.new.items ≡ due.old.items ++ flat_map (due_if (arc_value post.now)) rows.now) }
     ensures memory { IsOkUnless result Fault.NoMemory }
 {
@@ -76,7 +76,7 @@ fn push_post(due: &mut Vec<DuePost>, post: &Arc<Post>, rows: &[Row]) -> Result<(
 pub(crate) fn due_of(
     alloc: Global,
     posts: &[Arc<Post>],
-    rows: &[Row],
+    rows: &[FloorRow],
 ) -> Result<VecDeque<DuePost>, Fault>
     ensures due { IfOk result (λ due. due.items ≡ flat_map (λ p. flat_map (due_if (arc_value p)) rows.now) posts.now) }
     ensures memory { IsOkUnless result Fault.NoMemory }

@@ -5,7 +5,7 @@ ghost use Rattle.mt_floor.specs.Schedule.{empty_floor, floor_step, run, settled,
 use crate::due::{DuePost, due_of, first_key};
 use crate::event::{Answer, Event};
 use crate::finding::{found, opening_refusal};
-use crate::row::{Row, is_heard};
+use crate::row::{FloorRow, is_heard};
 use crate::rows::{end_all, place_of, post_at, take_at};
 use crate::watch::{Phase, WatchKey};
 use mt_book::book::Book;
@@ -29,7 +29,7 @@ pub struct Floor {
     book: Book,
     last_key: WatchKey,
     stopped: bool,
-    rows: Vec<Row>,
+    rows: Vec<FloorRow>,
     due: VecDeque<DuePost>,
     alloc: Global,
 }
@@ -176,7 +176,7 @@ impl Floor {
         self.rows.reserve(1)?;
         let key = self.last_key + 1;
         let since = self.book.journal().len();
-        let row = Row::new(self.alloc, key, scope, since, self.capacity)?;
+        let row = FloorRow::new(self.alloc, key, scope, since, self.capacity)?;
         let opening = found(self.alloc, &self.book, scope)?;
         self.rows.push(row).unwrap();
         self.last_key = key;

@@ -4,7 +4,7 @@ ghost use Rattle.std.specs.List.{list_any};
 ghost use Rattle.std.specs.Option.{option_map};
 ghost use Rattle.std.specs.Arc.{arc_value};
 ghost use Rattle.mt_floor.specs.Watcher.{is_open};
-ghost use Rattle.mt_floor.specs.Rows.{RowView, new_row, with_post, lagged, ended, next_taken, row_follows};
+ghost use Rattle.mt_floor.specs.Rows.{FloorRowView, new_row, with_post, lagged, row_after_stop, next_taken, row_follows};
 
 use crate::watch::{Meeting, Phase, WatchKey};
 use mt_events::opening::Scope;
@@ -19,7 +19,7 @@ use std::sync::Arc;
 /// A watcher: how many commands were accepted before it began, how many posts it has taken, and those that were
 /// sent and not taken. There is room for as many posts as its queue may hold.
 #[derive(Drop)]
-pub(crate) struct Row {
+pub(crate) struct FloorRow {
     key: WatchKey,
     scope: Scope,
     since: usize,
@@ -28,18 +28,18 @@ pub(crate) struct Row {
     phase: Phase,
 }
 
-impl Model for Row {
+impl Model for FloorRow {
     ghost use Rattle.std.specs.Prelude.{◌-◌, map};
     ghost use Rattle.std.specs.VecDeque.{deque_capacity, deque_len};
     ghost use Rattle.std.specs.Arc.{arc_value};
-    ghost use Rattle.mt_floor.specs.Rows.{RowView};
+    ghost use Rattle.mt_floor.specs.Rows.{FloorRowView};
 
-    ghost Value = { RowView };
+    ghost Value = { FloorRowView };
 
     ghost view = { λ r. record { key = r.key; scope = r.scope; since = r.since; taken = r.taken; waiting = map (λ p. arc_value p) r.queue.items; room = deque_capacity r.queue - deque_len r.queue; phase = r.phase } };
 }
 
-impl Row {
+impl FloorRow {
     /// A watcher that begins now, with room for this many posts. Refused as `NoMemory` alone.
     pub(crate) fn new(
         alloc: Global,
@@ -47,12 +47,12 @@ impl Row {
         scope: Scope,
         since: usize,
         capacity: usize,
-    ) -> Result<Row, Fault>
+    ) -> Result<FloorRow, Fault>
         ensures row { IfOk result (λ row. row ≡ new_row key scope since capacity) }
         ensures memory { IsOkUnless result Fault.NoMemory }
     {
         let queue = VecDeque::with_capacity(alloc, capacity)?;
-        Ok(Row {
+        Ok(FloorRow {
             key,
             scope,
             since,
@@ -122,7 +122,7 @@ impl Row {
 
     /// Sends it nothing any more, since the server has stopped.
     pub(crate) fn end(&mut self)
-        ensures { self.new ≡ ended self.old }
+        ensures { self.new ≡ row_after_stop self.old }
     {
         self.phase.end();
     }
@@ -159,8 +159,8 @@ impl Row {
 }
 
 /// Whether a watcher among these is open, so that somebody asks for posts.
-pub(crate) fn is_heard(rows: &[Row]) -> bool
-    ensures { result ≡ list_any (λ (r : RowView). is_open r.phase) rows.now }
+pub(crate) fn is_heard(rows: &[FloorRow]) -> bool
+    ensures { result ≡ list_any (λ (r : FloorRowView). is_open r.phase) rows.now }
 {
     'rows: for row in rows {
         if matches!(row.phase, Phase::Open) {

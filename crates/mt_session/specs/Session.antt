@@ -67,9 +67,9 @@ abbrev pub answer_of : SessionState → Result Request Fault → List ℕ
 answer_of state (Ok r) = answer_to state r
 answer_of state (Err f) = refusal f
 
-abbrev pub state_of : SessionState → Result Request Fault → SessionState
-state_of state (Ok r) = state_to state r
-state_of state (Err f) = state
+abbrev pub granted_state : SessionState → Result Request Fault → SessionState
+granted_state state (Ok r) = state_to state r
+granted_state state (Err f) = state
 
 -- the answer, and the state after it: a refused growth changes nothing, but that a watcher may have been given a key
 abbrev pub answer_with : SessionState → Growth → Result Request Fault → List ℕ
@@ -78,9 +78,9 @@ answer_with state Refused r = if may_fail state r then refusal WantsMemory else 
 answer_with state Unshown r = if may_be_unshown state r then refusal WantsMemory else answer_of state r
 
 abbrev pub state_with : SessionState → Growth → Result Request Fault → SessionState
-state_with state Granted r = state_of state r
-state_with state Refused r = if may_fail state r then state else state_of state r
-state_with state Unshown r = if may_be_unshown state r then left (state_of state r) else state_of state r
+state_with state Granted r = granted_state state r
+state_with state Refused r = if may_fail state r then state else granted_state state r
+state_with state Unshown r = if may_be_unshown state r then left (granted_state state r) else granted_state state r
 
 -- the text that answers a line, and the state after it
 unfoldable pub answer : SessionState → Turn → List ℕ

@@ -4,7 +4,7 @@ use Rattle.mt_skel.specs.declared.fault.Fault.TheVariants.{NoWatcher}
 use Rattle.mt_floor.specs.declared.event.Event.TheVariants.{Take}
 use Rattle.mt_floor.specs.declared.event.Answer.TheVariants.{Took}
 use Rattle.mt_floor.specs.Schedule.{FloorView, floor_step, nothing_left}
-use Rattle.mt_floor.specs.Rows.{RowView, floor_of}
+use Rattle.mt_floor.specs.Rows.{FloorRowView, floor_of}
 use Rattle.mt_floor.proofs.floor.Floor.take.Goals.{in-Some-take_at, in-None}
 use Rattle.mt_floor.proofs.PlaceLaws.{sought, found_at, got_at, within_at}
 use Rattle.mt_floor.proofs.KeptLaws.{take_none, take_given, take_empty, same_length, few, kept_after, with_answer}
@@ -29,7 +29,7 @@ take_at-requires-clause-count c =
     let place = sought c.args.key f.rows.items c.deref.result.now c.place_of.result (Some c.in-Some.place) c.deref.ensures.value c.place_of.ensures c.in-Some.is in
     let at = found_at c.args.key c.in-Some.place f.rows.items place in
     let count : (at.0).taken + 1 < 2 ^ 64 = omega (arith, few f.capacity f.book.journal f.last_key f.stopped f.rows.items f.due.items c.self.invariant c.args.key c.in-Some.place at.0 at.1) in
-    subst (λ o. IfSome o (λ (row : RowView). row.taken + 1 < 2 ^ 64)) (sym (got_at c.args.key c.in-Some.place f.rows.items at.0 at.1)) count
+    subst (λ o. IfSome o (λ (row : FloorRowView). row.taken + 1 < 2 ^ 64)) (sym (got_at c.args.key c.in-Some.place f.rows.items at.0 at.1)) count
 
 pub index-requires : goal.index-requires
 index-requires c =

@@ -1,4 +1,4 @@
-use Rattle.mt_desk.proofs.row.Row.new.Given as goal
+use Rattle.mt_desk.proofs.row.PlacedRow.new.Given as goal
 
 -- the key tells the opening
 abbrev pub ghosts-open_line : goal.ghosts-open_line
