@@ -27,6 +27,10 @@ MOST_INTERRUPTIONS = 1_000
 # Cases of more output are not written byte by byte.
 MOST_OUTPUT = 20_000
 
+# A session whose last answer is a table, and what is left of that answer where so many bytes of it can be written.
+TABLE = b"mkfs a tmpfs none\nmkfs d ext4 /dev/x\nmkdir a /m\nnewns a\nmount 1 d /m\nwatch 1\nshow 1\n"
+LEFT = {7: b"ok 2 2\n", 9: b"ok 2 2\n1 "}
+
 ALWAYS = -1
 TAKES_NOTHING = 0
 READ_FAULT = 1, b"mountd: read fault\n"
@@ -101,6 +105,15 @@ def check_each_write(faulty):
     faulty.check_whole("a write that would fail behind all bytes", found)
 
 
+def check_table_cut(program, folder):
+    """A table whose writing fails within it: what went out of it, by hand."""
+    faulty = Faulty(program, TABLE, folder)
+    before = len(faulty.answered(TABLE.index(b"show")))
+    for count, left in LEFT.items():
+        found = faulty.run("FAIL_WRITE", errno.EIO, behind=before + count)
+        faulty.check_cut(f"a table cut behind {count} bytes", found, faulty.output[:before] + left, WRITE_FAULT)
+
+
 def check_each_read(faulty):
     """Each read of the input, of one byte, fails."""
 
@@ -142,6 +155,7 @@ def check_faults(program):
         check_interrupted(faulty, "FAIL_WRITE", faulty.output, b"space 2", lambda behind: faulty.output[:behind], WRITE_FAULT)
         check_interrupted(faulty, "FAIL_READ", faulty.text, b"watch all", faulty.answered, READ_FAULT)
         check_each_write(faulty)
+        check_table_cut(program, folder)
         check_each_read(faulty)
         print(f"a fault at each of {len(faulty.text)} bytes read and {len(faulty.output)} written")
         check_single_bytes(program, folder)

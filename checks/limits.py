@@ -4,7 +4,11 @@ The proofs say of each call where its limit is. This says that the program is bu
 limits, that a real machine gets there, and that a refused command leaves the tables and numbers of
 all namespaces as they were.
 """
-from running import answer_groups, check, session, shown
+import subprocess
+import tempfile
+
+import cases
+from running import MOST_SECONDS, answer_groups, check, session, shown
 
 FILESYSTEMS = 256
 DIRECTORIES = 16_384
@@ -12,6 +16,10 @@ DEPTH = 32
 NAMESPACES = 64
 MOUNTS = 4_096
 COMMANDS = 1_048_576
+LINES = 16_777_216
+
+# How many answers are compared at once.
+BLOCK = 1 << 16
 
 
 def answers(program, lines, name):
@@ -193,6 +201,24 @@ def mounts(program):
     check(f"{MOUNTS} mounts in all tables", rows == MOUNTS, str(rows))
 
 
+def peers_at_the_limit(program):
+    """What the case of too many mounts refuses, with one place left and with none, changes none of its four tables."""
+    shows = [b"show %d" % space for space in range(1, 5)]
+    lines, refused, rows = [], [], []
+    for turn in cases.load("too-many-mounts").turns:
+        is_refused = turn.answers == [b"no TooMany"]
+        around = shows if is_refused else []
+        if is_refused:
+            refused.append(len(lines) + len(around))
+        lines += [*around, turn.sent().removesuffix(b"\n"), *around]
+    found = answers(program, lines, "too many mounts")
+    for at in refused:
+        before, behind = found[at - len(shows) : at], found[at + 1 : at + 1 + len(shows)]
+        check(f"tables around {shown(lines[at])}, which is refused", before == behind and found[at] == b"no TooMany")
+        rows.append(sum(answer.count(b"\n") for answer in behind))
+    check("mounts in these tables", rows == [MOUNTS - 1, MOUNTS], str(rows))
+
+
 def commands(program):
     """Behind the last command each other one is refused as JournalFull before its own refusals; a
     faulty line is refused for its fault, and tables are shown."""
@@ -233,6 +259,20 @@ def commands(program):
     check_turns(program, turns, f"{COMMANDS} commands")
 
 
+def lines(program):
+    """A session ends behind as many lines as it may have, and each of them is answered."""
+    block = b"no BadLine\n" * BLOCK
+    with tempfile.TemporaryFile() as text, tempfile.TemporaryFile() as output:
+        text.write(b"\n" * LINES + b"show 1\nquit\n")
+        text.seek(0)
+        words, pipe = [program, "-"], subprocess.PIPE
+        done = subprocess.run(words, stdin=text, stdout=output, stderr=pipe, timeout=MOST_SECONDS, check=False)
+        output.seek(0)
+        blocks = sum(output.read(len(block)) == block for _ in range(LINES // BLOCK))
+        found = done.returncode, done.stderr, blocks, output.read(100)
+    check(f"{LINES} lines", found == (1, b"mountd: too many lines\n", LINES // BLOCK, b""), repr(found))
+
+
 def check_limits(program):
-    for limit in (filesystems, directories, depth, namespaces, mounts, commands):
+    for limit in (filesystems, directories, depth, namespaces, mounts, peers_at_the_limit, commands, lines):
         limit(program)
