@@ -216,33 +216,6 @@ def check_refused(program, mountctl):
         check("mountctl without memory: the server's end", ended == (0, b""), repr(ended))
 
 
-# Words, the request that they send, what a server of no worth writes to it, and how much of that is printed.
-NO_ANSWERS = (
-    ("show 1", b"show 1", b"ok 1 1\nnonsense\n", 7),
-    ("show 1", b"show 1", b"no Such\n", 0),
-    ("newns a", b"newns a", b"ok\n", 0),
-    ("take 1", b"take 1", b"ok 2\nevent 1 1 1\n- 2 2\n", 5),
-    ("follow 1", b"follow 1", b"event 1 1 1\n- 2\nok 2\n", 16),
-    ("tree", b"watch all", b"ok 2\nspace 1 1 1\nnonsense\n", 0),
-    ("tree", b"watch all", b"ok 2\nspace 2 1 0\nspace 1 1 0\n", 0),
-    ("tree 1", b"watch 1", b"ok 1\nspace 2 1 0\n", 0),
-    ("dot", b"watch all", b"ok 2\nspace 1 1 0\n", 0),
-)
-
-
-def check_no_answers(mountctl):
-    """What is no answer to a request is a connection fault, and is not printed."""
-    with Door() as door:
-        for asked_for, request, answer, printed in NO_ANSWERS:
-            words = [mountctl, door.path, *asked_for.split()]
-            with subprocess.Popen(words, stdout=subprocess.PIPE, stderr=subprocess.PIPE) as client:
-                asked = door.answers(answer)
-                found = client.communicate(timeout=MOST_SECONDS)
-            check(f"mountctl {asked_for}, and {answer!r}: its line", asked == request + b"\n", repr(asked))
-            wanted = (3, (answer[:printed], b"mountctl: connection fault\n"))
-            check(f"mountctl {asked_for}, and {answer!r}", (client.returncode, found) == wanted, repr(found))
-
-
 # What a mirror of namespace 1 prints once the group of its slave's master has no mount there any more.
 RETOLD = b"""ok 3 9
 1 1 0:1 / / rw,relatime - tmpfs none rw

@@ -6,7 +6,7 @@ Usage: checks/server.py MOUNTD [MOUNTCTL] [--seconds N]
 A plain client speaks with servers that are started here, each in a folder of its own: the cases,
 sockets that cannot be made, accepts that fail, the limit of sessions, a stop (stopping.py), clients that are
 gone or do not read, many connections, allocations that are refused (wanting.py), and then 32 sessions at once for
-N seconds, 20 if not said (soak.py). With MOUNTCTL that program is checked too (clients.py, pictures.py, telling.py), the cases are
+N seconds, 20 if not said (soak.py). With MOUNTCTL that program is checked too (clients.py, answering.py, pictures.py, telling.py), the cases are
 sent as its scripts, tables are imported (importing.py), and a quarter of the 32 sessions are its mirrors.
 """
 import argparse
@@ -21,11 +21,11 @@ import threading
 import time
 
 import cases
+from answering import check_answers
 from clients import (
     check_client,
     check_closed,
     check_comments,
-    check_no_answers,
     check_refused,
     check_retold,
     check_scripts,
@@ -323,7 +323,7 @@ def check_server(program, seconds, mountctl, only):
         parts["closed"] = lambda program: check_closed(mountctl)
         parts["comments"] = lambda program: check_comments(program, mountctl)
         parts["refused"] = lambda program: check_refused(program, mountctl)
-        parts["no answers"] = lambda program: check_no_answers(mountctl)
+        parts["answers"] = lambda program: check_answers(mountctl)
         parts["retold"] = lambda program: check_retold(program, mountctl)
         parts["pictures"] = lambda program: check_pictures(program, mountctl)
         parts["telling"] = lambda program: check_telling(program, mountctl)

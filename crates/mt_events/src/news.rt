@@ -1,10 +1,10 @@
 //! Whether the table of a namespace changed, where nobody asks how: no row is made but to compare it.
-ghost use Rattle.std.specs.Prelude.{◌≡◌, not, IfOk, IsOkUnless, IsTrue, is_some};
+ghost use Rattle.std.specs.Prelude.{◌≡◌, not, true, IfOk, IsOkUnless, IsTrue, is_some};
 ghost use Rattle.std.specs.List.{list_any};
-ghost use Rattle.mt_skel.specs.Keyed.{rises};
+ghost use Rattle.mt_skel.specs.Keyed.{has, rises};
 ghost use Rattle.mt_propagate.specs.World.{world_view};
 ghost use Rattle.mt_propagate.specs.WellFormed.{IsWellFormed};
-ghost use Rattle.mt_info.specs.Table.{table_of};
+ghost use Rattle.mt_info.specs.Table.{row_id, table_of};
 ghost use Rattle.mt_events.specs.Difference.{difference, is_empty, HoldsChanged};
 ghost use Rattle.mt_events.specs.Posts.{itself};
 ghost use Rattle.mt_events.specs.ByMount.{new_row, is_news};
@@ -16,8 +16,8 @@ use mt_propagate::seen::SeenGroups;
 use mt_propagate::world::World;
 use mt_skel::fault::Fault;
 
-/// Whether the row of a mount is new after, or not as it was. Refused as `NoMemory` alone.
-fn is_new(
+/// Whether the row of a mount that is in the namespace after is not as it was. Refused as `NoMemory` alone.
+fn has_other_row(
     before: &mut SeenGroups<'_>,
     after: &mut SeenGroups<'_>,
     space: SpaceId,
@@ -25,16 +25,13 @@ fn is_new(
 ) -> Result<bool, Fault>
     requires before { IsWellFormed (world_view before.old) }
     requires after { IsWellFormed (world_view after.old) }
+    requires there { has row_id id (table_of (world_view after.old) space) ≡ true }
     ensures new { IfOk result (λ new. new ≡ is_some (new_row (table_of (world_view before.old) space) (table_of (world_view after.old) space) id)) }
     ensures before_kept { before.new ≡ before.old }
     ensures after_kept { after.new ≡ after.old }
     ensures memory { IsOkUnless result Fault.NoMemory }
 {
-    let is_there = is_in(after.world(), space, id);
-    if !is_in(before.world(), space, id) {
-        return Ok(is_there);
-    }
-    if is_there && is_other(before.world(), after.world(), id) {
+    if is_other(before.world(), after.world(), id) {
         return Ok(true);
     }
     Ok(new_row(before, after, space, id)?.is_some())
@@ -54,10 +51,15 @@ fn is_news(
     ensures after_kept { after.new ≡ after.old }
     ensures memory { IsOkUnless result Fault.NoMemory }
 {
-    if is_in(before.world(), space, id) && !is_in(after.world(), space, id) {
+    let was_there = is_in(before.world(), space, id);
+    let is_there = is_in(after.world(), space, id);
+    if !was_there {
+        return Ok(is_there);
+    }
+    if !is_there {
         return Ok(true);
     }
-    is_new(before, after, space, id)
+    has_other_row(before, after, space, id)
 }
 
 /// Whether any of these mounts left the namespace, or has a row that is new or not as it was.

@@ -40,71 +40,6 @@ event 2 2 1
 = 4 2 0:2 / /m rw,relatime shared:2 - ext4 /dev/x rw
 ";
 
-/// A shared mount without peers that is made a slave, and once more.
-const REPEATED: &[u8] = b"> setattr 1 / prop=shared
-ok
-event 1 2 1
-= 1 1 0:1 / / rw,relatime shared:1 - tmpfs none rw
-> setattr 1 / prop=slave
-ok
-event 1 3 1
-= 1 1 0:1 / / rw,relatime - tmpfs none rw
-> setattr 1 / prop=slave
-ok
-";
-
-/// A mount that comes to a place in a slave namespace where a mount stands, and goes again.
-const SLID: &[u8] = b"> setattr 1 / prop=shared
-ok
-event 1 2 1
-= 1 1 0:1 / / rw,relatime shared:1 - tmpfs none rw
-> copyns 1
-ok 2
-event 2 1 1
-= 2 2 0:1 / / rw,relatime shared:1 - tmpfs none rw
-> setattr 2 / prop=slave
-ok
-event 2 2 1
-= 2 2 0:1 / / rw,relatime master:1 - tmpfs none rw
-> mount 2 d /m
-ok 3
-event 2 3 1
-= 3 2 0:2 / /m rw,relatime - ext4 /dev/x rw
-> mount 1 d /m
-ok 4
-event 1 3 1
-= 4 1 0:2 / /m rw,relatime shared:2 - ext4 /dev/x rw
-event 2 4 2
-= 3 5 0:2 / /m rw,relatime - ext4 /dev/x rw
-= 5 2 0:2 / /m rw,relatime master:2 - ext4 /dev/x rw
-> umount 1 /m
-ok
-event 1 4 1
-- 4
-event 2 5 2
-- 5
-= 3 2 0:2 / /m rw,relatime - ext4 /dev/x rw
-";
-
-/// A change of three mounts at once.
-const CHANGED_BELOW: &[u8] = b"> mkdir a /n
-ok
-> mount 1 d /m
-ok 2
-event 1 2 1
-= 2 1 0:2 / /m rw,relatime - ext4 /dev/x rw
-> mount 1 d /n
-ok 3
-event 1 3 1
-= 3 1 0:2 / /n rw,relatime - ext4 /dev/x rw
-> setattr 1 / rec set=ro
-ok
-event 1 4 3
-= 1 1 0:1 / / ro,relatime - tmpfs none rw
-= 2 1 0:2 / /m ro,relatime - ext4 /dev/x rw
-= 3 1 0:2 / /n ro,relatime - ext4 /dev/x rw
-";
-
 /// A mount that is done after it was prepared and dropped.
 const MOUNTED: &[u8] = b"> mount 1 d /m
 ok 2
@@ -136,45 +71,11 @@ fn is_played_behind_start(alloc: Global, book: &mut Book, text: &[u8]) -> Result
     Ok(started && told.as_slice() == text)
 }
 
-/// Whether a new book does so.
-fn is_played(alloc: Global, text: &[u8]) -> Result<bool, Fault> {
-    let mut book = Book::new(alloc);
-    is_played_behind_start(alloc, &mut book, text)
-}
-
 #[test]
 fn commands_run_one_after_another(rt: HostRuntime) -> Result<(), Fail> {
     let mut book = Book::new(rt.alloc());
     let started = is_started(rt.alloc(), &mut book)?;
     assert!(rt; started);
-    Ok(())
-}
-
-#[test]
-fn copies_are_told_of_too(rt: HostRuntime) -> Result<(), Fail> {
-    let good = is_played(rt.alloc(), COPIED)?;
-    assert!(rt; good);
-    Ok(())
-}
-
-#[test]
-fn no_post_without_a_change(rt: HostRuntime) -> Result<(), Fail> {
-    let good = is_played(rt.alloc(), REPEATED)?;
-    assert!(rt; good);
-    Ok(())
-}
-
-#[test]
-fn mounts_that_make_way_are_told_of(rt: HostRuntime) -> Result<(), Fail> {
-    let good = is_played(rt.alloc(), SLID)?;
-    assert!(rt; good);
-    Ok(())
-}
-
-#[test]
-fn changed_trees_give_one_post(rt: HostRuntime) -> Result<(), Fail> {
-    let good = is_played(rt.alloc(), CHANGED_BELOW)?;
-    assert!(rt; good);
     Ok(())
 }
 

@@ -5,13 +5,13 @@ use Rattle.std.specs.Option.{option_map, option_map_or, option_and_then, is_none
 use Rattle.std.proofs.lemmas.Bool.Decides.{nat_tests}
 use Rattle.mt_skel.specs.Keyed.{row_at, rises}
 use Rattle.mt_skel.proofs.KeyedLaws.{row_at-below, row_at-filter, rises-filter, passing}
-use Rattle.mt_lists.specs.Lists.{ListRow, first, number_at, next_of, ids, above}
+use Rattle.mt_lists.specs.Lists.{ListRow, first, ids}
 use Rattle.mt_lists.specs.Numbered.{rows_by, has_number}
-use Rattle.mt_lists.proofs.NumberedLaws.{ids-by, row-by}
+use Rattle.mt_lists.proofs.NumberedLaws.{ids-by}
 use Rattle.mt_mounts.specs.declared.mount.Place.{Place}
 use Rattle.mt_mounts.specs.declared.mount.Mount.{Mount}
 use Rattle.mt_mounts.specs.declared.indexes.Indexes.{Indexes}
-use Rattle.mt_mounts.specs.Forest.{id_of, mount_at, stands_on, children, next_child, parent, in_space, mounts_in, next_in, is_root, root_mount, roots}
+use Rattle.mt_mounts.specs.Forest.{id_of, mount_at, stands_on, children, in_space, mounts_in, is_root, root_mount, roots}
 use Rattle.mt_mounts.specs.Indexes.{parent_of, space_of, rooted_in, IsIndexed}
 use Rattle.mt_mounts.specs.Slots.{mounts_of}
 use Rattle.mt_mounts.proofs.ForestLaws.{find_row}
@@ -34,17 +34,6 @@ first_found t (m ∷ ms) = go (t m) (first_found t ms)
 
 numbered_as : (number : Mount → Option ℕ) (t : ℕ → Mount → Bool) → ((n : ℕ) (m : Mount) → has_number id_of number n m ≡ t n m) → (ms : List Mount) (rows : List ListRow) → rows ≡ rows_by id_of number ms → (n : ℕ) → ids rows n ≡ map id_of (filter (t n) ms)
 numbered_as number t same ms rows e n = ap (λ r. ids r n) e ∙ ids-by id_of number ms n ∙ ap (λ s. map id_of (filter s ms)) (λ i m. same n m i)
-
-number_as : (number : Mount → Option ℕ) (ms : List Mount) (rows : List ListRow) → rises id_of ms ≡ true → rows ≡ rows_by id_of number ms → (i : ℕ) → number_at rows i ≡ option_and_then number (mount_at ms i)
-number_as number ms rows r e i = ap (λ s. number_at s i) e ∙ ap (option_map (λ (s : ListRow). s.number)) (row-by id_of number i ms r) ∙ go (mount_at ms i)
-  where
-    by : (o : Option ℕ) → option_map (λ (s : ListRow). s.number) (option_map (λ n. record { id = i; number = n }) o) ≡ o
-    by None = refl
-    by (Some n) = refl
-
-    go : (o : Option Mount) → option_map (λ (s : ListRow). s.number) (option_and_then (λ m. option_map (λ n. record { id = i; number = n }) (number m)) o) ≡ option_and_then number o
-    go None = refl
-    go (Some m) = by (number m)
 
 child_test : (i : ℕ) (m : Mount) → has_number id_of parent_of i m ≡ stands_on i m
 child_test i m = go m.place
@@ -69,16 +58,6 @@ module _ (ms : List Mount) (x : Indexes) (h : IsIndexed ms x) where
 
   pub root_first : (n : ℕ) → first (ids x.roots.rows n) ≡ option_map id_of (root_mount ms n)
   root_first n = ap first (numbered_as rooted_in is_root root_test ms x.roots.rows h.roots n) ∙ first_found (is_root n) ms
-
-  pub child_next : (i : ℕ) → rises id_of ms ≡ true → next_of x.children.rows i ≡ next_child ms i
-  child_next i r = ap (option_and_then (λ n. above i (ids x.children.rows n))) (number_as parent_of ms x.children.rows r h.children i) ∙ ap (λ f. option_and_then f (parent ms i)) (λ j n. above i (child_ids n j))
-
-  pub space_next : (i : ℕ) → rises id_of ms ≡ true → next_of x.spaces.rows i ≡ next_in ms i
-  space_next i r = ap (option_and_then (λ n. above i (ids x.spaces.rows n))) (number_as space_of ms x.spaces.rows r h.spaces i) ∙ go (mount_at ms i)
-    where
-      go : (o : Option Mount) → option_and_then (λ n. above i (ids x.spaces.rows n)) (option_and_then space_of o) ≡ option_and_then (λ m. above i (map id_of (mounts_in ms m.space))) o
-      go None = refl
-      go (Some m) = ap (above i) (space_ids m.space)
 
 -- how many root mounts there are
 count_roots : (ms : List Mount) → length (rows_by id_of rooted_in ms) ≡ length (roots ms)

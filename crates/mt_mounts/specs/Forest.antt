@@ -5,7 +5,6 @@ use Rattle.std.specs.List.{filter, find, list_any}
 use Rattle.std.specs.Option.{option_map, option_map_or, option_and_then}
 use Rattle.mt_skel.specs.Keyed.{row_at}
 use Rattle.mt_skel.specs.Chain.{chain, follow}
-use Rattle.mt_lists.specs.Lists.{above}
 use Rattle.mt_mounts.specs.declared.mount.Place.{Place}
 use Rattle.mt_mounts.specs.declared.mount.Mount.{Mount}
 
@@ -63,10 +62,6 @@ stands_on i m = option_map_or (λ (p : Place). p.mount == i) m.place false
 abbrev pub children : List Mount → ℕ → List ℕ
 children ms i = map id_of (filter (stands_on i) ms)
 
--- The child of the same parent with the next higher ID.
-abbrev pub next_child : List Mount → ℕ → Option ℕ
-next_child ms i = option_and_then (λ p. above i (children ms p)) (parent ms i)
-
 -- A mount is in one namespace (mount_namespaces(7)).
 abbrev pub in_space : ℕ → Mount → Bool
 in_space n m = m.space == n
@@ -74,10 +69,6 @@ in_space n m = m.space == n
 -- The mounts of a namespace (mount_namespaces(7)), by rising ID.
 abbrev pub mounts_in : List Mount → ℕ → List Mount
 mounts_in ms n = filter (in_space n) ms
-
--- The mount of the same namespace with the next higher ID.
-abbrev pub next_in : List Mount → ℕ → Option ℕ
-next_in ms i = option_and_then (λ m. above i (map id_of (mounts_in ms m.space))) (mount_at ms i)
 
 -- Each namespace has a list of mounts of its own (mount_namespaces(7)), and its root mount is the one that is mounted nowhere.
 abbrev pub is_root : ℕ → Mount → Bool

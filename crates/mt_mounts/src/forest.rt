@@ -2,9 +2,8 @@
 ghost use Rattle.std.specs.Prelude.{◌≡◌, ◌+◌, ◌<◌, ◌≤◌, [], map, length, None, IsTrue, OnOk, IfOk, IsOkUnless};
 ghost use Rattle.std.specs.Option.{ForSome, option_map};
 ghost use Rattle.mt_skel.specs.Keyed.{put, rises};
-ghost use Rattle.mt_lists.specs.Lists.{first};
 ghost use Rattle.mt_lists.specs.Log.{AreAlikeBut};
-ghost use Rattle.mt_mounts.specs.Forest.{id_of, mount_at, on, root_mount, roots, parent, top, children, next_child, mounts_in, next_in};
+ghost use Rattle.mt_mounts.specs.Forest.{id_of, mount_at, on, root_mount, roots, parent, top, children, mounts_in};
 ghost use Rattle.mt_mounts.specs.ForestView.{with_attrs, with_place, without_id};
 
 use crate::indexes::Indexes;
@@ -310,41 +309,11 @@ impl Forest {
         self.indexes.children.count(id)
     }
 
-    /// The first child of a mount: of the mounts that stand on it the one with the lowest ID.
-    pub fn first_child(&self, id: MountId) -> Option<MountId>
-        ensures { result ≡ first (children self.now.mounts id) }
-    {
-        self.indexes.children.first(id)
-    }
-
-    /// The child that follows this one, by rising ID, among those of its parent, or `None` for the last
-    /// of them, for a root mount and for an ID that is not there.
-    pub fn next_child(&self, id: MountId) -> Option<MountId>
-        ensures { result ≡ next_child self.now.mounts id }
-    {
-        self.indexes.children.after(id)
-    }
-
     /// How many mounts a namespace has.
     pub fn count_in(&self, space: SpaceId) -> usize
         ensures { result ≡ length (mounts_in self.now.mounts space) }
     {
         self.indexes.spaces.count(space)
-    }
-
-    /// The first mount of a namespace, by rising ID.
-    pub fn first_in(&self, space: SpaceId) -> Option<MountId>
-        ensures { result ≡ first (map id_of (mounts_in self.now.mounts space)) }
-    {
-        self.indexes.spaces.first(space)
-    }
-
-    /// The mount that follows this one, by rising ID, among those of its namespace, or `None` for the
-    /// last of them and for an ID that is not there.
-    pub fn next_in(&self, id: MountId) -> Option<MountId>
-        ensures { result ≡ next_in self.now.mounts id }
-    {
-        self.indexes.spaces.after(id)
     }
 
     /// The IDs of the mounts that stand on a mount, rising. Refused as `NoMemory` alone.

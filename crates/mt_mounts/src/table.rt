@@ -105,7 +105,9 @@ impl Table {
         ensures { result ≡ mount_at self.now.mounts id }
     {
         let key = self.keys.get(&id).copied()?;
-        self.slots.get(key).copied()
+        // Not `copied`, which copies the mount once more, at each look at one.
+        let mount = self.slots.get(key)?;
+        Some(*mount)
     }
 
     /// Adds the mount with this ID, if it is there, to a list of mounts. Refused as `NoMemory` alone.

@@ -11,8 +11,14 @@ returns-in_err-key c =
     ∙ sym (mount_keyed c.self.inside.slots c.self.inside.keys c.self.invariant c.args.id ∙ ap (option_and_then (get c.self.inside.slots)) (sym c.get.ensures.value ∙ sym c.in_err-key.ensures))
     ∙ ap (λ t. mount_at t.mounts c.args.id) c.self.view_is
 
+pub returns-in_err-mount : goal.returns-in_err-mount
+returns-in_err-mount c =
+    c.from_residual-in_err-mount.ensures ∙ c.in_err-mount.ensures
+    ∙ sym (mount_keyed c.self.inside.slots c.self.inside.keys c.self.invariant c.args.id ∙ ap (option_and_then (get c.self.inside.slots)) (sym c.get.ensures.value ∙ sym c.in_ok-key.ensures))
+    ∙ ap (λ t. mount_at t.mounts c.args.id) c.self.view_is
+
 pub returns : goal.returns
 returns c =
-    c.copied-2.ensures ∙ c.get-2.ensures
+    c.in_ok-mount.ensures
     ∙ sym (mount_keyed c.self.inside.slots c.self.inside.keys c.self.invariant c.args.id ∙ ap (option_and_then (get c.self.inside.slots)) (sym c.get.ensures.value ∙ sym c.in_ok-key.ensures))
     ∙ ap (λ t. mount_at t.mounts c.args.id) c.self.view_is

@@ -1,0 +1,136 @@
+//! What many mounts change at once: groups that are made and left, and masters that are settled.
+ghost use Rattle.std.specs.Prelude.{◌≡◌, ◌+◌, ◌<◌, ◌≤◌, ◌^◌, length, nat_eq, IsTrue};
+ghost use Rattle.mt_skel.specs.Keyed.{among, without};
+ghost use Rattle.mt_peers.specs.Peers.{peering_of};
+ghost use Rattle.mt_peers.specs.Loss.{left};
+ghost use Rattle.mt_peers.specs.Making.{made, is_shared};
+ghost use Rattle.mt_peers.specs.WellFormed.{IsPeering};
+
+use crate::chosen::Chosen;
+use crate::leaving::{drop_all, may_all_go, take_out};
+use crate::noting::{note_all, note_changes};
+use crate::peers::Peers;
+use crate::settling::make_entries;
+use crate::state::Kind;
+use mt_mounts::mount::MountId;
+
+impl Peers {
+    /// Makes these mounts so. Only new groups need numbers.
+    fn change(&mut self, ids: &[MountId], kind: Kind)
+        requires room { length self.old.peers ≤ self.old.room }
+        requires numbered { IsTrue (is_shared kind) → self.old.next < 2 ^ 63 }
+        ensures made { peering_of self.new ≡ made kind (among ids.now) (peering_of self.old) }
+        ensures since { self.new.since ≡ self.old.since }
+        ensures room { self.old.room ≤ self.new.room + length self.old.peers }
+        ensures kept { IsPeering (peering_of self.old) → IsPeering (peering_of self.new) }
+    {
+        let chosen = Chosen::new(ids);
+        let next = make_entries(
+            &mut self.entries,
+            &mut self.members,
+            &mut self.slaves,
+            &mut self.vanished,
+            &chosen,
+            kind,
+            self.next,
+        );
+        note_changes(&self.entries, &Chosen::new(&[]), &mut self.log);
+        self.next = next;
+    }
+
+    /// Makes a mount shared, private, a slave or unbindable. An ID that is not there changes nothing. It
+    /// needs no memory: [`reserve`](Peers::reserve) has made room, as for as many as there are.
+    pub fn make(&mut self, id: MountId, kind: Kind)
+        requires room { length self.old.peers ≤ self.old.room }
+        requires numbered { self.old.next < 2 ^ 63 }
+        ensures made { peering_of self.new ≡ made kind (nat_eq id) (peering_of self.old) }
+        ensures since { self.new.since ≡ self.old.since }
+        ensures room { self.old.room ≤ self.new.room + length self.old.peers }
+        ensures kept { IsPeering (peering_of self.old) → IsPeering (peering_of self.new) }
+    {
+        self.change(&[id], kind);
+    }
+
+    /// Makes all mounts with these IDs so at once, before any gets another master. The IDs may be in
+    /// any order; new groups are numbered by rising ID. It needs room as [`make`](Peers::make) does.
+    pub fn make_all(&mut self, ids: &[MountId], kind: Kind)
+        requires room { length self.old.peers ≤ self.old.room }
+        requires numbered { self.old.next < 2 ^ 63 }
+        ensures made { peering_of self.new ≡ made kind (among ids.now) (peering_of self.old) }
+        ensures since { self.new.since ≡ self.old.since }
+        ensures room { self.old.room ≤ self.new.room + length self.old.peers }
+        ensures kept { IsPeering (peering_of self.old) → IsPeering (peering_of self.new) }
+    {
+        self.change(ids, kind);
+    }
+
+    /// Takes a mount away, out of its group. An ID that is not there changes nothing. It needs room as
+    /// [`make`](Peers::make) does.
+    pub fn leave(&mut self, id: MountId)
+        requires room { length self.old.peers ≤ self.old.room }
+        ensures left { peering_of self.new ≡ left (nat_eq id) (peering_of self.old) }
+        ensures since { self.new.since ≡ self.old.since }
+        ensures room { self.old.room ≤ self.new.room + length self.old.peers }
+        ensures kept { IsPeering (peering_of self.old) → IsPeering (peering_of self.new) }
+    {
+        self.leave_all(&[id]);
+    }
+
+    /// Takes all mounts with these IDs away at once, out of their groups, before any other gets
+    /// another master. The IDs may be in any order; one that is not there changes nothing. It needs room
+    /// as [`make`](Peers::make) does.
+    pub fn leave_all(&mut self, ids: &[MountId])
+        requires room { length self.old.peers ≤ self.old.room }
+        ensures left { peering_of self.new ≡ left (among ids.now) (peering_of self.old) }
+        ensures since { self.new.since ≡ self.old.since }
+        ensures room { self.old.room ≤ self.new.room + length self.old.peers }
+        ensures kept { IsPeering (peering_of self.old) → IsPeering (peering_of self.new) }
+    {
+        let gone = Chosen::new(ids);
+        let next = make_entries(
+            &mut self.entries,
+            &mut self.members,
+            &mut self.slaves,
+            &mut self.vanished,
+            &gone,
+            Kind::Private,
+            self.next,
+        );
+        self.next = next;
+        note_changes(&self.entries, &gone, &mut self.log);
+        drop_all(&mut self.entries, ids);
+    }
+
+    /// Takes these mounts away, and settles no master. There is room to note as many.
+    fn take_away(&mut self, ids: &[MountId])
+        requires room { length ids.now ≤ self.old.room }
+        ensures peers { self.new.peers ≡ without (λ e. among ids.now e.mount) self.old.peers }
+        ensures next { self.new.next ≡ self.old.next }
+        ensures since { self.new.since ≡ self.old.since }
+        ensures room { self.old.room ≤ self.new.room + length ids.now }
+    {
+        take_out(&mut self.entries, &mut self.members, &mut self.slaves, ids);
+        note_all(ids, &mut self.log);
+    }
+
+    /// Takes mounts away as [`leave_all`](Peers::leave_all) does, where groups and masters are in order: then
+    /// it settles no master where no group goes that has slaves which stay, and no more mounts are named than
+    /// there are.
+    pub fn leave_in_order(&mut self, ids: &[MountId])
+        requires order { IsPeering (peering_of self.old) }
+        requires room { length self.old.peers ≤ self.old.room }
+        ensures left { peering_of self.new ≡ left (among ids.now) (peering_of self.old) }
+        ensures since { self.new.since ≡ self.old.since }
+        ensures room { self.old.room ≤ self.new.room + length self.old.peers }
+        ensures kept { IsPeering (peering_of self.new) }
+    {
+        if ids.len() > self.entries.len() {
+            return self.leave_all(ids);
+        }
+        if may_all_go(&self.members, &self.slaves, ids, &Chosen::new(ids)) {
+            self.take_away(ids);
+        } else {
+            self.leave_all(ids);
+        }
+    }
+}
