@@ -12,6 +12,7 @@ pub mod PlaceLaws
 pub mod ThereLaws
 pub mod StayLaws
 pub mod ChangedLaws
+pub mod LoneLaws
 pub mod NextLaws
 pub mod NumberLaws
 pub mod BookLaws

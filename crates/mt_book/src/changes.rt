@@ -1,10 +1,8 @@
 //! What a command changes in the tables of namespaces.
-ghost use Rattle.std.specs.Prelude.{◌≡◌, ℕ, ◌+◌, ◌∷◌, ◌++◌, ◌≤◌, IfOk, OnOk, IsOkUnless, IsTrue, None, cond, [], map};
+ghost use Rattle.std.specs.Prelude.{◌≡◌, ℕ, ◌∷◌, ◌≤◌, IfOk, IsOkUnless, IsTrue, cond, []};
 ghost use Rattle.std.specs.List.{list_all};
-ghost use Rattle.std.specs.Option.{option_to_list};
 ghost use Rattle.std.specs.Result.{is_ok};
-ghost use Rattle.std.specs.Arc.{arc_value};
-ghost use Rattle.mt_skel.specs.Keyed.{rises};
+ghost use Rattle.mt_skel.specs.Keyed.{among, rises};
 ghost use Rattle.mt_skel.specs.Skeleton.{IsSkeleton};
 ghost use Rattle.mt_propagate.specs.World.{world_view, is_space};
 ghost use Rattle.mt_propagate.specs.WellFormed.{IsWellFormed};
@@ -12,123 +10,25 @@ ghost use Rattle.mt_propagate.specs.Touched.{IsTouched};
 ghost use Rattle.mt_info.specs.Table.{table_of};
 ghost use Rattle.mt_events.specs.Difference.{HoldsChanged};
 ghost use Rattle.mt_book.specs.Step.{step, next_world, makes_space};
-ghost use Rattle.mt_book.specs.Book.{AreNumbers, next_number, next_post, counted, posted, with_newborn, still_there, space_in, command_limit};
+ghost use Rattle.mt_book.specs.Parts.{is_touched};
+ghost use Rattle.mt_book.specs.Book.{AreNumbers, counted, posted, with_newborn, still_there, space_in, command_limit};
 
+use crate::change::{change_between, push_post};
 use crate::command::Command;
-use crate::numbers::{numbers_in, still_there, with_newborn, with_numbers};
-use crate::parts::{parts_of, spaces_touched};
-use mt_events::news::is_changed;
-use mt_events::post::Post;
+use crate::numbers::{numbers_in, put_number, still_there, with_newborn, with_numbers};
+use crate::parts::{lone_space, parts_of, place_among, spaces_touched};
 use mt_events::shared::SharedPosts;
-use mt_events::touched::change_of;
 use mt_info::touched::rows_touched;
 use mt_mounts::mount::{MountId, SpaceId};
 use mt_propagate::world::World;
 use mt_skel::fault::Fault;
 use std::alloc::Global;
-use std::sync::Arc;
 
 /// The numbers of the namespaces after a command, and its posts.
 #[derive(Drop)]
 pub(crate) struct Changes {
     pub(crate) numbers: Vec<(SpaceId, u64)>,
     pub(crate) posts: SharedPosts,
-}
-
-/// What a command changes in one namespace.
-#[derive(Drop)]
-struct Change {
-    /// The number that the namespace has now.
-    number: u64,
-    /// Its post, if its table changed and somebody asks for it.
-    post: Option<Post>,
-}
-
-/// The number that a namespace has now which had this one: one more if its table is not the same in two worlds. No
-/// mounts are looked at but these, which have all whose rows differ. Refused as `NoMemory` alone.
-fn number_between(
-    old: &World,
-    new: &World,
-    ids: &[MountId],
-    space: SpaceId,
-    number: u64,
-) -> Result<u64, Fault>
-    requires old { IsWellFormed (world_view old.now) }
-    requires new { IsWellFormed (world_view new.now) }
-    requires rising { IsTrue (rises (λ k. k) ids.now) }
-    requires held { HoldsChanged (table_of (world_view old.now) space) (table_of (world_view new.now) space) ids.now }
-    requires few { number ≤ command_limit }
-    ensures number { IfOk result (λ k. k ≡ next_number (world_view old.now) (world_view new.now) space number) }
-    ensures memory { IsOkUnless result Fault.NoMemory }
-{
-    let changed = is_changed(old, new, space, ids)?;
-    Ok(if changed { number + 1 } else { number })
-}
-
-/// The same, and the post if there is one. Refused as `NoMemory` alone.
-fn post_between(
-    old: &World,
-    new: &World,
-    ids: &[MountId],
-    space: SpaceId,
-    number: u64,
-) -> Result<Change, Fault>
-    requires old { IsWellFormed (world_view old.now) }
-    requires new { IsWellFormed (world_view new.now) }
-    requires rising { IsTrue (rises (λ k. k) ids.now) }
-    requires held { HoldsChanged (table_of (world_view old.now) space) (table_of (world_view new.now) space) ids.now }
-    requires few { number ≤ command_limit }
-    ensures number { IfOk result (λ change. change.number ≡ next_number (world_view old.now) (world_view new.now) space number) }
-    ensures post { IfOk result (λ change. change.post ≡ next_post (world_view old.now) (world_view new.now) space number) }
-    ensures memory { IsOkUnless result Fault.NoMemory }
-{
-    let Some(delta) = change_of(old, new, space, ids)? else {
-        return Ok(Change { number, post: None });
-    };
-    let number = number + 1;
-    Ok(Change {
-        number,
-        post: Some(Post::telling(space, number, delta)),
-    })
-}
-
-/// What changes in a namespace that had this number; its post only where somebody asks for it. Refused as `NoMemory`
-/// alone.
-fn change_between(
-    old: &World,
-    new: &World,
-    ids: &[MountId],
-    space: SpaceId,
-    number: u64,
-    heard: bool,
-) -> Result<Change, Fault>
-    requires old { IsWellFormed (world_view old.now) }
-    requires new { IsWellFormed (world_view new.now) }
-    requires rising { IsTrue (rises (λ k. k) ids.now) }
-    requires held { HoldsChanged (table_of (world_view old.now) space) (table_of (world_view new.now) space) ids.now }
-    requires few { number ≤ command_limit }
-    ensures number { IfOk result (λ change. change.number ≡ next_number (world_view old.now) (world_view new.now) space number) }
-    ensures post { IfOk result (λ change. change.post ≡ cond heard (next_post (world_view old.now) (world_view new.now) space number) None) }
-    ensures memory { IsOkUnless result Fault.NoMemory }
-{
-    if heard {
-        return post_between(old, new, ids, space, number);
-    }
-    let number = number_between(old, new, ids, space, number)?;
-    Ok(Change { number, post: None })
-}
-
-/// Appends a post, if there is one. Refused as `NoMemory` alone.
-fn push_post(alloc: Global, posts: &mut Vec<Arc<Post>>, post: Option<Post>) -> Result<(), Fault>
-    ensures posts { OnOk result (map (λ p. arc_value p) posts.new.items ≡ map (λ p. arc_value p) posts.old.items ++ option_to_list post) }
-    ensures memory { IsOkUnless result Fault.NoMemory }
-{
-    let Some(post) = post else {
-        return Ok(());
-    };
-    let shared = Arc::new(alloc, post)?;
-    posts.push(shared)?;
-    Ok(())
 }
 
 /// What changes between two worlds in a namespace that had this number; its post only where somebody asks for it.
@@ -221,8 +121,75 @@ fn changes_in(
     changes_in_many(alloc, old, new, ids, numbers, heard)
 }
 
-/// The same between two worlds with the same directories, where `touched` has each mount that changed. Only the
-/// namespaces in which one of these was, or is, are looked at. Refused as `NoMemory` alone.
+/// The same where all these mounts were, and are, in one namespace: no other number changes, and no list is made but that
+/// of all numbers. Refused as `NoMemory` alone.
+fn changes_in_lone(
+    alloc: Global,
+    old: &World,
+    new: &World,
+    ids: &[MountId],
+    space: SpaceId,
+    numbers: &[(SpaceId, u64)],
+    heard: bool,
+) -> Result<Changes, Fault>
+    requires old { IsWellFormed (world_view old.now) }
+    requires new { IsWellFormed (world_view new.now) }
+    requires rising { IsTrue (rises (λ k. k) ids.now) }
+    requires held { (n : ℕ) → HoldsChanged (table_of (world_view old.now) n) (table_of (world_view new.now) n) ids.now }
+    requires touched { (n : ℕ) → among (space ∷ []) n ≡ is_touched (world_view old.now) (world_view new.now) ids.now n }
+    requires numbers { AreNumbers numbers.now }
+    ensures numbers { IfOk result (λ changes. changes.numbers.items ≡ counted (world_view old.now) (world_view new.now) numbers.now) }
+    ensures posts { IfOk result (λ changes. changes.posts ≡ cond heard (posted (world_view old.now) (world_view new.now) numbers.now) []) }
+    ensures memory { IsOkUnless result Fault.NoMemory }
+{
+    let mut all = Vec::from_slice(alloc, numbers)?;
+    let mut posts = Vec::new(alloc);
+    let Some(at) = place_among(numbers, space) else {
+        return Ok(Changes {
+            numbers: all,
+            posts: SharedPosts::new(posts),
+        });
+    };
+    let change = change_between(old, new, ids, space, numbers[at].1, heard)?;
+    push_post(alloc, &mut posts, change.post)?;
+    put_number(&mut all, (space, change.number));
+    Ok(Changes {
+        numbers: all,
+        posts: SharedPosts::new(posts),
+    })
+}
+
+/// The same in the namespaces in which one of these mounts was, or is: no other is looked at, and the other numbers stay.
+/// Refused as `NoMemory` alone.
+fn changes_in_touched(
+    alloc: Global,
+    old: &World,
+    new: &World,
+    ids: &[MountId],
+    numbers: &[(SpaceId, u64)],
+    heard: bool,
+) -> Result<Changes, Fault>
+    requires old { IsWellFormed (world_view old.now) }
+    requires new { IsWellFormed (world_view new.now) }
+    requires rising { IsTrue (rises (λ k. k) ids.now) }
+    requires held { (n : ℕ) → HoldsChanged (table_of (world_view old.now) n) (table_of (world_view new.now) n) ids.now }
+    requires numbers { AreNumbers numbers.now }
+    ensures numbers { IfOk result (λ changes. changes.numbers.items ≡ counted (world_view old.now) (world_view new.now) numbers.now) }
+    ensures posts { IfOk result (λ changes. changes.posts ≡ cond heard (posted (world_view old.now) (world_view new.now) numbers.now) []) }
+    ensures memory { IsOkUnless result Fault.NoMemory }
+{
+    let spaces = spaces_touched(alloc, old, new, ids)?;
+    let before = numbers_in(alloc, numbers, &spaces)?;
+    let changes = changes_in(alloc, old, new, ids, &before, heard)?;
+    let numbers = with_numbers(alloc, numbers, &changes.numbers)?;
+    Ok(Changes {
+        numbers,
+        posts: changes.posts,
+    })
+}
+
+/// The same between two worlds with the same directories, where `touched` has each mount that changed. Most commands
+/// touch one mount. Refused as `NoMemory` alone.
 fn changes_between(
     alloc: Global,
     old: &World,
@@ -241,14 +208,10 @@ fn changes_between(
     ensures memory { IsOkUnless result Fault.NoMemory }
 {
     let ids = rows_touched(old, new, touched)?;
-    let spaces = spaces_touched(alloc, old, new, &ids)?;
-    let before = numbers_in(alloc, numbers, &spaces)?;
-    let changes = changes_in(alloc, old, new, &ids, &before, heard)?;
-    let numbers = with_numbers(alloc, numbers, &changes.numbers)?;
-    Ok(Changes {
-        numbers,
-        posts: changes.posts,
-    })
+    match lone_space(old, new, &ids) {
+        Some(space) => changes_in_lone(alloc, old, new, &ids, space, numbers, heard),
+        None => changes_in_touched(alloc, old, new, &ids, numbers, heard),
+    }
 }
 
 /// What a command changes for all namespaces of which it knows these numbers, the one that it makes among them.

@@ -81,7 +81,7 @@ pub(crate) fn numbers_in(
 }
 
 /// Puts the new number of a namespace in the place of its number, if it has one.
-fn put_number(all: &mut Vec<(SpaceId, u64)>, row: (SpaceId, u64))
+pub(crate) fn put_number(all: &mut Vec<(SpaceId, u64)>, row: (SpaceId, u64))
     requires rising { IsTrue (rises space_in all.old.items) }
     ensures rising { IsTrue (rises space_in all.new.items) }
     ensures rows { (n : ℕ) → row_at space_in n all.new.items ≡ merged all.old.items (row ∷ []) n }

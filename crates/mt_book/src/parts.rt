@@ -165,3 +165,18 @@ pub(crate) fn spaces_touched(
     }
     Ok(in_order(spaces))
 }
+
+/// The namespace that a mount was in, and is in, where it is the only one of these. Takes no memory.
+pub(crate) fn lone_space(old: &World, new: &World, ids: &[MountId]) -> Option<SpaceId>
+    ensures { IfSome result (λ space. (n : ℕ) → among (space ∷ []) n ≡ is_touched (world_view old.now) (world_view new.now) ids.now n) }
+{
+    let [id] = ids else {
+        return None;
+    };
+    let space = space_of(old, *id);
+    if space_of(new, *id) == space {
+        Some(space)
+    } else {
+        None
+    }
+}
