@@ -1,8 +1,10 @@
 """What the other program makes of answers that are written here by hand: a module, a part of server.py.
 
 A door in the place of a server takes one connection after another, and writes a whole answer to it at once. What the
-program sends, what it prints and how it ends are compared, for answers of any worth and for such as no server gives.
+program sends, what it prints and how it ends are compared, for answers of any worth and for such as no server gives; and
+what it prints where its request does not go out, since the door is closed before that is read.
 """
+import shlex
 import subprocess
 from typing import NamedTuple
 
@@ -13,7 +15,8 @@ CUT = b"mountctl: connection fault\n"
 
 
 class Exchange(NamedTuple):
-    """Words, what they send, what is answered, what is printed, and the status. With 3 a connection fault is told."""
+    """Words as a shell reads them, what they send, what is answered, what is printed, and the status. With 3 a
+    connection fault is told."""
 
     words: str
     sent: bytes
@@ -27,7 +30,7 @@ POST = b"event 1 2 1\n- 3\n"
 
 # Requests of one line. What is behind an answer is not read, and of one that is none whole lines are printed.
 REQUESTS = (
-    Exchange("mkdir a", b"mkdir a\n", b"ok\nok\n", b"ok\n", 0),
+    Exchange("mkdir a '/p q'", b"mkdir a /p\\040q\n", b"ok\nok\n", b"ok\n", 0),
     Exchange("show 9", b"show 9\n", b"no NoNamespace\nok\n", b"no NoNamespace\n", 1),
     Exchange("show 1", b"show 1\n", b"ok 2 7\n" + ROWS + b"three\n", b"ok 2 7\n" + ROWS, 0),
     Exchange("show 1", b"show 1\n", b"ok 3 7\n" + ROWS + b"three\n", b"ok 3 7\n" + ROWS, 3),
@@ -47,6 +50,17 @@ REQUESTS = (
     Exchange("follow 2", b"follow 2\n", POST + b"ok 2\n", POST, 3),
     Exchange("follow 2", b"follow 2\n", b"event 1 2 2\n- 3\nok 1\n", b"", 3),
 )
+
+# What a door answers before it is closed with the request unread, what is printed of it, and the status.
+TURNED_AWAY = (
+    (b"no TooMany\n", b"no TooMany\n", 1),
+    (b"no TooManyOfThem\n", b"", 3),
+    (b"ok 0 1\n", b"", 3),
+    (b"", b"", 3),
+)
+
+# The words of a request that no socket holds unread.
+LONG = ["show", *["x" * 100_000] * 5]
 
 # What a watcher of namespace 2 is answered, and the table that the posts lead to.
 FOLLOWED = b"""ok 3
@@ -120,6 +134,16 @@ not in a tree:
 /b        none   rootfs rw,relatime private
 /b/longer none   rootfs rw,relatime private
 """
+# Tables of which each has columns of its own width.
+WIDTHS = b"1 1 0:1 / / rw,relatime - rootfs none rw\n", b"2 2 0:1 / / ro,nosuid,relatime - tmpfs /dev/x rw\n"
+TREES_OF_WIDTHS = b"""namespace 1
+TARGET SOURCE FSTYPE OPTIONS     PROPAGATION
+/      none   rootfs rw,relatime private
+
+namespace 2
+TARGET SOURCE FSTYPE OPTIONS            PROPAGATION
+/      /dev/x tmpfs  ro,nosuid,relatime private
+"""
 NO_TREES = b"""namespace 1
 TARGET SOURCE FSTYPE OPTIONS PROPAGATION
 
@@ -176,6 +200,7 @@ PICTURES = (
     Exchange("tree --ascii", ALL, b"ok 2\nspace 2 0 1\n" + ONE, TREE_OF_ONE, 0),
     Exchange("tree", ALL, opening(STACKS), TREE_OF_STACKS, 0),
     Exchange("tree --ascii", ALL, opening(RING), TREE_OF_RING, 0),
+    Exchange("tree", ALL, opening(*WIDTHS), TREES_OF_WIDTHS, 0),
     Exchange("tree", ALL, opening(b"", b""), NO_TREES, 0),
     Exchange("dot", ALL, opening(*RINGS), GRAPH, 0),
     Exchange("tree", ALL, b"no TooManyWatchers\n", b"no TooManyWatchers\n", 1),
@@ -244,15 +269,30 @@ FOLLOWING = b"watch 2\nfollow 1048576\n"
 WATCHES = tuple(Exchange("watch 2", FOLLOWING, BEFORE + post + STOPPED, told + STOPPED, 1) for post, told in CHANGES)
 
 
+def check_ended(name, client, found, printed, status):
+    """Whether a program has printed this and ended so."""
+    wanted = (status, (printed, CUT if status == 3 else b""))
+    check(name, (client.returncode, found) == wanted, f"wanted {wanted}\nfound  {(client.returncode, found)}")
+
+
 def check_exchange(mountctl, door, exchange):
     name = f"mountctl {exchange.words}, and {exchange.answer!r}"
-    words = [mountctl, door.path, *exchange.words.split()]
+    words = [mountctl, door.path, *shlex.split(exchange.words)]
     with subprocess.Popen(words, stdout=subprocess.PIPE, stderr=subprocess.PIPE) as client:
         sent = door.answers(exchange.answer)
         found = client.communicate(timeout=MOST_SECONDS)
     check(f"{name}: what it sends", sent == exchange.sent, repr(sent))
-    wanted = (exchange.status, (exchange.printed, CUT if exchange.status == 3 else b""))
-    check(name, (client.returncode, found) == wanted, f"wanted {wanted}\nfound  {(client.returncode, found)}")
+    check_ended(name, client, found, exchange.printed, exchange.status)
+
+
+def check_turned_away(mountctl, door, answer, printed, status):
+    """A request that does not go out: what was answered before is read."""
+    words = [mountctl, door.path, *LONG]
+    with subprocess.Popen(words, stdout=subprocess.PIPE, stderr=subprocess.PIPE) as client:
+        with door.accept() as stream:
+            stream.sendall(answer)
+        found = client.communicate(timeout=MOST_SECONDS)
+    check_ended(f"mountctl, turned away with {answer!r}", client, found, printed, status)
 
 
 def check_answers(mountctl):
@@ -260,3 +300,5 @@ def check_answers(mountctl):
     with Door() as door:
         for exchange in (*REQUESTS, *MIRRORS, *PICTURES, *WATCHES):
             check_exchange(mountctl, door, exchange)
+        for answer, printed, status in TURNED_AWAY:
+            check_turned_away(mountctl, door, answer, printed, status)
