@@ -164,10 +164,7 @@ def check_tables(program, mountctl):
     """The tables of the cases and of random worlds."""
     worlds = {}
     for name in cases.names():
-        case = cases.load(name)
-        lines = case.requests()
-        if not case.arguments and b"quit" not in lines and b"stop" not in lines:
-            worlds[f"case {name}"] = lines
+        worlds[f"case {name}"] = [line for line in cases.load(name).requests() if line not in (b"quit", b"stop")]
     for seed in range(WORLDS):
         source = random.Random(seed)
         worlds[f"world {seed}"] = [*directories(), *(random_command(source) for _ in range(source.choice(COMMANDS)))]

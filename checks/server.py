@@ -4,7 +4,7 @@
 Usage: checks/server.py MOUNTD [MOUNTCTL] [--seconds N]
 
 A plain client speaks with servers that are started here, each in a folder of its own: the cases,
-sockets that cannot be made, accepts that fail, the limit of sessions, a stop (stopping.py), clients that are
+sockets that cannot be made and stale ones (paths.py), accepts that fail, the limit of sessions, a stop (stopping.py), clients that are
 gone or do not read, many connections, allocations that are refused (wanting.py), and then 32 sessions at once for
 N seconds, 20 if not said (soak.py). With MOUNTCTL that program is checked too (clients.py, answering.py, pictures.py, telling.py), the cases are
 sent as its scripts, tables are imported (importing.py), and a quarter of the 32 sessions are its mirrors.
@@ -14,7 +14,6 @@ import contextlib
 import errno
 import os
 import re
-import stat
 import subprocess
 import tempfile
 import threading
@@ -33,9 +32,10 @@ from clients import (
 )
 from importing import check_import
 from limits import COMMANDS
+from paths import check_paths, check_stale, check_stopped
 from pictures import check_pictures
-from running import MOST_SECONDS, check, difference, failures, library, shown
-from serving import START, STOP, Broken, Client, Server, send_input, stop_behind, until_it_rests
+from running import check, difference, failures, library, shown
+from serving import START, Broken, Server, send_input, stop_behind, until_it_rests
 from soak import check_soak
 from stopping import check_cut_off, check_stop
 from telling import check_telling
@@ -47,12 +47,6 @@ MOST_FAILURES = 1_000
 # The limit of a line and what may follow it without a line end.
 LINE = 8_192
 MOST_SKIPPED = 1_048_576
-
-
-def check_stopped(name, server):
-    """A stop ends the server with status 0 and no word, and its socket is gone."""
-    ended = server.stop()
-    check(f"{name}: the end", ended == (0, b"") and not os.path.exists(server.path), repr(ended))
 
 
 def check_cases(program):
@@ -74,45 +68,6 @@ def check_cases(program):
             check(f"case {name} on a socket: a plain end", is_plain)
             if rests or b"stop" in case.requests():
                 check(f"case {name} on a socket: its stop", server.ends() == (0, b""))
-
-
-def is_refused(program, path):
-    done = subprocess.run([program, path], stdin=subprocess.DEVNULL, capture_output=True, timeout=MOST_SECONDS)
-    return (done.returncode, done.stdout, done.stderr) == (1, b"", b"mountd: cannot listen\n")
-
-
-def check_paths(program):
-    with tempfile.TemporaryDirectory() as folder:
-        file = os.path.join(folder, "file")
-        with open(file, "w", encoding="ascii"):
-            pass
-        check("a path with a file", is_refused(program, file) and os.path.exists(file))
-        check("a folder as path", is_refused(program, folder))
-        check("a folder that is not there", is_refused(program, os.path.join(folder, "none", "socket")))
-        check("no path", is_refused(program, ""))
-        long = os.path.join(folder, "x" * (108 - len(folder) - 1))
-        check("a path of 108 bytes", len(long) == 108 and is_refused(program, long))
-    with Server(program) as server:
-        check("a path with a server", is_refused(program, server.path))
-        mode = stat.S_IMODE(os.stat(server.path).st_mode)
-        check("who may connect", mode == 0o600, oct(mode))
-        check_stopped("a second start", server)
-        with subprocess.Popen([program, server.path], stderr=subprocess.PIPE) as again:
-            time.sleep(0.2)
-            with Client(server.path) as client:
-                check("a second start on the same path", client.ask(b"stop") == [b"ok"])
-            check("its end", again.wait(STOP) == 0)
-    with Server(program) as server:
-        with server.free() as client:
-            os.remove(server.path)
-            check("a stop without its socket", client.ask(b"stop") == [b"ok"] and server.ends() == (0, b""))
-    with Server(program) as server:
-        with server.free() as client:
-            os.remove(server.path)
-            with open(server.path, "w", encoding="ascii"):
-                pass
-            check("a stop with a strange file", client.ask(b"stop") == [b"ok"] and server.ends() == (0, b""))
-            check("the strange file stays", os.path.isfile(server.path))
 
 
 def check_limit(program):
@@ -298,6 +253,7 @@ def check_accept(program):
 
 PARTS = {
     "paths": check_paths,
+    "stale": check_stale,
     "accept": check_accept,
     "limit": check_limit,
     "one session": check_one_session,

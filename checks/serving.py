@@ -165,11 +165,11 @@ class Door:
 
 
 class Server:
-    """A server in a folder of its own, which ends with the block."""
+    """A server in a folder of its own, or at a path of another, which ends with the block."""
 
-    def __init__(self, program, *arguments, environment=None, held=()):
+    def __init__(self, program, *arguments, environment=None, held=(), path=None):
         self.folder = tempfile.mkdtemp()
-        self.path = os.path.join(self.folder, "socket")
+        self.path = path or os.path.join(self.folder, "socket")
         words, pipe = [program, self.path, *arguments], subprocess.PIPE
         # The descriptors of `held` are the server's too.
         self.process = subprocess.Popen(

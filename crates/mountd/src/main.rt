@@ -1,6 +1,7 @@
 //! `mountd`: the mount server, for sessions on a Unix socket, or for one on standard input and output.
 #![tactic(auto)]
 
+mod listening;
 mod socket;
 
 use clap::{Arg, ArgAction, Command, Error, value_parser};

@@ -1,6 +1,7 @@
 //! The server on a Unix socket that it makes, and takes away at its end.
 ghost use Rattle.std.specs.Prelude.{◌≡◌, ◌<◌};
 
+use crate::listening::{listen, socket_at};
 use mt_desk::desk::Desk;
 use mt_desk::lines::{Lines, Naming};
 use mt_server::server::{Premises, ServerFault, run_server};
@@ -11,7 +12,7 @@ use std::fs;
 use std::fs::{Files, Permissions};
 use std::marker::Brand;
 use std::net::{Net, TcpListener, TcpStream};
-use std::os::unix::fs::{MetadataExt, PermissionsExt};
+use std::os::unix::fs::PermissionsExt;
 use std::os::unix::net::UnixListener;
 use std::sync::{Mutex, Wait};
 use std::thread::Threads;
@@ -28,20 +29,12 @@ pub(crate) const MOST_POSTS: usize = 1_024;
 pub(crate) enum Served {
     /// A session has stopped it.
     Stopped,
-    /// There is something at the path, or no socket can be made there.
+    /// There is something at the path that stays, or no socket can be made there.
     NotListening,
     /// It could not accept connections.
     NotAccepting,
     /// There was no memory for the server's own.
     NoMemory,
-}
-
-/// Which file a path names, by its device and its number there.
-fn file_at<R: Files>(rt: &R, path: &str) -> Option<(u64, u64)> {
-    match fs::symlink_metadata(rt, path) {
-        Ok(file) => Some((file.dev(), file.ino())),
-        Err(_) => None,
-    }
 }
 
 /// Serves at a desk on these lines.
@@ -96,8 +89,9 @@ where
 /// Makes a socket at a path and serves sessions on it until one stops the server, `sessions` at
 /// once, with queues of `queue` posts.
 ///
-/// There may be nothing at the path. Only the user whose server it is may connect, and who connects
-/// may do everything. At the end the socket is taken away, if it still is the one that was made.
+/// There may be nothing at the path but a socket that a killed server has left. Only the user whose
+/// server it is may connect, and who connects may do everything. At the end the socket is taken away,
+/// if it still is the one that was made.
 pub(crate) fn serve_socket<R>(
     rt: &R,
     alloc: Global,
@@ -108,15 +102,15 @@ pub(crate) fn serve_socket<R>(
 where
     R: Threads + Wait + Clock + Files + Net<Listener = TcpListener, Stream = TcpStream> + Sync,
 {
-    let Ok(listener) = UnixListener::bind(rt, path.as_str()) else {
+    let Some(listener) = listen(rt, path.as_str()) else {
         return Served::NotListening;
     };
-    let made = file_at(rt, path.as_str());
+    let made = socket_at(rt, path.as_str());
     let served = match fs::set_permissions(rt, path.as_str(), Permissions::from_mode(MODE)) {
         Ok(()) => serve_listener(rt, alloc, path, &listener, queue, sessions),
         Err(_) => Served::NotListening,
     };
-    if made.is_some() && file_at(rt, path.as_str()) == made {
+    if made.is_some() && socket_at(rt, path.as_str()) == made {
         let _ = fs::remove_file(rt, path.as_str());
     }
     served
