@@ -6,7 +6,7 @@ Usage: checks/server.py MOUNTD [MOUNTCTL] [--seconds N]
 A plain client speaks with servers that are started here, each in a folder of its own: the cases,
 sockets that cannot be made and stale ones (paths.py), accepts that fail, the limit of sessions, a stop (stopping.py), clients that are
 gone or do not read, many connections, allocations that are refused (wanting.py), and then 32 sessions at once for
-N seconds, 20 if not said (soak.py). With MOUNTCTL that program is checked too (clients.py, answering.py, pictures.py, telling.py), the cases are
+N seconds, 20 if not said (soak.py). With MOUNTCTL that program is checked too (clients.py, answering.py, reading.py, pictures.py, telling.py), the cases are
 sent as its scripts, tables are imported (importing.py), and a quarter of the 32 sessions are its mirrors.
 """
 import argparse
@@ -34,6 +34,7 @@ from importing import check_import
 from limits import COMMANDS
 from paths import check_paths, check_stale, check_stopped
 from pictures import check_pictures
+from reading import check_reading
 from running import check, difference, failures, library, shown
 from serving import START, Broken, Server, send_input, stop_behind, until_it_rests
 from soak import check_soak
@@ -280,6 +281,7 @@ def check_server(program, seconds, mountctl, only):
         parts["comments"] = lambda program: check_comments(program, mountctl)
         parts["refused"] = lambda program: check_refused(program, mountctl)
         parts["answers"] = lambda program: check_answers(mountctl)
+        parts["reading"] = lambda program: check_reading(program, mountctl)
         parts["retold"] = lambda program: check_retold(program, mountctl)
         parts["pictures"] = lambda program: check_pictures(program, mountctl)
         parts["telling"] = lambda program: check_telling(program, mountctl)

@@ -1,14 +1,10 @@
-//! What the tests share: lines of commands, what a book answers to them, commands done at a desk, and tables made of
-//! lines of rows.
+//! What the tests share: lines of commands, what a book answers to them, and commands done at a desk.
 use mt_book::book::Book;
 use mt_book::command::{Command, Reply};
 use mt_desk::desk::Desk;
 use mt_desk::lines::Naming;
 use mt_events::print::push_post;
 use mt_events::shared::SharedPosts;
-use mt_info::print::push_row;
-use mt_info::read::read_row;
-use mt_info::table::Table;
 use mt_requests::request::{Request, read_request};
 use mt_session::text::Text;
 use mt_skel::fault::Fault;
@@ -92,25 +88,4 @@ pub(crate) fn played(alloc: Global, book: &mut Book, text: &[u8]) -> Result<Vec<
         }
     }
     Ok(told)
-}
-
-/// The table of which these are the lines.
-pub(crate) fn table_of(alloc: Global, lines: &[u8]) -> Result<Table, Fault> {
-    let mut rows = Vec::new(alloc);
-    for line in Pieces::new(b'\n', lines) {
-        if !line.is_empty() {
-            rows.push(read_row(alloc, line)?)?;
-        }
-    }
-    Table::from_rows(rows).ok_or(Fault::BadLine)
-}
-
-/// The lines of a table, each with its line end.
-pub(crate) fn lines_of(alloc: Global, table: &Table) -> Result<Vec<u8>, Fault> {
-    let mut lines = Vec::new(alloc);
-    for row in table.rows() {
-        push_row(&mut lines, row)?;
-        lines.push(b'\n')?;
-    }
-    Ok(lines)
 }
