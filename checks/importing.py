@@ -2,7 +2,7 @@
 
 The tables are those of the namespaces of each case, of random worlds, of a namespace with as many mounts as may be, and
 of this machine. Each script is sent to a plain session, which accepts each line; then the table of namespace 1 is the one
-that was imported, up to the numbers of mounts, groups and devices, and without the mounts that comments say are left out.
+that was imported, up to the numbers of mounts, groups and devices, and without the mounts that comments tell, each with its row.
 Lines that are none are refused by their number, and streams that fail and memory that is missing are told.
 """
 import os
@@ -28,7 +28,10 @@ MOST_ROWS = 400
 # Of so many tables fewer than one may be made with mounts left out.
 LEFT_OUT_IN = 10
 
-LEFT_OUT = re.compile(rb"# mount (\d+) is left out with all below it: ")
+# What a script says of a mount that it does not make: why, and the row or as much of it as a comment holds.
+LEFT_OUT = re.compile(rb"# mount (\d+) is left out: [^:]+: (.*)", re.DOTALL)
+MOST_TOLD = 8_000
+
 OPTIONS = {b"ro", b"nosuid", b"nodev", b"noexec", b"noatime", b"nodiratime", b"relatime", b"nosymfollow"}
 
 
@@ -65,9 +68,14 @@ class Renaming:
         return self.to.setdefault(old, new) == new and self.back.setdefault(new, old) == old
 
 
-def kept_rows(rows, script):
-    """The rows of the mounts that the script makes, each behind the one that it stands on."""
-    left_out = {int(found[1]) for found in map(LEFT_OUT.match, script) if found}
+def left_out(script):
+    """The rows that a script says are left out, by the numbers of their mounts."""
+    return {int(found[1]): found[2] for found in map(LEFT_OUT.match, script) if found}
+
+
+def kept_rows(name, lines, script):
+    """The rows of the mounts that the script makes, each behind the one that it stands on. All others are told."""
+    rows, left = [row_of(line) for line in lines], left_out(script)
     kept, ids, below = [], set(), {}
     for row in rows:
         below.setdefault(row.parent, []).append(row)
@@ -75,10 +83,12 @@ def kept_rows(rows, script):
     waiting = [row for row in rows if row.parent == row.id or row.parent not in numbers]
     while waiting:
         row = waiting.pop()
-        if row.id not in left_out and row.id not in ids:
+        if row.id not in left and row.id not in ids:
             kept.append(row)
             ids.add(row.id)
             waiting += below.get(row.id, [])
+    others = {row.id: line[:MOST_TOLD] for row, line in zip(rows, lines) if row.id not in ids}
+    check(f"{name}: each row that is left out is told", left == others, "\n".join(map(shown, script)))
     return kept
 
 
@@ -114,9 +124,9 @@ def check_table(program, mountctl, name, lines):
     refused = [line for line, answer in zip(asked, groups) if not answer or not answer[0].startswith(b"ok")]
     check(f"{name}: each command is accepted", not refused, shown(b"\n".join(refused[:3] + lines + script)))
     if not refused:
-        why = why_other(kept_rows([row_of(line) for line in lines], script), [row_of(line) for line in groups[-1][1:]])
+        why = why_other(kept_rows(name, lines, script), [row_of(line) for line in groups[-1][1:]])
         check(f"{name}: the table that is built", why is None, "\n".join([str(why), *map(shown, lines + script)]))
-    return not any(map(LEFT_OUT.match, script))
+    return not left_out(script)
 
 
 def tables(program, lines):
@@ -198,12 +208,28 @@ ODD = b"""\
 8 7 0:2 / /x rw - tmpfs none rw
 """
 ODD_COMMENTS = [
-    b"# mount 2 has one more line, which is left out",
-    b"# mount 3 is left out with all below it: it stands on no other",
-    b"# mount 7 is left out with all below it: it stands elsewhere than below its parent",
-    b"# mount 6 is left out with all below it: its parents go round in a ring",
-    b"# mount 5 is left out with all below it: its parents go round in a ring",
+    b"# mount 2 has one more line, which is left out: 2 1 0:3 / /b rw - tmpfs none rw",
+    b"# mount 7 is left out: it stands elsewhere than below its parent: 7 2 0:2 / / rw - tmpfs none rw",
+    b"# mount 8 is left out: what it stands on is left out: 8 7 0:2 / /x rw - tmpfs none rw",
+    b"# mount 3 is left out: it stands on no other: 3 9 0:2 / /c rw - tmpfs none rw",
+    b"# mount 4 is left out: what it stands on is left out: 4 3 0:2 / /c/d rw - tmpfs none rw",
+    b"# mount 6 is left out: its parents go round in a ring: 6 5 0:2 / /e rw - tmpfs none rw",
+    b"# mount 5 is left out: its parents go round in a ring: 5 6 0:2 / /e/f rw - tmpfs none rw",
 ]
+
+# The table of a process whose root is no mount, and the script that it makes.
+ROOTLESS = b"""\
+36 35 98:0 /mnt1 /mnt2 rw,noatime master:1 - ext3 /dev/root rw,errors=continue
+37 36 0:9 / /mnt2/a rw - tmpfs a: rw
+"""
+ROOTLESS_SCRIPT = b"""\
+# no mount is the root of a namespace
+# mount 36 is left out: there is no root mount: 36 35 98:0 /mnt1 /mnt2 rw,noatime master:1 - ext3 /dev/root rw,errors=continue
+# mount 37 is left out: there is no root mount: 37 36 0:9 / /mnt2/a rw - tmpfs a: rw
+"""
+
+# A row that is longer than a line of a script may be.
+LONG = b"90 29 0:9 / /" + b"long/" * 2_000 + b"a rw shared:9 - tmpfs none rw\n"
 
 NO_ROWS = [
     b"",
@@ -222,7 +248,7 @@ NO_ROWS = [
 
 
 def check_lines(mountctl):
-    """A line that is none is refused with its number, and nothing is printed."""
+    """A line that is none is refused with its number, and nothing is printed; what is not made is told with its row."""
     good = b"1 1 0:1 / / rw,relatime - tmpfs none rw\n"
     for line in NO_ROWS:
         for before in 0, 6:
@@ -234,6 +260,8 @@ def check_lines(mountctl):
     check("import of nothing", imported(mountctl, b"")[0] == 0)
     comments = [line for line in imported(mountctl, ODD)[1].split(b"\n") if line.startswith(b"#")]
     check("import of a table that no kernel prints", comments == ODD_COMMENTS, shown(b"\n".join(comments)))
+    found = imported(mountctl, ROOTLESS)
+    check("import of a table without a root mount", found == (0, ROOTLESS_SCRIPT, b""), repr(found))
 
 
 # Standard streams that fail, and how the program ends: an input that cannot be read, a folder, or is closed, and an
@@ -261,7 +289,7 @@ def check_faults(mountctl):
 
 def check_host(program, mountctl):
     """A host's table, and this machine's, are accepted as scripts of the other program over a socket."""
-    texts = {"a host": HOST}
+    texts = {"a host": HOST, "a host with a long row": HOST + LONG}
     if os.path.exists("/proc/self/mountinfo"):
         with open("/proc/self/mountinfo", "rb") as file:
             texts["this machine"] = file.read()
@@ -271,7 +299,7 @@ def check_host(program, mountctl):
         with Server(program) as server:
             status, answers, complaint = run(mountctl, script + b"show 1\n", server.path, "-")
             check(f"the script of {name} is accepted", (status, complaint) == (0, b""), shown(answers))
-            kept = kept_rows([row_of(line) for line in text.split(b"\n")[:-1]], script.split(b"\n"))
+            kept = kept_rows(f"the import of {name}", text.split(b"\n")[:-1], script.split(b"\n"))
             count = b"\nok %d " % len(kept)
             check(f"the mounts of {name}", answers.count(count) == 1, shown(script + answers))
             server.stop()

@@ -7,8 +7,9 @@ use Rattle.std.specs.Str.{bytes_eq}
 use Rattle.mt_words.specs.Words.{pieces, words, number_in_text}
 use Rattle.mt_import.specs.declared.read.Fields.{Fields}
 
--- what a line tells of a mount: words as they stand there, and numbers
+-- what a line tells of a mount: the line itself, words as they stand there, and numbers
 pub record ToldMount : Type 0 where
+  pub line : List ℕ
   pub id : ℕ
   pub parent : ℕ
   pub device : List ℕ
@@ -56,9 +57,10 @@ abbrev pub end_in : List (List ℕ) → Option (List ℕ × List ℕ)
 end_in (kind ∷ source ∷ super ∷ []) = Some (kind, source)
 end_in words = None
 
--- the row of the words of a line
-abbrev pub mount_with : ℕ → ℕ → List ℕ → List ℕ → List ℕ → List ℕ → Fields × List (List ℕ) → Option ToldMount
-mount_with id parent device root point options (fields, behind) = option_map (λ (kind, source). record {
+-- the row of a line and its words
+abbrev pub mount_with : List ℕ → ℕ → ℕ → List ℕ → List ℕ → List ℕ → List ℕ → Fields × List (List ℕ) → Option ToldMount
+mount_with line id parent device root point options (fields, behind) = option_map (λ (kind, source). record {
+  line = line;
   id = id;
   parent = parent;
   device = device;
@@ -73,13 +75,13 @@ mount_with id parent device root point options (fields, behind) = option_map (λ
   source = source;
 }) (end_in behind)
 
-abbrev pub mount_of_words : List (List ℕ) → Option ToldMount
-mount_of_words (id ∷ parent ∷ device ∷ root ∷ point ∷ options ∷ rest) =
+abbrev pub mount_of_words : List ℕ → List (List ℕ) → Option ToldMount
+mount_of_words line (id ∷ parent ∷ device ∷ root ∷ point ∷ options ∷ rest) =
     option_and_then (λ i. option_and_then (λ p. option_and_then (λ found.
-    if is_device device then mount_with i p device root point options found else None)
+    if is_device device then mount_with line i p device root point options found else None)
     (fields_in no_fields rest)) (number_in_text parent)) (number_in_text id)
-mount_of_words words = None
+mount_of_words line words = None
 
 -- the row that a line without its line end tells, if it is a line of a mountinfo
 unfoldable pub mount_in : List ℕ → Option ToldMount
-mount_in line = mount_of_words (words line)
+mount_in line = mount_of_words line (words line)

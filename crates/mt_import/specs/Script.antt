@@ -1,11 +1,14 @@
 -- What the lines of a script are.
 -- A word with no source is this project's rule.
-use Rattle.std.specs.Prelude.{◌≡◌, ℕ, Bool, true, false, not, ◌==◌, ◌&&◌, ◌||◌, nat_eq, cond, IsTrue, List, [], ◌∷◌, ◌++◌, Result, Ok, codes, decimal}
+use Rattle.std.specs.Prelude.{◌≡◌, ℕ, Bool, true, false, not, ◌==◌, ◌&&◌, ◌||◌, nat_eq, cond, IsTrue, List, [], ◌∷◌, ◌++◌, Result, Ok, codes, decimal, take}
 use Rattle.std.specs.List.{list_all, starts_with, flat_map, join_with_byte}
 use Rattle.mt_skel.specs.declared.fault.Fault.{Fault}
 use Rattle.mt_requests.specs.declared.request.Request.{Request}
 use Rattle.mt_requests.specs.declared.request.Request.TheVariants as request
 use Rattle.mt_requests.specs.Requests.{request_of}
+use Rattle.mt_import.specs.declared.reason.Reason.{Reason}
+use Rattle.mt_import.specs.declared.reason.Reason.TheVariants.{NoRootMount, NoParent, ParentLeftOut, Ring, NoDirectory, Elsewhere, AtRoot, ScriptName, TooDeep, GoesWithCopies, HiddenByCopies}
+use Rattle.mt_import.specs.Reading.{ToldMount}
 
 -- whether a line asks for a command
 abbrev pub is_run : Result Request Fault → Bool
@@ -36,10 +39,28 @@ line_or_comment line = line_text line ++ cond (is_script_line line) [] (line_tex
 unfoldable pub command_text : List (List ℕ) → List ℕ
 command_text words = line_or_comment (join_with_byte 32 words)
 
--- a comment on a mount
-unfoldable pub comment_text : ℕ → List ℕ → List ℕ
-comment_text mount text = line_text (codes "# mount " ++ (decimal mount ++ 32 ∷ text))
+-- a comment on a mount, with its row: the first 8,000 bytes, since a line that is sent is no longer than 8,192
+unfoldable pub comment_text : ToldMount → List ℕ → List ℕ
+comment_text row text = line_text (codes "# mount " ++ (decimal row.id ++ 32 ∷ (text ++ (codes ": " ++ take 8000 row.line))))
+
+-- why a mount is not made
+abbrev pub reason_text : Reason → List ℕ
+reason_text NoRootMount = codes "there is no root mount"
+reason_text NoParent = codes "it stands on no other"
+reason_text ParentLeftOut = codes "what it stands on is left out"
+reason_text Ring = codes "its parents go round in a ring"
+reason_text NoDirectory = codes "its root or mount point is no directory"
+reason_text Elsewhere = codes "it stands elsewhere than below its parent"
+reason_text AtRoot = codes "it stands at the root of the namespace"
+reason_text ScriptName = codes "its mount point has the name that the script uses"
+reason_text TooDeep = codes "its directory is too deep"
+reason_text GoesWithCopies = codes "another mount would go with its copies"
+reason_text HiddenByCopies = codes "its own copies would hide it"
 
 -- the comment that tells why a mount is not made
-unfoldable pub left_out_text : ℕ → List ℕ → List ℕ
-left_out_text mount why = comment_text mount (codes "is left out with all below it: " ++ why)
+unfoldable pub left_out_text : ToldMount → Reason → List ℕ
+left_out_text row why = comment_text row (codes "is left out: " ++ reason_text why)
+
+-- the comments where no row is that of a root mount: all are told
+unfoldable pub rootless_text : List ToldMount → List ℕ
+rootless_text rows = line_text (codes "# no mount is the root of a namespace") ++ flat_map (λ row. left_out_text row NoRootMount) rows

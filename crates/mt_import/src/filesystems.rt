@@ -115,7 +115,7 @@ fn make_filesystem(alloc: Global, script: &mut Script, row: &HostMount) -> Resul
     comment(
         alloc,
         script,
-        row.id,
+        row,
         b"has a type or source that no filesystem can have",
     )?;
     if push_filesystem(alloc, script, device, kind, b"none")? {
@@ -150,7 +150,7 @@ pub(crate) fn make_filesystems<'a>(
             comment(
                 alloc,
                 script,
-                row.id,
+                row,
                 b"tells another type or source of its device",
             )?;
         }

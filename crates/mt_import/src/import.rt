@@ -158,7 +158,7 @@ fn tell_root(alloc: Global, script: &mut Script, row: &HostMount) -> Result<(), 
     comment(
         alloc,
         script,
-        row.id,
+        row,
         b"is the root mount, and shows the root of its filesystem here",
     )
 }

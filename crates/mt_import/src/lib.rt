@@ -2,8 +2,9 @@
 //!
 //! [`read`] reads the lines of a mountinfo, each as a [`told::HostMount`], and [`import`] makes the script: filesystems and
 //! directories ([`filesystems`], [`directories`]), members of peer groups from which others are bound ([`groups`],
-//! [`stage`]), and the mounts, each once nothing hides its place ([`order`], [`mounting`]), with their options ([`options`]). A [`script::Script`] has only
-//! comments and lines that the server reads as commands.
+//! [`stage`]), and the mounts, each once nothing hides its place ([`order`], [`mounting`]), with their options
+//! ([`options`]). A mount that is not made has a [`reason`]. A [`script::Script`] has only comments and lines that the
+//! server reads as commands.
 #![tactic(auto)]
 
 mod commands;
@@ -16,6 +17,7 @@ mod options;
 mod order;
 mod path;
 pub mod read;
+mod reason;
 pub mod script;
 mod stage;
 mod standing;

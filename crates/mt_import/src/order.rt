@@ -1,16 +1,18 @@
 //! The order in which mounts are made: the one that it stands on before each, and what another one hides before that.
-ghost use Rattle.std.specs.Prelude.{◌≡◌, ◌+◌, ◌-◌, ◌≤◌, ℕ, true, [], if◌then◌else◌, ◌==◌, ◌||◌, not, length, IfOk, OnOk, IsOkUnless};
+ghost use Rattle.std.specs.Prelude.{◌≡◌, ◌+◌, ◌-◌, ◌≤◌, ℕ, true, [], if◌then◌else◌, ◌++◌, ◌==◌, ◌||◌, not, Some, None, length, IfOk, OnOk, IsOkUnless};
 ghost use Rattle.std.specs.BTreeSet.{contains_by};
 ghost use Rattle.std.specs.List.{list_all};
 ghost use Rattle.std.specs.Ordering.{nat_cmp};
-ghost use Rattle.mt_import.specs.Order.{waits_on, HasParentsFirst};
+ghost use Rattle.mt_import.specs.Script.{rootless_text};
+ghost use Rattle.mt_import.specs.Order.{waits_on, HasParentsFirst, IsToldUnless};
 
 use crate::groups::Groups;
 use crate::path::{below_root, names};
+use crate::reason::Reason;
 use crate::script::Script;
 use crate::standing::{Judged, Standing, judge};
 use crate::told::HostMount;
-use crate::writer::{comment, left_out};
+use crate::writer::{all_left_out, comment, left_out};
 use mt_skel::fault::Fault;
 use std::alloc::{AllocError, Global};
 use std::collections::BTreeSet;
@@ -44,8 +46,8 @@ struct Waiting {
     index: usize,
     /// Which mount it stands on.
     above: usize,
-    /// Whether what it stands on is left out.
-    is_left: bool,
+    /// Why it is left out, where that is known.
+    left: Option<Reason>,
 }
 
 /// The numbers of rows. Fails for want of memory alone.
@@ -93,8 +95,8 @@ impl Sorted {
         }
     }
 
-    /// Adds a row other than the root mount's. One that stands on none, and one of which the number came before, is told in
-    /// a comment. Refused as `NoMemory` alone.
+    /// Adds a row other than the root mount's. One of which the number came before is told in a comment. Refused as
+    /// `NoMemory` alone.
     fn add(
         &mut self,
         alloc: Global,
@@ -107,20 +109,14 @@ impl Sorted {
         ensures memory { IsOkUnless result Fault.NoMemory }
     {
         if !self.numbers.insert(row.id)? {
-            comment(
-                alloc,
-                script,
-                row.id,
-                b"has one more line, which is left out",
-            )?;
+            comment(alloc, script, row, b"has one more line, which is left out")?;
             return Ok(());
         }
         if is_top(ids, row) {
-            left_out(alloc, script, row.id, b"it stands on no other")?;
             self.waiting.push(Waiting {
                 index,
                 above: 0,
-                is_left: true,
+                left: Some(Reason::NoParent),
             })?;
             return Ok(());
         }
@@ -153,8 +149,8 @@ impl Sorted {
     }
 }
 
-/// The rows, those that stand on others by the parents, and by the count of names of where they stand. Those that stand on
-/// none, or of which the number came before, are told in comments. Refused as `NoMemory` alone.
+/// The rows, those that stand on others by the parents, and by the count of names of where they stand. Those of which the
+/// number came before are told in comments. Refused as `NoMemory` alone.
 fn sorted_rows(
     alloc: Global,
     script: &mut Script,
@@ -176,7 +172,7 @@ fn sorted_rows(
     sorted.waiting.push(Waiting {
         index: root,
         above: 0,
-        is_left: false,
+        left: None,
     })?;
     Ok(sorted)
 }
@@ -187,7 +183,7 @@ fn push_below(
     below: &[Below],
     parent: u64,
     above: usize,
-    is_left: bool,
+    left: Option<Reason>,
 ) -> Result<(), AllocError>
     ensures { OnOk result ((before after : ℕ) → before ≤ after → above ≤ after
         → list_all (waits_on before) waiting.old.items ≡ true → list_all (waits_on after) waiting.new.items ≡ true) }
@@ -200,14 +196,13 @@ fn push_below(
         waiting.push(Waiting {
             index: row.index,
             above,
-            is_left,
+            left,
         })?;
     }
     Ok(())
 }
 
-/// Makes the mount of a row that waits, or tells why it is not made, unless that is told of what it stands on: whether it
-/// is made. Refused as `NoMemory` alone.
+/// Makes the mount of a row that waits, or tells why it is not made: whether it is made. Refused as `NoMemory` alone.
 fn make_next<'a>(
     alloc: Global,
     script: &mut Script,
@@ -219,9 +214,11 @@ fn make_next<'a>(
 ) -> Result<bool, Fault>
     ensures order { OnOk result (next.above ≤ length mounts.old.items - 1 → HasParentsFirst mounts.old.items → HasParentsFirst mounts.new.items) }
     ensures made { IfOk result (λ made. length mounts.new.items ≡ (if made then length mounts.old.items + 1 else length mounts.old.items)) }
+    ensures told { IfOk result (λ made. IsToldUnless made row.now script.old script.new) }
     ensures memory { IsOkUnless result Fault.NoMemory }
 {
-    if next.is_left {
+    if let Some(why) = next.left {
+        left_out(alloc, script, row, why)?;
         return Ok(false);
     }
     match judge(alloc, row, mounts.as_slice(), next.above, groups, standing)? {
@@ -230,7 +227,7 @@ fn make_next<'a>(
             Ok(true)
         }
         Judged::Left(why) => {
-            left_out(alloc, script, row.id, why)?;
+            left_out(alloc, script, row, why)?;
             Ok(false)
         }
     }
@@ -241,6 +238,27 @@ fn place_below(made: bool, here: usize) -> usize
     ensures { result ≡ (if made then here else 0) }
 {
     if made { here } else { 0 }
+}
+
+/// Why rows below this one are left out, if it is not made.
+fn left_below(made: bool) -> Option<Reason>
+    ensures { result ≡ (if made then None else Some Reason.ParentLeftOut) }
+{
+    if made {
+        None
+    } else {
+        Some(Reason::ParentLeftOut)
+    }
+}
+
+/// Says that no row is a root mount's, and tells all rows. Refused as `NoMemory` alone.
+#[tactic(auto, unfolding(crate::specs::Script::rootless_text, crate::specs::Script::line_text))]
+fn tell_rootless(alloc: Global, script: &mut Script, rows: &[HostMount]) -> Result<(), Fault>
+    ensures told { OnOk result (script.new ≡ script.old ++ rootless_text rows.now) }
+    ensures memory { IsOkUnless result Fault.NoMemory }
+{
+    let _said = script.push(b"# no mount is the root of a namespace")?;
+    all_left_out(alloc, script, rows, Reason::NoRootMount)
 }
 
 /// Tells the rows of which the turn never came. Refused as `NoMemory` alone.
@@ -258,7 +276,7 @@ fn tell_rings(
             continue;
         };
         if !came.contains(&row.id) {
-            left_out(alloc, script, row.id, b"its parents go round in a ring")?;
+            left_out(alloc, script, row, Reason::Ring)?;
         }
     }
     Ok(())
@@ -277,7 +295,7 @@ pub(crate) fn mounts_of<'a>(
 {
     let ids = ids_of(alloc, rows)?;
     let Some(root) = root_of(&ids, rows) else {
-        let _said = script.push(b"# no mount is the root of a namespace")?;
+        tell_rootless(alloc, script, rows)?;
         return Ok(Vec::new(alloc));
     };
     let Sorted {
@@ -328,7 +346,7 @@ fn mounts_below<'a>(
         let here = mounts.len();
         let made = make_next(alloc, script, row, next, groups, &mut standing, &mut mounts)?;
         let place = place_below(made, here);
-        push_below(&mut waiting, below, row.id, place, !made)?;
+        push_below(&mut waiting, below, row.id, place, left_below(made))?;
     }
     Ok(mounts)
 }

@@ -140,6 +140,7 @@ pub fn read_mount(alloc: Global, line: &[u8]) -> Result<HostMount, Fault>
         return Err(Fault::BadLine);
     }
     Ok(HostMount {
+        line: copy_of(alloc, line)?,
         id,
         parent,
         device: copy_of(alloc, device)?,

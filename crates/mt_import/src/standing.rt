@@ -6,6 +6,7 @@ ghost use Rattle.mt_import.specs.Paths.{names_from_parent};
 use crate::groups::Groups;
 use crate::order::Mount;
 use crate::path::{MOST_NAMES, STAGE, below_root, can_be_named, names, path_behind};
+use crate::reason::Reason;
 use crate::told::HostMount;
 use crate::writer::one_behind;
 use mt_skel::fault::Fault;
@@ -17,8 +18,8 @@ use std::collections::BTreeSet;
 pub(crate) enum Judged<'a> {
     /// It is made.
     Made(Mount<'a>),
-    /// It is left out with all below it.
-    Left(&'static [u8]),
+    /// It is left out, for this reason.
+    Left(Reason),
 }
 
 /// The directories, each behind its device, at which mounts stand that copies of others may come to.
@@ -88,21 +89,21 @@ fn names_from_parent<'a>(
     point: &'a [u8],
     parent: &[u8],
     is_on_root: bool,
-) -> Result<&'a [u8], &'static [u8]>
+) -> Result<&'a [u8], Reason>
     ensures made { IfOk result (λ own. names_from_parent root.now point.now parent.now is_on_root ≡ Some own.now) }
     ensures left { IfErr result (λ why. names_from_parent root.now point.now parent.now is_on_root ≡ None) }
 {
     if !can_be_named(root) || !can_be_named(point) {
-        return Err(b"its root or mount point is no directory");
+        return Err(Reason::NoDirectory);
     }
     let Some(own) = path_behind(point, parent) else {
-        return Err(b"it stands elsewhere than below its parent");
+        return Err(Reason::Elsewhere);
     };
     if is_on_root && own.is_empty() {
-        return Err(b"it stands at the root of the namespace");
+        return Err(Reason::AtRoot);
     }
     if is_on_root && path_behind(own, STAGE).is_some() {
-        return Err(b"its mount point has the name that the script uses");
+        return Err(Reason::ScriptName);
     }
     Ok(own)
 }
@@ -116,12 +117,12 @@ impl Standing {
         parent: &HostMount,
         mounts: &[Mount<'_>],
         groups: &Groups<'_>,
-    ) -> Result<Option<&'static [u8]>, Fault>
+    ) -> Result<Option<Reason>, Fault>
         ensures memory { IsOkUnless result Fault.NoMemory }
     {
         let (place, row) = (mount.place.as_slice(), mount.row);
         if names(mount.root) > MOST_NAMES || names(place) > MOST_NAMES {
-            return Ok(Some(b"its directory is too deep"));
+            return Ok(Some(Reason::TooDeep));
         }
         let device = parent.device.as_slice();
         let spot = one_behind(alloc, device, place)?;
@@ -130,10 +131,10 @@ impl Standing {
             let is_same = row.device.as_slice() == device && mount.root == place;
             let is_in_group = row.shared.is_some() || row.master.is_some();
             if is_same && is_in_group && self.directories.contains(&spot) {
-                return Ok(Some(b"another mount would go with its copies"));
+                return Ok(Some(Reason::GoesWithCopies));
             }
             if may_hide(mounts, groups, mount.above, device, place) {
-                return Ok(Some(b"its own copies would hide it"));
+                return Ok(Some(Reason::HiddenByCopies));
             }
         }
         if receives || parent.master.is_some() {

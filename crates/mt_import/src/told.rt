@@ -5,6 +5,8 @@ use std::marker::Model;
 /// A line of a mountinfo, as proc_pid_mountinfo(5) has it: words as they stand there, numbers read.
 #[derive(Drop)]
 pub struct HostMount {
+    /// The line itself, without its line end.
+    pub line: Vec<u8>,
     /// The number of the mount.
     pub id: u64,
     /// The number of the mount that it stands on.
@@ -37,6 +39,7 @@ impl Model for HostMount {
     ghost Value = { ToldMount };
 
     ghost view = { λ r. record {
+      line = r.line.items;
       id = r.id;
       parent = r.parent;
       device = r.device.items;

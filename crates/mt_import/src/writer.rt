@@ -1,12 +1,17 @@
 //! The lines of the script, made of their words.
-ghost use Rattle.std.specs.Prelude.{◌≡◌, ◌∷◌, ◌++◌, map, decimal, IfOk, OnOk, IsOkUnless};
+ghost use Rattle.std.specs.Prelude.{◌≡◌, ◌∷◌, ◌++◌, map, take, decimal, IfOk, OnOk, IsOkUnless};
 ghost use Rattle.std.specs.List.{flat_map, join_with_byte};
 ghost use Rattle.mt_import.specs.Script.{line_or_comment, command_text, comment_text, left_out_text};
 
+use crate::reason::Reason;
 use crate::script::Script;
+use crate::told::HostMount;
 use itoa::Buffer;
 use mt_skel::fault::Fault;
 use std::alloc::{AllocError, Global};
+
+/// How many bytes of a row a comment tells.
+const MOST_TOLD: usize = 8_000;
 
 /// Texts, one behind the other. Fails for want of memory alone.
 pub(crate) fn joined(alloc: Global, texts: &[&[u8]]) -> Result<Vec<u8>, AllocError>
@@ -86,35 +91,67 @@ pub(crate) fn command(alloc: Global, script: &mut Script, words: &[&[u8]]) -> Re
     Ok(())
 }
 
-/// Appends a comment on a mount. Refused as `NoMemory` alone.
+/// The first bytes of a text, so many at most.
+fn first_bytes(text: &[u8], most: usize) -> &[u8]
+    ensures { result.now ≡ take most text.now }
+{
+    if text.len() <= most {
+        text
+    } else {
+        &text[..most]
+    }
+}
+
+/// Appends a comment on a mount, with its row, of which as much is told as a line that is sent may hold. Refused as
+/// `NoMemory` alone.
 #[tactic(auto, unfolding(crate::specs::Script::comment_text))]
 pub(crate) fn comment(
     alloc: Global,
     script: &mut Script,
-    mount: u64,
+    row: &HostMount,
     text: &[u8],
 ) -> Result<(), Fault>
-    ensures pushed { OnOk result (script.new ≡ script.old ++ comment_text mount text.now) }
+    ensures pushed { OnOk result (script.new ≡ script.old ++ comment_text row.now text.now) }
     ensures memory { IsOkUnless result Fault.NoMemory }
 {
-    let number = digits_of(alloc, mount)?;
-    let line = joined(alloc, &[b"# mount ", number.as_slice(), b" ", text])?;
+    let number = digits_of(alloc, row.id)?;
+    let told = first_bytes(row.line.as_slice(), MOST_TOLD);
+    let line = joined(
+        alloc,
+        &[b"# mount ", number.as_slice(), b" ", text, b": ", told],
+    )?;
     let _said = script.push(line.as_slice())?;
     Ok(())
 }
 
-/// Says that a mount is left out with all below it, and why. Refused as `NoMemory` alone.
+/// Says that a mount is left out, and why. Refused as `NoMemory` alone.
 #[tactic(auto, unfolding(crate::specs::Script::left_out_text))]
 pub(crate) fn left_out(
     alloc: Global,
     script: &mut Script,
-    mount: u64,
-    why: &[u8],
+    row: &HostMount,
+    why: Reason,
 ) -> Result<(), Fault>
-    ensures pushed { OnOk result (script.new ≡ script.old ++ left_out_text mount why.now) }
+    ensures pushed { OnOk result (script.new ≡ script.old ++ left_out_text row.now why) }
     ensures memory { IsOkUnless result Fault.NoMemory }
 {
-    let text = one_behind(alloc, b"is left out with all below it: ", why)?;
-    comment(alloc, script, mount, text.as_slice())?;
+    let text = one_behind(alloc, b"is left out: ", why.text())?;
+    comment(alloc, script, row, text.as_slice())?;
+    Ok(())
+}
+
+/// Says that all these mounts are left out, and why. Refused as `NoMemory` alone.
+pub(crate) fn all_left_out(
+    alloc: Global,
+    script: &mut Script,
+    rows: &[HostMount],
+    why: Reason,
+) -> Result<(), Fault>
+    ensures pushed { OnOk result (script.new ≡ script.old ++ flat_map (λ row. left_out_text row why) rows.now) }
+    ensures memory { IsOkUnless result Fault.NoMemory }
+{
+    'rows: for row in rows {
+        left_out(alloc, script, row, why)?;
+    }
     Ok(())
 }

@@ -1,0 +1,51 @@
+//! Why a mount of a mountinfo is not made.
+ghost use Rattle.std.specs.Prelude.{◌≡◌};
+ghost use Rattle.mt_import.specs.Script.{reason_text};
+
+/// Why a mount is left out.
+#[derive(Clone, Copy)]
+pub(crate) enum Reason {
+    /// No row is that of a root mount.
+    NoRootMount,
+    /// No row is that of what it stands on.
+    NoParent,
+    /// What it stands on is left out.
+    ParentLeftOut,
+    /// Each of its parents stands on another of them.
+    Ring,
+    /// Its root or its mount point is no path of names, or too long.
+    NoDirectory,
+    /// Its mount point is not below that of its parent.
+    Elsewhere,
+    /// It stands on the root mount, at its root.
+    AtRoot,
+    /// It stands where the script keeps mounts until its end.
+    ScriptName,
+    /// Its root, or where it stands, has too many names.
+    TooDeep,
+    /// It cannot be told from its copies, which are unmounted.
+    GoesWithCopies,
+    /// Its own copies would come on top of it.
+    HiddenByCopies,
+}
+
+impl Reason {
+    /// What a comment says.
+    pub(crate) fn text(self) -> &'static [u8]
+        ensures { result.now ≡ reason_text self }
+    {
+        match self {
+            Reason::NoRootMount => b"there is no root mount",
+            Reason::NoParent => b"it stands on no other",
+            Reason::ParentLeftOut => b"what it stands on is left out",
+            Reason::Ring => b"its parents go round in a ring",
+            Reason::NoDirectory => b"its root or mount point is no directory",
+            Reason::Elsewhere => b"it stands elsewhere than below its parent",
+            Reason::AtRoot => b"it stands at the root of the namespace",
+            Reason::ScriptName => b"its mount point has the name that the script uses",
+            Reason::TooDeep => b"its directory is too deep",
+            Reason::GoesWithCopies => b"another mount would go with its copies",
+            Reason::HiddenByCopies => b"its own copies would hide it",
+        }
+    }
+}
