@@ -14,6 +14,18 @@ use mt_propagate::world::World;
 use mt_skel::fault::Fault;
 use mt_skel::skel::Dir;
 
+/// What was found of mounts on the ways up: whether a recursive bind copies them.
+struct Judgements {
+    found: IndexMap<MountId, bool>,
+}
+
+// Written out, so that whoever owns them lets them go as one thing.
+impl Drop for Judgements {
+    fn drop(self) {
+        let Judgements { found: _found } = self;
+    }
+}
+
 /// Whether a mount stands at a directory or below it. True where there is no mount to ask for.
 fn leads_within(world: &World, dir: Dir, mount: Option<MountId>) -> bool
     ensures { result ≡ leads_within (world_view world.now) dir mount }
@@ -121,10 +133,11 @@ pub(crate) fn members_within(world: &World, from: Place) -> Result<Vec<MountId>,
     ensures memory { IsOkUnless result Fault.NoMemory }
 {
     let below = world.forest.subtree(from.mount)?;
-    let mut judged = IndexMap::with_capacity(world.forest.allocator(), below.len())?;
+    let found = IndexMap::with_capacity(world.forest.allocator(), below.len())?;
+    let mut judged = Judgements { found };
     let mut members = Vec::with_capacity(world.forest.allocator(), below.len())?;
     for id in &below {
-        let bound = judge(world, from, &mut judged, *id)?;
+        let bound = judge(world, from, &mut judged.found, *id)?;
         if bound {
             members.push(*id)?;
         }

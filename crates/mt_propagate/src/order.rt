@@ -7,10 +7,19 @@ use mt_mounts::mount::MountId;
 use std::marker::Model;
 
 /// IDs in an order. One is found by halving, where none is below the one before it.
-#[derive(Drop)]
 pub(crate) struct Order {
     ids: Vec<MountId>,
     sorted: bool,
+}
+
+// Written out, so that whoever owns one lets it go as one thing.
+impl Drop for Order {
+    fn drop(self) {
+        let Order {
+            ids: _ids,
+            sorted: _sorted,
+        } = self;
+    }
 }
 
 impl Model for Order {

@@ -15,7 +15,7 @@ loop-id-init c =
       kept = ap (λ t. t ++ filter taken c.deref-id-items.result.now) c.in_ok-members.ensures.items
           ∙ ap (filter taken) (c.deref-id-items.ensures.value ∙ c.in_ok-below.ensures.subtree)
           ∙ bound_below w c.args.from;
-      judged = judged_none w c.args.from c.in_ok-judged.judged c.in_ok-judged.ensures.empty;
+      judged = judged_none w c.args.from c.in_ok-found.found c.in_ok-found.ensures.empty;
     }
 
 pub loop-id-preserved : goal.loop-id-preserved

@@ -11,5 +11,5 @@ abbrev pub invariant-loop-id : goal.invariant-loop-id
 invariant-loop-id l = record {
   kept : l.members.items ++ filter (is_bound_along (world_view l.world) l.from) (drop l.id-index l.id-items)
       ≡ map id_of (filter (λ m. is_bound_along (world_view l.world) l.from m.id) l.world.forest.mounts);
-  judged : IsJudged (world_view l.world) l.from l.judged;
+  judged : IsJudged (world_view l.world) l.from l.judged.found;
 }
