@@ -25,8 +25,10 @@ COMMANDS = 10, 30, 60
 # The most rows of a random table that is imported.
 MOST_ROWS = 400
 
-# Of so many tables fewer than one may be made with mounts left out.
-LEFT_OUT_IN = 10
+# The cases of which a table is made with mounts left out, though commands have made it, and of how many tables at most,
+# those of the random worlds with them. In the first of them the rows are copies that a move brings to a peer.
+CASES_PARTLY = ["case move-with-its-receiver", "case rbind-into-itself"]
+MOST_PARTLY = 25
 
 # What a script says of a mount that it does not make: why, and the row or as much of it as a comment holds.
 LEFT_OUT = re.compile(rb"# mount (\d+) is left out: [^:]+: (.*)", re.DOTALL)
@@ -178,9 +180,12 @@ def check_tables(program, mountctl):
     for seed in range(WORLDS):
         source = random.Random(seed)
         worlds[f"world {seed}"] = [*directories(), *(random_command(source) for _ in range(source.choice(COMMANDS)))]
-    whole = [check_table(program, mountctl, f"import of {name}", table) for name, lines in worlds.items() for table in tables(program, lines)]
-    check("tables are imported as a whole", whole.count(False) * LEFT_OUT_IN < len(whole))
-    print(f"{len(whole)} tables imported, {whole.count(False)} with mounts left out")
+    whole = [(name, check_table(program, mountctl, f"import of {name}", table)) for name, lines in worlds.items() for table in tables(program, lines)]
+    partly = [name for name, is_whole in whole if not is_whole]
+    cases_partly = [name for name in partly if name.startswith("case ")]
+    check("the cases of which mounts are left out", cases_partly == CASES_PARTLY, ", ".join(cases_partly))
+    check("tables are imported as a whole", len(partly) <= MOST_PARTLY, ", ".join(partly))
+    print(f"{len(whole)} tables imported, {len(partly)} with mounts left out")
 
 
 # A host's table: a root mount whose parent is not in sight, devices with a major number, and words that the server has not.
@@ -247,6 +252,21 @@ NO_ROWS = [
 ]
 
 
+# Words behind `import`, of which it takes none: the file that a user has in mind, what is asked of a server, options.
+NO_WORDS = ("/proc/self/mountinfo",), ("-",), ("tree",), ("show", "1"), ("",), ("--ascii",), ("-h", "1"), ("import",)
+NO_WORDS_SAID = b"mountctl: import takes no words, and reads a mountinfo from standard input\n"
+
+
+def check_words(mountctl, text):
+    """Words behind `import` are refused, and no server is looked for; but for its help, which is the program's."""
+    for words in NO_WORDS:
+        found = run(mountctl, text, "import", *words)
+        check(f"import {' '.join(words)}", found == (2, b"", NO_WORDS_SAID), repr(found))
+    for option in "-h", "--help":
+        found, wanted = run(mountctl, text, "import", option), run(mountctl, b"", "--help")
+        check(f"import {option}", found == wanted and wanted[0] == 0 and b"import" in wanted[1], repr(found))
+
+
 def check_lines(mountctl):
     """A line that is none is refused with its number, and nothing is printed; what is not made is told with its row."""
     good = b"1 1 0:1 / / rw,relatime - tmpfs none rw\n"
@@ -258,6 +278,7 @@ def check_lines(mountctl):
     found = imported(mountctl, good[:-1])
     check("import of a line without end", found == (1, b"", b"mountctl: line 1 is no row of a mountinfo\n"), repr(found))
     check("import of nothing", imported(mountctl, b"")[0] == 0)
+    check_words(mountctl, good)
     comments = [line for line in imported(mountctl, ODD)[1].split(b"\n") if line.startswith(b"#")]
     check("import of a table that no kernel prints", comments == ODD_COMMENTS, shown(b"\n".join(comments)))
     found = imported(mountctl, ROOTLESS)

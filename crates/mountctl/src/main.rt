@@ -11,7 +11,7 @@ use crate::connection::connect;
 use crate::fault::Fault;
 use crate::import::{ImportFault, ROW_LIMIT, import};
 use crate::script::{SCRIPT_LIMIT, run_script};
-use crate::task::{Task, task_of};
+use crate::task::{Task, WordFault, task_of};
 use clap::{Arg, ArgAction, Command, Error};
 use mt_arguments::program::{Program, read_arguments};
 use mt_client::ask::ask;
@@ -160,17 +160,25 @@ fn run_arguments(rt: &HostRuntime, arguments: &[&str]) -> Result<ExitCode, Error
     Ok(run_words(rt, socket, words))
 }
 
+/// Does what the arguments ask for, where they are those of a request to a server or of the help, or says why not.
+fn run_or_explain(rt: &HostRuntime, words: &[&str]) -> ExitCode {
+    match run_arguments(rt, words) {
+        Ok(code) => code,
+        Err(error) => PROGRAM.explain(rt, &error),
+    }
+}
+
 /// Does what the arguments ask for.
 fn run(rt: &HostRuntime) -> io::Result<ExitCode> {
     let arguments = read_arguments(rt)?;
     let words = PROGRAM.words(rt.alloc(), arguments.as_slice())?;
-    if words.as_slice() == [NAME, "import"].as_slice() {
-        return Ok(run_import(rt));
-    }
-    match run_arguments(rt, words.as_slice()) {
-        Ok(code) => Ok(code),
-        Err(error) => Ok(PROGRAM.explain(rt, &error)),
-    }
+    let code = match words.as_slice() {
+        [_, "import"] => run_import(rt),
+        [_, "import", "-h" | "--help"] => run_or_explain(rt, &[NAME, "--help"]),
+        [_, "import", ..] => PROGRAM.refuse(rt, WordFault::Import.message()),
+        words => run_or_explain(rt, words),
+    };
+    Ok(code)
 }
 
 fn main(rt: HostRuntime) -> ExitCode {

@@ -33,6 +33,8 @@ pub(crate) enum WordFault {
     Tree,
     /// Behind `dot`.
     Graph,
+    /// Behind `import`, which stands in the place of a socket.
+    Import,
 }
 
 impl WordFault {
@@ -43,6 +45,7 @@ impl WordFault {
             WordFault::Mirror => "mirror takes a namespace and a count of 1 to 1048576",
             WordFault::Tree => "tree takes a namespace, or none, and --ascii",
             WordFault::Graph => "dot takes no words",
+            WordFault::Import => "import takes no words, and reads a mountinfo from standard input",
         }
     }
 }
