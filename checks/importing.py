@@ -25,10 +25,10 @@ COMMANDS = 10, 30, 60
 # The most rows of a random table that is imported.
 MOST_ROWS = 400
 
-# The cases of which a table is made with mounts left out, though commands have made it, and of how many tables at most,
-# those of the random worlds with them. In the first of them the rows are copies that a move brings to a peer.
-CASES_PARTLY = ["case move-with-its-receiver", "case rbind-into-itself"]
-MOST_PARTLY = 25
+# The cases of which a table is made with a mount left out, though commands have made it, and of how many tables at most,
+# those of the random worlds with them. It stands on the root mount, at its root, where no path ends.
+CASES_PARTLY = ["case rbind-into-itself"]
+MOST_PARTLY = 5
 
 # What a script says of a mount that it does not make: why, and the row or as much of it as a comment holds.
 LEFT_OUT = re.compile(rb"# mount (\d+) is left out: [^:]+: (.*)", re.DOTALL)

@@ -3,14 +3,14 @@ use Rattle.std.proofs.Common.{◌≡◌, ℕ, Bool, true, false, List, [], ◌++
 use Rattle.mt_import.specs.Commands.{kind_text, slave_text, umount_text, unstaging_text, unstage_text}
 use Rattle.mt_import.specs.Options.{flags, times_of, with_flags, with_times, with_kind, options_text}
 
--- what seven appended is one text
-seven : (old a b c d e f g : List ℕ) → ((((((old ++ a) ++ b) ++ c) ++ d) ++ e) ++ f) ++ g ≡ old ++ ((((((a ++ b) ++ c) ++ d) ++ e) ++ f) ++ g)
-seven old a b c d e f g = simp append_assoc
+-- what six appended is one text
+six : (old a b c d e f : List ℕ) → (((((old ++ a) ++ b) ++ c) ++ d) ++ e) ++ f ≡ old ++ (((((a ++ b) ++ c) ++ d) ++ e) ++ f)
+six old a b c d e f = simp append_assoc
 
-pub seven_pushed : (s0 s1 s2 s3 s4 s5 s6 s7 a b c d e f g : List ℕ) → s1 ≡ s0 ++ a → s2 ≡ s1 ++ b → s3 ≡ s2 ++ c → s4 ≡ s3 ++ d → s5 ≡ s4 ++ e
-    → s6 ≡ s5 ++ f → s7 ≡ s6 ++ g → s7 ≡ s0 ++ ((((((a ++ b) ++ c) ++ d) ++ e) ++ f) ++ g)
-seven_pushed s0 s1 s2 s3 s4 s5 s6 s7 a b c d e f g e1 e2 e3 e4 e5 e6 e7 =
-    e7 ∙ ap (λ s. s ++ g) (e6 ∙ ap (λ s. s ++ f) (e5 ∙ ap (λ s. s ++ e) (e4 ∙ ap (λ s. s ++ d) (e3 ∙ ap (λ s. s ++ c) (e2 ∙ ap (λ s. s ++ b) e1))))) ∙ seven s0 a b c d e f g
+pub six_pushed : (s0 s1 s2 s3 s4 s5 s6 a b c d e f : List ℕ) → s1 ≡ s0 ++ a → s2 ≡ s1 ++ b → s3 ≡ s2 ++ c → s4 ≡ s3 ++ d → s5 ≡ s4 ++ e
+    → s6 ≡ s5 ++ f → s6 ≡ s0 ++ (((((a ++ b) ++ c) ++ d) ++ e) ++ f)
+six_pushed s0 s1 s2 s3 s4 s5 s6 a b c d e f e1 e2 e3 e4 e5 e6 =
+    e6 ∙ ap (λ s. s ++ f) (e5 ∙ ap (λ s. s ++ e) (e4 ∙ ap (λ s. s ++ d) (e3 ∙ ap (λ s. s ++ c) (e2 ∙ ap (λ s. s ++ b) e1)))) ∙ six s0 a b c d e f
 
 -- the words of options, appended part by part
 pub options_joined : (options : List ℕ) (kind : Option (List ℕ)) (t0 t1 t2 t3 : List ℕ) → t0 ≡ [] → t1 ≡ with_flags options t0 flags

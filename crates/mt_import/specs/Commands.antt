@@ -75,17 +75,6 @@ abbrev pub one_text : Option ℕ → List ℕ → List ℕ → List ℕ → List
 one_text None device root point = own_mount_text device root point
 one_text (Some group) device root point = bind_text (staged_path (decimal group) root) point
 
--- the copies of a new mount at a path are unmounted, by way of the one at another path: two mounts keep the new one, the
--- first of them private, so that there are no copies of the second, and an unmount spares a mount on which another stands
-unfoldable pub copies_text : List ℕ → List ℕ → List ℕ
-copies_text point copy = (((((mount_text (codes "import") (point ++ codes "/.import")
-    ++ kind_text (codes "1") (point ++ codes "/.import") (codes "prop=private"))
-    ++ mount_text (codes "import") ((point ++ codes "/.import") ++ codes "/.import"))
-    ++ umount_text (codes "1") (copy ++ codes "/.import"))
-    ++ umount_text (codes "1") copy)
-    ++ umount_text (codes "1") ((point ++ codes "/.import") ++ codes "/.import"))
-    ++ umount_text (codes "1") (point ++ codes "/.import")
-
 -- options of a mount are set, each behind a space, if there are any
 abbrev pub set_text : List ℕ → List ℕ → List ℕ
 set_text path [] = []

@@ -6,9 +6,9 @@ use Rattle.std.specs.Option.{option_map_or}
 use Rattle.std.specs.Ordering.{nat_cmp}
 use Rattle.mt_import.specs.declared.groups.Group.{Group}
 
--- a member of a group is staged if others are bound from it: it has slaves, or more than one member
+-- a member of a group is staged if others are bound from it: it has slaves or more than one member, or is needed besides
 abbrev pub is_staged : Group → Bool
-is_staged group = group.is_master || nat_lt 1 group.members
+is_staged group = group.is_needed || nat_lt 1 group.members
 
 -- whether a row is a member of a group
 unfoldable pub has_members : BTreeMap ℕ Group → ℕ → Bool

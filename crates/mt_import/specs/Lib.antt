@@ -4,5 +4,6 @@ pub mod Paths
 pub mod Commands
 pub mod Options
 pub mod Groups
+pub mod Keepers
 pub mod Order
 pub mod Staging

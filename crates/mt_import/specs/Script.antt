@@ -7,7 +7,7 @@ use Rattle.mt_requests.specs.declared.request.Request.{Request}
 use Rattle.mt_requests.specs.declared.request.Request.TheVariants as request
 use Rattle.mt_requests.specs.Requests.{request_of}
 use Rattle.mt_import.specs.declared.reason.Reason.{Reason}
-use Rattle.mt_import.specs.declared.reason.Reason.TheVariants.{NoRootMount, NoParent, ParentLeftOut, Ring, NoDirectory, Elsewhere, AtRoot, ScriptName, TooDeep, GoesWithCopies, HiddenByCopies}
+use Rattle.mt_import.specs.declared.reason.Reason.TheVariants.{NoRootMount, NoParent, ParentLeftOut, Ring, NoDirectory, Elsewhere, AtRoot, ScriptName, TooDeep, GoesWithCopies}
 use Rattle.mt_import.specs.Reading.{ToldMount}
 
 -- whether a line asks for a command
@@ -55,7 +55,6 @@ reason_text AtRoot = codes "it stands at the root of the namespace"
 reason_text ScriptName = codes "its mount point has the name that the script uses"
 reason_text TooDeep = codes "its directory is too deep"
 reason_text GoesWithCopies = codes "another mount would go with its copies"
-reason_text HiddenByCopies = codes "its own copies would hide it"
 
 -- the comment that tells why a mount is not made
 unfoldable pub left_out_text : ToldMount → Reason → List ℕ

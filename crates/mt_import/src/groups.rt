@@ -1,5 +1,6 @@
 //! The peer groups that rows name.
-ghost use Rattle.std.specs.Prelude.{◌≡◌, if◌then◌else◌};
+ghost use Rattle.std.specs.Prelude.{◌≡◌, if◌then◌else◌, Some, is_some, OnOk};
+ghost use Rattle.std.specs.Option.{option_or};
 ghost use Rattle.std.specs.BTreeMap.{get, btree_map_len};
 ghost use Rattle.std.specs.Ordering.{nat_cmp};
 ghost use Rattle.mt_import.specs.Groups.{is_staged, has_members, has_receivers};
@@ -17,8 +18,9 @@ pub(crate) struct Group<'a> {
     pub(crate) device: &'a [u8],
     /// How many rows are members.
     pub(crate) members: u64,
-    /// Whether a row has it as its master, or as the group that it gets from.
-    is_master: bool,
+    /// Whether one is staged in any case: a row has it as its master, or as the group that it gets from, or mounts of it
+    /// are kept by way of the staged one.
+    is_needed: bool,
 }
 
 impl<'a> Group<'a> {
@@ -28,15 +30,15 @@ impl<'a> Group<'a> {
             master,
             device,
             members: 0,
-            is_master: false,
+            is_needed: false,
         }
     }
 
-    /// Whether a member of it is staged, from which others are bound: it has another member or slaves.
+    /// Whether a member of it is staged, from which others are bound: it has another member or slaves, or needs it besides.
     pub(crate) fn is_staged(&self) -> bool
         ensures { result ≡ is_staged self.now }
     {
-        self.is_master || self.members > 1
+        self.is_needed || self.members > 1
     }
 }
 
@@ -79,6 +81,43 @@ impl<'a> Groups<'a> {
         }
     }
 
+    /// The group by way of which a mount is kept, if by one: that from which it is bound, or its own.
+    pub(crate) fn keeper_of(&self, row: &HostMount) -> Option<u64>
+        ensures { result ≡ option_or (if has_receivers self.now.all row.now.shared then row.now.shared else row.now.master) row.now.shared }
+    {
+        self.source_of(row).or(row.shared)
+    }
+
+    /// Whether a mount gets what is mounted on one of a group: it is of this group, or of one that has it above.
+    pub(crate) fn gets_from(&self, row: &HostMount, group: u64) -> bool {
+        let mut next = row.shared.or(row.master);
+        for _step in 0..self.all.len() {
+            let Some(number) = next else {
+                return false;
+            };
+            if number == group {
+                return true;
+            }
+            next = self.get(number).and_then(|above| above.master);
+        }
+        false
+    }
+
+    /// Has a member of a group staged, if rows name it. Fails for want of memory alone.
+    pub(crate) fn stage(&mut self, number: u64) -> Result<(), AllocError>
+        ensures { OnOk result (has_receivers self.new.all (Some number) ≡ is_some (get nat_cmp self.old.all number)) }
+    {
+        let Some(group) = self.get(number) else {
+            return Ok(());
+        };
+        let needed = Group {
+            is_needed: true,
+            ..group
+        };
+        self.all.insert(number, needed)?;
+        Ok(())
+    }
+
     /// Adds what a row tells. Fails for want of memory alone.
     pub(crate) fn add(&mut self, row: &'a HostMount) -> Result<(), AllocError> {
         if let Some(number) = row.shared {
@@ -98,7 +137,7 @@ impl<'a> Groups<'a> {
         let old = self.get(number);
         let group = Group {
             members: old.map_or(1, |group| group.members.saturating_add(1)),
-            is_master: old.is_some_and(|group| group.is_master),
+            is_needed: old.is_some_and(|group| group.is_needed),
             ..Group::new(row.master, row.device.as_slice())
         };
         self.all.insert(number, group)?;
@@ -115,7 +154,7 @@ impl<'a> Groups<'a> {
     ) -> Result<(), AllocError> {
         let old = self.get(number);
         let group = Group {
-            is_master: true,
+            is_needed: true,
             ..old.unwrap_or(Group::new(master, row.device.as_slice()))
         };
         self.all.insert(number, group)?;

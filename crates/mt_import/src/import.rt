@@ -4,6 +4,7 @@ ghost use Rattle.std.specs.Prelude.{IsOkUnless};
 use crate::directories::Directories;
 use crate::filesystems::{Filesystems, filesystems_of, make_filesystems};
 use crate::groups::Groups;
+use crate::keepers::Kept;
 use crate::mounting::{make_mount, set_root};
 use crate::order::{Mount, mounts_of};
 use crate::path::STAGE;
@@ -34,6 +35,23 @@ fn add_needed(
     Ok(())
 }
 
+/// Adds the directories on which mounts stand that keep others. Fails for want of memory alone.
+fn add_keepers(
+    alloc: Global,
+    directories: &mut Directories,
+    groups: &Groups<'_>,
+    kept: &[Kept<'_>],
+) -> Result<(), AllocError> {
+    for here in kept {
+        let Some(group) = groups.get(here.group) else {
+            continue;
+        };
+        let keeper = one_behind(alloc, here.root, STAGE)?;
+        directories.add(alloc, group.device, keeper.as_slice())?;
+    }
+    Ok(())
+}
+
 /// The directories that mounts need. Fails for want of memory alone.
 fn directories_of(
     alloc: Global,
@@ -46,6 +64,7 @@ fn directories_of(
             continue;
         };
         add_needed(alloc, &mut directories, groups, mount, parent)?;
+        add_keepers(alloc, &mut directories, groups, mount.kept.as_slice())?;
     }
     Ok(directories)
 }
@@ -125,7 +144,15 @@ fn make_mounts<'a>(
         let Some(parent) = mounts.get(mount.above) else {
             continue;
         };
-        make_mount(alloc, script, groups, mount, parent.row)?;
+        make_mount(alloc, script, mounts, groups, mount, parent.row)?;
+    }
+    Ok(())
+}
+
+/// Has a member staged of each group by way of which mounts are kept. Fails for want of memory alone.
+fn stage_kept(groups: &mut Groups<'_>, kept: &[Kept<'_>]) -> Result<(), AllocError> {
+    for here in kept {
+        groups.stage(here.group)?;
     }
     Ok(())
 }
@@ -135,6 +162,7 @@ fn groups_of<'a>(alloc: Global, mounts: &[Mount<'a>]) -> Result<Groups<'a>, Allo
     let mut groups = Groups::new(alloc);
     for mount in mounts {
         groups.add(mount.row)?;
+        stage_kept(&mut groups, mount.kept.as_slice())?;
     }
     Ok(groups)
 }

@@ -1,18 +1,20 @@
 //! The mounts, made one after another.
 ghost use Rattle.std.specs.Prelude.{◌≡◌, ◌++◌, OnOk, IsOkUnless};
 ghost use Rattle.std.specs.Option.{option_map};
-ghost use Rattle.mt_import.specs.Commands.{own_mount_text, one_text, copies_text, set_text, second_text, attributes_text};
+ghost use Rattle.mt_import.specs.Commands.{own_mount_text, one_text, set_text, second_text, attributes_text};
 ghost use Rattle.mt_import.specs.Paths.{path_word};
 
-use crate::commands::{MODEL, bind, mount_filesystem, set_kind, unmount};
+use crate::commands::{MODEL, bind, mount_filesystem, set_kind};
 use crate::groups::Groups;
+use crate::hiding::hiding_copies;
+use crate::keepers::{keep_all, let_go_all, unmount_copies};
 use crate::options::options_of;
 use crate::order::Mount;
-use crate::path::{STAGE, path_word};
+use crate::path::path_word;
 use crate::script::Script;
-use crate::stage::{STAGE_FS, group_path, staged_path};
+use crate::stage::{group_path, staged_path};
 use crate::told::HostMount;
-use crate::writer::{joined, one_behind, push_command};
+use crate::writer::{joined, push_command};
 use mt_skel::fault::Fault;
 use std::alloc::Global;
 
@@ -167,57 +169,60 @@ fn mount_one(
     Ok(())
 }
 
-/// Unmounts the copies of a new mount at a path, by way of the one at another path. Two mounts keep the new one: one on
-/// it, and on that one another, of which there are no copies. Refused as `NoMemory` alone.
-fn unmount_copies(
+/// Unmounts the copies of a new mount, if it stands on one from which others get what is mounted on it. Refused as `NoMemory`
+/// alone.
+fn part_from_copies(
     alloc: Global,
     script: &mut Script,
-    point: &[u8],
-    copy: &[u8],
-) -> Result<(), Fault>
-    ensures pushed { OnOk result (script.new ≡ script.old ++ copies_text point.now copy.now) }
-    ensures memory { IsOkUnless result Fault.NoMemory }
-{
-    let keeper = one_behind(alloc, point, STAGE)?;
-    let inner = one_behind(alloc, keeper.as_slice(), STAGE)?;
-    let kept = one_behind(alloc, copy, STAGE)?;
-    let (keeper, inner) = (keeper.as_slice(), inner.as_slice());
-    mount_filesystem(alloc, script, STAGE_FS, keeper)?;
-    set_kind(alloc, script, MODEL, keeper, b"prop=private")?;
-    mount_filesystem(alloc, script, STAGE_FS, inner)?;
-    unmount(alloc, script, MODEL, kept.as_slice())?;
-    unmount(alloc, script, MODEL, copy)?;
-    unmount(alloc, script, MODEL, inner)?;
-    unmount(alloc, script, MODEL, keeper)?;
-    Ok(())
-}
-
-/// Makes a mount on one that is made. Refused as `NoMemory` alone.
-pub(crate) fn make_mount(
-    alloc: Global,
-    script: &mut Script,
+    mounts: &[Mount<'_>],
     groups: &Groups<'_>,
     mount: &Mount<'_>,
     parent: &HostMount,
 ) -> Result<(), Fault>
     ensures memory { IsOkUnless result Fault.NoMemory }
 {
-    let row = mount.row;
-    let (source, point) = (groups.source_of(row), path_word(mount.point));
+    let Some(group) = parent.shared else {
+        return Ok(());
+    };
+    if !groups.has_receivers(parent.shared) {
+        return Ok(());
+    }
+    let device = parent.device.as_slice();
+    let hiding = hiding_copies(alloc, mounts, groups, group, mount, device)?;
+    let copy = group_path(alloc, group, mount.place.as_slice())?;
+    unmount_copies(
+        alloc,
+        script,
+        mount.point,
+        copy.as_slice(),
+        hiding.as_slice(),
+    )
+}
+
+/// Makes a mount on one of those that are made, and nothing else. Refused as `NoMemory` alone.
+pub(crate) fn make_mount(
+    alloc: Global,
+    script: &mut Script,
+    mounts: &[Mount<'_>],
+    groups: &Groups<'_>,
+    mount: &Mount<'_>,
+    parent: &HostMount,
+) -> Result<(), Fault>
+    ensures memory { IsOkUnless result Fault.NoMemory }
+{
+    let (row, point, kept) = (mount.row, path_word(mount.point), mount.kept.as_slice());
+    let device = row.device.as_slice();
+    keep_all(alloc, script, kept)?;
     mount_one(
         alloc,
         script,
-        source,
-        row.device.as_slice(),
+        groups.source_of(row),
+        device,
         mount.root,
         point,
     )?;
-    if let Some(group) = parent.shared {
-        if groups.has_receivers(parent.shared) {
-            let copy = group_path(alloc, group, mount.place.as_slice())?;
-            unmount_copies(alloc, script, mount.point, copy.as_slice())?;
-        }
-    }
+    part_from_copies(alloc, script, mounts, groups, mount, parent)?;
+    let_go_all(alloc, script, kept)?;
     let kinds = kinds_of(groups, row, parent);
     set_attributes(alloc, script, row.options.as_slice(), mount.point, kinds)
 }

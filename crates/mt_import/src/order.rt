@@ -7,10 +7,11 @@ ghost use Rattle.mt_import.specs.Script.{rootless_text};
 ghost use Rattle.mt_import.specs.Order.{waits_on, HasParentsFirst, IsToldUnless};
 
 use crate::groups::Groups;
+use crate::keepers::Kept;
 use crate::path::{below_root, names};
 use crate::reason::Reason;
 use crate::script::Script;
-use crate::standing::{Judged, Standing, judge};
+use crate::standing::{Judged, judge};
 use crate::told::HostMount;
 use crate::writer::{all_left_out, comment, left_out};
 use mt_skel::fault::Fault;
@@ -30,6 +31,8 @@ pub(crate) struct Mount<'a> {
     pub(crate) point: &'a [u8],
     /// The path of the directory where it stands, in the filesystem of the mount that it stands on.
     pub(crate) place: Vec<u8>,
+    /// The mounts that would go with its copies, where these are unmounted.
+    pub(crate) kept: Vec<Kept<'a>>,
 }
 
 /// A row below its parent.
@@ -209,7 +212,6 @@ fn make_next<'a>(
     row: &'a HostMount,
     next: Waiting,
     groups: &Groups<'a>,
-    standing: &mut Standing,
     mounts: &mut Vec<Mount<'a>>,
 ) -> Result<bool, Fault>
     ensures order { OnOk result (next.above ≤ length mounts.old.items - 1 → HasParentsFirst mounts.old.items → HasParentsFirst mounts.new.items) }
@@ -221,7 +223,7 @@ fn make_next<'a>(
         left_out(alloc, script, row, why)?;
         return Ok(false);
     }
-    match judge(alloc, row, mounts.as_slice(), next.above, groups, standing)? {
+    match judge(alloc, row, mounts.as_slice(), next.above, groups)? {
         Judged::Made(mount) => {
             mounts.push(mount)?;
             Ok(true)
@@ -333,7 +335,6 @@ fn mounts_below<'a>(
     ensures memory { IsOkUnless result Fault.NoMemory }
 {
     let mut mounts: Vec<Mount<'a>> = Vec::new(alloc);
-    let mut standing = Standing::new(alloc);
     let mut waiting = waiting;
     'rows: for _step in 0..=rows.len() {
         let Some(next) = waiting.pop() else {
@@ -344,7 +345,7 @@ fn mounts_below<'a>(
         };
         came.insert(row.id)?;
         let here = mounts.len();
-        let made = make_next(alloc, script, row, next, groups, &mut standing, &mut mounts)?;
+        let made = make_next(alloc, script, row, next, groups, &mut mounts)?;
         let place = place_below(made, here);
         push_below(&mut waiting, below, row.id, place, left_below(made))?;
     }

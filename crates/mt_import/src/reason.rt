@@ -23,10 +23,9 @@ pub(crate) enum Reason {
     ScriptName,
     /// Its root, or where it stands, has too many names.
     TooDeep,
-    /// It cannot be told from its copies, which are unmounted.
+    /// Its copies get what is mounted where they stand, so what stands there would be unmounted with them; and that is a
+    /// mount without group and master, or too many others.
     GoesWithCopies,
-    /// Its own copies would come on top of it.
-    HiddenByCopies,
 }
 
 impl Reason {
@@ -45,7 +44,6 @@ impl Reason {
             Reason::ScriptName => b"its mount point has the name that the script uses",
             Reason::TooDeep => b"its directory is too deep",
             Reason::GoesWithCopies => b"another mount would go with its copies",
-            Reason::HiddenByCopies => b"its own copies would hide it",
         }
     }
 }

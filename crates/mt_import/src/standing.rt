@@ -4,6 +4,7 @@ ghost use Rattle.mt_import.specs.Order.{IsMadeOn};
 ghost use Rattle.mt_import.specs.Paths.{names_from_parent};
 
 use crate::groups::Groups;
+use crate::keepers::Kept;
 use crate::order::Mount;
 use crate::path::{MOST_NAMES, STAGE, below_root, can_be_named, names, path_behind};
 use crate::reason::Reason;
@@ -11,7 +12,9 @@ use crate::told::HostMount;
 use crate::writer::one_behind;
 use mt_skel::fault::Fault;
 use std::alloc::{AllocError, Global};
-use std::collections::BTreeSet;
+
+/// The most groups, each with a directory, of which mounts are kept while the copies of one are unmounted.
+const MOST_KEPT: usize = 64;
 
 /// A mount that is made, or why it is not.
 #[derive(Drop)]
@@ -20,21 +23,6 @@ pub(crate) enum Judged<'a> {
     Made(Mount<'a>),
     /// It is left out, for this reason.
     Left(Reason),
-}
-
-/// The directories, each behind its device, at which mounts stand that copies of others may come to.
-#[derive(Drop)]
-pub(crate) struct Standing {
-    directories: BTreeSet<Vec<u8>>,
-}
-
-impl Standing {
-    /// No directory.
-    pub(crate) fn new(alloc: Global) -> Standing {
-        Standing {
-            directories: BTreeSet::new(alloc),
-        }
-    }
 }
 
 /// The root mount that a row tells. It shows the root of its filesystem, and stands on itself.
@@ -47,39 +35,8 @@ pub(crate) fn root_mount(alloc: Global, row: &HostMount) -> Mount<'_>
         root: b"",
         point: b"",
         place: Vec::new(alloc),
+        kept: Vec::new(alloc),
     }
-}
-
-/// Whether copies that come to the directory of a device may hide a mount, or what it stands on.
-fn may_hide(
-    mounts: &[Mount<'_>],
-    groups: &Groups<'_>,
-    mount: usize,
-    device: &[u8],
-    directory: &[u8],
-) -> bool {
-    let mut here = mount;
-    for _step in 0..mounts.len() {
-        let Some(below) = mounts.get(here) else {
-            return false;
-        };
-        if below.above == here {
-            return false;
-        }
-        let Some(above) = mounts.get(below.above) else {
-            return false;
-        };
-        let row = above.row;
-        let receives = groups.has_receivers(row.shared) || row.master.is_some();
-        if receives
-            && row.device.as_slice() == device
-            && path_behind(below.place.as_slice(), directory).is_some()
-        {
-            return true;
-        }
-        here = below.above;
-    }
-    false
 }
 
 /// The names from the point of a mount's parent down to its own, or why the mount cannot be made: the root or point
@@ -108,40 +65,79 @@ fn names_from_parent<'a>(
     Ok(own)
 }
 
-impl Standing {
-    /// Adds where a mount stands, or says why it cannot be made there. Refused as `NoMemory` alone.
-    fn add(
-        &mut self,
-        alloc: Global,
-        mount: &Mount<'_>,
-        parent: &HostMount,
-        mounts: &[Mount<'_>],
-        groups: &Groups<'_>,
-    ) -> Result<Option<Reason>, Fault>
-        ensures memory { IsOkUnless result Fault.NoMemory }
+/// Whether copies of a mount show the directory where they stand, and get what is mounted there.
+fn copies_get(groups: &Groups<'_>, mount: &Mount<'_>, parent: &HostMount) -> bool {
+    let row = mount.row;
+    let Some(group) = parent.shared else {
+        return false;
+    };
+    groups.has_receivers(parent.shared)
+        && row.device.as_slice() == parent.device.as_slice()
+        && mount.root == mount.place.as_slice()
+        && groups.gets_from(row, group)
+}
+
+/// Whether copies of a new mount may come to where another stands, by what that stands on.
+fn may_meet(
+    groups: &Groups<'_>,
+    above: &HostMount,
+    other: &Mount<'_>,
+    new: &Mount<'_>,
+    parent: &HostMount,
+) -> bool {
+    let receives = groups.has_receivers(above.shared) || above.master.is_some();
+    receives
+        && above.device.as_slice() == parent.device.as_slice()
+        && other.place.as_slice() == new.place.as_slice()
+}
+
+/// Adds how a mount is kept, if it is not kept yet: whether it is kept then. Fails for want of memory alone.
+fn add_kept<'a>(
+    groups: &Groups<'_>,
+    kept: &mut Vec<Kept<'a>>,
+    other: &Mount<'a>,
+) -> Result<bool, AllocError> {
+    let Some(group) = groups.keeper_of(other.row) else {
+        return Ok(false);
+    };
+    let root = other.root;
+    if kept
+        .iter()
+        .any(|here| here.group == group && here.root == root)
     {
-        let (place, row) = (mount.place.as_slice(), mount.row);
-        if names(mount.root) > MOST_NAMES || names(place) > MOST_NAMES {
-            return Ok(Some(Reason::TooDeep));
-        }
-        let device = parent.device.as_slice();
-        let spot = one_behind(alloc, device, place)?;
-        let receives = groups.has_receivers(parent.shared);
-        if receives {
-            let is_same = row.device.as_slice() == device && mount.root == place;
-            let is_in_group = row.shared.is_some() || row.master.is_some();
-            if is_same && is_in_group && self.directories.contains(&spot) {
-                return Ok(Some(Reason::GoesWithCopies));
-            }
-            if may_hide(mounts, groups, mount.above, device, place) {
-                return Ok(Some(Reason::HiddenByCopies));
-            }
-        }
-        if receives || parent.master.is_some() {
-            self.directories.insert(spot)?;
-        }
-        Ok(None)
+        return Ok(true);
     }
+    if kept.len() >= MOST_KEPT {
+        return Ok(false);
+    }
+    kept.push(Kept { group, root })?;
+    Ok(true)
+}
+
+/// What is to be kept while the copies of a mount are unmounted, or None where that cannot be. Fails for want of memory
+/// alone.
+fn kept_of<'a>(
+    alloc: Global,
+    mounts: &[Mount<'a>],
+    groups: &Groups<'_>,
+    mount: &Mount<'a>,
+    parent: &HostMount,
+) -> Result<Option<Vec<Kept<'a>>>, AllocError> {
+    let mut kept = Vec::new(alloc);
+    if !copies_get(groups, mount, parent) {
+        return Ok(Some(kept));
+    }
+    for other in mounts.iter().skip(1) {
+        let Some(above) = mounts.get(other.above) else {
+            continue;
+        };
+        if may_meet(groups, above.row, other, mount, parent)
+            && !add_kept(groups, &mut kept, other)?
+        {
+            return Ok(None);
+        }
+    }
+    Ok(Some(kept))
 }
 
 /// The mount that a row tells, on one that is made. Refused as `NoMemory` alone.
@@ -151,7 +147,6 @@ pub(crate) fn judge<'a>(
     mounts: &[Mount<'a>],
     above: usize,
     groups: &Groups<'a>,
-    standing: &mut Standing,
 ) -> Result<Judged<'a>, Fault>
     ensures above { IfOk result (λ judged. IsMadeOn above judged) }
     ensures memory { IsOkUnless result Fault.NoMemory }
@@ -165,15 +160,20 @@ pub(crate) fn judge<'a>(
         Ok(own) => own,
         Err(why) => return Ok(Judged::Left(why)),
     };
-    let mount = Mount {
+    let mut mount = Mount {
         row,
         above,
         root,
         point,
         place: one_behind(alloc, parent.root, own)?,
+        kept: Vec::new(alloc),
     };
-    match standing.add(alloc, &mount, parent.row, mounts, groups)? {
-        Some(why) => Ok(Judged::Left(why)),
-        None => Ok(Judged::Made(mount)),
+    if names(root) > MOST_NAMES || names(mount.place.as_slice()) > MOST_NAMES {
+        return Ok(Judged::Left(Reason::TooDeep));
     }
+    let Some(kept) = kept_of(alloc, mounts, groups, &mount, parent.row)? else {
+        return Ok(Judged::Left(Reason::GoesWithCopies));
+    };
+    mount.kept = kept;
+    Ok(Judged::Made(mount))
 }
