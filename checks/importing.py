@@ -25,11 +25,6 @@ COMMANDS = 10, 30, 60
 # The most rows of a random table that is imported.
 MOST_ROWS = 400
 
-# The cases of which a table is made with a mount left out, though commands have made it, and of how many tables at most,
-# those of the random worlds with them. It stands on the root mount, at its root, where no path ends.
-CASES_PARTLY = ["case rbind-into-itself"]
-MOST_PARTLY = 5
-
 # What a script says of a mount that it does not make: why, and the row or as much of it as a comment holds.
 LEFT_OUT = re.compile(rb"# mount (\d+) is left out: [^:]+: (.*)", re.DOTALL)
 MOST_TOLD = 8_000
@@ -182,9 +177,7 @@ def check_tables(program, mountctl):
         worlds[f"world {seed}"] = [*directories(), *(random_command(source) for _ in range(source.choice(COMMANDS)))]
     whole = [(name, check_table(program, mountctl, f"import of {name}", table)) for name, lines in worlds.items() for table in tables(program, lines)]
     partly = [name for name, is_whole in whole if not is_whole]
-    cases_partly = [name for name in partly if name.startswith("case ")]
-    check("the cases of which mounts are left out", cases_partly == CASES_PARTLY, ", ".join(cases_partly))
-    check("tables are imported as a whole", len(partly) <= MOST_PARTLY, ", ".join(partly))
+    check("tables are imported as a whole", not partly, ", ".join(partly))
     print(f"{len(whole)} tables imported, {len(partly)} with mounts left out")
 
 

@@ -40,10 +40,10 @@ unfoldable pub path_behind : List ℕ → List ℕ → Option (List ℕ)
 path_behind path above = if starts_with nat_eq path above then names_behind (drop (length above) path) else None
 
 -- the names from the point of a parent down to the point of a mount on it, if the script can make the mount there: root and
--- point can be named, the point is not above the parent, and on the root mount it is neither the root nor a name of the script
+-- point can be named, the point is not above the parent, and on the root mount it is no name of the script
 abbrev pub has_free_names : Bool → List ℕ → Bool
 has_free_names false own = true
-has_free_names true own = not (nat_eq (length own) 0) && not (is_some (path_behind own (codes "/.import")))
+has_free_names true own = not (is_some (path_behind own (codes "/.import")))
 
 abbrev pub free_names : Bool → Option (List ℕ) → Option (List ℕ)
 free_names is_on_root None = None

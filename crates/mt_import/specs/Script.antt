@@ -7,7 +7,7 @@ use Rattle.mt_requests.specs.declared.request.Request.{Request}
 use Rattle.mt_requests.specs.declared.request.Request.TheVariants as request
 use Rattle.mt_requests.specs.Requests.{request_of}
 use Rattle.mt_import.specs.declared.reason.Reason.{Reason}
-use Rattle.mt_import.specs.declared.reason.Reason.TheVariants.{NoRootMount, NoParent, ParentLeftOut, Ring, NoDirectory, Elsewhere, AtRoot, ScriptName, TooDeep, GoesWithCopies}
+use Rattle.mt_import.specs.declared.reason.Reason.TheVariants.{NoRootMount, NoParent, ParentLeftOut, Ring, NoDirectory, Elsewhere, AtRoot, OutOfReach, ScriptName, TooDeep, GoesWithCopies}
 use Rattle.mt_import.specs.Reading.{ToldMount}
 
 -- whether a line asks for a command
@@ -52,6 +52,7 @@ reason_text Ring = codes "its parents go round in a ring"
 reason_text NoDirectory = codes "its root or mount point is no directory"
 reason_text Elsewhere = codes "it stands elsewhere than below its parent"
 reason_text AtRoot = codes "it stands at the root of the namespace"
+reason_text OutOfReach = codes "no path leads to what it stands on"
 reason_text ScriptName = codes "its mount point has the name that the script uses"
 reason_text TooDeep = codes "its directory is too deep"
 reason_text GoesWithCopies = codes "another mount would go with its copies"

@@ -103,6 +103,21 @@ impl<'a> Groups<'a> {
         false
     }
 
+    /// Whether two mounts, or their groups, have a group above them in common, or are in one.
+    pub(crate) fn meet(&self, first: &HostMount, second: &HostMount) -> bool {
+        let mut next = second.shared.or(second.master);
+        for _step in 0..self.all.len() {
+            let Some(number) = next else {
+                return false;
+            };
+            if self.gets_from(first, number) {
+                return true;
+            }
+            next = self.get(number).and_then(|above| above.master);
+        }
+        false
+    }
+
     /// Has a member of a group staged, if rows name it. Fails for want of memory alone.
     pub(crate) fn stage(&mut self, number: u64) -> Result<(), AllocError>
         ensures { OnOk result (has_receivers self.new.all (Some number) ≡ is_some (get nat_cmp self.old.all number)) }

@@ -1,6 +1,7 @@
 //! The script that makes a namespace.
 ghost use Rattle.std.specs.Prelude.{IsOkUnless};
 
+use crate::cover::{NAMES, make_cover};
 use crate::directories::Directories;
 use crate::filesystems::{Filesystems, filesystems_of, make_filesystems};
 use crate::groups::Groups;
@@ -14,6 +15,7 @@ use crate::told::HostMount;
 use crate::writer::{command, comment, digits_of, one_behind};
 use mt_skel::fault::Fault;
 use std::alloc::{AllocError, Global};
+use std::collections::BTreeSet;
 
 /// Adds the directories that a mount needs: what it shows, where it stands, and on it one for the mount that keeps it while
 /// its copies are unmounted. Fails for want of memory alone.
@@ -28,7 +30,7 @@ fn add_needed(
     let device = row.device.as_slice();
     directories.add(alloc, device, mount.root)?;
     directories.add(alloc, lower.device.as_slice(), mount.place.as_slice())?;
-    if groups.has_receivers(lower.shared) {
+    if groups.has_receivers(lower.shared) || mount.is_cover {
         let keeper = one_behind(alloc, mount.root, STAGE)?;
         directories.add(alloc, device, keeper.as_slice())?;
     }
@@ -96,6 +98,14 @@ fn add_groups(
     Ok(())
 }
 
+/// Adds the directories by way of which a mount at the root of the namespace is made. Fails for want of memory alone.
+fn add_cover(alloc: Global, directories: &mut Directories) -> Result<(), AllocError> {
+    for name in NAMES {
+        directories.add(alloc, STAGE_FS, name)?;
+    }
+    Ok(())
+}
+
 /// Adds the directories on which what is staged stands, the first of them on the root mount. Fails for want of memory
 /// alone.
 fn add_staged(
@@ -107,7 +117,11 @@ fn add_staged(
     directories.add(alloc, root.device.as_slice(), STAGE)?;
     directories.add(alloc, STAGE_FS, STAGE)?;
     add_devices(alloc, directories, stage.devices.as_slice())?;
-    add_groups(alloc, directories, stage.groups.as_slice())
+    add_groups(alloc, directories, stage.groups.as_slice())?;
+    if stage.has_cover {
+        add_cover(alloc, directories)?;
+    }
+    Ok(())
 }
 
 /// Makes the filesystems and directories. Refused as `NoMemory` alone.
@@ -131,7 +145,7 @@ fn make_trees<'a>(
     directories.make(alloc, script)
 }
 
-/// Makes the mounts, in their order. Refused as `NoMemory` alone.
+/// Makes the mounts, in their order, but for one that stands at the root of the namespace. Refused as `NoMemory` alone.
 fn make_mounts<'a>(
     alloc: Global,
     script: &mut Script,
@@ -144,6 +158,9 @@ fn make_mounts<'a>(
         let Some(parent) = mounts.get(mount.above) else {
             continue;
         };
+        if mount.is_cover {
+            continue;
+        }
         make_mount(alloc, script, mounts, groups, mount, parent.row)?;
     }
     Ok(())
@@ -206,7 +223,9 @@ fn push_script<'a>(alloc: Global, script: &mut Script, mounts: &[Mount<'a>]) -> 
     make_trees(alloc, script, mounts, &groups, &filesystems, row, &stage)?;
     command(alloc, script, &[b"newns", row.device.as_slice()])?;
     stage.mount(alloc, script)?;
-    stage_groups(alloc, script, &groups, root, &stage)?;
+    let mut done = BTreeSet::new(alloc);
+    make_cover(alloc, script, mounts, &groups, row, &mut done)?;
+    stage_groups(alloc, script, &groups, root, &stage, &mut done)?;
     set_root(alloc, script, root)?;
     make_mounts(alloc, script, mounts, &groups)?;
     stage.unmount(alloc, script)

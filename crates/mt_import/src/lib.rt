@@ -8,6 +8,7 @@
 #![tactic(auto)]
 
 mod commands;
+mod cover;
 mod directories;
 mod filesystems;
 mod groups;

@@ -20,13 +20,13 @@ use std::alloc::Global;
 
 /// How the propagation of a mount is changed from what it was made with.
 #[derive(Clone, Copy)]
-struct Kinds {
+pub(crate) struct Kinds {
     first: Option<&'static [u8]>,
     second: Option<&'static [u8]>,
 }
 
 /// The changes of propagation of a mount that was bound from a group, or from none.
-fn kinds_of(groups: &Groups<'_>, row: &HostMount, parent: &HostMount) -> Kinds {
+pub(crate) fn kinds_of(groups: &Groups<'_>, row: &HostMount, parent: &HostMount) -> Kinds {
     if groups.has_receivers(row.shared) {
         return Kinds {
             first: None,
@@ -92,7 +92,7 @@ fn set_second(
 }
 
 /// Sets the options and the propagation of a mount. Refused as `NoMemory` alone.
-fn set_attributes(
+pub(crate) fn set_attributes(
     alloc: Global,
     script: &mut Script,
     options: &[u8],
@@ -149,7 +149,7 @@ fn mount_directory(
 
 /// Binds a mount from the staged member of a group, if from one, or else mounts a filesystem or binds a directory of it.
 /// Refused as `NoMemory` alone.
-fn mount_one(
+pub(crate) fn mount_one(
     alloc: Global,
     script: &mut Script,
     group: Option<u64>,

@@ -31,6 +31,8 @@ pub(crate) struct Mount<'a> {
     pub(crate) point: &'a [u8],
     /// The path of the directory where it stands, in the filesystem of the mount that it stands on.
     pub(crate) place: Vec<u8>,
+    /// Whether it stands on the root mount, at its root.
+    pub(crate) is_cover: bool,
     /// The mounts that would go with its copies, where these are unmounted.
     pub(crate) kept: Vec<Kept<'a>>,
 }
@@ -39,6 +41,8 @@ pub(crate) struct Mount<'a> {
 #[derive(Clone, Copy)]
 struct Below {
     parent: u64,
+    /// How many names lead to it, less one; the most there are where none does, since one that stands on the root mount, at
+    /// its root, hides nothing and is made first.
     names: usize,
     index: usize,
 }
@@ -125,7 +129,7 @@ impl Sorted {
         }
         self.below.push(Below {
             parent: row.parent,
-            names: names(below_root(row.point.as_slice())),
+            names: names(below_root(row.point.as_slice())).wrapping_sub(1),
             index,
         })?;
         Ok(())

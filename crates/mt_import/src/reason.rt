@@ -17,8 +17,11 @@ pub(crate) enum Reason {
     NoDirectory,
     /// Its mount point is not below that of its parent.
     Elsewhere,
-    /// It stands on the root mount, at its root.
+    /// It stands on the root mount, at its root, as another one does, or is unbindable, or has a group that the root mount
+    /// is in, or gets from, or a master that does.
     AtRoot,
+    /// It stands on one that stands on the root mount, at its root.
+    OutOfReach,
     /// It stands where the script keeps mounts until its end.
     ScriptName,
     /// Its root, or where it stands, has too many names.
@@ -41,6 +44,7 @@ impl Reason {
             Reason::NoDirectory => b"its root or mount point is no directory",
             Reason::Elsewhere => b"it stands elsewhere than below its parent",
             Reason::AtRoot => b"it stands at the root of the namespace",
+            Reason::OutOfReach => b"no path leads to what it stands on",
             Reason::ScriptName => b"its mount point has the name that the script uses",
             Reason::TooDeep => b"its directory is too deep",
             Reason::GoesWithCopies => b"another mount would go with its copies",

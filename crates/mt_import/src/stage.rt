@@ -8,6 +8,7 @@ ghost use Rattle.mt_import.specs.Staging.{has_nothing_staged};
 ghost use Rattle.mt_import.specs.Commands.{staged_path, staging_text, unstaging_text, stage_text, unstage_text, slave_text, member_text};
 
 use crate::commands::{HOLDER, MODEL, bind, mount_filesystem, set_kind, unmount};
+use crate::cover::cover_of;
 use crate::filesystems::Filesystems;
 use crate::groups::{Group, Groups};
 use crate::order::Mount;
@@ -28,6 +29,8 @@ pub(crate) struct Stage<'a> {
     pub(crate) devices: Vec<&'a [u8]>,
     /// The numbers of groups, and those of which no member is made but this.
     pub(crate) groups: Vec<u64>,
+    /// Whether a mount at the root of the namespace is made by way of it.
+    pub(crate) has_cover: bool,
 }
 
 /// The path of what is staged under a name, and of a directory below. Fails for want of memory alone.
@@ -50,7 +53,7 @@ impl<'a> Stage<'a> {
     pub(crate) fn is_empty(&self) -> bool
         ensures { result ≡ has_nothing_staged self.now }
     {
-        self.devices.is_empty() && self.groups.is_empty()
+        self.devices.is_empty() && self.groups.is_empty() && !self.has_cover
     }
 
     /// Mounts the filesystems. Refused as `NoMemory` alone.
@@ -281,7 +284,7 @@ fn undone_above(
 }
 
 /// Stages a group and those above it that are not done. Refused as `NoMemory` alone.
-fn stage_above(
+pub(crate) fn stage_above(
     alloc: Global,
     script: &mut Script,
     groups: &Groups<'_>,
@@ -297,30 +300,30 @@ fn stage_above(
     Ok(())
 }
 
-/// A set of numbers. Fails for want of memory alone.
-fn set_of(alloc: Global, numbers: &[u64]) -> Result<BTreeSet<u64>, AllocError> {
-    let mut set = BTreeSet::new(alloc);
+/// Adds numbers to a set. Fails for want of memory alone.
+fn insert_all(set: &mut BTreeSet<u64>, numbers: &[u64]) -> Result<(), AllocError> {
     'numbers: for number in numbers {
         set.insert(*number)?;
     }
-    Ok(set)
+    Ok(())
 }
 
-/// Stages a member of each group from which mounts are bound. Refused as `NoMemory` alone.
+/// Stages a member of each group from which mounts are bound, but for those that are done. Refused as `NoMemory` alone.
 pub(crate) fn stage_groups<'a>(
     alloc: Global,
     script: &mut Script,
     groups: &Groups<'a>,
     root: &Mount<'a>,
     stage: &Stage<'a>,
+    done: &mut BTreeSet<u64>,
 ) -> Result<(), Fault>
     ensures memory { IsOkUnless result Fault.NoMemory }
 {
     let chain = root_chain(alloc, groups, root)?;
     stage_root(alloc, script, groups, root, chain.as_slice())?;
-    let mut done = set_of(alloc, chain.as_slice())?;
+    insert_all(done, chain.as_slice())?;
     'groups: for group in stage.groups.iter() {
-        stage_above(alloc, script, groups, &mut done, *group)?;
+        stage_above(alloc, script, groups, done, *group)?;
     }
     stage.hold(alloc, script, groups)
 }
@@ -372,5 +375,6 @@ pub(crate) fn stage_of<'a>(
     Ok(Stage {
         devices: filesystems.staged(alloc)?,
         groups: numbers,
+        has_cover: cover_of(mounts).is_some(),
     })
 }

@@ -3,6 +3,7 @@ ghost use Rattle.std.specs.Prelude.{◌≡◌, Some, None, IfOk, IfErr, IsOkUnle
 ghost use Rattle.mt_import.specs.Order.{IsMadeOn};
 ghost use Rattle.mt_import.specs.Paths.{names_from_parent};
 
+use crate::cover::can_cover;
 use crate::groups::Groups;
 use crate::keepers::Kept;
 use crate::order::Mount;
@@ -35,6 +36,7 @@ pub(crate) fn root_mount(alloc: Global, row: &HostMount) -> Mount<'_>
         root: b"",
         point: b"",
         place: Vec::new(alloc),
+        is_cover: false,
         kept: Vec::new(alloc),
     }
 }
@@ -56,9 +58,6 @@ fn names_from_parent<'a>(
     let Some(own) = path_behind(point, parent) else {
         return Err(Reason::Elsewhere);
     };
-    if is_on_root && own.is_empty() {
-        return Err(Reason::AtRoot);
-    }
     if is_on_root && path_behind(own, STAGE).is_some() {
         return Err(Reason::ScriptName);
     }
@@ -140,6 +139,25 @@ fn kept_of<'a>(
     Ok(Some(kept))
 }
 
+/// Why a mount cannot be made where it stands, by those that are made, if it cannot.
+fn why_left(
+    mounts: &[Mount<'_>],
+    groups: &Groups<'_>,
+    mount: &Mount<'_>,
+    parent: &Mount<'_>,
+) -> Option<Reason> {
+    if parent.is_cover {
+        return Some(Reason::OutOfReach);
+    }
+    if names(mount.root) > MOST_NAMES || names(mount.place.as_slice()) > MOST_NAMES {
+        return Some(Reason::TooDeep);
+    }
+    if mount.is_cover && !can_cover(mounts, groups, parent.row, mount.row) {
+        return Some(Reason::AtRoot);
+    }
+    None
+}
+
 /// The mount that a row tells, on one that is made. Refused as `NoMemory` alone.
 pub(crate) fn judge<'a>(
     alloc: Global,
@@ -166,10 +184,11 @@ pub(crate) fn judge<'a>(
         root,
         point,
         place: one_behind(alloc, parent.root, own)?,
+        is_cover: above == 0 && own.is_empty(),
         kept: Vec::new(alloc),
     };
-    if names(root) > MOST_NAMES || names(mount.place.as_slice()) > MOST_NAMES {
-        return Ok(Judged::Left(Reason::TooDeep));
+    if let Some(why) = why_left(mounts, groups, &mount, parent) {
+        return Ok(Judged::Left(why));
     }
     let Some(kept) = kept_of(alloc, mounts, groups, &mount, parent.row)? else {
         return Ok(Judged::Left(Reason::GoesWithCopies));
