@@ -13,6 +13,7 @@ import time
 from typing import NamedTuple
 
 import cases
+import mountinfos
 from clients import READ_FAULT, WRITE_FAULT, Asked, redirected
 from memory import Refusing
 from running import answer_groups, check, run, session, shown
@@ -181,68 +182,17 @@ def check_tables(program, mountctl):
     print(f"{len(whole)} tables imported, {len(partly)} with mounts left out")
 
 
-# A host's table: a root mount whose parent is not in sight, devices with a major number, and words that the server has not.
-HOST = b"""\
-29 1 8:2 / / rw,relatime shared:1 - ext4 /dev/sda2 rw,errors=remount-ro
-25 29 0:22 / /sys rw,nosuid,nodev,noexec,relatime shared:7 - sysfs sysfs rw
-26 29 0:23 / /proc rw,nosuid,nodev,noexec,relatime shared:12 - proc proc rw,hidepid=2
-40 29 8:2 /srv/my\\040data /mnt/data rw,idmapped,relatime shared:1 future:9 - ext4 /dev/sda2 rw,errors=remount-ro
-41 29 8:2 /gone//deleted /mnt/gone rw,relatime - ext4 /dev/sda2 rw
-42 29 0:4 net:[4026532293] /run/netns/x rw shared:30 - nsfs nsfs rw
-43 40 0:31 / /mnt/data/t ro,noatime master:3 - tmpfs a\\043b rw,size=4k
-44 29 0:31 / /tmp rw - tmpfs  rw
-"""
-
-# A table that no kernel prints, and its comments: a second line of a mount, one that stands on no other, and a ring.
-ODD = b"""\
-1 1 0:1 / / rw - tmpfs none rw
-2 1 0:2 / /a rw - tmpfs none rw
-2 1 0:3 / /b rw - tmpfs none rw
-3 9 0:2 / /c rw - tmpfs none rw
-4 3 0:2 / /c/d rw - tmpfs none rw
-5 6 0:2 / /e/f rw - tmpfs none rw
-6 5 0:2 / /e rw - tmpfs none rw
-7 2 0:2 / / rw - tmpfs none rw
-8 7 0:2 / /x rw - tmpfs none rw
-"""
-ODD_COMMENTS = [
-    b"# mount 2 has one more line, which is left out: 2 1 0:3 / /b rw - tmpfs none rw",
-    b"# mount 7 is left out: it stands elsewhere than below its parent: 7 2 0:2 / / rw - tmpfs none rw",
-    b"# mount 8 is left out: what it stands on is left out: 8 7 0:2 / /x rw - tmpfs none rw",
-    b"# mount 3 is left out: it stands on no other: 3 9 0:2 / /c rw - tmpfs none rw",
-    b"# mount 4 is left out: what it stands on is left out: 4 3 0:2 / /c/d rw - tmpfs none rw",
-    b"# mount 6 is left out: its parents go round in a ring: 6 5 0:2 / /e rw - tmpfs none rw",
-    b"# mount 5 is left out: its parents go round in a ring: 5 6 0:2 / /e/f rw - tmpfs none rw",
-]
-
-# The table of a process whose root is no mount, and the script that it makes.
-ROOTLESS = b"""\
-36 35 98:0 /mnt1 /mnt2 rw,noatime master:1 - ext3 /dev/root rw,errors=continue
-37 36 0:9 / /mnt2/a rw - tmpfs a: rw
-"""
-ROOTLESS_SCRIPT = b"""\
-# no mount is the root of a namespace
-# mount 36 is left out: there is no root mount: 36 35 98:0 /mnt1 /mnt2 rw,noatime master:1 - ext3 /dev/root rw,errors=continue
-# mount 37 is left out: there is no root mount: 37 36 0:9 / /mnt2/a rw - tmpfs a: rw
-"""
-
-# A row that is longer than a line of a script may be.
-LONG = b"90 29 0:9 / /" + b"long/" * 2_000 + b"a rw shared:9 - tmpfs none rw\n"
-
-NO_ROWS = [
-    b"",
-    b"1 1 0:1 / / rw,relatime tmpfs none rw",
-    b"1 1 0:1 / / rw,relatime - tmpfs none",
-    b"1 1 0:1 / / rw,relatime - tmpfs none rw more",
-    b"1 1 0:1 / / rw,relatime - tmpfs none rw ",
-    b"1 1 0 / / rw,relatime - tmpfs none rw",
-    b"1 1 0:x / / rw,relatime - tmpfs none rw",
-    b"1 1 0:1:2 / / rw,relatime - tmpfs none rw",
-    b"x 1 0:1 / / rw,relatime - tmpfs none rw",
-    b"1 01 0:1 / / rw,relatime - tmpfs none rw",
-    b"1 1 0:1 / / rw,relatime shared:x - tmpfs none rw",
-    b"1 1 0:1 / / rw,relatime master: - tmpfs none rw",
-]
+def check_partly(program, mountctl):
+    """Tables of which mounts are left out: which, and why; the others are made."""
+    for number, table in enumerate(mountinfos.PARTLY):
+        lines = [line if isinstance(line, bytes) else line[0] for line in table]
+        wanted = {b"# mount %s is left out: %s: %s" % (line[0].split(b" ")[0], line[1], line[0]) for line in table if isinstance(line, tuple)}
+        found = {line for line in imported(mountctl, b"".join(line + b"\n" for line in lines))[1].split(b"\n") if line.startswith(b"#")}
+        check(f"what is left out of table {number}", found == wanted, shown(b"\n".join(found)))
+        check_table(program, mountctl, f"import of table {number}, of which mounts are left out", lines)
+    for groups in mountinfos.MOST_KEPT, mountinfos.MOST_KEPT + 1:
+        whole = check_table(program, mountctl, f"import of mounts of {groups} groups", list(mountinfos.many_kept(groups)))
+        check(f"mounts of {groups} groups are kept", whole == (groups <= mountinfos.MOST_KEPT))
 
 
 # Words behind `import`, of which it takes none: the file that a user has in mind, what is asked of a server, options.
@@ -263,7 +213,7 @@ def check_words(mountctl, text):
 def check_lines(mountctl):
     """A line that is none is refused with its number, and nothing is printed; what is not made is told with its row."""
     good = b"1 1 0:1 / / rw,relatime - tmpfs none rw\n"
-    for line in NO_ROWS:
+    for line in mountinfos.NO_ROWS:
         for before in 0, 6:
             found = imported(mountctl, good * before + line + b"\n" + good)
             wanted = 1, b"", b"mountctl: line %d is no row of a mountinfo\n" % (before + 1)
@@ -272,10 +222,10 @@ def check_lines(mountctl):
     check("import of a line without end", found == (1, b"", b"mountctl: line 1 is no row of a mountinfo\n"), repr(found))
     check("import of nothing", imported(mountctl, b"")[0] == 0)
     check_words(mountctl, good)
-    comments = [line for line in imported(mountctl, ODD)[1].split(b"\n") if line.startswith(b"#")]
-    check("import of a table that no kernel prints", comments == ODD_COMMENTS, shown(b"\n".join(comments)))
-    found = imported(mountctl, ROOTLESS)
-    check("import of a table without a root mount", found == (0, ROOTLESS_SCRIPT, b""), repr(found))
+    comments = [line for line in imported(mountctl, mountinfos.ODD)[1].split(b"\n") if line.startswith(b"#")]
+    check("import of a table that no kernel prints", comments == mountinfos.ODD_COMMENTS, shown(b"\n".join(comments)))
+    found = imported(mountctl, mountinfos.ROOTLESS)
+    check("import of a table without a root mount", found == (0, mountinfos.ROOTLESS_SCRIPT, b""), repr(found))
 
 
 # Standard streams that fail, and how the program ends: an input that cannot be read, a folder, or is closed, and an
@@ -286,13 +236,13 @@ FAULTY_STREAMS = ("0</", READ_FAULT), ("0<&-", READ_FAULT), ("1>/dev/full", WRIT
 class Importing(Asked):
     """An import of a host's table, which says that memory is missing where it is."""
 
-    input = HOST
+    input = mountinfos.HOST
 
 
 def check_faults(mountctl):
     """An import whose streams fail, or for which there is no memory, says so."""
     for streams, wanted in FAULTY_STREAMS:
-        found = redirected(mountctl, streams, "import", text=HOST)
+        found = redirected(mountctl, streams, "import", text=mountinfos.HOST)
         check(f"import {streams}", found == wanted, repr(found))
     with tempfile.TemporaryDirectory() as folder:
         refusing, asked = Refusing(folder), Importing(mountctl, ["import"])
@@ -303,7 +253,7 @@ def check_faults(mountctl):
 
 def check_host(program, mountctl):
     """A host's table, and this machine's, are accepted as scripts of the other program over a socket."""
-    texts = {"a host": HOST, "a host with a long row": HOST + LONG}
+    texts = {"a host": mountinfos.HOST, "a host with a long row": mountinfos.HOST + mountinfos.LONG}
     if os.path.exists("/proc/self/mountinfo"):
         with open("/proc/self/mountinfo", "rb") as file:
             texts["this machine"] = file.read()
@@ -335,6 +285,7 @@ def check_large(program, mountctl):
 def check_import(program, mountctl):
     check_lines(mountctl)
     check_faults(mountctl)
+    check_partly(program, mountctl)
     check_tables(program, mountctl)
     check_host(program, mountctl)
     check_large(program, mountctl)

@@ -40,7 +40,7 @@ pub(crate) fn can_cover(
     root: &HostMount,
     row: &HostMount,
 ) -> bool {
-    cover_of(mounts).is_none() && !row.unbindable && !groups.meet(root, row)
+    cover_of(mounts).is_none() && !row.unbindable && !groups.have_common_group(root, row)
 }
 
 /// Gives the root mount a peer, of which it becomes a slave where its copies are to have no group. Refused as `NoMemory`

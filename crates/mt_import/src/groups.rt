@@ -104,7 +104,7 @@ impl<'a> Groups<'a> {
     }
 
     /// Whether two mounts, or their groups, have a group above them in common, or are in one.
-    pub(crate) fn meet(&self, first: &HostMount, second: &HostMount) -> bool {
+    pub(crate) fn have_common_group(&self, first: &HostMount, second: &HostMount) -> bool {
         let mut next = second.shared.or(second.master);
         for _step in 0..self.all.len() {
             let Some(number) = next else {

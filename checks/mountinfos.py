@@ -1,0 +1,113 @@
+"""Tables that an import is given, written by hand: a host's, those that no kernel prints, and those of which mounts are left out.
+
+A module, a part of importing.py.
+"""
+# A host's table: a root mount whose parent is not in sight, devices with a major number, and words that the server has not.
+HOST = b"""\
+29 1 8:2 / / rw,relatime shared:1 - ext4 /dev/sda2 rw,errors=remount-ro
+25 29 0:22 / /sys rw,nosuid,nodev,noexec,relatime shared:7 - sysfs sysfs rw
+26 29 0:23 / /proc rw,nosuid,nodev,noexec,relatime shared:12 - proc proc rw,hidepid=2
+40 29 8:2 /srv/my\\040data /mnt/data rw,idmapped,relatime shared:1 future:9 - ext4 /dev/sda2 rw,errors=remount-ro
+41 29 8:2 /gone//deleted /mnt/gone rw,relatime - ext4 /dev/sda2 rw
+42 29 0:4 net:[4026532293] /run/netns/x rw shared:30 - nsfs nsfs rw
+43 40 0:31 / /mnt/data/t ro,noatime master:3 - tmpfs a\\043b rw,size=4k
+44 29 0:31 / /tmp rw - tmpfs  rw
+"""
+
+# A table that no kernel prints, and its comments: a second line of a mount, one that stands on no other, and a ring.
+ODD = b"""\
+1 1 0:1 / / rw - tmpfs none rw
+2 1 0:2 / /a rw - tmpfs none rw
+2 1 0:3 / /b rw - tmpfs none rw
+3 9 0:2 / /c rw - tmpfs none rw
+4 3 0:2 / /c/d rw - tmpfs none rw
+5 6 0:2 / /e/f rw - tmpfs none rw
+6 5 0:2 / /e rw - tmpfs none rw
+7 2 0:2 / / rw - tmpfs none rw
+8 7 0:2 / /x rw - tmpfs none rw
+"""
+ODD_COMMENTS = [
+    b"# mount 2 has one more line, which is left out: 2 1 0:3 / /b rw - tmpfs none rw",
+    b"# mount 7 is left out: it stands elsewhere than below its parent: 7 2 0:2 / / rw - tmpfs none rw",
+    b"# mount 8 is left out: what it stands on is left out: 8 7 0:2 / /x rw - tmpfs none rw",
+    b"# mount 3 is left out: it stands on no other: 3 9 0:2 / /c rw - tmpfs none rw",
+    b"# mount 4 is left out: what it stands on is left out: 4 3 0:2 / /c/d rw - tmpfs none rw",
+    b"# mount 6 is left out: its parents go round in a ring: 6 5 0:2 / /e rw - tmpfs none rw",
+    b"# mount 5 is left out: its parents go round in a ring: 5 6 0:2 / /e/f rw - tmpfs none rw",
+]
+
+# Tables of which a mount is left out, each line that is, and why. A mount stands at the root of the namespace, and is
+# unbindable, or the second there, or has a group or master in common with the root mount, or is one on which another stands;
+# and copies of a mount get what is mounted where they stand, where a mount of no group stands, which may not go with them.
+AT_ROOT, TOO_HIGH = b"it stands at the root of the namespace", b"no path leads to what it stands on"
+ON_LEFT, WITH_COPIES = b"what it stands on is left out", b"another mount would go with its copies"
+PARTLY = [
+    [b"1 1 0:1 / / rw - tmpfs none rw", (b"2 1 0:2 / / rw unbindable - tmpfs none rw", AT_ROOT)],
+    [
+        b"1 1 0:1 / / rw - tmpfs none rw",
+        (b"2 1 0:2 / / rw - tmpfs none rw", AT_ROOT),
+        b"3 1 0:3 / / rw,nosuid - tmpfs none rw",
+        (b"4 2 0:3 / /x rw - tmpfs none rw", ON_LEFT),
+        (b"5 3 0:3 / / rw - tmpfs none rw", TOO_HIGH),
+        b"6 1 0:3 / /x rw - tmpfs none rw",
+    ],
+    [
+        b"1 1 0:1 / / rw shared:1 - tmpfs none rw",
+        (b"2 1 0:1 /a / rw shared:1 - tmpfs none rw", AT_ROOT),
+        b"3 1 0:1 /a /b rw shared:1 - tmpfs none rw",
+    ],
+    [
+        b"1 1 0:1 / / rw shared:1 master:3 - tmpfs none rw",
+        (b"2 1 0:1 /a / rw master:3 - tmpfs none rw", AT_ROOT),
+    ],
+    [
+        b"1 1 0:1 / / rw - tmpfs none rw",
+        b"2 1 0:2 / /a rw shared:1 - tmpfs none rw",
+        b"3 1 0:2 / /b rw shared:1 - tmpfs none rw",
+        (b"4 2 0:2 /p /a/p rw shared:1 - tmpfs none rw", WITH_COPIES),
+        b"5 3 0:3 / /b/p rw - tmpfs none rw",
+    ],
+]
+
+# Mounts of as many groups as may be, of which those of one more are not kept, stand where copies of one come.
+MOST_KEPT = 64
+
+
+def many_kept(groups):
+    """A table with a mount in each of so many groups, on a peer of a mount; and on that one of which the copies show where they stand."""
+    yield b"1 1 0:1 / / rw - tmpfs none rw"
+    for number in range(groups + 1):
+        yield b"%d 1 0:2 / /%d rw shared:1 - tmpfs none rw" % (number + 2, number)
+    yield b"1000 2 0:2 /p /0/p rw shared:1 - tmpfs none rw"
+    for number in range(1, groups + 1):
+        yield b"%d %d 0:3 / /%d/p rw shared:%d - tmpfs none rw" % (2_000 + number, number + 2, number, number + 1)
+
+
+# The table of a process whose root is no mount, and the script that it makes.
+ROOTLESS = b"""\
+36 35 98:0 /mnt1 /mnt2 rw,noatime master:1 - ext3 /dev/root rw,errors=continue
+37 36 0:9 / /mnt2/a rw - tmpfs a: rw
+"""
+ROOTLESS_SCRIPT = b"""\
+# no mount is the root of a namespace
+# mount 36 is left out: there is no root mount: 36 35 98:0 /mnt1 /mnt2 rw,noatime master:1 - ext3 /dev/root rw,errors=continue
+# mount 37 is left out: there is no root mount: 37 36 0:9 / /mnt2/a rw - tmpfs a: rw
+"""
+
+# A row that is longer than a line of a script may be.
+LONG = b"90 29 0:9 / /" + b"long/" * 2_000 + b"a rw shared:9 - tmpfs none rw\n"
+
+NO_ROWS = [
+    b"",
+    b"1 1 0:1 / / rw,relatime tmpfs none rw",
+    b"1 1 0:1 / / rw,relatime - tmpfs none",
+    b"1 1 0:1 / / rw,relatime - tmpfs none rw more",
+    b"1 1 0:1 / / rw,relatime - tmpfs none rw ",
+    b"1 1 0 / / rw,relatime - tmpfs none rw",
+    b"1 1 0:x / / rw,relatime - tmpfs none rw",
+    b"1 1 0:1:2 / / rw,relatime - tmpfs none rw",
+    b"x 1 0:1 / / rw,relatime - tmpfs none rw",
+    b"1 01 0:1 / / rw,relatime - tmpfs none rw",
+    b"1 1 0:1 / / rw,relatime shared:x - tmpfs none rw",
+    b"1 1 0:1 / / rw,relatime master: - tmpfs none rw",
+]
