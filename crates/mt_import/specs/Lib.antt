@@ -4,6 +4,7 @@ pub mod Paths
 pub mod Commands
 pub mod Options
 pub mod Groups
+pub mod Hiding
 pub mod Cover
 pub mod Keepers
 pub mod Order

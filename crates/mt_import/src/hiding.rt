@@ -1,4 +1,7 @@
 //! Copies of a new mount that hide it: those that come to a mount on the way to it, above where the next one stands.
+ghost use Rattle.std.specs.Prelude.{◌≡◌, nat_eq};
+ghost use Rattle.std.specs.Option.{option_copied};
+ghost use Rattle.mt_import.specs.Hiding.{names_to_hiding};
 
 use crate::groups::Groups;
 use crate::order::Mount;
@@ -8,12 +11,18 @@ use std::alloc::{AllocError, Global};
 
 /// The names from the root of a mount down to a directory, if a mount there hides one that stands on it. A walk enters no
 /// mount at the root of a namespace.
-fn hiding_place<'p>(above: &Mount<'_>, below: &Mount<'_>, place: &'p [u8]) -> Option<&'p [u8]> {
-    if below.above == 0 && place.is_empty() {
+fn names_to_hiding<'p>(
+    above: &Mount<'_>,
+    below: &Mount<'_>,
+    directory: &'p [u8],
+) -> Option<&'p [u8]>
+    ensures { option_copied result ≡ names_to_hiding (nat_eq below.now.above 0) above.now.root.now below.now.place.items directory.now }
+{
+    if below.above == 0 && directory.is_empty() {
         return None;
     }
-    match path_behind(below.place.as_slice(), place) {
-        Some([_, ..]) => path_behind(place, above.root),
+    match path_behind(below.place.as_slice(), directory) {
+        Some([_, ..]) => path_behind(directory, above.root),
         _ => None,
     }
 }
@@ -33,7 +42,7 @@ fn hiding_copy(
     if row.device.as_slice() != device || !groups.gets_from(row, group) {
         return Ok(None);
     }
-    match hiding_place(above, below, mount.place.as_slice()) {
+    match names_to_hiding(above, below, mount.place.as_slice()) {
         Some(names) => Ok(Some(one_behind(alloc, above.point, names)?)),
         None => Ok(None),
     }
