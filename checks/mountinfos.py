@@ -69,8 +69,8 @@ PARTLY = [
     ],
 ]
 
-# Mounts of as many groups as may be, of which those of one more are not kept, stand where copies of one come.
-MOST_KEPT = 64
+# As many mounts as are kept, and no more, where copies of another one come.
+MOST_KEPT = 256
 
 
 def many_kept(groups):

@@ -1,7 +1,7 @@
 //! Mounts that keep others from going with copies that are unmounted: an unmount spares a mount on which another stands.
 ghost use Rattle.std.specs.Prelude.{◌≡◌, ◌++◌, map, IfOk, OnOk, IsOkUnless};
 ghost use Rattle.std.specs.List.{flat_map};
-ghost use Rattle.mt_import.specs.Keepers.{keeper, keep_text, let_go_text, parting_text, unmount_one_text, copies_text, kept_path};
+ghost use Rattle.mt_import.specs.Keepers.{keeper, keep_text, let_go_text, parting_text, unmount_one_text, keep_in_sight_text, keep_hidden_text, keep_new_text, copies_text, kept_path};
 
 use crate::commands::{MODEL, mount_filesystem, set_kind, unmount};
 use crate::path::STAGE;
@@ -81,8 +81,60 @@ fn unmount_each(alloc: Global, script: &mut Script, paths: &[Vec<u8>]) -> Result
     Ok(())
 }
 
+/// Keeps a new mount at a path alone, which no copy hides: each copy gets one mount, by way of the one at another path, which
+/// keeps none. Refused as `NoMemory` alone.
+fn keep_in_sight(alloc: Global, script: &mut Script, point: &[u8], copy: &[u8]) -> Result<(), Fault>
+    ensures pushed { OnOk result (script.new ≡ script.old ++ keep_in_sight_text point.now copy.now) }
+    ensures memory { IsOkUnless result Fault.NoMemory }
+{
+    let outer = keeper(alloc, copy)?;
+    let own = keeper(alloc, point)?;
+    let inner = keeper(alloc, own.as_slice())?;
+    mount_filesystem(alloc, script, STAGE_FS, outer.as_slice())?;
+    part(alloc, script, point)?;
+    mount_filesystem(alloc, script, STAGE_FS, inner.as_slice())
+}
+
+/// Keeps a new mount at a path alone, once the copies of it that hide it are unmounted, the uppermost first: until then all
+/// are kept, by way of the one at another path. Refused as `NoMemory` alone.
+fn keep_hidden(
+    alloc: Global,
+    script: &mut Script,
+    point: &[u8],
+    copy: &[u8],
+    hiding: &[Vec<u8>],
+) -> Result<(), Fault>
+    ensures pushed { OnOk result (script.new ≡ script.old ++ keep_hidden_text point.now copy.now (map (λ path. path.items) hiding.now)) }
+    ensures memory { IsOkUnless result Fault.NoMemory }
+{
+    let outer = keeper(alloc, copy)?;
+    let inner = keeper(alloc, outer.as_slice())?;
+    keep(alloc, script, copy)?;
+    unmount_each(alloc, script, hiding)?;
+    part(alloc, script, point)?;
+    unmount(alloc, script, MODEL, inner.as_slice())
+}
+
+/// Keeps a new mount at a path alone, which copies may hide. Refused as `NoMemory` alone.
+fn keep_new(
+    alloc: Global,
+    script: &mut Script,
+    point: &[u8],
+    copy: &[u8],
+    hiding: &[Vec<u8>],
+) -> Result<(), Fault>
+    ensures pushed { OnOk result (script.new ≡ script.old ++ keep_new_text point.now copy.now (map (λ path. path.items) hiding.now)) }
+    ensures memory { IsOkUnless result Fault.NoMemory }
+{
+    match hiding {
+        [] => keep_in_sight(alloc, script, point, copy),
+        [_, ..] => keep_hidden(alloc, script, point, copy, hiding),
+    }
+}
+
 /// Unmounts the copies of a new mount at a path, by way of the one at another path, and before them those that hide it, the
 /// uppermost first. Refused as `NoMemory` alone.
+#[tactic(auto, unfolding(crate::specs::Keepers::copies_text))]
 pub(crate) fn unmount_copies(
     alloc: Global,
     script: &mut Script,
@@ -93,13 +145,11 @@ pub(crate) fn unmount_copies(
     ensures pushed { OnOk result (script.new ≡ script.old ++ copies_text point.now copy.now (map (λ path. path.items) hiding.now)) }
     ensures memory { IsOkUnless result Fault.NoMemory }
 {
-    keep(alloc, script, copy)?;
-    unmount_each(alloc, script, hiding)?;
-    part(alloc, script, point)?;
-    let_go(alloc, script, copy)?;
+    let outer = keeper(alloc, copy)?;
+    keep_new(alloc, script, point, copy, hiding)?;
+    unmount(alloc, script, MODEL, outer.as_slice())?;
     unmount(alloc, script, MODEL, copy)?;
-    let_go(alloc, script, point)?;
-    Ok(())
+    let_go(alloc, script, point)
 }
 
 /// Keeps mounts, by way of the staged members of their groups. Refused as `NoMemory` alone.

@@ -14,8 +14,9 @@ use crate::writer::one_behind;
 use mt_skel::fault::Fault;
 use std::alloc::{AllocError, Global};
 
-/// The most groups, each with a directory, of which mounts are kept while the copies of one are unmounted.
-const MOST_KEPT: usize = 64;
+/// The most mounts that are kept while the copies of one are unmounted: each has two more meanwhile, of the 4,096 that a
+/// server has room for.
+const MOST_KEPT: usize = 256;
 
 /// A mount that is made, or why it is not.
 #[derive(Drop)]
@@ -106,9 +107,6 @@ fn add_kept<'a>(
     {
         return Ok(true);
     }
-    if kept.len() >= MOST_KEPT {
-        return Ok(false);
-    }
     kept.push(Kept { group, root })?;
     Ok(true)
 }
@@ -123,6 +121,7 @@ fn kept_of<'a>(
     parent: &HostMount,
 ) -> Result<Option<Vec<Kept<'a>>>, AllocError> {
     let mut kept = Vec::new(alloc);
+    let mut count = 0_usize;
     if !copies_get(groups, mount, parent) {
         return Ok(Some(kept));
     }
@@ -130,11 +129,13 @@ fn kept_of<'a>(
         let Some(above) = mounts.get(other.above) else {
             continue;
         };
-        if may_meet(groups, above.row, other, mount, parent)
-            && !add_kept(groups, &mut kept, other)?
-        {
+        if !may_meet(groups, above.row, other, mount, parent) {
+            continue;
+        }
+        if count >= MOST_KEPT || !add_kept(groups, &mut kept, other)? {
             return Ok(None);
         }
+        count += 1;
     }
     Ok(Some(kept))
 }
