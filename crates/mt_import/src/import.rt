@@ -235,7 +235,8 @@ fn push_script<'a>(alloc: Global, script: &mut Script, mounts: &[Mount<'a>]) -> 
 ///
 /// A server that was just started makes namespace 1 of it, with a table that tells what the rows tell, up to the numbers
 /// of mounts, groups and devices. Where a peer group has slaves among the rows and no member, a second namespace has
-/// one. What cannot be made is told in comments.
+/// one. What cannot be made is told in comments, but for one thing: of a peer group with more than some 1,000 mounts that show
+/// one directory the server has no room for the copies that it makes meanwhile, refuses commands, and not all are made.
 pub fn script_of(alloc: Global, rows: &[HostMount]) -> Result<Script, Fault>
     ensures memory { IsOkUnless result Fault.NoMemory }
 {
