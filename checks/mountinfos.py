@@ -39,8 +39,11 @@ ODD_COMMENTS = [
 # Tables of which a mount is left out, each line that is, and why. A mount stands at the root of the namespace, and is
 # unbindable, or the second there, or has a group or master in common with the root mount, or is one on which another stands;
 # and copies of a mount get what is mounted where they stand, where a mount of no group stands, which may not go with them.
+# Rows tell of their peer groups what cannot be: another device or master than one before, a ring of masters, a group above the
+# master that is none of those in sight, or a group of a mount that is unbindable. And two rows tell of one place.
 AT_ROOT, TOO_HIGH = b"it stands at the root of the namespace", b"no path leads to what it stands on"
 ON_LEFT, WITH_COPIES = b"what it stands on is left out", b"another mount would go with its copies"
+NO_GROUPS, SAME_PLACE = b"its peer groups cannot be as it tells them", b"another mount stands in its place"
 PARTLY = [
     [b"1 1 0:1 / / rw - tmpfs none rw", (b"2 1 0:2 / / rw unbindable - tmpfs none rw", AT_ROOT)],
     [
@@ -67,6 +70,33 @@ PARTLY = [
         (b"4 2 0:2 /p /a/p rw shared:1 - tmpfs none rw", WITH_COPIES),
         b"5 3 0:3 / /b/p rw - tmpfs none rw",
     ],
+    [
+        b"1 1 0:1 / / rw - tmpfs none rw",
+        b"2 1 0:2 / /a rw shared:1 master:2 - tmpfs none rw",
+        (b"3 1 0:3 / /b rw shared:1 master:2 - tmpfs none rw", NO_GROUPS),
+        (b"4 1 0:2 / /c rw shared:1 - tmpfs none rw", NO_GROUPS),
+        (b"5 1 0:2 / /d rw shared:1 master:3 - tmpfs none rw", NO_GROUPS),
+        (b"6 1 0:3 / /e rw master:1 - tmpfs none rw", NO_GROUPS),
+        (b"7 1 0:2 / /f rw shared:2 master:1 - tmpfs none rw", NO_GROUPS),
+        (b"8 1 0:2 / /g rw shared:4 master:4 - tmpfs none rw", NO_GROUPS),
+        (b"9 1 0:2 / /h rw master:1 propagate_from:2 - tmpfs none rw", NO_GROUPS),
+        (b"10 1 0:2 / /i rw propagate_from:1 - tmpfs none rw", NO_GROUPS),
+        (b"11 1 0:2 / /j rw shared:5 unbindable - tmpfs none rw", NO_GROUPS),
+        (b"12 1 0:2 / /k rw master:1 unbindable - tmpfs none rw", NO_GROUPS),
+        (b"13 12 0:2 / /k/l rw - tmpfs none rw", ON_LEFT),
+        b"14 1 0:2 / /m rw shared:1 master:2 - tmpfs none rw",
+    ],
+    [
+        b"1 1 0:1 / / rw shared:1 - tmpfs none rw",
+        (b"2 1 0:2 / /a rw - tmpfs none rw", SAME_PLACE),
+        b"3 1 0:3 / /a rw - tmpfs none rw",
+        (b"4 2 0:3 / /a rw - tmpfs none rw", ON_LEFT),
+        b"5 3 0:2 / /a rw - tmpfs none rw",
+    ],
+    [
+        (b"1 1 0:1 / / rw shared:1 unbindable - tmpfs none rw", NO_GROUPS),
+        (b"2 1 0:2 / /a rw - tmpfs none rw", ON_LEFT),
+    ],
 ]
 
 # As many mounts as are kept, and no more, where copies of another one come.
@@ -81,6 +111,43 @@ def many_kept(groups):
     yield b"1000 2 0:2 /p /0/p rw shared:1 - tmpfs none rw"
     for number in range(1, groups + 1):
         yield b"%d %d 0:3 / /%d/p rw shared:%d - tmpfs none rw" % (2_000 + number, number + 2, number, number + 1)
+
+
+# As many groups as may be above one.
+MOST_ABOVE = 64
+
+
+def masters(groups):
+    """A table with a mount in each of so many groups, of which each has the next one as its master."""
+    yield b"1 1 0:1 / / rw - tmpfs none rw"
+    for number in range(groups):
+        fields = b" shared:%d" % (number + 1) + (b" master:%d" % number if number else b"")
+        yield b"%d 1 0:2 / /%d rw%s - tmpfs none rw" % (number + 2, number, fields)
+
+
+def any_rows(source):
+    """Numbers of mounts, each with that of its parent, one of those before it, and with its point."""
+    points = {1: b""}
+    yield 1, 1, b"/"
+    for number in range(2, source.choice((4, 8, 14)) + 1):
+        parent = source.randint(1, number - 1)
+        points[number] = points[parent] + source.choice((b"/a", b"/b", b"/c", b"/a/b", b"/c/a"))
+        yield number, parent, points[number]
+
+
+def any_table(source):
+    """Lines of mounts of any devices, roots and groups: many of these tables are those of no namespace."""
+    devices, groups = source.choice((1, 1, 2, 3)), source.choice((1, 2, 3, 5))
+    for number, parent, point in any_rows(source):
+        root = source.choice((b"/", b"/", b"/a", b"/a/b")) if number > 1 else b"/"
+        fields, device = b"", source.randint(1, devices)
+        for chance, field in (0.4, b" shared:%d"), (0.15, b" master:%d"), (0.03, b" propagate_from:%d"):
+            if source.random() < chance:
+                group = source.randint(1, groups)
+                fields, device = fields + field % group, group % devices + 1
+        if source.random() < 0.03:
+            fields += b" unbindable"
+        yield b"%d %d 0:%d %s %s rw%s - tmpfs none rw" % (number, parent, device, root, point, fields)
 
 
 # The table of a process whose root is no mount, and the script that it makes.

@@ -7,7 +7,7 @@ A plain client speaks with servers that are started here, each in a folder of it
 sockets that cannot be made and stale ones (paths.py), accepts that fail, the limit of sessions, a stop (stopping.py), clients that are
 gone or do not read, many connections, allocations that are refused (wanting.py), and then 32 sessions at once for
 N seconds, 20 if not said (soak.py). With MOUNTCTL that program is checked too (clients.py, answering.py, reading.py, pictures.py, telling.py), the cases are
-sent as its scripts, tables are imported (importing.py), and a quarter of the 32 sessions are its mirrors.
+sent as its scripts, tables are imported (importing.py, crowds.py), and a quarter of the 32 sessions are its mirrors.
 """
 import argparse
 import contextlib
@@ -30,6 +30,7 @@ from clients import (
     check_scripts,
     check_statuses,
 )
+from crowds import check_crowds
 from importing import check_import
 from limits import COMMANDS
 from paths import check_paths, check_stale, check_stopped
@@ -287,6 +288,7 @@ def check_server(program, seconds, mountctl, only):
         parts["telling"] = lambda program: check_telling(program, mountctl)
         parts["scripts"] = lambda program: check_scripts(program, mountctl)
         parts["import"] = lambda program: check_import(program, mountctl)
+        parts["crowds"] = lambda program: check_crowds(program, mountctl)
     for name in [only] if only else parts:
         start = time.monotonic()
         try:

@@ -1,4 +1,5 @@
 pub mod ReadLaws
+pub mod RowLaws
 pub mod ScriptLaws
 pub mod WriterLaws
 pub mod CommandLaws

@@ -1,6 +1,6 @@
 -- Paths as a mountinfo has them, of which that of a root is empty here.
 -- A word with no source is this project's rule.
-use Rattle.std.specs.Prelude.{ℕ, Bool, true, false, not, nat_eq, nat_le, ◌==◌, ◌&&◌, if◌then◌else◌, List, [], ◌∷◌, length, drop, Option, Some, None, is_some, codes}
+use Rattle.std.specs.Prelude.{ℕ, Bool, true, false, not, nat_eq, nat_le, nat_lt, ◌==◌, ◌&&◌, ◌||◌, if◌then◌else◌, List, [], ◌∷◌, length, drop, Option, Some, None, is_some, codes}
 use Rattle.std.specs.List.{filter, list_all, starts_with}
 use Rattle.std.specs.Option.{option_map_or}
 use Rattle.std.specs.Str.{bytes_eq}
@@ -35,6 +35,10 @@ can_be_named (b ∷ text) = b == 47 && nat_le (length (b ∷ text)) 4000 && list
 abbrev pub names_behind : List ℕ → Option (List ℕ)
 names_behind [] = Some []
 names_behind (b ∷ rest) = if b == 47 then Some (b ∷ rest) else None
+
+-- a directory of a filesystem is too deep, or its path too long, for what the script has below it
+abbrev pub is_too_deep : List ℕ → Bool
+is_too_deep path = nat_lt 31 (name_count path) || nat_lt 4000 (length path)
 
 unfoldable pub path_behind : List ℕ → List ℕ → Option (List ℕ)
 path_behind path above = if starts_with nat_eq path above then names_behind (drop (length above) path) else None

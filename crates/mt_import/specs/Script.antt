@@ -7,7 +7,7 @@ use Rattle.mt_requests.specs.declared.request.Request.{Request}
 use Rattle.mt_requests.specs.declared.request.Request.TheVariants as request
 use Rattle.mt_requests.specs.Requests.{request_of}
 use Rattle.mt_import.specs.declared.reason.Reason.{Reason}
-use Rattle.mt_import.specs.declared.reason.Reason.TheVariants.{NoRootMount, NoParent, ParentLeftOut, Ring, NoDirectory, Elsewhere, AtRoot, OutOfReach, ScriptName, TooDeep, GoesWithCopies}
+use Rattle.mt_import.specs.declared.reason.Reason.TheVariants.{NoRootMount, NoParent, ParentLeftOut, Ring, NoDirectory, Elsewhere, AtRoot, OutOfReach, ScriptName, TooDeep, NoSuchGroups, TooLow, SamePlace, NoRoom, GoesWithCopies}
 use Rattle.mt_import.specs.Reading.{ToldMount}
 
 -- whether a line asks for a command
@@ -55,6 +55,10 @@ reason_text AtRoot = codes "it stands at the root of the namespace"
 reason_text OutOfReach = codes "no path leads to what it stands on"
 reason_text ScriptName = codes "its mount point has the name that the script uses"
 reason_text TooDeep = codes "its directory is too deep"
+reason_text NoSuchGroups = codes "its peer groups cannot be as it tells them"
+reason_text TooLow = codes "too many groups are above its own"
+reason_text SamePlace = codes "another mount stands in its place"
+reason_text NoRoom = codes "the server has no room for it"
 reason_text GoesWithCopies = codes "another mount would go with its copies"
 
 -- the comment that tells why a mount is not made

@@ -23,6 +23,11 @@ impl Directories {
         }
     }
 
+    /// How many directories there are.
+    pub(crate) fn len(&self) -> usize {
+        self.all.len()
+    }
+
     /// Adds a directory of a filesystem, and those above it. Fails for want of memory alone.
     pub(crate) fn add(
         &mut self,

@@ -34,6 +34,11 @@ impl<'a> Filesystems<'a> {
         }
     }
 
+    /// How many filesystems there are.
+    pub(crate) fn len(&self) -> usize {
+        self.all.len()
+    }
+
     /// Adds the filesystem of a row, if its device is new. Fails for want of memory alone.
     pub(crate) fn add(&mut self, row: &'a HostMount) -> Result<(), AllocError> {
         if self.all.contains_key(&row.device.as_slice()) {

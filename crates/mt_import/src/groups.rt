@@ -5,9 +5,13 @@ ghost use Rattle.std.specs.BTreeMap.{get, btree_map_len};
 ghost use Rattle.std.specs.Ordering.{nat_cmp};
 ghost use Rattle.mt_import.specs.Groups.{is_staged, has_members, has_receivers};
 
+use crate::agreement::may_add;
 use crate::told::HostMount;
 use std::alloc::{AllocError, Global};
 use std::collections::BTreeMap;
+
+/// The most groups above one of which mounts are made.
+const MOST_ABOVE: usize = 64;
 
 /// What rows tell of a peer group.
 #[derive(Clone, Copy)]
@@ -88,10 +92,10 @@ impl<'a> Groups<'a> {
         self.source_of(row).or(row.shared)
     }
 
-    /// Whether a mount gets what is mounted on one of a group: it is of this group, or of one that has it above.
-    pub(crate) fn gets_from(&self, row: &HostMount, group: u64) -> bool {
-        let mut next = row.shared.or(row.master);
-        for _step in 0..self.all.len() {
+    /// Whether a group is this one, or has it above.
+    pub(crate) fn leads_to(&self, first: Option<u64>, group: u64) -> bool {
+        let mut next = first;
+        for _step in 0..=MOST_ABOVE {
             let Some(number) = next else {
                 return false;
             };
@@ -103,10 +107,41 @@ impl<'a> Groups<'a> {
         false
     }
 
+    /// Whether more groups are above one than may be. Then another thing that is asked of those above it may be wrong.
+    pub(crate) fn is_too_low(&self, first: Option<u64>) -> bool {
+        let mut next = first;
+        for _step in 0..=MOST_ABOVE {
+            let Some(number) = next else {
+                return false;
+            };
+            next = self.get(number).and_then(|above| above.master);
+        }
+        next.is_some()
+    }
+
+    /// The nearest group above a master that has a member among the rows, where the master has none (proc_pid_mountinfo(5),
+    /// `propagate_from`).
+    pub(crate) fn via_of(&self, master: Option<u64>) -> Option<u64> {
+        let mut next = master;
+        for _step in 0..=MOST_ABOVE {
+            let number = next?;
+            if self.has_members(number) {
+                break;
+            }
+            next = self.get(number).and_then(|above| above.master);
+        }
+        if next == master { None } else { next }
+    }
+
+    /// Whether a mount gets what is mounted on one of a group: it is of this group, or of one that has it above.
+    pub(crate) fn gets_from(&self, row: &HostMount, group: u64) -> bool {
+        self.leads_to(row.shared.or(row.master), group)
+    }
+
     /// Whether two mounts, or their groups, have a group above them in common, or are in one.
     pub(crate) fn have_common_group(&self, first: &HostMount, second: &HostMount) -> bool {
         let mut next = second.shared.or(second.master);
-        for _step in 0..self.all.len() {
+        for _step in 0..=MOST_ABOVE {
             let Some(number) = next else {
                 return false;
             };
@@ -133,8 +168,11 @@ impl<'a> Groups<'a> {
         Ok(())
     }
 
-    /// Adds what a row tells. Fails for want of memory alone.
+    /// Adds what a row tells, unless that cannot be beside what others before it told. Fails for want of memory alone.
     pub(crate) fn add(&mut self, row: &'a HostMount) -> Result<(), AllocError> {
+        if !may_add(self, row) {
+            return Ok(());
+        }
         if let Some(number) = row.shared {
             self.add_member(number, row)?;
         }
@@ -184,6 +222,17 @@ impl<'a> Groups<'a> {
         self.get(number).is_some_and(|group| group.members > 0)
     }
 
+    /// The group of a mount, if it is in one and others get what is mounted on it.
+    pub(crate) fn receiving(&self, shared: Option<u64>) -> Option<u64>
+        ensures { result ≡ (if has_receivers self.now.all shared then shared else None) }
+    {
+        if self.has_receivers(shared) {
+            shared
+        } else {
+            None
+        }
+    }
+
     /// Whether a mount of this group, if it is in one, has others that get what is mounted on it.
     pub(crate) fn has_receivers(&self, shared: Option<u64>) -> bool
         ensures { result ≡ has_receivers self.now.all shared }
@@ -209,7 +258,7 @@ impl<'a> Groups<'a> {
     pub(crate) fn above(&self, alloc: Global, first: Option<u64>) -> Result<Vec<u64>, AllocError> {
         let mut numbers = Vec::new(alloc);
         let mut next = first;
-        for _step in 0..self.all.len() {
+        for _step in 0..=MOST_ABOVE {
             let Some(number) = next else {
                 return Ok(numbers);
             };

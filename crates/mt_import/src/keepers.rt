@@ -20,7 +20,7 @@ pub(crate) struct Kept<'a> {
 }
 
 /// Where the mount stands that keeps the one at a path. Fails for want of memory alone.
-fn keeper(alloc: Global, path: &[u8]) -> Result<Vec<u8>, AllocError>
+pub(crate) fn keeper(alloc: Global, path: &[u8]) -> Result<Vec<u8>, AllocError>
     ensures { IfOk result (λ above. above.items ≡ keeper path.now) }
 {
     one_behind(alloc, path, STAGE)

@@ -7,6 +7,7 @@
 //! server reads as commands.
 #![tactic(auto)]
 
+mod agreement;
 mod commands;
 mod cover;
 mod directories;
@@ -15,12 +16,16 @@ mod groups;
 mod hiding;
 pub mod import;
 mod keepers;
+pub mod laws;
 mod mounting;
 mod options;
 mod order;
 mod path;
+mod plan;
 pub mod read;
 mod reason;
+mod receivers;
+mod room;
 pub mod script;
 mod stage;
 mod standing;

@@ -181,12 +181,9 @@ fn part_from_copies(
 ) -> Result<(), Fault>
     ensures memory { IsOkUnless result Fault.NoMemory }
 {
-    let Some(group) = parent.shared else {
+    let Some(group) = groups.receiving(parent.shared) else {
         return Ok(());
     };
-    if !groups.has_receivers(parent.shared) {
-        return Ok(());
-    }
     let device = parent.device.as_slice();
     let hiding = hiding_copies(alloc, mounts, groups, group, mount, device)?;
     let copy = group_path(alloc, group, mount.place.as_slice())?;

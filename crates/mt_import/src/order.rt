@@ -11,7 +11,7 @@ use crate::keepers::Kept;
 use crate::path::{below_root, names};
 use crate::reason::Reason;
 use crate::script::Script;
-use crate::standing::{Judged, judge};
+use crate::standing::{Judged, Taken, judge};
 use crate::told::HostMount;
 use crate::writer::{all_left_out, comment, left_out};
 use mt_skel::fault::Fault;
@@ -217,6 +217,7 @@ fn make_next<'a>(
     next: Waiting,
     groups: &Groups<'a>,
     mounts: &mut Vec<Mount<'a>>,
+    taken: &mut Taken<'a>,
 ) -> Result<bool, Fault>
     ensures order { OnOk result (next.above ≤ length mounts.old.items - 1 → HasParentsFirst mounts.old.items → HasParentsFirst mounts.new.items) }
     ensures made { IfOk result (λ made. length mounts.new.items ≡ (if made then length mounts.old.items + 1 else length mounts.old.items)) }
@@ -227,7 +228,7 @@ fn make_next<'a>(
         left_out(alloc, script, row, why)?;
         return Ok(false);
     }
-    match judge(alloc, row, mounts.as_slice(), next.above, groups)? {
+    match judge(alloc, row, mounts.as_slice(), next.above, groups, taken)? {
         Judged::Made(mount) => {
             mounts.push(mount)?;
             Ok(true)
@@ -339,6 +340,7 @@ fn mounts_below<'a>(
     ensures memory { IsOkUnless result Fault.NoMemory }
 {
     let mut mounts: Vec<Mount<'a>> = Vec::new(alloc);
+    let mut taken = Taken::new(alloc);
     let mut waiting = waiting;
     'rows: for _step in 0..=rows.len() {
         let Some(next) = waiting.pop() else {
@@ -349,7 +351,7 @@ fn mounts_below<'a>(
         };
         came.insert(row.id)?;
         let here = mounts.len();
-        let made = make_next(alloc, script, row, next, groups, &mut mounts)?;
+        let made = make_next(alloc, script, row, next, groups, &mut mounts, &mut taken)?;
         let place = place_below(made, here);
         push_below(&mut waiting, below, row.id, place, left_below(made))?;
     }

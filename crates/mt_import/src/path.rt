@@ -17,7 +17,7 @@ pub(crate) const STAGE: &[u8] = b"/.import";
 pub(crate) const MOST_NAMES: usize = 31;
 
 /// The most bytes of a path, so that two names of the script may stand below it.
-const MOST_BYTES: usize = 4_000;
+pub(crate) const MOST_BYTES: usize = 4_000;
 
 /// A path without its slash, where that is all it is.
 pub(crate) fn below_root(word: &[u8]) -> &[u8]

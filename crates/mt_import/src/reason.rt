@@ -24,8 +24,18 @@ pub(crate) enum Reason {
     OutOfReach,
     /// It stands where the script keeps mounts until its end.
     ScriptName,
-    /// Its root, or where it stands, has too many names.
+    /// The path of the directory that it shows, or of that on which it stands, has too many names, or too many bytes.
     TooDeep,
+    /// What it tells of peer groups cannot be: a row before it tells another device or master of one, or a group would
+    /// have itself above it; the group that it gets from by way of its master is not the nearest above that has a
+    /// member among the rows; or it is unbindable.
+    NoSuchGroups,
+    /// Too many groups are above its own.
+    TooLow,
+    /// Another mount stands where it does.
+    SamePlace,
+    /// The server has no room for it, or for what comes with it while it is made.
+    NoRoom,
     /// Its copies get what is mounted where they stand, so what stands there would be unmounted with them; and that is a
     /// mount without group and master, or too many others.
     GoesWithCopies,
@@ -47,6 +57,10 @@ impl Reason {
             Reason::OutOfReach => b"no path leads to what it stands on",
             Reason::ScriptName => b"its mount point has the name that the script uses",
             Reason::TooDeep => b"its directory is too deep",
+            Reason::NoSuchGroups => b"its peer groups cannot be as it tells them",
+            Reason::TooLow => b"too many groups are above its own",
+            Reason::SamePlace => b"another mount stands in its place",
+            Reason::NoRoom => b"the server has no room for it",
             Reason::GoesWithCopies => b"another mount would go with its copies",
         }
     }

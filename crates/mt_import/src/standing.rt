@@ -1,22 +1,61 @@
 //! Where a mount would stand, and why it cannot be made there.
 ghost use Rattle.std.specs.Prelude.{◌≡◌, Some, None, IfOk, IfErr, IsOkUnless};
 ghost use Rattle.mt_import.specs.Order.{IsMadeOn};
-ghost use Rattle.mt_import.specs.Paths.{names_from_parent};
+ghost use Rattle.mt_import.specs.Paths.{names_from_parent, is_too_deep};
 
+use crate::agreement::agrees;
 use crate::cover::can_cover;
 use crate::groups::Groups;
 use crate::keepers::Kept;
 use crate::order::Mount;
-use crate::path::{MOST_NAMES, STAGE, below_root, can_be_named, names, path_behind};
+use crate::path::{MOST_BYTES, MOST_NAMES, STAGE, below_root, can_be_named, names, path_behind};
 use crate::reason::Reason;
+use crate::room::MOST_MOUNTS;
 use crate::told::HostMount;
 use crate::writer::one_behind;
 use mt_skel::fault::Fault;
 use std::alloc::{AllocError, Global};
+use std::collections::BTreeSet;
 
 /// The most mounts that are kept while the copies of one are unmounted: each has two more meanwhile, of the 4,096 that a
 /// server has room for.
 const MOST_KEPT: usize = 256;
+
+/// The most filesystems of mounts: a server has room for one more, on which all stands that is staged.
+const MOST_FILESYSTEMS: usize = 255;
+
+/// What the mounts have taken that are made.
+#[derive(Drop)]
+pub(crate) struct Taken<'a> {
+    /// The devices of their filesystems.
+    devices: BTreeSet<&'a [u8]>,
+    /// Where they stand: on which mount, and at which path.
+    places: BTreeSet<(usize, &'a [u8])>,
+}
+
+impl<'a> Taken<'a> {
+    /// Nothing.
+    pub(crate) fn new(alloc: Global) -> Taken<'a> {
+        Taken {
+            devices: BTreeSet::new(alloc),
+            places: BTreeSet::new(alloc),
+        }
+    }
+
+    /// Why a mount cannot have its device and its place, if it cannot. Else it takes them. Fails for want of memory alone.
+    fn take(&mut self, mount: &Mount<'a>) -> Result<Option<Reason>, AllocError> {
+        let row = mount.row;
+        let device = row.device.as_slice();
+        if !self.devices.contains(&device) && self.devices.len() >= MOST_FILESYSTEMS {
+            return Ok(Some(Reason::NoRoom));
+        }
+        if !self.places.insert((mount.above, mount.point))? {
+            return Ok(Some(Reason::SamePlace));
+        }
+        self.devices.insert(device)?;
+        Ok(None)
+    }
+}
 
 /// A mount that is made, or why it is not.
 #[derive(Drop)]
@@ -140,6 +179,13 @@ fn kept_of<'a>(
     Ok(Some(kept))
 }
 
+/// Whether a directory of a filesystem is too deep, or its path too long.
+fn is_too_deep(path: &[u8]) -> bool
+    ensures { result ≡ is_too_deep path.now }
+{
+    names(path) > MOST_NAMES || path.len() > MOST_BYTES
+}
+
 /// Why a mount cannot be made where it stands, by those that are made, if it cannot.
 fn why_left(
     mounts: &[Mount<'_>],
@@ -150,11 +196,22 @@ fn why_left(
     if parent.is_cover {
         return Some(Reason::OutOfReach);
     }
-    if names(mount.root) > MOST_NAMES || names(mount.place.as_slice()) > MOST_NAMES {
+    if is_too_deep(mount.root) || is_too_deep(mount.place.as_slice()) {
         return Some(Reason::TooDeep);
     }
     if mount.is_cover && !can_cover(mounts, groups, parent.row, mount.row) {
         return Some(Reason::AtRoot);
+    }
+    None
+}
+
+/// Why a mount cannot be made by its peer groups, if it cannot.
+fn why_groupless(groups: &Groups<'_>, row: &HostMount) -> Option<Reason> {
+    if groups.is_too_low(row.shared.or(row.master)) {
+        return Some(Reason::TooLow);
+    }
+    if !agrees(groups, row) {
+        return Some(Reason::NoSuchGroups);
     }
     None
 }
@@ -166,13 +223,21 @@ pub(crate) fn judge<'a>(
     mounts: &[Mount<'a>],
     above: usize,
     groups: &Groups<'a>,
+    taken: &mut Taken<'a>,
 ) -> Result<Judged<'a>, Fault>
     ensures above { IfOk result (λ judged. IsMadeOn above judged) }
     ensures memory { IsOkUnless result Fault.NoMemory }
 {
+    if let Some(why) = why_groupless(groups, row) {
+        return Ok(Judged::Left(why));
+    }
     let Some(parent) = mounts.get(above) else {
+        taken.devices.insert(row.device.as_slice())?;
         return Ok(Judged::Made(root_mount(alloc, row)));
     };
+    if mounts.len() >= MOST_MOUNTS {
+        return Ok(Judged::Left(Reason::NoRoom));
+    }
     let root = below_root(row.root.as_slice());
     let point = below_root(row.point.as_slice());
     let own = match names_from_parent(root, point, parent.point, above == 0) {
@@ -195,5 +260,8 @@ pub(crate) fn judge<'a>(
         return Ok(Judged::Left(Reason::GoesWithCopies));
     };
     mount.kept = kept;
-    Ok(Judged::Made(mount))
+    match taken.take(&mount)? {
+        Some(why) => Ok(Judged::Left(why)),
+        None => Ok(Judged::Made(mount)),
+    }
 }
