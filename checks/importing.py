@@ -35,7 +35,11 @@ MOST_TOLD = 8_000
 # What stands in a script in the place of a line that no server would read.
 UNREAD = b"# a line that the server would not read is left out"
 
+# What it says of a mount with options that no mount has here, or that exclude each other.
+OPTIONS_LEFT_OUT = re.compile(rb"# mount (\d+) has options that are left out: (.*)", re.DOTALL)
+
 OPTIONS = {b"ro", b"nosuid", b"nodev", b"noexec", b"noatime", b"nodiratime", b"relatime", b"nosymfollow"}
+EXCLUSIVE = {b"rw", b"ro"}, {b"noatime", b"relatime"}
 
 
 class Row(NamedTuple):
@@ -55,7 +59,8 @@ def row_of(line):
     kind, source, _ = back.split(b" ")
     numbers = dict(tag.split(b":") for tag in tags if b":" in tag)
     groups = tuple(numbers.get(name) for name in (b"shared", b"master", b"propagate_from"))
-    known = frozenset(OPTIONS & set(options.split(b",")))
+    known = OPTIONS & set(options.split(b","))
+    known = frozenset(known - {b"relatime"} if b"noatime" in known else known)
     return Row(int(number), int(parent), device, point, groups, (root, known, b"unbindable" in tags, kind, source))
 
 
@@ -76,6 +81,12 @@ def left_out(script):
     return {int(found[1]): found[2] for found in map(LEFT_OUT.match, script) if found}
 
 
+def has_other_options(line):
+    """Whether a row tells options that no mount has here, or that exclude each other."""
+    options = set(line.split(b" ")[5].split(b","))
+    return not options <= OPTIONS | {b"rw"} or any(both <= options for both in EXCLUSIVE)
+
+
 def kept_rows(name, lines, script):
     """The rows of the mounts that the script makes, each behind the one that it stands on. All others are told."""
     rows, left = [row_of(line) for line in lines], left_out(script)
@@ -92,6 +103,9 @@ def kept_rows(name, lines, script):
             waiting += below.get(row.id, [])
     others = {row.id: line[:MOST_TOLD] for row, line in zip(rows, lines) if row.id not in ids}
     check(f"{name}: each row that is left out is told", left == others, "\n".join(map(shown, script)))
+    told = {int(found[1]): found[2] for found in map(OPTIONS_LEFT_OUT.match, script) if found}
+    others = {row.id: line[:MOST_TOLD] for row, line in zip(rows, lines) if row.id in ids and has_other_options(line)}
+    check(f"{name}: each row with options that are left out is told", told == others, "\n".join(map(shown, script)))
     return kept
 
 

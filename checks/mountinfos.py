@@ -147,7 +147,8 @@ def any_table(source):
                 fields, device = fields + field % group, group % devices + 1
         if source.random() < 0.03:
             fields += b" unbindable"
-        yield b"%d %d 0:%d %s %s rw%s - tmpfs none rw" % (number, parent, device, root, point, fields)
+        options = source.choice((b"rw", b"rw", b"ro,nosuid", b"rw,relatime", b"rw,noatime,relatime", b"rw,nodev,idmapped"))
+        yield b"%d %d 0:%d %s %s %s%s - tmpfs none rw" % (number, parent, device, root, point, options, fields)
 
 
 # The table of a process whose root is no mount, and the script that it makes.

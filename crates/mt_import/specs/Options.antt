@@ -1,7 +1,7 @@
 -- The words of a `setattr` line for the options of a mount (their words: proc_pid_mountinfo(5), mount_setattr(2)).
 -- A word with no source is this project's rule.
-use Rattle.std.specs.Prelude.{ℕ, Bool, if◌then◌else◌, List, [], ◌∷◌, ◌++◌, Option, Some, None, codes}
-use Rattle.std.specs.List.{list_any}
+use Rattle.std.specs.Prelude.{ℕ, Bool, ◌&&◌, ◌||◌, not, if◌then◌else◌, List, [], ◌∷◌, ◌++◌, Option, Some, None, codes}
+use Rattle.std.specs.List.{list_any, list_all}
 use Rattle.std.specs.Str.{bytes_eq}
 use Rattle.mt_words.specs.Words.{pieces}
 
@@ -12,6 +12,22 @@ flags = codes "ro" ∷ codes "nosuid" ∷ codes "nodev" ∷ codes "noexec" ∷ c
 -- whether a word is among options, which have commas between them
 unfoldable pub has_option : List ℕ → List ℕ → Bool
 has_option options word = list_any (λ option. bytes_eq option word) (pieces 44 options)
+
+-- the options that a mount here can have (proc_pid_mountinfo(5), field 6; their words: the kernel's listing)
+abbrev pub is_known : List ℕ → Bool
+is_known option =
+    bytes_eq option (codes "rw") || bytes_eq option (codes "ro") || bytes_eq option (codes "nosuid") || bytes_eq option (codes "nodev")
+    || bytes_eq option (codes "noexec") || bytes_eq option (codes "noatime") || bytes_eq option (codes "nodiratime")
+    || bytes_eq option (codes "relatime") || bytes_eq option (codes "nosymfollow")
+
+-- whether two options that exclude each other are told
+abbrev pub has_both : List ℕ → List ℕ → List ℕ → Bool
+has_both options first second = has_option options first && has_option options second
+
+-- whether a mount here can have all options of a line
+unfoldable pub are_known : List ℕ → Bool
+are_known options =
+    list_all is_known (pieces 44 options) && not (has_both options (codes "rw") (codes "ro")) && not (has_both options (codes "noatime") (codes "relatime"))
 
 -- the word for the access times, if they are not those of a new mount
 abbrev pub times_of : List ℕ → Option (List ℕ)

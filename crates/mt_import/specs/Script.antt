@@ -8,6 +8,7 @@ use Rattle.mt_requests.specs.declared.request.Request.TheVariants as request
 use Rattle.mt_requests.specs.Requests.{request_of}
 use Rattle.mt_import.specs.declared.reason.Reason.{Reason}
 use Rattle.mt_import.specs.declared.reason.Reason.TheVariants.{NoRootMount, NoParent, ParentLeftOut, Ring, NoDirectory, Elsewhere, AtRoot, OutOfReach, ScriptName, TooDeep, NoSuchGroups, TooLow, SamePlace, NoRoom, GoesWithCopies}
+use Rattle.mt_import.specs.Options.{are_known}
 use Rattle.mt_import.specs.Reading.{ToldMount}
 
 -- whether a line asks for a command
@@ -42,6 +43,10 @@ command_text words = line_or_comment (join_with_byte 32 words)
 -- a comment on a mount, with its row: the first 8,000 bytes, since a line that is sent is no longer than 8,192
 unfoldable pub comment_text : ToldMount → List ℕ → List ℕ
 comment_text row text = line_text (codes "# mount " ++ (decimal row.id ++ 32 ∷ (text ++ (codes ": " ++ take 8000 row.line))))
+
+-- the comment on a mount that does not have all options of its row here, if it is one
+unfoldable pub options_comment : ToldMount → List ℕ
+options_comment row = cond (are_known row.options) [] (comment_text row (codes "has options that are left out"))
 
 -- why a mount is not made
 abbrev pub reason_text : Reason → List ℕ

@@ -1,10 +1,13 @@
 //! The script that makes a namespace.
-ghost use Rattle.std.specs.Prelude.{IsOkUnless};
+ghost use Rattle.std.specs.Prelude.{◌≡◌, ◌++◌, OnOk, IsOkUnless};
+ghost use Rattle.std.specs.List.{flat_map};
+ghost use Rattle.mt_import.specs.Script.{options_comment};
 
 use crate::cover::make_cover;
 use crate::filesystems::make_filesystems;
 use crate::groups::Groups;
 use crate::mounting::{make_mount, set_root};
+use crate::options::are_known;
 use crate::order::{Mount, mounts_of};
 use crate::plan::{Plan, plan_of};
 use crate::room::with_room;
@@ -77,6 +80,29 @@ fn tell_root(alloc: Global, script: &mut Script, row: &HostMount) -> Result<(), 
     )
 }
 
+/// Says which mount has options that no mount has here, if one does. Refused as `NoMemory` alone.
+#[tactic(auto, unfolding(crate::specs::Script::options_comment))]
+fn tell_options(alloc: Global, script: &mut Script, row: &HostMount) -> Result<(), Fault>
+    ensures told { OnOk result (script.new ≡ script.old ++ options_comment row.now) }
+    ensures memory { IsOkUnless result Fault.NoMemory }
+{
+    if are_known(row.options.as_slice()) {
+        return Ok(());
+    }
+    comment(alloc, script, row, b"has options that are left out")
+}
+
+/// Says which mounts have options that no mount has here. Refused as `NoMemory` alone.
+fn tell_all_options(alloc: Global, script: &mut Script, mounts: &[Mount<'_>]) -> Result<(), Fault>
+    ensures told { OnOk result (script.new ≡ script.old ++ flat_map (λ m. options_comment m.row.now) mounts.now) }
+    ensures memory { IsOkUnless result Fault.NoMemory }
+{
+    'mounts: for mount in mounts {
+        tell_options(alloc, script, mount.row)?;
+    }
+    Ok(())
+}
+
 /// Appends the script that makes mounts, of which the first is the root mount. Refused as `NoMemory` alone.
 fn push_script<'a>(alloc: Global, script: &mut Script, mounts: &[Mount<'a>]) -> Result<(), Fault>
     ensures memory { IsOkUnless result Fault.NoMemory }
@@ -87,6 +113,7 @@ fn push_script<'a>(alloc: Global, script: &mut Script, mounts: &[Mount<'a>]) -> 
     let plan = plan_of(alloc, mounts, root)?;
     let (row, groups, stage) = (root.row, &plan.groups, &plan.stage);
     tell_root(alloc, script, row)?;
+    tell_all_options(alloc, script, mounts)?;
     make_trees(alloc, script, mounts, &plan)?;
     command(alloc, script, &[b"newns", row.device.as_slice()])?;
     stage.mount(alloc, script)?;

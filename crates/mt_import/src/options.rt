@@ -1,7 +1,9 @@
 //! The options of mounts, as words of a `setattr` line.
 ghost use Rattle.std.specs.Prelude.{◌≡◌, map, IfOk, OnOk};
+ghost use Rattle.std.specs.List.{list_all};
 ghost use Rattle.std.specs.Option.{option_map};
-ghost use Rattle.mt_import.specs.Options.{has_option, times_of, before_set, with_set, with_flag, with_flags, with_times, with_kind, options_text};
+ghost use Rattle.mt_words.specs.Words.{pieces};
+ghost use Rattle.mt_import.specs.Options.{has_option, is_known, has_both, are_known, times_of, before_set, with_set, with_flag, with_flags, with_times, with_kind, options_text};
 
 use mt_words::words::Pieces;
 use std::alloc::{AllocError, Global};
@@ -22,6 +24,45 @@ fn has_option(options: &[u8], word: &[u8]) -> bool
     ensures { result ≡ has_option options.now word.now }
 {
     Pieces::new(b',', options).any(|option| option == word)
+}
+
+/// Whether a mount here can have an option.
+fn is_known(option: &[u8]) -> bool
+    ensures { result ≡ is_known option.now }
+{
+    option == b"rw".as_slice()
+        || option == b"ro".as_slice()
+        || option == b"nosuid".as_slice()
+        || option == b"nodev".as_slice()
+        || option == b"noexec".as_slice()
+        || option == b"noatime".as_slice()
+        || option == b"nodiratime".as_slice()
+        || option == b"relatime".as_slice()
+        || option == b"nosymfollow".as_slice()
+}
+
+/// Whether a mount here can have each of these options.
+fn has_only_known(options: &[u8]) -> bool
+    ensures { result ≡ list_all is_known (pieces 44 options.now) }
+{
+    Pieces::new(b',', options).all(|option| is_known(option))
+}
+
+/// Whether both of two words are among options.
+fn has_both(options: &[u8], first: &[u8], second: &[u8]) -> bool
+    ensures { result ≡ has_both options.now first.now second.now }
+{
+    has_option(options, first) && has_option(options, second)
+}
+
+/// Whether a mount here can have all these options.
+#[tactic(auto, unfolding(crate::specs::Options::are_known))]
+pub(crate) fn are_known(options: &[u8]) -> bool
+    ensures { result ≡ are_known options.now }
+{
+    has_only_known(options)
+        && !has_both(options, b"rw", b"ro")
+        && !has_both(options, b"noatime", b"relatime")
 }
 
 /// The word of `set=` for the access times of these options, if they are not those of a new mount.

@@ -216,6 +216,58 @@ fn why_groupless(groups: &Groups<'_>, row: &HostMount) -> Option<Reason> {
     None
 }
 
+/// The mount that a row tells on another one, by the paths that it tells. Refused as `NoMemory` alone.
+fn mount_on<'a>(
+    alloc: Global,
+    row: &'a HostMount,
+    parent: &Mount<'a>,
+    above: usize,
+) -> Result<Judged<'a>, Fault>
+    ensures above { IfOk result (λ judged. IsMadeOn above judged) }
+    ensures memory { IsOkUnless result Fault.NoMemory }
+{
+    let root = below_root(row.root.as_slice());
+    let point = below_root(row.point.as_slice());
+    let own = match names_from_parent(root, point, parent.point, above == 0) {
+        Ok(own) => own,
+        Err(why) => return Ok(Judged::Left(why)),
+    };
+    Ok(Judged::Made(Mount {
+        row,
+        above,
+        root,
+        point,
+        place: one_behind(alloc, parent.root, own)?,
+        is_cover: above == 0 && own.is_empty(),
+        kept: Vec::new(alloc),
+    }))
+}
+
+/// A mount on one that is made, with what is kept for it, or why it is left out beside those that are made. Refused as
+/// `NoMemory` alone.
+fn beside<'a>(
+    alloc: Global,
+    mount: Mount<'a>,
+    mounts: &[Mount<'a>],
+    parent: &Mount<'a>,
+    groups: &Groups<'a>,
+    taken: &mut Taken<'a>,
+) -> Result<Judged<'a>, Fault>
+    ensures above { IfOk result (λ judged. IsMadeOn mount.entry.above judged) }
+    ensures memory { IsOkUnless result Fault.NoMemory }
+{
+    if let Some(why) = why_left(mounts, groups, &mount, parent) {
+        return Ok(Judged::Left(why));
+    }
+    let Some(kept) = kept_of(alloc, mounts, groups, &mount, parent.row)? else {
+        return Ok(Judged::Left(Reason::GoesWithCopies));
+    };
+    if let Some(why) = taken.take(&mount)? {
+        return Ok(Judged::Left(why));
+    }
+    Ok(Judged::Made(Mount { kept, ..mount }))
+}
+
 /// The mount that a row tells, on one that is made. Refused as `NoMemory` alone.
 pub(crate) fn judge<'a>(
     alloc: Global,
@@ -238,30 +290,8 @@ pub(crate) fn judge<'a>(
     if mounts.len() >= MOST_MOUNTS {
         return Ok(Judged::Left(Reason::NoRoom));
     }
-    let root = below_root(row.root.as_slice());
-    let point = below_root(row.point.as_slice());
-    let own = match names_from_parent(root, point, parent.point, above == 0) {
-        Ok(own) => own,
-        Err(why) => return Ok(Judged::Left(why)),
-    };
-    let mut mount = Mount {
-        row,
-        above,
-        root,
-        point,
-        place: one_behind(alloc, parent.root, own)?,
-        is_cover: above == 0 && own.is_empty(),
-        kept: Vec::new(alloc),
-    };
-    if let Some(why) = why_left(mounts, groups, &mount, parent) {
-        return Ok(Judged::Left(why));
-    }
-    let Some(kept) = kept_of(alloc, mounts, groups, &mount, parent.row)? else {
-        return Ok(Judged::Left(Reason::GoesWithCopies));
-    };
-    mount.kept = kept;
-    match taken.take(&mount)? {
-        Some(why) => Ok(Judged::Left(why)),
-        None => Ok(Judged::Made(mount)),
+    match mount_on(alloc, row, parent, above)? {
+        Judged::Made(mount) => beside(alloc, mount, mounts, parent, groups, taken),
+        Judged::Left(why) => Ok(Judged::Left(why)),
     }
 }
