@@ -206,7 +206,8 @@ impl Room {
         })
     }
 
-    /// Makes a mount: whether there is room. Fails for want of memory alone.
+    /// Makes a mount: whether there is room. One at the root of the namespace was made while few others stood, and comes to
+    /// no others. Fails for want of memory alone.
     fn make(
         &mut self,
         alloc: Global,
