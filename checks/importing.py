@@ -38,6 +38,9 @@ UNREAD = b"# a line that the server would not read is left out"
 # What it says of a mount with options that no mount has here, or that exclude each other.
 OPTIONS_LEFT_OUT = re.compile(rb"# mount (\d+) has options that are left out: (.*)", re.DOTALL)
 
+# What it says of the first mount of a filesystem that has other super options than `rw`.
+SUPER_LEFT_OUT = re.compile(rb"# mount \d+ has super options that are left out: (.*)", re.DOTALL)
+
 OPTIONS = {b"ro", b"nosuid", b"nodev", b"noexec", b"noatime", b"nodiratime", b"relatime", b"nosymfollow"}
 EXCLUSIVE = {b"rw", b"ro"}, {b"noatime", b"relatime"}
 
@@ -87,6 +90,14 @@ def has_other_options(line):
     return not options <= OPTIONS | {b"rw"} or any(both <= options for both in EXCLUSIVE)
 
 
+def check_super_options(name, lines, script):
+    """Of the lines with super options that are left out one of each device is told."""
+    told = [found[1] for found in map(SUPER_LEFT_OUT.match, script) if found]
+    devices = sorted(line.split(b" ")[2] for line in told)
+    wanted = sorted({line.split(b" ")[2] for line in lines})
+    check(f"{name}: super options that are left out are told", (devices, lines >= set(told)) == (wanted, True), "\n".join(map(shown, script)))
+
+
 def kept_rows(name, lines, script):
     """The rows of the mounts that the script makes, each behind the one that it stands on. All others are told."""
     rows, left = [row_of(line) for line in lines], left_out(script)
@@ -106,6 +117,7 @@ def kept_rows(name, lines, script):
     told = {int(found[1]): found[2] for found in map(OPTIONS_LEFT_OUT.match, script) if found}
     others = {row.id: line[:MOST_TOLD] for row, line in zip(rows, lines) if row.id in ids and has_other_options(line)}
     check(f"{name}: each row with options that are left out is told", told == others, "\n".join(map(shown, script)))
+    check_super_options(name, {line[:MOST_TOLD] for row, line in zip(rows, lines) if row.id in ids and not line.endswith(b" rw")}, script)
     return kept
 
 

@@ -148,7 +148,8 @@ def any_table(source):
         if source.random() < 0.03:
             fields += b" unbindable"
         options = source.choice((b"rw", b"rw", b"ro,nosuid", b"rw,relatime", b"rw,noatime,relatime", b"rw,nodev,idmapped"))
-        yield b"%d %d 0:%d %s %s %s%s - tmpfs none rw" % (number, parent, device, root, point, options, fields)
+        more = b",size=4k" if device == 2 else b""
+        yield b"%d %d 0:%d %s %s %s%s - tmpfs none rw%s" % (number, parent, device, root, point, options, fields, more)
 
 
 # The table of a process whose root is no mount, and the script that it makes.

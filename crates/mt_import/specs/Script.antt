@@ -1,7 +1,7 @@
 -- What the lines of a script are.
 -- A word with no source is this project's rule.
 use Rattle.std.specs.Prelude.{◌≡◌, ℕ, Bool, true, false, not, ◌==◌, ◌&&◌, ◌||◌, nat_eq, cond, IsTrue, List, [], ◌∷◌, ◌++◌, Result, Ok, codes, decimal, take}
-use Rattle.std.specs.List.{list_all, starts_with, flat_map, join_with_byte}
+use Rattle.std.specs.List.{list_all, starts_with, ends_with, flat_map, join_with_byte}
 use Rattle.mt_skel.specs.declared.fault.Fault.{Fault}
 use Rattle.mt_requests.specs.declared.request.Request.{Request}
 use Rattle.mt_requests.specs.declared.request.Request.TheVariants as request
@@ -47,6 +47,11 @@ comment_text row text = line_text (codes "# mount " ++ (decimal row.id ++ 32 ∷
 -- the comment on a mount that does not have all options of its row here, if it is one
 unfoldable pub options_comment : ToldMount → List ℕ
 options_comment row = cond (are_known row.options) [] (comment_text row (codes "has options that are left out"))
+
+-- the comment on the first mount of a filesystem that has more super options than `rw`, if it is one (proc_pid_mountinfo(5),
+-- field 11, the last word of a line)
+unfoldable pub super_comment : ToldMount → List ℕ
+super_comment row = cond (ends_with nat_eq row.line (codes " rw")) [] (comment_text row (codes "has super options that are left out"))
 
 -- why a mount is not made
 abbrev pub reason_text : Reason → List ℕ

@@ -1,7 +1,7 @@
 //! The filesystems that are made, one for each device.
 ghost use Rattle.std.specs.Prelude.{◌≡◌, ◌++◌, IfOk, OnOk, IsOkUnless};
 ghost use Rattle.mt_import.specs.Commands.{mkfs_line};
-ghost use Rattle.mt_import.specs.Script.{is_script_line, line_text};
+ghost use Rattle.mt_import.specs.Script.{is_script_line, line_text, super_comment};
 
 use crate::order::Mount;
 use crate::script::Script;
@@ -132,6 +132,19 @@ fn make_filesystem(alloc: Global, script: &mut Script, row: &HostMount) -> Resul
     command(alloc, script, &[b"mkfs", device, b"none", b"none"])
 }
 
+/// Says that a filesystem has super options, with its first mount, if it has others than `rw`: they are the last word of a
+/// line. Refused as `NoMemory` alone.
+#[tactic(auto, unfolding(crate::specs::Script::super_comment))]
+fn tell_super_options(alloc: Global, script: &mut Script, row: &HostMount) -> Result<(), Fault>
+    ensures told { OnOk result (script.new ≡ script.old ++ super_comment row.now) }
+    ensures memory { IsOkUnless result Fault.NoMemory }
+{
+    if row.line.as_slice().ends_with(b" rw") {
+        return Ok(());
+    }
+    comment(alloc, script, row, b"has super options that are left out")
+}
+
 /// Makes the filesystems of mounts. A mount whose line tells another type or source than the first of its device is
 /// told in a comment. Refused as `NoMemory` alone.
 pub(crate) fn make_filesystems<'a>(
@@ -149,6 +162,7 @@ pub(crate) fn make_filesystems<'a>(
         };
         if first.id == row.id {
             make_filesystem(alloc, script, first)?;
+            tell_super_options(alloc, script, first)?;
         } else if first.kind.as_slice() != row.kind.as_slice()
             || first.source.as_slice() != row.source.as_slice()
         {
