@@ -1,5 +1,5 @@
 //! The room that a server has for a script: as many mounts are made, in their order, as find it.
-ghost use Rattle.std.specs.Prelude.{◌≡◌, ◌++◌, ◌≤◌, length, IfOk, OnOk, IsOkUnless};
+ghost use Rattle.std.specs.Prelude.{◌≡◌, ◌++◌, ◌≤◌, length, take, drop, IfOk, OnOk, IsOkUnless};
 ghost use Rattle.std.specs.List.{flat_map};
 ghost use Rattle.mt_import.specs.Script.{left_out_text};
 
@@ -284,6 +284,8 @@ pub(crate) fn with_room<'m, 'a>(
     script: &mut Script,
     mounts: &'m [Mount<'a>],
 ) -> Result<&'m [Mount<'a>], Fault>
+    ensures first { IfOk result (λ made. made.now ≡ take (length made.now) mounts.now) }
+    ensures told { IfOk result (λ made. script.new ≡ script.old ++ flat_map (λ m. left_out_text m.row.now Reason.NoRoom) (drop (length made.now) mounts.now)) }
     ensures memory { IsOkUnless result Fault.NoMemory }
 {
     let count = fitting(alloc, mounts)?;
