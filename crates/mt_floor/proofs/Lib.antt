@@ -8,6 +8,10 @@ pub mod OpeningLaws
 pub mod FollowedLaws
 pub mod HeadLaws
 pub mod TableLaws
+pub mod FollowLaws
+pub mod OpenedLaws
+pub mod GivenLaws
+pub mod SinceLaws
 pub mod BoundLaws
 pub mod GoneLaws
 pub mod StandingLaws

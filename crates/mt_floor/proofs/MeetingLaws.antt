@@ -22,12 +22,12 @@ use Rattle.mt_floor.proofs.RunLaws.{run_take, run_drop, get_drop_at, get_take}
 use Rattle.mt_floor.proofs.HeadLaws.{held_at}
 
 -- the row behind an answer
-record Answers (key : ℕ) (s : FloorView) (says : Watcher → Type 0) : Type 0 where
-  row : Watcher
-  at : row_at key_of key s.watchers ≡ Some row
-  told : says row
+pub record Answers (key : ℕ) (s : FloorView) (says : Watcher → Type 0) : Type 0 where
+  pub row : Watcher
+  pub at : row_at key_of key s.watchers ≡ Some row
+  pub told : says row
 
-close_answer : (s : FloorView) (key : ℕ) (ps : List PostView) → (floor_step s (Close key)).1 ≡ Ok (Closed ps) → Answers key s (λ r. ps ≡ drop (length r.taken) r.sent)
+pub close_answer : (s : FloorView) (key : ℕ) (ps : List PostView) → (floor_step s (Close key)).1 ≡ Ok (Closed ps) → Answers key s (λ r. ps ≡ drop (length r.taken) r.sent)
 unfolding floor_step
 close_answer s key ps e = by s.due (row_at key_of key s.watchers) refl e
   where

@@ -22,14 +22,14 @@ use Rattle.mt_floor.proofs.GoneLaws.{none_stays}
 use Rattle.mt_floor.proofs.BoundLaws.{bounded, short_lists}
 use Rattle.mt_floor.proofs.BeginLaws.{begins, counts}
 
-one_row : (o : Option Watcher) (x y : Watcher) → o ≡ Some x → o ≡ Some y → x ≡ y
+pub one_row : (o : Option Watcher) (x y : Watcher) → o ≡ Some x → o ≡ Some y → x ≡ y
 one_row o x y a b = let two : ◌≡◌ {A = Option Watcher} (Some x) (Some y) = sym a ∙ b in let same : x ≡ y = cc in same
 
 open_row : (s : FloorView) (key : ℕ) (r : Watcher) → row_at key_of key s.watchers ≡ Some r → has_open key s ≡ is_open r.phase
 open_row s key r at = ap (λ o. option_map_or (λ (x : Watcher). is_open x.phase) o false) at
 
 -- a watcher on a floor, as the events see it
-follower_held : (s : FloorView) (h : IsFloor s) (key : ℕ) (r : Watcher) → row_at key_of key s.watchers ≡ Some r → Held key r.scope (take r.since s.journal) (drop r.since s.journal) r.sent r.taken s
+pub follower_held : (s : FloorView) (h : IsFloor s) (key : ℕ) (r : Watcher) → row_at key_of key s.watchers ≡ Some r → Held key r.scope (take r.since s.journal) (drop r.since s.journal) r.sent r.taken s
 follower_held s h key r at =
     let f = h.rows key r at in
     let key_is : r.key ≡ key = row_at-key key_of key s.watchers r at in
@@ -62,7 +62,7 @@ held_follower s key scope before since sent taken h r at =
     }
 
 -- a key that is gone, as the events see it
-gone_held : (s : FloorView) (h : IsFloor s) (key : ℕ) (scope : Scope) → key < s.next_key → row_at key_of key s.watchers ≡ None → Held key scope s.journal [] [] [] s
+pub gone_held : (s : FloorView) (h : IsFloor s) (key : ℕ) (scope : Scope) → key < s.next_key → row_at key_of key s.watchers ≡ None → Held key scope s.journal [] [] [] s
 gone_held s h key scope low none =
     let shut : has_open key s ≡ false = ap (λ o. option_map_or (λ (x : Watcher). is_open x.phase) o false) none in record {
       journal = sym (append-nil s.journal);
@@ -79,7 +79,7 @@ gone_held s h key scope low none =
     nothing true = refl
     nothing false = refl
 
-all_is_one : ◌≡◌ {A = Scope} All (One 0) → ⊥
+pub all_is_one : ◌≡◌ {A = Scope} All (One 0) → ⊥
 all_is_one e = cc
 
 pub kept_of : (s : FloorView) → IsFloor s → Kept s

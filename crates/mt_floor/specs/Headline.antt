@@ -141,3 +141,49 @@ pub record IsRebuilt (capacity : ℕ) (es : List Event) (at key : ℕ) (o : Open
 -- the second sentence, of every list of events and every watcher that began in it
 abbrev pub TakenRebuild : Type 0
 TakenRebuild = (capacity : ℕ) (es : List Event) (at key : ℕ) (o : Opening) → slice_get (answers capacity es) at ≡ Some (Ok (Opened key o)) → IsRebuilt capacity es at key o
+
+-- both sentences, of one list of events: of every watcher that began in it
+abbrev pub WatchersFollow : ℕ → List Event → Type 0
+WatchersFollow capacity es =
+    (at key : ℕ) (o : Opening) → slice_get (answers capacity es) at ≡ Some (Ok (Opened key o)) → IsInOrder capacity es at key o × IsRebuilt capacity es at key o
+
+-- events were done on the floor that others had led to, and answered so: all of them are one schedule, which leads to the floor now, and the headline holds of it
+pub record IsHeadlined (capacity : ℕ) (before es : List Event) (told : List (Result Answer Fault)) (now : FloorView) : Type 0 where
+  pub floor : now ≡ floor_after capacity (before ++ es)
+  pub answered : answers capacity (before ++ es) ≡ answers capacity before ++ told
+  pub watchers : WatchersFollow capacity (before ++ es)
+
+-- events were done on a floor: so it is, whatever events had led to it from one with nothing done
+abbrev pub HeadlineHolds : FloorView → List Event → List (Result Answer Fault) → FloorView → Type 0
+HeadlineHolds old es told now = (capacity : ℕ) (before : List Event) → old ≡ floor_after capacity before → IsHeadlined capacity before es told now
+
+-- what posts make of an opening, where they are the first that were posted to its watcher, whether it has taken them or a close has answered them
+pub record TellTables (capacity : ℕ) (es : List Event) (o : Opening) (ps : List PostView) : Type 0 where
+  -- of a namespace with none of them the table that was found
+  pub untouched : (n : ℕ) → IsTrue (names_space o.scope n) → space_posts n ps ≡ [] → table_made o n ps ≡ start_table o n
+  -- of another one the table after the command that gave the last of them
+  pub as_of : (n : ℕ) (front : List PostView) (p : PostView) → IsTrue (names_space o.scope n) → space_posts n ps ≡ front ++ p ∷ [] → IsTableAsOf n p (accepted es (answers capacity es)) (table_made o n ps)
+
+-- "given": the posts that a watcher has taken, and those that its close has answered
+abbrev pub given_by : ℕ → Event → Result Answer Fault → List PostView
+given_by key e (Ok (Took p)) = cond (takes_from key e) (option_to_list p) []
+given_by key e (Ok (Closed ps)) = cond (closes key e) ps []
+given_by key e a = []
+
+abbrev pub given_posts : ℕ → List Event → List (Result Answer Fault) → List PostView
+given_posts key (e ∷ es) (a ∷ ans) = given_by key e a ++ given_posts key es ans
+given_posts key es ans = []
+
+abbrev pub given_since : ℕ → List Event → ℕ → ℕ → List PostView
+given_since capacity es at key = given_posts key (drop at es) (drop at (answers capacity es))
+
+-- the posts that the watcher of a key that began at an event was given: a prefix of those posted to it, in order, and they tell its tables
+pub record IsGivenInOrder (capacity : ℕ) (es : List Event) (at key : ℕ) (o : Opening) : Type 0 where
+  pub not_given : List PostView
+  pub given : posted_since capacity es at key ≡ given_since capacity es at key ++ not_given
+  pub run : IsRun o (given_since capacity es at key)
+  pub tables : TellTables capacity es o (given_since capacity es at key)
+
+-- so it is of every list of events and every watcher that began in it, up to its close and behind it
+abbrev pub GivenInOrder : Type 0
+GivenInOrder = (capacity : ℕ) (es : List Event) (at key : ℕ) (o : Opening) → slice_get (answers capacity es) at ≡ Some (Ok (Opened key o)) → IsGivenInOrder capacity es at key o

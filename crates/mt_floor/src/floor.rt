@@ -1,5 +1,6 @@
 //! The book, its watchers, and the posts that are due to them.
 ghost use Rattle.std.specs.Prelude.{◌≡◌, ◌≢◌, ◌-◌, ◌<◌, ◌≤◌, IfOk, IfErr, OnErr, MatchOption, Some, None, Ok, Err, [], true, length, slice_get};
+ghost use Rattle.mt_floor.specs.Headline.{HeadlineHolds};
 ghost use Rattle.mt_floor.specs.Schedule.{empty_floor, floor_step, run, settled, waiting, is_put_off, opening_refusal, nothing_left, takes_memory, done_events, done_answers};
 
 use crate::due::{DuePost, due_of, first_key};
@@ -291,8 +292,14 @@ impl Floor {
     /// Does events one after another, and answers each as `step` does, also those that it refuses. The answers and the
     /// floor are those of the events without the ones that met want of memory, which were not done. Refused as
     /// `NoMemory` alone, where there is no room for the answers, and then nothing has changed.
+    ///
+    /// The events that a watcher has taken are a prefix of those posted for the namespaces it follows since its
+    /// opening, each once and in order, none posted after its close or lag; applied to its opening tables they give
+    /// each namespace's table as of its last taken number (`headline`). So it is of every watcher that began on this
+    /// floor, in this call or before it, whatever was done on it since it was new.
     pub fn run(&mut self, events: Vec<Event>) -> Result<Vec<Result<Answer, Fault>>, Fault>
         ensures schedule { IfOk result (λ answers. run self.old (done_events events.items answers.items) ≡ (self.new, done_answers events.items answers.items)) }
+        ensures headline { IfOk result (λ answers. HeadlineHolds self.old (done_events events.items answers.items) (done_answers events.items answers.items) self.new) }
         ensures each { IfOk result (λ answers. length answers.items ≡ length events.items) }
         ensures memory { IfErr result (λ fault. fault ≡ Fault.NoMemory) }
         ensures unchanged { OnErr result (self.new ≡ self.old) }

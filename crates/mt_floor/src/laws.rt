@@ -1,14 +1,16 @@
 //! What is true of every list of events. The functions do nothing: their contracts are the laws.
-ghost use Rattle.mt_floor.specs.Headline.{TakenInOrder, TakenRebuild};
+ghost use Rattle.mt_floor.specs.Headline.{TakenInOrder, TakenRebuild, GivenInOrder};
 ghost use Rattle.mt_floor.specs.Laws.{KeysOnce, MeetingsTell, RunsJoin};
 ghost use Rattle.mt_floor.specs.WellFormed.{FloorsStay, ListsAreShort};
 
 /// In every schedule, the events that a watcher has taken are a prefix of those posted for the namespaces
 /// it follows since its opening, each once and in order, none posted after its close or lag (`order`).
-/// Applied to its opening tables, they give each namespace's table as of its last taken number (`tables`).
+/// Applied to its opening tables, they give each namespace's table as of its last taken number (`tables`). Both is true
+/// as well of the posts that it has taken and those that its close has answered, together (`given`).
 pub fn watchers_follow()
     ensures order { TakenInOrder }
     ensures tables { TakenRebuild }
+    ensures given { GivenInOrder }
 {}
 
 /// No two watchers have one key (`keys`). A meeting tells how many posts were posted to a watcher and how many

@@ -1,5 +1,6 @@
 use Rattle.mt_floor.proofs.HeadLaws.{in_order}
 use Rattle.mt_floor.proofs.TableLaws.{rebuild}
+use Rattle.mt_floor.proofs.GivenLaws.{given_in_order}
 use Rattle.mt_floor.proofs.laws.watchers_follow.Goals as goal
 
 pub returns-clause-order : goal.returns-clause-order
@@ -7,3 +8,6 @@ returns-clause-order c = in_order
 
 pub returns-clause-tables : goal.returns-clause-tables
 returns-clause-tables c = rebuild
+
+pub returns-clause-given : goal.returns-clause-given
+returns-clause-given c = given_in_order

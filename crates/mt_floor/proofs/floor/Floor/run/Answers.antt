@@ -1,6 +1,9 @@
 use Rattle.std.proofs.Common.{◌≡◌, ◌++◌, ◌∷◌, [], length, sym, ap, ◌∙◌, append_assoc, length-append, arith, rules}
+use Rattle.std.proofs.lemmas.Grind.{common_steps}
 use Rattle.std.specs.Vec.Iter.{into_iter_items}
+use Rattle.mt_floor.specs.Schedule.{run, done_events, done_answers}
 use Rattle.mt_floor.proofs.RunningLaws.{run_next}
+use Rattle.mt_floor.proofs.FollowLaws.{headline_holds}
 use Rattle.mt_floor.proofs.floor.Floor.run.Goals as goal
 
 pub events-preserved : goal.events-preserved
@@ -17,3 +20,10 @@ events-preserved c =
       room = search rules;
       count = omega (arith, at.invariant.count, ap length pushed, length-append at.yielded (x ∷ []), length-append at.answers.items (s.result ∷ []));
     }
+
+pub returns-clause-headline : goal.returns-clause-headline
+returns-clause-headline c =
+    let es = done_events c.args.events.items c.events.answers.items in
+    let told = done_answers c.args.events.items c.events.answers.items in
+    let schedule : run c.args.self.now es ≡ (c.events.self, told) = grind (arith, common_steps) in
+    headline_holds c.args.self.now c.events.self es told schedule

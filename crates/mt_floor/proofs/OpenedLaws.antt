@@ -1,0 +1,77 @@
+-- Every watcher on a floor began with an event.
+use Rattle.std.proofs.Common.{◌≡◌, inl, inr, ℕ, zero, suc, ◌+◌, ◌<◌, ◌≤◌, Bool, true, false, eqb, ltb, List, [], ◌∷◌, Option, Some, None, slice_get, Ok, refl, sym, ap, ◌∙◌, subst, arith}
+use Rattle.std.specs.Prelude.{Result}
+use Rattle.std.proofs.lemmas.Bool.Decides.{nat_tests}
+use Rattle.mt_skel.specs.declared.fault.Fault.{Fault}
+use Rattle.mt_skel.specs.Keyed.{row_at}
+use Rattle.mt_skel.proofs.KeyedLaws.{row_at-key}
+use Rattle.mt_propagate.proofs.RowLaws.{all-row}
+use Rattle.mt_events.specs.declared.opening.Scope.{Scope}
+use Rattle.mt_events.specs.declared.opening.Scope.TheVariants.{One, All}
+use Rattle.mt_events.specs.declared.opening.Opening.{Opening}
+use Rattle.mt_floor.specs.declared.event.Event.{Event}
+use Rattle.mt_floor.specs.declared.event.Answer.{Answer}
+use Rattle.mt_floor.specs.declared.event.Answer.TheVariants.{Opened}
+use Rattle.mt_floor.specs.Watcher.{Watcher, key_of}
+use Rattle.mt_floor.specs.Schedule.{FloorView, empty_floor, floor_step, run}
+use Rattle.mt_floor.specs.Headline.{answers, floor_after}
+use Rattle.mt_floor.proofs.RowLaws.{is_key, is_low}
+use Rattle.mt_floor.proofs.HeldLaws.{Held}
+use Rattle.mt_floor.proofs.BeginLaws.{counts}
+use Rattle.mt_floor.proofs.RunLaws.{ran, after_kept}
+use Rattle.mt_floor.proofs.HeadLaws.{held_at, opening_told}
+
+-- an answer that begins the watcher of a key
+abbrev Given : List (Result Answer Fault) → ℕ → Type 0
+Given told key = (at : ℕ) × (o : Opening) × (slice_get told at ≡ Some (Ok (Opened key o)))
+
+later : (a : Result Answer Fault) (told : List (Result Answer Fault)) (key : ℕ) → Given told key → Given (a ∷ told) key
+later a told key g = (suc g.0, g.1, g.2)
+
+-- each key that was given out was answered
+given : (s : FloorView) (es : List Event) (key : ℕ) → s.next_key ≤ key → key < (run s es).0.next_key → Given (run s es).1 key
+given s [] key low high = absurd (omega (arith, low, high))
+given s (e ∷ es) key low high =
+    let a = floor_step s e in
+    elim (counts s e) [
+      | inl same ↦ later a.1 (run a.0 es).1 key (given a.0 es key (omega (arith, low, same)) high)
+      | inr gives ↦ by (eqb s.next_key key) refl gives.opening gives.answer gives.next (λ l. given a.0 es key l high)
+    ]
+  where
+    by : (b : Bool) → eqb s.next_key key ≡ b → (o : Opening) → (floor_step s e).1 ≡ Ok (Opened s.next_key o) → (floor_step s e).0.next_key ≡ s.next_key + 1
+        → ((floor_step s e).0.next_key ≤ key → Given (run (floor_step s e).0 es).1 key) → Given (run s (e ∷ es)).1 key
+    by true q o answer next more = (0, o, ap (λ (x : Result Answer Fault). Some x) (answer ∙ ap (λ k. Ok (Opened k o)) (is_key s.next_key key q)))
+    by false q o answer next more = later (floor_step s e).1 (run (floor_step s e).0 es).1 key (more (let above : s.next_key + 1 ≤ key = grind (arith, nat_tests) in omega (arith, above, next)))
+
+-- keys count from 1
+none_held : (capacity : ℕ) (scope : Scope) → Held 0 scope [] [] [] [] (empty_floor capacity)
+none_held capacity scope = record {
+  journal = refl;
+  old = omega arith;
+  not_taken = [];
+  taken_is = refl;
+  not_posted = [];
+  posted_is = refl;
+  row = λ r e. absurd (let no : ◌≡◌ {A = Option Watcher} None (Some r) = e in cc);
+  due = refl;
+}
+
+no_key : (capacity : ℕ) (es : List Event) (r : Watcher) → row_at key_of 0 (floor_after capacity es).watchers ≡ Some r → ⊥
+no_key capacity es r at =
+    let a = (ran 0 All [] [] [] [] (empty_floor capacity) (after_kept capacity []) (none_held capacity All) es).held.row r at in
+    let b = (ran 0 (One 0) [] [] [] [] (empty_floor capacity) (after_kept capacity []) (none_held capacity (One 0)) es).held.row r at in
+    let bad : ◌≡◌ {A = Scope} All (One 0) = sym a.scope_is ∙ b.scope_is in cc
+
+-- so the watcher of a row has begun, with the row's opening
+pub row_began : (capacity : ℕ) (es : List Event) (key : ℕ) (r : Watcher) → row_at key_of key (floor_after capacity es).watchers ≡ Some r
+    → (at : ℕ) × (slice_get (answers capacity es) at ≡ Some (Ok (Opened key r.opening)))
+row_began capacity es zero r at = absurd (no_key capacity es r at)
+row_began capacity es (suc k) r at =
+    let key = suc k in
+    let s = floor_after capacity es in
+    let kept = after_kept capacity es in
+    let low : ltb r.key s.next_key ≡ true = all-row key_of (λ (x : Watcher). ltb x.key s.next_key) s.watchers key r kept.below at in
+    let below : key < s.next_key = subst (λ n. n < s.next_key) (row_at-key key_of key s.watchers r at) (is_low r.key s.next_key low) in
+    let g = given (empty_floor capacity) es key (omega arith) below in
+    let opening : g.1 ≡ r.opening = opening_told capacity es g.0 key g.1 g.2 ∙ sym ((held_at capacity es g.0 key g.1 g.2).row r at).opening_is in
+    (g.0, g.2 ∙ ap (λ (o : Opening). Some (Ok (Opened key o))) opening)
