@@ -1,9 +1,12 @@
 -- What is done in a less privileged copy of a namespace stays in it.
 use Rattle.std.proofs.Common.{◌≡◌, ◌≢◌, ℕ, ◌+◌, ◌<◌, true, false, ◌==◌, eqb-true, List, [], ◌∷◌, ◌++◌, length, Result, Ok, Err, refl, sym, ap, ◌∙◌, subst, arith, append-nil}
+use Rattle.std.specs.Prelude.{Bool, if◌then◌else◌, nat_le}
+use Rattle.std.specs.List.{AllByRecursion}
 use Rattle.std.specs.Option.{option_to_list}
 use Rattle.std.proofs.lemmas.Bool.{true≢false}
 use Rattle.std.proofs.lemmas.Bool.Decides.{nat_tests}
 use Rattle.mt_skel.specs.declared.fault.Fault.{Fault}
+use Rattle.mt_skel.specs.declared.fault.Fault.TheVariants.{JournalFull}
 use Rattle.mt_skel.specs.Skeleton.{Skeleton, Filesystem, IsSkeleton, added_fs, added_dir}
 use Rattle.mt_propagate.specs.World.{WorldView}
 use Rattle.mt_propagate.specs.WellFormed.{IsWellFormed}
@@ -23,7 +26,8 @@ use Rattle.mt_book.specs.declared.command.Reply.{Reply}
 use Rattle.mt_book.specs.declared.command.Reply.TheVariants.{Done, Number}
 use Rattle.mt_book.specs.Step.{with_number, step, world_or, next_world, after_from, after}
 use Rattle.mt_book.specs.History.{events, space_number}
-use Rattle.mt_book.specs.Inside.{is_issued_in, is_copy_of, IsNotCopied}
+use Rattle.mt_book.specs.Book.{command_limit, answer, reply_of}
+use Rattle.mt_book.specs.Inside.{is_issued_in, is_copy_of, IsNotCopied, StaysInCopy, AllStayInCopies}
 use Rattle.mt_book.proofs.EffectLaws.{skel_ok, number_ok, done_ok, space_dropped}
 use Rattle.mt_book.proofs.StepLaws.{step_kept}
 use Rattle.mt_book.proofs.RiseLaws.{step_rises}
@@ -181,3 +185,36 @@ book_inside before m n v e done off c is k other =
     ap (λ (x : WorldView). table_of x k) next ∙ less_inside (after before) m n v good.formed good.skeleton e done off c is k other
     ∙ sym (ap (λ (x : WorldView). table_of x k) here) in
     (table, number_stays k cs c table)
+
+-- ---- a command of a book
+
+-- a namespace that was answered was made
+made_is : (cs : List Command) (c : Command) (n : ℕ) → answer cs c ≡ Ok (Number n) → (v : WorldView) × (step (after cs) c ≡ Ok (v, Number n))
+unfolding answer
+made_is cs c n e = by (nat_le command_limit (length cs)) (step (after cs) c) refl e
+  where
+    by : (full : Bool) (q : Result (WorldView × Reply) Fault) → step (after cs) c ≡ q → (if full then Err JournalFull else reply_of q) ≡ Ok (Number n)
+        → (v : WorldView) × (step (after cs) c ≡ Ok (v, Number n))
+    by true q is e = absurd (cc)
+    by false (Ok p) is e = let reply : p.1 ≡ Number n = cc in (p.0, is ∙ ap (λ (r : Reply). Ok (p.0, r)) reply)
+    by false (Err f) is e = absurd (cc)
+
+-- where no command is a copy, none that is accepted is one
+none_copied : (n : ℕ) (w : WorldView) (cs : List Command) → AllByRecursion (λ c. is_copy_of n c ≡ false) cs → IsNotCopied n w cs
+none_copied n w [] none = tt
+none_copied n w (c ∷ cs) none = (λ v r e. none.0, none_copied n (next_world w c) cs none.1)
+
+pub stays_inside : (cs : List Command) (c : Command) → StaysInCopy cs c (cs ++ c ∷ [])
+stays_inside cs c n h is k other =
+    let made = made_is h.before (CopySpace h.copied true) n h.made in
+    let all = h.before ++ CopySpace h.copied true ∷ h.later in
+    let e : all ≡ cs = sym h.commands in
+    let P : List Command → Type 0 = λ l. (table_of (after (l ++ c ∷ [])) k ≡ table_of (after l) k) × (space_number k (l ++ c ∷ []) ≡ space_number k l) in
+    subst P e (book_inside h.before h.copied n made.0 made.1 h.later (none_copied n made.0 h.later h.not_copied) c is k other)
+
+pub all_inside : (cs : List Command) → AllStayInCopies cs
+all_inside cs before c later is = stays_inside before c
+
+-- one that a book has done
+pub done_inside : (cs now : List Command) (c : Command) → now ≡ cs ++ c ∷ [] → StaysInCopy cs c now
+done_inside cs now c done = subst (StaysInCopy cs c) (sym done) (stays_inside cs c)

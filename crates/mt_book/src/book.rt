@@ -10,6 +10,7 @@ ghost use Rattle.mt_events.specs.Posts.{IsPost};
 ghost use Rattle.mt_book.specs.Step.{after};
 ghost use Rattle.mt_book.specs.Commands.{IsCommand};
 ghost use Rattle.mt_book.specs.History.{space_number, posts_of};
+ghost use Rattle.mt_book.specs.Inside.{StaysInCopy, AllStayInCopies};
 ghost use Rattle.mt_book.specs.Book.{answer, accepts, command_limit, found_at, space_in, number_in, spaces_of, AreAnswered};
 ghost use Rattle.mt_book.specs.Kept.{IsPrepared, prepared_command, prepared_reply, prepared_posts, is_heard};
 
@@ -111,7 +112,8 @@ impl Book {
 
     /// Does a command beside the world that is shown, and takes all the memory that showing it needs: `commit`
     /// shows it, and a `Prepared` that is dropped was never done. The book answers as before, whether the command
-    /// is refused or not. Each of its posts has in its fields what its type says (`valid`).
+    /// is refused or not, and what was prepared before can still be shown: the room for it stays (`room_stays`). Each of
+    /// its posts has in its fields what its type says (`valid`).
     ///
     /// Refused as `JournalFull` after 1,048,576 accepted commands, else with the first of the command's own
     /// refusals that holds, and as `NoMemory`.
@@ -121,6 +123,7 @@ impl Book {
         ensures heard { IfOk result (λ prepared. is_heard prepared ≡ true) }
         ensures valid { IfOk result (λ prepared. AllByRecursion IsPost (prepared_posts prepared)) }
         ensures room { OnOk result (0 < self.new.room) }
+        ensures room_stays { self.old.room ≤ self.new.room }
         ensures refused { IfErr result (λ fault. fault ≢ Fault.NoMemory → answer self.old.journal command.now ≡ Err fault) }
         ensures unchanged { self.new.journal ≡ self.old.journal }
     {
@@ -136,6 +139,7 @@ impl Book {
         ensures heard { IfOk result (λ prepared. is_heard prepared ≡ heard) }
         ensures valid { IfOk result (λ prepared. AllByRecursion IsPost (prepared_posts prepared)) }
         ensures room { OnOk result (0 < self.new.room) }
+        ensures room_stays { self.old.room ≤ self.new.room }
         ensures refused { IfErr result (λ fault. fault ≢ Fault.NoMemory → answer self.old.journal command.now ≡ Err fault) }
         ensures unchanged { self.new.journal ≡ self.old.journal }
     {
@@ -207,6 +211,9 @@ impl Book {
     ///
     /// Refused as `JournalFull` after 1,048,576 accepted commands, else with the first of the command's own
     /// refusals that holds, and as `NoMemory`; then nothing has changed.
+    ///
+    /// Where it is issued in a namespace that was made by `copyns` with `less` and that no later command has copied, it
+    /// leaves the table and the number of every other namespace as they were (`inside`).
     pub fn apply(&mut self, command: &Command) -> Result<(Reply, SharedPosts), Fault>
         ensures done { IfOk result (λ done. answer self.old.journal command.now ≡ Ok done.0) }
         ensures posts { IfOk result (λ done. done.1 ≡ posts_of self.old.journal command.now) }
@@ -214,6 +221,7 @@ impl Book {
         ensures journal { OnOk result (self.new.journal ≡ self.old.journal ++ command.now ∷ []) }
         ensures refused { IfErr result (λ fault. fault ≢ Fault.NoMemory → answer self.old.journal command.now ≡ Err fault) }
         ensures unchanged { OnErr result (self.new.journal ≡ self.old.journal) }
+        ensures inside { StaysInCopy self.old.journal command.now self.new.journal }
     {
         let prepared = self.prepare(command)?;
         Ok(self.commit(prepared))
@@ -278,6 +286,9 @@ impl Book {
 
     /// Does commands one after another, and answers each as `apply` does, also those that it refuses. Refused as
     /// `NoMemory` alone, where there is no room for the answers, and then nothing has changed.
+    ///
+    /// Each command of the journal that was issued in a namespace made by `copyns` with `less`, which no command had
+    /// copied since, has left the table and the number of every other namespace as they were (`inside`).
     pub fn run(
         &mut self,
         commands: &[Command],
@@ -285,6 +296,7 @@ impl Book {
         ensures done { IfOk result (λ answers. AreAnswered self.old.journal commands.now answers.items self.new.journal) }
         ensures memory { IsOkUnless result Fault.NoMemory }
         ensures unchanged { OnErr result (self.new.journal ≡ self.old.journal) }
+        ensures inside { AllStayInCopies self.new.journal }
     {
         let mut answers = Vec::with_capacity(self.alloc, commands.len())?;
         'commands: for i in 0..commands.len() {

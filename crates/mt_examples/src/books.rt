@@ -1,7 +1,7 @@
 //! Commands with all that a book answers to them: the answer that a session sends, and the posts that it does not.
 use crate::fixture::{command_of, commands_of, played, push_answer};
 use mt_book::book::Book;
-use mt_book::command::Command;
+use mt_book::command::{Command, Reply};
 use mt_skel::fault::Fault;
 use std::alloc::Global;
 use std::test::Fail;
@@ -105,6 +105,32 @@ fn is_done_later(alloc: Global, book: &mut Book) -> Result<bool, Fault> {
 fn prepared_commands_may_be_dropped(rt: HostRuntime) -> Result<(), Fail> {
     let mut book = Book::new(rt.alloc());
     let good = is_done_later(rt.alloc(), &mut book)?;
+    assert!(rt; good);
+    Ok(())
+}
+
+/// Shows a command that was prepared, though another one was refused behind it.
+fn shown_behind(book: &mut Book, first: &Command, refused: &Command) -> Result<Reply, Fault> {
+    let prepared = book.prepare(first)?;
+    let _ = book.prepare(refused);
+    let (reply, _) = book.commit(prepared);
+    Ok(reply)
+}
+
+/// Whether it is done then.
+fn is_shown_behind(alloc: Global, book: &mut Book) -> Result<bool, Fault> {
+    let started = is_started(alloc, book)?;
+    let first = command_of(alloc, b"mount 1 d /m")?;
+    let refused = command_of(alloc, b"newns q")?;
+    let reply = shown_behind(book, &first, &refused)?;
+    let number = book.number(1)?;
+    Ok(started && reply == Reply::Number(2) && number == 2)
+}
+
+#[test]
+fn prepared_commands_outlast_refused_ones(rt: HostRuntime) -> Result<(), Fail> {
+    let mut book = Book::new(rt.alloc());
+    let good = is_shown_behind(rt.alloc(), &mut book)?;
     assert!(rt; good);
     Ok(())
 }
