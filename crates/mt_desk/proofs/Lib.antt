@@ -11,3 +11,4 @@ pub mod DeskLaws
 pub mod SendingLaws
 pub mod SentLaws
 pub mod HeardLaws
+pub mod FollowLaws

@@ -5,3 +5,4 @@ pub mod Rows
 pub mod Places
 pub mod Sending
 pub mod Sent
+pub mod Headline

@@ -6,6 +6,7 @@ ghost use Rattle.mt_floor.specs.declared.event.Event.TheVariants.{Apply, Open, S
 ghost use Rattle.mt_floor.specs.declared.event.Answer.TheVariants.{Opened, Halted};
 ghost use Rattle.mt_desk.specs.Desk.{IsDesk, floor_of_desk, with_watcher, halted_desk};
 ghost use Rattle.mt_desk.specs.Calls.{IsApplied, IsMet, IsClosed};
+ghost use Rattle.mt_desk.specs.Headline.{Meet, Close, ScheduleHolds};
 
 use crate::due::due_of;
 use crate::lines::{Lines, Naming};
@@ -154,9 +155,14 @@ impl<J: Naming> Desk<J> {
     /// How many posts were sent to a watcher, how many of them it has taken, and whether it is still posted to. The
     /// watcher's row and its half each keep in mind how far the other is. Not refused: a watcher of this desk's name has
     /// its row here until its close. Takes no memory, and waits for nothing.
+    ///
+    /// Whatever was called on the desk since it was new, the posts that the watcher has taken are a prefix of those posted
+    /// for the namespaces it follows since its opening, each once and in order, and applied to its opening tables they
+    /// give each namespace's table as of its last taken number (`headline`).
     pub fn meet(&mut self, watcher: &mut Watcher<J>) -> Result<Meeting, Fault>
         ensures ok { IsOk result }
         ensures met { IfOk result (λ m. IsMet self.old watcher.old m self.new watcher.new) }
+        ensures headline { IfOk result (λ m. ScheduleHolds self.old (Meet watcher.old m watcher.new) self.new) }
     {
         let meeting = meet_at(&mut self.slots, watcher.place, &mut watcher.half);
         Ok(meeting)
@@ -164,6 +170,9 @@ impl<J: Naming> Desk<J> {
 
     /// Ends a watcher, and answers what was sent to it and not taken. Not refused: a watcher of this desk's name has
     /// its row here; a refusal would hand it back. Takes no memory. It may wait, as each call on a queue may.
+    ///
+    /// What is said of a watcher at a `meet` holds here, also of what it has taken and what is answered, together: that is
+    /// all that was posted to it (`headline`).
     pub fn close<R: Wait>(
         &mut self,
         rt: &R,
@@ -171,6 +180,7 @@ impl<J: Naming> Desk<J> {
     ) -> Result<SharedPosts, (Watcher<J>, Fault)>
         ensures ok { IsOk result }
         ensures closed { IfOk result (λ posts. IsClosed self.old watcher posts self.new) }
+        ensures headline { IfOk result (λ posts. ScheduleHolds self.old (Close watcher posts) self.new) }
     {
         let Watcher {
             key: _,

@@ -6,11 +6,12 @@
 //!
 //! [`desk`] has the calls, [`lines`] the queues, made before the name that ties them to one desk, and [`watcher`]
 //! the half that a session owns. Inside, [`places`] has what stands at each line, [`row`] what is kept of one
-//! watcher, and [`due`] which posts go to which rows.
+//! watcher, and [`due`] which posts go to which rows. [`laws`] has what is true of every list of calls.
 #![tactic(auto)]
 
 pub mod desk;
 mod due;
+pub mod laws;
 pub mod lines;
 mod places;
 mod row;

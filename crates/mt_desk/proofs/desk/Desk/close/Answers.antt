@@ -3,7 +3,9 @@ use Rattle.std.specs.Prelude.{vec_capacity}
 use Rattle.mt_desk.specs.Desk.{DeskView}
 use Rattle.mt_desk.specs.Calls.{WatcherView, IsClosed}
 use Rattle.mt_desk.specs.Places.{IsKept, desk_of}
+use Rattle.mt_desk.specs.Headline.{Close}
 use Rattle.mt_desk.proofs.DeskLaws.{place_is, closed_kept}
+use Rattle.mt_desk.proofs.FollowLaws.{calls_follow}
 use Rattle.mt_desk.proofs.desk.Desk.close.Goals as goal
 
 pub close_at-posts-requires : goal.close_at-posts-requires
@@ -29,3 +31,9 @@ returns-clause-closed g c =
     let now : DeskView = desk_of i.capacity i.book.journal i.last_key i.stopped c.close_at-posts.new.slots.items c.drop_place.new.order.items in
     let kept = closed_kept g.J.Naming.lines i.capacity i.book.journal i.last_key i.stopped i.slots.items i.order.items (vec_capacity i.order) c.self.invariant v c.close_at-posts.new.slots.items c.close_at-posts.result c.drop_place.new.order.items c.watcher.invariant c.close_at-posts.ensures c.drop_place.ensures.items in
     subst (λ (x : DeskView × WatcherView). IsClosed x.0 x.1 c.close_at-posts.result now) (λ j. (c.self.view_is j, c.watcher.view_is j)) kept.1
+
+pub returns-clause-headline : goal.returns-clause-headline
+returns-clause-headline g c =
+    let i = c.self.inside in
+    let now : DeskView = desk_of i.capacity i.book.journal i.last_key i.stopped c.close_at-posts.new.slots.items c.drop_place.new.order.items in
+    calls_follow c.args.self.now (Close c.args.watcher c.close_at-posts.result) now (returns-clause-closed g c)

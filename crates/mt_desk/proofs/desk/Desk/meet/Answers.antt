@@ -3,7 +3,9 @@ use Rattle.std.specs.Prelude.{vec_capacity}
 use Rattle.mt_desk.specs.Desk.{DeskView}
 use Rattle.mt_desk.specs.Calls.{WatcherView, IsMet}
 use Rattle.mt_desk.specs.Places.{desk_of}
+use Rattle.mt_desk.specs.Headline.{Meet}
 use Rattle.mt_desk.proofs.DeskLaws.{place_is, met_kept}
+use Rattle.mt_desk.proofs.FollowLaws.{calls_follow}
 use Rattle.mt_desk.proofs.desk.Desk.meet.Goals as goal
 
 pub meet_at-meeting-requires : goal.meet_at-meeting-requires
@@ -28,3 +30,11 @@ returns-clause-met g c =
     let v' : WatcherView = record v { half = c.meet_at-meeting.new.half } in
     let met = met_kept g.J.Naming.lines i.capacity i.book.journal i.last_key i.stopped i.slots.items i.order.items (vec_capacity i.order) c.self.invariant v c.meet_at-meeting.new.slots.items c.meet_at-meeting.new.half c.meet_at-meeting.result c.watcher.invariant c.meet_at-meeting.ensures in
     subst (λ (x : DeskView × WatcherView). IsMet x.0 x.1 c.meet_at-meeting.result now v') (λ j. (c.self.view_is j, c.watcher.view_is j)) met.1
+
+pub returns-clause-headline : goal.returns-clause-headline
+returns-clause-headline g c =
+    let i = c.self.inside in
+    let w = c.watcher.inside in
+    let now : DeskView = desk_of i.capacity i.book.journal i.last_key i.stopped c.meet_at-meeting.new.slots.items i.order.items in
+    let v' : WatcherView = record { key = w.key; place = w.place; half = c.meet_at-meeting.new.half } in
+    calls_follow c.args.self.now (Meet c.args.watcher.now c.meet_at-meeting.result v') now (returns-clause-met g c)
