@@ -4,3 +4,6 @@ pub mod SharedLaws
 pub mod SharedLineLaws
 pub mod SharedTakeLaws
 pub mod TurnLaws
+pub mod GivingLaws
+pub mod FollowLaws
+pub mod TellingLaws

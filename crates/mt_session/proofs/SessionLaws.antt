@@ -244,7 +244,7 @@ items_of-append : (xs ys : List Turn) → items_of (xs ++ ys) ≡ items_of xs ++
 items_of-append [] ys = refl
 items_of-append (x ∷ xs) ys = ap (λ z. item_of x.line ∷ z) (items_of-append xs ys)
 
-state_after-append : (xs ys : List Turn) (w : SessionState) → state_after (xs ++ ys) w ≡ state_after ys (state_after xs w)
+pub state_after-append : (xs ys : List Turn) (w : SessionState) → state_after (xs ++ ys) w ≡ state_after ys (state_after xs w)
 state_after-append [] ys w = refl
 state_after-append (x ∷ xs) ys w = state_after-append xs ys (after w x)
 

@@ -4,11 +4,12 @@
 //! answers ([`text`], [`stream`]). A plain session does them on a floor of its own ([`session`]); [`serving`] is all
 //! that it does from its first line to its end. A session in a thread of its own does them at a desk that others share
 //! ([`shared_session`]), answers by [`shared_answer`], and is served by [`shared_serving`]; [`bell`] and [`gate`] are
-//! where it rests and where a test can hold it.
+//! where it rests and where a test can hold it. [`laws`] has what is true of every list of lines.
 #![tactic(auto)]
 
 pub mod bell;
 pub mod gate;
+pub mod laws;
 pub mod serving;
 pub mod session;
 pub mod shared_answer;

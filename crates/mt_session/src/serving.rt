@@ -5,6 +5,7 @@ ghost use Rattle.mt_session.specs.Answers.{refusal};
 ghost use Rattle.mt_session.specs.Requests.{state_at, session_at};
 ghost use Rattle.mt_lines.specs.Reading.{bytes_left, failed_calls, last_faults, limit_of, fault_of};
 ghost use Rattle.mt_session.specs.Session.{Whole, ends_by, Served, line_limit, IsReadEnd, IsReadEndRun, IsCutCause, IsCutRun};
+ghost use Rattle.mt_session.specs.Headline.{TranscriptHolds};
 ghost use Rattle.mt_session.specs.Serving.{Answered, IsSent, Ran, ServedLine, ends_whole, ends_by_answer, ends_by_line};
 
 use crate::session::Session;
@@ -179,6 +180,10 @@ fn serve_session<R: Input + Drop, W: Output>(
 /// lines that were read, however they were cut; at a fault of the writer all earlier answers are out
 /// whole, and of the last as many bytes as the end says, fewer than it has; nothing is written behind
 /// it.
+///
+/// The lines are a schedule of the floor. So the posts that they tell of a watcher, by `take`, `follow` and `close`, are
+/// a prefix of those posted for the namespaces it follows since its opening, each once and in order; and applied to the
+/// opening that `watch` told, they give each namespace's table as of its last told number (`headline`).
 pub fn serve_plain<R: Input + Drop, W: Output>(
     alloc: Global,
     lines: &mut LineReader<R>,
@@ -188,6 +193,7 @@ pub fn serve_plain<R: Input + Drop, W: Output>(
     requires fresh { fault_of lines.old ≡ None }
     requires limit { limit_of lines.old ≡ line_limit }
     ensures served { IsTrue R.tells → IsTrue W.tells → Served (bytes_left lines.old) (session_at floor.old None) (state_at floor.new None) (W.written writer.old) (W.written writer.new) result }
+    ensures headline { IsTrue R.tells → IsTrue W.tells → TranscriptHolds (bytes_left lines.old) floor.old floor.new (W.written writer.old) (W.written writer.new) result }
     ensures idle { floor.new.due ≡ [] }
     ensures memory { result ≢ End.Memory }
 
