@@ -19,4 +19,8 @@ pub mod MemberLaws
 pub mod JudgedLaws
 pub mod BoundLaws
 pub mod MovingLaws
+pub mod PivotForestLaws
+pub mod PivotLaws
+pub mod ExchangeLaws
+pub mod PivotingLaws
 pub mod InsideLaws

@@ -6,6 +6,7 @@ use Rattle.mt_propagate.specs.WellFormed.{IsWellFormed}
 use Rattle.mt_propagate.specs.Contained.{IsContained, IsSameOutside}
 use Rattle.mt_bind.specs.Spaces.{new_space, with_copy, copy_space, without_space}
 use Rattle.mt_bind.specs.Mounting.{mounted, bound, moved}
+use Rattle.mt_bind.specs.Pivoting.{pivoted}
 
 -- a world stays well-formed when a namespace is copied, whether into one less privileged or not; where the namespace has no
 -- mounts, nothing is copied
@@ -29,6 +30,10 @@ BindKeeps =
 abbrev pub MoveKeeps : Type 0
 MoveKeeps = (w : WorldView) (n : ℕ) (from to : List (List ℕ)) (v : WorldView) → IsWellFormed w → moved w n from to ≡ Ok v → IsWellFormed v
 
+-- and through a pivot (pivot_root(2))
+abbrev pub PivotKeeps : Type 0
+PivotKeeps = (w : WorldView) (n : ℕ) (new old : List (List ℕ)) (v : WorldView) → IsWellFormed w → pivoted w n new old ≡ Ok v → IsWellFormed v
+
 -- a less privileged copy of a namespace is contained (mount_namespaces(7), restrictions on mount namespaces)
 abbrev pub LessIsContained : Type 0
 LessIsContained = (w : WorldView) (m : ℕ) (v : WorldView) (n : ℕ) → IsWellFormed w → copy_space w m true ≡ Ok (v, n) → IsContained n v
@@ -46,6 +51,10 @@ BindKeepsContained =
 -- through a move
 abbrev pub MoveKeepsContained : Type 0
 MoveKeepsContained = (k : ℕ) (w : WorldView) (n : ℕ) (from to : List (List ℕ)) (v : WorldView) → IsWellFormed w → IsContained k w → moved w n from to ≡ Ok v → IsContained k v
+
+-- through a pivot
+abbrev pub PivotKeepsContained : Type 0
+PivotKeepsContained = (k : ℕ) (w : WorldView) (n : ℕ) (new old : List (List ℕ)) (v : WorldView) → IsWellFormed w → IsContained k w → pivoted w n new old ≡ Ok v → IsContained k v
 
 -- where a namespace is new
 abbrev pub MakingKeepsContained : Type 0
@@ -72,6 +81,10 @@ BindStaysInside =
 -- nor a move
 abbrev pub MoveStaysInside : Type 0
 MoveStaysInside = (w : WorldView) (n : ℕ) (from to : List (List ℕ)) (v : WorldView) → IsWellFormed w → IsContained n w → moved w n from to ≡ Ok v → IsSameOutside n w v
+
+-- nor a pivot
+abbrev pub PivotStaysInside : Type 0
+PivotStaysInside = (w : WorldView) (n : ℕ) (new old : List (List ℕ)) (v : WorldView) → IsWellFormed w → IsContained n w → pivoted w n new old ≡ Ok v → IsSameOutside n w v
 
 -- nor its end
 abbrev pub EndStaysInside : Type 0

@@ -4,4 +4,5 @@ pub mod Dropping
 pub mod Sources
 pub mod Judged
 pub mod Mounting
+pub mod Pivoting
 pub mod Laws

@@ -1,14 +1,15 @@
 //! What is true of new namespaces, of their end, and of the commands that make mounts stand,
 //! whatever does them. The functions do nothing: their contracts are the laws.
-ghost use Rattle.mt_bind.specs.Laws.{MountKeeps, BindKeeps, MoveKeeps, CopyingKeeps, EndingKeeps};
-ghost use Rattle.mt_bind.specs.Laws.{LessIsContained, MountKeepsContained, BindKeepsContained, MoveKeepsContained, MakingKeepsContained, CopyKeepsContained, EndKeepsContained, MountStaysInside, BindStaysInside, MoveStaysInside, EndStaysInside};
+ghost use Rattle.mt_bind.specs.Laws.{MountKeeps, BindKeeps, MoveKeeps, PivotKeeps, CopyingKeeps, EndingKeeps};
+ghost use Rattle.mt_bind.specs.Laws.{LessIsContained, MountKeepsContained, BindKeepsContained, MoveKeepsContained, PivotKeepsContained, MakingKeepsContained, CopyKeepsContained, EndKeepsContained, MountStaysInside, BindStaysInside, MoveStaysInside, PivotStaysInside, EndStaysInside};
 
 /// A well-formed world stays so through a mount that is accepted, through a bind, of one mount or of
-/// a tree, and through a move.
+/// a tree, through a move, and through a pivot.
 pub fn mounting_keeps_worlds()
     ensures mounted { MountKeeps }
     ensures bound { BindKeeps }
     ensures moved { MoveKeeps }
+    ensures pivoted { PivotKeeps }
 {}
 
 /// When a namespace is copied, a well-formed world stays well-formed: the new namespace has one tree,
@@ -26,25 +27,27 @@ pub fn less_privileged_copies_are_contained()
     ensures { LessIsContained }
 {}
 
-/// A contained namespace stays contained through a mount that is accepted, a bind and a move, in
-/// whichever namespace they are; when a namespace is made, when another one is copied, and when one
+/// A contained namespace stays contained through a mount that is accepted, a bind, a move and a pivot,
+/// in whichever namespace they are; when a namespace is made, when another one is copied, and when one
 /// vanishes. A copy of the contained namespace itself is left out: its mounts receive from those that
 /// they are copies of.
 pub fn contained_namespaces_stay_contained()
     ensures mounted { MountKeepsContained }
     ensures bound { BindKeepsContained }
     ensures moved { MoveKeepsContained }
+    ensures pivoted { PivotKeepsContained }
     ensures made { MakingKeepsContained }
     ensures copied { CopyKeepsContained }
     ensures ended { EndKeepsContained }
 {}
 
-/// In a contained namespace a mount, a bind and a move change nothing outside it: every other
+/// In a contained namespace a mount, a bind, a move and a pivot change nothing outside it: every other
 /// namespace has the mounts that it had, at the same places, with the same attributes, groups and
 /// masters. Nor does its end.
 pub fn contained_changes_stay_inside()
     ensures mounted { MountStaysInside }
     ensures bound { BindStaysInside }
     ensures moved { MoveStaysInside }
+    ensures pivoted { PivotStaysInside }
     ensures ended { EndStaysInside }
 {}

@@ -1,9 +1,9 @@
-//! New namespaces and their end, and what makes mounts stand where none stood: mount, bind, rbind and
-//! move.
+//! New namespaces and their end, and what makes mounts stand where none stood: mount, bind, rbind, move
+//! and pivot.
 //!
 //! [`mounting`], [`binding`] and [`moving`] have the commands that make mounts stand; [`members`] finds which
-//! mounts of a tree a recursive bind copies. [`spaces`] makes namespaces, [`copying`] copies them, [`dropping`]
-//! ends them. [`laws`] has what all of these keep.
+//! mounts of a tree a recursive bind copies. [`pivoting`] gives a namespace another root mount. [`spaces`] makes
+//! namespaces, [`copying`] copies them, [`dropping`] ends them. [`laws`] has what all of these keep.
 #![tactic(auto)]
 
 pub mod binding;
@@ -13,4 +13,5 @@ pub mod laws;
 mod members;
 pub mod mounting;
 pub mod moving;
+pub mod pivoting;
 pub mod spaces;

@@ -20,14 +20,14 @@ use mt_skel::list::is_among;
 use mt_skel::name::Name;
 
 /// Whether a mount is in a peer group.
-fn is_shared(world: &World, id: MountId) -> bool
+pub(crate) fn is_shared(world: &World, id: MountId) -> bool
     ensures { result ≡ is_some (group_of (world_view world.now) id) }
 {
     state_of(world, id).group.is_some()
 }
 
 /// Whether the mount on which a mount stands is in a peer group.
-fn has_shared_parent(world: &World, id: MountId) -> bool
+pub(crate) fn has_shared_parent(world: &World, id: MountId) -> bool
     ensures { result ≡ option_map_or (λ k. is_some (group_of (world_view world.now) k)) (parent world.now.forest.mounts id) false }
 {
     match world.forest.parent(id) {

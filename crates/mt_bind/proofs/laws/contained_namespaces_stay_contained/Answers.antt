@@ -1,4 +1,5 @@
 use Rattle.mt_bind.proofs.InsideLaws.{mount_contained, bind_contained, move_contained, made_contained, copied_contained, end_contained}
+use Rattle.mt_bind.proofs.PivotingLaws.{pivoted_contained}
 use Rattle.mt_bind.proofs.laws.contained_namespaces_stay_contained.Goals as goal
 
 pub returns-clause-mounted : goal.returns-clause-mounted
@@ -9,6 +10,9 @@ returns-clause-bound c = bind_contained
 
 pub returns-clause-moved : goal.returns-clause-moved
 returns-clause-moved c = move_contained
+
+pub returns-clause-pivoted : goal.returns-clause-pivoted
+returns-clause-pivoted c = pivoted_contained
 
 pub returns-clause-made : goal.returns-clause-made
 returns-clause-made c = made_contained

@@ -1,0 +1,107 @@
+-- A pivot done mount by mount: the new root mount goes, the old one is moved to the place, and the new one comes back without one.
+use Rattle.std.proofs.Common.{◌≡◌, ◌≢◌, ℕ, true, cond, not, ◌==◌, eq-eqb, List, map, Option, Some, None, refl, sym, ap, ◌∙◌, inl, inr}
+use Rattle.std.specs.Option.{option_map, is_none}
+use Rattle.std.proofs.lemmas.Bool.{cases_eq, ne_eqb, true≢false}
+use Rattle.mt_skel.specs.Keyed.{rises, put}
+use Rattle.mt_skel.proofs.KeyedLaws.{passing, row_at-key, row_at-filter, row_at-map, rises-filter, rises-map, rises-put, same_rows}
+use Rattle.mt_mounts.specs.declared.mount.Mount.{Mount}
+use Rattle.mt_mounts.specs.declared.mount.Place.{Place}
+use Rattle.mt_mounts.specs.Forest.{id_of, mount_at, on, is_at, is_root, root_mount}
+use Rattle.mt_mounts.specs.ForestView.{with_place, without_id}
+use Rattle.mt_mounts.proofs.ForestLaws.{find_row, find_passes, find_none}
+use Rattle.mt_mounts.proofs.SlotLaws.{none_found, row_put_here, row_put_later, row_kept}
+use Rattle.mt_propagate.specs.World.{WorldView}
+use Rattle.mt_propagate.specs.WellFormed.{IsWellFormed}
+use Rattle.mt_propagate.proofs.MovedForestLaws.{lifted, from_lifted}
+use Rattle.mt_propagate.proofs.WalkLaws.{root_here}
+use Rattle.mt_bind.specs.Pivoting.{pivoted_mount, MayPivot}
+
+module _ (w : WorldView) (h : IsWellFormed w) (i j : ℕ) (p : Place) (a : MayPivot w i j p) where
+  abbrev ms : List Mount
+  ms = w.forest
+
+  abbrev gone : List Mount
+  gone = without_id i ms
+
+  abbrev moved : List Mount
+  moved = with_place j p gone
+
+  gone_rises : rises id_of gone ≡ true
+  gone_rises = rises-filter id_of (λ (m : Mount). not (m.id == i)) ms h.forest.rising
+
+  moved_rises : rises id_of moved ≡ true
+  moved_rises = rises-map id_of (lifted j p) (λ x. refl) gone ∙ gone_rises
+
+  -- the place is free still
+  pub free_still : on gone p ≡ None
+  free_still = none_found _ (λ x e.
+      let row = row_kept ms i x.id x h.forest.rising (find_row (is_at p) gone x gone_rises e) in
+      true≢false (sym (find_passes (is_at p) gone x e) ∙ find_none (is_at p) ms a.destination.free x.id x row.0))
+
+  -- what is there then was there, and is not the new root mount
+  was : (k : ℕ) (b : Mount) → mount_at moved k ≡ Some b → (x : Mount) × (mount_at ms k ≡ Some x) × (x.id ≢ i) × (b ≡ lifted j p x)
+  was k b e =
+      let x = from_lifted gone j p k b e in
+      let row = row_kept ms i k x.0 h.forest.rising x.1 in
+      (x.0, row.0, row.1, x.2)
+
+  pub absent_then : mount_at moved i ≡ None
+  absent_then = none_found _ (λ b e. let x = was i b e in absurd (x.2 (row_at-key id_of i ms x.0 x.1)))
+
+  -- no other mount of the namespace has no place then
+  pub rootless_then : root_mount moved a.top.space ≡ None
+  rootless_then = none_found _ (λ b e.
+      let n = a.top.space in
+      let row = find_row (is_root n) moved b moved_rises e in
+      let root = root_here n b (find_passes (is_root n) moved b e) in
+      let x = was b.id b row in
+      go x.0 b x.1 x.3 (none_is b.place root.0) root.1)
+    where
+      none_is : (o : Option Place) → is_none o ≡ true → o ≡ None
+      none_is None e = refl
+      none_is (Some q) e = absurd (cc)
+
+      go : (x b : Mount) → mount_at ms b.id ≡ Some x → b ≡ lifted j p x → b.place ≡ None → b.space ≡ a.top.space → ⊥
+      go x b row same at here = elim (cases_eq x.id j) [
+        | inl old ↦
+            let v : Some p ≡ None = sym (ap (λ c. cond c (Some p) x.place) (eq-eqb x.id j old)) ∙ sym (ap (λ (m : Mount). m.place) same) ∙ at in
+            absurd (cc)
+        | inr other ↦
+            let none : x.place ≡ None = sym (ap (λ c. cond c (Some p) x.place) (ne_eqb x.id j other)) ∙ sym (ap (λ (m : Mount). m.place) same) ∙ at in
+            let space : x.space ≡ a.root.space = sym (ap (λ (m : Mount). m.space) same) ∙ here ∙ sym a.same_space in
+            other (row_at-key id_of b.id ms x row ∙ h.forest.one_root b.id j x a.root row a.root_there none a.unplaced space)
+      ]
+
+  module _ (m : Mount) (there : mount_at ms i ≡ Some m) where
+    abbrev back : Mount
+    back = record m { place = None }
+
+    own : m.id ≡ i
+    own = row_at-key id_of i ms m there
+
+    same-row : (k : ℕ) → mount_at (put id_of back moved) k ≡ mount_at (map (pivoted_mount i j p) ms) k
+    same-row k = elim (cases_eq k i) [
+      | inl same ↦
+          row_put_here moved back k (own ∙ sym same)
+          ∙ sym (ap (λ c. let o : Option Mount = Some (record m { place = cond c None (cond (m.id == j) (Some p) m.place) }) in o) (eq-eqb m.id i own))
+          ∙ sym (ap (option_map (pivoted_mount i j p)) (ap (mount_at ms) same ∙ there))
+          ∙ sym (row_at-map id_of (pivoted_mount i j p) (λ x. refl) k ms)
+      | inr off ↦
+          row_put_later moved back k (λ s. off (sym s ∙ own))
+          ∙ row_at-map id_of (lifted j p) (λ x. refl) k gone
+          ∙ ap (option_map (lifted j p)) (row_at-filter id_of (λ (m : Mount). not (m.id == i)) k ms h.forest.rising)
+          ∙ go (mount_at ms k) (λ x e. (λ s. off (sym (row_at-key id_of k ms x e) ∙ s)))
+          ∙ sym (row_at-map id_of (pivoted_mount i j p) (λ x. refl) k ms)
+    ]
+      where
+        go : (o : Option Mount) → ((x : Mount) → o ≡ Some x → x.id ≢ i) → option_map (lifted j p) (passing (λ (m : Mount). not (m.id == i)) o) ≡ option_map (pivoted_mount i j p) o
+        go None away = refl
+        go (Some x) away =
+            let is = ne_eqb x.id i (away x refl) in
+            ap (λ c. option_map (lifted j p) (cond (not c) (Some x) None)) is
+            ∙ sym (ap (λ c. let o : Option Mount = Some (record x { place = cond c None (cond (x.id == j) (Some p) x.place) }) in o) is)
+
+    pub exchanged : put id_of back moved ≡ map (pivoted_mount i j p) ms
+    exchanged =
+        same_rows id_of (put id_of back moved) (map (pivoted_mount i j p) ms) (rises-put id_of back moved moved_rises)
+        (rises-map id_of (pivoted_mount i j p) (λ x. refl) ms ∙ h.forest.rising) same-row

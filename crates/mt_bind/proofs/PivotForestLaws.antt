@@ -1,0 +1,204 @@
+-- The mounts of each namespace stay one tree where another mount of one becomes its root mount.
+use Rattle.std.proofs.Common.{◌≡◌, ◌≢◌, ◌⊎◌, ℕ, suc, ◌+◌, ◌<◌, Bool, true, false, cond, ◌||◌, ◌==◌, eq-eqb, List, map, length, Some, None, refl, sym, ap, ◌∙◌, subst, inl, inr, arith, IsTrue}
+use Rattle.std.specs.Option.{option_map}
+use Rattle.std.proofs.lemmas.Bool.{cases_eq, ne_eqb, true≢false}
+use Rattle.mt_skel.proofs.KeyedLaws.{row_at-key, rises-map}
+use Rattle.mt_skel.specs.Skeleton.{holds}
+use Rattle.mt_mounts.specs.declared.mount.Mount.{Mount}
+use Rattle.mt_mounts.specs.declared.mount.Place.{Place}
+use Rattle.mt_mounts.specs.Forest.{id_of, mount_at, is_at, is_below, parent}
+use Rattle.mt_mounts.proofs.ForestLaws.{find_none}
+use Rattle.mt_mounts.proofs.Walks.{below_stop}
+use Rattle.mt_mounts.proofs.CycleLaws.{above_of, no_cycle, rank_of}
+use Rattle.mt_propagate.specs.World.{WorldView}
+use Rattle.mt_propagate.specs.WellFormed.{IsForest, IsWellFormed}
+use Rattle.mt_propagate.proofs.ContainedLaws.{below-space}
+use Rattle.mt_propagate.proofs.CopyForestLaws.{stands_here}
+use Rattle.mt_propagate.proofs.CopyRowLaws.{space_is}
+use Rattle.mt_propagate.proofs.RowLaws.{mapped-row, row-mapped}
+use Rattle.mt_propagate.proofs.TreeLaws.{parent-from, parent-is, rank-fell}
+use Rattle.mt_bind.specs.Pivoting.{pivoted_mount, MayPivot}
+use Rattle.mt_bind.proofs.BelowLaws.{below_parent}
+
+module _ (w : WorldView) (h : IsWellFormed w) (i j : ℕ) (p : Place) (a : MayPivot w i j p) where
+  abbrev ms : List Mount
+  ms = w.forest
+
+  abbrev pivot : Mount → Mount
+  pivot = pivoted_mount i j p
+
+  -- the two differ, since one has a place and the other has none
+  pub differ : i ≢ j
+  differ same =
+      let v : Some a.top ≡ Some a.root = sym a.top_there ∙ ap (mount_at ms) same ∙ a.root_there in
+      let x : a.top ≡ a.root = cc in
+      a.placed (ap (λ (m : Mount). m.place) x ∙ a.unplaced)
+
+  -- what the pivot does to a mount
+  new_place : (k : ℕ) (x : Mount) → mount_at ms k ≡ Some x → k ≡ i → (x ≡ a.top) × ((pivot x).place ≡ None)
+  new_place k x e same =
+      let v : Some x ≡ Some a.top = sym e ∙ ap (mount_at ms) same ∙ a.top_there in
+      (let y : x ≡ a.top = cc in y, ap (λ b. cond b None (cond (x.id == j) (Some p) x.place)) (eq-eqb x.id i (row_at-key id_of k ms x e ∙ same)))
+
+  other_place : (k : ℕ) (x : Mount) → mount_at ms k ≡ Some x → k ≢ i → (pivot x).place ≡ cond (x.id == j) (Some p) x.place
+  other_place k x e off = ap (λ b. cond b None (cond (x.id == j) (Some p) x.place)) (ne_eqb x.id i (λ s. off (sym (row_at-key id_of k ms x e) ∙ s)))
+
+  old_place : (k : ℕ) (x : Mount) → mount_at ms k ≡ Some x → k ≡ j → (x ≡ a.root) × ((pivot x).place ≡ Some p)
+  old_place k x e same =
+      let v : Some x ≡ Some a.root = sym e ∙ ap (mount_at ms) same ∙ a.root_there in
+      let off : k ≢ i = (λ s. differ (sym s ∙ same)) in
+      (let y : x ≡ a.root = cc in y, other_place k x e off ∙ ap (λ b. cond b (Some p) x.place) (eq-eqb x.id j (row_at-key id_of k ms x e ∙ same)))
+
+  kept_place : (k : ℕ) (x : Mount) → mount_at ms k ≡ Some x → k ≢ i → k ≢ j → (pivot x).place ≡ x.place
+  kept_place k x e off away =
+      other_place k x e off ∙ ap (λ b. cond b (Some p) x.place) (ne_eqb x.id j (λ s. away (sym (row_at-key id_of k ms x e) ∙ s)))
+
+  -- a mount that has a place then is the old root mount, or had it before
+  pub stands : (k : ℕ) (x : Mount) (q : Place) → mount_at ms k ≡ Some x → (pivot x).place ≡ Some q → ((k ≡ j) × (p ≡ q) × (x ≡ a.root)) ⊎ ((k ≢ i) × (x.place ≡ Some q))
+  stands k x q e at = elim (cases_eq k i) [
+    | inl same ↦ absurd (let n = new_place k x e same in let v : None ≡ Some q = sym n.1 ∙ at in cc)
+    | inr off ↦ elim (cases_eq k j) [
+      | inl same ↦
+          let o = old_place k x e same in
+          let v : Some p ≡ Some q = sym o.1 ∙ at in
+          inl (same, let s : p ≡ q = cc in s, o.0)
+      | inr away ↦ inr (off, sym (kept_place k x e off away) ∙ at)
+    ]
+  ]
+
+  -- and one that has none is the new root mount, or had none and is not the old one
+  rootless : (k : ℕ) (x : Mount) → mount_at ms k ≡ Some x → (pivot x).place ≡ None → ((k ≡ i) × (x ≡ a.top)) ⊎ ((k ≢ j) × (x.place ≡ None))
+  rootless k x e at = elim (cases_eq k i) [
+    | inl same ↦ inl (same, (new_place k x e same).0)
+    | inr off ↦ elim (cases_eq k j) [
+      | inl same ↦ absurd (let o = old_place k x e same in let v : Some p ≡ None = sym o.1 ∙ at in cc)
+      | inr away ↦ inr (away, sym (kept_place k x e off away) ∙ at)
+    ]
+  ]
+
+  -- nothing stood at the place
+  none_there : (k : ℕ) (x : Mount) → mount_at ms k ≡ Some x → x.place ≡ Some p → ⊥
+  none_there k x e at = true≢false (sym (stands_here x p at) ∙ find_none (is_at p) ms a.destination.free k x e)
+
+  was : (k : ℕ) (b : Mount) → mount_at (map pivot ms) k ≡ Some b → (x : Mount) × (mount_at ms k ≡ Some x) × (b ≡ pivot x)
+  was k b e = mapped-row id_of pivot (λ m. refl) ms k b e
+
+  now : (k : ℕ) (x : Mount) → mount_at ms k ≡ Some x → mount_at (map pivot ms) k ≡ Some (pivot x)
+  now k x e = row-mapped id_of pivot (λ m. refl) ms k x e
+
+  place_of : (b x : Mount) → b ≡ pivot x → b.place ≡ (pivot x).place
+  place_of b x e = ap (λ (m : Mount). m.place) e
+
+  space_of : (b x : Mount) → b ≡ pivot x → b.space ≡ x.space
+  space_of b x e = ap (λ (m : Mount). m.space) e
+
+  placed_now : (k : ℕ) (b : Mount) (q : Place) → mount_at (map pivot ms) k ≡ Some b → b.place ≡ Some q → (u : Mount) × (mount_at (map pivot ms) q.mount ≡ Some u) × (u.space ≡ b.space) × IsTrue (holds w.skel u.root q.dir)
+  placed_now k b q e at =
+      let x = was k b e in
+      elim (stands k x.0 q x.1 (sym (place_of b x.0 x.2) ∙ at)) [
+        | inl old ↦
+            let there = a.destination.there in
+            let space : there.0.space ≡ b.space =
+            sym (below-space w h i p.mount there.0 there.1 a.inside) ∙ space_is w i a.top a.top_there ∙ sym a.same_space ∙ ap (λ (m : Mount). m.space) (sym old.2) ∙ sym (space_of b x.0 x.2) in
+            subst (λ (q : Place). (u : Mount) × (mount_at (map pivot ms) q.mount ≡ Some u) × (u.space ≡ b.space) × IsTrue (holds w.skel u.root q.dir)) old.1
+            (pivot there.0, now p.mount there.0 there.1, space, there.2)
+        | inr still ↦
+            let u = h.forest.placed k x.0 q x.1 still.1 in
+            (pivot u.0, now q.mount u.0 u.1, u.2 ∙ sym (space_of b x.0 x.2), u.3)
+      ]
+
+  apart_now : (k l : ℕ) (b d : Mount) (q : Place) → mount_at (map pivot ms) k ≡ Some b → mount_at (map pivot ms) l ≡ Some d → b.place ≡ Some q → d.place ≡ Some q → k ≡ l
+  apart_now k l b d q ek el bq dq =
+      let x = was k b ek in
+      let y = was l d el in
+      elim (stands k x.0 q x.1 (sym (place_of b x.0 x.2) ∙ bq)) [
+        | inl old ↦ elim (stands l y.0 q y.1 (sym (place_of d y.0 y.2) ∙ dq)) [
+          | inl too ↦ old.0 ∙ sym too.0
+          | inr still ↦ absurd (none_there l y.0 y.1 (still.1 ∙ ap (λ q. Some q) (sym old.1)))
+        ]
+        | inr still ↦ elim (stands l y.0 q y.1 (sym (place_of d y.0 y.2) ∙ dq)) [
+          | inl old ↦ absurd (none_there k x.0 x.1 (still.1 ∙ ap (λ q. Some q) (sym old.1)))
+          | inr too ↦ h.forest.apart k l x.0 y.0 q x.1 y.1 still.1 too.1
+        ]
+      ]
+
+  rooted_now : (k : ℕ) (b : Mount) → mount_at (map pivot ms) k ≡ Some b → (l : ℕ) × (r : Mount) × (mount_at (map pivot ms) l ≡ Some r) × (r.place ≡ None) × (r.space ≡ b.space)
+  rooted_now k b e =
+      let x = was k b e in
+      elim (cases_eq x.0.space a.top.space) [
+        | inl here ↦ (i, pivot a.top, now i a.top a.top_there, (new_place i a.top a.top_there refl).1, sym here ∙ sym (space_of b x.0 x.2))
+        | inr other ↦
+            let r = h.forest.rooted k x.0 x.1 in
+            let away : r.0 ≢ j = (λ s.
+            let v : Some r.1 ≡ Some a.root = sym r.2 ∙ ap (mount_at ms) s ∙ a.root_there in
+            let y : r.1 ≡ a.root = cc in
+            other (sym r.4 ∙ ap (λ (m : Mount). m.space) y ∙ a.same_space)) in
+            let off : r.0 ≢ i = (λ s.
+            let v : Some r.1 ≡ Some a.top = sym r.2 ∙ ap (mount_at ms) s ∙ a.top_there in
+            let y : r.1 ≡ a.top = cc in
+            other (sym r.4 ∙ ap (λ (m : Mount). m.space) y)) in
+            (r.0, pivot r.1, now r.0 r.1 r.2, kept_place r.0 r.1 r.2 off away ∙ r.3, r.4 ∙ sym (space_of b x.0 x.2))
+      ]
+
+  -- no mount but the old one was a root mount of its namespace
+  one_old : (k : ℕ) (x : Mount) → mount_at ms k ≡ Some x → k ≢ j → x.place ≡ None → x.space ≡ a.top.space → ⊥
+  one_old k x e away at here = away (h.forest.one_root k j x a.root e a.root_there at a.unplaced (here ∙ sym a.same_space))
+
+  one_now : (k l : ℕ) (b d : Mount) → mount_at (map pivot ms) k ≡ Some b → mount_at (map pivot ms) l ≡ Some d → b.place ≡ None → d.place ≡ None → b.space ≡ d.space → k ≡ l
+  one_now k l b d ek el bn dn same =
+      let x = was k b ek in
+      let y = was l d el in
+      let spaces : x.0.space ≡ y.0.space = sym (space_of b x.0 x.2) ∙ same ∙ space_of d y.0 y.2 in
+      elim (rootless k x.0 x.1 (sym (place_of b x.0 x.2) ∙ bn)) [
+        | inl new ↦ elim (rootless l y.0 y.1 (sym (place_of d y.0 y.2) ∙ dn)) [
+          | inl too ↦ new.0 ∙ sym too.0
+          | inr old ↦ absurd (one_old l y.0 y.1 old.0 old.1 (sym spaces ∙ ap (λ (m : Mount). m.space) new.1))
+        ]
+        | inr old ↦ elim (rootless l y.0 y.1 (sym (place_of d y.0 y.2) ∙ dn)) [
+          | inl new ↦ absurd (one_old k x.0 x.1 old.0 old.1 (spaces ∙ ap (λ (m : Mount). m.space) new.1))
+          | inr too ↦ h.forest.one_root k l x.0 y.0 x.1 y.1 old.1 too.1 spaces
+        ]
+      ]
+
+  -- the old root mount is not below the new one
+  above : is_below ms i j ≡ false
+  above =
+      let stop : parent ms j ≡ None = ap above_of a.root_there ∙ ap (option_map (λ (q : Place). q.mount)) a.unplaced in
+      below_stop ms i (length ms) j stop ∙ ap (λ b. b || false) (ne_eqb i j differ)
+
+  -- all that is not below the new root mount gets the numbers above that of the place
+  rank : ℕ → ℕ
+  rank k = cond (is_below ms i k) (rank_of ms k) (rank_of ms k + suc (rank_of ms p.mount))
+
+  rank_falls : (x y : ℕ) → parent (map pivot ms) x ≡ Some y → rank y < rank x
+  unfolding rank
+  rank_falls x y e =
+      let m = parent-from (map pivot ms) x y e in
+      let u = was x m.0 m.2 in
+      elim (stands x u.0 m.1 u.1 (sym (place_of m.0 u.0 u.2) ∙ m.3)) [
+        | inl old ↦
+            let rx : rank x ≡ rank_of ms x + suc (rank_of ms p.mount) = ap (λ b. cond b (rank_of ms x) (rank_of ms x + suc (rank_of ms p.mount))) (ap (is_below ms i) old.0 ∙ above) in
+            let ry : rank y ≡ rank_of ms p.mount =
+            ap rank (sym m.4 ∙ ap (λ (q : Place). q.mount) (sym old.1)) ∙ ap (λ b. cond b (rank_of ms p.mount) (rank_of ms p.mount + suc (rank_of ms p.mount))) a.inside in
+            omega (arith, rx, ry)
+        | inr still ↦
+            let f = rank-fell w.skel ms h.forest x u.0 m.1 u.1 still.1 in
+            let s = below_parent w h i x m.1.mount still.0 (parent-is ms x u.0 m.1 u.1 still.1) in
+            subst (λ k. rank k < rank x) m.4 (shifted (is_below ms i x) (is_below ms i m.1.mount) s (rank_of ms x) (rank_of ms m.1.mount) f)
+      ]
+    where
+      shifted : (b c : Bool) → b ≡ c → (rx ry : ℕ) → ry < rx → cond c ry (ry + suc (rank_of ms p.mount)) < cond b rx (rx + suc (rank_of ms p.mount))
+      shifted true true e rx ry f = f
+      shifted false false e rx ry f = omega (arith, f)
+      shifted true false e rx ry f = absurd (true≢false e)
+      shifted false true e rx ry f = absurd (true≢false (sym e))
+
+  pub pivot_forest : IsForest w.skel (map pivot ms)
+  pivot_forest = record {
+    rising = rises-map id_of pivot (λ m. refl) ms ∙ h.forest.rising;
+    placed = placed_now;
+    apart = apart_now;
+    rooted = rooted_now;
+    one_root = one_now;
+    no_cycle = no_cycle (map pivot ms) rank rank_falls;
+  }
