@@ -91,6 +91,19 @@ pivots w n new old v h e =
     not_not true e = refl
     not_not false e = absurd (cc)
 
+-- what it makes of the world
+pub pivot_made : (w v : WorldView) (n : ℕ) (new old : List (List ℕ)) → pivoted w n new old ≡ Ok v → (i : ℕ) × (j : ℕ) × (p : Place) × (v ≡ with_pivot w i j p)
+pivot_made w v n new old e =
+    let s = path_end w n new in
+    let p = path_end w n old in
+    let named = refuse_if (not (is_mount_root w s)) NotMountRoot in
+    let root = refuse_if (is_root_mount w s) RootPlace in
+    let root_old = refuse_if (is_root_place w p) RootPlace in
+    let shared = refuse_if (option_map_or (λ k. is_some (group_of w k)) (parent w.forest s.mount) false || is_some (group_of w p.mount)) SharedParent in
+    let itself = refuse_if (not (is_below w.forest s.mount p.mount)) IntoItself in
+    let ok = outcome_ok (no_end w n new ∷ named ∷ root ∷ no_end w n old ∷ root_old ∷ shared ∷ itself ∷ []) (with_pivot w s.mount (root_id w n) p) v e in
+    (s.mount, root_id w n, p, sym ok.0)
+
 pub pivoted_keeps : (w : WorldView) (n : ℕ) (new old : List (List ℕ)) (v : WorldView) → IsWellFormed w → pivoted w n new old ≡ Ok v → IsWellFormed v
 pivoted_keeps w n new old v h e =
     let a = pivots w n new old v h e in

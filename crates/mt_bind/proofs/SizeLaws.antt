@@ -1,5 +1,5 @@
--- How much new namespaces, copies of namespaces, mounts, binds and moves add to a world.
-use Rattle.std.proofs.Common.{◌≡◌, ℕ, ◌+◌, ◌≤◌, Bool, true, false, cond, not, ◌&&◌, ◌==◌, List, [], ◌∷◌, map, length, None, Ok, ap, subst, arith, length-append}
+-- How much new namespaces, copies of namespaces, mounts, binds, moves and pivots add to a world.
+use Rattle.std.proofs.Common.{◌≡◌, ℕ, ◌+◌, ◌≤◌, Bool, true, false, cond, not, ◌&&◌, ◌==◌, List, [], ◌∷◌, map, length, None, Ok, sym, ap, subst, arith, length-append}
 use Rattle.std.specs.Prelude.{unwrap_or, is_none, is_some}
 use Rattle.std.specs.List.{filter, list_any}
 use Rattle.std.specs.Option.{option_map_or}
@@ -23,6 +23,8 @@ use Rattle.mt_bind.specs.Spaces.{originals, new_space, with_space, copy_space, w
 use Rattle.mt_bind.specs.Copying.{copy_of}
 use Rattle.mt_bind.specs.Sources.{fresh, top_at, alone, is_bound_along, tree_within, tree_of}
 use Rattle.mt_bind.specs.Mounting.{mounted, bound, moved, path_end, no_end, too_many}
+use Rattle.mt_bind.specs.Pivoting.{pivoted_mount, with_pivot, pivoted}
+use Rattle.mt_bind.proofs.PivotingLaws.{pivot_made}
 
 -- a new namespace
 pub space_sized : (w v : WorldView) (name : List ℕ) (i : ℕ) → new_space w name ≡ Ok (v, i) → IsSized w v 1
@@ -149,3 +151,15 @@ move_sized w v n from to few e =
     let nine = first_none many [] eight.1 in
     subst (λ (x : WorldView). IsSized w x 0) ok.0
     (copied_sized w src p (omega (arith, few, few_pass (λ (m : Mount). is_below w.forest i m.id) w.forest)) (not_refused (too_many_mounts w (length (new_copies w src p))) TooMany nine.0))
+
+-- a pivot
+pub pivot_sized : (w v : WorldView) (n : ℕ) (new old : List (List ℕ)) → length w.forest ≤ 4096 → pivoted w n new old ≡ Ok v → IsSized w v 0
+unfolding with_pivot
+pivot_sized w v n new old few e =
+    let made = pivot_made w v n new old e in
+    subst (λ (x : WorldView). IsSized w x 0) (sym made.3) (record {
+      spaces = omega arith;
+      mounts = omega arith;
+      groups = omega arith;
+      within = omega (arith, few, length-map w.forest (pivoted_mount made.0 made.1 made.2));
+    })
