@@ -5,6 +5,7 @@ pub mod RiseLaws
 pub mod DirectoryLaws
 pub mod GrowthLaws
 pub mod HistoryLaws
+pub mod HasLaws
 pub mod SpaceLaws
 pub mod EndLaws
 pub mod CountLaws

@@ -1,201 +1,44 @@
 -- A namespace that is there stays until it is dropped, and one that was dropped does not come again: so a namespace has its posts
 -- between these two.
-use Rattle.std.proofs.Common.{◌≡◌, ◌⊎◌, inl, inr, ℕ, ◌<◌, ◌≤◌, Bool, true, false, cond, ◌&&◌, ◌==◌, eqb, eq-eqb, List, [], ◌∷◌, ◌++◌, map, length, Option, Some, None, Ok, refl, sym, ap, ◌∙◌, subst, arith, true≢false}
-use Rattle.std.specs.Prelude.{not}
-use Rattle.std.specs.List.{filter, list_any}
-use Rattle.std.specs.Option.{option_map_or, is_none, is_some}
+use Rattle.std.proofs.Common.{◌≡◌, ◌⊎◌, inl, inr, ℕ, ◌<◌, ◌≤◌, Bool, true, false, cond, ◌==◌, eq-eqb, List, [], ◌∷◌, map, length, Option, Some, None, Ok, refl, sym, ap, ◌∙◌, subst, arith, true≢false}
+use Rattle.std.specs.List.{filter}
+use Rattle.std.specs.Option.{is_none, is_some}
 use Rattle.std.proofs.lemmas.Bool.Decides.{nat_tests}
-use Rattle.mt_skel.specs.declared.fault.Fault.TheVariants.{NotMountRoot, RootPlace, Busy}
 use Rattle.mt_skel.specs.Keyed.{without}
-use Rattle.mt_skel.specs.Outcome.{refuse_if, fault_of}
-use Rattle.mt_skel.proofs.OutcomeLaws.{outcome_ok, first_none, not_refused}
 use Rattle.mt_skel.specs.Skeleton.{Filesystem, IsSkeleton, added_fs, added_dir}
 use Rattle.mt_mounts.specs.declared.mount.Mount.{Mount}
 use Rattle.mt_mounts.specs.declared.mount.Place.{Place}
-use Rattle.mt_mounts.specs.Forest.{id_of, mount_at, is_root, root_mount, stands_on}
-use Rattle.mt_mounts.specs.Walk.{walk}
+use Rattle.mt_mounts.specs.Forest.{id_of, mount_at, is_root, root_mount}
 use Rattle.mt_propagate.specs.World.{WorldView, is_space}
 use Rattle.mt_propagate.specs.WellFormed.{IsWellFormed}
-use Rattle.mt_propagate.specs.Named.{place_or_nowhere, is_mount_root, is_root_mount}
 use Rattle.mt_propagate.specs.Copies.{Source, targets}
 use Rattle.mt_propagate.specs.Receivers.{hits}
-use Rattle.mt_propagate.specs.Places.{relocated, made_way, stack_end, new_mounts, copy_place, copy_of as copy_at}
+use Rattle.mt_propagate.specs.Places.{relocated, new_mounts, copy_place, copy_of as copy_at}
 use Rattle.mt_propagate.specs.Copied.{copied}
-use Rattle.mt_propagate.proofs.RowLaws.{row-mapped, mapped-row, row-first, row-second, appended-row, row-kept, kept-row}
+use Rattle.mt_propagate.proofs.RowLaws.{mapped-row, row-second, appended-row, kept-row}
 use Rattle.mt_propagate.proofs.WalkLaws.{root_here, number_free}
 use Rattle.mt_propagate.proofs.ListedLaws.{relocated-id}
-use Rattle.mt_skel.proofs.ElementLaws.{In, in_row, row_in, in_found, find_in, in_filtered, in_map, in_mapped, in_flat}
-use Rattle.mt_skel.proofs.MiddleLaws.{and_second, and-true}
+use Rattle.mt_skel.proofs.ElementLaws.{In, in_row, row_in, find_in, in_filtered, in_map, in_mapped, in_flat}
 use Rattle.mt_bind.specs.Spaces.{with_space, new_space, with_copy, copy_space, originals, without_space, drop_space}
 use Rattle.mt_bind.proofs.SpaceLaws.{new_root}
 use Rattle.mt_bind.proofs.NamespaceCopyLaws.{copy-in}
 use Rattle.mt_bind.specs.Copying.{copy_number, copy_of}
 use Rattle.mt_bind.specs.Mounting.{mounted, bound, moved}
-use Rattle.mt_unmount.specs.Unmounting.{is_removed, without_mount, unmounted, place_of}
-use Rattle.mt_unmount.proofs.RemovedLaws.{removed-cases, place-at}
-use Rattle.mt_unmount.proofs.UnmountTreeLaws.{stays-in}
+use Rattle.mt_bind.specs.Pivoting.{pivoted_mount, with_pivot, pivoted}
+use Rattle.mt_bind.proofs.PivotingLaws.{pivot_made}
+use Rattle.mt_unmount.specs.Unmounting.{is_removed, without_mount, unmounted}
 use Rattle.mt_setattr.specs.declared.change.Change.{Change}
 use Rattle.mt_setattr.specs.Change.{changed_mount, is_chosen, with_change, attributed}
 use Rattle.mt_info.specs.declared.row.Row.{Row}
 use Rattle.mt_info.specs.Table.{row_of, table_of}
 use Rattle.mt_book.specs.declared.command.Command.{Command}
-use Rattle.mt_book.specs.declared.command.Command.TheVariants.{MakeFs, MakeDir, NewSpace, CopySpace, DropSpace, Mount as Mounting, Bind, Move, Unmount, SetAttr}
+use Rattle.mt_book.specs.declared.command.Command.TheVariants.{MakeFs, MakeDir, NewSpace, CopySpace, DropSpace, Mount as Mounting, Bind, Move, Pivot, Unmount, SetAttr}
 use Rattle.mt_book.specs.declared.command.Reply.{Reply}
 use Rattle.mt_book.specs.declared.command.Reply.TheVariants.{Done, Number}
 use Rattle.mt_book.specs.Step.{step, makes_space, ends_space}
 use Rattle.mt_book.proofs.EffectLaws.{skel_ok, number_ok, done_ok, space_made, copy_made, copy_there, space_dropped, mount_made, bind_made, move_made, mount_gone, change_made}
 use Rattle.mt_book.proofs.StepLaws.{step_kept}
-
--- a mount of a namespace
-record Has (n : ℕ) (w : WorldView) : Type 0 where
-  id : ℕ
-  mount : Mount
-  there : mount_at w.forest id ≡ Some mount
-  space : mount.space ≡ n
-
--- a mount that keeps its ID and its namespace
-kept_one : (n : ℕ) (w v : WorldView) (f : Mount → Mount) (more : List Mount) → ((m : Mount) → id_of (f m) ≡ id_of m) → ((m : Mount) → (f m).space ≡ m.space) → v.forest ≡ map f w.forest ++ more → Has n w → Has n v
-kept_one n w v f more ids spaces e h = record {
-  id = h.id;
-  mount = f h.mount;
-  there = ap (λ l. mount_at l h.id) e ∙ row-first id_of (map f w.forest) more h.id (f h.mount) (row-mapped id_of f ids w.forest h.id h.mount h.there);
-  space = spaces h.mount ∙ h.space;
-}
-
-more_mounts : (n : ℕ) (w v : WorldView) (more : List Mount) → v.forest ≡ w.forest ++ more → Has n w → Has n v
-more_mounts n w v more e h = record {
-  id = h.id;
-  mount = h.mount;
-  there = ap (λ l. mount_at l h.id) e ∙ row-first id_of w.forest more h.id h.mount h.there;
-  space = h.space;
-}
-
-same_mounts : (n : ℕ) (w v : WorldView) → v.forest ≡ w.forest → Has n w → Has n v
-same_mounts n w v e h = record { id = h.id; mount = h.mount; there = ap (λ l. mount_at l h.id) e ∙ h.there; space = h.space }
-
-space_forest : (w : WorldView) (f : ℕ) → (more : List Mount) × ((with_space w f).forest ≡ w.forest ++ more)
-unfolding with_space
-space_forest w f = (_, refl)
-
-copy_forest : (w : WorldView) (n : ℕ) (less : Bool) → (with_copy w n less).forest ≡ w.forest ++ map (copy_of w (map id_of (originals w n))) (originals w n)
-unfolding with_copy
-copy_forest w n less = refl
-
-copied_forest : (w : WorldView) (src : Source) (p : Place) → (copied w src p).forest ≡ map (relocated w src p) w.forest ++ new_mounts w src p
-unfolding copied
-copied_forest w src p = refl
-
-relocated_space : (w : WorldView) (src : Source) (dest : Place) (m : Mount) → (relocated w src dest m).space ≡ m.space
-relocated_space w src dest m = go (src.moved && (m.id == src.top.id)) (made_way w src dest m)
-  where
-    go : (b : Bool) (o : Option ℕ) → (cond b (record m { place = Some dest }) (option_map_or (λ t. record m { place = Some (stack_end w src dest t) }) o m)).space ≡ m.space
-    go true o = refl
-    go false None = refl
-    go false (Some t) = refl
-
-copied_has : (n : ℕ) (w v : WorldView) (src : Source) (p : Place) → v ≡ copied w src p → Has n w → Has n v
-copied_has n w v src p e h = kept_one n w v (relocated w src p) (new_mounts w src p) (relocated-id w src p) (relocated_space w src p) (ap (λ x. x.forest) e ∙ copied_forest w src p) h
-
-change_has : (n : ℕ) (w : WorldView) (c : Change) (i : ℕ) → Has n w → Has n (with_change w c i)
-unfolding with_change
-change_has n w c i h = record {
-  id = h.id;
-  mount = changed_mount c (is_chosen w c i) h.mount;
-  there = row-mapped id_of (changed_mount c (is_chosen w c i)) (λ m. refl) w.forest h.id h.mount h.there;
-  space = h.space;
-}
-
--- a root mount is not unmounted
-gone_has : (n : ℕ) (w : WorldView) (i : ℕ) → IsWellFormed w → is_none (place_of w i) ≡ false → Has n w → Has n (without_mount w i)
-unfolding without_mount
-gone_has n w i h rooted x =
-    let r = h.forest.rooted x.id x.mount x.there in
-    let root : Mount = r.1 in
-    let none : root.place ≡ None = r.3 in
-    let at : mount_at w.forest r.0 ≡ Some root = r.2 in
-    let stays : is_removed w i r.0 ≡ false = by r.0 root at none (is_removed w i r.0) refl in
-    record { id = r.0; mount = _; there = stays-in w h i r.0 root at stays; space = r.4 ∙ x.space }
-  where
-    by : (j : ℕ) (m : Mount) → mount_at w.forest j ≡ Some m → m.place ≡ None → (b : Bool) → is_removed w i j ≡ b → is_removed w i j ≡ false
-    by j m at none false e = e
-    by j m at none true e = elim (removed-cases w h i j e) [
-      | inl same ↦ absurd (true≢false (sym (ap is_none (ap (place_of w) (sym same) ∙ place-at w h i j m at ∙ none)) ∙ rooted))
-      | inr too ↦ (let two : Some too.mount ≡ Some m = sym too.there ∙ at in let eq : too.mount ≡ m = cc in let bad : Some too.place ≡ None = sym too.stands ∙ ap (λ (y : Mount). y.place) eq ∙ none in absurd (cc))
-    ]
-
--- the mounts of other namespaces stay where one is dropped
-others_have : (n k : ℕ) (w : WorldView) → IsWellFormed w → (k == n) ≡ false → Has n w → Has n (without_space w k)
-unfolding without_space
-others_have n k w h other x =
-    let space : x.mount.space ≡ n = x.space in
-    let off : (x.mount.space == k) ≡ false = grind (arith, nat_tests) in
-    record { id = x.id; mount = x.mount; there = row-kept id_of (λ (m : Mount). m.space == k) w.forest h.forest.rising x.id x.mount off x.there; space = x.space }
-
-step_has : (n : ℕ) (w : WorldView) (c : Command) (v : WorldView) (r : Reply) → IsWellFormed w → step w c ≡ Ok (v, r) → ends_space n c ≡ false → Has n w → Has n v
-unfolding step
-step_has n w (MakeFs name kind source) v r g e d h =
-    let f : Filesystem = record { name = name; kind = kind; source = source } in
-    let q = skel_ok w (λ s. Number (length s.filesystems)) (added_fs w.skel f) v r e in
-    same_mounts n w v (ap (λ x. x.forest) q.2) h
-step_has n w (MakeDir fs path) v r g e d h =
-    let q = skel_ok w (λ s. Done) (added_dir w.skel fs path) v r e in
-    same_mounts n w v (ap (λ x. x.forest) q.2) h
-step_has n w (NewSpace fs) v r g e d h =
-    let q = number_ok (new_space w fs) v r e in
-    let m = space_made w v fs q.0 q.1 in
-    let f = space_forest w m.0 in
-    more_mounts n w v f.0 (ap (λ x. x.forest) m.2 ∙ f.1) h
-step_has n w (CopySpace k less) v r g e d h =
-    let q = number_ok (copy_space w k less) v r e in
-    more_mounts n w v (map (copy_of w (map id_of (originals w k))) (originals w k)) (ap (λ x. x.forest) (copy_made w v k less q.0 q.1) ∙ copy_forest w k less) h
-step_has n w (DropSpace k) v r g e d h =
-    let m = space_dropped w v k (done_ok (drop_space w k) v r e) in
-    subst (Has n) (sym m.1) (others_have n k w g d h)
-step_has n w (Mounting k fs path) v r g e d h =
-    let q = number_ok (mounted w k fs path) v r e in
-    let m = mount_made w v k fs path q.0 q.1 in
-    copied_has n w v m.0 m.1 m.2 h
-step_has n w (Bind k src dst recursive) v r g e d h =
-    let q = number_ok (bound w k recursive src dst) v r e in
-    let m = bind_made w v k recursive src dst q.0 q.1 in
-    copied_has n w v m.0 m.1 m.2 h
-step_has n w (Move k src dst) v r g e d h =
-    let m = move_made w v k src dst (done_ok (moved w k src dst) v r e) in
-    copied_has n w v m.0 m.1 m.2 h
-step_has n w (Unmount k path) v r g e d h =
-    let p = place_or_nowhere (walk w.skel w.forest k path) in
-    let lost = fault_of (walk w.skel w.forest k path) in
-    let unnamed = refuse_if (not (is_mount_root w p)) NotMountRoot in
-    let root = refuse_if (is_root_mount w p) RootPlace in
-    let busy = refuse_if (list_any (stands_on p.mount) w.forest) Busy in
-    let ok = outcome_ok (lost ∷ unnamed ∷ root ∷ busy ∷ []) (without_mount w p.mount) v (done_ok (unmounted w k path) v r e) in
-    let one = first_none lost (unnamed ∷ root ∷ busy ∷ []) ok.1 in
-    let two = first_none unnamed (root ∷ busy ∷ []) one.1 in
-    let three = first_none root (busy ∷ []) two.1 in
-    subst (Has n) ok.0 (gone_has n w p.mount g (not_refused (is_root_mount w p) RootPlace three.0) h)
-step_has n w (SetAttr k path change) v r g e d h =
-    let m = change_made w v k path change (done_ok (attributed w k path change) v r e) in
-    subst (Has n) (sym m.1) (change_has n w change m.0 h)
-
--- a namespace is there where it has a mount
-space_has : (n : ℕ) (w : WorldView) → IsWellFormed w → is_space w n ≡ true → Has n w
-space_has n w g is = by (root_mount w.forest n) refl is
-  where
-    by : (o : Option Mount) → root_mount w.forest n ≡ o → is_some o ≡ true → Has n w
-    by None e s = absurd (cc)
-    by (Some m) e s =
-        let f = find_in (is_root n) w.forest m e in
-        let space : eqb m.space n ≡ true = and_second (is_none m.place) (m.space == n) f.1 in
-        record { id = m.id; mount = m; there = in_row id_of w.forest m g.forest.rising f.0; space = grind (arith, nat_tests) }
-
-has_space : (n : ℕ) (w : WorldView) → IsWellFormed w → Has n w → is_space w n ≡ true
-has_space n w g h =
-    let r = g.forest.rooted h.id h.mount h.there in
-    let root : Mount = r.1 in
-    let space : root.space ≡ n = r.4 ∙ h.space in
-    let on : (root.space == n) ≡ true = grind (arith, nat_tests) in
-    let f = in_found (is_root n) w.forest root (row_in id_of r.0 w.forest root r.2) (and-true (is_none root.place) (root.space == n) (ap is_none r.3) on) in
-    ap is_some f.1
+use Rattle.mt_book.proofs.HasLaws.{Has, copy_forest, copied_forest, relocated_space, step_has, space_has, has_space}
 
 pub step_stays : (w : WorldView) (c : Command) (v : WorldView) (r : Reply) (n : ℕ) → IsWellFormed w → IsSkeleton w.skel → step w c ≡ Ok (v, r) → ends_space n c ≡ false → is_space w n ≡ true → is_space v n ≡ true
 step_stays w c v r n g s e d is = has_space n v (step_kept w c v r g s e).0 (step_has n w c v r g e d (space_has n w g is))
@@ -270,6 +113,10 @@ was_changed : (n : ℕ) (w : WorldView) (c : Change) (k : ℕ) (i : ℕ) (m : Mo
 unfolding with_change
 was_changed n w c k i m e s = was_mapped n w (changed_mount c (is_chosen w c k)) (λ m. refl) (λ m. refl) i m e s
 
+was_pivoted : (n : ℕ) (w : WorldView) (j k : ℕ) (p : Place) (i : ℕ) (m : Mount) → mount_at (with_pivot w j k p).forest i ≡ Some m → m.space ≡ n → Has n w
+unfolding with_pivot
+was_pivoted n w j k p i m e s = was_mapped n w (pivoted_mount j k p) (λ m. refl) (λ m. refl) i m e s
+
 -- the root mount of a namespace after a command was there before, or it is of the next namespace
 step_from : (n : ℕ) (w : WorldView) (c : Command) (v : WorldView) (r : Reply) → IsWellFormed w → step w c ≡ Ok (v, r) → (i : ℕ) (m : Mount) → mount_at v.forest i ≡ Some m → m.place ≡ None → m.space ≡ n → Has n w ⊎ (w.next_space ≤ n)
 unfolding step
@@ -301,6 +148,9 @@ step_from n w (Bind k src dst recursive) v r g e i m at none s =
 step_from n w (Move k src dst) v r g e i m at none s =
     let made = move_made w v k src dst (done_ok (moved w k src dst) v r e) in
     inl (made_placed n w made.0 made.1 i m (ap (λ (x : WorldView). mount_at x.forest i) (sym made.2) ∙ at) none s)
+step_from n w (Pivot k new old) v r g e i m at none s =
+    let made = pivot_made w v k new old (done_ok (pivoted w k new old) v r e) in
+    inl (was_pivoted n w made.0 made.1 made.2 i m (ap (λ (x : WorldView). mount_at x.forest i) (sym made.3) ∙ at) s)
 step_from n w (Unmount k path) v r g e i m at none s =
     let made = mount_gone w v k path (done_ok (unmounted w k path) v r e) in
     inl (was_unmounted n made.0 w g i m (ap (λ (x : WorldView). mount_at x.forest i) (sym made.1) ∙ at) s)
@@ -364,6 +214,7 @@ step_makes w (DropSpace k) v r g e m = absurd (cc)
 step_makes w (Mounting k fs path) v r g e m = absurd (cc)
 step_makes w (Bind k src dst recursive) v r g e m = absurd (cc)
 step_makes w (Move k src dst) v r g e m = absurd (cc)
+step_makes w (Pivot k new old) v r g e m = absurd (cc)
 step_makes w (Unmount k path) v r g e m = absurd (cc)
 step_makes w (SetAttr k path change) v r g e m = absurd (cc)
 
