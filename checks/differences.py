@@ -48,11 +48,18 @@ ERRNO = {
     "BadAttr": {errno.EINVAL},
 }
 
+# The errno of pivot_root(2), where it is another one: all that is on the root mount is busy.
+PIVOT_ERRNO = {"RootPlace": {errno.EBUSY}, "IntoItself": {errno.EINVAL, errno.EBUSY}}
+
 # Both refuse, and the kernel for another reason that holds too: command, our refusal, its errno.
 OTHER_ORDER = {
     (b"move", "NotMountRoot", errno.ENOENT),
     (b"move", "RootPlace", errno.ENOENT),
     (b"move", "IntoItself", errno.EINVAL),
+    (b"pivot", "NotMountRoot", errno.ENOENT),
+    (b"pivot", "NotMountRoot", errno.EBUSY),
+    (b"pivot", "RootPlace", errno.ENOENT),
+    (b"pivot", "RootPlace", errno.EINVAL),
     (b"setattr", "NoEntry", errno.EINVAL),
 }
 
@@ -60,6 +67,7 @@ OTHER_ORDER = {
 LOCKED = {
     b"umount": {errno.EINVAL},
     b"move": {errno.EINVAL},
+    b"pivot": {errno.EINVAL},
     b"bind": {errno.EINVAL},
     b"rbind": {errno.EPERM},
     b"setattr": {errno.EPERM},
@@ -89,7 +97,7 @@ def has_no_clash(words):
 
 def is_root_destination(step):
     is_source = step.words[0] == b"move" and step.words[2] == b"/"
-    return step.refusal == "RootPlace" and step.errno == 0 and step.words[0] != b"umount" and not is_source
+    return step.refusal == "RootPlace" and step.errno == 0 and step.words[0] not in (b"umount", b"pivot") and not is_source
 
 
 def is_root_unmount(step):
@@ -186,7 +194,8 @@ def name_of(kinds, step):
 
 def is_same_refusal(step):
     """Whether both sides have refused, and for the same reason."""
-    return step.errno in ERRNO.get(step.refusal, set())
+    own = PIVOT_ERRNO if step.words[0] == b"pivot" else {}
+    return step.errno in own.get(step.refusal, ERRNO.get(step.refusal, set()))
 
 
 def left_out(step):

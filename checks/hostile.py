@@ -36,6 +36,7 @@ FORMS = {
     b"bind": "NPP",
     b"rbind": "NPP",
     b"move": "NPP",
+    b"pivot": "NPP",
     b"umount": "NP",
     b"setattr": "NP*",
     b"show": "N",

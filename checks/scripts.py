@@ -21,6 +21,7 @@ COMMANDS = {
     "bind": 4,
     "rbind": 2,
     "move": 4,
+    "pivot": 2,
     "umount": 4,
     "setattr": 6,
     "copyns": 1,
@@ -29,7 +30,7 @@ COMMANDS = {
     "mkdir": 0.3,
 }
 # What does not make more mounts, or not many.
-SMALL = "move", "umount", "setattr", "dropns", "mkdir"
+SMALL = "move", "pivot", "umount", "setattr", "dropns", "mkdir"
 KINDS = {b"shared": 4, b"slave": 3, b"private": 1, b"unbindable": 0.7}
 FLAGS = [b"ro", b"nosuid", b"nodev", b"noexec", b"nodiratime", b"nosymfollow"]
 TIMES = [b"noatime", b"strictatime", b"relatime"]
@@ -104,7 +105,7 @@ class Author:
         if not tables:
             return b"newns a"
         space = self.chance.choice(list(tables))
-        if word in ("move", "umount") and len(tables[space]) == 1:
+        if word in ("move", "pivot", "umount") and len(tables[space]) == 1:
             word = "mount"
         return b" ".join([word.encode(), b"%d" % space, *getattr(self, word)(tables[space])])
 
@@ -151,6 +152,12 @@ class Author:
 
     def move(self, rows):
         return [self.child(rows), self.path(rows)]
+
+    def pivot(self, rows):
+        """Mostly to a directory on the new root mount, or to its root."""
+        new = self.child(rows)
+        below = [row for row in rows if row.point == new or row.point.startswith(new + b"/")]
+        return [new, new if self.chance.random() < 0.2 else self.path(below or rows)]
 
     def umount(self, rows):
         return [self.child(rows)]

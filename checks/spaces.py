@@ -178,6 +178,14 @@ class Kernel:
         self.enter(self.spaces[int(number)])
         syscalls.mount(source, path, syscalls.MS_MOVE)
 
+    def pivot(self, number, new, old):
+        space = self.spaces[int(number)]
+        self.enter(space)
+        syscalls.pivot_root(new, old)
+        # The root directory of this process is that of the new root mount now.
+        os.close(space.root)
+        self.inside = self.spaces[int(number)] = space._replace(root=os.open("/", DIRECTORY))
+
     def umount(self, number, path):
         self.enter(self.spaces[int(number)])
         syscalls.umount(path)

@@ -10,7 +10,7 @@ use Rattle.mt_events.specs.declared.opening.Scope.TheVariants.{One, All}
 use Rattle.mt_requests.specs.Options.{change_of}
 use Rattle.mt_requests.specs.declared.request.Request.{Request}
 use Rattle.mt_requests.specs.declared.request.Request.TheVariants.{Watch, Take, Follow, Close, Quit, Stop}
-use Rattle.mt_requests.specs.Requests.{unless, request_from, mkfs_of, mkdir_of, newns_of, copy_said, copyns_of, dropns_of, space_and_two, mount_of, two_paths_of, bind_of, move_of, one_path_of, umount_of, setattr_of, show_of, find_of, one_word, watch_of, most_taken, most_followed, count_of, take_of, follow_of, HasRightCount, Reader, watching_lines, lines, read_by, by_words, request_of, ReadsAs}
+use Rattle.mt_requests.specs.Requests.{unless, request_from, mkfs_of, mkdir_of, newns_of, copy_said, copyns_of, dropns_of, space_and_two, mount_of, two_paths_of, bind_of, move_of, pivot_of, one_path_of, umount_of, setattr_of, show_of, find_of, one_word, watch_of, most_taken, most_followed, count_of, take_of, follow_of, HasRightCount, Reader, watching_lines, lines, read_by, by_words, request_of, ReadsAs}
 
 -- what is said
 of_said : (said r : Request) → ◌≡◌ {A = Result Request Fault} (Ok said) (Ok r) → HasRightCount said → HasRightCount r
@@ -90,6 +90,9 @@ bind_right recursive rest r e = of_parts _ (two_paths_of rest) r e (λ parts. tt
 move_right : IsRight move_of
 move_right rest r e = of_parts _ (two_paths_of rest) r e (λ parts. tt)
 
+pivot_right : IsRight pivot_of
+pivot_right rest r e = of_parts _ (two_paths_of rest) r e (λ parts. tt)
+
 umount_right : IsRight umount_of
 umount_right rest r e = of_parts _ (one_path_of rest) r e (λ parts. tt)
 
@@ -146,7 +149,7 @@ finding_right = (show_right, (find_right, (one_word_right Quit tt, (one_word_rig
 
 all_right : AreRight lines
 all_right =
-    (mkfs_right, (mkdir_right, (newns_right, (copyns_right, (dropns_right, (mount_right, (bind_right false, (bind_right true, (move_right, (umount_right, (setattr_right, finding_right)))))))))))
+    (mkfs_right, (mkdir_right, (newns_right, (copyns_right, (dropns_right, (mount_right, (bind_right false, (bind_right true, (move_right, (pivot_right, (umount_right, (setattr_right, finding_right))))))))))))
 
 words_right : (said : List (List ℕ)) (r : Request) → by_words said ≡ Ok r → HasRightCount r
 words_right [] r e = cc

@@ -147,6 +147,10 @@ bind_of recursive words = request_from (λ (space, src, dst). request.Run (comma
 abbrev pub move_of : List (List ℕ) → Result Request Fault
 move_of words = request_from (λ (space, src, dst). request.Run (command.Move space src dst)) (two_paths_of words)
 
+-- `pivot NS NEW OLD` gives a namespace another root mount, and the old one a place below it
+abbrev pub pivot_of : List (List ℕ) → Result Request Fault
+pivot_of words = request_from (λ (space, new, old). request.Run (command.Pivot space new old)) (two_paths_of words)
+
 -- the namespace and the path that a line says
 abbrev pub one_path_of : List (List ℕ) → Result (ℕ × List (List ℕ)) Fault
 one_path_of (space ∷ path ∷ []) = option_map_or (λ n. unless (path_fault path) (n, path_names path)) (number_in_text space) (Err BadLine)
@@ -230,6 +234,7 @@ lines =
     ∷ (codes "bind", bind_of false)
     ∷ (codes "rbind", bind_of true)
     ∷ (codes "move", move_of)
+    ∷ (codes "pivot", pivot_of)
     ∷ (codes "umount", umount_of)
     ∷ (codes "setattr", setattr_of)
     ∷ (codes "show", show_of)

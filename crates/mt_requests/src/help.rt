@@ -12,6 +12,7 @@ Lines of a session:
   bind NS SRC DST          shows a directory at another path too
   rbind NS SRC DST         the same with all mounts below it
   move NS SRC DST          moves a mount, with all mounts on it, to another path
+  pivot NS NEW OLD         makes a mount the root mount, and moves the old one below it
   umount NS PATH           takes a mount away
   setattr NS PATH [rec] [set=W,..] [clr=W,..] [prop=KIND]
                            changes attributes and propagation (shared, private, slave, unbindable)

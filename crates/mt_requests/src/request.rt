@@ -1,6 +1,6 @@
 //! Requests, as lines say them.
 ghost use Rattle.std.specs.Prelude.{◌≡◌, IfOk, None, Some, MatchOption};
-ghost use Rattle.mt_requests.specs.Requests.{ReadsAs, request_of, HasNoFault, prior_of_two, prior_fault, Reads, two_paths_of, mkfs_of, mkdir_of, newns_of, copy_said, copyns_of, dropns_of, space_and_two, mount_of, bind_of, move_of, one_path_of, umount_of, setattr_of, show_of, find_of, one_word, HasRightCount};
+ghost use Rattle.mt_requests.specs.Requests.{ReadsAs, request_of, HasNoFault, prior_of_two, prior_fault, Reads, two_paths_of, mkfs_of, mkdir_of, newns_of, copy_said, copyns_of, dropns_of, space_and_two, mount_of, bind_of, move_of, pivot_of, one_path_of, umount_of, setattr_of, show_of, find_of, one_word, HasRightCount};
 
 use crate::label::{label_fault, label_of};
 use crate::options::change_of;
@@ -212,6 +212,14 @@ fn read_move(alloc: Global, words: &mut Words<'_>) -> Result<Request, Fault>
     Ok(Request::Run(Command::Move { space, src, dst }))
 }
 
+/// The request of a line `pivot NS NEW OLD`, behind the first word.
+fn read_pivot(alloc: Global, words: &mut Words<'_>) -> Result<Request, Fault>
+    ensures { ReadsAs (pivot_of words.old) result }
+{
+    let (space, new, old) = read_two_paths(alloc, words)?;
+    Ok(Request::Run(Command::Pivot { space, new, old }))
+}
+
 /// The namespace and the path of a line, behind its first word.
 fn read_one_path(alloc: Global, words: &mut Words<'_>) -> Result<(u64, Names), Fault>
     ensures { Reads (one_path_of words.old) result }
@@ -311,6 +319,8 @@ fn read_line(alloc: Global, line: &[u8]) -> Result<Request, Fault>
         read_bind(alloc, &mut words, true)
     } else if command == b"move".as_slice() {
         read_move(alloc, &mut words)
+    } else if command == b"pivot".as_slice() {
+        read_pivot(alloc, &mut words)
     } else if command == b"umount".as_slice() {
         read_umount(alloc, &mut words)
     } else if command == b"setattr".as_slice() {
