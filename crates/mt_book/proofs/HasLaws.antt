@@ -27,9 +27,11 @@ use Rattle.mt_bind.specs.Copying.{copy_of}
 use Rattle.mt_bind.specs.Mounting.{mounted, bound, moved}
 use Rattle.mt_bind.specs.Pivoting.{pivoted_mount, with_pivot, pivoted}
 use Rattle.mt_bind.proofs.PivotingLaws.{pivot_made}
-use Rattle.mt_unmount.specs.Unmounting.{is_removed, without_mount, unmounted, place_of}
-use Rattle.mt_unmount.proofs.RemovedLaws.{removed-cases, place-at}
-use Rattle.mt_unmount.proofs.UnmountTreeLaws.{stays-in}
+use Rattle.mt_unmount.specs.Sliding.{place_of}
+use Rattle.mt_unmount.specs.Unmounting.{is_removed, without_mount, unmounted}
+use Rattle.mt_unmount.proofs.GapLaws.{place-at}
+use Rattle.mt_unmount.proofs.RemovedLaws.{removed-cases}
+use Rattle.mt_unmount.proofs.LeftTreeLaws.{stays-in}
 use Rattle.mt_setattr.specs.declared.change.Change.{Change}
 use Rattle.mt_setattr.specs.Change.{changed_mount, is_chosen, with_change, attributed}
 use Rattle.mt_book.specs.declared.command.Command.{Command}
@@ -116,12 +118,12 @@ gone_has n w i h rooted x =
     let none : root.place ≡ None = r.3 in
     let at : mount_at w.forest r.0 ≡ Some root = r.2 in
     let stays : is_removed w i r.0 ≡ false = by r.0 root at none (is_removed w i r.0) refl in
-    record { id = r.0; mount = _; there = stays-in w h i r.0 root at stays; space = r.4 ∙ x.space }
+    record { id = r.0; mount = _; there = stays-in w h (is_removed w i) r.0 root at stays; space = r.4 ∙ x.space }
   where
     by : (j : ℕ) (m : Mount) → mount_at w.forest j ≡ Some m → m.place ≡ None → (b : Bool) → is_removed w i j ≡ b → is_removed w i j ≡ false
     by j m at none false e = e
     by j m at none true e = elim (removed-cases w h i j e) [
-      | inl same ↦ absurd (true≢false (sym (ap is_none (ap (place_of w) (sym same) ∙ place-at w h i j m at ∙ none)) ∙ rooted))
+      | inl same ↦ absurd (true≢false (sym (ap is_none (ap (place_of w) (sym same) ∙ place-at w j m at ∙ none)) ∙ rooted))
       | inr too ↦ (let two : Some too.mount ≡ Some m = sym too.there ∙ at in let eq : too.mount ≡ m = cc in let bad : Some too.place ≡ None = sym too.stands ∙ ap (λ (y : Mount). y.place) eq ∙ none in absurd (cc))
     ]
 

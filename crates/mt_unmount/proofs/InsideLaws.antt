@@ -1,33 +1,29 @@
 -- Where a mount is unmounted, a contained namespace stays contained, and an unmount in it changes nothing outside.
-use Rattle.std.proofs.Common.{◌≡◌, ◌≢◌, ℕ, Bool, true, false, cond, not, ◌||◌, ◌==◌, eqb, eqb-true, List, [], ◌∷◌, map, length, Option, Some, None, Ok, refl, sym, ap, subst, ◌∙◌, inl, inr}
-use Rattle.std.specs.Prelude.{unwrap_or}
+use Rattle.std.proofs.Common.{◌≡◌, ℕ, Bool, true, false, not, ◌||◌, ◌==◌, eqb, eqb-true, List, [], ◌∷◌, map, Option, Some, None, Ok, refl, sym, ap, subst, ◌∙◌, inl, inr}
 use Rattle.std.specs.List.{cons_option, filter, filter_map, list_any}
-use Rattle.std.specs.Option.{option_map, option_map_or}
+use Rattle.std.specs.Option.{option_map_or}
 use Rattle.mt_skel.specs.declared.fault.Fault.TheVariants.{NotMountRoot, RootPlace, Busy}
 use Rattle.mt_skel.specs.Outcome.{refuse_if, fault_of}
-use Rattle.mt_skel.proofs.ChainLaws.{follow-stop}
 use Rattle.mt_skel.proofs.ElementLaws.{In, in_any, in_map, in_filter}
 use Rattle.mt_skel.proofs.OutcomeLaws.{outcome_ok, first_none}
 use Rattle.mt_mounts.specs.declared.mount.Mount.{Mount}
 use Rattle.mt_mounts.specs.declared.mount.Place.{Place}
-use Rattle.mt_mounts.specs.Forest.{id_of, mount_at, on, is_at, in_space, stands_on}
+use Rattle.mt_mounts.specs.Forest.{id_of, on, is_at, stands_on}
 use Rattle.mt_mounts.specs.Walk.{walk}
 use Rattle.mt_mounts.proofs.ForestLaws.{find_row, find_passes}
-use Rattle.mt_peers.specs.Loss.{left}
 use Rattle.mt_propagate.specs.World.{WorldView, space_of}
 use Rattle.mt_propagate.specs.Named.{place_or_nowhere, is_mount_root, is_root_mount}
 use Rattle.mt_propagate.specs.WellFormed.{IsWellFormed}
 use Rattle.mt_propagate.specs.Receivers.{hits}
 use Rattle.mt_propagate.specs.Contained.{IsContained, IsSameOutside}
 use Rattle.mt_propagate.proofs.ContainLaws.{hit_contained}
-use Rattle.mt_propagate.proofs.ContainedLaws.{left-contained, left-state, ended-inside}
+use Rattle.mt_propagate.proofs.ContainedLaws.{ended-inside}
 use Rattle.mt_propagate.proofs.CopyRowLaws.{space_is}
-use Rattle.mt_propagate.proofs.RowLaws.{all-each, found-each, part-kept}
-use Rattle.mt_propagate.proofs.ShownLaws.{state-mount}
 use Rattle.mt_propagate.proofs.WalkLaws.{stands_at}
-use Rattle.mt_unmount.specs.Unmounting.{place_of, may_go, going_at, is_removed, slide, slid, without_mount, unmounted}
-use Rattle.mt_unmount.proofs.RemovedLaws.{placed-mount}
-use Rattle.mt_unmount.proofs.UnmountTreeLaws.{goes, moved, left_mounts, row-of}
+use Rattle.mt_unmount.specs.Sliding.{place_of}
+use Rattle.mt_unmount.specs.Unmounting.{may_go, going_at, is_removed, without_mount, unmounted}
+use Rattle.mt_unmount.proofs.GapLaws.{placed-mount}
+use Rattle.mt_unmount.proofs.LeftInsideLaws.{gone-contained, gone-outside}
 use Rattle.mt_unmount.proofs.UnmountLaws.{unmounted-kept}
 
 -- what comes of a list is what comes of one of its elements
@@ -39,88 +35,49 @@ in_filter_map {X} {Y} f y (x ∷ xs) e = go (f x) refl e (in_filter_map f y xs)
     go None is e ih = let r = ih e in (r.0, inr r.1, r.2)
     go (Some a) is e ih = elim e [ inl here ↦ (x, inl refl, is ∙ ap (λ v. Some v) here) | inr later ↦ let r = ih later in (r.0, inr r.1, r.2) ]
 
-module _ (w : WorldView) (h : IsWellFormed w) (i : ℕ) (n : ℕ) (c : IsContained n w) where
-  -- a contained namespace stays so, wherever the mount is
-  pub unmount-contained : IsWellFormed (without_mount w i) → IsContained n (without_mount w i)
-  unfolding without_mount
-  unmount-contained v =
-      left-contained n w (without_mount w i) h c (is_removed w i) refl (λ k s e.
-      let m = state-mount (left_mounts w i) (left (is_removed w i) w.peering).peers k s v.same_mounts e in
-      let x = row-of w h i k m.0 m.1 in
-      ap (λ o. unwrap_or (option_map (λ (m : Mount). m.space) o) 0) m.1 ∙ ap (λ (m : Mount). m.space) x.made ∙ sym (space_is w k x.mount x.there)) v.peering.rising
+module _ (w : WorldView) (h : IsWellFormed w) (i : ℕ) (n : ℕ) (c : IsContained n w) (here : space_of w i ≡ n) where
+  -- the place of the mount is in the namespace
+  place-inside : (p : Place) → place_of w i ≡ Some p → space_of w p.mount ≡ n
+  place-inside p e =
+      let m = placed-mount w i p e in
+      let q = h.forest.placed i m.0 p m.1 m.2 in
+      space_is w p.mount q.0 q.1 ∙ q.2 ∙ sym (space_is w i m.0 m.1) ∙ here
 
-  module _ (here : space_of w i ≡ n) where
-    -- the place of the mount is in the namespace
-    place-inside : (p : Place) → place_of w i ≡ Some p → space_of w p.mount ≡ n
-    place-inside p e =
-        let m = placed-mount w h i i p e in
-        let q = h.forest.placed i m.0 p m.1 m.2 in
-        space_is w p.mount q.0 q.1 ∙ q.2 ∙ sym (space_is w i m.0 m.1) ∙ here
+  -- and so is each mount that goes with it
+  too-inside : (p : Place) (j : ℕ) → place_of w i ≡ Some p → list_any (λ k. k == j) (going_at w (hits w p) p.dir) ≡ true → space_of w j ≡ n
+  too-inside p j own e =
+      let at : ℕ → Option Mount = λ t. on w.forest (record { mount = t; dir = p.dir }) in
+      let k = in_any (λ k. k == j) (map id_of (filter (may_go w) (filter_map at (hits w p)))) e in
+      let r = in_map id_of k.0 (filter (may_go w) (filter_map at (hits w p))) k.1 in
+      let f = in_filter (may_go w) r.0 (filter_map at (hits w p)) r.1 in
+      let t = in_filter_map at r.0 (hits w p) f.0 in
+      let q : Place = record { mount = t.0; dir = p.dir } in
+      let row = find_row (is_at q) w.forest r.0 h.forest.rising t.2 in
+      let under = h.forest.placed r.0.id r.0 q row (stands_at q r.0 (find_passes (is_at q) w.forest r.0 t.2)) in
+      ap (space_of w) (sym (r.2 ∙ eqb-true k.0 j k.2)) ∙ space_is w r.0.id r.0 row ∙ sym under.2 ∙ sym (space_is w t.0 under.0 under.1)
+      ∙ hit_contained n w c h.peering.rising p t.0 t.1 (place-inside p own)
 
-    -- and so is each mount that goes with it
-    too-inside : (p : Place) (j : ℕ) → place_of w i ≡ Some p → list_any (λ k. k == j) (going_at w (hits w p) p.dir) ≡ true → space_of w j ≡ n
-    too-inside p j own e =
-        let at : ℕ → Option Mount = λ t. on w.forest (record { mount = t; dir = p.dir }) in
-        let k = in_any (λ k. k == j) (map id_of (filter (may_go w) (filter_map at (hits w p)))) e in
-        let r = in_map id_of k.0 (filter (may_go w) (filter_map at (hits w p))) k.1 in
-        let f = in_filter (may_go w) r.0 (filter_map at (hits w p)) r.1 in
-        let t = in_filter_map at r.0 (hits w p) f.0 in
-        let q : Place = record { mount = t.0; dir = p.dir } in
-        let row = find_row (is_at q) w.forest r.0 h.forest.rising t.2 in
-        let under = h.forest.placed r.0.id r.0 q row (stands_at q r.0 (find_passes (is_at q) w.forest r.0 t.2)) in
-        ap (space_of w) (sym (r.2 ∙ eqb-true k.0 j k.2)) ∙ space_is w r.0.id r.0 row ∙ sym under.2 ∙ sym (space_is w t.0 under.0 under.1)
-        ∙ hit_contained n w c h.peering.rising p t.0 t.1 (place-inside p own)
+  removed-inside : (j : ℕ) → is_removed w i j ≡ true → space_of w j ≡ n
+  removed-inside j e = go (eqb i j) refl e
+    where
+      by : (o : Option Place) → place_of w i ≡ o
+          → list_any (λ k. k == j) (option_map_or (λ (p : Place). going_at w (hits w p) p.dir) o []) ≡ true → space_of w j ≡ n
+      by None own e = absurd (cc)
+      by (Some p) own e = too-inside p j own e
 
-    removed-inside : (j : ℕ) → is_removed w i j ≡ true → space_of w j ≡ n
-    removed-inside j e = go (eqb i j) refl e
-      where
-        by : (o : Option Place) → place_of w i ≡ o
-            → list_any (λ k. k == j) (option_map_or (λ (p : Place). going_at w (hits w p) p.dir) o []) ≡ true → space_of w j ≡ n
-        by None own e = absurd (cc)
-        by (Some p) own e = too-inside p j own e
+      go : (b : Bool) → eqb i j ≡ b
+          → (b || list_any (λ k. k == j) (option_map_or (λ (p : Place). going_at w (hits w p) p.dir) (place_of w i) [])) ≡ true → space_of w j ≡ n
+      go true is e = ap (space_of w) (sym (eqb-true i j is)) ∙ here
+      go false is e = by (place_of w i) refl e
 
-        go : (b : Bool) → eqb i j ≡ b
-            → (b || list_any (λ k. k == j) (option_map_or (λ (p : Place). going_at w (hits w p) p.dir) (place_of w i) [])) ≡ true → space_of w j ≡ n
-        go true is e = ap (space_of w) (sym (eqb-true i j is)) ∙ here
-        go false is e = by (place_of w i) refl e
+-- a contained namespace stays so where a mount is unmounted, and where that is in it nothing changes outside
+unmount-contained : (w : WorldView) → IsWellFormed w → (i n : ℕ) → IsContained n w → IsWellFormed (without_mount w i) → IsContained n (without_mount w i)
+unfolding without_mount
+unmount-contained w h i n c v = gone-contained w h (is_removed w i) n c v
 
-    -- a mount outside stays where it is
-    stays : (j : ℕ) → space_of w j ≢ n → is_removed w i j ≡ false
-    stays j off = go (is_removed w i j) refl
-      where
-        go : (b : Bool) → is_removed w i j ≡ b → is_removed w i j ≡ false
-        go true is = absurd (off (removed-inside j is))
-        go false is = is
-
-    unmoved : (m : Mount) → mount_at w.forest m.id ≡ Some m → m.space ≢ n → moved w i m ≡ m
-    unmoved m e off = ap (λ (o : Option Place). let y : Mount = record m { place = o } in y) (go m.place refl)
-      where
-        go : (o : Option Place) → m.place ≡ o → option_map (slid w (is_removed w i)) o ≡ o
-        go None is = refl
-        go (Some p) is =
-            let q = h.forest.placed m.id m p e is in
-            let on : is_removed w i p.mount ≡ false = stays p.mount (λ same. off (sym q.2 ∙ sym (space_is w p.mount q.0 q.1) ∙ same)) in
-            ap (λ q. Some q) (follow-stop (slide w (is_removed w i)) (length w.forest) p (ap (λ b. cond b (place_of w p.mount) None) on))
-
-    same-mounts : (k : ℕ) → k ≢ n → filter (in_space k) (left_mounts w i) ≡ filter (in_space k) w.forest
-    same-mounts k off =
-        part-kept (in_space k) (λ m. not (goes w i m)) (moved w i) w.forest
-        (all-each (λ m. mount_at w.forest m.id ≡ Some m) (λ m. (in_space k (moved w i m) ≡ in_space k m) × (in_space k m ≡ true → (not (goes w i m) ≡ true) × (moved w i m ≡ m)))
-        (λ m e. (
-          refl,
-          λ is.
-              let apart : m.space ≢ n = (λ same. off (sym (eqb-true m.space k is) ∙ same)) in
-              (ap not (stays m.id (λ same. apart (sym (space_is w m.id m e) ∙ same))), unmoved m e apart),
-        )) w.forest (found-each id_of w.forest h.forest.rising))
-
-    -- nothing changes outside
-    pub unmount-outside : IsSameOutside n w (without_mount w i)
-    unfolding without_mount
-    unmount-outside = record {
-      skel = refl;
-      mounts = same-mounts;
-      states = left-state n w h c (is_removed w i) removed-inside;
-    }
+unmount-outside : (w : WorldView) → IsWellFormed w → (i n : ℕ) → IsContained n w → space_of w i ≡ n → IsSameOutside n w (without_mount w i)
+unfolding without_mount
+unmount-outside w h i n c here = gone-outside w h (is_removed w i) n c (removed-inside w h i n c here)
 
 -- so it is where an unmount was accepted, in any namespace and in the contained one
 pub unmounted-contained : (k : ℕ) (w : WorldView) (n : ℕ) (path : List (List ℕ)) (v : WorldView) → IsWellFormed w → IsContained k w → unmounted w n path ≡ Ok v → IsContained k v

@@ -1,11 +1,14 @@
-pub mod RemovedLaws
+pub mod GapLaws
 pub mod SlideLaws
-pub mod UnmountTreeLaws
+pub mod LeftTreeLaws
+mod LeftLaws
+mod LeftInsideLaws
+mod PlacedLaws
+mod TakenLaws
+pub mod RemovedLaws
 pub mod UnmountLaws
 pub mod SizeLaws
 mod GoneLaws
 mod MayGoLaws
-mod PlacedLaws
-mod DetachedLaws
 mod UnmountedLaws
 pub mod InsideLaws

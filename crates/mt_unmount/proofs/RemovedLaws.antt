@@ -1,21 +1,23 @@
 -- Which mounts an unmount takes away, and that their children stand at their root directories.
 use Rattle.std.proofs.Common.{◌≡◌, ◌⊎◌, ℕ, Bool, true, false, cond, ◌||◌, ◌==◌, eqb, eqb-true, eq-eqb, List, [], ◌∷◌, map, Option, Some, None, refl, sym, ap, ◌∙◌, inl, inr}
 use Rattle.std.specs.List.{cons_option, filter, filter_map, list_any, AllByRecursion}
-use Rattle.std.specs.Option.{option_map_or, is_none, unwrap_or}
+use Rattle.std.specs.Option.{option_map_or, is_none}
 use Rattle.std.proofs.lemmas.Bool.{true≢false}
+use Rattle.mt_skel.proofs.ElementLaws.{in_any}
 use Rattle.mt_skel.proofs.KeyedLaws.{row_at-key}
 use Rattle.mt_mounts.specs.declared.mount.Mount.{Mount}
 use Rattle.mt_mounts.specs.declared.mount.Place.{Place}
-use Rattle.mt_mounts.specs.Forest.{id_of, mount_at, on, is_at, root_place, stands_on}
+use Rattle.mt_mounts.specs.Forest.{id_of, mount_at, parents_up, on, is_at, stands_on}
 use Rattle.mt_mounts.proofs.ForestLaws.{find_row, find_passes}
 use Rattle.mt_peers.proofs.MemberLaws.{some-is}
-use Rattle.mt_propagate.specs.World.{WorldView}
-use Rattle.mt_propagate.specs.Named.{unknown}
+use Rattle.mt_propagate.specs.World.{WorldView, root_dir}
 use Rattle.mt_propagate.specs.Receivers.{hits}
 use Rattle.mt_propagate.specs.WellFormed.{IsWellFormed}
 use Rattle.mt_propagate.proofs.RowLaws.{row-picked, all-row, any-row}
 use Rattle.mt_propagate.proofs.WalkLaws.{stands_at}
-use Rattle.mt_unmount.specs.Unmounting.{place_of, may_go, going_at, is_removed}
+use Rattle.mt_unmount.specs.Sliding.{place_of, stands_within, CanGo}
+use Rattle.mt_unmount.specs.Unmounting.{may_go, going_at, is_removed}
+use Rattle.mt_unmount.proofs.GapLaws.{place-at, placed-mount, root-at, within-place}
 
 -- what a list of optional results holds are results
 each-result : {X Y : Type 0} (f : X → Option Y) (xs : List X) → AllByRecursion (λ y. (x : X) × (f x ≡ Some y)) (filter_map f xs)
@@ -76,17 +78,6 @@ module _ (w : WorldView) (h : IsWellFormed w) (i : ℕ) where
       go true is e = inl (sym (eqb-true i j is))
       go false is e = inr (with_place (place_of w i) e)
 
-  -- the place of a mount, and a mount with a place
-  pub place-at : (j : ℕ) (r : Mount) → mount_at w.forest j ≡ Some r → place_of w j ≡ r.place
-  place-at j r e = ap (λ o. (unwrap_or o unknown).place) e
-
-  pub placed-mount : (j : ℕ) (p : Place) → place_of w j ≡ Some p → (r : Mount) × (mount_at w.forest j ≡ Some r) × (r.place ≡ Some p)
-  placed-mount j p e = go (mount_at w.forest j) refl e
-    where
-      go : (o : Option Mount) → mount_at w.forest j ≡ o → (unwrap_or o unknown).place ≡ Some p → (r : Mount) × (mount_at w.forest j ≡ Some r) × (r.place ≡ Some p)
-      go None is e = absurd (let v : None ≡ Some p = e in cc)
-      go (Some r) is e = (r, is, e)
-
   child-stands : (m : Mount) (p : Place) (j : ℕ) → m.place ≡ Some p → p.mount ≡ j → stands_on j m ≡ true
   child-stands m p j at on = ap (λ o. option_map_or (λ (p : Place). p.mount == j) o false) at ∙ eq-eqb p.mount j on
 
@@ -101,7 +92,7 @@ module _ (w : WorldView) (h : IsWellFormed w) (i : ℕ) where
     -- no mount that goes is the root of a namespace
     pub removed-placed : (j : ℕ) (r : Mount) → is_removed w i j ≡ true → mount_at w.forest j ≡ Some r → (p : Place) × (r.place ≡ Some p)
     removed-placed j r e at = elim (removed-cases j e) [
-      | inl same ↦ by r.place refl (ap is_none (sym (place-at j r at) ∙ ap (place_of w) same) ∙ rooted)
+      | inl same ↦ by r.place refl (ap is_none (sym (place-at w j r at) ∙ ap (place_of w) same) ∙ rooted)
       | inr too ↦ (too.place, ap (λ (m : Mount). m.place) (some-is r too.mount (sym at ∙ too.there)) ∙ too.stands)
     ]
       where
@@ -109,20 +100,23 @@ module _ (w : WorldView) (h : IsWellFormed w) (i : ℕ) where
         by None is e = absurd (cc)
         by (Some p) is e = (p, is)
 
-    -- where a mount stands on one that goes, it stands at that one's root directory, and that one has a place
-    pub record Gap (p : Place) : Type 0 where
-      pub mount : Mount
-      pub place : Place
-      pub there : mount_at w.forest p.mount ≡ Some mount
-      pub stands : mount.place ≡ Some place
-      pub at_root : root_place mount ≡ p
-
-    pub gap-below : (k : ℕ) (m : Mount) (p : Place) → mount_at w.forest k ≡ Some m → m.place ≡ Some p → is_removed w i p.mount ≡ true → Gap p
-    gap-below k m p e at gone = elim (removed-cases p.mount gone) [
-      | inl same ↦ absurd (true≢false (sym (child-stands m p i at same) ∙ any-row id_of (stands_on i) w.forest k m bare e))
-      | inr too ↦
-          let id : too.mount.id ≡ p.mount = row_at-key id_of p.mount w.forest too.mount too.there in
-          let dir : p.dir ≡ too.mount.root = child-at-root too.mount too.may k m p e at (sym id) in
-          let same : root_place too.mount ≡ p = λ j. record { mount = id j; dir = sym dir j } in
-          record { mount = too.mount; place = too.place; there = too.there; stands = too.stands; at_root = same }
-    ]
+    -- and none that goes has a mount inside it, so that the others can do without those that go
+    pub removed-can-go : CanGo w (is_removed w i)
+    removed-can-go = record {
+      placed = removed-placed;
+      inside = λ k j gone e.
+          let c = in_any (stands_within w k) (parents_up w.forest j) e in
+          let p = within-place w k c.0 c.2 in
+          absurd (none-within k c.0 p.0 p.1 p.2 p.3 gone);
+    }
+      where
+        none-within : (k j : ℕ) (p : Place) → place_of w j ≡ Some p → p.mount ≡ k → (p.dir == root_dir w k) ≡ false → is_removed w i k ≡ true → ⊥
+        none-within k j p e on off gone =
+            let m = placed-mount w j p e in
+            elim (removed-cases k gone) [
+              | inl same ↦ absurd (true≢false (sym (child-stands m.0 p i m.2 (on ∙ same)) ∙ any-row id_of (stands_on i) w.forest j m.0 bare m.1))
+              | inr too ↦
+                  let id : too.mount.id ≡ k = row_at-key id_of k w.forest too.mount too.there in
+                  let dir : p.dir ≡ too.mount.root = child-at-root too.mount too.may j m.0 p m.1 m.2 (on ∙ sym id) in
+                  absurd (true≢false (sym (eq-eqb p.dir (root_dir w k) (dir ∙ sym (root-at w k too.mount too.there))) ∙ off))
+            ]

@@ -13,7 +13,8 @@ use Rattle.mt_peers.specs.Loss.{left}
 use Rattle.mt_propagate.specs.World.{WorldView}
 use Rattle.mt_propagate.specs.Named.{place_or_nowhere, is_mount_root, is_root_mount}
 use Rattle.mt_propagate.proofs.SizeLaws.{IsSized, few_pass}
-use Rattle.mt_unmount.specs.Unmounting.{unmounted, without_mount, is_removed, slid}
+use Rattle.mt_unmount.specs.Sliding.{slid}
+use Rattle.mt_unmount.specs.Unmounting.{unmounted, without_mount, is_removed}
 
 pub gone_sized : (w v : WorldView) (n : ℕ) (path : List (List ℕ)) → length w.forest ≤ 4096 → unmounted w n path ≡ Ok v → IsSized w v 0
 unfolding without_mount left

@@ -1,5 +1,5 @@
 -- What an unmount leads to where its path names a mount that may go.
-use Rattle.std.proofs.Common.{◌≡◌, ℕ, Bool, true, false, cond, not, ◌||◌, List, [], ◌∷◌, map, length, Result, Ok, refl, ap, ◌∙◌, arith}
+use Rattle.std.proofs.Common.{◌≡◌, ℕ, Bool, true, false, cond, not, ◌||◌, List, [], ◌∷◌, map, length, Result, Ok, refl, sym, ap, ◌∙◌, arith}
 use Rattle.std.specs.Prelude.{nat_lt}
 use Rattle.std.specs.List.{filter, list_any}
 use Rattle.std.proofs.lemmas.Bool.Decides.{nat_tests}
@@ -13,7 +13,8 @@ use Rattle.mt_mounts.specs.declared.mount.Place.{Place}
 use Rattle.mt_mounts.specs.Walk.{walk}
 use Rattle.mt_propagate.specs.World.{WorldView}
 use Rattle.mt_propagate.specs.Named.{place_or_nowhere, is_mount_root, is_root_mount}
-use Rattle.mt_unmount.specs.Unmounting.{without_mount, unmounted}
+use Rattle.mt_unmount.specs.Sliding.{once_gone}
+use Rattle.mt_unmount.specs.Unmounting.{is_removed, without_mount, unmounted}
 
 -- a mount stands on one where that has children
 pub some-child : (t : Mount → Bool) (ms : List Mount) → list_any t ms ≡ nat_lt 0 (length (map id_of (filter t ms)))
@@ -34,7 +35,10 @@ module _ (w : WorldView) (n : ℕ) (path : List (List ℕ)) (p : Place) where
       ∷ refuse_if (list_any (stands_on (place_or_nowhere r).mount) w.forest) Busy ∷ [])
       (without_mount w (place_or_nowhere r).mount)
 
-  pub unmounted-done : walk w.skel w.forest n path ≡ Ok p → is_mount_root w p ≡ true → is_root_mount w p ≡ false → list_any (stands_on p.mount) w.forest ≡ false → unmounted w n path ≡ Ok (without_mount w p.mount)
-  unmounted-done ended named off bare =
+  pub unmounted-done : walk w.skel w.forest n path ≡ Ok p → is_mount_root w p ≡ true → is_root_mount w p ≡ false → list_any (stands_on p.mount) w.forest ≡ false
+      → (gone : ℕ → Bool) → gone ≡ is_removed w p.mount → unmounted w n path ≡ Ok (once_gone w gone)
+  unfolding without_mount
+  unmounted-done ended named off bare gone alike =
       ap answer ended ∙ passed (not (is_mount_root w p)) NotMountRoot _ _ (ap not named) ∙ passed (is_root_mount w p) RootPlace _ _ off
       ∙ passed (list_any (stands_on p.mount) w.forest) Busy [] _ bare
+      ∙ ap (λ (goes : ℕ → Bool). Ok (once_gone w goes)) (sym alike)

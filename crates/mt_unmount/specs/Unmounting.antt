@@ -1,25 +1,18 @@
 -- umount: the world after the call, or the first refusal whose condition holds.
 -- A word with no source is this project's rule.
-use Rattle.std.specs.Prelude.{ℕ, Bool, false, cond, not, ◌==◌, List, [], ◌∷◌, map, length, Option, None, Result}
+use Rattle.std.specs.Prelude.{ℕ, Bool, false, not, ◌==◌, List, [], ◌∷◌, map, Result}
 use Rattle.std.specs.List.{filter, filter_map, list_any, list_all}
-use Rattle.std.specs.Option.{option_map, option_map_or}
+use Rattle.std.specs.Option.{option_map_or}
 use Rattle.mt_skel.specs.declared.fault.Fault.{Fault}
 use Rattle.mt_skel.specs.declared.fault.Fault.TheVariants.{NotMountRoot, RootPlace, Busy}
-use Rattle.mt_skel.specs.Keyed.{without}
-use Rattle.mt_skel.specs.Chain.{follow}
 use Rattle.mt_skel.specs.Outcome.{refuse_if, fault_of, outcome}
 use Rattle.mt_mounts.specs.declared.mount.Mount.{Mount}
-use Rattle.mt_mounts.specs.declared.mount.Place.{Place}
 use Rattle.mt_mounts.specs.Forest.{on, id_of, stands_on}
 use Rattle.mt_mounts.specs.Walk.{walk}
-use Rattle.mt_peers.specs.Loss.{left}
 use Rattle.mt_propagate.specs.World.{WorldView}
-use Rattle.mt_propagate.specs.Named.{place_or_nowhere, mount_or_unknown, is_mount_root, is_root_mount}
+use Rattle.mt_propagate.specs.Named.{place_or_nowhere, is_mount_root, is_root_mount}
 use Rattle.mt_propagate.specs.Receivers.{hits}
-
--- the place of a mount (proc_pid_mountinfo(5), fields 2 and 5)
-abbrev pub place_of : WorldView → ℕ → Option Place
-place_of w i = (mount_or_unknown w i).place
+use Rattle.mt_unmount.specs.Sliding.{place_of, once_gone}
 
 -- a propagated unmount spares a mount with children (`sharedsubtree`, unmount semantics), except for one that stands at its own
 -- root directory
@@ -39,21 +32,10 @@ removed w i = i ∷ option_map_or (λ p. going_at w (hits w p) p.dir) (place_of 
 abbrev pub is_removed : WorldView → ℕ → ℕ → Bool
 is_removed w i j = list_any (λ k. k == j) (removed w i)
 
--- a place on a mount that goes leads to the place of that mount
-abbrev pub slide : WorldView → (ℕ → Bool) → Place → Option Place
-slide w goes p = cond (goes p.mount) (place_of w p.mount) None
-
--- a mount that stays slides to the place of a removed parent, and on while the parent there goes too
-abbrev pub slid : WorldView → (ℕ → Bool) → Place → Place
-slid w goes p = follow (slide w goes) (length w.forest) p
-
 -- the world once a mount is unmounted, there and wherever that propagates (`sharedsubtree`, unmount semantics; the masters after
 -- it: this project's rule)
 unfoldable pub without_mount : WorldView → ℕ → WorldView
-without_mount w i = record w {
-  forest = map (λ (m : Mount). record m { place = option_map (slid w (is_removed w i)) m.place }) (without (λ (m : Mount). is_removed w i m.id) w.forest);
-  peering = left (is_removed w i) w.peering;
-}
+without_mount w i = once_gone w (is_removed w i)
 
 -- the mount that a path names is unmounted (`sharedsubtree`, unmount semantics; umount(2), EBUSY and EINVAL; that a root mount
 -- stays is this project's rule)

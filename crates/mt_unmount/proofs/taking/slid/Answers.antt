@@ -4,8 +4,8 @@ use Rattle.mt_skel.specs.Chain.{follow}
 use Rattle.mt_skel.proofs.ChainLaws.{follow-step}
 use Rattle.mt_mounts.proofs.Walks.{fuel_step}
 use Rattle.mt_propagate.specs.World.{world_view}
-use Rattle.mt_unmount.specs.Unmounting.{slide}
-use Rattle.mt_unmount.proofs.unmounting.slid.Goals as goal
+use Rattle.mt_unmount.specs.Sliding.{slide}
+use Rattle.mt_unmount.proofs.taking.slid.Goals as goal
 
 pub sliding-preserved : goal.sliding-preserved
 sliding-preserved c =

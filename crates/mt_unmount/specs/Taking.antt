@@ -1,4 +1,4 @@
--- How an unmount is worked out: which mounts go, and where the mounts on them come to stand. No public clause cites this module.
+-- How mounts are taken away: which go, and where the mounts on them come to stand. No public clause cites this module.
 -- A word with no source is this project's rule.
 use Rattle.std.specs.Prelude.{◌≡◌, ℕ, Bool, cond, List, Option, Some, None, IsTrue}
 use Rattle.std.specs.Option.{option_and_then}
@@ -8,12 +8,12 @@ use Rattle.mt_mounts.specs.Forest.{mount_at, on, root_place}
 use Rattle.mt_peers.specs.Loss.{left}
 use Rattle.mt_propagate.specs.World.{WorldView}
 use Rattle.mt_propagate.specs.Carried.{placed, staying}
-use Rattle.mt_unmount.specs.Unmounting.{is_removed, slid}
+use Rattle.mt_unmount.specs.Sliding.{slid}
 
--- the mounts that go with a mount, by rising ID
-pub record AreRemoved (w : WorldView) (i : ℕ) (ids : List ℕ) : Type 0 where
+-- the mounts that go, by rising ID
+pub record AreGone (goes : ℕ → Bool) (ids : List ℕ) : Type 0 where
   pub rising : IsTrue (rises (λ k. k) ids)
-  pub each : (j : ℕ) → among ids j ≡ is_removed w i j
+  pub each : (j : ℕ) → among ids j ≡ goes j
 
 -- the mount at a place, if it stays, with its new place
 abbrev pub moved_from : WorldView → (ℕ → Bool) → Place → Option (ℕ × Place)
@@ -24,5 +24,5 @@ abbrev pub relocation_past : WorldView → (ℕ → Bool) → ℕ → Option (�
 relocation_past w goes i = option_and_then (λ m. moved_from w goes (root_place m)) (mount_at w.forest i)
 
 -- the world without some mounts, and with others at new places
-abbrev pub detached : List ℕ → List (ℕ × Place) → WorldView → WorldView
-detached ids relocations w = record w { forest = placed relocations (staying ids w.forest); peering = left (among ids) w.peering }
+abbrev pub taken : List ℕ → List (ℕ × Place) → WorldView → WorldView
+taken ids relocations w = record w { forest = placed relocations (staying ids w.forest); peering = left (among ids) w.peering }

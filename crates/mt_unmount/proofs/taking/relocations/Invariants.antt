@@ -2,8 +2,8 @@ use Rattle.std.proofs.Common.{◌≡◌, ◌++◌, drop}
 use Rattle.std.specs.List.{filter_map}
 use Rattle.mt_skel.specs.Keyed.{among}
 use Rattle.mt_propagate.specs.World.{world_view}
-use Rattle.mt_unmount.specs.Detaching.{relocation_past}
-use Rattle.mt_unmount.proofs.unmounting.relocations.Given as goal
+use Rattle.mt_unmount.specs.Taking.{relocation_past}
+use Rattle.mt_unmount.proofs.taking.relocations.Given as goal
 
 -- the mounts passed have what comes from their roots
 abbrev pub invariant-loop-id : goal.invariant-loop-id

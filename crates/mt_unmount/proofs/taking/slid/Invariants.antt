@@ -2,8 +2,8 @@ use Rattle.std.proofs.Common.{◌≡◌, ◌-◌, ◌≤◌, length}
 use Rattle.mt_skel.specs.Keyed.{among}
 use Rattle.mt_skel.specs.Chain.{follow}
 use Rattle.mt_propagate.specs.World.{world_view}
-use Rattle.mt_unmount.specs.Unmounting.{slide, slid}
-use Rattle.mt_unmount.proofs.unmounting.slid.Given as goal
+use Rattle.mt_unmount.specs.Sliding.{slide, slid}
+use Rattle.mt_unmount.proofs.taking.slid.Given as goal
 
 -- the steps that are left lead from here to the end
 abbrev pub invariant-sliding : goal.invariant-sliding
