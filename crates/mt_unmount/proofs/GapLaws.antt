@@ -13,7 +13,7 @@ use Rattle.mt_propagate.specs.World.{WorldView, root_dir}
 use Rattle.mt_propagate.specs.Named.{unknown}
 use Rattle.mt_propagate.specs.WellFormed.{IsWellFormed}
 use Rattle.mt_propagate.proofs.TreeLaws.{parent-is}
-use Rattle.mt_unmount.specs.Sliding.{place_of, stands_within, is_inside, CanGo}
+use Rattle.mt_unmount.specs.Sliding.{place_of, stands_inside, is_inside, CanGo}
 
 -- the place of a mount, and a mount with a place
 module _ (w : WorldView) where
@@ -31,13 +31,13 @@ module _ (w : WorldView) where
   root-at j r e = ap (λ o. unwrap_or (option_map (λ (m : Mount). m.root) o) 0) e
 
   -- a mount that stands on another one, at its root or within it
-  pub within-at : (i j : ℕ) (p : Place) → place_of w j ≡ Some p → p.mount ≡ i → stands_within w i j ≡ not (p.dir == root_dir w i)
+  pub within-at : (i j : ℕ) (p : Place) → place_of w j ≡ Some p → p.mount ≡ i → stands_inside w i j ≡ not (p.dir == root_dir w i)
   within-at i j p e on =
       ap (λ o. option_map_or (λ (p : Place). (p.mount == i) && not (p.dir == root_dir w i)) o false) e
       ∙ ap (λ b. b && not (p.dir == root_dir w i)) (eq-eqb p.mount i on)
 
   -- whether it is within the root of the mount that it stands on tells which mount that is
-  pub within-place : (i j : ℕ) → stands_within w i j ≡ true → (p : Place) × (place_of w j ≡ Some p) × (p.mount ≡ i) × ((p.dir == root_dir w i) ≡ false)
+  pub within-place : (i j : ℕ) → stands_inside w i j ≡ true → (p : Place) × (place_of w j ≡ Some p) × (p.mount ≡ i) × ((p.dir == root_dir w i) ≡ false)
   within-place i j e = go (place_of w j) refl e
     where
       both : (a b : Bool) → (a && not b) ≡ true → (a ≡ true) × (b ≡ false)
@@ -55,37 +55,37 @@ module _ (w : WorldView) (h : IsWellFormed w) where
   parent-place j p e = let m = placed-mount w j p e in parent-is w.forest j m.0 p m.1 m.2
 
   -- what is inside a mount stands within it, or on what is inside it
-  pub inside-step : (i j k : ℕ) → parent w.forest j ≡ Some k → is_inside w i j ≡ (stands_within w i j || is_inside w i k)
-  inside-step i j k e = ap (list_any (stands_within w i)) (chain-step (parent w.forest) (length w.forest) j k e (h.forest.no_cycle j))
+  pub inside-step : (i j k : ℕ) → parent w.forest j ≡ Some k → is_inside w i j ≡ (stands_inside w i j || is_inside w i k)
+  inside-step i j k e = ap (list_any (stands_inside w i)) (chain-step (parent w.forest) (length w.forest) j k e (h.forest.no_cycle j))
 
   pub inside-child : (i j k : ℕ) → parent w.forest j ≡ Some k → is_inside w i k ≡ true → is_inside w i j ≡ true
-  inside-child i j k e is = inside-step i j k e ∙ ap (λ b. stands_within w i j || b) is ∙ or-true (stands_within w i j)
+  inside-child i j k e is = inside-step i j k e ∙ ap (λ b. stands_inside w i j || b) is ∙ or-true (stands_inside w i j)
     where
       or-true : (b : Bool) → (b || true) ≡ true
       or-true true = refl
       or-true false = refl
 
-  pub inside-here : (i j : ℕ) → stands_within w i j ≡ true → is_inside w i j ≡ true
+  pub inside-here : (i j : ℕ) → stands_inside w i j ≡ true → is_inside w i j ≡ true
   inside-here i j e =
       let p = within-place w i j e in
       inside-step i j p.0.mount (parent-place j p.0 p.1) ∙ ap (λ b. b || is_inside w i p.0.mount) e
 
   -- what is inside a mount that is inside another one is inside that one
   module _ (i k : ℕ) (out : is_inside w i k ≡ true) where
-    inside-both : (j : ℕ) → stands_within w k j ≡ true → is_inside w i j ≡ true
+    inside-both : (j : ℕ) → stands_inside w k j ≡ true → is_inside w i j ≡ true
     inside-both j e = let p = within-place w k j e in inside-child i j p.0.mount (parent-place j p.0 p.1) (ap (is_inside w i) p.2 ∙ out)
 
-    inside-along : (n j : ℕ) → list_any (stands_within w k) (chain (parent w.forest) n j) ≡ true → is_inside w i j ≡ true
-    inside-along zero j e = inside-both j (or-false (stands_within w k j) e)
+    inside-along : (n j : ℕ) → list_any (stands_inside w k) (chain (parent w.forest) n j) ≡ true → is_inside w i j ≡ true
+    inside-along zero j e = inside-both j (or-false (stands_inside w k j) e)
       where
         or-false : (b : Bool) → (b || false) ≡ true → b ≡ true
         or-false true e = refl
         or-false false e = absurd (cc)
-    inside-along (suc n) j e = go (parent w.forest j) refl (stands_within w k j) refl e (λ y. inside-along n y)
+    inside-along (suc n) j e = go (parent w.forest j) refl (stands_inside w k j) refl e (λ y. inside-along n y)
       where
-        go : (o : Option ℕ) → parent w.forest j ≡ o → (b : Bool) → stands_within w k j ≡ b
-            → (b || list_any (stands_within w k) (option_map_or (λ y. chain (parent w.forest) n y) o [])) ≡ true
-            → ((y : ℕ) → list_any (stands_within w k) (chain (parent w.forest) n y) ≡ true → is_inside w i y ≡ true) → is_inside w i j ≡ true
+        go : (o : Option ℕ) → parent w.forest j ≡ o → (b : Bool) → stands_inside w k j ≡ b
+            → (b || list_any (stands_inside w k) (option_map_or (λ y. chain (parent w.forest) n y) o [])) ≡ true
+            → ((y : ℕ) → list_any (stands_inside w k) (chain (parent w.forest) n y) ≡ true → is_inside w i y ≡ true) → is_inside w i j ≡ true
         go o up true is e ih = inside-both j is
         go None up false is e ih = absurd (cc)
         go (Some y) up false is e ih = inside-child i j y up (ih y e)

@@ -1,6 +1,7 @@
 -- Mounts that are sorted, each once, and found by halving.
-use Rattle.std.proofs.Common.{◌≡◌, ◌≢◌, ℕ, suc, ◌<◌, ◌≤◌, false, eq-eqb, List, [], ◌∷◌, length, get_or, Result, Ok, Err, refl, sym, subst, arith, inl, inr}
+use Rattle.std.proofs.Common.{◌≡◌, ◌≢◌, ℕ, suc, ◌<◌, ◌≤◌, Bool, true, false, cond, not, ◌&&◌, ◌||◌, eqb-true, eq-eqb, List, [], ◌∷◌, length, get_or, Result, Ok, Err, refl, sym, ap, ◌∙◌, subst, arith, inl, inr}
 use Rattle.std.specs.Prelude.{nat_eq, MatchResult}
+use Rattle.std.specs.List.{filter}
 use Rattle.std.specs.List.Sorted.{IsStrictlyIncreasing, IsBinarySearchResult}
 use Rattle.std.specs.Ordering.{nat_cmp}
 use Rattle.std.specs.Result.{is_ok}
@@ -34,3 +35,19 @@ searched-among xs x r up e = go r (searched xs x r e (not-falling xs up))
       | inl less ↦ (let a = m.1 k less in absurd (omega (arith, a, same)))
       | inr more ↦ (let a = m.2 k more l in absurd (omega (arith, a, same)))
     ]))
+
+-- those of a list that another test does not hold of
+pub among-without : (xs : List ℕ) (off : ℕ → Bool) (j : ℕ) → among (filter (λ k. not (off k)) xs) j ≡ (among xs j && not (off j))
+among-without [] off j = refl
+among-without (x ∷ xs) off j = go (off x) refl (nat_eq x j) refl (among-without xs off j)
+  where
+    none : (b : Bool) → (b && false) ≡ false
+    none true = refl
+    none false = refl
+
+    go : (b : Bool) → off x ≡ b → (c : Bool) → nat_eq x j ≡ c → among (filter (λ k. not (off k)) xs) j ≡ (among xs j && not (off j))
+        → among (cond (not b) (x ∷ filter (λ k. not (off k)) xs) (filter (λ k. not (off k)) xs)) j ≡ ((c || among xs j) && not (off j))
+    go true is true same ih = (let e : off j ≡ true = ap off (sym (eqb-true x j same)) ∙ is in ih ∙ ap (λ b. among xs j && not b) e ∙ none (among xs j) ∙ sym (ap not e))
+    go true is false same ih = ih
+    go false is true same ih = ap (λ b. b || among (filter (λ k. not (off k)) xs) j) same ∙ sym (ap not (ap off (sym (eqb-true x j same)) ∙ is))
+    go false is false same ih = ap (λ b. b || among (filter (λ k. not (off k)) xs) j) same ∙ ih

@@ -12,3 +12,8 @@ mod GoneLaws
 mod MayGoLaws
 mod UnmountedLaws
 pub mod InsideLaws
+mod HoldingLaws
+mod HeldLaws
+pub mod CandidateLaws
+pub mod DetachedLaws
+pub mod DetachInsideLaws

@@ -15,7 +15,7 @@ use Rattle.mt_propagate.specs.Receivers.{hits}
 use Rattle.mt_propagate.specs.WellFormed.{IsWellFormed}
 use Rattle.mt_propagate.proofs.RowLaws.{row-picked, all-row, any-row}
 use Rattle.mt_propagate.proofs.WalkLaws.{stands_at}
-use Rattle.mt_unmount.specs.Sliding.{place_of, stands_within, CanGo}
+use Rattle.mt_unmount.specs.Sliding.{place_of, stands_inside, CanGo}
 use Rattle.mt_unmount.specs.Unmounting.{may_go, going_at, is_removed}
 use Rattle.mt_unmount.proofs.GapLaws.{place-at, placed-mount, root-at, within-place}
 
@@ -105,7 +105,7 @@ module _ (w : WorldView) (h : IsWellFormed w) (i : ℕ) where
     removed-can-go = record {
       placed = removed-placed;
       inside = λ k j gone e.
-          let c = in_any (stands_within w k) (parents_up w.forest j) e in
+          let c = in_any (stands_inside w k) (parents_up w.forest j) e in
           let p = within-place w k c.0 c.2 in
           absurd (none-within k c.0 p.0 p.1 p.2 p.3 gone);
     }

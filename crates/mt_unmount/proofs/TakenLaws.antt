@@ -17,7 +17,7 @@ use Rattle.mt_propagate.specs.Carried.{IsFree, staying}
 use Rattle.mt_propagate.proofs.TreeLaws.{on-is}
 use Rattle.mt_propagate.proofs.WalkLaws.{stands_at}
 use Rattle.mt_unmount.specs.Sliding.{place_of, CanGo, slide, slid, once_gone}
-use Rattle.mt_unmount.specs.Taking.{moved_from, relocation_past, taken}
+use Rattle.mt_unmount.specs.Taking.{moved_from, relocation_past, resettled}
 use Rattle.mt_unmount.proofs.GapLaws.{spared, gap-below}
 use Rattle.mt_unmount.proofs.SlideLaws.{heir_at, slid-there, heir-single}
 use Rattle.mt_unmount.proofs.LeftTreeLaws.{leaves}
@@ -99,13 +99,13 @@ module _ (w : WorldView) (h : IsWellFormed w) (goes : ℕ → Bool) (can : CanGo
 
 -- the mounts of a list are taken away, and others placed, also where the world is read once more
 pub replaced : (w : WorldView) → IsWellFormed w → (ids : List ℕ) → rises (λ k. k) ids ≡ true → CanGo w (among ids) → (v : WorldView) (relocations : List (ℕ × Place)) → v ≡ w → relocations ≡ filter_map (relocation_past w (among ids)) ids
-    → IsFree relocations (staying ids v.forest) × (taken ids relocations v ≡ once_gone w (among ids))
+    → IsFree relocations (staying ids v.forest) × (resettled ids relocations v ≡ once_gone w (among ids))
 replaced w h ids rising can v relocations again same =
     let gone = among ids in
     let e = placed-each gone (slid w gone) (rest w h gone can) (fits w h gone can) (relocation_past w gone) (finds w h gone can) ids rising (λ j. refl) in
-    let all : IsFree (filter_map (relocation_past w gone) ids) (staying ids w.forest) × (taken ids (filter_map (relocation_past w gone) ids) w ≡ once_gone w gone) = (e.0, ap with_forest e.1) in
-    subst (λ (u : WorldView). IsFree relocations (staying ids u.forest) × (taken ids relocations u ≡ once_gone w gone)) (sym again)
-    (subst (λ (ws : List (ℕ × Place)). IsFree ws (staying ids w.forest) × (taken ids ws w ≡ once_gone w gone)) (sym same) all)
+    let all : IsFree (filter_map (relocation_past w gone) ids) (staying ids w.forest) × (resettled ids (filter_map (relocation_past w gone) ids) w ≡ once_gone w gone) = (e.0, ap with_forest e.1) in
+    subst (λ (u : WorldView). IsFree relocations (staying ids u.forest) × (resettled ids relocations u ≡ once_gone w gone)) (sym again)
+    (subst (λ (ws : List (ℕ × Place)). IsFree ws (staying ids w.forest) × (resettled ids ws w ≡ once_gone w gone)) (sym same) all)
   where
     with_forest : List Mount → WorldView
     with_forest l = record w { forest = l; peering = left (among ids) w.peering }

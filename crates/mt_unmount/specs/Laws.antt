@@ -1,10 +1,12 @@
 -- What the laws of this crate say.
 -- A word with no source is this project's rule.
-use Rattle.std.specs.Prelude.{◌≡◌, ℕ, List, Ok}
+use Rattle.std.specs.Prelude.{◌≡◌, ℕ, Bool, true, false, is_none, List, Ok, IsTrue}
 use Rattle.mt_propagate.specs.World.{WorldView}
 use Rattle.mt_propagate.specs.WellFormed.{IsWellFormed}
 use Rattle.mt_propagate.specs.Contained.{IsContained, IsSameOutside}
+use Rattle.mt_unmount.specs.Sliding.{place_of, CanGo}
 use Rattle.mt_unmount.specs.Unmounting.{unmounted}
+use Rattle.mt_unmount.specs.Detaching.{is_candidate, is_detached, detached}
 
 -- a world stays well-formed when an unmount is accepted, so of a mount that is no root mount and has no child
 abbrev pub UnmountingKeeps : Type 0
@@ -17,3 +19,23 @@ UnmountingKeepsContained = (k : ℕ) (w : WorldView) (n : ℕ) (path : List (Lis
 -- and one in it changes nothing outside
 abbrev pub UnmountingStaysInside : Type 0
 UnmountingStaysInside = (w : WorldView) (n : ℕ) (path : List (List ℕ)) (v : WorldView) → IsWellFormed w → IsContained n w → unmounted w n path ≡ Ok v → IsSameOutside n w v
+
+-- a world stays well-formed when a detach is accepted: each mount that stays stands on one that stays
+abbrev pub DetachingKeeps : Type 0
+DetachingKeeps = (w : WorldView) → IsWellFormed w → (n : ℕ) (path : List (List ℕ)) (v : WorldView) → detached w n path ≡ Ok v → IsWellFormed v
+
+-- a contained namespace stays so through a detach that is accepted, in whichever namespace
+abbrev pub DetachingKeepsContained : Type 0
+DetachingKeepsContained = (k : ℕ) (w : WorldView) (n : ℕ) (path : List (List ℕ)) (v : WorldView) → IsWellFormed w → IsContained k w → detached w n path ≡ Ok v → IsContained k v
+
+-- and one in it changes nothing outside
+abbrev pub DetachingStaysInside : Type 0
+DetachingStaysInside = (w : WorldView) (n : ℕ) (path : List (List ℕ)) (v : WorldView) → IsWellFormed w → IsContained n w → detached w n path ≡ Ok v → IsSameOutside n w v
+
+-- all that goes can go where the mount is no root mount
+abbrev pub DetachingTakesWhole : Type 0
+DetachingTakesWhole = (w : WorldView) → IsWellFormed w → (i : ℕ) → is_none (place_of w i) ≡ false → CanGo w (is_detached w i)
+
+-- and no more of the candidates can: what goes is the greatest set of candidates that is not shifting (`propagate_umount`)
+abbrev pub DetachingTakesMost : Type 0
+DetachingTakesMost = (w : WorldView) → IsWellFormed w → (i : ℕ) (goes : ℕ → Bool) → ((j : ℕ) → goes j ≡ true → IsTrue (is_candidate w i j)) → CanGo w goes → (j : ℕ) → goes j ≡ true → IsTrue (is_detached w i j)

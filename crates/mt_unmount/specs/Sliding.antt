@@ -17,12 +17,12 @@ abbrev pub place_of : WorldView → ℕ → Option Place
 place_of w i = (mount_or_unknown w i).place
 
 -- a mount stands on mount i at another directory than its root
-abbrev pub stands_within : WorldView → ℕ → ℕ → Bool
-stands_within w i j = option_map_or (λ (p : Place). (p.mount == i) && not (p.dir == root_dir w i)) (place_of w j) false
+abbrev pub stands_inside : WorldView → ℕ → ℕ → Bool
+stands_inside w i j = option_map_or (λ (p : Place). (p.mount == i) && not (p.dir == root_dir w i)) (place_of w j) false
 
 -- inside mount i is each mount that stands on it at another directory than its root, and all below that one
 abbrev pub is_inside : WorldView → ℕ → ℕ → Bool
-is_inside w i j = list_any (stands_within w i) (parents_up w.forest j)
+is_inside w i j = list_any (stands_inside w i) (parents_up w.forest j)
 
 -- the mounts inside a mount, by rising ID
 abbrev pub inside : WorldView → ℕ → List ℕ

@@ -24,5 +24,5 @@ abbrev pub relocation_past : WorldView → (ℕ → Bool) → ℕ → Option (�
 relocation_past w goes i = option_and_then (λ m. moved_from w goes (root_place m)) (mount_at w.forest i)
 
 -- the world without some mounts, and with others at new places
-abbrev pub taken : List ℕ → List (ℕ × Place) → WorldView → WorldView
-taken ids relocations w = record w { forest = placed relocations (staying ids w.forest); peering = left (among ids) w.peering }
+abbrev pub resettled : List ℕ → List (ℕ × Place) → WorldView → WorldView
+resettled ids relocations w = record w { forest = placed relocations (staying ids w.forest); peering = left (among ids) w.peering }

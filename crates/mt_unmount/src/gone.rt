@@ -1,11 +1,11 @@
-//! The mounts that go.
-ghost use Rattle.std.specs.Prelude.{◌≡◌, ℕ, IsTrue};
+//! The mounts that go, or that may go.
+ghost use Rattle.std.specs.Prelude.{◌≡◌, ◌&&◌, ℕ, not, IsTrue};
 ghost use Rattle.mt_skel.specs.Keyed.{among, rises};
 
 use mt_mounts::mount::MountId;
 use std::marker::Model;
 
-/// Mounts that go, by rising ID. Whether a mount is one of them is found by halving.
+/// Mounts that go, or that may go, by rising ID. Whether a mount is one of them is found by halving.
 #[derive(Drop)]
 pub(crate) struct Gone {
     ids: Vec<MountId>,
@@ -34,6 +34,17 @@ impl Gone {
         Gone { ids }
     }
 
+    /// Those of them that are none of the others.
+    pub(crate) fn without(self, others: &Gone) -> Self
+        requires rising { IsTrue (rises (λ k. k) self) }
+        ensures rising { IsTrue (rises (λ k. k) result) }
+        ensures same { (j : ℕ) → among result j ≡ (among self j && not (among others.now j)) }
+    {
+        let mut ids = self.ids;
+        ids.retain(|id| !others.has(*id));
+        Gone { ids }
+    }
+
     /// Their IDs, rising.
     pub(crate) fn ids(&self) -> &[MountId]
         ensures { result.now ≡ self.now }
@@ -41,7 +52,7 @@ impl Gone {
         &self.ids
     }
 
-    /// Whether this mount goes.
+    /// Whether this mount is one of them.
     pub(crate) fn has(&self, id: MountId) -> bool
         ensures { result ≡ among self.now id }
     {

@@ -1,6 +1,8 @@
-//! What is true of an unmount, whatever finds the mounts that go. The functions do nothing: their
-//! contracts are the laws.
+//! What is true of an unmount and of a detach, whatever finds the mounts that go. The functions do
+//! nothing: their contracts are the laws.
 ghost use Rattle.mt_unmount.specs.Laws.{UnmountingKeeps, UnmountingKeepsContained, UnmountingStaysInside};
+ghost use Rattle.mt_unmount.specs.Laws.{DetachingKeeps, DetachingKeepsContained, DetachingStaysInside};
+ghost use Rattle.mt_unmount.specs.Laws.{DetachingTakesWhole, DetachingTakesMost};
 
 /// An accepted unmount leaves a well-formed world well-formed: no two mounts slide to one place, each
 /// stands on a mount that stays, and no mount is left with a master that has no member.
@@ -14,4 +16,24 @@ pub fn unmounting_keeps_worlds()
 pub fn unmounting_stays_inside()
     ensures kept { UnmountingKeepsContained }
     ensures inside { UnmountingStaysInside }
+{}
+
+/// An accepted detach leaves a well-formed world well-formed: with each mount goes all that is inside it, so
+/// that what stays stands on a mount that stays.
+pub fn detaching_keeps_worlds()
+    ensures { DetachingKeeps }
+{}
+
+/// A contained namespace stays contained through an accepted detach, in whichever namespace (`kept`).
+/// A detach in it changes nothing outside: the tree is in it, and so is all that is received (`inside`).
+pub fn detaching_stays_inside()
+    ensures kept { DetachingKeepsContained }
+    ensures inside { DetachingStaysInside }
+{}
+
+/// With each mount that a detach takes away goes all that is inside it, and none that goes is a root mount
+/// (`whole`). No set of candidates of which this is true has a mount that the detach leaves (`most`).
+pub fn detaching_takes_most()
+    ensures whole { DetachingTakesWhole }
+    ensures most { DetachingTakesMost }
 {}

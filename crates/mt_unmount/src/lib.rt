@@ -1,10 +1,12 @@
-//! Unmounting, and what it takes away elsewhere.
+//! Unmounting and detaching, and what they take away elsewhere.
 //!
-//! [`unmounting`] has the command, and [`gone`] the mounts that go with it, which [`taking`] takes away. [`laws`] has
-//! what an unmount keeps.
+//! [`unmounting`] and [`detaching`] have the commands. Each finds the mounts that go ([`gone`]), a detach among its
+//! candidates by what holds them ([`holding`]), and [`taking`] takes them away. [`laws`] has what both keep.
 #![tactic(auto)]
 
+pub mod detaching;
 mod gone;
+mod holding;
 pub mod laws;
 mod taking;
 pub mod unmounting;

@@ -10,7 +10,7 @@ ghost use Rattle.mt_propagate.specs.WellFormed.{IsWellFormed};
 ghost use Rattle.mt_propagate.specs.Touched.{since_view};
 ghost use Rattle.mt_propagate.specs.Carried.{IsFree, staying};
 ghost use Rattle.mt_unmount.specs.Sliding.{place_of, slide, slid, CanGo, once_gone};
-ghost use Rattle.mt_unmount.specs.Taking.{relocation_past, taken};
+ghost use Rattle.mt_unmount.specs.Taking.{relocation_past, resettled};
 
 use crate::gone::Gone;
 use mt_mounts::mount::{Mount, MountId, Place};
@@ -106,7 +106,7 @@ fn replace(world: &mut World, gone: &Gone, relocations: &[(MountId, Place)])
     requires states { length world.old.peers.peers ≤ world.old.peers.room }
     requires mounts { length gone.now + length relocations.now ≤ world.old.forest.room }
     requires free { IsFree relocations.now (staying gone.now world.old.forest.mounts) }
-    ensures world { world_view world.new ≡ taken gone.now relocations.now (world_view world.old) }
+    ensures world { world_view world.new ≡ resettled gone.now relocations.now (world_view world.old) }
     ensures since { since_view world.new ≡ since_view world.old }
 {
     remove_all(&mut world.forest, gone.ids());

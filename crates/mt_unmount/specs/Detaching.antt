@@ -1,0 +1,54 @@
+-- detach, umount2(2) with MNT_DETACH: the world after the call, or the first refusal whose condition holds.
+-- A word with no source is this project's rule.
+use Rattle.std.specs.Prelude.{ℕ, Bool, not, ◌&&◌, ◌++◌, List, [], ◌∷◌, Result}
+use Rattle.std.specs.List.{filter_map, flat_map, list_all}
+use Rattle.std.specs.Option.{option_map, option_map_or}
+use Rattle.mt_skel.specs.declared.fault.Fault.{Fault}
+use Rattle.mt_skel.specs.declared.fault.Fault.TheVariants.{NotMountRoot, RootPlace}
+use Rattle.mt_skel.specs.Keyed.{among}
+use Rattle.mt_skel.specs.Outcome.{refuse_if, fault_of, outcome}
+use Rattle.mt_mounts.specs.declared.mount.Place.{Place}
+use Rattle.mt_mounts.specs.Forest.{id_of, on, subtree, top}
+use Rattle.mt_mounts.specs.Walk.{walk}
+use Rattle.mt_propagate.specs.World.{WorldView}
+use Rattle.mt_propagate.specs.Named.{place_or_nowhere, is_mount_root, is_root_mount}
+use Rattle.mt_propagate.specs.Receivers.{hits}
+use Rattle.mt_unmount.specs.Sliding.{place_of, inside, once_gone}
+
+-- the mounts that stand at a directory of these mounts
+abbrev pub standing_at : WorldView → List ℕ → ℕ → List ℕ
+standing_at w ts d = filter_map (λ t. option_map id_of (on w.forest (record { mount = t; dir = d }))) ts
+
+-- from each mount that its parent propagates to a mount receives the one at the same directory (`sharedsubtree`, unmount semantics)
+abbrev pub received : WorldView → ℕ → List ℕ
+received w i = option_map_or (λ (p : Place). standing_at w (hits w p) p.dir) (place_of w i) []
+
+-- candidates are the mounts of the tree, and what each of these receives (`propagate_umount`)
+abbrev pub candidates : WorldView → ℕ → List ℕ
+candidates w i = subtree w.forest i ++ flat_map (received w) (subtree w.forest i)
+
+abbrev pub is_candidate : WorldView → ℕ → ℕ → Bool
+is_candidate w i j = among (candidates w i) j
+
+-- each candidate goes of which all that is inside it are candidates (`propagate_umount`)
+abbrev pub is_detached : WorldView → ℕ → ℕ → Bool
+is_detached w i j = is_candidate w i j && list_all (is_candidate w i) (inside w j)
+
+-- the world once a mount is detached, with all below it, there and wherever that propagates (umount2(2), MNT_DETACH; the masters
+-- after it: this project's rule)
+unfoldable pub without_tree : WorldView → ℕ → WorldView
+without_tree w i = once_gone w (is_detached w i)
+
+-- detach names the topmost mount at the end of a path, so with `/` the one on top of what stands on the root place (umount2(2):
+-- the topmost mount)
+abbrev pub named_place : WorldView → ℕ → List (List ℕ) → Place
+named_place w n path = top w.forest (place_or_nowhere (walk w.skel w.forest n path))
+
+-- the mount that a path names is detached (umount2(2), MNT_DETACH and EINVAL; that a root mount stays is this project's rule)
+abbrev pub detached : WorldView → ℕ → List (List ℕ) → Result WorldView Fault
+detached w n path =
+    let p = named_place w n path in
+    outcome (fault_of (walk w.skel w.forest n path)
+    ∷ refuse_if (not (is_mount_root w p)) NotMountRoot
+    ∷ refuse_if (is_root_mount w p) RootPlace ∷ [])
+    (without_tree w p.mount)
