@@ -317,7 +317,7 @@ impl Forest {
     }
 
     /// The IDs of the mounts that stand on a mount, rising. Refused as `NoMemory` alone.
-    pub(crate) fn children_of(&self, id: MountId) -> Result<Vec<MountId>, Fault>
+    pub fn children_of(&self, id: MountId) -> Result<Vec<MountId>, Fault>
         ensures children { IfOk result (λ ids. ids.items ≡ children self.now.mounts id) }
         ensures rising { IsTrue (rises id_of self.now.mounts) }
         ensures memory { IsOkUnless result Fault.NoMemory }

@@ -1,10 +1,10 @@
 -- Where a mount is unmounted, a contained namespace stays contained, and an unmount in it changes nothing outside.
-use Rattle.std.proofs.Common.{◌≡◌, ℕ, Bool, true, false, not, ◌||◌, ◌==◌, eqb, eqb-true, List, [], ◌∷◌, map, Option, Some, None, Ok, refl, sym, ap, subst, ◌∙◌, inl, inr}
-use Rattle.std.specs.List.{cons_option, filter, filter_map, list_any}
+use Rattle.std.proofs.Common.{◌≡◌, ℕ, Bool, true, false, not, ◌||◌, ◌==◌, eqb, eqb-true, List, [], ◌∷◌, map, Option, Some, None, Ok, refl, sym, ap, subst, ◌∙◌}
+use Rattle.std.specs.List.{filter, filter_map, list_any}
 use Rattle.std.specs.Option.{option_map_or}
 use Rattle.mt_skel.specs.declared.fault.Fault.TheVariants.{NotMountRoot, RootPlace, Busy}
 use Rattle.mt_skel.specs.Outcome.{refuse_if, fault_of}
-use Rattle.mt_skel.proofs.ElementLaws.{In, in_any, in_map, in_filter}
+use Rattle.mt_skel.proofs.ElementLaws.{in_any, in_map, in_filter}
 use Rattle.mt_skel.proofs.OutcomeLaws.{outcome_ok, first_none}
 use Rattle.mt_mounts.specs.declared.mount.Mount.{Mount}
 use Rattle.mt_mounts.specs.declared.mount.Place.{Place}
@@ -23,17 +23,9 @@ use Rattle.mt_propagate.proofs.WalkLaws.{stands_at}
 use Rattle.mt_unmount.specs.Sliding.{place_of}
 use Rattle.mt_unmount.specs.Unmounting.{may_go, going_at, is_removed, without_mount, unmounted}
 use Rattle.mt_unmount.proofs.GapLaws.{placed-mount}
+use Rattle.mt_unmount.proofs.HeldLaws.{in_filter_map}
 use Rattle.mt_unmount.proofs.LeftInsideLaws.{gone-contained, gone-outside}
 use Rattle.mt_unmount.proofs.UnmountLaws.{unmounted-kept}
-
--- what comes of a list is what comes of one of its elements
-in_filter_map : {X Y : Type 0} (f : X → Option Y) (y : Y) (xs : List X) → In y (filter_map f xs) → (x : X) × In x xs × (f x ≡ Some y)
-in_filter_map f y [] e = absurd e
-in_filter_map {X} {Y} f y (x ∷ xs) e = go (f x) refl e (in_filter_map f y xs)
-  where
-    go : (o : Option Y) → f x ≡ o → In y (cons_option o (filter_map f xs)) → (In y (filter_map f xs) → (z : X) × In z xs × (f z ≡ Some y)) → (z : X) × In z (x ∷ xs) × (f z ≡ Some y)
-    go None is e ih = let r = ih e in (r.0, inr r.1, r.2)
-    go (Some a) is e ih = elim e [ inl here ↦ (x, inl refl, is ∙ ap (λ v. Some v) here) | inr later ↦ let r = ih later in (r.0, inr r.1, r.2) ]
 
 module _ (w : WorldView) (h : IsWellFormed w) (i : ℕ) (n : ℕ) (c : IsContained n w) (here : space_of w i ≡ n) where
   -- the place of the mount is in the namespace

@@ -27,6 +27,7 @@ received w i = option_map_or (λ (p : Place). standing_at w (hits w p) p.dir) (p
 abbrev pub candidates : WorldView → ℕ → List ℕ
 candidates w i = subtree w.forest i ++ flat_map (received w) (subtree w.forest i)
 
+-- a mount may go with one that is detached
 abbrev pub is_candidate : WorldView → ℕ → ℕ → Bool
 is_candidate w i j = among (candidates w i) j
 

@@ -89,8 +89,9 @@ fn gone(world: &World, id: MountId) -> Result<Gone, Fault>
 
 /// Detaches the mount that the path names in a namespace, the topmost one there, with all below it,
 /// and what each mount of this tree receives: at each propagation target of its place the mount at
-/// the same directory. Of what is received each mount stays that has one inside it, below its root,
-/// that is not received. What stands on the root of a mount that goes slides to the place that gets free.
+/// the same directory. Of what is received each mount stays inside which, at another directory than its
+/// root or below what stands there, there is one that is neither of the tree nor received. What stands on
+/// the root of a mount that goes slides to the place that gets free.
 ///
 /// Refused as `NoNamespace`, `NoEntry` where a component is not there, `NotMountRoot` where the path
 /// ends below the root of a mount, `RootPlace` where it names the root mount, and as `NoMemory`; then

@@ -4,7 +4,6 @@
 //! that stand on candidates and are none, each once. So what is gone over is the candidates and what stands on them.
 ghost use Rattle.std.specs.Prelude.{◌≡◌, ◌++◌, ℕ, nat_eq, IfOk, OnOk, IsOkUnless};
 ghost use Rattle.std.specs.List.{flat_map};
-ghost use Rattle.mt_mounts.specs.Forest.{children, stands_on};
 ghost use Rattle.mt_skel.specs.Keyed.{among};
 ghost use Rattle.mt_propagate.specs.World.{world_view};
 ghost use Rattle.mt_propagate.specs.WellFormed.{IsWellFormed};
@@ -15,35 +14,10 @@ ghost use Rattle.indexmap.specs.IndexSet.{insert_key};
 use crate::gone::Gone;
 use crate::taking::place_of;
 use indexmap::IndexSet;
-use mt_mounts::mount::{Mount, MountId};
+use mt_mounts::mount::MountId;
 use mt_propagate::named::is_mount_root;
 use mt_propagate::world::World;
 use mt_skel::fault::Fault;
-
-/// Whether a mount stands on another one.
-fn stands_on(mount: &Mount, id: MountId) -> bool
-    ensures { result ≡ stands_on id mount.now }
-{
-    match mount.place {
-        Some(place) => place.mount == id,
-        None => false,
-    }
-}
-
-/// The IDs of the mounts that stand on a mount, rising. Refused as `NoMemory` alone.
-fn children_of(world: &World, id: MountId) -> Result<Vec<MountId>, Fault>
-    ensures children { IfOk result (λ ids. ids.items ≡ children world.now.forest.mounts id) }
-    ensures memory { IsOkUnless result Fault.NoMemory }
-{
-    let mounts = world.forest.mounts()?;
-    let mut ids = Vec::new(world.forest.allocator());
-    for mount in &mounts {
-        if stands_on(mount, id) {
-            ids.push(mount.id)?;
-        }
-    }
-    Ok(ids)
-}
 
 /// Adds the mounts that stand on one and are no candidates. Refused as `NoMemory` alone.
 fn push_staying(
@@ -55,7 +29,7 @@ fn push_staying(
     ensures ids { OnOk result (ids.new.items ≡ ids.old.items ++ staying_on (world_view world.now) (among candidates.now) id) }
     ensures memory { IsOkUnless result Fault.NoMemory }
 {
-    let children = children_of(world, id)?;
+    let children = world.forest.children_of(id)?;
     for child in &children {
         if !candidates.has(*child) {
             ids.push(*child)?;
