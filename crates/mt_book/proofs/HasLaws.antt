@@ -27,15 +27,17 @@ use Rattle.mt_bind.specs.Copying.{copy_of}
 use Rattle.mt_bind.specs.Mounting.{mounted, bound, moved}
 use Rattle.mt_bind.specs.Pivoting.{pivoted_mount, with_pivot, pivoted}
 use Rattle.mt_bind.proofs.PivotingLaws.{pivot_made}
-use Rattle.mt_unmount.specs.Sliding.{place_of}
+use Rattle.mt_unmount.specs.Sliding.{place_of, CanGo, once_gone}
 use Rattle.mt_unmount.specs.Unmounting.{is_removed, without_mount, unmounted}
-use Rattle.mt_unmount.proofs.GapLaws.{place-at}
-use Rattle.mt_unmount.proofs.RemovedLaws.{removed-cases}
+use Rattle.mt_unmount.specs.Detaching.{is_detached, without_tree, named_place, detached}
+use Rattle.mt_unmount.proofs.RemovedLaws.{removed-can-go}
+use Rattle.mt_unmount.proofs.CandidateLaws.{detached-can-go}
+use Rattle.mt_unmount.proofs.DetachedLaws.{detached-ok}
 use Rattle.mt_unmount.proofs.LeftTreeLaws.{stays-in}
 use Rattle.mt_setattr.specs.declared.change.Change.{Change}
 use Rattle.mt_setattr.specs.Change.{changed_mount, is_chosen, with_change, attributed}
 use Rattle.mt_book.specs.declared.command.Command.{Command}
-use Rattle.mt_book.specs.declared.command.Command.TheVariants.{MakeFs, MakeDir, NewSpace, CopySpace, DropSpace, Mount as Mounting, Bind, Move, Pivot, Unmount, SetAttr}
+use Rattle.mt_book.specs.declared.command.Command.TheVariants.{MakeFs, MakeDir, NewSpace, CopySpace, DropSpace, Mount as Mounting, Bind, Move, Pivot, Unmount, Detach, SetAttr}
 use Rattle.mt_book.specs.declared.command.Reply.{Reply}
 use Rattle.mt_book.specs.declared.command.Reply.TheVariants.{Done, Number}
 use Rattle.mt_book.specs.Step.{step, ends_space}
@@ -109,23 +111,23 @@ pivot_has n w i j p h = record {
   space = h.space;
 }
 
--- a root mount is not unmounted
-gone_has : (n : ℕ) (w : WorldView) (i : ℕ) → IsWellFormed w → is_none (place_of w i) ≡ false → Has n w → Has n (without_mount w i)
-unfolding without_mount
-gone_has n w i h rooted x =
+-- a root mount does not go
+gone_has : (n : ℕ) (w : WorldView) (goes : ℕ → Bool) → IsWellFormed w → CanGo w goes → Has n w → Has n (once_gone w goes)
+gone_has n w goes h can x =
     let r = h.forest.rooted x.id x.mount x.there in
-    let root : Mount = r.1 in
-    let none : root.place ≡ None = r.3 in
-    let at : mount_at w.forest r.0 ≡ Some root = r.2 in
-    let stays : is_removed w i r.0 ≡ false = by r.0 root at none (is_removed w i r.0) refl in
-    record { id = r.0; mount = _; there = stays-in w h (is_removed w i) r.0 root at stays; space = r.4 ∙ x.space }
+    record { id = r.0; mount = _; there = stays-in w h goes r.0 r.1 r.2 (by r.0 r.1 r.2 r.3 (goes r.0) refl); space = r.4 ∙ x.space }
   where
-    by : (j : ℕ) (m : Mount) → mount_at w.forest j ≡ Some m → m.place ≡ None → (b : Bool) → is_removed w i j ≡ b → is_removed w i j ≡ false
-    by j m at none false e = e
-    by j m at none true e = elim (removed-cases w h i j e) [
-      | inl same ↦ absurd (true≢false (sym (ap is_none (ap (place_of w) (sym same) ∙ place-at w j m at ∙ none)) ∙ rooted))
-      | inr too ↦ (let two : Some too.mount ≡ Some m = sym too.there ∙ at in let eq : too.mount ≡ m = cc in let bad : Some too.place ≡ None = sym too.stands ∙ ap (λ (y : Mount). y.place) eq ∙ none in absurd (cc))
-    ]
+    by : (j : ℕ) (m : Mount) → mount_at w.forest j ≡ Some m → m.place ≡ None → (b : Bool) → goes j ≡ b → b ≡ false
+    by j m at none false e = refl
+    by j m at none true e = (let p = can.placed j m e at in let bad : None ≡ Some p.0 = sym none ∙ p.1 in absurd (cc))
+
+unmounted_has : (n : ℕ) (w : WorldView) (i : ℕ) → IsWellFormed w → is_none (place_of w i) ≡ false → list_any (stands_on i) w.forest ≡ false → Has n w → Has n (without_mount w i)
+unfolding without_mount
+unmounted_has n w i h rooted bare x = gone_has n w (is_removed w i) h (removed-can-go w h i rooted bare) x
+
+detached_has : (n : ℕ) (w : WorldView) (i : ℕ) → IsWellFormed w → is_none (place_of w i) ≡ false → Has n w → Has n (without_tree w i)
+unfolding without_tree
+detached_has n w i h rooted x = gone_has n w (is_detached w i) h (detached-can-go w h i rooted) x
 
 -- the mounts of other namespaces stay where one is dropped
 others_have : (n k : ℕ) (w : WorldView) → IsWellFormed w → (k == n) ≡ false → Has n w → Has n (without_space w k)
@@ -179,7 +181,11 @@ step_has n w (Unmount k path) v r g e d h =
     let one = first_none lost (unnamed ∷ root ∷ busy ∷ []) ok.1 in
     let two = first_none unnamed (root ∷ busy ∷ []) one.1 in
     let three = first_none root (busy ∷ []) two.1 in
-    subst (Has n) ok.0 (gone_has n w p.mount g (not_refused (is_root_mount w p) RootPlace three.0) h)
+    let four = first_none busy [] three.1 in
+    subst (Has n) ok.0 (unmounted_has n w p.mount g (not_refused (is_root_mount w p) RootPlace three.0) (not_refused (list_any (stands_on p.mount) w.forest) Busy four.0) h)
+step_has n w (Detach k path) v r g e d h =
+    let q = detached-ok w k path v (done_ok (detached w k path) v r e) in
+    subst (Has n) q.0 (detached_has n w (named_place w k path).mount g q.2 h)
 step_has n w (SetAttr k path change) v r g e d h =
     let m = change_made w v k path change (done_ok (attributed w k path change) v r e) in
     subst (Has n) (sym m.1) (change_has n w change m.0 h)

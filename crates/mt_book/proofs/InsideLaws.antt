@@ -17,13 +17,15 @@ use Rattle.mt_bind.specs.Pivoting.{pivoted}
 use Rattle.mt_bind.proofs.InsideLaws.{mount_contained, mount_outside, bind_contained, bind_outside, move_contained, move_outside, made_contained, copied_contained, less_copied, copy_parts, end_contained, end_outside}
 use Rattle.mt_bind.proofs.PivotingLaws.{pivoted_contained, pivoted_outside}
 use Rattle.mt_unmount.specs.Unmounting.{unmounted}
+use Rattle.mt_unmount.specs.Detaching.{detached}
 use Rattle.mt_unmount.proofs.InsideLaws.{unmounted-contained, unmounted-outside}
+use Rattle.mt_unmount.proofs.DetachInsideLaws.{detached-contained, detached-outside}
 use Rattle.mt_setattr.specs.Change.{attributed}
 use Rattle.mt_setattr.proofs.InsideLaws.{attributed-contained, attributed-outside}
 use Rattle.mt_info.specs.Table.{table_of}
 use Rattle.mt_info.proofs.OutsideTables.{same_table}
 use Rattle.mt_book.specs.declared.command.Command.{Command}
-use Rattle.mt_book.specs.declared.command.Command.TheVariants.{MakeFs, MakeDir, NewSpace, CopySpace, DropSpace, Mount, Bind, Move, Pivot, Unmount, SetAttr}
+use Rattle.mt_book.specs.declared.command.Command.TheVariants.{MakeFs, MakeDir, NewSpace, CopySpace, DropSpace, Mount, Bind, Move, Pivot, Unmount, Detach, SetAttr}
 use Rattle.mt_book.specs.declared.command.Reply.{Reply}
 use Rattle.mt_book.specs.declared.command.Reply.TheVariants.{Done, Number}
 use Rattle.mt_book.specs.Step.{with_number, step, world_or, next_world, after_from, after}
@@ -71,6 +73,7 @@ step_contained n w (Bind k src dst recursive) v r h a low off e =
 step_contained n w (Move k src dst) v r h a low off e = move_contained n w k src dst v h a (done_ok (moved w k src dst) v r e)
 step_contained n w (Pivot k new old) v r h a low off e = pivoted_contained n w k new old v h a (done_ok (pivoted w k new old) v r e)
 step_contained n w (Unmount k path) v r h a low off e = unmounted-contained n w k path v h a (done_ok (unmounted w k path) v r e)
+step_contained n w (Detach k path) v r h a low off e = detached-contained n w k path v h a (done_ok (detached w k path) v r e)
 step_contained n w (SetAttr k path change) v r h a low off e = attributed-contained n w k path change v h a (done_ok (attributed w k path change) v r e)
 
 -- the namespace in which a command is issued
@@ -95,6 +98,7 @@ step_outside n w (Bind k src dst recursive) v r h a is e =
 step_outside n w (Move k src dst) v r h a is e = moved_to k n w v is a (λ b. move_outside w k src dst v h b (done_ok (moved w k src dst) v r e))
 step_outside n w (Pivot k new old) v r h a is e = moved_to k n w v is a (λ b. pivoted_outside w k new old v h b (done_ok (pivoted w k new old) v r e))
 step_outside n w (Unmount k path) v r h a is e = moved_to k n w v is a (λ b. unmounted-outside w k path v h b (done_ok (unmounted w k path) v r e))
+step_outside n w (Detach k path) v r h a is e = moved_to k n w v is a (λ b. detached-outside w k path v h b (done_ok (detached w k path) v r e))
 step_outside n w (SetAttr k path change) v r h a is e = moved_to k n w v is a (λ b. attributed-outside w k path change v h b (done_ok (attributed w k path change) v r e))
 
 pub step_inside : (n : ℕ) (w : WorldView) (c : Command) (v : WorldView) (r : Reply) → IsWellFormed w → IsSkeleton w.skel → IsContained n w → is_issued_in n c ≡ true → step w c ≡ Ok (v, r) → (k : ℕ) → k ≢ n

@@ -26,17 +26,19 @@ use Rattle.mt_bind.specs.Copying.{copy_number, copy_of}
 use Rattle.mt_bind.specs.Mounting.{mounted, bound, moved}
 use Rattle.mt_bind.specs.Pivoting.{pivoted_mount, with_pivot, pivoted}
 use Rattle.mt_bind.proofs.PivotingLaws.{pivot_made}
-use Rattle.mt_unmount.specs.Unmounting.{is_removed, without_mount, unmounted}
+use Rattle.mt_unmount.specs.Sliding.{once_gone}
+use Rattle.mt_unmount.specs.Unmounting.{unmounted}
+use Rattle.mt_unmount.specs.Detaching.{detached}
 use Rattle.mt_setattr.specs.declared.change.Change.{Change}
 use Rattle.mt_setattr.specs.Change.{changed_mount, is_chosen, with_change, attributed}
 use Rattle.mt_info.specs.declared.row.Row.{Row}
 use Rattle.mt_info.specs.Table.{row_of, table_of}
 use Rattle.mt_book.specs.declared.command.Command.{Command}
-use Rattle.mt_book.specs.declared.command.Command.TheVariants.{MakeFs, MakeDir, NewSpace, CopySpace, DropSpace, Mount as Mounting, Bind, Move, Pivot, Unmount, SetAttr}
+use Rattle.mt_book.specs.declared.command.Command.TheVariants.{MakeFs, MakeDir, NewSpace, CopySpace, DropSpace, Mount as Mounting, Bind, Move, Pivot, Unmount, Detach, SetAttr}
 use Rattle.mt_book.specs.declared.command.Reply.{Reply}
 use Rattle.mt_book.specs.declared.command.Reply.TheVariants.{Done, Number}
 use Rattle.mt_book.specs.Step.{step, makes_space, ends_space}
-use Rattle.mt_book.proofs.EffectLaws.{skel_ok, number_ok, done_ok, space_made, copy_made, copy_there, space_dropped, mount_made, bind_made, move_made, mount_gone, change_made}
+use Rattle.mt_book.proofs.EffectLaws.{skel_ok, number_ok, done_ok, space_made, copy_made, copy_there, space_dropped, mount_made, bind_made, move_made, mount_gone, tree_gone, change_made}
 use Rattle.mt_book.proofs.StepLaws.{step_kept}
 use Rattle.mt_book.proofs.HasLaws.{Has, copy_forest, copied_forest, relocated_space, step_has, space_has, has_space}
 
@@ -69,11 +71,10 @@ was_left n k w h i m e s =
     let x = kept-row id_of (λ (m : Mount). m.space == k) w.forest h.forest.rising i m e in
     (record { id = i; mount = m; there = x.0; space = s }, ap (λ j. j == k) (sym s) ∙ x.1)
 
-was_unmounted : (n k : ℕ) (w : WorldView) → IsWellFormed w → (i : ℕ) (m : Mount) → mount_at (without_mount w k).forest i ≡ Some m → m.space ≡ n → Has n w
-unfolding without_mount
-was_unmounted n k w h i m e s =
-    let x = mapped-row id_of _ (λ m. refl) (without (λ (m : Mount). is_removed w k m.id) w.forest) i m e in
-    let y = kept-row id_of (λ (m : Mount). is_removed w k m.id) w.forest h.forest.rising i x.0 x.1 in
+was_staying : (n : ℕ) (w : WorldView) (goes : ℕ → Bool) → IsWellFormed w → (i : ℕ) (m : Mount) → mount_at (once_gone w goes).forest i ≡ Some m → m.space ≡ n → Has n w
+was_staying n w goes h i m e s =
+    let x = mapped-row id_of _ (λ m. refl) (without (λ (m : Mount). goes m.id) w.forest) i m e in
+    let y = kept-row id_of (λ (m : Mount). goes m.id) w.forest h.forest.rising i x.0 x.1 in
     record { id = i; mount = x.0; there = y.0; space = ap (λ (z : Mount). z.space) (sym x.2) ∙ s }
 
 -- a new root mount is of the next namespace
@@ -153,7 +154,10 @@ step_from n w (Pivot k new old) v r g e i m at none s =
     inl (was_pivoted n w made.0 made.1 made.2 i m (ap (λ (x : WorldView). mount_at x.forest i) (sym made.3) ∙ at) s)
 step_from n w (Unmount k path) v r g e i m at none s =
     let made = mount_gone w v k path (done_ok (unmounted w k path) v r e) in
-    inl (was_unmounted n made.0 w g i m (ap (λ (x : WorldView). mount_at x.forest i) (sym made.1) ∙ at) s)
+    inl (was_staying n w made.0 g i m (ap (λ (x : WorldView). mount_at x.forest i) (sym made.1) ∙ at) s)
+step_from n w (Detach k path) v r g e i m at none s =
+    let made = tree_gone w v k path (done_ok (detached w k path) v r e) in
+    inl (was_staying n w made.0 g i m (ap (λ (x : WorldView). mount_at x.forest i) (sym made.1) ∙ at) s)
 step_from n w (SetAttr k path change) v r g e i m at none s =
     let made = change_made w v k path change (done_ok (attributed w k path change) v r e) in
     inl (was_changed n w change made.0 i m (ap (λ (x : WorldView). mount_at x.forest i) (sym made.1) ∙ at) s)
@@ -216,6 +220,7 @@ step_makes w (Bind k src dst recursive) v r g e m = absurd (cc)
 step_makes w (Move k src dst) v r g e m = absurd (cc)
 step_makes w (Pivot k new old) v r g e m = absurd (cc)
 step_makes w (Unmount k path) v r g e m = absurd (cc)
+step_makes w (Detach k path) v r g e m = absurd (cc)
 step_makes w (SetAttr k path change) v r g e m = absurd (cc)
 
 pub made_there : (w : WorldView) (c : Command) (v : WorldView) (r : Reply) → IsWellFormed w → IsSkeleton w.skel → step w c ≡ Ok (v, r) → makes_space c ≡ true → is_space v w.next_space ≡ true

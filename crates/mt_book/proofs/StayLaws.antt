@@ -17,7 +17,7 @@ use Rattle.mt_events.specs.Posts.{PostView}
 use Rattle.mt_events.specs.Difference.{difference, is_empty, HoldsChanged}
 use Rattle.mt_events.proofs.EmptyLaws.{all-weaker}
 use Rattle.mt_book.specs.declared.command.Command.{Command}
-use Rattle.mt_book.specs.declared.command.Command.TheVariants.{MakeFs, MakeDir, NewSpace, CopySpace, DropSpace, Mount, Bind, Move, Pivot, Unmount, SetAttr}
+use Rattle.mt_book.specs.declared.command.Command.TheVariants.{MakeFs, MakeDir, NewSpace, CopySpace, DropSpace, Mount, Bind, Move, Pivot, Unmount, Detach, SetAttr}
 use Rattle.mt_book.specs.declared.command.Reply.{Reply}
 use Rattle.mt_book.specs.Step.{step, makes_space, drops_space, ends_space, world_or, next_world, after}
 use Rattle.mt_book.specs.Book.{space_in, number_in, spaces_of, space_numbers, next_number, next_post, counted, with_newborn, still_there}
@@ -65,6 +65,7 @@ none_ends (Bind k src dst deep) n d = refl
 none_ends (Move k src dst) n d = refl
 none_ends (Pivot k new old) n d = refl
 none_ends (Unmount k path) n d = refl
+none_ends (Detach k path) n d = refl
 none_ends (SetAttr k path change) n d = refl
 
 -- with the one that a command makes

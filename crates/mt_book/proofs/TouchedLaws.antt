@@ -14,17 +14,18 @@ use Rattle.mt_bind.specs.Mounting.{mounted, bound, moved}
 use Rattle.mt_bind.specs.Pivoting.{pivoted}
 use Rattle.mt_bind.proofs.PivotingLaws.{pivot_made}
 use Rattle.mt_unmount.specs.Unmounting.{unmounted}
+use Rattle.mt_unmount.specs.Detaching.{detached}
 use Rattle.mt_setattr.specs.Change.{attributed}
 use Rattle.mt_info.specs.Table.{row_id, table_of}
 use Rattle.mt_info.proofs.KeptRows.{front-off, rest-off}
 use Rattle.mt_events.specs.Difference.{HoldsChanged}
 use Rattle.mt_events.proofs.TouchedLaws.{row_nowhere, row_elsewhere}
 use Rattle.mt_book.specs.declared.command.Command.{Command}
-use Rattle.mt_book.specs.declared.command.Command.TheVariants.{MakeFs, MakeDir, NewSpace, CopySpace, DropSpace, Mount as MountIt, Bind, Move, Pivot, Unmount, SetAttr}
+use Rattle.mt_book.specs.declared.command.Command.TheVariants.{MakeFs, MakeDir, NewSpace, CopySpace, DropSpace, Mount as MountIt, Bind, Move, Pivot, Unmount, Detach, SetAttr}
 use Rattle.mt_book.specs.declared.command.Reply.{Reply}
 use Rattle.mt_book.specs.Step.{step, next_world, world_or, makes_directories}
 use Rattle.mt_book.specs.Parts.{is_part, part_at}
-use Rattle.mt_book.proofs.EffectLaws.{number_ok, done_ok, space_made, copy_made, space_dropped, mount_made, bind_made, move_made, mount_gone, change_made, space-skel, copy-skel, end-skel, copied-skel, pivot-skel, gone-skel, change-skel}
+use Rattle.mt_book.proofs.EffectLaws.{number_ok, done_ok, space_made, copy_made, space_dropped, mount_made, bind_made, move_made, mount_gone, tree_gone, change_made, space-skel, copy-skel, end-skel, copied-skel, pivot-skel, gone-skel, change-skel}
 
 -- a command that makes no directories leaves them as they are
 pub skel_kept : (w : WorldView) (c : Command) (v : WorldView) (r : Reply) → makes_directories c ≡ false → step w c ≡ Ok (v, r) → v.skel ≡ w.skel
@@ -57,6 +58,9 @@ skel_kept w (Pivot n new old) v r d e =
     ap (λ (x : WorldView). x.skel) m.3 ∙ pivot-skel w m.0 m.1 m.2
 skel_kept w (Unmount n path) v r d e =
     let m = mount_gone w v n path (done_ok (unmounted w n path) v r e) in
+    ap (λ (x : WorldView). x.skel) m.1 ∙ gone-skel w m.0
+skel_kept w (Detach n path) v r d e =
+    let m = tree_gone w v n path (done_ok (detached w n path) v r e) in
     ap (λ (x : WorldView). x.skel) m.1 ∙ gone-skel w m.0
 skel_kept w (SetAttr n path change) v r d e =
     let m = change_made w v n path change (done_ok (attributed w n path change) v r e) in

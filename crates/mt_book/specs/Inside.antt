@@ -5,7 +5,7 @@ use Rattle.std.specs.List.{AllByRecursion}
 use Rattle.mt_propagate.specs.World.{WorldView}
 use Rattle.mt_info.specs.Table.{table_of}
 use Rattle.mt_book.specs.declared.command.Command.{Command}
-use Rattle.mt_book.specs.declared.command.Command.TheVariants.{CopySpace, DropSpace, Mount, Bind, Move, Pivot, Unmount, SetAttr}
+use Rattle.mt_book.specs.declared.command.Command.TheVariants.{CopySpace, DropSpace, Mount, Bind, Move, Pivot, Unmount, Detach, SetAttr}
 use Rattle.mt_book.specs.declared.command.Reply.{Reply}
 use Rattle.mt_book.specs.declared.command.Reply.TheVariants.{Number}
 use Rattle.mt_book.specs.Step.{step, next_world, after}
@@ -20,6 +20,7 @@ is_issued_in n (Bind k src dst recursive) = k == n
 is_issued_in n (Move k src dst) = k == n
 is_issued_in n (Pivot k new old) = k == n
 is_issued_in n (Unmount k path) = k == n
+is_issued_in n (Detach k path) = k == n
 is_issued_in n (SetAttr k path change) = k == n
 is_issued_in n c = false
 

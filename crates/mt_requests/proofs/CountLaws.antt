@@ -10,7 +10,7 @@ use Rattle.mt_events.specs.declared.opening.Scope.TheVariants.{One, All}
 use Rattle.mt_requests.specs.Options.{change_of}
 use Rattle.mt_requests.specs.declared.request.Request.{Request}
 use Rattle.mt_requests.specs.declared.request.Request.TheVariants.{Watch, Take, Follow, Close, Quit, Stop}
-use Rattle.mt_requests.specs.Requests.{unless, request_from, mkfs_of, mkdir_of, newns_of, copy_said, copyns_of, dropns_of, space_and_two, mount_of, two_paths_of, bind_of, move_of, pivot_of, one_path_of, umount_of, setattr_of, show_of, find_of, one_word, watch_of, most_taken, most_followed, count_of, take_of, follow_of, HasRightCount, Reader, watching_lines, lines, read_by, by_words, request_of, ReadsAs}
+use Rattle.mt_requests.specs.Requests.{unless, request_from, mkfs_of, mkdir_of, newns_of, copy_said, copyns_of, dropns_of, space_and_two, mount_of, two_paths_of, bind_of, move_of, pivot_of, one_path_of, umount_of, detach_of, setattr_of, show_of, find_of, one_word, watch_of, most_taken, most_followed, count_of, take_of, follow_of, HasRightCount, Reader, watching_lines, lines, read_by, by_words, request_of, ReadsAs}
 
 -- what is said
 of_said : (said r : Request) → ◌≡◌ {A = Result Request Fault} (Ok said) (Ok r) → HasRightCount said → HasRightCount r
@@ -96,6 +96,9 @@ pivot_right rest r e = of_parts _ (two_paths_of rest) r e (λ parts. tt)
 umount_right : IsRight umount_of
 umount_right rest r e = of_parts _ (one_path_of rest) r e (λ parts. tt)
 
+detach_right : IsRight detach_of
+detach_right rest r e = of_parts _ (one_path_of rest) r e (λ parts. tt)
+
 setattr_right : IsRight setattr_of
 setattr_right (space ∷ path ∷ options) r e =
     of_some _ (number_in_text space) r e (λ n f. of_some _ (change_of options) r f (λ change g. of_unless _ _ r g tt))
@@ -149,7 +152,7 @@ finding_right = (show_right, (find_right, (one_word_right Quit tt, (one_word_rig
 
 all_right : AreRight lines
 all_right =
-    (mkfs_right, (mkdir_right, (newns_right, (copyns_right, (dropns_right, (mount_right, (bind_right false, (bind_right true, (move_right, (pivot_right, (umount_right, (setattr_right, finding_right))))))))))))
+    (mkfs_right, (mkdir_right, (newns_right, (copyns_right, (dropns_right, (mount_right, (bind_right false, (bind_right true, (move_right, (pivot_right, (umount_right, (detach_right, (setattr_right, finding_right)))))))))))))
 
 words_right : (said : List (List ℕ)) (r : Request) → by_words said ≡ Ok r → HasRightCount r
 words_right [] r e = cc

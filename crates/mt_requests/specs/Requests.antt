@@ -160,6 +160,10 @@ one_path_of _ = Err BadLine
 abbrev pub umount_of : List (List ℕ) → Result Request Fault
 umount_of words = request_from (λ (space, path). request.Run (command.Unmount space path)) (one_path_of words)
 
+-- `detach NS PATH` unmounts with all below
+abbrev pub detach_of : List (List ℕ) → Result Request Fault
+detach_of words = request_from (λ (space, path). request.Run (command.Detach space path)) (one_path_of words)
+
 -- `setattr NS PATH [rec] [set=W,..] [clr=W,..] [prop=K]` changes a mount, or all below it too; the options come in any order
 abbrev pub setattr_of : List (List ℕ) → Result Request Fault
 setattr_of (space ∷ path ∷ options) =
@@ -236,6 +240,7 @@ lines =
     ∷ (codes "move", move_of)
     ∷ (codes "pivot", pivot_of)
     ∷ (codes "umount", umount_of)
+    ∷ (codes "detach", detach_of)
     ∷ (codes "setattr", setattr_of)
     ∷ (codes "show", show_of)
     ∷ (codes "find", find_of)

@@ -14,6 +14,7 @@ Lines of a session:
   move NS SRC DST          moves a mount, with all mounts on it, to another path
   pivot NS NEW OLD         makes a mount the root mount, and moves the old one below it
   umount NS PATH           takes a mount away
+  detach NS PATH           takes a mount away, with all mounts below it
   setattr NS PATH [rec] [set=W,..] [clr=W,..] [prop=KIND]
                            changes attributes and propagation (shared, private, slave, unbindable)
   show NS                  lists the mounts of a namespace

@@ -1,6 +1,6 @@
 //! Requests, as lines say them.
 ghost use Rattle.std.specs.Prelude.{◌≡◌, IfOk, None, Some, MatchOption};
-ghost use Rattle.mt_requests.specs.Requests.{ReadsAs, request_of, HasNoFault, prior_of_two, prior_fault, Reads, two_paths_of, mkfs_of, mkdir_of, newns_of, copy_said, copyns_of, dropns_of, space_and_two, mount_of, bind_of, move_of, pivot_of, one_path_of, umount_of, setattr_of, show_of, find_of, one_word, HasRightCount};
+ghost use Rattle.mt_requests.specs.Requests.{ReadsAs, request_of, HasNoFault, prior_of_two, prior_fault, Reads, two_paths_of, mkfs_of, mkdir_of, newns_of, copy_said, copyns_of, dropns_of, space_and_two, mount_of, bind_of, move_of, pivot_of, one_path_of, umount_of, detach_of, setattr_of, show_of, find_of, one_word, HasRightCount};
 
 use crate::label::{label_fault, label_of};
 use crate::options::change_of;
@@ -243,6 +243,14 @@ fn read_umount(alloc: Global, words: &mut Words<'_>) -> Result<Request, Fault>
     Ok(Request::Run(Command::Unmount { space, path }))
 }
 
+/// The request of a line `detach NS PATH`, behind the first word.
+fn read_detach(alloc: Global, words: &mut Words<'_>) -> Result<Request, Fault>
+    ensures { ReadsAs (detach_of words.old) result }
+{
+    let (space, path) = read_one_path(alloc, words)?;
+    Ok(Request::Run(Command::Detach { space, path }))
+}
+
 /// The request of a line `setattr NS PATH` with its options, behind the first word.
 fn read_setattr(alloc: Global, words: &mut Words<'_>) -> Result<Request, Fault>
     ensures { ReadsAs (setattr_of words.old) result }
@@ -323,6 +331,8 @@ fn read_line(alloc: Global, line: &[u8]) -> Result<Request, Fault>
         read_pivot(alloc, &mut words)
     } else if command == b"umount".as_slice() {
         read_umount(alloc, &mut words)
+    } else if command == b"detach".as_slice() {
+        read_detach(alloc, &mut words)
     } else if command == b"setattr".as_slice() {
         read_setattr(alloc, &mut words)
     } else if command == b"show".as_slice() {
