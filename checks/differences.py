@@ -68,6 +68,7 @@ LOCKED = {
     b"umount": {errno.EINVAL},
     b"move": {errno.EINVAL},
     b"pivot": {errno.EINVAL},
+    b"detach": {errno.EINVAL},
     b"bind": {errno.EINVAL},
     b"rbind": {errno.EPERM},
     b"setattr": {errno.EPERM},
@@ -97,11 +98,11 @@ def has_no_clash(words):
 
 def is_root_destination(step):
     is_source = step.words[0] == b"move" and step.words[2] == b"/"
-    return step.refusal == "RootPlace" and step.errno == 0 and step.words[0] not in (b"umount", b"pivot") and not is_source
+    return step.refusal == "RootPlace" and step.errno == 0 and step.words[0] not in (b"umount", b"detach", b"pivot") and not is_source
 
 
 def is_root_unmount(step):
-    return step.refusal == "RootPlace" and step.errno == 0 and step.words[0] == b"umount"
+    return step.refusal == "RootPlace" and step.errno == 0 and step.words[0] in (b"umount", b"detach")
 
 
 def is_relatime(step):

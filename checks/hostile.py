@@ -38,6 +38,7 @@ FORMS = {
     b"move": "NPP",
     b"pivot": "NPP",
     b"umount": "NP",
+    b"detach": "NP",
     b"setattr": "NP*",
     b"show": "N",
     b"find": "NP",

@@ -17,7 +17,7 @@ import cases
 from running import answer_groups, check, library, run, shown
 
 # The lines that may want memory; each is accepted in one of the sessions.
-WORDS = b"mkfs mkdir newns copyns dropns mount bind rbind move pivot umount setattr show find watch take follow close".split()
+WORDS = b"mkfs mkdir newns copyns dropns mount bind rbind move pivot umount detach setattr show find watch take follow close".split()
 
 # Sessions of more allocations are left out, and named: they have the lines of others many times over.
 MOST_ALLOCATIONS = 5_000

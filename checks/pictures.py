@@ -14,7 +14,7 @@ from running import check, difference, run, shown
 from serving import Server
 
 # The lines that make a world.
-COMMANDS = b"mkfs mkdir newns copyns dropns mount bind rbind move umount setattr".split()
+COMMANDS = b"mkfs mkdir newns copyns dropns mount bind rbind move pivot umount detach setattr".split()
 
 # Worlds of more mounts are left out.
 MOST_MOUNTS = 200

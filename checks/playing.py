@@ -12,7 +12,7 @@ from running import shown
 from spaces import Worker
 
 # What makes a world: all other lines ask, or are the sessions' own.
-COMMANDS = {b"mkfs", b"mkdir", b"newns", b"copyns", b"dropns", b"mount", b"bind", b"rbind", b"move", b"pivot", b"umount", b"setattr"}
+COMMANDS = {b"mkfs", b"mkdir", b"newns", b"copyns", b"dropns", b"mount", b"bind", b"rbind", b"move", b"pivot", b"umount", b"detach", b"setattr"}
 
 # Our refusals that no call of the kernel has: of names and numbers that are ours, of lines, and of limits.
 NO_COUNTERPART = {

@@ -23,6 +23,7 @@ COMMANDS = {
     "move": 4,
     "pivot": 2,
     "umount": 4,
+    "detach": 2,
     "setattr": 6,
     "copyns": 1,
     "newns": 0.2,
@@ -30,7 +31,7 @@ COMMANDS = {
     "mkdir": 0.3,
 }
 # What does not make more mounts, or not many.
-SMALL = "move", "pivot", "umount", "setattr", "dropns", "mkdir"
+SMALL = "move", "pivot", "umount", "detach", "setattr", "dropns", "mkdir"
 KINDS = {b"shared": 4, b"slave": 3, b"private": 1, b"unbindable": 0.7}
 FLAGS = [b"ro", b"nosuid", b"nodev", b"noexec", b"nodiratime", b"nosymfollow"]
 TIMES = [b"noatime", b"strictatime", b"relatime"]
@@ -105,7 +106,7 @@ class Author:
         if not tables:
             return b"newns a"
         space = self.chance.choice(list(tables))
-        if word in ("move", "pivot", "umount") and len(tables[space]) == 1:
+        if word in ("move", "pivot", "umount", "detach") and len(tables[space]) == 1:
             word = "mount"
         return b" ".join([word.encode(), b"%d" % space, *getattr(self, word)(tables[space])])
 
@@ -161,6 +162,11 @@ class Author:
 
     def umount(self, rows):
         return [self.child(rows)]
+
+    def detach(self, rows):
+        """Mostly a mount with others below it."""
+        bearers = {row.parent for row in rows if row.parent != row.id}
+        return [self.child([row for row in rows if row.id in bearers] or rows)]
 
     def copyns(self, _rows):
         return [b"less"] if self.chance.random() < self.less else []

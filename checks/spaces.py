@@ -190,6 +190,10 @@ class Kernel:
         self.enter(self.spaces[int(number)])
         syscalls.umount(path)
 
+    def detach(self, number, path):
+        self.enter(self.spaces[int(number)])
+        syscalls.umount(path, syscalls.MNT_DETACH)
+
     def setattr(self, number, path, *options):
         self.enter(self.spaces[int(number)])
         changes = {"flags": syscalls.AT_RECURSIVE if b"rec" in options else 0}

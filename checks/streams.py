@@ -94,5 +94,5 @@ def check_arguments(program):
     status, text, complaint = run(program, b"", "--help")
     check("help", status == 0 and text.startswith(b"Usage: mountd") and complaint == b"")
     words = {line.split()[0] for line in text.split(b"Lines of a session:")[-1].splitlines() if line.startswith(b"  ")}
-    lines = b"mkfs mkdir newns copyns dropns mount bind rbind move umount setattr show find watch take follow close quit stop"
+    lines = b"mkfs mkdir newns copyns dropns mount bind rbind move pivot umount detach setattr show find watch take follow close quit stop"
     check("help has the lines of a session", set(lines.split()) <= words, shown(text))

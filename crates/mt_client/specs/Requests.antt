@@ -32,7 +32,7 @@ has_first line word = bytes_eq (first_of (words line)) word
 -- the commands that are answered by `ok` alone
 abbrev pub is_done_command : List ℕ → Bool
 is_done_command word =
-    bytes_eq word (codes "mkdir") || bytes_eq word (codes "dropns") || bytes_eq word (codes "move") || bytes_eq word (codes "pivot") || bytes_eq word (codes "umount") || bytes_eq word (codes "setattr") || bytes_eq word (codes "quit") || bytes_eq word (codes "stop")
+    bytes_eq word (codes "mkdir") || bytes_eq word (codes "dropns") || bytes_eq word (codes "move") || bytes_eq word (codes "pivot") || bytes_eq word (codes "umount") || bytes_eq word (codes "detach") || bytes_eq word (codes "setattr") || bytes_eq word (codes "quit") || bytes_eq word (codes "stop")
 
 -- the commands that are answered by `ok` and a number
 abbrev pub is_number_command : List ℕ → Bool

@@ -77,6 +77,7 @@ fn is_done_command(command: &[u8]) -> bool
         || command == b"move".as_slice()
         || command == b"pivot".as_slice()
         || command == b"umount".as_slice()
+        || command == b"detach".as_slice()
         || command == b"setattr".as_slice()
         || command == b"quit".as_slice()
         || command == b"stop".as_slice()
