@@ -24,6 +24,8 @@ class Step(NamedTuple):
     # Our mounts that are still there while their partners are gone, and the kernel's.
     lost: set = set()
     kept: set = set()
+    # The namespaces that are less privileged copies, or copies of such.
+    less: set = set()
 
 
 class Difference(NamedTuple):
@@ -152,6 +154,12 @@ def is_nested_unmount(step):
     return step.words[0] == b"umount" and step.lost != set() and step.lost <= bearers and step.kept == set()
 
 
+def is_locked_received(step):
+    """Behind a detach the kernel has mounts more, and tables differ in less privileged copies alone: 0 is no namespace, but a partner."""
+    is_less = all(space == 0 or space in step.less for space, *_ in step.mismatches)
+    return step.words[0] == b"detach" and step.kept != set() and step.lost == set() and is_less
+
+
 REFUSALS = [
     Difference(
         "root-destination",
@@ -180,6 +188,7 @@ ROWS = [
         is_nested_unmount,
         "children are counted before the command, so that a table tells what an unmount takes",
     ),
+    Difference("locked-received", is_locked_received, "nothing is locked, so that what is detached goes wherever it was received"),
 ]
 
 # It is taken out of the mismatches of a step before these are asked.

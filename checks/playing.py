@@ -165,7 +165,8 @@ class Play:
         found = self.mismatches()
         if found != []:
             lost, kept = self.comparison.alone()
-            step = step._replace(mismatches=found, after=self.rows(), lost=lost, kept=kept)
+            less = {space for space, level in self.levels.items() if level > 0}
+            step = step._replace(mismatches=found, after=self.rows(), lost=lost, kept=kept, less=less)
             name = self.name(differences.ROWS, step, "\n".join(map(str, found)))
             self.is_apart = not (name == "unbindable-copy" and self.repaired(found))
 
