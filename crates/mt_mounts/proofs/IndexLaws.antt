@@ -1,5 +1,5 @@
 -- The indexes once a mount has come, has gone or was changed, and what they answer.
-use Rattle.std.proofs.Common.{◌≡◌, ◌≢◌, ℕ, Bool, true, false, cond, eqb, eq-eqb, List, Option, Some, None, refl, sym, ap, ◌∙◌, arith}
+use Rattle.std.proofs.Common.{◌≡◌, ◌≢◌, ℕ, Bool, true, false, cond, eqb, eq-eqb, List, Option, Some, None, refl, sym, ap, subst, ◌∙◌, arith}
 use Rattle.std.specs.Map.{lookup}
 use Rattle.std.specs.Option.{option_map, option_map_or, ForSome, is_none}
 use Rattle.std.proofs.lemmas.Bool.{ne_eqb}
@@ -14,19 +14,16 @@ use Rattle.mt_mounts.specs.declared.mount.Place.{Place}
 use Rattle.mt_mounts.specs.declared.mount.Mount.{Mount}
 use Rattle.mt_mounts.specs.declared.mount.Attrs.{Attrs}
 use Rattle.mt_mounts.specs.declared.indexes.Indexes.{Indexes}
-use Rattle.mt_mounts.specs.Forest.{id_of, mount_at, on, is_at, place_eq}
+use Rattle.mt_mounts.specs.Forest.{id_of, mount_at, on, is_at, place_eq, root_place}
 use Rattle.mt_mounts.specs.Tree.{IsSingle}
 use Rattle.mt_mounts.specs.ForestView.{with_attrs, with_place, without_id}
-use Rattle.mt_mounts.specs.Indexes.{parent_of, space_of, rooted_in, IsIndexed}
+use Rattle.mt_mounts.specs.Stacks.{IsStacked, IsBare, linked, entered, gone_from}
+use Rattle.mt_mounts.specs.Indexes.{parent_of, space_of, rooted_in, over, IsIndexed}
 use Rattle.mt_mounts.proofs.SlotLaws.{none_found, row_kept}
 use Rattle.mt_mounts.proofs.ChangeLaws.{attrs_of, place_of}
-use Rattle.mt_mounts.proofs.PlaceLaws.{found_without, found_put, found_map, moved_is}
-
-same_place : (p q : Place) → place_eq p q ≡ true → p ≡ q
-same_place p q h =
-    let a : p.mount ≡ q.mount = grind (arith, nat_tests) in
-    let b : p.dir ≡ q.dir = grind (arith, nat_tests) in
-    λ i. record { mount = a i; dir = b i }
+use Rattle.mt_mounts.proofs.PlaceLaws.{same_place, found_without, found_put, found_map, moved_is}
+use Rattle.mt_mounts.proofs.StackLaws.{stacked_same}
+use Rattle.mt_mounts.proofs.ForestLaws.{find_row, find_passes}
 
 -- a place that is free for a mount has none
 free_place : (ms : List Mount) (m : Mount) (p : Place) → ForSome m.place (λ q. on ms q ≡ None) → is_at p m ≡ true → on ms p ≡ None
@@ -44,6 +41,36 @@ none_cond : (b : Bool) (o : Option Mount) → cond b None (option_map id_of o) �
 none_cond true o = refl
 none_cond false o = refl
 
+root_cond : (b : Bool) (m : Mount) (o : Option Mount) → cond b (Some (root_place m)) (option_map root_place o) ≡ option_map root_place (cond b (Some m) o)
+root_cond true m o = refl
+root_cond false m o = refl
+
+no_root_cond : (b : Bool) (o : Option Mount) → cond b None (option_map root_place o) ≡ option_map root_place (cond b None o)
+no_root_cond true o = refl
+no_root_cond false o = refl
+
+free_over : (ms : List Mount) (o : Option Place) → ForSome o (λ p. on ms p ≡ None) → ForSome o (λ p. over ms p ≡ None)
+free_over ms o f = λ p e. ap (option_map root_place) (f p e)
+
+-- no mount stands at two places
+module _ (ms : List Mount) (r : rises id_of ms ≡ true) (m : Mount) where
+  same_row : (q : Place) (o : Option Mount) → on ms q ≡ o → option_map root_place o ≡ Some (root_place m) → (y : Mount) × (on ms q ≡ Some y) × (mount_at ms m.id ≡ Some y)
+  same_row q None is e = absurd (let v : None ≡ Some (root_place m) = e in cc)
+  same_row q (Some y) is e =
+      let v : root_place y ≡ root_place m = cc in
+      let k : y.id ≡ m.id = ap (λ (p : Place). p.mount) v in
+      (y, is, ap (mount_at ms) (sym k) ∙ find_row (is_at q) ms y r is)
+
+  bare : mount_at ms m.id ≡ None → IsBare (root_place m) (over ms)
+  bare absent q e = let s = same_row q (on ms q) refl e in absurd (let v : None ≡ Some s.0 = sym absent ∙ s.2 in cc)
+
+  stands_once : mount_at ms m.id ≡ Some m → (q : Place) → over ms q ≡ Some (root_place m) → is_at q m ≡ true
+  stands_once there q e =
+      let s = same_row q (on ms q) refl e in
+      let v : Some s.0 ≡ Some m = sym s.2 ∙ there in
+      let w : s.0 ≡ m = cc in
+      subst (λ y. is_at q y ≡ true) w (find_passes (is_at q) ms s.0 s.1)
+
 eqb-turned : (a b : ℕ) → eqb a b ≡ eqb b a
 eqb-turned a b = grind (arith, nat_tests)
 
@@ -54,14 +81,19 @@ module _ (ms : List Mount) (old new : Indexes) (r : rises id_of ms ≡ true) (x 
       → new.children.rows ≡ with_number m.id (parent_of m) old.children.rows
       → new.spaces.rows ≡ with_number m.id (space_of m) old.spaces.rows
       → new.roots.rows ≡ with_number m.id (rooted_in m) old.roots.rows
+      → (ForSome m.place (λ p. over ms p ≡ None) → IsBare (root_place m) (over ms) → IsStacked (over ms) old.stacks → IsStacked (entered m (over ms)) new.stacks)
       → IsIndexed (put id_of m ms) new
-  indexed_put m absent free at ch sp ro = record {
+  indexed_put m absent free at ch sp ro st = record {
     places = λ p.
         at p ∙ ap (cond (is_at p m) (Some m.id)) (x.places p) ∙ id_cond (is_at p m) m (on ms p)
         ∙ ap (option_map id_of) (sym (found_put (is_at p) m ms absent (free_place ms m p free)));
     children = ch ∙ ap (with_number m.id (parent_of m)) x.children ∙ sym (put-by id_of parent_of m ms r);
     spaces = sp ∙ ap (with_number m.id (space_of m)) x.spaces ∙ sym (put-by id_of space_of m ms r);
     roots = ro ∙ ap (with_number m.id (rooted_in m)) x.roots ∙ sym (put-by id_of rooted_in m ms r);
+    stacked =
+        stacked_same new.stacks (entered m (over ms)) (over (put id_of m ms))
+        (λ q. root_cond (is_at q m) m (on ms q) ∙ ap (option_map root_place) (sym (found_put (is_at q) m ms absent (free_place ms m q free))))
+        (st (free_over ms m.place free) (bare ms r m absent) x.stacked);
   }
 
   -- a mount has gone
@@ -70,14 +102,19 @@ module _ (ms : List Mount) (old new : Indexes) (r : rises id_of ms ≡ true) (x 
       → new.children.rows ≡ without_row m.id old.children.rows
       → new.spaces.rows ≡ without_row m.id old.spaces.rows
       → new.roots.rows ≡ without_row m.id old.roots.rows
+      → (((q : Place) → over ms q ≡ Some (root_place m) → is_at q m ≡ true) → IsStacked (over ms) old.stacks → IsStacked (gone_from m (over ms)) new.stacks)
       → IsIndexed (without_id m.id ms) new
-  indexed_without m single there at ch sp ro = record {
+  indexed_without m single there at ch sp ro st = record {
     places = λ p.
         at p ∙ ap (cond (is_at p m) None) (x.places p) ∙ none_cond (is_at p m) (on ms p)
         ∙ ap (option_map id_of) (sym (found_without (is_at p) ms r (single.places p) m.id m there));
     children = ch ∙ ap (without_row m.id) x.children ∙ sym (without-by id_of parent_of m.id (λ y. eqb y.id m.id) ms (λ y. eqb-turned y.id m.id));
     spaces = sp ∙ ap (without_row m.id) x.spaces ∙ sym (without-by id_of space_of m.id (λ y. eqb y.id m.id) ms (λ y. eqb-turned y.id m.id));
     roots = ro ∙ ap (without_row m.id) x.roots ∙ sym (without-by id_of rooted_in m.id (λ y. eqb y.id m.id) ms (λ y. eqb-turned y.id m.id));
+    stacked =
+        stacked_same new.stacks (gone_from m (over ms)) (over (without_id m.id ms))
+        (λ q. no_root_cond (is_at q m) (on ms q) ∙ ap (option_map root_place) (sym (found_without (is_at q) ms r (single.places q) m.id m there)))
+        (st (stands_once ms r m there) x.stacked);
   }
 
 -- a mount has moved
@@ -108,13 +145,18 @@ module _ (ms : List Mount) (old new : Indexes) (r : rises id_of ms ≡ true) (x 
       ∙ ap (λ b. cond b (Some (place_of m.id p m)) (on (without_id m.id ms) q)) at
       ∙ ap (cond (place_eq q p) (Some (place_of m.id p m))) (found_without (is_at q) ms r (single.places q) m.id m there)
 
+  none_at : (b : Bool) (o : Option Place) → o ≡ None → cond b None o ≡ None
+  none_at true o e = refl
+  none_at false o e = e
+
   pub indexed_moved : (m : Mount) (p : Place) → IsSingle ms → mount_at ms m.id ≡ Some m → on ms p ≡ None
       → ((q : Place) → get place_eq new.places q ≡ cond (place_eq q p) (Some m.id) (cond (is_at q m) None (get place_eq old.places q)))
       → new.children.rows ≡ with_number m.id (Some p.mount) old.children.rows
       → new.spaces.rows ≡ old.spaces.rows
       → new.roots.rows ≡ without_row m.id old.roots.rows
+      → (gone_from m (over ms) p ≡ None → ((q : Place) → over ms q ≡ Some (root_place m) → is_at q m ≡ true) → IsStacked (over ms) old.stacks → IsStacked (linked p (root_place m) (gone_from m (over ms))) new.stacks)
       → IsIndexed (with_place m.id p ms) new
-  indexed_moved m p single there free at ch sp ro = record {
+  indexed_moved m p single there free at ch sp ro st = record {
     places = λ q.
         at q ∙ ap (λ o. cond (place_eq q p) (Some m.id) (cond (is_at q m) None o)) (x.places q)
         ∙ ap (cond (place_eq q p) (Some m.id)) (none_cond (is_at q m) (on ms q))
@@ -129,16 +171,23 @@ module _ (ms : List Mount) (old new : Indexes) (r : rises id_of ms ≡ true) (x 
         ro ∙ ap (without_row m.id) x.roots
         ∙ ap (λ o. with_number m.id o (rows_by id_of rooted_in ms)) (ap (λ o. cond (is_none o) (Some m.space) None) (sym (moved_place m.id p m refl)))
         ∙ sym (change-by id_of rooted_in m.id (place_of m.id p) m ms (λ y. refl) (λ y ne. ap (λ o. cond (is_none o) (Some y.space) None) (stays_place m.id p y ne)) r there);
+    stacked =
+        stacked_same new.stacks (linked p (root_place m) (gone_from m (over ms))) (over (with_place m.id p ms))
+        (λ q. ap (cond (place_eq q p) (Some (root_place m))) (no_root_cond (is_at q m) (on ms q))
+        ∙ root_cond (place_eq q p) (place_of m.id p m) (cond (is_at q m) None (on ms q))
+        ∙ ap (option_map root_place) (sym (moved_places m p single there free q)))
+        (st (none_at (is_at p m) (over ms p) (ap (option_map root_place) free)) (stands_once ms r m there) x.stacked);
   }
 
 -- the same entries and rows
 pub indexed_same : (ms : List Mount) (old new : Indexes) → new.places.entries ≡ old.places.entries → new.children.rows ≡ old.children.rows
-    → new.spaces.rows ≡ old.spaces.rows → new.roots.rows ≡ old.roots.rows → IsIndexed ms old → IsIndexed ms new
-indexed_same ms old new at ch sp ro x = record {
+    → new.spaces.rows ≡ old.spaces.rows → new.roots.rows ≡ old.roots.rows → (IsStacked (over ms) old.stacks → IsStacked (over ms) new.stacks) → IsIndexed ms old → IsIndexed ms new
+indexed_same ms old new at ch sp ro st x = record {
   places = λ p. ap (lookup (place_eq p)) at ∙ x.places p;
   children = ch ∙ x.children;
   spaces = sp ∙ x.spaces;
   roots = ro ∙ x.roots;
+  stacked = st x.stacked;
 }
 
 -- other attributes
@@ -148,8 +197,16 @@ indexed_attrs ms x i a h = record {
   children = h.children ∙ sym (same-by id_of parent_of (attrs_of i a) ms (λ y. refl) (λ y. refl));
   spaces = h.spaces ∙ sym (same-by id_of space_of (attrs_of i a) ms (λ y. refl) (λ y. refl));
   roots = h.roots ∙ sym (same-by id_of rooted_in (attrs_of i a) ms (λ y. refl) (λ y. refl));
+  stacked =
+      stacked_same x.stacks (over ms) (over (with_attrs i a ms))
+      (λ q. sym (ap (option_map root_place) (found_map (is_at q) (attrs_of i a) (λ m. refl) ms) ∙ same_root (on ms q)))
+      h.stacked;
 }
   where
+    same_root : (o : Option Mount) → option_map root_place (option_map (attrs_of i a) o) ≡ option_map root_place o
+    same_root None = refl
+    same_root (Some m) = refl
+
     same : (o : Option Mount) → option_map id_of (option_map (attrs_of i a) o) ≡ option_map id_of o
     same None = refl
     same (Some m) = refl

@@ -4,6 +4,7 @@ pub mod ForestLaws
 pub mod ChangeLaws
 pub mod SinceLaws
 pub mod PlaceLaws
+pub mod StackLaws
 pub mod IndexLaws
 pub mod AnswerLaws
 pub mod KeptLaws

@@ -18,6 +18,12 @@ use Rattle.mt_mounts.proofs.ChangeLaws.{place_of, place_other}
 pub turned_place : (p q : Place) → place_eq p q ≡ place_eq q p
 turned_place p q = grind (arith, nat_tests)
 
+pub same_place : (p q : Place) → place_eq p q ≡ true → p ≡ q
+same_place p q h =
+    let a : p.mount ≡ q.mount = grind (arith, nat_tests) in
+    let b : p.dir ≡ q.dir = grind (arith, nat_tests) in
+    λ i. record { mount = a i; dir = b i }
+
 -- a mount that passes, where at most one does, is the one that is found
 module _ (t : Mount → Bool) (ms : List Mount) (r : rises id_of ms ≡ true) (one : AtMostOne t ms) where
   found_one : (i : ℕ) (m : Mount) → row_at id_of i ms ≡ Some m → t m ≡ true → find t ms ≡ Some m

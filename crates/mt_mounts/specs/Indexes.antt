@@ -9,8 +9,9 @@ use Rattle.mt_lists.specs.Log.{AreAlikeBut}
 use Rattle.mt_mounts.specs.declared.mount.Place.{Place}
 use Rattle.mt_mounts.specs.declared.mount.Mount.{Mount}
 use Rattle.mt_mounts.specs.declared.indexes.Indexes.{Indexes}
-use Rattle.mt_mounts.specs.Forest.{id_of, mount_at, on, place_eq}
+use Rattle.mt_mounts.specs.Forest.{id_of, mount_at, on, place_eq, root_place}
 use Rattle.mt_mounts.specs.Tree.{IsSingle}
+use Rattle.mt_mounts.specs.Stacks.{IsStacked, stack_room}
 
 -- The mount that a mount stands on.
 abbrev pub parent_of : Mount → Option ℕ
@@ -24,16 +25,21 @@ space_of m = Some m.space
 abbrev pub rooted_in : Mount → Option ℕ
 rooted_in m = cond (is_none m.place) (Some m.space) None
 
+-- The root of the mount that stands at a place: one step along a stack.
+abbrev pub over : List Mount → Place → Option Place
+over ms q = option_map root_place (on ms q)
+
 -- Each index answers as a search of all mounts does.
 pub record IsIndexed (ms : List Mount) (x : Indexes) : Type 0 where
   pub places : (p : Place) → get place_eq x.places p ≡ option_map id_of (on ms p)
   pub children : x.children.rows ≡ rows_by id_of parent_of ms
   pub spaces : x.spaces.rows ≡ rows_by id_of space_of ms
   pub roots : x.roots.rows ≡ rows_by id_of rooted_in ms
+  pub stacked : IsStacked (over ms) x.stacks
 
 -- How many mounts each of the indexes has room for.
 abbrev pub room_of : Indexes → ℕ
-room_of x = min (spare x.places) (min x.children.room (min x.spaces.room x.roots.room))
+room_of x = min (spare x.places) (min x.children.room (min x.spaces.room (min x.roots.room (stack_room x.stacks))))
 
 -- The mounts of a forest rise by their IDs, no two stand at one place and no two are roots of one namespace, the
 -- indexes answer of them, and each mount that is not as it was is noted.

@@ -5,4 +5,5 @@ pub mod Tree
 pub mod ForestView
 pub mod TableView
 pub mod Slots
+pub mod Stacks
 pub mod Indexes

@@ -1,13 +1,16 @@
 //! The mounts of all namespaces.
-ghost use Rattle.std.specs.Prelude.{◌≡◌, ◌+◌, ◌<◌, ◌≤◌, [], map, length, None, IsTrue, OnOk, IfOk, IsOkUnless};
+ghost use Rattle.std.specs.Prelude.{◌≡◌, ℕ, ◌+◌, ◌<◌, ◌≤◌, [], map, Some, length, None, IsTrue, OnOk, IfOk, IsOkUnless};
 ghost use Rattle.std.specs.Option.{ForSome, option_map};
+ghost use Rattle.mt_skel.specs.Chain.{follow};
 ghost use Rattle.mt_skel.specs.Keyed.{put, rises};
 ghost use Rattle.mt_lists.specs.Log.{AreAlikeBut};
 ghost use Rattle.mt_mounts.specs.Forest.{id_of, mount_at, on, root_mount, roots, parent, top, children, mounts_in};
+ghost use Rattle.mt_mounts.specs.Indexes.{over};
 ghost use Rattle.mt_mounts.specs.ForestView.{with_attrs, with_place, without_id};
 
 use crate::indexes::Indexes;
 use crate::mount::{Attrs, Mount, MountId, Place, SpaceId};
+use crate::stacks::{Reach, root_of};
 use crate::table::Table;
 use mt_lists::earlier::Earlier;
 use mt_lists::log::Log;
@@ -23,8 +26,11 @@ use std::marker::Model;
 /// Beside the table of mounts it keeps which mount stands at each place, and lists, by rising ID, of
 /// the children of each mount, of the mounts of each namespace, and of the root mounts, by which it
 /// finds the root mount of a namespace. So a call that names a mount, a place or a namespace
-/// takes the time of a few look-ups in hash tables, `top` that of one for each mount of the stack,
+/// takes the time of a few look-ups in hash tables,
 /// and a list of mounts that of its own length, and of a sort where it is a list of all or a subtree.
+/// It also keeps where each stack ends that grew and shrank at its end alone, so that `top` takes
+/// a few look-ups too. A stack that was cut in the middle is walked from the first mount to the last where it
+/// is not known, and one that was put together of several is gone along from one of them to the next.
 /// A mount that moves is put among the children of its new parent from the end of their list, past
 /// those with higher IDs. No change takes memory but `reserve`.
 ///
@@ -162,7 +168,8 @@ impl Forest {
         ensures since { self.new.since ≡ self.old.since }
         ensures room { self.old.room ≤ self.new.room + 1 }
     {
-        self.indexes.insert(mount);
+        let on_root = self.table.is_root(mount.place);
+        self.indexes.insert(mount, on_root);
         self.table.insert(mount);
         self.log.add(mount.id);
     }
@@ -206,7 +213,8 @@ impl Forest {
         ensures room { self.old.room ≤ self.new.room + 1 }
     {
         if let Some(mount) = self.table.get(id) {
-            self.indexes.set_place(mount, place);
+            let on_root = self.table.is_root(Some(place));
+            self.indexes.set_place(mount, place, on_root);
             self.table.set_place(id, place);
             self.log.add(mount.id);
         }
@@ -264,16 +272,27 @@ impl Forest {
         ensures { result ≡ top self.now.mounts place }
     {
         let mut here = place;
-        'stack: for _step in 0..self.len() {
+        let mut left = self.len();
+        'stack: while 0 < left {
             let Some(mount) = self.standing_at(here) else {
                 return here;
             };
-            here = Place {
-                mount: mount.id,
-                dir: mount.root,
-            };
+            let reach = self.along(here, mount, left);
+            here = reach.place;
+            left -= reach.steps;
         }
         here
+    }
+
+    /// The place that is known to be farthest along the stack from a place, where this mount stands, and how many
+    /// steps lead there: so many at most.
+    fn along(&self, place: Place, mount: Mount, most: usize) -> Reach
+        requires some { 0 < most }
+        requires stands { on self.now.mounts place ≡ Some mount }
+        ensures steps { (0 < result.steps) × (result.steps ≤ most) }
+        ensures follows { (n m : ℕ) → m ≡ result.steps + n → follow (over self.now.mounts) m place ≡ follow (over self.now.mounts) n result.place }
+    {
+        self.indexes.stacks.along(place, root_of(mount), most)
     }
 
     /// The IDs of all mounts, rising. Refused as `NoMemory` alone.

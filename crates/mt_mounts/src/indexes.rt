@@ -1,4 +1,4 @@
-//! What a forest looks up beside the ID of a mount: by place, by parent and by namespace.
+//! What a forest looks up beside the ID of a mount: by place, by parent and by namespace, and where stacks lead.
 ghost use Rattle.std.specs.Prelude.{◌≡◌, ◌+◌, ◌<◌, ◌≤◌, List, [], Some, None, IsTrue, OnOk, IfOk, IsOkUnless, cond};
 ghost use Rattle.std.specs.Option.{ForSome};
 ghost use Rattle.indexmap.specs.IndexMap.{get, spare};
@@ -11,13 +11,14 @@ ghost use Rattle.mt_mounts.specs.ForestView.{with_place, without_id};
 ghost use Rattle.mt_mounts.specs.Indexes.{parent_of, rooted_in, IsIndexed, room_of};
 
 use crate::mount::{Mount, MountId, Place, SpaceId};
+use crate::stacks::Stacks;
 use indexmap::IndexMap;
 use mt_lists::lists::Lists;
 use mt_skel::fault::Fault;
 use std::alloc::Global;
 
 /// Which mount stands at a place, and the lists of the mounts of a parent, of the mounts of a
-/// namespace and of its root mount.
+/// namespace and of its root mount, and where stacks of mounts lead.
 ///
 /// It holds IDs alone: a change of a forest is told to it with the mount as it was before.
 pub(crate) struct Indexes {
@@ -25,6 +26,7 @@ pub(crate) struct Indexes {
     pub(crate) children: Lists,
     pub(crate) spaces: Lists,
     pub(crate) roots: Lists,
+    pub(crate) stacks: Stacks,
 }
 
 // Written out, so that a forest lets its indexes go as one thing.
@@ -35,6 +37,7 @@ impl Drop for Indexes {
             children: _children,
             spaces: _spaces,
             roots: _roots,
+            stacks: _stacks,
         } = self;
     }
 }
@@ -106,6 +109,7 @@ impl Indexes {
             children: Lists::new(alloc),
             spaces: Lists::new(alloc),
             roots: Lists::new(alloc),
+            stacks: Stacks::new(alloc),
         }
     }
 
@@ -119,6 +123,7 @@ impl Indexes {
             children: self.children.copy()?,
             spaces: self.spaces.copy()?,
             roots: self.roots.copy()?,
+            stacks: self.stacks.copy()?,
         })
     }
 
@@ -133,6 +138,7 @@ impl Indexes {
         self.children.reserve(additional)?;
         self.spaces.reserve(additional)?;
         self.roots.reserve(additional)?;
+        self.stacks.reserve(additional)?;
         Ok(())
     }
 
@@ -143,8 +149,8 @@ impl Indexes {
         standing(&self.places, place)
     }
 
-    /// A mount with a new ID has come, for which there is room.
-    pub(crate) fn insert(&mut self, mount: Mount)
+    /// A mount with a new ID has come, for which there is room, to the root of another or not.
+    pub(crate) fn insert(&mut self, mount: Mount, on_root: bool)
         requires room { 0 < room_of self.old }
         ensures indexed { (ms : List Mount) → IsTrue (rises id_of ms) → IsSingle ms → mount_at ms mount.id ≡ None → ForSome mount.place (λ p. on ms p ≡ None) → IsIndexed ms self.old → IsIndexed (put id_of mount ms) self.new }
         ensures room { room_of self.old ≤ room_of self.new + 1 }
@@ -153,6 +159,7 @@ impl Indexes {
         self.children.set(mount.id, parent_of(mount));
         self.spaces.set(mount.id, Some(mount.space));
         self.roots.set(mount.id, rooted_in(mount));
+        self.stacks.enter(mount, on_root);
     }
 
     /// A mount has gone.
@@ -164,10 +171,11 @@ impl Indexes {
         self.children.remove(mount.id);
         self.spaces.remove(mount.id);
         self.roots.remove(mount.id);
+        self.stacks.leave(mount);
     }
 
-    /// A mount has gone to a place that was free. There is room as for one more mount.
-    pub(crate) fn set_place(&mut self, mount: Mount, place: Place)
+    /// A mount has gone to a place that was free, the root of another or not. There is room as for one more mount.
+    pub(crate) fn set_place(&mut self, mount: Mount, place: Place, on_root: bool)
         requires room { 0 < room_of self.old }
         ensures indexed { (ms : List Mount) → IsTrue (rises id_of ms) → IsSingle ms → mount_at ms mount.id ≡ Some mount → on ms place ≡ None → IsIndexed ms self.old → IsIndexed (with_place mount.id place ms) self.new }
         ensures room { room_of self.old ≤ room_of self.new + 1 }
@@ -176,5 +184,6 @@ impl Indexes {
         stand(&mut self.places, place, mount.id);
         self.children.set(mount.id, Some(place.mount));
         self.roots.remove(mount.id);
+        self.stacks.go(mount, place, on_root);
     }
 }

@@ -4,13 +4,14 @@
 //! by namespace, and answers in the order of rising IDs.
 //! It knows no propagation and no limit: the callers above it decide what is mounted where.
 //!
-//! [`mount`] has what one mount is, and [`forest`] all of them, over [`table`] and [`indexes`]. [`walk`] goes along
+//! [`mount`] has what one mount is, and [`forest`] all of them, over [`table`], [`indexes`] and [`stacks`]. [`walk`] goes along
 //! a path, and [`subtree`] from a mount down to all that stand on it.
 #![tactic(auto)]
 
 pub mod forest;
 mod indexes;
 pub mod mount;
+mod stacks;
 pub mod subtree;
 mod table;
 pub mod walk;

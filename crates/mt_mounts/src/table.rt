@@ -110,6 +110,17 @@ impl Table {
         Some(*mount)
     }
 
+    /// Whether a place is the root of a mount.
+    pub(crate) fn is_root(&self, place: Option<Place>) -> bool {
+        let Some(place) = place else {
+            return false;
+        };
+        let Some(mount) = self.get(place.mount) else {
+            return false;
+        };
+        mount.root == place.dir
+    }
+
     /// Adds the mount with this ID, if it is there, to a list of mounts. Refused as `NoMemory` alone.
     fn list(&self, id: MountId, mounts: &mut Vec<Mount>) -> Result<(), Fault>
         ensures listed { OnOk result (mounts.new.items ≡ mounts.old.items ++ mounts_of self.now.mounts (id ∷ [])) }

@@ -1,5 +1,6 @@
 use Rattle.std.proofs.Common.{ap, ◌∙◌}
 use Rattle.mt_lists.specs.Lists.{with_number}
+use Rattle.mt_mounts.specs.Indexes.{over}
 use Rattle.mt_mounts.proofs.IndexLaws.{indexed_put}
 use Rattle.mt_mounts.proofs.indexes.Indexes.insert.Goals as goal
 
@@ -9,3 +10,4 @@ returns-clause-indexed c =
     (c.set.ensures.rows ∙ ap (λ o. with_number c.args.mount.id o c.args.self.now.children.rows) c.parent_of.ensures)
     c.set-2.ensures.rows
     (c.set-3.ensures.rows ∙ ap (λ o. with_number c.args.mount.id o c.args.self.now.roots.rows) c.rooted_in.ensures)
+    (c.enter-2.ensures.stacked (over ms))

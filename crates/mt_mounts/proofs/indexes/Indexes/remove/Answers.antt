@@ -1,3 +1,4 @@
+use Rattle.mt_mounts.specs.Indexes.{over}
 use Rattle.mt_mounts.proofs.IndexLaws.{indexed_without}
 use Rattle.mt_mounts.proofs.indexes.Indexes.remove.Goals as goal
 
@@ -5,3 +6,4 @@ pub returns-clause-indexed : goal.returns-clause-indexed
 returns-clause-indexed c =
     λ ms r single there x. indexed_without ms c.args.self.now _ r x c.args.mount single there c.leave.ensures.places
     c.remove.ensures.rows c.remove-2.ensures.rows c.remove-3.ensures.rows
+    (c.leave-2.ensures.stacked (over ms))
