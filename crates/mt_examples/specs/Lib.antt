@@ -13,6 +13,8 @@ pub mod UnbindableIsPruned
 pub mod TreeBoundIntoItself
 pub mod RefusalsOfMove
 pub mod UnmountSparesBusyCopies
+pub mod DetachTakesTheTree
+pub mod AnotherRootMount
 pub mod OccupiedPlace
 pub mod MountOnItsOwnCopy
 pub mod Attributes
