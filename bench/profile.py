@@ -1,14 +1,14 @@
 #!/usr/bin/env python3
-"""Counts instructions of `mountd -` in worlds of growing size: those of the engine, and those of the tables of all
-namespaces, which are compared after each command. A program that is called by hand.
+"""Counts instructions of `mountd -` in worlds of growing size: those of the engine, those by which the spare world
+follows the one that is shown, and those of the rows that were touched, which are compared after each command. A program
+that is called by hand.
 
 Usage: bench/profile.py [--program PATH] [--only WORD] [--times N]
 
 The program is crates/mountd/out/mountd, which `rt run mountd` builds; valgrind counts, and has to be there. A world is
 made without counting, and so are its commands twice; then they are counted, N times (4) in all. A bound tree and a
 copied namespace stay, so that the world grows by its own size each time. The growth is the slope of log(instructions)
-over log(size): 0 does not grow, 1 grows with the size. Each command is done twice, on the world that is shown and on
-the one beside it, and both are counted.
+over log(size): 0 does not grow, 1 grows with the size.
 """
 import argparse
 import math
@@ -20,7 +20,12 @@ import tempfile
 HERE = os.path.dirname(os.path.dirname(os.path.abspath(__file__)))
 
 # What is counted, with all that it calls.
-PARTS = {"engine": "mt_book::spare::try_on", "tables": "mt_book::changes::changes_after", "in all": "PROGRAM TOTALS"}
+PARTS = {
+    "engine": "mt_book::step::step",
+    "following": "mt_book::spare::level",
+    "tables": "mt_book::changes::changes_after",
+    "in all": "PROGRAM TOTALS",
+}
 
 
 def start():

@@ -6,6 +6,7 @@ use Rattle.std.proofs.lemmas.Bool.{lt-leb}
 use Rattle.mt_skel.specs.declared.fault.Fault.TheVariants.{JournalFull}
 use Rattle.mt_propagate.specs.World.{WorldView, world_view, empty_world}
 use Rattle.mt_propagate.specs.WellFormed.{IsWellFormed}
+use Rattle.mt_propagate.specs.Touched.{SinceView, since_of, since_view}
 use Rattle.mt_events.specs.Posts.{IsPost, PostView}
 use Rattle.mt_book.specs.declared.command.Command.{Command}
 use Rattle.mt_book.specs.declared.command.Reply.{Reply}
@@ -43,9 +44,9 @@ behind_small cs w h few =
     let shorter : length h.before ≤ 1048576 = omega (arith, few, ap (λ (l : List Command). length l) h.all, length-append h.before (h.last ∷ [])) in
     subst IsSmall (sym h.world) (reached_small (after h.before) (length h.before) shorter (reached h.before))
 
-pub book_new : IsBook empty_world Gone [] []
+pub book_new : (noted : SinceView) → IsBook empty_world noted Gone [] []
 unfolding after space_numbers
-book_new = record {
+book_new noted = record {
   world = refl;
   lags = tt;
   counts = refl;
@@ -55,8 +56,8 @@ book_new = record {
 }
 
 -- another spare world
-pub book_spare : (w : WorldView) (spare other : Spare) (ks : List (ℕ × ℕ)) (cs : List Command) → IsBook w spare ks cs → IsSpare cs other → IsBook w other ks cs
-book_spare w spare other ks cs h s = record {
+pub book_spare : (w : WorldView) (noted : SinceView) (spare other : Spare) (ks : List (ℕ × ℕ)) (cs : List Command) → IsBook w noted spare ks cs → IsSpare cs noted other → IsBook w noted other ks cs
+book_spare w noted spare other ks cs h s = record {
   world = h.world;
   lags = s;
   counts = h.counts;
@@ -66,26 +67,26 @@ book_spare w spare other ks cs h s = record {
 }
 
 -- the world that was shown, where it is kept
-lags : (cs : List Command) (old : Shown) → IsBehind cs (world_view (shown_world old)) → IsSpare cs (lagging_of old)
-lags cs (First w) h = tt
-lags cs (Later w) h = h
+lags : (cs : List Command) (noted : SinceView) (old : Shown) → IsBehind cs (world_view (shown_world old)) → noted ≡ since_of (world_view (shown_world old)) → IsSpare cs noted (lagging_of old)
+lags cs noted (First w) h e = tt
+lags cs noted (Later w) h e = (h, e)
 
 -- a command more: the world that was shown is behind
-pub book_committed : (old : Shown) (spare : Spare) (ks : List (ℕ × ℕ)) (cs : List Command) (p : Prepared) → IsBook (world_view (shown_world old)) spare ks cs → IsPrepared cs p
-    → IsBook (world_view p.world.value) (lagging_of old) p.numbers.items (cs ++ p.command ∷ [])
+pub book_committed : (old : Shown) (spare : Spare) (ks : List (ℕ × ℕ)) (cs : List Command) (p : Prepared) → IsBook (world_view (shown_world old)) (since_view (shown_world old)) spare ks cs → IsPrepared cs p
+    → IsBook (world_view p.world.value) (since_view p.world.value) (lagging_of old) p.numbers.items (cs ++ p.command ∷ [])
 book_committed old spare ks cs p h q =
     let v = world_view p.world.value in
     let e = after-accepted cs p.command v p.reply q.accepted in
     record {
       world = sym e;
-      lags = lags (cs ++ p.command ∷ []) old (record {
+      lags = lags (cs ++ p.command ∷ []) (since_view p.world.value) old (record {
         before = cs;
         last = p.command;
         reply = p.reply;
         all = refl;
         world = h.world;
         accepted = ap (λ (x : WorldView). step x p.command) h.world ∙ q.accepted ∙ ap (λ (x : WorldView). Ok (x, p.reply)) (sym e);
-      });
+      }) (q.since ∙ ap since_of (sym h.world));
       counts = q.numbers;
       accepted = accepts-next cs p.command v p.reply h.accepted q.accepted;
       few = omega (arith, q.few, length-append cs (p.command ∷ []));
@@ -94,28 +95,28 @@ book_committed old spare ks cs p h q =
 
 -- the same, where the book has taken what was prepared
 pub book_taken : (old lagging new : Shown) (spare lags : Spare) (ks : List (ℕ × ℕ)) (cs js : List Command) (p : Prepared) → lagging ≡ old → new ≡ Later p.world → lags ≡ lagging_of lagging
-    → js ≡ cs ++ p.command ∷ [] → IsBook (world_view (shown_world old)) spare ks cs → IsPrepared cs p → IsBook (world_view (shown_world new)) lags p.numbers.items js
+    → js ≡ cs ++ p.command ∷ [] → IsBook (world_view (shown_world old)) (since_view (shown_world old)) spare ks cs → IsPrepared cs p → IsBook (world_view (shown_world new)) (since_view (shown_world new)) lags p.numbers.items js
 book_taken old lagging new spare lags ks cs js p s n l j h q =
-    subst (λ (x : Shown). IsBook (world_view (shown_world x)) lags p.numbers.items js) (sym n)
-    (subst (λ (x : Spare). IsBook (world_view p.world.value) x p.numbers.items js) (sym l)
-    (subst (λ (x : List Command). IsBook (world_view p.world.value) (lagging_of lagging) p.numbers.items x) (sym j)
-    (book_committed lagging spare ks cs p (subst (λ (x : Shown). IsBook (world_view (shown_world x)) spare ks cs) (sym s) h) q)))
+    subst (λ (x : Shown). IsBook (world_view (shown_world x)) (since_view (shown_world x)) lags p.numbers.items js) (sym n)
+    (subst (λ (x : Spare). IsBook (world_view p.world.value) (since_view p.world.value) x p.numbers.items js) (sym l)
+    (subst (λ (x : List Command). IsBook (world_view p.world.value) (since_view p.world.value) (lagging_of lagging) p.numbers.items x) (sym j)
+    (book_committed lagging spare ks cs p (subst (λ (x : Shown). IsBook (world_view (shown_world x)) (since_view (shown_world x)) spare ks cs) (sym s) h) q)))
 
 -- the world after a command is well-formed
 pub accepted_kept : (cs : List Command) (world v : WorldView) (c : Command) (r : Reply) → world ≡ after cs → step world c ≡ Ok (v, r) → IsWellFormed v
 accepted_kept cs world v c r w e =
     subst IsWellFormed (after-accepted cs c v r (ap (λ (x : WorldView). step x c) (sym w) ∙ e)) (reached (cs ++ c ∷ [])).well_formed
 
-pub book_numbers : (w : WorldView) (spare : Spare) (ks : List (ℕ × ℕ)) (cs : List Command) (more : Bool) → IsBook w spare ks cs → AreNumbers (with_newborn ks w.next_space more)
-book_numbers w spare ks cs more h =
+pub book_numbers : (w : WorldView) (noted : SinceView) (spare : Spare) (ks : List (ℕ × ℕ)) (cs : List Command) (more : Bool) → IsBook w noted spare ks cs → AreNumbers (with_newborn ks w.next_space more)
+book_numbers w noted spare ks cs more h =
     subst (λ (x : WorldView). AreNumbers (with_newborn ks x.next_space more)) (sym h.world)
     (subst (λ (l : List (ℕ × ℕ)). AreNumbers (with_newborn l (after cs).next_space more)) (sym h.counts) (numbers-are cs more h.few))
 
 -- a command that was done on an equal world is prepared for the book
-pub prepared_for : (shown world : WorldView) (spare : Spare) (ks : List (ℕ × ℕ)) (cs : List Command) (c : Command) (p : Prepared) → IsBook shown spare ks cs → length cs < command_limit → world ≡ after cs
+pub prepared_for : (shown world : WorldView) (noted : SinceView) (spare : Spare) (ks : List (ℕ × ℕ)) (cs : List Command) (c : Command) (p : Prepared) → IsBook shown noted spare ks cs → length cs < command_limit → world ≡ after cs
     → step world c ≡ Ok (world_view p.world.value, p.reply) → p.command ≡ c → p.numbers.items ≡ still_there (world_view p.world.value) (counted shown (world_view p.world.value) (with_newborn ks shown.next_space (makes_space c)))
-    → p.posts ≡ cond p.heard (posted shown (world_view p.world.value) (with_newborn ks shown.next_space (makes_space c))) [] → IsCommand c → IsPrepared cs p
-prepared_for shown world spare ks cs c p h few w e same numbers posts texts =
+    → p.posts ≡ cond p.heard (posted shown (world_view p.world.value) (with_newborn ks shown.next_space (makes_space c))) [] → IsCommand c → since_view p.world.value ≡ since_of world → IsPrepared cs p
+prepared_for shown world noted spare ks cs c p h few w e same numbers posts texts since =
     let v = world_view p.world.value in
     let done = ap (λ (x : WorldView). step x c) (sym w) ∙ e in
     record {
@@ -134,6 +135,7 @@ prepared_for shown world spare ks cs c p h few w e same numbers posts texts =
           ∙ posts-next cs c v p.reply done
           ∙ ap (posts_of cs) (sym same));
       texts = subst IsCommand (sym same) texts;
+      since = since ∙ ap since_of w;
     }
 
 -- what was prepared has posts as their type says

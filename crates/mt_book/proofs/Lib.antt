@@ -19,6 +19,7 @@ pub mod NumberLaws
 pub mod BookLaws
 pub mod ReadingLaws
 pub mod TouchedLaws
+mod SpareLaws
 pub mod EachLaws
 pub mod TextLaws
 pub mod RowLaws

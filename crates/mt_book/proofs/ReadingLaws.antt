@@ -10,6 +10,7 @@ use Rattle.mt_mounts.specs.Forest.{is_root, root_mount}
 use Rattle.mt_mounts.proofs.ForestLaws.{find_row, find_passes}
 use Rattle.mt_propagate.specs.World.{WorldView, is_space}
 use Rattle.mt_propagate.specs.WellFormed.{IsWellFormed}
+use Rattle.mt_propagate.specs.Touched.{SinceView}
 use Rattle.mt_propagate.proofs.WalkLaws.{root_here}
 use Rattle.mt_events.specs.Posts.{PostView}
 use Rattle.mt_book.specs.declared.command.Command.{Command}
@@ -23,8 +24,8 @@ use Rattle.mt_book.proofs.HistoryLaws.{after_good}
 use Rattle.mt_book.proofs.ThereLaws.{paired, rows-spaces, number_there, number_nowhere}
 use Rattle.mt_book.proofs.BookLaws.{IsSmall, after_small}
 
-pub book_small : (w : WorldView) (spare : Spare) (ks : List (ℕ × ℕ)) (cs : List Command) → IsBook w spare ks cs → IsSmall w
-book_small w spare ks cs h = subst IsSmall (sym h.world) (after_small cs h.few)
+pub book_small : (w : WorldView) (noted : SinceView) (spare : Spare) (ks : List (ℕ × ℕ)) (cs : List Command) → IsBook w noted spare ks cs → IsSmall w
+book_small w noted spare ks cs h = subst IsSmall (sym h.world) (after_small cs h.few)
 
 -- a namespace that is there has one of the numbers that were given out
 space_numbered : (w : WorldView) (n : ℕ) → IsWellFormed w → is_space w n ≡ true → (1 ≤ n) × (n < w.next_space)

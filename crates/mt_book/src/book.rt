@@ -52,6 +52,7 @@ pub struct Book {
 impl Model for Book {
     ghost use Rattle.std.specs.Prelude.{◌-◌, vec_capacity, vec_len};
     ghost use Rattle.mt_propagate.specs.World.{world_view};
+    ghost use Rattle.mt_propagate.specs.Touched.{since_view};
     ghost use Rattle.mt_book.specs.Book.{BookView};
     ghost use Rattle.mt_book.specs.Kept.{IsBook, shown_world};
 
@@ -59,7 +60,7 @@ impl Model for Book {
 
     ghost view = { λ b. record { journal = b.journal.items; room = vec_capacity b.journal - vec_len b.journal } };
 
-    ghost invariant = { λ b. IsBook (world_view (shown_world b.shown)) b.spare b.numbers.items b.journal.items };
+    ghost invariant = { λ b. IsBook (world_view (shown_world b.shown)) (since_view (shown_world b.shown)) b.spare b.numbers.items b.journal.items };
 }
 
 // Written out, so that whoever owns a book lets it go as one thing: with the derived one each function that lets a
@@ -183,13 +184,14 @@ impl Book {
 
     /// Shows what was prepared, and answers the command's reply and its posts, by rising namespace. Not refused,
     /// and takes no memory: what is shown was prepared for the commands that the book has now, and there is room
-    /// for one more.
+    /// for one more. What was issued in a less privileged copy stays in it, as `apply` has it (`inside`).
     pub fn commit(&mut self, prepared: Prepared) -> (Reply, SharedPosts)
         requires prepared { IsPrepared self.old.journal prepared }
         requires room { 0 < self.old.room }
         ensures journal { self.new.journal ≡ self.old.journal ++ prepared_command prepared ∷ [] }
         ensures reply { result.0 ≡ prepared_reply prepared }
         ensures posts { result.1 ≡ prepared_posts prepared }
+        ensures inside { StaysInCopy self.old.journal (prepared_command prepared) self.new.journal }
     {
         let Prepared {
             world,

@@ -17,7 +17,7 @@ use Rattle.mt_mounts.specs.declared.indexes.Indexes.{Indexes}
 use Rattle.mt_mounts.specs.Forest.{id_of, mount_at, on, is_at, place_eq, root_place}
 use Rattle.mt_mounts.specs.Tree.{IsSingle}
 use Rattle.mt_mounts.specs.ForestView.{with_attrs, with_place, without_id}
-use Rattle.mt_mounts.specs.Stacks.{IsStacked, IsBare, linked, entered, gone_from}
+use Rattle.mt_mounts.specs.Stacks.{IsStacked, IsBare, linked, come_to, gone_from}
 use Rattle.mt_mounts.specs.Indexes.{parent_of, space_of, rooted_in, over, IsIndexed}
 use Rattle.mt_mounts.proofs.SlotLaws.{none_found, row_kept}
 use Rattle.mt_mounts.proofs.ChangeLaws.{attrs_of, place_of}
@@ -81,7 +81,7 @@ module _ (ms : List Mount) (old new : Indexes) (r : rises id_of ms ≡ true) (x 
       → new.children.rows ≡ with_number m.id (parent_of m) old.children.rows
       → new.spaces.rows ≡ with_number m.id (space_of m) old.spaces.rows
       → new.roots.rows ≡ with_number m.id (rooted_in m) old.roots.rows
-      → (ForSome m.place (λ p. over ms p ≡ None) → IsBare (root_place m) (over ms) → IsStacked (over ms) old.stacks → IsStacked (entered m (over ms)) new.stacks)
+      → (ForSome m.place (λ p. over ms p ≡ None) → IsBare (root_place m) (over ms) → IsStacked (over ms) old.stacks → IsStacked (come_to m (over ms)) new.stacks)
       → IsIndexed (put id_of m ms) new
   indexed_put m absent free at ch sp ro st = record {
     places = λ p.
@@ -91,7 +91,7 @@ module _ (ms : List Mount) (old new : Indexes) (r : rises id_of ms ≡ true) (x 
     spaces = sp ∙ ap (with_number m.id (space_of m)) x.spaces ∙ sym (put-by id_of space_of m ms r);
     roots = ro ∙ ap (with_number m.id (rooted_in m)) x.roots ∙ sym (put-by id_of rooted_in m ms r);
     stacked =
-        stacked_same new.stacks (entered m (over ms)) (over (put id_of m ms))
+        stacked_same new.stacks (come_to m (over ms)) (over (put id_of m ms))
         (λ q. root_cond (is_at q m) m (on ms q) ∙ ap (option_map root_place) (sym (found_put (is_at q) m ms absent (free_place ms m q free))))
         (st (free_over ms m.place free) (bare ms r m absent) x.stacked);
   }

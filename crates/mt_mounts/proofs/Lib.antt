@@ -8,6 +8,8 @@ pub mod StackLaws
 pub mod IndexLaws
 pub mod AnswerLaws
 pub mod KeptLaws
+pub mod StepLaws
+pub mod FollowLaws
 pub mod Walks
 pub mod Ids
 pub mod CycleLaws

@@ -12,7 +12,7 @@ use Rattle.mt_mounts.specs.declared.mount.Mount.{Mount}
 use Rattle.mt_mounts.specs.declared.stacks.Reach.{Reach}
 use Rattle.mt_mounts.specs.declared.stacks.Stacks.{Stacks}
 use Rattle.mt_mounts.specs.Forest.{is_at, place_eq, root_place}
-use Rattle.mt_mounts.specs.Stacks.{reach, leads, IsStacked, IsBare, StandsOnly, IsKept, linked, unlinked, entered, gone_from}
+use Rattle.mt_mounts.specs.Stacks.{reach, leads, IsStacked, IsBare, StandsOnly, IsShortened, linked, unlinked, come_to, gone_from}
 use Rattle.mt_mounts.proofs.PlaceLaws.{same_place}
 
 place_self : (p : Place) → place_eq p p ≡ true
@@ -149,7 +149,7 @@ module _ (next : Place → Option Place) (place root : Place) (only : StandsOnly
         )) 0 i s place (omega arith) (λ l. ne) way
 
   pub stacked_unlinked : (old new : Stacks) (ends : Place → Option Reach) → IsStacked next old
-      → ((s : Place) (e : Reach) → ends s ≡ Some e → IsKept place root (get place_eq old.starts place) s (get place_eq old.ends s) e)
+      → ((s : Place) (e : Reach) → ends s ≡ Some e → IsShortened place root (get place_eq old.starts place) s (get place_eq old.ends s) e)
       → ((p : Place) → get place_eq new.ends p ≡ cond (place_eq place p) None (ends p))
       → ((p : Place) → get place_eq new.starts p ≡ cond (place_eq root p) None (get place_eq old.starts p))
       → IsStacked (unlinked place next) new
@@ -170,13 +170,13 @@ module _ (next : Place → Option Place) (place root : Place) (only : StandsOnly
 
 -- a mount that has a place, or none
 module _ (m : Mount) (next : Place → Option Place) (x : Stacks) where
-  pub enter_on : (p r : Place) → m.place ≡ Some p → r ≡ root_place m → IsStacked (linked p r next) x → IsStacked (entered m next) x
+  pub enter_on : (p r : Place) → m.place ≡ Some p → r ≡ root_place m → IsStacked (linked p r next) x → IsStacked (come_to m next) x
   enter_on p r e f h =
-      stacked_same x (linked p r next) (entered m next)
+      stacked_same x (linked p r next) (come_to m next)
       (λ q. ap (λ z. cond (place_eq q p) (Some z) (next q)) f ∙ ap (λ o. cond (option_map_or (place_eq q) o false) (Some (root_place m)) (next q)) (sym e)) h
 
-  pub enter_nowhere : m.place ≡ None → IsStacked next x → IsStacked (entered m next) x
-  enter_nowhere e h = stacked_same x next (entered m next) (λ q. ap (λ o. cond (option_map_or (place_eq q) o false) (Some (root_place m)) (next q)) (sym e)) h
+  pub enter_nowhere : m.place ≡ None → IsStacked next x → IsStacked (come_to m next) x
+  enter_nowhere e h = stacked_same x next (come_to m next) (λ q. ap (λ o. cond (option_map_or (place_eq q) o false) (Some (root_place m)) (next q)) (sym e)) h
 
   pub leave_on : (p : Place) → m.place ≡ Some p → IsStacked (unlinked p next) x → IsStacked (gone_from m next) x
   leave_on p e h = stacked_same x (unlinked p next) (gone_from m next) (λ q. ap (λ o. cond (option_map_or (place_eq q) o false) None (next q)) (sym e)) h

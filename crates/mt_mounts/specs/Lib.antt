@@ -7,3 +7,4 @@ pub mod TableView
 pub mod Slots
 pub mod Stacks
 pub mod Indexes
+pub mod Follow

@@ -30,8 +30,8 @@ abbrev pub StandsOnly : Place → Place → (Place → Option Place) → Type 0
 StandsOnly place root next = (q : Place) → next q ≡ Some root → q ≡ place
 
 -- The end e of a stack from s is one of before, and the place is not on its way, or the step from the place to the root was its last.
-abbrev pub IsKept : Place → Place → Option Reach → Place → Option Reach → Reach → Type 0
-IsKept place root start s old e =
+abbrev pub IsShortened : Place → Place → Option Reach → Place → Option Reach → Reach → Type 0
+IsShortened place root start s old e =
     (((j : ℕ) → start ≢ Some (reach s j)) × (old ≡ Some e)) ⊎ ((i : ℕ) × (start ≡ Some (reach s i)) × (old ≡ Some (reach root (suc i))) × (e ≡ reach place i) × (s ≢ place))
 
 -- The steps once a mount with this root stands at a place, and once none stands there.
@@ -42,8 +42,8 @@ abbrev pub unlinked : Place → (Place → Option Place) → Place → Option Pl
 unlinked place next q = cond (place_eq q place) None (next q)
 
 -- The steps once a mount has come to its place, if it has one, and once it has gone.
-abbrev pub entered : Mount → (Place → Option Place) → Place → Option Place
-entered m next q = cond (is_at q m) (Some (root_place m)) (next q)
+abbrev pub come_to : Mount → (Place → Option Place) → Place → Option Place
+come_to m next q = cond (is_at q m) (Some (root_place m)) (next q)
 
 abbrev pub gone_from : Mount → (Place → Option Place) → Place → Option Place
 gone_from m next q = cond (is_at q m) None (next q)

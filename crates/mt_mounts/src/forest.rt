@@ -6,17 +6,20 @@ ghost use Rattle.mt_skel.specs.Keyed.{put, rises};
 ghost use Rattle.mt_lists.specs.Log.{AreAlikeBut};
 ghost use Rattle.mt_mounts.specs.Forest.{id_of, mount_at, on, root_mount, roots, parent, top, children, mounts_in};
 ghost use Rattle.mt_mounts.specs.Indexes.{over};
+ghost use Rattle.mt_mounts.specs.Tree.{IsSingle};
 ghost use Rattle.mt_mounts.specs.ForestView.{with_attrs, with_place, without_id};
 
 use crate::indexes::Indexes;
-use crate::mount::{Attrs, Mount, MountId, Place, SpaceId};
-use crate::stacks::{Reach, root_of};
+use crate::mount::{Attrs, Mount, MountId, Place, SpaceId, root_place};
+use crate::stacks::Reach;
 use crate::table::Table;
 use mt_lists::earlier::Earlier;
 use mt_lists::log::Log;
 use mt_skel::fault::Fault;
 use std::alloc::Global;
 use std::marker::Model;
+
+mod follow;
 
 /// The mounts of all namespaces, each under its ID.
 ///
@@ -32,7 +35,7 @@ use std::marker::Model;
 /// a few look-ups too. A stack that was cut in the middle is walked from the first mount to the last where it
 /// is not known, and one that was put together of several is gone along from one of them to the next.
 /// A mount that moves is put among the children of its new parent from the end of their list, past
-/// those with higher IDs. No change takes memory but `reserve`.
+/// those with higher IDs. No change takes memory but `reserve`, which `follow` calls.
 ///
 /// It notes the ID of each mount that comes, goes or is changed, so that [`touched`](Forest::touched)
 /// names all that are not as they were at the last [`begin`](Forest::begin).
@@ -138,6 +141,14 @@ impl Forest {
         Ok(())
     }
 
+    /// What is always true of a forest, for contracts alone.
+    pub(crate) fn known(&self)
+        ensures rising { IsTrue (rises id_of self.now.mounts) }
+        ensures single { IsSingle self.now.mounts }
+    {
+        let _table: &Table = &self.table;
+    }
+
     /// The allocator of all its memory.
     pub fn allocator(&self) -> Global {
         self.table.allocator()
@@ -182,9 +193,8 @@ impl Forest {
         ensures since { self.new.since ≡ self.old.since }
         ensures room { self.old.room ≤ self.new.room + 1 }
     {
-        if let Some(mount) = self.table.get(id) {
+        if let Some(mount) = self.table.remove(id) {
             self.indexes.remove(mount);
-            self.table.remove(id);
             self.log.add(mount.id);
         }
     }
@@ -292,7 +302,7 @@ impl Forest {
         ensures steps { (0 < result.steps) × (result.steps ≤ most) }
         ensures follows { (n m : ℕ) → m ≡ result.steps + n → follow (over self.now.mounts) m place ≡ follow (over self.now.mounts) n result.place }
     {
-        self.indexes.stacks.along(place, root_of(mount), most)
+        self.indexes.stacks.along(place, root_place(&mount), most)
     }
 
     /// The IDs of all mounts, rising. Refused as `NoMemory` alone.

@@ -1,6 +1,7 @@
 //! What one mount is: its ID, its namespace, the place that it is mounted on and its attributes.
 ghost use Rattle.std.specs.Prelude.{◌≡◌};
 ghost use Rattle.mt_mounts.specs.Attrs.{new_attrs};
+ghost use Rattle.mt_mounts.specs.Forest.{root_place};
 
 use mt_skel::skel::Dir;
 
@@ -79,4 +80,14 @@ pub struct Mount {
     pub root: Dir,
     /// Its attributes.
     pub attrs: Attrs,
+}
+
+/// The place at the root of a mount, where the next mount of a stack stands.
+pub fn root_place(mount: &Mount) -> Place
+    ensures { result ≡ root_place mount.now }
+{
+    Place {
+        mount: mount.id,
+        dir: mount.root,
+    }
 }

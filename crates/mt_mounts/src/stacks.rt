@@ -7,9 +7,9 @@ ghost use Rattle.mt_mounts.specs.declared.mount.Place.{Place};
 ghost use Rattle.mt_mounts.specs.declared.stacks.Reach.{Reach};
 ghost use Rattle.mt_mounts.specs.Forest.{is_at, place_eq, root_place};
 ghost use Rattle.mt_mounts.specs.declared.mount.Mount.{Mount};
-ghost use Rattle.mt_mounts.specs.Stacks.{IsStacked, leads, reach, IsBare, StandsOnly, IsKept, linked, unlinked, entered, gone_from, stack_room};
+ghost use Rattle.mt_mounts.specs.Stacks.{IsStacked, leads, reach, IsBare, StandsOnly, IsShortened, linked, unlinked, come_to, gone_from, stack_room};
 
-use crate::mount::{Mount, Place};
+use crate::mount::{Mount, Place, root_place};
 use indexmap::IndexMap;
 use mt_skel::fault::Fault;
 use std::alloc::Global;
@@ -106,7 +106,7 @@ fn rest(end: Reach, start: Reach, place: Place, root: Place) -> Option<Reach>
 /// The mount with this root has gone from a place, to which a stack goes on from this start: only where
 /// it was the last of the stack is the rest known.
 fn shorten(ends: &mut IndexMap<Place, Reach>, start: Option<Reach>, place: Place, root: Place)
-    ensures ends { (s : Place) (e : Reach) → get place_eq ends.new s ≡ Some e → IsKept place root start s (get place_eq ends.old s) e }
+    ensures ends { (s : Place) (e : Reach) → get place_eq ends.new s ≡ Some e → IsShortened place root start s (get place_eq ends.old s) e }
     ensures room { spare ends.old ≤ spare ends.new }
 {
     if let Some(start) = start {
@@ -114,16 +114,6 @@ fn shorten(ends: &mut IndexMap<Place, Reach>, start: Option<Reach>, place: Place
             let rest = rest(end, start, place, root);
             set(ends, start.place, rest);
         }
-    }
-}
-
-/// The place on the root of a mount.
-pub(crate) fn root_of(mount: Mount) -> Place
-    ensures { result ≡ root_place mount }
-{
-    Place {
-        mount: mount.id,
-        dir: mount.root,
     }
 }
 
@@ -202,6 +192,9 @@ impl Stacks {
         ensures stacked { (next : Place → Option Place) → StandsOnly place root next → IsStacked next self.old → IsStacked (unlinked place next) self.new }
         ensures room { stack_room self.old ≤ stack_room self.new }
     {
+        if self.ends.is_empty() && self.starts.is_empty() {
+            return;
+        }
         let start = reach_at(&self.starts, place);
         shorten(&mut self.ends, start, place, root);
         forget(&mut self.ends, place);
@@ -211,12 +204,12 @@ impl Stacks {
     /// A mount has come, for which there is room, to the root of another or not.
     pub(crate) fn enter(&mut self, mount: Mount, on_root: bool)
         requires room { 0 < stack_room self.old }
-        ensures stacked { (next : Place → Option Place) → ForSome mount.place (λ p. next p ≡ None) → IsBare (root_place mount) next → IsStacked next self.old → IsStacked (entered mount next) self.new }
+        ensures stacked { (next : Place → Option Place) → ForSome mount.place (λ p. next p ≡ None) → IsBare (root_place mount) next → IsStacked next self.old → IsStacked (come_to mount next) self.new }
         ensures room { stack_room self.old ≤ stack_room self.new + 1 }
     {
         if let Some(place) = mount.place {
             if on_root {
-                self.link(place, root_of(mount));
+                self.link(place, root_place(&mount));
             }
         }
     }
@@ -227,7 +220,7 @@ impl Stacks {
         ensures room { stack_room self.old ≤ stack_room self.new }
     {
         if let Some(place) = mount.place {
-            self.cut(place, root_of(mount));
+            self.cut(place, root_place(&mount));
         }
     }
 
@@ -239,7 +232,7 @@ impl Stacks {
     {
         self.leave(mount);
         if on_root {
-            self.link(place, root_of(mount));
+            self.link(place, root_place(&mount));
         }
     }
 

@@ -1,9 +1,11 @@
 //! The mounts of a forest, each found by its ID.
-ghost use Rattle.std.specs.Prelude.{◌≡◌, ◌+◌, ◌<◌, ◌≤◌, [], ◌∷◌, ◌++◌, map, length, None, OnOk, IfOk, IsOkUnless};
+ghost use Rattle.std.specs.Prelude.{◌≡◌, ◌+◌, ◌<◌, ◌≤◌, [], ◌∷◌, ◌++◌, true, cond, map, length, Some, None, OnOk, IfOk, IsOkUnless};
+ghost use Rattle.std.specs.Option.{option_map};
 ghost use Rattle.mt_skel.specs.Keyed.{put};
 ghost use Rattle.mt_mounts.specs.Forest.{id_of, mount_at};
 ghost use Rattle.mt_mounts.specs.ForestView.{with_attrs, with_place, without_id};
 ghost use Rattle.mt_mounts.specs.Slots.{mounts_of};
+ghost use Rattle.mt_mounts.specs.Follow.{given_attrs};
 
 use crate::mount::{Attrs, Mount, MountId, Place};
 use indexmap::IndexMap;
@@ -50,6 +52,27 @@ impl Drop for Table {
             alloc: _alloc,
         } = self;
     }
+}
+
+/// Whether two mounts have the same place, or both none.
+fn same_place(left: Option<Place>, right: Option<Place>) -> bool
+    ensures { result ≡ true → left ≡ right }
+{
+    match (left, right) {
+        (None, None) => true,
+        (Some(here), Some(there)) => here.mount == there.mount && here.dir == there.dir,
+        _ => false,
+    }
+}
+
+/// Whether one mount is the other, but for its attributes.
+fn stands_as(old: Mount, new: Mount) -> bool
+    ensures { result ≡ true → given_attrs new.attrs old ≡ new }
+{
+    old.id == new.id
+        && old.space == new.space
+        && old.root == new.root
+        && same_place(old.place, new.place)
 }
 
 impl Table {
@@ -155,14 +178,34 @@ impl Table {
         self.keys.insert(mount.id, key).unwrap();
     }
 
-    /// Takes the mount with this ID away, if it is there.
-    pub(crate) fn remove(&mut self, id: MountId)
+    /// Takes the mount with this ID away, if it is there, and answers it.
+    pub(crate) fn remove(&mut self, id: MountId) -> Option<Mount>
+        ensures mount { result ≡ mount_at self.old.mounts id }
         ensures mounts { self.new.mounts ≡ without_id id self.old.mounts }
         ensures room { self.old.room ≤ self.new.room }
     {
         if let Some(key) = self.keys.swap_remove(&id) {
-            self.slots.remove(key);
+            return Some(self.slots.remove(key));
         }
+        None
+    }
+
+    /// Makes the mount with the ID of this one, if it differs in attributes alone, this one, in its slot. Answers
+    /// whether it did.
+    pub(crate) fn renew(&mut self, mount: Mount) -> bool
+        ensures renewed { result ≡ true → option_map (given_attrs mount.attrs) (mount_at self.old.mounts mount.id) ≡ Some mount }
+        ensures mounts { self.new.mounts ≡ cond result (with_attrs mount.id mount.attrs self.old.mounts) self.old.mounts }
+        ensures room { self.old.room ≤ self.new.room }
+    {
+        if let Some(key) = self.keys.get(&mount.id).copied() {
+            if let Some(here) = self.slots.get_mut(key) {
+                if stands_as(*here, mount) {
+                    here.attrs = mount.attrs;
+                    return true;
+                }
+            }
+        }
+        false
     }
 
     /// Gives the mount with this ID, if it is there, these attributes.

@@ -30,3 +30,4 @@ pub mod FoundLaws
 pub mod RelistLaws
 pub mod GoingLaws
 pub mod SinceLaws
+pub mod FollowLaws

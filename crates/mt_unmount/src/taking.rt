@@ -1,7 +1,6 @@
 //! Taking mounts away, which umount and detach share: what stands on the root of one that goes slides to its place.
 ghost use Rattle.std.specs.Prelude.{◌≡◌, ◌+◌, ◌≤◌, length, IfOk, OnOk, OnErr, IsOkUnless, IsTrue};
 ghost use Rattle.std.specs.List.{filter_map};
-ghost use Rattle.mt_mounts.specs.Forest.{root_place};
 ghost use Rattle.mt_skel.specs.Keyed.{among, rises};
 ghost use Rattle.mt_peers.specs.Peers.{peering_of};
 ghost use Rattle.mt_peers.specs.WellFormed.{IsPeering};
@@ -13,7 +12,7 @@ ghost use Rattle.mt_unmount.specs.Sliding.{place_of, slide, slid, CanGo, once_go
 ghost use Rattle.mt_unmount.specs.Taking.{relocation_past, resettled};
 
 use crate::gone::Gone;
-use mt_mounts::mount::{Mount, MountId, Place};
+use mt_mounts::mount::{MountId, Place, root_place};
 use mt_propagate::carry::{move_all, remove_all};
 use mt_propagate::world::World;
 use mt_skel::fault::Fault;
@@ -23,16 +22,6 @@ pub(crate) fn place_of(world: &World, id: MountId) -> Option<Place>
     ensures { result ≡ place_of (world_view world.now) id }
 {
     world.forest.get(id)?.place
-}
-
-/// The place at the root of a mount.
-pub(crate) fn root_place(mount: &Mount) -> Place
-    ensures { result ≡ root_place mount.now }
-{
-    Place {
-        mount: mount.id,
-        dir: mount.root,
-    }
 }
 
 /// Where a place on a mount that goes leads: to that mount's place.

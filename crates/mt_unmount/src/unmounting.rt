@@ -9,8 +9,8 @@ ghost use Rattle.mt_unmount.specs.Unmounting.{may_go, going_at, removed, is_remo
 ghost use Rattle.mt_unmount.specs.Taking.{AreGone};
 
 use crate::gone::Gone;
-use crate::taking::{place_of, root_place, take_away};
-use mt_mounts::mount::{Mount, MountId, Place, SpaceId};
+use crate::taking::{place_of, take_away};
+use mt_mounts::mount::{Mount, MountId, Place, SpaceId, root_place};
 use mt_propagate::named::{is_mount_root, is_root_mount};
 use mt_propagate::receivers::receivers;
 use mt_propagate::world::World;

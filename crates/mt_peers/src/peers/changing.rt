@@ -1,18 +1,23 @@
-//! What many mounts change at once: groups that are made and left, and masters that are settled.
-ghost use Rattle.std.specs.Prelude.{◌≡◌, ◌+◌, ◌<◌, ◌≤◌, ◌^◌, length, nat_eq, IsTrue};
+//! What many mounts change at once: groups that are made and left, masters that are settled, and states that are taken
+//! over from other peers.
+ghost use Rattle.std.specs.Prelude.{◌≡◌, ◌+◌, ◌<◌, ◌≤◌, ◌^◌, length, nat_eq, IsTrue, OnOk, IsOkUnless};
 ghost use Rattle.mt_skel.specs.Keyed.{among, without};
-ghost use Rattle.mt_peers.specs.Peers.{peering_of};
+ghost use Rattle.mt_lists.specs.Log.{AreAlikeBut};
+ghost use Rattle.mt_peers.specs.Peers.{peering_of, state_at};
 ghost use Rattle.mt_peers.specs.Loss.{left};
 ghost use Rattle.mt_peers.specs.Making.{made, is_shared};
 ghost use Rattle.mt_peers.specs.WellFormed.{IsPeering};
 
 use crate::chosen::Chosen;
+use crate::following::{follow_entries, follow_lists};
 use crate::leaving::{drop_all, may_all_go, take_out};
 use crate::noting::{note_all, note_changes};
 use crate::peers::Peers;
 use crate::settling::make_entries;
 use crate::state::Kind;
+use mt_lists::earlier::Earlier;
 use mt_mounts::mount::MountId;
+use mt_skel::fault::Fault;
 
 impl Peers {
     /// Makes these mounts so. Only new groups need numbers.
@@ -132,5 +137,26 @@ impl Peers {
         } else {
             self.leave_all(ids);
         }
+    }
+
+    /// Brings the states of these mounts to what they are in other peers, from which no other differs, takes over the
+    /// number of the next group, and begins; nothing is noted on the way. Where many are named the list of states is
+    /// copied as a whole. Refused as `NoMemory` alone, before anything has changed.
+    pub fn follow(&mut self, other: &Peers, ids: &[MountId]) -> Result<(), Fault>
+        requires alike { AreAlikeBut ids.now (state_at self.old.peers) (state_at other.now.peers) }
+        ensures peering { OnOk result (peering_of self.new ≡ peering_of other.now) }
+        ensures since { OnOk result (self.new.since ≡ other.now.peers) }
+        ensures memory { IsOkUnless result Fault.NoMemory }
+    {
+        let _alloc = other.allocator();
+        self.reserve(ids.len())?;
+        let more = other.entries.len().saturating_sub(self.entries.len());
+        self.entries.reserve(more)?;
+        follow_lists(&mut self.members, &mut self.slaves, &other.entries, ids);
+        follow_entries(&mut self.entries, &other.entries, ids);
+        self.next = other.next;
+        self.log.clear();
+        self.since = Earlier::of(&self.entries);
+        Ok(())
     }
 }

@@ -2,6 +2,7 @@ use Rattle.std.proofs.Common.{◌≡◌, ◌∙◌, ap, subst, sym}
 use Rattle.mt_propagate.specs.World.{world_view}
 use Rattle.mt_propagate.specs.declared.world.World.{World}
 use Rattle.mt_propagate.specs.WellFormed.{IsWellFormed}
+use Rattle.mt_propagate.specs.Touched.{since_view}
 use Rattle.mt_book.specs.Step.{after}
 use Rattle.mt_book.specs.Book.{BookView}
 use Rattle.mt_book.specs.Kept.{shown_world}
@@ -15,4 +16,4 @@ returns-clause-world c =
 pub returns-clause-well_formed : goal.returns-clause-well_formed
 returns-clause-well_formed c =
     subst (λ (w : World). IsWellFormed (world_view w)) (sym c.world.ensures)
-    (book_small (world_view (shown_world c.self.inside.shown)) c.self.inside.spare c.self.inside.numbers.items c.self.inside.journal.items c.self.invariant).well_formed
+    (book_small (world_view (shown_world c.self.inside.shown)) (since_view (shown_world c.self.inside.shown)) c.self.inside.spare c.self.inside.numbers.items c.self.inside.journal.items c.self.invariant).well_formed

@@ -6,8 +6,8 @@ use Rattle.mt_mounts.proofs.stacks.Stacks.enter.Goals as goal
 
 pub returns-then-on_root-clause-stacked : goal.returns-then-on_root-clause-stacked
 returns-then-on_root-clause-stacked c =
-    let root = c.root_of.ensures in
-    λ next free bare x. enter_on c.args.mount next c.link.new.self c.in-Some.place c.root_of.result c.in-Some.is root
+    let root = c.root_place.ensures in
+    λ next free bare x. enter_on c.args.mount next c.link.new.self c.in-Some.place c.root_place.result c.in-Some.is root
     (c.link.ensures.stacked next (free c.in-Some.place c.in-Some.is) (subst (λ r. IsBare r next) (sym root) bare) x)
 
 pub returns-else-on_root-clause-stacked : goal.returns-else-on_root-clause-stacked

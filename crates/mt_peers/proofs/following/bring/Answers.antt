@@ -1,0 +1,71 @@
+use Rattle.std.proofs.Common.{List, not, sym, ap, ◌∙◌}
+use Rattle.std.specs.Prelude.{is_some, nat_eq}
+use Rattle.std.proofs.lemmas.List.{with_items_is}
+use Rattle.mt_skel.specs.Keyed.{rises}
+use Rattle.mt_skel.proofs.KeyedLaws.{rises-put}
+use Rattle.mt_peers.specs.declared.entries.Entry.{Entry}
+use Rattle.mt_peers.specs.Peers.{Peer, mount_of, state_at, with_state}
+use Rattle.mt_peers.specs.Entries.{now_peers}
+use Rattle.mt_peers.proofs.GivenLaws.{given-now, rises-given}
+use Rattle.mt_peers.proofs.LeaveLaws.{now-filter}
+use Rattle.mt_peers.proofs.SinceLaws.{but_put, but_given}
+use Rattle.mt_peers.proofs.FollowLaws.{put_state, given_state, dropped_here, dropped_others, dropped_rises}
+use Rattle.mt_peers.proofs.following.bring.Goals as goal
+
+pub returns-in_default-clause-here : goal.returns-in_default-clause-here
+returns-in_default-clause-here c =
+    ap (λ es. state_at (now_peers es) c.args.id) c.drop_entry.ensures.entries
+    ∙ ap (λ l. state_at l c.args.id) (now-filter (λ i. not (nat_eq c.args.id i)) c.args.entries.now.items)
+    ∙ dropped_here (now_peers c.args.entries.now.items) c.args.id c.requires.rising
+    ∙ sym c.in_default.is
+
+pub returns-in_default-clause-others : goal.returns-in_default-clause-others
+returns-in_default-clause-others c i e =
+    dropped_others (now_peers c.args.entries.now.items) c.args.id c.requires.rising i e
+    ∙ ap (λ l. state_at l i) (sym (ap now_peers c.drop_entry.ensures.entries ∙ now-filter (λ j. not (nat_eq c.args.id j)) c.args.entries.now.items))
+
+pub returns-in_default-clause-rising : goal.returns-in_default-clause-rising
+returns-in_default-clause-rising c =
+    ap (rises mount_of) (ap now_peers c.drop_entry.ensures.entries ∙ now-filter (λ j. not (nat_eq c.args.id j)) c.args.entries.now.items)
+    ∙ dropped_rises (now_peers c.args.entries.now.items) c.args.id c.requires.rising
+
+pub returns-then-is_some-clause-here : goal.returns-then-is_some-clause-here
+returns-then-is_some-clause-here c =
+    let given =
+    ap now_peers (with_items_is c.args.entries.now c.give_state.new.entries (c.give_state.auto.entries ∙ c.deref_mut.ensures.len) ∙ c.give_state.ensures.entries)
+    ∙ given-now c.args.id c.in-Some.state c.deref_mut.result.now
+    ∙ ap (λ (es : List Entry). with_state c.args.id c.in-Some.state (now_peers es)) c.deref_mut.ensures.value in
+    let there =
+    ap (λ (es : List Entry). is_some (state_at (now_peers es) c.args.id)) (sym c.deref.ensures.value) ∙ ap is_some (sym c.find_state.ensures) ∙ sym c.is_some.ensures
+    ∙ c.if-is_some.true in
+    ap (λ l. state_at l c.args.id) given ∙ given_state (now_peers c.args.entries.now.items) c.args.id c.in-Some.state there ∙ sym c.in-Some.is
+
+pub returns-then-is_some-clause-others : goal.returns-then-is_some-clause-others
+returns-then-is_some-clause-others c i e =
+    let given =
+    ap now_peers (with_items_is c.args.entries.now c.give_state.new.entries (c.give_state.auto.entries ∙ c.deref_mut.ensures.len) ∙ c.give_state.ensures.entries)
+    ∙ given-now c.args.id c.in-Some.state c.deref_mut.result.now
+    ∙ ap (λ (es : List Entry). with_state c.args.id c.in-Some.state (now_peers es)) c.deref_mut.ensures.value in
+    but_given (now_peers c.args.entries.now.items) c.args.id c.in-Some.state i e ∙ ap (λ l. state_at l i) (sym given)
+
+pub returns-then-is_some-clause-rising : goal.returns-then-is_some-clause-rising
+returns-then-is_some-clause-rising c =
+    let given =
+    ap now_peers (with_items_is c.args.entries.now c.give_state.new.entries (c.give_state.auto.entries ∙ c.deref_mut.ensures.len) ∙ c.give_state.ensures.entries)
+    ∙ given-now c.args.id c.in-Some.state c.deref_mut.result.now
+    ∙ ap (λ (es : List Entry). with_state c.args.id c.in-Some.state (now_peers es)) c.deref_mut.ensures.value in
+    ap (rises mount_of) given ∙ rises-given c.args.id c.in-Some.state (now_peers c.args.entries.now.items) c.requires.rising
+
+pub returns-else-is_some-clause-here : goal.returns-else-is_some-clause-here
+returns-else-is_some-clause-here c =
+    ap (λ l. state_at l c.args.id) c.add_entry.ensures.peers ∙ put_state (now_peers c.args.entries.now.items) c.args.id c.in-Some.state ∙ sym c.in-Some.is
+
+pub returns-else-is_some-clause-others : goal.returns-else-is_some-clause-others
+returns-else-is_some-clause-others c i e =
+    let x : Peer = record { mount = c.args.id; state = c.in-Some.state } in
+    but_put (now_peers c.args.entries.now.items) x i e ∙ ap (λ l. state_at l i) (sym c.add_entry.ensures.peers)
+
+pub returns-else-is_some-clause-rising : goal.returns-else-is_some-clause-rising
+returns-else-is_some-clause-rising c =
+    let x : Peer = record { mount = c.args.id; state = c.in-Some.state } in
+    ap (rises mount_of) c.add_entry.ensures.peers ∙ rises-put mount_of x (now_peers c.args.entries.now.items) c.requires.rising
