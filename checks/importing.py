@@ -25,6 +25,10 @@ COMMANDS = 10, 30, 60
 # How many tables of any rows are imported.
 ANY_TABLES = 500
 
+# Where a table has mounts that are left out: the old root mount stands on the new one at its root, where a pivot alone
+# puts it, and a script has none.
+PIVOTED = ["case pivot-refusals"]
+
 # The most rows of a random table that is imported.
 MOST_ROWS = 400
 
@@ -229,7 +233,7 @@ def check_tables(program, mountctl):
         worlds[f"world {seed}"] = [*directories(), *(random_command(source) for _ in range(source.choice(COMMANDS)))]
     whole = [(name, check_table(program, mountctl, f"import of {name}", table)) for name, lines in worlds.items() for table in tables(program, lines)]
     partly = [name for name, is_whole in whole if not is_whole]
-    check("tables are imported as a whole", not partly, ", ".join(partly))
+    check("tables are imported as a whole", partly == PIVOTED, ", ".join(partly))
     print(f"{len(whole)} tables imported, {len(partly)} with mounts left out")
 
 
