@@ -39,12 +39,15 @@ from reading import check_reading
 from running import check, difference, failures, library, shown
 from serving import START, Broken, Server, send_input, stop_behind, until_it_rests
 from soak import check_soak
-from stopping import check_cut_off, check_stop
+from stopping import check_cut_off, check_stop, check_unread
 from telling import check_telling
 from wanting import check_wanting
 
 # How many failed accepts in succession end a server.
 MOST_FAILURES = 1_000
+
+# So many clients at a server that may have so many descriptors.
+MANY_CLIENTS, FEW_DESCRIPTORS = 40, 16
 
 # The limit of a line and what may follow it without a line end.
 LINE = 8_192
@@ -253,10 +256,27 @@ def check_accept(program):
             check("1,000 failed accepts: the socket is gone", not os.path.exists(server.path))
 
 
+def check_descriptors(program):
+    """A client for which the system has no descriptor is told so, and all that have a session keep it."""
+    with Server(program, descriptors=FEW_DESCRIPTORS) as server, contextlib.ExitStack() as stack:
+        clients = [stack.enter_context(server.client()) for _ in range(MANY_CLIENTS)]
+        answers = [client.ask(b"show 1") for client in clients]
+        served = [client for client, answer in zip(clients, answers) if answer == [b"no NoNamespace"]]
+        refused = [client for client, answer in zip(clients, answers) if answer == [b"no NoMemory"]]
+        check("clients that are served, and those that are not", 0 < len(served) < MANY_CLIENTS == len(served) + len(refused), repr(answers))
+        check("the end behind a refusal", {client.line() for client in refused} == {None})
+        check("those that are served", {tuple(client.ask(b"show 1")) for client in served} == {(b"no NoNamespace",)})
+        served.pop().socket.close()
+        with server.free() as client:
+            check_stopped_by("few descriptors", server, client)
+        print(f"{len(served) + 1} of {MANY_CLIENTS} clients served with {FEW_DESCRIPTORS} descriptors", flush=True)
+
+
 PARTS = {
     "paths": check_paths,
     "stale": check_stale,
     "accept": check_accept,
+    "descriptors": check_descriptors,
     "limit": check_limit,
     "one session": check_one_session,
     "journal": check_journal,
@@ -264,6 +284,7 @@ PARTS = {
     "pipeline": check_pipeline,
     "stop": check_stop,
     "cut off": check_cut_off,
+    "unread": check_unread,
     "gone": check_gone,
     "lag": check_lag,
     "many": check_many,

@@ -1,6 +1,10 @@
 """A stop: sessions that go on, and those that are cut off. A module, a part of server.py."""
 import contextlib
+import fcntl
+import itertools
 import os
+import struct
+import termios
 import threading
 import time
 
@@ -21,6 +25,16 @@ UNWATCHED = [
     (b"show 1", [b"ok 1 4", b"1 1 0:1 / / rw,relatime shared:1 - tmpfs none rw"]),
     (b"quit", [b"ok"]),
 ]
+
+# A question, and its answer.
+QUESTION, ANSWER = b"show 64", b"no NoNamespace\n"
+
+# How long an answer may take until it counts as one for which there is no room, in seconds.
+WAIT = 0.5
+
+# The latest end of a server behind a stop, in seconds.
+MOST = 12
+
 FOLLOWED = [(b"take 1", [b"no Stopped"]), (b"close", [b"ok 0"])]
 
 
@@ -90,3 +104,41 @@ def check_cut_off(program):
         sender.join(STOP)
         check("a client that does not read", not sender.is_alive())
         print(f"a stop with sessions that are not idle: {time.monotonic() - start:.1f} s", flush=True)
+
+
+def are_held(client, size):
+    """Whether so many bytes come to lie unread at a client."""
+    end = time.monotonic() + WAIT
+    while time.monotonic() < end:
+        if struct.unpack("i", fcntl.ioctl(client.socket, termios.FIONREAD, bytes(4)))[0] >= size:
+            return True
+        time.sleep(0.0005)
+    return False
+
+
+def most_unread(server):
+    """For how many answers the system has room where their client reads none."""
+    with server.free() as client:
+        for count in itertools.count():
+            client.send(QUESTION)
+            if not are_held(client, (count + 1) * len(ANSWER)):
+                return count
+
+
+def check_unread(program):
+    """A stop ends the server also where its client goes, and where there is no room for its answer."""
+    with Server(program) as server, server.free() as other:
+        start = time.monotonic()
+        with server.free() as client:
+            client.send(b"stop")
+        check("a session beside a stop whose client goes", other.all() == (b"", True))
+        check("a stop whose client goes", server.ends() == (0, b"") and time.monotonic() - start < MOST)
+        check("its socket is gone", not os.path.exists(server.path))
+    with Server(program) as server, server.free() as client:
+        count = most_unread(server)
+        start = time.monotonic()
+        client.send(*[QUESTION] * count, b"stop")
+        ended, took = server.ends(), time.monotonic() - start
+        check("a stop whose answer has no room", ended == (0, b"") and LATEST - 1 <= took < MOST, f"{ended}, {took:.2f} s")
+        check("the answers before it", client.all()[0] == ANSWER * count)
+    print(f"a stop behind {count} answers that nobody reads: {took:.1f} s", flush=True)

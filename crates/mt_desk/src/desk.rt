@@ -193,6 +193,13 @@ impl<J: Naming> Desk<J> {
         Ok(posts)
     }
 
+    /// Whether the desk is stopped.
+    pub fn is_stopped(&self) -> bool
+        ensures { result ≡ self.now.stopped }
+    {
+        self.stopped
+    }
+
     /// Stops the desk: no command and no watcher after that, and no watcher is sent anything. A second stop changes
     /// nothing. Takes no memory.
     pub fn stop(&mut self)

@@ -26,6 +26,7 @@ const MOST_LOOKS: u64 = 100_000_000;
 const FOUR: Plan = Plan {
     sessions: 4,
     fails: false,
+    stopped: false,
 };
 
 /// How far a test has come. Its threads wait for each other's stages.

@@ -23,6 +23,7 @@ const LINE_LIMIT: u32 = 64;
 const TWO: Plan = Plan {
     sessions: 2,
     fails: false,
+    stopped: false,
 };
 
 /// Holds session 1 before its first answer until session 2 was there.
@@ -166,8 +167,8 @@ fn two_sessions_are_served_at_once(rt: HostRuntime) -> Result<(), Fail> {
     Ok(())
 }
 
-/// How a server ends of which each accept fails.
-fn ends_by_failures<R>(rt: &R, alloc: Global, path: &String) -> io::Result<Ended>
+/// How a server ends of which each accept fails, and whose desk may be stopped already.
+fn ends_by_failures<R>(rt: &R, alloc: Global, path: &String, stopped: bool) -> io::Result<Ended>
 where
     R: Threads + Wait + Clock + Files + Net<Listener = TcpListener, Stream = TcpStream> + Sync,
 {
@@ -175,6 +176,7 @@ where
     let plan = Plan {
         sessions: 2,
         fails: true,
+        stopped,
     };
     Ok(served(rt, alloc, path, &listener, plan, &OpenGate))
 }
@@ -182,7 +184,15 @@ where
 #[test]
 fn failed_accepts_end_a_server(rt: HostRuntime) -> Result<(), Fail> {
     let path = String::from_str(rt.alloc(), "failed-accepts")?;
-    let ended = ends_by_failures(&rt, rt.alloc(), &path)?;
+    let ended = ends_by_failures(&rt, rt.alloc(), &path, false)?;
     assert!(rt; ended == Ended::CannotAccept);
+    Ok(())
+}
+
+#[test]
+fn a_stopped_desk_ends_a_server(rt: HostRuntime) -> Result<(), Fail> {
+    let path = String::from_str(rt.alloc(), "stopped-desk")?;
+    let ended = ends_by_failures(&rt, rt.alloc(), &path, true)?;
+    assert!(rt; ended == Ended::Stopped);
     Ok(())
 }

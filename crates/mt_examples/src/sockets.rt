@@ -69,6 +69,8 @@ pub(crate) struct Plan {
     pub(crate) sessions: usize,
     /// Whether each accept fails.
     pub(crate) fails: bool,
+    /// Whether the desk is stopped before the first accept.
+    pub(crate) stopped: bool,
 }
 
 /// A door of which each accept fails.
@@ -105,7 +107,11 @@ where
     R: Threads + Wait + Clock + Net<Listener = TcpListener, Stream = TcpStream> + Sync,
     requires { lines.lines ≡ J.lines }
 {
-    let desk: Mutex<Desk<J>> = Mutex::new(Desk::new(lines));
+    let mut desk = Desk::new(lines);
+    if plan.stopped {
+        desk.stop();
+    }
+    let desk: Mutex<Desk<J>> = Mutex::new(desk);
     let bell = Bell::new();
     let premises = Premises {
         listener,

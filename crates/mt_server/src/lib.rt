@@ -1,11 +1,14 @@
 //! The mount server on a socket: one thread for each connection, round one desk under a lock.
 //!
-//! [`server`] accepts connections and gives each a session of its own, or turns it away ([`parting`]); [`connections`]
+//! [`server`] accepts connections and gives each a session of its own, or turns it away ([`parting`]); [`house`] has
+//! what the sessions share, and wakes that loop once one of them has stopped the desk; [`connections`]
 //! has those that are open, so that a stop reaches them, and a session reads by [`patient`], so that it ends once it is
-//! idle behind a stop.
+//! idle behind a stop. Where the system has no descriptor left, [`spare`] has one, by which the next client is told so.
 #![tactic(auto)]
 
 mod connections;
+mod house;
 mod parting;
 mod patient;
 pub mod server;
+mod spare;

@@ -1,8 +1,8 @@
-//! Moments of a session at which a test can hold it.
+//! Moments of a session at which a test can hold it, and one at which its server hears of a stop.
 
 use std::sync::Wait;
 
-/// What is called at three moments of a session, by the session's number.
+/// What is called at moments of a session, by the session's number.
 pub trait Gate {
     /// A command was done, and the desk is held still.
     fn in_lock<R: Wait>(&self, rt: &R, session: u64);
@@ -12,6 +12,10 @@ pub trait Gate {
 
     /// Posts were taken, and their text was sent.
     fn taken<R: Wait>(&self, rt: &R, session: u64);
+
+    /// A request of the session has stopped the desk, which is not held, and the answer was not sent. Where it is
+    /// not written, nothing is done.
+    fn stopped<R: Wait>(&self, _rt: &R, _session: u64) {}
 }
 
 /// A gate at which nobody is held.

@@ -142,6 +142,9 @@ fn serve_locked<J: Naming, O: Output, G: Gate, R: Wait>(
     if wakes(request) {
         shared.bell.ring(rt);
     }
+    if matches!(request, Request::Stop) {
+        shared.gate.stopped(rt, shared.number);
+    }
     shared.gate.before_answer(rt, shared.number);
     match answer {
         Ok(text) => answer_with(writer, &text, end_of(request)),

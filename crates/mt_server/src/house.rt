@@ -1,0 +1,191 @@
+//! What the threads of a server share, and how it ends once its desk is stopped.
+use crate::connections::Connections;
+use crate::parting::{part, turn_away};
+use crate::patient::Patient;
+use mt_desk::desk::Desk;
+use mt_desk::lines::Naming;
+use mt_lines::line::LineReader;
+use mt_lines::stream::Writing;
+use mt_session::bell::Bell;
+use mt_session::gate::Gate;
+use mt_session::serving::LINE_LIMIT;
+use mt_session::shared_serving::serve_shared;
+use mt_skel::fault::Fault;
+use std::alloc::{AllocError, Global};
+use std::io;
+use std::net::{Net, Shutdown, TcpListener, TcpStream};
+use std::os::fd::OwnedFd;
+use std::os::unix::net::{UnixListener, UnixStream};
+use std::sync::{Mutex, Wait};
+use std::time::Clock;
+
+/// The socket of a listener, a second time. Refused as the system refuses it.
+fn latch(listener: &UnixListener) -> io::Result<UnixStream> {
+    Ok(UnixStream::from(OwnedFd::from(listener.try_clone()?)))
+}
+
+/// Where a server listens, and what its sessions share.
+#[derive(Drop)]
+pub struct Premises<'a, Name: Naming, Moments> {
+    /// Where connections come from. A session that stops the desk shuts it down.
+    pub listener: &'a UnixListener,
+    /// The path of the listener, to which the server connects itself where the system does not shut it down.
+    pub path: &'a str,
+    /// The desk of all sessions.
+    pub desk: &'a Mutex<Desk<Name>>,
+    /// Where sessions that follow rest.
+    pub bell: &'a Bell,
+    /// The most sessions at once.
+    pub sessions: usize,
+    /// What is called at certain moments of each session.
+    pub gate: &'a Moments,
+}
+
+/// What the threads of a server share.
+#[derive(Drop)]
+pub(crate) struct House<'a, Name: Naming, Moments> {
+    premises: Premises<'a, Name, Moments>,
+    /// Those that are open.
+    pub(crate) connections: Connections,
+    /// The socket of the listener, by which it is shut down also where no descriptor is left; none where there was
+    /// none at the start.
+    latch: Option<UnixStream>,
+}
+
+/// The gate of a server's sessions: that of the premises, and where a session has stopped the desk the server hears of
+/// it before the answer is sent, since an answer that nobody reads may never go out.
+#[derive(Drop)]
+struct Doorkeeper<'a, 'b, Name: Naming, Moments> {
+    house: &'b House<'a, Name, Moments>,
+}
+
+impl<'a, 'b, Name: Naming, Moments: Gate> Gate for Doorkeeper<'a, 'b, Name, Moments> {
+    fn in_lock<R: Wait>(&self, rt: &R, session: u64) {
+        let house = self.house;
+        house.premises.gate.in_lock(rt, session);
+    }
+
+    fn before_answer<R: Wait>(&self, rt: &R, session: u64) {
+        let house = self.house;
+        house.premises.gate.before_answer(rt, session);
+    }
+
+    fn taken<R: Wait>(&self, rt: &R, session: u64) {
+        let house = self.house;
+        house.premises.gate.taken(rt, session);
+    }
+
+    fn stopped<R: Wait>(&self, rt: &R, session: u64) {
+        let house = self.house;
+        house.connections.stop(rt);
+        house.close();
+        house.premises.gate.stopped(rt, session);
+    }
+}
+
+impl<'a, Name: Naming, Moments: Gate> House<'a, Name, Moments> {
+    /// Nobody is connected yet. Refused for want of memory alone.
+    pub(crate) fn new(
+        alloc: Global,
+        premises: Premises<'a, Name, Moments>,
+    ) -> Result<House<'a, Name, Moments>, AllocError> {
+        let connections = Connections::new(alloc, premises.sessions)?;
+        let latch = latch(premises.listener).ok();
+        Ok(House {
+            premises,
+            connections,
+            latch,
+        })
+    }
+
+    /// Whether the desk is stopped, so that nobody is let in any more.
+    pub(crate) fn is_over<Runtime: Wait>(&self, rt: &Runtime) -> bool {
+        self.premises.desk.lock(rt).is_stopped()
+    }
+
+    /// Where connections come from.
+    pub(crate) fn listener(&self) -> &'a UnixListener {
+        self.premises.listener
+    }
+
+    /// Lets nobody in any more: an accept of the listener that waits, and each later one, returns. Whether the
+    /// system did so.
+    fn close(&self) -> bool {
+        match &self.latch {
+            Some(socket) => socket.shutdown(Shutdown::Both).is_ok(),
+            None => false,
+        }
+    }
+
+    /// Serves the lines of a connection; nothing where there is no memory for a reader of lines.
+    fn answer<Runtime>(&self, rt: &Runtime, alloc: Global, number: u64, stream: &UnixStream)
+    where
+        Runtime: Wait + Clock,
+    {
+        let reader = Patient::new(rt, &self.connections, stream);
+        let Ok(mut lines) = LineReader::new(alloc, reader, LINE_LIMIT) else {
+            return;
+        };
+        let mut writer = Writing::new(stream);
+        let _end = serve_shared(
+            rt,
+            alloc,
+            number,
+            &mut lines,
+            &mut writer,
+            self.premises.desk,
+            self.premises.bell,
+            &Doorkeeper { house: self },
+        );
+    }
+
+    /// Serves a connection. Where the desk is stopped behind it, by whichever session, the loop that accepts is woken.
+    pub(crate) fn serve<Runtime>(
+        &self,
+        rt: &Runtime,
+        alloc: Global,
+        number: u64,
+        stream: UnixStream,
+    )
+    where
+        Runtime: Wait + Clock + Net<Listener = TcpListener, Stream = TcpStream>,
+    {
+        self.answer(rt, alloc, number, &stream);
+        let again = self.connections.leave(rt, number);
+        part(&stream);
+        drop(again);
+        drop(stream);
+        if self.is_over(rt) {
+            self.wake(rt);
+        }
+    }
+
+    /// Wakes the loop that accepts: its listening socket is shut down, and where the system refuses
+    /// that, the server connects to its own path. No descriptor of the session is open any more, so
+    /// that there is one for this.
+    fn wake<Runtime>(&self, rt: &Runtime)
+    where
+        Runtime: Net<Listener = TcpListener, Stream = TcpStream>,
+    {
+        if !self.close() {
+            let _ = UnixStream::connect(rt, self.premises.path);
+        }
+    }
+
+    /// Turns a connection away, and counts it no longer.
+    pub(crate) fn dismiss<Runtime: Wait>(&self, rt: &Runtime, stream: UnixStream, fault: Fault) {
+        turn_away(&stream, fault);
+        self.connections.end_parting(rt);
+    }
+
+    /// Ends all sessions. The desk is stopped, so that those that follow are told so; each goes on to
+    /// be served until it has been idle for a second; those that are left after ten seconds are cut
+    /// off.
+    pub(crate) fn end_all<Runtime: Wait + Clock>(&self, rt: &Runtime) {
+        self.connections.stop(rt);
+        self.premises.desk.lock(rt).stop();
+        self.premises.bell.ring(rt);
+        self.connections.wait(rt);
+        self.connections.cut_off(rt);
+    }
+}
