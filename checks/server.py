@@ -146,6 +146,7 @@ def check_gone(program):
     with Server(program) as server, server.free() as client:
         for line in START:
             client.ask(line)
+        check("one session alone", server.rests(2))
         before = server.status("Threads"), server.descriptors()
         for text in b"sho", b"show 1\n" * 5_000 + b"show", b"watch all\nfollow 4\n", b"x" * 10_000:
             for _ in range(10):
