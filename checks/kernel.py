@@ -117,6 +117,7 @@ def check_sessions(program, end, total):
         name, case = sessions[done]
         total.add(check_replayed(name, program, commands_of(case.requests())))
         done += 1
+    check("a session was compared", done > 0)
     print(f"sessions: {done} of {len(sessions)}")
 
 
@@ -146,6 +147,7 @@ def check_scripts(program, seed, count, end, total):
             check(f"script {done} of seed {seed}", False, shortest(program, played))
             return
         done += 1
+    check("a script was compared", done > 0 or not count)
     print(f"scripts: {done} of seed {seed}, in which {total.counts['accepted'] - before} commands were accepted")
 
 
@@ -181,7 +183,7 @@ def read_words():
     parser.add_argument("program", type=os.path.abspath)
     parser.add_argument("--seed", type=int, default=1)
     parser.add_argument("--scripts", type=int, default=150)
-    parser.add_argument("--seconds", type=float, default=15)
+    parser.add_argument("--seconds", type=float, default=40)
     parser.add_argument("--replay", type=argparse.FileType("rb"), help="a file of lines")
     return parser.parse_args()
 

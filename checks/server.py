@@ -4,7 +4,7 @@
 Usage: checks/server.py MOUNTD [MOUNTCTL] [--seconds N]
 
 A plain client speaks with servers that are started here, each in a folder of its own: the cases,
-sockets that cannot be made and stale ones (paths.py), accepts that fail, the limit of sessions, a stop (stopping.py), clients that are
+sockets that cannot be made and stale ones (paths.py), accepts that fail, few descriptors, the limit of sessions, a stop (stopping.py), clients that are
 gone or do not read, many connections, allocations that are refused (wanting.py), and then 32 sessions at once for
 N seconds, 20 if not said (soak.py). With MOUNTCTL that program is checked too (clients.py, answering.py, reading.py, pictures.py, telling.py), the cases are
 sent as its scripts, tables are imported (importing.py, crowds.py), and a quarter of the 32 sessions are its mirrors.
