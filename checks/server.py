@@ -4,7 +4,7 @@
 Usage: checks/server.py MOUNTD [MOUNTCTL] [--seconds N]
 
 A plain client speaks with servers that are started here, each in a folder of its own: the cases,
-sockets that cannot be made and stale ones (paths.py), accepts that fail, few descriptors, the limit of sessions, a stop (stopping.py), clients that are
+sockets that cannot be made and stale ones (paths.py), accepts that fail, few descriptors, sessions that are idle, the limit of sessions, a stop (stopping.py), clients that are
 gone or do not read, many connections, allocations that are refused (wanting.py), and then 32 sessions at once for
 N seconds, 20 if not said (soak.py). With MOUNTCTL that program is checked too (clients.py, answering.py, reading.py, pictures.py, telling.py), the cases are
 sent as its scripts, tables are imported (importing.py, crowds.py), and a quarter of the 32 sessions are its mirrors.
@@ -45,6 +45,9 @@ from wanting import check_wanting
 
 # How many failed accepts in succession end a server.
 MOST_FAILURES = 1_000
+
+# How long a session may send nothing, in seconds, where that is said.
+IDLE_SECONDS = 2
 
 # So many clients at a server that may have so many descriptors.
 MANY_CLIENTS, FEW_DESCRIPTORS = 40, 16
@@ -273,11 +276,34 @@ def check_descriptors(program):
         print(f"{len(served) + 1} of {MANY_CLIENTS} clients served with {FEW_DESCRIPTORS} descriptors", flush=True)
 
 
+def check_idle(program):
+    """A session that sends nothing for so long ends; one that sends, and one that follows, do not."""
+    with Server(program, "--idle", str(IDLE_SECONDS)) as server, server.free() as busy, server.free() as follower:
+        for line in START:
+            busy.ask(line)
+        follower.ask(b"watch 1")
+        follower.send(b"follow 2")
+        with server.free() as silent, server.free() as half:
+            start = time.monotonic()
+            half.send(b"show 1", b"")
+            half.socket.sendall(b"sho")
+            while time.monotonic() - start < 2 * IDLE_SECONDS:
+                check("a session that sends", busy.ask(b"show 64") == [b"no NoNamespace"])
+                time.sleep(IDLE_SECONDS / 4)
+            check("a session that sends nothing", silent.all() == (b"", True))
+            check("half a line, and nothing behind it", half.all()[0].endswith(b"\nno BadLine\nno BadLine\n"))
+        for line in b"setattr 1 / set=ro", b"setattr 1 / clr=ro":
+            busy.ask(line)
+        check("a session that follows", len(follower.answer(b"follow 2")) == 5)
+        check_stopped_by("idle sessions", server, busy)
+
+
 PARTS = {
     "paths": check_paths,
     "stale": check_stale,
     "accept": check_accept,
     "descriptors": check_descriptors,
+    "idle": check_idle,
     "limit": check_limit,
     "one session": check_one_session,
     "journal": check_journal,

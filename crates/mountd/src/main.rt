@@ -11,7 +11,7 @@ use mt_session::floor::Floor;
 use mt_session::line::{LineReader, ReadFault};
 use mt_session::serving::{End, LINE_LIMIT, serve_plain};
 use mt_session::stream::{Reading, Writing};
-use socket::{MOST_POSTS, Served, serve_socket};
+use socket::{Limits, MOST_POSTS, Served, serve_socket};
 use std::alloc::Global;
 use std::io;
 use std::process::ExitCode;
@@ -39,13 +39,12 @@ const SESSIONS: usize = 32;
 struct Options {
     /// The path of the socket, or [`STANDARD`].
     socket: String,
-    /// How many posts the queue of a watcher holds.
-    queue: usize,
-    /// How many sessions there may be at once.
-    sessions: usize,
+    /// What the server is held to.
+    limits: Limits,
 }
 
-/// What the program takes: a socket or `-`, how long queues are, and how many sessions there may be.
+/// What the program takes: a socket or `-`, how long queues are, how many sessions there may be, and how long one may
+/// be idle.
 fn parser<'a>(alloc: Global) -> Result<Command<'a>, Error> {
     let socket = Arg::new(alloc, "SOCKET")
         .help("The socket to listen on, or - for one session on standard input and output")
@@ -63,11 +62,20 @@ fn parser<'a>(alloc: Global) -> Result<Command<'a>, Error> {
         .help("How many sessions there may be at once, from 1 to 32")
         .value_parser(value_parser!(u16).range(1..=32))
         .default_value("32");
+    let idle = Arg::new(alloc, "idle")
+        .long("idle")
+        .value_name("SECONDS")
+        .help(
+            "After how many seconds a session ends that sends nothing and follows nothing; 0: never",
+        )
+        .value_parser(value_parser!(u16).range(0..=65535))
+        .default_value("0");
     let command = Command::new(alloc, NAME)
         .arg(socket)?
         .after_help(LINES)
         .arg(queue)?
-        .arg(sessions)?;
+        .arg(sessions)?
+        .arg(idle)?;
     Ok(command)
 }
 
@@ -77,8 +85,11 @@ fn read_options(alloc: Global, words: &[&str]) -> Result<Options, Error> {
     let socket = matches.get_str("SOCKET").unwrap_or(STANDARD);
     Ok(Options {
         socket: String::from_str(alloc, socket)?,
-        queue: matches.get_one::<usize>("queue").unwrap_or(QUEUE),
-        sessions: matches.get_one::<usize>("sessions").unwrap_or(SESSIONS),
+        limits: Limits {
+            queue: matches.get_one::<usize>("queue").unwrap_or(QUEUE),
+            sessions: matches.get_one::<usize>("sessions").unwrap_or(SESSIONS),
+            idle: matches.get_one::<u64>("idle").unwrap_or(0),
+        },
     })
 }
 
@@ -135,13 +146,9 @@ fn main(rt: HostRuntime) -> ExitCode {
         Err(error) => return PROGRAM.explain_unread(&rt, &error),
     };
     if options.socket.as_str() == STANDARD {
-        return serve_standard(&rt, options.queue);
+        return serve_standard(&rt, options.limits.queue);
     }
-    let Options {
-        socket,
-        queue,
-        sessions,
-    } = options;
-    let served = serve_socket(&rt, rt.alloc(), &socket, queue, sessions);
+    let Options { socket, limits } = options;
+    let served = serve_socket(&rt, rt.alloc(), &socket, limits);
     tell(&rt, served)
 }

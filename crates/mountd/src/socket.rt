@@ -24,6 +24,17 @@ const MODE: u32 = 0o600;
 /// The most posts that a queue may hold.
 pub(crate) const MOST_POSTS: usize = 1_024;
 
+/// What a server is held to.
+#[derive(Clone, Copy)]
+pub(crate) struct Limits {
+    /// How many posts the queue of a watcher holds, 1 to 1,024.
+    pub(crate) queue: usize,
+    /// How many sessions there may be at once.
+    pub(crate) sessions: usize,
+    /// After how many seconds a session ends that sends nothing and follows nothing; 0 if never.
+    pub(crate) idle: u64,
+}
+
 /// How a server on a socket ended.
 #[derive(Clone, Copy)]
 pub(crate) enum Served {
@@ -44,7 +55,7 @@ fn with_lines<J, R>(
     lines: Lines,
     path: &String,
     listener: &UnixListener,
-    sessions: usize,
+    limits: Limits,
 ) -> Served
 where
     J: Naming + Send + Sync,
@@ -58,7 +69,8 @@ where
         path: path.as_str(),
         desk: &desk,
         bell: &bell,
-        sessions,
+        sessions: limits.sessions,
+        idle: limits.idle,
         gate: &OpenGate,
     };
     match run_server(rt, alloc, premises) {
@@ -68,37 +80,29 @@ where
     }
 }
 
-/// Serves on a listener, for queues of so many posts, 1 to 1,024.
+/// Serves on a listener.
 fn serve_listener<R>(
     rt: &R,
     alloc: Global,
     path: &String,
     listener: &UnixListener,
-    queue: usize,
-    sessions: usize,
+    limits: Limits,
 ) -> Served
 where
     R: Threads + Wait + Clock + Net<Listener = TcpListener, Stream = TcpStream> + Sync,
 {
-    match Lines::new(alloc, queue.clamp(1, MOST_POSTS)) {
-        Ok(lines) => with_lines::<Brand, R>(rt, alloc, lines, path, listener, sessions),
+    match Lines::new(alloc, limits.queue.clamp(1, MOST_POSTS)) {
+        Ok(lines) => with_lines::<Brand, R>(rt, alloc, lines, path, listener, limits),
         Err(_) => Served::NoMemory,
     }
 }
 
-/// Makes a socket at a path and serves sessions on it until one stops the server, `sessions` at
-/// once, with queues of `queue` posts.
+/// Makes a socket at a path and serves sessions on it until one stops the server.
 ///
 /// There may be nothing at the path but a socket that a killed server has left. Only the user whose
 /// server it is may connect, and who connects may do everything. At the end the socket is taken away,
 /// if it still is the one that was made.
-pub(crate) fn serve_socket<R>(
-    rt: &R,
-    alloc: Global,
-    path: &String,
-    queue: usize,
-    sessions: usize,
-) -> Served
+pub(crate) fn serve_socket<R>(rt: &R, alloc: Global, path: &String, limits: Limits) -> Served
 where
     R: Threads + Wait + Clock + Files + Net<Listener = TcpListener, Stream = TcpStream> + Sync,
 {
@@ -107,7 +111,7 @@ where
     };
     let made = socket_at(rt, path.as_str());
     let served = match fs::set_permissions(rt, path.as_str(), Permissions::from_mode(MODE)) {
-        Ok(()) => serve_listener(rt, alloc, path, &listener, queue, sessions),
+        Ok(()) => serve_listener(rt, alloc, path, &listener, limits),
         Err(_) => Served::NotListening,
     };
     if made.is_some() && socket_at(rt, path.as_str()) == made {

@@ -119,6 +119,7 @@ where
         desk: &desk,
         bell: &bell,
         sessions: plan.sessions,
+        idle: 0,
         gate,
     };
     if !plan.fails {

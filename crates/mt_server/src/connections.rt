@@ -15,7 +15,7 @@ const MOST_LOOKS: u32 = 100;
 const LOOK: u64 = 100;
 
 /// How long one read of a session waits, in seconds.
-const PATIENCE: u64 = 1;
+pub(crate) const PATIENCE: u64 = 1;
 
 /// A connection that has a session.
 #[derive(Drop)]

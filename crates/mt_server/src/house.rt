@@ -37,6 +37,8 @@ pub struct Premises<'a, Name: Naming, Moments> {
     pub bell: &'a Bell,
     /// The most sessions at once.
     pub sessions: usize,
+    /// After how many seconds a session ends that sends nothing and follows nothing; 0 if never.
+    pub idle: u64,
     /// What is called at certain moments of each session.
     pub gate: &'a Moments,
 }
@@ -122,7 +124,7 @@ impl<'a, Name: Naming, Moments: Gate> House<'a, Name, Moments> {
     where
         Runtime: Wait + Clock,
     {
-        let reader = Patient::new(rt, &self.connections, stream);
+        let reader = Patient::new(rt, &self.connections, stream, self.premises.idle);
         let Ok(mut lines) = LineReader::new(alloc, reader, LINE_LIMIT) else {
             return;
         };

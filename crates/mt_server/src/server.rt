@@ -222,7 +222,8 @@ where
 /// At most `premises.sessions` have a session at once; the next one reads `no TooMany` and its end. One for
 /// which there is no thread or no descriptor, or of which the system bounds no read, reads
 /// `no NoMemory` and its end. Sessions are numbered from 1. When a session ends, its connection is
-/// counted no longer before its client reads the end.
+/// counted no longer before its client reads the end. One that has sent nothing for `premises.idle` seconds while
+/// it follows nothing, if that is not 0, ends as at the end of its input.
 ///
 /// At a stop, and at a fault, the desk is stopped and no more connections are accepted. The other
 /// sessions go on: each ends once it has been idle for a second, so that a watcher can take what was
