@@ -8,10 +8,8 @@ import shlex
 import subprocess
 from typing import NamedTuple
 
-from running import MOST_SECONDS, check
+from running import MOST_SECONDS, check, connection_fault
 from serving import Door
-
-CUT = b"mountctl: connection fault\n"
 
 
 class Exchange(NamedTuple):
@@ -266,12 +264,12 @@ CHANGES = (
 )
 STOPPED = b"no Stopped\n"
 FOLLOWING = b"watch 2\nfollow 1048576\n"
-WATCHES = tuple(Exchange("watch 2", FOLLOWING, BEFORE + post + STOPPED, told + STOPPED, 1) for post, told in CHANGES)
+MONITORS = tuple(Exchange("monitor 2", FOLLOWING, BEFORE + post + STOPPED, told + STOPPED, 1) for post, told in CHANGES)
 
 
-def check_ended(name, client, found, printed, status):
-    """Whether a program has printed this and ended so."""
-    wanted = (status, (printed, CUT if status == 3 else b""))
+def check_ended(name, client, path, found, printed, status):
+    """Whether a program that asked at a path has printed this and ended so."""
+    wanted = (status, (printed, connection_fault(path) if status == 3 else b""))
     check(name, (client.returncode, found) == wanted, f"wanted {wanted}\nfound  {(client.returncode, found)}")
 
 
@@ -282,7 +280,7 @@ def check_exchange(mountctl, door, exchange):
         sent = door.answers(exchange.answer)
         found = client.communicate(timeout=MOST_SECONDS)
     check(f"{name}: what it sends", sent == exchange.sent, repr(sent))
-    check_ended(name, client, found, exchange.printed, exchange.status)
+    check_ended(name, client, door.path, found, exchange.printed, exchange.status)
 
 
 def check_turned_away(mountctl, door, answer, printed, status):
@@ -292,13 +290,13 @@ def check_turned_away(mountctl, door, answer, printed, status):
         with door.accept() as stream:
             stream.sendall(answer)
         found = client.communicate(timeout=MOST_SECONDS)
-    check_ended(f"mountctl, turned away with {answer!r}", client, found, printed, status)
+    check_ended(f"mountctl, turned away with {answer!r}", client, door.path, found, printed, status)
 
 
 def check_answers(mountctl):
     """What the other program makes of each of these answers."""
     with Door() as door:
-        for exchange in (*REQUESTS, *MIRRORS, *PICTURES, *WATCHES):
+        for exchange in (*REQUESTS, *MIRRORS, *PICTURES, *MONITORS):
             check_exchange(mountctl, door, exchange)
         for answer, printed, status in TURNED_AWAY:
             check_turned_away(mountctl, door, answer, printed, status)

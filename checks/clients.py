@@ -5,13 +5,15 @@ A module, a part of server.py.
 import concurrent.futures
 import os
 import re
+import shutil
 import subprocess
 import tempfile
 import time
 
 import cases
 from memory import Refusing, Words
-from running import MOST_SECONDS, check, difference, run, shown
+from paths import leave_socket, user_of_none
+from running import MOST_SECONDS, check, connection_fault, difference, run, shown
 from serving import START, STOP, Door, Server, stop_behind, until_it_rests
 
 
@@ -64,18 +66,29 @@ def check_client(program, mountctl):
         check("mountctl: stop", found == (0, b"ok\n", b"") and server.ends() == (0, b""), repr(found))
 
 
-# Words of a mirror, of a watch and of drawings that are none, and what is said of them.
-NO_MIRRORS = "mirror", "mirror 1", "mirror x 1", "mirror 01 1", "mirror 1 0", "mirror 1 1048577", "mirror 1 1 1", "mirror 1 -1"
-NO_WATCHES = "watch", "watch x", "watch 01", "watch 1 2", "watch all all", "watch -1"
+# Words of a mirror, of a monitor and of drawings that are none, and what is said of them.
+NO_MIRRORS = "mirror", "mirror 1", "mirror x 1", "mirror 01 1", "mirror 1 1 1", "mirror 1 -1"
+NO_MONITORS = "monitor", "monitor x", "monitor 01", "monitor 1 2", "monitor all all", "monitor -1"
 NO_TREES = "tree x", "tree 01", "tree 1 2", "tree --ascii --ascii", "tree 1 --ascii 2", "tree --plain", "tree 1 -a"
 NO_GRAPHS = "dot 1", "dot --ascii"
 NO_TASKS = (
-    (NO_WATCHES, b"mountctl: watch takes a namespace, or all\n"),
-    (NO_MIRRORS, b"mountctl: mirror takes a namespace and a count of 1 to 1048576\n"),
+    (NO_MONITORS, b"mountctl: monitor takes a namespace, or all\n"),
+    (NO_MIRRORS, b"mountctl: mirror takes a namespace and a count\n"),
     (NO_TREES, b"mountctl: tree takes a namespace, or none, and --ascii\n"),
     (NO_GRAPHS, b"mountctl: dot takes no words\n"),
 )
-CONNECTION_FAULT = 3, b"", b"mountctl: connection fault\n"
+
+# Lines of the server that a user might take for the client's own, and what answers each, of two namespaces.
+LINES = (
+    ("watch 1", 0, b"ok 2\nspace 1 2 1\n1 1 0:1 / / rw,relatime shared:1 - tmpfs none rw\n"),
+    ("watch 9", 1, b"no NoNamespace\n"),
+    ("watch", 1, b"no BadLine\n"),
+    ("watch x", 1, b"no BadLine\n"),
+    ("watch all all", 1, b"no BadLine\n"),
+    ("mirror 1 0", 1, b"no BadLine\n"),
+    ("mirror 1 1048577", 1, b"no BadLine\n"),
+    ("follow 1", 1, b"no NoWatcher\n"),
+)
 READ_FAULT = 3, b"", b"mountctl: read fault\n"
 WRITE_FAULT = 3, b"", b"mountctl: write fault\n"
 OUT_OF_MEMORY = 3, b"", b"mountctl: out of memory\n"
@@ -161,9 +174,65 @@ def check_comments(program, mountctl):
         check("mountctl: the server's end behind comments", ended == (0, b""), repr(ended))
 
 
+def words_of(program, title):
+    """The first words of the lines behind a title of a program's help, up to an empty one."""
+    lines = run(program, b"", "--help")[1].split(title + b"\n")[1].split(b"\n\n")[0].splitlines()
+    return {word.split()[0] for line in lines if line.startswith(b"  ") and line[2:3] != b" " for word in line[2:25].split(b", ")}
+
+
+def check_lines(program, mountctl):
+    """Each line of the server is sent, and none begins with a word that the client keeps for itself."""
+    kept, lines = words_of(mountctl, b"In the place of WORD..:"), words_of(program, b"Lines of a session:")
+    check("the words of the client", kept == {b"-", b"monitor", b"mirror", b"tree", b"dot"}, repr(kept))
+    check("the words of the server", len(lines) == 21 and not kept & lines, repr(sorted(lines)))
+    with Server(program) as server, server.free() as client:
+        for line in START:
+            client.ask(line)
+        for word in sorted(kept | {b"import"}):
+            for behind in b"", b" 1", b" 1 1", b" 1 / /", b" all":
+                found = client.ask(word + behind)
+                check(f"{shown(word + behind)} is no line", found == [b"no BadLine"], repr(found))
+        for words, status, answer in LINES:
+            found = run(mountctl, b"", server.path, *words.split())
+            check(f"mountctl {words}", found == (status, answer, b""), repr(found))
+        found = run(mountctl, b"", server.path, "watch", "all")
+        check("mountctl watch all", found[0] == 0 and found[1].startswith(b"ok 4\nspace 1 2 1\n"), repr(found))
+
+
+def check_unanswered(program, mountctl):
+    """Why there is no connection to a server."""
+    with tempfile.TemporaryDirectory() as folder:
+        plain, stale, none, long = (os.path.join(folder, name) for name in ("plain", "stale", "none/socket", "x" * 100))
+        with open(plain, "w", encoding="ascii"):
+            pass
+        leave_socket(stale)
+        for path, reason in (
+            (plain, "is no socket"),
+            (folder, "is no socket"),
+            (stale, "connection refused"),
+            (none, "no such file or directory"),
+            (long, "path too long"),
+            ("", "path is empty"),
+        ):
+            found = run(mountctl, b"", path, "show", "1")
+            check(f"mountctl at {path}", found == (3, b"", connection_fault(path, reason)), repr(found))
+    with Server(program) as server:
+        os.chmod(server.path, 0)
+        copy = shutil.copy(mountctl, server.folder)
+        os.chmod(copy, 0o755)
+        os.chmod(server.folder, 0o755)
+        denied = subprocess.run(
+            [copy, server.path, "show", "1"], input=b"", capture_output=True, timeout=MOST_SECONDS, user=user_of_none()
+        )
+        found = denied.returncode, denied.stdout, denied.stderr
+        check("mountctl at a socket of somebody else", found == (3, b"", connection_fault(server.path, "permission denied")), repr(found))
+
+
 def check_statuses(program, mountctl):
     """Each status of the other program, beside those of its answers."""
     check_faulty_words(mountctl)
+    check_unanswered(program, mountctl)
+    check_lines(program, mountctl)
     with Server(program) as server:
         found = run(mountctl, b"", server.path, "mirror", "9", "1")
         check("mountctl: a mirror of no namespace", found == (1, b"no NoNamespace\n", b""), repr(found))
@@ -179,8 +248,6 @@ def check_statuses(program, mountctl):
         # As long a line as a session reads no end of.
         found = run(mountctl, b"x" * 2_000_000, server.path, "-")
         check("mountctl: a script without a line end", found == READ_FAULT, repr(found))
-        found = run(mountctl, b"", server.path + "s", "show", "1")
-        check("mountctl without a server", found == CONNECTION_FAULT, repr(found))
         ended = server.stop()
         check("mountctl: the server's end", ended == (0, b""), repr(ended))
 
@@ -205,7 +272,7 @@ def check_refused(program, mountctl):
             for line in START:
                 client.ask(line)
         refusing, total = Refusing(folder), 0
-        tasks = "show 1", "watch 9", "mirror 9 1", "tree", "tree 2 --ascii", "dot", "-"
+        tasks = "show 1", "monitor 9", "mirror 9 1", "tree", "tree 2 --ascii", "dot", "-"
         for words in ["--help"], *[[server.path, *task.split()] for task in tasks]:
             asked = (Script if words[-1] == "-" else Asked)(mountctl, words)
             count = refusing.count(asked)

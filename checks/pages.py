@@ -148,8 +148,11 @@ def statuses_of_readme():
     }
 
 
+# What stands behind a message that tells of a socket.
+WHERE_AND_WHY = ": SOCKET: REASON"
+
 # What stands before a message in the source of a program: a call that says it, or the function that names it.
-SAID = re.compile(r'(?:fail\(rt, |refuse\(rt, |Some\(|=> |&str = )"([a-z][^"{]* [^"{]*)"')
+SAID = re.compile(r'(?:fail\(rt, |fail_at\(rt, |refuse\(rt, |Some\(|=> |&str = )"([a-z][^"{]* [^"{]*)"')
 
 
 def messages_in(program):
@@ -165,7 +168,8 @@ def check_statuses():
         text = section(f"{program}.1", "EXIT STATUS")
         check_same(f"the statuses of {program}.1", wanted, re.findall(r"(?m)^\.It (\d)$", text))
         told = re.findall(rf"`({program}: [^`]*)`", shown(read("README.md")))
-        check_same(f"the messages of {program}.1", {*told, *messages_in(program)}, MESSAGE.findall(text))
+        said = {message for message in messages_in(program) if message + WHERE_AND_WHY not in told}
+        check_same(f"the messages of {program}.1", {*told, *said}, MESSAGE.findall(text))
 
 
 def plain(text):

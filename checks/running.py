@@ -50,6 +50,11 @@ def session(program, lines):
     return run(program, b"".join(line + b"\n" for line in lines))
 
 
+def connection_fault(path, reason="no whole answer"):
+    """How a run of the other program ends that has no answer of the server at a path: by its complaint."""
+    return f"mountctl: connection fault: {path}: {reason}\n".encode()
+
+
 def library(folder, name):
     """The shared library of this C file here, made in a folder, to be loaded before a program."""
     made = os.path.join(folder, f"{name}.so")

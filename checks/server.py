@@ -33,7 +33,7 @@ from clients import (
 from crowds import check_crowds
 from importing import check_import
 from limits import COMMANDS
-from paths import check_paths, check_stale, check_stopped
+from paths import check_made, check_paths, check_stale, check_stopped
 from pictures import check_pictures
 from reading import check_reading
 from running import check, difference, failures, library, shown
@@ -301,6 +301,7 @@ def check_idle(program):
 PARTS = {
     "paths": check_paths,
     "stale": check_stale,
+    "made": check_made,
     "accept": check_accept,
     "descriptors": check_descriptors,
     "idle": check_idle,

@@ -76,7 +76,8 @@ def check_closed(program):
 
 
 def check_arguments(program):
-    check("a socket that cannot be", run(program, b"", "/") == (1, b"", b"mountd: cannot listen\n"))
+    found = run(program, b"", "/")
+    check("a socket that cannot be", found == (1, b"", b"mountd: cannot listen: /: is no socket\n"), repr(found))
     for words, said in (["a", "b"], b"'b'"), (["--frobnicate"], b"'--frobnicate'"), (["--queue", "2"], b"SOCKET"):
         status, text, complaint = run(program, b"", *words)
         check(f"faulty arguments {words}", (status, text) == (2, b"") and said in complaint, shown(complaint))

@@ -10,17 +10,17 @@ import tempfile
 import threading
 
 from memory import Refusing, Words
-from running import MOST_SECONDS, check, run, shown
+from running import MOST_SECONDS, check, connection_fault, run, shown
 from serving import START, Client, Door, Server
 
 # How long a change may be on its way before another one is made, in seconds.
 ON_ITS_WAY = 0.2
 
-# Changes of an attribute that are made until a watch tells one of them, and the last one, which it tells then.
+# Changes of an attribute that are made until a monitor tells one of them, and the last one, which it tells then.
 TRIED = b"setattr 1 / set=nodev", b"setattr 1 / clr=nodev"
 MARK = b"setattr 1 / set=noexec", b"~ 1 / in namespace 1: now noexec\n"
 
-# What somebody else does, and what a watch of all namespaces tells of it: namespaces 1 and 2 are peers, and 2 has its
+# What somebody else does, and what a monitor of all namespaces tells of it: namespaces 1 and 2 are peers, and 2 has its
 # mount as a slave then.
 TOLD = (
     (b"mount 1 d /m", [b"+ 3 /m ext4 in namespace 1\n", b"+ 4 /m ext4 in namespace 2\n"]),
@@ -41,23 +41,23 @@ POSTS = b"event 1 4 1\n= 1 1 0:1 / / ro,relatime - tmpfs none rw\nevent 2 1 1\n=
 WORDS = b"~ 1 / in namespace 1: now read-only\n+ 2 / tmpfs in namespace 2\n"
 
 WATCH, FOLLOW = b"watch all\n", b"follow 1048576\n"
-CUT = b"mountctl: connection fault\n"
 
-# What a server answers to a watch of all namespaces, what it is sent, and how the program ends.
+# What a server answers to a watch of all namespaces, what it is sent, what is told, and the status. With 3 a connection
+# fault is told.
 ANSWERED = (
-    (b"no TooManyWatchers\n", WATCH, (1, b"no TooManyWatchers\n", b"")),
-    (b"ok 1\n", WATCH, (3, b"", CUT)),
-    (b"ok 2\nspace 2 1 0\nspace 1 1 0\n", WATCH, (3, b"", CUT)),
-    (OPENING + POSTS + b"no Lagged\n", WATCH + FOLLOW, (1, WORDS + b"no Lagged\n", b"")),
-    (OPENING + POSTS, WATCH + FOLLOW, (3, WORDS, CUT)),
-    (OPENING + POSTS + b"event 1 6 1\n- 1\n", WATCH + FOLLOW, (3, WORDS, CUT)),
-    (OPENING + POSTS + b"event 2 2 1\n- 2", WATCH + FOLLOW, (3, WORDS, CUT)),
-    (OPENING + POSTS + b"ok 2\n", WATCH + FOLLOW, (3, WORDS, CUT)),
+    (b"no TooManyWatchers\n", WATCH, b"no TooManyWatchers\n", 1),
+    (b"ok 1\n", WATCH, b"", 3),
+    (b"ok 2\nspace 2 1 0\nspace 1 1 0\n", WATCH, b"", 3),
+    (OPENING + POSTS + b"no Lagged\n", WATCH + FOLLOW, WORDS + b"no Lagged\n", 1),
+    (OPENING + POSTS, WATCH + FOLLOW, WORDS, 3),
+    (OPENING + POSTS + b"event 1 6 1\n- 1\n", WATCH + FOLLOW, WORDS, 3),
+    (OPENING + POSTS + b"event 2 2 1\n- 2", WATCH + FOLLOW, WORDS, 3),
+    (OPENING + POSTS + b"ok 2\n", WATCH + FOLLOW, WORDS, 3),
 )
 
 
 def until_it_tells(client, output):
-    """Makes changes until a watch tells them, and marks where what it tells is known from."""
+    """Makes changes until a monitor tells them, and marks where what it tells is known from."""
     for tries in range(int(MOST_SECONDS / ON_ITS_WAY)):
         client.ask(TRIED[tries % 2])
         if select.select([output], [], [], ON_ITS_WAY)[0]:
@@ -66,46 +66,47 @@ def until_it_tells(client, output):
     client.ask(line)
     while (found := output.readline()) not in (mark, b""):
         pass
-    check("a watch tells what it was made to", found == mark)
+    check("a monitor tells what it was made to", found == mark)
 
 
-def check_watch(program, mountctl):
-    """A watch of all namespaces tells what somebody else does, each change before the next one is made."""
+def check_monitor(program, mountctl):
+    """A monitor of all namespaces tells what somebody else does, each change before the next one is made."""
     with Server(program) as server, server.client() as client:
         for line in START:
             client.ask(line)
-        words = [mountctl, server.path, "watch", "all"]
-        with subprocess.Popen(words, bufsize=0, stdout=subprocess.PIPE, stderr=subprocess.PIPE) as watch:
-            until_it_tells(client, watch.stdout)
+        words = [mountctl, server.path, "monitor", "all"]
+        with subprocess.Popen(words, bufsize=0, stdout=subprocess.PIPE, stderr=subprocess.PIPE) as monitor:
+            until_it_tells(client, monitor.stdout)
             for line, wanted in TOLD:
                 told = client.ask(line)[0]
-                found = [watch.stdout.readline() for _ in wanted]
-                check(f"a watch beside {shown(line)}", told.startswith(b"ok") and found == wanted, f"{told}, {found}")
-            ended = watch.communicate(timeout=MOST_SECONDS)
-        check("the end of a watch", (watch.returncode, ended) == (1, (b"", b"")), f"{watch.returncode}, {ended}")
-        check("a watch: the server's end", server.ends() == (0, b""))
+                found = [monitor.stdout.readline() for _ in wanted]
+                check(f"a monitor beside {shown(line)}", told.startswith(b"ok") and found == wanted, f"{told}, {found}")
+            ended = monitor.communicate(timeout=MOST_SECONDS)
+        check("the end of a monitor", (monitor.returncode, ended) == (1, (b"", b"")), f"{monitor.returncode}, {ended}")
+        check("a monitor: the server's end", server.ends() == (0, b""))
 
 
 def check_no_namespace(program, mountctl):
     """A namespace that is not there."""
     with Server(program) as server:
-        found = run(mountctl, b"", server.path, "watch", "9")
-        check("a watch of no namespace", found == (1, b"no NoNamespace\n", b""), repr(found))
+        found = run(mountctl, b"", server.path, "monitor", "9")
+        check("a monitor of no namespace", found == (1, b"no NoNamespace\n", b""), repr(found))
 
 
 def check_answered(mountctl):
     """What a server of any worth sends is told up to where it is at fault."""
     with Door() as door, concurrent.futures.ThreadPoolExecutor(1) as pool:
-        for answer, sent, ended in ANSWERED:
-            running = pool.submit(run, mountctl, b"", door.path, "watch", "all")
+        for answer, sent, told, status in ANSWERED:
+            running = pool.submit(run, mountctl, b"", door.path, "monitor", "all")
             found = door.answers(answer)
-            check(f"a watch that is answered {answer!r}: what it sends", found == sent, repr(found))
+            check(f"a monitor that is answered {answer!r}: what it sends", found == sent, repr(found))
             found = running.result()
-            check(f"a watch that is answered {answer!r}", found == ended, repr(found))
+            wanted = status, told, connection_fault(door.path) if status == 3 else b""
+            check(f"a monitor that is answered {answer!r}", found == wanted, repr(found))
 
 
-class Watch(Words):
-    """A watch, which says behind a part of what it tells that memory is missing."""
+class Monitor(Words):
+    """A monitor, which says behind a part of what it tells that memory is missing."""
 
     def allows(self, status, text, complaint):
         return (status, complaint) == (3, b"mountctl: out of memory\n") and self.plain[1].startswith(text)
@@ -119,27 +120,27 @@ def answer_all(door, text, ended):
 
 
 def check_memory(mountctl):
-    """Each allocation of a watch is refused in turn."""
+    """Each allocation of a monitor is refused in turn."""
     ended = threading.Event()
     with Door() as door, tempfile.TemporaryDirectory() as folder:
         answering = threading.Thread(target=answer_all, args=(door, OPENING + POSTS + b"no Stopped\n", ended))
         answering.start()
         try:
-            refusing, watch = Refusing(folder), Watch(mountctl, [door.path, "watch", "all"])
-            check("a watch that is answered", watch.plain == (1, WORDS + b"no Stopped\n", b""), repr(watch.plain))
-            count = refusing.count(watch)
-            refusing.each(watch, "a watch", count)
+            refusing, monitor = Refusing(folder), Monitor(mountctl, [door.path, "monitor", "all"])
+            check("a monitor that is answered", monitor.plain == (1, WORDS + b"no Stopped\n", b""), repr(monitor.plain))
+            count = refusing.count(monitor)
+            refusing.each(monitor, "a monitor", count)
         finally:
             ended.set()
             with Client(door.path):
                 pass
             answering.join()
-        print(f"{count} allocations of a watch refused in turn", flush=True)
+        print(f"{count} allocations of a monitor refused in turn", flush=True)
 
 
 def check_telling(program, mountctl):
-    """What a watch tells, with a server and with others, and without memory."""
-    check_watch(program, mountctl)
+    """What a monitor tells, with a server and with others, and without memory."""
+    check_monitor(program, mountctl)
     check_no_namespace(program, mountctl)
     check_answered(mountctl)
     check_memory(mountctl)

@@ -6,9 +6,9 @@ _mountctl_words()
 {
     local count=$#
     case $1:$count in
-        :0) echo mkfs mkdir newns copyns dropns mount bind rbind move pivot umount detach setattr show find watch take follow close quit stop - mirror tree dot ;;
+        :0) echo mkfs mkdir newns copyns dropns mount bind rbind move pivot umount detach setattr show find watch take follow close quit stop - monitor mirror tree dot ;;
         copyns:2) echo less ;;
-        watch:1) echo all ;;
+        watch:1 | monitor:1) echo all ;;
         tree:[12]) [[ " $* " == *" --ascii "* ]] || echo --ascii ;;
         setattr:[3-9])
             # Each option may be there once.

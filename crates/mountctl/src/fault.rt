@@ -5,10 +5,13 @@ use mt_client::fault::ClientFault;
 use mt_lines::line::ReadFault;
 use std::alloc::{AllocError, AllocFailed};
 
+/// What is said where there is no whole answer. Behind it stand the socket's path and the reason.
+pub(crate) const CONNECTION_FAULT: &str = "connection fault";
+
 /// Why a task was not done to its end.
 #[derive(Clone, Copy)]
 pub(crate) enum Fault {
-    /// There is no server, the connection failed or ended early, or what came over it is no answer.
+    /// The connection failed or ended early, or what came over it is no answer.
     Connection,
     /// Standard input could not be read.
     Input,
@@ -22,7 +25,7 @@ impl Fault {
     /// What is said on standard error.
     pub(crate) fn message(self) -> &'static str {
         match self {
-            Fault::Connection => "connection fault",
+            Fault::Connection => CONNECTION_FAULT,
             Fault::Input => "read fault",
             Fault::Output => WRITE_FAULT,
             Fault::NoMemory => OUT_OF_MEMORY,

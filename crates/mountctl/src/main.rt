@@ -8,12 +8,13 @@ mod script;
 mod task;
 
 use crate::connection::connect;
-use crate::fault::Fault;
+use crate::fault::{CONNECTION_FAULT, Fault};
 use crate::import::{ImportFault, ROW_LIMIT, import};
 use crate::script::{SCRIPT_LIMIT, run_script};
 use crate::task::{Task, WordFault, task_of};
 use clap::{Arg, ArgAction, Command, Error};
 use mt_arguments::program::{Program, read_arguments};
+use mt_arguments::socket::SocketFault;
 use mt_client::ask::ask;
 use mt_client::mirror::mirror;
 use mt_client::picture::draw;
@@ -22,9 +23,9 @@ use mt_lines::line::LineReader;
 use mt_lines::stream::{Reading, Writing};
 use mt_requests::help::LINES;
 use std::alloc::{AllocError, Global};
-use std::io;
 use std::os::unix::net::UnixStream;
 use std::process::ExitCode;
+use std::{fs, io};
 
 /// The name that the program goes by in its messages.
 const NAME: &str = "mountctl";
@@ -43,7 +44,7 @@ const TASKS: &str = "
 
 In the place of WORD..:
   -                        sends the lines of standard input, one after another, but for comments
-  watch NS, watch all      tells each change as it comes, in words
+  monitor NS, monitor all  tells each change as it comes, in words
   mirror NS K              follows K posts of a namespace, and shows the table that they lead to
   tree [NS] [--ascii]      draws the mounts of a namespace, or of all, each below its parent
   dot                      draws all mounts and peer groups as a graph for Graphviz
@@ -121,12 +122,17 @@ fn run_words(rt: &HostRuntime, socket: &str, words: &[&str]) -> ExitCode {
         Ok(task) => task,
         Err(fault) => return PROGRAM.refuse(rt, fault.message()),
     };
-    let Ok(stream) = connect(rt, socket) else {
-        return PROGRAM.fail(rt, Fault::Connection.message());
+    let stream = match connect(rt, socket) {
+        Ok(stream) => stream,
+        Err(error) => {
+            let fault = SocketFault::new(socket, &error, &fs::metadata(rt, socket));
+            return PROGRAM.fail_at(rt, CONNECTION_FAULT, socket, fault);
+        }
     };
     match run_task(rt, &stream, task, words) {
         Ok(true) => ExitCode::SUCCESS,
         Ok(false) => ExitCode::from(1),
+        Err(Fault::Connection) => PROGRAM.fail_at(rt, CONNECTION_FAULT, socket, "no whole answer"),
         Err(fault) => PROGRAM.fail(rt, fault.message()),
     }
 }

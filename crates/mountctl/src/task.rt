@@ -4,9 +4,6 @@ use mt_draw::drawing::Drawing;
 use mt_events::opening::Scope;
 use mt_words::words::number;
 
-/// The most posts that a mirror follows.
-const MOST_POSTS: u64 = 1_048_576;
-
 /// What the words behind the socket ask for.
 #[derive(Clone, Copy)]
 pub(crate) enum Task {
@@ -25,8 +22,8 @@ pub(crate) enum Task {
 /// Words that begin as those of a task which is no request, and go on in another way.
 #[derive(Clone, Copy)]
 pub(crate) enum WordFault {
-    /// Behind `watch`.
-    Watch,
+    /// Behind `monitor`.
+    Monitor,
     /// Behind `mirror`.
     Mirror,
     /// Behind `tree`.
@@ -41,8 +38,8 @@ impl WordFault {
     /// What is said on standard error.
     pub(crate) fn message(self) -> &'static str {
         match self {
-            WordFault::Watch => "watch takes a namespace, or all",
-            WordFault::Mirror => "mirror takes a namespace and a count of 1 to 1048576",
+            WordFault::Monitor => "monitor takes a namespace, or all",
+            WordFault::Mirror => "mirror takes a namespace and a count",
             WordFault::Tree => "tree takes a namespace, or none, and --ascii",
             WordFault::Graph => "dot takes no words",
             WordFault::Import => "import takes no words, and reads a mountinfo from standard input",
@@ -50,8 +47,8 @@ impl WordFault {
     }
 }
 
-/// The watch of these words, or None where they are neither a namespace nor `all`.
-fn watch_of(words: &[&str]) -> Option<Task> {
+/// The telling of these words, or None where they are neither a namespace nor `all`.
+fn monitor_of(words: &[&str]) -> Option<Task> {
     let [word] = words else {
         return None;
     };
@@ -63,16 +60,13 @@ fn watch_of(words: &[&str]) -> Option<Task> {
     Some(Task::Tell { scope })
 }
 
-/// The mirror of these words, or None where they are no namespace and count.
+/// The mirror of these words, or None where they are not two numbers. A count that is none is the server's to refuse.
 fn mirror_of(words: &[&str]) -> Option<Task> {
     let [space, count] = words else {
         return None;
     };
     let space = number(space.as_bytes())?;
     let count = number(count.as_bytes())?;
-    if count == 0 || count > MOST_POSTS {
-        return None;
-    }
     Some(Task::Mirror { space, count })
 }
 
@@ -95,11 +89,12 @@ fn tree_of(words: &[&str]) -> Option<Task> {
     Some(Task::Draw { scope, drawing })
 }
 
-/// The task of these words.
+/// The task of these words: the client's own where the first is one of its own, which no line begins with, and else the
+/// line that they are.
 pub(crate) fn task_of(words: &[&str]) -> Result<Task, WordFault> {
     match words {
         ["-"] => Ok(Task::Script),
-        ["watch", behind @ ..] => watch_of(behind).ok_or(WordFault::Watch),
+        ["monitor", behind @ ..] => monitor_of(behind).ok_or(WordFault::Monitor),
         ["mirror", behind @ ..] => mirror_of(behind).ok_or(WordFault::Mirror),
         ["tree", behind @ ..] => tree_of(behind).ok_or(WordFault::Tree),
         ["dot"] => Ok(Task::Draw {

@@ -39,17 +39,23 @@ const SESSIONS: usize = 32;
 struct Options {
     /// The path of the socket, or [`STANDARD`].
     socket: String,
+    /// Whether a socket that a killed server has left at the path is replaced.
+    replaces: bool,
     /// What the server is held to.
     limits: Limits,
 }
 
-/// What the program takes: a socket or `-`, how long queues are, how many sessions there may be, and how long one may
-/// be idle.
+/// What the program takes: a socket or `-`, whether a stale socket is replaced, how long queues are, how many sessions
+/// there may be, and how long one may be idle.
 fn parser<'a>(alloc: Global) -> Result<Command<'a>, Error> {
     let socket = Arg::new(alloc, "SOCKET")
         .help("The socket to listen on, or - for one session on standard input and output")
         .required(true)
         .action(ArgAction::Set);
+    let replace = Arg::new(alloc, "replace")
+        .long("replace")
+        .help("Take the place of a socket at which nobody listens, which a killed server has left")
+        .action(ArgAction::SetTrue);
     let queue = Arg::new(alloc, "queue")
         .long("queue")
         .value_name("N")
@@ -73,6 +79,7 @@ fn parser<'a>(alloc: Global) -> Result<Command<'a>, Error> {
     let command = Command::new(alloc, NAME)
         .arg(socket)?
         .after_help(LINES)
+        .arg(replace)?
         .arg(queue)?
         .arg(sessions)?
         .arg(idle)?;
@@ -85,6 +92,7 @@ fn read_options(alloc: Global, words: &[&str]) -> Result<Options, Error> {
     let socket = matches.get_str("SOCKET").unwrap_or(STANDARD);
     Ok(Options {
         socket: String::from_str(alloc, socket)?,
+        replaces: matches.get_flag("replace"),
         limits: Limits {
             queue: matches.get_one::<usize>("queue").unwrap_or(QUEUE),
             sessions: matches.get_one::<usize>("sessions").unwrap_or(SESSIONS),
@@ -119,11 +127,11 @@ fn serve_standard(rt: &HostRuntime, queue: usize) -> ExitCode {
     }
 }
 
-/// Says how a server on a socket has ended, if that is a fault.
-fn tell(rt: &HostRuntime, served: Served) -> ExitCode {
+/// Says how a server on the socket of a path has ended, if that is a fault.
+fn tell(rt: &HostRuntime, path: &str, served: Served) -> ExitCode {
     match served {
         Served::Stopped => ExitCode::SUCCESS,
-        Served::NotListening => PROGRAM.fail(rt, "cannot listen"),
+        Served::NotListening(fault) => PROGRAM.fail_at(rt, "cannot listen", path, fault),
         Served::NotAccepting => PROGRAM.fail(rt, "cannot accept"),
         Served::NoMemory => PROGRAM.fail(rt, OUT_OF_MEMORY),
     }
@@ -148,7 +156,11 @@ fn main(rt: HostRuntime) -> ExitCode {
     if options.socket.as_str() == STANDARD {
         return serve_standard(&rt, options.limits.queue);
     }
-    let Options { socket, limits } = options;
-    let served = serve_socket(&rt, rt.alloc(), &socket, limits);
-    tell(&rt, served)
+    let Options {
+        socket,
+        replaces,
+        limits,
+    } = options;
+    let served = serve_socket(&rt, rt.alloc(), &socket, replaces, limits);
+    tell(&rt, socket.as_str(), served)
 }

@@ -2,6 +2,7 @@
 ghost use Rattle.std.specs.Prelude.{◌≡◌, ◌<◌};
 
 use crate::listening::{listen, socket_at};
+use mt_arguments::socket::SocketFault;
 use mt_desk::desk::Desk;
 use mt_desk::lines::{Lines, Naming};
 use mt_server::server::{Premises, ServerFault, run_server};
@@ -9,17 +10,13 @@ use mt_session::bell::Bell;
 use mt_session::gate::OpenGate;
 use std::alloc::Global;
 use std::fs;
-use std::fs::{Files, Permissions};
+use std::fs::Files;
 use std::marker::Brand;
 use std::net::{Net, TcpListener, TcpStream};
-use std::os::unix::fs::PermissionsExt;
 use std::os::unix::net::UnixListener;
 use std::sync::{Mutex, Wait};
 use std::thread::Threads;
 use std::time::Clock;
-
-/// Who may connect: the user whose server it is.
-const MODE: u32 = 0o600;
 
 /// The most posts that a queue may hold.
 pub(crate) const MOST_POSTS: usize = 1_024;
@@ -40,8 +37,8 @@ pub(crate) struct Limits {
 pub(crate) enum Served {
     /// A session has stopped it.
     Stopped,
-    /// There is something at the path that stays, or no socket can be made there.
-    NotListening,
+    /// No socket could be made at the path.
+    NotListening(SocketFault),
     /// It could not accept connections.
     NotAccepting,
     /// There was no memory for the server's own.
@@ -99,21 +96,25 @@ where
 
 /// Makes a socket at a path and serves sessions on it until one stops the server.
 ///
-/// There may be nothing at the path but a socket that a killed server has left. Only the user whose
-/// server it is may connect, and who connects may do everything. At the end the socket is taken away,
+/// There may be nothing at the path, but where the server `replaces` it, a socket that a killed server has left. Only
+/// the user whose server it is may connect, and who connects may do everything. At the end the socket is taken away,
 /// if it still is the one that was made.
-pub(crate) fn serve_socket<R>(rt: &R, alloc: Global, path: &String, limits: Limits) -> Served
+pub(crate) fn serve_socket<R>(
+    rt: &R,
+    alloc: Global,
+    path: &String,
+    replaces: bool,
+    limits: Limits,
+) -> Served
 where
     R: Threads + Wait + Clock + Files + Net<Listener = TcpListener, Stream = TcpStream> + Sync,
 {
-    let Some(listener) = listen(rt, path.as_str()) else {
-        return Served::NotListening;
+    let listener = match listen(rt, path.as_str(), replaces) {
+        Ok(listener) => listener,
+        Err(fault) => return Served::NotListening(fault),
     };
     let made = socket_at(rt, path.as_str());
-    let served = match fs::set_permissions(rt, path.as_str(), Permissions::from_mode(MODE)) {
-        Ok(()) => serve_listener(rt, alloc, path, &listener, limits),
-        Err(_) => Served::NotListening,
-    };
+    let served = serve_listener(rt, alloc, path, &listener, limits);
     if made.is_some() && socket_at(rt, path.as_str()) == made {
         let _ = fs::remove_file(rt, path.as_str());
     }

@@ -1,4 +1,5 @@
-//! The arguments of a program, and what it says of those that are no good. Both programs take them so.
+//! The arguments of a program, and what it says of those that are no good, or of its socket. Both programs take them so.
 #![tactic(auto)]
 
 pub mod program;
+pub mod socket;

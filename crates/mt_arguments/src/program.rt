@@ -5,6 +5,7 @@ use clap::Error;
 use clap::error::ErrorKind;
 use std::alloc::{AllocError, AllocGlobal, Global};
 use std::env::Env;
+use std::fmt::Display;
 use std::io::{Eprint, Print};
 use std::process::ExitCode;
 use std::{env, io};
@@ -31,6 +32,18 @@ impl Program {
     /// Says on standard error why a run fails, and answers its status.
     pub fn fail<R: Eprint>(self, rt: &R, why: &str) -> ExitCode {
         let _ = eprintln!(rt; "{}: {why}", self.name);
+        ExitCode::from(self.failed)
+    }
+
+    /// Says on standard error why a run fails, at which path, and for what reason, and answers its status.
+    pub fn fail_at<R: Eprint, D: Display + Drop>(
+        self,
+        rt: &R,
+        why: &str,
+        path: &str,
+        reason: D,
+    ) -> ExitCode {
+        let _ = eprintln!(rt; "{}: {why}: {path}: {reason}", self.name);
         ExitCode::from(self.failed)
     }
 

@@ -1,0 +1,58 @@
+//! Why a socket cannot be had at a path, in words.
+
+use std::fmt::{Display, Formatter};
+use std::fs::Metadata;
+use std::io::ErrorKind;
+use std::os::unix::fs::FileTypeExt;
+use std::{fmt, io};
+
+/// The longest path of a Unix socket, in bytes: the address has 108, of which the last is a zero.
+const LONGEST: usize = 107;
+
+/// Why no socket can be made at a path, or none be reached there.
+#[derive(Clone, Copy)]
+pub enum SocketFault {
+    /// The path is empty.
+    NoPath,
+    /// The path has more than 107 bytes.
+    LongPath,
+    /// There is a file at the path that is no socket.
+    NoSocket,
+    /// The system's call failed so.
+    Call(ErrorKind),
+}
+
+/// Whether a file is known not to be a socket: it is there, and another.
+fn is_another(file: &io::Result<Metadata>) -> bool {
+    match file {
+        Ok(file) => !file.file_type().is_socket(),
+        Err(_) => false,
+    }
+}
+
+impl SocketFault {
+    /// What a failed call says of a path, at which a look finds this file. The system tells of a file that is no socket
+    /// what it tells of a socket that is in use, or at which nobody listens, so such a file is looked at.
+    pub fn new(path: &str, error: &io::Error, file: &io::Result<Metadata>) -> SocketFault {
+        match error.kind() {
+            _ if path.is_empty() => SocketFault::NoPath,
+            _ if path.len() > LONGEST => SocketFault::LongPath,
+            ErrorKind::AddrInUse | ErrorKind::ConnectionRefused if is_another(file) => {
+                SocketFault::NoSocket
+            }
+            kind => SocketFault::Call(kind),
+        }
+    }
+}
+
+impl Display for SocketFault {
+    fn fmt<W: fmt::Write>(&self, f: &mut Formatter<W>) -> fmt::Result {
+        match self {
+            SocketFault::NoPath => f.write_str("path is empty"),
+            SocketFault::LongPath => f.write_str("path too long"),
+            SocketFault::NoSocket => f.write_str("is no socket"),
+            SocketFault::Call(ErrorKind::NotFound) => f.write_str("no such file or directory"),
+            SocketFault::Call(kind) => kind.fmt(f),
+        }
+    }
+}
