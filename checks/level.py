@@ -29,6 +29,19 @@ COMMANDS = 1_000_000
 PORTION = 5_000
 MOST_KILOBYTES = 130_000
 
+# Commands on a path of 2,000 names that change nothing, and how much more each may need, in bytes: that of the path, two
+# for each name, and as much again. Mounts of filesystems that are 31 directories deep lead there.
+DEAR_COMMANDS = 10_000
+MOST_BYTES = 8 << 10
+DOWN = b"/a" * 31
+DEAR_PATH = b"/m" + b"/a" * 1_999
+DEAR_WORLD = [
+    *(b"mkfs a tmpfs none", b"mkfs d ext4 /dev/x", b"mkdir a /m", b"newns a"),
+    *(b"mkdir d " + b"/a" * depth for depth in range(1, 32)),
+    *(b"mount 1 d /m" + DOWN * above for above in range(65)),
+    b"mount 1 d " + DEAR_PATH,
+]
+
 # Namespaces are made and dropped in so many rounds. The journal of 130,000 commands is 17,000 kB, and half as much again
 # where it has just grown. A round at the end, the fastest of the last ones, may take so many times as long as the
 # fastest of the first ones, in one of so many sessions: a machine that is shared may become slower within one, for the
@@ -91,6 +104,18 @@ def nothing_changed(program):
     print(f"{COMMANDS} commands that change nothing: {peak} kB")
 
 
+def nothing_changed_far_down(program):
+    session = Session(program)
+    accepted = session.send(DEAR_WORLD)
+    before = session.peak()
+    for _portion in range(DEAR_COMMANDS // 10):
+        accepted = session.send([b"setattr 1 " + DEAR_PATH] * 10) and accepted
+    each = (session.peak() - before) * 1_024 // DEAR_COMMANDS
+    check("commands on a long path", accepted and session.end() == 0)
+    check("memory of commands on a long path", each <= MOST_BYTES, f"{each} bytes each")
+    print(f"{DEAR_COMMANDS} commands on a path of 2,000 names: {each} bytes each")
+
+
 def made_and_dropped(program):
     """Makes and drops namespaces in a new session: milliseconds of a round at first, and at last."""
     session = Session(program)
@@ -130,3 +155,4 @@ def check_level(program):
     filled_and_emptied(program)
     made_as_fast(program)
     nothing_changed(program)
+    nothing_changed_far_down(program)

@@ -31,6 +31,7 @@ from clients import (
     check_statuses,
 )
 from crowds import check_crowds
+from deep import check_deep
 from importing import check_import
 from limits import COMMANDS
 from paths import check_made, check_paths, check_stale, check_stopped
@@ -315,6 +316,7 @@ PARTS = {
     "unread": check_unread,
     "gone": check_gone,
     "lag": check_lag,
+    "deep": check_deep,
     "many": check_many,
     "signals": check_signals,
     "wanting": check_wanting,

@@ -1,4 +1,4 @@
-"""Each command in worlds of some 4,000 mounts, of ten shapes: the answers are the stored ones, in seconds.
+"""Each command in worlds of some 4,000 mounts, of eleven shapes: the answers are the stored ones, in seconds.
 A module, a part of program.py.
 
 The answers in shapes.txt are, for the first six shapes, those of the program that scanned all mounts for each question,
@@ -100,6 +100,12 @@ def low():
     return lines
 
 
+def named():
+    """64 mounts of 31 directories, each below the last one, in 30 namespaces: the lowest has a mount point of 1,954 names."""
+    lines = [b"mkdir d " + b"/n" * depth for depth in range(1, 32)]
+    return lines + [b"mount 1 d /m" + b"/n" * 31 * above for above in range(64)] + [b"copyns 1"] * 29
+
+
 # Each world with a place in it, a place above that or elsewhere, and a free one.
 SHAPES = {
     "wide": (wide, b"/d7", b"/d3999", b"/x"),
@@ -112,6 +118,7 @@ SHAPES = {
     "hidden": (hidden, b"/h7", b"/h1099", b"/g0/t"),
     "falling": (falling, b"/d1899", b"/d1899/u", b"/x"),
     "low": (low, b"/l7", b"/k1299", b"/x"),
+    "named": (named, b"/m" + b"/n" * 31 * 62, b"/m" + b"/n" * 31, b"/m" + b"/n" * 31 * 64),
 }
 
 # What some worlds are asked first.

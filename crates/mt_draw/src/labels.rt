@@ -48,7 +48,7 @@ fn push_point(text: &mut Vec<u8>, row: &Row) -> Result<(), AllocError>
     ensures { OnOk result (text.new.items ≡ text.old.items ++ label_text (path_text row.now.point)) }
 {
     let mut path = Vec::new(*text.allocator());
-    push_path(&mut path, row.point.as_slice())?;
+    push_path(&mut path, &row.point)?;
     push_label_bytes(text, &path)
 }
 

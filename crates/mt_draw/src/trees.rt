@@ -100,7 +100,7 @@ fn cells_of(alloc: Global, strokes: Strokes, branch: &Branch<'_>) -> Result<Cell
     let row = branch.row();
     let mut target = Vec::new(alloc);
     push_lead(&mut target, strokes, branch.lasts())?;
-    push_path(&mut target, row.point.as_slice())?;
+    push_path(&mut target, &row.point)?;
     let mut source = Vec::new(alloc);
     push_label(&mut source, &row.source)?;
     let mut kind = Vec::new(alloc);

@@ -9,7 +9,8 @@ ghost use Rattle.mt_info.specs.Reading.{is_bare};
 
 use mt_skel::escape::unescape;
 use mt_skel::fault::Fault;
-use mt_skel::name::{Label, Name, Names};
+use mt_skel::name::{Label, Name};
+use mt_skel::names::Names;
 use mt_skel::skel::FsId;
 use mt_words::words::{Pieces, number};
 use std::alloc::Global;
@@ -88,15 +89,16 @@ fn read_name(alloc: Global, piece: &[u8]) -> Result<Name, Fault>
 }
 
 /// The names that stand between slashes.
-fn read_names(alloc: Global, text: &[u8]) -> Result<Vec<Name>, Fault>
-    ensures names { IfOk result (λ names. pieces 47 text.now ≡ map escaped names.items) }
-    ensures valid { IfOk result (λ names. IsTrue (list_all is_name names.items)) }
+fn read_names(alloc: Global, text: &[u8]) -> Result<Names, Fault>
+    ensures names { IfOk result (λ names. pieces 47 text.now ≡ map escaped names) }
+    ensures valid { IfOk result (λ names. IsTrue (list_all is_name names)) }
     ensures refused { IfErr result (λ fault. fault ≢ Fault.NoMemory → (fault ≡ Fault.BadLine) × ((names : List (List ℕ)) → IsTrue (list_all is_name names) → pieces 47 text.now ≢ map escaped names)) }
 {
-    let mut names = Vec::new(alloc);
+    let mut names = Names::root(alloc);
     let mut pieces = Pieces::new(b'/', text);
     'pieces: while let Some(piece) = pieces.next() {
-        names.push(read_name(alloc, piece)?)?;
+        let name = read_name(alloc, piece)?;
+        names = names.with(&name)?;
     }
     Ok(names)
 }
@@ -114,8 +116,8 @@ pub(crate) fn read_path(alloc: Global, word: &[u8]) -> Result<Names, Fault>
         return Err(Fault::BadLine);
     }
     if text.is_empty() {
-        return Ok(Names::new(Vec::new(alloc)));
+        return Ok(Names::root(alloc));
     }
     let names = read_names(alloc, text)?;
-    Ok(Names::new(names))
+    Ok(names)
 }

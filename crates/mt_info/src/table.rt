@@ -1,7 +1,8 @@
 //! The mounts of one namespace.
-ghost use Rattle.std.specs.Prelude.{◌≡◌, ◌≢◌, ◌↔◌, ◌++◌, IsSome, IfSome, false, true, IfErr, IfOk, IsOkUnless, IsTrue, OnOk, MatchOption, Err, Some, None, drop};
+ghost use Rattle.std.specs.Prelude.{◌≡◌, ◌≢◌, ◌↔◌, ◌++◌, IsSome, IfSome, false, true, IfErr, IfOk, IsOkUnless, IsTrue, OnOk, MatchOption, Err, Some, None};
 ghost use Rattle.std.specs.Option.{option_map_or};
 ghost use Rattle.mt_skel.specs.Keyed.{rises, row_at};
+ghost use Rattle.mt_skel.specs.Skeleton.{is_directory, directory};
 ghost use Rattle.mt_mounts.specs.declared.mount.Place.{Place as PlaceOf};
 ghost use Rattle.mt_mounts.specs.Forest.{mount_at, parents_up};
 ghost use Rattle.mt_propagate.specs.World.{world_view, is_space};
@@ -17,7 +18,8 @@ use mt_mounts::mount::{Mount, MountId, SpaceId};
 use mt_propagate::seen::SeenGroups;
 use mt_propagate::world::{World, state_of};
 use mt_skel::fault::Fault;
-use mt_skel::name::{Name, Names};
+use mt_skel::names::Names;
+use mt_skel::skel::Dir;
 use std::alloc::{AllocError, Global};
 use std::marker::Model;
 
@@ -202,7 +204,7 @@ fn row_of_mount(seen: &mut SeenGroups<'_>, mount: &Mount) -> Result<Row, Fault>
         id: mount.id,
         parent: parent_or_itself(mount),
         minor,
-        root: Names::new(world.skel.path_of(mount.root)?),
+        root: path_to(world, mount.root)?,
         point: mount_point(world, mount.id)?,
         attrs: mount.attrs,
         shared: state.group,
@@ -233,11 +235,23 @@ fn mount_point(world: &World, id: MountId) -> Result<Names, Fault>
     let mut above = Vec::new(world.forest.allocator());
     fill_above(&mut above, &world.forest, id)?;
     above.reverse();
-    let mut point = Vec::new(world.forest.allocator());
+    let mut point = Names::root(world.forest.allocator());
     for mount in &above {
-        push_own_names(&mut point, world, *mount)?;
+        point = add_own_names(point, world, *mount)?;
     }
-    Ok(Names::new(point))
+    // The copy has no more memory than it needs.
+    point.copy()
+}
+
+/// The path from the root of its filesystem down to a directory.
+fn path_to(world: &World, dir: Dir) -> Result<Names, Fault>
+    requires { IsTrue (is_directory world.now.skel dir) }
+    ensures path { IfOk result (λ path. path ≡ (directory world.now.skel dir).path) }
+    ensures memory { IsOkUnless result Fault.NoMemory }
+{
+    let root = Names::root(world.forest.allocator());
+    let path = world.skel.add_path(root, dir, world.skel.depth(dir))?;
+    path.copy()
 }
 
 /// Puts a mount, its parent, and so on into a list, and nothing else. Fails for want of memory alone.
@@ -261,36 +275,23 @@ pub(crate) fn fill_above(
     Ok(())
 }
 
-/// Appends the names that a mount adds to the mount point of its parent.
-fn push_own_names(point: &mut Vec<Name>, world: &World, id: MountId) -> Result<(), Fault>
-    requires well_formed { IsWellFormed (world_view world.now) }
-    ensures names { OnOk result (point.new.items ≡ point.old.items ++ own_names (world_view world.now) id) }
-    ensures memory { IsOkUnless result Fault.NoMemory }
+/// The mount point of its parent with the names that a mount adds to it. Fails for want of memory alone.
+fn add_own_names(point: Names, world: &World, id: MountId) -> Result<Names, AllocError>
+    requires { IsWellFormed (world_view world.now) }
+    ensures { IfOk result (λ names. names ≡ point ++ own_names (world_view world.now) id) }
 {
     let Some(mount) = world.forest.get(id) else {
-        return Ok(());
+        return Ok(point);
     };
     let Some(place) = mount.place else {
-        return Ok(());
+        return Ok(point);
     };
     let Some(parent) = world.forest.get(place.mount) else {
-        return Ok(());
+        return Ok(point);
     };
-    let depth = world.skel.depth(parent.root);
-    let names = world.skel.path_of(place.dir)?;
-    push_names(point, names.as_slice(), depth)
-}
-
-/// Appends copies of the names of a path behind the first so many.
-fn push_names(point: &mut Vec<Name>, path: &[Name], depth: usize) -> Result<(), Fault>
-    ensures names { OnOk result (point.new.items ≡ point.old.items ++ drop depth path.now) }
-    ensures memory { IsOkUnless result Fault.NoMemory }
-{
-    if depth >= path.len() {
-        return Ok(());
-    }
-    for name in &path[depth..] {
-        point.push(name.copy()?)?;
-    }
-    Ok(())
+    let below = world.skel.depth(place.dir);
+    let outer = world.skel.depth(parent.root);
+    let count = below.saturating_sub(outer);
+    let names = world.skel.add_path(point, place.dir, count)?;
+    Ok(names)
 }

@@ -11,7 +11,8 @@ ghost use Rattle.mt_requests.specs.Requests.{text_length, label_bytes, path_faul
 use crate::label::text_length;
 use mt_skel::escape::{unescape, unescaped_len};
 use mt_skel::fault::Fault;
-use mt_skel::name::{Name, Names};
+use mt_skel::name::Name;
+use mt_skel::names::Names;
 use mt_words::words::Pieces;
 use std::alloc::Global;
 
@@ -99,15 +100,16 @@ fn name_of(alloc: Global, piece: &[u8]) -> Result<Name, Fault>
 }
 
 /// The names that stand between slashes. Refused as `NoMemory` alone.
-fn names_between(alloc: Global, text: &[u8]) -> Result<Vec<Name>, Fault>
+fn names_between(alloc: Global, text: &[u8]) -> Result<Names, Fault>
     requires { list_all (λ piece. option_map_or is_name (unescaped piece) false) (pieces 47 text.now) ≡ true }
-    ensures names { IfOk result (λ names. names.items ≡ map label_bytes (pieces 47 text.now)) }
+    ensures names { IfOk result (λ names. names ≡ map label_bytes (pieces 47 text.now)) }
     ensures memory { IsOkUnless result Fault.NoMemory }
 {
-    let mut names = Vec::new(alloc);
+    let mut names = Names::root(alloc);
     let mut pieces = Pieces::new(b'/', text);
     while let Some(piece) = pieces.next() {
-        names.push(name_of(alloc, piece)?)?;
+        let name = name_of(alloc, piece)?;
+        names = names.with(&name)?;
     }
     Ok(names)
 }
@@ -119,8 +121,8 @@ pub fn path_of(alloc: Global, word: &[u8]) -> Result<Names, Fault>
     ensures memory { IsOkUnless result Fault.NoMemory }
 {
     if word.len() == 1 {
-        return Ok(Names::new(Vec::new(alloc)));
+        return Ok(Names::root(alloc));
     }
     let names = names_between(alloc, &word[1..])?;
-    Ok(Names::new(names))
+    Ok(names)
 }

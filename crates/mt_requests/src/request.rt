@@ -9,7 +9,7 @@ use crate::watching::read_watching;
 use mt_book::command::Command;
 use mt_events::opening::Scope;
 use mt_skel::fault::Fault;
-use mt_skel::name::Names;
+use mt_skel::names::Names;
 use mt_words::words::{Words, number, words};
 use std::alloc::Global;
 

@@ -8,7 +8,7 @@ use crate::text::Text;
 use mt_book::book::Book;
 use mt_events::texts::push_heading;
 use mt_skel::fault::Fault;
-use mt_skel::name::Names;
+use mt_skel::names::Names;
 use std::alloc::Global;
 
 /// The lines that show a namespace's table.
@@ -42,7 +42,8 @@ pub(crate) fn find(alloc: Global, book: &Book, space: u64, path: &Names) -> Resu
     ensures ok { IfOk result (λ text. text ≡ found_text (found_at (after book.now.journal) space path.now)) }
     ensures memory { IfErr result (λ fault. fault ≡ Fault.NoMemory) }
 {
-    match book.find(space, path.as_slice()) {
+    let names = path.to_vec()?;
+    match book.find(space, names.as_slice()) {
         Ok((mount, names)) => Ok(Text::place(alloc, mount, &names)?),
         Err(Fault::NoMemory) => Err(Fault::NoMemory),
         Err(fault) => Ok(Text::refusal(fault)),

@@ -8,7 +8,7 @@ use itoa::Buffer;
 use mt_book::command::Reply;
 use mt_events::opening::Opening;
 use mt_events::texts::{counted_lines, lines_of_opening};
-use mt_info::print::{push_number, push_path};
+use mt_info::print::{push_names, push_number};
 use mt_mounts::mount::MountId;
 use mt_skel::fault::Fault;
 use mt_skel::name::Name;
@@ -88,7 +88,7 @@ impl Text {
         line.extend_from_slice(b"ok ")?;
         push_number(&mut line, mount)?;
         line.extend_from_slice(b" ")?;
-        push_path(&mut line, names)?;
+        push_names(&mut line, names)?;
         line.extend_from_slice(b"\n")?;
         Ok(Text {
             body: Body::Long(line),

@@ -9,6 +9,7 @@ pub mod IndexLaws
 pub mod KeyedLaws
 pub mod ListLaws
 pub mod MiddleLaws
+pub mod NamesLaws
 pub mod NodeLaws
 pub mod OutcomeLaws
 pub mod SearchLaws

@@ -116,3 +116,15 @@ written_more f here up x n text0 text1 text2 e l e1 e2 =
 pub written_none : {X A : Type 0} (f : X → List A) (here : List X) (n : ℕ) (text : List A) → here ≡ [] → text ≡ text ++ flat_map f (drop (length here - n) here)
 written_none f [] n text e = sym (ap (λ h. text ++ flat_map f h) (drop_all (0 - n) [] (omega arith)) ∙ append-nil text)
 written_none f (x ∷ xs) n text e = absurd (cc)
+
+-- a list with the last so many at its end, and one more of them
+pub joined_more : {X : Type 0} (here up : List X) (x : X) (n : ℕ) (list0 list1 list2 : List X) → here ≡ up ++ x ∷ [] → 1 ≤ n
+    → list1 ≡ list0 ++ drop (length up - (n - 1)) up → list2 ≡ list1 ++ x ∷ [] → list2 ≡ list0 ++ drop (length here - n) here
+joined_more here up x n list0 list1 list2 e l e1 e2 =
+    let above = drop (length up - (n - 1)) up in
+    e2 ∙ ap (λ t. t ++ x ∷ []) e1 ∙ append_assoc list0 above (x ∷ []) ∙ ap (λ t. list0 ++ t) (sym (last_more here up x n e l))
+
+-- nothing was added, since there is nothing to add
+pub joined_none : {X : Type 0} (here : List X) (n : ℕ) (list : List X) → here ≡ [] → list ≡ list ++ drop (length here - n) here
+joined_none [] n list e = sym (ap (λ h. list ++ h) (drop_all (0 - n) [] (omega arith)) ∙ append-nil list)
+joined_none (x ∷ xs) n list e = absurd (cc)

@@ -54,7 +54,7 @@ module _ {X : Type 0} (p : X → Bool) where
           ap p (sym w) ∙ f
       by false f ih (suc j) at = ih (sym (ap (λ b. cond b (Some k) (position_from p (k + 1) xs)) f) ∙ e) j at
 
-path_eq-Decides : (xs ys : List (List ℕ)) → Decides (path_eq xs ys) (xs ≡ ys)
+pub path_eq-Decides : (xs ys : List (List ℕ)) → Decides (path_eq xs ys) (xs ≡ ys)
 path_eq-Decides xs ys = slice_eq-Decides bytes_eq-Decides xs ys (path_eq xs ys) refl
 
 -- the tests say equality

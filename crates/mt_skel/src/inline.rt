@@ -1,9 +1,9 @@
 //! Bytes that lie in the value itself where they are few.
-ghost use Rattle.std.specs.Prelude.{◌≡◌};
+ghost use Rattle.std.specs.Prelude.{◌≡◌, IfOk};
 ghost use Rattle.mt_skel.specs.Kept.{bytes_of};
 
 use arrayvec::ArrayVec;
-use std::alloc::AllocError;
+use std::alloc::{AllocError, Global};
 
 /// At most 24 bytes, which take no memory.
 type Few = ArrayVec<u8, 24>;
@@ -35,6 +35,17 @@ impl Bytes {
             Ok(()) => Bytes::Short(short),
             Err(_full) => Bytes::Long(bytes),
         }
+    }
+
+    /// Bytes that are equal to these. Fails for want of memory alone.
+    pub(crate) fn copied(alloc: Global, bytes: &[u8]) -> Result<Bytes, AllocError>
+        ensures { IfOk result (λ copy. bytes_of copy ≡ bytes.now) }
+    {
+        let mut short = Few::new();
+        if short.try_extend_from_slice(bytes).is_ok() {
+            return Ok(Bytes::Short(short));
+        }
+        Ok(Bytes::Long(bytes.to_vec(alloc)?))
     }
 
     /// The bytes.

@@ -5,7 +5,7 @@ ghost use Rattle.mt_skel.specs.Names.{is_label, is_name};
 
 use crate::fault::Fault;
 use crate::inline::Bytes;
-use std::alloc::AllocError;
+use std::alloc::{AllocError, Global};
 use std::hash::{Hash, Hasher};
 use std::marker::Model;
 
@@ -144,6 +144,19 @@ impl Name {
         }
     }
 
+    /// The name of these bytes, which are one. Refused as `NoMemory` alone.
+    pub(crate) fn of(alloc: Global, bytes: &[u8]) -> Result<Name, Fault>
+        requires { IsTrue (is_name bytes.now) }
+        ensures name { IfOk result (λ name. name ≡ bytes.now) }
+        ensures memory { IsOkUnless result Fault.NoMemory }
+    {
+        Ok(Name {
+            label: Label {
+                bytes: Bytes::copied(alloc, bytes)?,
+            },
+        })
+    }
+
     /// The bytes, among which are neither zero nor `/`.
     pub fn bytes(&self) -> &[u8]
         ensures bytes { result.now ≡ self.now }
@@ -205,50 +218,5 @@ impl Hash for Name {
 
     fn hash<H: Hasher>(&self, state: &mut H) {
         self.bytes().hash(state);
-    }
-}
-
-/// The components of a path from a root directory down; the root itself has none.
-pub struct Names {
-    names: Vec<Name>,
-}
-
-impl Drop for Names {
-    fn drop(self) {
-        let Names { names: _names } = self;
-    }
-}
-
-impl Model for Names {
-    ghost use Rattle.std.specs.Prelude.{ℕ, List};
-
-    ghost Value = { List (List ℕ) };
-
-    ghost view = { λ n. n.names.items };
-}
-
-impl Names {
-    /// These names, in their order.
-    pub fn new(names: Vec<Name>) -> Names
-        ensures { result ≡ names.items }
-    {
-        Names { names }
-    }
-
-    /// The names as a path.
-    pub fn as_slice(&self) -> &[Name]
-        ensures { result.now ≡ self.now }
-    {
-        self.names.as_slice()
-    }
-
-    /// Equal names. Refused as `NoMemory` alone.
-    pub fn copy(&self) -> Result<Names, Fault>
-        ensures copy { IfOk result (λ names. names ≡ self.now) }
-        ensures memory { IsOkUnless result Fault.NoMemory }
-    {
-        Ok(Names {
-            names: self.names.clone()?,
-        })
     }
 }

@@ -8,6 +8,7 @@ use crate::children::Children;
 use crate::escape::push_escaped;
 use crate::fault::Fault;
 use crate::name::{Label, Name};
+use crate::names::Names;
 use std::alloc::{AllocError, Global};
 use std::marker::Model;
 
@@ -281,6 +282,23 @@ impl Skel {
         text.push(b'/')?;
         push_escaped(text, link.name.bytes())?;
         Ok(())
+    }
+
+    /// A path with the last so many of the names from the root of its filesystem down to a directory at its end; all of
+    /// them where there are no more. Fails for want of memory alone.
+    pub fn add_path(&self, path: Names, dir: Dir, count: usize) -> Result<Names, AllocError>
+        requires { IsTrue (is_directory self.now dir) }
+        ensures { IfOk result (λ names. names ≡ path ++ drop (length (directory self.now dir).path - count) (directory self.now dir).path) }
+    {
+        if count == 0 {
+            return Ok(path);
+        }
+        let Some(link) = &self.nodes[dir as usize].up else {
+            return Ok(path);
+        };
+        let above = self.add_path(path, link.dir, count - 1)?;
+        let names = above.with(&link.name)?;
+        Ok(names)
     }
 
     /// The number of the directory with this path.

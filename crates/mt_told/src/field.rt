@@ -65,9 +65,9 @@ fn field_differs(before: &Row, after: &Row, field: Field) -> bool
     ensures { result ≡ field_differs before.now after.now field }
 {
     match field {
-        Field::Point => before.point.as_slice() != after.point.as_slice(),
+        Field::Point => !before.point.is_same(&after.point),
         Field::Parent => before.parent != after.parent,
-        Field::Root => before.root.as_slice() != after.root.as_slice(),
+        Field::Root => !before.root.is_same(&after.root),
         Field::ReadOnly => before.attrs.ro != after.attrs.ro,
         Field::Nosuid => before.attrs.nosuid != after.attrs.nosuid,
         Field::Nodev => before.attrs.nodev != after.attrs.nodev,
@@ -152,7 +152,7 @@ fn push_field(text: &mut Vec<u8>, row: &Row, field: Field) -> Result<(), AllocEr
     match field {
         Field::Point => {
             text.extend_from_slice(b"now at ")?;
-            push_path(text, row.point.as_slice())
+            push_path(text, &row.point)
         }
         Field::Parent => {
             text.extend_from_slice(b"now on ")?;
@@ -160,7 +160,7 @@ fn push_field(text: &mut Vec<u8>, row: &Row, field: Field) -> Result<(), AllocEr
         }
         Field::Root => {
             text.extend_from_slice(b"now shows ")?;
-            push_path(text, row.root.as_slice())
+            push_path(text, &row.root)
         }
         Field::ReadOnly if row.attrs.ro => text.extend_from_slice(b"now read-only"),
         Field::ReadOnly => text.extend_from_slice(b"now writable"),

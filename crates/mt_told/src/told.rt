@@ -67,7 +67,7 @@ fn push_mount(text: &mut Vec<u8>, row: &Row) -> Result<(), AllocError>
 {
     push_number(text, row.id)?;
     text.extend_from_slice(b" ")?;
-    push_path(text, row.point.as_slice())?;
+    push_path(text, &row.point)?;
     Ok(())
 }
 

@@ -8,7 +8,7 @@ use Rattle.mt_requests.proofs.path.names_between.Given as goal
 abbrev pub invariant-loop-piece : goal.invariant-loop-piece
 invariant-loop-piece l = record {
   good : list_all is_name_word l.pieces ≡ true;
-  made : l.names.items ++ map label_bytes l.pieces ≡ map label_bytes (pieces 47 l.text);
+  made : l.names ++ map label_bytes l.pieces ≡ map label_bytes (pieces 47 l.text);
 }
 
 abbrev pub decreases-loop-piece : goal.decreases-loop-piece
