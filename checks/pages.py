@@ -11,7 +11,6 @@ words of --help.
 Where mandoc is not there, it is installed if the environment says CI, and else man(1) takes its place. Without both
 the form of the pages is not checked, which is a failure only where the environment says CI.
 """
-import contextlib
 import os
 import re
 import shutil
@@ -21,7 +20,7 @@ import tempfile
 
 from cases import check_session
 from readme import STEP, wait_for_socket
-from running import MOST_SECONDS, TOP, check, difference, failures, read, run, shown
+from running import MOST_SECONDS, TOP, check, difference, failures, is_there, read, run, shown
 
 PAGES = "mountd.1", "mountctl.1", "mountd-lines.7"
 COMPLETION = os.path.join(TOP, "docs", "completion", "mountctl.bash")
@@ -59,11 +58,9 @@ def check_same(name, wanted, found):
 
 def form_command():
     """The command that warns of the form of a page, or None where there is none."""
-    if not shutil.which("mandoc") and "CI" in os.environ and shutil.which("apt-get"):
-        words = ["apt-get", "install", "-y", "mandoc"]
-        with contextlib.suppress(subprocess.TimeoutExpired):
-            subprocess.run(words, stdin=subprocess.DEVNULL, capture_output=True, check=False, timeout=MOST_SECONDS)
-    return next((command for command in (MANDOC, MAN) if shutil.which(command[0])), None)
+    if is_there(MANDOC[0], "mandoc"):
+        return MANDOC
+    return MAN if shutil.which(MAN[0]) else None
 
 
 def check_form():

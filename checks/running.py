@@ -1,7 +1,9 @@
 """Runs of the program, its answers line by line, and what failed. A module, for all others."""
+import contextlib
 import difflib
 import os
 import re
+import shutil
 import subprocess
 
 TOP = os.path.dirname(os.path.dirname(os.path.abspath(__file__)))
@@ -53,6 +55,17 @@ def session(program, lines):
 def connection_fault(path, reason="no whole answer"):
     """How a run of the other program ends that has no answer of the server at a path: by its complaint."""
     return f"mountctl: connection fault: {path}: {reason}\n".encode()
+
+
+def is_there(command, package):
+    """Whether a command is there. Where the environment says CI, its package is installed before, if it can be had."""
+    if not shutil.which(command) and "CI" in os.environ and shutil.which("apt-get"):
+        for words in ["update"], ["install", "-y", package]:
+            with contextlib.suppress(subprocess.TimeoutExpired):
+                subprocess.run(
+                    ["apt-get", *words], stdin=subprocess.DEVNULL, capture_output=True, check=False, timeout=MOST_SECONDS
+                )
+    return shutil.which(command) is not None
 
 
 def library(folder, name):

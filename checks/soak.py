@@ -84,6 +84,41 @@ class Mirror:
         return [b"ok %d %d" % (len(table), self.numbers[space]), *(table[mount] for mount in sorted(table))]
 
 
+class Own:
+    """What a client has at its own directory of its namespace, where no other client does anything, and so what its lines
+    are answered."""
+
+    def __init__(self, space, path):
+        self.space, self.path = space, path
+        # The mount there, and which directory of its filesystem it shows.
+        self.mount = None
+
+    def is_answer(self, line, answer):
+        """Whether a line may be answered so, as a whole. A mount that is answered is there from then on."""
+        word, *words = line.split(b" ")
+        if word in (b"mount", b"bind") and words[0] != b"9":
+            found = re.fullmatch(rb"ok (\d+)", answer[0])
+            self.mount = found and (int(found[1]), b"/" if word == b"mount" else self.path)
+            return found is not None and len(answer) == 1
+        if word == b"umount":
+            self.mount = None
+        return self.is_table(answer) if word == b"show" else answer == [self.answer(word)]
+
+    def answer(self, word):
+        """The one line that answers a line of this first word, but for `show` and for what mounts."""
+        if word == b"find":
+            return b"ok %d %s" % (self.mount or (self.space, self.path))
+        return {b"umount": b"ok", b"setattr": b"ok", b"mount": b"no NoNamespace", b"take": b"no NoWatcher"}.get(word, b"no BadLine")
+
+    def is_table(self, answer):
+        """Whether an answer has as many rows as it says, by rising number, and of the own directory those that are there."""
+        count, rows = re.fullmatch(rb"ok (\d+) \d+", answer[0]), [row.split(b" ") for row in answer[1:]]
+        numbers = [int(row[0]) for row in rows]
+        here = [(int(row[0]), row[3]) for row in rows if row[4] == self.path]
+        rising = all(one < other for one, other in zip(numbers, numbers[1:]))
+        return bool(count) and int(count[1]) == len(rows) and rising and here == [self.mount] * bool(self.mount)
+
+
 class Stop:
     """A stop beside sessions that mount and unmount, and watchers that have not taken yet."""
 
@@ -167,6 +202,7 @@ class Soak:
         """One client of mixed commands, which takes away again what it has mounted."""
         chance = random.Random(seed)
         paths = dict(space=chance.choice("12"), path=f"/m{seed}")
+        own = Own(int(paths["space"]), paths["path"].encode())
         pairs = [self.lines(pair, paths) for pair in PAIRS]
         lines = self.lines(LINES, paths)
         with self.server.free() as client:
@@ -175,8 +211,9 @@ class Soak:
                 sent = [first, *(chance.choice(lines) for _ in range(chance.randint(0, 4))), last]
                 client.send(*sent)
                 for line in sent:
-                    if not re.match(rb"ok|no ", client.answer(line)[0]):
-                        raise Broken(f"the answer to {shown(line)}")
+                    answer = client.answer(line)
+                    if not own.is_answer(line, answer):
+                        raise Broken(f"{shown(line)} is answered {answer}")
                 self.add("commands", len(sent))
                 time.sleep(self.rest)
 
