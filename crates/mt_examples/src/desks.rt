@@ -2,7 +2,7 @@
 ghost use Rattle.std.specs.Prelude.{◌≡◌};
 
 use crate::fixture::{are_done, commands_of};
-use mt_book::command::Command;
+use mt_book::command::{Command, Reply};
 use mt_desk::desk::Desk;
 use mt_desk::lines::{Lines, Naming};
 use mt_desk::watcher::Watcher;
@@ -30,7 +30,7 @@ const ROUNDS: u64 = 500;
 
 /// Whether a command is done.
 fn is_done<J: Naming, R: Wait>(rt: &R, desk: &mut Desk<J>, command: &Command) -> bool {
-    desk.apply(rt, command).is_ok()
+    matches!(desk.apply(rt, command), Ok(Reply::Done))
 }
 
 /// The number of a post; 0 if there is none.
