@@ -49,6 +49,16 @@ def tree(count):
     return lines
 
 
+def pivoted(count):
+    """A namespace of so many private mounts, and one that is to be its root."""
+    return many_mounts(count) + ["mount 1 d /x"]
+
+
+def received_trees(count):
+    """A mount at /x on which so many others stand, and a place for a copy of it that ten other namespaces receive."""
+    return tree(count) + ["setattr 1 / prop=shared"] + ["copyns 1 less"] * 10
+
+
 def many_directories(count):
     """A namespace of one mount, beside so many directories."""
     return start() + [f"mkdir a /d{n}" for n in range(count)]
@@ -114,6 +124,9 @@ WORLDS = {
     "beside other namespaces": (many_spaces, (1, 8, 60), ["mount 1 d /x", "umount 1 /x"]),
     "on a stack": (lambda n: start() + ["mount 1 d /x"] * n, (10, 100, 1000), ["mount 1 d /x", "umount 1 /x"]),
     "a tree that moves": (tree, (40, 400, 2000), ["move 1 /x /s", "move 1 /s /x"]),
+    "a pivot there and back": (pivoted, (40, 400, 2000), ["pivot 1 /x /x/u", "pivot 1 /u /u/x"]),
+    "a tree that is bound and detached": (tree, (40, 160, 500), ["rbind 1 /x /s", "detach 1 /s"]),
+    "the same with ten receivers": (received_trees, (4, 16, 50), ["rbind 1 /x /s", "detach 1 /s"]),
     "a tree that is bound": (tree, (40, 160, 500), ["rbind 1 /x /s"]),
     "a namespace that is copied": (many_mounts, (40, 160, 500), ["copyns 1"]),
     "attributes of a tree": (many_mounts, (40, 400, 2000), ["setattr 1 / rec set=ro", "setattr 1 / rec clr=ro"]),

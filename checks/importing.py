@@ -33,6 +33,9 @@ PIVOTED = ["case pivot-refusals"]
 # The most rows of a random table that is imported.
 MOST_ROWS = 400
 
+# What a script says of a root mount that it makes show the root of its filesystem, in the place of another directory.
+AS_ROOT = re.compile(rb"# mount (\d+) is the root mount, and shows the root of its filesystem here: ")
+
 # What a script says of a mount that it does not make: why, and the row or as much of it as a comment holds.
 LEFT_OUT = re.compile(rb"# mount (\d+) is left out: [^:]+: (.*)", re.DOTALL)
 MOST_TOLD = 8_000
@@ -122,8 +125,11 @@ def kept_rows(name, lines, script):
     told = {int(found[1]): found[2] for found in map(OPTIONS_LEFT_OUT.match, script) if found}
     others = {row.id: line[:MOST_TOLD] for row, line in zip(rows, lines) if row.id in ids and has_other_options(line)}
     check(f"{name}: each row with options that are left out is told", told == others, "\n".join(map(shown, script)))
+    whole = {int(found[1]) for found in map(AS_ROOT.match, script) if found}
+    others = {row.id for row in kept if row.parent not in numbers - {row.id} and row.rest[0] != b"/"}
+    check(f"{name}: a root mount that shows another directory is told", whole == others, "\n".join(map(shown, script)))
     check_super_options(name, {line[:MOST_TOLD] for row, line in zip(rows, lines) if row.id in ids and not line.endswith(b" rw")}, script)
-    return kept
+    return [row._replace(rest=(b"/", *row.rest[1:])) if row.id in whole else row for row in kept]
 
 
 def groups_in_sight(rows):

@@ -4,13 +4,16 @@ Each world is drawn here as well, of what `show` answers, by what docs/RULES.md 
 other code. Where dot(1) is there, it reads each graph (graphs.py).
 """
 import collections
+import os
+import re
 import shutil
 import time
 from typing import NamedTuple
 
 import cases
+import tour
 from graphs import check_graph
-from running import check, difference, run, shown
+from running import check, difference, is_there, read, run, shown
 from serving import Server
 
 # The lines that make a world.
@@ -21,6 +24,13 @@ MOST_MOUNTS = 200
 
 # How long the largest world may take, in seconds.
 MOST_DRAWING = 5
+
+# The session of docs/TOUR.md whose graphs stand in docs/pictures, and how many tables are shown before each.
+TOLD = b"bubblewrap"
+DRAWN = {"before-the-pivot.svg": 0, "behind-the-pivot.svg": 1, "behind-the-detach.svg": 2}
+
+# What is written in an SVG, beside where.
+WRITTEN = re.compile(rb"<(?:title|text)[^>]*>([^<]*)<")
 
 HEADER = b"TARGET", b"SOURCE", b"FSTYPE", b"OPTIONS", b"PROPAGATION"
 
@@ -180,10 +190,32 @@ def check_refusals(program, mountctl):
         check_graph("no namespace", mountctl, server.path, {})
 
 
+def drawn_of_tour(program, mountctl, shows):
+    """The graph of the tour's sandbox, as it is before the table is shown that is behind so many others, as an SVG."""
+    blocks = {name: text for _, name, text, _ in tour.SESSION_BLOCK.findall(read(*tour.PAGE))}
+    requests = cases.parse(blocks[TOLD]).requests()
+    until = [at for at, line in enumerate(requests) if line.startswith(b"show")][shows]
+    with Server(program) as server, server.client() as client:
+        for line in requests[:until]:
+            client.ask(line)
+        graph = run(mountctl, b"", server.path, "dot")[1]
+    return run("dot", graph, "-Tsvg")[1]
+
+
+def check_tour_pictures(program, mountctl):
+    """The pictures of docs/TOUR.md have the boxes, mounts and edges of its session, wherever dot puts them."""
+    for name, shows in DRAWN.items():
+        stored, found = (WRITTEN.findall(svg) for svg in (read("docs", "pictures", name), drawn_of_tour(program, mountctl, shows)))
+        check(f"docs/pictures/{name}", stored and sorted(stored) == sorted(found), f"stored {stored}\nfound  {found}")
+
+
 def check_pictures(program, mountctl):
     """Trees and graphs of worlds, and what is refused."""
+    check("dot is there, as CI needs it", is_there("dot", "graphviz") or "CI" not in os.environ)
     check_cases(program, mountctl)
     check_large(program, mountctl)
     check_refusals(program, mountctl)
-    if not shutil.which("dot"):
-        print("dot is not there: graphs were skipped", flush=True)
+    if shutil.which("dot"):
+        check_tour_pictures(program, mountctl)
+    else:
+        print("dot (package graphviz) is not there: graphs were skipped", flush=True)

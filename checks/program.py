@@ -15,6 +15,7 @@ import os
 import time
 
 import cases
+import contained
 import faults
 import level
 import limits
@@ -32,6 +33,7 @@ PARTS = {
     "example": readme.check_example,
     "tour": tour.check_tour,
     "findmnt": tables.check_findmnt,
+    "containers": contained.check_contained,
     "copies": tables.check_copies,
     "pieces": streams.check_pieces,
     "input": streams.check_input,
