@@ -103,8 +103,8 @@ fn write_once<W: Output>(writer: &mut W, bytes: &[u8]) -> Result<usize, Cut>
     ensures counted { IsTrue W.counts → W.failed writer.old ≤ W.failed writer.new }
     ensures faults { OnErr result (IsTrue W.counts → W.faults writer.old ≡ []
         → HasFailed (W.faults writer.new) ⊎ IsInterrupted (W.faults writer.new)) }
-    ensures served { OnOk result (IsTrue W.counts → W.faults writer.old ≡ []
-        → W.faults writer.new ≡ []) }
+    // So a write was made: one that comes through leaves no fault in succession.
+    ensures served { OnOk result (IsTrue W.counts → W.faults writer.new ≡ []) }
 {
     'trying: for _tries in 0..MOST_INTERRUPTIONS {
         match writer.write(bytes) {
@@ -164,8 +164,8 @@ pub fn find_reader<W: Output>(writer: &mut W) -> Result<(), Cut>
     ensures counted { IsTrue W.counts → W.failed writer.old ≤ W.failed writer.new }
     ensures faults { OnErr result (IsTrue W.counts → W.faults writer.old ≡ []
         → HasFailed (W.faults writer.new) ⊎ IsInterrupted (W.faults writer.new)) }
-    ensures served { OnOk result (IsTrue W.counts → W.faults writer.old ≡ []
-        → W.faults writer.new ≡ []) }
+    // So a write was made: one that comes through leaves no fault in succession.
+    ensures served { OnOk result (IsTrue W.counts → W.faults writer.new ≡ []) }
 {
     let _count = write_once(writer, &[])?;
     Ok(())

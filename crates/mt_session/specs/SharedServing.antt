@@ -1,6 +1,6 @@
 -- One line of a session in a thread of its own, as its steps see it. No public clause cites this module.
 -- A word with no source is this project's rule.
-use Rattle.std.specs.Prelude.{◌≡◌, ◌≢◌, ℕ, ◌<◌, ◌≤◌, Bool, true, false, List, [], ◌∷◌, ◌++◌, map, length, Option, Some, None, Result, Ok}
+use Rattle.std.specs.Prelude.{⊤, ◌≡◌, ◌≢◌, ℕ, ◌<◌, ◌≤◌, Bool, true, false, List, [], ◌∷◌, ◌++◌, map, length, Option, Some, None, Result, Ok}
 use Rattle.std.specs.List.{flat_map}
 use Rattle.mt_skel.specs.declared.fault.Fault.{Fault}
 use Rattle.mt_skel.specs.declared.fault.Fault.TheVariants.{NoWatcher, NoMemory as WantsMemory}
@@ -9,7 +9,7 @@ use Rattle.mt_events.specs.Posts.{PostView, post_text}
 use Rattle.mt_floor.specs.declared.watch.Phase.TheVariants.{Open as IsOpen}
 use Rattle.mt_floor.specs.declared.watch.Meeting.{Meeting}
 use Rattle.mt_desk.specs.Desk.{DeskView, IsDesk}
-use Rattle.mt_desk.specs.Calls.{WatcherView, IsMet}
+use Rattle.mt_desk.specs.Calls.{WatcherView, IsMet, IsClosed}
 use Rattle.mt_requests.specs.declared.request.Request.{Request}
 use Rattle.mt_requests.specs.declared.request.Request.TheVariants.{Follow}
 use Rattle.mt_session.specs.declared.serving.End.{End}
@@ -30,6 +30,11 @@ IsUndoneAt w r w' = (desk : DeskView) × (now : DeskView) × IsDesk desk × IsUn
 abbrev pub HasMet : Option WatcherView → Option Meeting → Option WatcherView → Type 0
 HasMet None met w' = (met ≡ None) × (w' ≡ None)
 HasMet (Some w) met w' = (desk : DeskView) × (now : DeskView) × (m : Meeting) × (after : WatcherView) × IsDesk desk × IsMet desk w m now after × (met ≡ Some m) × (w' ≡ Some after)
+
+-- a session has left some desk, whose row of its watcher is gone then, if it had one
+abbrev pub HasLeft : Option WatcherView → Type 0
+HasLeft None = ⊤
+HasLeft (Some w) = (desk : DeskView) × (posts : List PostView) × (now : DeskView) × IsDesk desk × IsClosed desk w posts now
 
 -- what a portion of a `follow` is, of at most so many posts
 abbrev pub IsPortion : Option WatcherView → ℕ → Portion → Option WatcherView → Type 0

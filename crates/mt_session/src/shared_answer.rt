@@ -11,7 +11,7 @@ ghost use Rattle.mt_session.specs.Serving.{IsSent};
 ghost use Rattle.mt_session.specs.Session.{IsCutCause, IsCutRun};
 ghost use Rattle.mt_session.specs.SharedTurns.{is_under_lock};
 ghost use Rattle.mt_session.specs.SharedSession.{IsAnsweredAt, IsTaken, IsLost};
-ghost use Rattle.mt_session.specs.SharedServing.{IsUndoneAt, HasMet, ServesAsked, ends_by_request};
+ghost use Rattle.mt_session.specs.SharedServing.{IsUndoneAt, HasMet, HasLeft, ServesAsked, ends_by_request};
 
 use crate::bell::Bell;
 use crate::gate::Gate;
@@ -85,7 +85,8 @@ pub fn leave<J: Naming, G: Gate, R: Wait>(
     shared: &Shared<'_, J, G>,
     session: &mut SharedSession<J>,
 )
-    ensures { session.new ≡ None }
+    ensures none { session.new ≡ None }
+    ensures left { HasLeft session.old }
 {
     let mut desk = shared.desk.lock(rt);
     session.leave(rt, &mut *desk);

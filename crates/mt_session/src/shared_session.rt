@@ -278,7 +278,11 @@ impl<J: Naming> SharedSession<J> {
         ensures none { self.new ≡ None }
         ensures closed { ForSome self.old (λ (w : WatcherView). (posts : List PostView) × IsClosed desk.old w posts desk.new) }
         ensures unwatched { self.old ≡ None → desk.new ≡ desk.old }
+
+        // What is always true of a desk.
+        ensures kept { IsDesk desk.old }
     {
+        let _book = desk.book();
         if let Some(watcher) = self.watcher.take() {
             let _ = closed(rt, desk, watcher);
         }

@@ -17,6 +17,6 @@ sending-preserved g c =
     record {
       within = omega (arith, length-take (length bytes - c.sending.sent) (drop c.sending.sent bytes), length-drop c.sending.sent bytes, e.bound);
       told = λ t. take_twice _ _ _ bytes c.sending.sent c.in-Ok.count (c.sending.invariant.told t) (e.sent t);
-      faults = λ t none. e.served t (c.sending.invariant.faults t none);
+      faults = λ t none. e.served t;
       counted = λ t. omega (arith, c.sending.invariant.counted t, e.counted t);
     }
