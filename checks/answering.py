@@ -86,13 +86,13 @@ MIRRORS = (
 ONE = b"3 3 0:1 / / rw,relatime master:1 - rootfs none rw\n"
 TWO = b"1 1 0:1 / / rw,relatime shared:1 - rootfs none rw\n2 1 0:2 / /mnt ro,relatime - ext4 d rw\n"
 TREE_OF_ONE = b"""namespace 2
-TARGET SOURCE FSTYPE OPTIONS     PROPAGATION
-/      none   rootfs rw,relatime master:1
+ID TARGET SOURCE FSTYPE OPTIONS     PROPAGATION
+3  /      none   rootfs rw,relatime master:1
 """
 TREES = b"""namespace 1
-TARGET SOURCE FSTYPE OPTIONS     PROPAGATION
-/      none   rootfs rw,relatime shared:1
-`-/mnt d      ext4   ro,relatime private
+ID TARGET SOURCE FSTYPE OPTIONS     PROPAGATION
+1  /      none   rootfs rw,relatime shared:1
+2  `-/mnt d      ext4   ro,relatime private
 
 """ + TREE_OF_ONE
 STACKS = b"""1 1 0:1 / / rw,relatime shared:1 - rootfs none rw
@@ -104,14 +104,14 @@ STACKS = b"""1 1 0:1 / / rw,relatime shared:1 - rootfs none rw
 9 3 0:4 / /mnt/a/n rw,relatime - tmpfs none rw
 """
 TREE_OF_STACKS = """namespace 1
-TARGET         SOURCE FSTYPE OPTIONS     PROPAGATION
-/              none   rootfs rw,relatime shared:1
-├─/mnt         d      ext4   rw,relatime shared:2,master:1
-│ └─/mnt/a     d      ext4   ro,relatime private
-│   ├─/mnt/a   d      ext4   ro,relatime private
-│   └─/mnt/a/n none   tmpfs  rw,relatime private
-├─/proc        p      proc   rw,relatime unbindable
-└─/kä\\040b     none   tmpfs  rw,relatime private
+ID TARGET         SOURCE FSTYPE OPTIONS     PROPAGATION
+1  /              none   rootfs rw,relatime shared:1
+2  ├─/mnt         d      ext4   rw,relatime shared:2,master:1
+3  │ └─/mnt/a     d      ext4   ro,relatime private
+5  │   ├─/mnt/a   d      ext4   ro,relatime private
+9  │   └─/mnt/a/n none   tmpfs  rw,relatime private
+7  ├─/proc        p      proc   rw,relatime unbindable
+8  └─/kä\\040b     none   tmpfs  rw,relatime private
 """.encode()
 RING = b"""1 1 0:1 / / rw,relatime shared:1 - rootfs none rw
 2 1 0:1 / /a rw,relatime - rootfs none rw
@@ -122,38 +122,38 @@ RING = b"""1 1 0:1 / / rw,relatime shared:1 - rootfs none rw
 7 1 0:1 / /d rw,relatime - rootfs none rw
 """
 TREE_OF_RING = b"""namespace 1
-TARGET    SOURCE FSTYPE OPTIONS     PROPAGATION
-/         none   rootfs rw,relatime shared:1
-|-/a      none   rootfs rw,relatime private
-`-/d      none   rootfs rw,relatime private
-/c        none   rootfs rw,relatime private
+ID TARGET    SOURCE FSTYPE OPTIONS     PROPAGATION
+1  /         none   rootfs rw,relatime shared:1
+2  |-/a      none   rootfs rw,relatime private
+7  `-/d      none   rootfs rw,relatime private
+6  /c        none   rootfs rw,relatime private
 not in a tree:
-/b        none   rootfs rw,relatime private
-/b        none   rootfs rw,relatime private
-/b/longer none   rootfs rw,relatime private
+3  /b        none   rootfs rw,relatime private
+4  /b        none   rootfs rw,relatime private
+5  /b/longer none   rootfs rw,relatime private
 """
-# Tables of which each has columns of its own width.
-WIDTHS = b"1 1 0:1 / / rw,relatime - rootfs none rw\n", b"2 2 0:1 / / ro,nosuid,relatime - tmpfs /dev/x rw\n"
+# Tables of which each has columns of its own width. One has a mount that shows a directory of its filesystem.
+WIDTHS = b"1 1 0:1 / / rw,relatime - rootfs none rw\n", b"200 200 0:1 /a\\040b/c / ro,nosuid,relatime - tmpfs /dev/x rw\n"
 TREES_OF_WIDTHS = b"""namespace 1
-TARGET SOURCE FSTYPE OPTIONS     PROPAGATION
-/      none   rootfs rw,relatime private
+ID TARGET SOURCE FSTYPE OPTIONS     PROPAGATION
+1  /      none   rootfs rw,relatime private
 
 namespace 2
-TARGET SOURCE FSTYPE OPTIONS            PROPAGATION
-/      /dev/x tmpfs  ro,nosuid,relatime private
+ID  TARGET SOURCE            FSTYPE OPTIONS            PROPAGATION
+200 /      /dev/x[/a\\040b/c] tmpfs  ro,nosuid,relatime private
 """
 NO_TREES = b"""namespace 1
-TARGET SOURCE FSTYPE OPTIONS PROPAGATION
+ID TARGET SOURCE FSTYPE OPTIONS PROPAGATION
 
 namespace 2
-TARGET SOURCE FSTYPE OPTIONS PROPAGATION
+ID TARGET SOURCE FSTYPE OPTIONS PROPAGATION
 """
 
 # Two tables: three members of group 1, a slave of it, two members of group 9, a slave of a group that is not in sight,
 # and a name with a quote, an ampersand and bytes that are no text.
 RINGS = b"""1 1 0:1 / / rw,relatime shared:1 - rootfs none rw
 2 1 0:2 / /m rw,relatime shared:9 master:1 - ext4 d rw
-3 2 0:2 / /m/"&\xff\x01\\134 ro,relatime shared:1 - ext4 d rw
+3 2 0:2 /"a/b /m/"&\xff\x01\\134 ro,relatime shared:1 - ext4 d rw
 """, b"""4 4 0:1 / / rw,relatime shared:1 - rootfs none rw
 5 4 0:2 / /m rw,relatime shared:9 master:7 propagate_from:1 - ext4 d rw
 """
@@ -161,14 +161,14 @@ GRAPH = b"""digraph mounts {
 node [shape=box, fontsize=10, height=0];
 subgraph "cluster_1" {
 label="namespace 1";
-"1.1" [label="/\\nrootfs\\nrw,relatime\\nshared:1", penwidth=2, color=blue3];
-"1.2" [label="/m\\next4\\nrw,relatime\\nshared:9,master:1", penwidth=2, color=blue3];
-"1.3" [label="/m/\\\\042\\\\046\\\\377\\\\001\\\\134\\next4\\nro,relatime\\nshared:1", penwidth=2, color=blue3];
+"1.1" [label="1 /\\nrootfs\\nrw,relatime\\nshared:1", penwidth=2, color=blue3];
+"1.2" [label="2 /m\\next4\\nrw,relatime\\nshared:9,master:1", penwidth=2, color=blue3];
+"1.3" [label="3 /m/\\\\042\\\\046\\\\377\\\\001\\\\134\\next4[/\\\\042a/b]\\nro,relatime\\nshared:1", penwidth=2, color=blue3];
 }
 subgraph "cluster_2" {
 label="namespace 2";
-"2.4" [label="/\\nrootfs\\nrw,relatime\\nshared:1", penwidth=2, color=blue3];
-"2.5" [label="/m\\next4\\nrw,relatime\\nshared:9,master:7,propagate_from:1", penwidth=2, color=blue3];
+"2.4" [label="4 /\\nrootfs\\nrw,relatime\\nshared:1", penwidth=2, color=blue3];
+"2.5" [label="5 /m\\next4\\nrw,relatime\\nshared:9,master:7,propagate_from:1", penwidth=2, color=blue3];
 }
 "1.1" -> "1.2" [arrowhead=none, color=black];
 "1.2" -> "1.3" [arrowhead=none, color=black];

@@ -60,8 +60,8 @@ def wanted_graph(tables):
         groups[tag_of(mount, b"shared:")].append(name)
     graph = Graph({}, {}, clusters, [], [], [])
     for name, mount in mounts.items():
-        target, _, kind, options, propagation = mount.cells(b"")
-        graph.labels[name] = "\n".join(map(visible, (target, kind, options, propagation)))
+        number, target, _, kind, options, propagation = mount.cells(b"")
+        graph.labels[name] = "\n".join(map(visible, (number + b" " + target, kind + mount.shown(), options, propagation)))
         parent = f"{name.partition('.')[0]}.{shown(mount.parent)}"
         if parent in mounts and parent != name:
             graph.parents.append((parent, name))

@@ -25,14 +25,18 @@ MOST_MOUNTS = 200
 # How long the largest world may take, in seconds.
 MOST_DRAWING = 5
 
-# The session of docs/TOUR.md whose graphs stand in docs/pictures, and how many tables are shown before each.
-TOLD = b"bubblewrap"
-DRAWN = {"before-the-pivot.svg": 0, "behind-the-pivot.svg": 1, "behind-the-detach.svg": 2}
+# Each graph in docs/pictures, with its session, a case or one of docs/TOUR.md, and how many tables are shown there before it.
+DRAWN = {
+    "propagation.svg": ("three-namespaces", 0),
+    "before-the-pivot.svg": ("bubblewrap", 0),
+    "behind-the-pivot.svg": ("bubblewrap", 1),
+    "behind-the-detach.svg": ("bubblewrap", 2),
+}
 
 # What is written in an SVG, beside where.
 WRITTEN = re.compile(rb"<(?:title|text)[^>]*>([^<]*)<")
 
-HEADER = b"TARGET", b"SOURCE", b"FSTYPE", b"OPTIONS", b"PROPAGATION"
+HEADER = b"ID", b"TARGET", b"SOURCE", b"FSTYPE", b"OPTIONS", b"PROPAGATION"
 
 
 class Pieces(NamedTuple):
@@ -53,21 +57,27 @@ class Mount(NamedTuple):
 
     number: bytes
     parent: bytes
+    root: bytes
     target: bytes
     options: bytes
     tags: list
     kind: bytes
     source: bytes
 
+    def shown(self):
+        """The directory that it shows, in brackets, where that is not the root of its filesystem."""
+        return b"" if self.root == b"/" else b"[" + self.root + b"]"
+
     def cells(self, before):
-        """Its cells, of which the first has this before its target."""
-        return before + self.target, self.source, self.kind, self.options, b",".join(self.tags) or b"private"
+        """Its cells, of which one has this before its target."""
+        source, propagation = self.source + self.shown(), b",".join(self.tags) or b"private"
+        return self.number, before + self.target, source, self.kind, self.options, propagation
 
 
 def mount_of(line):
     """The mount of a line."""
-    number, parent, _, _, target, options, *tags, _, kind, source, _ = line.split(b" ")
-    return Mount(number, parent, target, options, tags, kind, source)
+    number, parent, _, root, target, options, *tags, _, kind, source, _ = line.split(b" ")
+    return Mount(number, parent, root, target, options, tags, kind, source)
 
 
 def drawn_rows(mounts, pieces):
@@ -190,10 +200,10 @@ def check_refusals(program, mountctl):
         check_graph("no namespace", mountctl, server.path, {})
 
 
-def drawn_of_tour(program, mountctl, shows):
-    """The graph of the tour's sandbox, as it is before the table is shown that is behind so many others, as an SVG."""
-    blocks = {name: text for _, name, text, _ in tour.SESSION_BLOCK.findall(read(*tour.PAGE))}
-    requests = cases.parse(blocks[TOLD]).requests()
+def drawn_session(program, mountctl, session, shows):
+    """The graph of a session, as it is before the table is shown that is behind so many others, as an SVG."""
+    blocks = {shown(name): text for _, name, text, _ in tour.SESSION_BLOCK.findall(read(*tour.PAGE))}
+    requests = (cases.parse(blocks[session]) if session in blocks else cases.load(session)).requests()
     until = [at for at, line in enumerate(requests) if line.startswith(b"show")][shows]
     with Server(program) as server, server.client() as client:
         for line in requests[:until]:
@@ -202,10 +212,10 @@ def drawn_of_tour(program, mountctl, shows):
     return run("dot", graph, "-Tsvg")[1]
 
 
-def check_tour_pictures(program, mountctl):
-    """The pictures of docs/TOUR.md have the boxes, mounts and edges of its session, wherever dot puts them."""
-    for name, shows in DRAWN.items():
-        stored, found = (WRITTEN.findall(svg) for svg in (read("docs", "pictures", name), drawn_of_tour(program, mountctl, shows)))
+def check_stored_pictures(program, mountctl):
+    """The pictures of the documents have the boxes, mounts and edges of their sessions, wherever dot puts them."""
+    for name, drawing in DRAWN.items():
+        stored, found = (WRITTEN.findall(svg) for svg in (read("docs", "pictures", name), drawn_session(program, mountctl, *drawing)))
         check(f"docs/pictures/{name}", stored and sorted(stored) == sorted(found), f"stored {stored}\nfound  {found}")
 
 
@@ -216,6 +226,6 @@ def check_pictures(program, mountctl):
     check_large(program, mountctl)
     check_refusals(program, mountctl)
     if shutil.which("dot"):
-        check_tour_pictures(program, mountctl)
+        check_stored_pictures(program, mountctl)
     else:
         print("dot (package graphviz) is not there: graphs were skipped", flush=True)

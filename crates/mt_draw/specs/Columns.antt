@@ -7,6 +7,7 @@ use Rattle.mt_draw.specs.declared.columns.Widths.{Widths}
 
 -- the cells of one line
 pub record CellsView : Type 0 where
+  pub id : List ℕ
   pub target : List ℕ
   pub source : List ℕ
   pub kind : List ℕ
@@ -16,8 +17,9 @@ pub record CellsView : Type 0 where
 -- a line of cells is stored as the tuple of its fields
 abbrev pub cells_code : Coded CellsView
 cells_code =
-    code_by (List ℕ × (List ℕ × (List ℕ × (List ℕ × List ℕ)))) (coded× (coded_list coded_ℕ) (coded× (coded_list coded_ℕ) (coded× (coded_list coded_ℕ) (coded× (coded_list coded_ℕ) (coded_list coded_ℕ)))))
-    (λ c. (c.target, (c.source, (c.kind, (c.options, c.propagation))))) (λ t. record { target = t.0; source = t.1.0; kind = t.1.1.0; options = t.1.1.1.0; propagation = t.1.1.1.1 }) (λ _. refl)
+    code_by (List ℕ × (List ℕ × (List ℕ × (List ℕ × (List ℕ × List ℕ))))) (coded× (coded_list coded_ℕ) (coded× (coded_list coded_ℕ) (coded× (coded_list coded_ℕ) (coded× (coded_list coded_ℕ) (coded× (coded_list coded_ℕ) (coded_list coded_ℕ))))))
+    (λ c. (c.id, (c.target, (c.source, (c.kind, (c.options, c.propagation))))))
+    (λ t. record { id = t.0; target = t.1.0; source = t.1.1.0; kind = t.1.1.1.0; options = t.1.1.1.1.0; propagation = t.1.1.1.1.1 }) (λ _. refl)
 
 -- a byte that begins a character: those that go on with one are 128 to 191 (utf-8(7))
 abbrev pub begins_character : ℕ → Bool
@@ -29,11 +31,12 @@ width text = count_by begins_character text
 
 -- columns without a cell
 abbrev pub no_widths : Widths
-no_widths = record { target = 0; source = 0; kind = 0; options = 0 }
+no_widths = record { id = 0; target = 0; source = 0; kind = 0; options = 0 }
 
 -- columns that are wide enough for these cells too
 abbrev pub widened : Widths → CellsView → Widths
 widened w c = record {
+  id = max w.id (width c.id);
   target = max w.target (width c.target);
   source = max w.source (width c.source);
   kind = max w.kind (width c.kind);
@@ -47,4 +50,4 @@ padded w cell = cell ++ (replicate (w - width cell) 32 ++ codes " ")
 -- the line of these cells: behind the last one stands no space
 unfoldable pub cells_line : Widths → CellsView → List ℕ
 cells_line w c =
-    padded w.target c.target ++ (padded w.source c.source ++ (padded w.kind c.kind ++ (padded w.options c.options ++ (c.propagation ++ codes "\n"))))
+    padded w.id c.id ++ (padded w.target c.target ++ (padded w.source c.source ++ (padded w.kind c.kind ++ (padded w.options c.options ++ (c.propagation ++ codes "\n")))))

@@ -1,11 +1,11 @@
 -- The labels of mounts in a graph (how text is quoted: the DOT language of Graphviz).
 -- A word with no source is this project's rule.
-use Rattle.std.specs.Prelude.{ℕ, ◌+◌, ◌/◌, ◌%◌, Bool, not, ◌&&◌, ◌==◌, nat_le, cond, List, [], ◌∷◌, ◌++◌, codes}
+use Rattle.std.specs.Prelude.{ℕ, ◌+◌, ◌/◌, ◌%◌, Bool, not, ◌&&◌, ◌==◌, nat_le, cond, List, [], ◌∷◌, ◌++◌, codes, decimal}
 use Rattle.std.specs.List.{flat_map, join_with_byte}
 use Rattle.mt_skel.specs.Escapes.{escaped}
 use Rattle.mt_info.specs.declared.row.Row.{Row}
 use Rattle.mt_info.specs.RowLine.{path_text, option_words}
-use Rattle.mt_draw.specs.Trees.{propagation}
+use Rattle.mt_draw.specs.Trees.{propagation, shown_root}
 
 -- a byte that stands for itself in a label: printable ASCII but for the quote, the ampersand, which begins a character
 -- by name, and the backslash
@@ -21,7 +21,11 @@ label_byte b =
 abbrev pub label_text : List ℕ → List ℕ
 label_text bytes = flat_map label_byte bytes
 
--- the label of a mount: mount point, type, options and propagation, below each other
+-- a mount by its number and where it stands
+abbrev pub numbered_point : Row → List ℕ
+numbered_point r = decimal r.id ++ (codes " " ++ label_text (path_text r.point))
+
+-- the label of a mount: number and mount point, type and the directory that it shows, options and propagation, below each other
 abbrev pub label : Row → List ℕ
 label r =
-    label_text (path_text r.point) ++ (codes "\\n" ++ (label_text (escaped r.kind) ++ (codes "\\n" ++ (join_with_byte 44 (option_words r.attrs) ++ (codes "\\n" ++ propagation r)))))
+    numbered_point r ++ (codes "\\n" ++ (label_text (escaped r.kind ++ shown_root r.root) ++ (codes "\\n" ++ (join_with_byte 44 (option_words r.attrs) ++ (codes "\\n" ++ propagation r)))))

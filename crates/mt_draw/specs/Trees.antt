@@ -41,11 +41,17 @@ words_or_private (w ∷ ws) = join_with_byte 44 (w ∷ ws)
 abbrev pub propagation : Row → List ℕ
 propagation r = words_or_private (tags r)
 
+-- the directory that a mount shows at its root, where that is not the root of its filesystem
+abbrev pub shown_root : List (List ℕ) → List ℕ
+shown_root [] = []
+shown_root (n ∷ ns) = codes "[" ++ (path_text (n ∷ ns) ++ codes "]")
+
 -- the cells of a row
 abbrev pub cells : Strokes → BranchView → CellsView
 cells s b = record {
+  id = decimal b.row.id;
   target = lead s b.lasts ++ path_text b.row.point;
-  source = escaped b.row.source;
+  source = escaped b.row.source ++ shown_root b.row.root;
   kind = escaped b.row.kind;
   options = join_with_byte 44 (option_words b.row.attrs);
   propagation = propagation b.row;
@@ -54,6 +60,7 @@ cells s b = record {
 -- the cells of the line above the rows
 abbrev pub header : CellsView
 header = record {
+  id = codes "ID";
   target = codes "TARGET";
   source = codes "SOURCE";
   kind = codes "FSTYPE";

@@ -9,6 +9,7 @@ use std::marker::Model;
 /// The cells of one line.
 #[derive(Drop)]
 pub(crate) struct Cells {
+    id: Vec<u8>,
     target: Vec<u8>,
     source: Vec<u8>,
     kind: Vec<u8>,
@@ -23,12 +24,13 @@ impl Model for Cells {
 
     ghost coded = { cells_code };
 
-    ghost view = { λ c. record { target = c.target.items; source = c.source.items; kind = c.kind.items; options = c.options.items; propagation = c.propagation.items } };
+    ghost view = { λ c. record { id = c.id.items; target = c.target.items; source = c.source.items; kind = c.kind.items; options = c.options.items; propagation = c.propagation.items } };
 }
 
 /// How wide the columns in front of the last one are.
 #[derive(Clone, Copy)]
 pub(crate) struct Widths {
+    id: usize,
     target: usize,
     source: usize,
     kind: usize,
@@ -78,15 +80,17 @@ fn push_padded(text: &mut Vec<u8>, width_of_column: usize, cell: &[u8]) -> Resul
 impl Cells {
     /// These cells.
     pub(crate) fn new(
+        id: Vec<u8>,
         target: Vec<u8>,
         source: Vec<u8>,
         kind: Vec<u8>,
         options: Vec<u8>,
         propagation: Vec<u8>,
     ) -> Cells
-        ensures { result ≡ record { target = target.items; source = source.items; kind = kind.items; options = options.items; propagation = propagation.items } }
+        ensures { result ≡ record { id = id.items; target = target.items; source = source.items; kind = kind.items; options = options.items; propagation = propagation.items } }
     {
         Cells {
+            id,
             target,
             source,
             kind,
@@ -100,6 +104,7 @@ impl Cells {
         ensures { result ≡ widened widths self.now }
     {
         Widths {
+            id: widths.id.max(width(&self.id)),
             target: widths.target.max(width(&self.target)),
             source: widths.source.max(width(&self.source)),
             kind: widths.kind.max(width(&self.kind)),
@@ -112,6 +117,7 @@ impl Cells {
     fn push(&self, text: &mut Vec<u8>, widths: Widths) -> Result<(), AllocError>
         ensures { OnOk result (text.new.items ≡ text.old.items ++ cells_line widths self.now) }
     {
+        push_padded(text, widths.id, &self.id)?;
         push_padded(text, widths.target, &self.target)?;
         push_padded(text, widths.source, &self.source)?;
         push_padded(text, widths.kind, &self.kind)?;
@@ -128,6 +134,7 @@ impl Widths {
         ensures { result ≡ no_widths }
     {
         Widths {
+            id: 0,
             target: 0,
             source: 0,
             kind: 0,

@@ -1,11 +1,11 @@
 //! The labels of mounts in a graph.
 ghost use Rattle.std.specs.Prelude.{◌≡◌, ◌++◌, OnOk};
 ghost use Rattle.mt_skel.specs.Escapes.{escaped};
-ghost use Rattle.mt_info.specs.RowLine.{path_text};
-ghost use Rattle.mt_draw.specs.Labels.{is_plain, label_byte, label_text, label};
+ghost use Rattle.mt_draw.specs.Labels.{is_plain, label_byte, label_text, numbered_point, label};
+ghost use Rattle.mt_draw.specs.Trees.{shown_root};
 
-use crate::trees::push_propagation;
-use mt_info::print::{push_label, push_options, push_path};
+use crate::trees::{push_propagation, push_shown_root};
+use mt_info::print::{push_label, push_number, push_options, push_path};
 use mt_info::row::Row;
 use std::alloc::AllocError;
 
@@ -43,21 +43,25 @@ fn push_label_bytes(text: &mut Vec<u8>, bytes: &[u8]) -> Result<(), AllocError>
     Ok(())
 }
 
-/// Appends the path where a mount stands, in a label.
-fn push_point(text: &mut Vec<u8>, row: &Row) -> Result<(), AllocError>
-    ensures { OnOk result (text.new.items ≡ text.old.items ++ label_text (path_text row.now.point)) }
+/// Appends the number of a mount and the path where it stands, in a label.
+fn push_numbered_point(text: &mut Vec<u8>, row: &Row) -> Result<(), AllocError>
+    ensures { OnOk result (text.new.items ≡ text.old.items ++ numbered_point row.now) }
 {
+    push_number(text, row.id)?;
+    text.extend_from_slice(b" ")?;
     let mut path = Vec::new(*text.allocator());
     push_path(&mut path, &row.point)?;
-    push_label_bytes(text, &path)
+    push_label_bytes(text, &path)?;
+    Ok(())
 }
 
-/// Appends the type of a mount's filesystem, in a label.
+/// Appends the type of a mount's filesystem and the directory that it shows, in a label.
 fn push_kind(text: &mut Vec<u8>, row: &Row) -> Result<(), AllocError>
-    ensures { OnOk result (text.new.items ≡ text.old.items ++ label_text (escaped row.now.kind)) }
+    ensures { OnOk result (text.new.items ≡ text.old.items ++ label_text (escaped row.now.kind ++ shown_root row.now.root)) }
 {
     let mut kind = Vec::new(*text.allocator());
     push_label(&mut kind, &row.kind)?;
+    push_shown_root(&mut kind, row)?;
     push_label_bytes(text, &kind)
 }
 
@@ -65,7 +69,7 @@ fn push_kind(text: &mut Vec<u8>, row: &Row) -> Result<(), AllocError>
 pub(crate) fn push_node_label(text: &mut Vec<u8>, row: &Row) -> Result<(), AllocError>
     ensures { OnOk result (text.new.items ≡ text.old.items ++ label row.now) }
 {
-    push_point(text, row)?;
+    push_numbered_point(text, row)?;
     text.extend_from_slice(b"\\n")?;
     push_kind(text, row)?;
     text.extend_from_slice(b"\\n")?;

@@ -1,6 +1,6 @@
 //! Tables as trees of text, as findmnt(8) draws them.
 ghost use Rattle.std.specs.Prelude.{◌≡◌, ◌++◌, cond, map, codes, OnOk, IfOk};
-ghost use Rattle.mt_draw.specs.Trees.{tee, corner, bar, lead, propagation, cells, header, strays_text, fitted_text, part_tree, apart, trees_text};
+ghost use Rattle.mt_draw.specs.Trees.{tee, corner, bar, lead, propagation, shown_root, cells, header, strays_text, fitted_text, part_tree, apart, trees_text};
 
 use crate::columns::{Cells, Widths, push_lines};
 use crate::forest::{Branch, strays, tree};
@@ -93,23 +93,39 @@ pub(crate) fn push_propagation(text: &mut Vec<u8>, row: &Row) -> Result<(), Allo
     Ok(())
 }
 
+/// Appends the directory that a mount shows at its root, in brackets, where that is not the root of its filesystem.
+pub(crate) fn push_shown_root(text: &mut Vec<u8>, row: &Row) -> Result<(), AllocError>
+    ensures { OnOk result (text.new.items ≡ text.old.items ++ shown_root row.now.root) }
+{
+    if row.root.text().is_empty() {
+        return Ok(());
+    }
+    text.extend_from_slice(b"[")?;
+    push_path(text, &row.root)?;
+    text.extend_from_slice(b"]")?;
+    Ok(())
+}
+
 /// The cells of a row.
 fn cells_of(alloc: Global, strokes: Strokes, branch: &Branch<'_>) -> Result<Cells, AllocError>
     ensures { IfOk result (λ found. found ≡ cells strokes branch.now) }
 {
     let row = branch.row();
+    let mut id = Vec::new(alloc);
+    push_number(&mut id, row.id)?;
     let mut target = Vec::new(alloc);
     push_lead(&mut target, strokes, branch.lasts())?;
     push_path(&mut target, &row.point)?;
     let mut source = Vec::new(alloc);
     push_label(&mut source, &row.source)?;
+    push_shown_root(&mut source, row)?;
     let mut kind = Vec::new(alloc);
     push_label(&mut kind, &row.kind)?;
     let mut options = Vec::new(alloc);
     push_options(&mut options, &row.attrs)?;
     let mut propagation = Vec::new(alloc);
     push_propagation(&mut propagation, row)?;
-    Ok(Cells::new(target, source, kind, options, propagation))
+    Ok(Cells::new(id, target, source, kind, options, propagation))
 }
 
 /// The cells of the line above the rows.
@@ -117,6 +133,7 @@ fn header(alloc: Global) -> Result<Cells, AllocError>
     ensures { IfOk result (λ found. found ≡ header) }
 {
     Ok(Cells::new(
+        Vec::from_slice(alloc, b"ID")?,
         Vec::from_slice(alloc, b"TARGET")?,
         Vec::from_slice(alloc, b"SOURCE")?,
         Vec::from_slice(alloc, b"FSTYPE")?,

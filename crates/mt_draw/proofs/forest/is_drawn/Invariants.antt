@@ -1,4 +1,4 @@
-use Rattle.std.proofs.Common.{◌≡◌, ◌==◌, drop}
+use Rattle.std.proofs.Common.{◌≡◌, drop}
 use Rattle.mt_draw.specs.Forest.{is_drawn}
 use Rattle.mt_draw.proofs.forest.is_drawn.Given as goal
 

@@ -1,4 +1,4 @@
-use Rattle.std.proofs.Common.{◌≡◌, ◌==◌, ◌+◌, List, ◌++◌, ◌∷◌, [], ◌-◌, drop, length, true, false, sym, ap, ◌∙◌}
+use Rattle.std.proofs.Common.{◌≡◌, ◌==◌, ◌+◌, List, ◌++◌, ◌∷◌, [], ◌-◌, drop, length, true, sym, ap, ◌∙◌}
 use Rattle.std.specs.List.{filter}
 use Rattle.mt_info.specs.declared.row.Row.{Row}
 use Rattle.mt_draw.specs.Forest.{BranchView, is_child}

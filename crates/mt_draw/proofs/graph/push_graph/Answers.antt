@@ -1,6 +1,6 @@
 use Rattle.std.proofs.Common.{◌++◌, ◌∙◌, ap, codes}
 use Rattle.std.specs.List.{flat_map}
-use Rattle.mt_draw.specs.Groups.{NodeView, group_edges, nodes}
+use Rattle.mt_draw.specs.Groups.{group_edges, nodes}
 use Rattle.mt_draw.specs.Graphs.{cluster, parent_edges}
 use Rattle.mt_draw.proofs.AppendLaws.{five}
 use Rattle.mt_draw.proofs.graph.push_graph.Goals as goal

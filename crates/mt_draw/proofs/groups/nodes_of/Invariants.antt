@@ -1,6 +1,5 @@
 use Rattle.std.proofs.Common.{◌≡◌, ◌++◌, drop}
-use Rattle.std.specs.List.{flat_map}
-use Rattle.mt_draw.specs.Groups.{part_nodes, nodes}
+use Rattle.mt_draw.specs.Groups.{nodes}
 use Rattle.mt_draw.proofs.groups.nodes_of.Given as goal
 
 -- what was appended, and what is to come

@@ -1,5 +1,5 @@
-use Rattle.std.proofs.Common.{◌≡◌, ◌++◌, map, drop}
-use Rattle.mt_draw.specs.Groups.{NodeView, part_nodes}
+use Rattle.std.proofs.Common.{◌≡◌, ◌++◌, drop}
+use Rattle.mt_draw.specs.Groups.{part_nodes}
 use Rattle.mt_draw.proofs.groups.push_part_nodes.Given as goal
 
 -- what was appended, and what is to come
