@@ -14,7 +14,7 @@ import cases
 from memory import Refusing, Words
 from paths import leave_socket, user_of_none
 from running import MOST_SECONDS, check, connection_fault, difference, run, shown
-from serving import START, STOP, Door, Server, stop_behind, until_it_rests
+from serving import START, STOP, Door, Server, rests, stop_behind, until_it_rests
 
 
 def without_comments(case):
@@ -22,16 +22,37 @@ def without_comments(case):
     return case._replace(turns=[turn for turn in case.turns if turn.sent()[:1] not in (b"\n", b"#")])
 
 
+def printable(line):
+    """A line as a message shows it."""
+    return b"".join(b"%c" % byte if 32 <= byte <= 126 else b"\\x%02x" % byte for byte in line)
+
+
+def told_of(case):
+    """What the other program tells of a case as a script: each line that is refused, with its number, and how."""
+    told = []
+    for number, turn in enumerate(case.turns, 1):
+        line = turn.sent().removesuffix(b"\n")
+        if line[:1] in (b"", b"#"):
+            continue
+        refused = [b"no Stopped"] if rests(turn) else [answer for answer in turn.answers if answer.startswith(b"no ")]
+        # A line that is too long, or has no end, is not sent, and so not told.
+        is_sent = turn.sent().endswith(b"\n") and len(line) <= MOST_OF_A_LINE
+        told += [b": ".join([b"mountctl", b"line %d" % number, *[printable(line)] * is_sent, answer]) + b"\n" for answer in refused]
+        if rests(turn):
+            break
+    return b"".join(told)
+
+
 def check_scripts(program, mountctl):
     """Each of these cases, as a script of the other program, is answered as its file says, but for its comments."""
     for name in cases.names():
         case = cases.load(name)
-        text, _, rests = until_it_rests(case)
+        text, _, is_resting = until_it_rests(case)
         _, wanted, _ = until_it_rests(without_comments(case))
         with Server(program, *case.arguments) as server:
             words = [mountctl, server.path, "-"]
             with subprocess.Popen(words, stdin=subprocess.PIPE, stdout=subprocess.PIPE, stderr=subprocess.PIPE) as script:
-                if rests:
+                if is_resting:
                     script.stdin.write(text)
                     script.stdin.close()
                     found = stop_behind(server, wanted.count(b"\n"), script.stdout)
@@ -43,7 +64,7 @@ def check_scripts(program, mountctl):
         check(f"case {name} as a script", found == wanted, difference(wanted, found, name))
         refused = re.search(rb"(?m)^no ", wanted) is not None
         ended = script.returncode, complaint
-        check(f"case {name} as a script: its status", ended == (int(refused), b""), repr(ended))
+        check(f"case {name} as a script: its status", ended == (int(refused), told_of(case)), repr(ended))
 
 
 def check_client(program, mountctl):
@@ -89,6 +110,9 @@ LINES = (
     ("mirror 1 1048577", 1, b"no BadLine\n"),
     ("follow 1", 1, b"no NoWatcher\n"),
 )
+# The longest line of a session, in bytes before its line end.
+MOST_OF_A_LINE = 8_192
+
 READ_FAULT = 3, b"", b"mountctl: read fault\n"
 WRITE_FAULT = 3, b"", b"mountctl: write fault\n"
 OUT_OF_MEMORY = 3, b"", b"mountctl: out of memory\n"
@@ -160,14 +184,43 @@ def check_closed(mountctl):
             check(f"mountctl {words} {streams}", found == ended, repr(found))
 
 
+# A script with two refused lines, of which one has bytes that a terminal obeys.
+SCRIPT = b"# none\nshow 1\nshow \x1b[2J\nshow 7\n"
+TOLD = b"mountctl: line 2: show 1: no NoNamespace\n", b"mountctl: line 3: show \\x1b[2J: no BadLine\n", b"mountctl: line 4: show 7: no NoNamespace\n"
+NAMELESS_AND_BAD = NAMELESS + b"no BadLine\n" + NAMELESS
+
+# Options, the words, and how the program ends: a script to its end, up to the first refusal, without its answers, and both;
+# and one line without its answer.
+MANNERS = (
+    ([], ["-"], (1, NAMELESS_AND_BAD, b"".join(TOLD))),
+    (["-e"], ["-"], (1, NAMELESS, TOLD[0])),
+    (["-q"], ["-"], (1, b"", b"".join(TOLD))),
+    (["-eq"], ["-"], (1, b"", TOLD[0])),
+    (["-q"], ["show", "1"], (1, b"", b"")),
+    (["-e"], ["show", "1"], (1, NAMELESS, b"")),
+)
+
+
+def check_manners(mountctl, server):
+    """What the options say of a script, and of a line."""
+    for options, words, wanted in MANNERS:
+        done = subprocess.run([mountctl, *options, server.path, *words], input=SCRIPT, capture_output=True, timeout=MOST_SECONDS)
+        found = done.returncode, done.stdout, done.stderr
+        check(f"mountctl {' '.join([*options, *words])}", found == wanted, repr(found))
+    found = run(mountctl, b"show 64\nshow 64\n", "-e", server.path, "-")
+    check("mountctl -e: the first refusal alone", found == (1, NAMELESS, b"mountctl: line 1: show 64: no NoNamespace\n"), repr(found))
+
+
 def check_comments(program, mountctl):
     """A script's empty lines and comments are not sent."""
     with Server(program) as server:
         found = run(mountctl, COMMENTED, server.path, "-")
-        check("mountctl: a script with comments", found == (1, COMMENTED_ANSWERS, b""), repr(found))
+        told = b"mountctl: line 5:  # no comment: no BadLine\n"
+        check("mountctl: a script with comments", found == (1, COMMENTED_ANSWERS, told), repr(found))
         for text, answer in (b"#" * 8_193 + b"\n", b"no TooLong\n"), (b"# no line end", b"no BadLine\n"):
             found = run(mountctl, text, server.path, "-")
-            check(f"mountctl: {shown(text[-20:])!r} in a script", found == (1, answer, b""), repr(found))
+            check(f"mountctl: {shown(text[-20:])!r} in a script", found == (1, answer, b"mountctl: line 1: " + answer), repr(found))
+        check_manners(mountctl, server)
         found = run(mountctl, b"# nothing\n\n", server.path, "-")
         check("mountctl: a script of comments", found == (0, b"", b""), repr(found))
         ended = server.stop()
@@ -241,7 +294,8 @@ def check_statuses(program, mountctl):
         # A script is cut into lines as a session is.
         for count, end, answer in (8_192, b"", b"no BadLine\n"), (8_193, b"", b"no TooLong\n"), (8_193, b"\n", b"no TooLong\n"):
             found = run(mountctl, b"x" * count + end, server.path, "-")
-            check(f"mountctl: a script of {count} bytes and {shown(end)}", found == (1, answer, b""), repr(found))
+            wanted = (1, answer, b"mountctl: line 1: " + answer)
+            check(f"mountctl: a script of {count} bytes and {shown(end)}", found == wanted, repr(found))
         for words, stream, wanted in FAULTY_STREAMS:
             found = redirected(mountctl, stream, server.path, *words.split(), text=b"show 1\n")
             check(f"mountctl {words} {stream}", found == wanted, repr(found))

@@ -86,7 +86,7 @@ def usages(text):
 def options(text):
     """The options of a help."""
     part = text.split("Options:\n")[1].split("\n\n")[0]
-    return [word for pair in re.findall(r"(?m)^ +(-\w)?(?:, )?(--[\w-]+)", part) for word in pair if word]
+    return [word for line in re.findall(r"(?m)^ +(-\w.*|--.*)", part) for word in re.findall(r"--?[\w-]+", line.split("  ")[0])]
 
 
 def words_in_place(text, of="WORD.."):

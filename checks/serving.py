@@ -108,6 +108,13 @@ def send_input(client, text, rests=False):
             client.socket.shutdown(socket.SHUT_WR)
 
 
+def rests(turn):
+    """Whether a turn is a `follow` that finds fewer posts than it asks for: on a socket it waits for more."""
+    asked = re.fullmatch(rb"follow (\d+)\n", turn.sent())
+    told = re.fullmatch(rb"ok (\d+)", turn.answers[-1]) if asked and turn.answers else None
+    return told is not None and int(told[1]) < int(asked[1])
+
+
 def until_it_rests(case):
     """The input of a case up to a `follow` that rests on a socket, what answers it, and whether one does.
 
@@ -115,9 +122,7 @@ def until_it_rests(case):
     waits for more, until a stop ends it here.
     """
     for at, turn in enumerate(case.turns):
-        asked = re.fullmatch(rb"follow (\d+)\n", turn.sent())
-        told = re.fullmatch(rb"ok (\d+)", turn.answers[-1]) if asked and turn.answers else None
-        if told and int(told[1]) < int(asked[1]):
+        if rests(turn):
             begun = case._replace(turns=[*case.turns[:at], turn._replace(answers=turn.answers[:-1])])
             return begun.input(), begun.output(), True
     return case.input(), case.output(), False

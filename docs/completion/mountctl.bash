@@ -67,8 +67,11 @@ _mountctl()
     done
     current=${words[-1]}
     unset "words[-1]"
+    while ((${#words[@]})) && [[ ${words[0]} == -[eq]* ]]; do
+        words=("${words[@]:1}")
+    done
     if ((${#words[@]} == 0)); then
-        mapfile -t COMPREPLY < <(_mountctl_sockets "$current"; compgen -W "-h --help import" -- "$current")
+        mapfile -t COMPREPLY < <(_mountctl_sockets "$current"; compgen -W "-e -h --help -q import" -- "$current")
         compopt -o filenames 2> /dev/null
         return
     fi

@@ -1,17 +1,24 @@
 //! `mountctl`: a client of the mount server.
 #![tactic(auto)]
 
+ghost use Rattle.std.specs.Prelude.{◌≡◌, None};
+ghost use Rattle.mt_lines.specs.Reading.{fault_of};
+
 mod connection;
 mod fault;
 mod import;
+mod quiet;
 mod script;
 mod task;
+mod told;
 
 use crate::connection::connect;
 use crate::fault::{CONNECTION_FAULT, Fault};
 use crate::import::{ImportFault, ROW_LIMIT, import};
+use crate::quiet::Quiet;
 use crate::script::{SCRIPT_LIMIT, run_script};
 use crate::task::{Task, WordFault, task_of};
+use crate::told::NAME;
 use clap::{Arg, ArgAction, Command, Error};
 use mt_arguments::program::{Program, read_arguments};
 use mt_arguments::socket::SocketFault;
@@ -20,15 +27,12 @@ use mt_client::mirror::mirror;
 use mt_client::picture::draw;
 use mt_client::telling::tell;
 use mt_lines::line::LineReader;
-use mt_lines::stream::{Reading, Writing};
+use mt_lines::stream::{Input, Output, Reading, Writing};
 use mt_requests::help::LINES;
 use std::alloc::{AllocError, Global};
 use std::os::unix::net::UnixStream;
 use std::process::ExitCode;
 use std::{fs, io};
-
-/// The name that the program goes by in its messages.
-const NAME: &str = "mountctl";
 
 /// The program, as it speaks of itself.
 const PROGRAM: Program = Program {
@@ -59,6 +63,15 @@ fn usage(alloc: Global) -> Result<String, AllocError> {
     Ok(text)
 }
 
+/// How lines are sent, and what is shown of their answers.
+#[derive(Clone, Copy)]
+struct Manner {
+    /// Whether a script ends at the first refusal.
+    strict: bool,
+    /// Whether answers are left out.
+    quiet: bool,
+}
+
 /// What the program takes: a socket, and the words of a request. `usage` stands behind its help.
 fn parser<'a>(alloc: Global, usage: &'a str) -> Result<Command<'a>, Error> {
     let socket = Arg::new(alloc, "SOCKET")
@@ -72,11 +85,46 @@ fn parser<'a>(alloc: Global, usage: &'a str) -> Result<Command<'a>, Error> {
         .trailing_var_arg(true)
         .allow_hyphen_values(true)
         .action(ArgAction::Append);
+    let strict = Arg::new(alloc, "strict")
+        .short('e')
+        .help("End a script at the first line that is refused")
+        .action(ArgAction::SetTrue);
+    let quiet = Arg::new(alloc, "quiet")
+        .short('q')
+        .help("Leave out the answers to lines")
+        .action(ArgAction::SetTrue);
     let command = Command::new(alloc, NAME)
+        .arg(strict)?
+        .arg(quiet)?
         .arg(socket)?
         .arg(words)?
         .after_help(usage);
     Ok(command)
+}
+
+/// Sends a line of these words, or a script, and prints the answers to an output: whether each was `ok`.
+fn run_lines<R: Input + Drop, W: Output, O: Output>(
+    rt: &HostRuntime,
+    task: Task,
+    words: &[&str],
+    strict: bool,
+    lines: &mut LineReader<R>,
+    writer: &mut W,
+    out: &mut O,
+) -> Result<bool, Fault>
+    requires fresh { fault_of lines.old ≡ None }
+{
+    let alloc = rt.alloc();
+    if matches!(task, Task::Script) {
+        let mut input = LineReader::new(alloc, Reading::new(rt.reader()), SCRIPT_LIMIT)?;
+        return run_script(rt, alloc, strict, &mut input, lines, writer, out);
+    }
+    let mut bytes = Vec::new(alloc);
+    for word in words {
+        bytes.push(word.as_bytes())?;
+    }
+    let told = ask(alloc, lines, writer, bytes.as_slice(), out)?;
+    Ok(told)
 }
 
 /// Does a task over a connection: whether each answer was `ok`.
@@ -85,22 +133,19 @@ fn run_task(
     stream: &UnixStream,
     task: Task,
     words: &[&str],
+    manner: Manner,
 ) -> Result<bool, Fault> {
     let alloc = rt.alloc();
+    let mut out = Writing::new(io::writer(rt));
+    let strict = manner.strict;
     let mut lines = LineReader::new(alloc, Reading::new(stream), LINE_LIMIT)?;
     let mut writer = Writing::new(stream);
-    let mut out = Writing::new(io::writer(rt));
     let told = match task {
-        Task::Ask => {
-            let mut bytes = Vec::new(alloc);
-            for word in words {
-                bytes.push(word.as_bytes())?;
-            }
-            ask(alloc, &mut lines, &mut writer, bytes.as_slice(), &mut out)?
+        Task::Ask | Task::Script if manner.quiet => {
+            run_lines(rt, task, words, strict, &mut lines, &mut writer, &mut Quiet)?
         }
-        Task::Script => {
-            let mut input = LineReader::new(alloc, Reading::new(rt.reader()), SCRIPT_LIMIT)?;
-            run_script(alloc, &mut input, &mut lines, &mut writer, &mut out)?
+        Task::Ask | Task::Script => {
+            run_lines(rt, task, words, strict, &mut lines, &mut writer, &mut out)?
         }
         Task::Mirror { space, count } => {
             mirror(alloc, &mut lines, &mut writer, space, count, &mut out)?
@@ -117,7 +162,7 @@ fn run_task(
 }
 
 /// Connects to a socket and does what the words ask for.
-fn run_words(rt: &HostRuntime, socket: &str, words: &[&str]) -> ExitCode {
+fn run_words(rt: &HostRuntime, socket: &str, words: &[&str], manner: Manner) -> ExitCode {
     let task = match task_of(words) {
         Ok(task) => task,
         Err(fault) => return PROGRAM.refuse(rt, fault.message()),
@@ -129,7 +174,7 @@ fn run_words(rt: &HostRuntime, socket: &str, words: &[&str]) -> ExitCode {
             return PROGRAM.fail_at(rt, CONNECTION_FAULT, socket, fault);
         }
     };
-    match run_task(rt, &stream, task, words) {
+    match run_task(rt, &stream, task, words, manner) {
         Ok(true) => ExitCode::SUCCESS,
         Ok(false) => ExitCode::from(1),
         Err(Fault::Connection) => PROGRAM.fail_at(rt, CONNECTION_FAULT, socket, "no whole answer"),
@@ -163,7 +208,11 @@ fn run_arguments(rt: &HostRuntime, arguments: &[&str]) -> Result<ExitCode, Error
     let matches = parser(rt.alloc(), usage.as_str())?.try_get_matches_from(arguments)?;
     let socket = matches.get_str("SOCKET").unwrap_or("");
     let words = matches.get_strs("WORD").unwrap_or(&[]);
-    Ok(run_words(rt, socket, words))
+    let manner = Manner {
+        strict: matches.get_flag("strict"),
+        quiet: matches.get_flag("quiet"),
+    };
+    Ok(run_words(rt, socket, words, manner))
 }
 
 /// Does what the arguments ask for, where they are those of a request to a server or of the help, or says why not.

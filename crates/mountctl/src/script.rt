@@ -1,19 +1,32 @@
 //! Scripts: the lines of standard input, sent one after another.
-ghost use Rattle.std.specs.Prelude.{◌≡◌, None};
+ghost use Rattle.std.specs.Prelude.{◌≡◌, None, OnOk};
 ghost use Rattle.mt_lines.specs.Reading.{fault_of};
 
 use crate::fault::Fault;
+use crate::told::tell_refused;
 use mt_client::ask::ask_line;
 use mt_client::relay::print_text;
 use mt_lines::line::{Line, LineReader};
 use mt_lines::stream::{Input, Output};
 use std::alloc::Global;
+use std::io::Eprint;
 
 /// The longest line of a script, in bytes before its line end: that of a session.
 pub(crate) const SCRIPT_LIMIT: u32 = 8_192;
 
 /// The most lines of a script.
 const MOST_LINES: u64 = u64::MAX;
+
+/// What comes of a line.
+#[derive(Clone, Copy)]
+enum Outcome {
+    /// The script goes on.
+    Next,
+    /// It was refused, and the script may go on.
+    Refused,
+    /// It was accepted, and ended its session.
+    Ended,
+}
 
 /// Whether a line is for the reader of a script alone: it is empty, or begins with `#`.
 fn is_comment(line: &[u8]) -> bool {
@@ -28,10 +41,53 @@ fn ends_session(line: &[u8]) -> bool {
     line == b"quit".as_slice() || line == b"stop".as_slice()
 }
 
-/// Sends the lines of an input but for its comments, one after another, and prints what answers each: whether each was
-/// answered `ok`.
-pub(crate) fn run_script<I: Input + Drop, R: Input + Drop, W: Output, O: Output>(
+/// Sends a line, unless it is a comment, and prints what answers it. A refusal is told, with the line and its number.
+fn send_line<E: Eprint, R: Input + Drop, W: Output, O: Output>(
+    rt: &E,
     alloc: Global,
+    number: u64,
+    line: &[u8],
+    lines: &mut LineReader<R>,
+    writer: &mut W,
+    out: &mut O,
+) -> Result<Outcome, Fault>
+    requires fresh { fault_of lines.old ≡ None }
+    ensures fresh { OnOk result (fault_of lines.new ≡ None) }
+{
+    if is_comment(line) {
+        return Ok(Outcome::Next);
+    }
+    if !ask_line(alloc, lines, writer, line, out)? {
+        tell_refused(rt, number, line, lines.line());
+        return Ok(Outcome::Refused);
+    }
+    if ends_session(line) {
+        Ok(Outcome::Ended)
+    } else {
+        Ok(Outcome::Next)
+    }
+}
+
+/// Prints the refusal of a line that is not sent, and tells it.
+fn refuse_line<E: Eprint, O: Output>(
+    rt: &E,
+    number: u64,
+    refusal: &[u8],
+    out: &mut O,
+) -> Result<(), Fault> {
+    print_text(out, refusal)?;
+    print_text(out, b"\n")?;
+    tell_refused(rt, number, b"", refusal);
+    Ok(())
+}
+
+/// Sends the lines of an input but for its comments, one after another, and prints what answers each: whether each was
+/// answered `ok`. Each refusal is told on standard error too, with the number of its line; where the script is `strict`,
+/// it ends with the first one.
+pub(crate) fn run_script<E: Eprint, I: Input + Drop, R: Input + Drop, W: Output, O: Output>(
+    rt: &E,
+    alloc: Global,
+    strict: bool,
     input: &mut LineReader<I>,
     lines: &mut LineReader<R>,
     writer: &mut W,
@@ -40,28 +96,29 @@ pub(crate) fn run_script<I: Input + Drop, R: Input + Drop, W: Output, O: Output>
     requires fresh { fault_of lines.old ≡ None }
 {
     let mut all = true;
-    'lines: for _line in 0..MOST_LINES {
+    'lines: for before in 0..MOST_LINES {
+        let number = before + 1;
         match input.next() {
             Ok(Line::Text) => {
-                if is_comment(input.line()) {
-                    continue;
-                }
-                let told = ask_line(alloc, lines, writer, input.line(), out)?;
-                all = all && told;
-                if told && ends_session(input.line()) {
-                    return Ok(all);
+                match send_line(rt, alloc, number, input.line(), lines, writer, out)? {
+                    Outcome::Next => {}
+                    Outcome::Refused => all = false,
+                    Outcome::Ended => return Ok(all),
                 }
             }
             Ok(Line::TooLong) => {
-                print_text(out, b"no TooLong\n")?;
+                refuse_line(rt, number, b"no TooLong", out)?;
                 all = false;
             }
             Ok(Line::Unended) => {
-                print_text(out, b"no BadLine\n")?;
+                refuse_line(rt, number, b"no BadLine", out)?;
                 return Ok(false);
             }
             Ok(Line::End) => return Ok(all),
             Err(fault) => return Err(Fault::of_input(fault)),
+        }
+        if strict && !all {
+            return Ok(false);
         }
     }
     Ok(all)

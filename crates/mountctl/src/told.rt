@@ -1,0 +1,37 @@
+//! What is told of a refused line on standard error.
+
+use std::fmt;
+use std::fmt::{Display, Formatter, Write};
+use std::io::Eprint;
+
+/// The name that the program goes by in its messages.
+pub(crate) const NAME: &str = "mountctl";
+
+/// Bytes as a message shows them: as they are where they are printable ASCII, and else as `\x` and two hexadecimal digits,
+/// so that no terminal obeys them.
+#[derive(Clone, Copy)]
+struct Shown<'a>(&'a [u8]);
+
+impl<'a> Display for Shown<'a> {
+    fn fmt<W: fmt::Write>(&self, f: &mut Formatter<W>) -> fmt::Result {
+        let Shown(bytes) = self;
+        for byte in *bytes {
+            if 32 <= *byte && *byte <= 126 {
+                f.write_char(char::from(*byte))?;
+            } else {
+                write!(f, "\\x{byte:02x}")?;
+            }
+        }
+        Ok(())
+    }
+}
+
+/// Says on standard error which line of a script was refused, by its number, and how. A line that was not read is empty.
+pub(crate) fn tell_refused<E: Eprint>(rt: &E, number: u64, line: &[u8], refusal: &[u8]) {
+    let (line, refusal) = (Shown(line), Shown(refusal));
+    if line.0.is_empty() {
+        let _ = eprintln!(rt; "{NAME}: line {number}: {refusal}");
+    } else {
+        let _ = eprintln!(rt; "{NAME}: line {number}: {line}: {refusal}");
+    }
+}
