@@ -1,4 +1,6 @@
 //! Why a socket cannot be had at a path, in words.
+ghost use Rattle.std.specs.Prelude.{◌≡◌, ◌≢◌, ◌⊎◌, ◌<◌, ◌≤◌, length};
+ghost use Rattle.std.specs.IoError.{error_kind};
 
 use std::fmt::{Display, Formatter};
 use std::fs::Metadata;
@@ -33,7 +35,14 @@ fn is_another(file: &io::Result<Metadata>) -> bool {
 impl SocketFault {
     /// What a failed call says of a path, at which a look finds this file. The system tells of a file that is no socket
     /// what it tells of a socket that is in use, or at which nobody listens, so such a file is looked at.
-    pub fn new(path: &str, error: &io::Error, file: &io::Result<Metadata>) -> SocketFault {
+    pub fn new(path: &str, error: &io::Error, file: &io::Result<Metadata>) -> SocketFault
+        ensures empty { length path.now ≡ 0 → result ≡ SocketFault.NoPath }
+        ensures long { 107 < length path.now → result ≡ SocketFault.LongPath }
+        ensures call { length path.now ≢ 0 → length path.now ≤ 107
+            → result ≢ SocketFault.NoSocket → result ≡ SocketFault.Call (error_kind error.now) }
+        ensures another { result ≡ SocketFault.NoSocket
+            → (error_kind error.now ≡ ErrorKind.AddrInUse) ⊎ (error_kind error.now ≡ ErrorKind.ConnectionRefused) }
+    {
         match error.kind() {
             _ if path.is_empty() => SocketFault::NoPath,
             _ if path.len() > LONGEST => SocketFault::LongPath,
