@@ -156,15 +156,22 @@ def check_stale(program):
 
 
 @contextlib.contextmanager
-def waiting(program, path):
-    """A start that would replace a stale socket, in the moment before it looks once more."""
-    words = [program, "--replace", path]
-    with subprocess.Popen(words, stdin=subprocess.DEVNULL, stdout=subprocess.PIPE, stderr=subprocess.PIPE) as start:
+def started(words, **settings):
+    """A start by these words, which does not outlive the block."""
+    pipe = subprocess.PIPE
+    with subprocess.Popen(words, stdin=subprocess.DEVNULL, stdout=pipe, stderr=pipe, **settings) as start:
         try:
-            wait_for_sleep(start.pid)
             yield start
         finally:
             start.kill()
+
+
+@contextlib.contextmanager
+def waiting(program, path):
+    """A start that would replace a stale socket, in the moment before it looks once more."""
+    with started([program, "--replace", path]) as start:
+        wait_for_sleep(start.pid)
+        yield start
 
 
 def wait_for_sleep(number):
@@ -204,15 +211,11 @@ def check_second_look(program):
 def held(program, path, folder):
     """A server without a umask that has made its socket, and is about to listen on it. It goes on at a file `go`."""
     words = {"LD_PRELOAD": library(folder, "hold_listen"), "LISTEN_HELD": folder}
-    pipe = subprocess.PIPE
-    with subprocess.Popen([program, path], stdin=subprocess.DEVNULL, stdout=pipe, stderr=pipe, env=words, umask=0) as server:
-        try:
-            end = time.monotonic() + MOST_SECONDS
-            while not os.path.exists(os.path.join(folder, "held")) and time.monotonic() < end:
-                time.sleep(0.001)
-            yield server
-        finally:
-            server.kill()
+    with started([program, path], env=words, umask=0) as server:
+        end = time.monotonic() + MOST_SECONDS
+        while not os.path.exists(os.path.join(folder, "held")) and time.monotonic() < end:
+            time.sleep(0.001)
+        yield server
 
 
 def connected(path):
