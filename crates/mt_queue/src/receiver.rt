@@ -42,9 +42,9 @@ impl Receiver {
     /// Takes the next post that was sent. What was taken is, from the opening on, posts of the namespaces that it
     /// names, with numbers that go up by one.
     ///
-    /// `None` where the line was empty at one moment of the call, and so not before as many posts were taken as the
-    /// last meeting said were sent; nothing has changed then. Takes no memory. It may wait for a step of the sender,
-    /// and after 2^64 - 1 posts it waits for ever.
+    /// `None` comes not before as many posts were taken as the last meeting said were sent, and nothing has changed then;
+    /// what the line holds at a moment no clause says. Takes no memory. It may wait for a step of the sender, and after
+    /// 2^64 - 1 posts it waits for ever.
     pub fn pop<R: Wait>(&mut self, rt: &R) -> Option<Item>
         ensures some { IfSome result (λ x. self.new ≡ record self.old { taken = self.old.taken ++ arc_value x ∷ [] }) }
         ensures none { IfNone result ((self.new ≡ self.old) × (self.old.told ≤ length self.old.taken)) }

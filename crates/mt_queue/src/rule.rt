@@ -11,9 +11,10 @@
 //! | make | `InOrder` | The first pass may push and pop. Nothing was sent or taken. |
 //! | split | `Reopen`, `Apart` | One pass may push from then on, and one may pop. At an opening both lists become empty and both passes name the new opening; after a meeting the lists stay, and each pass keeps in mind how long the other's is. |
 //! | push | `Push` | What was sent grows by the post, at its end. |
-//! | push refused as full | `Push` | Nothing changes. What was sent is longer than what was taken by the capacity. |
+//! | push refused as full | `Push` | Nothing changes. More was sent than the last meeting said was taken, by the capacity at least. |
 //! | pop | `Pop`, `PopLeft` | What was taken grows by the front, and is still a run from the opening. |
-//! | pop of none | `Pop`, `PopLeft` | Nothing changes. All that was sent is taken. |
+//! | pop of none | `Pop` | Nothing changes. As much was taken at least as the last meeting said was sent. |
+//! | pop of none behind a join | `PopLeft` | Nothing changes. All that was sent is taken. |
 //! | join | `Together` | One pass may push and pop, and knows both lists: what was sent is what was taken and then what the queue holds. |
 //!
 //! Two helpers change no list: `HandOver` moves what a pass knows to a new pass, since a join uses the other pass up,
@@ -102,7 +103,7 @@ pub(crate) type Queue = RuledArrayQueue<Item, PassView, InOrder>;
 /// A pass of such a queue.
 pub(crate) type QueuePass = Pass<Item, PassView>;
 
-/// A push, and a push that is refused since the queue is full.
+/// A push, and a push that is refused as full.
 pub(crate) struct Push;
 
 impl Outcome<Item, PassView> for Push {
@@ -117,7 +118,7 @@ impl Lesson<Item, PassView> for Push {
     ghost fact = { IsFilled };
 }
 
-/// A pop by the receiver, and a pop of none since the queue is empty.
+/// A pop by the receiver, and a pop of none.
 pub(crate) struct Pop;
 
 impl Outcome<Item, PassView> for Pop {

@@ -29,7 +29,7 @@ impl Model for Sender {
     ghost invariant = { λ s. IsSender (arc_value s.queue) s.pass s.count };
 }
 
-/// The line was full, and gives the post back.
+/// A post was not sent, and is given back.
 #[derive(Drop)]
 pub struct Full {
     /// The post that was not sent.
@@ -40,8 +40,9 @@ impl Sender {
     /// Sends a post: it is the next that the receiver takes after those that were sent before. The posts, with this
     /// one, are of the namespaces that the opening names, and have numbers that go up by one from there.
     ///
-    /// `Full` where the line held as many posts as it may at one moment of the call; nothing has changed then. Takes
-    /// no memory. It may wait for a step of the receiver, and after 2^64 - 1 posts it waits for ever.
+    /// `Full` gives the post back, and nothing was sent. It comes only once so many more posts were sent than the last
+    /// meeting said were taken as the line may hold; what the line holds at a moment no clause says. Takes no memory. It
+    /// may wait for a step of the receiver, and after 2^64 - 1 posts it waits for ever.
     pub fn push<R: Wait>(&mut self, rt: &R, post: Item) -> Result<(), Full>
         requires { IsRun self.old.opening (self.old.sent ++ arc_value post ∷ []) }
         ensures ok { OnOk result (self.new ≡ record self.old { sent = self.old.sent ++ arc_value post ∷ [] }) }
