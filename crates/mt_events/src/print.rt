@@ -1,6 +1,7 @@
-//! The text of a post.
+//! The text of a post. Where memory is wanting, what stood in the text stays in front.
 ghost use Rattle.std.specs.Prelude.{◌≡◌, ◌+◌, ◌++◌, IfOk, OnOk, IsOkUnless};
 ghost use Rattle.std.specs.List.{flat_map, join_with_byte};
+ghost use Rattle.mt_skel.specs.Front.{IsFront};
 ghost use Rattle.mt_events.specs.Posts.{event_words, gone_line, row_line, post_text, ended};
 
 use crate::post::Post;
@@ -23,7 +24,8 @@ pub fn print_post(alloc: Global, post: &Post) -> Result<Vec<u8>, Fault>
 /// Appends the text of a post: its lines, each with its line end. Fails for want of memory alone.
 #[tactic(auto, using(crate::proofs::PostLaws::post_pieces))]
 pub fn push_post(text: &mut Vec<u8>, post: &Post) -> Result<(), AllocError>
-    ensures { OnOk result (text.new.items ≡ text.old.items ++ post_text post.now) }
+    ensures text { OnOk result (text.new.items ≡ text.old.items ++ post_text post.now) }
+    ensures kept { IsFront text.old.items text.new.items }
 {
     let gone = post.gone.as_slice();
     let rows = post.rows.as_slice();
@@ -40,7 +42,8 @@ fn push_event(
     number: u64,
     count: usize,
 ) -> Result<(), AllocError>
-    ensures { OnOk result (text.new.items ≡ text.old.items ++ ended (join_with_byte 32 (event_words space number count))) }
+    ensures text { OnOk result (text.new.items ≡ text.old.items ++ ended (join_with_byte 32 (event_words space number count))) }
+    ensures kept { IsFront text.old.items text.new.items }
 {
     text.extend_from_slice(b"event ")?;
     push_number(text, space)?;
@@ -54,7 +57,8 @@ fn push_event(
 
 /// Appends the line of a mount that left.
 fn push_gone_line(text: &mut Vec<u8>, id: MountId) -> Result<(), AllocError>
-    ensures { OnOk result (text.new.items ≡ text.old.items ++ ended (gone_line id)) }
+    ensures text { OnOk result (text.new.items ≡ text.old.items ++ ended (gone_line id)) }
+    ensures kept { IsFront text.old.items text.new.items }
 {
     text.extend_from_slice(b"- ")?;
     push_number(text, id)?;
@@ -64,7 +68,8 @@ fn push_gone_line(text: &mut Vec<u8>, id: MountId) -> Result<(), AllocError>
 
 /// Appends the line of a row that is new or not as it was.
 fn push_row_line(text: &mut Vec<u8>, row: &Row) -> Result<(), AllocError>
-    ensures { OnOk result (text.new.items ≡ text.old.items ++ ended (row_line row.now)) }
+    ensures text { OnOk result (text.new.items ≡ text.old.items ++ ended (row_line row.now)) }
+    ensures kept { IsFront text.old.items text.new.items }
 {
     text.extend_from_slice(b"= ")?;
     push_row(text, row)?;
@@ -74,7 +79,8 @@ fn push_row_line(text: &mut Vec<u8>, row: &Row) -> Result<(), AllocError>
 
 /// Appends the lines of the mounts that left.
 fn push_gone(text: &mut Vec<u8>, gone: &[MountId]) -> Result<(), AllocError>
-    ensures { OnOk result (text.new.items ≡ text.old.items ++ flat_map (λ i. ended (gone_line i)) gone.now) }
+    ensures text { OnOk result (text.new.items ≡ text.old.items ++ flat_map (λ i. ended (gone_line i)) gone.now) }
+    ensures kept { IsFront text.old.items text.new.items }
 {
     'gone: for id in gone {
         push_gone_line(text, *id)?;
@@ -84,7 +90,8 @@ fn push_gone(text: &mut Vec<u8>, gone: &[MountId]) -> Result<(), AllocError>
 
 /// Appends the lines of the rows.
 fn push_rows(text: &mut Vec<u8>, rows: &[Row]) -> Result<(), AllocError>
-    ensures { OnOk result (text.new.items ≡ text.old.items ++ flat_map (λ r. ended (row_line r)) rows.now) }
+    ensures text { OnOk result (text.new.items ≡ text.old.items ++ flat_map (λ r. ended (row_line r)) rows.now) }
+    ensures kept { IsFront text.old.items text.new.items }
 {
     'rows: for row in rows {
         push_row_line(text, row)?;

@@ -1,5 +1,6 @@
 //! The lines of tables, of what a watcher found, and of posts, as they are answered.
-ghost use Rattle.std.specs.Prelude.{◌≡◌, ◌+◌, ◌++◌, ◌∷◌, [], length, flat_map, codes, decimal, OnOk, IfOk, IsOkUnless};
+ghost use Rattle.std.specs.Prelude.{◌≡◌, ◌+◌, ◌++◌, ◌∷◌, [], length, flat_map, codes, decimal, OnOk, OnErr, IfOk, IsOkUnless};
+ghost use Rattle.mt_skel.specs.Front.{IsFront};
 ghost use Rattle.mt_info.specs.RowLine.{row_line};
 ghost use Rattle.mt_events.specs.Posts.{post_lines, post_text};
 ghost use Rattle.mt_events.specs.Texts.{count_text, table_text, part_text, opening_text};
@@ -98,20 +99,34 @@ impl PrintedPosts {
         }
     }
 
-    /// Appends a post. Refused as `NoMemory` alone.
+    /// Appends a post. Refused as `NoMemory` alone, and then the posts are those of before.
     pub fn push(&mut self, post: &Post) -> Result<(), Fault>
         ensures text { OnOk result (self.new.text.items ≡ self.old.text.items ++ post_text post.now) }
         ensures lines { OnOk result (self.new.lines ≡ self.old.lines + length (post_lines post.now)) }
         ensures posts { OnOk result (self.new.posts ≡ self.old.posts + 1) }
         ensures memory { IsOkUnless result Fault.NoMemory }
+        ensures unchanged { OnErr result ((self.new.text.items ≡ self.old.text.items) × (self.new.lines ≡ self.old.lines) × (self.new.posts ≡ self.old.posts)) }
     {
         let lines = lines_with_post(self.lines, post)?;
         let posts = self.posts.checked_add(1).ok_or(Fault::NoMemory)?;
-        push_post(&mut self.text, post)?;
+        push_whole(&mut self.text, post)?;
         self.lines = lines;
         self.posts = posts;
         Ok(())
     }
+}
+
+/// Appends the text of a post, or nothing where memory is wanting.
+fn push_whole(text: &mut Vec<u8>, post: &Post) -> Result<(), AllocError>
+    ensures text { OnOk result (text.new.items ≡ text.old.items ++ post_text post.now) }
+    ensures unchanged { OnErr result (text.new.items ≡ text.old.items) }
+{
+    let start = text.len();
+    if let Err(fault) = push_post(text, post) {
+        text.truncate(start);
+        return Err(fault);
+    }
+    Ok(())
 }
 
 /// Appends the lines of a namespace that a watcher found.
@@ -130,9 +145,11 @@ fn push_part(lines: &mut Vec<u8>, part: &Part) -> Result<(), AllocError>
     Ok(())
 }
 
-/// Appends the line in front of a table: `ok`, the count of its rows and how often it has changed.
+/// Appends the line in front of a table: `ok`, the count of its rows and how often it has changed. Fails for want of
+/// memory alone, and what stood there stays in front then too.
 pub fn push_heading(lines: &mut Vec<u8>, count: u64, number: u64) -> Result<(), AllocError>
-    ensures { OnOk result (lines.new.items ≡ lines.old.items ++ (codes "ok " ++ decimal count ++ codes " " ++ decimal number ++ 10 ∷ [])) }
+    ensures text { OnOk result (lines.new.items ≡ lines.old.items ++ (codes "ok " ++ decimal count ++ codes " " ++ decimal number ++ 10 ∷ [])) }
+    ensures kept { IsFront lines.old.items lines.new.items }
 {
     lines.extend_from_slice(b"ok ")?;
     push_number(lines, count)?;

@@ -1,6 +1,9 @@
 //! The lines of a table, printed from the world: no row is made, and no list of names.
+//!
+//! Where memory is wanting, what stood in the text stays in front.
 ghost use Rattle.std.specs.Prelude.{◌≡◌, ℕ, List, ◌++◌, ◌∷◌, length, Some, IsTrue, OnOk, IsOkUnless};
 ghost use Rattle.std.specs.List.{flat_map};
+ghost use Rattle.mt_skel.specs.Front.{IsFront};
 ghost use Rattle.mt_skel.specs.Escapes.{escaped};
 ghost use Rattle.mt_skel.specs.Skeleton.{is_directory, directory};
 ghost use Rattle.mt_mounts.specs.Forest.{mount_at};
@@ -26,6 +29,7 @@ const LINE_ROOM: usize = 64;
 pub fn push_table(text: &mut Vec<u8>, world: &World, space: SpaceId) -> Result<(), Fault>
     requires well_formed { IsWellFormed (world_view world.now) }
     ensures lines { OnOk result (text.new.items ≡ text.old.items ++ flat_map row_line (table_of (world_view world.now) space)) }
+    ensures kept { IsFront text.old.items text.new.items }
     ensures memory { IsOkUnless result Fault.NoMemory }
 {
     let mounts = world.forest.mounts_in(space)?;
@@ -50,7 +54,8 @@ fn push_line(
     requires well_formed { IsWellFormed (world_view seen.old) }
     requires there { mount_at seen.old.forest.mounts mount.now.id ≡ Some mount.now }
     ensures line { OnOk result (text.new.items ≡ text.old.items ++ line (row_of (world_view seen.old) mount.now)) }
-    ensures kept { seen.new ≡ seen.old }
+    ensures kept { IsFront text.old.items text.new.items }
+    ensures seen { seen.new ≡ seen.old }
     ensures memory { IsOkUnless result Fault.NoMemory }
 {
     let via = seen.from_group(mount.id)?;
@@ -71,7 +76,8 @@ fn push_line(
 /// Appends the path of a directory from the root of its filesystem down. Fails for want of memory alone.
 fn push_dir(text: &mut Vec<u8>, skel: &Skel, dir: Dir) -> Result<(), AllocError>
     requires { IsTrue (is_directory skel.now dir) }
-    ensures { OnOk result (text.new.items ≡ text.old.items ++ path_text (directory skel.now dir).path) }
+    ensures text { OnOk result (text.new.items ≡ text.old.items ++ path_text (directory skel.now dir).path) }
+    ensures kept { IsFront text.old.items text.new.items }
 {
     let start = text.len();
     skel.push_path(text, dir, skel.depth(dir))?;
@@ -87,7 +93,8 @@ fn push_point(
     id: MountId,
 ) -> Result<(), AllocError>
     requires { IsWellFormed (world_view world.now) }
-    ensures { OnOk result (text.new.items ≡ text.old.items ++ path_text (mount_point (world_view world.now) id)) }
+    ensures text { OnOk result (text.new.items ≡ text.old.items ++ path_text (mount_point (world_view world.now) id)) }
+    ensures kept { IsFront text.old.items text.new.items }
 {
     let start = text.len();
     fill_above(above, &world.forest, id)?;
@@ -100,7 +107,8 @@ fn push_point(
 /// memory alone.
 fn push_names(text: &mut Vec<u8>, world: &World, mounts: &[MountId]) -> Result<(), AllocError>
     requires { IsWellFormed (world_view world.now) }
-    ensures { OnOk result (text.new.items ≡ text.old.items ++ flat_map (λ n. 47 ∷ escaped n) (flat_map (own_names (world_view world.now)) mounts.now)) }
+    ensures text { OnOk result (text.new.items ≡ text.old.items ++ flat_map (λ n. 47 ∷ escaped n) (flat_map (own_names (world_view world.now)) mounts.now)) }
+    ensures kept { IsFront text.old.items text.new.items }
 {
     for mount in mounts {
         push_own(text, world, *mount)?;
@@ -112,7 +120,8 @@ fn push_names(text: &mut Vec<u8>, world: &World, mounts: &[MountId]) -> Result<(
 /// Fails for want of memory alone.
 fn push_own(text: &mut Vec<u8>, world: &World, id: MountId) -> Result<(), AllocError>
     requires { IsWellFormed (world_view world.now) }
-    ensures { OnOk result (text.new.items ≡ text.old.items ++ flat_map (λ n. 47 ∷ escaped n) (own_names (world_view world.now) id)) }
+    ensures text { OnOk result (text.new.items ≡ text.old.items ++ flat_map (λ n. 47 ∷ escaped n) (own_names (world_view world.now) id)) }
+    ensures kept { IsFront text.old.items text.new.items }
 {
     let Some(mount) = world.forest.get(id) else {
         return Ok(());
@@ -133,7 +142,8 @@ fn push_own(text: &mut Vec<u8>, world: &World, id: MountId) -> Result<(), AllocE
 /// Makes the names of a path, each behind a slash, its text: where there is none, since the text is as long as it was
 /// when they began, a slash is appended. Fails for want of memory alone.
 fn push_root(text: &mut Vec<u8>, start: usize) -> Result<(), AllocError>
-    ensures { OnOk result ((front : List ℕ) (names : List (List ℕ)) → length front ≡ start → text.old.items ≡ front ++ flat_map (λ n. 47 ∷ escaped n) names → text.new.items ≡ front ++ path_text names) }
+    ensures text { OnOk result ((front : List ℕ) (names : List (List ℕ)) → length front ≡ start → text.old.items ≡ front ++ flat_map (λ n. 47 ∷ escaped n) names → text.new.items ≡ front ++ path_text names) }
+    ensures kept { IsFront text.old.items text.new.items }
 {
     if text.len() == start {
         text.push(b'/')?;

@@ -3,6 +3,7 @@ pub mod Chain
 pub mod Children
 pub mod Outcome
 pub mod Fault
+pub mod Front
 pub mod Kept
 pub mod Names
 pub mod Escapes

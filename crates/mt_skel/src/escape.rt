@@ -3,6 +3,7 @@
 ghost use Rattle.std.specs.Prelude.{◌≡◌, ℕ, ◌+◌, ◌<◌, ◌⊎◌, List, ◌++◌, length, IfOk, IfErr, OnOk, IsOkUnless, MatchOption, Some, None};
 ghost use Rattle.std.specs.List.{list_any};
 ghost use Rattle.std.specs.Option.{option_map};
+ghost use Rattle.mt_skel.specs.Front.{IsFront};
 ghost use Rattle.mt_skel.specs.Escapes.{has_escape, is_backslash, escaped, escaped_byte, byte_of_digits, unescaped, cons_to};
 
 use crate::fault::Fault;
@@ -41,9 +42,11 @@ fn has_backslash(text: &[u8]) -> bool
     text.iter().any(|byte| *byte == b'\\')
 }
 
-/// Appends the text of these bytes to a line.
+/// Appends the text of these bytes to a line. Fails for want of memory alone, and what stood there stays in front then
+/// too.
 pub fn push_escaped(text: &mut Vec<u8>, bytes: &[u8]) -> Result<(), AllocError>
-    ensures { OnOk result (text.new.items ≡ text.old.items ++ escaped bytes.now) }
+    ensures text { OnOk result (text.new.items ≡ text.old.items ++ escaped bytes.now) }
+    ensures kept { IsFront text.old.items text.new.items }
 {
     if !have_escapes(bytes) {
         text.extend_from_slice(bytes)?;
@@ -57,7 +60,8 @@ pub fn push_escaped(text: &mut Vec<u8>, bytes: &[u8]) -> Result<(), AllocError>
 
 /// Appends the text of a byte.
 fn push_byte(text: &mut Vec<u8>, byte: u8) -> Result<(), AllocError>
-    ensures { OnOk result (text.new.items ≡ text.old.items ++ escaped_byte byte) }
+    ensures text { OnOk result (text.new.items ≡ text.old.items ++ escaped_byte byte) }
+    ensures kept { IsFront text.old.items text.new.items }
 {
     match byte {
         b' ' => text.extend_from_slice(b"\\040"),

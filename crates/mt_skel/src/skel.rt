@@ -1,6 +1,7 @@
 //! The directories of all filesystems.
 ghost use Rattle.std.specs.Prelude.{◌≡◌, ◌≢◌, ◌-◌, ◌<◌, [], ◌∷◌, ◌++◌, None, IsTrue, IfOk, IfErr, IfSome, OnErr, OnOk, IsOkUnless, Ok, Err, length, drop};
 ghost use Rattle.std.specs.List.{flat_map};
+ghost use Rattle.mt_skel.specs.Front.{IsFront};
 ghost use Rattle.mt_skel.specs.Escapes.{escaped};
 ghost use Rattle.mt_skel.specs.Skeleton.{Skeleton, IsSkeleton, empty_skeleton, is_filesystem, is_directory, filesystem, directory, fs_named, directory_number, root_of, child, holds, added_fs, added_dir, with_dir};
 
@@ -267,10 +268,12 @@ impl Skel {
     }
 
     /// Appends the last so many of the names from the root of its filesystem down to a directory, each behind a slash
-    /// and with its escapes; all of them where there are no more. Fails for want of memory alone.
+    /// and with its escapes; all of them where there are no more. Fails for want of memory alone, and what stood there
+    /// stays in front then too.
     pub fn push_path(&self, text: &mut Vec<u8>, dir: Dir, count: usize) -> Result<(), AllocError>
         requires { IsTrue (is_directory self.now dir) }
-        ensures { OnOk result (text.new.items ≡ text.old.items ++ flat_map (λ n. 47 ∷ escaped n) (drop (length (directory self.now dir).path - count) (directory self.now dir).path)) }
+        ensures text { OnOk result (text.new.items ≡ text.old.items ++ flat_map (λ n. 47 ∷ escaped n) (drop (length (directory self.now dir).path - count) (directory self.now dir).path)) }
+        ensures kept { IsFront text.old.items text.new.items }
     {
         if count == 0 {
             return Ok(());

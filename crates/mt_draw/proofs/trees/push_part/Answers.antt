@@ -27,7 +27,7 @@ returns c =
     let end = c.extend_from_slice-2.new.self.items in
     let fitted =
     c.in_ok-push_columns.ensures ∙ ap (λ ls. end ++ fitted_text ls c.deref-5.result.now) lines ∙ ap (λ os. end ++ fitted_text (header ∷ map (cells s) (tree m.rows)) os) others in
-    let space = c.in_ok-push_number.ensures ∙ ap (λ k. c.extend_from_slice.new.self.items ++ decimal k) c.space.ensures in
+    let space = c.in_ok-push_number.ensures.text ∙ ap (λ k. c.extend_from_slice.new.self.items ++ decimal k) c.space.ensures in
     four c.args.text.now.items c.extend_from_slice.new.self.items c.push_number.new.text.items end c.push_columns.new.text.items (codes "namespace ") (decimal m.space) (codes "\n")
     (fitted_text (header ∷ map (cells s) (tree m.rows)) (map (cells s) (strays m.rows)))
     c.in_ok-extend_from_slice.ensures.items space c.in_ok-extend_from_slice-2.ensures.items fitted

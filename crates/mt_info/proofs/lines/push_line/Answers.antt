@@ -8,6 +8,7 @@ use Rattle.mt_info.specs.declared.row.Row.{Row}
 use Rattle.mt_info.specs.RowLine.{line, tag_words}
 use Rattle.mt_info.specs.Building.{behind, numbers_text, end_text}
 use Rattle.mt_info.specs.Table.{row_of}
+use Rattle.mt_info.proofs.FrontLaws.{front_through, front_of_four}
 use Rattle.mt_info.proofs.PrintLaws.{line_appended}
 use Rattle.mt_info.proofs.lines.push_line.Goals as goal
 
@@ -21,18 +22,31 @@ returns-clause-line c =
     let minor = c.fs_of-minor.ensures.fs in
     let via = c.in_ok-via.ensures.group ∙ ap (λ (v : World). from_group (world_view v) m.id) (sym same) in
     let numbers =
-    c.in_ok-push_numbers.ensures ∙ ap (λ p. before ++ numbers_text m.id p c.fs_of-minor.result) c.parent_or_itself.ensures
+    c.in_ok-push_numbers.ensures.text ∙ ap (λ p. before ++ numbers_text m.id p c.fs_of-minor.result) c.parent_or_itself.ensures
     ∙ ap (λ k. before ++ numbers_text m.id r.parent k) minor in
     let tags =
-    c.in_ok-push_tags.ensures
+    c.in_ok-push_tags.ensures.text
     ∙ ap (λ (s : State). c.push_options.new.text.items ++ behind 32 (tag_words s.group s.master c.in_ok-via.via s.unbindable)) c.state_of-state.ensures
     ∙ ap (λ v. c.push_options.new.text.items ++ behind 32 (tag_words r.shared r.master v r.unbindable)) via in
     let kind = c.kind.ensures ∙ ap (λ k. (filesystem w.skel k).kind) minor in
     let source = c.source.ensures ∙ ap (λ k. (filesystem w.skel k).source) minor in
     let end =
-    c.in_ok-push_end.ensures ∙ ap (λ k. c.push_tags.new.text.items ++ end_text k c.source.result.now) kind
+    c.in_ok-push_end.ensures.text ∙ ap (λ k. c.push_tags.new.text.items ++ end_text k c.source.result.now) kind
     ∙ ap (λ s. c.push_tags.new.text.items ++ end_text r.kind s) source in
     line_appended r before c.push_numbers.new.text.items c.push_dir.new.text.items c.extend_from_slice.new.self.items c.push_point.new.text.items c.extend_from_slice-2.new.self.items
     c.push_options.new.text.items c.push_tags.new.text.items c.push_end.new.text.items
-    numbers c.in_ok-push_dir.ensures c.in_ok-extend_from_slice.ensures.items c.in_ok-push_point.ensures c.in_ok-extend_from_slice-2.ensures.items c.in_ok-push_options.ensures tags end
+    numbers c.in_ok-push_dir.ensures.text c.in_ok-extend_from_slice.ensures.items c.in_ok-push_point.ensures.text c.in_ok-extend_from_slice-2.ensures.items c.in_ok-push_options.ensures.text tags end
     ∙ ap (λ (v : World). before ++ line (row_of (world_view v) m)) same
+
+pub returns-clause-kept : goal.returns-clause-kept
+returns-clause-kept c = (_, returns-clause-line c)
+
+pub returns-in_err-push_tags-clause-kept : goal.returns-in_err-push_tags-clause-kept
+returns-in_err-push_tags-clause-kept c =
+    front_through _ _ _ (front_of_four _ _ _ _ _ c.push_numbers.ensures.kept c.push_dir.ensures.kept (_, c.in_ok-extend_from_slice.ensures.items) c.push_point.ensures.kept)
+    (front_through _ _ _ (_, c.in_ok-extend_from_slice-2.ensures.items) (front_through _ _ _ c.push_options.ensures.kept c.push_tags.ensures.kept))
+
+pub returns-in_err-push_end-clause-kept : goal.returns-in_err-push_end-clause-kept
+returns-in_err-push_end-clause-kept c =
+    front_through _ _ _ (front_of_four _ _ _ _ _ c.push_numbers.ensures.kept c.push_dir.ensures.kept (_, c.in_ok-extend_from_slice.ensures.items) c.push_point.ensures.kept)
+    (front_of_four _ _ _ _ _ (_, c.in_ok-extend_from_slice-2.ensures.items) c.push_options.ensures.kept c.push_tags.ensures.kept c.push_end.ensures.kept)

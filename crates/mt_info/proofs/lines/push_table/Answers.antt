@@ -1,7 +1,9 @@
-use Rattle.std.proofs.Common.{◌∙◌, ap, sym}
+use Rattle.std.proofs.Common.{◌∙◌, ap, sym, rules, arith}
+use Rattle.std.proofs.lemmas.Grind.{common_steps}
 use Rattle.mt_skel.specs.Keyed.{rises}
 use Rattle.mt_mounts.specs.Forest.{id_of, mounts_in}
 use Rattle.mt_propagate.specs.declared.world.World.{World}
+use Rattle.mt_info.proofs.FrontLaws.{front_through}
 use Rattle.mt_info.proofs.TableLaws.{found_in}
 use Rattle.mt_info.proofs.lines.push_table.Goals as goal
 
@@ -11,3 +13,10 @@ push_line-requires-clause-there c =
     let rising = ap (λ (w : World). rises id_of w.forest.mounts) same ∙ c.requires.well_formed.forest.rising in
     let among = c.deref-mount-items.ensures.value ∙ c.in_ok-mounts.ensures.mounts ∙ ap (λ (w : World). mounts_in w.forest.mounts c.args.space) (sym same) in
     found_in c.mounts.seen.forest.mounts c.deref-mount-items.result.now c.args.space c.mounts.mount-index _ rising among c.mounts-test.true
+
+pub mounts-preserved : goal.mounts-preserved
+mounts-preserved c = record {
+  lines = grind (arith, common_steps);
+  kept = front_through _ _ _ c.mounts.invariant.kept (front_through _ _ _ c.push_line.ensures.kept (_, c.in_ok-extend_from_slice.ensures.items));
+  same = search rules;
+}

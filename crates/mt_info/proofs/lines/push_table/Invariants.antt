@@ -1,5 +1,6 @@
 use Rattle.std.proofs.Common.{◌≡◌, ◌++◌, map, drop}
 use Rattle.std.specs.List.{flat_map}
+use Rattle.mt_skel.specs.Front.{IsFront}
 use Rattle.mt_propagate.specs.World.{world_view}
 use Rattle.mt_info.specs.RowLine.{row_line}
 use Rattle.mt_info.specs.Table.{row_of, table_of}
@@ -9,5 +10,6 @@ use Rattle.mt_info.proofs.lines.push_table.Given as goal
 abbrev pub invariant-mounts : goal.invariant-mounts
 invariant-mounts l = record {
   lines : l.text.items ++ flat_map row_line (map (row_of (world_view l.world)) (drop l.mount-index l.mount-items)) ≡ l.fn.text.items ++ flat_map row_line (table_of (world_view l.world) l.space);
+  kept : IsFront l.fn.text.items l.text.items;
   same : l.seen ≡ l.world;
 }

@@ -1,0 +1,7 @@
+-- What a list begins with.
+-- A word with no source is this project's rule.
+use Rattle.std.specs.Prelude.{◌≡◌, List, ◌++◌}
+
+-- all of a list stands in front of another one, whatever comes behind it
+abbrev pub IsFront : {A : Type 0} → List A → List A → Type 0
+IsFront {A} front all = (rest : List A) × (all ≡ front ++ rest)
