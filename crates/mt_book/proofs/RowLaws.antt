@@ -23,7 +23,6 @@ use Rattle.mt_propagate.specs.WellFormed.{IsWellFormed}
 use Rattle.mt_propagate.specs.Named.{mount_or_unknown}
 use Rattle.mt_info.specs.Laws.{IsRow}
 use Rattle.mt_info.specs.Table.{own_names, mount_point, row_of, table_of}
-use Rattle.mt_info.proofs.FitLaws.{rows-fit}
 use Rattle.mt_book.proofs.EachLaws.{each_or, each_at, few_kept}
 use Rattle.mt_book.proofs.TextLaws.{HasTexts, HasLabels, HasNames}
 
@@ -127,7 +126,6 @@ row_valid w m h at =
       shared = λ g e. omega (arith, group_below w m.id h.formed g e, h.groups);
       master = λ g e. omega (arith, master_below w m.id h.formed g e, h.groups);
       via = λ g e. omega (arith, via_below w m.id h.formed g e, h.groups);
-      beside = rows-fit w m;
       kind = labels.0;
       source = labels.1;
     }

@@ -21,6 +21,7 @@ use Rattle.mt_propagate.specs.FromGroup.{from_group}
 use Rattle.mt_propagate.specs.Touched.{IsTouched}
 use Rattle.mt_propagate.proofs.TreeLaws.{parent-is}
 use Rattle.mt_propagate.proofs.WalkLaws.{place_same}
+use Rattle.mt_info.proofs.RowPaths.{fits_along}
 use Rattle.mt_info.specs.Table.{own_names, mount_point, row_of}
 use Rattle.mt_info.specs.MayDiffer.{place_stays, is_elsewhere, has_moved, may_differ}
 use Rattle.mt_info.proofs.TableLaws.{own_names_at, own_names_root}
@@ -223,4 +224,5 @@ module _ (w v : WorldView) (h : IsWellFormed w) (g : IsWellFormed v) (same : w.s
             unbindable = (same_state j).unbindable;
             kind = (filesystem (same j) (directory (same j) m.root).fs).kind;
             source = (filesystem (same j) (directory (same j) m.root).fs).source;
+            beside = fits_along same_tag (λ k. (same_state k).master) (row_of w m).beside (row_of v m).beside j;
           }

@@ -15,6 +15,7 @@ use Rattle.mt_propagate.specs.WellFormed.{IsWellFormed}
 use Rattle.mt_propagate.specs.Contained.{IsContained, IsSameOutside}
 use Rattle.mt_propagate.proofs.RowLaws.{picked-row, row-picked}
 use Rattle.mt_propagate.proofs.OutsideTagLaws.{tag-outside}
+use Rattle.mt_info.proofs.RowPaths.{fits_along}
 use Rattle.mt_info.specs.Table.{own_names, mount_point, row_of, table_of}
 use Rattle.mt_info.proofs.TableLaws.{all_found, own_names_at, own_names_root}
 
@@ -117,6 +118,7 @@ module _ (n : ℕ) (w v : WorldView) (h : IsWellFormed w) (g : IsWellFormed v) (
         unbindable = (state i).unbindable;
         kind = (filesystem (skel i) (directory (skel i) m.root).fs).kind;
         source = (filesystem (skel i) (directory (skel i) m.root).fs).source;
+        beside = fits_along tag (λ k. (state k).master) (row_of v m).beside (row_of w m).beside i;
       }
 
   same_rows : (ms : List Mount) → AllByRecursion (λ m. mount_at w.forest m.id ≡ Some m) ms → map (row_of v) (filter (in_space k) ms) ≡ map (row_of w) (filter (in_space k) ms)

@@ -6,7 +6,7 @@ ghost use Rattle.mt_propagate.specs.World.{world_view};
 ghost use Rattle.mt_info.specs.Table.{row_of};
 ghost use Rattle.mt_info.specs.SameRow.{row_eq, state_eq, is_alike};
 
-use crate::row::{same_attrs, same_flag, same_group};
+use crate::same::{same_attrs, same_flag, same_group};
 use mt_mounts::mount::{Mount, MountId};
 use mt_peers::state::State;
 use mt_propagate::world::{World, state_of};

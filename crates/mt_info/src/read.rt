@@ -9,7 +9,8 @@ ghost use Rattle.mt_words.specs.Words.{begins};
 ghost use Rattle.mt_info.specs.declared.row.Row.{Row};
 ghost use Rattle.mt_info.specs.declared.read.Tail.{Tail};
 ghost use Rattle.mt_info.specs.declared.read.Head.{Head};
-ghost use Rattle.mt_info.specs.RowLine.{line, tag, word_if, option_words, is_noatime, is_relatime, fits_master};
+ghost use Rattle.mt_info.specs.Beside.{fits_master};
+ghost use Rattle.mt_info.specs.RowLine.{line, tag, word_if, option_words, is_noatime, is_relatime};
 ghost use Rattle.mt_info.specs.Laws.{IsRow};
 ghost use Rattle.mt_info.specs.Reading.{is_first, IsTail, tail_words, end_words, IsHead, head_words};
 

@@ -1,5 +1,0 @@
-use Rattle.mt_info.proofs.FitLaws.{rows-fit}
-use Rattle.mt_info.proofs.laws.rows_fit.Goals as goal
-
-pub returns : goal.returns
-returns c = rows-fit
