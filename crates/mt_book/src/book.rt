@@ -2,6 +2,7 @@
 ghost use Rattle.std.specs.Prelude.{◌≡◌, ◌≢◌, IfOk, IfErr, OnErr, OnOk, IsOkUnless, Ok, Err, true, false, ◌<◌, ◌==◌, [], ◌∷◌, ◌++◌, map, length, IsTrue, ◌≤◌};
 ghost use Rattle.std.specs.List.{find, flat_map, AllByRecursion};
 ghost use Rattle.std.specs.Option.{option_map};
+ghost use Rattle.mt_skel.specs.Front.{IsFront};
 ghost use Rattle.mt_propagate.specs.World.{world_view, empty_world, is_space};
 ghost use Rattle.mt_propagate.specs.WellFormed.{IsWellFormed};
 ghost use Rattle.mt_info.specs.RowLine.{row_line};
@@ -245,11 +246,12 @@ impl Book {
     }
 
     /// Appends the lines of the table of a namespace, each with its line end. Refused as `NoNamespace` exactly where
-    /// there is no such namespace, and else as `NoMemory` alone.
+    /// there is no such namespace, and else as `NoMemory` alone; what stood in the text stays in front then too.
     pub fn push_table(&self, text: &mut Vec<u8>, space: SpaceId) -> Result<(), Fault>
         ensures done { OnOk result ((is_space (after self.now.journal) space ≡ true) × (text.new.items ≡ text.old.items ++ flat_map row_line (table_of (after self.now.journal) space))) }
         ensures absent { is_space (after self.now.journal) space ≡ false → result ≡ Err Fault.NoNamespace }
         ensures refused { IfErr result (λ fault. fault ≢ Fault.NoMemory → (fault ≡ Fault.NoNamespace) × (is_space (after self.now.journal) space ≡ false)) }
+        ensures kept { IsFront text.old.items text.new.items }
     {
         let world = self.world();
         if world.forest.root(space).is_none() {
