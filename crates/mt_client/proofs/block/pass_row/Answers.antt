@@ -1,6 +1,9 @@
-use Rattle.std.proofs.Common.{Err, ap}
+use Rattle.std.proofs.Common.{Err, ap, inr}
 use Rattle.std.proofs.lemmas.Result.{err_from_is_err_and, on_ok_weaker, on_err_weaker}
-use Rattle.mt_client.proofs.RelayLaws.{unprinted, broken_printing, one_passed}
+use Rattle.mt_lines.specs.Reading.{last_line}
+use Rattle.mt_client.specs.Reading.{lines_left}
+use Rattle.mt_client.proofs.RelayLaws.{unprinted, broken_printing, one_passed, same_fault}
+use Rattle.mt_client.proofs.ReplyLaws.{row_cut}
 use Rattle.mt_client.proofs.FollowLaws.{on_ok}
 use Rattle.mt_client.proofs.block.pass_row.Goals as goal
 
@@ -20,3 +23,10 @@ returns-clause-came g c = on_ok c.print_line.result (λ t. (_, rw c.line.ensures
 
 pub returns-clause-broken : goal.returns-clause-broken
 returns-clause-broken g c t u = broken_printing c.print_line.result _ _ _ _ _ (c.in_ok-next_text.ensures.text t) c.print_line.ensures.kind (on_err_weaker c.print_line.result (λ cut. rw c.line-2.ensures at cut u) c.print_line.ensures.cut)
+
+pub returns-in_err-check_row-clause-cut : goal.returns-in_err-check_row-clause-cut
+returns-in_err-check_row-clause-cut g c is t u =
+    let p = err_from_is_err_and c.from_residual-in_err-check_row.result c.from_residual-in_err-check_row.ensures.1 in
+    let same = same_fault _ _ _ _ p.1 p.2 is in
+    let no_row = c.in_err-check_row.ensures.refused (ap Err same) in
+    inr (row_cut (last_line c.next_text.new.lines) (lines_left c.args.lines.now) (lines_left c.next_text.new.lines) (c.in_ok-next_text.ensures.text t) (rw c.line.ensures at no_row))
