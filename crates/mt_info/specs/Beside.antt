@@ -1,4 +1,4 @@
--- The group above its master that a row tells, and that a mount has one that can be told.
+-- The group above its master that a row may tell, and that a mount's is such a one.
 -- A word with no source is this project's rule.
 use Rattle.std.specs.Prelude.{◌≡◌, ℕ, Bool, true, false, not, cond, ◌==◌, Option, Some, None, IsTrue, refl}
 use Rattle.std.specs.Option.{option_and_then}
