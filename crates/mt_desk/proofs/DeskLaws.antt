@@ -29,6 +29,7 @@ use Rattle.mt_desk.specs.declared.row.Slot.{Slot}
 use Rattle.mt_desk.specs.declared.row.Slot.TheVariants.{Parked, Used, Away}
 use Rattle.mt_desk.specs.Places.{line_of, IsParked, IsParkedAt, IsLine, rows_of, desk_of, ended_slot, OpensSlot, OpensAt, ArePlaces, AreLines, IsKept, IsWatcher, IsPlace, MeetsSlot, MeetsAt, ClosesSlot, ClosesAt}
 use Rattle.mt_desk.proofs.PlaceLaws.{each_get, row_of_place, put_rows, put_places, left_rows, left_places, begun_rows, begun_places, new_places, ended_places, ended_rows, full}
+use Rattle.mt_desk.proofs.RunLaws.{history_of}
 use Rattle.mt_desk.proofs.ScheduleLaws.{rows_rise, met_stays, closed_stays, is_met, is_closed, stop_schedule, stopped_stays, open_schedule, opened_stays}
 
 -- ---- A desk with nothing done
@@ -42,6 +43,7 @@ new_kept lines c journal slots order room h are none = record {
     floor = subst IsFloor (sym floor) (begins_well c);
     room = h.capacity_is;
     rows = subst (λ (l : List ℕ). AllByRecursion (IsDeskRow c) (rows_of slots l)) (sym h.empty) tt;
+    history = history_of (desk_of c journal 0 false slots order) [] floor;
   };
 }
   where

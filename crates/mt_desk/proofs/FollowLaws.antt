@@ -1,5 +1,5 @@
 -- The calls of a desk are a schedule, and its watchers follow.
-use Rattle.std.proofs.Common.{◌≡◌, ℕ, List, [], ◌∷◌, ◌++◌, length, drop, map, replicate, Some, slice_get, Ok, refl, sym, ap, ◌∙◌, append_assoc}
+use Rattle.std.proofs.Common.{◌≡◌, ℕ, List, [], ◌∷◌, ◌++◌, length, drop, map, replicate, Some, slice_get, Ok, refl, sym, ap, ◌∙◌, subst, append_assoc}
 use Rattle.std.specs.Prelude.{Result}
 use Rattle.std.proofs.lemmas.List.{append-nil, append_cancel_right, drop_at, same_from_push}
 use Rattle.mt_skel.specs.declared.fault.Fault.{Fault}
@@ -14,7 +14,7 @@ use Rattle.mt_floor.specs.declared.event.Answer.{Answer}
 use Rattle.mt_floor.specs.declared.event.Answer.TheVariants.{Opened, Closed, Halted}
 use Rattle.mt_floor.specs.Watcher.{Watcher, key_of}
 use Rattle.mt_floor.specs.Schedule.{FloorView, empty_floor, floor_step, run}
-use Rattle.mt_floor.specs.Headline.{answers, floor_after, taken_by, taken_since, posted_since}
+use Rattle.mt_floor.specs.Headline.{answers, floor_after, accepted, taken_by, taken_since, posted_since}
 use Rattle.mt_floor.proofs.RowLaws.{put_same}
 use Rattle.mt_floor.proofs.RunLaws.{run_state, run_told, journal_told}
 use Rattle.mt_floor.proofs.HeadLaws.{in_order}
@@ -23,12 +23,12 @@ use Rattle.mt_floor.proofs.MeetingLaws.{close_answer}
 use Rattle.mt_floor.proofs.FollowLaws.{told_in_order, told_tables}
 use Rattle.mt_floor.proofs.OpenedLaws.{row_began}
 use Rattle.mt_floor.proofs.SinceLaws.{still_at, posted_more, taken_more, takes_quiet, leave_quiet}
-use Rattle.mt_desk.specs.Desk.{DeskRow, DeskView, row_key, late_watcher, floor_of_desk}
+use Rattle.mt_desk.specs.Desk.{DeskRow, DeskView, HasHistory, row_key, late_watcher, floor_of_desk}
 use Rattle.mt_desk.specs.Calls.{WatcherView, IsMet, IsClosed, unseen, met_row, with_row}
-use Rattle.mt_desk.specs.Headline.{Call, Apply, Open, Take, Meet, Close, Stop, Nothing, IsCalled, AreCalled, HasTakenInOrder, HasClosed, LastFollows, AreScheduled, CallsFollow}
+use Rattle.mt_desk.specs.Headline.{Call, Apply, Open, Take, Meet, Close, Stop, Nothing, IsCalled, AreCalled, HasTakenInOrder, HasClosed, LastFollows, AreScheduled, CallsFollow, IsScheduledBy}
 use Rattle.mt_desk.proofs.LateLaws.{late_met}
 use Rattle.mt_desk.proofs.RowsLaws.{watcher_there}
-use Rattle.mt_desk.proofs.RunLaws.{Ran, run_cons}
+use Rattle.mt_desk.proofs.RunLaws.{Ran, run_cons, floor_then}
 use Rattle.mt_desk.proofs.ScheduleLaws.{floor_with_row}
 
 -- what a call does on the floor
@@ -51,11 +51,6 @@ does d (Meet w m w') now is = record { events = replicate (unseen d.capacity is.
 does d (Close w posts) now is = record { events = replicate (unseen d.capacity is.row w.half) (event.Take w.key) ++ event.Close w.key ∷ []; told = _; schedule = is.schedule }
 does d Stop now is = one_does d now event.Stop (Ok Halted) is
 does d Nothing now is = none_does d now is
-
--- the floor after events, and then others
-floor_then : (capacity : ℕ) (s now : FloorView) (es fs : List Event) (told : List (Result Answer Fault)) → s ≡ floor_after capacity es → run s fs ≡ (now, told) → now ≡ floor_after capacity (es ++ fs)
-floor_then capacity s now es fs told from is =
-    sym (ap (λ (q : Ran). q.0) is) ∙ ap (λ (f : FloorView). (run f fs).0) from ∙ sym (run_state (empty_floor capacity) es fs)
 
 -- the events of calls
 led : (capacity : ℕ) (d : DeskView) (calls : List Call) (now : DeskView) (es : List Event) → floor_of_desk d ≡ floor_after capacity es → AreCalled d calls now → (fs : List Event) × (floor_of_desk now ≡ floor_after capacity fs)
@@ -210,3 +205,15 @@ pub calls_follow : CallsFollow
 calls_follow d last now is capacity new calls fresh are =
     let l = led capacity new calls d [] fresh are in
     call_follows capacity d now l.0 last l.1 is
+
+-- without a premise, of a desk to which events lead
+pub scheduled_by : (d : DeskView) (last : Call) (now : DeskView) → HasHistory d → now.capacity ≡ d.capacity → IsCalled d last now → IsScheduledBy last now
+scheduled_by d last now h same is =
+    let a = call_follows d.capacity d now h.events last h.floor is in record {
+      history = record {
+        events = a.events;
+        floor = a.floor ∙ ap (λ n. floor_after n a.events) (sym same);
+        journal = a.journal ∙ ap (λ n. accepted a.events (answers n a.events)) (sym same);
+      };
+      follows = subst (λ n. LastFollows n a.events last) (sym same) a.follows;
+    }

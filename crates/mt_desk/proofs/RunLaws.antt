@@ -14,11 +14,13 @@ use Rattle.mt_floor.specs.declared.event.Event.TheVariants.{Take}
 use Rattle.mt_floor.specs.declared.event.Answer.{Answer}
 use Rattle.mt_floor.specs.declared.event.Answer.TheVariants.{Took}
 use Rattle.mt_floor.specs.Watcher.{Watcher, key_of}
-use Rattle.mt_floor.specs.Schedule.{FloorView, Stepped, floor_step, run, changed, took, nothing_left}
+use Rattle.mt_floor.specs.Schedule.{FloorView, Stepped, empty_floor, floor_step, run, changed, took, nothing_left}
 use Rattle.mt_floor.specs.WellFormed.{IsFloor}
+use Rattle.mt_floor.specs.Headline.{floor_after}
 use Rattle.mt_floor.proofs.RowLaws.{put_same}
-use Rattle.mt_floor.proofs.RunLaws.{run_state, run_told}
+use Rattle.mt_floor.proofs.RunLaws.{run_state, run_told, journal_told}
 use Rattle.mt_floor.proofs.StandingLaws.{stays}
+use Rattle.mt_desk.specs.Desk.{DeskView, HasHistory, floor_of_desk}
 use Rattle.mt_desk.specs.Calls.{IsDone}
 use Rattle.mt_desk.proofs.PutLaws.{put_back, put_twice}
 
@@ -42,6 +44,21 @@ runs_stay s (e ∷ es) h = runs_stay (floor_step s e).0 es (stays s e h)
 
 pub floor_stays : (s s' : FloorView) (es : List Event) (told : List (Result Answer Fault)) → IsFloor s → run s es ≡ (s', told) → IsFloor s'
 floor_stays s s' es told h is = subst IsFloor (ap (λ (q : Ran). q.0) is) (runs_stay s es h)
+
+-- the floor after events, and then others
+pub floor_then : (capacity : ℕ) (s now : FloorView) (es fs : List Event) (told : List (Result Answer Fault)) → s ≡ floor_after capacity es → run s fs ≡ (now, told) → now ≡ floor_after capacity (es ++ fs)
+floor_then capacity s now es fs told from is =
+    sym (ap (λ (q : Ran). q.0) is) ∙ ap (λ (f : FloorView). (run f fs).0) from ∙ sym (run_state (empty_floor capacity) es fs)
+
+-- a desk to whose floor these events lead
+pub history_of : (d : DeskView) (es : List Event) → floor_of_desk d ≡ floor_after d.capacity es → HasHistory d
+history_of d es from = record { events = es; floor = from; journal = ap (λ (s : FloorView). s.journal) from ∙ journal_told d.capacity es }
+
+-- and what more events make of it
+pub history_then : (d now : DeskView) (fs : List Event) (told : List (Result Answer Fault)) → HasHistory d → now.capacity ≡ d.capacity → run (floor_of_desk d) fs ≡ (floor_of_desk now, told) → HasHistory now
+history_then d now fs told h same is =
+    history_of now (h.events ++ fs)
+    (floor_then d.capacity (floor_of_desk d) (floor_of_desk now) h.events fs told h.floor is ∙ ap (λ n. floor_after n (h.events ++ fs)) (sym same))
 
 -- the next post of a list
 next_post : (sent : List PostView) (k : ℕ) → k < length sent → (p : PostView) × (slice_get sent k ≡ Some p) × (take k sent ++ p ∷ [] ≡ take (k + 1) sent)

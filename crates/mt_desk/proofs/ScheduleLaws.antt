@@ -29,7 +29,7 @@ use Rattle.mt_desk.specs.Calls.{WatcherView, IsHalved, IsMet, IsClosed, unseen, 
 use Rattle.mt_desk.proofs.RowsLaws.{watcher_there, put_watchers, without_watchers, rises_watchers, snoc_watchers, each_at, each_put, each_without}
 use Rattle.mt_desk.proofs.LateLaws.{late_met, late_before}
 use Rattle.mt_desk.proofs.PutLaws.{without_put}
-use Rattle.mt_desk.proofs.RunLaws.{run_cons, run_pair, floor_stays, with_taken, takes_run}
+use Rattle.mt_desk.proofs.RunLaws.{run_cons, run_pair, floor_stays, history_then, with_taken, takes_run}
 
 -- the rows of a desk stand by rising key
 pub rows_rise : (d : DeskView) → IsDesk d → rises row_key d.rows ≡ true
@@ -131,6 +131,7 @@ module _ (d : DeskView) (key : ℕ) (row : DeskRow) (half : ReceiverView) (rest 
     floor = floor_stays (floor_of_desk d) (floor_of_desk met_desk) (replicate (unseen d.capacity row half) (Take key)) unseen_run.0 h.floor unseen_run.1;
     room = h.room;
     rows = each_put (IsDeskRow d.capacity) (met_row (length half.taken) row) d.rows h.rows met_row_stays;
+    history = history_then d met_desk (replicate (unseen d.capacity row half) (Take key)) unseen_run.0 h.history refl unseen_run.1;
   }
 
   pub closed_stays : IsDesk closed_desk
@@ -138,6 +139,7 @@ module _ (d : DeskView) (key : ℕ) (row : DeskRow) (half : ReceiverView) (rest 
     floor = floor_stays (floor_of_desk d) (floor_of_desk closed_desk) (replicate (unseen d.capacity row half) (Take key) ++ Close key ∷ []) (close_schedule.0 ++ Ok (Closed rest) ∷ []) h.floor close_schedule.1;
     room = h.room;
     rows = each_without (IsDeskRow d.capacity) (λ (r : DeskRow). r.key == key) d.rows h.rows;
+    history = history_then d closed_desk (replicate (unseen d.capacity row half) (Take key) ++ Close key ∷ []) (close_schedule.0 ++ Ok (Closed rest) ∷ []) h.history refl close_schedule.1;
   }
 
 -- both as the contracts have them
@@ -175,6 +177,7 @@ stopped_stays d h = record {
   floor = subst IsFloor (ap (λ (x : Stepped). x.0) (stop_schedule d)) (stays (floor_of_desk d) Stop h.floor);
   room = h.room;
   rows = each_map (IsDeskRow d.capacity) (IsDeskRow d.capacity) desk_row_after_stop (ended_row d.capacity) d.rows h.rows;
+  history = history_then d (halted_desk d) (Stop ∷ []) (Ok Halted ∷ []) h.history refl (run_cons (floor_of_desk d) (floor_of_desk (halted_desk d)) (floor_of_desk (halted_desk d)) Stop [] (Ok Halted) [] (stop_schedule d) refl);
 }
 
 -- A watcher begins.
@@ -199,4 +202,8 @@ opened_stays d scope h none = record {
   floor = subst IsFloor (ap (λ (x : Stepped). x.0) (open_schedule d scope none)) (stays (floor_of_desk d) (Open scope) h.floor);
   room = h.room;
   rows = each_last (IsDeskRow d.capacity) d.rows (new_row d scope) h.rows (record { met = omega arith; in_time = refl });
+  history =
+      let now : DeskView = with_watcher d scope in
+      let answer : Result Answer Fault = Ok (Opened d.next_key (opening_of d.journal scope)) in
+      history_then d now (Open scope ∷ []) (answer ∷ []) h.history refl (run_cons (floor_of_desk d) (floor_of_desk now) (floor_of_desk now) (Open scope) [] answer [] (open_schedule d scope none) refl);
 }

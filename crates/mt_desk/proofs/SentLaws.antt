@@ -27,7 +27,7 @@ use Rattle.mt_desk.specs.Calls.{IsSentIn, IsApplied, IsSend, IsDone, due_to}
 use Rattle.mt_desk.specs.Sent.{with_post, lagging, IsSentOne, IsSentOneIn, has_open_row, still_due, IsSentSoFarIn, RowSoFar, sending_floor, IsSending}
 use Rattle.mt_desk.proofs.RowsLaws.{watcher_there, put_watchers, each_at, each_put}
 use Rattle.mt_desk.proofs.PutLaws.{put_back}
-use Rattle.mt_desk.proofs.RunLaws.{run_cons, run_pair, floor_stays}
+use Rattle.mt_desk.proofs.RunLaws.{run_cons, run_pair, floor_stays, history_then}
 use Rattle.mt_desk.proofs.ScheduleLaws.{rows_rise}
 use Rattle.mt_desk.proofs.SendLaws.{Sends, sent_floor, sent_step, full_sends, post_keeps, lag_rule}
 use Rattle.mt_desk.proofs.ApplyLaws.{first_due}
@@ -308,7 +308,12 @@ module _ (d : DeskView) (c : Command) (reply : Reply) (h : IsDesk d) where
     sent_desk = record d { journal = d.journal ++ c ∷ []; rows = rows }
 
     pub sent_stays : IsDesk sent_desk
-    sent_stays = record { floor = sent_is_floor rows [] k; room = h.room; rows = k.kept }
+    sent_stays = record {
+      floor = sent_is_floor rows [] k;
+      room = h.room;
+      rows = k.kept;
+      history = history_then d sent_desk (Apply c ∷ k.sends) (Ok (Replied reply) ∷ k.told) h.history refl k.schedule;
+    }
 
     all_sent : (f : Phase) (all : List PostView) (r now : DeskRow) → IsSentSoFarIn f d.capacity all [] r now → IsSentIn f d.capacity all r now
     all_sent IsOpen all r now (inl way) = inl (way.row ∙ ap (λ (l : List PostView). record r { sent = r.sent ++ l }) (sym (append-nil way.front) ∙ sym way.split))

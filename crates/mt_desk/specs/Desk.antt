@@ -8,9 +8,11 @@ use Rattle.mt_events.specs.declared.opening.Opening.{Opening}
 use Rattle.mt_book.specs.declared.command.Command.{Command}
 use Rattle.mt_floor.specs.declared.watch.Phase.{Phase}
 use Rattle.mt_floor.specs.declared.watch.Phase.TheVariants.{Open as IsOpen, Lagged, Ended}
+use Rattle.mt_floor.specs.declared.event.Event.{Event}
 use Rattle.mt_floor.specs.Watcher.{Watcher, is_open, opening_of}
 use Rattle.mt_floor.specs.Schedule.{FloorView}
 use Rattle.mt_floor.specs.WellFormed.{IsFloor}
+use Rattle.mt_floor.specs.Headline.{answers, floor_after, accepted}
 use Rattle.mt_desk.specs.Late.{late}
 
 -- The row of a watcher: what it found, what was sent to it, and how many of these posts it had taken at its last meeting; `met_in_time` is the same, but
@@ -65,11 +67,18 @@ pub record IsDeskRow (capacity : ℕ) (r : DeskRow) : Type 0 where
   pub met : r.met ≤ length r.sent
   pub in_time : IsInTime capacity (length r.sent) r.met r.met_in_time r.phase
 
+-- Events lead to the floor of a desk from one with nothing done, and the commands accepted in them are the desk's journal.
+pub record HasHistory (d : DeskView) : Type 0 where
+  pub events : List Event
+  pub floor : floor_of_desk d ≡ floor_after d.capacity events
+  pub journal : d.journal ≡ accepted events (answers d.capacity events)
+
 -- What is always true of a desk. By its floor, what was sent to a row is a prefix of its followed posts, and all of them while it is open.
 pub record IsDesk (d : DeskView) : Type 0 where
   pub floor : IsFloor (floor_of_desk d)
   pub room : 0 < d.capacity
   pub rows : AllByRecursion (IsDeskRow d.capacity) d.rows
+  pub history : HasHistory d
 
 -- the row of a watcher that begins
 abbrev pub new_row : DeskView → Scope → DeskRow

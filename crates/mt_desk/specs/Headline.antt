@@ -16,7 +16,7 @@ use Rattle.mt_floor.specs.declared.event.Event.TheVariants as event
 use Rattle.mt_floor.specs.declared.event.Answer.TheVariants.{Opened, Halted}
 use Rattle.mt_floor.specs.Schedule.{empty_floor, floor_step}
 use Rattle.mt_floor.specs.Headline.{answers, floor_after, accepted, taken_since, posted_since, IsInOrder, IsRebuilt, TellTables}
-use Rattle.mt_desk.specs.Desk.{DeskView, floor_of_desk}
+use Rattle.mt_desk.specs.Desk.{DeskView, HasHistory, floor_of_desk}
 use Rattle.mt_desk.specs.Calls.{WatcherView, IsApplied, IsMet, IsClosed}
 
 -- a call of a desk or of one of its watchers, with what was handed in and answered
@@ -88,3 +88,9 @@ ScheduleHolds d last now = (capacity : ℕ) (new : DeskView) (calls : List Call)
 -- so it is of every call, as its own clauses tell it
 abbrev pub CallsFollow : Type 0
 CallsFollow = (d : DeskView) (last : Call) (now : DeskView) → IsCalled d last now → ScheduleHolds d last now
+
+-- A call has left a desk so: events lead there, and in them what its watcher has taken is in order. Nothing is presupposed, since each desk keeps that events
+-- lead to it.
+pub record IsScheduledBy (last : Call) (now : DeskView) : Type 0 where
+  pub history : HasHistory now
+  pub follows : LastFollows now.capacity history.events last

@@ -6,7 +6,7 @@ ghost use Rattle.mt_floor.specs.declared.event.Event.TheVariants.{Apply, Open, S
 ghost use Rattle.mt_floor.specs.declared.event.Answer.TheVariants.{Opened, Halted};
 ghost use Rattle.mt_desk.specs.Desk.{IsDesk, floor_of_desk, with_watcher, halted_desk};
 ghost use Rattle.mt_desk.specs.Calls.{IsApplied, IsMet, IsClosed};
-ghost use Rattle.mt_desk.specs.Headline.{Meet, Close, ScheduleHolds};
+ghost use Rattle.mt_desk.specs.Headline.{Meet, Close, IsScheduledBy};
 
 use crate::due::due_of;
 use crate::lines::{Lines, Naming};
@@ -162,7 +162,7 @@ impl<J: Naming> Desk<J> {
     pub fn meet(&mut self, watcher: &mut Watcher<J>) -> Result<Meeting, Fault>
         ensures ok { IsOk result }
         ensures met { IfOk result (λ m. IsMet self.old watcher.old m self.new watcher.new) }
-        ensures headline { IfOk result (λ m. ScheduleHolds self.old (Meet watcher.old m watcher.new) self.new) }
+        ensures headline { IfOk result (λ m. IsScheduledBy (Meet watcher.old m watcher.new) self.new) }
     {
         let meeting = meet_at(&mut self.slots, watcher.place, &mut watcher.half);
         Ok(meeting)
@@ -180,7 +180,7 @@ impl<J: Naming> Desk<J> {
     ) -> Result<SharedPosts, (Watcher<J>, Fault)>
         ensures ok { IsOk result }
         ensures closed { IfOk result (λ posts. IsClosed self.old watcher posts self.new) }
-        ensures headline { IfOk result (λ posts. ScheduleHolds self.old (Close watcher posts) self.new) }
+        ensures headline { IfOk result (λ posts. IsScheduledBy (Close watcher posts) self.new) }
     {
         let Watcher {
             key: _,

@@ -1,11 +1,11 @@
-use Rattle.std.proofs.Common.{ℕ, sym, subst}
+use Rattle.std.proofs.Common.{ℕ, sym, ap, subst}
 use Rattle.std.specs.Prelude.{vec_capacity}
-use Rattle.mt_desk.specs.Desk.{DeskView}
+use Rattle.mt_desk.specs.Desk.{DeskView, HasHistory}
 use Rattle.mt_desk.specs.Calls.{WatcherView, IsClosed}
 use Rattle.mt_desk.specs.Places.{IsKept, desk_of}
 use Rattle.mt_desk.specs.Headline.{Close}
 use Rattle.mt_desk.proofs.DeskLaws.{place_is, closed_kept}
-use Rattle.mt_desk.proofs.FollowLaws.{calls_follow}
+use Rattle.mt_desk.proofs.FollowLaws.{scheduled_by}
 use Rattle.mt_desk.proofs.desk.Desk.close.Goals as goal
 
 pub close_at-posts-requires : goal.close_at-posts-requires
@@ -36,4 +36,4 @@ pub returns-clause-headline : goal.returns-clause-headline
 returns-clause-headline g c =
     let i = c.self.inside in
     let now : DeskView = desk_of i.capacity i.book.journal i.last_key i.stopped c.close_at-posts.new.slots.items c.drop_place.new.order.items in
-    calls_follow c.args.self.now (Close c.args.watcher c.close_at-posts.result) now (returns-clause-closed g c)
+    scheduled_by c.args.self.now (Close c.args.watcher c.close_at-posts.result) now (subst HasHistory c.self.view_is c.self.invariant.desk.history) (ap (λ (d : DeskView). d.capacity) c.self.view_is) (returns-clause-closed g c)

@@ -1,11 +1,11 @@
-use Rattle.std.proofs.Common.{subst}
+use Rattle.std.proofs.Common.{ap, subst}
 use Rattle.std.specs.Prelude.{vec_capacity}
-use Rattle.mt_desk.specs.Desk.{DeskView}
+use Rattle.mt_desk.specs.Desk.{DeskView, HasHistory}
 use Rattle.mt_desk.specs.Calls.{WatcherView, IsMet}
 use Rattle.mt_desk.specs.Places.{desk_of}
 use Rattle.mt_desk.specs.Headline.{Meet}
 use Rattle.mt_desk.proofs.DeskLaws.{place_is, met_kept}
-use Rattle.mt_desk.proofs.FollowLaws.{calls_follow}
+use Rattle.mt_desk.proofs.FollowLaws.{scheduled_by}
 use Rattle.mt_desk.proofs.desk.Desk.meet.Goals as goal
 
 pub meet_at-meeting-requires : goal.meet_at-meeting-requires
@@ -37,4 +37,4 @@ returns-clause-headline g c =
     let w = c.watcher.inside in
     let now : DeskView = desk_of i.capacity i.book.journal i.last_key i.stopped c.meet_at-meeting.new.slots.items i.order.items in
     let v' : WatcherView = record { key = w.key; place = w.place; half = c.meet_at-meeting.new.half } in
-    calls_follow c.args.self.now (Meet c.args.watcher.now c.meet_at-meeting.result v') now (returns-clause-met g c)
+    scheduled_by c.args.self.now (Meet c.args.watcher.now c.meet_at-meeting.result v') now (subst HasHistory c.self.view_is c.self.invariant.desk.history) (ap (λ (d : DeskView). d.capacity) c.self.view_is) (returns-clause-met g c)
