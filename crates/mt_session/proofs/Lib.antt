@@ -1,6 +1,7 @@
 pub mod IdleLaws
 pub mod SessionLaws
 pub mod SharedLaws
+pub mod LeavingLaws
 pub mod SharedLineLaws
 pub mod SharedTakeLaws
 pub mod TurnLaws

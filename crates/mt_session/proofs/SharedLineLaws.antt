@@ -28,7 +28,7 @@ use Rattle.mt_session.proofs.SharedTakeLaws.{follows_some, follows_none, follows
 use Rattle.mt_session.specs.Session.{Asking, Broken, item_of, has_end, request_of_line, ends_by, line_limit, IsReadEnd, IsReadEndRun}
 use Rattle.mt_session.specs.Serving.{IsSent, ends_by_answer}
 use Rattle.mt_session.specs.SharedTurns.{is_under_lock}
-use Rattle.mt_session.specs.SharedSession.{IsAnsweredAt, IsTold, IsLost, IsTurn, IsInFront, SharedTurn, AreTurns, TurnsGoOn, ServedShared}
+use Rattle.mt_session.specs.SharedSession.{IsAnsweredAt, IsTold, IsLost, IsTurn, IsInFront, SharedTurn, AreTurns, TurnsGoOn, WasLeft, ServedShared}
 use Rattle.mt_session.specs.SharedServing.{IsUndoneAt, IsPortion, Follows, IsOutcome, ServesAsked, FollowsOn, ends_by_request, ends_by_shared_line, SharedGoing, SharedEnding, ServedSharedLine}
 
 pub behind : (sent so_far written out text : List ℕ) → so_far ≡ sent ++ out → written ≡ so_far ++ text → written ≡ sent ++ (out ++ text)
@@ -118,7 +118,7 @@ undone_goes_on (Some v) w' AsksStop other u = absurd u.3
 
 undone_close : (w w' : Option WatcherView) → IsUndoneAt w Close w' → IsLost w (Ok Close) (refusal WantsMemory)
 undone_close None w' u = absurd u.3
-undone_close (Some v) w' u = (u.0, u.1, u.3.0, u.2, u.3.1, refl)
+undone_close (Some v) w' u = (u.0, u.1, u.3.0, u.2, u.3.1, u.3.3, refl)
 
 pub locked_undone : (w w' : Option WatcherView) (r : Request) (sent written : List ℕ) (result : Option End)
     → is_under_lock r ≡ true → IsUndoneAt w r w'
@@ -290,8 +290,8 @@ going_more turns more before mid later w now w' sent so_far written a b =
 
 -- the session ends with the next line
 pub served_ending : (turns : List SharedTurn) (before mid : List ℕ) (w now : Option WatcherView) (sent so_far written : List ℕ) (by : End)
-    → w ≡ None → SharedGoing turns before mid w now sent so_far → SharedEnding mid now so_far written by → length turns < 16777216 → ServedShared before sent written by
-served_ending turns before mid w now sent so_far written by none a b count =
+    → w ≡ None → SharedGoing turns before mid w now sent so_far → SharedEnding mid now so_far written by → length turns < 16777216 → WasLeft now → ServedShared before sent written by
+served_ending turns before mid w now sent so_far written by none a b count left =
     let item : SharedTurn → Item = λ (t : SharedTurn). item_of t.line in
     let text : SharedTurn → List ℕ = λ (t : SharedTurn). t.text in
     record {
@@ -305,12 +305,13 @@ served_ending turns before mid w now sent so_far written by none a b count =
       written_is = b.written_is ∙ ap (λ (x : List ℕ). x ++ b.out) a.written_is ∙ append_assoc sent (flat_map text turns) b.out;
       ends = inl (count, b.ends);
       count = omega (arith, count);
+      left = left;
     }
 
 -- as many lines were served as a session serves
 pub served_spent : (turns : List SharedTurn) (before later : List ℕ) (w now : Option WatcherView) (sent written : List ℕ)
-    → w ≡ None → SharedGoing turns before later w now sent written → length turns ≡ 16777216 → ServedShared before sent written Spent
-served_spent turns before later w now sent written none a count =
+    → w ≡ None → SharedGoing turns before later w now sent written → length turns ≡ 16777216 → WasLeft now → ServedShared before sent written Spent
+served_spent turns before later w now sent written none a count left =
     let text : SharedTurn → List ℕ = λ (t : SharedTurn). t.text in
     record {
       turns = turns;
@@ -323,6 +324,7 @@ served_spent turns before later w now sent written none a count =
       written_is = a.written_is ∙ ap (λ (x : List ℕ). sent ++ x) (sym (append-nil (flat_map text turns)));
       ends = inr (count, refl);
       count = omega (arith, count);
+      left = left;
     }
 
 -- an answer is out whole

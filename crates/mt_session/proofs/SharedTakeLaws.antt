@@ -13,6 +13,7 @@ use Rattle.mt_floor.specs.declared.watch.Phase.TheVariants.{Open as IsOpen, Lagg
 use Rattle.mt_floor.specs.declared.watch.Meeting.{Meeting}
 use Rattle.mt_desk.specs.Desk.{DeskView, IsDesk}
 use Rattle.mt_desk.specs.Calls.{WatcherView, IsMet}
+use Rattle.mt_desk.specs.Headline.{Meet as Meets, IsScheduledBy}
 use Rattle.mt_requests.specs.declared.request.Request.TheVariants.{Take, Follow}
 use Rattle.mt_events.specs.declared.texts.PrintedPosts.{PrintedPosts}
 use Rattle.mt_session.specs.declared.shared_follow.Portion.{Portion}
@@ -69,8 +70,14 @@ popped_none w most printed w' p none =
 popped_run : (w : WatcherView) (most : ℕ) (printed : PrintedPosts) (w' : Option WatcherView) → IsPopped w most printed w' → printed.posts ≡ 0 → IsRun w.half.opening (w.half.taken ++ [])
 popped_run w most printed w' p none = subst (λ (posts : List PostView). IsRun w.half.opening (w.half.taken ++ posts)) (nil_from_length p.posts (sym p.count ∙ none)) p.run
 
+-- a meeting while the desk is held
+pub has_met : (d now : DeskView) (w : Option WatcherView) (m : Option Meeting) (w' : Option WatcherView) → (w ≡ None → (m ≡ None) × (w' ≡ None) × (now ≡ d))
+    → ForSome w (λ (v : WatcherView). (k : Meeting) × (v' : WatcherView) × IsMet d v k now v' × (m ≡ Some k) × (w' ≡ Some v') × IsScheduledBy (Meets v k v') now) → IsDesk d → HasMet w m w'
+has_met d now None m w' none met kept = let n = none refl in (n.0, n.1)
+has_met d now (Some w) m w' none met kept = let h = met w refl in (d, now, h.0, h.1, kept, h.2, h.3, h.4, h.5)
+
 -- a meeting takes nothing
-met_moved : (d : DeskView) (w : WatcherView) (m : Meeting) (now : DeskView) (after : WatcherView) → IsMet d w m now after → HasMoved w [] after
+pub met_moved : (d : DeskView) (w : WatcherView) (m : Meeting) (now : DeskView) (after : WatcherView) → IsMet d w m now after → HasMoved w [] after
 met_moved d w m now after i =
     (length i.row.sent, i.halved.told, i.watcher ∙ ap (λ (posts : List PostView). record w { half = record w.half { taken = posts; told = length i.row.sent } }) (sym (append-nil w.half.taken)))
 
@@ -84,12 +91,12 @@ taken_is : (d : DeskView) (w : WatcherView) (m : Meeting) (now : DeskView) (afte
 taken_is d w m now after i = ap (λ (x : Meeting). x.taken) i.meeting ∙ sym (ap (λ (v : WatcherView). length v.half.taken) i.watcher)
 
 -- all that was sent was taken
-pub met_spent : (d : DeskView) (w : WatcherView) (m : Meeting) (now : DeskView) (after : WatcherView) → IsDesk d → IsMet d w m now after → m.posted ≤ m.taken → IsSpent w m.state after
-met_spent d w m now after kept i most =
+pub met_spent : (d : DeskView) (w : WatcherView) (m : Meeting) (now : DeskView) (after : WatcherView) → IsDesk d → IsMet d w m now after → IsScheduledBy (Meets w m after) now → m.posted ≤ m.taken → IsSpent w m.state after
+met_spent d w m now after kept i scheduled most =
     let posted : m.posted ≡ length i.row.sent = ap (λ (x : Meeting). x.posted) i.meeting in
     let taken : m.taken ≡ length w.half.taken = ap (λ (x : Meeting). x.taken) i.meeting in
     let sent : length i.row.sent ≡ length w.half.taken + length i.rest = ap (λ (posts : List PostView). length posts) i.halved.split ∙ length-append w.half.taken i.rest in
-    record { desk = d; now = now; kept = kept; meeting = m; met = i; all = omega (arith, posted, taken, sent, most); phase_is = refl }
+    record { desk = d; now = now; kept = kept; meeting = m; met = i; all = omega (arith, posted, taken, sent, most); phase_is = refl; scheduled = scheduled }
 
 -- some have come by a meeting, so that some are taken after it
 pub met_some : (d : DeskView) (w : WatcherView) (m : Meeting) (now : DeskView) (after : WatcherView) (most : ℕ) (printed : PrintedPosts) (w' : Option WatcherView)
@@ -270,7 +277,7 @@ met_all : (w : WatcherView) (w' : Option WatcherView) (m : Meeting) → (h : Has
 met_all w w' m h all =
     let same : h.2 ≡ m = cc in
     let all_then : h.2.posted ≤ h.2.taken = rw same all in
-    subst (λ (x : Meeting). IsSpent w x.state h.3) same (met_spent h.0 w h.2 h.1 h.3 h.4 h.5 all_then)
+    subst (λ (x : Meeting). IsSpent w x.state h.3) same (met_spent h.0 w h.2 h.1 h.3 h.4 h.5 h.8 all_then)
 
 portion_by : (w : WatcherView) (w' : Option WatcherView) (most : ℕ) (m : Meeting) (p : Portion) (phase : Phase) → m.state ≡ phase → IsRun w.half.opening (w.half.taken ++ []) → 0 < most → HasMet (Some w) (Some m) w' → m.posted ≤ m.taken
     → (m.state ≡ IsOpen → p ≡ Rest) → (m.state ≢ IsOpen → p ≡ NoMore m.state) → IsPortion (Some w) most p w'

@@ -9,7 +9,8 @@ use Rattle.mt_events.specs.Posts.{PostView, post_text}
 use Rattle.mt_floor.specs.declared.watch.Phase.TheVariants.{Open as IsOpen}
 use Rattle.mt_floor.specs.declared.watch.Meeting.{Meeting}
 use Rattle.mt_desk.specs.Desk.{DeskView, IsDesk}
-use Rattle.mt_desk.specs.Calls.{WatcherView, IsMet, IsClosed}
+use Rattle.mt_desk.specs.Calls.{WatcherView, IsMet}
+use Rattle.mt_desk.specs.Headline.{Meet as Meets, IsScheduledBy}
 use Rattle.mt_requests.specs.declared.request.Request.{Request}
 use Rattle.mt_requests.specs.declared.request.Request.TheVariants.{Follow}
 use Rattle.mt_session.specs.declared.serving.End.{End}
@@ -19,22 +20,25 @@ use Rattle.mt_session.specs.declared.shared_follow.Portion.TheVariants.{Posts, R
 use Rattle.mt_session.specs.declared.shared_follow.Round.{Round}
 use Rattle.mt_session.specs.declared.shared_follow.Round.TheVariants.{Told, Over}
 use Rattle.mt_session.specs.Session.{item_of, ends_by, line_limit}
-use Rattle.mt_session.specs.SharedTurns.{HasTaken, IsUndoneBy}
-use Rattle.mt_session.specs.SharedSession.{SharedTurn, IsTurn, IsSpent, EndsOfAnswer, EndsByNext, AreTurns, TurnsGoOn}
+use Rattle.mt_session.specs.SharedTurns.{HasTaken, GoesOn, IsUndoneBy}
+use Rattle.mt_session.specs.SharedSession.{SharedTurn, IsTurn, IsSpent, EndsOfAnswer, EndsByNext, AreTurns, TurnsGoOn, HasLeft}
 
 -- there was no memory to do a request at some desk
 abbrev pub IsUndoneAt : Option WatcherView → Request → Option WatcherView → Type 0
 IsUndoneAt w r w' = (desk : DeskView) × (now : DeskView) × IsDesk desk × IsUndoneBy desk w r now w'
 
--- a session has met some desk, if it has a watcher
+-- a session has met some desk, if it has a watcher; what this has taken is in order by a schedule of the desk
 abbrev pub HasMet : Option WatcherView → Option Meeting → Option WatcherView → Type 0
 HasMet None met w' = (met ≡ None) × (w' ≡ None)
-HasMet (Some w) met w' = (desk : DeskView) × (now : DeskView) × (m : Meeting) × (after : WatcherView) × IsDesk desk × IsMet desk w m now after × (met ≡ Some m) × (w' ≡ Some after)
+HasMet (Some w) met w' =
+    (desk : DeskView) × (now : DeskView) × (m : Meeting) × (after : WatcherView) × IsDesk desk × IsMet desk w m now after × (met ≡ Some m) × (w' ≡ Some after)
+    × IsScheduledBy (Meets w m after) now
 
--- a session has left some desk, whose row of its watcher is gone then, if it had one
-abbrev pub HasLeft : Option WatcherView → Type 0
-HasLeft None = ⊤
-HasLeft (Some w) = (desk : DeskView) × (posts : List PostView) × (now : DeskView) × IsDesk desk × IsClosed desk w posts now
+-- what becomes of a session's watcher, if it has one: it goes on, or the session leaves it
+abbrev pub IsKeptOrLeft : Option WatcherView → Option WatcherView → Type 0
+IsKeptOrLeft None w' = ⊤
+IsKeptOrLeft (Some w) None = HasLeft (Some w)
+IsKeptOrLeft (Some w) (Some w') = GoesOn w w'
 
 -- what a portion of a `follow` is, of at most so many posts
 abbrev pub IsPortion : Option WatcherView → ℕ → Portion → Option WatcherView → Type 0

@@ -1,7 +1,7 @@
 -- What a session in a thread of its own writes. What its requests find depends on the other sessions, so each answer is that of the request at a desk of which no
 -- more is said; what it tells of a watcher's posts is a run from the opening that it told.
 -- A word with no source is this project's rule.
-use Rattle.std.specs.Prelude.{◌≡◌, ◌≢◌, ◌⊎◌, ℕ, ◌+◌, ◌<◌, ◌≤◌, Bool, true, false, List, [], ◌∷◌, ◌++◌, map, take, length, Option, Some, None, Result, Ok, Err}
+use Rattle.std.specs.Prelude.{⊤, ◌≡◌, ◌≢◌, ◌⊎◌, ℕ, ◌+◌, ◌<◌, ◌≤◌, Bool, true, false, List, [], ◌∷◌, ◌++◌, map, take, length, Option, Some, None, Result, Ok, Err}
 use Rattle.std.specs.List.{flat_map}
 use Rattle.mt_skel.specs.declared.fault.Fault.{Fault}
 use Rattle.mt_skel.specs.declared.fault.Fault.TheVariants.{BadLine, NoWatcher, NoMemory as WantsMemory}
@@ -13,6 +13,7 @@ use Rattle.mt_floor.specs.declared.watch.Phase.TheVariants.{Open as IsOpen}
 use Rattle.mt_floor.specs.declared.watch.Meeting.{Meeting}
 use Rattle.mt_desk.specs.Desk.{DeskView, IsDesk}
 use Rattle.mt_desk.specs.Calls.{WatcherView, IsClosed, IsMet}
+use Rattle.mt_desk.specs.Headline.{Meet as Meets, Close as Closes, IsScheduledBy}
 use Rattle.mt_requests.specs.declared.request.Request.{Request}
 use Rattle.mt_requests.specs.declared.request.Request.TheVariants.{Take, Follow, Close, Quit as AsksQuit, Stop as AsksStop}
 use Rattle.mt_requests.specs.Requests.{may_want_memory}
@@ -22,7 +23,7 @@ use Rattle.mt_events.specs.Texts.{count_text, posts_text, followed_text}
 use Rattle.mt_session.specs.Answers.{refusal}
 use Rattle.mt_session.specs.Requests.{answer_to, by_phase}
 use Rattle.mt_session.specs.Session.{Asking, item_of, has_end, request_of_line, ends_by, line_limit, most_lines}
-use Rattle.mt_session.specs.SharedTurns.{found_state, IsDoneBy, IsUndoneBy, HasTaken}
+use Rattle.mt_session.specs.SharedTurns.{found_state, IsDoneBy, IsUndoneBy, HasTaken, GoesOn}
 
 -- a request is answered as it would be at some desk, whatever the others have done
 pub record IsAnsweredAt (w : Option WatcherView) (r : Request) (text : List ℕ) (w' : Option WatcherView) : Type 0 where
@@ -32,7 +33,7 @@ pub record IsAnsweredAt (w : Option WatcherView) (r : Request) (text : List ℕ)
   pub done : IsDoneBy desk w r now w'
   pub answer : text ≡ answer_to (found_state desk w) r
 
--- nothing waits for a watcher: at a meeting all that was sent was taken, and this is how far its row is
+-- nothing waits for a watcher: at a meeting all that was sent was taken, in order by a schedule of the desk, and this is how far its row is
 pub record IsSpent (w : WatcherView) (phase : Phase) (w' : WatcherView) : Type 0 where
   pub desk : DeskView
   pub now : DeskView
@@ -41,6 +42,7 @@ pub record IsSpent (w : WatcherView) (phase : Phase) (w' : WatcherView) : Type 0
   pub met : IsMet desk w meeting now w'
   pub all : meeting.posted ≡ meeting.taken
   pub phase_is : meeting.state ≡ phase
+  pub scheduled : IsScheduledBy (Meets w meeting w') now
 
 -- `take`: posts, at least one and up to so many, fewer only where all are told that the last meeting told of; or none wait, and the answer says why
 pub record TakesSome (w : WatcherView) (most : ℕ) (text : List ℕ) (w' : Option WatcherView) : Type 0 where
@@ -122,7 +124,8 @@ IsLost (Some w) (Ok (Take most)) text = (lost : List PostView) × (after : Watch
 IsLost (Some w) (Ok (Follow most)) text =
     (told : List PostView) × (lost : List PostView) × (after : WatcherView) × HasTaken w (told ++ lost) after
     × (length (told ++ lost) ≤ most) × (text ≡ followed_text told (refusal WantsMemory))
-IsLost (Some w) (Ok Close) text = (desk : DeskView) × (now : DeskView) × (posts : List PostView) × IsDesk desk × IsClosed desk w posts now × (text ≡ refusal WantsMemory)
+IsLost (Some w) (Ok Close) text =
+    (desk : DeskView) × (now : DeskView) × (posts : List PostView) × IsDesk desk × IsClosed desk w posts now × IsScheduledBy (Closes w posts) now × (text ≡ refusal WantsMemory)
 IsLost w asked text = ⊥
 
 -- a line, and the text that answered it
@@ -199,7 +202,17 @@ EndsByNext by w items out =
 abbrev pub EndsSo : End → List SharedTurn → Option WatcherView → List Item → List ℕ → Type 0
 EndsSo by turns w items out = ((length turns < most_lines) × EndsByNext by w items out) ⊎ EndsOfCount by turns out
 
--- A session in a thread of its own: its lines in order, one answer each, then its end.
+-- a session has left some desk, whose row of its watcher is gone then, if it had one; all that this has taken, and what was left, are in order by a schedule
+abbrev pub HasLeft : Option WatcherView → Type 0
+HasLeft None = ⊤
+HasLeft (Some w) = (desk : DeskView) × (posts : List PostView) × (now : DeskView) × IsDesk desk × IsClosed desk w posts now × IsScheduledBy (Closes w posts) now
+
+-- a session that had this watcher when the line came that ended it, or none came, has left it, once it went on
+abbrev pub WasLeft : Option WatcherView → Type 0
+WasLeft None = ⊤
+WasLeft (Some w) = (last : WatcherView) × GoesOn w last × HasLeft (Some last)
+
+-- A session in a thread of its own: its lines in order, one answer each, then its end, and then its watcher is closed.
 pub record ServedShared (before sent written : List ℕ) (by : End) : Type 0 where
   pub turns : List SharedTurn
   pub watcher : Option WatcherView
@@ -211,3 +224,4 @@ pub record ServedShared (before sent written : List ℕ) (by : End) : Type 0 whe
   pub written_is : written ≡ sent ++ (flat_map (λ (t : SharedTurn). t.text) turns ++ out)
   pub ends : EndsSo by turns watcher items out
   pub count : length turns ≤ most_lines
+  pub left : WasLeft watcher

@@ -15,6 +15,7 @@ use Rattle.mt_floor.specs.Watcher.{opening_of}
 use Rattle.mt_floor.specs.Schedule.{FloorView, floor_step, run}
 use Rattle.mt_desk.specs.Desk.{DeskRow, DeskView, row_key, floor_of_desk, with_watcher, halted_desk}
 use Rattle.mt_desk.specs.Calls.{WatcherView, unseen, IsApplied, IsClosed}
+use Rattle.mt_desk.specs.Headline.{Close as Closes, IsScheduledBy}
 use Rattle.mt_requests.specs.declared.request.Request.{Request}
 use Rattle.mt_requests.specs.declared.request.Request.TheVariants.{Run, Show, Find, Watch, Take, Follow, Close, Stop}
 use Rattle.mt_events.specs.Texts.{lines_of_posts}
@@ -47,11 +48,11 @@ abbrev pub IsBegun : DeskView → Scope → DeskView → Option WatcherView → 
 IsBegun d scope now None = (fault : Fault) × (floor_step (floor_of_desk d) (Open scope) ≡ (floor_of_desk d, Err fault)) × (now ≡ d)
 IsBegun d scope now (Some w) = (now ≡ with_watcher d scope) × (w.key ≡ d.next_key) × (w.half.opening ≡ opening_of d.journal scope) × (w.half.taken ≡ [])
 
--- what a request does to a desk and to the session's watcher
+-- what a request does to a desk and to the session's watcher; at a close all that this has taken, and what is answered, are in order by a schedule of the desk
 abbrev pub IsDoneBy : DeskView → Option WatcherView → Request → DeskView → Option WatcherView → Type 0
 IsDoneBy d w (Run c) now w' = IsCommanded d c now × (w' ≡ w)
 IsDoneBy d None (Watch scope) now w' = IsBegun d scope now w'
-IsDoneBy d (Some w) Close now w' = (posts : List PostView) × IsClosed d w posts now × (w' ≡ None)
+IsDoneBy d (Some w) Close now w' = (posts : List PostView) × IsClosed d w posts now × (w' ≡ None) × IsScheduledBy (Closes w posts) now
 IsDoneBy d w Stop now w' = (now ≡ halted_desk d) × (w' ≡ w)
 IsDoneBy d w r now w' = (now ≡ d) × (w' ≡ w)
 
@@ -64,7 +65,7 @@ IsUndoneBy d w (Find n path) now w' = (now ≡ d) × (w' ≡ w)
 IsUndoneBy d None (Watch scope) now w' =
     (w' ≡ None)
     × ((now ≡ d) ⊎ ((held : DeskView) × (begun : WatcherView) × IsBegun d scope held (Some begun) × IsClosed held begun [] now))
-IsUndoneBy d (Some w) Close now w' = (posts : List PostView) × IsClosed d w posts now × (w' ≡ None)
+IsUndoneBy d (Some w) Close now w' = (posts : List PostView) × IsClosed d w posts now × (w' ≡ None) × IsScheduledBy (Closes w posts) now
 IsUndoneBy d w r now w' = ⊥
 
 -- a watcher has taken posts, and may have met the desk; all that it has taken now is a run from its opening
@@ -76,6 +77,15 @@ HasTaken w posts w' =
 -- a watcher has taken posts, and has not met the desk
 abbrev pub with_posts : WatcherView → List PostView → WatcherView
 with_posts w posts = record w { half = record w.half { taken = w.half.taken ++ posts } }
+
+-- a watcher goes on: it has taken posts more, or none, and may have met the desk
+abbrev pub GoesOn : WatcherView → WatcherView → Type 0
+GoesOn w w' = (posts : List PostView) × (told : ℕ) × (w' ≡ record w { half = record w.half { taken = w.half.taken ++ posts; told = told } })
+
+-- a session keeps its watcher, if it has one, and this goes on
+abbrev pub KeepsWatcher : Option WatcherView → Option WatcherView → Type 0
+KeepsWatcher None w' = w' ≡ None
+KeepsWatcher (Some w) w' = (after : WatcherView) × (w' ≡ Some after) × GoesOn w after
 
 -- Up to so many posts were taken and printed, fewer only where none waited at one moment, and so not before as many were taken as the last meeting told.
 pub record IsPopped (w : WatcherView) (most : ℕ) (printed : PrintedPosts) (w' : Option WatcherView) : Type 0 where

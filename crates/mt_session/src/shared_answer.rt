@@ -9,9 +9,9 @@ ghost use Rattle.mt_events.specs.Texts.{count_text};
 ghost use Rattle.mt_session.specs.Answers.{refusal};
 ghost use Rattle.mt_session.specs.Serving.{IsSent};
 ghost use Rattle.mt_session.specs.Session.{IsCutCause, IsCutRun};
-ghost use Rattle.mt_session.specs.SharedTurns.{is_under_lock};
-ghost use Rattle.mt_session.specs.SharedSession.{IsAnsweredAt, IsTaken, IsLost};
-ghost use Rattle.mt_session.specs.SharedServing.{IsUndoneAt, HasMet, HasLeft, ServesAsked, ends_by_request};
+ghost use Rattle.mt_session.specs.SharedTurns.{KeepsWatcher, is_under_lock};
+ghost use Rattle.mt_session.specs.SharedSession.{IsAnsweredAt, IsTaken, IsLost, HasLeft};
+ghost use Rattle.mt_session.specs.SharedServing.{IsUndoneAt, HasMet, IsKeptOrLeft, ServesAsked, ends_by_request};
 
 use crate::bell::Bell;
 use crate::gate::Gate;
@@ -135,6 +135,7 @@ fn serve_locked<J: Naming, O: Output, G: Gate, R: Wait>(
 ) -> Option<End>
     requires { is_under_lock request.now ≡ true }
     ensures served { IsTrue O.tells → ServesAsked session.old (Ok request.now) (O.written writer.old) (O.written writer.new) result session.new }
+    ensures watcher { IsKeptOrLeft session.old session.new }
     ensures cut { IsTrue O.counts → IsCutCause result (O.failed writer.old) (O.failed writer.new) }
     ensures cut_run { IsTrue O.counts → O.faults writer.old ≡ [] → IsCutRun result (O.faults writer.new) }
     ensures ended { ForSome result (λ e. ends_by_request e ≡ true) }
@@ -187,6 +188,7 @@ fn take_met<J: Naming, G: Gate, R: Wait>(
     requires { 0 < most }
     ensures taken { IfOk result (λ answer. IsTaken session.old most answer.text session.new) }
     ensures lost { OnErr result (IsLost session.old (Ok (Take most)) (refusal NoMemory)) }
+    ensures watcher { KeepsWatcher session.old session.new }
 {
     let Some(meeting) = meet(rt, shared, session) else {
         return Ok(took_none(Text::refusal(Fault::NoWatcher)));
@@ -208,6 +210,7 @@ fn take<J: Naming, G: Gate, R: Wait>(
     requires { 0 < most }
     ensures taken { IfOk result (λ answer. IsTaken session.old most answer.text session.new) }
     ensures lost { OnErr result (IsLost session.old (Ok (Take most)) (refusal NoMemory)) }
+    ensures watcher { KeepsWatcher session.old session.new }
 {
     let printed = match session.pops(rt, most) {
         Ok(printed) => printed,
@@ -229,6 +232,7 @@ fn serve_take<J: Naming, O: Output, G: Gate, R: Wait>(
 ) -> Option<End>
     requires { 0 < most }
     ensures served { IsTrue O.tells → ServesAsked session.old (Ok (Take most)) (O.written writer.old) (O.written writer.new) result session.new }
+    ensures watcher { KeepsWatcher session.old session.new }
     ensures cut { IsTrue O.counts → IsCutCause result (O.failed writer.old) (O.failed writer.new) }
     ensures cut_run { IsTrue O.counts → O.faults writer.old ≡ [] → IsCutRun result (O.faults writer.new) }
     ensures ended { ForSome result (λ e. ends_by_request e ≡ true) }
@@ -255,6 +259,7 @@ pub fn serve_request<J: Naming, O: Output, G: Gate, R: Wait + Clock>(
 ) -> Option<End>
     requires { HasRightCount request.now }
     ensures served { IsTrue O.tells → ServesAsked session.old (Ok request.now) (O.written writer.old) (O.written writer.new) result session.new }
+    ensures watcher { IsKeptOrLeft session.old session.new }
     ensures cut { IsTrue O.counts → IsCutCause result (O.failed writer.old) (O.failed writer.new) }
     ensures cut_run { IsTrue O.counts → O.faults writer.old ≡ [] → IsCutRun result (O.faults writer.new) }
     ensures ended { ForSome result (λ e. ends_by_request e ≡ true) }

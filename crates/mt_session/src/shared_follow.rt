@@ -11,6 +11,7 @@ ghost use Rattle.mt_session.specs.Answers.{refusal};
 ghost use Rattle.mt_session.specs.Serving.{IsSent};
 ghost use Rattle.mt_session.specs.Session.{IsCutCause, IsCutRun};
 ghost use Rattle.mt_session.specs.SharedSession.{IsInFront};
+ghost use Rattle.mt_session.specs.SharedTurns.{KeepsWatcher};
 ghost use Rattle.mt_session.specs.SharedServing.{IsPortion, Follows, ServesAsked, FollowsOn, IsWithin, end_of_round, ends_by_request};
 
 use crate::gate::Gate;
@@ -65,6 +66,7 @@ fn next_portion<J: Naming, G: Gate, R: Wait>(
     most: u64,
 ) -> Portion
     ensures portion { IsPortion session.old most result session.new }
+    ensures watcher { KeepsWatcher session.old session.new }
 
     // What is always true of the session's watcher.
     ensures running { ForSome session.old (λ (w : WatcherView). IsRun w.half.opening w.half.taken) }
@@ -195,6 +197,7 @@ fn follow_round<J: Naming, O: Output, G: Gate, R: Wait + Clock>(
     ensures followed { IsTrue O.tells → (w : Option WatcherView) (sent : List ℕ) (out : List ℕ)
         → O.written writer.old ≡ sent ++ out → (ForSome session.old (λ (v : WatcherView). IsRun v.half.opening v.half.taken) → Follows w out told session.old)
         → FollowsOn w most sent (O.written writer.new) result session.new }
+    ensures watcher { KeepsWatcher session.old session.new }
     ensures within { IsWithin most result }
     ensures cut { IsTrue O.counts → IsCutCause (end_of_round result) (O.failed writer.old) (O.failed writer.new) }
     ensures cut_run { IsTrue O.counts → O.faults writer.old ≡ [] → IsCutRun (end_of_round result) (O.faults writer.new) }
@@ -222,6 +225,7 @@ pub(crate) fn serve_follow<J: Naming, O: Output, G: Gate, R: Wait + Clock>(
     most: u64,
 ) -> Option<End>
     ensures served { IsTrue O.tells → ServesAsked session.old (Ok (Follow most)) (O.written writer.old) (O.written writer.new) result session.new }
+    ensures watcher { KeepsWatcher session.old session.new }
     ensures cut { IsTrue O.counts → IsCutCause result (O.failed writer.old) (O.failed writer.new) }
     ensures cut_run { IsTrue O.counts → O.faults writer.old ≡ [] → IsCutRun result (O.faults writer.new) }
     ensures ended { ForSome result (λ e. ends_by_request e ≡ true) }

@@ -4,8 +4,8 @@ ghost use Rattle.std.specs.Option.{ForSome};
 ghost use Rattle.mt_lines.specs.Reading.{bytes_left, failed_calls, last_faults, limit_of, fault_of};
 ghost use Rattle.mt_requests.specs.Requests.{request_of};
 ghost use Rattle.mt_session.specs.Session.{line_limit, IsReadEnd, IsReadEndRun, IsCutCause, IsCutRun};
-ghost use Rattle.mt_session.specs.SharedSession.{ServedShared};
-ghost use Rattle.mt_session.specs.SharedServing.{ServesAsked, ServedSharedLine, ends_by_request, ends_by_shared_line};
+ghost use Rattle.mt_session.specs.SharedSession.{ServedShared, HasLeft};
+ghost use Rattle.mt_session.specs.SharedServing.{IsKeptOrLeft, ServesAsked, ServedSharedLine, ends_by_request, ends_by_shared_line};
 
 use crate::bell::Bell;
 use crate::gate::Gate;
@@ -32,6 +32,7 @@ fn serve_text<J: Naming, O: Output, G: Gate, R: Wait + Clock>(
     writer: &mut O,
 ) -> Option<End>
     ensures served { IsTrue O.tells → ServesAsked session.old (request_of line.now) (O.written writer.old) (O.written writer.new) result session.new }
+    ensures watcher { IsKeptOrLeft session.old session.new }
     ensures cut { IsTrue O.counts → IsCutCause result (O.failed writer.old) (O.failed writer.new) }
     ensures cut_run { IsTrue O.counts → O.faults writer.old ≡ [] → IsCutRun result (O.faults writer.new) }
     ensures ended { ForSome result (λ e. ends_by_request e ≡ true) }
@@ -53,6 +54,7 @@ fn serve_line<J: Naming, I: Input + Drop, O: Output, G: Gate, R: Wait + Clock>(
     requires fresh { fault_of lines.old ≡ None }
     requires limit { limit_of lines.old ≡ line_limit }
     ensures served { IsTrue I.tells → IsTrue O.tells → ServedSharedLine (bytes_left lines.old) (bytes_left lines.new) session.old session.new (O.written writer.old) (O.written writer.new) result }
+    ensures watcher { IsKeptOrLeft session.old session.new }
     ensures cut { IsTrue O.counts → IsCutCause result (O.failed writer.old) (O.failed writer.new) }
     ensures cut_run { IsTrue O.counts → O.faults writer.old ≡ [] → IsCutRun result (O.faults writer.new) }
     ensures read { IsTrue I.counts → IsReadEnd result (failed_calls lines.old) (failed_calls lines.new) }
@@ -72,7 +74,7 @@ fn serve_line<J: Naming, I: Input + Drop, O: Output, G: Gate, R: Wait + Clock>(
     }
 }
 
-/// Serves lines until the session ends: how it does.
+/// Serves lines until the session ends: how it does. What is said of it holds once its watcher is closed.
 fn serve_all<J: Naming, I: Input + Drop, O: Output, G: Gate, R: Wait + Clock>(
     rt: &R,
     shared: &Shared<'_, J, G>,
@@ -83,7 +85,7 @@ fn serve_all<J: Naming, I: Input + Drop, O: Output, G: Gate, R: Wait + Clock>(
     requires none { session.old ≡ None }
     requires fresh { fault_of lines.old ≡ None }
     requires limit { limit_of lines.old ≡ line_limit }
-    ensures served { IsTrue I.tells → IsTrue O.tells → ServedShared (bytes_left lines.old) (O.written writer.old) (O.written writer.new) result }
+    ensures served { IsTrue I.tells → IsTrue O.tells → HasLeft session.new → ServedShared (bytes_left lines.old) (O.written writer.old) (O.written writer.new) result }
     ensures read { IsTrue I.counts → IsReadEnd (Some result) (failed_calls lines.old) (failed_calls lines.new) }
     ensures read_run { IsTrue I.counts → last_faults lines.old ≡ [] → IsReadEndRun (Some result) (last_faults lines.new) }
     ensures cut { IsTrue O.counts → IsCutCause (Some result) (O.failed writer.old) (O.failed writer.new) }

@@ -6,9 +6,10 @@ ghost use Rattle.mt_events.specs.Posts.{PostView};
 ghost use Rattle.mt_events.specs.Following.{IsRun};
 ghost use Rattle.mt_desk.specs.Calls.{WatcherView, IsMet, IsClosed};
 ghost use Rattle.mt_desk.specs.Desk.{IsDesk, floor_of_desk};
+ghost use Rattle.mt_desk.specs.Headline.{Meet, Close, IsScheduledBy};
 ghost use Rattle.mt_events.specs.Texts.{posts_text};
 ghost use Rattle.mt_session.specs.Requests.{answer_to, replied_text, opened_text, closed_text};
-ghost use Rattle.mt_session.specs.SharedTurns.{floor_seen, found_state, is_under_lock, with_posts, IsCommanded, IsBegun, IsDoneBy, IsUndoneBy, HasTaken, IsPopped};
+ghost use Rattle.mt_session.specs.SharedTurns.{floor_seen, found_state, is_under_lock, with_posts, IsCommanded, IsBegun, IsDoneBy, IsUndoneBy, HasTaken, KeepsWatcher, IsPopped};
 
 use crate::shown::{find, show, told_refusal};
 use crate::text::Text;
@@ -61,7 +62,8 @@ fn run<J: Naming, R: Wait>(rt: &R, desk: &mut Desk<J>, command: &Command) -> Res
 
 /// How far a watcher of the desk is.
 fn met<J: Naming>(desk: &mut Desk<J>, watcher: &mut Watcher<J>) -> Meeting
-    ensures { IsMet desk.old watcher.old result desk.new watcher.new }
+    ensures met { IsMet desk.old watcher.old result desk.new watcher.new }
+    ensures headline { IsScheduledBy (Meet watcher.old result watcher.new) desk.new }
 {
     match desk.meet(watcher) {
         Ok(meeting) => meeting,
@@ -71,7 +73,8 @@ fn met<J: Naming>(desk: &mut Desk<J>, watcher: &mut Watcher<J>) -> Meeting
 
 /// Ends a watcher of the desk, and answers what was sent to it and not taken.
 fn closed<J: Naming, R: Wait>(rt: &R, desk: &mut Desk<J>, watcher: Watcher<J>) -> SharedPosts
-    ensures { IsClosed desk.old watcher result desk.new }
+    ensures closed { IsClosed desk.old watcher result desk.new }
+    ensures headline { IsScheduledBy (Close watcher result) desk.new }
 {
     match desk.close(rt, watcher) {
         Ok(posts) => posts,
@@ -100,7 +103,7 @@ fn told_end<J: Naming, R: Wait>(
     watcher: Watcher<J>,
 ) -> Result<Text, Fault>
     ensures text { IfOk result (λ text. text ≡ closed_text (floor_seen desk.old (Some watcher)) watcher.key) }
-    ensures closed { (posts : List PostView) × IsClosed desk.old watcher posts desk.new }
+    ensures closed { (posts : List PostView) × IsClosed desk.old watcher posts desk.new × IsScheduledBy (Close watcher posts) desk.new }
     ensures memory { IsOkUnless result Fault.NoMemory }
 {
     let posts = closed(rt, desk, watcher);
@@ -247,6 +250,7 @@ impl<J: Naming> SharedSession<J> {
         ensures refused { IfErr result (λ fault. fault ≢ Fault.NoMemory → (fault ≡ Fault.NoWatcher) × (self.old ≡ None) × (self.new ≡ None)) }
         ensures lost { result ≡ Err Fault.NoMemory → ForSome self.old (λ (w : WatcherView). (posts : List PostView) × (w' : WatcherView) × HasTaken w posts w' × (self.new ≡ Some w') × (length posts ≤ most)) }
         ensures refuses { self.old ≡ None → result ≡ Err Fault.NoWatcher }
+        ensures watcher { KeepsWatcher self.old self.new }
 
         // What is always true of the session's watcher.
         ensures running { ForSome self.old (λ (w : WatcherView). IsRun w.half.opening w.half.taken) }
@@ -261,7 +265,7 @@ impl<J: Naming> SharedSession<J> {
     /// to; none where the session has no watcher. Takes no memory, and waits for nothing.
     pub fn meet(&mut self, desk: &mut Desk<J>) -> Option<Meeting>
         ensures none { self.old ≡ None → (result ≡ None) × (self.new ≡ None) × (desk.new ≡ desk.old) }
-        ensures met { ForSome self.old (λ (w : WatcherView). (m : Meeting) × (w' : WatcherView) × IsMet desk.old w m desk.new w' × (result ≡ Some m) × (self.new ≡ Some w')) }
+        ensures met { ForSome self.old (λ (w : WatcherView). (m : Meeting) × (w' : WatcherView) × IsMet desk.old w m desk.new w' × (result ≡ Some m) × (self.new ≡ Some w') × IsScheduledBy (Meet w m w') desk.new) }
 
         // What is always true of a desk.
         ensures kept { IsDesk desk.old }
@@ -276,7 +280,7 @@ impl<J: Naming> SharedSession<J> {
     /// Closes the session's watcher, if it has one. Takes no memory. It may wait, as each call on a queue may.
     pub fn leave<R: Wait>(&mut self, rt: &R, desk: &mut Desk<J>)
         ensures none { self.new ≡ None }
-        ensures closed { ForSome self.old (λ (w : WatcherView). (posts : List PostView) × IsClosed desk.old w posts desk.new) }
+        ensures closed { ForSome self.old (λ (w : WatcherView). (posts : List PostView) × IsClosed desk.old w posts desk.new × IsScheduledBy (Close w posts) desk.new) }
         ensures unwatched { self.old ≡ None → desk.new ≡ desk.old }
 
         // What is always true of a desk.

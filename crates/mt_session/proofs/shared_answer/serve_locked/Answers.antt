@@ -1,5 +1,6 @@
 use Rattle.std.proofs.Common.{Ok, [], inl, refl, sym}
 use Rattle.std.proofs.lemmas.List.{append-nil}
+use Rattle.mt_session.proofs.LeavingLaws.{answered_keeps, undone_keeps}
 use Rattle.mt_session.proofs.SharedLineLaws.{serves_answer, locked_told, locked_undone, answer_requested}
 use Rattle.mt_session.proofs.shared_answer.serve_locked.Goals as goal
 
@@ -16,3 +17,9 @@ pub returns-in-Err-clause-served : goal.returns-in-Err-clause-served
 returns-in-Err-clause-served g c t =
     locked_undone c.args.session.now c.do_locked-answer.new.session c.args.request.now _ _ c.tell_undone.result c.requires c.in-Err.ensures.undone
     (λ is. c.tell_undone.ensures.close is t) (λ other. c.tell_undone.ensures.others other t)
+
+pub returns-in-Ok-clause-watcher : goal.returns-in-Ok-clause-watcher
+returns-in-Ok-clause-watcher g c = answered_keeps c.args.session.now c.do_locked-answer.new.session c.args.request.now c.in-Ok.text c.in-Ok.ensures.answered
+
+pub returns-in-Err-clause-watcher : goal.returns-in-Err-clause-watcher
+returns-in-Err-clause-watcher g c = undone_keeps c.args.session.now c.do_locked-answer.new.session c.args.request.now c.in-Err.ensures.undone

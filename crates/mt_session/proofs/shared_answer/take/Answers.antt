@@ -5,6 +5,7 @@ use Rattle.mt_desk.specs.Calls.{WatcherView}
 use Rattle.mt_requests.specs.declared.request.Request.TheVariants.{Take}
 use Rattle.mt_session.specs.Answers.{refusal}
 use Rattle.mt_session.specs.SharedSession.{IsTaken, IsLost}
+use Rattle.mt_session.proofs.LeavingLaws.{keeps_then}
 use Rattle.mt_session.proofs.SharedTakeLaws.{popped_same, took_at_once, lost_at_once, err_of}
 use Rattle.mt_session.proofs.shared_answer.take.Goals as goal
 
@@ -25,3 +26,6 @@ returns-clause-taken g c =
 pub returns-clause-lost : goal.returns-clause-lost
 returns-clause-lost g c =
     err_of c.took_posts.result (lost_at_once c.args.session.now c.pops.new.self c.args.most c.in-Ok.printed c.in-Ok.ensures.popped c.in-Ok.ensures.watched)
+
+pub returns-then-printed-eq0-clause-watcher : goal.returns-then-printed-eq0-clause-watcher
+returns-then-printed-eq0-clause-watcher g c = keeps_then c.args.session.now c.pops.new.self c.take_met.new.session c.in-Ok.ensures.watcher c.take_met.ensures.watcher

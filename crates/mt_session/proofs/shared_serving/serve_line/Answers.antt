@@ -3,6 +3,7 @@ use Rattle.mt_skel.specs.declared.fault.Fault.TheVariants as fault
 use Rattle.mt_lines.specs.Reading.{limit_of}
 use Rattle.mt_session.specs.Session.{Whole, Overlong}
 use Rattle.mt_session.proofs.SessionLaws.{read_answered, run_answered}
+use Rattle.mt_session.proofs.LeavingLaws.{kept_same}
 use Rattle.mt_session.proofs.SharedLineLaws.{line_served, refused_served, unended_served, end_served, fault_served, read_requested, run_requested, requested_line, answer_requested}
 use Rattle.mt_session.proofs.shared_serving.serve_line.Goals as goal
 
@@ -66,3 +67,15 @@ returns-in-Ok-TooLong-clause-ended g c by is = requested_line by (answer_request
 
 pub returns-in-Ok-Unended-clause-ended : goal.returns-in-Ok-Unended-clause-ended
 returns-in-Ok-Unended-clause-ended g c by is = requested_line by (answer_requested by (c.answer_with-in-Ok-Unended-2.ensures.ended by is))
+
+pub returns-in-Ok-TooLong-clause-watcher : goal.returns-in-Ok-TooLong-clause-watcher
+returns-in-Ok-TooLong-clause-watcher g c = kept_same c.args.session.now
+
+pub returns-in-Ok-Unended-clause-watcher : goal.returns-in-Ok-Unended-clause-watcher
+returns-in-Ok-Unended-clause-watcher g c = kept_same c.args.session.now
+
+pub returns-in-Ok-End-clause-watcher : goal.returns-in-Ok-End-clause-watcher
+returns-in-Ok-End-clause-watcher g c = kept_same c.args.session.now
+
+pub returns-in-Err-clause-watcher : goal.returns-in-Err-clause-watcher
+returns-in-Err-clause-watcher g c = kept_same c.args.session.now

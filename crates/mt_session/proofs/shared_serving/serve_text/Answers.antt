@@ -1,4 +1,5 @@
 use Rattle.mt_requests.specs.Requests.{request_of}
+use Rattle.mt_session.proofs.LeavingLaws.{kept_same}
 use Rattle.mt_session.proofs.SharedLineLaws.{read_is, unread_served, answer_requested}
 use Rattle.mt_session.proofs.shared_serving.serve_text.Goals as goal
 
@@ -12,3 +13,6 @@ returns-in-Err-clause-served g c t =
 
 pub returns-in-Err-clause-ended : goal.returns-in-Err-clause-ended
 returns-in-Err-clause-ended g c by is = answer_requested by (c.answer_with-in-Err.ensures.ended by is)
+
+pub returns-in-Err-clause-watcher : goal.returns-in-Err-clause-watcher
+returns-in-Err-clause-watcher g c = kept_same c.args.session.now

@@ -18,4 +18,4 @@ returns-in-Ok-opening-clause-begun g c =
 pub returns-in-Err-opening-clause-undone : goal.returns-in-Err-opening-clause-undone
 returns-in-Err-opening-clause-undone g c =
     let e = c.in-Ok.ensures in
-    watch_undone c.args.desk.now c.open.new.self c.closed.new.desk c.args.self.now c.args.scope c.in-Ok.watcher c.closed.result c.requires.none c.requires.desk e.done e.desk e.key e.begins c.closed.ensures
+    watch_undone c.args.desk.now c.open.new.self c.closed.new.desk c.args.self.now c.args.scope c.in-Ok.watcher c.closed.result c.requires.none c.requires.desk e.done e.desk e.key e.begins c.closed.ensures.closed
