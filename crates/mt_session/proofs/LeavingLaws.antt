@@ -13,11 +13,11 @@ use Rattle.mt_session.specs.SharedServing.{IsUndoneAt, HasMet, IsKeptOrLeft}
 use Rattle.mt_session.proofs.SharedTakeLaws.{met_moved}
 
 -- it has taken none
-goes_none : (w : WatcherView) → GoesOn w w
+pub goes_none : (w : WatcherView) → GoesOn w w
 goes_none w = ([], w.half.told, ap (λ (posts : List PostView). record w { half = record w.half { taken = posts } }) (sym (append-nil w.half.taken)))
 
 -- it has taken some, and then more
-goes_then : (w mid w' : WatcherView) → GoesOn w mid → GoesOn mid w' → GoesOn w w'
+pub goes_then : (w mid w' : WatcherView) → GoesOn w mid → GoesOn mid w' → GoesOn w w'
 goes_then w mid w' a b = (
   a.0 ++ b.0,
   b.1,
@@ -53,7 +53,7 @@ pub kept_same : (w : Option WatcherView) → IsKeptOrLeft w w
 kept_same w = kept_of w w (keeps_same w)
 
 -- a request that is done while the desk is held
-still : (w : WatcherView) (w' : Option WatcherView) → w' ≡ Some w → IsKeptOrLeft (Some w) w'
+pub still : (w : WatcherView) (w' : Option WatcherView) → w' ≡ Some w → IsKeptOrLeft (Some w) w'
 still w w' same = subst (λ (x : Option WatcherView). IsKeptOrLeft (Some w) x) (sym same) (goes_none w)
 
 gone : (w : WatcherView) (w' : Option WatcherView) → w' ≡ None → HasLeft (Some w) → IsKeptOrLeft (Some w) w'

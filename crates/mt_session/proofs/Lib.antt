@@ -2,6 +2,7 @@ pub mod IdleLaws
 pub mod SessionLaws
 pub mod SharedLaws
 pub mod LeavingLaws
+pub mod SharedFollowLaws
 pub mod SharedLineLaws
 pub mod SharedTakeLaws
 pub mod TurnLaws

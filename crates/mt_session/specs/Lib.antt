@@ -3,6 +3,7 @@ pub mod Headline
 pub mod Requests
 pub mod Serving
 pub mod Session
+pub mod SharedHeadline
 pub mod SharedServing
 pub mod SharedSession
 pub mod SharedTurns

@@ -1,5 +1,6 @@
-//! What is true of every list of lines. The function does nothing: its contract is the law.
+//! What is true of every list of lines. The functions do nothing: their contracts are the laws.
 ghost use Rattle.mt_session.specs.Headline.{SessionsFollow, AnswersTell};
+ghost use Rattle.mt_session.specs.SharedHeadline.{SharedSessionsFollow};
 
 /// The lines of a plain session are a schedule of its floor, behind the events that were done before them. So the posts
 /// that are told of a watcher, by `take`, `follow` and `close`, are a prefix of those posted for the namespaces it follows
@@ -8,4 +9,12 @@ ghost use Rattle.mt_session.specs.Headline.{SessionsFollow, AnswersTell};
 pub fn sessions_follow()
     ensures schedule { SessionsFollow }
     ensures texts { AnswersTell }
+{}
+
+/// Behind each line of a session in a thread of its own, and whatever the other sessions do: what its watcher has taken,
+/// and so all that `take` and `follow` have told of it or lost, is a prefix of what was posted for the namespaces it
+/// follows since its opening, each once and in order; and applied to the opening that `watch` told, it gives each
+/// namespace's table as of its last taken number. That is so by the history of the desk at which the watcher was closed.
+pub fn shared_sessions_follow()
+    ensures { SharedSessionsFollow }
 {}

@@ -1,0 +1,5 @@
+use Rattle.mt_session.proofs.SharedFollowLaws.{shared_sessions_follow}
+use Rattle.mt_session.proofs.laws.shared_sessions_follow.Goals as goal
+
+pub returns : goal.returns
+returns c = shared_sessions_follow
