@@ -112,6 +112,9 @@ fn serve_all<J: Naming, I: Input + Drop, O: Output, G: Gate, R: Wait + Clock>(
 /// and ends. A session serves 16,777,216 lines at most. At a fault of the writer all earlier answers are out whole, and of
 /// the last one a part; what the end says of it are the bytes of its last piece, for the answer to a `follow` goes out in
 /// pieces of at most 64 posts.
+///
+/// Whatever the other sessions do, what its watcher has taken behind each line is in order, and gives the tables
+/// (`shared_sessions_follow` of laws.rt).
 pub fn serve_shared<J, I, O, G, R>(
     rt: &R,
     alloc: Global,
