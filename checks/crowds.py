@@ -4,7 +4,8 @@ Those behind are told in comments, each with its row, and each command of the sc
 """
 import time
 
-from importing import LEFT_OUT, check_table, imported
+from imported import left_out
+from importing import check_table, imported
 from running import check, shown
 
 NO_ROOM = b"the server has no room for it"
@@ -77,7 +78,7 @@ def check_crowds(program, mountctl):
         script = imported(mountctl, b"".join(line + b"\n" for line in lines))[1].split(b"\n")
         took = time.monotonic() - start
         check(f"{name} in a second", took < 1, f"{took:.1f} s")
-        told = [line for line in script if LEFT_OUT.match(line)]
-        found = len(told), sum(NO_ROOM in line for line in told)
+        told = left_out(script)
+        found = len(told), sum(NO_ROOM in line for line in script)
         check(f"{name} as far as there is room", found == (left, left), shown(b"\n".join([b"%d %d" % found, *told[:3]])))
         check_table(program, mountctl, name, lines)

@@ -9,11 +9,20 @@ import os
 import random
 import re
 import tempfile
-from typing import NamedTuple
 
 import cases
 import mountinfos
 from clients import READ_FAULT, WRITE_FAULT, Asked, redirected
+from imported import (
+    UNREAD,
+    Numbers,
+    check_super_options,
+    groups_in_sight,
+    kept_rows,
+    left_out,
+    made_lines,
+    row_of,
+)
 from memory import Refusing
 from running import answer_groups, check, run, session, shown
 from serving import Server
@@ -36,132 +45,20 @@ MOST_ROWS = 400
 # What a script says of a root mount that it makes show the root of its filesystem, in the place of another directory.
 AS_ROOT = re.compile(rb"# mount (\d+) is the root mount, and shows the root of its filesystem here: ")
 
-# What a script says of a mount that it does not make: why, and the row or as much of it as a comment holds.
-LEFT_OUT = re.compile(rb"# mount (\d+) is left out: [^:]+: (.*)", re.DOTALL)
-MOST_TOLD = 8_000
 
-# What stands in a script in the place of a line that no server would read.
-UNREAD = b"# a line that the server would not read is left out"
-
-# What it says of a mount with options that no mount has here, or that exclude each other.
-OPTIONS_LEFT_OUT = re.compile(rb"# mount (\d+) has options that are left out: (.*)", re.DOTALL)
-
-# What it says of the first mount of a filesystem that has other super options than `rw`.
-SUPER_LEFT_OUT = re.compile(rb"# mount \d+ has super options that are left out: (.*)", re.DOTALL)
-
-OPTIONS = {b"ro", b"nosuid", b"nodev", b"noexec", b"noatime", b"nodiratime", b"relatime", b"nosymfollow"}
-EXCLUSIVE = {b"rw", b"ro"}, {b"noatime", b"relatime"}
-
-
-class Row(NamedTuple):
-    """A line of a table; what it has in the place of a number that may be another is apart."""
-
-    id: int
-    parent: int
-    device: bytes
-    point: bytes
-    groups: tuple
-    rest: tuple
-
-
-def row_of(line):
-    front, _, back = line.partition(b" - ")
-    number, parent, device, root, point, options, *tags = front.split(b" ")
-    kind, source, _ = back.split(b" ")
-    numbers = dict(tag.split(b":") for tag in tags if b":" in tag)
-    groups = tuple(numbers.get(name) for name in (b"shared", b"master", b"propagate_from"))
-    known = OPTIONS & set(options.split(b","))
-    known = frozenset(known - {b"relatime"} if b"noatime" in known else known)
-    return Row(int(number), int(parent), device, point, groups, (root, known, b"unbindable" in tags, kind, source))
-
-
-class Renaming:
-    """Numbers of one table and those in their places in another, each in one place alone."""
-
-    def __init__(self):
-        self.to, self.back = {}, {}
-
-    def fits(self, old, new):
-        if old is None or new is None:
-            return old is new
-        return self.to.setdefault(old, new) == new and self.back.setdefault(new, old) == old
-
-
-def left_out(script):
-    """The rows that a script says are left out, by the numbers of their mounts."""
-    return {int(found[1]): found[2] for found in map(LEFT_OUT.match, script) if found}
-
-
-def has_other_options(line):
-    """Whether a row tells options that no mount has here, or that exclude each other."""
-    options = set(line.split(b" ")[5].split(b","))
-    return not options <= OPTIONS | {b"rw"} or any(both <= options for both in EXCLUSIVE)
-
-
-def check_super_options(name, lines, script):
-    """Of the lines with super options that are left out one of each device is told."""
-    told = [found[1] for found in map(SUPER_LEFT_OUT.match, script) if found]
-    devices = sorted(line.split(b" ")[2] for line in told)
-    wanted = sorted({line.split(b" ")[2] for line in lines})
-    check(f"{name}: super options that are left out are told", (devices, lines >= set(told)) == (wanted, True), "\n".join(map(shown, script)))
-
-
-def kept_rows(name, lines, script):
-    """The rows of the mounts that the script makes, each behind the one that it stands on. All others are told."""
-    rows, left = [row_of(line) for line in lines], left_out(script)
-    kept, ids, below = [], set(), {}
-    for row in rows:
-        below.setdefault(row.parent, []).append(row)
-    numbers = {row.id for row in rows}
-    waiting = [row for row in rows if row.parent == row.id or row.parent not in numbers]
-    while waiting:
-        row = waiting.pop()
-        if row.id not in left and row.id not in ids:
-            kept.append(row)
-            ids.add(row.id)
-            waiting += below.get(row.id, [])
-    others = {row.id: line[:MOST_TOLD] for row, line in zip(rows, lines) if row.id not in ids}
-    check(f"{name}: each row that is left out is told", left == others, "\n".join(map(shown, script)))
-    told = {int(found[1]): found[2] for found in map(OPTIONS_LEFT_OUT.match, script) if found}
-    others = {row.id: line[:MOST_TOLD] for row, line in zip(rows, lines) if row.id in ids and has_other_options(line)}
-    check(f"{name}: each row with options that are left out is told", told == others, "\n".join(map(shown, script)))
+def root_shown(name, lines, script, kept):
+    """These rows, of which the root mount shows the root of its filesystem where a script says so of it."""
+    numbers = {row_of(line).id for line in lines}
     whole = {int(found[1]) for found in map(AS_ROOT.match, script) if found}
     others = {row.id for row in kept if row.parent not in numbers - {row.id} and row.rest[0] != b"/"}
     check(f"{name}: a root mount that shows another directory is told", whole == others, "\n".join(map(shown, script)))
-    check_super_options(name, {line[:MOST_TOLD] for row, line in zip(rows, lines) if row.id in ids and not line.endswith(b" rw")}, script)
     return [row._replace(rest=(b"/", *row.rest[1:])) if row.id in whole else row for row in kept]
 
 
-def groups_in_sight(rows):
-    """Rows, each with the nearest group above its master that has a member among them, if the master has none."""
-    masters = {row.groups[0]: row.groups[1] for row in rows if row.groups[0]}
-    members = set(masters)
-    for _, master, via in (row.groups for row in rows):
-        if master:
-            masters.setdefault(master, via)
-    for row in rows:
-        own, master, _ = row.groups
-        via = master
-        while via and via not in members:
-            via = masters.get(via)
-        yield row._replace(groups=(own, master, via if via != master else None))
-
-
-def why_other(kept, found):
-    """How a table differs from the rows that it was made of by more than numbers, or None."""
-    if len(kept) != len(found):
-        return f"{len(kept)} mounts are wanted, and {len(found)} are there"
-    mounts, devices, groups = Renaming(), Renaming(), Renaming()
-    places = {(None if row.parent == row.id else row.parent, row.point): row for row in found}
-    for row in kept:
-        other = places.get((mounts.to.get(row.parent), row.point))
-        if other is None:
-            return f"no mount stands in the place of {row}"
-        same = mounts.fits(row.id, other.id) and devices.fits(row.device, other.device)
-        same = same and all(groups.fits(old, new) for old, new in zip(row.groups, other.groups))
-        if not same or row.rest != other.rest:
-            return f"wanted {row}\nfound  {other}"
-    return None
+def made_rows(name, lines, script):
+    """The rows of the mounts that the script makes, as it makes them. All that it leaves out is told."""
+    check_super_options(name, made_lines(lines, script), script)
+    return root_shown(name, lines, script, kept_rows(name, lines, script))
 
 
 def imported(mountctl, text):
@@ -176,15 +73,16 @@ def check_table(program, mountctl, name, lines):
     check(f"{name}: each line is read", UNREAD not in script, shown(text))
     commands = [line for line in script if not line.startswith(b"#")]
     if not commands:
-        check(f"{name}: all is left out", kept_rows(name, lines, script) == [])
+        check(f"{name}: all is left out", made_rows(name, lines, script) == [])
         return False
     asked = commands + [b"show 1"]
     groups = answer_groups(session(program, asked)[1], asked)
     refused = [line for line, answer in zip(asked, groups) if not answer or not answer[0].startswith(b"ok")]
     check(f"{name}: each command is accepted", not refused, shown(b"\n".join(refused[:3] + lines + script)))
     if not refused:
-        kept, found = kept_rows(name, lines, script), [row_of(line) for line in groups[-1][1:]]
-        why = why_other(list(groups_in_sight(kept)) if left_out(script) else kept, found)
+        kept, found = made_rows(name, lines, script), [row_of(line) for line in groups[-1][1:]]
+        [sighted] = groups_in_sight([kept])
+        why = Numbers().why_other(sighted if left_out(script) else kept, found)
         check(f"{name}: the table that is built", why is None, "\n".join([str(why), *map(shown, lines + script)]))
     return not left_out(script)
 
@@ -338,7 +236,7 @@ def check_host(program, mountctl):
         with Server(program) as server:
             status, answers, complaint = run(mountctl, script + b"show 1\n", server.path, "-")
             check(f"the script of {name} is accepted", (status, complaint) == (0, b""), shown(answers))
-            kept = kept_rows(f"the import of {name}", text.split(b"\n")[:-1], script.split(b"\n"))
+            kept = made_rows(f"the import of {name}", text.split(b"\n")[:-1], script.split(b"\n"))
             count = b"\nok %d " % len(kept)
             check(f"the mounts of {name}", answers.count(count) == 1, shown(script + answers))
             server.stop()

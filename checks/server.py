@@ -7,7 +7,7 @@ A plain client speaks with servers that are started here, each in a folder of it
 sockets that cannot be made and stale ones (paths.py), accepts that fail, few descriptors, sessions that are idle, the limit of sessions, a stop (stopping.py), clients that are
 gone or do not read, many connections, allocations that are refused (wanting.py), and then 32 sessions at once for
 N seconds, 20 if not said (soak.py). With MOUNTCTL that program is checked too (clients.py, answering.py, reading.py, pictures.py, telling.py), the cases are
-sent as its scripts, tables are imported (importing.py, crowds.py), and a quarter of the 32 sessions are its mirrors.
+sent as its scripts, tables are imported (importing.py, crowds.py, worlds.py, hosts.py), and a quarter of the 32 sessions are its mirrors.
 """
 import argparse
 import contextlib
@@ -32,6 +32,7 @@ from clients import (
 )
 from crowds import check_crowds
 from deep import check_deep
+from hosts import check_hosts
 from importing import check_import
 from limits import COMMANDS
 from paths import check_made, check_paths, check_stale, check_stopped
@@ -43,6 +44,7 @@ from soak import check_soak
 from stopping import check_cut_off, check_stop, check_unread
 from telling import check_telling
 from wanting import check_wanting
+from worlds import check_worlds
 
 # How many failed accepts in succession end a server.
 MOST_FAILURES = 1_000
@@ -340,6 +342,8 @@ def check_server(program, seconds, mountctl, only):
         parts["scripts"] = lambda program: check_scripts(program, mountctl)
         parts["import"] = lambda program: check_import(program, mountctl)
         parts["crowds"] = lambda program: check_crowds(program, mountctl)
+        parts["worlds"] = lambda program: check_worlds(program, mountctl)
+        parts["hosts"] = lambda program: check_hosts(program, mountctl)
     for name in [only] if only else parts:
         start = time.monotonic()
         try:
