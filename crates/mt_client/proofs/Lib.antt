@@ -10,3 +10,4 @@ pub mod SendingLaws
 pub mod PlaceLaws
 pub mod TellingLaws
 pub mod AheadLaws
+pub mod EffectLaws

@@ -27,7 +27,7 @@ pub all_both : {X : Type 0} (P : X → Type 0) (xs ys : List X) → AllByRecursi
 all_both P [] ys all more = more
 all_both P (x ∷ xs) ys all more = (all.0, all_both P xs ys all.1 more)
 
-due_both : (scope : Scope) (ps qs : List PostView) (old : List MirrorView) → are_due scope old ps ≡ true → are_due scope (mirrors_by old ps) qs ≡ true → are_due scope old (ps ++ qs) ≡ true
+pub due_both : (scope : Scope) (ps qs : List PostView) (old : List MirrorView) → are_due scope old ps ≡ true → are_due scope (mirrors_by old ps) qs ≡ true → are_due scope old (ps ++ qs) ≡ true
 due_both scope [] qs old h k = k
 due_both scope (p ∷ ps) qs old h k =
     and-true (is_due scope old p) (are_due scope (mirrors_with old p) (ps ++ qs)) (and_first (is_due scope old p) (are_due scope (mirrors_with old p) ps) h)

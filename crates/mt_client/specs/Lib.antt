@@ -6,3 +6,4 @@ pub mod Finding
 pub mod Telling
 pub mod Due
 pub mod Replies
+pub mod Effects

@@ -4,12 +4,13 @@
 //! A request is a line ([`request`]). How many lines answer it is known by its first word and by the first line of the
 //! answer ([`answer`]). [`ask`] sends a request and prints its answer, [`mirror`] applies posts to the table
 //! that a watcher found, [`picture`] prints a drawing of the tables that it found, and [`telling`] prints the posts that
-//! it is sent, in words.
+//! it is sent, in words. [`effects`] prints what a line changes, in words.
 #![tactic(auto)]
 
 pub mod answer;
 pub mod ask;
 mod block;
+pub mod effects;
 pub mod fault;
 pub mod mirror;
 mod mirrors;

@@ -112,7 +112,7 @@ pub(crate) fn read_posted<R: Input + Drop>(
 }
 
 /// The post that a text says.
-fn read_text(alloc: Global, text: &[u8]) -> Result<Post, ClientFault>
+pub(crate) fn read_text(alloc: Global, text: &[u8]) -> Result<Post, ClientFault>
     ensures post { IfOk result (λ post. text.now ≡ post_text post) }
     ensures valid { IfOk result (λ post. IsPost post) }
     ensures refused { result ≡ Err ClientFault.Connection → (post : PostView) → IsPost post → text.now ≢ post_text post }

@@ -64,7 +64,7 @@ fn tell_due<O: Output>(
         return Err(ClientFault::Connection);
     }
     let mut text = Vec::new(alloc);
-    apply_told(alloc, &mut text, mirrors, post)?;
+    apply_told(alloc, &mut text, mirrors, post, &[])?;
     print_text(out, text.as_slice())
 }
 

@@ -86,28 +86,37 @@ changes_text r s = listed s (filter (field_differs r s) fields)
 abbrev pub mount_words : Row → List ℕ
 mount_words r = decimal r.id ++ codes " " ++ path_text r.point
 
-abbrev pub space_words : ℕ → List ℕ
-space_words n = codes " in namespace " ++ decimal n
+-- the name of a namespace, if it has one
+abbrev pub name_words : List ℕ → List ℕ
+name_words [] = []
+name_words (b ∷ bs) = codes " (" ++ escaped (b ∷ bs) ++ codes ")"
+
+abbrev pub space_words : List ℕ → ℕ → List ℕ
+space_words name n = codes " in namespace " ++ decimal n ++ name_words name
 
 -- a mount that left: the table before has its mount point, if it has its row
 abbrev pub left_words : List Row → ℕ → List ℕ
 left_words rows i = option_map_or mount_words (row_at row_id i rows) (decimal i)
 
-abbrev pub left_text : List Row → ℕ → ℕ → List ℕ
-left_text rows n i = ended (codes "- " ++ left_words rows i ++ space_words n)
+abbrev pub left_text : List Row → List ℕ → ℕ → ℕ → List ℕ
+left_text rows name n i = ended (codes "- " ++ left_words rows i ++ space_words name n)
 
 -- a mount that is new
-abbrev pub new_text : ℕ → Row → List ℕ
-new_text n r = ended (codes "+ " ++ mount_words r ++ codes " " ++ escaped r.kind ++ space_words n)
+abbrev pub new_text : List ℕ → ℕ → Row → List ℕ
+new_text name n r = ended (codes "+ " ++ mount_words r ++ codes " " ++ escaped r.kind ++ space_words name n)
 
 -- a mount that was there before
-abbrev pub changed_text : ℕ → Row → Row → List ℕ
-changed_text n r s = ended (codes "~ " ++ mount_words s ++ space_words n ++ codes ": " ++ changes_text r s)
+abbrev pub changed_text : List ℕ → ℕ → Row → Row → List ℕ
+changed_text name n r s = ended (codes "~ " ++ mount_words s ++ space_words name n ++ codes ": " ++ changes_text r s)
 
 -- a row, beside that of its mount in the table before, if there is one
-abbrev pub row_text : List Row → ℕ → Row → List ℕ
-row_text rows n s = option_map_or (λ r. changed_text n r s) (row_at row_id s.id rows) (new_text n s)
+abbrev pub row_text : List Row → List ℕ → ℕ → Row → List ℕ
+row_text rows name n s = option_map_or (λ r. changed_text name n r s) (row_at row_id s.id rows) (new_text name n s)
 
 -- a post in words, given the table before it: the mounts that left, and then the rows
-unfoldable pub told_text : MirrorView → PostView → List ℕ
-told_text m p = flat_map (left_text m.rows p.space) p.gone ++ flat_map (row_text m.rows p.space) p.rows
+unfoldable pub named_text : List ℕ → MirrorView → PostView → List ℕ
+named_text name m p = flat_map (left_text m.rows name p.space) p.gone ++ flat_map (row_text m.rows name p.space) p.rows
+
+-- the same without a name
+abbrev pub told_text : MirrorView → PostView → List ℕ
+told_text m p = named_text [] m p

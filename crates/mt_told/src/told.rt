@@ -3,7 +3,7 @@ ghost use Rattle.std.specs.Prelude.{◌≡◌, ◌++◌, OnOk, IsTrue};
 ghost use Rattle.std.specs.List.{flat_map};
 ghost use Rattle.mt_skel.specs.Keyed.{rises};
 ghost use Rattle.mt_info.specs.Table.{row_id};
-ghost use Rattle.mt_told.specs.Told.{mount_words, space_words, left_words, left_text, new_text, changed_text, row_text, told_text};
+ghost use Rattle.mt_told.specs.Told.{mount_words, name_words, space_words, left_words, left_text, new_text, changed_text, row_text, named_text, told_text};
 
 use crate::field::push_changes;
 use mt_events::mirror::Mirror;
@@ -15,17 +15,41 @@ use mt_mounts::mount::{MountId, SpaceId};
 use mt_skel::escape::push_escaped;
 use std::alloc::AllocError;
 
+/// A namespace by its number, and its name.
+#[derive(Clone, Copy)]
+struct Named<'a> {
+    number: SpaceId,
+    name: &'a [u8],
+}
+
 /// Appends what a post says of its namespace, in words: first a line for each mount that left, by rising ID, and then
 /// one for each row, by rising ID. The mirror has the table before the post: from it are the mount points of the mounts
 /// that left, and what of a mount is not as it was. Each name is written with its escapes, so that each line is that of
 /// one mount. Fails for want of memory alone.
-#[tactic(auto, unfolding(crate::specs::Told::told_text))]
 pub fn push_told(text: &mut Vec<u8>, mirror: &Mirror, post: &Post) -> Result<(), AllocError>
     ensures told { OnOk result (text.new.items ≡ text.old.items ++ told_text mirror.now post.now) }
 {
+    push_named(text, mirror, post, &[])
+}
+
+/// Appends the same, with the name of the namespace in parentheses behind its number on each line, but for a name that
+/// is empty. Fails for want of memory alone.
+#[tactic(auto, unfolding(crate::specs::Told::named_text))]
+pub fn push_named(
+    text: &mut Vec<u8>,
+    mirror: &Mirror,
+    post: &Post,
+    name: &[u8],
+) -> Result<(), AllocError>
+    ensures told { OnOk result (text.new.items ≡ text.old.items ++ named_text name.now mirror.now post.now) }
+{
     let rows = mirror.table().rows();
-    push_left(text, rows, post.space, post.gone.as_slice())?;
-    push_rows(text, rows, post.space, post.rows.as_slice())?;
+    let space = Named {
+        number: post.space,
+        name,
+    };
+    push_left(text, rows, space, post.gone.as_slice())?;
+    push_rows(text, rows, space, post.rows.as_slice())?;
     Ok(())
 }
 
@@ -33,11 +57,11 @@ pub fn push_told(text: &mut Vec<u8>, mirror: &Mirror, post: &Post) -> Result<(),
 fn push_left(
     text: &mut Vec<u8>,
     rows: &[Row],
-    space: SpaceId,
+    space: Named<'_>,
     gone: &[MountId],
 ) -> Result<(), AllocError>
     requires { IsTrue (rises row_id rows.now) }
-    ensures { OnOk result (text.new.items ≡ text.old.items ++ flat_map (left_text rows.now space) gone.now) }
+    ensures { OnOk result (text.new.items ≡ text.old.items ++ flat_map (left_text rows.now space.entry.name.now space.entry.number) gone.now) }
 {
     'gone: for id in gone {
         push_left_line(text, rows, space, *id)?;
@@ -49,11 +73,11 @@ fn push_left(
 fn push_rows(
     text: &mut Vec<u8>,
     rows: &[Row],
-    space: SpaceId,
+    space: Named<'_>,
     news: &[Row],
 ) -> Result<(), AllocError>
     requires { IsTrue (rises row_id rows.now) }
-    ensures { OnOk result (text.new.items ≡ text.old.items ++ flat_map (row_text rows.now space) news.now) }
+    ensures { OnOk result (text.new.items ≡ text.old.items ++ flat_map (row_text rows.now space.entry.name.now space.entry.number) news.now) }
 {
     'news: for row in news {
         push_row_line(text, rows, space, row)?;
@@ -71,12 +95,27 @@ fn push_mount(text: &mut Vec<u8>, row: &Row) -> Result<(), AllocError>
     Ok(())
 }
 
+/// Appends the name of a namespace in parentheses, but for one that is empty.
+fn push_name(text: &mut Vec<u8>, name: &[u8]) -> Result<(), AllocError>
+    ensures { OnOk result (text.new.items ≡ text.old.items ++ name_words name.now) }
+{
+    match name {
+        [] => Ok(()),
+        [_, ..] => {
+            text.extend_from_slice(b" (")?;
+            push_escaped(text, name)?;
+            text.extend_from_slice(b")")
+        }
+    }
+}
+
 /// Appends in which namespace a mount is.
-fn push_space(text: &mut Vec<u8>, space: SpaceId) -> Result<(), AllocError>
-    ensures { OnOk result (text.new.items ≡ text.old.items ++ space_words space) }
+fn push_space(text: &mut Vec<u8>, space: Named<'_>) -> Result<(), AllocError>
+    ensures { OnOk result (text.new.items ≡ text.old.items ++ space_words space.entry.name.now space.entry.number) }
 {
     text.extend_from_slice(b" in namespace ")?;
-    push_number(text, space)?;
+    push_number(text, space.number)?;
+    push_name(text, space.name)?;
     Ok(())
 }
 
@@ -95,11 +134,11 @@ fn push_left_mount(text: &mut Vec<u8>, rows: &[Row], id: MountId) -> Result<(), 
 fn push_left_line(
     text: &mut Vec<u8>,
     rows: &[Row],
-    space: SpaceId,
+    space: Named<'_>,
     id: MountId,
 ) -> Result<(), AllocError>
     requires { IsTrue (rises row_id rows.now) }
-    ensures { OnOk result (text.new.items ≡ text.old.items ++ left_text rows.now space id) }
+    ensures { OnOk result (text.new.items ≡ text.old.items ++ left_text rows.now space.entry.name.now space.entry.number id) }
 {
     text.extend_from_slice(b"- ")?;
     push_left_mount(text, rows, id)?;
@@ -109,8 +148,8 @@ fn push_left_line(
 }
 
 /// Appends the line of a mount that is new.
-fn push_new_line(text: &mut Vec<u8>, space: SpaceId, row: &Row) -> Result<(), AllocError>
-    ensures { OnOk result (text.new.items ≡ text.old.items ++ new_text space row.now) }
+fn push_new_line(text: &mut Vec<u8>, space: Named<'_>, row: &Row) -> Result<(), AllocError>
+    ensures { OnOk result (text.new.items ≡ text.old.items ++ new_text space.entry.name.now space.entry.number row.now) }
 {
     text.extend_from_slice(b"+ ")?;
     push_mount(text, row)?;
@@ -124,11 +163,11 @@ fn push_new_line(text: &mut Vec<u8>, space: SpaceId, row: &Row) -> Result<(), Al
 /// Appends the line of a mount that was there before.
 fn push_changed_line(
     text: &mut Vec<u8>,
-    space: SpaceId,
+    space: Named<'_>,
     before: &Row,
     after: &Row,
 ) -> Result<(), AllocError>
-    ensures { OnOk result (text.new.items ≡ text.old.items ++ changed_text space before.now after.now) }
+    ensures { OnOk result (text.new.items ≡ text.old.items ++ changed_text space.entry.name.now space.entry.number before.now after.now) }
 {
     text.extend_from_slice(b"~ ")?;
     push_mount(text, after)?;
@@ -143,11 +182,11 @@ fn push_changed_line(
 fn push_row_line(
     text: &mut Vec<u8>,
     rows: &[Row],
-    space: SpaceId,
+    space: Named<'_>,
     row: &Row,
 ) -> Result<(), AllocError>
     requires { IsTrue (rises row_id rows.now) }
-    ensures { OnOk result (text.new.items ≡ text.old.items ++ row_text rows.now space row.now) }
+    ensures { OnOk result (text.new.items ≡ text.old.items ++ row_text rows.now space.entry.name.now space.entry.number row.now) }
 {
     match find_row(rows, row.id) {
         Some(before) => push_changed_line(text, space, before, row),

@@ -5,4 +5,4 @@ use Rattle.mt_told.proofs.told.push_left.Given as goal
 
 -- the lines appended, and those to come
 abbrev pub invariant-gone : goal.invariant-gone
-invariant-gone l = l.text.items ++ flat_map (left_text l.rows l.space) (drop l.id-index l.gone) ≡ l.initial.text.items ++ flat_map (left_text l.rows l.space) l.gone
+invariant-gone l = l.text.items ++ flat_map (left_text l.rows l.space.name.now l.space.number) (drop l.id-index l.gone) ≡ l.initial.text.items ++ flat_map (left_text l.rows l.space.name.now l.space.number) l.gone
