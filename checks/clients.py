@@ -236,7 +236,7 @@ def words_of(program, title):
 def check_lines(program, mountctl):
     """Each line of the server is sent, and none begins with a word that the client keeps for itself."""
     kept, lines = words_of(mountctl, b"In the place of WORD..:"), words_of(program, b"Lines of a session:")
-    check("the words of the client", kept == {b"-", b"monitor", b"mirror", b"tree", b"dot"}, repr(kept))
+    check("the words of the client", kept == {b"-", b"monitor", b"mirror", b"tree", b"dot", b"what-if"}, repr(kept))
     check("the words of the server", len(lines) == 21 and not kept & lines, repr(sorted(lines)))
     with Server(program) as server, server.free() as client:
         for line in START:

@@ -168,13 +168,13 @@ def check_any(program, mountctl):
     print(f"{ANY_TABLES} tables of any rows imported, {ANY_TABLES - count} with mounts left out")
 
 
-# Words behind `import`, of which it takes none: the file that a user has in mind, what is asked of a server, options.
-NO_WORDS = ("/proc/self/mountinfo",), ("-",), ("tree",), ("show", "1"), ("",), ("--ascii",), ("-h", "1"), ("import",)
-NO_WORDS_SAID = b"mountctl: import takes no words, and reads a mountinfo from standard input\n"
+# Words behind `import` that name no tables: none of a process, and options.
+NO_WORDS = ("-",), ("--pid",), ("--pid", "x"), ("--pid", "1", "01"), ("--ascii",), ("-h", "1"), ("tree", "-e")
+NO_WORDS_SAID = b"mountctl: import takes files, or --pid and processes, or no words\n"
 
 
 def check_words(mountctl, text):
-    """Words behind `import` are refused, and no server is looked for; but for its help, which is the program's."""
+    """Words behind `import` that name no tables are refused; but for its help, which is the program's."""
     for words in NO_WORDS:
         found = run(mountctl, text, "import", *words)
         check(f"import {' '.join(words)}", found == (2, b"", NO_WORDS_SAID), repr(found))

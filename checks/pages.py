@@ -228,7 +228,7 @@ def check_offers(helps):
     there = usages(helps["mountctl"])
     check_same("the words that the completion offers", {*there, *words_in_place(helps["mountctl"])}, offered("socket", ""))
     for word, usage in {**usages(helps["mountd"]), **words_in_place(helps["mountctl"])}.items():
-        wanted = set(re.findall(r"(?<![^\s\[])(?:--)?[a-z]+=?", usage)) - {word}
+        wanted = set(re.findall(r"(?<![^\s\[])(?:--)?[a-z]+=?", usage.removeprefix(word))) - {word}
         found = {offer for count in range(4) for offer in offered("socket", word, *["1"] * count, "")}
         check(f"what the completion offers behind {word}", found == wanted, " ".join(sorted(found)))
 

@@ -6,7 +6,7 @@ _mountctl_words()
 {
     local count=$#
     case $1:$count in
-        :0) echo mkfs mkdir newns copyns dropns mount bind rbind move pivot umount detach setattr show find watch take follow close quit stop - monitor mirror tree dot ;;
+        :0) echo mkfs mkdir newns copyns dropns mount bind rbind move pivot umount detach setattr show find watch take follow close quit stop - monitor mirror tree dot what-if ;;
         copyns:2) echo less ;;
         watch:1 | monitor:1) echo all ;;
         tree:[12]) [[ " $* " == *" --ascii "* ]] || echo --ascii ;;
@@ -73,6 +73,12 @@ _mountctl()
     if ((${#words[@]} == 0)); then
         mapfile -t COMPREPLY < <(_mountctl_sockets "$current"; compgen -W "-e -h --help -q import" -- "$current")
         compopt -o filenames 2> /dev/null
+        return
+    fi
+    if [[ ${words[0]} == import || ${words[1]-} == what-if ]]; then
+        # Files stand here, which readline completes itself.
+        [[ $current == -* ]] && mapfile -t COMPREPLY < <(compgen -W "-- --pid" -- "$current")
+        compopt -o default 2> /dev/null
         return
     fi
     mapfile -t COMPREPLY < <(_mountctl_offers "$current" $(_mountctl_words "${words[@]:1}"))

@@ -52,7 +52,7 @@ fn row_of(alloc: Global, line: &[u8], number: u64) -> Result<HostMount, ImportFa
 }
 
 /// The rows that an input tells, up to its end.
-fn read_rows<I: Input + Drop>(
+pub(crate) fn read_rows<I: Input + Drop>(
     alloc: Global,
     input: &mut LineReader<I>,
 ) -> Result<Vec<HostMount>, ImportFault> {

@@ -9,19 +9,23 @@ mod fault;
 mod import;
 mod quiet;
 mod script;
+mod sources;
+mod tables;
 mod task;
 mod told;
+mod what_if;
 
-use crate::connection::connect;
-use crate::fault::{CONNECTION_FAULT, Fault};
+use crate::connection::{connected, status_of};
+use crate::fault::Fault;
 use crate::import::{ImportFault, ROW_LIMIT, import};
 use crate::quiet::Quiet;
 use crate::script::{SCRIPT_LIMIT, run_script};
-use crate::task::{Task, WordFault, task_of};
+use crate::tables::import_files;
+use crate::task::{Task, task_of};
 use crate::told::NAME;
+use crate::what_if::run_what_if;
 use clap::{Arg, ArgAction, Command, Error};
 use mt_arguments::program::{Program, read_arguments};
-use mt_arguments::socket::SocketFault;
 use mt_client::ask::ask;
 use mt_client::mirror::mirror;
 use mt_client::picture::draw;
@@ -30,18 +34,18 @@ use mt_lines::line::LineReader;
 use mt_lines::stream::{Input, Output, Reading, Writing};
 use mt_requests::help::LINES;
 use std::alloc::{AllocError, Global};
+use std::io;
 use std::os::unix::net::UnixStream;
 use std::process::ExitCode;
-use std::{fs, io};
 
 /// The program, as it speaks of itself.
-const PROGRAM: Program = Program {
+pub(crate) const PROGRAM: Program = Program {
     name: NAME,
     failed: 3,
 };
 
 /// The longest line of an answer, in bytes before its line end.
-const LINE_LIMIT: u32 = 134_217_728;
+pub(crate) const LINE_LIMIT: u32 = 134_217_728;
 
 /// What may stand in the place of a line, for the help, behind the lines.
 const TASKS: &str = "
@@ -52,9 +56,14 @@ In the place of WORD..:
   mirror NS K              follows K posts of a namespace, and shows the table that they lead to
   tree [NS] [--ascii]      draws the mounts of a namespace, or of all, each below its parent
   dot                      draws all mounts and peer groups as a graph for Graphviz
+  what-if FILE.. -- LINE..
+                           makes the namespaces of an import in a new server, and tells what a line changes there;
+                           further lines may stand in front of it, each behind --
 
 In the place of SOCKET WORD..:
-  import                   reads the lines of a mountinfo, and prints a script that makes its namespace";
+  import                   reads the lines of a mountinfo, and prints a script that makes its namespace
+  import FILE..            reads those of several processes, and prints a script that makes all their namespaces
+  import --pid PID..       reads those of these processes";
 
 /// The lines of a session, and what may stand in their place.
 fn usage(alloc: Global) -> Result<String, AllocError> {
@@ -157,6 +166,7 @@ fn run_task(
             tell(alloc, &mut lines, &mut writer, scope, &mut out)?;
             false
         }
+        Task::WhatIf => false,
     };
     Ok(told)
 }
@@ -164,21 +174,13 @@ fn run_task(
 /// Connects to a socket and does what the words ask for.
 fn run_words(rt: &HostRuntime, socket: &str, words: &[&str], manner: Manner) -> ExitCode {
     let task = match task_of(words) {
+        Ok(Task::WhatIf) => return run_what_if(rt, socket, words),
         Ok(task) => task,
         Err(fault) => return PROGRAM.refuse(rt, fault.message()),
     };
-    let stream = match connect(rt, socket) {
-        Ok(stream) => stream,
-        Err(error) => {
-            let fault = SocketFault::new(socket, &error, &fs::metadata(rt, socket));
-            return PROGRAM.fail_at(rt, CONNECTION_FAULT, socket, fault);
-        }
-    };
-    match run_task(rt, &stream, task, words, manner) {
-        Ok(true) => ExitCode::SUCCESS,
-        Ok(false) => ExitCode::from(1),
-        Err(Fault::Connection) => PROGRAM.fail_at(rt, CONNECTION_FAULT, socket, "no whole answer"),
-        Err(fault) => PROGRAM.fail(rt, fault.message()),
+    match connected(rt, socket) {
+        Ok(stream) => status_of(rt, socket, run_task(rt, &stream, task, words, manner)),
+        Err(status) => status,
     }
 }
 
@@ -230,7 +232,7 @@ fn run(rt: &HostRuntime) -> io::Result<ExitCode> {
     let code = match words.as_slice() {
         [_, "import"] => run_import(rt),
         [_, "import", "-h" | "--help"] => run_or_explain(rt, &[NAME, "--help"]),
-        [_, "import", ..] => PROGRAM.refuse(rt, WordFault::Import.message()),
+        [_, "import", words @ ..] => import_files(rt, words),
         words => run_or_explain(rt, words),
     };
     Ok(code)

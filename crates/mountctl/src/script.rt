@@ -94,6 +94,7 @@ pub(crate) fn run_script<E: Eprint, I: Input + Drop, R: Input + Drop, W: Output,
     out: &mut O,
 ) -> Result<bool, Fault>
     requires fresh { fault_of lines.old ≡ None }
+    ensures fresh { OnOk result (fault_of lines.new ≡ None) }
 {
     let mut all = true;
     'lines: for before in 0..MOST_LINES {

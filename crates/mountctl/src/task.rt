@@ -4,6 +4,9 @@ use mt_draw::drawing::Drawing;
 use mt_events::opening::Scope;
 use mt_words::words::number;
 
+/// The first words of lines that are about their session.
+const SESSION_WORDS: [&str; 6] = ["watch", "take", "follow", "close", "quit", "stop"];
+
 /// What the words behind the socket ask for.
 #[derive(Clone, Copy)]
 pub(crate) enum Task {
@@ -17,6 +20,8 @@ pub(crate) enum Task {
     Draw { scope: Scope, drawing: Drawing },
     /// Each change of these namespaces as it comes, in words.
     Tell { scope: Scope },
+    /// What lines change in the namespaces of tables.
+    WhatIf,
 }
 
 /// Words that begin as those of a task which is no request, and go on in another way.
@@ -32,6 +37,10 @@ pub(crate) enum WordFault {
     Graph,
     /// Behind `import`, which stands in the place of a socket.
     Import,
+    /// Behind `what-if`.
+    WhatIf,
+    /// More tables than a server has namespaces.
+    TooMany,
 }
 
 impl WordFault {
@@ -42,7 +51,9 @@ impl WordFault {
             WordFault::Mirror => "mirror takes a namespace and a count",
             WordFault::Tree => "tree takes a namespace, or none, and --ascii",
             WordFault::Graph => "dot takes no words",
-            WordFault::Import => "import takes no words, and reads a mountinfo from standard input",
+            WordFault::Import => "import takes files, or --pid and processes, or no words",
+            WordFault::WhatIf => "what-if takes files, and lines behind --",
+            WordFault::TooMany => "more than 64 tables",
         }
     }
 }
@@ -89,6 +100,45 @@ fn tree_of(words: &[&str]) -> Option<Task> {
     Some(Task::Draw { scope, drawing })
 }
 
+/// The words in front of the first `--` and those behind it.
+pub(crate) fn parted<'a, 'w>(words: &'w [&'a str]) -> Option<(&'w [&'a str], &'w [&'a str])> {
+    let place = words.iter().position(|word| *word == "--")?;
+    let (files, behind) = words.split_at(place);
+    let (_, line) = behind.split_first()?;
+    Some((files, line))
+}
+
+/// Whether a line changes or asks: others belong to the session over which it is sent.
+fn is_asked(line: &[&str]) -> bool {
+    match line.first() {
+        Some(word) => !SESSION_WORDS.contains(word),
+        None => false,
+    }
+}
+
+/// Whether these are lines that change or ask, with `--` between them.
+fn are_asked(words: &[&str]) -> bool {
+    let mut rest = words;
+    for _line in 0..words.len() {
+        let Some((line, later)) = parted(rest) else {
+            break;
+        };
+        if !is_asked(line) {
+            return false;
+        }
+        rest = later;
+    }
+    is_asked(rest)
+}
+
+/// Whether these words are files, and lines that change or ask, each behind `--`.
+fn is_what_if(words: &[&str]) -> bool {
+    match parted(words) {
+        Some((_, lines)) => are_asked(lines),
+        None => false,
+    }
+}
+
 /// The task of these words: the client's own where the first is one of its own, which no line begins with, and else the
 /// line that they are.
 pub(crate) fn task_of(words: &[&str]) -> Result<Task, WordFault> {
@@ -102,6 +152,8 @@ pub(crate) fn task_of(words: &[&str]) -> Result<Task, WordFault> {
             drawing: Drawing::Graph,
         }),
         ["dot", ..] => Err(WordFault::Graph),
+        ["what-if", behind @ ..] if is_what_if(behind) => Ok(Task::WhatIf),
+        ["what-if", ..] => Err(WordFault::WhatIf),
         _ => Ok(Task::Ask),
     }
 }

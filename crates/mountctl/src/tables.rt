@@ -1,0 +1,171 @@
+//! The tables of several processes, from files, and the script that makes all of them.
+
+use crate::PROGRAM;
+use crate::fault::Fault;
+use crate::import::{ImportFault, ROW_LIMIT, read_rows};
+use crate::sources::{SourceFault, files_of};
+use crate::task::WordFault;
+use crate::told::NAME;
+use mt_import::fault::Fault as Refusal;
+use mt_import::import::script_of;
+use mt_import::script::Script;
+use mt_import::told::HostMount;
+use mt_lines::line::LineReader;
+use mt_lines::stream::{Reading, Writing, send};
+use std::alloc::{AllocError, AllocFailed, Global};
+use std::fmt::{Display, Formatter};
+use std::fs::File;
+use std::io::ErrorKind;
+use std::process::ExitCode;
+use std::{fmt, io};
+
+/// Why the table of a file was not read.
+#[derive(Clone, Copy)]
+pub(crate) enum TableFault {
+    /// The file cannot be opened.
+    Open(ErrorKind),
+    /// It cannot be read.
+    Read,
+    /// The line of this number is none of a mountinfo.
+    Row(u64),
+    /// There is no memory for it.
+    NoMemory,
+}
+
+impl Display for TableFault {
+    fn fmt<W: fmt::Write>(&self, f: &mut Formatter<W>) -> fmt::Result {
+        match self {
+            TableFault::Open(ErrorKind::NotFound) => f.write_str("no such file or directory"),
+            TableFault::Open(kind) => kind.fmt(f),
+            TableFault::Read => f.write_str(Fault::Input.message()),
+            TableFault::Row(number) => write!(f, "line {number} is no row of a mountinfo"),
+            TableFault::NoMemory => f.write_str(Fault::NoMemory.message()),
+        }
+    }
+}
+
+impl From<ImportFault> for TableFault {
+    fn from(fault: ImportFault) -> TableFault {
+        match fault {
+            ImportFault::Row(number) => TableFault::Row(number),
+            ImportFault::Run(Fault::NoMemory) => TableFault::NoMemory,
+            ImportFault::Run(Fault::Connection | Fault::Input | Fault::Output) => TableFault::Read,
+        }
+    }
+}
+
+impl From<io::Error> for TableFault {
+    fn from(error: io::Error) -> TableFault {
+        match error.kind() {
+            ErrorKind::OutOfMemory => TableFault::NoMemory,
+            kind => TableFault::Open(kind),
+        }
+    }
+}
+
+impl From<AllocError> for TableFault {
+    fn from(_error: AllocError) -> TableFault {
+        TableFault::NoMemory
+    }
+}
+
+impl<T: Drop> From<AllocFailed<T>> for TableFault {
+    fn from(_error: AllocFailed<T>) -> TableFault {
+        TableFault::NoMemory
+    }
+}
+
+/// The rows that a file tells.
+fn read_table(rt: &HostRuntime, path: &str) -> Result<Vec<HostMount>, TableFault> {
+    let alloc = rt.alloc();
+    let file = File::open(rt, path)?;
+    let mut lines = LineReader::new(alloc, Reading::new(file), ROW_LIMIT)?;
+    let rows = read_rows(alloc, &mut lines)?;
+    Ok(rows)
+}
+
+/// Appends the rows that a file tells.
+fn push_table(
+    rt: &HostRuntime,
+    tables: &mut Vec<Vec<HostMount>>,
+    path: &str,
+) -> Result<(), TableFault> {
+    let table = read_table(rt, path)?;
+    tables.push(table)?;
+    Ok(())
+}
+
+/// Says why the table of a file was not read, and answers the status.
+fn tell_unread(rt: &HostRuntime, path: &str, fault: TableFault) -> ExitCode {
+    if matches!(fault, TableFault::NoMemory) {
+        return PROGRAM.fail(rt, Fault::NoMemory.message());
+    }
+    let _ = eprintln!(rt; "{NAME}: {path}: {fault}");
+    ExitCode::from(1)
+}
+
+/// The rows that each of these files tells, in their order. Says which file's are not read, and why, and answers the
+/// status.
+fn read_tables(rt: &HostRuntime, files: &[String]) -> Result<Vec<Vec<HostMount>>, ExitCode> {
+    let mut tables = Vec::new(rt.alloc());
+    for file in files {
+        if let Err(fault) = push_table(rt, &mut tables, file.as_str()) {
+            return Err(tell_unread(rt, file.as_str(), fault));
+        }
+    }
+    Ok(tables)
+}
+
+/// The script that makes the namespaces of these tables. Refused as `NoMemory` alone.
+fn script_of_tables(alloc: Global, tables: &[Vec<HostMount>]) -> Result<Script, Refusal> {
+    let Some(table) = tables.first() else {
+        return Ok(Script::new(alloc));
+    };
+    let mut script = script_of(alloc, table.as_slice())?;
+    let _is = script.push(b"# table 1 is namespace 1")?;
+    Ok(script)
+}
+
+/// The script that makes the namespaces of the tables of these files, or the status, where it is said why there is none.
+pub(crate) fn script_of_files(rt: &HostRuntime, files: &[String]) -> Result<Script, ExitCode> {
+    let tables = read_tables(rt, files)?;
+    match script_of_tables(rt.alloc(), tables.as_slice()) {
+        Ok(script) => Ok(script),
+        Err(_) => Err(PROGRAM.fail(rt, Fault::NoMemory.message())),
+    }
+}
+
+/// Prints a script.
+fn print_script(rt: &HostRuntime, script: &Script) -> ExitCode {
+    let mut out = Writing::new(io::writer(rt));
+    match send(&mut out, script.text()) {
+        Ok(()) => ExitCode::SUCCESS,
+        Err(_) => PROGRAM.fail(rt, Fault::Output.message()),
+    }
+}
+
+/// The files that words name, or the status, where it is said why there are none: they are no words of this kind.
+pub(crate) fn named_files(
+    rt: &HostRuntime,
+    words: &[&str],
+    kind: WordFault,
+) -> Result<Vec<String>, ExitCode> {
+    match files_of(rt.alloc(), words) {
+        Ok(files) => Ok(files),
+        Err(SourceFault::NoMemory) => Err(PROGRAM.fail(rt, Fault::NoMemory.message())),
+        Err(SourceFault::TooMany) => Err(PROGRAM.refuse(rt, WordFault::TooMany.message())),
+        Err(SourceFault::Words) => Err(PROGRAM.refuse(rt, kind.message())),
+    }
+}
+
+/// Prints the script that makes the namespaces of the tables of the files that words name, or says why not.
+pub(crate) fn import_files(rt: &HostRuntime, words: &[&str]) -> ExitCode {
+    let files = match named_files(rt, words, WordFault::Import) {
+        Ok(files) => files,
+        Err(status) => return status,
+    };
+    match script_of_files(rt, files.as_slice()) {
+        Ok(script) => print_script(rt, &script),
+        Err(status) => status,
+    }
+}

@@ -1,0 +1,248 @@
+//! `what-if`: what a line changes in the namespaces of tables, which a new server makes for it.
+ghost use Rattle.std.specs.Prelude.{◌≡◌, None, OnOk};
+ghost use Rattle.mt_lines.specs.Reading.{fault_of};
+
+use crate::connection::{connected, status_of};
+use crate::fault::Fault;
+use crate::quiet::Quiet;
+use crate::script::{SCRIPT_LIMIT, run_script};
+use crate::tables::{named_files, script_of_files};
+use crate::task::{WordFault, parted};
+use crate::told::{NAME, tell_left_out, tell_refused};
+use crate::{LINE_LIMIT, PROGRAM};
+use mt_client::ask::ask_line;
+use mt_client::effects::{SpaceName, tell_effects};
+use mt_client::request::request_line;
+use mt_import::script::Script;
+use mt_lines::line::LineReader;
+use mt_lines::stream::{Input, Output, Reading, Writing};
+use mt_words::words::{Pieces, number, words};
+use std::alloc::{AllocError, Global};
+use std::io;
+use std::io::Eprint;
+use std::os::unix::net::UnixStream;
+use std::process::ExitCode;
+
+/// The most lines of a question.
+const MOST_LINES: u64 = u64::MAX;
+
+/// What comes of a question.
+#[derive(Clone, Copy)]
+pub(crate) enum Effects {
+    /// The answer to the line was printed: whether it is `ok`.
+    Told(bool),
+    /// The server has namespaces already.
+    NotNew,
+}
+
+/// Which table a comment of a script says is which namespace, by their numbers.
+fn numbers_in(comment: &[u8]) -> Option<(u64, u64)> {
+    let mut words = words(comment.strip_prefix(b"# table ")?);
+    let (Some(table), Some(is), Some(namespace), Some(space), None) = (
+        words.next(),
+        words.next(),
+        words.next(),
+        words.next(),
+        words.next(),
+    ) else {
+        return None;
+    };
+    if is != b"is".as_slice() || namespace != b"namespace".as_slice() {
+        return None;
+    }
+    Some((number(table)?, number(space)?))
+}
+
+/// The file of the table of a number.
+fn file_of(files: &[String], table: u64) -> Option<&String> {
+    let mut count = 0u64;
+    for file in files {
+        count += 1;
+        if count == table {
+            return Some(file);
+        }
+    }
+    None
+}
+
+/// The name of the namespace that a comment tells of: the file of its table.
+fn name_in<'a>(files: &'a [String], comment: &[u8]) -> Option<SpaceName<'a>> {
+    let (table, space) = numbers_in(comment)?;
+    let file = file_of(files, table)?;
+    Some(SpaceName {
+        space,
+        name: file.as_str().as_bytes(),
+    })
+}
+
+/// The names of the namespaces of a script of the tables of files. Says which mounts are left out.
+fn names_of<'a, E: Eprint>(
+    rt: &E,
+    alloc: Global,
+    script: &[u8],
+    files: &'a [String],
+) -> Result<Vec<SpaceName<'a>>, Fault> {
+    let mut names = Vec::new(alloc);
+    for line in Pieces::new(b'\n', script) {
+        tell_left_out(rt, line);
+        if let Some(name) = name_in(files, line) {
+            names.push(name)?;
+        }
+    }
+    Ok(names)
+}
+
+/// Whether a server has no namespace yet.
+fn is_new<R: Input + Drop, W: Output>(
+    alloc: Global,
+    lines: &mut LineReader<R>,
+    writer: &mut W,
+) -> Result<bool, Fault>
+    requires fresh { fault_of lines.old ≡ None }
+    ensures fresh { OnOk result (fault_of lines.new ≡ None) }
+{
+    let there = ask_line(alloc, lines, writer, b"show 1", &mut Quiet)?;
+    Ok(!there && lines.line() == b"no NoNamespace".as_slice())
+}
+
+/// The line of these words, each with its escapes. Fails for want of memory alone.
+fn line_of(alloc: Global, words: &[&str]) -> Result<Vec<u8>, AllocError> {
+    let mut line = Vec::new(alloc);
+    for word in words {
+        line.push(word.as_bytes())?;
+    }
+    request_line(alloc, line.as_slice())
+}
+
+/// Sends a line that comes before the last one: whether it is accepted. A refusal is told, with the line and its number.
+fn prepare<E: Eprint, R: Input + Drop, W: Output>(
+    rt: &E,
+    alloc: Global,
+    number: u64,
+    words: &[&str],
+    lines: &mut LineReader<R>,
+    writer: &mut W,
+) -> Result<bool, Fault>
+    requires fresh { fault_of lines.old ≡ None }
+    ensures fresh { OnOk result (fault_of lines.new ≡ None) }
+{
+    let line = line_of(alloc, words)?;
+    if ask_line(alloc, lines, writer, line.as_slice(), &mut Quiet)? {
+        return Ok(true);
+    }
+    tell_refused(rt, number, line.as_slice(), lines.line());
+    Ok(false)
+}
+
+/// Sends all lines but the last one, which it answers, or None where one is refused. Words have `--` between lines.
+fn prepare_all<'a, 'w, E: Eprint, R: Input + Drop, W: Output>(
+    rt: &E,
+    alloc: Global,
+    words: &'w [&'a str],
+    lines: &mut LineReader<R>,
+    writer: &mut W,
+) -> Result<Option<&'w [&'a str]>, Fault>
+    requires fresh { fault_of lines.old ≡ None }
+    ensures fresh { OnOk result (fault_of lines.new ≡ None) }
+{
+    let mut rest = words;
+    'lines: for before in 0..MOST_LINES {
+        let Some((line, later)) = parted(rest) else {
+            return Ok(Some(rest));
+        };
+        if !prepare(rt, alloc, before + 1, line, lines, writer)? {
+            return Ok(None);
+        }
+        rest = later;
+    }
+    Ok(None)
+}
+
+/// Sends the script of the tables of files to a new server, and then lines, of which the last one's answer and changes are
+/// told. Words have `--` between lines.
+pub(crate) fn tell_what_if<E: Eprint, R: Input + Drop, W: Output, O: Output>(
+    rt: &E,
+    alloc: Global,
+    script: &[u8],
+    files: &[String],
+    words: &[&str],
+    lines: &mut LineReader<R>,
+    writer: &mut W,
+    out: &mut O,
+) -> Result<Effects, Fault>
+    requires fresh { fault_of lines.old ≡ None }
+{
+    if !is_new(alloc, lines, writer)? {
+        return Ok(Effects::NotNew);
+    }
+    let names = names_of(rt, alloc, script, files)?;
+    let mut input = LineReader::new(alloc, Reading::new(script), SCRIPT_LIMIT)?;
+    if !run_script(rt, alloc, true, &mut input, lines, writer, &mut Quiet)? {
+        return Ok(Effects::Told(false));
+    }
+    let Some(words) = prepare_all(rt, alloc, words, lines, writer)? else {
+        return Ok(Effects::Told(false));
+    };
+    let line = line_of(alloc, words)?;
+    let told = tell_effects(alloc, lines, writer, line.as_slice(), names.as_slice(), out)?;
+    Ok(Effects::Told(told))
+}
+
+/// Asks a new server over a connection what lines change in the namespaces of a script.
+fn ask_what_if(
+    rt: &HostRuntime,
+    stream: &UnixStream,
+    script: &Script,
+    files: &[String],
+    words: &[&str],
+) -> Result<Effects, Fault> {
+    let alloc = rt.alloc();
+    let mut out = Writing::new(io::writer(rt));
+    let mut lines = LineReader::new(alloc, Reading::new(stream), LINE_LIMIT)?;
+    let mut writer = Writing::new(stream);
+    tell_what_if(
+        rt,
+        alloc,
+        script.text(),
+        files,
+        words,
+        &mut lines,
+        &mut writer,
+        &mut out,
+    )
+}
+
+/// Reads the tables of files, has a new server make their namespaces, sends it lines, and tells what the last one changes,
+/// or says why not: what the words behind `what-if` ask for.
+fn answer_what_if(
+    rt: &HostRuntime,
+    socket: &str,
+    named: &[&str],
+    lines: &[&str],
+) -> Result<ExitCode, ExitCode> {
+    let files = named_files(rt, named, WordFault::WhatIf)?;
+    let script = script_of_files(rt, files.as_slice())?;
+    let stream = connected(rt, socket)?;
+    match ask_what_if(rt, &stream, &script, files.as_slice(), lines) {
+        Ok(Effects::Told(told)) => Ok(status_of(rt, socket, Ok(told))),
+        Ok(Effects::NotNew) => {
+            let _ = eprintln!(rt; "{NAME}: {socket}: not a new server");
+            Ok(ExitCode::from(1))
+        }
+        Err(fault) => Ok(status_of(rt, socket, Err(fault))),
+    }
+}
+
+/// Does what words ask for of which the first is `what-if`.
+pub(crate) fn run_what_if(rt: &HostRuntime, socket: &str, words: &[&str]) -> ExitCode {
+    let [_, behind @ ..] = words else {
+        return PROGRAM.refuse(rt, WordFault::WhatIf.message());
+    };
+    let Some((named, lines)) = parted(behind) else {
+        return PROGRAM.refuse(rt, WordFault::WhatIf.message());
+    };
+    match answer_what_if(rt, socket, named, lines) {
+        Ok(status) => status,
+        Err(status) => status,
+    }
+}
