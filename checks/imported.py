@@ -121,9 +121,9 @@ def made_lines(lines, script, table=None):
         left[line[:MOST_TOLD]] -= 1
         if left[line[:MOST_TOLD]] < 0:
             rows.append((row_of(line), line))
-    below, numbers = {}, {row_of(line).id for line in lines}
+    below, numbers, there = {}, {row_of(line).id for line in lines}, {row.id for row, _ in rows}
     for row, line in reversed(rows):
-        is_root = row.parent == row.id or row.parent not in numbers
+        is_root = row.parent == row.id or row.parent not in (there if row.point == b"/" else numbers)
         below.setdefault(None if is_root else row.parent, []).append((row, line))
     made, ids, waiting = [], set(), below.get(None, [])
     while waiting:

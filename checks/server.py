@@ -7,7 +7,7 @@ A plain client speaks with servers that are started here, each in a folder of it
 sockets that cannot be made and stale ones (paths.py), accepts that fail, few descriptors, sessions that are idle, the limit of sessions, a stop (stopping.py), clients that are
 gone or do not read, many connections, allocations that are refused (wanting.py), and then 32 sessions at once for
 N seconds, 20 if not said (soak.py). With MOUNTCTL that program is checked too (clients.py, answering.py, reading.py, pictures.py, telling.py), the cases are
-sent as its scripts, tables are imported (importing.py, crowds.py, worlds.py, hosts.py), and a quarter of the 32 sessions are its mirrors.
+sent as its scripts, tables are imported (importing.py, crowds.py, worlds.py, hosts.py), questions are asked (questions.py), and a quarter of the 32 sessions are its mirrors.
 """
 import argparse
 import contextlib
@@ -37,6 +37,7 @@ from importing import check_import
 from limits import COMMANDS
 from paths import check_made, check_paths, check_stale, check_stopped
 from pictures import check_pictures
+from questions import check_questions
 from reading import check_reading
 from running import check, difference, failures, library, shown
 from serving import START, Broken, Server, send_input, stop_behind, until_it_rests
@@ -344,6 +345,7 @@ def check_server(program, seconds, mountctl, only):
         parts["crowds"] = lambda program: check_crowds(program, mountctl)
         parts["worlds"] = lambda program: check_worlds(program, mountctl)
         parts["hosts"] = lambda program: check_hosts(program, mountctl)
+        parts["questions"] = lambda program: check_questions(program, mountctl)
     for name in [only] if only else parts:
         start = time.monotonic()
         try:

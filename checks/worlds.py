@@ -13,9 +13,11 @@ import time
 
 import crowds
 import mountinfos
+from clients import Asked
 from imported import MOST_TABLES, check_world, files_of, import_tables
 from importing import directories, random_command
 from matching import rows_of
+from memory import Refusing
 from playing import Served
 from running import answer_groups, check, run, session, shown
 from scripts import Author
@@ -172,6 +174,15 @@ def check_files(mountctl):
             check(f"import of {count} files", good, shown(complaint))
 
 
+def check_refused(mountctl):
+    """Each allocation of an import of files is refused in turn."""
+    with tempfile.TemporaryDirectory() as folder, files_of([mountinfos.HOST.splitlines(), [b"1 1 0:1 / / rw - tmpfs none rw"]]) as names:
+        refusing, asked = Refusing(folder), Asked(mountctl, ["import", *names])
+        count = refusing.count(asked)
+        refusing.each(asked, "an import of files", count)
+    print(f"{count} allocations of an import of files refused in turn", flush=True)
+
+
 def copies(rows, count, field):
     """A table of these rows, and so many copies of it that get from its groups by this field."""
     lines = list(rows)
@@ -213,6 +224,7 @@ def check_large(program, mountctl):
 
 def check_worlds(program, mountctl):
     check_files(mountctl)
+    check_refused(mountctl)
     check_same(program, mountctl)
     check_random(program, mountctl)
     check_large(program, mountctl)
