@@ -14,6 +14,9 @@ from worlds import worlds
 # How many worlds are asked about, and how many lines of each.
 WORLDS, LINES = 20, 5
 
+# Refusals of what a line needs, which is made for a mount where it can be.
+PROVIDED = b"no NoFilesystem", b"no NoEntry"
+
 # The filesystems of a random world, by their names in a script.
 DEVICES = [b"0:1", b"0:2", b"0:3"]
 
@@ -57,6 +60,8 @@ def check_told(program, mountctl, name, tables, line):
     lines = [*commands, *(b"show %d" % space for space in range(1, 65)), b"watch all", line, b"close"]
     groups = answer_groups(session(program, lines)[1], lines)
     *_, answer, posts = groups
+    if answer[0] in PROVIDED and line.startswith((b"mount", b"bind", b"rbind", b"move")):
+        return 0
     shows = groups[len(commands) : -3]
     points = {(space, row.split(b" ")[0]): [row.split(b" ")[4]] for space, rows in enumerate(shows, 1) for row in rows[1:]}
     wanted = [*answer, *told_of(posts[1:], names, points)] if answer[0].startswith(b"ok") else answer
@@ -87,6 +92,11 @@ def check_by_hand(program, mountctl):
         told = re.fullmatch(rb"ok (\d+)\n\+ (\d+) /m vfat in namespace 1 \(%b\)\n" % name.encode(), text)
         check("what a mount changes", status == 0 and told is not None and told[1] == told[2], shown(text + complaint))
         check("what is left out", re.fullmatch(left + rb"[^:\n]+\n", complaint) is not None, shown(complaint))
+        for line in ["mount", "1", "usb", "/a/b/c d"], ["bind", "1", "/a", "/n/o"]:
+            status, text, complaint = asked(program, mountctl, names, line)
+            told = re.fullmatch(rb"ok (\d+)\n\+ (\d+) (/\S+) (usb|tmpfs) in namespace 1 \(%b\)\n" % name.encode(), text)
+            good = status == 0 and told is not None and told[3] == line[3].replace(" ", "\\040").encode()
+            check(f"{' '.join(line)}, of which the directories are made", good, shown(text + complaint))
         status, text, complaint = asked(program, mountctl, names, ["show", "2"])
         check("a question that is refused", (status, text) == (1, b"no NoNamespace\n"), shown(text))
         status, text, complaint = asked(program, mountctl, names, ["mkdir", "0:9", "/m"], *mounted)

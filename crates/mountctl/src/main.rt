@@ -7,6 +7,8 @@ ghost use Rattle.mt_lines.specs.Reading.{fault_of};
 mod connection;
 mod fault;
 mod import;
+mod kept;
+mod provide;
 mod quiet;
 mod script;
 mod sources;

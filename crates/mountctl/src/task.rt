@@ -108,27 +108,17 @@ pub(crate) fn parted<'a, 'w>(words: &'w [&'a str]) -> Option<(&'w [&'a str], &'w
     Some((files, line))
 }
 
-/// Whether a line changes or asks: others belong to the session over which it is sent.
-fn is_asked(line: &[&str]) -> bool {
-    match line.first() {
-        Some(word) => !SESSION_WORDS.contains(word),
-        None => false,
-    }
-}
-
-/// Whether these are lines that change or ask, with `--` between them.
+/// Whether these are lines that change or ask, with `--` between them: others belong to the session over which they are
+/// sent.
 fn are_asked(words: &[&str]) -> bool {
-    let mut rest = words;
-    for _line in 0..words.len() {
-        let Some((line, later)) = parted(rest) else {
-            break;
-        };
-        if !is_asked(line) {
+    let mut begins = true;
+    for word in words {
+        if begins && (*word == "--" || SESSION_WORDS.contains(word)) {
             return false;
         }
-        rest = later;
+        begins = *word == "--";
     }
-    is_asked(rest)
+    !begins
 }
 
 /// Whether these words are files, and lines that change or ask, each behind `--`.

@@ -8,7 +8,7 @@ use std::io::Eprint;
 pub(crate) const NAME: &str = "mountctl";
 
 /// What stands between a mount and the reason for which it is left out.
-const LEFT_OUT: &[u8] = b" is left out: ";
+const LEFT_OUT: &str = " is left out: ";
 
 /// Bytes as a message shows them: as they are where they are printable ASCII, and else as `\x` and two hexadecimal digits,
 /// so that no terminal obeys them.
@@ -39,28 +39,28 @@ pub(crate) fn tell_refused<E: Eprint>(rt: &E, number: u64, line: &[u8], refusal:
     }
 }
 
-/// The place at which a piece first stands in a text.
-fn place_of(text: &[u8], piece: &[u8]) -> Option<usize> {
+/// What stands in front of a piece in a text, where it first stands there, and what stands behind it.
+fn parted_at<'a>(text: &'a [u8], piece: &[u8]) -> Option<(&'a [u8], &'a [u8])> {
     for place in 0..text.len() {
-        if text[place..].starts_with(piece) {
-            return Some(place);
+        let (front, rest) = text.split_at(place);
+        if let Some(behind) = rest.strip_prefix(piece) {
+            return Some((front, behind));
         }
     }
     None
 }
 
-/// What a comment of a script says of a mount that is left out, up to the reason. None where it says nothing of one.
-fn left_out_in(comment: &[u8]) -> Option<&[u8]> {
-    let said = comment.strip_prefix(b"# ")?;
-    let begun = place_of(said, LEFT_OUT)? + LEFT_OUT.len();
-    let reason = place_of(&said[begun..], b": ")?;
-    Some(&said[..begun + reason])
+/// The mount that a comment of a script says is left out, and the reason. None where it says nothing of one.
+fn left_out_in(comment: &[u8]) -> Option<(&[u8], &[u8])> {
+    let (mount, said) = parted_at(comment.strip_prefix(b"# ")?, LEFT_OUT.as_bytes())?;
+    let (reason, _) = parted_at(said, b": ")?;
+    Some((mount, reason))
 }
 
 /// Says on standard error what a line of a script says of a mount that is left out, if it does.
 pub(crate) fn tell_left_out<E: Eprint>(rt: &E, line: &[u8]) {
-    if let Some(said) = left_out_in(line) {
-        let said = Shown(said);
-        let _ = eprintln!(rt; "{NAME}: {said}");
+    if let Some((mount, reason)) = left_out_in(line) {
+        let (mount, reason) = (Shown(mount), Shown(reason));
+        let _ = eprintln!(rt; "{NAME}: {mount}{LEFT_OUT}{reason}");
     }
 }

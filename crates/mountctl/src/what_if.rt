@@ -4,6 +4,7 @@ ghost use Rattle.mt_lines.specs.Reading.{fault_of};
 
 use crate::connection::{connected, status_of};
 use crate::fault::Fault;
+use crate::provide::provide;
 use crate::quiet::Quiet;
 use crate::script::{SCRIPT_LIMIT, run_script};
 use crate::tables::{named_files, script_of_files};
@@ -22,9 +23,6 @@ use std::io;
 use std::io::Eprint;
 use std::os::unix::net::UnixStream;
 use std::process::ExitCode;
-
-/// The most lines of a question.
-const MOST_LINES: u64 = u64::MAX;
 
 /// What comes of a question.
 #[derive(Clone, Copy)]
@@ -55,10 +53,10 @@ fn numbers_in(comment: &[u8]) -> Option<(u64, u64)> {
 
 /// The file of the table of a number.
 fn file_of(files: &[String], table: u64) -> Option<&String> {
-    let mut count = 0u64;
+    let mut left = table;
     for file in files {
-        count += 1;
-        if count == table {
+        left = left.checked_sub(1)?;
+        if left == 0 {
             return Some(file);
         }
     }
@@ -134,28 +132,32 @@ fn prepare<E: Eprint, R: Input + Drop, W: Output>(
     Ok(false)
 }
 
-/// Sends all lines but the last one, which it answers, or None where one is refused. Words have `--` between lines.
-fn prepare_all<'a, 'w, E: Eprint, R: Input + Drop, W: Output>(
+/// Sends all lines but the last one, of which the words are answered, or None where one is refused. Words have `--` between
+/// lines.
+fn prepare_all<'a, E: Eprint, R: Input + Drop, W: Output>(
     rt: &E,
     alloc: Global,
-    words: &'w [&'a str],
+    words: &[&'a str],
     lines: &mut LineReader<R>,
     writer: &mut W,
-) -> Result<Option<&'w [&'a str]>, Fault>
+) -> Result<Option<Vec<&'a str>>, Fault>
     requires fresh { fault_of lines.old ≡ None }
     ensures fresh { OnOk result (fault_of lines.new ≡ None) }
 {
-    let mut rest = words;
-    'lines: for before in 0..MOST_LINES {
-        let Some((line, later)) = parted(rest) else {
-            return Ok(Some(rest));
-        };
-        if !prepare(rt, alloc, before + 1, line, lines, writer)? {
+    let mut line = Vec::new(alloc);
+    let mut number = 1u64;
+    'words: for word in words {
+        if *word != "--" {
+            line.push(*word)?;
+            continue;
+        }
+        if !prepare(rt, alloc, number, line.as_slice(), lines, writer)? {
             return Ok(None);
         }
-        rest = later;
+        line = Vec::new(alloc);
+        number = number.saturating_add(1);
     }
-    Ok(None)
+    Ok(Some(line))
 }
 
 /// Sends the script of the tables of files to a new server, and then lines, of which the last one's answer and changes are
@@ -183,7 +185,8 @@ pub(crate) fn tell_what_if<E: Eprint, R: Input + Drop, W: Output, O: Output>(
     let Some(words) = prepare_all(rt, alloc, words, lines, writer)? else {
         return Ok(Effects::Told(false));
     };
-    let line = line_of(alloc, words)?;
+    provide(alloc, script, words.as_slice(), lines, writer)?;
+    let line = line_of(alloc, words.as_slice())?;
     let told = tell_effects(alloc, lines, writer, line.as_slice(), names.as_slice(), out)?;
     Ok(Effects::Told(told))
 }
