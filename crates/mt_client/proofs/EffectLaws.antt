@@ -1,5 +1,5 @@
 -- Posts that were told with names, one after another.
-use Rattle.std.proofs.Common.{◌≡◌, ℕ, ◌+◌, true, List, [], ◌∷◌, ◌++◌, length, refl, sym, ap, subst, ◌∙◌, arith, append_assoc, length-append}
+use Rattle.std.proofs.Common.{◌≡◌, ℕ, ◌+◌, true, List, [], ◌∷◌, ◌++◌, length, refl, sym, ap, subst, ◌∙◌, arith, append_assoc, length-append, codes}
 use Rattle.std.proofs.lemmas.List.{append-nil}
 use Rattle.std.proofs.lemmas.Grind.{flat_map-append}
 use Rattle.std.specs.List.{flat_map, AllByRecursion}
@@ -9,9 +9,11 @@ use Rattle.mt_events.specs.Mirrors.{MirrorView, is_next}
 use Rattle.mt_events.specs.declared.opening.Scope.TheVariants.{All}
 use Rattle.mt_told.specs.Told.{named_text}
 use Rattle.mt_client.specs.declared.effects.SpaceName.{SpaceName}
-use Rattle.mt_client.specs.Reading.{texts, printed}
+use Rattle.mt_client.specs.Reading.{texts, printed, IsSentPart}
+use Rattle.mt_client.specs.Finding.{watch_text}
 use Rattle.mt_client.specs.Telling.{mirror_in, mirrors_with, mirrors_by, is_due, are_due}
-use Rattle.mt_client.specs.Effects.{name_in, posts_named, AreNamed, HasNamed}
+use Rattle.mt_client.specs.Effects.{name_in, posts_named, effects_text, AreNamed, HasNamed}
+use Rattle.mt_client.proofs.RequestLaws.{part_first, part_second, part_one}
 use Rattle.mt_client.proofs.RelayLaws.{printed-append}
 use Rattle.mt_client.proofs.MirrorLaws.{runs_read}
 use Rattle.mt_client.proofs.TellingLaws.{all_both, due_both, by_both}
@@ -74,3 +76,22 @@ pub more_named : (count left more rest : ℕ) (names : List SpaceName) (old mid 
     → ((k : ℕ) × (k + left ≡ count) × HasNamed k names old mid before middle begun between) → HasNamed more names mid new middle after between done → (k : ℕ) × (k + rest ≡ count) × HasNamed k names old new before after begun done
 more_named count left more rest names old mid new before middle after begun between done less h i =
     (h.0 + more, omega (arith, less, h.1), both_named h.0 more names old mid new before middle after begun between done h.2 i)
+
+-- how much of the requests went out
+abbrev effects_behind : List ℕ → List ℕ
+effects_behind line = ended line ++ ended (codes "close")
+
+pub effects_first : (line old new : List ℕ) → IsSentPart (ended (watch_text All)) old new → IsSentPart (effects_text line) old new
+effects_first line old new p = part_first (ended (watch_text All)) (effects_behind line) old new p
+
+pub effects_watched : (line old new : List ℕ) → new ≡ old ++ ended (watch_text All) → IsSentPart (effects_text line) old new
+effects_watched line old new e = part_one (ended (watch_text All)) (effects_behind line) old new e
+
+pub effects_second : (line old mid new : List ℕ) → mid ≡ old ++ ended (watch_text All) → IsSentPart (ended line) mid new → IsSentPart (effects_text line) old new
+effects_second line old mid new e p = part_second (ended (watch_text All)) (effects_behind line) old mid new e (part_first (ended line) (ended (codes "close")) mid new p)
+
+pub effects_asked : (line old mid new : List ℕ) → mid ≡ old ++ ended (watch_text All) → new ≡ mid ++ ended line → IsSentPart (effects_text line) old new
+effects_asked line old mid new e f = part_second (ended (watch_text All)) (effects_behind line) old mid new e (part_one (ended line) (ended (codes "close")) mid new f)
+
+pub effects_third : (line old mid late new : List ℕ) → mid ≡ old ++ ended (watch_text All) → late ≡ mid ++ ended line → IsSentPart (ended (codes "close")) late new → IsSentPart (effects_text line) old new
+effects_third line old mid late new e f p = part_second (ended (watch_text All)) (effects_behind line) old mid new e (part_second (ended line) (ended (codes "close")) mid late new f p)

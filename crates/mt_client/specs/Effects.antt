@@ -1,6 +1,6 @@
 -- What a line changes, told in words with the names of namespaces: its answer, and the posts that the watcher had when it was closed.
 -- A word with no source is this project's rule.
-use Rattle.std.specs.Prelude.{◌≡◌, ℕ, ◌+◌, ◌==◌, cond, true, List, [], ◌∷◌, ◌++◌, length, Some, codes}
+use Rattle.std.specs.Prelude.{◌≡◌, ℕ, ◌+◌, ◌==◌, cond, true, false, List, [], ◌∷◌, ◌++◌, length, Some, codes, ◌⊎◌}
 use Rattle.std.specs.List.{flat_map, AllByRecursion}
 use Rattle.mt_lines.specs.Lines.{Item, Text}
 use Rattle.mt_events.specs.Posts.{PostView, IsPost, post_text, ended}
@@ -12,6 +12,7 @@ use Rattle.mt_client.specs.declared.effects.SpaceName.{SpaceName}
 use Rattle.mt_client.specs.Requests.{form_of, lines_behind}
 use Rattle.mt_client.specs.Reading.{texts, printed, HasPassed}
 use Rattle.mt_client.specs.Replies.{IsAnswer}
+use Rattle.mt_client.specs.Mirroring.{HasRefused}
 use Rattle.mt_client.specs.Finding.{watch_text, HasFound}
 use Rattle.mt_client.specs.Telling.{mirror_in, mirrors_with, mirrors_by, are_due}
 
@@ -63,3 +64,20 @@ pub record HasEffects (line : List ℕ) (names : List SpaceName) (before after :
   pub watched : HasFound All before opened found
   pub answer : HasPassed (λ lines. IsAnswer (form_of line) lines true) opened answered begun between
   pub changes : HasNamedAll names found answered after between done
+
+-- a refusal was read, and printed
+abbrev pub IsRefusedOut : List Item → List Item → List ℕ → List ℕ → Type 0
+IsRefusedOut before after old new = (refusal : List ℕ) × HasRefused refusal before after × (new ≡ old ++ ended refusal)
+
+-- a refusal stood in the place of the answer to a line, or it is the answer, or in the place of what had changed since, and was printed
+abbrev pub IsRefusedLine : List ℕ → List Item → List Item → List ℕ → List ℕ → Type 0
+IsRefusedLine line opened after begun done =
+    IsRefusedOut opened after begun done
+    ⊎ HasPassed (λ lines. IsAnswer (form_of line) lines false) opened after begun done
+    ⊎ ((answered : List Item) × (between : List ℕ) × HasPassed (λ lines. IsAnswer (form_of line) lines true) opened answered begun between × IsRefusedOut answered after between done)
+
+-- the same, or one stood in the place of what a watcher of all namespaces finds
+abbrev pub IsRefusedEffect : List ℕ → List Item → List Item → List ℕ → List ℕ → Type 0
+IsRefusedEffect line before after begun done =
+    IsRefusedOut before after begun done
+    ⊎ ((found : List MirrorView) × (opened : List Item) × HasFound All before opened found × IsRefusedLine line opened after begun done)

@@ -1,14 +1,14 @@
 //! What a line changes, told in words.
-ghost use Rattle.std.specs.Prelude.{◌≡◌, ◌≢◌, ◌+◌, ◌≤◌, [], ◌++◌, true, None, Ok, Err, IfOk, OnOk, OnErr, IsTrue, codes};
+ghost use Rattle.std.specs.Prelude.{◌≡◌, ◌≢◌, ◌+◌, ◌≤◌, [], ◌++◌, true, false, None, Ok, Err, IfOk, OnOk, OnErr, IsTrue, codes};
 ghost use Rattle.mt_skel.specs.Keyed.{rises};
 ghost use Rattle.mt_lines.specs.Reading.{last_faults, fault_of, limit_of};
 ghost use Rattle.mt_events.specs.Posts.{ended};
 ghost use Rattle.mt_events.specs.Mirrors.{is_next};
 ghost use Rattle.mt_told.specs.Told.{named_text};
-ghost use Rattle.mt_client.specs.Reading.{lines_left, HasBroken};
+ghost use Rattle.mt_client.specs.Reading.{lines_left, HasBroken, IsSentPart};
 ghost use Rattle.mt_client.specs.Finding.{mirror_space};
 ghost use Rattle.mt_client.specs.Telling.{mirror_in, mirrors_with};
-ghost use Rattle.mt_client.specs.Effects.{name_in, effects_text, HasNamed, HasNamedAll, HasEffects};
+ghost use Rattle.mt_client.specs.Effects.{name_in, effects_text, HasNamed, HasNamedAll, HasEffects, IsRefusedOut, IsRefusedEffect};
 
 use crate::answer::{Form, form_of, is_refusal, lines_behind};
 use crate::fault::ClientFault;
@@ -151,6 +151,8 @@ fn tell_closed<R: Input + Drop, O: Output>(
     requires rising { IsTrue (rises mirror_space mirrors.old.items) }
     ensures told { result ≡ Ok true → IsTrue R.tells → IsTrue O.tells
         → HasNamedAll names.now mirrors.old.items (lines_left lines.old) (lines_left lines.new) (O.written out.old) (O.written out.new) }
+    ensures refused { result ≡ Ok false → IsTrue R.tells → IsTrue O.tells
+        → IsRefusedOut (lines_left lines.old) (lines_left lines.new) (O.written out.old) (O.written out.new) }
     ensures fresh { OnOk result (fault_of lines.new ≡ None) }
     ensures cause { result ≡ Err ClientFault.Output → IsTrue O.counts
         → HasBroken (O.failed out.old) (O.failed out.new) (O.faults out.old) (O.faults out.new) }
@@ -185,6 +187,10 @@ fn tell_changes<R: Input + Drop, W: Output, O: Output>(
         → HasNamedAll names.now mirrors.old.items (lines_left lines.old) (lines_left lines.new) (O.written out.old) (O.written out.new) }
     ensures sent { result ≡ Ok true → IsTrue W.tells
         → W.written writer.new ≡ W.written writer.old ++ ended (codes "close") }
+    ensures part { IsTrue W.tells
+        → IsSentPart (ended (codes "close")) (W.written writer.old) (W.written writer.new) }
+    ensures refused { result ≡ Ok false → IsTrue R.tells → IsTrue O.tells
+        → IsRefusedOut (lines_left lines.old) (lines_left lines.new) (O.written out.old) (O.written out.new) }
     ensures fresh { OnOk result (fault_of lines.new ≡ None) }
     ensures cause { result ≡ Err ClientFault.Output → IsTrue O.counts
         → HasBroken (O.failed out.old) (O.failed out.new) (O.faults out.old) (O.faults out.new) }
@@ -224,9 +230,17 @@ pub fn tell_effects<R: Input + Drop, W: Output, O: Output>(
     ensures told { result ≡ Ok true → IsTrue R.tells → IsTrue O.tells
         → HasEffects line.now names.now (lines_left lines.old) (lines_left lines.new) (O.written out.old) (O.written out.new) }
 
-    // The request of the watcher went out, then the line, and then the end of the watcher.
+    // Else a refusal was printed, and nothing behind it: that in the place of what the watcher finds, that of the line or
+    // in the place of its answer, or one in the place of the posts.
+    ensures refused { result ≡ Ok false → IsTrue R.tells → IsTrue O.tells
+        → IsRefusedEffect line.now (lines_left lines.old) (lines_left lines.new) (O.written out.old) (O.written out.new) }
+
+    // The request of the watcher went out, then the line, and then the end of the watcher; or a part of these, and
+    // nothing else.
     ensures sent { result ≡ Ok true → IsTrue W.tells
         → W.written writer.new ≡ W.written writer.old ++ effects_text line.now }
+    ensures part { IsTrue W.tells
+        → IsSentPart (effects_text line.now) (W.written writer.old) (W.written writer.new) }
 
     // `Output` comes only where calls of the output failed. Where no fault of it stood, the last call failed then, or
     // was the last of as many interrupted ones in succession as end a send.
