@@ -1,6 +1,5 @@
 -- Commands, and the words of one, appended one behind the other.
-use Rattle.std.proofs.Common.{◌≡◌, ℕ, Bool, true, false, List, [], ◌++◌, codes, Option, ap, ◌∙◌, append_assoc}
-use Rattle.mt_import.specs.Commands.{kind_text, slave_text, umount_text, unstaging_text, unstage_text}
+use Rattle.std.proofs.Common.{◌≡◌, ℕ, List, [], ◌++◌, Option, ap, ◌∙◌, append_assoc}
 use Rattle.mt_import.specs.Options.{flags, times_of, with_flags, with_times, with_kind, options_text}
 
 -- what six appended is one text
@@ -26,16 +25,6 @@ three_pushed s0 s1 s2 s3 a b c e1 e2 e3 = e3 ∙ ap (λ s. s ++ c) (e2 ∙ ap (�
     three : (old a b c : List ℕ) → ((old ++ a) ++ b) ++ c ≡ old ++ ((a ++ b) ++ c)
     three old a b c = simp append_assoc
 
--- what is staged is unmounted, part by part
-pub unstaged : (empty : Bool) (groups devices : List (List ℕ)) (s0 s1 s2 s3 : List ℕ) → empty ≡ false → s1 ≡ s0 ++ unstaging_text (codes "1") groups
-    → s2 ≡ s1 ++ unstaging_text (codes "1") devices → s3 ≡ s2 ++ umount_text (codes "1") (codes "/.import")
-    → s3 ≡ s0 ++ unstage_text empty groups devices
-unstaged true groups devices s0 s1 s2 s3 is e1 e2 e3 = cc
-unstaged false groups devices s0 s1 s2 s3 is e1 e2 e3 =
-    three_pushed s0 s1 s2 s3 (unstaging_text (codes "1") groups) (unstaging_text (codes "1") devices) (umount_text (codes "1") (codes "/.import")) e1 e2 e3
-
--- a staged mount is made a slave
-pub slave_pushed : (path : List ℕ) (has_master : Bool) (old new : List ℕ) → has_master ≡ true → new ≡ old ++ kind_text (codes "1") path (codes "prop=slave")
-    → new ≡ old ++ slave_text path has_master
-slave_pushed path true old new is e = e
-slave_pushed path false old new is e = cc
+-- what two appended is one text
+pub two_pushed : (s0 s1 s2 a b : List ℕ) → s1 ≡ s0 ++ a → s2 ≡ s1 ++ b → s2 ≡ s0 ++ (a ++ b)
+two_pushed s0 s1 s2 a b e1 e2 = e2 ∙ ap (λ s. s ++ b) e1 ∙ append_assoc s0 a b

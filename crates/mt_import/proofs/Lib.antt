@@ -3,4 +3,6 @@ pub mod RowLaws
 pub mod ScriptLaws
 pub mod WriterLaws
 pub mod CommandLaws
-pub mod OrderLaws
+pub mod GrowthLaws
+pub mod ForwardLaws
+pub mod MakingLaws

@@ -1,13 +1,13 @@
 -- What the lines of a script are.
 -- A word with no source is this project's rule.
-use Rattle.std.specs.Prelude.{◌≡◌, ℕ, Bool, true, false, not, ◌==◌, ◌&&◌, ◌||◌, nat_eq, cond, IsTrue, List, [], ◌∷◌, ◌++◌, Result, Ok, codes, decimal, take}
+use Rattle.std.specs.Prelude.{◌≡◌, ℕ, Bool, true, false, not, ◌==◌, ◌&&◌, ◌||◌, nat_eq, cond, IsTrue, List, [], ◌∷◌, ◌++◌, Option, Some, None, Result, Ok, codes, decimal, take}
 use Rattle.std.specs.List.{list_all, starts_with, ends_with, flat_map, join_with_byte}
 use Rattle.mt_skel.specs.declared.fault.Fault.{Fault}
 use Rattle.mt_requests.specs.declared.request.Request.{Request}
 use Rattle.mt_requests.specs.declared.request.Request.TheVariants as request
 use Rattle.mt_requests.specs.Requests.{request_of}
 use Rattle.mt_import.specs.declared.reason.Reason.{Reason}
-use Rattle.mt_import.specs.declared.reason.Reason.TheVariants.{NoRootMount, NoParent, ParentLeftOut, Ring, NoDirectory, Elsewhere, AtRoot, OutOfReach, ScriptName, TooDeep, NoSuchGroups, TooLow, SamePlace, NoRoom, GoesWithCopies}
+use Rattle.mt_import.specs.declared.reason.Reason.TheVariants.{SameTable, SecondLine, NoRootMount, NoParent, ParentLeftOut, Ring, NoDirectory, Elsewhere, AtRoot, ScriptName, TooDeep, NoSuchGroups, TooLow, SamePlace, NoRoom}
 use Rattle.mt_import.specs.Options.{are_known}
 use Rattle.mt_import.specs.Reading.{ToldMount}
 
@@ -40,41 +40,65 @@ line_or_comment line = line_text line ++ cond (is_script_line line) [] (line_tex
 unfoldable pub command_text : List (List ℕ) → List ℕ
 command_text words = line_or_comment (join_with_byte 32 words)
 
--- a comment on a mount, with its row: the first 8,000 bytes, since a line that is sent is no longer than 8,192
-unfoldable pub comment_text : ToldMount → List ℕ → List ℕ
-comment_text row text = line_text (codes "# mount " ++ (decimal row.id ++ 32 ∷ (text ++ (codes ": " ++ take 8000 row.line))))
+-- a comment on a mount of a table, with its row: the first 8,000 bytes, since a line that is sent is no longer than 8,192
+unfoldable pub comment_text : ℕ → ToldMount → List ℕ → List ℕ
+comment_text table row text =
+    line_text (flat_map (λ x. x) (codes "# table " ∷ decimal table ∷ codes ": mount " ∷ decimal row.id ∷ codes " " ∷ text ∷ codes ": " ∷ take 8000 row.line ∷ []))
 
 -- the comment on a mount that does not have all options of its row here, if it is one
-unfoldable pub options_comment : ToldMount → List ℕ
-options_comment row = cond (are_known row.options) [] (comment_text row (codes "has options that are left out"))
+unfoldable pub options_comment : ℕ → ToldMount → List ℕ
+options_comment table row = cond (are_known row.options) [] (comment_text table row (codes "has options that are left out"))
 
 -- the comment on the first mount of a filesystem that has more super options than `rw`, if it is one (proc_pid_mountinfo(5),
 -- field 11, the last word of a line)
-unfoldable pub super_comment : ToldMount → List ℕ
-super_comment row = cond (ends_with nat_eq row.line (codes " rw")) [] (comment_text row (codes "has super options that are left out"))
+unfoldable pub super_comment : ℕ → ToldMount → List ℕ
+super_comment table row = cond (ends_with nat_eq row.line (codes " rw")) [] (comment_text table row (codes "has super options that are left out"))
 
 -- why a mount is not made
 abbrev pub reason_text : Reason → List ℕ
+reason_text SameTable = codes "its table is told before"
+reason_text SecondLine = codes "a line before it tells its mount"
 reason_text NoRootMount = codes "there is no root mount"
 reason_text NoParent = codes "it stands on no other"
 reason_text ParentLeftOut = codes "what it stands on is left out"
 reason_text Ring = codes "its parents go round in a ring"
 reason_text NoDirectory = codes "its root or mount point is no directory"
 reason_text Elsewhere = codes "it stands elsewhere than below its parent"
-reason_text AtRoot = codes "it stands at the root of the namespace"
-reason_text OutOfReach = codes "no path leads to what it stands on"
-reason_text ScriptName = codes "its mount point has the name that the script uses"
+reason_text AtRoot = codes "it stands on the root of one that has peers at the root of the namespace"
+reason_text ScriptName = codes "its path has the name that the script uses"
 reason_text TooDeep = codes "its directory is too deep"
 reason_text NoSuchGroups = codes "its peer groups cannot be as it tells them"
 reason_text TooLow = codes "too many groups are above its own"
 reason_text SamePlace = codes "another mount stands in its place"
 reason_text NoRoom = codes "the server has no room for it"
-reason_text GoesWithCopies = codes "another mount would go with its copies"
 
 -- the comment that tells why a mount is not made
-unfoldable pub left_out_text : ToldMount → Reason → List ℕ
-left_out_text row why = comment_text row (codes "is left out: " ++ reason_text why)
+unfoldable pub left_out_text : ℕ → ToldMount → Reason → List ℕ
+left_out_text table row why = comment_text table row (codes "is left out: " ++ reason_text why)
 
--- the comments where no row is that of a root mount: all are told
-unfoldable pub rootless_text : List ToldMount → List ℕ
-rootless_text rows = line_text (codes "# no mount is the root of a namespace") ++ flat_map (λ row. left_out_text row NoRootMount) rows
+-- what is told of a row that is left out, for a reason, or of one that is made
+abbrev pub left_row_text : ℕ → ToldMount → Option Reason → List ℕ
+left_row_text table row None = []
+left_row_text table row (Some why) = left_out_text table row why
+
+abbrev pub mount_comment : ℕ → ToldMount → Option Reason → List ℕ
+mount_comment table row None = options_comment table row
+mount_comment table row (Some why) = left_out_text table row why
+
+-- which number a peer group of the tables has here, and which filesystem stands for a device
+unfoldable pub group_comment : List ℕ → ℕ → List ℕ
+group_comment group here = line_text (flat_map (λ x. x) (codes "# shared:" ∷ group ∷ codes " of the tables is shared:" ∷ decimal here ∷ []))
+
+unfoldable pub device_comment : List ℕ → ℕ → List ℕ
+device_comment device here = line_text (flat_map (λ x. x) (codes "# " ∷ device ∷ codes " is filesystem " ∷ decimal here ∷ []))
+
+-- of which table none is made
+unfoldable pub rootless_comment : ℕ → List ℕ
+rootless_comment table = line_text (flat_map (λ x. x) (codes "# table " ∷ decimal table ∷ codes " has no root mount" ∷ []))
+
+-- of which table a namespace is made, and which one keeps masters
+unfoldable pub space_comment : ℕ → List ℕ → List ℕ
+space_comment table space = line_text (flat_map (λ x. x) (codes "# table " ∷ decimal table ∷ codes " is namespace " ∷ space ∷ []))
+
+unfoldable pub keeper_comment : List ℕ → List ℕ
+keeper_comment space = line_text (flat_map (λ x. x) (codes "# namespace " ∷ space ∷ codes " keeps masters of which no table has a mount" ∷ []))

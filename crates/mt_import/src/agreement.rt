@@ -1,13 +1,14 @@
 //! Whether rows tell the same of peer groups.
 
-use crate::groups::Groups;
+use crate::groups::{Groups, MOST_ABOVE};
+use crate::reason::Reason;
 use crate::told::HostMount;
 
 /// Whether a mount can be in peer groups as its row tells: only one in none is unbindable, and only a slave gets from a group
-/// above its master (proc_pid_mountinfo(5), optional fields).
+/// above its master, which is another one (proc_pid_mountinfo(5), optional fields).
 fn is_possible(row: &HostMount) -> bool {
     let is_alone = row.shared.is_none() && row.master.is_none();
-    (is_alone || !row.unbindable) && (row.master.is_some() || row.via.is_none())
+    (is_alone || !row.unbindable) && (row.via.is_none() || row.via != row.master)
 }
 
 /// Whether a group is new, or is of a device.
@@ -26,13 +27,18 @@ fn may_join(groups: &Groups<'_>, row: &HostMount, number: u64) -> bool {
     has_master && !groups.leads_to(row.master, number) && !groups.leads_to(row.via, number)
 }
 
-/// Whether what a row tells of groups can be beside what others before it told.
-pub(crate) fn may_add(groups: &Groups<'_>, row: &HostMount) -> bool {
+/// Whether all groups that a row names are of its device, as far as others told of them.
+fn are_of_device(groups: &Groups<'_>, row: &HostMount) -> bool {
     let device = row.device.as_slice();
-    is_possible(row)
-        && may_be_of(groups, row.shared, device)
+    may_be_of(groups, row.shared, device)
         && may_be_of(groups, row.master, device)
         && may_be_of(groups, row.via, device)
+}
+
+/// Whether what a row tells of groups can be beside what others before it told.
+pub(crate) fn may_add(groups: &Groups<'_>, row: &HostMount) -> bool {
+    is_possible(row)
+        && are_of_device(groups, row)
         && row
             .shared
             .is_none_or(|number| may_join(groups, row, number))
@@ -43,17 +49,35 @@ pub(crate) fn may_add(groups: &Groups<'_>, row: &HostMount) -> bool {
 
 /// Whether a mount is one of the members of a group that others tell.
 fn is_member(groups: &Groups<'_>, row: &HostMount, number: u64) -> bool {
-    groups.get(number).is_some_and(|group| {
-        group.members > 0 && group.device == row.device.as_slice() && group.master == row.master
-    })
+    groups
+        .get(number)
+        .is_some_and(|group| group.members > 0 && group.master == row.master)
 }
 
-/// Whether the groups are as a row tells them.
-pub(crate) fn agrees(groups: &Groups<'_>, row: &HostMount) -> bool {
+/// The group that slaves of a master get from by way of it, in the table of a number: the nearest above it with a member there
+/// (proc_pid_mountinfo(5), `propagate_from`).
+fn via_of(groups: &Groups<'_>, master: Option<u64>, table: usize) -> Option<u64> {
+    let nearest = groups.seen_from(master, table);
+    if nearest == master { None } else { nearest }
+}
+
+/// Whether the groups are as the row of a table tells them.
+fn agrees(groups: &Groups<'_>, row: &HostMount, table: usize) -> bool {
     is_possible(row)
+        && are_of_device(groups, row)
         && row
             .shared
             .is_none_or(|number| is_member(groups, row, number))
-        && may_be_of(groups, row.master, row.device.as_slice())
-        && groups.via_of(row.master) == row.via
+        && via_of(groups, row.master, table) == row.via
+}
+
+/// Why a mount cannot be made by its peer groups, if it cannot.
+pub(crate) fn why_groupless(groups: &Groups<'_>, row: &HostMount, table: usize) -> Option<Reason> {
+    if groups.height(row.shared.or(row.master)) > MOST_ABOVE {
+        return Some(Reason::TooLow);
+    }
+    if !agrees(groups, row, table) {
+        return Some(Reason::NoSuchGroups);
+    }
+    None
 }

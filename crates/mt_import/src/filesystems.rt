@@ -1,89 +1,76 @@
 //! The filesystems that are made, one for each device.
 ghost use Rattle.std.specs.Prelude.{◌≡◌, ◌++◌, IfOk, OnOk, IsOkUnless};
 ghost use Rattle.mt_import.specs.Commands.{mkfs_line};
+ghost use Rattle.mt_import.specs.Import.{GoesOn};
+ghost use Rattle.mt_import.specs.Sources.{source_word};
 ghost use Rattle.mt_import.specs.Script.{is_script_line, line_text, super_comment};
 
-use crate::order::Mount;
+use crate::choice::{Left, is_made};
+use crate::reason::Reason;
 use crate::script::Script;
+use crate::space::Space;
 use crate::told::HostMount;
-use crate::writer::{command, comment, spaced};
+use crate::tree::Tree;
+use crate::writer::{command, comment, device_comment, spaced};
 use mt_skel::fault::Fault;
 use std::alloc::{AllocError, Global};
 use std::collections::BTreeMap;
 
-/// A filesystem.
-#[derive(Clone, Copy)]
-struct Filesystem<'a> {
-    /// The first row of the device, which tells the type and the source.
-    row: &'a HostMount,
-    /// Whether it is mounted until the end, since directories of it are bound.
-    is_staged: bool,
-}
-
-/// The filesystems by their devices.
+/// The filesystems by their devices: which row told each first, of which table.
 #[derive(Drop)]
 pub(crate) struct Filesystems<'a> {
-    all: BTreeMap<&'a [u8], Filesystem<'a>>,
+    all: BTreeMap<&'a [u8], (usize, &'a HostMount)>,
 }
 
 impl<'a> Filesystems<'a> {
-    /// No filesystem.
-    pub(crate) fn new(alloc: Global) -> Filesystems<'a> {
-        Filesystems {
-            all: BTreeMap::new(alloc),
-        }
-    }
-
     /// How many filesystems there are.
     pub(crate) fn len(&self) -> usize {
         self.all.len()
     }
 
-    /// Adds the filesystem of a row, if its device is new. Fails for want of memory alone.
-    pub(crate) fn add(&mut self, row: &'a HostMount) -> Result<(), AllocError> {
+    /// Adds the filesystem of a row of a table, if its device is new. Fails for want of memory alone.
+    fn add(&mut self, table: usize, row: &'a HostMount) -> Result<(), AllocError> {
         if self.all.contains_key(&row.device.as_slice()) {
             return Ok(());
         }
-        let filesystem = Filesystem {
-            row,
-            is_staged: false,
-        };
-        self.all.insert(row.device.as_slice(), filesystem)?;
+        self.all.insert(row.device.as_slice(), (table, row))?;
         Ok(())
     }
 
-    /// The row that tells the type and the source of a device.
-    pub(crate) fn told_by(&self, device: &'a [u8]) -> Option<&'a HostMount> {
-        self.all.get(&device).map(|filesystem| filesystem.row)
-    }
-
-    /// Has the filesystem of a device mounted until the end.
-    pub(crate) fn stage(&mut self, device: &'a [u8]) {
-        if let Some(filesystem) = self.all.get_mut(&device) {
-            filesystem.is_staged = true;
-        }
-    }
-
-    /// The devices of those that are mounted until the end. Fails for want of memory alone.
-    pub(crate) fn staged(&self, alloc: Global) -> Result<Vec<&'a [u8]>, AllocError> {
-        let mut devices = Vec::new(alloc);
-        for (device, filesystem) in self.all.iter() {
-            if filesystem.is_staged {
-                devices.push(*device)?;
+    /// Adds the filesystems of the mounts of a tree that are made. Fails for want of memory alone.
+    fn add_tree(&mut self, tree: &Tree<'a>, left: &[Option<Reason>]) -> Result<(), AllocError> {
+        for (number, mount) in tree.mounts().iter().enumerate() {
+            if is_made(left, number) {
+                self.add(tree.table(), mount.row)?;
             }
         }
-        Ok(devices)
+        Ok(())
+    }
+
+    /// Whether the row of a table tells another type or source than the first one of its device.
+    fn differs(&self, row: &'a HostMount) -> bool {
+        let Some((_, first)) = self.all.get(&row.device.as_slice()) else {
+            return false;
+        };
+        first.kind.as_slice() != row.kind.as_slice()
+            || first.source.as_slice() != row.source.as_slice()
     }
 }
 
-/// The filesystems of mounts. Fails for want of memory alone.
+/// The filesystems of the mounts that are made. Fails for want of memory alone.
 pub(crate) fn filesystems_of<'a>(
     alloc: Global,
-    mounts: &[Mount<'a>],
+    trees: &[Tree<'a>],
+    left: &[Left],
 ) -> Result<Filesystems<'a>, AllocError> {
-    let mut filesystems = Filesystems::new(alloc);
-    for mount in mounts {
-        filesystems.add(mount.row)?;
+    let mut filesystems = Filesystems {
+        all: BTreeMap::new(alloc),
+    };
+    let mut others = left.iter();
+    for tree in trees {
+        if let Some(left) = others.next() {
+            filesystems.add_tree(tree, left.as_slice())?;
+        }
     }
     Ok(filesystems)
 }
@@ -107,19 +94,46 @@ fn push_filesystem(
     Ok(is)
 }
 
+/// A source as a word of a command: the kernel escapes `#` in a source, and a command does not. Fails for want of memory
+/// alone.
+fn source_word(alloc: Global, source: &[u8]) -> Result<Vec<u8>, AllocError>
+    ensures { IfOk result (λ word. word.items ≡ source_word source.now) }
+{
+    let mut word = Vec::new(alloc);
+    let mut rest = source;
+    'rest: while let [first, others @ ..] = rest {
+        if let [b'\\', b'0', b'4', b'3', behind @ ..] = rest {
+            word.push(b'#')?;
+            rest = behind;
+        } else {
+            word.push(*first)?;
+            rest = others;
+        }
+    }
+    Ok(word)
+}
+
 /// Makes the filesystem of a device. A type or source that no filesystem can have is told in a comment, and `none` in its
 /// place. Refused as `NoMemory` alone.
-fn make_filesystem(alloc: Global, script: &mut Script, row: &HostMount) -> Result<(), Fault>
+fn make_filesystem(
+    alloc: Global,
+    script: &mut Script,
+    table: usize,
+    row: &HostMount,
+) -> Result<(), Fault>
+    ensures pushed { OnOk result (GoesOn script.old script.new) }
     ensures memory { IsOkUnless result Fault.NoMemory }
 {
     let device = row.device.as_slice();
-    let (kind, source) = (row.kind.as_slice(), row.source.as_slice());
+    let source = source_word(alloc, row.source.as_slice())?;
+    let (kind, source) = (row.kind.as_slice(), source.as_slice());
     if push_filesystem(alloc, script, device, kind, source)? {
         return Ok(());
     }
     comment(
         alloc,
         script,
+        table,
         row,
         b"has a type or source that no filesystem can have",
     )?;
@@ -129,20 +143,106 @@ fn make_filesystem(alloc: Global, script: &mut Script, row: &HostMount) -> Resul
     if push_filesystem(alloc, script, device, b"none", source)? {
         return Ok(());
     }
-    command(alloc, script, &[b"mkfs", device, b"none", b"none"])
+    command(alloc, script, &[b"mkfs", device, b"none", b"none"])?;
+    Ok(())
 }
 
 /// Says that a filesystem has super options, with its first mount, if it has others than `rw`: they are the last word of a
 /// line. Refused as `NoMemory` alone.
 #[tactic(auto, unfolding(crate::specs::Script::super_comment))]
-fn tell_super_options(alloc: Global, script: &mut Script, row: &HostMount) -> Result<(), Fault>
-    ensures told { OnOk result (script.new ≡ script.old ++ super_comment row.now) }
+fn tell_super_options(
+    alloc: Global,
+    script: &mut Script,
+    table: usize,
+    row: &HostMount,
+) -> Result<(), Fault>
+    ensures told { OnOk result (script.new ≡ script.old ++ super_comment table row.now) }
     ensures memory { IsOkUnless result Fault.NoMemory }
 {
     if row.line.as_slice().ends_with(b" rw") {
         return Ok(());
     }
-    comment(alloc, script, row, b"has super options that are left out")
+    comment(
+        alloc,
+        script,
+        table,
+        row,
+        b"has super options that are left out",
+    )?;
+    Ok(())
+}
+
+/// Tells a mount of which the line tells another type or source than the first of its device. Refused as `NoMemory` alone.
+fn tell_other<'a>(
+    alloc: Global,
+    script: &mut Script,
+    filesystems: &Filesystems<'a>,
+    table: usize,
+    row: &'a HostMount,
+) -> Result<(), Fault>
+    ensures pushed { OnOk result (GoesOn script.old script.new) }
+    ensures memory { IsOkUnless result Fault.NoMemory }
+{
+    if !filesystems.differs(row) {
+        return Ok(());
+    }
+    comment(
+        alloc,
+        script,
+        table,
+        row,
+        b"tells another type or source of its device",
+    )?;
+    Ok(())
+}
+
+/// The same of the mounts of a table that are made. Refused as `NoMemory` alone.
+fn tell_others<'a>(
+    alloc: Global,
+    script: &mut Script,
+    filesystems: &Filesystems<'a>,
+    space: &Space<'a>,
+) -> Result<(), Fault>
+    ensures pushed { OnOk result (GoesOn script.old script.new) }
+    ensures memory { IsOkUnless result Fault.NoMemory }
+{
+    'mounts: for (number, mount) in space.tree.mounts().iter().enumerate() {
+        if is_made(space.left.as_slice(), number) {
+            tell_other(alloc, script, filesystems, space.tree.table(), mount.row)?;
+        }
+    }
+    Ok(())
+}
+
+/// Makes a filesystem, the one of a number here. Refused as `NoMemory` alone.
+fn make_one(
+    alloc: Global,
+    script: &mut Script,
+    table: usize,
+    row: &HostMount,
+    here: usize,
+) -> Result<(), Fault>
+    ensures pushed { OnOk result (GoesOn script.old script.new) }
+    ensures memory { IsOkUnless result Fault.NoMemory }
+{
+    device_comment(alloc, script, row.device.as_slice(), here)?;
+    make_filesystem(alloc, script, table, row)?;
+    tell_super_options(alloc, script, table, row)?;
+    Ok(())
+}
+
+/// Makes the filesystems. Refused as `NoMemory` alone.
+fn make_all(alloc: Global, script: &mut Script, filesystems: &Filesystems<'_>) -> Result<(), Fault>
+    ensures pushed { OnOk result (GoesOn script.old script.new) }
+    ensures memory { IsOkUnless result Fault.NoMemory }
+{
+    let mut here = 1_usize;
+    'filesystems: for (_, first) in filesystems.all.iter() {
+        let (table, row) = *first;
+        make_one(alloc, script, table, row, here)?;
+        here = here.saturating_add(1);
+    }
+    Ok(())
 }
 
 /// Makes the filesystems of mounts. A mount whose line tells another type or source than the first of its device is
@@ -150,29 +250,15 @@ fn tell_super_options(alloc: Global, script: &mut Script, row: &HostMount) -> Re
 pub(crate) fn make_filesystems<'a>(
     alloc: Global,
     script: &mut Script,
-    mounts: &[Mount<'a>],
     filesystems: &Filesystems<'a>,
+    spaces: &[Space<'a>],
 ) -> Result<(), Fault>
+    ensures pushed { OnOk result (GoesOn script.old script.new) }
     ensures memory { IsOkUnless result Fault.NoMemory }
 {
-    for mount in mounts {
-        let row = mount.row;
-        let Some(first) = filesystems.told_by(row.device.as_slice()) else {
-            continue;
-        };
-        if first.id == row.id {
-            make_filesystem(alloc, script, first)?;
-            tell_super_options(alloc, script, first)?;
-        } else if first.kind.as_slice() != row.kind.as_slice()
-            || first.source.as_slice() != row.source.as_slice()
-        {
-            comment(
-                alloc,
-                script,
-                row,
-                b"tells another type or source of its device",
-            )?;
-        }
+    make_all(alloc, script, filesystems)?;
+    'spaces: for space in spaces {
+        tell_others(alloc, script, filesystems, space)?;
     }
     Ok(())
 }

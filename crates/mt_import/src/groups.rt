@@ -1,29 +1,28 @@
-//! The peer groups that rows name.
-ghost use Rattle.std.specs.Prelude.{◌≡◌, if◌then◌else◌, Some, is_some, OnOk};
-ghost use Rattle.std.specs.Option.{option_or};
-ghost use Rattle.std.specs.BTreeMap.{get, btree_map_len};
+//! The peer groups that the rows of all tables name.
+ghost use Rattle.std.specs.Prelude.{◌≡◌};
+ghost use Rattle.std.specs.BTreeMap.{get};
 ghost use Rattle.std.specs.Ordering.{nat_cmp};
-ghost use Rattle.mt_import.specs.Groups.{is_staged, has_members, has_receivers};
+ghost use Rattle.mt_import.specs.Groups.{is_staged, has_receivers, receiving, source_group, is_alone};
 
 use crate::agreement::may_add;
 use crate::told::HostMount;
 use std::alloc::{AllocError, Global};
-use std::collections::BTreeMap;
+use std::collections::{BTreeMap, BTreeSet};
 
 /// The most groups above one of which mounts are made.
-const MOST_ABOVE: usize = 64;
+pub(crate) const MOST_ABOVE: usize = 64;
 
 /// What rows tell of a peer group.
 #[derive(Clone, Copy)]
 pub(crate) struct Group<'a> {
-    /// The number of its master group, if that is known.
+    /// The number of its master group, if it has one.
     pub(crate) master: Option<u64>,
     /// The device of its mounts.
     pub(crate) device: &'a [u8],
     /// How many rows are members.
     pub(crate) members: u64,
-    /// Whether one is staged in any case: a row has it as its master, or as the group that it gets from, or mounts of it
-    /// are kept by way of the staged one.
+    /// Whether one is staged in any case: a row has it as its master, or as the group that it gets from, or a member has
+    /// another mount on its root, or it is above such a group.
     is_needed: bool,
 }
 
@@ -49,7 +48,11 @@ impl<'a> Group<'a> {
 /// The groups that rows name, by their numbers.
 #[derive(Drop)]
 pub(crate) struct Groups<'a> {
-    all: BTreeMap<u64, Group<'a>>,
+    pub(crate) all: BTreeMap<u64, Group<'a>>,
+    /// In which tables a group has a member.
+    inside: BTreeSet<(u64, usize)>,
+    /// Which group slaves of a group get from by way of it.
+    beyond: BTreeSet<(u64, u64)>,
 }
 
 impl<'a> Groups<'a> {
@@ -57,6 +60,8 @@ impl<'a> Groups<'a> {
     pub(crate) fn new(alloc: Global) -> Groups<'a> {
         Groups {
             all: BTreeMap::new(alloc),
+            inside: BTreeSet::new(alloc),
+            beyond: BTreeSet::new(alloc),
         }
     }
 
@@ -67,29 +72,9 @@ impl<'a> Groups<'a> {
         self.all.get(&number).copied()
     }
 
-    /// How many groups there are.
-    pub(crate) fn len(&self) -> usize
-        ensures { result ≡ btree_map_len self.now.all }
-    {
-        self.all.len()
-    }
-
-    /// The group from whose staged member a mount is bound, if from one: its own, or its master.
-    pub(crate) fn source_of(&self, row: &HostMount) -> Option<u64>
-        ensures { result ≡ (if has_receivers self.now.all row.now.shared then row.now.shared else row.now.master) }
-    {
-        if self.has_receivers(row.shared) {
-            row.shared
-        } else {
-            row.master
-        }
-    }
-
-    /// The group by way of which a mount is kept, if by one: that from which it is bound, or its own.
-    pub(crate) fn keeper_of(&self, row: &HostMount) -> Option<u64>
-        ensures { result ≡ option_or (if has_receivers self.now.all row.now.shared then row.now.shared else row.now.master) row.now.shared }
-    {
-        self.source_of(row).or(row.shared)
+    /// The group above one, if one is.
+    pub(crate) fn above(&self, number: u64) -> Option<u64> {
+        self.get(number).and_then(|group| group.master)
     }
 
     /// Whether a group is this one, or has it above.
@@ -102,35 +87,71 @@ impl<'a> Groups<'a> {
             if number == group {
                 return true;
             }
-            next = self.get(number).and_then(|above| above.master);
+            next = self.above(number);
         }
         false
     }
 
-    /// Whether more groups are above one than may be. Then another thing that is asked of those above it may be wrong.
-    pub(crate) fn is_too_low(&self, first: Option<u64>) -> bool {
+    /// How many groups are above one, itself among them; `MOST_ABOVE` and 1 where there are more.
+    pub(crate) fn height(&self, first: Option<u64>) -> usize {
         let mut next = first;
-        for _step in 0..=MOST_ABOVE {
+        for step in 0..=MOST_ABOVE {
             let Some(number) = next else {
-                return false;
+                return step;
             };
-            next = self.get(number).and_then(|above| above.master);
+            next = self.above(number);
         }
-        next.is_some()
+        MOST_ABOVE + 1
     }
 
-    /// The nearest group above a master that has a member among the rows, where the master has none (proc_pid_mountinfo(5),
-    /// `propagate_from`).
-    pub(crate) fn via_of(&self, master: Option<u64>) -> Option<u64> {
-        let mut next = master;
+    /// The nearest group that is this one or above it and has a member in a table.
+    pub(crate) fn seen_from(&self, first: Option<u64>, table: usize) -> Option<u64> {
+        let mut next = first;
         for _step in 0..=MOST_ABOVE {
             let number = next?;
-            if self.has_members(number) {
-                break;
+            if self.inside.contains(&(number, table)) {
+                return Some(number);
             }
-            next = self.get(number).and_then(|above| above.master);
+            next = self.above(number);
         }
-        if next == master { None } else { next }
+        None
+    }
+
+    /// Whether a mount of this group, if it is in one, has others that get what is mounted on it.
+    fn has_receivers(&self, shared: Option<u64>) -> bool
+        ensures { result ≡ has_receivers self.now.all shared }
+    {
+        let Some(number) = shared else {
+            return false;
+        };
+        self.get(number).is_some_and(|group| group.is_staged())
+    }
+
+    /// The group of a mount, if it is in one and others get what is mounted on it.
+    #[tactic(auto, unfolding(crate::specs::Groups::receiving))]
+    pub(crate) fn receiving(&self, shared: Option<u64>) -> Option<u64>
+        ensures { result ≡ receiving self.now.all shared }
+    {
+        if self.has_receivers(shared) {
+            shared
+        } else {
+            None
+        }
+    }
+
+    /// The group from whose staged member a mount is bound, if from one: its own, or its master.
+    pub(crate) fn source_of(&self, shared: Option<u64>, master: Option<u64>) -> Option<u64>
+        ensures { result ≡ source_group self.now.all shared master }
+    {
+        self.receiving(shared).or(master)
+    }
+
+    /// Whether a mount is alone in its group, so that no other gets what is mounted on it.
+    #[tactic(auto, unfolding(crate::specs::Groups::is_alone))]
+    pub(crate) fn is_alone(&self, shared: Option<u64>) -> bool
+        ensures { result ≡ is_alone self.now.all shared }
+    {
+        shared.is_some() && !self.has_receivers(shared)
     }
 
     /// Whether a mount gets what is mounted on one of a group: it is of this group, or of one that has it above.
@@ -138,25 +159,13 @@ impl<'a> Groups<'a> {
         self.leads_to(row.shared.or(row.master), group)
     }
 
-    /// Whether two mounts, or their groups, have a group above them in common, or are in one.
-    pub(crate) fn have_common_group(&self, first: &HostMount, second: &HostMount) -> bool {
-        let mut next = second.shared.or(second.master);
-        for _step in 0..=MOST_ABOVE {
-            let Some(number) = next else {
-                return false;
-            };
-            if self.gets_from(first, number) {
-                return true;
-            }
-            next = self.get(number).and_then(|above| above.master);
-        }
-        false
+    /// Whether rows name a group of which none is a member.
+    pub(crate) fn is_unseen(&self, number: u64) -> bool {
+        self.get(number).is_some_and(|group| group.members == 0)
     }
 
     /// Has a member of a group staged, if rows name it. Fails for want of memory alone.
-    pub(crate) fn stage(&mut self, number: u64) -> Result<(), AllocError>
-        ensures { OnOk result (has_receivers self.new.all (Some number) ≡ is_some (get nat_cmp self.old.all number)) }
-    {
+    pub(crate) fn stage(&mut self, number: u64) -> Result<(), AllocError> {
         let Some(group) = self.get(number) else {
             return Ok(());
         };
@@ -168,19 +177,23 @@ impl<'a> Groups<'a> {
         Ok(())
     }
 
-    /// Adds what a row tells, unless that cannot be beside what others before it told. Fails for want of memory alone.
-    pub(crate) fn add(&mut self, row: &'a HostMount) -> Result<(), AllocError> {
+    /// Adds what the row of a table tells, unless that cannot be beside what others before it told. Fails for want of memory
+    /// alone.
+    pub(crate) fn add(&mut self, row: &'a HostMount, table: usize) -> Result<(), AllocError> {
         if !may_add(self, row) {
             return Ok(());
         }
         if let Some(number) = row.shared {
             self.add_member(number, row)?;
+            self.inside.insert((number, table))?;
         }
-        if let Some(number) = row.master {
-            self.add_master(number, row.via, row)?;
-        }
-        if let Some(number) = row.via {
-            self.add_master(number, None, row)?;
+        let Some(number) = row.master else {
+            return Ok(());
+        };
+        self.add_master(number, row)?;
+        if let Some(above) = row.via {
+            self.add_master(above, row)?;
+            self.beyond.insert((number, above))?;
         }
         Ok(())
     }
@@ -197,74 +210,121 @@ impl<'a> Groups<'a> {
         Ok(())
     }
 
-    /// Adds a group that others come from; its own master counts where no member told it. Fails for want of memory
-    /// alone.
-    fn add_master(
-        &mut self,
-        number: u64,
-        master: Option<u64>,
-        row: &'a HostMount,
-    ) -> Result<(), AllocError> {
+    /// Adds a group that others come from. Fails for want of memory alone.
+    fn add_master(&mut self, number: u64, row: &'a HostMount) -> Result<(), AllocError> {
         let old = self.get(number);
         let group = Group {
             is_needed: true,
-            ..old.unwrap_or(Group::new(master, row.device.as_slice()))
+            ..old.unwrap_or(Group::new(None, row.device.as_slice()))
         };
         self.all.insert(number, group)?;
         Ok(())
     }
 
-    /// Whether a row is a member of this group.
-    #[tactic(auto, unfolding(crate::specs::Groups::has_members))]
-    pub(crate) fn has_members(&self, number: u64) -> bool
-        ensures { result ≡ has_members self.now.all number }
-    {
-        self.get(number).is_some_and(|group| group.members > 0)
-    }
-
-    /// The group of a mount, if it is in one and others get what is mounted on it.
-    pub(crate) fn receiving(&self, shared: Option<u64>) -> Option<u64>
-        ensures { result ≡ (if has_receivers self.now.all shared then shared else None) }
-    {
-        if self.has_receivers(shared) {
-            shared
-        } else {
-            None
-        }
-    }
-
-    /// Whether a mount of this group, if it is in one, has others that get what is mounted on it.
-    pub(crate) fn has_receivers(&self, shared: Option<u64>) -> bool
-        ensures { result ≡ has_receivers self.now.all shared }
-    {
-        let Some(number) = shared else {
-            return false;
+    /// Gives a group another master, or none. Fails for want of memory alone.
+    fn set_master(&mut self, number: u64, master: Option<u64>) -> Result<(), AllocError> {
+        let Some(group) = self.get(number) else {
+            return Ok(());
         };
-        self.get(number).is_some_and(|group| group.is_staged())
+        self.all.insert(number, Group { master, ..group })?;
+        Ok(())
     }
 
-    /// The numbers of the groups of which a member is staged, by rising number. Fails for want of memory alone.
+    /// The group at the end of those above one, itself among them.
+    fn top_of(&self, first: u64) -> u64 {
+        let mut here = first;
+        for _step in 0..=MOST_ABOVE {
+            let Some(number) = self.above(here) else {
+                return here;
+            };
+            here = number;
+        }
+        here
+    }
+
+    /// Brings a group above another one: at the end of those above it, if no row is a member of that end. Whether it is above
+    /// then. Fails for want of memory alone.
+    fn join(&mut self, low: u64, high: u64) -> Result<bool, AllocError> {
+        if self.leads_to(Some(low), high) {
+            return Ok(true);
+        }
+        let top = self.top_of(low);
+        if !self.is_unseen(top)
+            || self.leads_to(Some(high), low)
+            || self.leads_to(Some(high), top)
+        {
+            return Ok(false);
+        }
+        self.set_master(top, Some(high))?;
+        Ok(true)
+    }
+
+    /// Brings a group above one of which no row is a member: above all that is above that one, or else between both. Fails for
+    /// want of memory alone.
+    fn bring_above(&mut self, low: u64, high: u64) -> Result<(), AllocError> {
+        if !self.is_unseen(low) || self.join(low, high)? {
+            return Ok(());
+        }
+        let Some(first) = self.above(low) else {
+            return Ok(());
+        };
+        self.set_master(low, None)?;
+        let is_between = !self.leads_to(Some(high), low) && self.join(high, first)?;
+        self.set_master(low, Some(if is_between { high } else { first }))
+    }
+
+    /// Finds out what is above the groups of which no row is a member, by what their slaves tell, the lowest groups first. Fails
+    /// for want of memory alone.
+    pub(crate) fn settle(&mut self, alloc: Global) -> Result<(), AllocError> {
+        let mut pairs = Vec::new(alloc);
+        for pair in self.beyond.iter() {
+            let (low, high) = *pair;
+            let below_top = MOST_ABOVE.saturating_sub(self.height(Some(high)));
+            pairs.push((low, below_top, high))?;
+        }
+        pairs.sort_unstable();
+        for pair in pairs.iter() {
+            let (low, _, high) = *pair;
+            self.bring_above(low, high)?;
+        }
+        Ok(())
+    }
+
+    /// The numbers of the groups of which a member is staged, those above others first. Fails for want of memory alone.
     pub(crate) fn staged(&self, alloc: Global) -> Result<Vec<u64>, AllocError> {
-        let mut numbers = Vec::new(alloc);
+        let mut ranked = Vec::new(alloc);
         for (number, group) in self.all.iter() {
             if group.is_staged() {
-                numbers.push(*number)?;
+                ranked.push((self.height(Some(*number)), *number))?;
             }
+        }
+        ranked.sort_unstable();
+        let mut numbers = Vec::new(alloc);
+        for (_, number) in ranked.iter() {
+            numbers.push(*number)?;
         }
         Ok(numbers)
     }
 
-    /// A group and those above it, from it upwards. Fails for want of memory alone.
-    pub(crate) fn above(&self, alloc: Global, first: Option<u64>) -> Result<Vec<u64>, AllocError> {
-        let mut numbers = Vec::new(alloc);
-        let mut next = first;
-        for _step in 0..=MOST_ABOVE {
-            let Some(number) = next else {
-                return Ok(numbers);
-            };
-            numbers.push(number)?;
-            next = self.get(number).and_then(|group| group.master);
+    /// Has a member staged of each group above those of which one is. Fails for want of memory alone.
+    pub(crate) fn stage_all_above(&mut self, alloc: Global) -> Result<(), AllocError> {
+        let staged = self.staged(alloc)?;
+        for number in staged.iter() {
+            self.stage_above(*number)?;
         }
-        Ok(numbers)
+        Ok(())
+    }
+
+    /// Has a member staged of each group above one. Fails for want of memory alone.
+    fn stage_above(&mut self, number: u64) -> Result<(), AllocError> {
+        let mut next = self.above(number);
+        for _step in 0..=MOST_ABOVE {
+            let Some(above) = next else {
+                return Ok(());
+            };
+            self.stage(above)?;
+            next = self.above(above);
+        }
+        Ok(())
     }
 }

@@ -8,28 +8,38 @@
 #![tactic(auto)]
 
 mod agreement;
+mod below;
+mod choice;
 mod commands;
-mod cover;
+mod covers;
 mod directories;
 mod filesystems;
 mod groups;
-mod hiding;
+mod growth;
+mod hook;
 pub mod import;
-mod keepers;
 pub mod laws;
-mod mounting;
+mod making;
+mod mount;
+mod needs;
 mod options;
-mod order;
 mod path;
-mod plan;
+mod paths;
+mod placing;
 pub mod read;
 mod reason;
-mod receivers;
 mod room;
 pub mod script;
-mod stage;
-mod standing;
+mod slots;
+mod space;
+mod spaces;
+mod staging;
+mod telling;
 pub mod told;
+mod tree;
+mod turns;
+mod verdict;
+mod ways;
 mod writer;
 
 pub use mt_skel::fault;

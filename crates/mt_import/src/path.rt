@@ -10,8 +10,15 @@ ghost use Rattle.mt_import.specs.Paths.{below_root, path_word, name_count, says_
 use mt_skel::escape::unescaped_len;
 use mt_words::words::Pieces;
 
-/// The name of the directory below which the script keeps what it takes away again.
+/// The directory on which the script puts what it takes away again, and its name.
 pub(crate) const STAGE: &[u8] = b"/.import";
+
+const STAGE_NAME: &[u8] = b".import";
+
+/// A second one, and its name.
+pub(crate) const SECOND: &[u8] = b"/.import2";
+
+const SECOND_NAME: &[u8] = b".import2";
 
 /// The most names of a directory, so that one may stand below them.
 pub(crate) const MOST_NAMES: usize = 31;
@@ -70,6 +77,16 @@ pub(crate) fn can_be_named(path: &[u8]) -> bool
         return true;
     };
     *first == b'/' && path.len() <= MOST_BYTES && has_only_names(text)
+}
+
+/// Whether a name of a path is one that the script uses.
+pub(crate) fn has_script_name(path: &[u8]) -> bool {
+    Pieces::new(b'/', path).any(|piece| is_script_name(piece))
+}
+
+/// Whether a name is one that the script uses.
+fn is_script_name(piece: &[u8]) -> bool {
+    piece == STAGE_NAME || piece == SECOND_NAME
 }
 
 /// What stands behind a path in one below it, or None where it is not below.

@@ -5,6 +5,10 @@ ghost use Rattle.mt_import.specs.Script.{reason_text};
 /// Why a mount is left out.
 #[derive(Clone, Copy)]
 pub(crate) enum Reason {
+    /// A table before it has the same lines.
+    SameTable,
+    /// A line before it tells the same mount.
+    SecondLine,
     /// No row is that of a root mount.
     NoRootMount,
     /// No row is that of what it stands on.
@@ -17,18 +21,16 @@ pub(crate) enum Reason {
     NoDirectory,
     /// Its mount point is not below that of its parent.
     Elsewhere,
-    /// It stands on the root mount, at its root, as another one does, or is unbindable, or has a group that the root mount
-    /// is in, or gets from, or a master that does.
+    /// It stands on the root of a root mount, or of one that stands there, and others are in the peer group of that one; or
+    /// on too many others that stand so.
     AtRoot,
-    /// It stands on one that stands on the root mount, at its root.
-    OutOfReach,
-    /// It stands where the script keeps mounts until its end.
+    /// A directory of its root or mount point has the name that the script uses.
     ScriptName,
     /// The path of the directory that it shows, or of that on which it stands, has too many names, or too many bytes.
     TooDeep,
-    /// What it tells of peer groups cannot be: a row before it tells another device or master of one, or a group would
-    /// have itself above it; the group that it gets from by way of its master is not the nearest above that has a
-    /// member among the rows; or it is unbindable.
+    /// What it tells of peer groups cannot be: a row tells another device or master of one, or a group would have itself
+    /// above it; the group that it gets from by way of its master is not the nearest above that has a member among the rows
+    /// of its table; or it is unbindable.
     NoSuchGroups,
     /// Too many groups are above its own.
     TooLow,
@@ -36,9 +38,6 @@ pub(crate) enum Reason {
     SamePlace,
     /// The server has no room for it, or for what comes with it while it is made.
     NoRoom,
-    /// Its copies get what is mounted where they stand, so what stands there would be unmounted with them; and that is a
-    /// mount without group and master, or too many others.
-    GoesWithCopies,
 }
 
 impl Reason {
@@ -47,21 +46,22 @@ impl Reason {
         ensures { result.now ≡ reason_text self }
     {
         match self {
+            Reason::SameTable => b"its table is told before",
+            Reason::SecondLine => b"a line before it tells its mount",
             Reason::NoRootMount => b"there is no root mount",
             Reason::NoParent => b"it stands on no other",
             Reason::ParentLeftOut => b"what it stands on is left out",
             Reason::Ring => b"its parents go round in a ring",
             Reason::NoDirectory => b"its root or mount point is no directory",
             Reason::Elsewhere => b"it stands elsewhere than below its parent",
-            Reason::AtRoot => b"it stands at the root of the namespace",
-            Reason::OutOfReach => b"no path leads to what it stands on",
-            Reason::ScriptName => b"its mount point has the name that the script uses",
+            Reason::AtRoot =>
+                b"it stands on the root of one that has peers at the root of the namespace",
+            Reason::ScriptName => b"its path has the name that the script uses",
             Reason::TooDeep => b"its directory is too deep",
             Reason::NoSuchGroups => b"its peer groups cannot be as it tells them",
             Reason::TooLow => b"too many groups are above its own",
             Reason::SamePlace => b"another mount stands in its place",
             Reason::NoRoom => b"the server has no room for it",
-            Reason::GoesWithCopies => b"another mount would go with its copies",
         }
     }
 }

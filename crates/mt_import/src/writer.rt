@@ -1,7 +1,7 @@
 //! The lines of the script, made of their words.
 ghost use Rattle.std.specs.Prelude.{◌≡◌, ◌∷◌, ◌++◌, map, take, decimal, IfOk, OnOk, IsOkUnless};
 ghost use Rattle.std.specs.List.{flat_map, join_with_byte};
-ghost use Rattle.mt_import.specs.Script.{line_or_comment, command_text, comment_text, left_out_text};
+ghost use Rattle.mt_import.specs.Script.{line_text, line_or_comment, command_text, comment_text, left_out_text, group_comment, rootless_comment, space_comment, keeper_comment, device_comment};
 
 use crate::reason::Reason;
 use crate::script::Script;
@@ -102,25 +102,46 @@ fn first_bytes(text: &[u8], most: usize) -> &[u8]
     }
 }
 
-/// Appends a comment on a mount, with its row, of which as much is told as a line that is sent may hold. Refused as
+/// Appends a comment of these texts. Refused as `NoMemory` alone.
+fn push_comment(alloc: Global, script: &mut Script, texts: &[&[u8]]) -> Result<(), Fault>
+    ensures pushed { OnOk result (script.new ≡ script.old ++ line_text (flat_map (λ text. text.now) texts.now)) }
+    ensures memory { IsOkUnless result Fault.NoMemory }
+{
+    let line = joined(alloc, texts)?;
+    let _said = script.push(line.as_slice())?;
+    Ok(())
+}
+
+/// Appends a comment on a mount of a table, with its row, of which as much is told as a line that is sent may hold. Refused as
 /// `NoMemory` alone.
 #[tactic(auto, unfolding(crate::specs::Script::comment_text))]
 pub(crate) fn comment(
     alloc: Global,
     script: &mut Script,
+    table: usize,
     row: &HostMount,
     text: &[u8],
 ) -> Result<(), Fault>
-    ensures pushed { OnOk result (script.new ≡ script.old ++ comment_text row.now text.now) }
+    ensures pushed { OnOk result (script.new ≡ script.old ++ comment_text table row.now text.now) }
     ensures memory { IsOkUnless result Fault.NoMemory }
 {
+    let table = digits_of(alloc, table as u64)?;
     let number = digits_of(alloc, row.id)?;
     let told = first_bytes(row.line.as_slice(), MOST_TOLD);
-    let line = joined(
+    push_comment(
         alloc,
-        &[b"# mount ", number.as_slice(), b" ", text, b": ", told],
+        script,
+        &[
+            b"# table ",
+            table.as_slice(),
+            b": mount ",
+            number.as_slice(),
+            b" ",
+            text,
+            b": ",
+            told,
+        ],
     )?;
-    let _said = script.push(line.as_slice())?;
     Ok(())
 }
 
@@ -129,29 +150,116 @@ pub(crate) fn comment(
 pub(crate) fn left_out(
     alloc: Global,
     script: &mut Script,
+    table: usize,
     row: &HostMount,
     why: Reason,
 ) -> Result<(), Fault>
-    ensures pushed { OnOk result (script.new ≡ script.old ++ left_out_text row.now why) }
+    ensures pushed { OnOk result (script.new ≡ script.old ++ left_out_text table row.now why) }
     ensures memory { IsOkUnless result Fault.NoMemory }
 {
     let text = one_behind(alloc, b"is left out: ", why.text())?;
-    comment(alloc, script, row, text.as_slice())?;
+    comment(alloc, script, table, row, text.as_slice())?;
     Ok(())
 }
 
-/// Says that all these mounts are left out, and why. Refused as `NoMemory` alone.
-pub(crate) fn all_left_out(
+/// Says which number a group of the tables, of these digits, has here. Refused as `NoMemory` alone.
+#[tactic(auto, unfolding(crate::specs::Script::group_comment))]
+pub(crate) fn group_comment(
     alloc: Global,
     script: &mut Script,
-    rows: &[HostMount],
-    why: Reason,
+    group: &[u8],
+    here: usize,
 ) -> Result<(), Fault>
-    ensures pushed { OnOk result (script.new ≡ script.old ++ flat_map (λ row. left_out_text row why) rows.now) }
+    ensures pushed { OnOk result (script.new ≡ script.old ++ group_comment group.now here) }
     ensures memory { IsOkUnless result Fault.NoMemory }
 {
-    'rows: for row in rows {
-        left_out(alloc, script, row, why)?;
-    }
+    let number = digits_of(alloc, here as u64)?;
+    push_comment(
+        alloc,
+        script,
+        &[
+            b"# shared:",
+            group,
+            b" of the tables is shared:",
+            number.as_slice(),
+        ],
+    )?;
+    Ok(())
+}
+
+/// Says of which table no namespace is made. Refused as `NoMemory` alone.
+#[tactic(auto, unfolding(crate::specs::Script::rootless_comment))]
+pub(crate) fn rootless_comment(
+    alloc: Global,
+    script: &mut Script,
+    table: usize,
+) -> Result<(), Fault>
+    ensures pushed { OnOk result (script.new ≡ script.old ++ rootless_comment table) }
+    ensures memory { IsOkUnless result Fault.NoMemory }
+{
+    let table = digits_of(alloc, table as u64)?;
+    push_comment(
+        alloc,
+        script,
+        &[b"# table ", table.as_slice(), b" has no root mount"],
+    )?;
+    Ok(())
+}
+
+/// Says of which table a namespace is made. Refused as `NoMemory` alone.
+#[tactic(auto, unfolding(crate::specs::Script::space_comment))]
+pub(crate) fn space_comment(
+    alloc: Global,
+    script: &mut Script,
+    table: usize,
+    space: &[u8],
+) -> Result<(), Fault>
+    ensures pushed { OnOk result (script.new ≡ script.old ++ space_comment table space.now) }
+    ensures memory { IsOkUnless result Fault.NoMemory }
+{
+    let table = digits_of(alloc, table as u64)?;
+    push_comment(
+        alloc,
+        script,
+        &[b"# table ", table.as_slice(), b" is namespace ", space],
+    )?;
+    Ok(())
+}
+
+/// Says that a namespace keeps masters. Refused as `NoMemory` alone.
+#[tactic(auto, unfolding(crate::specs::Script::keeper_comment))]
+pub(crate) fn keeper_comment(alloc: Global, script: &mut Script, space: &[u8]) -> Result<(), Fault>
+    ensures pushed { OnOk result (script.new ≡ script.old ++ keeper_comment space.now) }
+    ensures memory { IsOkUnless result Fault.NoMemory }
+{
+    push_comment(
+        alloc,
+        script,
+        &[
+            b"# namespace ",
+            space,
+            b" keeps masters of which no table has a mount",
+        ],
+    )?;
+    Ok(())
+}
+
+/// Says which filesystem stands for a device. Refused as `NoMemory` alone.
+#[tactic(auto, unfolding(crate::specs::Script::device_comment))]
+pub(crate) fn device_comment(
+    alloc: Global,
+    script: &mut Script,
+    device: &[u8],
+    here: usize,
+) -> Result<(), Fault>
+    ensures pushed { OnOk result (script.new ≡ script.old ++ device_comment device.now here) }
+    ensures memory { IsOkUnless result Fault.NoMemory }
+{
+    let here = digits_of(alloc, here as u64)?;
+    push_comment(
+        alloc,
+        script,
+        &[b"# ", device, b" is filesystem ", here.as_slice()],
+    )?;
     Ok(())
 }

@@ -1,0 +1,10 @@
+use Rattle.std.proofs.Common.{◌≡◌, ◌++◌, drop}
+use Rattle.std.specs.List.{flat_map}
+use Rattle.mt_import.specs.Turns.{turn_text}
+use Rattle.mt_import.proofs.spaces.take_turns.Given as goal
+
+-- what was appended and what is left are all
+abbrev pub invariant-turns : goal.invariant-turns
+invariant-turns l =
+    l.script ++ flat_map (turn_text l.site.groups.now.all l.site.space.now l.site.stage.now l.mounts l.ways l.left) (drop l.turn-index l.space.tree.turns)
+    ≡ l.initial.script ++ flat_map (turn_text l.site.groups.now.all l.site.space.now l.site.stage.now l.mounts l.ways l.left) l.space.tree.turns

@@ -1,0 +1,186 @@
+//! How a mount is made, where nothing propagates.
+ghost use Rattle.std.specs.Prelude.{◌≡◌, ◌++◌, OnOk, IsOkUnless};
+ghost use Rattle.std.specs.Option.{option_map};
+ghost use Rattle.mt_import.specs.Making.{attributes_text, own_text, made_text, first_kind, waits, bare_text, late_options, share_text};
+
+use crate::commands::{SHARED, SLAVE, UNBINDABLE, bind, mount_filesystem};
+use crate::groups::Groups;
+use crate::mount::Mount;
+use crate::options::options_of;
+use crate::path::path_word;
+use crate::script::Script;
+use crate::slots::{group_path, staged_path};
+use crate::told::HostMount;
+use crate::writer::{joined, push_command};
+use mt_skel::fault::Fault;
+use std::alloc::Global;
+
+/// What the parts of a script have in common that make a namespace.
+#[derive(Clone, Copy)]
+pub(crate) struct Site<'s, 'a> {
+    /// What memory comes from.
+    pub(crate) alloc: Global,
+    /// The peer groups of all tables.
+    pub(crate) groups: &'s Groups<'a>,
+    /// The number of the namespace, in digits.
+    pub(crate) space: &'s [u8],
+    /// The path of what is staged.
+    pub(crate) stage: &'s [u8],
+}
+
+/// The options that are those of a new mount.
+const UNCHANGED: &[u8] = b"relatime";
+
+/// Sets options and the propagation of the mount at a path, if there is anything to set. Refused as `NoMemory` alone.
+#[tactic(auto, unfolding(crate::specs::Making::attributes_text))]
+fn set_attributes(
+    site: Site<'_, '_>,
+    script: &mut Script,
+    options: &[u8],
+    path: &[u8],
+    kind: Option<&'static [u8]>,
+) -> Result<(), Fault>
+    ensures pushed { OnOk result (script.new ≡ script.old ++ attributes_text site.entry.space.now options.now path.now (option_map (λ word. word.now) kind.entry)) }
+    ensures memory { IsOkUnless result Fault.NoMemory }
+{
+    let words = options_of(site.alloc, options, kind)?;
+    if words.is_empty() {
+        return Ok(());
+    }
+    let line = joined(
+        site.alloc,
+        &[
+            b"setattr ",
+            site.space,
+            b" ",
+            path_word(path),
+            words.as_slice(),
+        ],
+    )?;
+    push_command(script, line.as_slice())?;
+    Ok(())
+}
+
+/// Mounts a filesystem, or binds a directory of it, which is empty for its root. Refused as `NoMemory` alone.
+fn make_own(
+    site: Site<'_, '_>,
+    script: &mut Script,
+    device: &[u8],
+    root: &[u8],
+    path: &[u8],
+) -> Result<(), Fault>
+    ensures pushed { OnOk result (script.new ≡ script.old ++ own_text site.entry.space.now site.entry.stage.now device.now root.now path.now) }
+    ensures memory { IsOkUnless result Fault.NoMemory }
+{
+    if root.is_empty() {
+        mount_filesystem(site.alloc, script, site.space, device, path)?;
+        return Ok(());
+    }
+    let source = staged_path(site.alloc, site.stage, device, root)?;
+    bind(site.alloc, script, site.space, source.as_slice(), path)?;
+    Ok(())
+}
+
+/// Binds a directory of the staged member of a group, if of one, or else of a filesystem. Refused as `NoMemory` alone.
+#[tactic(auto, unfolding(crate::specs::Making::made_text))]
+fn make_of(
+    site: Site<'_, '_>,
+    script: &mut Script,
+    source: Option<u64>,
+    device: &[u8],
+    root: &[u8],
+    path: &[u8],
+) -> Result<(), Fault>
+    ensures pushed { OnOk result (script.new ≡ script.old ++ made_text site.entry.space.now site.entry.stage.now source device.now root.now path.now) }
+    ensures memory { IsOkUnless result Fault.NoMemory }
+{
+    let Some(group) = source else {
+        make_own(site, script, device, root, path)?;
+        return Ok(());
+    };
+    let source = group_path(site.alloc, site.stage, group, root)?;
+    bind(site.alloc, script, site.space, source.as_slice(), path)?;
+    Ok(())
+}
+
+/// How the propagation of a mount that was just made is to change: not where it is a member of its group then.
+#[tactic(auto, unfolding(crate::specs::Making::first_kind))]
+fn first_kind(groups: &Groups<'_>, row: &HostMount) -> Option<&'static [u8]>
+    ensures { option_map (λ word. word.now) result ≡ first_kind groups.now.all row.now }
+{
+    if groups.receiving(row.shared).is_some() {
+        return None;
+    }
+    if row.master.is_some() {
+        return Some(SLAVE);
+    }
+    if row.unbindable {
+        return Some(UNBINDABLE);
+    }
+    None
+}
+
+/// Whether the options of a mount are set once it is made shared.
+#[tactic(auto, unfolding(crate::specs::Making::waits))]
+fn waits(groups: &Groups<'_>, row: &HostMount) -> bool
+    ensures { result ≡ waits groups.now.all row.now }
+{
+    groups.is_alone(row.shared) && row.master.is_none()
+}
+
+/// Makes a mount at a path, where nothing propagates, with its options, unless these wait until it is made shared. Refused
+/// as `NoMemory` alone.
+#[tactic(auto, unfolding(crate::specs::Making::bare_text))]
+pub(crate) fn make_bare(
+    site: Site<'_, '_>,
+    script: &mut Script,
+    mount: &Mount<'_>,
+    path: &[u8],
+) -> Result<(), Fault>
+    ensures pushed { OnOk result (script.new ≡ script.old ++ bare_text site.entry.groups.now.all site.entry.space.now site.entry.stage.now mount.now path.now) }
+    ensures memory { IsOkUnless result Fault.NoMemory }
+{
+    let row = mount.row;
+    let source = site.groups.source_of(row.shared, row.master);
+    make_of(
+        site,
+        script,
+        source,
+        row.device.as_slice(),
+        mount.root,
+        path,
+    )?;
+    if waits(site.groups, row) {
+        return Ok(());
+    }
+    let kind = first_kind(site.groups, row);
+    set_attributes(site, script, row.options.as_slice(), path, kind)?;
+    Ok(())
+}
+
+/// The options of a mount that are set when it is made shared.
+fn late_options(waits: bool, options: &[u8]) -> &[u8]
+    ensures { result.now ≡ late_options waits options.now }
+{
+    if waits { options } else { UNCHANGED }
+}
+
+/// Makes a mount at a path a member of its group, if it is alone in that, with the options that wait for it. Refused as
+/// `NoMemory` alone.
+#[tactic(auto, unfolding(crate::specs::Making::share_text))]
+pub(crate) fn share_alone(
+    site: Site<'_, '_>,
+    script: &mut Script,
+    row: &HostMount,
+    path: &[u8],
+) -> Result<(), Fault>
+    ensures pushed { OnOk result (script.new ≡ script.old ++ share_text site.entry.groups.now.all site.entry.space.now row.now path.now) }
+    ensures memory { IsOkUnless result Fault.NoMemory }
+{
+    if !site.groups.is_alone(row.shared) {
+        return Ok(());
+    }
+    let options = late_options(waits(site.groups, row), row.options.as_slice());
+    set_attributes(site, script, options, path, Some(SHARED))?;
+    Ok(())
+}

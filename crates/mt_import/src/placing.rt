@@ -1,0 +1,149 @@
+//! Where a mount would stand, and why it cannot be made there.
+
+ghost use Rattle.std.specs.Prelude.{IfOk};
+ghost use Rattle.mt_import.specs.Growth.{IsOn};
+
+use crate::mount::Mount;
+use crate::path::{
+    MOST_BYTES, MOST_NAMES, below_root, can_be_named, has_script_name, names, path_behind,
+};
+use crate::reason::Reason;
+use crate::told::HostMount;
+use crate::writer::one_behind;
+use std::alloc::{AllocError, Global};
+
+/// The most mounts that stand on the root of a root mount, one on the other.
+const MOST_AT_ROOT: usize = 32;
+
+/// A mount that stands on its parent, or why it is left out.
+#[derive(Drop)]
+pub(crate) enum Placed<'a> {
+    /// It has a place.
+    There(Mount<'a>),
+    /// It is left out, for this reason.
+    Left(Reason),
+}
+
+/// Whether a directory of a filesystem is too deep, or its path too long.
+fn is_too_deep(path: &[u8]) -> bool {
+    names(path) > MOST_NAMES || path.len() > MOST_BYTES
+}
+
+/// Why the paths that a row tells cannot be those of a mount, if they cannot.
+fn why_pathless(root: &[u8], point: &[u8]) -> Option<Reason> {
+    if !can_be_named(root) || !can_be_named(point) {
+        return Some(Reason::NoDirectory);
+    }
+    if has_script_name(root) || has_script_name(point) {
+        return Some(Reason::ScriptName);
+    }
+    if is_too_deep(root) {
+        return Some(Reason::TooDeep);
+    }
+    None
+}
+
+/// The root mount that a row tells.
+pub(crate) fn root_mount<'a>(alloc: Global, row: &'a HostMount, number: usize) -> Placed<'a>
+    ensures { IsOn 0 number result }
+{
+    let (root, point) = (
+        below_root(row.root.as_slice()),
+        below_root(row.point.as_slice()),
+    );
+    if let Some(why) = why_pathless(root, point) {
+        return Placed::Left(why);
+    }
+    Placed::There(Mount {
+        row,
+        number,
+        above: 0,
+        root,
+        place: Vec::new(alloc),
+        lowest: 0,
+        names: b"",
+        level: 0,
+        base: 0,
+        is_base: true,
+    })
+}
+
+/// The mount that a row tells, on the root of another one at the root place of the namespace.
+fn base_on<'a>(mount: Mount<'a>, parent: &Mount<'a>) -> Placed<'a>
+    ensures { IsOn mount.entry.above mount.entry.number result }
+{
+    if parent.base >= MOST_AT_ROOT {
+        return Placed::Left(Reason::AtRoot);
+    }
+    Placed::There(Mount {
+        base: parent.base + 1,
+        is_base: true,
+        ..mount
+    })
+}
+
+/// A mount on another one, in the stack or on the level that it comes to.
+fn leveled<'a>(mount: Mount<'a>, parent: &Mount<'a>, is_stacked: bool) -> Placed<'a>
+    ensures { IsOn mount.entry.above mount.entry.number result }
+{
+    if is_stacked && parent.is_base {
+        return base_on(mount, parent);
+    }
+    if is_stacked {
+        return Placed::There(Mount {
+            lowest: parent.lowest,
+            names: parent.names,
+            level: parent.level,
+            ..mount
+        });
+    }
+    if parent.is_base {
+        return Placed::There(mount);
+    }
+    Placed::There(Mount {
+        level: parent.level.saturating_add(1),
+        ..mount
+    })
+}
+
+/// The mount that a row tells on another one, which is the one of a number in the order, as the next one of these numbers
+/// in the order and among the rows. Fails for want of memory alone.
+pub(crate) fn mount_on<'a>(
+    alloc: Global,
+    row: &'a HostMount,
+    number: usize,
+    here: usize,
+    parent: &Mount<'a>,
+    above: usize,
+) -> Result<Placed<'a>, AllocError>
+    ensures { IfOk result (λ placed. IsOn above number placed) }
+{
+    let (root, point) = (
+        below_root(row.root.as_slice()),
+        below_root(row.point.as_slice()),
+    );
+    if let Some(why) = why_pathless(root, point) {
+        return Ok(Placed::Left(why));
+    }
+    let lower = parent.row;
+    let Some(names) = path_behind(point, below_root(lower.point.as_slice())) else {
+        return Ok(Placed::Left(Reason::Elsewhere));
+    };
+    let place = one_behind(alloc, parent.root, names)?;
+    if is_too_deep(place.as_slice()) {
+        return Ok(Placed::Left(Reason::TooDeep));
+    }
+    let mount = Mount {
+        row,
+        number,
+        above,
+        root,
+        place,
+        lowest: here,
+        names,
+        level: 0,
+        base: parent.base,
+        is_base: false,
+    };
+    Ok(leveled(mount, parent, names.is_empty()))
+}

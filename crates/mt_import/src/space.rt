@@ -1,0 +1,60 @@
+//! A table with what a script makes of it.
+
+ghost use Rattle.std.specs.Prelude.{◌≡◌};
+ghost use Rattle.mt_import.specs.Telling.{is_shown};
+
+use crate::choice::{Left, is_made};
+use crate::groups::Groups;
+use crate::path::STAGE;
+use crate::tree::Tree;
+use crate::ways::{Way, ways_of};
+use std::alloc::{AllocError, Global};
+
+/// A table, and the namespace that is made of it.
+#[derive(Drop)]
+pub(crate) struct Space<'a> {
+    /// The number of the namespace, if the root mount is made: else that of the next one.
+    pub(crate) number: usize,
+    /// The mounts of the table.
+    pub(crate) tree: Tree<'a>,
+    /// Why mounts are left out.
+    pub(crate) left: Left,
+    /// How mounts come to their places.
+    pub(crate) ways: Vec<Way>,
+}
+
+impl<'a> Space<'a> {
+    /// Whether the root mount is made.
+    pub(crate) fn is_shown(&self) -> bool
+        ensures { result ≡ is_shown self.now }
+    {
+        is_made(self.left.as_slice(), 0)
+    }
+}
+
+/// The tables with what is made of them. Fails for want of memory alone.
+pub(crate) fn spaces_of<'a>(
+    alloc: Global,
+    trees: Vec<Tree<'a>>,
+    left: Vec<Left>,
+    groups: &Groups<'a>,
+) -> Result<Vec<Space<'a>>, AllocError> {
+    let mut spaces: Vec<Space<'a>> = Vec::new(alloc);
+    let mut others = left.into_iter();
+    let mut number = 1_usize;
+    for tree in trees {
+        let left = others.next().unwrap_or(Vec::new(alloc));
+        let ways = ways_of(alloc, groups, STAGE, tree.mounts())?;
+        let space = Space {
+            number,
+            tree,
+            left,
+            ways,
+        };
+        if space.is_shown() {
+            number = number.saturating_add(1);
+        }
+        spaces.push(space)?;
+    }
+    Ok(spaces)
+}

@@ -1,0 +1,194 @@
+//! The mounts of a table in the order in which they are made: what one stands on is begun before it, and what another one
+//! hides is made before that.
+ghost use Rattle.std.specs.Prelude.{◌≡◌, [], IfOk, OnOk};
+ghost use Rattle.mt_import.specs.Tree.{IsMakingOrder};
+ghost use Rattle.mt_import.specs.Growth.{IsGrowth};
+
+use crate::below::Below;
+use crate::growth::Growth;
+use crate::mount::{Mount, Turn};
+use crate::reason::Reason;
+use crate::told::HostMount;
+use crate::verdict::Verdict;
+use std::alloc::{AllocError, Global};
+use std::collections::BTreeSet;
+use std::marker::Model;
+
+/// The mounts of a table, and the turns of their making.
+#[derive(Drop)]
+pub(crate) struct Tree<'a> {
+    table: usize,
+    mounts: Vec<Mount<'a>>,
+    turns: Vec<Turn>,
+    verdicts: Vec<Verdict>,
+}
+
+impl<'a> Model for Tree<'a> {
+    ghost use Rattle.std.specs.Prelude.{[]};
+    ghost use Rattle.mt_import.specs.Tree.{TreeView, IsMakingOrder};
+
+    ghost Value = { TreeView };
+
+    ghost view = { λ t. record { table = t.table; mounts = t.mounts.items; turns = t.turns.items; verdicts = t.verdicts.items } };
+
+    ghost invariant = { λ t. IsMakingOrder t.mounts.items t.turns.items t.verdicts.items [] };
+}
+
+impl<'a> Tree<'a> {
+    /// The tree of the table of a number, with its mounts, their turns, and what becomes of each row.
+    pub(crate) fn new(
+        table: usize,
+        mounts: Vec<Mount<'a>>,
+        turns: Vec<Turn>,
+        verdicts: Vec<Verdict>,
+    ) -> Tree<'a>
+        requires { IsMakingOrder mounts.items turns.items verdicts.items [] }
+        ensures table { result.table ≡ table }
+    {
+        Tree {
+            table,
+            mounts,
+            turns,
+            verdicts,
+        }
+    }
+
+    /// The number of the table, from 1.
+    pub(crate) fn table(&self) -> usize
+        ensures { result ≡ self.now.table }
+    {
+        self.table
+    }
+
+    /// The mounts, each behind the one that it stands on.
+    pub(crate) fn mounts(&self) -> &[Mount<'a>]
+        ensures mounts { result.now ≡ self.now.mounts }
+        ensures kept { IsMakingOrder self.now.mounts self.now.turns self.now.verdicts [] }
+    {
+        self.mounts.as_slice()
+    }
+
+    /// What is done, in order.
+    pub(crate) fn turns(&self) -> &[Turn]
+        ensures { result.now ≡ self.now.turns }
+    {
+        self.turns.as_slice()
+    }
+
+    /// What becomes of each row.
+    pub(crate) fn verdicts(&self) -> &[Verdict]
+        ensures { result.now ≡ self.now.verdicts }
+    {
+        self.verdicts.as_slice()
+    }
+}
+
+/// The numbers of the mounts that rows tell. Rows of which the mount is told before are left out. Fails for want of memory
+/// alone.
+fn ids_of(
+    alloc: Global,
+    rows: &[HostMount],
+    growth: &mut Growth<'_>,
+) -> Result<BTreeSet<u64>, AllocError>
+    ensures kept { OnOk result (IsGrowth growth.old → IsGrowth growth.new) }
+{
+    let mut ids = BTreeSet::new(alloc);
+    'rows: for (number, row) in rows.iter().enumerate() {
+        if !ids.insert(row.id)? {
+            growth.leave_out(number, Reason::SecondLine);
+        }
+    }
+    Ok(ids)
+}
+
+/// Whether a row stands on none of the others.
+fn is_top(ids: &BTreeSet<u64>, row: &HostMount) -> bool {
+    row.parent == row.id || !ids.contains(&row.parent)
+}
+
+/// Which row is the root mount, if one is.
+fn root_of(ids: &BTreeSet<u64>, rows: &[HostMount]) -> Option<usize> {
+    rows.iter().position(|row| is_top(ids, row) && row.point.as_slice() == b"/".as_slice())
+}
+
+/// Adds a row to those that stand on others, or has it wait to be left out, if it stands on none. Fails for want of memory
+/// alone.
+fn sort_in<'a>(
+    below: &mut Vec<Below>,
+    ids: &BTreeSet<u64>,
+    row: &HostMount,
+    number: usize,
+    growth: &mut Growth<'a>,
+) -> Result<(), AllocError>
+    ensures kept { OnOk result (IsGrowth growth.old → IsGrowth growth.new) }
+{
+    if is_top(ids, row) {
+        growth.wait_for_row(number, Some(Reason::NoParent))?;
+        return Ok(());
+    }
+    below.push(Below::of(row, number))?;
+    Ok(())
+}
+
+/// The rows that stand on others, by the numbers of these, and by how many names lead to where they stand. Those that stand on
+/// none wait to be left out, but for that of the root mount. Fails for want of memory alone.
+fn sorted<'a>(
+    alloc: Global,
+    rows: &'a [HostMount],
+    ids: &BTreeSet<u64>,
+    root: usize,
+    growth: &mut Growth<'a>,
+) -> Result<Vec<Below>, AllocError>
+    ensures kept { OnOk result (IsGrowth growth.old → IsGrowth growth.new) }
+{
+    let mut below = Vec::new(alloc);
+    'rows: for (number, row) in rows.iter().enumerate() {
+        if number != root && growth.is_waiting(number) {
+            sort_in(&mut below, ids, row, number, growth)?;
+        }
+    }
+    below.sort_unstable_by_key(|row| (row.parent, row.names, row.number));
+    Ok(below)
+}
+
+/// Leaves out so many rows, for a reason.
+fn leave_all_out(growth: &mut Growth<'_>, count: usize, why: Reason)
+    ensures kept { IsGrowth growth.old → IsGrowth growth.new }
+{
+    'rows: for number in 0..count {
+        growth.leave_out(number, why);
+    }
+}
+
+/// Places the mounts that rows tell. Fails for want of memory alone.
+fn grow<'a>(alloc: Global, rows: &'a [HostMount], growth: &mut Growth<'a>) -> Result<(), AllocError>
+    ensures kept { OnOk result (IsGrowth growth.old → IsGrowth growth.new) }
+{
+    let ids = ids_of(alloc, rows, growth)?;
+    let Some(root) = root_of(&ids, rows) else {
+        leave_all_out(growth, rows.len(), Reason::NoRootMount);
+        return Ok(());
+    };
+    let below = sorted(alloc, rows, &ids, root, growth)?;
+    growth.wait_for_row(root, None)?;
+    growth.take_all(alloc, rows, below.as_slice())?;
+    Ok(())
+}
+
+/// The mounts that the rows of the table of a number tell, each with its place, and what becomes of each row: all are left out
+/// where a table before it tells the same. Fails for want of memory alone.
+pub(crate) fn tree_of<'a>(
+    alloc: Global,
+    table: usize,
+    rows: &'a [HostMount],
+    is_told: bool,
+) -> Result<Tree<'a>, AllocError>
+    ensures table { IfOk result (λ tree. tree.table ≡ table) }
+{
+    let mut growth = Growth::new(alloc, rows.len())?;
+    if is_told {
+        leave_all_out(&mut growth, rows.len(), Reason::SameTable);
+    }
+    grow(alloc, rows, &mut growth)?;
+    growth.grown(table)
+}
