@@ -74,8 +74,9 @@ pub(crate) fn import<I: Input + Drop, O: Output>(
     input: &mut LineReader<I>,
     out: &mut O,
 ) -> Result<(), ImportFault> {
-    let rows = read_rows(alloc, input)?;
-    let Ok(script) = script_of(alloc, rows.as_slice()) else {
+    let mut tables = Vec::new(alloc);
+    tables.push(read_rows(alloc, input)?)?;
+    let Ok(script) = script_of(alloc, tables.as_slice()) else {
         return Err(ImportFault::Run(Fault::NoMemory));
     };
     match send(out, script.text()) {

@@ -12,7 +12,7 @@ use mt_import::script::Script;
 use mt_import::told::HostMount;
 use mt_lines::line::LineReader;
 use mt_lines::stream::{Reading, Writing, send};
-use std::alloc::{AllocError, AllocFailed, Global};
+use std::alloc::{AllocError, AllocFailed};
 use std::fmt::{Display, Formatter};
 use std::fs::File;
 use std::io::ErrorKind;
@@ -116,20 +116,10 @@ fn read_tables(rt: &HostRuntime, files: &[String]) -> Result<Vec<Vec<HostMount>>
     Ok(tables)
 }
 
-/// The script that makes the namespaces of these tables. Refused as `NoMemory` alone.
-fn script_of_tables(alloc: Global, tables: &[Vec<HostMount>]) -> Result<Script, Refusal> {
-    let Some(table) = tables.first() else {
-        return Ok(Script::new(alloc));
-    };
-    let mut script = script_of(alloc, table.as_slice())?;
-    let _is = script.push(b"# table 1 is namespace 1")?;
-    Ok(script)
-}
-
 /// The script that makes the namespaces of the tables of these files, or the status, where it is said why there is none.
 pub(crate) fn script_of_files(rt: &HostRuntime, files: &[String]) -> Result<Script, ExitCode> {
     let tables = read_tables(rt, files)?;
-    match script_of_tables(rt.alloc(), tables.as_slice()) {
+    match script_of(rt.alloc(), tables.as_slice()) {
         Ok(script) => Ok(script),
         Err(_) => Err(PROGRAM.fail(rt, Fault::NoMemory.message())),
     }

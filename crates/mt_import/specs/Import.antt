@@ -9,10 +9,6 @@ use Rattle.mt_import.specs.Reading.{ToldMount}
 use Rattle.mt_import.specs.Spaces.{shown, spaces_text}
 use Rattle.mt_import.specs.Telling.{tables_text, space_comments, HasMakingOrder}
 
--- a text goes on behind another one
-abbrev pub GoesOn : List ℕ → List ℕ → Type 0
-GoesOn old new = (more : List ℕ) × (new ≡ old ++ more)
-
 -- Each row of each table has a mount in the tree of its table, or is told, with a reason. Each mount of a tree is told, with a reason, or made at its turns. In
 -- front of the turns the filesystems are made and what is staged, and between them the namespace that keeps masters.
 pub record IsImport (tables : List (List ToldMount)) (script : List ℕ) : Type 0 where

@@ -1,7 +1,7 @@
 //! The filesystems that are made, one for each device.
 ghost use Rattle.std.specs.Prelude.{◌≡◌, ◌++◌, IfOk, OnOk, IsOkUnless};
 ghost use Rattle.mt_import.specs.Commands.{mkfs_line};
-ghost use Rattle.mt_import.specs.Import.{GoesOn};
+ghost use Rattle.mt_skel.specs.Front.{IsFront};
 ghost use Rattle.mt_import.specs.Sources.{source_word};
 ghost use Rattle.mt_import.specs.Script.{is_script_line, line_text, super_comment};
 
@@ -121,7 +121,7 @@ fn make_filesystem(
     table: usize,
     row: &HostMount,
 ) -> Result<(), Fault>
-    ensures pushed { OnOk result (GoesOn script.old script.new) }
+    ensures pushed { OnOk result (IsFront script.old script.new) }
     ensures memory { IsOkUnless result Fault.NoMemory }
 {
     let device = row.device.as_slice();
@@ -180,7 +180,7 @@ fn tell_other<'a>(
     table: usize,
     row: &'a HostMount,
 ) -> Result<(), Fault>
-    ensures pushed { OnOk result (GoesOn script.old script.new) }
+    ensures pushed { OnOk result (IsFront script.old script.new) }
     ensures memory { IsOkUnless result Fault.NoMemory }
 {
     if !filesystems.differs(row) {
@@ -203,7 +203,7 @@ fn tell_others<'a>(
     filesystems: &Filesystems<'a>,
     space: &Space<'a>,
 ) -> Result<(), Fault>
-    ensures pushed { OnOk result (GoesOn script.old script.new) }
+    ensures pushed { OnOk result (IsFront script.old script.new) }
     ensures memory { IsOkUnless result Fault.NoMemory }
 {
     'mounts: for (number, mount) in space.tree.mounts().iter().enumerate() {
@@ -222,7 +222,7 @@ fn make_one(
     row: &HostMount,
     here: usize,
 ) -> Result<(), Fault>
-    ensures pushed { OnOk result (GoesOn script.old script.new) }
+    ensures pushed { OnOk result (IsFront script.old script.new) }
     ensures memory { IsOkUnless result Fault.NoMemory }
 {
     device_comment(alloc, script, row.device.as_slice(), here)?;
@@ -233,7 +233,7 @@ fn make_one(
 
 /// Makes the filesystems. Refused as `NoMemory` alone.
 fn make_all(alloc: Global, script: &mut Script, filesystems: &Filesystems<'_>) -> Result<(), Fault>
-    ensures pushed { OnOk result (GoesOn script.old script.new) }
+    ensures pushed { OnOk result (IsFront script.old script.new) }
     ensures memory { IsOkUnless result Fault.NoMemory }
 {
     let mut here = 1_usize;
@@ -253,7 +253,7 @@ pub(crate) fn make_filesystems<'a>(
     filesystems: &Filesystems<'a>,
     spaces: &[Space<'a>],
 ) -> Result<(), Fault>
-    ensures pushed { OnOk result (GoesOn script.old script.new) }
+    ensures pushed { OnOk result (IsFront script.old script.new) }
     ensures memory { IsOkUnless result Fault.NoMemory }
 {
     make_all(alloc, script, filesystems)?;

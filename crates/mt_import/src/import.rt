@@ -1,6 +1,7 @@
 //! The script that makes namespaces.
 ghost use Rattle.std.specs.Prelude.{map, OnOk, IfOk, IsOkUnless};
-ghost use Rattle.mt_import.specs.Import.{GoesOn, IsImport};
+ghost use Rattle.mt_skel.specs.Front.{IsFront};
+ghost use Rattle.mt_import.specs.Import.{IsImport};
 
 use crate::choice::Left;
 use crate::filesystems::make_filesystems;
@@ -54,7 +55,7 @@ fn make_front<'a>(
     plan: &Plan<'a>,
     spaces: &[Space<'a>],
 ) -> Result<(), Fault>
-    ensures pushed { OnOk result (GoesOn script.old script.new) }
+    ensures pushed { OnOk result (IsFront script.old script.new) }
     ensures memory { IsOkUnless result Fault.NoMemory }
 {
     make_filesystems(alloc, script, &plan.filesystems, spaces)?;

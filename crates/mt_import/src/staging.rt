@@ -1,7 +1,7 @@
 //! What is staged: a mount of each filesystem of which directories are bound, and a member of each peer group from which mounts
 //! are bound.
 ghost use Rattle.std.specs.Prelude.{OnOk, IsOkUnless};
-ghost use Rattle.mt_import.specs.Import.{GoesOn};
+ghost use Rattle.mt_skel.specs.Front.{IsFront};
 
 use crate::commands::{
     FIRST, SHARED, SLAVE, bind, copy_first, mount_filesystem, set_kind, unmount,
@@ -16,7 +16,7 @@ use std::alloc::Global;
 
 /// Stages a mount of a filesystem. Refused as `NoMemory` alone.
 fn stage_plain(alloc: Global, script: &mut Script, device: &[u8]) -> Result<(), Fault>
-    ensures pushed { OnOk result (GoesOn script.old script.new) }
+    ensures pushed { OnOk result (IsFront script.old script.new) }
     ensures memory { IsOkUnless result Fault.NoMemory }
 {
     let slot = name_slot(alloc, device)?;
@@ -26,7 +26,7 @@ fn stage_plain(alloc: Global, script: &mut Script, device: &[u8]) -> Result<(), 
 
 /// Stages a mount of each filesystem of which directories are bound. Refused as `NoMemory` alone.
 fn stage_plains(alloc: Global, script: &mut Script, plan: &Plan<'_>) -> Result<(), Fault>
-    ensures pushed { OnOk result (GoesOn script.old script.new) }
+    ensures pushed { OnOk result (IsFront script.old script.new) }
     ensures memory { IsOkUnless result Fault.NoMemory }
 {
     'devices: for device in plan.plains.iter() {
@@ -42,7 +42,7 @@ fn stage_below(
     group: &Group<'_>,
     slot: &[u8],
 ) -> Result<(), Fault>
-    ensures pushed { OnOk result (GoesOn script.old script.new) }
+    ensures pushed { OnOk result (IsFront script.old script.new) }
     ensures memory { IsOkUnless result Fault.NoMemory }
 {
     let Some(master) = group.master else {
@@ -64,7 +64,7 @@ fn stage_group(
     number: u64,
     here: usize,
 ) -> Result<(), Fault>
-    ensures pushed { OnOk result (GoesOn script.old script.new) }
+    ensures pushed { OnOk result (IsFront script.old script.new) }
     ensures memory { IsOkUnless result Fault.NoMemory }
 {
     let Some(group) = plan.groups.get(number) else {
@@ -80,7 +80,7 @@ fn stage_group(
 
 /// Stages a member of each group from which mounts are bound, those above others first. Refused as `NoMemory` alone.
 fn stage_groups(alloc: Global, script: &mut Script, plan: &Plan<'_>) -> Result<(), Fault>
-    ensures pushed { OnOk result (GoesOn script.old script.new) }
+    ensures pushed { OnOk result (IsFront script.old script.new) }
     ensures memory { IsOkUnless result Fault.NoMemory }
 {
     'groups: for (before, number) in plan.staged.iter().enumerate() {
@@ -91,7 +91,7 @@ fn stage_groups(alloc: Global, script: &mut Script, plan: &Plan<'_>) -> Result<(
 
 /// Makes the first namespace, with what is staged. Refused as `NoMemory` alone.
 pub(crate) fn stage(alloc: Global, script: &mut Script, plan: &Plan<'_>) -> Result<(), Fault>
-    ensures pushed { OnOk result (GoesOn script.old script.new) }
+    ensures pushed { OnOk result (IsFront script.old script.new) }
     ensures memory { IsOkUnless result Fault.NoMemory }
 {
     command(alloc, script, &[b"newns", STAGE_FS])?;
@@ -102,7 +102,7 @@ pub(crate) fn stage(alloc: Global, script: &mut Script, plan: &Plan<'_>) -> Resu
 
 /// Unmounts what is staged under a name in the namespace that keeps masters. Refused as `NoMemory` alone.
 fn unstage(alloc: Global, script: &mut Script, space: &[u8], name: &[u8]) -> Result<(), Fault>
-    ensures pushed { OnOk result (GoesOn script.old script.new) }
+    ensures pushed { OnOk result (IsFront script.old script.new) }
     ensures memory { IsOkUnless result Fault.NoMemory }
 {
     let slot = name_slot(alloc, name)?;
@@ -117,7 +117,7 @@ fn unstage_groups(
     plan: &Plan<'_>,
     space: &[u8],
 ) -> Result<(), Fault>
-    ensures pushed { OnOk result (GoesOn script.old script.new) }
+    ensures pushed { OnOk result (IsFront script.old script.new) }
     ensures memory { IsOkUnless result Fault.NoMemory }
 {
     'groups: for number in plan.staged.iter() {
@@ -136,7 +136,7 @@ fn unstage_plains(
     plan: &Plan<'_>,
     space: &[u8],
 ) -> Result<(), Fault>
-    ensures pushed { OnOk result (GoesOn script.old script.new) }
+    ensures pushed { OnOk result (IsFront script.old script.new) }
     ensures memory { IsOkUnless result Fault.NoMemory }
 {
     'devices: for device in plan.plains.iter() {
@@ -160,7 +160,7 @@ pub(crate) fn make_keeper(
     plan: &Plan<'_>,
     number: usize,
 ) -> Result<(), Fault>
-    ensures pushed { OnOk result (GoesOn script.old script.new) }
+    ensures pushed { OnOk result (IsFront script.old script.new) }
     ensures memory { IsOkUnless result Fault.NoMemory }
 {
     if !has_unseen(plan) {

@@ -1,6 +1,6 @@
-use Rattle.mt_import.specs.Import.{GoesOn}
+use Rattle.mt_skel.specs.Front.{IsFront}
 use Rattle.mt_import.proofs.staging.unstage_groups.Given as goal
 
 -- the script goes on
 abbrev pub invariant-groups : goal.invariant-groups
-invariant-groups l = GoesOn l.initial.script l.script
+invariant-groups l = IsFront l.initial.script l.script
