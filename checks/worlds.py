@@ -149,7 +149,7 @@ def check_same(program, mountctl):
     table = [line for line in mountinfos.HOST.split(b"\n") if line]
     world = check_world(program, mountctl, "a table given twice", [table, table])
     again = [line for line in world.script if line.startswith(b"# table 2: ")]
-    check("a table given twice is told", all(b"table 1" in line for line in again) and len(again) >= len(table), shown(b"\n".join(again)))
+    check("a table given twice is told", all(b" is left out: its table is told before: " in line for line in again) and len(again) >= len(table), shown(b"\n".join(again)))
 
 
 def check_files(mountctl):

@@ -5,12 +5,15 @@ use Rattle.mt_import.specs.declared.groups.Group.{Group}
 use Rattle.mt_import.specs.Groups.{is_alone}
 use Rattle.mt_import.specs.Making.{attributes_text, late_options, waits, share_text}
 use Rattle.mt_import.specs.Reading.{ToldMount}
+use Rattle.mt_import.specs.Script.{alone_comment}
+use Rattle.mt_import.proofs.CommandLaws.{two_pushed}
 
 -- one that is alone in its group is made shared
-pub share_pushed : (groups : BTreeMap ℕ Group) (space : List ℕ) (row : ToldMount) (path options old new : List ℕ) → is_alone groups row.shared ≡ true
-    → options ≡ late_options (waits groups row) row.options → new ≡ old ++ attributes_text space options path (Some (codes "prop=shared"))
-    → new ≡ old ++ share_text groups space row path
+pub share_pushed : (groups : BTreeMap ℕ Group) (space : List ℕ) (row : ToldMount) (path options old told new : List ℕ) → is_alone groups row.shared ≡ true
+    → options ≡ late_options (waits groups row) row.options → told ≡ old ++ alone_comment row.shared
+    → new ≡ told ++ attributes_text space options path (Some (codes "prop=shared")) → new ≡ old ++ share_text groups space row path
 unfolding share_text
-share_pushed groups space row path options old new alone is e =
-    e ∙ ap (λ o. old ++ attributes_text space o path (Some (codes "prop=shared"))) is
-    ∙ ap (λ b. old ++ (if b then attributes_text space (late_options (waits groups row) row.options) path (Some (codes "prop=shared")) else [])) (sym alone)
+share_pushed groups space row path options old told new alone is d e =
+    two_pushed old told new (alone_comment row.shared) (attributes_text space options path (Some (codes "prop=shared"))) d e
+    ∙ ap (λ o. old ++ (alone_comment row.shared ++ attributes_text space o path (Some (codes "prop=shared")))) is
+    ∙ ap (λ b. old ++ (if b then alone_comment row.shared ++ attributes_text space (late_options (waits groups row) row.options) path (Some (codes "prop=shared")) else [])) (sym alone)

@@ -9,7 +9,7 @@ use Rattle.mt_import.specs.Commands.{mount_text, bind_text}
 use Rattle.mt_import.specs.Groups.{receiving, source_group, is_alone}
 use Rattle.mt_import.specs.Options.{options_text}
 use Rattle.mt_import.specs.Paths.{path_word}
-use Rattle.mt_import.specs.Script.{line_or_comment}
+use Rattle.mt_import.specs.Script.{line_or_comment, alone_comment}
 use Rattle.mt_import.specs.Slots.{staged_path, group_path}
 
 -- options and the propagation of a mount are set, if there is anything to set
@@ -50,11 +50,11 @@ bare_text groups space at mount path =
     made_text space at (source_group groups mount.row.now.shared mount.row.now.master) mount.row.now.device mount.root.now path
     ++ (if waits groups mount.row.now then [] else attributes_text space mount.row.now.options path (first_kind groups mount.row.now))
 
--- one that is alone in its group becomes a member of it, with the options that wait for it
+-- one that is alone in its group becomes a member of it, which a comment tells, with the options that wait for it
 abbrev pub late_options : Bool → List ℕ → List ℕ
 late_options true options = options
 late_options false options = codes "relatime"
 
 unfoldable pub share_text : BTreeMap ℕ Group → List ℕ → ToldMount → List ℕ → List ℕ
 share_text groups space row path =
-    if is_alone groups row.shared then attributes_text space (late_options (waits groups row) row.options) path (Some (codes "prop=shared")) else []
+    if is_alone groups row.shared then alone_comment row.shared ++ attributes_text space (late_options (waits groups row) row.options) path (Some (codes "prop=shared")) else []

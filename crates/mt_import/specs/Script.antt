@@ -89,6 +89,14 @@ mount_comment table row (Some why) = left_out_text table row why
 unfoldable pub group_comment : List ℕ → ℕ → List ℕ
 group_comment group here = line_text (flat_map (λ x. x) (codes "# shared:" ∷ group ∷ codes " of the tables is shared:" ∷ decimal here ∷ []))
 
+-- which group a mount comes into that is alone in it
+unfoldable pub next_comment : ℕ → List ℕ
+next_comment group = line_text (flat_map (λ x. x) (codes "# the next line makes shared:" ∷ decimal group ∷ codes " of the tables" ∷ []))
+
+abbrev pub alone_comment : Option ℕ → List ℕ
+alone_comment None = []
+alone_comment (Some group) = next_comment group
+
 unfoldable pub device_comment : List ℕ → ℕ → List ℕ
 device_comment device here = line_text (flat_map (λ x. x) (codes "# " ∷ device ∷ codes " is filesystem " ∷ decimal here ∷ []))
 

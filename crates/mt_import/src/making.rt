@@ -11,7 +11,7 @@ use crate::path::path_word;
 use crate::script::Script;
 use crate::slots::{group_path, staged_path};
 use crate::told::HostMount;
-use crate::writer::{joined, push_command};
+use crate::writer::{alone_comment, joined, push_command};
 use mt_skel::fault::Fault;
 use std::alloc::Global;
 
@@ -180,6 +180,7 @@ pub(crate) fn share_alone(
     if !site.groups.is_alone(row.shared) {
         return Ok(());
     }
+    alone_comment(site.alloc, script, row.shared)?;
     let options = late_options(waits(site.groups, row), row.options.as_slice());
     set_attributes(site, script, options, path, Some(SHARED))?;
     Ok(())

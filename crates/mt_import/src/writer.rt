@@ -1,7 +1,7 @@
 //! The lines of the script, made of their words.
 ghost use Rattle.std.specs.Prelude.{◌≡◌, ◌∷◌, ◌++◌, map, take, decimal, IfOk, OnOk, IsOkUnless};
 ghost use Rattle.std.specs.List.{flat_map, join_with_byte};
-ghost use Rattle.mt_import.specs.Script.{line_text, line_or_comment, command_text, comment_text, left_out_text, group_comment, rootless_comment, space_comment, keeper_comment, device_comment};
+ghost use Rattle.mt_import.specs.Script.{line_text, line_or_comment, command_text, comment_text, left_out_text, group_comment, next_comment, alone_comment, rootless_comment, space_comment, keeper_comment, device_comment};
 
 use crate::reason::Reason;
 use crate::script::Script;
@@ -184,6 +184,41 @@ pub(crate) fn group_comment(
             number.as_slice(),
         ],
     )?;
+    Ok(())
+}
+
+/// Says which group of the tables the next line makes. Refused as `NoMemory` alone.
+#[tactic(auto, unfolding(crate::specs::Script::next_comment))]
+fn next_comment(alloc: Global, script: &mut Script, group: u64) -> Result<(), Fault>
+    ensures pushed { OnOk result (script.new ≡ script.old ++ next_comment group) }
+    ensures memory { IsOkUnless result Fault.NoMemory }
+{
+    let digits = digits_of(alloc, group)?;
+    push_comment(
+        alloc,
+        script,
+        &[
+            b"# the next line makes shared:",
+            digits.as_slice(),
+            b" of the tables",
+        ],
+    )?;
+    Ok(())
+}
+
+/// Says which group of the tables the next line makes, if it makes one. Refused as `NoMemory` alone.
+pub(crate) fn alone_comment(
+    alloc: Global,
+    script: &mut Script,
+    group: Option<u64>,
+) -> Result<(), Fault>
+    ensures pushed { OnOk result (script.new ≡ script.old ++ alone_comment group) }
+    ensures memory { IsOkUnless result Fault.NoMemory }
+{
+    let Some(group) = group else {
+        return Ok(());
+    };
+    next_comment(alloc, script, group)?;
     Ok(())
 }
 
