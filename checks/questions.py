@@ -1,4 +1,5 @@
 """What `mountctl what-if` tells: what a line changes in the namespaces of tables. A module, a part of server.py."""
+import concurrent.futures
 import itertools
 import os
 import re
@@ -6,9 +7,9 @@ import tempfile
 
 from imported import SPACE, files_of
 from matching import rows_of
-from running import answer_groups, check, library, run, session, shown
+from running import answer_groups, check, connection_fault, library, run, session, shown
 from scripts import Author
-from serving import Server
+from serving import Door, Server
 from worlds import worlds
 
 # How many worlds are asked about, and how many lines of each.
@@ -127,6 +128,27 @@ def check_refused(program, mountctl):
     print(f"{len(said) - 1} allocations of a question refused in turn", flush=True)
 
 
+def check_cut(program, mountctl):
+    """Where the connection ends before all answers have come, this is said, and what was printed before is whole."""
+    line = ["setattr", "1", "/", "rec", "set=ro"]
+    with files_of([TABLE[:2]]) as names:
+        commands = [row for row in run(mountctl, b"", "import", *names)[1].splitlines() if not row.startswith(b"#")]
+        whole = session(program, [b"show 1", *commands, b"watch all", " ".join(line).encode(), b"close"])[1]
+        begun = whole.count(b"\n", 0, whole.index(b"\nspace ")) - 1
+        lines, plain = whole.splitlines(keepends=True), asked(program, mountctl, names, line)
+        cuts = [sum(map(len, lines[:begun])), *range(whole.index(b"\nspace "), len(whole) + 1)]
+        printed = {b"".join(plain[1].splitlines(keepends=True)[:count]) for count in (0, 1, 3)}
+        with concurrent.futures.ThreadPoolExecutor(1) as pool:
+            for cut in cuts:
+                with Door() as door:
+                    running = pool.submit(run, mountctl, b"", door.path, "what-if", *names, "--", *line)
+                    sent = door.answers(whole[:cut])
+                    found = running.result()
+                good = found == plain if cut == len(whole) else (found[0], found[2]) == (3, connection_fault(door.path)) and found[1] in printed
+                check(f"a question whose answers are cut at byte {cut}", good and sent.startswith(b"show 1\n" + b"\n".join(commands)), repr(found))
+    print(f"{len(cuts)} cuts of the answers to a question", flush=True)
+
+
 def check_words(mountctl):
     """Words that are no question are refused, and no server is looked for."""
     with files_of([TABLE]) as [name]:
@@ -141,4 +163,5 @@ def check_questions(program, mountctl):
     check_words(mountctl)
     check_by_hand(program, mountctl)
     check_refused(program, mountctl)
+    check_cut(program, mountctl)
     check_random(program, mountctl)
