@@ -7,7 +7,6 @@ Lines that are none are refused by their number, and streams that fail and memor
 """
 import os
 import random
-import re
 import tempfile
 
 import cases
@@ -35,30 +34,17 @@ COMMANDS = 10, 30, 60
 ANY_TABLES = 500
 ANY_WHOLE = 137
 
-# Where a table has mounts that are left out: the old root mount stands on the new one at its root, where a pivot alone
-# puts it, and a script has none.
-PIVOTED = ["case pivot-refusals"]
+# Where a table has mounts that are left out: one stands on the root of a root mount that has a peer, and no path leads there.
+COVERED = ["case rbind-into-itself"]
 
 # The most rows of a random table that is imported.
 MOST_ROWS = 400
-
-# What a script says of a root mount that it makes show the root of its filesystem, in the place of another directory.
-AS_ROOT = re.compile(rb"# mount (\d+) is the root mount, and shows the root of its filesystem here: ")
-
-
-def root_shown(name, lines, script, kept):
-    """These rows, of which the root mount shows the root of its filesystem where a script says so of it."""
-    numbers = {row_of(line).id for line in lines}
-    whole = {int(found[1]) for found in map(AS_ROOT.match, script) if found}
-    others = {row.id for row in kept if row.parent not in numbers - {row.id} and row.rest[0] != b"/"}
-    check(f"{name}: a root mount that shows another directory is told", whole == others, "\n".join(map(shown, script)))
-    return [row._replace(rest=(b"/", *row.rest[1:])) if row.id in whole else row for row in kept]
 
 
 def made_rows(name, lines, script):
     """The rows of the mounts that the script makes, as it makes them. All that it leaves out is told."""
     check_super_options(name, made_lines(lines, script), script)
-    return root_shown(name, lines, script, kept_rows(name, lines, script))
+    return kept_rows(name, lines, script)
 
 
 def imported(mountctl, text):
@@ -138,7 +124,7 @@ def check_tables(program, mountctl):
         worlds[f"world {seed}"] = [*directories(), *(random_command(source) for _ in range(source.choice(COMMANDS)))]
     whole = [(name, check_table(program, mountctl, f"import of {name}", table)) for name, lines in worlds.items() for table in tables(program, lines)]
     partly = [name for name, is_whole in whole if not is_whole]
-    check("tables are imported as a whole", partly == PIVOTED, ", ".join(partly))
+    check("tables are imported as a whole", partly == COVERED, ", ".join(partly))
     print(f"{len(whole)} tables imported, {len(partly)} with mounts left out")
 
 
@@ -146,13 +132,10 @@ def check_partly(program, mountctl):
     """Tables of which mounts are left out: which, and why; the others are made."""
     for number, table in enumerate(mountinfos.PARTLY):
         lines = [line if isinstance(line, bytes) else line[0] for line in table]
-        wanted = {b"# mount %s is left out: %s: %s" % (line[0].split(b" ")[0], line[1], line[0]) for line in table if isinstance(line, tuple)}
-        found = {line for line in imported(mountctl, b"".join(line + b"\n" for line in lines))[1].split(b"\n") if line.startswith(b"#")}
+        wanted = {b"# table 1: mount %s is left out: %s: %s" % (line[0].split(b" ")[0], line[1], line[0]) for line in table if isinstance(line, tuple)}
+        found = {line for line in imported(mountctl, b"".join(line + b"\n" for line in lines))[1].split(b"\n") if b" is left out: " in line}
         check(f"what is left out of table {number}", found == wanted, shown(b"\n".join(found)))
         check_table(program, mountctl, f"import of table {number}, of which mounts are left out", lines)
-    for groups in mountinfos.MOST_KEPT, mountinfos.MOST_KEPT + 1:
-        whole = check_table(program, mountctl, f"import of mounts of {groups} groups", list(mountinfos.many_kept(groups)))
-        check(f"mounts of {groups} groups are kept", whole == (groups <= mountinfos.MOST_KEPT))
     for groups in mountinfos.MOST_ABOVE + 1, mountinfos.MOST_ABOVE + 2:
         whole = check_table(program, mountctl, f"import of {groups} groups, each above the next", list(mountinfos.masters(groups)))
         check(f"{groups} groups, each above the next, are made", whole == (groups <= mountinfos.MOST_ABOVE + 1))
@@ -195,7 +178,7 @@ def check_lines(mountctl):
     check("import of a line without end", found == (1, b"", b"mountctl: line 1 is no row of a mountinfo\n"), repr(found))
     check("import of nothing", imported(mountctl, b"")[0] == 0)
     check_words(mountctl, good)
-    comments = [line for line in imported(mountctl, mountinfos.ODD)[1].split(b"\n") if line.startswith(b"#")]
+    comments = [line for line in imported(mountctl, mountinfos.ODD)[1].split(b"\n") if b" is left out: " in line]
     check("import of a table that no kernel prints", comments == mountinfos.ODD_COMMENTS, shown(b"\n".join(comments)))
     found = imported(mountctl, mountinfos.ROOTLESS)
     check("import of a table without a root mount", found == (0, mountinfos.ROOTLESS_SCRIPT, b""), repr(found))

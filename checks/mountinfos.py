@@ -27,47 +27,48 @@ ODD = b"""\
 8 7 0:2 / /x rw - tmpfs none rw
 """
 ODD_COMMENTS = [
-    b"# mount 2 has one more line, which is left out: 2 1 0:3 / /b rw - tmpfs none rw",
-    b"# mount 7 is left out: it stands elsewhere than below its parent: 7 2 0:2 / / rw - tmpfs none rw",
-    b"# mount 8 is left out: what it stands on is left out: 8 7 0:2 / /x rw - tmpfs none rw",
-    b"# mount 3 is left out: it stands on no other: 3 9 0:2 / /c rw - tmpfs none rw",
-    b"# mount 4 is left out: what it stands on is left out: 4 3 0:2 / /c/d rw - tmpfs none rw",
-    b"# mount 6 is left out: its parents go round in a ring: 6 5 0:2 / /e rw - tmpfs none rw",
-    b"# mount 5 is left out: its parents go round in a ring: 5 6 0:2 / /e/f rw - tmpfs none rw",
+    b"# table 1: mount 2 is left out: a line before it tells its mount: 2 1 0:3 / /b rw - tmpfs none rw",
+    b"# table 1: mount 3 is left out: it stands on no other: 3 9 0:2 / /c rw - tmpfs none rw",
+    b"# table 1: mount 4 is left out: what it stands on is left out: 4 3 0:2 / /c/d rw - tmpfs none rw",
+    b"# table 1: mount 5 is left out: its parents go round in a ring: 5 6 0:2 / /e/f rw - tmpfs none rw",
+    b"# table 1: mount 6 is left out: its parents go round in a ring: 6 5 0:2 / /e rw - tmpfs none rw",
+    b"# table 1: mount 7 is left out: it stands elsewhere than below its parent: 7 2 0:2 / / rw - tmpfs none rw",
+    b"# table 1: mount 8 is left out: what it stands on is left out: 8 7 0:2 / /x rw - tmpfs none rw",
 ]
 
-# Tables of which a mount is left out, each line that is, and why. A mount stands at the root of the namespace, and is
-# unbindable, or the second there, or has a group or master in common with the root mount, or is one on which another stands;
-# and copies of a mount get what is mounted where they stand, where a mount of no group stands, which may not go with them.
-# Rows tell of their peer groups what cannot be: another device or master than one before, a ring of masters, a group above the
-# master that is none of those in sight, or a group of a mount that is unbindable. And two rows tell of one place.
-AT_ROOT, TOO_HIGH = b"it stands at the root of the namespace", b"no path leads to what it stands on"
-ON_LEFT, WITH_COPIES = b"what it stands on is left out", b"another mount would go with its copies"
+# Tables of which a mount may be left out, each line that is, and why. Mounts stand on the root of the root mount, unbindable, or one
+# on the other; one of them stands on a peer, to which no path leads. Copies of a mount get what is mounted where they stand. Rows tell
+# of their peer groups what cannot be: another device or master than one before, a ring of masters, a group above the master that is none
+# of those in sight, or a group of a mount that is unbindable. And two rows tell of one place.
+AT_ROOT = b"it stands on the root of one that has peers at the root of the namespace"
+ON_LEFT, SCRIPT_NAME = b"what it stands on is left out", b"its path has the name that the script uses"
 NO_GROUPS, SAME_PLACE = b"its peer groups cannot be as it tells them", b"another mount stands in its place"
 PARTLY = [
-    [b"1 1 0:1 / / rw - tmpfs none rw", (b"2 1 0:2 / / rw unbindable - tmpfs none rw", AT_ROOT)],
+    [b"1 1 0:1 / / rw - tmpfs none rw", b"2 1 0:2 / / rw unbindable - tmpfs none rw"],
     [
         b"1 1 0:1 / / rw - tmpfs none rw",
-        (b"2 1 0:2 / / rw - tmpfs none rw", AT_ROOT),
+        (b"2 1 0:2 / / rw - tmpfs none rw", SAME_PLACE),
         b"3 1 0:3 / / rw,nosuid - tmpfs none rw",
         (b"4 2 0:3 / /x rw - tmpfs none rw", ON_LEFT),
-        (b"5 3 0:3 / / rw - tmpfs none rw", TOO_HIGH),
+        b"5 3 0:3 / / rw shared:1 - tmpfs none rw",
         b"6 1 0:3 / /x rw - tmpfs none rw",
+        (b"7 6 0:3 / /x/.import rw - tmpfs none rw", SCRIPT_NAME),
     ],
     [
         b"1 1 0:1 / / rw shared:1 - tmpfs none rw",
         (b"2 1 0:1 /a / rw shared:1 - tmpfs none rw", AT_ROOT),
         b"3 1 0:1 /a /b rw shared:1 - tmpfs none rw",
+        (b"4 2 0:2 / /c rw - tmpfs none rw", ON_LEFT),
     ],
     [
         b"1 1 0:1 / / rw shared:1 master:3 - tmpfs none rw",
-        (b"2 1 0:1 /a / rw master:3 - tmpfs none rw", AT_ROOT),
+        b"2 1 0:1 /a / rw master:3 - tmpfs none rw",
     ],
     [
         b"1 1 0:1 / / rw - tmpfs none rw",
         b"2 1 0:2 / /a rw shared:1 - tmpfs none rw",
         b"3 1 0:2 / /b rw shared:1 - tmpfs none rw",
-        (b"4 2 0:2 /p /a/p rw shared:1 - tmpfs none rw", WITH_COPIES),
+        b"4 2 0:2 /p /a/p rw shared:1 - tmpfs none rw",
         b"5 3 0:3 / /b/p rw - tmpfs none rw",
     ],
     [
@@ -98,20 +99,6 @@ PARTLY = [
         (b"2 1 0:2 / /a rw - tmpfs none rw", ON_LEFT),
     ],
 ]
-
-# As many mounts as are kept, and no more, where copies of another one come.
-MOST_KEPT = 256
-
-
-def many_kept(groups):
-    """A table with a mount in each of so many groups, on a peer of a mount; and on that one of which the copies show where they stand."""
-    yield b"1 1 0:1 / / rw - tmpfs none rw"
-    for number in range(groups + 1):
-        yield b"%d 1 0:2 / /%d rw shared:1 - tmpfs none rw" % (number + 2, number)
-    yield b"1000 2 0:2 /p /0/p rw shared:1 - tmpfs none rw"
-    for number in range(1, groups + 1):
-        yield b"%d %d 0:3 / /%d/p rw shared:%d - tmpfs none rw" % (2_000 + number, number + 2, number, number + 1)
-
 
 # As many groups as may be above one.
 MOST_ABOVE = 64
@@ -158,9 +145,9 @@ ROOTLESS = b"""\
 37 36 0:9 / /mnt2/a rw - tmpfs a: rw
 """
 ROOTLESS_SCRIPT = b"""\
-# no mount is the root of a namespace
-# mount 36 is left out: there is no root mount: 36 35 98:0 /mnt1 /mnt2 rw,noatime master:1 - ext3 /dev/root rw,errors=continue
-# mount 37 is left out: there is no root mount: 37 36 0:9 / /mnt2/a rw - tmpfs a: rw
+# table 1: mount 36 is left out: there is no root mount: 36 35 98:0 /mnt1 /mnt2 rw,noatime master:1 - ext3 /dev/root rw,errors=continue
+# table 1: mount 37 is left out: there is no root mount: 37 36 0:9 / /mnt2/a rw - tmpfs a: rw
+# table 1 has no root mount
 """
 
 # A row that is longer than a line of a script may be.

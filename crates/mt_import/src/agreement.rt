@@ -1,6 +1,6 @@
 //! Whether rows tell the same of peer groups.
 
-use crate::groups::{Groups, MOST_ABOVE};
+use crate::groups::{Groups, MOST_CHAIN};
 use crate::reason::Reason;
 use crate::told::HostMount;
 
@@ -73,7 +73,7 @@ fn agrees(groups: &Groups<'_>, row: &HostMount, table: usize) -> bool {
 
 /// Why a mount cannot be made by its peer groups, if it cannot.
 pub(crate) fn why_groupless(groups: &Groups<'_>, row: &HostMount, table: usize) -> Option<Reason> {
-    if groups.height(row.shared.or(row.master)) > MOST_ABOVE {
+    if groups.height(row.shared.or(row.master)) > MOST_CHAIN {
         return Some(Reason::TooLow);
     }
     if !agrees(groups, row, table) {

@@ -9,8 +9,10 @@ use crate::told::HostMount;
 use std::alloc::{AllocError, Global};
 use std::collections::{BTreeMap, BTreeSet};
 
-/// The most groups above one of which mounts are made.
+/// The most groups above one of which mounts are made, and the same with that one.
 pub(crate) const MOST_ABOVE: usize = 64;
+
+pub(crate) const MOST_CHAIN: usize = MOST_ABOVE + 1;
 
 /// What rows tell of a peer group.
 #[derive(Clone, Copy)]
@@ -92,16 +94,16 @@ impl<'a> Groups<'a> {
         false
     }
 
-    /// How many groups are above one, itself among them; `MOST_ABOVE` and 1 where there are more.
+    /// How many groups are above one, itself among them; `MOST_CHAIN` and 1 where there are more.
     pub(crate) fn height(&self, first: Option<u64>) -> usize {
         let mut next = first;
-        for step in 0..=MOST_ABOVE {
+        for step in 0..=MOST_CHAIN {
             let Some(number) = next else {
                 return step;
             };
             next = self.above(number);
         }
-        MOST_ABOVE + 1
+        MOST_CHAIN + 1
     }
 
     /// The nearest group that is this one or above it and has a member in a table.
@@ -279,7 +281,7 @@ impl<'a> Groups<'a> {
         let mut pairs = Vec::new(alloc);
         for pair in self.beyond.iter() {
             let (low, high) = *pair;
-            let below_top = MOST_ABOVE.saturating_sub(self.height(Some(high)));
+            let below_top = MOST_CHAIN.saturating_sub(self.height(Some(high)));
             pairs.push((low, below_top, high))?;
         }
         pairs.sort_unstable();

@@ -48,7 +48,7 @@ fn trees_of(alloc: Global, tables: &[Vec<HostMount>]) -> Result<Vec<Tree<'_>>, A
     Ok(trees)
 }
 
-/// Makes the filesystems and their directories, and what is staged. Refused as `NoMemory` alone.
+/// Makes the filesystems and their directories, and what is staged, if there is a namespace to make. Refused as `NoMemory` alone.
 fn make_front<'a>(
     alloc: Global,
     script: &mut Script,
@@ -58,6 +58,9 @@ fn make_front<'a>(
     ensures pushed { OnOk result (IsFront script.old script.new) }
     ensures memory { IsOkUnless result Fault.NoMemory }
 {
+    if !spaces.iter().any(|space| space.is_shown()) {
+        return Ok(());
+    }
     make_filesystems(alloc, script, &plan.filesystems, spaces)?;
     command(alloc, script, &[b"mkfs", STAGE_FS, b"import", b"none"])?;
     plan.directories.make(alloc, script)?;

@@ -6,6 +6,7 @@ use crate::filesystems::{Filesystems, filesystems_of};
 use crate::groups::{Groups, MOST_ABOVE};
 use crate::needs::{directories_of, plains_of};
 use crate::reason::Reason;
+use crate::staging::has_unseen;
 use crate::tree::Tree;
 use std::alloc::{AllocError, Global};
 use std::collections::{BTreeMap, BTreeSet};
@@ -22,8 +23,14 @@ const MOST_FILESYSTEMS: usize = 256;
 /// By how many mounts more it is tried, one step after another, how many find room.
 const STEPS: [usize; 13] = [4_096, 2_048, 1_024, 512, 256, 128, 64, 32, 16, 8, 4, 2, 1];
 
-/// How many namespaces have what is staged at a time: the first one, and the one that is made.
-const STAGES: usize = 2;
+/// How many namespaces have what is staged at a time: the first one alone, or beside it the copy that is made.
+fn stages(left: &[Left], plan: &Plan<'_>) -> usize {
+    let shown = left
+        .iter()
+        .filter(|tree| is_made(tree.as_slice(), 0))
+        .count();
+    if shown > 1 || has_unseen(plan) { 2 } else { 1 }
+}
 
 /// What mounts need that are made.
 #[derive(Drop)]
@@ -150,8 +157,9 @@ fn mounts_at_once(
     plan: &Plan<'_>,
 ) -> Result<usize, AllocError> {
     let mut receivers = receivers_of(alloc, trees, left, &plan.groups)?;
+    let stages = stages(left, plan);
     for group in plan.staged.iter() {
-        receivers.add(&plan.groups, Some(*group), STAGES)?;
+        receivers.add(&plan.groups, Some(*group), stages)?;
     }
     let isolated = receivers.most(plan.staged.as_slice()).saturating_add(1);
     let staged = plan
@@ -161,7 +169,7 @@ fn mounts_at_once(
         .saturating_add(4);
     Ok(
         made_count(left)
-            .saturating_add(staged.saturating_mul(STAGES))
+            .saturating_add(staged.saturating_mul(stages))
             .saturating_add(isolated.saturating_mul(3)),
     )
 }

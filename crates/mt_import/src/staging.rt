@@ -146,7 +146,7 @@ fn unstage_plains(
 }
 
 /// Whether a group is staged of which no table has a member.
-fn has_unseen(plan: &Plan<'_>) -> bool {
+pub(crate) fn has_unseen(plan: &Plan<'_>) -> bool {
     plan.staged
         .iter()
         .any(|group| plan.groups.is_unseen(*group))
