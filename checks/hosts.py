@@ -10,11 +10,13 @@ Where the machine allows no namespaces, this is said, and its own table is impor
 import contextlib
 import multiprocessing
 import os
+import re
 import tempfile
 
 import syscalls
 from imported import Imported, check_world
-from running import read
+from running import check, read, run, shown
+from serving import Server
 
 FORKING = multiprocessing.get_context("fork")
 
@@ -142,6 +144,20 @@ def mounted_steps(folder):
     yield ("umount", one), [b"umount 1 %b" % one]
 
 
+def check_foretold(program, mountctl, guests, point):
+    """What a mount at a directory would do, asked before it is made, is what it does: where mounts come, by the files of the tables."""
+    pids = [str(guest.process.pid) for guest in guests]
+    with Server(program) as server:
+        found = run(mountctl, b"", server.path, "what-if", "--pid", *pids, "--", "mount", "1", "usb", shown(point))
+        server.stop()
+    told = sorted(re.findall(rb"(?m)^\+ \d+ (\S+) usb in namespace \d+ \(/proc/(\d+)/mountinfo\)$", found[1]))
+    guests[0].ask("mount", b"usb", point)
+    fields = [(row.split(b" ")[4], pid.encode()) for guest, pid in zip(guests, pids) for row in guest.rows() if b" tmpfs usb " in row]
+    guests[0].ask("umount", point)
+    good = found[0] == 0 and told == sorted(fields) and 1 < len(told) < len(guests) and found[1].count(b"\n") == 1 + len(told)
+    check("a mount in a host and its copies is foretold", good, f"{shown(found[1] + found[2])}{fields}")
+
+
 def check_mounted(program, mountctl):
     """What is mounted in a namespace comes in its copies, and in the namespaces that were made of all their tables."""
     with contextlib.ExitStack() as stack:
@@ -150,6 +166,7 @@ def check_mounted(program, mountctl):
         host.ask("mount", b"scratch", folder)
         host.ask("mkdir", folder + b"/one")
         guests = [host, *(stack.enter_context(Guest(*how, of=host)) for how in ((), (SLAVE,), (SLAVE, SHARED), (PRIVATE,)))]
+        check_foretold(program, mountctl, guests, folder + b"/one")
         world = check_world(program, mountctl, "a host and its copies", [guest.rows() for guest in guests])
         [scratch] = {row.split(b" ")[2] for row in host.rows() if row.split(b" ")[4] == folder}
         behind = [b"mkdir %b /one" % scratch]
