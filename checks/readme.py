@@ -20,7 +20,8 @@ A fenced block directly behind a line `<!-- case: NAME -->` is the case NAME wit
 The blocks behind `<!-- terminal 1 -->` to `<!-- terminal 3 -->` are what three terminals show: commands behind
 `$ `, and what each prints. The first command starts the server; the last one of terminal 1 and the one of terminal 3
 run while those of terminal 2 are done, once the first has printed its first answer and the other has had a second to
-begin. With --built they are run too.
+begin. The block behind `<!-- what-if -->` is one terminal, of which the first command starts the server and the last one
+stops it. With --built all these are run too.
 """
 import os
 import re
@@ -40,6 +41,7 @@ CASE_BLOCK = cases.marked(b"case")
 BLOCK = re.compile(rb"(?m)^(?:<!-- (.*) -->\n)?```(.*)\n((?:(?!```).*\n)*?)```$")
 PROVED_RUN = re.compile(rb"cd crates/(\w+) && rt run -- ")
 TERMINAL = re.compile(rb"(?m)^<!-- terminal ([123]) -->\n```.*\n((?:(?!```).*\n)*?)```$")
+QUESTION = re.compile(rb"(?m)^<!-- what-if -->\n```.*\n((?:(?!```).*\n)*?)```$")
 STEP = re.compile(rb"(?m)^\$ (.*)\n((?:(?!\$ ).*\n)*)")
 
 # How long the server may take to listen, and a command of a terminal to end, in seconds.
@@ -143,12 +145,30 @@ def check_terminals():
             check("README.md's server ends well", server.returncode == 0, f"status {server.returncode}")
 
 
+def check_question():
+    """What README.md's question shows is what the programs print."""
+    [text] = QUESTION.findall(read("README.md"))
+    folders = [os.path.join(TOP, "crates", name, "out") for name in ("mountd", "mountctl")]
+    environment = dict(os.environ, PATH=os.pathsep.join([*folders, os.environ["PATH"]]))
+    (start, _), *asked = STEP.findall(text)
+    with tempfile.TemporaryDirectory() as folder:
+        os.symlink(os.path.join(TOP, "docs"), os.path.join(folder, "docs"))
+        settings = {"cwd": folder, "env": environment, "stdout": subprocess.PIPE}
+        with subprocess.Popen(["sh", "-ec", b"exec " + start.rstrip(b"& ")], **settings) as server:
+            wait_for_socket(folder)
+            for command, wanted in asked:
+                check_printed(command, wanted, subprocess.run(["sh", "-ec", command], **settings).stdout)
+            server.wait(MOST_SECONDS)
+            check("README.md's server of the question ends well", server.returncode == 0, f"status {server.returncode}")
+
+
 def main():
     if sys.argv[1:] not in ([], ["--built"]):
         raise SystemExit(__doc__)
     check_commands(sys.argv[1:] == ["--built"])
     if sys.argv[1:] == ["--built"]:
         check_terminals()
+        check_question()
     if failures:
         raise SystemExit(f"checks of README.md's commands failed: {len(failures)}")
     print("README.md's commands print what they should")
