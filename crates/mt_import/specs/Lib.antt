@@ -11,6 +11,7 @@ pub mod Hook
 pub mod Making
 pub mod Tree
 pub mod Growth
+pub mod Placing
 pub mod Turns
 pub mod Covers
 pub mod Telling

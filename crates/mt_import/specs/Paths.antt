@@ -1,7 +1,7 @@
 -- Paths as a mountinfo has them, of which that of a root is empty here.
 -- A word with no source is this project's rule.
-use Rattle.std.specs.Prelude.{ℕ, Bool, true, false, not, nat_eq, nat_le, nat_lt, ◌==◌, ◌&&◌, ◌||◌, if◌then◌else◌, List, [], ◌∷◌, length, drop, Option, Some, None, is_some, codes}
-use Rattle.std.specs.List.{filter, list_all, starts_with}
+use Rattle.std.specs.Prelude.{ℕ, Bool, true, false, not, nat_eq, nat_le, nat_lt, ◌==◌, ◌&&◌, ◌||◌, if◌then◌else◌, List, [], ◌∷◌, length, drop, Option, Some, None, codes}
+use Rattle.std.specs.List.{filter, list_all, list_any, starts_with}
 use Rattle.std.specs.Option.{option_map_or}
 use Rattle.std.specs.Str.{bytes_eq}
 use Rattle.mt_skel.specs.Escapes.{unescaped}
@@ -43,15 +43,9 @@ is_too_deep path = nat_lt 31 (name_count path) || nat_lt 4000 (length path)
 unfoldable pub path_behind : List ℕ → List ℕ → Option (List ℕ)
 path_behind path above = if starts_with nat_eq path above then names_behind (drop (length above) path) else None
 
--- the names from the point of a parent down to the point of a mount on it, if the script can make the mount there: root and
--- point can be named, the point is not above the parent, and on the root mount it is no name of the script
-abbrev pub has_free_names : Bool → List ℕ → Bool
-has_free_names false own = true
-has_free_names true own = not (is_some (path_behind own (codes "/.import")))
+-- a name that the script uses, and a path that has one
+abbrev pub is_script_name : List ℕ → Bool
+is_script_name piece = bytes_eq piece (codes ".import") || bytes_eq piece (codes ".import2")
 
-abbrev pub free_names : Bool → Option (List ℕ) → Option (List ℕ)
-free_names is_on_root None = None
-free_names is_on_root (Some own) = if has_free_names is_on_root own then Some own else None
-
-abbrev pub names_from_parent : List ℕ → List ℕ → List ℕ → Bool → Option (List ℕ)
-names_from_parent root point parent is_on_root = if can_be_named root && can_be_named point then free_names is_on_root (path_behind point parent) else None
+unfoldable pub has_script_name : List ℕ → Bool
+has_script_name path = list_any is_script_name (pieces 47 path)

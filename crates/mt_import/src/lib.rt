@@ -1,10 +1,16 @@
-//! The script of commands that builds a namespace as a mountinfo tells it.
+//! The script of commands that makes the namespaces of which tables of mounts tell.
 //!
-//! [`read`] reads the lines of a mountinfo, each as a [`told::HostMount`], and [`import`] makes the script: filesystems and
-//! directories ([`filesystems`], [`directories`]), members of peer groups from which others are bound ([`groups`],
-//! [`stage`]), and the mounts, each once nothing hides its place ([`order`], [`mounting`]), with their options
-//! ([`options`]). A mount that is not made has a [`reason`]. A [`script::Script`] has only comments and lines that the
-//! server reads as commands.
+//! [`read`] reads the lines of a mountinfo, each as a [`told::HostMount`]. [`import`] makes the script in three steps.
+//!
+//! - Each table becomes a [`tree`] of mounts, which [`growth`] builds of its rows: [`placing`] finds where each one stands, and
+//!   the turns of a tree are the order in which its mounts are made. A row that has no mount in it has a [`verdict`].
+//! - [`choice`] leaves out the mounts that do not agree on their peer groups ([`groups`], [`agreement`]), and [`room`] those for
+//!   which a server has no room; [`needs`], [`filesystems`] and [`directories`] are what the others need.
+//! - The script tells what is left out ([`telling`]), stages what others are bound from ([`staging`]), and makes the namespaces
+//!   one after another ([`spaces`]): each mount at its [`turns`], at a place that a [`hook`] isolates where others would get it,
+//!   and those at the root of the namespace by pivots ([`covers`]).
+//!
+//! A [`script::Script`] has only comments and lines that the server reads as commands.
 #![tactic(auto)]
 
 mod agreement;

@@ -5,7 +5,7 @@ ghost use Rattle.std.specs.List.{list_all};
 ghost use Rattle.std.specs.Option.{option_copied, option_map_or};
 ghost use Rattle.mt_skel.specs.Escapes.{unescaped};
 ghost use Rattle.mt_words.specs.Words.{pieces};
-ghost use Rattle.mt_import.specs.Paths.{below_root, path_word, name_count, says_name, can_be_named, names_behind, path_behind};
+ghost use Rattle.mt_import.specs.Paths.{below_root, path_word, name_count, says_name, can_be_named, is_script_name, has_script_name, names_behind, path_behind};
 
 use mt_skel::escape::unescaped_len;
 use mt_words::words::Pieces;
@@ -80,12 +80,17 @@ pub(crate) fn can_be_named(path: &[u8]) -> bool
 }
 
 /// Whether a name of a path is one that the script uses.
-pub(crate) fn has_script_name(path: &[u8]) -> bool {
+#[tactic(auto, unfolding(crate::specs::Paths::has_script_name))]
+pub(crate) fn has_script_name(path: &[u8]) -> bool
+    ensures { result ≡ has_script_name path.now }
+{
     Pieces::new(b'/', path).any(|piece| is_script_name(piece))
 }
 
 /// Whether a name is one that the script uses.
-fn is_script_name(piece: &[u8]) -> bool {
+fn is_script_name(piece: &[u8]) -> bool
+    ensures { result ≡ is_script_name piece.now }
+{
     piece == STAGE_NAME || piece == SECOND_NAME
 }
 

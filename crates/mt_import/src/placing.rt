@@ -1,7 +1,9 @@
 //! Where a mount would stand, and why it cannot be made there.
 
-ghost use Rattle.std.specs.Prelude.{IfOk};
+ghost use Rattle.std.specs.Prelude.{◌≡◌, IfOk};
 ghost use Rattle.mt_import.specs.Growth.{IsOn};
+ghost use Rattle.mt_import.specs.Paths.{is_too_deep};
+ghost use Rattle.mt_import.specs.Placing.{why_pathless, IsAt, IsPlacedBy};
 
 use crate::mount::Mount;
 use crate::path::{
@@ -25,12 +27,16 @@ pub(crate) enum Placed<'a> {
 }
 
 /// Whether a directory of a filesystem is too deep, or its path too long.
-fn is_too_deep(path: &[u8]) -> bool {
+fn is_too_deep(path: &[u8]) -> bool
+    ensures { result ≡ is_too_deep path.now }
+{
     names(path) > MOST_NAMES || path.len() > MOST_BYTES
 }
 
 /// Why the paths that a row tells cannot be those of a mount, if they cannot.
-fn why_pathless(root: &[u8], point: &[u8]) -> Option<Reason> {
+fn why_pathless(root: &[u8], point: &[u8]) -> Option<Reason>
+    ensures { result ≡ why_pathless root.now point.now }
+{
     if !can_be_named(root) || !can_be_named(point) {
         return Some(Reason::NoDirectory);
     }
@@ -70,7 +76,8 @@ pub(crate) fn root_mount<'a>(alloc: Global, row: &'a HostMount, number: usize) -
 
 /// The mount that a row tells, on the root of another one at the root place of the namespace.
 fn base_on<'a>(mount: Mount<'a>, parent: &Mount<'a>) -> Placed<'a>
-    ensures { IsOn mount.entry.above mount.entry.number result }
+    ensures place { IsAt mount.entry.root.now mount.entry.place.items result }
+    ensures on { IsOn mount.entry.above mount.entry.number result }
 {
     if parent.base >= MOST_AT_ROOT {
         return Placed::Left(Reason::AtRoot);
@@ -84,7 +91,8 @@ fn base_on<'a>(mount: Mount<'a>, parent: &Mount<'a>) -> Placed<'a>
 
 /// A mount on another one, in the stack or on the level that it comes to.
 fn leveled<'a>(mount: Mount<'a>, parent: &Mount<'a>, is_stacked: bool) -> Placed<'a>
-    ensures { IsOn mount.entry.above mount.entry.number result }
+    ensures place { IsAt mount.entry.root.now mount.entry.place.items result }
+    ensures on { IsOn mount.entry.above mount.entry.number result }
 {
     if is_stacked && parent.is_base {
         return base_on(mount, parent);
@@ -116,7 +124,8 @@ pub(crate) fn mount_on<'a>(
     parent: &Mount<'a>,
     above: usize,
 ) -> Result<Placed<'a>, AllocError>
-    ensures { IfOk result (λ placed. IsOn above number placed) }
+    ensures place { IfOk result (λ placed. IsPlacedBy parent.now row.now placed) }
+    ensures on { IfOk result (λ placed. IsOn above number placed) }
 {
     let (root, point) = (
         below_root(row.root.as_slice()),

@@ -1,0 +1,30 @@
+-- Where a mount stands.
+-- A word with no source is this project's rule.
+use Rattle.std.specs.Prelude.{◌≡◌, ℕ, Bool, false, ◌&&◌, ◌||◌, not, if◌then◌else◌, List, ◌++◌, Option, Some, None}
+use Rattle.mt_import.specs.declared.mount.Mount.{Mount}
+use Rattle.mt_import.specs.declared.placing.Placed.{Placed}
+use Rattle.mt_import.specs.declared.placing.Placed.TheVariants.{There, Left}
+use Rattle.mt_import.specs.declared.reason.Reason.{Reason}
+use Rattle.mt_import.specs.declared.reason.Reason.TheVariants.{NoDirectory, ScriptName, TooDeep}
+use Rattle.mt_import.specs.Paths.{below_root, can_be_named, has_script_name, is_too_deep, path_behind}
+use Rattle.mt_import.specs.Reading.{ToldMount}
+
+-- why the root and the mount point of a row cannot be those of a mount, if they cannot
+abbrev pub why_pathless : List ℕ → List ℕ → Option Reason
+why_pathless root point =
+    if not (can_be_named root) || not (can_be_named point) then Some NoDirectory
+    else (if has_script_name root || has_script_name point then Some ScriptName
+    else (if is_too_deep root then Some TooDeep else None))
+
+-- a mount that has a place shows a directory and stands on another one
+abbrev pub IsAt : List ℕ → List ℕ → Placed → Type 0
+IsAt root place (There mount) = (mount.root.now ≡ root) × (mount.place.items ≡ place)
+IsAt root place (Left why) = Unit {0}
+
+-- The mount of a row on another one shows the directory of the row, and stands on the directory that its mount point is below that of the other one. Both
+-- are paths that the script can name.
+abbrev pub IsPlacedBy : Mount → ToldMount → Placed → Type 0
+IsPlacedBy parent row (There mount) = (why_pathless (below_root row.root) (below_root row.point) ≡ None) × (mount.root.now ≡ below_root row.root)
+    × (names : List ℕ) × (path_behind (below_root row.point) (below_root parent.row.now.point) ≡ Some names) × (mount.place.items ≡ parent.root.now ++ names)
+    × (is_too_deep mount.place.items ≡ false)
+IsPlacedBy parent row (Left why) = Unit {0}
