@@ -1,5 +1,5 @@
 -- Texts that go on.
-use Rattle.std.proofs.Common.{◌≡◌, ℕ, List, [], ◌++◌, ap, ◌∙◌}
+use Rattle.std.proofs.Common.{◌≡◌, ℕ, List, [], ◌++◌, map, ap, ◌∙◌}
 use Rattle.std.specs.BTreeMap.{BTreeMap}
 use Rattle.std.specs.List.{flat_map, AllByRecursion}
 use Rattle.mt_import.specs.declared.groups.Group.{Group}
@@ -11,11 +11,12 @@ use Rattle.mt_import.specs.Spaces.{shown, spaces_text, AreMade}
 use Rattle.mt_import.specs.Telling.{tables_text, space_comments, HasMakingOrder}
 
 -- a script of its parts, one behind the other
-pub imported : (tables : List (List ToldMount)) (groups : BTreeMap ℕ Group) (spaces : List Space) (s0 s1 s2 s3 s4 : List ℕ) → s0 ≡ [] → s1 ≡ s0 ++ tables_text tables spaces
+pub imported : (tables : List (List ToldMount)) (groups : BTreeMap ℕ Group) (spaces : List Space) (s0 s1 s2 s3 s4 : List ℕ) → map (λ (s : Space). s.tree.rows) spaces ≡ tables → s0 ≡ [] → s1 ≡ s0 ++ tables_text tables spaces
     → s2 ≡ s1 ++ flat_map space_comments spaces → AllByRecursion HasMakingOrder spaces → IsFront s2 s3 → AreMade groups spaces s3 s4 → IsImport tables s4
-imported tables groups spaces s0 s1 s2 s3 s4 e0 e1 e2 trees front made = record {
+imported tables groups spaces s0 s1 s2 s3 s4 rows e0 e1 e2 trees front made = record {
   groups = groups;
   spaces = spaces;
+  rows = rows;
   trees = trees;
   front = front.0;
   between = made.0;

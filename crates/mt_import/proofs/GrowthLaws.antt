@@ -1,5 +1,5 @@
 -- A tree with one more turn.
-use Rattle.std.proofs.Common.{subst, eqb-true, replicate, ◌≡◌, ℕ, zero, suc, ◌+◌, ◌-◌, ◌≤◌, ◌<◌, ◌==◌, Bool, true, false, cond, List, [], ◌∷◌, ◌++◌, map, length, slice_get, Option, Some, None, refl, sym, ap, ◌∙◌, append_assoc, arith}
+use Rattle.std.proofs.Common.{get_or, ◌⊎◌, inl, inr, subst, eqb-true, replicate, ◌≡◌, ℕ, zero, suc, ◌+◌, ◌-◌, ◌≤◌, ◌<◌, ◌==◌, Bool, true, false, cond, List, [], ◌∷◌, ◌++◌, map, length, slice_get, Option, Some, None, refl, sym, ap, ◌∙◌, append_assoc, arith}
 use Rattle.std.proofs.Math.ListN.{set}
 use Rattle.std.proofs.lemmas.Bool.Decides.{nat_tests}
 use Rattle.std.proofs.lemmas.List.{append-nil}
@@ -13,8 +13,13 @@ use Rattle.mt_import.specs.declared.verdict.Verdict.{Verdict}
 use Rattle.mt_import.specs.declared.verdict.Verdict.TheVariants.{Waits, Made, Left}
 use Rattle.mt_import.specs.declared.growth.Waiting.{Waiting}
 use Rattle.mt_import.specs.declared.growth.Waiting.TheVariants.{End as Ends}
-use Rattle.mt_import.specs.Growth.{waiting_end, waiting_ends, is_waiting}
-use Rattle.mt_import.specs.Tree.{begun_by, opened_by, ended_by, has_mount, stand_on_earlier, IsMakingOrder}
+use Rattle.mt_import.specs.declared.placing.Placed.{Placed}
+use Rattle.mt_import.specs.declared.placing.Placed.TheVariants.{There, Left as Out}
+use Rattle.std.proofs.lemmas.Option.{slice_get_within}
+use Rattle.mt_import.specs.Growth.{IsOn, IsOf, IsNextPlaced, waiting_end, waiting_ends, is_waiting}
+use Rattle.mt_import.specs.Placing.{IsPlacedOn, IsPlacedBy}
+use Rattle.mt_import.specs.Reading.{ToldMount}
+use Rattle.mt_import.specs.Tree.{begun_by, opened_by, ended_by, has_mount, stand_on_earlier, StandsThere, IsMakingOrder}
 
 -- numbers that count on
 range_more : (a n : ℕ) → range_with_len a (suc n) ≡ range_with_len a n ++ (a + n) ∷ []
@@ -87,26 +92,60 @@ rows_made numbers vs n in_it not rows i =
     go false e = grind (arith, nat_tests)
 
 -- a tree that loses a row of which the turn has not come
-pub row_left : (ms : List Mount) (ts : List Turn) (vs vs' : List Verdict) (ws : List ℕ) (n : ℕ) (v : Verdict) → is_waiting (slice_get vs n) ≡ true → n < length vs
-    → has_mount (Some v) ≡ false → vs' ≡ set vs n v → IsMakingOrder ms ts vs ws → IsMakingOrder ms ts vs' ws
-row_left ms ts vs vs' ws n v turn in_it is new tree = record {
+pub row_left : (rs : List ToldMount) (ms : List Mount) (ts : List Turn) (vs vs' : List Verdict) (ws : List ℕ) (n : ℕ) (v : Verdict) → is_waiting (slice_get vs n) ≡ true → n < length vs
+    → has_mount (Some v) ≡ false → vs' ≡ set vs n v → IsMakingOrder rs ms ts vs ws → IsMakingOrder rs ms ts vs' ws
+row_left rs ms ts vs vs' ws n v turn in_it is new tree = record {
   order = tree.order;
+  stands = tree.stands;
   begun = tree.begun;
   ended = tree.ended;
-  rows = λ i. rows_left (map (λ (m : Mount). m.number) ms) vs n v in_it (not_yet (slice_get vs n) turn) is tree.rows i ∙ ap (λ x. cond (has_mount (slice_get x i)) 1 0) (sym new);
+  once = λ i. rows_left (map (λ (m : Mount). m.number) ms) vs n v in_it (not_yet (slice_get vs n) turn) is tree.once i ∙ ap (λ x. cond (has_mount (slice_get x i)) 1 0) (sym new);
 }
 
 -- what waits for its end is the same
-pub same_ends : (ms : List Mount) (ts : List Turn) (vs : List Verdict) (ws ws' : List ℕ) → ws' ≡ ws → IsMakingOrder ms ts vs ws → IsMakingOrder ms ts vs ws'
-same_ends ms ts vs ws ws' is tree = record {
+pub same_ends : (rs : List ToldMount) (ms : List Mount) (ts : List Turn) (vs : List Verdict) (ws ws' : List ℕ) → ws' ≡ ws → IsMakingOrder rs ms ts vs ws → IsMakingOrder rs ms ts vs ws'
+same_ends rs ms ts vs ws ws' is tree = record {
   order = tree.order;
+  stands = tree.stands;
   begun = tree.begun;
   ended = λ n. ap (λ x. occ n (flat_map ended_by ts) + occ n x) is ∙ tree.ended n;
-  rows = tree.rows;
+  once = tree.once;
 }
 
+-- which mount is there once one more is, and those that were there stay
+got_more : (ms : List Mount) (m : Mount) (k : ℕ) (x : Mount) → slice_get (ms ++ m ∷ []) k ≡ Some x → (slice_get ms k ≡ Some x) ⊎ ((k ≡ length ms) × (x ≡ m))
+got_more [] m zero x e = inr (refl, cc)
+got_more [] m (suc k) x e = absurd (cc)
+got_more (y ∷ ms) m zero x e = inl e
+got_more (y ∷ ms) m (suc k) x e = go (got_more ms m k x e)
+  where
+    go : ((slice_get ms k ≡ Some x) ⊎ ((k ≡ length ms) × (x ≡ m))) → (slice_get (y ∷ ms) (suc k) ≡ Some x) ⊎ ((suc k ≡ length (y ∷ ms)) × (x ≡ m))
+    go (inl f) = inl f
+    go (inr (f, h)) = inr (ap suc f, h)
+
+got_still : (ms ns : List Mount) (k : ℕ) (x : Mount) → slice_get ms k ≡ Some x → slice_get (ms ++ ns) k ≡ Some x
+got_still [] ns k x e = absurd (cc)
+got_still (y ∷ ms) ns zero x e = e
+got_still (y ∷ ms) ns (suc k) x e = got_still ms ns k x e
+
+stands_still : (rs : List ToldMount) (ms ns : List Mount) (k : ℕ) (x : Mount) → StandsThere rs ms k x → StandsThere rs (ms ++ ns) k x
+stands_still rs ms ns k x s = record { row = s.row; on = go s.on }
+  where
+    go : ((x.above ≡ k) ⊎ ((p : Mount) × (slice_get ms x.above ≡ Some p) × IsPlacedOn p x.row.now x))
+        → (x.above ≡ k) ⊎ ((p : Mount) × (slice_get (ms ++ ns) x.above ≡ Some p) × IsPlacedOn p x.row.now x)
+    go (inl e) = inl e
+    go (inr (p, e, f)) = inr (p, got_still ms ns x.above p e, f)
+
+stands_more_at : (rs : List ToldMount) (ms ms' : List Mount) (m : Mount) → ms' ≡ ms ++ m ∷ [] → StandsThere rs ms (length ms) m
+    → ((k : ℕ) (x : Mount) → slice_get ms k ≡ Some x → StandsThere rs ms k x) → (k : ℕ) (x : Mount) → slice_get ms' k ≡ Some x → StandsThere rs ms' k x
+stands_more_at rs ms ms' m is there all k x e = subst (λ l. StandsThere rs l k x) (sym is) (go (got_more ms m k x (ap (λ l. slice_get l k) (sym is) ∙ e)))
+  where
+    go : ((slice_get ms k ≡ Some x) ⊎ ((k ≡ length ms) × (x ≡ m))) → StandsThere rs (ms ++ m ∷ []) k x
+    go (inl f) = stands_still rs ms (m ∷ []) k x (all k x f)
+    go (inr (f, h)) = stands_still rs ms (m ∷ []) k x (subst (λ n. StandsThere rs ms n x) (sym f) (subst (λ y. StandsThere rs ms (length ms) y) (sym h) there))
+
 -- what a tree knows of its mounts with one more
-module _ (ms ms' : List Mount) (m : Mount) (is : ms' ≡ ms ++ m ∷ []) where
+module _ (rs : List ToldMount) (ms ms' : List Mount) (m : Mount) (is : ms' ≡ ms ++ m ∷ []) where
   order_more : m.above ≤ length ms - 1 → stand_on_earlier 0 (map (λ (m : Mount). m.above) ms) ≡ true → stand_on_earlier 0 (map (λ (m : Mount). m.above) ms') ≡ true
   order_more on order =
       ap (λ x. stand_on_earlier 0 (map (λ (m : Mount). m.above) x)) is ∙ ap (stand_on_earlier 0) (map_more (λ (m : Mount). m.above) ms m)
@@ -126,21 +165,23 @@ module _ (ms ms' : List Mount) (m : Mount) (is : ms' ≡ ms ++ m ∷ []) where
       ∙ rows_made (map (λ (m : Mount). m.number) ms) vs m.number in_it (not_yet (slice_get vs m.number) turn) rows i ∙ ap (λ x. cond (has_mount (slice_get x i)) 1 0) (sym new)
 
   -- it is at the root of the namespace
-  pub base_more : (ts ts' : List Turn) (vs vs' : List Verdict) (ws ws' : List ℕ) → m.above ≤ length ms - 1 → ts' ≡ ts ++ Base (length ms) ∷ []
-      → is_waiting (slice_get vs m.number) ≡ true → m.number < length vs → vs' ≡ set vs m.number Made → ws' ≡ ws → IsMakingOrder ms ts vs ws → IsMakingOrder ms' ts' vs' ws'
-  base_more ts ts' vs vs' ws ws' on more turn in_it new same tree = record {
+  pub base_more : (ts ts' : List Turn) (vs vs' : List Verdict) (ws ws' : List ℕ) → m.above ≤ length ms - 1 → StandsThere rs ms (length ms) m → ts' ≡ ts ++ Base (length ms) ∷ []
+      → is_waiting (slice_get vs m.number) ≡ true → m.number < length vs → vs' ≡ set vs m.number Made → ws' ≡ ws → IsMakingOrder rs ms ts vs ws → IsMakingOrder rs ms' ts' vs' ws'
+  base_more ts ts' vs vs' ws ws' on there more turn in_it new same tree = record {
     order = order_more on tree.order;
+    stands = stands_more_at rs ms ms' m is there tree.stands;
     begun = begun_more ts ts' (Base (length ms)) more refl tree.begun;
     ended = λ n. ap (λ x. occ n x + occ n ws') (ap (flat_map ended_by) more ∙ flat_more ended_by ts (Base (length ms)) ∙ append-nil _) ∙ ap (λ x. occ n (flat_map ended_by ts) + occ n x) same
         ∙ tree.ended n ∙ sym (ap (occ n) (ap (flat_map opened_by) more ∙ flat_more opened_by ts (Base (length ms)) ∙ append-nil _));
-    rows = rows_more vs vs' turn in_it new tree.rows;
+    once = rows_more vs vs' turn in_it new tree.once;
   }
 
   -- it is below, and has an end
-  pub below_more : (ts ts' : List Turn) (vs vs' : List Verdict) (ws ws' : List ℕ) → m.above ≤ length ms - 1 → ts' ≡ ts ++ Begin (length ms) ∷ []
-      → is_waiting (slice_get vs m.number) ≡ true → m.number < length vs → vs' ≡ set vs m.number Made → ws' ≡ ws ++ length ms ∷ [] → IsMakingOrder ms ts vs ws → IsMakingOrder ms' ts' vs' ws'
-  below_more ts ts' vs vs' ws ws' on more turn in_it new same tree = record {
+  pub below_more : (ts ts' : List Turn) (vs vs' : List Verdict) (ws ws' : List ℕ) → m.above ≤ length ms - 1 → StandsThere rs ms (length ms) m → ts' ≡ ts ++ Begin (length ms) ∷ []
+      → is_waiting (slice_get vs m.number) ≡ true → m.number < length vs → vs' ≡ set vs m.number Made → ws' ≡ ws ++ length ms ∷ [] → IsMakingOrder rs ms ts vs ws → IsMakingOrder rs ms' ts' vs' ws'
+  below_more ts ts' vs vs' ws ws' on there more turn in_it new same tree = record {
     order = order_more on tree.order;
+    stands = stands_more_at rs ms ms' m is there tree.stands;
     begun = begun_more ts ts' (Begin (length ms)) more refl tree.begun;
     ended = λ n.
         let e0 : occ n (flat_map ended_by ts') ≡ occ n (flat_map ended_by ts) =
@@ -150,13 +191,14 @@ module _ (ms ms' : List Mount) (m : Mount) (is : ms' ≡ ms ++ m ∷ []) where
         ap (occ n) (ap (flat_map opened_by) more ∙ flat_more opened_by ts (Begin (length ms))) ∙ count-append (λ j. j == n) (flat_map opened_by ts) (length ms ∷ []) in
         let e3 = tree.ended n in
         omega (arith, e0, e1, e2, e3);
-    rows = rows_more vs vs' turn in_it new tree.rows;
+    once = rows_more vs vs' turn in_it new tree.once;
   }
 
 -- one that waited for its end is ended
-pub end_more : (ms : List Mount) (ts ts' : List Turn) (vs : List Verdict) (ws ws' : List ℕ) (k : ℕ) → ts' ≡ ts ++ End k ∷ [] → ws ≡ ws' ++ k ∷ [] → IsMakingOrder ms ts vs ws → IsMakingOrder ms ts' vs ws'
-end_more ms ts ts' vs ws ws' k more last tree = record {
+pub end_more : (rs : List ToldMount) (ms : List Mount) (ts ts' : List Turn) (vs : List Verdict) (ws ws' : List ℕ) (k : ℕ) → ts' ≡ ts ++ End k ∷ [] → ws ≡ ws' ++ k ∷ [] → IsMakingOrder rs ms ts vs ws → IsMakingOrder rs ms ts' vs ws'
+end_more rs ms ts ts' vs ws ws' k more last tree = record {
   order = tree.order;
+  stands = tree.stands;
   begun = ap (flat_map begun_by) more ∙ flat_more begun_by ts (End k) ∙ append-nil _ ∙ tree.begun;
   ended = λ n.
       let e0 : occ n (flat_map ended_by ts') ≡ occ n (flat_map ended_by ts) + occ n (k ∷ []) =
@@ -166,7 +208,7 @@ end_more ms ts ts' vs ws ws' k more last tree = record {
       ap (occ n) (ap (flat_map opened_by) more ∙ flat_more opened_by ts (End k) ∙ append-nil _) in
       let e3 = tree.ended n in
       omega (arith, e0, e1, e2, e3);
-  rows = tree.rows;
+  once = tree.once;
 }
 
 -- the last of what waits
@@ -174,22 +216,72 @@ pub ends_last : (all rest : List Waiting) (w : Waiting) → all ≡ rest ++ w �
 ends_last all rest w is = ap waiting_ends is ∙ flat_more waiting_end rest w
 
 -- a tree of no mounts
-pub no_tree : (ms : List Mount) (ts : List Turn) (vs : List Verdict) (ws : List Waiting) (n : ℕ) → ms ≡ [] → ts ≡ [] → vs ≡ replicate n Waits → ws ≡ [] → IsMakingOrder ms ts vs (waiting_ends ws)
-no_tree ms ts vs ws n e0 e1 e2 e3 = record {
+pub no_tree : (rs : List ToldMount) (ms : List Mount) (ts : List Turn) (vs : List Verdict) (ws : List Waiting) (n : ℕ) → ms ≡ [] → ts ≡ [] → vs ≡ replicate n Waits → ws ≡ [] → IsMakingOrder rs ms ts vs (waiting_ends ws)
+no_tree rs ms ts vs ws n e0 e1 e2 e3 = record {
+  stands = λ k x e. absurd (none (ap (λ l. slice_get l k) (sym e0) ∙ e));
   order = ap (λ x. stand_on_earlier 0 (map (λ (m : Mount). m.above) x)) e0;
   begun = ap (flat_map begun_by) e1 ∙ sym (ap (λ x. range_with_len 0 (length x)) e0);
   ended = λ k. ap (λ x. occ k (flat_map ended_by x) + occ k (waiting_ends ws)) e1 ∙ ap (λ x. occ k [] + occ k (waiting_ends x)) e3 ∙ sym (ap (λ x. occ k (flat_map opened_by x)) e1);
-  rows = λ i. ap (λ x. occ i (map (λ (m : Mount). m.number) x)) e0 ∙ sym (ap (λ x. cond (has_mount (slice_get x i)) 1 0) e2 ∙ ap (λ b. cond b 1 0) (go n i));
+  once = λ i. ap (λ x. occ i (map (λ (m : Mount). m.number) x)) e0 ∙ sym (ap (λ x. cond (has_mount (slice_get x i)) 1 0) e2 ∙ ap (λ b. cond b 1 0) (go n i));
 }
   where
+    none : {X : Type 0} {x : X} → None ≡ Some x → ⊥
+    none e = cc
+
     go : (n i : ℕ) → has_mount (slice_get (replicate n Waits) i) ≡ false
     go zero i = refl
     go (suc n) zero = refl
     go (suc n) (suc i) = go n i
 
 -- the next turn is that of an end
-pub end_again : (ms ms' : List Mount) (ts ts' : List Turn) (vs vs' : List Verdict) (all rest : List Waiting) (w : Waiting) (k : ℕ) → ms' ≡ ms → ts' ≡ ts ++ End k ∷ []
-    → vs' ≡ vs → all ≡ rest ++ w ∷ [] → w ≡ Ends k → IsMakingOrder ms ts vs (waiting_ends all) → IsMakingOrder ms' ts' vs' (waiting_ends rest)
-end_again ms ms' ts ts' vs vs' all rest w k e0 more e2 last is tree =
-    let ended = end_more ms ts ts' vs (waiting_ends all) (waiting_ends rest) k more (ends_last all rest w last ∙ ap (λ x. waiting_ends rest ++ waiting_end x) is) tree in
-    subst (λ x. IsMakingOrder x ts' vs' (waiting_ends rest)) (sym e0) (subst (λ x. IsMakingOrder ms ts' x (waiting_ends rest)) (sym e2) ended)
+pub end_again : (rs rs' : List ToldMount) (ms ms' : List Mount) (ts ts' : List Turn) (vs vs' : List Verdict) (all rest : List Waiting) (w : Waiting) (k : ℕ) → rs' ≡ rs
+    → ms' ≡ ms → ts' ≡ ts ++ End k ∷ [] → vs' ≡ vs → all ≡ rest ++ w ∷ [] → w ≡ Ends k → IsMakingOrder rs ms ts vs (waiting_ends all)
+    → IsMakingOrder rs' ms' ts' vs' (waiting_ends rest)
+end_again rs rs' ms ms' ts ts' vs vs' all rest w k same e0 more e2 last is tree =
+    let ended = end_more rs ms ts ts' vs (waiting_ends all) (waiting_ends rest) k more (ends_last all rest w last ∙ ap (λ x. waiting_ends rest ++ waiting_end x) is) tree in
+    subst (λ x. IsMakingOrder x ms' ts' vs' (waiting_ends rest)) (sym same)
+    (subst (λ x. IsMakingOrder rs x ts' vs' (waiting_ends rest)) (sym e0) (subst (λ x. IsMakingOrder rs ms ts' x (waiting_ends rest)) (sym e2) ended))
+
+-- a mount that has a place is the next one
+pub next_on : (ms : List Mount) (row : ToldMount) (number above : ℕ) (parent mount : Mount) (placed : Placed) → placed ≡ There mount → IsOn above number placed → IsOf row placed
+    → IsPlacedBy parent row placed → slice_get ms above ≡ Some parent → IsNextPlaced ms row number (There mount)
+next_on ms row number above parent mount placed is on of place there = go placed is on of place
+  where
+    go : (p : Placed) → p ≡ There mount → IsOn above number p → IsOf row p → IsPlacedBy parent row p → IsNextPlaced ms row number (There mount)
+    go (Out why) is on of place = absurd (cc)
+    go (There m) is on of place = subst (λ q. IsNextPlaced ms row number q) is (
+      of,
+      on.1,
+      (let inside = slice_get_within ms above parent there in let e = on.0 in omega (arith, inside, e)),
+      inr (parent, ap (slice_get ms) on.0 ∙ there, subst (λ r. IsPlacedOn parent r m) (sym of) place),
+    )
+
+pub next_root : (ms : List Mount) (row : ToldMount) (number : ℕ) (placed : Placed) → length ms ≡ 0 → IsOn 0 number placed → IsOf row placed → IsNextPlaced ms row number placed
+next_root ms row number (Out why) none on of = tt
+next_root ms row number (There m) none on of = (of, on.1, (let e = on.0 in omega (arith, none, e)), inl (on.0 ∙ sym none))
+
+abbrev pub PlacedStands : List ToldMount → List Mount → Placed → Type 0
+PlacedStands rs ms (There mount) = (mount.above ≤ length ms - 1) × StandsThere rs ms (length ms) mount
+PlacedStands rs ms (Out why) = Unit {0}
+
+-- and stands where its row says
+pub next_stands : (rs : List ToldMount) (ms : List Mount) (row : ToldMount) (number : ℕ) (mount : Mount) (placed : Placed) → placed ≡ There mount → IsNextPlaced ms row number placed
+    → slice_get rs number ≡ Some row → (mount.above ≤ length ms - 1) × StandsThere rs ms (length ms) mount
+next_stands rs ms row number mount placed is next there = go placed is next
+  where
+    go : (p : Placed) → p ≡ There mount → IsNextPlaced ms row number p → (mount.above ≤ length ms - 1) × StandsThere rs ms (length ms) mount
+    go (Out why) is next = absurd (cc)
+    go (There m) is next = subst (λ q. PlacedStands rs ms q) is (next.2, record { row = ap (slice_get rs) next.1 ∙ there ∙ ap (λ r. Some r) (sym next.0); on = next.3 })
+
+-- in the tree that it was placed for
+pub next_begins : (rs rs' : List ToldMount) (ms ms' : List Mount) (row : ToldMount) (number : ℕ) (mount : Mount) (placed : Placed) → rs' ≡ rs → ms' ≡ ms → placed ≡ There mount
+    → IsNextPlaced ms row number placed → slice_get rs number ≡ Some row → (mount.above ≤ length ms' - 1) × StandsThere rs' ms' (length ms') mount
+next_begins rs rs' ms ms' row number mount placed e f is next there =
+    subst (λ r. (mount.above ≤ length ms' - 1) × StandsThere r ms' (length ms') mount) (sym e)
+    (subst (λ m. (mount.above ≤ length m - 1) × StandsThere rs m (length m) mount) (sym f) (next_stands rs ms row number mount placed is next there))
+
+-- what is found at a place
+pub got_of : {X : Type 0} (xs : List X) (i : ℕ) (x : X) → i < length xs → x ≡ get_or xs i x → slice_get xs i ≡ Some x
+got_of [] i x inside e = absurd (omega (arith, inside))
+got_of (y ∷ xs) zero x inside e = ap (λ z. Some z) (sym e)
+got_of (y ∷ xs) (suc i) x inside e = got_of xs i x (omega (arith, inside)) e

@@ -1,6 +1,6 @@
 -- What a script makes of tables.
 -- A word with no source is this project's rule.
-use Rattle.std.specs.Prelude.{◌≡◌, ℕ, List, ◌++◌}
+use Rattle.std.specs.Prelude.{◌≡◌, ℕ, List, ◌++◌, map}
 use Rattle.std.specs.List.{flat_map, AllByRecursion}
 use Rattle.std.specs.BTreeMap.{BTreeMap}
 use Rattle.mt_import.specs.declared.groups.Group.{Group}
@@ -9,11 +9,12 @@ use Rattle.mt_import.specs.Reading.{ToldMount}
 use Rattle.mt_import.specs.Spaces.{shown, spaces_text}
 use Rattle.mt_import.specs.Telling.{tables_text, space_comments, HasMakingOrder}
 
--- Each row of each table has a mount in the tree of its table, or is told, with a reason. Each mount of a tree is told, with a reason, or made at its turns. In
+-- Each row of each table has a mount in the tree of its table, where it stands as the row says, or is told, with a reason. Each mount of a tree is told, with a reason, or made at its turns. In
 -- front of the turns the filesystems are made and what is staged, and between them the namespace that keeps masters.
 pub record IsImport (tables : List (List ToldMount)) (script : List ℕ) : Type 0 where
   pub groups : BTreeMap ℕ Group
   pub spaces : List Space
+  pub rows : map (λ (s : Space). s.tree.rows) spaces ≡ tables
   pub trees : AllByRecursion HasMakingOrder spaces
   pub front : List ℕ
   pub between : List ℕ

@@ -1,6 +1,6 @@
 -- Where a mount stands.
 -- A word with no source is this project's rule.
-use Rattle.std.specs.Prelude.{◌≡◌, ℕ, Bool, false, ◌&&◌, ◌||◌, not, if◌then◌else◌, List, ◌++◌, Option, Some, None}
+use Rattle.std.specs.Prelude.{◌≡◌, ℕ, false, ◌||◌, not, if◌then◌else◌, List, ◌++◌, Option, Some, None}
 use Rattle.mt_import.specs.declared.mount.Mount.{Mount}
 use Rattle.mt_import.specs.declared.placing.Placed.{Placed}
 use Rattle.mt_import.specs.declared.placing.Placed.TheVariants.{There, Left}
@@ -23,8 +23,14 @@ IsAt root place (Left why) = Unit {0}
 
 -- The mount of a row on another one shows the directory of the row, and stands on the directory that its mount point is below that of the other one. Both
 -- are paths that the script can name.
+pub record IsPlacedOn (parent : Mount) (row : ToldMount) (mount : Mount) : Type 0 where
+  pub paths : why_pathless (below_root row.root) (below_root row.point) ≡ None
+  pub root : mount.root.now ≡ below_root row.root
+  pub names : List ℕ
+  pub below : path_behind (below_root row.point) (below_root parent.row.now.point) ≡ Some names
+  pub place : mount.place.items ≡ parent.root.now ++ names
+  pub depth : is_too_deep mount.place.items ≡ false
+
 abbrev pub IsPlacedBy : Mount → ToldMount → Placed → Type 0
-IsPlacedBy parent row (There mount) = (why_pathless (below_root row.root) (below_root row.point) ≡ None) × (mount.root.now ≡ below_root row.root)
-    × (names : List ℕ) × (path_behind (below_root row.point) (below_root parent.row.now.point) ≡ Some names) × (mount.place.items ≡ parent.root.now ++ names)
-    × (is_too_deep mount.place.items ≡ false)
+IsPlacedBy parent row (There mount) = IsPlacedOn parent row mount
 IsPlacedBy parent row (Left why) = Unit {0}

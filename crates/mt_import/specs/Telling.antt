@@ -49,4 +49,4 @@ space_comments space = mounts_text space.tree.table space.tree.mounts space.left
 
 -- a table has a tree, in which the turns make each mount once
 abbrev pub HasMakingOrder : Space → Type 0
-HasMakingOrder space = IsMakingOrder space.tree.mounts space.tree.turns space.tree.verdicts []
+HasMakingOrder space = IsMakingOrder space.tree.rows space.tree.mounts space.tree.turns space.tree.verdicts []

@@ -2,7 +2,8 @@
 ghost use Rattle.std.specs.Prelude.{◌≡◌, ◌≤◌, ◌-◌, [], ◌∷◌, ◌++◌, length, slice_get, replicate, OnOk, IfOk};
 ghost use Rattle.mt_import.specs.declared.mount.Turn.TheVariants as Turn;
 ghost use Rattle.mt_import.specs.declared.verdict.Verdict.TheVariants as Verdict;
-ghost use Rattle.mt_import.specs.Growth.{waiting_ends, is_waiting, IsGrowth, IsPlaced};
+ghost use Rattle.mt_import.specs.Growth.{waiting_ends, is_waiting, IsGrowth, IsNextPlaced};
+ghost use Rattle.mt_import.specs.Tree.{StandsThere};
 
 use crate::below::{Below, below_of};
 use crate::mount::{Mount, Turn};
@@ -30,6 +31,7 @@ pub(crate) enum Waiting {
 /// A tree as it grows.
 #[derive(Drop)]
 pub(crate) struct Growth<'a> {
+    rows: &'a [HostMount],
     mounts: Vec<Mount<'a>>,
     turns: Vec<Turn>,
     verdicts: Vec<Verdict>,
@@ -74,12 +76,14 @@ fn is_waiting(verdicts: &[Verdict], number: usize) -> bool
 }
 
 impl<'a> Growth<'a> {
-    /// A tree of no mounts, for so many rows. Fails for want of memory alone.
-    pub(crate) fn new(alloc: Global, count: usize) -> Result<Growth<'a>, AllocError>
+    /// A tree of no mounts, for the rows of a table. Fails for want of memory alone.
+    pub(crate) fn new(alloc: Global, rows: &'a [HostMount]) -> Result<Growth<'a>, AllocError>
+        ensures rows { IfOk result (λ growth. growth.rows.now ≡ rows.now) }
         ensures kept { IfOk result (λ growth. IsGrowth growth) }
     {
-        let verdicts = waits(alloc, count)?;
+        let verdicts = waits(alloc, rows.len())?;
         Ok(Growth {
+            rows,
             mounts: Vec::new(alloc),
             turns: Vec::new(alloc),
             verdicts,
@@ -96,6 +100,7 @@ impl<'a> Growth<'a> {
     /// Leaves a row out of which the turn has not come; nothing where it has.
     pub(crate) fn leave_out(&mut self, number: usize, why: Reason)
         ensures kept { IsGrowth self.old → IsGrowth self.new }
+        ensures rows { self.new.rows ≡ self.old.rows }
     {
         if is_waiting(self.verdicts.as_slice(), number) {
             self.verdicts[number] = Verdict::Left(why);
@@ -109,6 +114,7 @@ impl<'a> Growth<'a> {
         left: Option<Reason>,
     ) -> Result<(), AllocError>
         ensures kept { OnOk result (IsGrowth self.old → IsGrowth self.new) }
+        ensures rows { OnOk result (self.new.rows ≡ self.old.rows) }
     {
         self.waiting.push(Waiting::Row {
             number,
@@ -126,21 +132,27 @@ impl<'a> Growth<'a> {
         number: usize,
         above: usize,
     ) -> Result<Placed<'a>, AllocError>
-        ensures placed { IfOk result (λ placed. IsPlaced (length self.old.mounts.items) number placed) }
+        ensures placed { IfOk result (λ placed. IsNextPlaced self.old.mounts.items row.now number placed) }
+        ensures rows { OnOk result (self.new.rows ≡ self.old.rows) }
         ensures kept { OnOk result (IsGrowth self.old → IsGrowth self.new) }
         ensures mounts { OnOk result (self.new.mounts ≡ self.old.mounts) }
     {
         let here = self.mounts.len();
-        let Some(parent) = self.mounts.get(above) else {
+        if here == 0 {
             return Ok(root_mount(alloc, row, number));
-        };
-        let placed = mount_on(alloc, row, number, here, parent, above)?;
-        if matches!(placed, Placed::There(_))
-            && !self.places.insert((above, row.point.as_slice()))?
-        {
-            return Ok(Placed::Left(Reason::SamePlace));
         }
-        Ok(placed)
+        let Some(parent) = self.mounts.get(above) else {
+            return Ok(Placed::Left(Reason::NoParent));
+        };
+        match mount_on(alloc, row, number, here, parent, above)? {
+            Placed::There(mount) => {
+                if !self.places.insert((above, row.point.as_slice()))? {
+                    return Ok(Placed::Left(Reason::SamePlace));
+                }
+                Ok(Placed::There(mount))
+            }
+            Placed::Left(why) => Ok(Placed::Left(why)),
+        }
     }
 
     /// Adds the mount of a row of which the turn has come, and has what stands on it wait, and its own end. Fails for want of
@@ -151,7 +163,9 @@ impl<'a> Growth<'a> {
         stacked: &[Below],
         others: &[Below],
     ) -> Result<(), AllocError>
-        ensures kept { OnOk result (mount.entry.above ≤ length self.old.mounts.items - 1 → IsGrowth self.old → IsGrowth self.new) }
+        ensures kept { OnOk result (mount.entry.above ≤ length self.old.mounts.items - 1
+            → StandsThere self.old.rows.now self.old.mounts.items (length self.old.mounts.items) mount.entry → IsGrowth self.old → IsGrowth self.new) }
+        ensures rows { OnOk result (self.new.rows ≡ self.old.rows) }
     {
         let (here, number, is_base) = (self.mounts.len(), mount.number, mount.is_base);
         if !is_waiting(self.verdicts.as_slice(), number) {
@@ -180,6 +194,7 @@ impl<'a> Growth<'a> {
         others: &[Below],
     ) -> Result<(), AllocError>
         ensures kept { OnOk result (IsGrowth self.old → IsGrowth self.new) }
+        ensures rows { OnOk result (self.new.rows ≡ self.old.rows) }
     {
         self.leave_out(number, why);
         wait_for(&mut self.waiting, stacked, 0, Some(Reason::ParentLeftOut))?;
@@ -191,14 +206,17 @@ impl<'a> Growth<'a> {
     fn take_row(
         &mut self,
         alloc: Global,
-        row: &'a HostMount,
         number: usize,
         above: usize,
         left: Option<Reason>,
         below: &[Below],
     ) -> Result<(), AllocError>
         ensures kept { OnOk result (IsGrowth self.old → IsGrowth self.new) }
+        ensures rows { OnOk result (self.new.rows ≡ self.old.rows) }
     {
+        let Some(row) = self.rows.get(number) else {
+            return Ok(());
+        };
         let (stacked, others) = below_of(below, row);
         if let Some(why) = left {
             self.leave_tree_out(number, why, stacked, others)?;
@@ -213,6 +231,7 @@ impl<'a> Growth<'a> {
 
     /// Ends a mount. Fails for want of memory alone.
     fn end(&mut self, here: usize) -> Result<(), AllocError>
+        ensures rows { OnOk result (self.new.rows ≡ self.old.rows) }
         ensures mounts { OnOk result (self.new.mounts ≡ self.old.mounts) }
         ensures turns { OnOk result (self.new.turns.items ≡ self.old.turns.items ++ Turn.End here ∷ []) }
         ensures verdicts { OnOk result (self.new.verdicts ≡ self.old.verdicts) }
@@ -223,13 +242,9 @@ impl<'a> Growth<'a> {
     }
 
     /// Does the next turn, if there is one: whether there was. Fails for want of memory alone.
-    fn take_next(
-        &mut self,
-        alloc: Global,
-        rows: &'a [HostMount],
-        below: &[Below],
-    ) -> Result<bool, AllocError>
+    fn take_next(&mut self, alloc: Global, below: &[Below]) -> Result<bool, AllocError>
         ensures kept { OnOk result (IsGrowth self.old → IsGrowth self.new) }
+        ensures rows { OnOk result (self.new.rows ≡ self.old.rows) }
     {
         let Some(next) = self.waiting.pop() else {
             return Ok(false);
@@ -240,26 +255,18 @@ impl<'a> Growth<'a> {
                 number,
                 above,
                 left,
-            } => {
-                if let Some(row) = rows.get(number) {
-                    self.take_row(alloc, row, number, above, left, below)?;
-                }
-            }
+            } => self.take_row(alloc, number, above, left, below)?,
         }
         Ok(true)
     }
 
     /// Does all turns. Fails for want of memory alone.
-    pub(crate) fn take_all(
-        &mut self,
-        alloc: Global,
-        rows: &'a [HostMount],
-        below: &[Below],
-    ) -> Result<(), AllocError>
+    pub(crate) fn take_all(&mut self, alloc: Global, below: &[Below]) -> Result<(), AllocError>
         ensures kept { OnOk result (IsGrowth self.old → IsGrowth self.new) }
+        ensures rows { OnOk result (self.new.rows ≡ self.old.rows) }
     {
-        'turns: for _step in 0..=rows.len().saturating_mul(2) {
-            if !self.take_next(alloc, rows, below)? {
+        'turns: for _step in 0..=self.rows.len().saturating_mul(2) {
+            if !self.take_next(alloc, below)? {
                 return Ok(());
             }
         }
@@ -269,6 +276,7 @@ impl<'a> Growth<'a> {
     /// Ends the mounts that wait for their end still. Fails for want of memory alone.
     fn end_all(&mut self) -> Result<(), AllocError>
         ensures kept { OnOk result (IsGrowth self.old → IsGrowth self.new) }
+        ensures rows { OnOk result (self.new.rows ≡ self.old.rows) }
         ensures none { OnOk result (self.new.waiting.items ≡ []) }
     {
         'waiting: while let Some(next) = self.waiting.pop() {
@@ -283,17 +291,19 @@ impl<'a> Growth<'a> {
     pub(crate) fn grown(self, table: usize) -> Result<Tree<'a>, AllocError>
         requires { IsGrowth self }
         ensures table { IfOk result (λ tree. tree.table ≡ table) }
+        ensures rows { IfOk result (λ tree. tree.rows ≡ self.entry.rows.now) }
     {
         let mut growth = self;
         growth.end_all()?;
         let Growth {
+            rows,
             mounts,
             turns,
             verdicts,
             waiting: _waiting,
             places: _places,
         } = growth;
-        Ok(Tree::new(table, mounts, turns, verdicts))
+        Ok(Tree::new(table, rows, mounts, turns, verdicts))
     }
 }
 

@@ -1,5 +1,5 @@
 //! The script that makes namespaces.
-ghost use Rattle.std.specs.Prelude.{map, OnOk, IfOk, IsOkUnless};
+ghost use Rattle.std.specs.Prelude.{◌≡◌, map, OnOk, IfOk, IsOkUnless};
 ghost use Rattle.mt_skel.specs.Front.{IsFront};
 ghost use Rattle.mt_import.specs.Import.{IsImport};
 
@@ -38,9 +38,11 @@ fn is_told(tables: &[Vec<HostMount>], rows: &[HostMount]) -> bool {
 }
 
 /// The trees of tables. Fails for want of memory alone.
-fn trees_of(alloc: Global, tables: &[Vec<HostMount>]) -> Result<Vec<Tree<'_>>, AllocError> {
+fn trees_of(alloc: Global, tables: &[Vec<HostMount>]) -> Result<Vec<Tree<'_>>, AllocError>
+    ensures rows { IfOk result (λ trees. map (λ tree. tree.rows) trees.items ≡ map (λ rows. rows.items) tables.now) }
+{
     let mut trees = Vec::new(alloc);
-    for (before, rows) in tables.iter().enumerate() {
+    'tables: for (before, rows) in tables.iter().enumerate() {
         let number = before.saturating_add(1);
         let is_told = is_told(&tables[..before], rows.as_slice());
         trees.push(tree_of(alloc, number, rows.as_slice(), is_told)?)?;
@@ -75,7 +77,8 @@ fn script_with<'a>(
     plan: &Plan<'a>,
     spaces: &[Space<'a>],
 ) -> Result<Script, Fault>
-    ensures made { IfOk result (IsImport (map (λ rows. rows.items) tables.now)) }
+    ensures made { map (λ space. space.tree.rows) spaces.now ≡ map (λ rows. rows.items) tables.now
+        → IfOk result (IsImport (map (λ rows. rows.items) tables.now)) }
     ensures memory { IsOkUnless result Fault.NoMemory }
 {
     let mut script = Script::new(alloc);

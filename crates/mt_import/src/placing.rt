@@ -1,7 +1,7 @@
 //! Where a mount would stand, and why it cannot be made there.
 
 ghost use Rattle.std.specs.Prelude.{◌≡◌, IfOk};
-ghost use Rattle.mt_import.specs.Growth.{IsOn};
+ghost use Rattle.mt_import.specs.Growth.{IsOn, IsOf};
 ghost use Rattle.mt_import.specs.Paths.{is_too_deep};
 ghost use Rattle.mt_import.specs.Placing.{why_pathless, IsAt, IsPlacedBy};
 
@@ -51,7 +51,8 @@ fn why_pathless(root: &[u8], point: &[u8]) -> Option<Reason>
 
 /// The root mount that a row tells.
 pub(crate) fn root_mount<'a>(alloc: Global, row: &'a HostMount, number: usize) -> Placed<'a>
-    ensures { IsOn 0 number result }
+    ensures on { IsOn 0 number result }
+    ensures of { IsOf row.now result }
 {
     let (root, point) = (
         below_root(row.root.as_slice()),
@@ -78,6 +79,7 @@ pub(crate) fn root_mount<'a>(alloc: Global, row: &'a HostMount, number: usize) -
 fn base_on<'a>(mount: Mount<'a>, parent: &Mount<'a>) -> Placed<'a>
     ensures place { IsAt mount.entry.root.now mount.entry.place.items result }
     ensures on { IsOn mount.entry.above mount.entry.number result }
+    ensures of { IsOf mount.entry.row.now result }
 {
     if parent.base >= MOST_AT_ROOT {
         return Placed::Left(Reason::AtRoot);
@@ -93,6 +95,7 @@ fn base_on<'a>(mount: Mount<'a>, parent: &Mount<'a>) -> Placed<'a>
 fn leveled<'a>(mount: Mount<'a>, parent: &Mount<'a>, is_stacked: bool) -> Placed<'a>
     ensures place { IsAt mount.entry.root.now mount.entry.place.items result }
     ensures on { IsOn mount.entry.above mount.entry.number result }
+    ensures of { IsOf mount.entry.row.now result }
 {
     if is_stacked && parent.is_base {
         return base_on(mount, parent);
@@ -126,6 +129,7 @@ pub(crate) fn mount_on<'a>(
 ) -> Result<Placed<'a>, AllocError>
     ensures place { IfOk result (λ placed. IsPlacedBy parent.now row.now placed) }
     ensures on { IfOk result (λ placed. IsOn above number placed) }
+    ensures of { IfOk result (λ placed. IsOf row.now placed) }
 {
     let (root, point) = (
         below_root(row.root.as_slice()),

@@ -1,6 +1,6 @@
 //! A table with what a script makes of it.
 
-ghost use Rattle.std.specs.Prelude.{◌≡◌};
+ghost use Rattle.std.specs.Prelude.{◌≡◌, map, IfOk};
 ghost use Rattle.mt_import.specs.Telling.{is_shown};
 
 use crate::choice::{Left, is_made};
@@ -38,11 +38,13 @@ pub(crate) fn spaces_of<'a>(
     trees: Vec<Tree<'a>>,
     left: Vec<Left>,
     groups: &Groups<'a>,
-) -> Result<Vec<Space<'a>>, AllocError> {
+) -> Result<Vec<Space<'a>>, AllocError>
+    ensures rows { IfOk result (λ spaces. map (λ space. space.tree.rows) spaces.items ≡ map (λ tree. tree.rows) trees.entry.items) }
+{
     let mut spaces: Vec<Space<'a>> = Vec::new(alloc);
     let mut others = left.into_iter();
     let mut number = 1_usize;
-    for tree in trees {
+    'trees: for tree in trees {
         let left = others.next().unwrap_or(Vec::new(alloc));
         let ways = ways_of(alloc, groups, STAGE, tree.mounts())?;
         let space = Space {

@@ -18,6 +18,7 @@ use std::marker::Model;
 #[derive(Drop)]
 pub(crate) struct Tree<'a> {
     table: usize,
+    rows: &'a [HostMount],
     mounts: Vec<Mount<'a>>,
     turns: Vec<Turn>,
     verdicts: Vec<Verdict>,
@@ -29,24 +30,27 @@ impl<'a> Model for Tree<'a> {
 
     ghost Value = { TreeView };
 
-    ghost view = { λ t. record { table = t.table; mounts = t.mounts.items; turns = t.turns.items; verdicts = t.verdicts.items } };
+    ghost view = { λ t. record { table = t.table; rows = t.rows.now; mounts = t.mounts.items; turns = t.turns.items; verdicts = t.verdicts.items } };
 
-    ghost invariant = { λ t. IsMakingOrder t.mounts.items t.turns.items t.verdicts.items [] };
+    ghost invariant = { λ t. IsMakingOrder t.rows.now t.mounts.items t.turns.items t.verdicts.items [] };
 }
 
 impl<'a> Tree<'a> {
-    /// The tree of the table of a number, with its mounts, their turns, and what becomes of each row.
+    /// The tree of the table of a number, with its rows, its mounts, their turns, and what becomes of each row.
     pub(crate) fn new(
         table: usize,
+        rows: &'a [HostMount],
         mounts: Vec<Mount<'a>>,
         turns: Vec<Turn>,
         verdicts: Vec<Verdict>,
     ) -> Tree<'a>
-        requires { IsMakingOrder mounts.items turns.items verdicts.items [] }
+        requires { IsMakingOrder rows.now mounts.items turns.items verdicts.items [] }
         ensures table { result.table ≡ table }
+        ensures rows { result.rows ≡ rows.now }
     {
         Tree {
             table,
+            rows,
             mounts,
             turns,
             verdicts,
@@ -63,7 +67,7 @@ impl<'a> Tree<'a> {
     /// The mounts, each behind the one that it stands on.
     pub(crate) fn mounts(&self) -> &[Mount<'a>]
         ensures mounts { result.now ≡ self.now.mounts }
-        ensures kept { IsMakingOrder self.now.mounts self.now.turns self.now.verdicts [] }
+        ensures kept { IsMakingOrder self.now.rows self.now.mounts self.now.turns self.now.verdicts [] }
     {
         self.mounts.as_slice()
     }
@@ -91,6 +95,7 @@ fn ids_of(
     growth: &mut Growth<'_>,
 ) -> Result<BTreeSet<u64>, AllocError>
     ensures kept { OnOk result (IsGrowth growth.old → IsGrowth growth.new) }
+    ensures rows { OnOk result (growth.new.rows ≡ growth.old.rows) }
 {
     let mut ids = BTreeSet::new(alloc);
     'rows: for (number, row) in rows.iter().enumerate() {
@@ -121,6 +126,7 @@ fn sort_in<'a>(
     growth: &mut Growth<'a>,
 ) -> Result<(), AllocError>
     ensures kept { OnOk result (IsGrowth growth.old → IsGrowth growth.new) }
+    ensures rows { OnOk result (growth.new.rows ≡ growth.old.rows) }
 {
     if is_top(ids, row) {
         growth.wait_for_row(number, Some(Reason::NoParent))?;
@@ -140,6 +146,7 @@ fn sorted<'a>(
     growth: &mut Growth<'a>,
 ) -> Result<Vec<Below>, AllocError>
     ensures kept { OnOk result (IsGrowth growth.old → IsGrowth growth.new) }
+    ensures rows { OnOk result (growth.new.rows ≡ growth.old.rows) }
 {
     let mut below = Vec::new(alloc);
     'rows: for (number, row) in rows.iter().enumerate() {
@@ -154,6 +161,7 @@ fn sorted<'a>(
 /// Leaves out so many rows, for a reason.
 fn leave_all_out(growth: &mut Growth<'_>, count: usize, why: Reason)
     ensures kept { IsGrowth growth.old → IsGrowth growth.new }
+    ensures rows { growth.new.rows ≡ growth.old.rows }
 {
     'rows: for number in 0..count {
         growth.leave_out(number, why);
@@ -163,6 +171,7 @@ fn leave_all_out(growth: &mut Growth<'_>, count: usize, why: Reason)
 /// Places the mounts that rows tell. Fails for want of memory alone.
 fn grow<'a>(alloc: Global, rows: &'a [HostMount], growth: &mut Growth<'a>) -> Result<(), AllocError>
     ensures kept { OnOk result (IsGrowth growth.old → IsGrowth growth.new) }
+    ensures rows { OnOk result (growth.new.rows ≡ growth.old.rows) }
 {
     let ids = ids_of(alloc, rows, growth)?;
     let Some(root) = root_of(&ids, rows) else {
@@ -171,7 +180,7 @@ fn grow<'a>(alloc: Global, rows: &'a [HostMount], growth: &mut Growth<'a>) -> Re
     };
     let below = sorted(alloc, rows, &ids, root, growth)?;
     growth.wait_for_row(root, None)?;
-    growth.take_all(alloc, rows, below.as_slice())?;
+    growth.take_all(alloc, below.as_slice())?;
     Ok(())
 }
 
@@ -184,8 +193,9 @@ pub(crate) fn tree_of<'a>(
     is_told: bool,
 ) -> Result<Tree<'a>, AllocError>
     ensures table { IfOk result (λ tree. tree.table ≡ table) }
+    ensures rows { IfOk result (λ tree. tree.rows ≡ rows.now) }
 {
-    let mut growth = Growth::new(alloc, rows.len())?;
+    let mut growth = Growth::new(alloc, rows)?;
     if is_told {
         leave_all_out(&mut growth, rows.len(), Reason::SameTable);
     }

@@ -5,16 +5,18 @@ use Rattle.mt_import.proofs.growth.Growth.begin.Goals as goal
 
 pub returns-then-is_base : goal.returns-then-is_base
 returns-then-is_base c = record {
-  kept = λ on tree.
-      base_more c.args.self.now.mounts.items c.push.new.self.items c.args.mount (search rules) c.args.self.now.turns.items c.push-then-is_base.new.self.items
-      c.args.self.now.verdicts.items _ (waiting_ends c.args.self.now.waiting.items) (waiting_ends c.wait_for-then-is_base.new.waiting.items) on (search rules) (search rules)
+  rows = (search rules);
+  kept = λ on there tree.
+      base_more c.args.self.now.rows.now c.args.self.now.mounts.items c.push.new.self.items c.args.mount (search rules) c.args.self.now.turns.items c.push-then-is_base.new.self.items
+      c.args.self.now.verdicts.items _ (waiting_ends c.args.self.now.waiting.items) (waiting_ends c.wait_for-then-is_base.new.waiting.items) on there (search rules) (search rules)
       (waiting_within c.args.self.now.verdicts.items c.args.mount.number (search rules)) (search rules) (search rules) tree;
 }
 
 pub returns : goal.returns
 returns c = record {
-  kept = λ on tree.
-      below_more c.args.self.now.mounts.items c.push.new.self.items c.args.mount (search rules) c.args.self.now.turns.items c.push-2.new.self.items
-      c.args.self.now.verdicts.items _ (waiting_ends c.args.self.now.waiting.items) (waiting_ends c.wait_for-2.new.waiting.items) on (search rules) (search rules)
+  rows = (search rules);
+  kept = λ on there tree.
+      below_more c.args.self.now.rows.now c.args.self.now.mounts.items c.push.new.self.items c.args.mount (search rules) c.args.self.now.turns.items c.push-2.new.self.items
+      c.args.self.now.verdicts.items _ (waiting_ends c.args.self.now.waiting.items) (waiting_ends c.wait_for-2.new.waiting.items) on there (search rules) (search rules)
       (waiting_within c.args.self.now.verdicts.items c.args.mount.number (search rules)) (search rules) (search rules) tree;
 }

@@ -1,10 +1,13 @@
-use Rattle.std.proofs.Common.{length}
+use Rattle.std.proofs.Common.{◌≡◌, length}
 use Rattle.mt_import.specs.Growth.{IsGrowth}
 use Rattle.mt_import.proofs.growth.Growth.end_all.Given as goal
 
--- a tree that grows stays one
+-- a tree that grows stays one, of the same rows
 abbrev pub invariant-waiting : goal.invariant-waiting
-invariant-waiting l = IsGrowth l.initial.self → IsGrowth l.self
+invariant-waiting l = record {
+  rows : l.self.rows ≡ l.initial.self.rows;
+  kept : IsGrowth l.initial.self → IsGrowth l.self;
+}
 
 abbrev pub decreases-waiting : goal.decreases-waiting
 decreases-waiting l = length l.self.waiting.items
