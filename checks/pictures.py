@@ -13,7 +13,7 @@ from typing import NamedTuple
 import cases
 import tour
 from graphs import check_graph
-from running import check, difference, is_there, read, run, shown
+from running import TOP, check, difference, is_there, read, run, shown
 from serving import Server
 
 # The lines that make a world.
@@ -219,6 +219,15 @@ def check_stored_pictures(program, mountctl):
         check(f"docs/pictures/{name}", stored and sorted(stored) == sorted(found), f"stored {stored}\nfound  {found}")
 
 
+def check_sources():
+    """Each graph that is written in docs/pictures has its picture there, with the same boxes and edges."""
+    folder = os.path.join(TOP, "docs", "pictures")
+    for name in sorted(name for name in os.listdir(folder) if name.endswith(".dot")):
+        stored, source = (read(folder, name.removesuffix(".dot") + ending) for ending in (".svg", ".dot"))
+        drawn_anew = run("dot", source, "-Tsvg")[1]
+        check(f"docs/pictures/{name}", sorted(WRITTEN.findall(stored)) == sorted(WRITTEN.findall(drawn_anew)) != [], "draw it again")
+
+
 def check_pictures(program, mountctl):
     """Trees and graphs of worlds, and what is refused."""
     check("dot is there, as CI needs it", is_there("dot", "graphviz") or "CI" not in os.environ)
@@ -227,5 +236,6 @@ def check_pictures(program, mountctl):
     check_refusals(program, mountctl)
     if shutil.which("dot"):
         check_stored_pictures(program, mountctl)
+        check_sources()
     else:
         print("dot (package graphviz) is not there: graphs were skipped", flush=True)
