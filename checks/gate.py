@@ -9,7 +9,7 @@ one failed. The status is 0 where all of them passed.
 `rt ci` keeps no library that `rt run` would take, so that README's `rt run` would prove everything a
 second time. It does leave the program that it has proved, built and run, and --built takes that one.
 
-A program: .ci/run is this one. Behind checks/words.py come checks/definitions.py and checks/wrong.py --look.
+A program: .ci/run is this one. Behind checks/words.py come checks/names.py, checks/definitions.py and checks/wrong.py --look.
 """
 import contextlib
 import os
@@ -66,11 +66,13 @@ def main():
             os.remove(program)
     words_passed, _, words_took = run("self-test of words.py", "checks/words.py", "--self-test")
     named, _, named_took = run("one word, one meaning; each thing once", "checks/words.py")
+    found_passed, _, found_took = run("self-test of names.py", "checks/names.py", "--self-test")
+    found, _, documents_took = run("names in the documents", "checks/names.py")
     placed, _, placed_took = run("where definitions stand", "checks/definitions.py")
     applied, _, applied_took = run("wrong bodies that are tried by hand", "checks/wrong.py", "--look")
     is_proved, verdict, took = run("rt ci", "rt", "ci")
-    all_took = [words_took, named_took, placed_took, applied_took, took]
-    others_passed = [words_passed, named, placed, applied]
+    all_took = [words_took, named_took, found_took, documents_took, placed_took, applied_took, took]
+    others_passed = [words_passed, named, found_passed, found, placed, applied]
     if os.path.isfile(PROGRAM) and os.path.isfile(CLIENT):
         for name, *words in (
             ("README's commands", "checks/readme.py", "--built"),
