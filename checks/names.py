@@ -11,11 +11,13 @@ It reads README.md, docs/*.md and checks/README.md, without their fenced blocks,
     capital inside, as `serve_plain` and `WorldView`, or both sides of `::`. Words of one case, as `show`, are lines,
     options or plain words too, and are left alone;
 (c) name in code marks that is there, but in no file of the crates that should have it: those that the heading above names,
-    as `## mt_bind, mt_unmount`, or the one that stands before it, as in mt_mounts: `walk`.
+    as `## mt_bind, mt_unmount`, or the one that stands before it, as in mt_mounts: `walk`. Behind a crate, and in the last
+    cell of a table below such a heading, each word is a name.
 
 Names that are not ours are known by their form: capitals alone are constants of the kernel or stand for something
-(`MNT_DETACH`, `NAME`); a word of the toolchain stands behind `Rattle.`, `rattle ` or `rt ` in its code marks, or in a
-bullet or row that says `toolchain` or `kit`. The status is 0 where nothing is printed. --self-test shows that each is found in texts made for it.
+(`MNT_DETACH`, `NAME`); a word of the toolchain stands behind `Rattle.`, `rattle ` or `rt ` in its code marks, or in a line
+that says `toolchain` or `kit`. The status is 0 where nothing is printed. --self-test shows that each is found in texts
+made for it.
 """
 import argparse
 import glob
@@ -26,7 +28,7 @@ import sys
 
 TOP = os.path.dirname(os.path.dirname(os.path.abspath(__file__)))
 DOCUMENTS = ["README.md", "checks/README.md", "docs/*.md"]
-# What is no code: the documents, and what a document may say of itself.
+# What is no code, as this file's own texts are none: documents and their pictures.
 TEXTS = (".md", ".svg", ".1", ".7")
 
 FENCED = re.compile(r"(?ms)^```.*?^```$")
@@ -45,11 +47,11 @@ def is_name(word):
     return "::" in word or inside != inside.upper() and ("_" in inside or re.search(r"[a-z]\w*[A-Z]|^[A-Z]\w*[a-z]\w*[A-Z]", inside))
 
 
-def names_in(marked):
-    """The names of a code mark, each part of a path by itself."""
-    if OTHERS.search(marked) or PATH.fullmatch(marked):
-        return []
-    return [part for word in WORD.findall(marked) if is_name(word) for part in word.split("::")]
+def names_in(text, is_any=False):
+    """The names in the code marks of a text, or all words there, each part of a path by itself."""
+    marks = [marked for marked in MARKED.findall(text) if not OTHERS.search(marked) and not PATH.fullmatch(marked)]
+    words = [word for marked in marks for word in WORD.findall(marked) if is_any or is_name(word)]
+    return [part for word in words for part in word.split("::")]
 
 
 def lines_of(text):
@@ -73,12 +75,14 @@ def absent_files(line, folder, paths):
 def absent_names(line, words, crates):
     """The names in code marks of a line that nothing has, and those that the crates have not in which they should be."""
     everywhere = set().union(*words.values())
-    marks = [] if TOOLCHAIN.search(line) else MARKED.findall(line)
-    yield from (name for marked in marks for name in names_in(marked) if name not in everywhere)
-    for owners, told in [(crates, line)] * bool(crates) + [([crate], told) for crate, told in OF_CRATE.findall(line)]:
+    nowhere = {name for name in names_in(line) if name not in everywhere}
+    yield from sorted(nowhere if not TOOLCHAIN.search(line) else ())
+    last = line.rstrip(" |").rsplit(" | ", 1)[-1] if line.startswith("|") else ""
+    owned = [(crates, [*names_in(line), *names_in(last, is_any=True)])] if crates else []
+    owned += [([crate], names_in(told, is_any=True)) for crate, told in OF_CRATE.findall(line)]
+    for owners, names in owned:
         there = set().union(*(words.get(crate, ()) for crate in owners))
-        missing = [name for marked in MARKED.findall(told) for name in names_in(marked) if name in everywhere - there]
-        yield from (f"{name} of {' or '.join(owners)}" for name in missing)
+        yield from (f"{name} of {' or '.join(owners)}" for name in names if name not in there | nowhere)
 
 
 def absent(documents, words, paths):
@@ -103,7 +107,7 @@ def words_by_crate(paths):
     """The words of each crate's files; those of all others stand under no name."""
     words = {}
     for path in paths:
-        if not path.endswith(TEXTS):
+        if not path.endswith((*TEXTS, "checks/names.py")):
             crate = path.split("/")[1] if path.startswith("crates/") else ""
             words.setdefault(crate, set()).update(re.findall(r"\w+", read(path) + " " + path))
     return words
@@ -114,7 +118,7 @@ SELF = {
     "mt_a: `is_one`, `is_two`; mt_b: `is_one`\n```\n`is_none`\n```\n`rt one_two`\n`is_none` of the kit\n## mt_b\n`is_one`\n",
 }
 SELF_WORDS = {"mt_a": {"is_one", "new"}, "mt_b": {"new"}, "": set()}
-SELF_FOUND = "C.md two.rt is_two IsTwo Three is_two is_one_of_mt_b is_one_of_mt_b"
+SELF_FOUND = "C.md two.rt IsTwo Three is_two is_two is_one_of_mt_b is_one_of_mt_b"
 
 
 def self_test():
