@@ -187,7 +187,8 @@ pub(crate) fn group_comment(
     Ok(())
 }
 
-/// Says which group of the tables the next line makes. Refused as `NoMemory` alone.
+/// Says which group of the tables the next line makes, without its number here: that hangs on how many groups the hooks
+/// before it have made. Refused as `NoMemory` alone.
 #[tactic(auto, unfolding(crate::specs::Script::next_comment))]
 fn next_comment(alloc: Global, script: &mut Script, group: u64) -> Result<(), Fault>
     ensures pushed { OnOk result (script.new ≡ script.old ++ next_comment group) }

@@ -145,7 +145,7 @@ impl Connections {
 }
 
 /// Makes each read of a stream wait for a second at most, and answers the stream a second time.
-/// Refused as the system refuses either.
+/// Refused as the system refuses either: a session whose reads have no bound would hold up a stop.
 fn prepare(stream: &UnixStream) -> io::Result<UnixStream> {
     stream.set_read_timeout(Some(Duration::from_secs(PATIENCE)))?;
     stream.try_clone()

@@ -63,8 +63,7 @@ fn run(floor: &mut Floor, command: &Command) -> Result<Text, Fault>
     Ok(text)
 }
 
-/// What is said where no post waits for a watcher of which so many were told, and this is how far it is. Takes no
-/// memory.
+/// The reply when the queue is empty after `told` posts: their count, or why no more will come. Takes no memory.
 pub(crate) fn phase_text(told: u64, phase: Phase) -> Text
     ensures { result ≡ by_phase (count_text told) phase }
 {
@@ -86,7 +85,7 @@ fn rest_of(told: u64, met: Answer) -> Text
     }
 }
 
-/// What is said where no post waits for a watcher of which so many were told.
+/// The reply when the queue is empty after `told` posts, by what a meeting tells of the watcher.
 fn rest(floor: &mut Floor, key: WatchKey, told: u64) -> Text
     requires idle { floor.old.due ≡ [] }
     ensures text { result ≡ rest_text (count_text told) floor.old key }
