@@ -9,7 +9,7 @@ It reads README.md, docs/*.md and checks/README.md, without their fenced blocks,
     here. A path may leave out its first folders, as `specs/Chain.antt` does;
 (b) name in code marks that no file has as a word, but the documents. A name is a word with an underscore or a second
     capital inside, as `serve_plain` and `WorldView`, or both sides of `::`. Words of one case, as `show`, are lines,
-    options or plain words too, and are left alone;
+    options or plain words too, and are left alone. A crate's name, and one that ends in `Laws`, need no code marks;
 (c) name in code marks that is there, but in no file of the crates that should have it: those that the heading above names,
     as `## mt_bind, mt_unmount`, or the one that stands before it, as in mt_mounts: `walk`. Behind a crate, and in the last
     cell of a table below such a heading, each word is a name.
@@ -38,6 +38,7 @@ PATH = re.compile(r"(?<![\w/.-])((?:[\w.-]+/)*[\w-]+\.(?:rt|antt|py|md|c|h|dot|s
 WORD = re.compile(r"(?<![\w.'-])[A-Za-z_]\w*(?:::\w+)*(?![\w'])")
 OTHERS = re.compile(r"Rattle\.|^(?:rattle|rt|apt-get|git|cp|ps) |^std::")
 TOOLCHAIN = re.compile(r"\b(?:toolchain|kit)\b")
+PLAIN = re.compile(r"\b(?:mt_\w+|[A-Z][a-z]+Laws)\b")
 OF_CRATE = re.compile(r"\b(mt_\w+|mountd|mountctl): ((?:`[^`]+`(?:, | and )?)+)")
 
 
@@ -75,7 +76,7 @@ def absent_files(line, folder, paths):
 def absent_names(line, words, crates):
     """The names in code marks of a line that nothing has, and those that the crates have not in which they should be."""
     everywhere = set().union(*words.values())
-    nowhere = {name for name in names_in(line) if name not in everywhere}
+    nowhere = {name for name in [*names_in(line), *PLAIN.findall(line)] if name not in everywhere}
     yield from sorted(nowhere if not TOOLCHAIN.search(line) else ())
     last = line.rstrip(" |").rsplit(" | ", 1)[-1] if line.startswith("|") else ""
     owned = [(crates, [*names_in(line), *names_in(last, is_any=True)])] if crates else []
@@ -115,10 +116,10 @@ def words_by_crate(paths):
 
 SELF = {
     "docs/A.md": "[b](B.md) [c](C.md) specs/One.antt two.rt `is_one` `is_two` `IsTwo` `Three::new` `show` `MNT_DETACH`\n"
-    "mt_a: `is_one`, `is_two`; mt_b: `is_one`\n```\n`is_none`\n```\n`rt one_two`\n`is_none` of the kit\n## mt_b\n`is_one`\n",
+    "mt_a: `is_one`, `is_two`; mt_b: `is_one`; mt_c and NoLaws\n```\n`is_none`\n```\n`rt one_two`\n`is_none` of the kit\n## mt_b\n`is_one`\n",
 }
-SELF_WORDS = {"mt_a": {"is_one", "new"}, "mt_b": {"new"}, "": set()}
-SELF_FOUND = "C.md two.rt IsTwo Three is_two is_two is_one_of_mt_b is_one_of_mt_b"
+SELF_WORDS = {"mt_a": {"mt_a", "is_one", "new"}, "mt_b": {"mt_b", "new"}, "": set()}
+SELF_FOUND = "C.md two.rt IsTwo Three is_two NoLaws is_two mt_c is_one_of_mt_b is_one_of_mt_b"
 
 
 def self_test():
