@@ -4,9 +4,8 @@
 Usage: checks/pages.py MOUNTD MOUNTCTL
 
 The pages are mdoc, and what is asked of them is read in their sources: that mandoc warns of nothing; that they have
-the options, the lines of a session, the refusals, the statuses and the messages that the programs, their sources,
-README.md and docs/RULES.md have, and no others; and that their examples are answered so. The completion offers the
-words of --help.
+the options, the lines of a session, the refusals, the statuses and the messages that the programs, their sources and
+docs/RULES.md have, and no others; and that their examples are answered so. The completion offers the words of --help.
 
 Where mandoc is not there, it is installed if the environment says CI, and else man(1) takes its place. Without both
 the form of the pages is not checked, which is a failure only where the environment says CI.
@@ -135,18 +134,25 @@ def check_refusals():
         check(f"the refusals of {word} in mountd-lines.7", found == wanted.get(word, []), " ".join(found))
 
 
-def statuses_of_readme():
-    """The statuses of both programs that README.md names."""
-    text = shown(read("README.md"))
-    sentence = re.search(r"Its status is (.*?)\. ", text)
-    return {
-        "mountd": re.findall(r"(?m)^- (\d) (?:after|with|for) ", text),
-        "mountctl": re.findall(r"\b(\d) (?:where|for|with) ", sentence[1] if sentence else ""),
-    }
+# The messages that a program puts together, with a word of capital letters for each part that a run finds.
+PUT_TOGETHER = {
+    "mountd": ["cannot listen: SOCKET: REASON"],
+    "mountctl": [
+        "connection fault: SOCKET: REASON",
+        "line N: LINE: no NAME",
+        "line N is no row of a mountinfo",
+        "FILE: line N is no row of a mountinfo",
+        "FILE: REASON",
+        "SOCKET: not a new server",
+        "table N: mount ID is left out: REASON",
+    ],
+}
 
-
-# What stands behind a message that tells of a socket.
-WHERE_AND_WHY = ": SOCKET: REASON"
+# Runs that end with each status: their arguments. The input of each is a line that is none of a mountinfo.
+RUNS = {
+    "mountd": [["--help"], ["/"], ["--nothing"]],
+    "mountctl": [["--help"], ["import"], ["--nothing"], ["/", "show", "1"]],
+}
 
 # What stands before a message in the source of a program: a call that says it, or the function that names it.
 SAID = re.compile(r'(?:fail\(rt, |fail_at\(rt, |refuse\(rt, |Some\(|=> |&str = )"([a-z][^"{]* [^"{]*)"')
@@ -159,14 +165,15 @@ def messages_in(program):
     return {f"{program}: {message}" for text in texts for message in SAID.findall(text)}
 
 
-def check_statuses():
-    """The statuses and messages that README.md names, and those in the source, stand in the pages, and no others."""
-    for program, wanted in statuses_of_readme().items():
+def check_statuses(programs):
+    """The pages have the statuses with which the programs end, and the messages of their sources, and no others."""
+    for program, path in programs.items():
         text = section(f"{program}.1", "EXIT STATUS")
-        check_same(f"the statuses of {program}.1", wanted, re.findall(r"(?m)^\.It (\d)$", text))
-        told = re.findall(rf"`({program}: [^`]*)`", shown(read("README.md")))
-        said = {message for message in messages_in(program) if message + WHERE_AND_WHY not in told}
-        check_same(f"the messages of {program}.1", {*told, *said}, MESSAGE.findall(text))
+        seen = {str(run(path, b"none\n", *words)[0]) for words in RUNS[program]}
+        check_same(f"the statuses of {program}.1", seen, re.findall(r"(?m)^\.It (\d)$", text))
+        made = {f"{program}: {message}" for message in PUT_TOGETHER[program]}
+        said = {message for message in messages_in(program) if not any(one.startswith(f"{message}: ") for one in made)}
+        check_same(f"the messages of {program}.1", {*made, *said}, MESSAGE.findall(text))
 
 
 def plain(text):
@@ -277,7 +284,7 @@ def main():
     check_form()
     check_help(helps)
     check_refusals()
-    check_statuses()
+    check_statuses(programs)
     check_examples(programs)
     check_offers(helps)
     check_options(programs["mountd"])

@@ -27,7 +27,7 @@ MOST_DRAWING = 5
 
 # Each graph in docs/pictures, with its session, a case or one of docs/TOUR.md, and how many tables are shown there before it.
 DRAWN = {
-    "propagation.svg": ("three-namespaces", 0),
+    "propagation.svg": ("cases/three-namespaces", 0),
     "before-the-pivot.svg": ("bubblewrap", 0),
     "behind-the-pivot.svg": ("bubblewrap", 1),
     "behind-the-detach.svg": ("bubblewrap", 2),
@@ -203,7 +203,8 @@ def check_refusals(program, mountctl):
 def drawn_session(program, mountctl, session, shows):
     """The graph of a session, as it is before the table is shown that is behind so many others, as an SVG."""
     blocks = {shown(name): text for _, name, text, _ in tour.SESSION_BLOCK.findall(read(*tour.PAGE))}
-    requests = (cases.parse(blocks[session]) if session in blocks else cases.load(session)).requests()
+    folder, _, case = session.rpartition("/")
+    requests = (cases.load(case) if folder else cases.parse(blocks[session])).requests()
     until = [at for at, line in enumerate(requests) if line.startswith(b"show")][shows]
     with Server(program) as server, server.client() as client:
         for line in requests[:until]:
