@@ -32,6 +32,7 @@ PARTS = {
     "cases": cases.check_cases,
     "example": readme.check_example,
     "tour": tour.check_tour,
+    "states": tour.check_states,
     "findmnt": tables.check_findmnt,
     "containers": contained.check_contained,
     "copies": tables.check_copies,
