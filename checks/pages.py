@@ -23,6 +23,7 @@ from running import MOST_SECONDS, TOP, check, difference, failures, is_there, re
 
 PAGES = "mountd.1", "mountctl.1", "mountd-lines.7"
 COMPLETION = os.path.join(TOP, "docs", "completion", "mountctl.bash")
+CLIENTS = os.path.join(TOP, "docs", "clients")
 
 MANDOC = ["mandoc", "-Tlint", "-W", "warning"]
 MAN = ["man", "--warnings", "-E", "UTF-8", "-l", "-Tutf8", "-Z"]
@@ -119,18 +120,24 @@ def refusals_by_line():
     return found
 
 
+def refusals_named(text):
+    """The refusals that a text of a page names, in their order."""
+    lines = re.findall(r"(?m)^\.(?:It )?Er (.*)", text)
+    return [name for line in lines for name in re.findall(r"\w+", line)]
+
+
 def check_refusals():
     """The refusals of the source stand in mountd-lines.7, and no other in any page; each line has its own."""
     names = re.findall(r'=> b"(\w+)"', shown(read("crates", "mt_skel", "src", "fault.rt")))
     listed = re.findall(r"(?m)^\.It Er (\w+)", section("mountd-lines.7", "REFUSALS"))
     check_same("the refusals of mountd-lines.7", names, listed)
     for name in PAGES:
-        found = re.findall(r"\bEr (\w+)|\bno ([A-Z][a-z]+[A-Z]\w*)", page(name))
-        unknown = {word for pair in found for word in pair if word} - set(names)
+        found = {*refusals_named(page(name)), *re.findall(r"\bno ([A-Z][a-z]+[A-Z]\w*)", page(name))}
+        unknown = found - set(names)
         check(f"refusals of {name} that are none", unknown == set(), " ".join(sorted(unknown)))
     wanted = refusals_by_line()
     for word, entry in ENTRY.findall(section("mountd-lines.7", "LINES")):
-        found = re.findall(r"(?m)^\.Er (\w+)", entry)
+        found = refusals_named(entry)
         check(f"the refusals of {word} in mountd-lines.7", found == wanted.get(word, []), " ".join(found))
 
 
@@ -218,6 +225,8 @@ def check_examples(programs):
             with tempfile.TemporaryDirectory() as folder, tempfile.TemporaryDirectory() as links:
                 for program, path in programs.items():
                     os.symlink(path, os.path.join(links, program))
+                for client in os.listdir(CLIENTS):
+                    os.symlink(os.path.join(CLIENTS, client), os.path.join(folder, client))
                 path = os.pathsep.join([links, os.environ["PATH"]])
                 check_commands(name, commands, folder, dict(os.environ, PATH=path))
 

@@ -5,7 +5,7 @@ Usage: checks/server.py MOUNTD [MOUNTCTL] [--seconds N | --draw]
 
 A plain client speaks with servers that are started here, each in a folder of its own: the cases,
 sockets that cannot be made and stale ones (paths.py), accepts that fail, few descriptors, sessions that are idle, the limit of sessions, a stop (stopping.py), clients that are
-gone or do not read, many connections, allocations that are refused (wanting.py), and then 32 sessions at once for
+gone or do not read, many connections, allocations that are refused (wanting.py), the client in Python (pythons.py), and then 32 sessions at once for
 N seconds, 20 if not said (soak.py). With MOUNTCTL that program is checked too (clients.py, answering.py, reading.py, pictures.py, telling.py), the cases are
 sent as its scripts, tables are imported (importing.py, crowds.py, worlds.py, hosts.py), questions are asked (questions.py), and a quarter of the 32 sessions are its mirrors.
 
@@ -39,6 +39,7 @@ from importing import check_import
 from limits import COMMANDS
 from paths import check_made, check_paths, check_stale, check_stopped
 from pictures import check_pictures, update_pictures
+from pythons import check_python
 from questions import check_questions
 from reading import check_reading
 from running import check, difference, failures, library, shown
@@ -325,6 +326,7 @@ PARTS = {
     "many": check_many,
     "signals": check_signals,
     "wanting": check_wanting,
+    "python": check_python,
 }
 
 
