@@ -23,7 +23,6 @@ from running import MOST_SECONDS, TOP, check, difference, failures, is_there, re
 
 PAGES = "mountd.1", "mountctl.1", "mountd-lines.7"
 COMPLETION = os.path.join(TOP, "docs", "completion", "mountctl.bash")
-CLIENTS = os.path.join(TOP, "docs", "clients")
 
 MANDOC = ["mandoc", "-Tlint", "-W", "warning"]
 MAN = ["man", "--warnings", "-E", "UTF-8", "-l", "-Tutf8", "-Z"]
@@ -185,7 +184,7 @@ def check_statuses(programs):
 
 def plain(text):
     """A literal block as it is printed."""
-    return text.replace("\\(aq", "'").replace("\\e", "\\").encode()
+    return text.replace("\\(aq", "'").replace("\\-", "-").replace("\\e", "\\").encode()
 
 
 def ends_well(server):
@@ -198,7 +197,7 @@ def ends_well(server):
 
 
 def check_commands(name, text, folder, environment):
-    """What blocks of a page show of commands is what they print, the first one being the server, which they stop."""
+    """What a page shows of commands is what they print, the first one being the server, which they stop."""
     (start, _), *others = STEP.findall(text)
     settings = {"cwd": folder, "env": environment, "stdin": subprocess.DEVNULL, "stdout": subprocess.PIPE}
     with subprocess.Popen(["sh", "-ec", b"exec " + start.rstrip(b"& ")], **settings) as server:
@@ -213,7 +212,7 @@ def check_commands(name, text, folder, environment):
 
 
 def check_examples(programs):
-    """The examples of the pages are answered so: sessions behind `>`, and commands behind `$`."""
+    """The examples of the pages are answered so: sessions behind `>`, and commands behind `$`, at the top of the sources."""
     for name in PAGES:
         blocks = [plain(block) for block in BLOCK.findall(section(name, "EXAMPLES"))]
         check(f"{name} has examples", blocks != [])
@@ -221,14 +220,13 @@ def check_examples(programs):
             if block.startswith(b"> "):
                 check_session(f"a session of {name}", block, programs["mountd"])
         commands = b"".join(block for block in blocks if block.startswith(b"$ "))
-        if commands:
+        for text in filter(None, re.split(rb"(?m)^(?=\$ mountd .* &$)", commands)):
             with tempfile.TemporaryDirectory() as folder, tempfile.TemporaryDirectory() as links:
                 for program, path in programs.items():
                     os.symlink(path, os.path.join(links, program))
-                for client in os.listdir(CLIENTS):
-                    os.symlink(os.path.join(CLIENTS, client), os.path.join(folder, client))
+                os.symlink(os.path.join(TOP, "docs"), os.path.join(folder, "docs"))
                 path = os.pathsep.join([links, os.environ["PATH"]])
-                check_commands(name, commands, folder, dict(os.environ, PATH=path))
+                check_commands(name, text, folder, dict(os.environ, PATH=path))
 
 
 def offered(*words):
