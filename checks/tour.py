@@ -4,31 +4,16 @@ The page is the source of these sessions, which are no files of cases/. Each sta
 behind a line `<!-- session: NAME -->`, in the format of cases.py, with comments or without. One behind a line
 `<!-- session: NAME behind OTHER -->` goes on where the session OTHER ends; that has its name in its first line, unless it
 stands directly before. A fence or an input line anywhere else in the page is a failure.
-
-The page's table of states is what the program makes of each state.
 """
 import re
 
 import cases
-from running import check, read, session, shown, write
+from running import check, read, shown, write
 
 PAGE = "docs", "TOUR.md"
 SESSION_BLOCK = cases.marked(b"session")
 # What looks like a part of a session: a fence, or an input line, be it in a list or a quotation.
 PART = re.compile(rb"(?m)^[ \t>*+-]*(?:```|~~~|>).*$")
-
-# The table of states, and the lines that make each state of mount 3 at /m, which begins as a peer of mount 2 at /n.
-STATES = re.compile(r"(?m)^\| Before \|(.*)\|\n\|[-|]*\|\n((?:\|.*\|\n)*)")
-MADE = {
-    "shared, with a peer": [],
-    "shared, alone in its group": [b"umount 1 /n"],
-    "slave": [b"setattr 1 /m prop=slave"],
-    "shared and slave": [b"setattr 1 /m prop=slave", b"setattr 1 /m prop=shared"],
-    "private": [b"setattr 1 /m prop=private"],
-    "unbindable": [b"setattr 1 /m prop=unbindable"],
-}
-PEERS = [b"mkfs a tmpfs none", b"mkdir a /m", b"mkdir a /n", b"newns a", b"mount 1 a /n", b"setattr 1 /n prop=shared", b"bind 1 /n /m"]
-NAMES = {(): "private", ("shared",): "shared", ("master",): "slave", ("shared", "master"): "shared and slave", ("unbindable",): "unbindable"}
 
 
 def name_of(mark):
@@ -67,22 +52,6 @@ def check_tour(program):
         cases.check_session(f"session {name} of docs/TOUR.md", text, program)
     others = PART.findall(SESSION_BLOCK.sub(b"", read(*PAGE)))
     check("docs/TOUR.md has <!-- session: NAME --> before each block", others == [], shown(b"\n".join(others)))
-
-
-def state_behind(program, lines):
-    """The state in which these lines leave mount 3 at /m."""
-    _, output, _ = session(program, [*PEERS, *lines, b"show 1"])
-    [row] = [line for line in output.decode().splitlines() if re.match(r"3 \d+ 0:", line)]
-    return NAMES.get(tuple(re.findall(r"\b(shared|master|unbindable)\b", row.partition(" - ")[0])))
-
-
-def check_states(program):
-    """The table of states is what the program makes of a mount in each of them."""
-    [(calls, rows)] = STATES.findall(shown(read(*PAGE)))
-    calls = re.findall(r"`(prop=\w+)`", calls)
-    found = {before: told for before, *told in (re.findall(r"[^|]+", row.replace(" |", "|").replace("| ", "|")) for row in rows.splitlines())}
-    wanted = {before: [state_behind(program, [*made, b"setattr 1 /m " + call.encode()]) for call in calls] for before, made in MADE.items()}
-    check("the table of states in docs/TOUR.md", len(calls) == 4 and found == wanted, f"wanted {wanted}\nfound  {found}")
 
 
 def update_tour(program):
