@@ -31,8 +31,8 @@ DRAWN = {
     "three-namespaces.svg": "three-namespaces",
     "moved-tree.svg": "move",
     "before-the-pivot.svg": "bubblewrap",
-    "behind-the-pivot.svg": "pivot",
-    "behind-the-detach.svg": "detach",
+    "after-the-pivot.svg": "pivot",
+    "after-the-detach.svg": "detach",
 }
 
 # What is written in an SVG, beside where.

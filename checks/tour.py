@@ -2,7 +2,7 @@
 
 The page is the source of these sessions, which are no files of cases/. Each stands in a fenced block directly
 behind a line `<!-- session: NAME -->`, in the format of cases.py, with comments or without. One behind a line
-`<!-- session: NAME behind OTHER -->` goes on where the session OTHER ends; that has its name in its first line, unless it
+`<!-- session: NAME after OTHER -->` goes on where the session OTHER ends; that has its name in its first line, unless it
 stands directly before. A fence or an input line anywhere else in the page is a failure.
 """
 import re
@@ -17,8 +17,8 @@ PART = re.compile(rb"(?m)^[ \t>*+-]*(?:```|~~~|>).*$")
 
 
 def name_of(mark):
-    """The name of a session, and that of the one behind which it goes on, or nothing."""
-    name, _, other = shown(mark).partition(" behind ")
+    """The name of a session, and that of the one from which it goes on, or nothing."""
+    name, _, other = shown(mark).partition(" after ")
     return name, other
 
 
@@ -27,7 +27,7 @@ def sessions():
     whole = {}
     for _, mark, text, _ in SESSION_BLOCK.findall(read(*PAGE)):
         name, other = name_of(mark)
-        check(f"session {name} of docs/TOUR.md stands there once, and behind one that is there", name not in whole and other in {"", *whole})
+        check(f"session {name} of docs/TOUR.md stands there once, and after one that is there", name not in whole and other in {"", *whole})
         whole[name] = whole.get(other, b"") + text
     return whole
 
