@@ -110,8 +110,7 @@ def check_replayed(name, program, lines, is_thorough=False):
 def check_sessions(program, end, total):
     """The sessions of cases/ and of the tour are the same in the kernel, as many as there is time for."""
     sessions = [(f"case {name}", cases.load(name)) for name in cases.names()]
-    blocks = tour.SESSION_BLOCK.findall(read(*tour.PAGE))
-    sessions += [(f"session {shown(name)}", cases.parse(text)) for _, name, text, _ in blocks]
+    sessions += [(f"session {name}", cases.parse(text)) for name, text in tour.sessions().items()]
     done = 0
     while done < len(sessions) and time.monotonic() < end:
         name, case = sessions[done]

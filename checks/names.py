@@ -15,7 +15,7 @@ It reads README.md, docs/*.md and checks/README.md, without their fenced blocks,
     cell of a table below such a heading, each word is a name.
 
 Names that are not ours are known by their form: capitals alone are constants of the kernel or stand for something
-(`MNT_DETACH`, `NAME`); a word of the toolchain stands behind `Rattle.`, `rattle ` or `rt ` in its code marks, or in a line
+(`MNT_DETACH`, `NAME`); an option of systemd ends in `=` (`PrivateMounts=`); a word of the toolchain stands behind `Rattle.`, `rattle ` or `rt ` in its code marks, or in a line
 that says `toolchain` or `kit`. The status is 0 where nothing is printed. --self-test shows that each is found in texts
 made for it.
 """
@@ -36,7 +36,7 @@ MARKED = re.compile(r"`([^`\n]+)`")
 LINKED = re.compile(r"\]\(([^)#\s]+)[^)]*\)")
 PATH = re.compile(r"(?<![\w/.-])((?:[\w.-]+/)*[\w-]+\.(?:rt|antt|py|md|c|h|dot|svg|bash|service|txt|edit))(?![\w/])")
 WORD = re.compile(r"(?<![\w.'-])[A-Za-z_]\w*(?:::\w+)*(?![\w'])")
-OTHERS = re.compile(r"Rattle\.|^(?:rattle|rt|apt-get|git|cp|ps) |^std::")
+OTHERS = re.compile(r"Rattle\.|^(?:rattle|rt|apt-get|git|cp|ps) |^std::|^[A-Z][A-Za-z]+=$")
 TOOLCHAIN = re.compile(r"\b(?:toolchain|kit)\b")
 PLAIN = re.compile(r"\b(?:mt_\w+|[A-Z][a-z]+Laws)\b")
 OF_CRATE = re.compile(r"\b(mt_\w+|mountd|mountctl): ((?:`[^`]+`(?:, | and )?)+)")

@@ -4,9 +4,8 @@
 Usage: checks/pages.py MOUNTD MOUNTCTL
 
 The pages are mdoc, and what is asked of them is read in their sources: that mandoc warns of nothing; that they have
-the options, the lines of a session, the refusals, the statuses and the messages that the programs, their sources,
-README.md and docs/RULES.md have, and no others; and that their examples are answered so. The completion offers the
-words of --help.
+the options, the lines of a session, the refusals, the statuses and the messages that the programs, their sources and
+docs/RULES.md have, and no others; and that their examples are answered so. The completion offers the words of --help.
 
 Where mandoc is not there, it is installed if the environment says CI, and else man(1) takes its place. Without both
 the form of the pages is not checked, which is a failure only where the environment says CI.
@@ -120,33 +119,46 @@ def refusals_by_line():
     return found
 
 
+def refusals_named(text):
+    """The refusals that a text of a page names, in their order."""
+    lines = re.findall(r"(?m)^\.(?:It )?Er (.*)", text)
+    return [name for line in lines for name in re.findall(r"\w+", line)]
+
+
 def check_refusals():
     """The refusals of the source stand in mountd-lines.7, and no other in any page; each line has its own."""
     names = re.findall(r'=> b"(\w+)"', shown(read("crates", "mt_skel", "src", "fault.rt")))
     listed = re.findall(r"(?m)^\.It Er (\w+)", section("mountd-lines.7", "REFUSALS"))
     check_same("the refusals of mountd-lines.7", names, listed)
     for name in PAGES:
-        found = re.findall(r"\bEr (\w+)|\bno ([A-Z][a-z]+[A-Z]\w*)", page(name))
-        unknown = {word for pair in found for word in pair if word} - set(names)
+        found = {*refusals_named(page(name)), *re.findall(r"\bno ([A-Z][a-z]+[A-Z]\w*)", page(name))}
+        unknown = found - set(names)
         check(f"refusals of {name} that are none", unknown == set(), " ".join(sorted(unknown)))
     wanted = refusals_by_line()
     for word, entry in ENTRY.findall(section("mountd-lines.7", "LINES")):
-        found = re.findall(r"(?m)^\.Er (\w+)", entry)
+        found = refusals_named(entry)
         check(f"the refusals of {word} in mountd-lines.7", found == wanted.get(word, []), " ".join(found))
 
 
-def statuses_of_readme():
-    """The statuses of both programs that README.md names."""
-    text = shown(read("README.md"))
-    sentence = re.search(r"Its status is (.*?)\. ", text)
-    return {
-        "mountd": re.findall(r"(?m)^- (\d) (?:after|with|for) ", text),
-        "mountctl": re.findall(r"\b(\d) (?:where|for|with) ", sentence[1] if sentence else ""),
-    }
+# The messages that a program puts together, with a word of capital letters for each part that a run finds.
+PUT_TOGETHER = {
+    "mountd": ["cannot listen: SOCKET: REASON"],
+    "mountctl": [
+        "connection fault: SOCKET: REASON",
+        "line N: LINE: no NAME",
+        "line N is no row of a mountinfo",
+        "FILE: line N is no row of a mountinfo",
+        "FILE: REASON",
+        "SOCKET: not a new server",
+        "table N: mount ID is left out: REASON",
+    ],
+}
 
-
-# What stands behind a message that tells of a socket.
-WHERE_AND_WHY = ": SOCKET: REASON"
+# Runs that end with each status: their arguments. The input of each is a line that is none of a mountinfo.
+RUNS = {
+    "mountd": [["--help"], ["/"], ["--nothing"]],
+    "mountctl": [["--help"], ["import"], ["--nothing"], ["/", "show", "1"]],
+}
 
 # What stands before a message in the source of a program: a call that says it, or the function that names it.
 SAID = re.compile(r'(?:fail\(rt, |fail_at\(rt, |refuse\(rt, |Some\(|=> |&str = )"([a-z][^"{]* [^"{]*)"')
@@ -159,19 +171,20 @@ def messages_in(program):
     return {f"{program}: {message}" for text in texts for message in SAID.findall(text)}
 
 
-def check_statuses():
-    """The statuses and messages that README.md names, and those in the source, stand in the pages, and no others."""
-    for program, wanted in statuses_of_readme().items():
+def check_statuses(programs):
+    """The pages have the statuses with which the programs end, and the messages of their sources, and no others."""
+    for program, path in programs.items():
         text = section(f"{program}.1", "EXIT STATUS")
-        check_same(f"the statuses of {program}.1", wanted, re.findall(r"(?m)^\.It (\d)$", text))
-        told = re.findall(rf"`({program}: [^`]*)`", shown(read("README.md")))
-        said = {message for message in messages_in(program) if message + WHERE_AND_WHY not in told}
-        check_same(f"the messages of {program}.1", {*told, *said}, MESSAGE.findall(text))
+        seen = {str(run(path, b"none\n", *words)[0]) for words in RUNS[program]}
+        check_same(f"the statuses of {program}.1", seen, re.findall(r"(?m)^\.It (\d)$", text))
+        made = {f"{program}: {message}" for message in PUT_TOGETHER[program]}
+        said = {message for message in messages_in(program) if not any(one.startswith(f"{message}: ") for one in made)}
+        check_same(f"the messages of {program}.1", {*made, *said}, MESSAGE.findall(text))
 
 
 def plain(text):
     """A literal block as it is printed."""
-    return text.replace("\\(aq", "'").replace("\\e", "\\").encode()
+    return text.replace("\\(aq", "'").replace("\\-", "-").replace("\\e", "\\").encode()
 
 
 def ends_well(server):
@@ -184,7 +197,7 @@ def ends_well(server):
 
 
 def check_commands(name, text, folder, environment):
-    """What blocks of a page show of commands is what they print, the first one being the server, which they stop."""
+    """What a page shows of commands is what they print, the first one being the server, which they stop."""
     (start, _), *others = STEP.findall(text)
     settings = {"cwd": folder, "env": environment, "stdin": subprocess.DEVNULL, "stdout": subprocess.PIPE}
     with subprocess.Popen(["sh", "-ec", b"exec " + start.rstrip(b"& ")], **settings) as server:
@@ -199,7 +212,7 @@ def check_commands(name, text, folder, environment):
 
 
 def check_examples(programs):
-    """The examples of the pages are answered so: sessions behind `>`, and commands behind `$`."""
+    """The examples of the pages are answered so: sessions behind `>`, and commands behind `$`, at the top of the sources."""
     for name in PAGES:
         blocks = [plain(block) for block in BLOCK.findall(section(name, "EXAMPLES"))]
         check(f"{name} has examples", blocks != [])
@@ -207,12 +220,13 @@ def check_examples(programs):
             if block.startswith(b"> "):
                 check_session(f"a session of {name}", block, programs["mountd"])
         commands = b"".join(block for block in blocks if block.startswith(b"$ "))
-        if commands:
+        for text in filter(None, re.split(rb"(?m)^(?=\$ mountd .* &$)", commands)):
             with tempfile.TemporaryDirectory() as folder, tempfile.TemporaryDirectory() as links:
                 for program, path in programs.items():
                     os.symlink(path, os.path.join(links, program))
+                os.symlink(os.path.join(TOP, "docs"), os.path.join(folder, "docs"))
                 path = os.pathsep.join([links, os.environ["PATH"]])
-                check_commands(name, commands, folder, dict(os.environ, PATH=path))
+                check_commands(name, text, folder, dict(os.environ, PATH=path))
 
 
 def offered(*words):
@@ -277,7 +291,7 @@ def main():
     check_form()
     check_help(helps)
     check_refusals()
-    check_statuses()
+    check_statuses(programs)
     check_examples(programs)
     check_offers(helps)
     check_options(programs["mountd"])

@@ -13,7 +13,7 @@ from typing import NamedTuple
 import cases
 import tour
 from graphs import check_graph
-from running import TOP, check, difference, is_there, read, run, shown
+from running import TOP, check, difference, is_there, read, run, shown, write
 from serving import Server
 
 # The lines that make a world.
@@ -25,12 +25,14 @@ MOST_MOUNTS = 200
 # How long the largest world may take, in seconds.
 MOST_DRAWING = 5
 
-# Each graph in docs/pictures, with its session, a case or one of docs/TOUR.md, and how many tables are shown there before it.
+# The graphs in docs/pictures: each is drawn at the end of a session of docs/TOUR.md, or of a case.
 DRAWN = {
-    "propagation.svg": ("three-namespaces", 0),
-    "before-the-pivot.svg": ("bubblewrap", 0),
-    "behind-the-pivot.svg": ("bubblewrap", 1),
-    "behind-the-detach.svg": ("bubblewrap", 2),
+    "propagation.svg": "cases/three-namespaces",
+    "three-namespaces.svg": "three-namespaces",
+    "moved-tree.svg": "move",
+    "before-the-pivot.svg": "bubblewrap",
+    "after-the-pivot.svg": "pivot",
+    "after-the-detach.svg": "detach",
 }
 
 # What is written in an SVG, beside where.
@@ -200,13 +202,12 @@ def check_refusals(program, mountctl):
         check_graph("no namespace", mountctl, server.path, {})
 
 
-def drawn_session(program, mountctl, session, shows):
-    """The graph of a session, as it is before the table is shown that is behind so many others, as an SVG."""
-    blocks = {shown(name): text for _, name, text, _ in tour.SESSION_BLOCK.findall(read(*tour.PAGE))}
-    requests = (cases.parse(blocks[session]) if session in blocks else cases.load(session)).requests()
-    until = [at for at, line in enumerate(requests) if line.startswith(b"show")][shows]
+def drawn_session(program, mountctl, name):
+    """The graph of the world in which a session ends, as an SVG."""
+    folder, _, case = name.rpartition("/")
+    requests = (cases.load(case) if folder else cases.parse(tour.sessions()[name])).requests()
     with Server(program) as server, server.client() as client:
-        for line in requests[:until]:
+        for line in requests:
             client.ask(line)
         graph = run(mountctl, b"", server.path, "dot")[1]
     return run("dot", graph, "-Tsvg")[1]
@@ -214,18 +215,34 @@ def drawn_session(program, mountctl, session, shows):
 
 def check_stored_pictures(program, mountctl):
     """The pictures of the documents have the boxes, mounts and edges of their sessions, wherever dot puts them."""
-    for name, drawing in DRAWN.items():
-        stored, found = (WRITTEN.findall(svg) for svg in (read("docs", "pictures", name), drawn_session(program, mountctl, *drawing)))
+    for name, session in DRAWN.items():
+        stored, found = (WRITTEN.findall(svg) for svg in (read("docs", "pictures", name), drawn_session(program, mountctl, session)))
         check(f"docs/pictures/{name}", stored and sorted(stored) == sorted(found), f"stored {stored}\nfound  {found}")
 
 
-def check_sources():
+def written_graphs():
+    """The names of the graphs that are written in docs/pictures."""
+    return sorted(name.removesuffix(".dot") for name in os.listdir(os.path.join(TOP, "docs", "pictures")) if name.endswith(".dot"))
+
+
+def drawn_graph(name):
+    """The picture of a graph that is written in docs/pictures."""
+    return run("dot", read("docs", "pictures", f"{name}.dot"), "-Tsvg")[1]
+
+
+def check_written_graphs():
     """Each graph that is written in docs/pictures has its picture there, with the same boxes and edges."""
-    folder = os.path.join(TOP, "docs", "pictures")
-    for name in sorted(name for name in os.listdir(folder) if name.endswith(".dot")):
-        stored, source = (read(folder, name.removesuffix(".dot") + ending) for ending in (".svg", ".dot"))
-        drawn_anew = run("dot", source, "-Tsvg")[1]
-        check(f"docs/pictures/{name}", sorted(WRITTEN.findall(stored)) == sorted(WRITTEN.findall(drawn_anew)) != [], "draw it again")
+    for name in written_graphs():
+        stored, drawn_anew = read("docs", "pictures", f"{name}.svg"), drawn_graph(name)
+        check(f"docs/pictures/{name}.svg", sorted(WRITTEN.findall(stored)) == sorted(WRITTEN.findall(drawn_anew)) != [], "draw it again")
+
+
+def update_pictures(program, mountctl):
+    """Draws the pictures of the documents again."""
+    for name, session in DRAWN.items():
+        write(drawn_session(program, mountctl, session), "docs", "pictures", name)
+    for name in written_graphs():
+        write(drawn_graph(name), "docs", "pictures", f"{name}.svg")
 
 
 def check_pictures(program, mountctl):
@@ -236,6 +253,6 @@ def check_pictures(program, mountctl):
     check_refusals(program, mountctl)
     if shutil.which("dot"):
         check_stored_pictures(program, mountctl)
-        check_sources()
+        check_written_graphs()
     else:
         print("dot (package graphviz) is not there: graphs were skipped", flush=True)

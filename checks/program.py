@@ -2,7 +2,7 @@
 """Checks the built program from outside: what no proof says of it. A program of the gate.
 
 The parts are those of the other modules here: the format of cases and the cases (cases.py), README's
-example (readme.py), the sessions of docs/TOUR.md (tour.py), the tables (tables.py), odd input, closed streams
+example (readme.py), the sessions of docs/TOUR.md (tour.py) and its states (states.py), the tables (tables.py), odd input, closed streams
 and arguments (streams.py), the faults of reads and writes (faults.py), limits (limits.py), memory that stays
 level (level.py), worlds of many mounts (shapes.py) and allocations that are refused (memory.py). A failure is
 printed with what shows why, and then the status is 1. The server on a socket is for server.py.
@@ -22,6 +22,7 @@ import limits
 import memory
 import readme
 import shapes
+import states
 import streams
 import tables
 import tour
@@ -32,6 +33,7 @@ PARTS = {
     "cases": cases.check_cases,
     "example": readme.check_example,
     "tour": tour.check_tour,
+    "states": states.check_states,
     "findmnt": tables.check_findmnt,
     "containers": contained.check_contained,
     "copies": tables.check_copies,

@@ -17,11 +17,8 @@ proved and built it from nothing.
 
 A fenced block directly behind a line `<!-- case: NAME -->` is the case NAME without its comments.
 
-The blocks behind `<!-- terminal 1 -->` to `<!-- terminal 3 -->` are what three terminals show: commands behind
-`$ `, and what each prints. The first command starts the server; the last one of terminal 1 and the one of terminal 3
-run while those of terminal 2 are done, once the first has printed its first answer and the other has had a second to
-begin. The block behind `<!-- what-if -->` is one terminal, of which the first command starts the server and the last one
-stops it. With --built all these are run too.
+The block behind `<!-- what-if -->` is what a terminal shows: commands behind `$ `, and what each prints. The first one
+starts the server and the last one stops it. With --built it is run too.
 """
 import os
 import re
@@ -40,15 +37,11 @@ STREAMS = ("crates", "mountd")
 CASE_BLOCK = cases.marked(b"case")
 BLOCK = re.compile(rb"(?m)^(?:<!-- (.*) -->\n)?```(.*)\n((?:(?!```).*\n)*?)```$")
 PROVED_RUN = re.compile(rb"cd crates/(\w+) && rt run -- ")
-TERMINAL = re.compile(rb"(?m)^<!-- terminal ([123]) -->\n```.*\n((?:(?!```).*\n)*?)```$")
 QUESTION = re.compile(rb"(?m)^<!-- what-if -->\n```.*\n((?:(?!```).*\n)*?)```$")
 STEP = re.compile(rb"(?m)^\$ (.*)\n((?:(?!\$ ).*\n)*)")
 
 # How long the server may take to listen, and a command of a terminal to end, in seconds.
 MOST_SECONDS = 30
-
-# How long a command that prints nothing at first has to begin, in seconds.
-SECONDS_TO_BEGIN = 1
 
 
 def block_of(name):
@@ -115,36 +108,6 @@ def wait_for_socket(folder):
         time.sleep(0.01)
 
 
-def first_answer(stream):
-    """The first line of an answer that counts the lines behind it, and these."""
-    first = stream.readline()
-    return first + b"".join(stream.readline() for _ in range(int(first.split()[1])))
-
-
-def check_terminals():
-    """What README.md's three terminals show is what the programs print."""
-    first, second, [(watched, told)] = (STEP.findall(text) for _, text in sorted(TERMINAL.findall(read("README.md"))))
-    folders = [os.path.join(TOP, "crates", name, "out") for name in ("mountd", "mountctl")]
-    environment = dict(os.environ, PATH=os.pathsep.join([*folders, os.environ["PATH"]]))
-    (start, _), *made, (followed, posts) = first
-    with tempfile.TemporaryDirectory() as folder:
-        settings = {"cwd": folder, "env": environment, "stdout": subprocess.PIPE}
-        with subprocess.Popen(["sh", "-ec", b"exec " + start.rstrip(b"& ")], **settings) as server:
-            wait_for_socket(folder)
-            for command, wanted in made:
-                check_printed(command, wanted, subprocess.run(["sh", "-ec", command], **settings).stdout)
-            follow, watch = (["sh", "-ec", command] for command in (followed, watched))
-            with subprocess.Popen(follow, **settings) as follower, subprocess.Popen(watch, **settings) as watcher:
-                found = first_answer(follower.stdout)
-                time.sleep(SECONDS_TO_BEGIN)
-                for command, wanted in second:
-                    check_printed(command, wanted, subprocess.run(["sh", "-ec", command], **settings).stdout)
-                check_printed(followed, posts, found + follower.stdout.read())
-                check_printed(watched, told, watcher.stdout.read())
-            server.wait(MOST_SECONDS)
-            check("README.md's server ends well", server.returncode == 0, f"status {server.returncode}")
-
-
 def check_question():
     """What README.md's question shows is what the programs print."""
     [text] = QUESTION.findall(read("README.md"))
@@ -167,7 +130,6 @@ def main():
         raise SystemExit(__doc__)
     check_commands(sys.argv[1:] == ["--built"])
     if sys.argv[1:] == ["--built"]:
-        check_terminals()
         check_question()
     if failures:
         raise SystemExit(f"checks of README.md's commands failed: {len(failures)}")

@@ -1,13 +1,15 @@
 #!/usr/bin/env -S python3 -B
 """The server on a socket, from outside: what no proof says of it. A program of the gate.
 
-Usage: checks/server.py MOUNTD [MOUNTCTL] [--seconds N]
+Usage: checks/server.py MOUNTD [MOUNTCTL] [--seconds N | --draw]
 
 A plain client speaks with servers that are started here, each in a folder of its own: the cases,
 sockets that cannot be made and stale ones (paths.py), accepts that fail, few descriptors, sessions that are idle, the limit of sessions, a stop (stopping.py), clients that are
-gone or do not read, many connections, allocations that are refused (wanting.py), and then 32 sessions at once for
+gone or do not read, many connections, allocations that are refused (wanting.py), the client in Python (pythons.py), and then 32 sessions at once for
 N seconds, 20 if not said (soak.py). With MOUNTCTL that program is checked too (clients.py, answering.py, reading.py, pictures.py, telling.py), the cases are
 sent as its scripts, tables are imported (importing.py, crowds.py, worlds.py, hosts.py), questions are asked (questions.py), and a quarter of the 32 sessions are its mirrors.
+
+--draw checks nothing: it draws the pictures of docs/pictures again, by MOUNTCTL and dot(1).
 """
 import argparse
 import contextlib
@@ -36,7 +38,8 @@ from hosts import check_hosts
 from importing import check_import
 from limits import COMMANDS
 from paths import check_made, check_paths, check_stale, check_stopped
-from pictures import check_pictures
+from pictures import check_pictures, update_pictures
+from pythons import check_python
 from questions import check_questions
 from reading import check_reading
 from running import check, difference, failures, library, shown
@@ -323,6 +326,7 @@ PARTS = {
     "many": check_many,
     "signals": check_signals,
     "wanting": check_wanting,
+    "python": check_python,
 }
 
 
@@ -360,8 +364,13 @@ def main():
     parser.add_argument("program", metavar="MOUNTD", type=os.path.abspath)
     parser.add_argument("mountctl", metavar="MOUNTCTL", nargs="?", type=os.path.abspath)
     parser.add_argument("--seconds", type=int, default=20, help="how long the soak takes")
-    parser.add_argument("--only", help="this part alone")
+    only = parser.add_mutually_exclusive_group()
+    only.add_argument("--only", help="this part alone")
+    only.add_argument("--draw", action="store_true", help="draw docs/pictures again")
     words = parser.parse_args()
+    if words.draw:
+        update_pictures(words.program, words.mountctl)
+        return
     check_server(words.program, words.seconds, words.mountctl, words.only)
     if failures:
         raise SystemExit(f"checks of the server failed: {len(failures)}")

@@ -1,7 +1,7 @@
 """Odd input, closed streams and the program's arguments. A module, a part of program.py.
 
 A real stream tells the proofs nothing, and a program has no contract: this says that no input and no
-closed stream ends it by a signal, and that its statuses and messages are those that README.md names.
+closed stream ends it by a signal, and that its statuses and messages are those that mountd(1) names.
 """
 import socket
 import subprocess
