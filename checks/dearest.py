@@ -14,7 +14,7 @@ import os
 import re
 import sys
 
-from running import TOP
+from harness.runs import TOP
 
 # A part of a proof: the crate's own library, then what it is of, and which part.
 PART = re.compile(r"Rattle-\w+-(?:specs|proofs)\.(.*?)(?:\.((?:Lts|Proof|Answers|Goals|Code|Kinds|Tie)\b.*?))?(?:\.decls)?\.oantt")

@@ -13,7 +13,7 @@ import os
 import re
 import sys
 
-from running import TOP, check, failures, read, shown
+from harness.runs import TOP, check, failures, read, shown
 
 # The statements of worked examples, which no clause cites.
 EXAMPLES = "mt_examples"

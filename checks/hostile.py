@@ -15,8 +15,8 @@ import os
 import random
 import re
 
-from running import answer_groups, check, failures, run, shown
-from serving import START
+from harness.runs import answer_groups, check, failures, run, shown
+from harness.servers import START
 
 SEED = 8_192_255
 

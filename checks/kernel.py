@@ -4,11 +4,11 @@
     checks/kernel.py PROGRAM [--seed N] [--scripts N] [--seconds S] [--replay FILE]
 
 Scripts of commands are carried out by a session of the program, and as root by the kernel, in mount namespaces of their own
-(spaces.py). Behind each command the tables of all namespaces are the same but for their numbers (matching.py), and what one
-side refuses the other refuses too. docs/KERNEL.md names each known difference and shows it (differences.py); one without a
+(kernels/spaces.py). Behind each command the tables of all namespaces are the same but for their numbers (harness/comparison.py), and what one
+side refuses the other refuses too. docs/KERNEL.md names each known difference and shows it (kernels/differences.py); one without a
 name is a failure, which is printed as the shortest script that was found to show it, with the tables of both sides.
 
-First come the examples of docs/KERNEL.md, then the sessions of cases/ and docs/TOUR.md, then random scripts (scripts.py):
+First come the examples of docs/KERNEL.md, then the sessions of cases/ and docs/TOUR.md, then random scripts (harness/scripts.py):
 so many of them, or until so many seconds are over since the start. A seed makes the same scripts again. --replay
 plays the lines of a file alone. In all replayed sessions a filesystem's type is tmpfs, and lines that are no commands are
 left away.
@@ -24,13 +24,13 @@ import re
 import time
 from typing import NamedTuple
 
-import cases
-import differences
-import tour
-from playing import COMMANDS, Play, Unknown
-from running import check, failures, read, shown
-from scripts import Author, shorter
-from spaces import Silent, Worker
+from documents import tour
+from harness.runs import check, failures, read, shown
+from harness.scripts import Author, shorter
+from kernels import differences
+from kernels.plays import COMMANDS, Play, Unknown
+from kernels.spaces import Silent, Worker
+from sessions import cases
 
 PAGE = "docs", "KERNEL.md"
 EXAMPLE = cases.marked(b"difference")

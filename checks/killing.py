@@ -17,8 +17,8 @@ import subprocess
 import threading
 import time
 
-from running import check, failures
-from serving import SESSIONS, START, Broken, Server
+from harness.runs import check, failures
+from harness.servers import SESSIONS, START, Broken, Server
 
 # The descriptors that a server may have, and those that it needs: two a session, and some of its own.
 DESCRIPTORS = 1_024

@@ -17,9 +17,9 @@ import subprocess
 import sys
 import tempfile
 
-from cases import check_session
+from harness.runs import MOST_SECONDS, TOP, check, difference, failures, is_there, read, run, shown
 from readme import STEP, wait_for_socket
-from running import MOST_SECONDS, TOP, check, difference, failures, is_there, read, run, shown
+from sessions.cases import check_session
 
 PAGES = "mountd.1", "mountctl.1", "mountd-lines.7"
 COMPLETION = os.path.join(TOP, "docs", "completion", "mountctl.bash")

@@ -1,32 +1,23 @@
 #!/usr/bin/env -S python3 -B
 """Checks the built program from outside: what no proof says of it. A program of the gate.
 
-The parts are those of the other modules here: the format of cases and the cases (cases.py), README's
-example (readme.py), the sessions of docs/TOUR.md (tour.py) and its states (states.py), the tables (tables.py), odd input, closed streams
-and arguments (streams.py), the faults of reads and writes (faults.py), limits (limits.py), memory that stays
-level (level.py), worlds of many mounts (shapes.py) and allocations that are refused (memory.py). A failure is
+The parts are those of the other modules here: the format of cases and the cases (sessions/cases.py), README's
+example (readme.py), the sessions of docs/TOUR.md (documents/tour.py) and its states (documents/states.py), the tables (sessions/tables.py), odd input, closed streams
+and arguments (sessions/streams.py), the faults of reads and writes (sessions/faults.py), limits (sessions/limits.py), memory that stays
+level (sessions/level.py), worlds of many mounts (sessions/shapes.py) and allocations that are refused (sessions/memory.py). A failure is
 printed with what shows why, and then the status is 1. The server on a socket is for server.py.
 
---update checks nothing: it writes the program's answers into docs/TOUR.md, cases/ and checks/shapes.txt, and from
+--update checks nothing: it writes the program's answers into docs/TOUR.md, cases/ and checks/sessions/shapes.txt, and from
 cases/ README.md's example and the program's own crates/mountd/stdin and stdout. What it has changed is to be read.
 """
 import argparse
 import os
 import time
 
-import cases
-import contained
-import faults
-import level
-import limits
-import memory
 import readme
-import shapes
-import states
-import streams
-import tables
-import tour
-from running import failures
+from documents import states, tour
+from harness.runs import failures
+from sessions import cases, faults, level, limits, memory, runtimes, shapes, streams, tables
 
 PARTS = {
     "format": cases.check_format,
@@ -35,7 +26,7 @@ PARTS = {
     "tour": tour.check_tour,
     "states": states.check_states,
     "findmnt": tables.check_findmnt,
-    "containers": contained.check_contained,
+    "containers": runtimes.check_contained,
     "copies": tables.check_copies,
     "pieces": streams.check_pieces,
     "input": streams.check_input,

@@ -27,8 +27,8 @@ import sys
 import tempfile
 import time
 
-import cases
-from running import TOP, check, difference, failures, read, shown, write
+from harness.runs import TOP, check, difference, failures, read, shown, write
+from sessions import cases
 
 # The case of which crates/mountd/stdin and stdout are the input and the answers.
 EXAMPLE = "two-filesystems"

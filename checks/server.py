@@ -4,10 +4,10 @@
 Usage: checks/server.py MOUNTD [MOUNTCTL] [--seconds N | --draw]
 
 A plain client speaks with servers that are started here, each in a folder of its own: the cases,
-sockets that cannot be made and stale ones (paths.py), accepts that fail, few descriptors, sessions that are idle, the limit of sessions, a stop (stopping.py), clients that are
-gone or do not read, many connections, allocations that are refused (wanting.py), the client in Python (pythons.py), and then 32 sessions at once for
-N seconds, 20 if not said (soak.py). With MOUNTCTL that program is checked too (clients.py, answering.py, reading.py, pictures.py, telling.py), the cases are
-sent as its scripts, tables are imported (importing.py, crowds.py, worlds.py, hosts.py), questions are asked (questions.py), and a quarter of the 32 sessions are its mirrors.
+sockets that cannot be made and stale ones (servers/paths.py), accepts that fail, few descriptors, sessions that are idle, the limit of sessions, a stop (servers/stops.py), clients that are
+gone or do not read, many connections, allocations that are refused (servers/memory.py), the client in Python (clients/python.py), and then 32 sessions at once for
+N seconds, 20 if not said (servers/soak.py). With MOUNTCTL that program is checked too (clients/mountctl.py, clients/answers.py, clients/lines.py, clients/pictures.py, clients/monitor.py), the cases are
+sent as its scripts, tables are imported (clients/imports.py, clients/crowds.py, clients/worlds.py, clients/hosts.py), questions are asked (clients/questions.py), and a quarter of the 32 sessions are its mirrors.
 
 --draw checks nothing: it draws the pictures of docs/pictures again, by MOUNTCTL and dot(1).
 """
@@ -21,9 +21,13 @@ import tempfile
 import threading
 import time
 
-import cases
-from answering import check_answers
-from clients import (
+from clients.answers import check_answers
+from clients.crowds import check_crowds
+from clients.hosts import check_hosts
+from clients.imports import check_import
+from clients.lines import check_reading
+from clients.monitor import check_telling
+from clients.mountctl import (
     check_client,
     check_closed,
     check_comments,
@@ -32,23 +36,19 @@ from clients import (
     check_scripts,
     check_statuses,
 )
-from crowds import check_crowds
-from deep import check_deep
-from hosts import check_hosts
-from importing import check_import
-from limits import COMMANDS
-from paths import check_made, check_paths, check_stale, check_stopped
-from pictures import check_pictures, update_pictures
-from pythons import check_python
-from questions import check_questions
-from reading import check_reading
-from running import check, difference, failures, library, shown
-from serving import START, Broken, Server, send_input, stop_behind, until_it_rests
-from soak import check_soak
-from stopping import check_cut_off, check_stop, check_unread
-from telling import check_telling
-from wanting import check_wanting
-from worlds import check_worlds
+from clients.pictures import check_pictures, update_pictures
+from clients.python import check_python
+from clients.questions import check_questions
+from clients.worlds import check_worlds
+from harness.runs import check, difference, failures, library, shown
+from harness.servers import START, Broken, Server, send_input, stop_behind, until_it_rests
+from servers.depth import check_deep
+from servers.memory import check_wanting
+from servers.paths import check_made, check_paths, check_stale, check_stopped
+from servers.soak import check_soak
+from servers.stops import check_cut_off, check_stop, check_unread
+from sessions import cases
+from sessions.limits import COMMANDS
 
 # How many failed accepts in succession end a server.
 MOST_FAILURES = 1_000

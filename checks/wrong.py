@@ -15,7 +15,7 @@ import os
 import shutil
 import subprocess
 
-from running import TOP, check, failures, read, shown
+from harness.runs import TOP, check, failures, read, shown
 
 WRONG = os.path.join(TOP, "checks", "wrong")
 

@@ -1,0 +1,1 @@
+"""mountctl and the client in Python, at a server and at doors that answer in its place. Called by checks/server.py."""

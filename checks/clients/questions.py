@@ -1,0 +1,167 @@
+"""What `mountctl what-if` tells: what a line changes in the namespaces of tables. A module, a part of server.py."""
+import concurrent.futures
+import itertools
+import os
+import re
+import tempfile
+
+from clients.outcomes import SPACE, files_of
+from clients.worlds import worlds
+from harness.comparison import rows_of
+from harness.runs import answer_groups, check, connection_fault, library, run, session, shown
+from harness.scripts import Author
+from harness.servers import Door, Server
+
+# How many worlds are asked about, and how many lines of each.
+WORLDS, LINES = 20, 5
+
+# Refusals of what a line needs, which is made for a mount where it can be.
+PROVIDED = b"no NoFilesystem", b"no NoEntry"
+
+# The filesystems of a random world, by their names in a script.
+DEVICES = [b"0:1", b"0:2", b"0:3"]
+
+TABLE = [b"1 1 0:1 / / rw,relatime shared:1 - tmpfs none rw", b"2 1 0:2 / /a rw,relatime - tmpfs none rw", b"3 9 0:2 / /b rw - tmpfs none rw"]
+
+NO_QUESTIONS = "", "-- show 1", "FILE", "FILE --", "--pid -- show 1", "--pid x -- show 1", "-x -- show 1", "FILE -- quit", "FILE -- stop -- show 1", "FILE -- watch 1"
+NO_QUESTION_SAID = b"mountctl: what-if takes files, and lines behind --\n"
+
+
+def asked(program, mountctl, names, *lines):
+    """Status, standard output and standard error of a question to a new server."""
+    with Server(program) as server:
+        words = [word for line in lines for word in ("--", *line)]
+        found = run(mountctl, b"", server.path, "what-if", *names, *words)
+        server.stop()
+    return found
+
+
+def told_of(posts, names, points):
+    """What is told of the lines of posts, up to what of a mount is not as it was. The points are those before, by namespace and mount."""
+    space, name = 0, b""
+    for mark, *words in (line.split(b" ") for line in posts):
+        if mark == b"event":
+            space = int(words[0])
+            name = b" in namespace %d" % space + (b" (%b)" % names[space] if space in names else b"")
+        elif mark == b"-":
+            yield b"- %b%b" % (b" ".join([words[0], *points.get((space, words[0]), [])]), name)
+        elif (space, words[0]) in points:
+            yield b"~ %b %b%b: " % (words[0], words[4], name)
+        else:
+            yield b"+ %b %b %b%b" % (words[0], words[4], words[words.index(b"-") + 1], name)
+
+
+def check_told(program, mountctl, name, tables, line):
+    """A line is answered as a session answers it behind the script, and what it changes is told, with the names of the files."""
+    with files_of(tables) as files:
+        script = run(mountctl, b"", "import", *files)[1].splitlines()
+        found = asked(program, mountctl, files, shown(line).split(" "))
+    commands = [command for command in script if not command.startswith(b"#")]
+    names = {int(comment[2]): files[int(comment[1]) - 1].encode() for comment in map(SPACE.match, script) if comment}
+    lines = [*commands, *(b"show %d" % space for space in range(1, 65)), b"watch all", line, b"close"]
+    groups = answer_groups(session(program, lines)[1], lines)
+    *_, answer, posts = groups
+    if answer[0] in PROVIDED and line.startswith((b"mount", b"bind", b"rbind", b"move")):
+        return 0
+    shows = groups[len(commands) : -3]
+    points = {(space, row.split(b" ")[0]): [row.split(b" ")[4]] for space, rows in enumerate(shows, 1) for row in rows[1:]}
+    wanted = [*answer, *told_of(posts[1:], names, points)] if answer[0].startswith(b"ok") else answer
+    cut = [re.sub(rb"^(~ .*?: ).*", rb"\1", told) for told in found[1].splitlines()]
+    check(f"what {shown(line)} changes in {name}", (found[0], cut) == (0 if answer[0].startswith(b"ok") else 1, wanted), shown(found[1] + found[2] + b"\n".join([b"", *wanted, *script])))
+    return len(wanted) - len(answer)
+
+
+def check_random(program, mountctl):
+    """Lines of an author who sees the tables as they were."""
+    count = 0
+    for number, (source, tables) in enumerate(itertools.islice(worlds(program), WORLDS)):
+        author = Author(source)
+        author.planned, author.left, author.filesystems = [], LINES, DEVICES
+        author.directories = {name: [b"/x", b"/a"] for name in DEVICES}
+        spaces = {space: rows_of(b"\n".join(table)) for space, table in enumerate(tables, 1)}
+        while (line := author.next_line(spaces)) is not None:
+            count += check_told(program, mountctl, f"world {number}", tables, line)
+    print(f"{WORLDS * LINES} questions, {count} changes told")
+
+
+def check_by_hand(program, mountctl):
+    """Answers, changes, what is left out, lines in front, a server that is not new, and files that cannot be read."""
+    with files_of([TABLE]) as names, Server(program) as server:
+        [name], left = names, b"mountctl: table 1: mount 3 is left out: "
+        mounted = [["mkfs", "usb", "vfat", "/dev/b"], ["mkdir", "0:1", "/m"], ["mount", "1", "usb", "/m"]]
+        status, text, complaint = asked(program, mountctl, names, *mounted)
+        told = re.fullmatch(rb"ok (\d+)\n\+ (\d+) /m vfat in namespace 1 \(%b\)\n" % name.encode(), text)
+        check("what a mount changes", status == 0 and told is not None and told[1] == told[2], shown(text + complaint))
+        check("what is left out", re.fullmatch(left + rb"[^:\n]+\n", complaint) is not None, shown(complaint))
+        for line in ["mount", "1", "usb", "/a/b/c d"], ["bind", "1", "/a", "/n/o"]:
+            status, text, complaint = asked(program, mountctl, names, line)
+            told = re.fullmatch(rb"ok (\d+)\n\+ (\d+) (/\S+) (usb|tmpfs) in namespace 1 \(%b\)\n" % name.encode(), text)
+            good = status == 0 and told is not None and told[3] == line[3].replace(" ", "\\040").encode()
+            check(f"{' '.join(line)}, of which the directories are made", good, shown(text + complaint))
+        status, text, complaint = asked(program, mountctl, names, ["show", "2"])
+        check("a question that is refused", (status, text) == (1, b"no NoNamespace\n"), shown(text))
+        status, text, complaint = asked(program, mountctl, names, ["mkdir", "0:9", "/m"], *mounted)
+        good = (status, text) == (1, b"") and complaint.endswith(b"mountctl: line 1: mkdir 0:9 /m: no NoFilesystem\n")
+        check("a line in front that is refused", good, shown(complaint))
+        for words in [name, os.path.join(os.path.dirname(name), "none")], [name, name]:
+            ended = run(mountctl, b"", server.path, "what-if", *words, "--", "show", "1")
+            gone = b"mountctl: %b: no such file or directory\n" % words[1].encode()
+            check("a question", ended[0] == (1 if words[1] != name else 0) and (words[1] == name or ended[1:] == (b"", gone)), repr(ended))
+        ended = run(mountctl, b"", server.path, "what-if", name, "--", "show", "1")
+        check("a server that is not new", ended == (1, b"", f"mountctl: {server.path}: not a new server\n".encode()), repr(ended))
+        server.stop()
+
+
+def check_refused(program, mountctl):
+    """Each allocation of a question is refused in turn, each at a server of its own."""
+    with tempfile.TemporaryDirectory() as folder, files_of([TABLE[:2]]) as names:
+        preloaded, said = library(folder, "refuse_nth"), []
+        words = [*names, "--", "mkfs", "usb", "vfat", "none", "--", "mount", "1", "usb", "/a"]
+        plain = asked(program, mountctl, names, words[2:6], words[7:])
+        while said[-1:] != [plain]:
+            with Server(program) as server:
+                settings = {"LD_PRELOAD": preloaded, "REFUSE_NTH": str(len(said) + 1)}
+                said.append(run(mountctl, b"", server.path, "what-if", *words, environment=settings))
+                server.stop()
+        kinds = {(status, complaint) for status, text, complaint in said[:-1] if plain[1].startswith(text)}
+        check("a question without memory", len(said) > 9 and kinds == {(3, b"mountctl: out of memory\n")}, repr(kinds))
+    print(f"{len(said) - 1} allocations of a question refused in turn", flush=True)
+
+
+def check_cut(program, mountctl):
+    """Where the connection ends before all answers have come, this is said, and what was printed before is whole."""
+    line = ["setattr", "1", "/", "rec", "set=ro"]
+    with files_of([TABLE[:2]]) as names:
+        commands = [row for row in run(mountctl, b"", "import", *names)[1].splitlines() if not row.startswith(b"#")]
+        whole = session(program, [b"show 1", *commands, b"watch all", " ".join(line).encode(), b"close"])[1]
+        begun = whole.count(b"\n", 0, whole.index(b"\nspace ")) - 1
+        lines, plain = whole.splitlines(keepends=True), asked(program, mountctl, names, line)
+        cuts = [sum(map(len, lines[:begun])), *range(whole.index(b"\nspace "), len(whole) + 1)]
+        printed = {b"".join(plain[1].splitlines(keepends=True)[:count]) for count in (0, 1, 3)}
+        with concurrent.futures.ThreadPoolExecutor(1) as pool:
+            for cut in cuts:
+                with Door() as door:
+                    running = pool.submit(run, mountctl, b"", door.path, "what-if", *names, "--", *line)
+                    sent = door.answers(whole[:cut])
+                    found = running.result()
+                good = found == plain if cut == len(whole) else (found[0], found[2]) == (3, connection_fault(door.path)) and found[1] in printed
+                check(f"a question whose answers are cut at byte {cut}", good and sent.startswith(b"show 1\n" + b"\n".join(commands)), repr(found))
+    print(f"{len(cuts)} cuts of the answers to a question", flush=True)
+
+
+def check_words(mountctl):
+    """Words that are no question are refused, and no server is looked for."""
+    with files_of([TABLE]) as [name]:
+        for words in NO_QUESTIONS:
+            found = run(mountctl, b"", "none.sock", "what-if", *[name if word == "FILE" else word for word in words.split()])
+            check(f"what-if {words}", found == (2, b"", NO_QUESTION_SAID), repr(found))
+        found = run(mountctl, b"", "none.sock", "what-if", name, "--", "show", "1")
+        check("a question to no server", found == (3, b"", b"mountctl: connection fault: none.sock: no such file or directory\n"), repr(found))
+
+
+def check_questions(program, mountctl):
+    check_words(mountctl)
+    check_by_hand(program, mountctl)
+    check_refused(program, mountctl)
+    check_cut(program, mountctl)
+    check_random(program, mountctl)

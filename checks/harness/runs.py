@@ -1,0 +1,116 @@
+"""Runs of the program, its answers line by line, and what failed. A module, for all others."""
+import contextlib
+import difflib
+import os
+import re
+import shutil
+import subprocess
+
+HERE = os.path.dirname(os.path.abspath(__file__))
+TOP = os.path.dirname(os.path.dirname(HERE))
+
+# How long a run may take, in seconds.
+MOST_SECONDS = 120
+
+# The first lines of answers that count the lines behind them, by the first word of the request.
+COUNTS = {b"show": rb"ok (\d+) \d+", b"watch": rb"ok (\d+)", b"take": rb"ok (\d+)", b"close": rb"ok (\d+)"}
+NO_COUNT = rb"()(?!)"
+
+failures = []
+
+
+def check(name, good, why=""):
+    """Notes and prints a check that failed, with what shows why."""
+    if not good:
+        failures.append(name)
+        print(f"failed: {name}", *([why] if why else []), sep="\n", flush=True)
+
+
+def read(*path):
+    with open(os.path.join(TOP, *path), "rb") as file:
+        return file.read()
+
+
+def write(content, *path):
+    with open(os.path.join(TOP, *path), "wb") as file:
+        file.write(content)
+
+
+def run(program, text, *arguments, environment=None):
+    """Status, standard output and standard error of a run on this input."""
+    done = subprocess.run(
+        [program, *(arguments or ["-"])],
+        input=text,
+        capture_output=True,
+        timeout=MOST_SECONDS,
+        env=environment,
+    )
+    return done.returncode, done.stdout, done.stderr
+
+
+def session(program, lines):
+    """Status, standard output and standard error of a session of these lines."""
+    return run(program, b"".join(line + b"\n" for line in lines))
+
+
+def connection_fault(path, reason="no whole answer"):
+    """How a run of the other program ends that has no answer of the server at a path: by its complaint."""
+    return f"mountctl: connection fault: {path}: {reason}\n".encode()
+
+
+def is_there(command, package):
+    """Whether a command is there. Where the environment says CI, its package is installed before, if it can be had."""
+    if not shutil.which(command) and "CI" in os.environ and shutil.which("apt-get"):
+        for words in ["update"], ["install", "-y", package]:
+            with contextlib.suppress(subprocess.TimeoutExpired):
+                subprocess.run(
+                    ["apt-get", *words], stdin=subprocess.DEVNULL, capture_output=True, check=False, timeout=MOST_SECONDS
+                )
+    return shutil.which(command) is not None
+
+
+def library(folder, name):
+    """The shared library of this C file here, made in a folder, to be loaded before a program."""
+    made = os.path.join(folder, f"{name}.so")
+    source = os.path.join(HERE, f"{name}.c")
+    subprocess.run(["cc", "-shared", "-fPIC", "-O1", "-o", made, source, "-ldl"], check=True)
+    return made
+
+
+def group_end(lines, at, request):
+    """Where the answer to a request ends that begins at a line."""
+    word = request.split(b" ")[0]
+    if word == b"follow":
+        ends = (end for end in range(at, len(lines)) if lines[end].startswith((b"ok", b"no ")))
+        return next(ends, len(lines)) + 1
+    counted = re.fullmatch(COUNTS.get(word, NO_COUNT), b"".join(lines[at : at + 1]))
+    return at + 1 + (int(counted[1]) if counted else 0)
+
+
+def answer_groups(answers, requests):
+    """The answer to each request as its list of lines: a table, and posts, go with the line that counts them.
+
+    Requests behind the last answer have empty lists, and what is left over goes to the last request.
+    """
+    lines = answers.split(b"\n")
+    if lines[-1] == b"":
+        lines.pop()
+    groups, at = [], 0
+    for request in requests:
+        end = group_end(lines, at, request)
+        groups.append(lines[at:end])
+        at = end
+    if groups:
+        groups[-1] += lines[at:]
+    return groups
+
+
+def shown(text):
+    """Bytes as text that can be printed."""
+    return text.decode("utf-8", "backslashreplace")
+
+
+def difference(wanted, found, name):
+    """How one text differs from the other, as unified diff prints it."""
+    texts = shown(wanted).split("\n"), shown(found).split("\n")
+    return "\n".join(difflib.unified_diff(*texts, f"{name} (wanted)", f"{name} (found)", lineterm=""))

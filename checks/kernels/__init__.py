@@ -1,0 +1,1 @@
+"""The rules beside the running kernel. Called by checks/kernel.py."""

@@ -1,0 +1,278 @@
+"""Commands carried out by the running kernel, in mount namespaces of their own. A module, a part of kernel.py.
+
+A `Worker` is a process with namespaces that nothing else is in: they go with it. It begins in an empty one, which has
+nothing of the machine's own mounts. A filesystem of a script is a tmpfs, held by a descriptor: its directories are made
+through that, beside all mounts that are compared. A namespace of a script is held by two descriptors, its own and that of
+its root directory, and the worker enters it for each command and each reading of its table. So a path begins at the
+root of the namespace's root mount, also where something is mounted on that.
+
+A less privileged copy belongs to a user namespace one level further down; the root user of the outermost one may enter it.
+"""
+import contextlib
+import multiprocessing
+import os
+import socket
+from typing import NamedTuple
+
+from kernels import syscalls
+from kernels.syscalls import CLONE_NEWNS, CLONE_NEWUSER
+
+DIRECTORY = os.O_PATH | os.O_DIRECTORY | os.O_CLOEXEC
+# What an option of setattr is in mount_setattr(2), but for `rec`.
+CHANGES = {b"set": "attr_set", b"clr": "attr_clr", b"prop": "propagation"}
+# How long a command may take, in seconds.
+MOST_SECONDS = 20
+FORKING = multiprocessing.get_context("fork")
+
+
+class Space(NamedTuple):
+    """A mount namespace: descriptors of it and of its root directory, and how many user namespaces it lies within."""
+
+    fd: int
+    root: int
+    level: int
+
+    def close(self):
+        os.close(self.root)
+        os.close(self.fd)
+
+
+class Silent(Exception):
+    """A worker that does not answer."""
+
+
+class Kernel:
+    """The filesystems and namespaces of a script, in the process that carries it out."""
+
+    def __init__(self):
+        self.proc = os.open("/proc", DIRECTORY)
+        syscalls.unshare(CLONE_NEWNS)
+        syscalls.mount(None, b"/", syscalls.MS_REC | syscalls.MS_PRIVATE)
+        empty = syscalls.new_filesystem(b"tmpfs", b"empty")
+        os.mkdir("root", dir_fd=empty)
+        self.change_root(empty, b"/tmp")
+        self.empty = self.here(0)
+        self.inside = self.empty
+        self.users = []
+        self.filesystems = {}
+        self.spaces, self.made = {}, 0
+        self.told = {}
+
+    @staticmethod
+    def change_root(filesystem, path):
+        """Makes a filesystem the root mount of this namespace, and takes away what was there."""
+        syscalls.mount_filesystem(filesystem, path)
+        os.chdir(path)
+        syscalls.pivot_root(b".", b".")
+        syscalls.umount(b".", syscalls.MNT_DETACH)
+        os.chdir("/")
+
+    def here(self, level):
+        """The namespace that this process is in, in which its root directory is that of the root mount."""
+        return Space(os.open("self/ns/mnt", os.O_RDONLY, dir_fd=self.proc), os.open("/", DIRECTORY), level)
+
+    def enter(self, space):
+        if self.inside is space:
+            return
+        syscalls.setns(space.fd, CLONE_NEWNS)
+        os.fchdir(space.root)
+        os.chroot(".")
+        self.inside = space
+
+    def add(self, space):
+        """Counts a namespace that this process may have made by entering it."""
+        self.made += 1
+        self.spaces[self.made] = space
+        # Where this process is has no Space that it may be compared with, so the next one is entered in any case.
+        self.inside = None
+
+    def beside(self, level, calls, names):
+        """Descriptors of files of /proc/PID of a child that has made these calls within so many user namespaces."""
+        here, there = socket.socketpair()
+        child = os.fork()
+        if child == 0:
+            here.close()
+            self.hold(level, calls, there)
+        with here:
+            there.close()
+            refused = here.recv(1)
+            if refused != b"\0":
+                number = int.from_bytes(refused, "big")
+                raise OSError(number, os.strerror(number))
+            found = [os.open(f"{child}/{name}", flags, dir_fd=self.proc) for name, flags in names]
+        os.waitpid(child, 0)
+        return found
+
+    def hold(self, level, calls, there):
+        """Makes the calls, tells their errno, and holds what they made until nobody listens. This process ends here."""
+        refused = 0
+        try:
+            if level > 0:
+                syscalls.setns(self.users[level - 1], CLONE_NEWUSER)
+            calls()
+        except OSError as error:
+            refused = error.errno
+        with contextlib.suppress(OSError):
+            there.sendall(bytes([refused]))
+            there.recv(1)
+        os._exit(0)
+
+    def add_user_namespace(self):
+        """Makes a user namespace within the last one that was made, in which there is the root user alone."""
+        self.enter(self.empty)
+
+        def calls():
+            syscalls.unshare(CLONE_NEWUSER)
+            for name, text in (("setgroups", b"deny"), ("uid_map", b"0 0 1"), ("gid_map", b"0 0 1")):
+                file = os.open(f"self/{name}", os.O_WRONLY, dir_fd=self.proc)
+                os.write(file, text)
+                os.close(file)
+
+        self.users += self.beside(len(self.users), calls, [("ns/user", os.O_RDONLY)])
+
+    # The commands: each is an OSError where the kernel refuses it.
+
+    def mkfs(self, name, kind, source):
+        self.filesystems[name] = syscalls.new_filesystem(kind, source)
+
+    def mkdir(self, name, path):
+        os.mkdir(b"." + path, dir_fd=self.filesystems[name])
+
+    def newns(self, name):
+        self.enter(self.empty)
+        syscalls.unshare(CLONE_NEWNS)
+        self.inside = None
+        self.change_root(self.filesystems[name], b"/root")
+        self.add(self.here(0))
+
+    def copyns(self, number, less=None):
+        copied = self.spaces[int(number)]
+        level = copied.level + (1 if less else 0)
+        while len(self.users) < level:
+            self.add_user_namespace()
+        self.enter(copied)
+        if level == 0:
+            syscalls.unshare(CLONE_NEWNS)
+            self.add(self.here(0))
+            return
+        names = [("ns/mnt", os.O_RDONLY), ("root", DIRECTORY)]
+        fd, root = self.beside(level, lambda: syscalls.unshare(CLONE_NEWNS), names)
+        self.add(Space(fd, root, level))
+
+    def dropns(self, number):
+        self.enter(self.empty)
+        self.spaces.pop(int(number)).close()
+
+    def mount(self, number, name, path):
+        self.enter(self.spaces[int(number)])
+        syscalls.mount_filesystem(self.filesystems[name], path)
+
+    def bind(self, number, source, path, flags=0):
+        self.enter(self.spaces[int(number)])
+        syscalls.mount(source, path, syscalls.MS_BIND | flags)
+
+    def rbind(self, number, source, path):
+        self.bind(number, source, path, syscalls.MS_REC)
+
+    def move(self, number, source, path):
+        self.enter(self.spaces[int(number)])
+        syscalls.mount(source, path, syscalls.MS_MOVE)
+
+    def pivot(self, number, new, old):
+        space = self.spaces[int(number)]
+        self.enter(space)
+        syscalls.pivot_root(new, old)
+        # The root directory of this process is that of the new root mount now.
+        os.close(space.root)
+        self.inside = self.spaces[int(number)] = space._replace(root=os.open("/", DIRECTORY))
+
+    def umount(self, number, path):
+        self.enter(self.spaces[int(number)])
+        syscalls.umount(path)
+
+    def detach(self, number, path):
+        self.enter(self.spaces[int(number)])
+        syscalls.umount(path, syscalls.MNT_DETACH)
+
+    def setattr(self, number, path, *options):
+        self.enter(self.spaces[int(number)])
+        changes = {"flags": syscalls.AT_RECURSIVE if b"rec" in options else 0}
+        for option in options:
+            name, _, words = option.partition(b"=")
+            for word in words.split(b",") if words else []:
+                value = (syscalls.PROPAGATION if name == b"prop" else syscalls.ATTRIBUTES)[word]
+                changes[CHANGES[name]] = changes.get(CHANGES[name], 0) | value
+        syscalls.mount_setattr(path, **changes)
+
+    def carry_out(self, words):
+        """Carries out a command, and answers the errno, or 0."""
+        try:
+            getattr(self, words[0].decode())(*words[1:])
+            return 0
+        except OSError as error:
+            return error.errno
+
+    def tables(self):
+        """The text of /proc/self/mountinfo in each namespace in which it is not what was answered before, or None."""
+        now = {}
+        for number, space in self.spaces.items():
+            self.enter(space)
+            file = os.open("self/mountinfo", os.O_RDONLY, dir_fd=self.proc)
+            with open(file, "rb") as lines:
+                now[number] = lines.read()
+        changed = {number: text for number, text in now.items() if self.told.get(number) != text}
+        changed.update((number, None) for number in self.told if number not in now)
+        self.told = now
+        return changed
+
+
+def work(pipe):
+    """Carries out the commands that come, until there is no one who asks."""
+    try:
+        kernel = Kernel()
+        pipe.send(None)
+        while True:
+            words = pipe.recv()
+            pipe.send((kernel.carry_out(words), kernel.tables()))
+    except EOFError:
+        os._exit(0)
+    except BaseException as error:
+        with contextlib.suppress(OSError):
+            pipe.send(error)
+        os._exit(1)
+
+
+class Worker:
+    """A process that carries out the commands of one script."""
+
+    def __init__(self):
+        self.pipe, theirs = FORKING.Pipe()
+        self.process = FORKING.Process(target=self.begin, args=(theirs,), daemon=True)
+        self.process.start()
+        theirs.close()
+        self.tables = {}
+        self.answer()
+
+    def begin(self, theirs):
+        self.pipe.close()
+        work(theirs)
+
+    def answer(self):
+        if not self.pipe.poll(MOST_SECONDS):
+            raise Silent("the kernel's side does not answer")
+        found = self.pipe.recv()
+        if isinstance(found, BaseException):
+            raise found
+        return found
+
+    def run(self, words):
+        """Carries out a command: the errno or 0, and whether a table has changed. `tables` has all of them."""
+        self.pipe.send(words)
+        number, changed = self.answer()
+        self.tables = {space: text for space, text in {**self.tables, **changed}.items() if text is not None}
+        return number, changed != {}
+
+    def close(self):
+        self.pipe.close()
+        self.process.kill()
+        self.process.join()

@@ -1,0 +1,1 @@
+"""A server on a socket. Called by checks/server.py."""

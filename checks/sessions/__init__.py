@@ -1,0 +1,1 @@
+"""A plain session of mountd, from its input to its end. Called by checks/program.py."""

@@ -1,0 +1,138 @@
+"""The tables of the cases, read by others. A module, a part of program.py.
+
+`findmnt` of util-linux reads each table of cases/ as the file it is made after, /proc/pid/mountinfo,
+and finds the columns that its lines have: that another program understands the lines is no matter of
+a proof here. Where it is not there, that is said, and is a failure where CI is set in the environment.
+And the table of each copied namespace is that of the namespace it was copied from, up to the mounts'
+numbers. A comparison of nothing fails.
+"""
+import json
+import os
+import re
+import shutil
+import subprocess
+import tempfile
+
+from harness.runs import answer_groups, check, session, shown
+from sessions import cases
+
+COLUMNS = {
+    "id": "ID",
+    "parent": "PARENT",
+    "maj:min": "MAJ:MIN",
+    "fsroot": "FSROOT",
+    "target": "TARGET",
+    "vfs-options": "VFS-OPTIONS",
+    "opt-fields": "OPT-FIELDS",
+    "propagation": "PROPAGATION",
+    "fstype": "FSTYPE",
+    "source": "SOURCE",
+    "fs-options": "FS-OPTIONS",
+}
+
+# The numbers that namespaces of the cases have.
+NUMBERS = range(1, 66)
+
+# The bytes behind the escapes, as the text of one character for each byte.
+ESCAPE = re.compile(r"\\(040|011|012|134)")
+
+
+def unescaped(word):
+    return ESCAPE.sub(lambda found: chr(int(found[1], 8)), word)
+
+
+def propagation(tags):
+    """What findmnt calls the state that the optional fields tell."""
+    kinds = [tag.partition(":")[0] for tag in tags]
+    said = ["shared" if "shared" in kinds else "private"]
+    return ",".join(said + ["slave"] * ("master" in kinds) + ["unbindable"] * ("unbindable" in kinds))
+
+
+def row_of(line):
+    """The columns that a line of a table has."""
+    front, _, back = line.decode("latin-1").partition(" - ")
+    number, parent, device, root, point, options, *tags = front.split(" ")
+    kind, source, rest = back.split(" ")
+    return {
+        "id": int(number),
+        "parent": int(parent),
+        "maj:min": device,
+        "fsroot": unescaped(root),
+        "target": unescaped(point),
+        "vfs-options": options,
+        "opt-fields": " ".join(tags) or None,
+        "propagation": propagation(tags),
+        "fstype": unescaped(kind),
+        "source": unescaped(source),
+        "fs-options": rest,
+    }
+
+
+def found_rows(file):
+    """The columns that findmnt finds in a file."""
+    words = ["--json", "--list", "--nofsroot", "--tab-file", file, "--output", ",".join(COLUMNS.values())]
+    done = subprocess.run(["findmnt", *words], capture_output=True, timeout=60)
+    if done.returncode:
+        return f"status {done.returncode}: {shown(done.stderr)}"
+    return json.loads(done.stdout.decode("latin-1"))["filesystems"]
+
+
+def tables_of(case):
+    """The tables among the answers of a case, each with the line that asked for it."""
+    for turn in case.turns:
+        if turn.sent().startswith(b"show ") and len(turn.answers) > 1:
+            yield turn.written, turn.answers[1:]
+
+
+def check_findmnt(_program):
+    if not shutil.which("findmnt"):
+        print("findmnt (package util-linux) is not there, so it reads no table")
+        check("findmnt is there, as CI needs it", not os.environ.get("CI"))
+        return
+    read = 0
+    with tempfile.TemporaryDirectory() as folder:
+        file = os.path.join(folder, "mountinfo")
+        for name in cases.names():
+            for asked, lines in tables_of(cases.load(name)):
+                with open(file, "wb") as made:
+                    made.write(b"".join(line + b"\n" for line in lines))
+                wanted, found = [row_of(line) for line in lines], found_rows(file)
+                check(f"findmnt of {shown(asked)} of {name}", found == wanted, f"wanted {wanted}\nfound  {found}")
+                read += 1
+    check("findmnt read a table", read > 0)
+    print(f"{read} tables read by findmnt")
+
+
+def renumbered(rows, numbers):
+    return [[numbers[row[0]], numbers[row[1]], row[2]] for row in rows]
+
+
+def check_copies(program):
+    """Copies each namespace of each case that ends with one, and compares the two tables."""
+    compared, all_rows = 0, 0
+    for name in cases.names():
+        lines = cases.load(name).requests()
+        if b"quit" in lines or b"stop" in lines:
+            continue
+        for space in namespaces(program, lines):
+            shows = [b"show %d" % number for number in NUMBERS]
+            asked = [*lines, b"copyns %d" % space, *shows]
+            made, *tables = answer_groups(session(program, asked)[1], asked)[len(lines) :]
+            if made == [b"no TooMany"]:
+                continue
+            old, new = tables[space - 1], tables[int(made[0].split(b" ")[1]) - 1]
+            rows, copies = ([row.split(b" ", 2) for row in group[1:]] for group in (old, new))
+            numbers = {row[0]: copy[0] for row, copy in zip(rows, copies)}
+            good = rows != [] and renumbered(rows, numbers) == copies
+            check(f"copy of namespace {space} of {name}", good, shown(b"\n".join(old + new)))
+            compared += 1
+            all_rows += len(rows)
+    check("rows of a namespace and its copy are compared", min(compared, all_rows) > 0)
+    print(f"{compared} namespaces of {all_rows} rows compared with their copies")
+
+
+def namespaces(program, lines):
+    """The numbers of the namespaces that are there behind these lines."""
+    asked = lines + [b"show %d" % number for number in NUMBERS]
+    groups = answer_groups(session(program, asked)[1], asked)[len(lines) :]
+    return [number for number, group in zip(NUMBERS, groups) if group != [b"no NoNamespace"]]
