@@ -15,6 +15,8 @@ import os
 import random
 import re
 
+from harness.commands import FORMS
+from harness.protocol import ESCAPE, FAULTS, FAULTS_OF_FORM, LINE, refusal_of, unescaped
 from harness.runs import answer_groups, check, failures, run, shown
 from harness.servers import START
 
@@ -23,62 +25,28 @@ SEED = 8_192_255
 # How many lines a session has.
 PORTION = 1_000
 
-LINE, PATH, NAME, NUMBER = 8_192, 4_095, 255, 2**64 - 1
+PATH, NAME, NUMBER = 4_095, 255, 2**64 - 1
 
-# The words behind each command word: a label, a path, a number, what is watched, counts, and the rest of the line.
-FORMS = {
-    b"mkfs": "LLL",
-    b"mkdir": "LP",
-    b"newns": "L",
-    b"copyns": "N?",
-    b"dropns": "N",
-    b"mount": "NLP",
-    b"bind": "NPP",
-    b"rbind": "NPP",
-    b"move": "NPP",
-    b"pivot": "NPP",
-    b"umount": "NP",
-    b"detach": "NP",
-    b"setattr": "NP*",
-    b"show": "N",
-    b"find": "NP",
-    b"watch": "W",
-    b"take": "T",
-    b"follow": "F",
-    b"close": "",
-    b"quit": "",
-    b"stop": "",
-}
 SET = b"ro nosuid nodev noexec nosymfollow nodiratime relatime noatime strictatime".split()
 CLR = [*SET[:6], b"atime"]
 KINDS = b"shared private slave unbindable".split()
 OPTIONS = {b"set": SET, b"clr": CLR}
 
-# The refusals of lines that are well formed. No memory is refused here, and nothing is stopped.
-REFUSALS = (
-    b"JournalFull NoFilesystem FilesystemExists NoNamespace NoEntry EntryExists NotMountRoot RootPlace Unbindable"
-    b" SharedParent IntoItself UnbindableInside Busy BadAttr TooMany NoWatcher WatcherOpen TooManyWatchers Lagged"
-).split()
 
-ESCAPE = re.compile(rb"\\(040|011|012|134)")
-
-
-def unescaped(word):
+def meant(word):
     """The bytes of a word, or nothing where another backslash is in it."""
-    if b"\\" in ESCAPE.sub(b"", word):
-        return None
-    return ESCAPE.sub(lambda found: bytes([int(found[1], 8)]), word)
+    return None if b"\\" in ESCAPE.sub(b"", word) else unescaped(word)
 
 
 def label_fault(word):
-    text = unescaped(word)
+    text = meant(word)
     if text is None:
         return "BadLine"
     return "TooLong" if len(text) > NAME else None
 
 
 def path_fault(word):
-    text = unescaped(word)
+    text = meant(word)
     if text is None:
         return "BadLine"
     parts = text.split(b"/")
@@ -132,7 +100,7 @@ def fault_of(line):
         return "BadLine"
     faults = {WORD_FAULTS[kind](word) for kind, word in zip(fixed, words)}
     faults.add(options_fault(rest) if form[-1:] == "*" else None)
-    return next((fault for fault in ("BadLine", "TooLong", "BadPath") if fault in faults), None)
+    return next((fault for fault in map(shown, FAULTS_OF_FORM) if fault in faults), None)
 
 
 # What makes a line of a form, and pieces that break one.
@@ -211,14 +179,14 @@ def hostile(chance):
 
 
 def is_answered(line, answer):
-    """Whether a line is answered as its form says, and the kind of its answer."""
+    """Whether a line is answered as its form says, and the kind of its answer. No memory is refused here, and nothing is stopped."""
     fault = fault_of(line)
     told = (answer[-1] if line.startswith(b"follow") else answer[0]) if answer else b"nothing"
     if fault:
         return answer == [b"no " + fault.encode()], fault
-    refused = re.fullmatch(rb"no (\w+)", told)
-    if refused:
-        return refused[1] in REFUSALS and (len(answer) == 1 or line.startswith(b"follow")), shown(refused[1])
+    refused = refusal_of(told)
+    if refused is not None:
+        return refused in FAULTS and (len(answer) == 1 or line.startswith(b"follow")), shown(refused)
     return told.startswith(b"ok"), shown(told[:2])
 
 

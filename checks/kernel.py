@@ -25,10 +25,12 @@ import time
 from typing import NamedTuple
 
 from documents import tour
+from harness import commands
+from harness.protocol import word_of
 from harness.runs import check, failures, read, shown
 from harness.scripts import Author, shorter
 from kernels import differences
-from kernels.plays import COMMANDS, Play, Unknown
+from kernels.plays import Play, Unknown
 from kernels.spaces import Silent, Worker
 from sessions import cases
 
@@ -96,7 +98,7 @@ def play_lines(program, source, is_thorough=False):
 
 def commands_of(requests):
     """The lines of a session that are commands, with filesystems that the kernel can make."""
-    lines = [line for line in requests if line.split(b" ")[0] in COMMANDS]
+    lines = [line for line in requests if word_of(line) in commands.CHANGING]
     return [re.sub(rb"^(mkfs \S+) \S+ ", rb"\1 tmpfs ", line) for line in lines]
 
 

@@ -17,8 +17,9 @@ import subprocess
 import threading
 import time
 
+from harness.protocol import Broken, table_number
 from harness.runs import check, failures
-from harness.servers import SESSIONS, START, Broken, Server
+from harness.servers import SESSIONS, START, Server
 
 # The descriptors that a server may have, and those that it needs: two a session, and some of its own.
 DESCRIPTORS = 1_024
@@ -121,7 +122,7 @@ def check_killing(program, mountctl, seconds):
         killing.run(asking, silent)
         silent.socket.close()
         check_left(server, asking)
-        commands = int(asking.ask(b"show 1")[0].split(b" ")[2]) + int(asking.ask(b"show 2")[0].split(b" ")[2])
+        commands = sum(table_number(asking.ask(b"show %d" % space)[0]) for space in (1, 2))
         grown = server.status("VmRSS") - before
         check("memory behind clients that are killed", grown < MORE + commands, f"{grown} KiB more behind some {commands} posts")
         print(f"{killing.killed} clients killed in {seconds} s, {killing.asked} answers beside them, {len(held)} descriptors held,", end=" ")

@@ -15,7 +15,6 @@ import argparse
 import contextlib
 import errno
 import os
-import re
 import subprocess
 import tempfile
 import threading
@@ -40,8 +39,10 @@ from clients.pictures import check_pictures, update_pictures
 from clients.python import check_python
 from clients.questions import check_questions
 from clients.worlds import check_worlds
+from harness import protocol
+from harness.protocol import Broken
 from harness.runs import check, difference, failures, library, shown
-from harness.servers import START, Broken, Server, send_input, stop_behind, until_it_rests
+from harness.servers import START, Server, send_input, stop_behind, until_it_rests
 from servers.depth import check_deep
 from servers.memory import check_wanting
 from servers.paths import check_made, check_paths, check_stale, check_stopped
@@ -59,8 +60,7 @@ IDLE_SECONDS = 2
 # So many clients at a server that may have so many descriptors.
 MANY_CLIENTS, FEW_DESCRIPTORS = 40, 16
 
-# The limit of a line and what may follow it without a line end.
-LINE = 8_192
+# What may follow the longest line without a line end.
 MOST_SKIPPED = 1_048_576
 
 
@@ -174,7 +174,7 @@ def check_gone(program):
             sender.join()
             check("2,000,000 bytes without a line end", found == b"", shown(found[:200]))
         with server.free() as other:
-            other.send(b"x" * (LINE + MOST_SKIPPED), b"show 9", b"quit")
+            other.send(b"x" * (protocol.LINE + MOST_SKIPPED), b"show 9", b"quit")
             found = other.all()
             check("a line as long as may be", found == (b"no TooLong\nno NoNamespace\nok\n", True), repr(found))
         check("clients that are gone, again", server.rests(*before))
@@ -204,13 +204,10 @@ def check_lag(program):
 def are_in_order(lines):
     """Whether there are posts, and those of each namespace have numbers without gap."""
     last = {}
-    for line in lines:
-        found = re.fullmatch(rb"event (\d+) (\d+) \d+", line)
-        if found:
-            space, number = int(found[1]), int(found[2])
-            if last.get(space, number - 1) != number - 1:
-                return False
-            last[space] = number
+    for head, _ in protocol.posts(lines):
+        if last.get(head.space, head.number - 1) != head.number - 1:
+            return False
+        last[head.space] = head.number
     return last != {}
 
 

@@ -31,7 +31,7 @@ COLOURS = "red3", "blue3", "green4", "darkorange2", "purple3", "turquoise4", "de
 
 def colour(group):
     """The colour of the group of this number."""
-    return COLOURS[int(group) % len(COLOURS)]
+    return COLOURS[group % len(COLOURS)]
 
 
 def visible(cell):
@@ -39,10 +39,15 @@ def visible(cell):
     return "".join(chr(byte) if 32 <= byte <= 126 and byte not in b'"&' else f"\\{byte:03o}" for byte in cell)
 
 
-def tag_of(mount, word):
-    """The number behind a tag."""
-    found = [tag.partition(b":")[2].decode() for tag in mount.tags if tag.startswith(word)]
-    return found[0] if found else None
+def root_shown(mount):
+    """The directory that a mount shows, in brackets, where that is not the root of its filesystem."""
+    return b"" if mount.root == b"/" else b"[" + mount.root + b"]"
+
+
+def cells_of(mount, before):
+    """The cells of a mount, of which one has this before its target."""
+    source, propagation = mount.source + root_shown(mount), b",".join(mount.tags) or b"private"
+    return b"%d" % mount.id, before + mount.point, source, mount.kind, mount.options, propagation
 
 
 def joined(names):
@@ -53,19 +58,19 @@ def joined(names):
 
 def wanted_graph(tables):
     """The graph of these tables, each of which is a list of mounts."""
-    mounts = {f"{space}.{shown(mount.number)}": mount for space, many in tables.items() for mount in many}
-    clusters = {f"namespace {space}": [f"{space}.{shown(mount.number)}" for mount in many] for space, many in tables.items()}
+    mounts = {f"{space}.{mount.id}": mount for space, many in tables.items() for mount in many}
+    clusters = {f"namespace {space}": [f"{space}.{mount.id}" for mount in many] for space, many in tables.items()}
     groups = collections.defaultdict(list)
     for name, mount in mounts.items():
-        groups[tag_of(mount, b"shared:")].append(name)
+        groups[dict(mount.numbered()).get(b"shared")].append(name)
     graph = Graph({}, {}, clusters, [], [], [])
     for name, mount in mounts.items():
-        number, target, _, kind, options, propagation = mount.cells(b"")
-        graph.labels[name] = "\n".join(map(visible, (number + b" " + target, kind + mount.shown(), options, propagation)))
-        parent = f"{name.partition('.')[0]}.{shown(mount.parent)}"
+        number, target, _, kind, options, propagation = cells_of(mount, b"")
+        graph.labels[name] = "\n".join(map(visible, (number + b" " + target, kind + root_shown(mount), options, propagation)))
+        parent = f"{name.partition('.')[0]}.{mount.parent}"
         if parent in mounts and parent != name:
             graph.parents.append((parent, name))
-        master = tag_of(mount, b"master:")
+        master = dict(mount.numbered()).get(b"master")
         if master:
             first = next(iter(groups.get(master, [])), f"group {master}")
             graph.slaves.append((first, name, colour(master)))

@@ -14,6 +14,7 @@ import re
 import tempfile
 
 from clients.outcomes import Imported, check_world
+from harness.protocol import row_of
 from harness.runs import check, read, run, shown
 from harness.servers import Server
 from kernels import syscalls
@@ -84,9 +85,13 @@ class Guest:
         self.pipe.send((name, words))
         self.answer()
 
-    def rows(self):
+    def lines(self):
+        """The lines of its table."""
         with open(f"/proc/{self.process.pid}/mountinfo", "rb") as file:
             return file.read().splitlines()
+
+    def rows(self):
+        return map(row_of, self.lines())
 
     # The calls, by the names of our commands.
 
@@ -106,7 +111,8 @@ class Guest:
         os.mkdir(path)
 
 
-def own_rows():
+def own_lines():
+    """The lines of the table of this process."""
     with open("/proc/self/mountinfo", "rb") as file:
         return file.read().splitlines()
 
@@ -124,7 +130,7 @@ def check_machine(program, mountctl):
     """This machine's table with those of copies of its namespace."""
     with contextlib.ExitStack() as stack:
         copies = [stack.enter_context(Guest(*how)) for how in ((), (PRIVATE,), (SLAVE,), (SLAVE, SHARED))]
-        tables = [own_rows(), *(copy.rows() for copy in copies)]
+        tables = [own_lines(), *(copy.lines() for copy in copies)]
         for count in range(1, len(copies) + 1):
             check_world(program, mountctl, f"this machine and a copy of its namespace, {count}", [tables[0], tables[count]])
         world = check_world(program, mountctl, "this machine and copies of its namespace", tables)
@@ -152,7 +158,8 @@ def check_foretold(program, mountctl, guests, point):
         server.stop()
     told = sorted(re.findall(rb"(?m)^\+ \d+ (\S+) usb in namespace \d+ \(/proc/(\d+)/mountinfo\)$", found[1]))
     guests[0].ask("mount", b"usb", point)
-    fields = [(row.split(b" ")[4], pid.encode()) for guest, pid in zip(guests, pids) for row in guest.rows() if b" tmpfs usb " in row]
+    usb = b"tmpfs", b"usb"
+    fields = [(row.point, pid.encode()) for guest, pid in zip(guests, pids) for row in guest.rows() if (row.kind, row.source) == usb]
     guests[0].ask("umount", point)
     good = found[0] == 0 and told == sorted(fields) and 1 < len(told) < len(guests) and found[1].count(b"\n") == 1 + len(told)
     check("a mount in a host and its copies is foretold", good, f"{shown(found[1] + found[2])}{fields}")
@@ -167,13 +174,13 @@ def check_mounted(program, mountctl):
         host.ask("mkdir", folder + b"/one")
         guests = [host, *(stack.enter_context(Guest(*how, of=host)) for how in ((), (SLAVE,), (SLAVE, SHARED), (PRIVATE,)))]
         check_foretold(program, mountctl, guests, folder + b"/one")
-        world = check_world(program, mountctl, "a host and its copies", [guest.rows() for guest in guests])
-        [scratch] = {row.split(b" ")[2] for row in host.rows() if row.split(b" ")[4] == folder}
+        world = check_world(program, mountctl, "a host and its copies", [guest.lines() for guest in guests])
+        [scratch] = {row.device for row in host.rows() if row.point == folder}
         behind = [b"mkdir %b /one" % scratch]
         for step, commands in mounted_steps(folder):
             host.ask(*step)
             behind += commands
-            tables = [guest.rows() for guest in guests]
+            tables = [guest.lines() for guest in guests]
             again = Imported(program, f"{world.name}, behind {len(behind)} commands", tables, world.script, behind)
             again.check_tables()
         counts = [len(world.tables), sum(map(len, world.tables)), len(world.left())]
@@ -182,7 +189,7 @@ def check_mounted(program, mountctl):
 
 def check_hosts(program, mountctl):
     check_containers(program, mountctl)
-    check_world(program, mountctl, "this machine", [own_rows()])
+    check_world(program, mountctl, "this machine", [own_lines()])
     try:
         with Guest():
             pass

@@ -9,9 +9,10 @@ import subprocess
 import tempfile
 import threading
 
+from clients.mountctl import Asked
 from harness.runs import MOST_SECONDS, check, connection_fault, run, shown
 from harness.servers import START, Client, Door, Server
-from sessions.memory import Refusing, Words
+from sessions.memory import Refusing
 
 # How long a change may be on its way before another one is made, in seconds.
 ON_ITS_WAY = 0.2
@@ -105,13 +106,6 @@ def check_answered(mountctl):
             check(f"a monitor that is answered {answer!r}", found == wanted, repr(found))
 
 
-class Monitor(Words):
-    """A monitor, which says behind a part of what it tells that memory is missing."""
-
-    def allows(self, status, text, complaint):
-        return (status, complaint) == (3, b"mountctl: out of memory\n") and self.plain[1].startswith(text)
-
-
 def answer_all(door, text, ended):
     """Writes a text to each connection in turn, until this has ended."""
     while not ended.is_set():
@@ -126,7 +120,7 @@ def check_memory(mountctl):
         answering = threading.Thread(target=answer_all, args=(door, OPENING + POSTS + b"no Stopped\n", ended))
         answering.start()
         try:
-            refusing, monitor = Refusing(folder), Monitor(mountctl, [door.path, "monitor", "all"])
+            refusing, monitor = Refusing(folder), Asked(mountctl, [door.path, "monitor", "all"])
             check("a monitor that is answered", monitor.plain == (1, WORDS + b"no Stopped\n", b""), repr(monitor.plain))
             count = refusing.count(monitor)
             refusing.each(monitor, "a monitor", count)

@@ -10,6 +10,7 @@ import subprocess
 import tempfile
 import time
 
+from harness import commands, protocol
 from harness.runs import MOST_SECONDS, check, connection_fault, difference, run, shown
 from harness.servers import START, STOP, Door, Server, rests, stop_behind, until_it_rests
 from servers.paths import leave_socket, user_of_none
@@ -36,7 +37,7 @@ def told_of(case):
             continue
         refused = [b"no Stopped"] if rests(turn) else [answer for answer in turn.answers if answer.startswith(b"no ")]
         # A line that is too long, or has no end, is not sent, and so not told.
-        is_sent = turn.sent().endswith(b"\n") and len(line) <= MOST_OF_A_LINE
+        is_sent = turn.sent().endswith(b"\n") and len(line) <= protocol.LINE
         told += [b": ".join([b"mountctl", b"line %d" % number, *[printable(line)] * is_sent, answer]) + b"\n" for answer in refused]
         if rests(turn):
             break
@@ -110,9 +111,6 @@ LINES = (
     ("mirror 1 1048577", 1, b"no BadLine\n"),
     ("follow 1", 1, b"no NoWatcher\n"),
 )
-# The longest line of a session, in bytes before its line end.
-MOST_OF_A_LINE = 8_192
-
 READ_FAULT = 3, b"", b"mountctl: read fault\n"
 WRITE_FAULT = 3, b"", b"mountctl: write fault\n"
 OUT_OF_MEMORY = 3, b"", b"mountctl: out of memory\n"
@@ -237,7 +235,7 @@ def check_lines(program, mountctl):
     """Each line of the server is sent, and none begins with a word that the client keeps for itself."""
     kept, lines = words_of(mountctl, b"In the place of WORD..:"), words_of(program, b"Lines of a session:")
     check("the words of the client", kept == {b"-", b"monitor", b"mirror", b"tree", b"dot", b"what-if"}, repr(kept))
-    check("the words of the server", len(lines) == 21 and not kept & lines, repr(sorted(lines)))
+    check("the words of the server", lines == set(commands.LINES) and not kept & lines, repr(sorted(lines)))
     with Server(program) as server, server.free() as client:
         for line in START:
             client.ask(line)

@@ -6,6 +6,7 @@ import re
 import tempfile
 from typing import NamedTuple
 
+from harness import protocol
 from harness.runs import answer_groups, check, run, session, shown
 
 # What stands in a script in the place of a line that no server would read.
@@ -66,14 +67,13 @@ def unescaped(word):
 
 
 def row_of(line):
-    front, _, back = line.partition(b" - ")
-    number, parent, device, root, point, options, *tags = front.split(b" ")
-    kind, source, _ = back.split(b" ")
-    numbers = dict(tag.split(b":") for tag in tags if b":" in tag)
+    row = protocol.row_of(line)
+    numbers = dict(tag.split(b":") for tag in row.tags if b":" in tag)
     groups = tuple(numbers.get(name) for name in (b"shared", b"master", b"propagate_from"))
-    known = OPTIONS & set(options.split(b","))
+    known = OPTIONS & set(row.options.split(b","))
     known = frozenset(known - {b"relatime"} if b"noatime" in known else known)
-    return Row(int(number), int(parent), device, point, groups, (root, known, b"unbindable" in tags, unescaped(kind), unescaped(source)))
+    rest = row.root, known, b"unbindable" in row.tags, unescaped(row.kind), unescaped(row.source)
+    return Row(row.id, row.parent, row.device, row.point, groups, rest)
 
 
 class Renaming:

@@ -10,14 +10,13 @@ import shutil
 import time
 from typing import NamedTuple
 
-from clients.graphs import check_graph
+from clients.graphs import cells_of, check_graph
 from documents import tour
+from harness import commands
+from harness.protocol import row_of, word_of
 from harness.runs import TOP, check, difference, is_there, read, run, shown, write
 from harness.servers import Server
 from sessions import cases
-
-# The lines that make a world.
-COMMANDS = b"mkfs mkdir newns copyns dropns mount bind rbind move pivot umount detach setattr".split()
 
 # Worlds of more mounts are left out.
 MOST_MOUNTS = 200
@@ -54,46 +53,18 @@ LINES = Pieces("├─".encode(), "└─".encode(), "│ ".encode(), b"  ")
 PLAIN = Pieces(b"|-", b"`-", b"| ", b"  ")
 
 
-class Mount(NamedTuple):
-    """A line of a table."""
-
-    number: bytes
-    parent: bytes
-    root: bytes
-    target: bytes
-    options: bytes
-    tags: list
-    kind: bytes
-    source: bytes
-
-    def shown(self):
-        """The directory that it shows, in brackets, where that is not the root of its filesystem."""
-        return b"" if self.root == b"/" else b"[" + self.root + b"]"
-
-    def cells(self, before):
-        """Its cells, of which one has this before its target."""
-        source, propagation = self.source + self.shown(), b",".join(self.tags) or b"private"
-        return self.number, before + self.target, source, self.kind, self.options, propagation
-
-
-def mount_of(line):
-    """The mount of a line."""
-    number, parent, _, root, target, options, *tags, _, kind, source, _ = line.split(b" ")
-    return Mount(number, parent, root, target, options, tags, kind, source)
-
-
 def drawn_rows(mounts, pieces):
     """The cells of each mount, in the order of the drawing, each with what stands before its target."""
-    numbers = {mount.number for mount in mounts}
+    ids = {mount.id for mount in mounts}
     below, tops = collections.defaultdict(list), []
     for mount in mounts:
-        is_top = mount.parent == mount.number or mount.parent not in numbers
+        is_top = mount.parent == mount.id or mount.parent not in ids
         (tops if is_top else below[mount.parent]).append(mount)
     rows, waiting = [], [(mount, b"", b"") for mount in reversed(tops)]
     while waiting:
         mount, before, indent = waiting.pop()
-        rows.append(mount.cells(before))
-        children = below[mount.number]
+        rows.append(cells_of(mount, before))
+        children = below[mount.id]
         for child in reversed(children):
             piece, more = (pieces.last, pieces.below_last) if child is children[-1] else (pieces.inner, pieces.below_inner)
             waiting.append((child, indent + piece, indent + more))
@@ -123,14 +94,14 @@ def drawn(tables, pieces=LINES):
 def tables_of(client, most):
     """The mounts of each namespace up to this one that is there."""
     answers = {space: client.ask(b"show %d" % space) for space in range(1, most + 1)}
-    return {space: list(map(mount_of, lines)) for space, (told, *lines) in answers.items() if told.startswith(b"ok")}
+    return {space: list(map(row_of, lines)) for space, (told, *lines) in answers.items() if told.startswith(b"ok")}
 
 
 def world_of(case):
     """The commands of a case, and how many namespaces they may make."""
     lines = [turn.sent().removesuffix(b"\n") for turn in case.turns if turn.sent().endswith(b"\n")]
-    lines = [line for line in lines if line.split(b" ")[0] in COMMANDS]
-    return lines, sum(line.startswith((b"newns", b"copyns")) for line in lines)
+    lines = [line for line in lines if word_of(line) in commands.CHANGING]
+    return lines, sum(word_of(line) in commands.MAKING_NAMESPACES for line in lines)
 
 
 def check_drawn(name, mountctl, path, words, wanted):

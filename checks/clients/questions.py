@@ -7,7 +7,8 @@ import tempfile
 
 from clients.outcomes import SPACE, files_of
 from clients.worlds import worlds
-from harness.comparison import rows_of
+from harness.commands import PLACING
+from harness.protocol import rows_of, word_of
 from harness.runs import answer_groups, check, connection_fault, library, run, session, shown
 from harness.scripts import Author
 from harness.servers import Door, Server
@@ -61,7 +62,7 @@ def check_told(program, mountctl, name, tables, line):
     lines = [*commands, *(b"show %d" % space for space in range(1, 65)), b"watch all", line, b"close"]
     groups = answer_groups(session(program, lines)[1], lines)
     *_, answer, posts = groups
-    if answer[0] in PROVIDED and line.startswith((b"mount", b"bind", b"rbind", b"move")):
+    if answer[0] in PROVIDED and word_of(line) in PLACING:
         return 0
     shows = groups[len(commands) : -3]
     points = {(space, row.split(b" ")[0]): [row.split(b" ")[4]] for space, rows in enumerate(shows, 1) for row in rows[1:]}

@@ -15,7 +15,8 @@ from clients import crowds, mountinfos
 from clients.imports import directories, random_command
 from clients.mountctl import Asked
 from clients.outcomes import MOST_TABLES, check_world, files_of, import_tables
-from harness.comparison import rows_of
+from harness import commands
+from harness.protocol import rows_of, word_of
 from harness.runs import answer_groups, check, run, session, shown
 from harness.scripts import Author
 from kernels.plays import Served
@@ -52,7 +53,7 @@ def played(program, source):
             [[answer, *_]] = server.ask(line)
             if not answer.startswith(b"ok"):
                 continue
-            if line.startswith((b"newns", b"copyns")):
+            if word_of(line) in commands.MAKING_NAMESPACES:
                 texts[int(answer.split(b" ")[1])] = b""
             elif line.startswith(b"dropns"):
                 del texts[int(line.split(b" ")[1])]

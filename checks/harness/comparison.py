@@ -8,23 +8,7 @@ out of view, the super options and the order of the rows are not compared.
 import itertools
 from typing import NamedTuple
 
-
-class Row(NamedTuple):
-    """A line of a table, by its fields."""
-
-    id: int
-    parent: int
-    device: bytes
-    root: bytes
-    point: bytes
-    options: bytes
-    tags: tuple
-    kind: bytes
-    source: bytes
-
-    def names(self):
-        """The tags without their numbers."""
-        return [name for name, _ in self.tags]
+from harness.protocol import Row, rows_of
 
 
 class Mismatch(NamedTuple):
@@ -42,25 +26,6 @@ class Mismatch(NamedTuple):
 
 # The fields that matched rows have in common as they are.
 PLAIN = "root", "options", "kind", "source"
-
-
-def tag_of(word):
-    """The name of an optional field, and its number, or 0."""
-    name, _, number = word.partition(b":")
-    return name, int(number or 0)
-
-
-def row_of(line):
-    """The fields of a line."""
-    front, _, back = line.partition(b" - ")
-    number, parent, device, root, point, options, *tags = front.split(b" ")
-    kind, source = back.split(b" ")[:2]
-    return Row(int(number), int(parent), device, root, point, options, tuple(map(tag_of, tags)), kind, source)
-
-
-def rows_of(text):
-    """The rows of a table."""
-    return [row_of(line) for line in text.split(b"\n") if line]
 
 
 def place_in(parent, row):
@@ -163,9 +128,10 @@ class Comparison:
             found.append("mount")
         if not self.devices.fits(ours.device, theirs.device):
             found.append("device")
-        if ours.names() != theirs.names():
+        pairs = list(itertools.zip_longest(ours.numbered(), theirs.numbered(), fillvalue=(None, 0)))
+        if any(name != other for (name, _), (other, _) in pairs):
             return found + ["tags"]
-        fit = [self.groups.fits(one, another) for (_, one), (_, another) in zip(ours.tags, theirs.tags)]
+        fit = [self.groups.fits(one, another) for (_, one), (_, another) in pairs]
         return found if all(fit) else found + ["groups"]
 
     def changed_partners(self):

@@ -1,20 +1,18 @@
 """Runs of the program, its answers line by line, and what failed. A module, for all others."""
 import contextlib
 import difflib
+import functools
 import os
-import re
 import shutil
 import subprocess
+
+from harness import protocol
 
 HERE = os.path.dirname(os.path.abspath(__file__))
 TOP = os.path.dirname(os.path.dirname(HERE))
 
 # How long a run may take, in seconds.
 MOST_SECONDS = 120
-
-# The first lines of answers that count the lines behind them, by the first word of the request.
-COUNTS = {b"show": rb"ok (\d+) \d+", b"watch": rb"ok (\d+)", b"take": rb"ok (\d+)", b"close": rb"ok (\d+)"}
-NO_COUNT = rb"()(?!)"
 
 failures = []
 
@@ -77,16 +75,6 @@ def library(folder, name):
     return made
 
 
-def group_end(lines, at, request):
-    """Where the answer to a request ends that begins at a line."""
-    word = request.split(b" ")[0]
-    if word == b"follow":
-        ends = (end for end in range(at, len(lines)) if lines[end].startswith((b"ok", b"no ")))
-        return next(ends, len(lines)) + 1
-    counted = re.fullmatch(COUNTS.get(word, NO_COUNT), b"".join(lines[at : at + 1]))
-    return at + 1 + (int(counted[1]) if counted else 0)
-
-
 def answer_groups(answers, requests):
     """The answer to each request as its list of lines: a table, and posts, go with the line that counts them.
 
@@ -95,13 +83,11 @@ def answer_groups(answers, requests):
     lines = answers.split(b"\n")
     if lines[-1] == b"":
         lines.pop()
-    groups, at = [], 0
-    for request in requests:
-        end = group_end(lines, at, request)
-        groups.append(lines[at:end])
-        at = end
+    rest = iter(lines)
+    take = functools.partial(next, rest, None)
+    groups = [[line for line in protocol.answer_to(request, take) if line is not None] for request in requests]
     if groups:
-        groups[-1] += lines[at:]
+        groups[-1] += rest
     return groups
 
 

@@ -8,7 +8,9 @@ import subprocess
 import tempfile
 import time
 
-from harness.runs import MOST_SECONDS, NO_COUNT, COUNTS, shown
+from harness import protocol
+from harness.protocol import Broken, Ended
+from harness.runs import MOST_SECONDS, shown
 
 # The most sessions at once.
 SESSIONS = 32
@@ -30,14 +32,6 @@ START = [
     b"setattr 1 / prop=shared",
     b"copyns 1",
 ]
-
-
-class Broken(Exception):
-    """An answer of another form than its request has."""
-
-
-class Ended(Broken):
-    """The end of a connection in the place of an answer."""
 
 
 class Client:
@@ -82,16 +76,10 @@ class Client:
 
     def answer(self, request):
         """The lines of the answer to a request that was sent."""
-        lines = [self.line()]
-        if request.startswith(b"follow"):
-            while not re.match(rb"ok \d+$|no [A-Za-z]+$", lines[-1] or b"no End"):
-                lines.append(self.line())
-            return lines
+        lines = protocol.answer_to(request, self.line)
         if lines == [None]:
             raise Ended(f"the connection ended in the place of the answer to {shown(request)}")
-        found = re.fullmatch(COUNTS.get(request.split(b" ")[0], NO_COUNT), lines[0])
-        lines += [self.line() for _ in range(int(found[1]) if found else 0)]
-        if None in lines:
+        if lines[-1] is None:
             raise Broken(f"the connection ended in the answer to {shown(request)}")
         return lines
 
@@ -111,8 +99,8 @@ def send_input(client, text, rests=False):
 def rests(turn):
     """Whether a turn is a `follow` that finds fewer posts than it asks for: on a socket it waits for more."""
     asked = re.fullmatch(rb"follow (\d+)\n", turn.sent())
-    told = re.fullmatch(rb"ok (\d+)", turn.answers[-1]) if asked and turn.answers else None
-    return told is not None and int(told[1]) < int(asked[1])
+    told = protocol.told_behind(turn.answers[-1]) if asked and turn.answers else None
+    return told is not None and told < int(asked[1])
 
 
 def until_it_rests(case):

@@ -118,7 +118,7 @@ def is_empty_change(step):
 
 def is_other_order(step):
     """The kernel asks for unbindable mounts before it asks for a move into itself: there has to be one."""
-    is_in_reach = step.refusal != "IntoItself" or any(b"unbindable" in row.names() for row in step.before[int(step.words[1])])
+    is_in_reach = step.refusal != "IntoItself" or any(b"unbindable" in row.tags for row in step.before[int(step.words[1])])
     return (step.words[0], step.refusal, step.errno) in OTHER_ORDER and is_in_reach
 
 
@@ -141,7 +141,7 @@ def is_number_sign(mismatch):
 def is_unbindable_copy(step):
     """Tags alone differ, in the copy of a namespace, where ours is unbindable and the kernel's private."""
     return step.words[0] == b"copyns" and all(
-        what == "tags" and ours.names() == [b"unbindable"] and theirs.names() == []
+        what == "tags" and ours.tags == (b"unbindable",) and theirs.tags == ()
         for _, what, ours, theirs in step.mismatches
     )
 

@@ -1,18 +1,15 @@
 """A script on both sides at once, compared behind every command. A module, a part of kernel.py."""
 import collections
 import contextlib
-import re
 import subprocess
 
+from harness import commands, protocol
 from harness.comparison import Comparison
+from harness.protocol import unescaped
 from harness.runs import shown
-from kernels import differences
-from kernels import syscalls
+from kernels import differences, syscalls
 from kernels.differences import Step
 from kernels.spaces import Worker
-
-# What makes a world: all other lines ask, or are the sessions' own.
-COMMANDS = {b"mkfs", b"mkdir", b"newns", b"copyns", b"dropns", b"mount", b"bind", b"rbind", b"move", b"pivot", b"umount", b"detach", b"setattr"}
 
 # Our refusals that no call of the kernel has: of names and numbers that are ours, of lines, and of limits.
 NO_COUNTERPART = {
@@ -25,13 +22,6 @@ NO_COUNTERPART = {
     "TooLong",
     "BadPath",
 }
-
-ESCAPE = re.compile(rb"\\(040|011|012|134)")
-
-
-def unescaped(word):
-    """The bytes that a word of a line stands for."""
-    return ESCAPE.sub(lambda found: bytes([int(found[1], 8)]), word)
 
 
 class Unknown(Exception):
@@ -49,12 +39,7 @@ class Served:
         with contextlib.suppress(BrokenPipeError):
             self.process.stdin.write(b"".join(line + b"\n" for line in lines))
             self.process.stdin.flush()
-        return [self.answer(line) for line in lines]
-
-    def answer(self, request):
-        first = self.line()
-        count = int(first.split(b" ")[1]) if request.startswith(b"show ") and first.startswith(b"ok ") else 0
-        return [first, *(self.line() for _ in range(count))]
+        return [protocol.answer_to(line, self.line) for line in lines]
 
     def line(self):
         line = self.process.stdout.readline()
@@ -105,8 +90,8 @@ class Play:
         """Asks both sides, and compares. A difference that has no name is Unknown."""
         [[answer, *_]] = self.server.ask(line)
         words = [unescaped(word) for word in line.split(b" ")]
-        refusal = answer[3:].decode() if answer.startswith(b"no ") else ""
-        if words[0] not in COMMANDS or refusal in NO_COUNTERPART:
+        refusal = (protocol.refusal_of(answer) or b"").decode()
+        if words[0] not in commands.CHANGING or refusal in NO_COUNTERPART:
             self.counts["without a counterpart"] += 1
             return
         step = Step(words, refusal, self.level(words) > 0, before=self.rows())
@@ -157,7 +142,7 @@ class Play:
         """A step that both sides have accepted."""
         self.counts["accepted"] += 1
         self.accepted.append(line)
-        if step.words[0] in (b"newns", b"copyns"):
+        if step.words[0] in commands.MAKING_NAMESPACES:
             self.made += 1
             self.levels[self.made] = self.level(step.words) + len(step.words[2:])
         elif step.words[0] == b"dropns":

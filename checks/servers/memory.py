@@ -17,8 +17,10 @@ import tempfile
 import time
 from typing import NamedTuple
 
+from harness import commands
+from harness.protocol import Ended, word_of
 from harness.runs import MOST_SECONDS, check, library
-from harness.servers import START, Ended, Server
+from harness.servers import START, Server
 
 
 class Step(NamedTuple):
@@ -32,11 +34,8 @@ class Step(NamedTuple):
 def begun(lines):
     """Steps that send these first lines, which are answered by a number where they give one."""
     numbers = iter((b"ok 1", b"ok 2", b"ok 1", b"ok 2"))
-    return [Step("mounting", line, next(numbers) if line.split(b" ")[0] in GIVING else b"ok") for line in lines]
+    return [Step("mounting", line, next(numbers) if word_of(line) in commands.NUMBERED else b"ok") for line in lines]
 
-
-# The first lines that are answered by a number.
-GIVING = b"mkfs", b"newns", b"copyns"
 
 # One namespace alone; one that shares its root mount.
 LONE = begun([line for line in START if not line.startswith((b"setattr", b"copyns"))])
@@ -103,9 +102,6 @@ WORLDS = {
     "a watcher that lags": (LAGGING, ("--queue", "2")),
     "a namespace that is dropped": (DROPPED, ()),
 }
-
-# The requests that lose posts without memory, so that their session ends.
-LOSING = b"take", b"close"
 
 NO_MEMORY = [b"no NoMemory"]
 OUT_OF_MEMORY = 1, b"mountd: out of memory\n"
@@ -214,7 +210,8 @@ def wants(turns):
     behind = [answer for _, answer in turns[first + 1 :]]
     goes_on = not any(answer in (None, NO_MEMORY) for answer in behind)
     is_over = all(answer is None for answer in behind)
-    loses = request.split(b" ")[0] in LOSING
+    # Posts are lost where a request for them finds no memory, so that its session ends.
+    loses = word_of(request) in commands.TAKING
     if first == 0:
         return 1 if is_over or (goes_on and answer) else 2
     return 1 if answer and (is_over if loses else goes_on) else 2

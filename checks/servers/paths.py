@@ -10,8 +10,9 @@ import subprocess
 import tempfile
 import time
 
+from harness.protocol import Broken
 from harness.runs import MOST_SECONDS, check, library
-from harness.servers import STOP, Broken, Client, Server
+from harness.servers import STOP, Client, Server
 
 # Why a start may not have its path.
 ABSENT, DENIED, EMPTY = "no such file or directory", "permission denied", "path is empty"

@@ -9,8 +9,10 @@ import subprocess
 import threading
 import time
 
+from harness import protocol
+from harness.protocol import Broken
 from harness.runs import MOST_SECONDS, check, shown
-from harness.servers import SESSIONS, START, Broken, Server
+from harness.servers import SESSIONS, START, Server
 
 # What a client does, and lines beside it: its namespace and its directory are its own.
 PAIRS = [
@@ -53,30 +55,25 @@ class Mirror:
 
     def __init__(self, opening):
         self.tables, self.numbers = {}, {}
-        rows = iter(opening)
-        for line in rows:
-            space, number, count = (int(word) for word in re.fullmatch(rb"space (\d+) (\d+) (\d+)", line).groups())
-            self.numbers[space] = number
-            self.tables[space] = {int(row.split(b" ")[0]): row for _, row in zip(range(count), rows)}
+        for head, rows in protocol.tables(opening):
+            self.numbers[head.space] = head.number
+            self.tables[head.space] = {protocol.id_of(row): row for row in rows}
 
     def apply(self, lines):
         """Applies the posts that these lines are, and answers how many there were."""
-        rows, posts = iter(lines), 0
-        for line in rows:
-            space, number, count = (int(word) for word in re.fullmatch(rb"event (\d+) (\d+) (\d+)", line).groups())
-            if number != self.numbers.get(space, 0) + 1:
-                raise Broken(f"post {number} of namespace {space} behind {self.numbers.get(space)}")
-            self.numbers[space] = number
-            table = self.tables.setdefault(space, {})
-            for _ in range(count):
-                sign, row = next(rows).split(b" ", 1)
-                mount = int(row.split(b" ")[0])
+        posts = list(protocol.posts(lines))
+        for head, changes in posts:
+            if head.number != self.numbers.get(head.space, 0) + 1:
+                raise Broken(f"post {head.number} of namespace {head.space} behind {self.numbers.get(head.space)}")
+            self.numbers[head.space] = head.number
+            table = self.tables.setdefault(head.space, {})
+            for change in changes:
+                sign, row = change.split(b" ", 1)
                 if sign == b"-":
-                    del table[mount]
+                    del table[protocol.id_of(row)]
                 else:
-                    table[mount] = row
-            posts += 1
-        return posts
+                    table[protocol.id_of(row)] = row
+        return len(posts)
 
     def shown(self, space):
         """What `show` answers where nothing has come since."""
@@ -97,7 +94,7 @@ class Own:
         """Whether a line may be answered so, as a whole. A mount that is answered is there from then on."""
         word, *words = line.split(b" ")
         if word in (b"mount", b"bind") and words[0] != b"9":
-            found = re.fullmatch(rb"ok (\d+)", answer[0])
+            found = protocol.ONE_NUMBER.fullmatch(answer[0])
             self.mount = found and (int(found[1]), b"/" if word == b"mount" else self.path)
             return found is not None and len(answer) == 1
         if word == b"umount":
@@ -112,7 +109,7 @@ class Own:
 
     def is_table(self, answer):
         """Whether an answer has as many rows as it says, by rising number, and of the own directory those that are there."""
-        count, rows = re.fullmatch(rb"ok (\d+) \d+", answer[0]), [row.split(b" ") for row in answer[1:]]
+        count, rows = protocol.COUNT_AND_NUMBER.fullmatch(answer[0]), [row.split(b" ") for row in answer[1:]]
         numbers = [int(row[0]) for row in rows]
         here = [(int(row[0]), row[3]) for row in rows if row[4] == self.path]
         rising = all(one < other for one, other in zip(numbers, numbers[1:]))
@@ -274,7 +271,7 @@ class Soak:
             self.add("lags", int(done.stdout == b"no Lagged\n"))
             return None
         lines = done.stdout.removesuffix(b"\n").split(b"\n")
-        found = re.fullmatch(rb"ok (\d+) (\d+)", lines[0])
+        found = protocol.COUNT_AND_NUMBER.fullmatch(lines[0])
         if (done.returncode, done.stderr) != (0, b"") or not found or int(found[1]) != len(lines) - 1:
             raise Broken(f"a mirror ended with status {done.returncode}: {shown(done.stdout + done.stderr)}")
         self.add("mirrors", 1)
@@ -300,12 +297,12 @@ class Soak:
                     client.ask(line)
                     for space in 1, 2:
                         lines = client.ask(b"show %d" % space)
-                        self.shown[space, lines[0].split(b" ")[2]] = lines
+                        self.shown[space, protocol.table_number(lines[0])] = lines
 
     def compare_mirrors(self):
         """Each last mirror has printed what was shown at its number."""
         for space, lines in self.printed:
-            wanted = self.shown.get((space, lines[0].split(b" ")[2]))
+            wanted = self.shown.get((space, protocol.table_number(lines[0])))
             check("a mirror's table is the one that was shown", lines == wanted, repr((space, lines, wanted)))
             self.add("mirrors compared", 1)
 

@@ -8,8 +8,9 @@ import termios
 import threading
 import time
 
+from harness.protocol import Broken
 from harness.runs import check, shown
-from harness.servers import IDLE, LATEST, SESSIONS, START, STOP, Broken, Server, send_input
+from harness.servers import IDLE, LATEST, SESSIONS, START, STOP, Server, send_input
 
 # What is asked behind a stop: a watcher with two posts that wait for it, and a session that has none.
 WATCHED = [

@@ -13,11 +13,13 @@ import concurrent.futures
 import os
 import tempfile
 
+from harness import commands
+from harness.protocol import word_of
 from harness.runs import answer_groups, check, library, run, shown
 from sessions import cases
 
 # The lines that may want memory; each is accepted in one of the sessions.
-WORDS = b"mkfs mkdir newns copyns dropns mount bind rbind move pivot umount detach setattr show find watch take follow close".split()
+WORDS = [word for word in commands.LINES if word not in commands.ENDING]
 
 # Sessions of more allocations are left out, and named: they have the lines of others many times over.
 MOST_ALLOCATIONS = 5_000
@@ -55,7 +57,7 @@ class Session:
     def may_want_memory(self, at):
         """Whether memory can be missing for a request: not where its line is bad or asks for a watcher in vain, and
         not to quit or to stop."""
-        return self.groups[at] not in FOUND_WITHOUT_MEMORY and self.requests[at] not in (b"quit", b"stop")
+        return self.groups[at] not in FOUND_WITHOUT_MEMORY and self.requests[at] not in commands.ENDING
 
     def allows(self, status, answers, complaint):
         """Whether the session may go so where one allocation was refused."""
@@ -127,7 +129,7 @@ def check_words(sessions):
     for asked in sessions:
         for request, group in zip(asked.requests, asked.groups):
             if group and group[0].startswith(b"ok"):
-                accepted.add(request.split(b" ")[0])
+                accepted.add(word_of(request))
     for word in WORDS:
         check(f"{shown(word)} in a session of which allocations are refused", word in accepted)
 

@@ -6,6 +6,7 @@ closed stream ends it by a signal, and that its statuses and messages are those 
 import socket
 import subprocess
 
+from harness import commands
 from harness.runs import MOST_SECONDS, check, run, shown
 from sessions import cases
 
@@ -95,5 +96,4 @@ def check_arguments(program):
     status, text, complaint = run(program, b"", "--help")
     check("help", status == 0 and text.startswith(b"Usage: mountd") and complaint == b"")
     words = {line.split()[0] for line in text.split(b"Lines of a session:")[-1].splitlines() if line.startswith(b"  ")}
-    lines = b"mkfs mkdir newns copyns dropns mount bind rbind move pivot umount detach setattr show find watch take follow close quit stop"
-    check("help has the lines of a session", set(lines.split()) <= words, shown(text))
+    check("help has the lines of a session", set(commands.LINES) <= words, shown(text))

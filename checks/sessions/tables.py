@@ -8,11 +8,11 @@ numbers. A comparison of nothing fails.
 """
 import json
 import os
-import re
 import shutil
 import subprocess
 import tempfile
 
+from harness.protocol import row_of, unescaped
 from harness.runs import answer_groups, check, session, shown
 from sessions import cases
 
@@ -33,38 +33,33 @@ COLUMNS = {
 # The numbers that namespaces of the cases have.
 NUMBERS = range(1, 66)
 
-# The bytes behind the escapes, as the text of one character for each byte.
-ESCAPE = re.compile(r"\\(040|011|012|134)")
 
-
-def unescaped(word):
-    return ESCAPE.sub(lambda found: chr(int(found[1], 8)), word)
+def text_of(word):
+    """What a word stands for, as the text of one character for each byte."""
+    return unescaped(word).decode("latin-1")
 
 
 def propagation(tags):
     """What findmnt calls the state that the optional fields tell."""
-    kinds = [tag.partition(":")[0] for tag in tags]
-    said = ["shared" if "shared" in kinds else "private"]
-    return ",".join(said + ["slave"] * ("master" in kinds) + ["unbindable"] * ("unbindable" in kinds))
+    said = ["shared" if b"shared" in tags else "private"]
+    return ",".join(said + ["slave"] * (b"master" in tags) + ["unbindable"] * (b"unbindable" in tags))
 
 
-def row_of(line):
+def columns_of(line):
     """The columns that a line of a table has."""
-    front, _, back = line.decode("latin-1").partition(" - ")
-    number, parent, device, root, point, options, *tags = front.split(" ")
-    kind, source, rest = back.split(" ")
+    row = row_of(line)
     return {
-        "id": int(number),
-        "parent": int(parent),
-        "maj:min": device,
-        "fsroot": unescaped(root),
-        "target": unescaped(point),
-        "vfs-options": options,
-        "opt-fields": " ".join(tags) or None,
-        "propagation": propagation(tags),
-        "fstype": unescaped(kind),
-        "source": unescaped(source),
-        "fs-options": rest,
+        "id": row.id,
+        "parent": row.parent,
+        "maj:min": row.device.decode("latin-1"),
+        "fsroot": text_of(row.root),
+        "target": text_of(row.point),
+        "vfs-options": row.options.decode("latin-1"),
+        "opt-fields": b" ".join(row.tags).decode("latin-1") or None,
+        "propagation": propagation(dict(row.numbered())),
+        "fstype": text_of(row.kind),
+        "source": text_of(row.source),
+        "fs-options": row.super_options.decode("latin-1"),
     }
 
 
@@ -96,7 +91,7 @@ def check_findmnt(_program):
             for asked, lines in tables_of(cases.load(name)):
                 with open(file, "wb") as made:
                     made.write(b"".join(line + b"\n" for line in lines))
-                wanted, found = [row_of(line) for line in lines], found_rows(file)
+                wanted, found = [columns_of(line) for line in lines], found_rows(file)
                 check(f"findmnt of {shown(asked)} of {name}", found == wanted, f"wanted {wanted}\nfound  {found}")
                 read += 1
     check("findmnt read a table", read > 0)
