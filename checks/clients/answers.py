@@ -293,7 +293,7 @@ def check_turned_away(mountctl, door, answer, printed, status):
     check_ended(f"mountctl, turned away with {answer!r}", client, door.path, found, printed, status)
 
 
-def check_answers(mountctl):
+def check_answers(_program, mountctl):
     """What the other program makes of each of these answers."""
     with Door() as door:
         for exchange in (*REQUESTS, *MIRRORS, *PICTURES, *MONITORS):

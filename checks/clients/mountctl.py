@@ -171,7 +171,7 @@ def check_faulty_words(mountctl):
     check("mountctl: a help that does not go out", found == WRITE_FAULT, repr(found))
 
 
-def check_closed(mountctl):
+def check_closed(_program, mountctl):
     """A connection gets the number of no standard stream that is closed: the server is sent nothing but the requests."""
     for streams, words, sent, answer, ended in CLOSED:
         with Door() as door, concurrent.futures.ThreadPoolExecutor(1) as pool:

@@ -13,6 +13,7 @@ import time
 from harness.protocol import Broken
 from harness.runs import MOST_SECONDS, check, library
 from harness.servers import STOP, Client, Server
+from servers.stops import check_stopped
 
 # Why a start may not have its path.
 ABSENT, DENIED, EMPTY = "no such file or directory", "permission denied", "path is empty"
@@ -31,12 +32,6 @@ NOBODY = 65_534
 def refusal(path, reason):
     """How a start ends that may not have its path."""
     return 1, b"", f"mountd: cannot listen: {path}: {reason}\n".encode()
-
-
-def check_stopped(name, server):
-    """A stop ends the server with status 0 and no word, and its socket is gone."""
-    ended = server.stop()
-    check(f"{name}: the end", ended == (0, b"") and not os.path.exists(server.path), repr(ended))
 
 
 def check_refused(name, program, path, reason, *, starts=STARTS, user=None):

@@ -39,6 +39,17 @@ MOST = 12
 FOLLOWED = [(b"take 1", [b"no Stopped"]), (b"close", [b"ok 0"])]
 
 
+def check_stopped(name, server):
+    """A stop ends the server with status 0 and no word, and its socket is gone."""
+    ended = server.stop()
+    check(f"{name}: the end", ended == (0, b"") and not os.path.exists(server.path), repr(ended))
+
+
+def check_stopped_by(name, server, client):
+    check(f"{name}: stop", client.ask(b"stop") == [b"ok"] and client.line() is None)
+    check(f"{name}: the end", server.ends() == (0, b""))
+
+
 def check_asked(name, client, turns):
     """These requests are answered so."""
     for request, wanted in turns:
