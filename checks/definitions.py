@@ -14,9 +14,8 @@ import re
 import sys
 
 from harness.runs import TOP, check, failures, read, shown
+from sources.texts import EXAMPLES
 
-# The statements of worked examples, which no clause cites.
-EXAMPLES = "mt_examples"
 # A list of the modules of a crate.
 MODULES = "Lib.antt"
 INSIDE = "No public clause cites this module."
@@ -42,6 +41,7 @@ def files_of(crate):
 def lines():
     """A line for each file whose sentence no other has."""
     crates = [line.split(":")[0] for line in shown(read("crates.txt")).splitlines() if not line.startswith("#")]
+    # No clause cites the statements of worked examples.
     files = [file for crate in crates if crate != EXAMPLES for file in files_of(crate)]
     told = collections.Counter(sentence for _, _, sentence in files)
     return [f"{crate}/specs/{name}: {sentence}" for crate, name, sentence in files if told[sentence] == 1]

@@ -17,8 +17,8 @@ import subprocess
 import sys
 import tempfile
 
+from documents.steps import STEP, wait_for_socket
 from harness.runs import MOST_SECONDS, TOP, check, difference, failures, is_there, read, run, shown
-from readme import STEP, wait_for_socket
 from sessions.cases import check_session
 
 PAGES = "mountd.1", "mountctl.1", "mountd-lines.7"

@@ -1,11 +1,10 @@
 #!/usr/bin/env -S python3 -B
 """Checks the built program from outside: what no proof says of it. A program of the gate.
 
-The parts are those of the other modules here: the format of cases and the cases (sessions/cases.py), README's
-example (readme.py), the sessions of docs/TOUR.md (documents/tour.py) and its states (documents/states.py), the tables (sessions/tables.py), odd input, closed streams
-and arguments (sessions/streams.py), the faults of reads and writes (sessions/faults.py), limits (sessions/limits.py), memory that stays
-level (sessions/level.py), worlds of many mounts (sessions/shapes.py) and allocations that are refused (sessions/memory.py). A failure is
-printed with what shows why, and then the status is 1. The server on a socket is for server.py.
+The parts are those of sessions/ and documents/: the format of cases and the cases, README's example, the sessions of
+docs/TOUR.md and its states, the tables, odd input, closed streams and arguments, the faults of reads and writes, limits,
+memory that stays level, worlds of many mounts and allocations that are refused. A failure is printed with what shows why,
+and then the status is 1. The server on a socket is for server.py.
 
 --update checks nothing: it writes the program's answers into docs/TOUR.md, cases/ and checks/sessions/shapes.txt, and from
 cases/ README.md's example and the program's own crates/mountd/stdin and stdout. What it has changed is to be read.
@@ -14,15 +13,14 @@ import argparse
 import os
 import time
 
-import readme
-from documents import states, tour
+from documents import example, states, tour
 from harness.runs import failures
 from sessions import cases, faults, level, limits, memory, runtimes, shapes, streams, tables
 
 PARTS = {
     "format": cases.check_format,
     "cases": cases.check_cases,
-    "example": readme.check_example,
+    "example": example.check_example,
     "tour": tour.check_tour,
     "states": states.check_states,
     "findmnt": tables.check_findmnt,
@@ -54,7 +52,7 @@ def main():
     if words.update:
         cases.update(words.program)
         shapes.update(words.program)
-        readme.update_example()
+        example.update_example()
         tour.update_tour(words.program)
         return
     for part in [words.only] if words.only else PARTS:

@@ -1,6 +1,5 @@
 #!/usr/bin/env -S python3 -B
-"""README.md says what is so: its example is a case, and its commands print what they should.
-A program of the gate, and a part of program.py.
+"""README.md says what is so: its commands print what they should. A program of the gate.
 
 Usage: checks/readme.py [--built]
 
@@ -15,8 +14,6 @@ With --built the program that is built already, crates/NAME/out/NAME, takes the 
 crates/NAME, which would prove everything to build it: this is for .ci/run, where `rt ci` has just
 proved and built it from nothing.
 
-A fenced block directly behind a line `<!-- case: NAME -->` is the case NAME without its comments.
-
 The block behind `<!-- what-if -->` is what a terminal shows: commands behind `$ `, and what each prints. The first one
 starts the server and the last one stops it. With --built it is run too.
 """
@@ -25,52 +22,15 @@ import re
 import subprocess
 import sys
 import tempfile
-import time
 
-from harness.runs import TOP, check, difference, failures, read, shown, write
+from documents.example import EXAMPLE
+from documents.steps import MOST_SECONDS, STEP, wait_for_socket
+from harness.runs import TOP, check, difference, failures, read, shown
 from sessions import cases
 
-# The case of which crates/mountd/stdin and stdout are the input and the answers.
-EXAMPLE = "two-filesystems"
-STREAMS = ("crates", "mountd")
-
-CASE_BLOCK = cases.marked(b"case")
 BLOCK = re.compile(rb"(?m)^(?:<!-- (.*) -->\n)?```(.*)\n((?:(?!```).*\n)*?)```$")
 PROVED_RUN = re.compile(rb"cd crates/(\w+) && rt run -- ")
 QUESTION = re.compile(rb"(?m)^<!-- what-if -->\n```.*\n((?:(?!```).*\n)*?)```$")
-STEP = re.compile(rb"(?m)^\$ (.*)\n((?:(?!\$ ).*\n)*)")
-
-# How long the server may take to listen, and a command of a terminal to end, in seconds.
-MOST_SECONDS = 30
-
-
-def block_of(name):
-    return cases.load(name).text(commented=False)
-
-
-def check_example(_program):
-    """README.md's blocks of cases, and the files stdin and stdout of the program, are those cases."""
-    blocks = CASE_BLOCK.findall(read("README.md"))
-    check("README.md has a block <!-- case: NAME -->", blocks != [])
-    for _, name, text, _ in blocks:
-        name = shown(name)
-        if name not in cases.names():
-            check(f"case {name} of README.md is there", False)
-            continue
-        check(f"case {name} in README.md", text == block_of(name), difference(block_of(name), text, "README.md"))
-    example = cases.load(EXAMPLE)
-    for file, text in (("stdin", example.input()), ("stdout", example.output())):
-        found = read(*STREAMS, file)
-        check(f"crates/mountd/{file}", found == text, difference(text, found, file))
-
-
-def update_example():
-    """Writes these blocks and files from the cases."""
-    text = CASE_BLOCK.sub(lambda it: it[1] + block_of(shown(it[2])) + it[4], read("README.md"))
-    write(text, "README.md")
-    example = cases.load(EXAMPLE)
-    write(example.input(), *STREAMS, "stdin")
-    write(example.output(), *STREAMS, "stdout")
 
 
 def check_command(command, case):
@@ -99,13 +59,6 @@ def check_commands(is_built):
 def check_printed(command, wanted, found):
     name = f"README.md's command {shown(command)}"
     check(f"what {name} prints", found == wanted, difference(wanted, found, "README.md"))
-
-
-def wait_for_socket(folder):
-    """Waits until the server listens."""
-    end = time.monotonic() + MOST_SECONDS
-    while not any(name.endswith(".sock") for name in os.listdir(folder)) and time.monotonic() < end:
-        time.sleep(0.01)
 
 
 def check_question():

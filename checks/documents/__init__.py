@@ -1,1 +1,1 @@
-"""Sessions and tables of docs/, as the program answers them. Called by checks/program.py."""
+"""Sessions, tables and commands of README.md and docs/, as the programs answer them. Called by checks/program.py and checks/readme.py."""

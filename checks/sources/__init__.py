@@ -1,0 +1,1 @@
+"""The definitions and the code of the crates. Called by checks/words.py."""
