@@ -1,15 +1,15 @@
 #!/usr/bin/env -S python3 -B
 """Proves everything once, from nothing, and checks the program that was built from outside.
 
-First checks/words.py, then `rt ci`, then README's commands (checks/readme.py), then checks/pages.py,
-checks/program.py, checks/server.py and checks/kernel.py, each with all that it prints. Then how long each took, and why one was
-skipped; then the last line of `rt ci`, `N passed, M failed`, once more, in which each other command that failed counts as
-one failed. The status is 0 where all of them passed.
+First the checks that prove nothing (TEXT_CHECKS), then `rt ci`, then those of the built programs (PROGRAM_CHECKS), each
+with all that it prints. Then how long each took, and why one was skipped; then the last line of `rt ci`,
+`N passed, M failed`, once more, in which each other command that failed counts as one failed. The status is 0 where all
+of them passed.
 
 `rt ci` keeps no library that `rt run` would take, so that README's `rt run` would prove everything a
 second time. It does leave the program that it has proved, built and run, and --built takes that one.
 
-A program: .ci/run is this one. Behind checks/words.py come checks/names.py, checks/definitions.py and checks/wrong.py --look.
+A program: .ci/run is this one.
 """
 import contextlib
 import os
@@ -26,6 +26,23 @@ CLIENT = os.path.join(TOP, "crates", "mountctl", "out", "mountctl")
 # How many checks rt ci runs at once, each with one job. Where it is not told, it gives a check the processors that are
 # idle, and each further job of a check reads the libraries again: a third more of processor time (docs/GATE.md).
 LANES = min(4, len(os.sched_getaffinity(0)))
+
+# What is run before anything is proved, and on the programs that are built then: what it is called, and its words.
+TEXT_CHECKS = (
+    ("self-test of words.py", "checks/words.py", "--self-test"),
+    ("one word, one meaning; each thing once", "checks/words.py"),
+    ("self-test of names.py", "checks/names.py", "--self-test"),
+    ("names in the documents", "checks/names.py"),
+    ("where definitions stand", "checks/definitions.py"),
+    ("wrong bodies that are tried by hand", "checks/wrong.py", "--look"),
+)
+PROGRAM_CHECKS = (
+    ("README's commands", "checks/readme.py", "--built"),
+    ("pages", "checks/pages.py", PROGRAM, CLIENT),
+    ("checks of the program", "checks/program.py", PROGRAM),
+    ("checks of the server", "checks/server.py", PROGRAM, CLIENT),
+    ("the running kernel", "checks/kernel.py", PROGRAM),
+)
 
 
 def spent():
@@ -64,30 +81,16 @@ def main():
     for program in (PROGRAM, CLIENT):
         with contextlib.suppress(FileNotFoundError):
             os.remove(program)
-    words_passed, _, words_took = run("self-test of words.py", "checks/words.py", "--self-test")
-    named, _, named_took = run("one word, one meaning; each thing once", "checks/words.py")
-    found_passed, _, found_took = run("self-test of names.py", "checks/names.py", "--self-test")
-    found, _, documents_took = run("names in the documents", "checks/names.py")
-    placed, _, placed_took = run("where definitions stand", "checks/definitions.py")
-    applied, _, applied_took = run("wrong bodies that are tried by hand", "checks/wrong.py", "--look")
-    is_proved, verdict, took = run("rt ci", "rt", "ci")
-    all_took = [words_took, named_took, found_took, documents_took, placed_took, applied_took, took]
-    others_passed = [words_passed, named, found_passed, found, placed, applied]
+    others = [run(*words) for words in TEXT_CHECKS]
+    is_proved, verdict, proving_took = run("rt ci", "rt", "ci")
+    all_took = [*(took for _, _, took in others), proving_took]
     if os.path.isfile(PROGRAM) and os.path.isfile(CLIENT):
-        for name, *words in (
-            ("README's commands", "checks/readme.py", "--built"),
-            ("pages", "checks/pages.py", PROGRAM, CLIENT),
-            ("checks of the program", "checks/program.py", PROGRAM),
-            ("checks of the server", "checks/server.py", PROGRAM, CLIENT),
-            ("the running kernel", "checks/kernel.py", PROGRAM),
-        ):
-            passed, _, took = run(name, *words)
-            all_took.append(took)
-            others_passed.append(passed)
+        behind = [run(*words) for words in PROGRAM_CHECKS]
+        others, all_took = [*others, *behind], [*all_took, *(took for _, _, took in behind)]
     else:
         print("rt ci did not build both programs, so nothing was checked from outside")
-        others_passed.append(False)
-    last = last_line(verdict, is_proved, others_passed.count(False))
+        others.append((False, "", ""))
+    last = last_line(verdict, is_proved, sum(not passed for passed, _, _ in others))
     print("==", *all_took, last, sep="\n", flush=True)
     sys.exit(0 if last.endswith(", 0 failed") else 1)
 
