@@ -92,7 +92,8 @@ module _ (m : Index Entry) (heads : Index Head) (x : IsLinked m heads) (id : ℕ
         ∙ ap (λ o. cond (nat_eq entry.number k) (option_and_then (shrunk id (below id (ids (rows_of m) entry.number)) (above id (ids (rows_of m) entry.number))) o) (ends_of (ids (rows_of m) k))) (sym at ∙ x.ends_told entry.number)
         ∙ sym (ends-less-in (rows_of m) (rises-rows m) id (row_of id entry) row-there k))
 
-without-absent : (id : ℕ) (rows : List ListRow) → row_at id_of id rows ≡ None → without_id id rows ≡ rows
+-- an ID that is not there is not taken away
+pub without-absent : (id : ℕ) (rows : List ListRow) → row_at id_of id rows ≡ None → without_id id rows ≡ rows
 without-absent id [] n = refl
 without-absent id (r ∷ rs) n =
     let ih = without-absent id rs in

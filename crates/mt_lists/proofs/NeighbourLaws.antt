@@ -363,3 +363,15 @@ sought-up h id xs o r m l e f = sought-above h id xs r m l (λ a s. f a (e ∙ s
 -- the last of a list, where it is below the new number
 pub sought-end-last : (id last : ℕ) (xs : List ℕ) → rising xs ≡ true → option_map (λ (e : Ends). e.last) (ends_of xs) ≡ Some last → last < id → Some last ≡ below id xs
 sought-end-last id last xs r e l = sym e ∙ sought-end id xs _ r (sought-last id xs r) (λ x f. let v : Some last ≡ Some x = sym e ∙ f in let w : last ≡ x = cc in rw w at l)
+
+-- and none follows it
+above-last : (k x : ℕ) (xs : List ℕ) → rising (x ∷ xs) ≡ true → last_from x xs < k → above k (x ∷ xs) ≡ None
+above-last k x [] r l = grind (arith, nat_tests)
+above-last k x (y ∷ ys) r l =
+    let ih = above-last k y ys in
+    let low = last-low y ys in
+    grind (arith, nat_tests)
+
+pub above-past : (id last : ℕ) (xs : List ℕ) → rising xs ≡ true → option_map (λ (e : Ends). e.last) (ends_of xs) ≡ Some last → last < id → None ≡ above id xs
+above-past id last [] r e l = refl
+above-past id last (x ∷ xs) r e l = let v : Some (last_from x xs) ≡ Some last = e in let w : last_from x xs ≡ last = cc in sym (above-last id x xs r (rw w l))

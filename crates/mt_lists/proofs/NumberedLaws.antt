@@ -6,7 +6,7 @@ use Rattle.std.proofs.lemmas.Bool.{cases_eq, ne_eqb}
 use Rattle.std.proofs.lemmas.Bool.Decides.{nat_tests}
 use Rattle.mt_skel.specs.Keyed.{row_at, put, rises, without}
 use Rattle.mt_skel.proofs.KeyedLaws.{row_at-put, row_at-key, row_at-below, row_at-map, rises-put, rises-map, same_rows}
-use Rattle.mt_lists.specs.Lists.{ListRow, id_of, ids, without_id, with_number}
+use Rattle.mt_lists.specs.Lists.{ListRow, id_of, number_at, ids, without_id, with_number}
 use Rattle.mt_lists.specs.Numbered.{rows_by, has_number}
 use Rattle.mt_lists.proofs.RowLaws.{row-with, rises-with}
 
@@ -62,6 +62,14 @@ module _ {X : Type 0} (key : X → ℕ) (number : X → Option ℕ) where
   rowed : (q : ℕ) (a : Option X) → option_and_then (row_by key number q) a ≡ option_map (λ n. record { id = q; number = n }) (option_and_then number a)
   rowed q None = refl
   rowed q (Some x) = refl
+
+  -- the number that an ID has among the rows of a table
+  pub number-by : (q : ℕ) (xs : List X) → rises key xs ≡ true → number_at (rows_by key number xs) q ≡ option_and_then number (row_at key q xs)
+  number-by q xs h = ap (option_map (λ (r : ListRow). r.number)) (row-by key number q xs h ∙ rowed q (row_at key q xs)) ∙ go (option_and_then number (row_at key q xs))
+    where
+      go : (o : Option ℕ) → option_map (λ (r : ListRow). r.number) (option_map (λ n. record { id = q; number = n }) o) ≡ o
+      go None = refl
+      go (Some n) = refl
 
   -- a table of which one item is another, or is gone
   pub changed-by : (xs ys : List X) (i : ℕ) (o : Option ℕ) → rises key xs ≡ true → rises key ys ≡ true → option_and_then number (row_at key i ys) ≡ o

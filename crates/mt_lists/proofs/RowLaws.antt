@@ -1,5 +1,5 @@
 -- Rows of which one gets another number, or none.
-use Rattle.std.proofs.Common.{◌≡◌, ℕ, true, false, cond, not, eqb, eq-eqb, List, Option, Some, None, refl, sym, ap, ◌∙◌, inl, inr, arith}
+use Rattle.std.proofs.Common.{◌≡◌, ℕ, Bool, true, false, cond, not, eqb, eq-eqb, List, Option, Some, None, refl, sym, ap, ◌∙◌, inl, inr, arith}
 use Rattle.std.specs.Option.{option_map, option_eq}
 use Rattle.std.proofs.lemmas.Bool.{cases_eq, ne_eqb, false≢true}
 use Rattle.std.proofs.lemmas.Bool.Decides.{nat_tests}
@@ -7,6 +7,7 @@ use Rattle.mt_skel.specs.Keyed.{row_at, put, rises}
 use Rattle.mt_skel.proofs.KeyedLaws.{row_at-put, row_at-key, rises-put, rises-filter, same_rows}
 use Rattle.mt_lists.specs.Lists.{ListRow, id_of, number_at, without_id, with_number}
 use Rattle.mt_lists.proofs.IdLaws.{row-without}
+use Rattle.mt_lists.proofs.LinkLaws.{without-absent}
 
 -- the row of an ID once it has this number, or none
 pub row-with : (i q : ℕ) (o : Option ℕ) (rows : List ListRow) → rises id_of rows ≡ true → row_at id_of q (with_number i o rows) ≡ cond (eqb q i) (option_map (λ n. record { id = i; number = n }) o) (row_at id_of q rows)
@@ -19,6 +20,14 @@ row-with i q (Some n) rows h = row_at-put id_of q (record { id = i; number = n }
 pub rises-with : (i : ℕ) (o : Option ℕ) (rows : List ListRow) → rises id_of rows ≡ true → rises id_of (with_number i o rows) ≡ true
 rises-with i None rows h = rises-filter id_of (λ (r : ListRow). not (eqb i r.id)) rows h
 rises-with i (Some n) rows h = rises-put id_of (record { id = i; number = n }) rows h
+
+-- an ID without a number has no row
+pub row-unnumbered : (i : ℕ) (rows : List ListRow) → number_at rows i ≡ None → row_at id_of i rows ≡ None
+row-unnumbered i rows e = go (row_at id_of i rows) e
+  where
+    go : (o : Option ListRow) → option_map (λ (r : ListRow). r.number) o ≡ None → o ≡ None
+    go None e = refl
+    go (Some r) e = absurd (cc)
 
 -- a row that was taken away
 pub number-taken : (i : ℕ) (rows : List ListRow) → rises id_of rows ≡ true → number_at (without_id i rows) i ≡ None
@@ -55,9 +64,21 @@ with-same i o rows h e =
         here None k = refl
         here (Some s) k = ap (λ j. Some (record { id = j; number = s.number })) (k s refl)
 
+-- and so it is before it is given another number, or none
+pub with-taken : (i : ℕ) (o : Option ℕ) (rows : List ListRow) → rises id_of rows ≡ true → with_number i o (without_id i rows) ≡ with_number i o rows
+with-taken i None rows h = without-absent i (without_id i rows) (row-unnumbered i (without_id i rows) (number-taken i rows h))
+with-taken i (Some n) rows h = put-taken i n rows h
+
 -- options that test as equal are
+pub same_as : (o p : Option ℕ) → true ≡ option_eq eqb o p → o ≡ p
+same_as None None e = refl
+same_as None (Some y) e = absurd (false≢true (sym e))
+same_as (Some x) None e = absurd (false≢true (sym e))
+same_as (Some x) (Some y) e = let v : x ≡ y = grind (arith, nat_tests) in ap (λ z. Some z) v
+
 pub same_of : (o p : Option ℕ) → false ≡ not (option_eq eqb o p) → o ≡ p
-same_of None None e = refl
-same_of None (Some y) e = absurd (false≢true e)
-same_of (Some x) None e = absurd (false≢true e)
-same_of (Some x) (Some y) e = let v : x ≡ y = grind (arith, nat_tests) in ap (λ z. Some z) v
+same_of o p e = same_as o p (go (option_eq eqb o p) e)
+  where
+    go : (b : Bool) → false ≡ not b → true ≡ b
+    go true e = refl
+    go false e = absurd (false≢true e)

@@ -18,14 +18,16 @@ pub(crate) struct Entry {
 pub(crate) fn before_of(entries: &IndexMap<u64, Entry>, id: u64) -> Option<u64>
     ensures { result ≡ option_and_then (λ e. e.before) (get nat_eq entries.now id) }
 {
-    entries.get(&id).copied()?.before
+    let entry = entries.get(&id)?;
+    entry.before
 }
 
 /// The ID after this one in the list of its number.
 pub(crate) fn after_of(entries: &IndexMap<u64, Entry>, id: u64) -> Option<u64>
     ensures { result ≡ option_and_then (λ e. e.after) (get nat_eq entries.now id) }
 {
-    entries.get(&id).copied()?.after
+    let entry = entries.get(&id)?;
+    entry.after
 }
 
 /// Writes which ID stands before this one, where this one is some ID that is there.

@@ -1,6 +1,6 @@
 //! The table of numbers: the ends and the length of the list of each, and which ID came last into it.
-ghost use Rattle.std.specs.Prelude.{◌≡◌, ℕ, ◌+◌, ◌<◌, ◌≤◌, ◌^◌, Some, nat_eq, IfSome, IsTrue};
-ghost use Rattle.std.specs.Option.{option_map, is_some};
+ghost use Rattle.std.specs.Prelude.{◌≡◌, ℕ, ◌+◌, ◌<◌, ◌≤◌, ◌^◌, cond, slice_get, Some, nat_eq, IfSome};
+ghost use Rattle.std.specs.Option.{option_map};
 ghost use Rattle.indexmap.specs.IndexMap.{get, spare};
 ghost use Rattle.mt_lists.specs.Links.{ends_at, grown, shrunk, given_ends};
 
@@ -22,11 +22,28 @@ pub(crate) struct Head {
     pub(crate) recent: u64,
 }
 
+/// A head, and the place of the table where it is.
+#[derive(Clone, Copy)]
+pub(crate) struct Found {
+    pub(crate) at: usize,
+    pub(crate) head: Head,
+}
+
+/// The head of the list of this number, in one look.
+pub(crate) fn head_of(heads: &IndexMap<u64, Head>, number: u64) -> Option<Found>
+    ensures ends { option_map (λ f. f.head.ends) result ≡ ends_at heads.now number }
+    ensures there { IfSome result (λ f. slice_get heads.now.entries f.at ≡ Some (number, f.head)) }
+{
+    let (at, _, head) = heads.get_full(&number)?;
+    Some(Found { at, head: *head })
+}
+
 /// The ends and the length of the list of this number.
 pub(crate) fn ends_of(heads: &IndexMap<u64, Head>, number: u64) -> Option<Ends>
     ensures { result ≡ ends_at heads.now number }
 {
-    Some(heads.get(&number).copied()?.ends)
+    let head = heads.get(&number)?;
+    Some(head.ends)
 }
 
 /// The first ID of this number.
@@ -92,31 +109,56 @@ pub(crate) fn shrunk(id: u64, before: Option<u64>, after: Option<u64>, ends: End
     })
 }
 
-/// Counts this ID, which was not there, among those of this number.
-pub(crate) fn grow(heads: &mut IndexMap<u64, Head>, number: u64, id: u64)
+/// Writes the head at the place where one was found.
+fn write(heads: &mut IndexMap<u64, Head>, number: u64, found: Found, head: Head)
+    requires there { slice_get heads.old.entries found.at ≡ Some (number, found.head) }
+    ensures head { (k : ℕ) → get nat_eq heads.new k ≡ cond (nat_eq number k) (Some head) (get nat_eq heads.old k) }
+    ensures room { spare heads.old ≤ spare heads.new }
+{
+    if let Some(here) = heads.get_index_mut(found.at) {
+        *here = head;
+    }
+}
+
+/// Counts this ID, which was not there, among those of this number, whose head was found if there is one.
+pub(crate) fn grow(heads: &mut IndexMap<u64, Head>, number: u64, found: Option<Found>, id: u64)
+    requires ends { option_map (λ f. f.head.ends) found ≡ ends_at heads.old number }
+    requires there { IfSome found (λ f. slice_get heads.old.entries f.at ≡ Some (number, f.head)) }
     requires small { IfSome (ends_at heads.old number) (λ e. e.count < 2 ^ 63) }
     requires room { 0 < spare heads.old }
     ensures ends { (k : ℕ) → ends_at heads.new k ≡ given_ends number (Some (grown id (ends_at heads.old number))) (ends_at heads.old) k }
     ensures room { spare heads.old ≤ spare heads.new + 1 }
 {
-    let ends = grown(id, ends_of(heads, number));
-    heads.insert(number, Head { ends, recent: id }).unwrap();
+    match found {
+        None => {
+            let ends = grown(id, None);
+            heads.insert(number, Head { ends, recent: id }).unwrap();
+        }
+        Some(found) => {
+            let ends = grown(id, Some(found.head.ends));
+            write(heads, number, found, Head { ends, recent: id });
+        }
+    }
 }
 
-/// Writes the ends of a list that is there, or takes it away.
-pub(crate) fn put_ends(heads: &mut IndexMap<u64, Head>, number: u64, ends: Option<Ends>)
-    requires there { IsTrue (is_some (ends_at heads.old number)) }
+/// Writes the ends of a list whose head was found, or takes it away.
+pub(crate) fn put_ends(
+    heads: &mut IndexMap<u64, Head>,
+    number: u64,
+    found: Found,
+    ends: Option<Ends>,
+)
+    requires there { slice_get heads.old.entries found.at ≡ Some (number, found.head) }
     ensures ends { (k : ℕ) → ends_at heads.new k ≡ given_ends number ends (ends_at heads.old) k }
     ensures room { spare heads.old ≤ spare heads.new }
 {
     match ends {
         None => {
-            heads.swap_remove(&number);
+            heads.swap_remove_index(found.at);
         }
         Some(ends) => {
-            if let Some(head) = heads.get_mut(&number) {
-                head.ends = ends;
-            }
+            let recent = found.head.recent;
+            write(heads, number, found, Head { ends, recent });
         }
     }
 }

@@ -1,12 +1,13 @@
 //! An ID comes into the list of its number, and goes out of it: what is written in both tables.
 ghost use Rattle.std.specs.Prelude.{◌≡◌, ℕ, ◌+◌, ◌<◌, ◌≤◌, Some, None, IfSome, IsTrue};
+ghost use Rattle.std.specs.Option.{option_map};
 ghost use Rattle.indexmap.specs.IndexMap.{spare};
 ghost use Rattle.mt_skel.specs.Keyed.{row_at, put, among};
 ghost use Rattle.mt_lists.specs.Lists.{id_of, ids, above, without_id};
-ghost use Rattle.mt_lists.specs.Links.{below, rows_of, IsLinked};
+ghost use Rattle.mt_lists.specs.Links.{below, rows_of, ends_at, IsLinked};
 
 use crate::entries::{Entry, after_of, before_of, set_after, set_before};
-use crate::heads::{Head, ends_of, first_of, grow, last_of, put_ends, recent_of, shrunk};
+use crate::heads::{Found, Head, grow, head_of, last_of, put_ends, recent_of, shrunk};
 use indexmap::IndexMap;
 
 /// The last of a number's IDs below this one, sought from the end of its list.
@@ -67,18 +68,20 @@ fn recent_below(
     None
 }
 
-/// The last of a number's IDs below this one: the last of its list, or sought from the one that came most recently, where
-/// that is below, and else from the end.
+/// The last of a number's IDs below this one, where the head of its list was found: the last of the list, or sought from
+/// the one that came most recently, where that is below, and else from the end.
 fn place_for(
     entries: &IndexMap<u64, Entry>,
     heads: &IndexMap<u64, Head>,
+    found: Option<Found>,
     id: u64,
     number: u64,
 ) -> Option<u64>
     requires linked { IsLinked entries.now heads.now }
+    requires ends { option_map (λ f. f.head.ends) found ≡ ends_at heads.now number }
     ensures { result ≡ below id (ids (rows_of entries.now) number) }
 {
-    let last = last_of(heads, number)?;
+    let last = found?.head.ends.last;
     if last < id {
         return Some(last);
     }
@@ -88,23 +91,29 @@ fn place_for(
     }
 }
 
-/// The first of a number's IDs above this one, which is not there, where the last below it is
-/// known.
+/// The first of a number's IDs above this one, which is not there, where the head of its list was found and the last ID
+/// below it is known.
 fn follower(
     entries: &IndexMap<u64, Entry>,
     heads: &IndexMap<u64, Head>,
+    found: Option<Found>,
     id: u64,
     number: u64,
     before: Option<u64>,
 ) -> Option<u64>
     requires linked { IsLinked entries.now heads.now }
+    requires ends { option_map (λ f. f.head.ends) found ≡ ends_at heads.now number }
     requires absent { row_at id_of id (rows_of entries.now) ≡ None }
     requires before { before ≡ below id (ids (rows_of entries.now) number) }
     ensures { result ≡ above id (ids (rows_of entries.now) number) }
 {
+    let ends = found?.head.ends;
+    if ends.last < id {
+        return None;
+    }
     match before {
         Some(other) => after_of(entries, other),
-        None => first_of(heads, number),
+        None => Some(ends.first),
     }
 }
 
@@ -126,9 +135,10 @@ pub(crate) fn link(
 {
     // Its proof needs that the IDs can be counted.
     let _len = entries.len();
-    let before = place_for(entries, heads, id, number);
-    let after = follower(entries, heads, id, number, before);
-    grow(heads, number, id);
+    let found = head_of(heads, number);
+    let before = place_for(entries, heads, found, id, number);
+    let after = follower(entries, heads, found, id, number, before);
+    grow(heads, number, found, id);
     let entry = Entry {
         number,
         before,
@@ -150,9 +160,9 @@ pub(crate) fn unlink(entries: &mut IndexMap<u64, Entry>, heads: &mut IndexMap<u6
     if let Some(entry) = entries.swap_remove(&id) {
         set_after(entries, entry.before, entry.after);
         set_before(entries, entry.after, entry.before);
-        if let Some(ends) = ends_of(heads, entry.number) {
-            let left = shrunk(id, entry.before, entry.after, ends);
-            put_ends(heads, entry.number, left);
+        if let Some(found) = head_of(heads, entry.number) {
+            let left = shrunk(id, entry.before, entry.after, found.head.ends);
+            put_ends(heads, entry.number, found, left);
         }
     }
 }

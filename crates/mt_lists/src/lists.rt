@@ -94,7 +94,8 @@ impl Lists {
         ensures number { result ≡ number_at self.now.rows id }
         ensures rising { IsTrue (rises id_of self.now.rows) }
     {
-        Some(self.entries.get(&id).copied()?.number)
+        let entry = self.entries.get(&id)?;
+        Some(entry.number)
     }
 
     /// The lowest ID of this number, or `None` where no ID has it.
@@ -154,6 +155,18 @@ impl Lists {
         unlink(&mut self.entries, &mut self.heads, id);
     }
 
+    /// Gives a number, or none, to an ID that is not there. Room for one row is needed for none too.
+    pub fn enter(&mut self, id: u64, number: Option<u64>)
+        requires room { 0 < self.old.room }
+        requires absent { number_at self.old.rows id ≡ None }
+        ensures rows { self.new.rows ≡ with_number id number self.old.rows }
+        ensures room { self.old.room ≤ self.new.room + 1 }
+    {
+        if let Some(number) = number {
+            self.insert(id, number);
+        }
+    }
+
     /// Gives this ID this number, or none, whether it is there or not. Room for one row is needed also
     /// where the ID is there.
     pub fn set(&mut self, id: u64, number: Option<u64>)
@@ -161,11 +174,14 @@ impl Lists {
         ensures rows { self.new.rows ≡ with_number id number self.old.rows }
         ensures room { self.old.room ≤ self.new.room + 1 }
     {
-        if self.number(id) != number {
-            self.remove(id);
-            if let Some(number) = number {
-                self.insert(id, number);
-            }
+        let old = self.number(id);
+        if old == number {
+            return;
         }
+        let Some(_) = old else {
+            return self.enter(id, number);
+        };
+        self.remove(id);
+        self.enter(id, number);
     }
 }
