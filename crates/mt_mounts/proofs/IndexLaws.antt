@@ -1,15 +1,15 @@
 -- The indexes once a mount has come, has gone or was changed, and what they answer.
 use Rattle.std.proofs.Common.{◌≡◌, ◌≢◌, ℕ, Bool, true, false, cond, eqb, eq-eqb, List, Option, Some, None, refl, sym, ap, subst, ◌∙◌, arith}
 use Rattle.std.specs.Map.{lookup}
-use Rattle.std.specs.Option.{option_map, option_map_or, ForSome, is_none}
+use Rattle.std.specs.Option.{option_map, option_map_or, option_and_then, ForSome, is_none}
 use Rattle.std.proofs.lemmas.Bool.{ne_eqb}
 use Rattle.std.proofs.lemmas.Bool.Decides.{nat_tests}
 use Rattle.indexmap.specs.IndexMap.{get}
 use Rattle.mt_skel.specs.Keyed.{row_at, put, rises}
 use Rattle.mt_skel.proofs.KeyedLaws.{row_at-key}
-use Rattle.mt_lists.specs.Lists.{with_number, without_id as without_row}
+use Rattle.mt_lists.specs.Lists.{number_at, with_number, without_id as without_row}
 use Rattle.mt_lists.specs.Numbered.{rows_by}
-use Rattle.mt_lists.proofs.NumberedLaws.{put-by, without-by, change-by, same-by}
+use Rattle.mt_lists.proofs.NumberedLaws.{number-by, put-by, without-by, change-by, same-by}
 use Rattle.mt_mounts.specs.declared.mount.Place.{Place}
 use Rattle.mt_mounts.specs.declared.mount.Mount.{Mount}
 use Rattle.mt_mounts.specs.declared.mount.Attrs.{Attrs}
@@ -18,7 +18,7 @@ use Rattle.mt_mounts.specs.Forest.{id_of, mount_at, on, is_at, place_eq, root_pl
 use Rattle.mt_mounts.specs.Tree.{IsSingle}
 use Rattle.mt_mounts.specs.ForestView.{with_attrs, with_place, without_id}
 use Rattle.mt_mounts.specs.Stacks.{IsStacked, IsBare, linked, come_to, gone_from}
-use Rattle.mt_mounts.specs.Indexes.{parent_of, space_of, rooted_in, over, IsIndexed}
+use Rattle.mt_mounts.specs.Indexes.{parent_of, space_of, rooted_in, over, IsIndexed, IsUnlisted}
 use Rattle.mt_mounts.proofs.SlotLaws.{none_found, row_kept}
 use Rattle.mt_mounts.proofs.ChangeLaws.{attrs_of, place_of}
 use Rattle.mt_mounts.proofs.PlaceLaws.{same_place, found_without, found_put, found_map, moved_is}
@@ -73,6 +73,20 @@ module _ (ms : List Mount) (r : rises id_of ms ≡ true) (m : Mount) where
 
 eqb-turned : (a b : ℕ) → eqb a b ≡ eqb b a
 eqb-turned a b = grind (arith, nat_tests)
+
+-- what the lists have of a mount
+module _ (ms : List Mount) (x : Indexes) (r : rises id_of ms ≡ true) (h : IsIndexed ms x) where
+  -- of one that is not there
+  pub unlisted : (i : ℕ) → mount_at ms i ≡ None → IsUnlisted i x
+  unlisted i absent = record {
+    children = ap (λ l. number_at l i) h.children ∙ number-by id_of parent_of i ms r ∙ ap (option_and_then parent_of) absent;
+    spaces = ap (λ l. number_at l i) h.spaces ∙ number-by id_of space_of i ms r ∙ ap (option_and_then space_of) absent;
+    roots = ap (λ l. number_at l i) h.roots ∙ number-by id_of rooted_in i ms r ∙ ap (option_and_then rooted_in) absent;
+  }
+
+  -- and of which namespace one is the root mount
+  pub rooted : (m : Mount) → mount_at ms m.id ≡ Some m → number_at x.roots.rows m.id ≡ rooted_in m
+  rooted m there = ap (λ l. number_at l m.id) h.roots ∙ number-by id_of rooted_in m.id ms r ∙ ap (option_and_then rooted_in) there
 
 module _ (ms : List Mount) (old new : Indexes) (r : rises id_of ms ≡ true) (x : IsIndexed ms old) where
   -- a mount has come

@@ -4,6 +4,7 @@ use Rattle.std.specs.Prelude.{◌≡◌, ℕ, cond, List, Option, Some, None, Is
 use Rattle.std.specs.Option.{option_map}
 use Rattle.indexmap.specs.IndexMap.{get, spare}
 use Rattle.mt_skel.specs.Keyed.{rises}
+use Rattle.mt_lists.specs.Lists.{number_at}
 use Rattle.mt_lists.specs.Numbered.{rows_by}
 use Rattle.mt_lists.specs.Log.{AreAlikeBut}
 use Rattle.mt_mounts.specs.declared.mount.Place.{Place}
@@ -36,6 +37,12 @@ pub record IsIndexed (ms : List Mount) (x : Indexes) : Type 0 where
   pub spaces : x.spaces.rows ≡ rows_by id_of space_of ms
   pub roots : x.roots.rows ≡ rows_by id_of rooted_in ms
   pub stacked : IsStacked (over ms) x.stacks
+
+-- No list of the indexes has this ID.
+pub record IsUnlisted (i : ℕ) (x : Indexes) : Type 0 where
+  pub children : number_at x.children.rows i ≡ None
+  pub spaces : number_at x.spaces.rows i ≡ None
+  pub roots : number_at x.roots.rows i ≡ None
 
 -- How many mounts each of the indexes has room for.
 abbrev pub room_of : Indexes → ℕ

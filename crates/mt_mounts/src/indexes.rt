@@ -8,7 +8,8 @@ ghost use Rattle.mt_mounts.specs.declared.mount.Place.{Place};
 ghost use Rattle.mt_mounts.specs.Forest.{id_of, mount_at, on, is_at, place_eq};
 ghost use Rattle.mt_mounts.specs.Tree.{IsSingle};
 ghost use Rattle.mt_mounts.specs.ForestView.{with_place, without_id};
-ghost use Rattle.mt_mounts.specs.Indexes.{parent_of, rooted_in, IsIndexed, room_of};
+ghost use Rattle.mt_lists.specs.Lists.{number_at, without_id as without_row};
+ghost use Rattle.mt_mounts.specs.Indexes.{parent_of, rooted_in, IsIndexed, IsUnlisted, room_of};
 
 use crate::mount::{Mount, MountId, Place, SpaceId};
 use crate::stacks::Stacks;
@@ -99,6 +100,17 @@ fn leave(places: &mut IndexMap<Place, MountId>, mount: Mount)
     }
 }
 
+/// Takes a mount, if it is a root mount, out of the list of those.
+fn uproot(roots: &mut Lists, mount: Mount)
+    ensures rows { number_at roots.old.rows mount.id ≡ rooted_in mount → roots.new.rows ≡ without_row mount.id roots.old.rows }
+    ensures room { roots.old.room ≤ roots.new.room }
+{
+    match mount.place {
+        Some(_) => {}
+        None => roots.remove(mount.id),
+    }
+}
+
 impl Indexes {
     /// The indexes of no mounts. Their memory will come from `alloc`.
     pub(crate) fn new(alloc: Global) -> Self
@@ -152,13 +164,14 @@ impl Indexes {
     /// A mount with a new ID has come, for which there is room, to the root of another or not.
     pub(crate) fn insert(&mut self, mount: Mount, on_root: bool)
         requires room { 0 < room_of self.old }
+        requires absent { IsUnlisted mount.id self.old }
         ensures indexed { (ms : List Mount) → IsTrue (rises id_of ms) → IsSingle ms → mount_at ms mount.id ≡ None → ForSome mount.place (λ p. on ms p ≡ None) → IsIndexed ms self.old → IsIndexed (put id_of mount ms) self.new }
         ensures room { room_of self.old ≤ room_of self.new + 1 }
     {
         enter(&mut self.places, mount);
-        self.children.set(mount.id, parent_of(mount));
-        self.spaces.set(mount.id, Some(mount.space));
-        self.roots.set(mount.id, rooted_in(mount));
+        self.children.enter(mount.id, parent_of(mount));
+        self.spaces.enter(mount.id, Some(mount.space));
+        self.roots.enter(mount.id, rooted_in(mount));
         self.stacks.enter(mount, on_root);
     }
 
@@ -170,7 +183,7 @@ impl Indexes {
         leave(&mut self.places, mount);
         self.children.remove(mount.id);
         self.spaces.remove(mount.id);
-        self.roots.remove(mount.id);
+        uproot(&mut self.roots, mount);
         self.stacks.leave(mount);
     }
 
@@ -183,7 +196,7 @@ impl Indexes {
         leave(&mut self.places, mount);
         stand(&mut self.places, place, mount.id);
         self.children.set(mount.id, Some(place.mount));
-        self.roots.remove(mount.id);
+        uproot(&mut self.roots, mount);
         self.stacks.go(mount, place, on_root);
     }
 }

@@ -1,5 +1,6 @@
 use Rattle.std.proofs.Common.{ap}
 use Rattle.mt_lists.specs.Log.{earlier}
+use Rattle.mt_mounts.proofs.IndexLaws.{unlisted}
 use Rattle.mt_mounts.proofs.KeptLaws.{forest_put}
 use Rattle.mt_mounts.proofs.forest.Forest.insert.Goals as goal
 
@@ -10,3 +11,9 @@ invariant_of-self c =
     forest_put c.self.inside.table.mounts c.self.inside.indexes c.insert.new.self (earlier c.self.inside.since.seen.items (λ t. t.mounts)) c.self.inside.log.ids f c.insert-2.new.self.mounts c.add.new.self.ids c.args.mount c.insert-2.ensures.mounts c.add.ensures.ids
     (rw e c.requires.free) (rw e c.requires.rootless)
     (c.insert.ensures.indexed c.self.inside.table.mounts f.rising f.single (rw e c.requires.absent) (rw e c.requires.free) f.indexed)
+
+pub insert-requires-clause-absent : goal.insert-requires-clause-absent
+insert-requires-clause-absent c =
+    let e = ap (λ f. f.mounts) c.self.view_is in
+    let f = c.self.invariant in
+    unlisted c.self.inside.table.mounts c.self.inside.indexes f.rising f.indexed c.args.mount.id (rw e c.requires.absent)
