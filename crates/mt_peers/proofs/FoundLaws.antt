@@ -1,5 +1,5 @@
 -- Entries that are found by halving their list: the place of a new one, one that gets another state, one that is taken out.
-use Rattle.std.proofs.Common.{◌≡◌, ℕ, zero, suc, ◌+◌, ◌<◌, ◌≤◌, Bool, true, false, cond, not, eqb, leb, List, [], ◌∷◌, ◌++◌, map, take, drop, length, get_or, set, Some, None, refl, sym, ap, ◌∙◌, arith}
+use Rattle.std.proofs.Common.{◌≡◌, ℕ, zero, suc, ◌+◌, ◌-◌, ◌<◌, ◌≤◌, Bool, true, false, cond, not, eqb, leb, List, [], ◌∷◌, ◌++◌, map, take, drop, length, get_or, set, slice_get, Some, None, refl, sym, ap, ◌∙◌, arith}
 use Rattle.std.specs.Prelude.{nat_lt, nat_eq, is_some}
 use Rattle.std.specs.List.{filter, list_all, position_or_len, HoldsAt}
 use Rattle.std.specs.List.Sorted.{IsNonDecreasingBy, IsPartitionPoint}
@@ -8,6 +8,7 @@ use Rattle.std.specs.declared.cmp.Ordering.TheVariants.{Equal}
 use Rattle.std.proofs.lemmas.Bool.Decides.{nat_tests}
 use Rattle.std.proofs.lemmas.Cmp.{ranked}
 use Rattle.std.proofs.lemmas.List.Sums.{position_or_len_is}
+use Rattle.std.proofs.lemmas.Option.{slice_get-get_or}
 use Rattle.mt_skel.specs.Keyed.{rises, row_at}
 use Rattle.mt_skel.proofs.SearchLaws.{found_at}
 use Rattle.mt_peers.specs.declared.state.State.{State}
@@ -31,6 +32,19 @@ non_decreasing (x ∷ xs) up (suc i) (suc j) d le l = non_decreasing xs (grind (
 -- some entry
 nothing : Entry
 nothing = record { mount = 0; state = record { group = None; master = None; unbindable = false }; was = record { group = None; master = None; unbindable = false } }
+
+-- the place of a new entry, behind a last one that is not higher
+pub past_last : (id : ℕ) (es : List Entry) (x : Entry) → rises entry_mount es ≡ true → slice_get es (length es - 1) ≡ Some x → x.mount ≤ id → position_or_len (λ (e : Entry). nat_lt id e.mount) es ≡ length es
+past_last id es x up there low =
+    position_or_len_is (λ (e : Entry). nat_lt id e.mount) es (length es) nothing (omega arith)
+    (λ k l.
+    let within : length es - 1 < length es = omega (arith, l) in
+    let le = non_decreasing es up k (length es - 1) nothing (omega (arith, l)) within in
+    let v : Some (get_or es (length es - 1) nothing) ≡ Some x = sym (slice_get-get_or es (length es - 1) nothing within) ∙ there in
+    let w : get_or es (length es - 1) nothing ≡ x = cc in
+    let last : (get_or es (length es - 1) nothing).mount ≡ x.mount = ap entry_mount w in
+    grind (arith, nat_tests))
+    (λ l. absurd (omega (arith, l)))
 
 -- the place of a new entry
 pub place_parted : (id : ℕ) (es : List Entry) (at : ℕ) → at ≤ length es → IsPartitionPoint (λ (e : Entry). leb e.mount id ≡ true) (λ (e : Entry). leb e.mount id ≡ false) es at

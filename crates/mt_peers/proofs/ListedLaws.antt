@@ -10,7 +10,7 @@ use Rattle.mt_skel.specs.Keyed.{row_at, put, rises, without}
 use Rattle.mt_skel.proofs.KeyedLaws.{row_at-key, rises-put, rises-filter}
 use Rattle.mt_lists.specs.Lists.{ListRow, number_at, ids, first, above, next_of, with_number}
 use Rattle.mt_lists.specs.Numbered.{rows_by}
-use Rattle.mt_lists.proofs.NumberedLaws.{ids-by, row-by, row_by, put-by, change-by}
+use Rattle.mt_lists.proofs.NumberedLaws.{ids-by, number-by, put-by, change-by}
 use Rattle.mt_peers.specs.declared.state.State.{State}
 use Rattle.mt_peers.specs.declared.entries.Entry.{Entry}
 use Rattle.mt_peers.specs.Peers.{Peer, mount_of, state_at, with_state, in_group, has_member, names, members, slaves}
@@ -27,15 +27,7 @@ module _ (number : Peer → Option ℕ) (es : List Peer) (rows : List ListRow) (
   ids-listed g = ap (λ r. ids r g) told ∙ ids-by mount_of number es g
 
   pub number-listed : (i : ℕ) → rises mount_of es ≡ true → number_at rows i ≡ option_and_then number (row_at mount_of i es)
-  number-listed i up = ap (λ r. number_at r i) told ∙ ap (option_map (λ (r : ListRow). r.number)) (row-by mount_of number i es up) ∙ go (row_at mount_of i es)
-    where
-      go : (o : Option Peer) → option_map (λ (r : ListRow). r.number) (option_and_then (row_by mount_of number i) o) ≡ option_and_then number o
-      go None = refl
-      go (Some e) = one (number e)
-        where
-          one : (o : Option ℕ) → option_map (λ (r : ListRow). r.number) (option_map (λ n. record { id = i; number = n }) o) ≡ o
-          one None = refl
-          one (Some n) = refl
+  number-listed i up = ap (λ r. number_at r i) told ∙ number-by mount_of number i es up
 
 stated : (number : State → Option ℕ) (o : Option Peer) → option_and_then (λ (e : Peer). number e.state) o ≡ option_and_then number (option_map (λ (e : Peer). e.state) o)
 stated number None = refl

@@ -1,5 +1,5 @@
 //! Mounts with their states, in a list by rising ID.
-ghost use Rattle.std.specs.Prelude.{◌≡◌, ◌+◌, ◌<◌, ◌≤◌, ◌^◌, map, length, cond, not, ◌&&◌, is_none, is_some, nat_eq, nat_lt, None, IsTrue, vec_capacity, vec_len};
+ghost use Rattle.std.specs.Prelude.{◌≡◌, ◌+◌, ◌<◌, ◌≤◌, ◌^◌, map, length, cond, not, ◌&&◌, is_none, is_some, nat_eq, nat_lt, None, true, IsTrue, vec_capacity, vec_len};
 ghost use Rattle.std.specs.List.{filter, position_or_len};
 ghost use Rattle.mt_skel.specs.Keyed.{put, rises, among};
 ghost use Rattle.mt_peers.specs.Peers.{mount_of, state_at};
@@ -29,12 +29,26 @@ pub(crate) fn find_state(entries: &[Entry], id: MountId) -> Option<State>
     }
 }
 
-/// Where an entry of this mount goes, found by halving the list.
+/// Whether the last mount of the list is this one or has a lower ID.
+fn ends_by(entries: &[Entry], id: MountId) -> bool
+    requires { IsTrue (rises mount_of (now_peers entries.now)) }
+    ensures { result ≡ true → position_or_len (λ e. nat_lt id e.mount) entries.now ≡ length entries.now }
+{
+    match entries.last() {
+        Some(last) => last.mount <= id,
+        None => false,
+    }
+}
+
+/// Where an entry of this mount goes: at the end, or found by halving the list.
 fn place_for(entries: &[Entry], id: MountId) -> usize
     requires { IsTrue (rises mount_of (now_peers entries.now)) }
     ensures place { result ≡ position_or_len (λ e. nat_lt id e.mount) entries.now }
     ensures within { result ≤ length entries.now }
 {
+    if ends_by(entries, id) {
+        return entries.len();
+    }
     entries.partition_point(|entry| entry.mount <= id)
 }
 
