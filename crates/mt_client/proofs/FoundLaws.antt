@@ -8,8 +8,8 @@ use Rattle.mt_info.specs.RowLine.{line}
 use Rattle.mt_info.specs.declared.row.Row.{Row}
 use Rattle.mt_info.specs.Laws.{IsRow}
 use Rattle.mt_info.specs.Table.{row_id}
-use Rattle.mt_info.specs.Building.{is_above, rises_after}
-use Rattle.mt_info.proofs.RisingLaws.{after_kept}
+use Rattle.mt_skel.specs.Rising.{is_above, rises_after}
+use Rattle.mt_skel.proofs.RisingLaws.{after_kept}
 use Rattle.mt_skel.specs.Keyed.{rises}
 use Rattle.mt_events.specs.Mirrors.{MirrorView}
 use Rattle.mt_events.specs.Posts.{ended}

@@ -14,10 +14,11 @@ use crate::opening::{read_count, read_heading, read_rows};
 use crate::relay::next_text;
 use mt_events::mirror::Mirror;
 use mt_events::opening::Scope;
-use mt_info::table::{Table, is_above};
+use mt_info::table::Table;
 use mt_lines::line::LineReader;
 use mt_lines::stream::Input;
 use mt_mounts::mount::SpaceId;
+use mt_skel::list::is_above;
 use std::alloc::Global;
 
 /// The next namespace, which has at most so many lines.

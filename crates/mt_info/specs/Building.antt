@@ -1,8 +1,7 @@
--- What parts of a table and of a line are made of. No public clause cites this module.
+-- What parts of a line are made of. No public clause cites this module.
 -- A word with no source is this project's rule.
-use Rattle.std.specs.Prelude.{ℕ, Bool, true, ◌&&◌, nat_lt, Option, Some, None, List, ◌∷◌, ◌++◌, codes, decimal}
-use Rattle.std.specs.List.{flat_map, list_all}
-use Rattle.mt_skel.specs.Keyed.{rises}
+use Rattle.std.specs.Prelude.{ℕ, List, ◌∷◌, ◌++◌, codes, decimal}
+use Rattle.std.specs.List.{flat_map}
 use Rattle.mt_skel.specs.Escapes.{escaped}
 
 -- words, each behind a byte
@@ -16,13 +15,3 @@ numbers_text id parent minor = decimal id ++ (codes " " ++ (decimal parent ++ (c
 -- what stands behind the optional fields (proc_pid_mountinfo(5), fields 8 to 11)
 abbrev pub end_text : List ℕ → List ℕ → List ℕ
 end_text kind source = codes " - " ++ (escaped kind ++ (codes " " ++ (escaped source ++ codes " rw")))
-
--- a number is above the last one, if there was one
-abbrev pub is_above : Option ℕ → ℕ → Bool
-is_above None k = true
-is_above (Some j) k = nat_lt j k
-
--- the keys strictly rise, all of them above the last one, if there was one
-abbrev pub rises_after : {X : Type 0} → (X → ℕ) → Option ℕ → List X → Bool
-rises_after key None xs = rises key xs
-rises_after key (Some k) xs = list_all (λ x. nat_lt k (key x)) xs && rises key xs

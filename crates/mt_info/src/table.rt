@@ -9,7 +9,6 @@ ghost use Rattle.mt_propagate.specs.World.{world_view, is_space};
 ghost use Rattle.mt_propagate.specs.Named.{mount_or_unknown};
 ghost use Rattle.mt_propagate.specs.WellFormed.{IsWellFormed};
 ghost use Rattle.mt_info.specs.Table.{row_id, table_of, row_of, mount_point, own_names};
-ghost use Rattle.mt_info.specs.Building.{is_above};
 ghost use Rattle.mt_info.specs.SameRow.{rows_eq};
 
 use crate::row::Row;
@@ -18,6 +17,7 @@ use mt_mounts::mount::{Mount, MountId, SpaceId};
 use mt_propagate::seen::SeenGroups;
 use mt_propagate::world::{World, state_of};
 use mt_skel::fault::Fault;
+use mt_skel::list::is_above;
 use mt_skel::names::Names;
 use mt_skel::skel::Dir;
 use std::alloc::{AllocError, Global};
@@ -81,16 +81,6 @@ impl Table {
         ensures { result ≡ rows_eq self.now other.now }
     {
         same_rows(&self.rows, &other.rows)
-    }
-}
-
-/// Whether an ID is above the last one, if there was one.
-pub fn is_above(last: Option<MountId>, id: MountId) -> bool
-    ensures { result ≡ is_above last id }
-{
-    match last {
-        Some(last) => last < id,
-        None => true,
     }
 }
 

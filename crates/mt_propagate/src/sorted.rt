@@ -2,12 +2,14 @@
 ghost use Rattle.std.specs.Prelude.{◌≡◌, ℕ, IsTrue};
 ghost use Rattle.mt_skel.specs.Keyed.{among, rises};
 
-/// These numbers, rising, each once. Takes no memory. One number alone is not sorted, as most commands have it.
+use mt_skel::list::are_rising;
+
+/// These numbers, rising, each once. Takes no memory. Numbers that rise are not sorted, as those of most commands do.
 pub fn in_order(numbers: Vec<u64>) -> Vec<u64>
     ensures rising { IsTrue (rises (λ k. k) result.items) }
     ensures same { (j : ℕ) → among result.items j ≡ among numbers.items j }
 {
-    if numbers.len() < 2 {
+    if are_rising(&numbers) {
         return numbers;
     }
     let mut numbers = numbers;

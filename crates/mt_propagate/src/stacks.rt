@@ -1,5 +1,5 @@
 //! Stacks of source mounts, and where one ends.
-ghost use Rattle.std.specs.Prelude.{◌≡◌, Some, None, cond, IfOk, OnOk, IsOkUnless};
+ghost use Rattle.std.specs.Prelude.{◌≡◌, Some, None, cond, IsTrue, IfOk, OnOk, IsOkUnless};
 ghost use Rattle.std.specs.Option.{option_or};
 ghost use Rattle.indexmap.specs.IndexMap.{get};
 ghost use Rattle.mt_skel.specs.Chain.{follow};
@@ -57,12 +57,29 @@ fn last_within(standing: &IndexMap<Place, Mount>, steps: usize, first: Mount) ->
     here
 }
 
+/// Whether these are one mount alone, which does not stand on the root of this one.
+fn is_unstacked(mounts: &[Mount], first: Mount) -> bool
+    ensures { IsTrue result → stack_last mounts.now first ≡ first }
+{
+    let root = Place {
+        mount: first.id,
+        dir: first.root,
+    };
+    match mounts {
+        [only] => only.place != Some(root),
+        _ => false,
+    }
+}
+
 /// The topmost mount of the stack of these mounts that begins with one of them. Refused as `NoMemory`
 /// alone.
 pub(crate) fn stack_last(alloc: Global, mounts: &[Mount], first: Mount) -> Result<Mount, Fault>
     ensures last { IfOk result (λ last. last ≡ stack_last mounts.now first) }
     ensures memory { IsOkUnless result Fault.NoMemory }
 {
+    if is_unstacked(mounts, first) {
+        return Ok(first);
+    }
     let standing = standing_by_place(alloc, mounts)?;
     Ok(last_within(&standing, mounts.len(), first))
 }

@@ -1,6 +1,6 @@
 //! The mounts that changed since changes began to be noted.
-ghost use Rattle.std.specs.Prelude.{◌≡◌, IsTrue, IfOk, IsOkUnless};
-ghost use Rattle.mt_skel.specs.Keyed.{rises};
+ghost use Rattle.std.specs.Prelude.{◌≡◌, ℕ, ◌||◌, IsTrue, IfOk, IsOkUnless};
+ghost use Rattle.mt_skel.specs.Keyed.{among, rises};
 ghost use Rattle.mt_propagate.specs.World.{world_view};
 ghost use Rattle.mt_propagate.specs.WellFormed.{IsWellFormed};
 ghost use Rattle.mt_propagate.specs.Touched.{AreNoted, IsTouched, since_of, since_view};
@@ -10,17 +10,29 @@ use crate::turned::push_turned_below;
 use crate::world::World;
 use mt_mounts::mount::MountId;
 use mt_skel::fault::Fault;
+use std::alloc::Global;
 
-/// The IDs that the forest noted, and then those that the peers did. Refused as `NoMemory` alone.
+/// The IDs of two lists: those of one, where both are the same, as they are behind most commands. Refused as `NoMemory` alone.
+fn joined(alloc: Global, first: &[MountId], second: &[MountId]) -> Result<Vec<MountId>, Fault>
+    ensures joined { IfOk result (λ ids. (i : ℕ) → among ids.items i ≡ (among first.now i || among second.now i)) }
+    ensures memory { IsOkUnless result Fault.NoMemory }
+{
+    let mut ids = Vec::from_slice(alloc, first)?;
+    if second == first {
+        return Ok(ids);
+    }
+    ids.extend_from_slice(second)?;
+    Ok(ids)
+}
+
+/// The IDs that the forest or the peers noted. Refused as `NoMemory` alone.
 fn noted(before: &World, after: &World) -> Result<Vec<MountId>, Fault>
     requires since { since_view after.now ≡ since_of (world_view before.now) }
     ensures noted { IfOk result (λ ids. AreNoted (world_view before.now) (world_view after.now) ids.items) }
     ensures memory { IsOkUnless result Fault.NoMemory }
 {
-    let mut ids = Vec::new(after.forest.allocator());
-    ids.extend_from_slice(after.forest.touched())?;
-    ids.extend_from_slice(after.peers.touched())?;
-    Ok(ids)
+    let alloc = after.forest.allocator();
+    joined(alloc, after.forest.touched(), after.peers.touched())
 }
 
 /// The mounts that are not in `after` as they are in `before`, with which `after` was equal at its last

@@ -1,7 +1,8 @@
 //! Peer groups that are seen otherwise after a change than before, and the mounts below them, which may tell another
 //! group above their master.
-ghost use Rattle.std.specs.Prelude.{◌≡◌, ℕ, ◌++◌, false, map, nat_eq, IsTrue, OnOk, IfOk, IsOkUnless};
+ghost use Rattle.std.specs.Prelude.{◌≡◌, ℕ, ◌++◌, ◌||◌, false, map, nat_eq, IsTrue, OnOk, IfOk, IsOkUnless};
 ghost use Rattle.std.specs.List.{filter_map, flat_map, list_any};
+ghost use Rattle.std.specs.Option.{option_map_or};
 ghost use Rattle.mt_skel.specs.Keyed.{among};
 ghost use Rattle.mt_peers.specs.Peers.{slaves};
 ghost use Rattle.mt_peers.specs.Masters.{masters_up, reaches};
@@ -66,22 +67,38 @@ fn is_alike(before: &World, after: &World, id: MountId) -> bool
         && space_of(before, id) == space_of(after, id)
 }
 
-/// Appends the groups of a mount before and after, unless it has the same group, master and namespace. Refused as
-/// `NoMemory` alone.
+/// Appends a group, if there is one and it is not the last of them. Refused as `NoMemory` alone.
+fn push_next(groups: &mut Vec<GroupId>, group: Option<GroupId>) -> Result<(), Fault>
+    ensures groups { OnOk result ((g : ℕ) → among groups.new.items g ≡ (among groups.old.items g || option_map_or (nat_eq g) group false)) }
+    ensures memory { IsOkUnless result Fault.NoMemory }
+{
+    let Some(group) = group else {
+        return Ok(());
+    };
+    if groups.last() != Some(&group) {
+        groups.push(group)?;
+    }
+    Ok(())
+}
+
+/// Appends the groups of a mount before and after, unless it has the same group, master and namespace, or one is the last of
+/// them. Refused as `NoMemory` alone.
 fn push_groups(
     groups: &mut Vec<GroupId>,
     before: &World,
     after: &World,
     id: MountId,
 ) -> Result<(), Fault>
-    ensures groups { OnOk result (groups.new.items ≡ groups.old.items ++ groups_of_changed (world_view before.now) (world_view after.now) id) }
+    ensures groups { OnOk result ((g : ℕ) → among groups.new.items g ≡ (among groups.old.items g || among (groups_of_changed (world_view before.now) (world_view after.now) id) g)) }
     ensures memory { IsOkUnless result Fault.NoMemory }
 {
-    if is_alike(before, after, id) {
+    let (old, new) = (group_of(before, id), group_of(after, id));
+    let is_groupless = old.is_none() && new.is_none();
+    if is_groupless || is_alike(before, after, id) {
         return Ok(());
     }
-    push_some(groups, group_of(before, id))?;
-    push_some(groups, group_of(after, id))
+    push_next(groups, old)?;
+    push_next(groups, new)
 }
 
 /// The groups that some of these mounts joined or left, or stay in with another master, rising, each once. Refused as

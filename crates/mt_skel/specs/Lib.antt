@@ -1,4 +1,5 @@
 pub mod Keyed
+pub mod Rising
 pub mod Chain
 pub mod Children
 pub mod Outcome

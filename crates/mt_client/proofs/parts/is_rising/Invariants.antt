@@ -1,6 +1,6 @@
 use Rattle.std.proofs.Common.{◌≡◌, drop}
 use Rattle.mt_skel.specs.Keyed.{rises}
-use Rattle.mt_info.specs.Building.{rises_after}
+use Rattle.mt_skel.specs.Rising.{rises_after}
 use Rattle.mt_client.specs.Finding.{mirror_space}
 use Rattle.mt_client.proofs.parts.is_rising.Given as goal
 
