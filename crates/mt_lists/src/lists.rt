@@ -13,10 +13,11 @@ use std::marker::Model;
 
 /// IDs that have a number each. The IDs of one number form a list, by rising ID.
 ///
-/// A look-up takes the time of a look-up in a hash table, and so does a change, but for an ID that
-/// comes among IDs of its number: a new ID above all others is put behind them at once, and the place of
-/// any other is sought upwards from the ID that came last into their list, if that is still there and
-/// below, and else from the end. So IDs that come by rising ID pass each of those that are there once.
+/// A look-up takes the time of a look-up in a hash table, and a change that of a few: one for the ID, one for the list of
+/// its number and one for each neighbour there. An ID that comes among IDs of its number takes more: a new ID above all
+/// others is put behind them at once, and the place of any other is sought upwards from the ID that came last into their
+/// list, if that is still there and below, and else from the end. So IDs that come by rising ID pass each of those that
+/// are there once.
 pub struct Lists {
     entries: IndexMap<u64, Entry>,
     heads: IndexMap<u64, Head>,
