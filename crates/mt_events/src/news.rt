@@ -11,15 +11,15 @@ ghost use Rattle.mt_events.specs.ByMount.{new_row, is_news};
 
 use crate::touched::{is_in, new_row};
 use mt_info::differ::is_other;
+use mt_info::findings::Findings;
 use mt_mounts::mount::{MountId, SpaceId};
-use mt_propagate::seen::SeenGroups;
 use mt_propagate::world::World;
 use mt_skel::fault::Fault;
 
 /// Whether the row of a mount that is in the namespace after is not as it was. Refused as `NoMemory` alone.
 fn has_other_row(
-    before: &mut SeenGroups<'_>,
-    after: &mut SeenGroups<'_>,
+    before: &mut Findings<'_>,
+    after: &mut Findings<'_>,
     space: SpaceId,
     id: MountId,
 ) -> Result<bool, Fault>
@@ -39,8 +39,8 @@ fn has_other_row(
 
 /// Whether a mount left the namespace, or its row is new or not as it was. Refused as `NoMemory` alone.
 fn is_news(
-    before: &mut SeenGroups<'_>,
-    after: &mut SeenGroups<'_>,
+    before: &mut Findings<'_>,
+    after: &mut Findings<'_>,
     space: SpaceId,
     id: MountId,
 ) -> Result<bool, Fault>
@@ -74,8 +74,8 @@ fn any_news(
     ensures news { IfOk result (λ news. news ≡ list_any (is_news (table_of (world_view before.now) space) (table_of (world_view after.now) space)) touched.now) }
     ensures memory { IsOkUnless result Fault.NoMemory }
 {
-    let mut old = SeenGroups::new(before);
-    let mut new = SeenGroups::new(after);
+    let mut old = Findings::new(before);
+    let mut new = Findings::new(after);
     'mounts: for id in touched {
         if is_news(&mut old, &mut new, space, *id)? {
             return Ok(true);

@@ -13,10 +13,10 @@ ghost use Rattle.mt_events.specs.ByMount.{collected, new_row};
 use crate::change::some_change;
 use crate::post::{Delta, Ids, Rows};
 use mt_info::differ::is_other;
+use mt_info::findings::Findings;
 use mt_info::row::Row;
 use mt_info::table::row_seen;
 use mt_mounts::mount::{MountId, SpaceId};
-use mt_propagate::seen::SeenGroups;
 use mt_propagate::world::World;
 use mt_skel::fault::Fault;
 
@@ -33,7 +33,7 @@ pub(crate) fn is_in(world: &World, space: SpaceId, id: MountId) -> bool
 
 /// The row of a mount in the table of a namespace, or `None` exactly where it is not in there. Refused as `NoMemory`
 /// alone.
-fn row_in(seen: &mut SeenGroups<'_>, space: SpaceId, id: MountId) -> Result<Option<Row>, Fault>
+fn row_in(seen: &mut Findings<'_>, space: SpaceId, id: MountId) -> Result<Option<Row>, Fault>
     requires well_formed { IsWellFormed (world_view seen.old) }
     ensures row { IfOk result (λ row. row ≡ row_at row_id id (table_of (world_view seen.old) space)) }
     ensures kept { seen.new ≡ seen.old }
@@ -50,8 +50,8 @@ fn row_in(seen: &mut SeenGroups<'_>, space: SpaceId, id: MountId) -> Result<Opti
 
 /// The row of a mount after, or `None` exactly where it is not there or as it was. Refused as `NoMemory` alone.
 pub(crate) fn new_row(
-    before: &mut SeenGroups<'_>,
-    after: &mut SeenGroups<'_>,
+    before: &mut Findings<'_>,
+    after: &mut Findings<'_>,
     space: SpaceId,
     id: MountId,
 ) -> Result<Option<Row>, Fault>
@@ -101,8 +101,8 @@ fn gone(
 /// Appends the row of a mount after, if it is new or not as it was. Refused as `NoMemory` alone.
 fn push_new(
     rows: &mut Vec<Row>,
-    before: &mut SeenGroups<'_>,
-    after: &mut SeenGroups<'_>,
+    before: &mut Findings<'_>,
+    after: &mut Findings<'_>,
     space: SpaceId,
     id: MountId,
 ) -> Result<(), Fault>
@@ -133,8 +133,8 @@ fn new_rows(
     ensures memory { IsOkUnless result Fault.NoMemory }
 {
     let mut rows = Vec::new(after.forest.allocator());
-    let mut old = SeenGroups::new(before);
-    let mut new = SeenGroups::new(after);
+    let mut old = Findings::new(before);
+    let mut new = Findings::new(after);
     'mounts: for id in touched {
         push_new(&mut rows, &mut old, &mut new, space, *id)?;
     }

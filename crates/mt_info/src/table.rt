@@ -1,26 +1,25 @@
 //! The mounts of one namespace.
-ghost use Rattle.std.specs.Prelude.{◌≡◌, ◌≢◌, ◌↔◌, ◌++◌, IsSome, IfSome, false, true, IfErr, IfOk, IsOkUnless, IsTrue, OnOk, MatchOption, Err, Some, None};
+ghost use Rattle.std.specs.Prelude.{◌≡◌, ◌≢◌, ◌↔◌, IsSome, IfSome, false, true, IfErr, IfOk, IsOkUnless, IsTrue, MatchOption, Err, Some, None};
 ghost use Rattle.std.specs.Option.{option_map_or};
 ghost use Rattle.mt_skel.specs.Keyed.{rises, row_at};
 ghost use Rattle.mt_skel.specs.Skeleton.{is_directory, directory};
 ghost use Rattle.mt_mounts.specs.declared.mount.Place.{Place as PlaceOf};
-ghost use Rattle.mt_mounts.specs.Forest.{mount_at, parents_up};
+ghost use Rattle.mt_mounts.specs.Forest.{mount_at};
 ghost use Rattle.mt_propagate.specs.World.{world_view, is_space};
 ghost use Rattle.mt_propagate.specs.Named.{mount_or_unknown};
 ghost use Rattle.mt_propagate.specs.WellFormed.{IsWellFormed};
-ghost use Rattle.mt_info.specs.Table.{row_id, table_of, row_of, mount_point, own_names};
+ghost use Rattle.mt_info.specs.Table.{row_id, table_of, row_of};
 ghost use Rattle.mt_info.specs.SameRow.{rows_eq};
 
+use crate::findings::Findings;
 use crate::row::Row;
-use mt_mounts::forest::Forest;
 use mt_mounts::mount::{Mount, MountId, SpaceId};
-use mt_propagate::seen::SeenGroups;
 use mt_propagate::world::{World, state_of};
 use mt_skel::fault::Fault;
 use mt_skel::list::is_above;
 use mt_skel::names::Names;
 use mt_skel::skel::Dir;
-use std::alloc::{AllocError, Global};
+use std::alloc::Global;
 use std::marker::Model;
 
 /// The rows of the mounts of one namespace, by rising ID.
@@ -149,7 +148,7 @@ pub fn table_or_empty(world: &World, space: SpaceId) -> Result<Table, Fault>
 {
     let mounts = world.forest.mounts_in(space)?;
     let mut rows = Vec::new(world.forest.allocator());
-    let mut seen = SeenGroups::new(world);
+    let mut seen = Findings::new(world);
     for mount in &mounts {
         rows.push(row_of_mount(&mut seen, mount)?)?;
     }
@@ -163,12 +162,12 @@ pub fn row_of(world: &World, id: MountId) -> Result<Row, Fault>
     ensures row { IfOk result (λ row. row ≡ row_of (world_view world.now) (mount_or_unknown (world_view world.now) id)) }
     ensures memory { IsOkUnless result Fault.NoMemory }
 {
-    row_seen(&mut SeenGroups::new(world), id)
+    row_seen(&mut Findings::new(world), id)
 }
 
-/// What [`row_of`] answers of a mount, for whoever asks for several rows of one world: what is found of its groups is
-/// kept from row to row. Refused as `NoMemory` alone.
-pub fn row_seen(seen: &mut SeenGroups<'_>, id: MountId) -> Result<Row, Fault>
+/// What [`row_of`] answers of a mount, for whoever asks for several rows of one world: what is found of its groups
+/// and of the mounts above it is kept from row to row. Refused as `NoMemory` alone.
+pub fn row_seen(seen: &mut Findings<'_>, id: MountId) -> Result<Row, Fault>
     requires well_formed { IsWellFormed (world_view seen.old) }
     requires there { IsSome (mount_at seen.old.forest.mounts id) }
     ensures row { IfOk result (λ row. row ≡ row_of (world_view seen.old) (mount_or_unknown (world_view seen.old) id)) }
@@ -180,7 +179,7 @@ pub fn row_seen(seen: &mut SeenGroups<'_>, id: MountId) -> Result<Row, Fault>
 }
 
 /// The row of a mount of the world.
-fn row_of_mount(seen: &mut SeenGroups<'_>, mount: &Mount) -> Result<Row, Fault>
+fn row_of_mount(seen: &mut Findings<'_>, mount: &Mount) -> Result<Row, Fault>
     requires well_formed { IsWellFormed (world_view seen.old) }
     requires there { mount_at seen.old.forest.mounts mount.now.id ≡ Some mount.now }
     ensures row { IfOk result (λ row. row ≡ row_of (world_view seen.old) mount.now) }
@@ -195,7 +194,7 @@ fn row_of_mount(seen: &mut SeenGroups<'_>, mount: &Mount) -> Result<Row, Fault>
         parent: parent_or_itself(mount),
         minor,
         root: path_to(world, mount.root)?,
-        point: mount_point(world, mount.id)?,
+        point: seen.point(mount)?,
         attrs: mount.attrs,
         shared: state.group,
         master: state.master,
@@ -216,23 +215,6 @@ pub(crate) fn parent_or_itself(mount: &Mount) -> MountId
     }
 }
 
-/// Where a mount stands, from the root of its namespace down.
-fn mount_point(world: &World, id: MountId) -> Result<Names, Fault>
-    requires well_formed { IsWellFormed (world_view world.now) }
-    ensures point { IfOk result (λ point. point ≡ mount_point (world_view world.now) id) }
-    ensures memory { IsOkUnless result Fault.NoMemory }
-{
-    let mut above = Vec::new(world.forest.allocator());
-    fill_above(&mut above, &world.forest, id)?;
-    above.reverse();
-    let mut point = Names::root(world.forest.allocator());
-    for mount in &above {
-        point = add_own_names(point, world, *mount)?;
-    }
-    // The copy has no more memory than it needs.
-    point.copy()
-}
-
 /// The path from the root of its filesystem down to a directory.
 fn path_to(world: &World, dir: Dir) -> Result<Names, Fault>
     requires { IsTrue (is_directory world.now.skel dir) }
@@ -242,46 +224,4 @@ fn path_to(world: &World, dir: Dir) -> Result<Names, Fault>
     let root = Names::root(world.forest.allocator());
     let path = world.skel.add_path(root, dir, world.skel.depth(dir))?;
     path.copy()
-}
-
-/// Puts a mount, its parent, and so on into a list, and nothing else. Fails for want of memory alone.
-pub(crate) fn fill_above(
-    above: &mut Vec<MountId>,
-    forest: &Forest,
-    id: MountId,
-) -> Result<(), AllocError>
-    ensures { OnOk result (above.new.items ≡ parents_up forest.now.mounts id) }
-{
-    above.clear();
-    let mut here = id;
-    'steps: for _step in 0..forest.len() {
-        above.push(here)?;
-        let Some(parent) = forest.parent(here) else {
-            return Ok(());
-        };
-        here = parent;
-    }
-    above.push(here)?;
-    Ok(())
-}
-
-/// The mount point of its parent with the names that a mount adds to it. Fails for want of memory alone.
-fn add_own_names(point: Names, world: &World, id: MountId) -> Result<Names, AllocError>
-    requires { IsWellFormed (world_view world.now) }
-    ensures { IfOk result (λ names. names ≡ point ++ own_names (world_view world.now) id) }
-{
-    let Some(mount) = world.forest.get(id) else {
-        return Ok(point);
-    };
-    let Some(place) = mount.place else {
-        return Ok(point);
-    };
-    let Some(parent) = world.forest.get(place.mount) else {
-        return Ok(point);
-    };
-    let below = world.skel.depth(place.dir);
-    let outer = world.skel.depth(parent.root);
-    let count = below.saturating_sub(outer);
-    let names = world.skel.add_path(point, place.dir, count)?;
-    Ok(names)
 }

@@ -5,9 +5,9 @@ use Rattle.mt_propagate.specs.declared.world.World.{World}
 use Rattle.mt_propagate.specs.World.{world_view}
 use Rattle.mt_propagate.specs.FromGroup.{from_group}
 use Rattle.mt_info.specs.declared.row.Row.{Row}
-use Rattle.mt_info.specs.RowLine.{line, tag_words}
+use Rattle.mt_info.specs.RowLine.{line, tag_words, path_text}
 use Rattle.mt_info.specs.Building.{behind, numbers_text, end_text}
-use Rattle.mt_info.specs.Table.{row_of}
+use Rattle.mt_info.specs.Table.{row_of, mount_point}
 use Rattle.mt_info.proofs.FrontLaws.{front_through, front_of_four}
 use Rattle.mt_info.proofs.PrintLaws.{line_appended}
 use Rattle.mt_info.proofs.lines.push_line.Goals as goal
@@ -30,12 +30,13 @@ returns-clause-line c =
     ∙ ap (λ v. c.push_options.new.text.items ++ behind 32 (tag_words r.shared r.master v r.unbindable)) via in
     let kind = c.kind.ensures ∙ ap (λ k. (filesystem w.skel k).kind) minor in
     let source = c.source.ensures ∙ ap (λ k. (filesystem w.skel k).source) minor in
+    let point = c.in_ok-push_point.ensures.text ∙ ap (λ (v : World). c.extend_from_slice.new.self.items ++ path_text (mount_point (world_view v) m.id)) (sym c.world-world.ensures) in
     let end =
     c.in_ok-push_end.ensures.text ∙ ap (λ k. c.push_tags.new.text.items ++ end_text k c.source.result.now) kind
     ∙ ap (λ s. c.push_tags.new.text.items ++ end_text r.kind s) source in
     line_appended r before c.push_numbers.new.text.items c.push_dir.new.text.items c.extend_from_slice.new.self.items c.push_point.new.text.items c.extend_from_slice-2.new.self.items
     c.push_options.new.text.items c.push_tags.new.text.items c.push_end.new.text.items
-    numbers c.in_ok-push_dir.ensures.text c.in_ok-extend_from_slice.ensures.items c.in_ok-push_point.ensures.text c.in_ok-extend_from_slice-2.ensures.items c.in_ok-push_options.ensures.text tags end
+    numbers c.in_ok-push_dir.ensures.text c.in_ok-extend_from_slice.ensures.items point c.in_ok-extend_from_slice-2.ensures.items c.in_ok-push_options.ensures.text tags end
     ∙ ap (λ (v : World). before ++ line (row_of (world_view v) m)) same
 
 pub returns-clause-kept : goal.returns-clause-kept
