@@ -2,7 +2,7 @@
 ghost use Rattle.std.specs.Prelude.{◌≡◌, ◌++◌, Some, IfOk, OnOk, IsOkUnless};
 ghost use Rattle.mt_skel.specs.Front.{IsFront};
 ghost use Rattle.mt_mounts.specs.Forest.{mount_at};
-ghost use Rattle.mt_propagate.specs.World.{world_view};
+ghost use Rattle.mt_propagate.specs.World.{world_view, state_of};
 ghost use Rattle.mt_propagate.specs.FromGroup.{from_group};
 ghost use Rattle.mt_propagate.specs.WellFormed.{IsWellFormed};
 ghost use Rattle.mt_info.specs.RowLine.{path_text};
@@ -10,7 +10,7 @@ ghost use Rattle.mt_info.specs.Table.{mount_point};
 
 use crate::points::{Points, Step};
 use mt_mounts::mount::{Mount, MountId};
-use mt_peers::state::GroupId;
+use mt_peers::state::{GroupId, State};
 use mt_propagate::seen::SeenGroups;
 use mt_propagate::world::World;
 use mt_skel::fault::Fault;
@@ -67,12 +67,21 @@ impl<'a> Findings<'a> {
         self.groups.world()
     }
 
-    /// The group that the tag `propagate_from` of a mount names, if it has one. Refused as `NoMemory` alone.
-    pub(crate) fn from_group(&mut self, id: MountId) -> Result<Option<GroupId>, Fault>
+    /// The group that the tag `propagate_from` of a mount in this state names, if it has one. Refused as `NoMemory`
+    /// alone.
+    pub(crate) fn from_group(
+        &mut self,
+        id: MountId,
+        state: &State,
+    ) -> Result<Option<GroupId>, Fault>
+        requires { state.now ≡ state_of (world_view self.old) id }
         ensures group { IfOk result (λ group. group ≡ from_group (world_view self.old) id) }
         ensures kept { self.new ≡ self.old }
         ensures memory { IsOkUnless result Fault.NoMemory }
     {
+        if state.master.is_none() {
+            return Ok(None);
+        }
         self.groups.from_group(id)
     }
 

@@ -37,7 +37,7 @@ pub fn push_table(text: &mut Vec<u8>, world: &World, space: SpaceId) -> Result<(
     let mut seen = Findings::new(world);
     'mounts: for mount in &mounts {
         push_line(text, &mut seen, mount)?;
-        text.extend_from_slice(b"\n")?;
+        text.push(b'\n')?;
     }
     Ok(())
 }
@@ -51,15 +51,15 @@ fn push_line(text: &mut Vec<u8>, seen: &mut Findings<'_>, mount: &Mount) -> Resu
     ensures seen { seen.new ≡ seen.old }
     ensures memory { IsOkUnless result Fault.NoMemory }
 {
-    let via = seen.from_group(mount.id)?;
     let world = seen.world();
     let minor = world.skel.fs_of(mount.root);
     let state = state_of(world, mount.id);
+    let via = seen.from_group(mount.id, &state)?;
     push_numbers(text, mount.id, parent_or_itself(mount), minor)?;
     push_dir(text, &world.skel, mount.root)?;
-    text.extend_from_slice(b" ")?;
+    text.push(b' ')?;
     seen.push_point(text, mount)?;
-    text.extend_from_slice(b" ")?;
+    text.push(b' ')?;
     push_options(text, &mount.attrs)?;
     push_tags(text, b' ', state.group, state.master, via, state.unbindable)?;
     push_end(text, world.skel.kind(minor), world.skel.source(minor))?;

@@ -198,7 +198,7 @@ fn row_of_mount(seen: &mut Findings<'_>, mount: &Mount) -> Result<Row, Fault>
         attrs: mount.attrs,
         shared: state.group,
         master: state.master,
-        via: seen.from_group(mount.id)?,
+        via: seen.from_group(mount.id, &state)?,
         unbindable: state.unbindable,
         kind: world.skel.kind(minor).copy()?,
         source: world.skel.source(minor).copy()?,

@@ -18,7 +18,7 @@ returns-clause-line c =
     let w = c.world-world.result.now in
     let r : Row = row_of (world_view w) m in
     let before = c.args.text.now.items in
-    let same = c.world-world.ensures ∙ c.in_ok-via.ensures.kept in
+    let same = c.world-world.ensures in
     let minor = c.fs_of-minor.ensures.fs in
     let via = c.in_ok-via.ensures.group ∙ ap (λ (v : World). from_group (world_view v) m.id) (sym same) in
     let numbers =
@@ -30,13 +30,13 @@ returns-clause-line c =
     ∙ ap (λ v. c.push_options.new.text.items ++ behind 32 (tag_words r.shared r.master v r.unbindable)) via in
     let kind = c.kind.ensures ∙ ap (λ k. (filesystem w.skel k).kind) minor in
     let source = c.source.ensures ∙ ap (λ k. (filesystem w.skel k).source) minor in
-    let point = c.in_ok-push_point.ensures.text ∙ ap (λ (v : World). c.extend_from_slice.new.self.items ++ path_text (mount_point (world_view v) m.id)) (sym c.world-world.ensures) in
+    let point = c.in_ok-push_point.ensures.text ∙ ap (λ (v : World). c.push.new.self.items ++ path_text (mount_point (world_view v) m.id)) (c.in_ok-via.ensures.kept ∙ sym same) in
     let end =
     c.in_ok-push_end.ensures.text ∙ ap (λ k. c.push_tags.new.text.items ++ end_text k c.source.result.now) kind
     ∙ ap (λ s. c.push_tags.new.text.items ++ end_text r.kind s) source in
-    line_appended r before c.push_numbers.new.text.items c.push_dir.new.text.items c.extend_from_slice.new.self.items c.push_point.new.text.items c.extend_from_slice-2.new.self.items
+    line_appended r before c.push_numbers.new.text.items c.push_dir.new.text.items c.push.new.self.items c.push_point.new.text.items c.push-2.new.self.items
     c.push_options.new.text.items c.push_tags.new.text.items c.push_end.new.text.items
-    numbers c.in_ok-push_dir.ensures.text c.in_ok-extend_from_slice.ensures.items point c.in_ok-extend_from_slice-2.ensures.items c.in_ok-push_options.ensures.text tags end
+    numbers c.in_ok-push_dir.ensures.text c.in_ok-push.ensures.items point c.in_ok-push-2.ensures.items c.in_ok-push_options.ensures.text tags end
     ∙ ap (λ (v : World). before ++ line (row_of (world_view v) m)) same
 
 pub returns-clause-kept : goal.returns-clause-kept
@@ -44,10 +44,10 @@ returns-clause-kept c = (_, returns-clause-line c)
 
 pub returns-in_err-push_tags-clause-kept : goal.returns-in_err-push_tags-clause-kept
 returns-in_err-push_tags-clause-kept c =
-    front_through _ _ _ (front_of_four _ _ _ _ _ c.push_numbers.ensures.kept c.push_dir.ensures.kept (_, c.in_ok-extend_from_slice.ensures.items) c.push_point.ensures.kept)
-    (front_through _ _ _ (_, c.in_ok-extend_from_slice-2.ensures.items) (front_through _ _ _ c.push_options.ensures.kept c.push_tags.ensures.kept))
+    front_through _ _ _ (front_of_four _ _ _ _ _ c.push_numbers.ensures.kept c.push_dir.ensures.kept (_, c.in_ok-push.ensures.items) c.push_point.ensures.kept)
+    (front_through _ _ _ (_, c.in_ok-push-2.ensures.items) (front_through _ _ _ c.push_options.ensures.kept c.push_tags.ensures.kept))
 
 pub returns-in_err-push_end-clause-kept : goal.returns-in_err-push_end-clause-kept
 returns-in_err-push_end-clause-kept c =
-    front_through _ _ _ (front_of_four _ _ _ _ _ c.push_numbers.ensures.kept c.push_dir.ensures.kept (_, c.in_ok-extend_from_slice.ensures.items) c.push_point.ensures.kept)
-    (front_of_four _ _ _ _ _ (_, c.in_ok-extend_from_slice-2.ensures.items) c.push_options.ensures.kept c.push_tags.ensures.kept c.push_end.ensures.kept)
+    front_through _ _ _ (front_of_four _ _ _ _ _ c.push_numbers.ensures.kept c.push_dir.ensures.kept (_, c.in_ok-push.ensures.items) c.push_point.ensures.kept)
+    (front_of_four _ _ _ _ _ (_, c.in_ok-push-2.ensures.items) c.push_options.ensures.kept c.push_tags.ensures.kept c.push_end.ensures.kept)

@@ -17,6 +17,6 @@ push_line-requires-clause-there c =
 pub mounts-preserved : goal.mounts-preserved
 mounts-preserved c = record {
   lines = grind (arith, common_steps);
-  kept = front_through _ _ _ c.mounts.invariant.kept (front_through _ _ _ c.push_line.ensures.kept (_, c.in_ok-extend_from_slice.ensures.items));
+  kept = front_through _ _ _ c.mounts.invariant.kept (front_through _ _ _ c.push_line.ensures.kept (_, c.in_ok-push.ensures.items));
   same = search rules;
 }
