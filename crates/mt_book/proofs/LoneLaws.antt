@@ -1,15 +1,16 @@
 -- What changes where all mounts touched were, and are, in one namespace.
-use Rattle.std.proofs.Common.{◌≡◌, ℕ, true, List, [], ◌∷◌, ◌++◌, Option, Some, None, refl, sym, ap, ◌∙◌, append-nil}
-use Rattle.std.specs.List.{filter}
+use Rattle.std.proofs.Common.{◌≡◌, ◌==◌, ◌||◌, ◌<◌, length, arith, ℕ, eqb-true, Bool, true, false, List, [], ◌∷◌, ◌++◌, Option, Some, None, refl, sym, ap, ◌∙◌, append-nil}
+use Rattle.std.specs.List.{filter, list_all}
 use Rattle.std.specs.Option.{option_map, option_to_list, unwrap_or}
 use Rattle.mt_skel.specs.Keyed.{row_at, rises, among}
 use Rattle.mt_skel.proofs.KeyedLaws.{row_at-key}
-use Rattle.mt_propagate.specs.World.{WorldView}
+use Rattle.mt_propagate.specs.World.{WorldView, space_of}
+use Rattle.mt_skel.proofs.MiddleLaws.{and_first, and_second}
 use Rattle.mt_propagate.specs.WellFormed.{IsWellFormed}
 use Rattle.mt_info.specs.Table.{table_of}
 use Rattle.mt_events.specs.Difference.{HoldsChanged}
 use Rattle.mt_book.specs.Book.{space_in, number_in, next_number, next_post, counted, posted}
-use Rattle.mt_book.specs.Parts.{is_touched, merged}
+use Rattle.mt_book.specs.Parts.{is_part, is_touched, stays_in, merged}
 use Rattle.mt_book.proofs.ChangedLaws.{is_in, next_row, all_numbers, all_posts}
 
 none_in : (rs : List (ℕ × ℕ)) → filter (is_in []) rs ≡ []
@@ -46,3 +47,37 @@ module _ (w v : WorldView) (ids : List ℕ) (s : ℕ) (h : IsWellFormed w) (g : 
   lone_posts rs row up at =
       all_posts w v ids (s ∷ []) h g held touched rs ∙ ap (posted w v) (one_in s rs up ∙ ap option_to_list at) ∙ append-nil (option_to_list (next_post w v (space_in row) (number_in row)))
       ∙ ap (λ (n : ℕ). option_to_list (next_post w v n (number_in row))) (row_at-key space_in s rs row at)
+
+-- it is the only one of mounts that stay in it
+or_none : (b : Bool) → (b || false) ≡ b
+or_none true = refl
+or_none false = refl
+
+or_twice : (a b : Bool) → (a || ((a || a) || b)) ≡ (a || b)
+or_twice true b = refl
+or_twice false b = refl
+
+or_first : (a b : Bool) → ((a || a) || b) ≡ (a || b)
+or_first true b = refl
+or_first false b = refl
+
+module _ (w v : WorldView) (s n : ℕ) where
+  both_in : (i : ℕ) → space_of w i ≡ s → space_of v i ≡ s → is_part w v n i ≡ ((s == n) || (s == n))
+  both_in i before after = ap (λ k. (k == n) || (space_of v i == n)) before ∙ ap (λ k. (s == n) || (k == n)) after
+
+  more_in : (ids : List ℕ) → list_all (stays_in w v s) ids ≡ true → ((s == n) || is_touched w v ids n) ≡ (s == n)
+  more_in [] all = or_none (s == n)
+  more_in (i ∷ ids) all =
+      let here : stays_in w v s i ≡ true = and_first _ _ all in
+      let before : space_of w i ≡ s = eqb-true (space_of w i) s (and_first _ _ here) in
+      let after : space_of v i ≡ s = eqb-true (space_of v i) s (and_second (space_of w i == s) _ here) in
+      ap (λ b. (s == n) || (b || is_touched w v ids n)) (both_in i before after) ∙ or_twice (s == n) (is_touched w v ids n) ∙ more_in ids (and_second (stays_in w v s i) _ all)
+
+  pub lone_of : (ids : List ℕ) → 0 < length ids → list_all (stays_in w v s) ids ≡ true → among (s ∷ []) n ≡ is_touched w v ids n
+  lone_of [] some all = absurd (omega (arith, some))
+  lone_of (i ∷ ids) some all =
+      let here : stays_in w v s i ≡ true = and_first _ _ all in
+      let before : space_of w i ≡ s = eqb-true (space_of w i) s (and_first _ _ here) in
+      let after : space_of v i ≡ s = eqb-true (space_of v i) s (and_second (space_of w i == s) _ here) in
+      or_none (s == n) ∙ sym (more_in ids (and_second (stays_in w v s i) _ all)) ∙ sym (or_first (s == n) (is_touched w v ids n))
+      ∙ sym (ap (λ b. b || is_touched w v ids n) (both_in i before after))

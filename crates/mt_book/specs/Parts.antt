@@ -1,6 +1,6 @@
 -- Mounts by the namespaces that they are in. No public clause cites this module.
 -- A word with no source is this project's rule.
-use Rattle.std.specs.Prelude.{ℕ, Bool, false, ◌||◌, ◌==◌, List, [], Option, Some, None, slice_index_or}
+use Rattle.std.specs.Prelude.{ℕ, Bool, false, ◌&&◌, ◌||◌, ◌==◌, List, [], Option, Some, None, slice_index_or}
 use Rattle.std.specs.List.{list_any}
 use Rattle.std.specs.Option.{option_map, unwrap_or}
 use Rattle.mt_skel.specs.Keyed.{row_at}
@@ -14,6 +14,10 @@ is_part w v n i = (space_of w i == n) || (space_of v i == n)
 -- one of these mounts is in a namespace before or after
 abbrev pub is_touched : WorldView → WorldView → List ℕ → ℕ → Bool
 is_touched w v ids n = list_any (is_part w v n) ids
+
+-- a mount is in a namespace before and after
+abbrev pub stays_in : WorldView → WorldView → ℕ → ℕ → Bool
+stays_in w v n i = (space_of w i == n) && (space_of v i == n)
 
 -- one of some lists of mounts
 abbrev pub part_at : List (List ℕ) → ℕ → List ℕ
