@@ -2,15 +2,6 @@
 use Rattle.std.proofs.Common.{◌≡◌, ℕ, List, [], ◌++◌, Option, ap, ◌∙◌, append_assoc}
 use Rattle.mt_import.specs.Options.{flags, times_of, with_flags, with_times, with_kind, options_text}
 
--- what six appended is one text
-six : (old a b c d e f : List ℕ) → (((((old ++ a) ++ b) ++ c) ++ d) ++ e) ++ f ≡ old ++ (((((a ++ b) ++ c) ++ d) ++ e) ++ f)
-six old a b c d e f = simp append_assoc
-
-pub six_pushed : (s0 s1 s2 s3 s4 s5 s6 a b c d e f : List ℕ) → s1 ≡ s0 ++ a → s2 ≡ s1 ++ b → s3 ≡ s2 ++ c → s4 ≡ s3 ++ d → s5 ≡ s4 ++ e
-    → s6 ≡ s5 ++ f → s6 ≡ s0 ++ (((((a ++ b) ++ c) ++ d) ++ e) ++ f)
-six_pushed s0 s1 s2 s3 s4 s5 s6 a b c d e f e1 e2 e3 e4 e5 e6 =
-    e6 ∙ ap (λ s. s ++ f) (e5 ∙ ap (λ s. s ++ e) (e4 ∙ ap (λ s. s ++ d) (e3 ∙ ap (λ s. s ++ c) (e2 ∙ ap (λ s. s ++ b) e1)))) ∙ six s0 a b c d e f
-
 -- the words of options, appended part by part
 pub options_joined : (options : List ℕ) (kind : Option (List ℕ)) (t0 t1 t2 t3 : List ℕ) → t0 ≡ [] → t1 ≡ with_flags options t0 flags
     → t2 ≡ with_times (times_of options) t1 → t3 ≡ with_kind kind t2 → t3 ≡ options_text options kind

@@ -9,8 +9,8 @@ use Rattle.mt_skel.proofs.CountLaws.{count-append}
 use Rattle.mt_import.specs.declared.mount.Mount.{Mount}
 use Rattle.mt_import.specs.declared.mount.Turn.{Turn}
 use Rattle.mt_import.specs.declared.mount.Turn.TheVariants.{Base, Begin, End}
-use Rattle.mt_import.specs.declared.verdict.Verdict.{Verdict}
-use Rattle.mt_import.specs.declared.verdict.Verdict.TheVariants.{Waits, Made, Left}
+use Rattle.mt_import.specs.declared.mount.Verdict.{Verdict}
+use Rattle.mt_import.specs.declared.mount.Verdict.TheVariants.{Waits, Made, Left}
 use Rattle.mt_import.specs.declared.growth.Waiting.{Waiting}
 use Rattle.mt_import.specs.declared.growth.Waiting.TheVariants.{End as Ends}
 use Rattle.mt_import.specs.declared.placing.Placed.{Placed}

@@ -1,20 +1,7 @@
 -- The commands that the script is made of.
 -- A word with no source is this project's rule.
-use Rattle.std.specs.Prelude.{ℕ, List, [], ◌∷◌, ◌==◌, take, drop, position, Option, Some, None, codes}
-use Rattle.std.specs.List.{join_with_byte}
+use Rattle.std.specs.Prelude.{ℕ, List, [], ◌∷◌, codes}
 use Rattle.mt_import.specs.Script.{command_text}
-
--- a filesystem is made
-unfoldable pub mkfs_line : List ℕ → List ℕ → List ℕ → List ℕ
-mkfs_line device kind source = join_with_byte 32 (codes "mkfs" ∷ device ∷ kind ∷ source ∷ [])
-
--- a directory, behind its filesystem, is made
-abbrev pub mkdir_at : List ℕ → Option ℕ → List ℕ
-mkdir_at text None = []
-mkdir_at text (Some end) = command_text (codes "mkdir" ∷ take end text ∷ drop end text ∷ [])
-
-abbrev pub mkdir_text : List ℕ → List ℕ
-mkdir_text text = mkdir_at text (position (λ b. b == 47) text)
 
 -- a filesystem is mounted in a namespace
 abbrev pub mount_text : List ℕ → List ℕ → List ℕ → List ℕ

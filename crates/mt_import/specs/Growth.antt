@@ -7,8 +7,8 @@ use Rattle.mt_import.specs.declared.growth.Waiting.{Waiting}
 use Rattle.mt_import.specs.declared.growth.Waiting.TheVariants.{Row, End}
 use Rattle.mt_import.specs.declared.placing.Placed.{Placed}
 use Rattle.mt_import.specs.declared.placing.Placed.TheVariants.{There, Left}
-use Rattle.mt_import.specs.declared.verdict.Verdict.{Verdict}
-use Rattle.mt_import.specs.declared.verdict.Verdict.TheVariants.{Waits}
+use Rattle.mt_import.specs.declared.mount.Verdict.{Verdict}
+use Rattle.mt_import.specs.declared.mount.Verdict.TheVariants.{Waits}
 use Rattle.mt_import.specs.Placing.{IsPlacedOn}
 use Rattle.mt_import.specs.Reading.{ToldMount}
 use Rattle.mt_import.specs.Tree.{IsMakingOrder}

@@ -4,7 +4,6 @@ pub mod Script
 pub mod Paths
 pub mod Commands
 pub mod Options
-pub mod Sources
 pub mod Groups
 pub mod Slots
 pub mod Hook

@@ -1,7 +1,7 @@
 -- What the lines of a script are.
 -- A word with no source is this project's rule.
 use Rattle.std.specs.Prelude.{◌≡◌, ℕ, Bool, true, false, not, ◌==◌, ◌&&◌, ◌||◌, nat_eq, cond, IsTrue, List, [], ◌∷◌, ◌++◌, Option, Some, None, Result, Ok, codes, decimal, take}
-use Rattle.std.specs.List.{list_all, starts_with, ends_with, flat_map, join_with_byte}
+use Rattle.std.specs.List.{list_all, starts_with, flat_map, join_with_byte}
 use Rattle.mt_skel.specs.declared.fault.Fault.{Fault}
 use Rattle.mt_requests.specs.declared.request.Request.{Request}
 use Rattle.mt_requests.specs.declared.request.Request.TheVariants as request
@@ -49,11 +49,6 @@ comment_text table row text =
 unfoldable pub options_comment : ℕ → ToldMount → List ℕ
 options_comment table row = cond (are_known row.options) [] (comment_text table row (codes "has options that are left out"))
 
--- the comment on the first mount of a filesystem that has more super options than `rw`, if it is one (proc_pid_mountinfo(5),
--- field 11, the last word of a line)
-unfoldable pub super_comment : ℕ → ToldMount → List ℕ
-super_comment table row = cond (ends_with nat_eq row.line (codes " rw")) [] (comment_text table row (codes "has super options that are left out"))
-
 -- why a mount is not made
 abbrev pub reason_text : Reason → List ℕ
 reason_text SameTable = codes "its table is told before"
@@ -85,10 +80,6 @@ abbrev pub mount_comment : ℕ → ToldMount → Option Reason → List ℕ
 mount_comment table row None = options_comment table row
 mount_comment table row (Some why) = left_out_text table row why
 
--- which number a peer group of the tables has here, and which filesystem stands for a device
-unfoldable pub group_comment : List ℕ → ℕ → List ℕ
-group_comment group here = line_text (flat_map (λ x. x) (codes "# shared:" ∷ group ∷ codes " of the tables is shared:" ∷ decimal here ∷ []))
-
 -- which group a mount comes into that is alone in it
 unfoldable pub next_comment : ℕ → List ℕ
 next_comment group = line_text (flat_map (λ x. x) (codes "# the next line makes shared:" ∷ decimal group ∷ codes " of the tables" ∷ []))
@@ -97,16 +88,10 @@ abbrev pub alone_comment : Option ℕ → List ℕ
 alone_comment None = []
 alone_comment (Some group) = next_comment group
 
-unfoldable pub device_comment : List ℕ → ℕ → List ℕ
-device_comment device here = line_text (flat_map (λ x. x) (codes "# " ∷ device ∷ codes " is filesystem " ∷ decimal here ∷ []))
-
 -- of which table none is made
 unfoldable pub rootless_comment : ℕ → List ℕ
 rootless_comment table = line_text (flat_map (λ x. x) (codes "# table " ∷ decimal table ∷ codes " has no root mount" ∷ []))
 
--- of which table a namespace is made, and which one keeps masters
+-- of which table a namespace is made
 unfoldable pub space_comment : ℕ → List ℕ → List ℕ
 space_comment table space = line_text (flat_map (λ x. x) (codes "# table " ∷ decimal table ∷ codes " is namespace " ∷ space ∷ []))
-
-unfoldable pub keeper_comment : List ℕ → List ℕ
-keeper_comment space = line_text (flat_map (λ x. x) (codes "# namespace " ∷ space ∷ codes " keeps masters of which no table has a mount" ∷ []))

@@ -9,7 +9,7 @@ use Rattle.mt_import.specs.declared.mount.Mount.{Mount}
 use Rattle.mt_import.specs.declared.reason.Reason.{Reason}
 use Rattle.mt_import.specs.declared.space.Space.{Space}
 use Rattle.mt_import.specs.Commands.{copy_text}
-use Rattle.mt_import.specs.Covers.{raise_text, lower_text, finish_text}
+use Rattle.mt_import.specs.Covers.{raised, lowered, finished}
 use Rattle.mt_import.specs.Script.{space_comment}
 use Rattle.mt_import.specs.Slots.{stage}
 use Rattle.mt_import.specs.Telling.{is_shown}
@@ -26,22 +26,11 @@ abbrev pub is_cover : List (Option Reason) → ℕ → Mount → Bool
 is_cover left number mount = mount.is_base && nat_lt 0 mount.base && is_made left number
 
 -- each of them becomes the root of its namespace, and is put back, the last one first
-abbrev pub raised : BTreeMap ℕ Group → List ℕ → List Mount → ℕ → List ℕ
-raised groups space mounts number = option_map_or (raise_text groups space) (slice_get mounts number) []
-
-abbrev pub lowered : BTreeMap ℕ Group → List ℕ → List Mount → ℕ → List ℕ
-lowered groups space mounts number = option_map_or (lower_text groups space) (slice_get mounts number) []
-
 abbrev pub covers : Space → List ℕ
 covers of = numbers_where (is_cover of.left.items) 0 of.tree.mounts
 
 unfoldable pub covers_text : BTreeMap ℕ Group → List ℕ → Space → List ℕ
 covers_text groups space of = flat_map (raised groups space of.tree.mounts) (covers of) ++ flat_map (lowered groups space of.tree.mounts) (reverse (covers of))
-
--- what is staged goes, once all stands
-abbrev pub finished : BTreeMap ℕ Group → List ℕ → List Mount → List ℕ
-finished groups space [] = []
-finished groups space (root ∷ mounts) = finish_text groups space stage root
 
 -- the mounts of a table are made, one after another, in the namespace of a number
 abbrev pub turns_text : BTreeMap ℕ Group → List ℕ → Space → List ℕ
@@ -49,7 +38,7 @@ turns_text groups space of = flat_map (turn_text groups space stage of.tree.moun
 
 abbrev pub mounts_made : BTreeMap ℕ Group → List ℕ → Space → List ℕ
 mounts_made groups space of =
-    (turns_text groups space of ++ covers_text groups space of) ++ finished groups space of.tree.mounts
+    (turns_text groups space of ++ covers_text groups space of) ++ finished groups space stage of.tree.mounts
 
 -- in a copy of the first namespace, but for that itself
 abbrev pub copied_if : Bool → List ℕ

@@ -5,8 +5,8 @@ use Rattle.mt_import.specs.declared.mount.Mount.{Mount}
 use Rattle.mt_import.specs.declared.reason.Reason.{Reason}
 use Rattle.mt_import.specs.declared.reason.Reason.TheVariants.{Ring, NoRoom}
 use Rattle.mt_import.specs.declared.space.Space.{Space}
-use Rattle.mt_import.specs.declared.verdict.Verdict.{Verdict}
-use Rattle.mt_import.specs.declared.verdict.Verdict.TheVariants.{Waits, Made, Left}
+use Rattle.mt_import.specs.declared.mount.Verdict.{Verdict}
+use Rattle.mt_import.specs.declared.mount.Verdict.TheVariants.{Waits, Made, Left}
 use Rattle.mt_import.specs.Reading.{ToldMount}
 use Rattle.mt_import.specs.Script.{left_row_text, mount_comment, rootless_comment}
 use Rattle.mt_import.specs.Tree.{is_made, IsMakingOrder}
@@ -23,11 +23,8 @@ rows_text table [] verdicts = []
 rows_text table (row ∷ rows) [] = left_row_text table row (Some Ring) ++ rows_text table rows []
 rows_text table (row ∷ rows) (verdict ∷ verdicts) = left_row_text table row (why_of verdict) ++ rows_text table rows verdicts
 
--- of all tables
-abbrev pub tables_text : List (List ToldMount) → List Space → List ℕ
-tables_text [] spaces = []
-tables_text (rows ∷ tables) [] = rows_text 0 rows [] ++ tables_text tables []
-tables_text (rows ∷ tables) (space ∷ spaces) = rows_text space.tree.table rows space.tree.verdicts ++ tables_text tables spaces
+abbrev pub tree_rows : Space → List ℕ
+tree_rows space = rows_text space.tree.table space.tree.rows space.tree.verdicts
 
 -- the mounts of a table that are left out are told, and those with options that no mount has here
 abbrev pub mounts_text : ℕ → List Mount → List (Option Reason) → List ℕ

@@ -9,8 +9,8 @@ use Rattle.mt_import.specs.declared.mount.Turn.TheVariants.{Base, Begin, End}
 use Rattle.mt_import.specs.declared.reason.Reason.{Reason}
 use Rattle.mt_import.specs.Placing.{IsPlacedOn}
 use Rattle.mt_import.specs.Reading.{ToldMount}
-use Rattle.mt_import.specs.declared.verdict.Verdict.{Verdict}
-use Rattle.mt_import.specs.declared.verdict.Verdict.TheVariants.{Made}
+use Rattle.mt_import.specs.declared.mount.Verdict.{Verdict}
+use Rattle.mt_import.specs.declared.mount.Verdict.TheVariants.{Made}
 
 -- whether no reason is known why the mount of a number is left out
 abbrev pub is_none : Option (Option Reason) → Bool

@@ -7,18 +7,34 @@ use crate::agreement::why_groupless;
 use crate::groups::Groups;
 use crate::mount::Mount;
 use crate::reason::Reason;
+use crate::told::HostMount;
 use crate::tree::Tree;
 use std::alloc::{AllocError, Global};
 
-/// Why mounts of a tree are left out, by their numbers in its order.
+/// Why mounts of a tree are left out, by their numbers in its order: no other mount is made than those that have none.
 pub(crate) type Left = Vec<Option<Reason>>;
+
+/// A mount that is made.
+#[derive(Clone, Copy)]
+pub(crate) struct Made<'t, 'a> {
+    /// The number of its table.
+    pub(crate) table: usize,
+    /// Its row.
+    pub(crate) row: &'a HostMount,
+    /// The mount.
+    pub(crate) mount: &'t Mount<'a>,
+    /// What it stands on, the root mount on itself.
+    pub(crate) below: &'t Mount<'a>,
+}
 
 /// Which mounts are made, and in which peer groups they are.
 #[derive(Drop)]
-pub(crate) struct Choice<'a> {
+pub(crate) struct Choice<'t, 'a> {
     /// Why mounts are left out, one list for each tree.
     pub(crate) left: Vec<Left>,
-    /// The peer groups of those that are made.
+    /// Those that are made, in the order of the trees.
+    pub(crate) made: Vec<Made<'t, 'a>>,
+    /// Their peer groups.
     pub(crate) groups: Groups<'a>,
 }
 
@@ -30,91 +46,72 @@ pub(crate) fn is_made(left: &[Option<Reason>], number: usize) -> bool
     matches!(left.get(number), Some(None))
 }
 
-/// The mounts of a tree, of which only so many are made. Fails for want of memory alone.
-fn first_of(alloc: Global, count: usize, most: usize) -> Result<Left, AllocError> {
+/// That so many mounts are made. Fails for want of memory alone.
+fn all_of(alloc: Global, count: usize) -> Result<Left, AllocError> {
     let mut left = Vec::new(alloc);
-    for number in 0..count {
-        left.push(if number < most {
-            None
-        } else {
-            Some(Reason::NoRoom)
-        })?;
+    for _mount in 0..count {
+        left.push(None)?;
     }
     Ok(left)
 }
 
-/// The mounts of all trees, of which only so many are made. Fails for want of memory alone.
-fn first_of_all(alloc: Global, trees: &[Tree<'_>], most: usize) -> Result<Vec<Left>, AllocError> {
+/// That so many mounts of the trees are made, from the first. Fails for want of memory alone.
+fn first_of(alloc: Global, trees: &[Tree<'_>], most: usize) -> Result<Vec<Left>, AllocError> {
     let mut all = Vec::new(alloc);
     let mut room = most;
     for tree in trees {
-        let count = tree.mounts().len();
-        all.push(first_of(alloc, count, room)?)?;
+        let count = tree.mounts().len().min(room);
+        all.push(all_of(alloc, count)?)?;
         room = room.saturating_sub(count);
     }
     Ok(all)
 }
 
-/// Adds the peer groups of the mounts of a tree that are made. Fails for want of memory alone.
-fn add_tree<'a>(
-    groups: &mut Groups<'a>,
-    tree: &Tree<'a>,
+/// Adds the mounts of a tree that are made. Fails for want of memory alone.
+fn add_made<'t, 'a>(
+    all: &mut Vec<Made<'t, 'a>>,
+    tree: &'t Tree<'a>,
     left: &[Option<Reason>],
 ) -> Result<(), AllocError> {
-    for (number, mount) in tree.mounts().iter().enumerate() {
-        if is_made(left, number) {
-            groups.add(mount.row, tree.table())?;
+    let mounts = tree.mounts();
+    for (number, mount) in mounts.iter().enumerate() {
+        if let (true, Some(below)) = (is_made(left, number), mounts.get(mount.above)) {
+            all.push(Made {
+                table: tree.table(),
+                row: mount.row,
+                mount,
+                below,
+            })?;
         }
     }
     Ok(())
 }
 
-/// The mount on whose root another one stands, elsewhere than at the root of the namespace.
-fn covered<'m, 'a>(
-    mounts: &'m [Mount<'a>],
-    mount: &Mount<'a>,
-    number: usize,
-) -> Option<&'m Mount<'a>> {
-    if mount.lowest == number || mount.is_base {
-        return None;
-    }
-    mounts.get(mount.above)
-}
-
-/// Has members of the groups staged that mounts of a tree are in on whose root another one stands. Fails for want of memory
-/// alone.
-fn stage_covered(
-    groups: &mut Groups<'_>,
-    tree: &Tree<'_>,
-    left: &[Option<Reason>],
-) -> Result<(), AllocError> {
-    for (number, mount) in tree.mounts().iter().enumerate() {
-        if !is_made(left, number) {
-            continue;
-        }
-        let Some(parent) = covered(tree.mounts(), mount, number) else {
-            continue;
-        };
-        let row = parent.row;
-        if let Some(group) = row.shared {
-            groups.stage(group)?;
-        }
-    }
-    Ok(())
-}
-
-/// The peer groups of the mounts that are made. Fails for want of memory alone.
-fn groups_of<'a>(
+/// The mounts of the trees that are made. Fails for want of memory alone.
+fn made_of<'t, 'a>(
     alloc: Global,
-    trees: &[Tree<'a>],
+    trees: &'t [Tree<'a>],
     left: &[Left],
-) -> Result<Groups<'a>, AllocError> {
+) -> Result<Vec<Made<'t, 'a>>, AllocError> {
+    let mut all = Vec::new(alloc);
+    for (tree, left) in trees.iter().zip(left) {
+        add_made(&mut all, tree, left.as_slice())?;
+    }
+    Ok(all)
+}
+
+/// The peer groups of mounts. A member is staged of one in which a mount is on whose root another one stands, elsewhere than
+/// at the root of the namespace. Fails for want of memory alone.
+fn groups_of<'a>(alloc: Global, made: &[Made<'_, 'a>]) -> Result<Groups<'a>, AllocError> {
     let mut groups = Groups::new(alloc);
-    let mut others = left.iter();
-    for tree in trees {
-        if let Some(left) = others.next() {
-            add_tree(&mut groups, tree, left.as_slice())?;
-            stage_covered(&mut groups, tree, left.as_slice())?;
+    for made in made {
+        groups.add(made.row, made.table)?;
+    }
+    for made in made {
+        let (mount, lower) = (made.mount, made.below);
+        let row = lower.row;
+        if let (true, Some(group)) = (mount.stands_on_root(lower), row.shared) {
+            groups.stage(group);
         }
     }
     groups.settle(alloc)?;
@@ -174,43 +171,29 @@ fn judge_all(
     left: &[Left],
 ) -> Result<Vec<Left>, AllocError> {
     let mut all = Vec::new(alloc);
-    let mut others = left.iter();
-    for tree in trees {
-        let judged = match others.next() {
-            Some(left) => judge_tree(alloc, groups, tree, left.as_slice())?,
-            None => Vec::new(alloc),
-        };
-        all.push(judged)?;
+    for (tree, left) in trees.iter().zip(left) {
+        all.push(judge_tree(alloc, groups, tree, left.as_slice())?)?;
     }
     Ok(all)
 }
 
-/// How many mounts are made.
-pub(crate) fn made_count(left: &[Left]) -> usize {
-    let mut count = 0_usize;
-    for tree in left {
-        let made = tree.iter().filter(|why| why.is_none()).count();
-        count = count.saturating_add(made);
-    }
-    count
-}
-
 /// Which mounts are made, of so many from the first: as many as agree. Fails for want of memory alone.
-pub(crate) fn choose<'a>(
+pub(crate) fn choose<'t, 'a>(
     alloc: Global,
-    trees: &[Tree<'a>],
+    trees: &'t [Tree<'a>],
     most: usize,
-) -> Result<Choice<'a>, AllocError> {
-    let mut left = first_of_all(alloc, trees, most)?;
-    let mut groups = groups_of(alloc, trees, left.as_slice())?;
+) -> Result<Choice<'t, 'a>, AllocError> {
+    let mut left = first_of(alloc, trees, most)?;
+    let mut made = made_of(alloc, trees, left.as_slice())?;
+    let mut groups = groups_of(alloc, made.as_slice())?;
     for _round in 0..=most {
-        let judged = judge_all(alloc, &groups, trees, left.as_slice())?;
-        let is_settled = made_count(judged.as_slice()) == made_count(left.as_slice());
-        left = judged;
-        if is_settled {
+        let count = made.len();
+        left = judge_all(alloc, &groups, trees, left.as_slice())?;
+        made = made_of(alloc, trees, left.as_slice())?;
+        if made.len() == count {
             break;
         }
-        groups = groups_of(alloc, trees, left.as_slice())?;
+        groups = groups_of(alloc, made.as_slice())?;
     }
-    Ok(Choice { left, groups })
+    Ok(Choice { left, made, groups })
 }

@@ -1,250 +1,191 @@
 //! The mounts at the root of a namespace: the root mount, and those that stand on its root, one on the other. No path leads
 //! there, so each one becomes the root of the namespace, and the one before it is put on it, or back.
 
-ghost use Rattle.std.specs.Prelude.{◌≡◌, ◌++◌, is_some, IfOk, OnOk, IsOkUnless};
-ghost use Rattle.mt_import.specs.Covers.{isolated_text, isolated_if, new_root_text, root_text, base_text, shelf_text, raise_from, raise_text, lower_member_text, upper_peer, shelve_text, unshelve_text, lower_in, lower_text, finish_text};
+ghost use Rattle.std.specs.Prelude.{◌≡◌, ◌++◌, is_some, OnOk};
+ghost use Rattle.mt_import.specs.Covers.{isolated_text, root_text, base_text, shelf_text, raise_from, raised, lower_member_text, shelve_text, unshelve_text, lower_in, lowered, finished};
 
-use crate::commands::{PRIVATE, bind, detach, mount_stage, move_mount, pivot, set_kind, unmount};
-use crate::making::{Site, make_bare, share_alone};
+use crate::making::{make_bare, share_alone};
 use crate::mount::Mount;
 use crate::path::{SECOND, STAGE};
-use crate::script::Script;
-use crate::slots::{NEW, NEW_STAGE, PEER, cover_slot, group_path, stage_below};
-use crate::writer::one_behind;
-use mt_skel::fault::Fault;
-use std::alloc::{AllocError, Global};
+use crate::script::{Script, Written};
+use crate::site::{PRIVATE, Site};
+use crate::slots::{NEW, NEW_STAGE, PEER, STAGE_FS, stage_below};
+use crate::writer::{command, one_behind};
 
-/// Has a mount without group stand on one of a group, so that another one can be put on it. Refused as `NoMemory` alone.
+/// Has a mount without group stand on one of a group, so that another one can be put on it.
 fn isolate_stage(
     site: Site<'_, '_>,
     script: &mut Script,
     mount: &Mount<'_>,
     group: u64,
     path: &[u8],
-) -> Result<(), Fault>
-    ensures pushed { OnOk result (script.new ≡ script.old ++ isolated_text site.entry.space.now site.entry.stage.now mount.now group path.now) }
-    ensures memory { IsOkUnless result Fault.NoMemory }
+) -> Written
+    ensures { OnOk result (script.new ≡ script.old ++ isolated_text site.entry.space.now site.entry.stage.now mount.now group path.now) }
 {
     let place = one_behind(site.alloc, mount.root, STAGE)?;
-    let hook = group_path(site.alloc, site.stage, group, place.as_slice())?;
-    mount_stage(site.alloc, script, site.space, hook.as_slice())?;
-    set_kind(site.alloc, script, site.space, path, PRIVATE)?;
+    let hook = site.group_path(group, place.as_slice())?;
+    site.run(script, b"mount", STAGE_FS, hook.as_slice())?;
+    site.run(script, b"setattr", path, PRIVATE)?;
     Ok(())
 }
 
-/// Does this where others get what is mounted on a mount. Refused as `NoMemory` alone.
-fn isolate_if(
-    site: Site<'_, '_>,
-    script: &mut Script,
-    mount: &Mount<'_>,
-    group: Option<u64>,
-    path: &[u8],
-) -> Result<(), Fault>
-    ensures pushed { OnOk result (script.new ≡ script.old ++ isolated_if group site.entry.space.now site.entry.stage.now mount.now path.now) }
-    ensures memory { IsOkUnless result Fault.NoMemory }
-{
-    let Some(group) = group else {
-        return Ok(());
-    };
-    isolate_stage(site, script, mount, group, path)?;
-    Ok(())
-}
-
-/// Makes the root mount, with a place on which what is staged can be put. Refused as `NoMemory` alone.
-#[tactic(auto, unfolding(crate::specs::Covers::new_root_text))]
-fn make_new(site: Site<'_, '_>, script: &mut Script, mount: &Mount<'_>) -> Result<(), Fault>
-    ensures pushed { OnOk result (script.new ≡ script.old ++ new_root_text site.entry.groups.now.all site.entry.space.now site.entry.stage.now mount.now) }
-    ensures memory { IsOkUnless result Fault.NoMemory }
-{
-    let row = mount.row;
-    let group = site.groups.receiving(row.shared);
-    make_bare(site, script, mount, NEW)?;
-    isolate_if(site, script, mount, group, NEW_STAGE)?;
-    Ok(())
-}
-
-/// Makes the root mount, and has it take the place of what is staged at the root of the namespace. Refused as `NoMemory` alone.
-#[tactic(auto, unfolding(crate::specs::Covers::root_text))]
-fn make_root(site: Site<'_, '_>, script: &mut Script, mount: &Mount<'_>) -> Result<(), Fault>
-    ensures pushed { OnOk result (script.new ≡ script.old ++ root_text site.entry.groups.now.all site.entry.space.now site.entry.stage.now mount.now) }
-    ensures memory { IsOkUnless result Fault.NoMemory }
-{
-    make_new(site, script, mount)?;
-    pivot(site.alloc, script, site.space, NEW, NEW_STAGE)?;
-    Ok(())
-}
-
-/// Makes the root mount, or one that comes to the root of the namespace, at a slot. Refused as `NoMemory` alone.
-#[tactic(auto, unfolding(crate::specs::Covers::base_text))]
-pub(crate) fn make_base(
-    site: Site<'_, '_>,
-    script: &mut Script,
-    mount: &Mount<'_>,
-) -> Result<(), Fault>
-    ensures pushed { OnOk result (script.new ≡ script.old ++ base_text site.entry.groups.now.all site.entry.space.now site.entry.stage.now mount.now) }
-    ensures memory { IsOkUnless result Fault.NoMemory }
-{
-    if mount.base == 0 {
-        let site = Site { stage: b"", ..site };
-        make_root(site, script, mount)?;
-        return Ok(());
-    }
-    let slot = cover_slot(site.alloc, mount.base)?;
-    let path = one_behind(site.alloc, site.stage, slot.as_slice())?;
-    make_bare(site, script, mount, path.as_slice())?;
-    Ok(())
-}
-
-/// Makes the place on which the old root is put without group. Refused as `NoMemory` alone.
+/// Makes the place without group on which the old root is put, where others get what is mounted on a mount, or it is shared.
 fn shelve(
     site: Site<'_, '_>,
     script: &mut Script,
     mount: &Mount<'_>,
     group: Option<u64>,
+    is_shared: bool,
     path: &[u8],
-) -> Result<(), Fault>
-    ensures pushed { OnOk result (script.new ≡ script.old ++ shelf_text group (is_some mount.now.row.now.shared) site.entry.space.now site.entry.stage.now mount.now path.now) }
-    ensures memory { IsOkUnless result Fault.NoMemory }
+) -> Written
+    ensures { OnOk result (script.new ≡ script.old ++ shelf_text group is_shared site.entry.space.now site.entry.stage.now mount.now path.now) }
 {
     if let Some(group) = group {
-        isolate_stage(site, script, mount, group, path)?;
-        return Ok(());
+        return isolate_stage(site, script, mount, group, path);
     }
-    let row = mount.row;
-    if row.shared.is_some() {
-        mount_stage(site.alloc, script, site.space, path)?;
-        return Ok(());
+    if is_shared {
+        return site.run(script, b"mount", STAGE_FS, path);
     }
     Ok(())
 }
 
-/// Makes one at a slot the root of the namespace, with the old one below it. Refused as `NoMemory` alone.
-fn raise_from(
-    site: Site<'_, '_>,
-    script: &mut Script,
-    mount: &Mount<'_>,
-    path: &[u8],
-) -> Result<(), Fault>
-    ensures pushed { OnOk result (script.new ≡ script.old ++ raise_from site.entry.groups.now.all site.entry.space.now site.entry.stage.now mount.now path.now) }
-    ensures memory { IsOkUnless result Fault.NoMemory }
+/// Makes the root mount, and has it take the place of what is staged at the root of the namespace.
+#[tactic(auto, unfolding(crate::specs::Covers::root_text))]
+fn make_root(site: Site<'_, '_>, script: &mut Script, mount: &Mount<'_>) -> Written
+    ensures { OnOk result (script.new ≡ script.old ++ root_text site.entry.groups.now.all site.entry.space.now site.entry.stage.now mount.now) }
+{
+    let row = mount.row;
+    let group = site.groups.receiving(row.shared);
+    make_bare(site, script, mount, NEW)?;
+    shelve(site, script, mount, group, false, NEW_STAGE)?;
+    site.run(script, b"pivot", NEW, NEW_STAGE)?;
+    Ok(())
+}
+
+/// Makes the root mount, or one that comes to the root of the namespace, at a slot.
+#[tactic(auto, unfolding(crate::specs::Covers::base_text))]
+pub(crate) fn make_base(site: Site<'_, '_>, script: &mut Script, mount: &Mount<'_>) -> Written
+    ensures { OnOk result (script.new ≡ script.old ++ base_text site.entry.groups.now.all site.entry.space.now site.entry.stage.now mount.now) }
+{
+    if mount.base == 0 {
+        let site = Site { stage: b"", ..site };
+        return make_root(site, script, mount);
+    }
+    let path = site.cover_path(mount.base)?;
+    make_bare(site, script, mount, path.as_slice())
+}
+
+/// Makes one at a slot the root of the namespace, with the old one below it.
+fn raise_from(site: Site<'_, '_>, script: &mut Script, mount: &Mount<'_>, path: &[u8]) -> Written
+    ensures { OnOk result (script.new ≡ script.old ++ raise_from site.entry.groups.now.all site.entry.space.now site.entry.stage.now mount.now path.now) }
 {
     let old = one_behind(site.alloc, path, STAGE)?;
     let row = mount.row;
     let group = site.groups.receiving(row.shared);
-    shelve(site, script, mount, group, old.as_slice())?;
-    pivot(site.alloc, script, site.space, path, old.as_slice())?;
+    let is_shared = row.shared.is_some();
+    shelve(site, script, mount, group, is_shared, old.as_slice())?;
+    site.run(script, b"pivot", path, old.as_slice())?;
     Ok(())
 }
 
-/// Makes one at a slot the root of the namespace, with those below it that were made so before. Refused as `NoMemory` alone.
+/// Makes the mount of a number, at a slot, the root of the namespace, with those below it that were made so before.
 #[tactic(auto, unfolding(crate::specs::Covers::raise_text))]
-pub(crate) fn raise(site: Site<'_, '_>, script: &mut Script, mount: &Mount<'_>) -> Result<(), Fault>
-    ensures pushed { OnOk result (script.new ≡ script.old ++ raise_text site.entry.groups.now.all site.entry.space.now mount.now) }
-    ensures memory { IsOkUnless result Fault.NoMemory }
+pub(crate) fn raise(
+    site: Site<'_, '_>,
+    script: &mut Script,
+    mounts: &[Mount<'_>],
+    number: usize,
+) -> Written
+    ensures { OnOk result (script.new ≡ script.old ++ raised site.entry.groups.now.all site.entry.space.now mounts.now number) }
 {
+    let Some(mount) = mounts.get(number) else {
+        return Ok(());
+    };
     let stage = stage_below(site.alloc, mount.base)?;
-    let slot = cover_slot(site.alloc, mount.base)?;
-    let path = one_behind(site.alloc, stage.as_slice(), slot.as_slice())?;
     let site = Site {
         stage: stage.as_slice(),
         ..site
     };
+    let path = site.cover_path(mount.base)?;
     raise_from(site, script, mount, path.as_slice())?;
     Ok(())
 }
 
-/// Puts a member of a group with others back on the one below it. Refused as `NoMemory` alone.
-fn lower_member(
-    site: Site<'_, '_>,
-    script: &mut Script,
-    mount: &Mount<'_>,
-    group: u64,
-) -> Result<(), Fault>
-    ensures pushed { OnOk result (script.new ≡ script.old ++ lower_member_text site.entry.space.now site.entry.stage.now mount.now group) }
-    ensures memory { IsOkUnless result Fault.NoMemory }
+/// Puts a member of a group with others back on the one below it.
+fn lower_member(site: Site<'_, '_>, script: &mut Script, mount: &Mount<'_>, group: u64) -> Written
+    ensures { OnOk result (script.new ≡ script.old ++ lower_member_text site.entry.space.now site.entry.stage.now mount.now group) }
 {
     let place = one_behind(site.alloc, mount.root, STAGE)?;
-    let hook = group_path(site.alloc, site.stage, group, place.as_slice())?;
-    pivot(site.alloc, script, site.space, STAGE, STAGE)?;
-    unmount(site.alloc, script, site.space, hook.as_slice())?;
+    let hook = site.group_path(group, place.as_slice())?;
+    site.run(script, b"pivot", STAGE, STAGE)?;
+    site.unmount(script, hook.as_slice())?;
     Ok(())
-}
-
-/// The path of a peer of the root of the namespace, below the old root. Fails for want of memory alone.
-fn upper_peer(alloc: Global, stage: &[u8]) -> Result<Vec<u8>, AllocError>
-    ensures { IfOk result (λ path. path.items ≡ upper_peer stage.now) }
-{
-    let below = one_behind(alloc, stage, PEER)?;
-    one_behind(alloc, STAGE, below.as_slice())
 }
 
 /// Makes the root of the namespace shared, which is alone in its group, and moves the old root onto a mount without group
-/// that a peer at a path gives it. Refused as `NoMemory` alone.
+/// that a peer at a path gives it.
 #[tactic(auto, unfolding(crate::specs::Covers::shelve_text))]
-fn shelve_shared(
-    site: Site<'_, '_>,
-    script: &mut Script,
-    mount: &Mount<'_>,
-    peer: &[u8],
-) -> Result<(), Fault>
-    ensures pushed { OnOk result (script.new ≡ script.old ++ shelve_text site.entry.groups.now.all site.entry.space.now peer.now mount.now) }
-    ensures memory { IsOkUnless result Fault.NoMemory }
+fn shelve_shared(site: Site<'_, '_>, script: &mut Script, mount: &Mount<'_>, peer: &[u8]) -> Written
+    ensures { OnOk result (script.new ≡ script.old ++ shelve_text site.entry.groups.now.all site.entry.space.now peer.now mount.now) }
 {
     let hook = one_behind(site.alloc, peer, SECOND)?;
     share_alone(site, script, mount.row, b"")?;
-    bind(site.alloc, script, site.space, b"/", peer)?;
-    mount_stage(site.alloc, script, site.space, hook.as_slice())?;
-    set_kind(site.alloc, script, site.space, SECOND, PRIVATE)?;
-    move_mount(site.alloc, script, site.space, STAGE, SECOND)?;
-    unmount(site.alloc, script, site.space, STAGE)?;
+    site.run(script, b"bind", b"/", peer)?;
+    site.run(script, b"mount", STAGE_FS, hook.as_slice())?;
+    site.run(script, b"setattr", SECOND, PRIVATE)?;
+    site.run(script, b"move", STAGE, SECOND)?;
+    site.unmount(script, STAGE)?;
     Ok(())
 }
 
-/// Puts it back on the one below it, and takes away its peer. Refused as `NoMemory` alone.
+/// Puts it back on the one below it, and takes away its peer, which is at a path then.
 #[tactic(auto, unfolding(crate::specs::Covers::unshelve_text))]
-fn lower_shared(site: Site<'_, '_>, script: &mut Script) -> Result<(), Fault>
-    ensures pushed { OnOk result (script.new ≡ script.old ++ unshelve_text site.entry.space.now site.entry.stage.now) }
-    ensures memory { IsOkUnless result Fault.NoMemory }
+fn lower_shared(site: Site<'_, '_>, script: &mut Script, peer: &[u8]) -> Written
+    ensures { OnOk result (script.new ≡ script.old ++ unshelve_text site.entry.space.now peer.now) }
 {
-    let peer = one_behind(site.alloc, site.stage, PEER)?;
-    let hook = one_behind(site.alloc, peer.as_slice(), SECOND)?;
-    pivot(site.alloc, script, site.space, SECOND, SECOND)?;
-    unmount(site.alloc, script, site.space, hook.as_slice())?;
-    unmount(site.alloc, script, site.space, peer.as_slice())?;
+    let hook = one_behind(site.alloc, peer, SECOND)?;
+    site.run(script, b"pivot", SECOND, SECOND)?;
+    site.unmount(script, hook.as_slice())?;
+    site.unmount(script, peer)?;
     Ok(())
 }
 
-/// Puts the root of the namespace back on the one below it. Refused as `NoMemory` alone.
+/// Puts the root of the namespace back on the one below it.
 fn lower_in(
     site: Site<'_, '_>,
     script: &mut Script,
     mount: &Mount<'_>,
     group: Option<u64>,
-) -> Result<(), Fault>
-    ensures pushed { OnOk result (script.new ≡ script.old ++ lower_in group (is_some mount.now.row.now.shared) site.entry.groups.now.all site.entry.space.now site.entry.stage.now mount.now) }
-    ensures memory { IsOkUnless result Fault.NoMemory }
+) -> Written
+    ensures { OnOk result (script.new ≡ script.old ++ lower_in group (is_some mount.now.row.now.shared) site.entry.groups.now.all site.entry.space.now site.entry.stage.now mount.now) }
 {
     if let Some(group) = group {
-        lower_member(site, script, mount, group)?;
-        return Ok(());
+        return lower_member(site, script, mount, group);
     }
     let row = mount.row;
     if row.shared.is_some() {
-        let peer = upper_peer(site.alloc, site.stage)?;
+        let below = one_behind(site.alloc, site.stage, PEER)?;
+        let peer = one_behind(site.alloc, STAGE, below.as_slice())?;
         shelve_shared(site, script, mount, peer.as_slice())?;
-        lower_shared(site, script)?;
+        lower_shared(site, script, below.as_slice())?;
         return Ok(());
     }
-    pivot(site.alloc, script, site.space, STAGE, STAGE)?;
-    Ok(())
+    site.run(script, b"pivot", STAGE, STAGE)
 }
 
-/// Puts the root of the namespace back on the one below it, with those below that. Refused as `NoMemory` alone.
+/// Puts the mount of a number, which is the root of the namespace, back on the one below it, with those below that.
 #[tactic(auto, unfolding(crate::specs::Covers::lower_text))]
-pub(crate) fn lower(site: Site<'_, '_>, script: &mut Script, mount: &Mount<'_>) -> Result<(), Fault>
-    ensures pushed { OnOk result (script.new ≡ script.old ++ lower_text site.entry.groups.now.all site.entry.space.now mount.now) }
-    ensures memory { IsOkUnless result Fault.NoMemory }
+pub(crate) fn lower(
+    site: Site<'_, '_>,
+    script: &mut Script,
+    mounts: &[Mount<'_>],
+    number: usize,
+) -> Written
+    ensures { OnOk result (script.new ≡ script.old ++ lowered site.entry.groups.now.all site.entry.space.now mounts.now number) }
 {
+    let Some(mount) = mounts.get(number) else {
+        return Ok(());
+    };
     let stage = stage_below(site.alloc, mount.base)?;
     let row = mount.row;
     let group = site.groups.receiving(row.shared);
@@ -256,14 +197,15 @@ pub(crate) fn lower(site: Site<'_, '_>, script: &mut Script, mount: &Mount<'_>) 
     Ok(())
 }
 
-/// Takes what is staged away, and makes the root mount a member of its group, if it is alone in that. Refused as `NoMemory`
-/// alone.
+/// Takes what is staged away, and makes the root mount, if there is one, a member of its group, if it is alone in that.
 #[tactic(auto, unfolding(crate::specs::Covers::finish_text))]
-pub(crate) fn finish(site: Site<'_, '_>, script: &mut Script, root: &Mount<'_>) -> Result<(), Fault>
-    ensures pushed { OnOk result (script.new ≡ script.old ++ finish_text site.entry.groups.now.all site.entry.space.now site.entry.stage.now root.now) }
-    ensures memory { IsOkUnless result Fault.NoMemory }
+pub(crate) fn finish(site: Site<'_, '_>, script: &mut Script, mounts: &[Mount<'_>]) -> Written
+    ensures { OnOk result (script.new ≡ script.old ++ finished site.entry.groups.now.all site.entry.space.now site.entry.stage.now mounts.now) }
 {
-    detach(site.alloc, script, site.space, site.stage)?;
+    let Some(root) = mounts.first() else {
+        return Ok(());
+    };
+    command(script, &[b"detach", site.space, site.stage])?;
     share_alone(site, script, root.row, b"")?;
     Ok(())
 }

@@ -1,89 +1,105 @@
 //! The directories that are made.
-ghost use Rattle.std.specs.Prelude.{◌≡◌, ◌==◌, ◌++◌, position, OnOk, IsOkUnless};
-ghost use Rattle.std.specs.List.{flat_map};
-ghost use Rattle.mt_import.specs.Commands.{mkdir_text};
 
-use crate::script::Script;
-use crate::writer::{command, joined};
-use mt_skel::fault::Fault;
+use crate::choice::Made;
+use crate::path::{SECOND, STAGE};
+use crate::script::{Script, Written};
+use crate::slots::{APART, COVER, NEW, PEER, SPARED, STAGE_FS, slot};
+use crate::writer::{command, joined, one_behind};
 use std::alloc::{AllocError, Global};
 use std::collections::BTreeSet;
 
 /// Directories, each behind its filesystem.
 #[derive(Drop)]
 pub(crate) struct Directories {
+    alloc: Global,
     all: BTreeSet<Vec<u8>>,
 }
 
 impl Directories {
-    /// No directory.
-    pub(crate) fn new(alloc: Global) -> Directories {
-        Directories {
-            all: BTreeSet::new(alloc),
-        }
-    }
-
     /// How many directories there are.
     pub(crate) fn len(&self) -> usize {
         self.all.len()
     }
 
     /// Adds a directory of a filesystem, and those above it. Fails for want of memory alone.
-    pub(crate) fn add(
-        &mut self,
-        alloc: Global,
-        filesystem: &[u8],
-        path: &[u8],
-    ) -> Result<(), AllocError> {
+    fn add(&mut self, filesystem: &[u8], path: &[u8]) -> Result<(), AllocError> {
         for (end, byte) in path.iter().enumerate() {
             if *byte == b'/' && end > 0 {
-                self.add_one(alloc, filesystem, &path[..end])?;
+                let above = joined(self.alloc, &[filesystem, &path[..end]])?;
+                self.all.insert(above)?;
             }
         }
-        if path.is_empty() {
+        if !path.is_empty() {
+            let directory = joined(self.alloc, &[filesystem, path])?;
+            self.all.insert(directory)?;
+        }
+        Ok(())
+    }
+
+    /// Adds a directory of a name below one of a filesystem. Fails for want of memory alone.
+    fn add_below(&mut self, filesystem: &[u8], path: &[u8], name: &[u8]) -> Result<(), AllocError> {
+        let path = one_behind(self.alloc, path, name)?;
+        self.add(filesystem, path.as_slice())
+    }
+
+    /// Adds a slot of a number. Fails for want of memory alone.
+    fn add_slot(&mut self, name: &[u8], number: u64) -> Result<(), AllocError> {
+        let slot = slot(self.alloc, name, number)?;
+        self.add(STAGE_FS, slot.as_slice())
+    }
+
+    /// Adds what a mount needs: what it shows, where it stands, and a slot for it; at the root of the namespace also where the
+    /// old root stands meanwhile. Fails for want of memory alone.
+    fn add_mount(&mut self, made: &Made<'_, '_>) -> Result<(), AllocError> {
+        let (row, mount, below) = (made.row, made.mount, made.below);
+        let (device, lower) = (row.device.as_slice(), below.row);
+        self.add(device, mount.root)?;
+        self.add(lower.device.as_slice(), mount.place.as_slice())?;
+        if !mount.is_base {
+            return self.add_slot(APART, mount.level as u64);
+        }
+        self.add_below(device, mount.root, STAGE)?;
+        if mount.base == 0 {
             return Ok(());
         }
-        self.add_one(alloc, filesystem, path)
+        self.add_below(device, mount.root, SECOND)?;
+        self.add(STAGE_FS, PEER)?;
+        self.add_slot(COVER, mount.base as u64)
     }
 
-    /// Adds a directory alone. Fails for want of memory alone.
-    fn add_one(&mut self, alloc: Global, filesystem: &[u8], path: &[u8]) -> Result<(), AllocError> {
-        let directory = joined(alloc, &[filesystem, path])?;
-        self.all.insert(directory)?;
-        Ok(())
-    }
-
-    /// Makes the directories, each behind those above it. Refused as `NoMemory` alone.
-    pub(crate) fn make(&self, alloc: Global, script: &mut Script) -> Result<(), Fault>
-        ensures pushed { OnOk result (script.new ≡ script.old ++ flat_map (λ directory. mkdir_text directory.items) self.now.all.keys) }
-        ensures memory { IsOkUnless result Fault.NoMemory }
-    {
-        'all: for directory in self.all.iter() {
-            make_directory(alloc, script, directory.as_slice())?;
+    /// Makes the directories, each behind those above it.
+    pub(crate) fn make(&self, script: &mut Script) -> Written {
+        for directory in self.all.iter() {
+            let text = directory.as_slice();
+            if let Some(end) = text.iter().position(|byte| *byte == b'/') {
+                command(script, &[b"mkdir", &text[..end], &text[end..]])?;
+            }
         }
         Ok(())
     }
 }
 
-/// Makes a directory that stands behind its filesystem. Refused as `NoMemory` alone.
-fn make_directory(alloc: Global, script: &mut Script, directory: &[u8]) -> Result<(), Fault>
-    ensures pushed { OnOk result (script.new ≡ script.old ++ mkdir_text directory.now) }
-    ensures memory { IsOkUnless result Fault.NoMemory }
-{
-    let Some(end) = first_slash(directory) else {
-        return Ok(());
-    };
-    command(
+/// The directories that the mounts need which are made, with the slots of what is staged. Fails for want of memory alone.
+pub(crate) fn directories_of(
+    alloc: Global,
+    made: &[Made<'_, '_>],
+    plains: &BTreeSet<&[u8]>,
+    staged: &[u64],
+) -> Result<Directories, AllocError> {
+    let mut directories = Directories {
         alloc,
-        script,
-        &[b"mkdir", &directory[..end], &directory[end..]],
-    )?;
-    Ok(())
-}
-
-/// Where the first slash of a text stands.
-fn first_slash(text: &[u8]) -> Option<usize>
-    ensures { result ≡ position (λ b. b == 47) text.now }
-{
-    text.iter().position(|byte| *byte == b'/')
+        all: BTreeSet::new(alloc),
+    };
+    directories.add(STAGE_FS, NEW)?;
+    directories.add(STAGE_FS, SPARED)?;
+    for device in plains.iter() {
+        directories.add_below(STAGE_FS, b"/", device)?;
+    }
+    for group in staged {
+        directories.add_slot(b"/", *group)?;
+    }
+    for made in made {
+        directories.add_mount(made)?;
+    }
+    Ok(directories)
 }

@@ -29,16 +29,6 @@ pub(crate) struct Group<'a> {
 }
 
 impl<'a> Group<'a> {
-    /// A group that no row is a member of.
-    fn new(master: Option<u64>, device: &'a [u8]) -> Group<'a> {
-        Group {
-            master,
-            device,
-            members: 0,
-            is_needed: false,
-        }
-    }
-
     /// Whether a member of it is staged, from which others are bound: it has another member or slaves, or needs it besides.
     pub(crate) fn is_staged(&self) -> bool
         ensures { result ≡ is_staged self.now }
@@ -166,17 +156,11 @@ impl<'a> Groups<'a> {
         self.get(number).is_some_and(|group| group.members == 0)
     }
 
-    /// Has a member of a group staged, if rows name it. Fails for want of memory alone.
-    pub(crate) fn stage(&mut self, number: u64) -> Result<(), AllocError> {
-        let Some(group) = self.get(number) else {
-            return Ok(());
-        };
-        let needed = Group {
-            is_needed: true,
-            ..group
-        };
-        self.all.insert(number, needed)?;
-        Ok(())
+    /// Has a member of a group staged, if rows name it.
+    pub(crate) fn stage(&mut self, number: u64) {
+        if let Some(group) = self.all.get_mut(&number) {
+            group.is_needed = true;
+        }
     }
 
     /// Adds what the row of a table tells, unless that cannot be beside what others before it told. Fails for want of memory
@@ -206,7 +190,8 @@ impl<'a> Groups<'a> {
         let group = Group {
             members: old.map_or(1, |group| group.members.saturating_add(1)),
             is_needed: old.is_some_and(|group| group.is_needed),
-            ..Group::new(row.master, row.device.as_slice())
+            master: row.master,
+            device: row.device.as_slice(),
         };
         self.all.insert(number, group)?;
         Ok(())
@@ -214,22 +199,24 @@ impl<'a> Groups<'a> {
 
     /// Adds a group that others come from. Fails for want of memory alone.
     fn add_master(&mut self, number: u64, row: &'a HostMount) -> Result<(), AllocError> {
-        let old = self.get(number);
-        let group = Group {
+        let new = Group {
+            master: None,
+            device: row.device.as_slice(),
+            members: 0,
             is_needed: true,
-            ..old.unwrap_or(Group::new(None, row.device.as_slice()))
         };
-        self.all.insert(number, group)?;
+        if self.get(number).is_none() {
+            self.all.insert(number, new)?;
+        }
+        self.stage(number);
         Ok(())
     }
 
-    /// Gives a group another master, or none. Fails for want of memory alone.
-    fn set_master(&mut self, number: u64, master: Option<u64>) -> Result<(), AllocError> {
-        let Some(group) = self.get(number) else {
-            return Ok(());
-        };
-        self.all.insert(number, Group { master, ..group })?;
-        Ok(())
+    /// Gives a group another master, or none.
+    fn set_master(&mut self, number: u64, master: Option<u64>) {
+        if let Some(group) = self.all.get_mut(&number) {
+            group.master = master;
+        }
     }
 
     /// The group at the end of those above one, itself among them.
@@ -245,34 +232,33 @@ impl<'a> Groups<'a> {
     }
 
     /// Brings a group above another one: at the end of those above it, if no row is a member of that end. Whether it is above
-    /// then. Fails for want of memory alone.
-    fn join(&mut self, low: u64, high: u64) -> Result<bool, AllocError> {
+    /// then.
+    fn join(&mut self, low: u64, high: u64) -> bool {
         if self.leads_to(Some(low), high) {
-            return Ok(true);
+            return true;
         }
         let top = self.top_of(low);
         if !self.is_unseen(top)
             || self.leads_to(Some(high), low)
             || self.leads_to(Some(high), top)
         {
-            return Ok(false);
+            return false;
         }
-        self.set_master(top, Some(high))?;
-        Ok(true)
+        self.set_master(top, Some(high));
+        true
     }
 
-    /// Brings a group above one of which no row is a member: above all that is above that one, or else between both. Fails for
-    /// want of memory alone.
-    fn bring_above(&mut self, low: u64, high: u64) -> Result<(), AllocError> {
-        if !self.is_unseen(low) || self.join(low, high)? {
-            return Ok(());
+    /// Brings a group above one of which no row is a member: above all that is above that one, or else between both.
+    fn bring_above(&mut self, low: u64, high: u64) {
+        if !self.is_unseen(low) || self.join(low, high) {
+            return;
         }
         let Some(first) = self.above(low) else {
-            return Ok(());
+            return;
         };
-        self.set_master(low, None)?;
-        let is_between = !self.leads_to(Some(high), low) && self.join(high, first)?;
-        self.set_master(low, Some(if is_between { high } else { first }))
+        self.set_master(low, None);
+        let is_between = !self.leads_to(Some(high), low) && self.join(high, first);
+        self.set_master(low, Some(if is_between { high } else { first }));
     }
 
     /// Finds out what is above the groups of which no row is a member, by what their slaves tell, the lowest groups first. Fails
@@ -287,7 +273,7 @@ impl<'a> Groups<'a> {
         pairs.sort_unstable();
         for pair in pairs.iter() {
             let (low, _, high) = *pair;
-            self.bring_above(low, high)?;
+            self.bring_above(low, high);
         }
         Ok(())
     }
@@ -312,21 +298,20 @@ impl<'a> Groups<'a> {
     pub(crate) fn stage_all_above(&mut self, alloc: Global) -> Result<(), AllocError> {
         let staged = self.staged(alloc)?;
         for number in staged.iter() {
-            self.stage_above(*number)?;
+            self.stage_above(*number);
         }
         Ok(())
     }
 
-    /// Has a member staged of each group above one. Fails for want of memory alone.
-    fn stage_above(&mut self, number: u64) -> Result<(), AllocError> {
+    /// Has a member staged of each group above one.
+    fn stage_above(&mut self, number: u64) {
         let mut next = self.above(number);
         for _step in 0..=MOST_ABOVE {
             let Some(above) = next else {
-                return Ok(());
+                return;
             };
-            self.stage(above)?;
+            self.stage(above);
             next = self.above(above);
         }
-        Ok(())
     }
 }

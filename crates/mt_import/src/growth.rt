@@ -1,17 +1,16 @@
 //! A tree as it grows: the mounts that were placed, and what waits for its turn.
 ghost use Rattle.std.specs.Prelude.{◌≡◌, ◌≤◌, ◌-◌, [], ◌∷◌, ◌++◌, length, slice_get, replicate, OnOk, IfOk};
 ghost use Rattle.mt_import.specs.declared.mount.Turn.TheVariants as Turn;
-ghost use Rattle.mt_import.specs.declared.verdict.Verdict.TheVariants as Verdict;
+ghost use Rattle.mt_import.specs.declared.mount.Verdict.TheVariants as Verdict;
 ghost use Rattle.mt_import.specs.Growth.{waiting_ends, is_waiting, IsGrowth, IsNextPlaced};
 ghost use Rattle.mt_import.specs.Tree.{StandsThere};
 
 use crate::below::{Below, below_of};
-use crate::mount::{Mount, Turn};
+use crate::mount::{Mount, Turn, Verdict};
 use crate::placing::{Placed, mount_on, root_mount};
 use crate::reason::Reason;
 use crate::told::HostMount;
 use crate::tree::Tree;
-use crate::verdict::Verdict;
 use std::alloc::{AllocError, Global};
 use std::collections::BTreeSet;
 

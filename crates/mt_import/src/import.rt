@@ -1,10 +1,7 @@
 //! The script that makes namespaces.
-ghost use Rattle.std.specs.Prelude.{◌≡◌, map, OnOk, IfOk, IsOkUnless};
-ghost use Rattle.mt_skel.specs.Front.{IsFront};
+ghost use Rattle.std.specs.Prelude.{◌≡◌, map, IfOk, IsOkUnless};
 ghost use Rattle.mt_import.specs.Import.{IsImport};
 
-use crate::choice::Left;
-use crate::filesystems::make_filesystems;
 use crate::room::{Plan, plan_with_room};
 use crate::script::Script;
 use crate::slots::STAGE_FS;
@@ -20,21 +17,8 @@ use std::alloc::{AllocError, Global};
 
 /// Whether two tables have the same lines.
 fn are_same(left: &[HostMount], right: &[HostMount]) -> bool {
-    let mut others = right.iter();
-    for row in left {
-        let Some(other) = others.next() else {
-            return false;
-        };
-        if row.line.as_slice() != other.line.as_slice() {
-            return false;
-        }
-    }
-    others.next().is_none()
-}
-
-/// Whether a table is one of these once more.
-fn is_told(tables: &[Vec<HostMount>], rows: &[HostMount]) -> bool {
-    tables.iter().any(|other| are_same(other.as_slice(), rows))
+    left.len() == right.len()
+        && left.iter().zip(right).all(|(row, other)| row.line.as_slice() == other.line.as_slice())
 }
 
 /// The trees of tables. Fails for want of memory alone.
@@ -44,48 +28,38 @@ fn trees_of(alloc: Global, tables: &[Vec<HostMount>]) -> Result<Vec<Tree<'_>>, A
     let mut trees = Vec::new(alloc);
     'tables: for (before, rows) in tables.iter().enumerate() {
         let number = before.saturating_add(1);
-        let is_told = is_told(&tables[..before], rows.as_slice());
+        let is_told = tables[..before]
+            .iter()
+            .any(|other| are_same(other.as_slice(), rows.as_slice()));
         trees.push(tree_of(alloc, number, rows.as_slice(), is_told)?)?;
     }
     Ok(trees)
 }
 
-/// Makes the filesystems and their directories, and what is staged, if there is a namespace to make. Refused as `NoMemory` alone.
-fn make_front<'a>(
-    alloc: Global,
-    script: &mut Script,
-    plan: &Plan<'a>,
-    spaces: &[Space<'a>],
-) -> Result<(), Fault>
-    ensures pushed { OnOk result (IsFront script.old script.new) }
-    ensures memory { IsOkUnless result Fault.NoMemory }
-{
+/// What makes the filesystems and their directories, and what is staged, if there is a namespace to make. Fails for want of
+/// memory alone.
+fn front_of(alloc: Global, plan: &Plan<'_>, spaces: &[Space<'_>]) -> Result<Script, AllocError> {
+    let mut script = Script::new(alloc);
     if !spaces.iter().any(|space| space.is_shown()) {
-        return Ok(());
+        return Ok(script);
     }
-    make_filesystems(alloc, script, &plan.filesystems, spaces)?;
-    command(alloc, script, &[b"mkfs", STAGE_FS, b"import", b"none"])?;
-    plan.directories.make(alloc, script)?;
-    stage(alloc, script, plan)?;
-    Ok(())
+    plan.filesystems.make(&mut script)?;
+    command(&mut script, &[b"mkfs", STAGE_FS, b"import", b"none"])?;
+    plan.directories.make(&mut script)?;
+    stage(&mut script, plan)?;
+    Ok(script)
 }
 
-/// The script of tables of which this is planned. Refused as `NoMemory` alone.
-fn script_with<'a>(
-    alloc: Global,
-    tables: &'a [Vec<HostMount>],
-    plan: &Plan<'a>,
-    spaces: &[Space<'a>],
-) -> Result<Script, Fault>
-    ensures made { map (λ space. space.tree.rows) spaces.now ≡ map (λ rows. rows.items) tables.now
-        → IfOk result (IsImport (map (λ rows. rows.items) tables.now)) }
-    ensures memory { IsOkUnless result Fault.NoMemory }
+/// The script of tables of which this is planned. Fails for want of memory alone.
+fn script_with(alloc: Global, plan: &Plan<'_>, spaces: &[Space<'_>]) -> Result<Script, AllocError>
+    ensures { IfOk result (IsImport (map (λ space. space.tree.rows) spaces.now)) }
 {
+    let front = front_of(alloc, plan, spaces)?;
     let mut script = Script::new(alloc);
-    tell_tables(alloc, &mut script, tables, spaces)?;
-    tell_spaces(alloc, &mut script, spaces)?;
-    make_front(alloc, &mut script, plan, spaces)?;
-    make_spaces(alloc, &mut script, plan, spaces)?;
+    tell_tables(&mut script, spaces)?;
+    tell_spaces(&mut script, spaces)?;
+    script.append(&front)?;
+    make_spaces(&mut script, plan, spaces)?;
     Ok(script)
 }
 
@@ -102,5 +76,6 @@ pub fn script_of(alloc: Global, tables: &[Vec<HostMount>]) -> Result<Script, Fau
     let trees = trees_of(alloc, tables)?;
     let (plan, left) = plan_with_room(alloc, trees.as_slice())?;
     let spaces = spaces_of(alloc, trees, left, &plan.groups)?;
-    script_with(alloc, tables, &plan, spaces.as_slice())
+    let script = script_with(alloc, &plan, spaces.as_slice())?;
+    Ok(script)
 }

@@ -3,7 +3,7 @@
 //! [`read`] reads the lines of a mountinfo, each as a [`told::HostMount`]. [`import`] makes the script in three steps.
 //!
 //! - Each table becomes a [`tree`] of mounts, which [`growth`] builds of its rows: [`placing`] finds where each one stands, and
-//!   the turns of a tree are the order in which its mounts are made. A row that has no mount in it has a [`verdict`].
+//!   the turns of a tree are the order in which its mounts are made. A row that has no mount in it is left out for a [`reason`].
 //! - [`choice`] leaves out the mounts that do not agree on their peer groups ([`groups`], [`agreement`]), and [`room`] those for
 //!   which a server has no room; [`needs`], [`filesystems`] and [`directories`] are what the others need.
 //! - The script tells what is left out ([`telling`]), stages what others are bound from ([`staging`]), and makes the namespaces
@@ -16,7 +16,6 @@
 mod agreement;
 mod below;
 mod choice;
-mod commands;
 mod covers;
 mod directories;
 mod filesystems;
@@ -27,15 +26,14 @@ pub mod import;
 pub mod laws;
 mod making;
 mod mount;
-mod needs;
 mod options;
 mod path;
-mod paths;
 mod placing;
 pub mod read;
 mod reason;
 mod room;
 pub mod script;
+mod site;
 mod slots;
 mod space;
 mod spaces;
@@ -44,7 +42,6 @@ mod telling;
 pub mod told;
 mod tree;
 mod turns;
-mod verdict;
 mod ways;
 mod writer;
 

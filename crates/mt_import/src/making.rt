@@ -1,37 +1,22 @@
 //! How a mount is made, where nothing propagates.
-ghost use Rattle.std.specs.Prelude.{◌≡◌, ◌++◌, OnOk, IsOkUnless};
+ghost use Rattle.std.specs.Prelude.{◌≡◌, ◌++◌, OnOk};
 ghost use Rattle.std.specs.Option.{option_map};
-ghost use Rattle.mt_import.specs.Making.{attributes_text, own_text, made_text, first_kind, waits, bare_text, late_options, share_text};
+ghost use Rattle.mt_import.specs.Making.{attributes_text, made_text, first_kind, waits, bare_text, late_options, share_text};
+ghost use Rattle.mt_import.specs.Script.{alone_comment};
 
-use crate::commands::{SHARED, SLAVE, UNBINDABLE, bind, mount_filesystem};
 use crate::groups::Groups;
 use crate::mount::Mount;
 use crate::options::options_of;
 use crate::path::path_word;
-use crate::script::Script;
-use crate::slots::{group_path, staged_path};
+use crate::script::{Script, Written};
+use crate::site::{SHARED, SLAVE, Site, UNBINDABLE};
 use crate::told::HostMount;
-use crate::writer::{alone_comment, joined, push_command};
-use mt_skel::fault::Fault;
-use std::alloc::Global;
-
-/// What the parts of a script have in common that make a namespace.
-#[derive(Clone, Copy)]
-pub(crate) struct Site<'s, 'a> {
-    /// What memory comes from.
-    pub(crate) alloc: Global,
-    /// The peer groups of all tables.
-    pub(crate) groups: &'s Groups<'a>,
-    /// The number of the namespace, in digits.
-    pub(crate) space: &'s [u8],
-    /// The path of what is staged.
-    pub(crate) stage: &'s [u8],
-}
+use crate::writer::{comment, digits_of, joined, push_command};
 
 /// The options that are those of a new mount.
 const UNCHANGED: &[u8] = b"relatime";
 
-/// Sets options and the propagation of the mount at a path, if there is anything to set. Refused as `NoMemory` alone.
+/// Sets options and the propagation of the mount at a path, if there is anything to set.
 #[tactic(auto, unfolding(crate::specs::Making::attributes_text))]
 fn set_attributes(
     site: Site<'_, '_>,
@@ -39,49 +24,20 @@ fn set_attributes(
     options: &[u8],
     path: &[u8],
     kind: Option<&'static [u8]>,
-) -> Result<(), Fault>
-    ensures pushed { OnOk result (script.new ≡ script.old ++ attributes_text site.entry.space.now options.now path.now (option_map (λ word. word.now) kind.entry)) }
-    ensures memory { IsOkUnless result Fault.NoMemory }
+) -> Written
+    ensures { OnOk result (script.new ≡ script.old ++ attributes_text site.entry.space.now options.now path.now (option_map (λ word. word.now) kind.entry)) }
 {
     let words = options_of(site.alloc, options, kind)?;
     if words.is_empty() {
         return Ok(());
     }
-    let line = joined(
-        site.alloc,
-        &[
-            b"setattr ",
-            site.space,
-            b" ",
-            path_word(path),
-            words.as_slice(),
-        ],
-    )?;
-    push_command(script, line.as_slice())?;
-    Ok(())
+    let (path, words) = (path_word(path), words.as_slice());
+    let line = joined(site.alloc, &[b"setattr ", site.space, b" ", path, words])?;
+    push_command(script, line.as_slice())
 }
 
-/// Mounts a filesystem, or binds a directory of it, which is empty for its root. Refused as `NoMemory` alone.
-fn make_own(
-    site: Site<'_, '_>,
-    script: &mut Script,
-    device: &[u8],
-    root: &[u8],
-    path: &[u8],
-) -> Result<(), Fault>
-    ensures pushed { OnOk result (script.new ≡ script.old ++ own_text site.entry.space.now site.entry.stage.now device.now root.now path.now) }
-    ensures memory { IsOkUnless result Fault.NoMemory }
-{
-    if root.is_empty() {
-        mount_filesystem(site.alloc, script, site.space, device, path)?;
-        return Ok(());
-    }
-    let source = staged_path(site.alloc, site.stage, device, root)?;
-    bind(site.alloc, script, site.space, source.as_slice(), path)?;
-    Ok(())
-}
-
-/// Binds a directory of the staged member of a group, if of one, or else of a filesystem. Refused as `NoMemory` alone.
+/// Binds a directory of the staged member of a group, if of one, or of a filesystem, or else mounts that: its directory is
+/// empty for the root.
 #[tactic(auto, unfolding(crate::specs::Making::made_text))]
 fn make_of(
     site: Site<'_, '_>,
@@ -90,17 +46,18 @@ fn make_of(
     device: &[u8],
     root: &[u8],
     path: &[u8],
-) -> Result<(), Fault>
-    ensures pushed { OnOk result (script.new ≡ script.old ++ made_text site.entry.space.now site.entry.stage.now source device.now root.now path.now) }
-    ensures memory { IsOkUnless result Fault.NoMemory }
+) -> Written
+    ensures { OnOk result (script.new ≡ script.old ++ made_text site.entry.space.now site.entry.stage.now source device.now root.now path.now) }
 {
-    let Some(group) = source else {
-        make_own(site, script, device, root, path)?;
-        return Ok(());
-    };
-    let source = group_path(site.alloc, site.stage, group, root)?;
-    bind(site.alloc, script, site.space, source.as_slice(), path)?;
-    Ok(())
+    if let Some(group) = source {
+        let from = site.group_path(group, root)?;
+        return site.run(script, b"bind", from.as_slice(), path);
+    }
+    if root.is_empty() {
+        return site.run(script, b"mount", device, path);
+    }
+    let from = site.staged_path(device, root)?;
+    site.run(script, b"bind", from.as_slice(), path)
 }
 
 /// How the propagation of a mount that was just made is to change: not where it is a member of its group then.
@@ -128,17 +85,15 @@ fn waits(groups: &Groups<'_>, row: &HostMount) -> bool
     groups.is_alone(row.shared) && row.master.is_none()
 }
 
-/// Makes a mount at a path, where nothing propagates, with its options, unless these wait until it is made shared. Refused
-/// as `NoMemory` alone.
+/// Makes a mount at a path, where nothing propagates, with its options, unless these wait until it is made shared.
 #[tactic(auto, unfolding(crate::specs::Making::bare_text))]
 pub(crate) fn make_bare(
     site: Site<'_, '_>,
     script: &mut Script,
     mount: &Mount<'_>,
     path: &[u8],
-) -> Result<(), Fault>
-    ensures pushed { OnOk result (script.new ≡ script.old ++ bare_text site.entry.groups.now.all site.entry.space.now site.entry.stage.now mount.now path.now) }
-    ensures memory { IsOkUnless result Fault.NoMemory }
+) -> Written
+    ensures { OnOk result (script.new ≡ script.old ++ bare_text site.entry.groups.now.all site.entry.space.now site.entry.stage.now mount.now path.now) }
 {
     let row = mount.row;
     let source = site.groups.source_of(row.shared, row.master);
@@ -165,22 +120,37 @@ fn late_options(waits: bool, options: &[u8]) -> &[u8]
     if waits { options } else { UNCHANGED }
 }
 
-/// Makes a mount at a path a member of its group, if it is alone in that, with the options that wait for it. Refused as
-/// `NoMemory` alone.
+/// Says which group of the tables the next line makes, if it makes one.
+#[tactic(auto, unfolding(crate::specs::Script::next_comment))]
+fn alone_comment(script: &mut Script, group: Option<u64>) -> Written
+    ensures { OnOk result (script.new ≡ script.old ++ alone_comment group) }
+{
+    let Some(group) = group else {
+        return Ok(());
+    };
+    let digits = digits_of(script.alloc(), group)?;
+    let group = digits.as_slice();
+    comment(
+        script,
+        &[b"# the next line makes shared:", group, b" of the tables"],
+    )?;
+    Ok(())
+}
+
+/// Makes a mount at a path a member of its group, if it is alone in that, with the options that wait for it.
 #[tactic(auto, unfolding(crate::specs::Making::share_text))]
 pub(crate) fn share_alone(
     site: Site<'_, '_>,
     script: &mut Script,
     row: &HostMount,
     path: &[u8],
-) -> Result<(), Fault>
-    ensures pushed { OnOk result (script.new ≡ script.old ++ share_text site.entry.groups.now.all site.entry.space.now row.now path.now) }
-    ensures memory { IsOkUnless result Fault.NoMemory }
+) -> Written
+    ensures { OnOk result (script.new ≡ script.old ++ share_text site.entry.groups.now.all site.entry.space.now row.now path.now) }
 {
     if !site.groups.is_alone(row.shared) {
         return Ok(());
     }
-    alone_comment(site.alloc, script, row.shared)?;
+    alone_comment(script, row.shared)?;
     let options = late_options(waits(site.groups, row), row.options.as_slice());
     set_attributes(site, script, options, path, Some(SHARED))?;
     Ok(())

@@ -1,8 +1,9 @@
-//! A mount of a table, and where it stands among the others.
+//! A mount of a table, where it stands among the others, and the turns of its making.
 
 ghost use Rattle.std.specs.Prelude.{◌≡◌};
 ghost use Rattle.mt_import.specs.Tree.{turn_mount};
 
+use crate::reason::Reason;
 use crate::told::HostMount;
 
 /// A mount that a script makes, unless it is left out.
@@ -30,6 +31,13 @@ pub(crate) struct Mount<'a> {
     pub(crate) is_base: bool,
 }
 
+impl<'a> Mount<'a> {
+    /// Whether it stands on the root of what it stands on, elsewhere than at the root of the namespace.
+    pub(crate) fn stands_on_root(&self, lower: &Mount<'_>) -> bool {
+        !self.is_base && self.place.as_slice() == lower.root
+    }
+}
+
 /// A step of the making of a tree, with the mount that it is about, counted in the order.
 #[derive(Clone, Copy)]
 pub(crate) enum Turn {
@@ -50,4 +58,15 @@ impl Turn {
             Turn::Base(number) | Turn::Begin(number) | Turn::End(number) => number,
         }
     }
+}
+
+/// What becomes of a row.
+#[derive(Clone, Copy)]
+pub(crate) enum Verdict {
+    /// Its turn has not come.
+    Waits,
+    /// It has a mount in the tree of its table.
+    Made,
+    /// It is left out, for this reason.
+    Left(Reason),
 }

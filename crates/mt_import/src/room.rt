@@ -1,12 +1,9 @@
 //! The room that a server has for a script: as many mounts are made, in their order, as find it.
 
-use crate::choice::{Choice, Left, choose, is_made, made_count};
-use crate::directories::Directories;
+use crate::choice::{Choice, Left, Made, choose, is_made};
+use crate::directories::{Directories, directories_of};
 use crate::filesystems::{Filesystems, filesystems_of};
 use crate::groups::{Groups, MOST_ABOVE};
-use crate::needs::{directories_of, plains_of};
-use crate::reason::Reason;
-use crate::staging::has_unseen;
 use crate::tree::Tree;
 use std::alloc::{AllocError, Global};
 use std::collections::{BTreeMap, BTreeSet};
@@ -23,15 +20,6 @@ const MOST_FILESYSTEMS: usize = 256;
 /// By how many mounts more it is tried, one step after another, how many find room.
 const STEPS: [usize; 13] = [4_096, 2_048, 1_024, 512, 256, 128, 64, 32, 16, 8, 4, 2, 1];
 
-/// How many namespaces have what is staged at a time: the first one alone, or beside it the copy that is made.
-fn stages(left: &[Left], plan: &Plan<'_>) -> usize {
-    let shown = left
-        .iter()
-        .filter(|tree| is_made(tree.as_slice(), 0))
-        .count();
-    if shown > 1 || has_unseen(plan) { 2 } else { 1 }
-}
-
 /// What mounts need that are made.
 #[derive(Drop)]
 pub(crate) struct Plan<'a> {
@@ -47,167 +35,144 @@ pub(crate) struct Plan<'a> {
     pub(crate) directories: Directories,
 }
 
-/// What is needed where so many mounts are made, from the first, and why the others are left out. Fails for want of memory
-/// alone.
+impl<'a> Plan<'a> {
+    /// Whether a group is staged of which no table has a member.
+    pub(crate) fn has_unseen(&self) -> bool {
+        self.staged
+            .iter()
+            .any(|group| self.groups.is_unseen(*group))
+    }
+
+    /// Whether a server has room for the filesystems and directories.
+    fn has_directories(&self) -> bool {
+        let filesystems = self.filesystems.len().saturating_add(1);
+        let directories = self.directories.len().saturating_add(filesystems);
+        filesystems <= MOST_FILESYSTEMS && directories <= MOST_DIRECTORIES
+    }
+}
+
+/// The devices of filesystems of which directories are bound with no group. Fails for want of memory alone.
+fn plains_of<'a>(
+    alloc: Global,
+    made: &[Made<'_, 'a>],
+    groups: &Groups<'_>,
+) -> Result<BTreeSet<&'a [u8]>, AllocError> {
+    let mut plains = BTreeSet::new(alloc);
+    for made in made {
+        let (row, mount) = (made.row, made.mount);
+        if groups.source_of(row.shared, row.master).is_none() && !mount.root.is_empty() {
+            plains.insert(row.device.as_slice())?;
+        }
+    }
+    Ok(plains)
+}
+
+/// What these mounts need, in these groups. Fails for want of memory alone.
 fn plan_of<'a>(
     alloc: Global,
-    trees: &[Tree<'a>],
-    most: usize,
-) -> Result<(Plan<'a>, Vec<Left>), AllocError> {
-    let choice = choose(alloc, trees, most)?;
-    let filesystems = filesystems_of(alloc, trees, choice.left.as_slice())?;
-    let plains = plains_of(alloc, trees, &choice)?;
-    let staged = choice.groups.staged(alloc)?;
-    let directories = directories_of(alloc, trees, &choice, &plains, staged.as_slice())?;
-    let Choice { left, groups } = choice;
-    let plan = Plan {
+    made: &[Made<'_, 'a>],
+    groups: Groups<'a>,
+) -> Result<Plan<'a>, AllocError> {
+    let filesystems = filesystems_of(alloc, made)?;
+    let plains = plains_of(alloc, made, &groups)?;
+    let staged = groups.staged(alloc)?;
+    let directories = directories_of(alloc, made, &plains, staged.as_slice())?;
+    Ok(Plan {
         groups,
         filesystems,
         plains,
         staged,
         directories,
-    };
-    Ok((plan, left))
+    })
 }
 
-/// Counts of mounts by the group from which they get what is mounted there: a mount counts for its own group and for each
-/// above it.
-#[derive(Drop)]
-struct Receivers {
-    counts: BTreeMap<u64, usize>,
-}
-
-impl Receivers {
-    /// No mount.
-    fn new(alloc: Global) -> Receivers {
-        Receivers {
-            counts: BTreeMap::new(alloc),
-        }
-    }
-
-    /// Adds so many mounts of a group, if of one. Fails for want of memory alone.
-    fn add(
-        &mut self,
-        groups: &Groups<'_>,
-        group: Option<u64>,
-        count: usize,
-    ) -> Result<(), AllocError> {
-        let mut next = group;
-        for _step in 0..=MOST_ABOVE {
-            let Some(number) = next else {
-                return Ok(());
-            };
-            let old = self.counts.get(&number).copied().unwrap_or(0);
-            self.counts.insert(number, old.saturating_add(count))?;
-            next = groups.above(number);
-        }
-        Ok(())
-    }
-
-    /// How many mounts get what is mounted on one of these groups, at most.
-    fn most(&self, groups: &[u64]) -> usize {
-        let mut most = 0_usize;
-        for number in groups {
-            let count = self.counts.get(number).copied().unwrap_or(0);
-            most = most.max(count);
-        }
-        most
-    }
-}
-
-/// Adds the mounts of a tree that are made. Fails for want of memory alone.
-fn add_receivers(
-    receivers: &mut Receivers,
+/// Counts so many mounts more for a group, if for one, and for each above it. Fails for want of memory alone.
+fn count_up(
+    counts: &mut BTreeMap<u64, usize>,
     groups: &Groups<'_>,
-    tree: &Tree<'_>,
-    left: &[Option<Reason>],
+    group: Option<u64>,
+    count: usize,
 ) -> Result<(), AllocError> {
-    for (number, mount) in tree.mounts().iter().enumerate() {
-        if is_made(left, number) {
-            let row = mount.row;
-            receivers.add(groups, row.shared.or(row.master), 1)?;
-        }
+    let mut next = group;
+    for _step in 0..=MOST_ABOVE {
+        let Some(number) = next else {
+            return Ok(());
+        };
+        let old = counts.get(&number).copied().unwrap_or(0);
+        counts.insert(number, old.saturating_add(count))?;
+        next = groups.above(number);
     }
     Ok(())
 }
 
-/// The mounts that are made, by the groups from which they get. Fails for want of memory alone.
-fn receivers_of(
+/// How many mounts get what is mounted on one of a staged group, at most, where so many stages are there. Fails for want of
+/// memory alone.
+fn most_receivers(
     alloc: Global,
-    trees: &[Tree<'_>],
-    left: &[Left],
-    groups: &Groups<'_>,
-) -> Result<Receivers, AllocError> {
-    let mut receivers = Receivers::new(alloc);
-    let mut others = left.iter();
-    for tree in trees {
-        if let Some(left) = others.next() {
-            add_receivers(&mut receivers, groups, tree, left.as_slice())?;
-        }
+    plan: &Plan<'_>,
+    made: &[Made<'_, '_>],
+    stages: usize,
+) -> Result<usize, AllocError> {
+    let mut counts = BTreeMap::new(alloc);
+    for made in made {
+        let row = made.row;
+        count_up(&mut counts, &plan.groups, row.shared.or(row.master), 1)?;
     }
-    Ok(receivers)
+    for group in plan.staged.iter() {
+        count_up(&mut counts, &plan.groups, Some(*group), stages)?;
+    }
+    let mut most = 0_usize;
+    for group in plan.staged.iter() {
+        most = most.max(counts.get(group).copied().unwrap_or(0));
+    }
+    Ok(most)
+}
+
+/// How many namespaces have what is staged at a time: the first one alone, or beside it the copy that is made.
+fn stages(left: &[Left], plan: &Plan<'_>) -> usize {
+    let shown = left
+        .iter()
+        .filter(|tree| is_made(tree.as_slice(), 0))
+        .count();
+    if shown > 1 || plan.has_unseen() { 2 } else { 1 }
 }
 
 /// How many mounts there are at a time, at most: those that are made, those that are staged, and three for each that gets what
 /// is mounted on one of a group: a mount that isolates its place, and what spares it. Fails for want of memory alone.
 fn mounts_at_once(
     alloc: Global,
-    trees: &[Tree<'_>],
-    left: &[Left],
     plan: &Plan<'_>,
+    made: &[Made<'_, '_>],
+    stages: usize,
 ) -> Result<usize, AllocError> {
-    let mut receivers = receivers_of(alloc, trees, left, &plan.groups)?;
-    let stages = stages(left, plan);
-    for group in plan.staged.iter() {
-        receivers.add(&plan.groups, Some(*group), stages)?;
-    }
-    let isolated = receivers.most(plan.staged.as_slice()).saturating_add(1);
+    let isolated = most_receivers(alloc, plan, made, stages)?.saturating_add(1);
     let staged = plan
         .staged
         .len()
         .saturating_add(plan.plains.len())
         .saturating_add(4);
     Ok(
-        made_count(left)
+        made.len()
             .saturating_add(staged.saturating_mul(stages))
             .saturating_add(isolated.saturating_mul(3)),
     )
 }
 
-/// Whether a server has room for a plan. Fails for want of memory alone.
-fn has_room(
-    alloc: Global,
-    trees: &[Tree<'_>],
-    left: &[Left],
-    plan: &Plan<'_>,
-) -> Result<bool, AllocError> {
-    let filesystems = plan.filesystems.len().saturating_add(1);
-    let directories = plan.directories.len().saturating_add(filesystems);
-    Ok(
-        filesystems <= MOST_FILESYSTEMS
-            && directories <= MOST_DIRECTORIES
-            && mounts_at_once(alloc, trees, left, plan)? <= MOST_MOUNTS,
-    )
-}
-
-/// How many mounts the trees have.
-fn mount_count(trees: &[Tree<'_>]) -> usize {
-    let mut count = 0_usize;
-    for tree in trees {
-        count = count.saturating_add(tree.mounts().len());
-    }
-    count
-}
-
 /// Whether a server has room for so many mounts, from the first. Fails for want of memory alone.
 fn fits(alloc: Global, trees: &[Tree<'_>], most: usize) -> Result<bool, AllocError> {
-    let (plan, left) = plan_of(alloc, trees, most)?;
-    has_room(alloc, trees, left.as_slice(), &plan)
+    let Choice { left, made, groups } = choose(alloc, trees, most)?;
+    let plan = plan_of(alloc, made.as_slice(), groups)?;
+    let stages = stages(left.as_slice(), &plan);
+    let mounts = mounts_at_once(alloc, &plan, made.as_slice(), stages)?;
+    Ok(plan.has_directories() && mounts <= MOST_MOUNTS)
 }
 
 /// How many mounts find room, from the first. Fails for want of memory alone.
 fn fitting(alloc: Global, trees: &[Tree<'_>]) -> Result<usize, AllocError> {
-    let all = mount_count(trees);
+    let mut all = 0_usize;
+    for tree in trees {
+        all = all.saturating_add(tree.mounts().len());
+    }
     if fits(alloc, trees, all)? {
         return Ok(all);
     }
@@ -228,5 +193,7 @@ pub(crate) fn plan_with_room<'a>(
     trees: &[Tree<'a>],
 ) -> Result<(Plan<'a>, Vec<Left>), AllocError> {
     let most = fitting(alloc, trees)?;
-    plan_of(alloc, trees, most)
+    let Choice { left, made, groups } = choose(alloc, trees, most)?;
+    let plan = plan_of(alloc, made.as_slice(), groups)?;
+    Ok((plan, left))
 }

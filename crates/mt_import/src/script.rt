@@ -27,6 +27,9 @@ impl Model for Script {
     ghost invariant = { λ s. IsScript s.text.items };
 }
 
+/// What a call answers that writes lines: it fails for want of memory alone.
+pub(crate) type Written = Result<(), AllocError>;
+
 /// Whether no byte ends a line.
 fn is_one_line(line: &[u8]) -> bool
     ensures { result ≡ list_all (λ b. not (b == 10)) line.now }
@@ -34,22 +37,20 @@ fn is_one_line(line: &[u8]) -> bool
     line.iter().all(|byte| *byte != b'\n')
 }
 
-/// Whether the server reads a line as a command. Refused as `NoMemory` alone.
-fn is_command(alloc: Global, line: &[u8]) -> Result<bool, Fault>
-    ensures asked { IfOk result (λ is. is ≡ is_run (request_of line.now)) }
-    ensures memory { IsOkUnless result Fault.NoMemory }
+/// Whether the server reads a line as a command. Fails for want of memory alone.
+fn is_command(alloc: Global, line: &[u8]) -> Result<bool, AllocError>
+    ensures { IfOk result (λ is. is ≡ is_run (request_of line.now)) }
 {
     match read_request(alloc, line) {
         Ok(Request::Run(_)) => Ok(true),
-        Err(Fault::NoMemory) => Err(Fault::NoMemory),
+        Err(Fault::NoMemory) => Err(AllocError),
         _ => Ok(false),
     }
 }
 
-/// Whether a line can stand in a script. Refused as `NoMemory` alone.
-fn is_script_line(alloc: Global, line: &[u8]) -> Result<bool, Fault>
-    ensures line { IfOk result (λ is. is ≡ is_script_line line.now) }
-    ensures memory { IsOkUnless result Fault.NoMemory }
+/// Whether a line can stand in a script. Fails for want of memory alone.
+fn is_script_line(alloc: Global, line: &[u8]) -> Result<bool, AllocError>
+    ensures { IfOk result (λ is. is ≡ is_script_line line.now) }
 {
     if !is_one_line(line) {
         return Ok(false);
@@ -89,18 +90,40 @@ impl Script {
     }
 
     /// Appends a line with a line end, if it is a comment or a command: whether it is. Refused as `NoMemory` alone.
-    #[tactic(auto, unfolding(crate::specs::Script::line_text))]
     pub fn push(&mut self, line: &[u8]) -> Result<bool, Fault>
         ensures told { IfOk result (λ is. is ≡ is_script_line line.now) }
         ensures pushed { OnOk result (self.new ≡ self.old ++ line_text line.now) }
         ensures memory { IsOkUnless result Fault.NoMemory }
     {
-        let alloc = *self.text.allocator();
+        let is = self.add(line)?;
+        Ok(is)
+    }
+
+    /// The same, which fails for want of memory alone.
+    #[tactic(auto, unfolding(crate::specs::Script::line_text))]
+    pub(crate) fn add(&mut self, line: &[u8]) -> Result<bool, AllocError>
+        ensures told { IfOk result (λ is. is ≡ is_script_line line.now) }
+        ensures pushed { OnOk result (self.new ≡ self.old ++ line_text line.now) }
+    {
+        let alloc = self.alloc();
         if !is_script_line(alloc, line)? {
             return Ok(false);
         }
         let text = ended(alloc, line)?;
         self.text.extend_from_slice(text.as_slice())?;
         Ok(true)
+    }
+
+    /// Appends the lines of another script.
+    pub(crate) fn append(&mut self, other: &Script) -> Written
+        ensures { OnOk result (self.new ≡ self.old ++ other.now) }
+    {
+        self.text.extend_from_slice(other.text())?;
+        Ok(())
+    }
+
+    /// What its memory comes from.
+    pub(crate) fn alloc(&self) -> Global {
+        *self.text.allocator()
     }
 }

@@ -1,12 +1,13 @@
-//! The directories of the filesystem on which a script puts mounts that it takes away again, and those that are not at their
-//! places yet.
-
-ghost use Rattle.std.specs.Prelude.{◌≡◌, ◌++◌, codes, IfOk};
+//! The paths at which a script puts mounts that it takes away again, and those that are not at their places yet.
+ghost use Rattle.std.specs.Prelude.{◌≡◌, ◌++◌, decimal, IfOk};
 ghost use Rattle.mt_import.specs.Slots.{stage_below, staged_path, group_path, apart_slot, cover_slot};
+ghost use Rattle.mt_import.specs.Turns.{base_path, path_at, place_path};
 
+use crate::mount::Mount;
 use crate::path::STAGE;
-use crate::writer::{digits_of, joined};
-use std::alloc::{AllocError, Global};
+use crate::site::Site;
+use crate::writer::{Text, digits_of, joined, one_behind};
+use std::alloc::Global;
 
 /// The name of the filesystem.
 pub(crate) const STAGE_FS: &[u8] = b"import";
@@ -23,31 +24,22 @@ pub(crate) const PEER: &[u8] = b"/peer";
 /// Where a mount stands on one that isolates a place, and spares it.
 pub(crate) const SPARED: &[u8] = b"/spared";
 
-/// A directory of a name. Fails for want of memory alone.
-pub(crate) fn name_slot(alloc: Global, name: &[u8]) -> Result<Vec<u8>, AllocError>
-    ensures { IfOk result (λ path. path.items ≡ codes "/" ++ name.now) }
+/// How the slots begin at which mounts of a level are made with all that stands on them.
+pub(crate) const APART: &[u8] = b"/apart-";
+
+/// And those of mounts that come to the root of a namespace.
+pub(crate) const COVER: &[u8] = b"/cover-";
+
+/// A slot of a number.
+pub(crate) fn slot(alloc: Global, name: &[u8], number: u64) -> Text
+    ensures { IfOk result (λ path. path.items ≡ name.now ++ decimal number) }
 {
-    joined(alloc, &[b"/", name])
+    let digits = digits_of(alloc, number)?;
+    one_behind(alloc, name, digits.as_slice())
 }
 
-/// Where a mount of a level is made with all that stands on it. Fails for want of memory alone.
-pub(crate) fn apart_slot(alloc: Global, level: usize) -> Result<Vec<u8>, AllocError>
-    ensures { IfOk result (λ path. path.items ≡ apart_slot level) }
-{
-    let number = digits_of(alloc, level as u64)?;
-    joined(alloc, &[b"/apart-", number.as_slice()])
-}
-
-/// Where one that comes to the root of a namespace is made. Fails for want of memory alone.
-pub(crate) fn cover_slot(alloc: Global, base: usize) -> Result<Vec<u8>, AllocError>
-    ensures { IfOk result (λ path. path.items ≡ cover_slot base) }
-{
-    let number = digits_of(alloc, base as u64)?;
-    joined(alloc, &[b"/cover-", number.as_slice()])
-}
-
-/// The path of what is staged: so many mounts are above it at the root of the namespace. Fails for want of memory alone.
-pub(crate) fn stage_below(alloc: Global, depth: usize) -> Result<Vec<u8>, AllocError>
+/// The path of what is staged: so many mounts are above it at the root of the namespace.
+pub(crate) fn stage_below(alloc: Global, depth: usize) -> Text
     ensures { IfOk result (λ path. path.items ≡ stage_below depth) }
 {
     let mut path = Vec::new(alloc);
@@ -57,27 +49,63 @@ pub(crate) fn stage_below(alloc: Global, depth: usize) -> Result<Vec<u8>, AllocE
     Ok(path)
 }
 
-/// The path of a directory below what is staged under a name. Fails for want of memory alone.
-pub(crate) fn staged_path(
-    alloc: Global,
-    stage: &[u8],
-    name: &[u8],
-    below: &[u8],
-) -> Result<Vec<u8>, AllocError>
-    ensures { IfOk result (λ path. path.items ≡ staged_path stage.now name.now below.now) }
-{
-    joined(alloc, &[stage, b"/", name, below])
-}
+impl<'s, 'a> Site<'s, 'a> {
+    /// The path where a mount of a level is made with all that stands on it.
+    pub(crate) fn apart_path(self, level: usize) -> Text
+        ensures { IfOk result (λ path. path.items ≡ self.entry.stage.now ++ apart_slot level) }
+    {
+        let slot = slot(self.alloc, APART, level as u64)?;
+        one_behind(self.alloc, self.stage, slot.as_slice())
+    }
 
-/// The path of a directory below the staged member of a group. Fails for want of memory alone.
-pub(crate) fn group_path(
-    alloc: Global,
-    stage: &[u8],
-    group: u64,
-    below: &[u8],
-) -> Result<Vec<u8>, AllocError>
-    ensures { IfOk result (λ path. path.items ≡ group_path stage.now group below.now) }
-{
-    let number = digits_of(alloc, group)?;
-    staged_path(alloc, stage, number.as_slice(), below)
+    /// The path where one is made that comes to the root of the namespace.
+    pub(crate) fn cover_path(self, base: usize) -> Text
+        ensures { IfOk result (λ path. path.items ≡ self.entry.stage.now ++ cover_slot base) }
+    {
+        let slot = slot(self.alloc, COVER, base as u64)?;
+        one_behind(self.alloc, self.stage, slot.as_slice())
+    }
+
+    /// The path of a directory below what is staged under a name.
+    pub(crate) fn staged_path(self, name: &[u8], below: &[u8]) -> Text
+        ensures { IfOk result (λ path. path.items ≡ staged_path self.entry.stage.now name.now below.now) }
+    {
+        joined(self.alloc, &[self.stage, b"/", name, below])
+    }
+
+    /// The path of a directory below the staged member of a group.
+    pub(crate) fn group_path(self, group: u64, below: &[u8]) -> Text
+        ensures { IfOk result (λ path. path.items ≡ group_path self.entry.stage.now group below.now) }
+    {
+        let number = digits_of(self.alloc, group)?;
+        self.staged_path(number.as_slice(), below)
+    }
+
+    /// The path of the place at the root of the namespace below which a mount is made.
+    fn base_path(self, base: usize) -> Text
+        ensures { IfOk result (λ path. path.items ≡ base_path self.entry.stage.now base) }
+    {
+        if base == 0 {
+            return Ok(Vec::new(self.alloc));
+        }
+        self.cover_path(base)
+    }
+
+    /// The path of what mounts of a level stand on.
+    pub(crate) fn path_at(self, base: usize, level: usize) -> Text
+        ensures { IfOk result (λ path. path.items ≡ path_at self.entry.stage.now base level) }
+    {
+        if level == 0 {
+            return self.base_path(base);
+        }
+        self.apart_path(level - 1)
+    }
+
+    /// The path of the place of a mount.
+    pub(crate) fn place_path(self, mount: &Mount<'_>) -> Text
+        ensures { IfOk result (λ path. path.items ≡ place_path self.entry.stage.now mount.now) }
+    {
+        let below = self.path_at(mount.base, mount.level)?;
+        one_behind(self.alloc, below.as_slice(), mount.names)
+    }
 }

@@ -6,6 +6,7 @@ ghost use Rattle.mt_import.specs.Telling.{is_shown};
 use crate::choice::{Left, is_made};
 use crate::groups::Groups;
 use crate::path::STAGE;
+use crate::site::Site;
 use crate::tree::Tree;
 use crate::ways::{Way, ways_of};
 use std::alloc::{AllocError, Global};
@@ -41,12 +42,18 @@ pub(crate) fn spaces_of<'a>(
 ) -> Result<Vec<Space<'a>>, AllocError>
     ensures rows { IfOk result (λ spaces. map (λ space. space.tree.rows) spaces.items ≡ map (λ tree. tree.rows) trees.entry.items) }
 {
+    let site = Site {
+        alloc,
+        groups,
+        space: b"",
+        stage: STAGE,
+    };
     let mut spaces: Vec<Space<'a>> = Vec::new(alloc);
     let mut others = left.into_iter();
     let mut number = 1_usize;
     'trees: for tree in trees {
         let left = others.next().unwrap_or(Vec::new(alloc));
-        let ways = ways_of(alloc, groups, STAGE, tree.mounts())?;
+        let ways = ways_of(site, tree.mounts())?;
         let space = Space {
             number,
             tree,

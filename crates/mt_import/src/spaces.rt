@@ -1,32 +1,31 @@
 //! The namespaces that a script makes.
-ghost use Rattle.std.specs.Prelude.{◌≡◌, ◌++◌, nat_lt, OnOk, IfOk, IsOkUnless};
+ghost use Rattle.std.specs.Prelude.{◌≡◌, ◌++◌, nat_lt, OnOk, IfOk};
 ghost use Rattle.std.specs.List.{flat_map};
-ghost use Rattle.mt_import.specs.Spaces.{numbers_where, is_cover, raised, lowered, covers_text, finished, turns_text, mounts_made, copied_if, space_text, made_space_at, AreMade};
+ghost use Rattle.mt_import.specs.Covers.{raised, lowered};
+ghost use Rattle.mt_import.specs.Script.{space_comment};
+ghost use Rattle.mt_import.specs.Spaces.{numbers_where, is_cover, covers_text, turns_text, mounts_made, copied_if, made_space_at, AreMade};
 ghost use Rattle.mt_import.specs.Telling.{is_shown};
 ghost use Rattle.mt_import.specs.Slots.{stage};
 
 use crate::choice::is_made;
-use crate::commands::copy_first;
 use crate::covers::{finish, lower, raise};
 use crate::groups::Groups;
-use crate::making::Site;
 use crate::mount::Mount;
 use crate::path::STAGE;
 use crate::reason::Reason;
 use crate::room::Plan;
-use crate::script::Script;
+use crate::script::{Script, Written};
+use crate::site::Site;
 use crate::space::Space;
-use crate::staging::make_keeper;
+use crate::staging::keeper_of;
 use crate::turns::take_turn;
-use crate::writer::{digits_of, space_comment};
-use mt_skel::fault::Fault;
+use crate::writer::{command, comment, digits_of};
 use std::alloc::{AllocError, Global};
 
-/// Does the turns of a table. Refused as `NoMemory` alone.
-fn take_turns(site: Site<'_, '_>, script: &mut Script, space: &Space<'_>) -> Result<(), Fault>
+/// Does the turns of a table.
+fn take_turns(site: Site<'_, '_>, script: &mut Script, space: &Space<'_>) -> Written
     requires { site.stage.now ≡ stage }
-    ensures pushed { OnOk result (script.new ≡ script.old ++ turns_text site.entry.groups.now.all site.entry.space.now space.now) }
-    ensures memory { IsOkUnless result Fault.NoMemory }
+    ensures { OnOk result (script.new ≡ script.old ++ turns_text site.entry.groups.now.all site.entry.space.now space.now) }
 {
     let mounts = space.tree.mounts();
     let (ways, left) = (space.ways.as_slice(), space.left.as_slice());
@@ -61,77 +60,40 @@ fn covers_of(
     Ok(covers)
 }
 
-/// Makes the mount of a number the root of the namespace, the old one below it. Refused as `NoMemory` alone.
-fn raise_at(
-    site: Site<'_, '_>,
-    script: &mut Script,
-    mounts: &[Mount<'_>],
-    number: usize,
-) -> Result<(), Fault>
-    ensures pushed { OnOk result (script.new ≡ script.old ++ raised site.entry.groups.now.all site.entry.space.now mounts.now number) }
-    ensures memory { IsOkUnless result Fault.NoMemory }
-{
-    let Some(mount) = mounts.get(number) else {
-        return Ok(());
-    };
-    raise(site, script, mount)?;
-    Ok(())
-}
-
-/// Puts the mount of a number, which is the root of the namespace, back on the one below it. Refused as `NoMemory` alone.
-fn lower_at(
-    site: Site<'_, '_>,
-    script: &mut Script,
-    mounts: &[Mount<'_>],
-    number: usize,
-) -> Result<(), Fault>
-    ensures pushed { OnOk result (script.new ≡ script.old ++ lowered site.entry.groups.now.all site.entry.space.now mounts.now number) }
-    ensures memory { IsOkUnless result Fault.NoMemory }
-{
-    let Some(mount) = mounts.get(number) else {
-        return Ok(());
-    };
-    lower(site, script, mount)?;
-    Ok(())
-}
-
-/// Makes each of these the root of the namespace, the old one below it. Refused as `NoMemory` alone.
+/// Makes each of these the root of the namespace, the old one below it.
 fn raise_all(
     site: Site<'_, '_>,
     script: &mut Script,
     mounts: &[Mount<'_>],
     covers: &[usize],
-) -> Result<(), Fault>
-    ensures pushed { OnOk result (script.new ≡ script.old ++ flat_map (raised site.entry.groups.now.all site.entry.space.now mounts.now) covers.now) }
-    ensures memory { IsOkUnless result Fault.NoMemory }
+) -> Written
+    ensures { OnOk result (script.new ≡ script.old ++ flat_map (raised site.entry.groups.now.all site.entry.space.now mounts.now) covers.now) }
 {
     'covers: for number in covers {
-        raise_at(site, script, mounts, *number)?;
+        raise(site, script, mounts, *number)?;
     }
     Ok(())
 }
 
-/// Puts each of these back on the one below it. Refused as `NoMemory` alone.
+/// Puts each of these back on the one below it.
 fn lower_all(
     site: Site<'_, '_>,
     script: &mut Script,
     mounts: &[Mount<'_>],
     covers: &[usize],
-) -> Result<(), Fault>
-    ensures pushed { OnOk result (script.new ≡ script.old ++ flat_map (lowered site.entry.groups.now.all site.entry.space.now mounts.now) covers.now) }
-    ensures memory { IsOkUnless result Fault.NoMemory }
+) -> Written
+    ensures { OnOk result (script.new ≡ script.old ++ flat_map (lowered site.entry.groups.now.all site.entry.space.now mounts.now) covers.now) }
 {
     'covers: for number in covers {
-        lower_at(site, script, mounts, *number)?;
+        lower(site, script, mounts, *number)?;
     }
     Ok(())
 }
 
-/// Brings the mounts to their place that stand on the root of the root mount. Refused as `NoMemory` alone.
+/// Brings the mounts to their place that stand on the root of the root mount.
 #[tactic(auto, unfolding(crate::specs::Spaces::covers_text))]
-fn cover(site: Site<'_, '_>, script: &mut Script, space: &Space<'_>) -> Result<(), Fault>
-    ensures pushed { OnOk result (script.new ≡ script.old ++ covers_text site.entry.groups.now.all site.entry.space.now space.now) }
-    ensures memory { IsOkUnless result Fault.NoMemory }
+fn cover(site: Site<'_, '_>, script: &mut Script, space: &Space<'_>) -> Written
+    ensures { OnOk result (script.new ≡ script.old ++ covers_text site.entry.groups.now.all site.entry.space.now space.now) }
 {
     let mounts = space.tree.mounts();
     let mut covers = covers_of(site.alloc, mounts, space.left.as_slice())?;
@@ -141,53 +103,53 @@ fn cover(site: Site<'_, '_>, script: &mut Script, space: &Space<'_>) -> Result<(
     Ok(())
 }
 
-/// Ends a namespace, if it has a root mount. Refused as `NoMemory` alone.
-fn finish_first(site: Site<'_, '_>, script: &mut Script, mounts: &[Mount<'_>]) -> Result<(), Fault>
+/// Makes the mounts of a table in the namespace of a number.
+fn make_in(site: Site<'_, '_>, script: &mut Script, space: &Space<'_>) -> Written
     requires { site.stage.now ≡ stage }
-    ensures pushed { OnOk result (script.new ≡ script.old ++ finished site.entry.groups.now.all site.entry.space.now mounts.now) }
-    ensures memory { IsOkUnless result Fault.NoMemory }
-{
-    let Some(root) = mounts.first() else {
-        return Ok(());
-    };
-    finish(site, script, root)?;
-    Ok(())
-}
-
-/// Makes the mounts of a table in the namespace of a number. Refused as `NoMemory` alone.
-fn make_in(site: Site<'_, '_>, script: &mut Script, space: &Space<'_>) -> Result<(), Fault>
-    requires { site.stage.now ≡ stage }
-    ensures pushed { OnOk result (script.new ≡ script.old ++ mounts_made site.entry.groups.now.all site.entry.space.now space.now) }
-    ensures memory { IsOkUnless result Fault.NoMemory }
+    ensures { OnOk result (script.new ≡ script.old ++ mounts_made site.entry.groups.now.all site.entry.space.now space.now) }
 {
     take_turns(site, script, space)?;
     cover(site, script, space)?;
-    finish_first(site, script, space.tree.mounts())?;
+    finish(site, script, space.tree.mounts())?;
     Ok(())
 }
 
-/// Copies the first namespace, for any other one. Refused as `NoMemory` alone.
-fn copy_for(alloc: Global, script: &mut Script, number: usize) -> Result<(), Fault>
-    ensures pushed { OnOk result (script.new ≡ script.old ++ copied_if (nat_lt 1 number)) }
-    ensures memory { IsOkUnless result Fault.NoMemory }
+/// Copies the first namespace, for any other one.
+fn copy_for(script: &mut Script, number: usize) -> Written
+    ensures { OnOk result (script.new ≡ script.old ++ copied_if (nat_lt 1 number)) }
 {
     if number > 1 {
-        copy_first(alloc, script)?;
+        command(script, &[b"copyns", b"1"])?;
     }
     Ok(())
 }
 
-/// Makes the namespace of a table. Refused as `NoMemory` alone.
+/// Says of which table a namespace is made.
+#[tactic(auto, unfolding(crate::specs::Script::space_comment))]
+fn space_comment(script: &mut Script, table: usize, space: &[u8]) -> Written
+    ensures { OnOk result (script.new ≡ script.old ++ space_comment table space.now) }
+{
+    let table = digits_of(script.alloc(), table as u64)?;
+    comment(
+        script,
+        &[b"# table ", table.as_slice(), b" is namespace ", space],
+    )
+}
+
+/// Makes the namespace of the table of a number.
 #[tactic(auto, unfolding(crate::specs::Spaces::space_text))]
 fn make_space(
-    alloc: Global,
     script: &mut Script,
     groups: &Groups<'_>,
-    space: &Space<'_>,
-) -> Result<(), Fault>
-    ensures pushed { OnOk result (script.new ≡ script.old ++ space_text groups.now.all space.now) }
-    ensures memory { IsOkUnless result Fault.NoMemory }
+    spaces: &[Space<'_>],
+    number: usize,
+) -> Written
+    ensures { OnOk result (script.new ≡ script.old ++ made_space_at groups.now.all spaces.now number) }
 {
+    let Some(space) = spaces.get(number) else {
+        return Ok(());
+    };
+    let alloc = script.alloc();
     let digits = digits_of(alloc, space.number as u64)?;
     let site = Site {
         alloc,
@@ -195,43 +157,23 @@ fn make_space(
         space: digits.as_slice(),
         stage: STAGE,
     };
-    space_comment(alloc, script, space.tree.table(), digits.as_slice())?;
-    copy_for(alloc, script, space.number)?;
+    space_comment(script, space.tree.table(), digits.as_slice())?;
+    copy_for(script, space.number)?;
     make_in(site, script, space)?;
     Ok(())
 }
 
-/// Makes the namespace of the table of a number. Refused as `NoMemory` alone.
-fn make_at(
-    alloc: Global,
-    script: &mut Script,
-    groups: &Groups<'_>,
-    spaces: &[Space<'_>],
-    number: usize,
-) -> Result<(), Fault>
-    ensures pushed { OnOk result (script.new ≡ script.old ++ made_space_at groups.now.all spaces.now number) }
-    ensures memory { IsOkUnless result Fault.NoMemory }
-{
-    let Some(space) = spaces.get(number) else {
-        return Ok(());
-    };
-    make_space(alloc, script, groups, space)?;
-    Ok(())
-}
-
-/// Makes the namespaces of the tables of these numbers. Refused as `NoMemory` alone.
+/// Makes the namespaces of the tables of these numbers.
 fn make_each(
-    alloc: Global,
     script: &mut Script,
     groups: &Groups<'_>,
     spaces: &[Space<'_>],
     numbers: &[usize],
-) -> Result<(), Fault>
-    ensures pushed { OnOk result (script.new ≡ script.old ++ flat_map (made_space_at groups.now.all spaces.now) numbers.now) }
-    ensures memory { IsOkUnless result Fault.NoMemory }
+) -> Written
+    ensures { OnOk result (script.new ≡ script.old ++ flat_map (made_space_at groups.now.all spaces.now) numbers.now) }
 {
     'spaces: for number in numbers {
-        make_at(alloc, script, groups, spaces, *number)?;
+        make_space(script, groups, spaces, *number)?;
     }
     Ok(())
 }
@@ -250,22 +192,17 @@ fn shown_of(alloc: Global, spaces: &[Space<'_>]) -> Result<Vec<usize>, AllocErro
 }
 
 /// Makes the namespaces of all tables of which the root mount is made, that of the first one last: it is the one of which the
-/// others are copies. Refused as `NoMemory` alone.
-pub(crate) fn make_spaces(
-    alloc: Global,
-    script: &mut Script,
-    plan: &Plan<'_>,
-    spaces: &[Space<'_>],
-) -> Result<(), Fault>
-    ensures pushed { OnOk result (AreMade plan.now.groups.all spaces.now script.old script.new) }
-    ensures memory { IsOkUnless result Fault.NoMemory }
+/// others are copies.
+pub(crate) fn make_spaces(script: &mut Script, plan: &Plan<'_>, spaces: &[Space<'_>]) -> Written
+    ensures { OnOk result (AreMade plan.now.groups.all spaces.now script.old script.new) }
 {
-    let shown = shown_of(alloc, spaces)?;
+    let shown = shown_of(script.alloc(), spaces)?;
     let [first, others @ ..] = shown.as_slice() else {
         return Ok(());
     };
-    make_each(alloc, script, &plan.groups, spaces, others)?;
-    make_keeper(alloc, script, plan, shown.len().saturating_add(1))?;
-    make_at(alloc, script, &plan.groups, spaces, *first)?;
+    let keeper = keeper_of(script.alloc(), plan, shown.len().saturating_add(1))?;
+    make_each(script, &plan.groups, spaces, others)?;
+    script.append(&keeper)?;
+    make_space(script, &plan.groups, spaces, *first)?;
     Ok(())
 }

@@ -6,10 +6,9 @@ ghost use Rattle.mt_import.specs.Growth.{IsGrowth};
 
 use crate::below::Below;
 use crate::growth::Growth;
-use crate::mount::{Mount, Turn};
+use crate::mount::{Mount, Turn, Verdict};
 use crate::reason::Reason;
 use crate::told::HostMount;
-use crate::verdict::Verdict;
 use std::alloc::{AllocError, Global};
 use std::collections::BTreeSet;
 use std::marker::Model;
@@ -62,6 +61,13 @@ impl<'a> Tree<'a> {
         ensures { result ≡ self.now.table }
     {
         self.table
+    }
+
+    /// The rows.
+    pub(crate) fn rows(&self) -> &'a [HostMount]
+        ensures { result.now ≡ self.now.rows }
+    {
+        self.rows
     }
 
     /// The mounts, each behind the one that it stands on.

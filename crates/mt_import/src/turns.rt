@@ -1,116 +1,79 @@
 //! The turns of a tree: each mount is made once, and comes to its place when all stands on it that does.
-ghost use Rattle.std.specs.Prelude.{◌≡◌, ◌++◌, if◌then◌else◌, [], map, OnOk, IsOkUnless};
+ghost use Rattle.std.specs.Prelude.{◌≡◌, ◌++◌, if◌then◌else◌, [], map, OnOk};
 ghost use Rattle.mt_import.specs.Making.{share_text};
 ghost use Rattle.mt_import.specs.Hook.{hooked_text};
 ghost use Rattle.mt_import.specs.Slots.{group_path};
 ghost use Rattle.mt_import.specs.Turns.{apart_path, place_path, begun_text, settle_text, placed_text, ended_text, made_turn, turn_text};
 
 use crate::choice::is_made;
-use crate::commands::{move_mount, unmount};
 use crate::covers::make_base;
 use crate::hook::isolate;
-use crate::making::{Site, make_bare, share_alone};
+use crate::making::{make_bare, share_alone};
 use crate::mount::{Mount, Turn};
-use crate::paths::{apart_path, place_path};
 use crate::reason::Reason;
-use crate::script::Script;
-use crate::slots::group_path;
+use crate::script::{Script, Written};
+use crate::site::Site;
 use crate::ways::{Way, hooked_by};
-use mt_skel::fault::Fault;
 
-/// Begins a mount: one that is made apart is made. Refused as `NoMemory` alone.
+/// Begins a mount: one that is made apart is made.
 #[tactic(auto, unfolding(crate::specs::Turns::begun_text))]
-fn begin(
-    site: Site<'_, '_>,
-    script: &mut Script,
-    apart: bool,
-    mount: &Mount<'_>,
-) -> Result<(), Fault>
-    ensures pushed { OnOk result (script.new ≡ script.old ++ begun_text site.entry.groups.now.all site.entry.space.now site.entry.stage.now apart mount.now) }
-    ensures memory { IsOkUnless result Fault.NoMemory }
+fn begin(site: Site<'_, '_>, script: &mut Script, apart: bool, mount: &Mount<'_>) -> Written
+    ensures { OnOk result (script.new ≡ script.old ++ begun_text site.entry.groups.now.all site.entry.space.now site.entry.stage.now apart mount.now) }
 {
     if !apart {
         return Ok(());
     }
-    let path = apart_path(site.alloc, site.stage, mount.level)?;
-    make_bare(site, script, mount, path.as_slice())?;
-    Ok(())
+    let path = site.apart_path(mount.level)?;
+    make_bare(site, script, mount, path.as_slice())
 }
 
-/// Brings a mount to its place, where nothing propagates. Refused as `NoMemory` alone.
+/// Brings a mount to its place, where nothing propagates.
 #[tactic(auto, unfolding(crate::specs::Turns::settle_text))]
-fn settle(
-    site: Site<'_, '_>,
-    script: &mut Script,
-    apart: bool,
-    mount: &Mount<'_>,
-) -> Result<(), Fault>
-    ensures pushed { OnOk result (script.new ≡ script.old ++ settle_text site.entry.groups.now.all site.entry.space.now site.entry.stage.now apart mount.now) }
-    ensures memory { IsOkUnless result Fault.NoMemory }
+fn settle(site: Site<'_, '_>, script: &mut Script, apart: bool, mount: &Mount<'_>) -> Written
+    ensures { OnOk result (script.new ≡ script.old ++ settle_text site.entry.groups.now.all site.entry.space.now site.entry.stage.now apart mount.now) }
 {
-    let place = place_path(site.alloc, site.stage, mount)?;
+    let place = site.place_path(mount)?;
     if apart {
-        let path = apart_path(site.alloc, site.stage, mount.level)?;
-        move_mount(
-            site.alloc,
-            script,
-            site.space,
-            path.as_slice(),
-            place.as_slice(),
-        )?;
-        return Ok(());
+        let path = site.apart_path(mount.level)?;
+        return site.run(script, b"move", path.as_slice(), place.as_slice());
     }
     make_bare(site, script, mount, place.as_slice())?;
     share_alone(site, script, mount.row, place.as_slice())?;
     Ok(())
 }
 
-/// Brings a mount to its place on a member of a peer group, which is isolated meanwhile. Refused as `NoMemory` alone.
+/// Brings a mount to its place on a member of a peer group, which is isolated meanwhile.
 fn settle_alone(
     site: Site<'_, '_>,
     script: &mut Script,
     way: &Way,
     mount: &Mount<'_>,
     group: u64,
-) -> Result<(), Fault>
-    ensures pushed { OnOk result (script.new ≡ script.old ++ hooked_text site.entry.space.now (group_path site.entry.stage.now group mount.now.place.items) (map (λ path. path.items) way.now.others.items)
+) -> Written
+    ensures { OnOk result (script.new ≡ script.old ++ hooked_text site.entry.space.now (group_path site.entry.stage.now group mount.now.place.items) (map (λ path. path.items) way.now.others.items)
         (place_path site.entry.stage.now mount.now) (settle_text site.entry.groups.now.all site.entry.space.now site.entry.stage.now way.now.apart mount.now)) }
-    ensures memory { IsOkUnless result Fault.NoMemory }
 {
-    let hook = group_path(site.alloc, site.stage, group, mount.place.as_slice())?;
-    let place = place_path(site.alloc, site.stage, mount)?;
-    isolate(
-        site.alloc,
-        script,
-        site.space,
-        hook.as_slice(),
-        way.others.as_slice(),
-        place.as_slice(),
-    )?;
+    let hook = site.group_path(group, mount.place.as_slice())?;
+    let place = site.place_path(mount)?;
+    let (others, place) = (way.others.as_slice(), place.as_slice());
+    isolate(site, script, hook.as_slice(), others, place)?;
     settle(site, script, way.apart, mount)?;
-    unmount(site.alloc, script, site.space, hook.as_slice())?;
+    site.unmount(script, hook.as_slice())?;
     Ok(())
 }
 
-/// Makes a mount shared that was made apart and is alone in its group. Refused as `NoMemory` alone.
-fn share_apart(
-    site: Site<'_, '_>,
-    script: &mut Script,
-    apart: bool,
-    mount: &Mount<'_>,
-) -> Result<(), Fault>
-    ensures pushed { OnOk result (script.new ≡ script.old ++ (if apart then share_text site.entry.groups.now.all site.entry.space.now mount.now.row.now (apart_path site.entry.stage.now mount.now) else [])) }
-    ensures memory { IsOkUnless result Fault.NoMemory }
+/// Makes a mount shared that was made apart and is alone in its group.
+fn share_apart(site: Site<'_, '_>, script: &mut Script, apart: bool, mount: &Mount<'_>) -> Written
+    ensures { OnOk result (script.new ≡ script.old ++ (if apart then share_text site.entry.groups.now.all site.entry.space.now mount.now.row.now (apart_path site.entry.stage.now mount.now) else [])) }
 {
     if !apart {
         return Ok(());
     }
-    let path = apart_path(site.alloc, site.stage, mount.level)?;
-    share_alone(site, script, mount.row, path.as_slice())?;
-    Ok(())
+    let path = site.apart_path(mount.level)?;
+    share_alone(site, script, mount.row, path.as_slice())
 }
 
-/// Brings a mount to its place, which is isolated if others get what is mounted there. Refused as `NoMemory` alone.
+/// Brings a mount to its place, which is isolated if others get what is mounted there.
 #[tactic(auto, unfolding(crate::specs::Turns::placed_text))]
 fn place(
     site: Site<'_, '_>,
@@ -118,20 +81,17 @@ fn place(
     hooked: Option<u64>,
     way: &Way,
     mount: &Mount<'_>,
-) -> Result<(), Fault>
-    ensures pushed { OnOk result (script.new ≡ script.old ++ placed_text hooked site.entry.space.now site.entry.stage.now (map (λ path. path.items) way.now.others.items) mount.now
+) -> Written
+    ensures { OnOk result (script.new ≡ script.old ++ placed_text hooked site.entry.space.now site.entry.stage.now (map (λ path. path.items) way.now.others.items) mount.now
         (settle_text site.entry.groups.now.all site.entry.space.now site.entry.stage.now way.now.apart mount.now)) }
-    ensures memory { IsOkUnless result Fault.NoMemory }
 {
     let Some(group) = hooked else {
-        settle(site, script, way.apart, mount)?;
-        return Ok(());
+        return settle(site, script, way.apart, mount);
     };
-    settle_alone(site, script, way, mount, group)?;
-    Ok(())
+    settle_alone(site, script, way, mount, group)
 }
 
-/// Ends a mount, on which all stands that does: it comes to its place. Refused as `NoMemory` alone.
+/// Ends a mount, on which all stands that does: it comes to its place.
 #[tactic(auto, unfolding(crate::specs::Turns::ended_text))]
 fn end(
     site: Site<'_, '_>,
@@ -139,9 +99,8 @@ fn end(
     mounts: &[Mount<'_>],
     way: &Way,
     mount: &Mount<'_>,
-) -> Result<(), Fault>
-    ensures pushed { OnOk result (script.new ≡ script.old ++ ended_text site.entry.groups.now.all site.entry.space.now site.entry.stage.now mounts.now way.now mount.now) }
-    ensures memory { IsOkUnless result Fault.NoMemory }
+) -> Written
+    ensures { OnOk result (script.new ≡ script.old ++ ended_text site.entry.groups.now.all site.entry.space.now site.entry.stage.now mounts.now way.now mount.now) }
 {
     let hooked = hooked_by(site.groups, mounts, mount);
     share_apart(site, script, way.apart, mount)?;
@@ -149,7 +108,7 @@ fn end(
     Ok(())
 }
 
-/// Does the turn of a mount. Refused as `NoMemory` alone.
+/// Does the turn of a mount.
 fn make_turn(
     site: Site<'_, '_>,
     script: &mut Script,
@@ -157,19 +116,17 @@ fn make_turn(
     way: &Way,
     mount: &Mount<'_>,
     turn: Turn,
-) -> Result<(), Fault>
-    ensures pushed { OnOk result (script.new ≡ script.old ++ made_turn site.entry.groups.now.all site.entry.space.now site.entry.stage.now mounts.now way.now mount.now turn) }
-    ensures memory { IsOkUnless result Fault.NoMemory }
+) -> Written
+    ensures { OnOk result (script.new ≡ script.old ++ made_turn site.entry.groups.now.all site.entry.space.now site.entry.stage.now mounts.now way.now mount.now turn) }
 {
     match turn {
-        Turn::Base(_) => make_base(site, script, mount)?,
-        Turn::Begin(_) => begin(site, script, way.apart, mount)?,
-        Turn::End(_) => end(site, script, mounts, way, mount)?,
+        Turn::Base(_) => make_base(site, script, mount),
+        Turn::Begin(_) => begin(site, script, way.apart, mount),
+        Turn::End(_) => end(site, script, mounts, way, mount),
     }
-    Ok(())
 }
 
-/// Does a turn, unless its mount is left out. Refused as `NoMemory` alone.
+/// Does a turn, unless its mount is left out.
 #[tactic(auto, unfolding(crate::specs::Turns::turn_text))]
 pub(crate) fn take_turn(
     site: Site<'_, '_>,
@@ -178,9 +135,8 @@ pub(crate) fn take_turn(
     ways: &[Way],
     left: &[Option<Reason>],
     turn: Turn,
-) -> Result<(), Fault>
-    ensures pushed { OnOk result (script.new ≡ script.old ++ turn_text site.entry.groups.now.all site.entry.space.now site.entry.stage.now mounts.now ways.now left.now turn) }
-    ensures memory { IsOkUnless result Fault.NoMemory }
+) -> Written
+    ensures { OnOk result (script.new ≡ script.old ++ turn_text site.entry.groups.now.all site.entry.space.now site.entry.stage.now mounts.now ways.now left.now turn) }
 {
     let number = turn.mount();
     if !is_made(left, number) {
@@ -189,6 +145,5 @@ pub(crate) fn take_turn(
     let (Some(mount), Some(way)) = (mounts.get(number), ways.get(number)) else {
         return Ok(());
     };
-    make_turn(site, script, mounts, way, mount, turn)?;
-    Ok(())
+    make_turn(site, script, mounts, way, mount, turn)
 }

@@ -5,9 +5,9 @@ ghost use Rattle.mt_import.specs.Turns.{hooked_by};
 use crate::groups::Groups;
 use crate::mount::Mount;
 use crate::path::path_behind;
-use crate::paths::{apart_path, path_at};
+use crate::site::Site;
 use crate::writer::one_behind;
-use std::alloc::{AllocError, Global};
+use std::alloc::AllocError;
 
 /// How a mount comes to its place.
 #[derive(Drop)]
@@ -67,59 +67,47 @@ fn names_to_hiding<'m, 'a>(
 /// The paths at which the hook for a mount is taken away: where it would hide the place, and where it covers the mount itself.
 /// Fails for want of memory alone.
 fn others_of(
-    alloc: Global,
-    groups: &Groups<'_>,
-    stage: &[u8],
+    site: Site<'_, '_>,
     mounts: &[Mount<'_>],
-    number: usize,
     mount: &Mount<'_>,
     group: u64,
 ) -> Result<Vec<Vec<u8>>, AllocError> {
-    let mut paths = Vec::new(alloc);
-    if mount.lowest != number {
-        if let Some(names) = names_to_hiding(groups, mounts, mount, group) {
-            let below = path_at(alloc, stage, mount.base, mount.level)?;
-            paths.push(one_behind(alloc, below.as_slice(), names)?)?;
-        }
+    let mut paths = Vec::new(site.alloc);
+    if let Some(names) = names_to_hiding(site.groups, mounts, mount, group) {
+        let below = site.path_at(mount.base, mount.level)?;
+        paths.push(one_behind(site.alloc, below.as_slice(), names)?)?;
     }
-    if mount.root == mount.place.as_slice() && groups.gets_from(mount.row, group) {
-        paths.push(apart_path(alloc, stage, mount.level)?)?;
+    if mount.root == mount.place.as_slice() && site.groups.gets_from(mount.row, group) {
+        paths.push(site.apart_path(mount.level)?)?;
     }
     Ok(paths)
 }
 
-/// How a mount comes to its place. Fails for want of memory alone.
+/// How the mount of a number comes to its place. Fails for want of memory alone.
 fn way_of(
-    alloc: Global,
-    groups: &Groups<'_>,
-    stage: &[u8],
+    site: Site<'_, '_>,
     mounts: &[Mount<'_>],
     number: usize,
     mount: &Mount<'_>,
 ) -> Result<Way, AllocError> {
     let apart = has_others(mounts, number);
-    let Some(group) = hooked_by(groups, mounts, mount) else {
+    let Some(group) = hooked_by(site.groups, mounts, mount) else {
         return Ok(Way {
             apart,
-            others: Vec::new(alloc),
+            others: Vec::new(site.alloc),
         });
     };
     Ok(Way {
-        apart: apart || is_hooked(groups, mount, group),
-        others: others_of(alloc, groups, stage, mounts, number, mount, group)?,
+        apart: apart || is_hooked(site.groups, mount, group),
+        others: others_of(site, mounts, mount, group)?,
     })
 }
 
 /// How the mounts of a tree come to their places. Fails for want of memory alone.
-pub(crate) fn ways_of(
-    alloc: Global,
-    groups: &Groups<'_>,
-    stage: &[u8],
-    mounts: &[Mount<'_>],
-) -> Result<Vec<Way>, AllocError> {
-    let mut ways = Vec::new(alloc);
+pub(crate) fn ways_of(site: Site<'_, '_>, mounts: &[Mount<'_>]) -> Result<Vec<Way>, AllocError> {
+    let mut ways = Vec::new(site.alloc);
     for (number, mount) in mounts.iter().enumerate() {
-        ways.push(way_of(alloc, groups, stage, mounts, number, mount)?)?;
+        ways.push(way_of(site, mounts, number, mount)?)?;
     }
     Ok(ways)
 }

@@ -1,5 +1,5 @@
 use Rattle.std.proofs.Common.{◌≡◌, replicate}
-use Rattle.mt_import.specs.declared.verdict.Verdict.TheVariants.{Waits}
+use Rattle.mt_import.specs.declared.mount.Verdict.TheVariants.{Waits}
 use Rattle.mt_import.proofs.growth.waits.Given as goal
 
 abbrev pub invariant-rows : goal.invariant-rows

@@ -1,6 +1,6 @@
 use Rattle.std.proofs.Common.{◌≡◌, ◌++◌, drop}
 use Rattle.std.specs.List.{flat_map}
-use Rattle.mt_import.specs.Spaces.{lowered}
+use Rattle.mt_import.specs.Covers.{lowered}
 use Rattle.mt_import.proofs.spaces.lower_all.Given as goal
 
 -- what was appended and what is left are all

@@ -1,6 +1,6 @@
 use Rattle.std.proofs.Common.{◌≡◌, ◌++◌, drop}
 use Rattle.std.specs.List.{flat_map}
-use Rattle.mt_import.specs.Spaces.{raised}
+use Rattle.mt_import.specs.Covers.{raised}
 use Rattle.mt_import.proofs.spaces.raise_all.Given as goal
 
 -- what was appended and what is left are all

@@ -1,8 +1,8 @@
-use Rattle.std.proofs.Common.{◌≡◌, ◌++◌, drop, map}
-use Rattle.mt_import.specs.Telling.{tables_text}
+use Rattle.std.proofs.Common.{◌≡◌, ◌++◌, drop}
+use Rattle.std.specs.List.{flat_map}
+use Rattle.mt_import.specs.Telling.{tree_rows}
 use Rattle.mt_import.proofs.telling.tell_tables.Given as goal
 
 -- what was appended and what is left are all
-abbrev pub invariant-tables : goal.invariant-tables
-invariant-tables l =
-    l.script ++ tables_text (map (λ rows. rows.items) (drop l.rows-index l.tables)) l.others.rest.now ≡ l.initial.script ++ tables_text (map (λ rows. rows.items) l.tables) l.spaces
+abbrev pub invariant-spaces : goal.invariant-spaces
+invariant-spaces l = l.script ++ flat_map tree_rows (drop l.space-index l.spaces) ≡ l.initial.script ++ flat_map tree_rows l.spaces
