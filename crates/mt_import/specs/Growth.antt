@@ -31,6 +31,10 @@ is_waiting verdict = false
 abbrev pub IsGrowth : Growth → Type 0
 IsGrowth growth = IsMakingOrder growth.rows.now growth.mounts.items growth.turns.items growth.verdicts.items (waiting_ends growth.waiting.items)
 
+-- it stays one, of the same rows
+abbrev pub GrowsOn : Growth → Growth → Type 0
+GrowsOn old new = (new.rows ≡ old.rows) × (IsGrowth old → IsGrowth new)
+
 -- a mount that has a place stands on the one of a number, and is that of a row
 abbrev pub IsOn : ℕ → ℕ → Placed → Type 0
 IsOn above number (There mount) = (mount.above ≡ above) × (mount.number ≡ number)

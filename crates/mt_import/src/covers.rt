@@ -7,10 +7,10 @@ ghost use Rattle.mt_import.specs.Covers.{isolated_text, root_text, base_text, sh
 use crate::making::{make_bare, share_alone};
 use crate::mount::Mount;
 use crate::path::{SECOND, STAGE};
-use crate::script::{Script, Written};
+use crate::script::Script;
 use crate::site::{PRIVATE, Site};
 use crate::slots::{NEW, NEW_STAGE, PEER, STAGE_FS, stage_below};
-use crate::writer::{command, one_behind};
+use crate::writer::{Done, command, one_behind};
 
 /// Has a mount without group stand on one of a group, so that another one can be put on it.
 fn isolate_stage(
@@ -19,7 +19,7 @@ fn isolate_stage(
     mount: &Mount<'_>,
     group: u64,
     path: &[u8],
-) -> Written
+) -> Done
     ensures { OnOk result (script.new ≡ script.old ++ isolated_text site.entry.space.now site.entry.stage.now mount.now group path.now) }
 {
     let place = one_behind(site.alloc, mount.root, STAGE)?;
@@ -37,7 +37,7 @@ fn shelve(
     group: Option<u64>,
     is_shared: bool,
     path: &[u8],
-) -> Written
+) -> Done
     ensures { OnOk result (script.new ≡ script.old ++ shelf_text group is_shared site.entry.space.now site.entry.stage.now mount.now path.now) }
 {
     if let Some(group) = group {
@@ -51,7 +51,7 @@ fn shelve(
 
 /// Makes the root mount, and has it take the place of what is staged at the root of the namespace.
 #[tactic(auto, unfolding(crate::specs::Covers::root_text))]
-fn make_root(site: Site<'_, '_>, script: &mut Script, mount: &Mount<'_>) -> Written
+fn make_root(site: Site<'_, '_>, script: &mut Script, mount: &Mount<'_>) -> Done
     ensures { OnOk result (script.new ≡ script.old ++ root_text site.entry.groups.now.all site.entry.space.now site.entry.stage.now mount.now) }
 {
     let row = mount.row;
@@ -64,7 +64,7 @@ fn make_root(site: Site<'_, '_>, script: &mut Script, mount: &Mount<'_>) -> Writ
 
 /// Makes the root mount, or one that comes to the root of the namespace, at a slot.
 #[tactic(auto, unfolding(crate::specs::Covers::base_text))]
-pub(crate) fn make_base(site: Site<'_, '_>, script: &mut Script, mount: &Mount<'_>) -> Written
+pub(crate) fn make_base(site: Site<'_, '_>, script: &mut Script, mount: &Mount<'_>) -> Done
     ensures { OnOk result (script.new ≡ script.old ++ base_text site.entry.groups.now.all site.entry.space.now site.entry.stage.now mount.now) }
 {
     if mount.base == 0 {
@@ -76,7 +76,7 @@ pub(crate) fn make_base(site: Site<'_, '_>, script: &mut Script, mount: &Mount<'
 }
 
 /// Makes one at a slot the root of the namespace, with the old one below it.
-fn raise_from(site: Site<'_, '_>, script: &mut Script, mount: &Mount<'_>, path: &[u8]) -> Written
+fn raise_from(site: Site<'_, '_>, script: &mut Script, mount: &Mount<'_>, path: &[u8]) -> Done
     ensures { OnOk result (script.new ≡ script.old ++ raise_from site.entry.groups.now.all site.entry.space.now site.entry.stage.now mount.now path.now) }
 {
     let old = one_behind(site.alloc, path, STAGE)?;
@@ -95,7 +95,7 @@ pub(crate) fn raise(
     script: &mut Script,
     mounts: &[Mount<'_>],
     number: usize,
-) -> Written
+) -> Done
     ensures { OnOk result (script.new ≡ script.old ++ raised site.entry.groups.now.all site.entry.space.now mounts.now number) }
 {
     let Some(mount) = mounts.get(number) else {
@@ -112,7 +112,7 @@ pub(crate) fn raise(
 }
 
 /// Puts a member of a group with others back on the one below it.
-fn lower_member(site: Site<'_, '_>, script: &mut Script, mount: &Mount<'_>, group: u64) -> Written
+fn lower_member(site: Site<'_, '_>, script: &mut Script, mount: &Mount<'_>, group: u64) -> Done
     ensures { OnOk result (script.new ≡ script.old ++ lower_member_text site.entry.space.now site.entry.stage.now mount.now group) }
 {
     let place = one_behind(site.alloc, mount.root, STAGE)?;
@@ -125,7 +125,7 @@ fn lower_member(site: Site<'_, '_>, script: &mut Script, mount: &Mount<'_>, grou
 /// Makes the root of the namespace shared, which is alone in its group, and moves the old root onto a mount without group
 /// that a peer at a path gives it.
 #[tactic(auto, unfolding(crate::specs::Covers::shelve_text))]
-fn shelve_shared(site: Site<'_, '_>, script: &mut Script, mount: &Mount<'_>, peer: &[u8]) -> Written
+fn shelve_shared(site: Site<'_, '_>, script: &mut Script, mount: &Mount<'_>, peer: &[u8]) -> Done
     ensures { OnOk result (script.new ≡ script.old ++ shelve_text site.entry.groups.now.all site.entry.space.now peer.now mount.now) }
 {
     let hook = one_behind(site.alloc, peer, SECOND)?;
@@ -140,7 +140,7 @@ fn shelve_shared(site: Site<'_, '_>, script: &mut Script, mount: &Mount<'_>, pee
 
 /// Puts it back on the one below it, and takes away its peer, which is at a path then.
 #[tactic(auto, unfolding(crate::specs::Covers::unshelve_text))]
-fn lower_shared(site: Site<'_, '_>, script: &mut Script, peer: &[u8]) -> Written
+fn lower_shared(site: Site<'_, '_>, script: &mut Script, peer: &[u8]) -> Done
     ensures { OnOk result (script.new ≡ script.old ++ unshelve_text site.entry.space.now peer.now) }
 {
     let hook = one_behind(site.alloc, peer, SECOND)?;
@@ -151,12 +151,7 @@ fn lower_shared(site: Site<'_, '_>, script: &mut Script, peer: &[u8]) -> Written
 }
 
 /// Puts the root of the namespace back on the one below it.
-fn lower_in(
-    site: Site<'_, '_>,
-    script: &mut Script,
-    mount: &Mount<'_>,
-    group: Option<u64>,
-) -> Written
+fn lower_in(site: Site<'_, '_>, script: &mut Script, mount: &Mount<'_>, group: Option<u64>) -> Done
     ensures { OnOk result (script.new ≡ script.old ++ lower_in group (is_some mount.now.row.now.shared) site.entry.groups.now.all site.entry.space.now site.entry.stage.now mount.now) }
 {
     if let Some(group) = group {
@@ -180,7 +175,7 @@ pub(crate) fn lower(
     script: &mut Script,
     mounts: &[Mount<'_>],
     number: usize,
-) -> Written
+) -> Done
     ensures { OnOk result (script.new ≡ script.old ++ lowered site.entry.groups.now.all site.entry.space.now mounts.now number) }
 {
     let Some(mount) = mounts.get(number) else {
@@ -199,7 +194,7 @@ pub(crate) fn lower(
 
 /// Takes what is staged away, and makes the root mount, if there is one, a member of its group, if it is alone in that.
 #[tactic(auto, unfolding(crate::specs::Covers::finish_text))]
-pub(crate) fn finish(site: Site<'_, '_>, script: &mut Script, mounts: &[Mount<'_>]) -> Written
+pub(crate) fn finish(site: Site<'_, '_>, script: &mut Script, mounts: &[Mount<'_>]) -> Done
     ensures { OnOk result (script.new ≡ script.old ++ finished site.entry.groups.now.all site.entry.space.now site.entry.stage.now mounts.now) }
 {
     let Some(root) = mounts.first() else {

@@ -1,10 +1,10 @@
 //! The directories that are made.
 
-use crate::choice::Made;
+use crate::choice::Candidate;
 use crate::path::{SECOND, STAGE};
-use crate::script::{Script, Written};
+use crate::script::Script;
 use crate::slots::{APART, COVER, NEW, PEER, SPARED, STAGE_FS, slot};
-use crate::writer::{command, joined, one_behind};
+use crate::writer::{Done, command, joined, one_behind};
 use std::alloc::{AllocError, Global};
 use std::collections::BTreeSet;
 
@@ -21,8 +21,8 @@ impl Directories {
         self.all.len()
     }
 
-    /// Adds a directory of a filesystem, and those above it. Fails for want of memory alone.
-    fn add(&mut self, filesystem: &[u8], path: &[u8]) -> Result<(), AllocError> {
+    /// Adds a directory of a filesystem, and those above it.
+    fn add(&mut self, filesystem: &[u8], path: &[u8]) -> Done {
         for (end, byte) in path.iter().enumerate() {
             if *byte == b'/' && end > 0 {
                 let above = joined(self.alloc, &[filesystem, &path[..end]])?;
@@ -36,22 +36,35 @@ impl Directories {
         Ok(())
     }
 
-    /// Adds a directory of a name below one of a filesystem. Fails for want of memory alone.
-    fn add_below(&mut self, filesystem: &[u8], path: &[u8], name: &[u8]) -> Result<(), AllocError> {
+    /// Adds a directory of a name below one of a filesystem.
+    fn add_below(&mut self, filesystem: &[u8], path: &[u8], name: &[u8]) -> Done {
         let path = one_behind(self.alloc, path, name)?;
         self.add(filesystem, path.as_slice())
     }
 
-    /// Adds a slot of a number. Fails for want of memory alone.
-    fn add_slot(&mut self, name: &[u8], number: u64) -> Result<(), AllocError> {
+    /// Adds a slot of a number.
+    fn add_slot(&mut self, name: &[u8], number: u64) -> Done {
         let slot = slot(self.alloc, name, number)?;
         self.add(STAGE_FS, slot.as_slice())
     }
 
-    /// Adds what a mount needs: what it shows, where it stands, and a slot for it; at the root of the namespace also where the
-    /// old root stands meanwhile. Fails for want of memory alone.
-    fn add_mount(&mut self, made: &Made<'_, '_>) -> Result<(), AllocError> {
-        let (row, mount, below) = (made.row, made.mount, made.below);
+    /// Adds the slots of what is staged, and those that hooks and root mounts need.
+    fn add_staged(&mut self, plains: &BTreeSet<&[u8]>, staged: &[u64]) -> Done {
+        self.add(STAGE_FS, NEW)?;
+        self.add(STAGE_FS, SPARED)?;
+        for device in plains.iter() {
+            self.add_below(STAGE_FS, b"/", device)?;
+        }
+        for group in staged {
+            self.add_slot(b"/", *group)?;
+        }
+        Ok(())
+    }
+
+    /// Adds what a mount needs: what it shows, where it stands, and a slot for it; at the root of the namespace also where
+    /// the old root stands meanwhile.
+    fn add_mount(&mut self, candidate: &Candidate<'_, '_>) -> Done {
+        let (row, mount, below) = (candidate.row, candidate.mount, candidate.below);
         let (device, lower) = (row.device.as_slice(), below.row);
         self.add(device, mount.root)?;
         self.add(lower.device.as_slice(), mount.place.as_slice())?;
@@ -68,7 +81,7 @@ impl Directories {
     }
 
     /// Makes the directories, each behind those above it.
-    pub(crate) fn make(&self, script: &mut Script) -> Written {
+    pub(crate) fn make(&self, script: &mut Script) -> Done {
         for directory in self.all.iter() {
             let text = directory.as_slice();
             if let Some(end) = text.iter().position(|byte| *byte == b'/') {
@@ -82,7 +95,7 @@ impl Directories {
 /// The directories that the mounts need which are made, with the slots of what is staged. Fails for want of memory alone.
 pub(crate) fn directories_of(
     alloc: Global,
-    made: &[Made<'_, '_>],
+    made: &[Candidate<'_, '_>],
     plains: &BTreeSet<&[u8]>,
     staged: &[u64],
 ) -> Result<Directories, AllocError> {
@@ -90,16 +103,9 @@ pub(crate) fn directories_of(
         alloc,
         all: BTreeSet::new(alloc),
     };
-    directories.add(STAGE_FS, NEW)?;
-    directories.add(STAGE_FS, SPARED)?;
-    for device in plains.iter() {
-        directories.add_below(STAGE_FS, b"/", device)?;
-    }
-    for group in staged {
-        directories.add_slot(b"/", *group)?;
-    }
-    for made in made {
-        directories.add_mount(made)?;
+    directories.add_staged(plains, staged)?;
+    for candidate in made {
+        directories.add_mount(candidate)?;
     }
     Ok(directories)
 }

@@ -1,9 +1,9 @@
 //! The filesystems that are made, one for each device.
 
-use crate::choice::Made;
-use crate::script::{Script, Written};
+use crate::choice::Candidate;
+use crate::script::Script;
 use crate::told::HostMount;
-use crate::writer::{command, comment, digits_of, row_comment, spaced};
+use crate::writer::{Done, Text, command, comment, digits_of, note, spaced};
 use std::alloc::{AllocError, Global};
 use std::collections::BTreeMap;
 
@@ -22,8 +22,8 @@ impl<'a> Filesystems<'a> {
         self.all.len()
     }
 
-    /// Adds what a row of a table tells. Fails for want of memory alone.
-    fn add(&mut self, table: usize, row: &'a HostMount) -> Result<(), AllocError> {
+    /// Adds what a row of a table tells.
+    fn add(&mut self, table: usize, row: &'a HostMount) -> Done {
         let device = row.device.as_slice();
         let Some((_, first)) = self.all.get(&device) else {
             self.all.insert(device, (table, row))?;
@@ -39,7 +39,7 @@ impl<'a> Filesystems<'a> {
 
     /// Makes the filesystems. A mount whose line tells another type or source than the first of its device is told in a
     /// comment.
-    pub(crate) fn make(&self, script: &mut Script) -> Written {
+    pub(crate) fn make(&self, script: &mut Script) -> Done {
         let mut here = 1_u64;
         for (_, first) in self.all.iter() {
             let (table, row) = *first;
@@ -50,10 +50,10 @@ impl<'a> Filesystems<'a> {
     }
 
     /// Tells the rows that tell another type or source of their device.
-    fn tell_others(&self, script: &mut Script) -> Written {
+    fn tell_others(&self, script: &mut Script) -> Done {
         for other in self.others.iter() {
             let (table, row) = *other;
-            row_comment(
+            note(
                 script,
                 table,
                 row,
@@ -67,21 +67,20 @@ impl<'a> Filesystems<'a> {
 /// The filesystems of the mounts that are made. Fails for want of memory alone.
 pub(crate) fn filesystems_of<'a>(
     alloc: Global,
-    made: &[Made<'_, 'a>],
+    made: &[Candidate<'_, 'a>],
 ) -> Result<Filesystems<'a>, AllocError> {
     let mut filesystems = Filesystems {
         all: BTreeMap::new(alloc),
         others: Vec::new(alloc),
     };
-    for made in made {
-        filesystems.add(made.table, made.row)?;
+    for candidate in made {
+        filesystems.add(candidate.table, candidate.row)?;
     }
     Ok(filesystems)
 }
 
-/// A source as a word of a command: the kernel escapes `#` in a source, and a command does not. Fails for want of memory
-/// alone.
-fn source_word(alloc: Global, source: &[u8]) -> Result<Vec<u8>, AllocError> {
+/// A source as a word of a command: the kernel escapes `#` in a source, and a command does not.
+fn source_word(alloc: Global, source: &[u8]) -> Text {
     let mut word = Vec::new(alloc);
     let mut passed = 0_usize;
     for (place, byte) in source.iter().enumerate() {
@@ -110,13 +109,13 @@ fn push_filesystem(
 
 /// Makes the filesystem of a device. A type or source that no filesystem can have is told in a comment, and `none` in its
 /// place.
-fn make_filesystem(script: &mut Script, table: usize, row: &HostMount) -> Written {
+fn make_filesystem(script: &mut Script, table: usize, row: &HostMount) -> Done {
     let (device, kind) = (row.device.as_slice(), row.kind.as_slice());
     let source = source_word(script.alloc(), row.source.as_slice())?;
     if push_filesystem(script, device, kind, source.as_slice())? {
         return Ok(());
     }
-    row_comment(
+    note(
         script,
         table,
         row,
@@ -130,9 +129,9 @@ fn make_filesystem(script: &mut Script, table: usize, row: &HostMount) -> Writte
     command(script, &[b"mkfs", device, b"none", b"none"])
 }
 
-/// Makes the filesystem of a row, the one of a number here. Its super options are told with its first mount, if they are others
-/// than `rw`: they are the last word of a line.
-fn make_one(script: &mut Script, table: usize, row: &HostMount, here: u64) -> Written {
+/// Makes the filesystem of a row, the one of a number here. Its super options are told with its first mount, if they are
+/// others than `rw`: they are the last word of a line.
+fn make_one(script: &mut Script, table: usize, row: &HostMount, here: u64) -> Done {
     let (device, here) = (row.device.as_slice(), digits_of(script.alloc(), here)?);
     comment(
         script,
@@ -142,5 +141,5 @@ fn make_one(script: &mut Script, table: usize, row: &HostMount, here: u64) -> Wr
     if row.line.as_slice().ends_with(b" rw") {
         return Ok(());
     }
-    row_comment(script, table, row, b"has super options that are left out")
+    note(script, table, row, b"has super options that are left out")
 }

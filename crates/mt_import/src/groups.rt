@@ -6,6 +6,7 @@ ghost use Rattle.mt_import.specs.Groups.{is_staged, has_receivers, receiving, so
 
 use crate::agreement::may_add;
 use crate::told::HostMount;
+use crate::writer::Done;
 use std::alloc::{AllocError, Global};
 use std::collections::{BTreeMap, BTreeSet};
 
@@ -163,9 +164,8 @@ impl<'a> Groups<'a> {
         }
     }
 
-    /// Adds what the row of a table tells, unless that cannot be beside what others before it told. Fails for want of memory
-    /// alone.
-    pub(crate) fn add(&mut self, row: &'a HostMount, table: usize) -> Result<(), AllocError> {
+    /// Adds what the row of a table tells, unless that cannot be beside what others before it told.
+    pub(crate) fn add(&mut self, row: &'a HostMount, table: usize) -> Done {
         if !may_add(self, row) {
             return Ok(());
         }
@@ -184,8 +184,8 @@ impl<'a> Groups<'a> {
         Ok(())
     }
 
-    /// Adds a member of a group. Fails for want of memory alone.
-    fn add_member(&mut self, number: u64, row: &'a HostMount) -> Result<(), AllocError> {
+    /// Adds a member of a group.
+    fn add_member(&mut self, number: u64, row: &'a HostMount) -> Done {
         let old = self.get(number);
         let group = Group {
             members: old.map_or(1, |group| group.members.saturating_add(1)),
@@ -197,8 +197,8 @@ impl<'a> Groups<'a> {
         Ok(())
     }
 
-    /// Adds a group that others come from. Fails for want of memory alone.
-    fn add_master(&mut self, number: u64, row: &'a HostMount) -> Result<(), AllocError> {
+    /// Adds a group that others come from.
+    fn add_master(&mut self, number: u64, row: &'a HostMount) -> Done {
         let new = Group {
             master: None,
             device: row.device.as_slice(),
@@ -261,9 +261,8 @@ impl<'a> Groups<'a> {
         self.set_master(low, Some(if is_between { high } else { first }));
     }
 
-    /// Finds out what is above the groups of which no row is a member, by what their slaves tell, the lowest groups first. Fails
-    /// for want of memory alone.
-    pub(crate) fn settle(&mut self, alloc: Global) -> Result<(), AllocError> {
+    /// Finds out what is above the groups of which no row is a member, by what their slaves tell, the lowest groups first.
+    pub(crate) fn settle(&mut self, alloc: Global) -> Done {
         let mut pairs = Vec::new(alloc);
         for pair in self.beyond.iter() {
             let (low, high) = *pair;
@@ -294,8 +293,8 @@ impl<'a> Groups<'a> {
         Ok(numbers)
     }
 
-    /// Has a member staged of each group above those of which one is. Fails for want of memory alone.
-    pub(crate) fn stage_all_above(&mut self, alloc: Global) -> Result<(), AllocError> {
+    /// Has a member staged of each group above those of which one is.
+    pub(crate) fn stage_all_above(&mut self, alloc: Global) -> Done {
         let staged = self.staged(alloc)?;
         for number in staged.iter() {
             self.stage_above(*number);

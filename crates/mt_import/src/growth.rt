@@ -2,7 +2,7 @@
 ghost use Rattle.std.specs.Prelude.{◌≡◌, ◌≤◌, ◌-◌, [], ◌∷◌, ◌++◌, length, slice_get, replicate, OnOk, IfOk};
 ghost use Rattle.mt_import.specs.declared.mount.Turn.TheVariants as Turn;
 ghost use Rattle.mt_import.specs.declared.mount.Verdict.TheVariants as Verdict;
-ghost use Rattle.mt_import.specs.Growth.{waiting_ends, is_waiting, IsGrowth, IsNextPlaced};
+ghost use Rattle.mt_import.specs.Growth.{waiting_ends, is_waiting, IsGrowth, GrowsOn, IsNextPlaced};
 ghost use Rattle.mt_import.specs.Tree.{StandsThere};
 
 use crate::below::{Below, below_of};
@@ -11,6 +11,7 @@ use crate::placing::{Placed, mount_on, root_mount};
 use crate::reason::Reason;
 use crate::told::HostMount;
 use crate::tree::Tree;
+use crate::writer::Done;
 use std::alloc::{AllocError, Global};
 use std::collections::BTreeSet;
 
@@ -40,13 +41,8 @@ pub(crate) struct Growth<'a> {
     places: BTreeSet<(usize, &'a [u8])>,
 }
 
-/// Has these rows wait for their turns, the last one first. Fails for want of memory alone.
-fn wait_for(
-    waiting: &mut Vec<Waiting>,
-    rows: &[Below],
-    above: usize,
-    left: Option<Reason>,
-) -> Result<(), AllocError>
+/// Has these rows wait for their turns, the last one first.
+fn wait_for(waiting: &mut Vec<Waiting>, rows: &[Below], above: usize, left: Option<Reason>) -> Done
     ensures ends { OnOk result (waiting_ends waiting.new.items ≡ waiting_ends waiting.old.items) }
 {
     'rows: for row in rows {
@@ -59,8 +55,8 @@ fn wait_for(
     Ok(())
 }
 
-/// Has a mount wait for its end. Fails for want of memory alone.
-fn wait_for_end(waiting: &mut Vec<Waiting>, here: usize) -> Result<(), AllocError>
+/// Has a mount wait for its end.
+fn wait_for_end(waiting: &mut Vec<Waiting>, here: usize) -> Done
     ensures ends { OnOk result (waiting_ends waiting.new.items ≡ waiting_ends waiting.old.items ++ here ∷ []) }
 {
     waiting.push(Waiting::End(here))?;
@@ -98,22 +94,16 @@ impl<'a> Growth<'a> {
 
     /// Leaves a row out of which the turn has not come; nothing where it has.
     pub(crate) fn leave_out(&mut self, number: usize, why: Reason)
-        ensures kept { IsGrowth self.old → IsGrowth self.new }
-        ensures rows { self.new.rows ≡ self.old.rows }
+        ensures { GrowsOn self.old self.new }
     {
         if is_waiting(self.verdicts.as_slice(), number) {
             self.verdicts[number] = Verdict::Left(why);
         }
     }
 
-    /// Has a row wait for its turn. Fails for want of memory alone.
-    pub(crate) fn wait_for_row(
-        &mut self,
-        number: usize,
-        left: Option<Reason>,
-    ) -> Result<(), AllocError>
-        ensures kept { OnOk result (IsGrowth self.old → IsGrowth self.new) }
-        ensures rows { OnOk result (self.new.rows ≡ self.old.rows) }
+    /// Has a row wait for its turn.
+    pub(crate) fn wait_for_row(&mut self, number: usize, left: Option<Reason>) -> Done
+        ensures { OnOk result (GrowsOn self.old self.new) }
     {
         self.waiting.push(Waiting::Row {
             number,
@@ -154,14 +144,8 @@ impl<'a> Growth<'a> {
         }
     }
 
-    /// Adds the mount of a row of which the turn has come, and has what stands on it wait, and its own end. Fails for want of
-    /// memory alone.
-    fn begin(
-        &mut self,
-        mount: Mount<'a>,
-        stacked: &[Below],
-        others: &[Below],
-    ) -> Result<(), AllocError>
+    /// Adds the mount of a row of which the turn has come, and has what stands on it wait, and its own end.
+    fn begin(&mut self, mount: Mount<'a>, stacked: &[Below], others: &[Below]) -> Done
         ensures kept { OnOk result (mount.entry.above ≤ length self.old.mounts.items - 1
             → StandsThere self.old.rows.now self.old.mounts.items (length self.old.mounts.items) mount.entry → IsGrowth self.old → IsGrowth self.new) }
         ensures rows { OnOk result (self.new.rows ≡ self.old.rows) }
@@ -191,9 +175,8 @@ impl<'a> Growth<'a> {
         why: Reason,
         stacked: &[Below],
         others: &[Below],
-    ) -> Result<(), AllocError>
-        ensures kept { OnOk result (IsGrowth self.old → IsGrowth self.new) }
-        ensures rows { OnOk result (self.new.rows ≡ self.old.rows) }
+    ) -> Done
+        ensures { OnOk result (GrowsOn self.old self.new) }
     {
         self.leave_out(number, why);
         wait_for(&mut self.waiting, stacked, 0, Some(Reason::ParentLeftOut))?;
@@ -209,9 +192,8 @@ impl<'a> Growth<'a> {
         above: usize,
         left: Option<Reason>,
         below: &[Below],
-    ) -> Result<(), AllocError>
-        ensures kept { OnOk result (IsGrowth self.old → IsGrowth self.new) }
-        ensures rows { OnOk result (self.new.rows ≡ self.old.rows) }
+    ) -> Done
+        ensures { OnOk result (GrowsOn self.old self.new) }
     {
         let Some(row) = self.rows.get(number) else {
             return Ok(());
@@ -228,8 +210,8 @@ impl<'a> Growth<'a> {
         Ok(())
     }
 
-    /// Ends a mount. Fails for want of memory alone.
-    fn end(&mut self, here: usize) -> Result<(), AllocError>
+    /// Ends a mount.
+    fn end(&mut self, here: usize) -> Done
         ensures rows { OnOk result (self.new.rows ≡ self.old.rows) }
         ensures mounts { OnOk result (self.new.mounts ≡ self.old.mounts) }
         ensures turns { OnOk result (self.new.turns.items ≡ self.old.turns.items ++ Turn.End here ∷ []) }
@@ -242,8 +224,7 @@ impl<'a> Growth<'a> {
 
     /// Does the next turn, if there is one: whether there was. Fails for want of memory alone.
     fn take_next(&mut self, alloc: Global, below: &[Below]) -> Result<bool, AllocError>
-        ensures kept { OnOk result (IsGrowth self.old → IsGrowth self.new) }
-        ensures rows { OnOk result (self.new.rows ≡ self.old.rows) }
+        ensures { OnOk result (GrowsOn self.old self.new) }
     {
         let Some(next) = self.waiting.pop() else {
             return Ok(false);
@@ -259,10 +240,9 @@ impl<'a> Growth<'a> {
         Ok(true)
     }
 
-    /// Does all turns. Fails for want of memory alone.
-    pub(crate) fn take_all(&mut self, alloc: Global, below: &[Below]) -> Result<(), AllocError>
-        ensures kept { OnOk result (IsGrowth self.old → IsGrowth self.new) }
-        ensures rows { OnOk result (self.new.rows ≡ self.old.rows) }
+    /// Does all turns.
+    pub(crate) fn take_all(&mut self, alloc: Global, below: &[Below]) -> Done
+        ensures { OnOk result (GrowsOn self.old self.new) }
     {
         'turns: for _step in 0..=self.rows.len().saturating_mul(2) {
             if !self.take_next(alloc, below)? {
@@ -272,10 +252,9 @@ impl<'a> Growth<'a> {
         Ok(())
     }
 
-    /// Ends the mounts that wait for their end still. Fails for want of memory alone.
-    fn end_all(&mut self) -> Result<(), AllocError>
-        ensures kept { OnOk result (IsGrowth self.old → IsGrowth self.new) }
-        ensures rows { OnOk result (self.new.rows ≡ self.old.rows) }
+    /// Ends the mounts that wait for their end still.
+    fn end_all(&mut self) -> Done
+        ensures grows { OnOk result (GrowsOn self.old self.new) }
         ensures none { OnOk result (self.new.waiting.items ≡ []) }
     {
         'waiting: while let Some(next) = self.waiting.pop() {
@@ -302,7 +281,13 @@ impl<'a> Growth<'a> {
             waiting: _waiting,
             places: _places,
         } = growth;
-        Ok(Tree::new(table, rows, mounts, turns, verdicts))
+        Ok(Tree {
+            table,
+            rows,
+            mounts,
+            turns,
+            verdicts,
+        })
     }
 }
 

@@ -8,15 +8,15 @@ ghost use Rattle.std.specs.Prelude.{◌≡◌, ◌++◌, map, OnOk};
 ghost use Rattle.std.specs.List.{flat_map};
 ghost use Rattle.mt_import.specs.Hook.{release_text, isolate_text};
 
-use crate::script::{Script, Written};
+use crate::script::Script;
 use crate::site::{PRIVATE, Site};
 use crate::slots::{SPARED, STAGE_FS};
-use crate::writer::one_behind;
+use crate::writer::{Done, one_behind};
 
 /// Takes away the mount of a hook at a path, where it would hide what is to be reached, and leaves all others: a mount inside
 /// of these spares them.
 #[tactic(auto, unfolding(crate::specs::Hook::release_text))]
-fn release(site: Site<'_, '_>, script: &mut Script, hook: &[u8], path: &[u8]) -> Written
+fn release(site: Site<'_, '_>, script: &mut Script, hook: &[u8], path: &[u8]) -> Done
     ensures { OnOk result (script.new ≡ script.old ++ release_text site.entry.space.now hook.now path.now) }
 {
     let spared = one_behind(site.alloc, hook, SPARED)?;
@@ -28,7 +28,7 @@ fn release(site: Site<'_, '_>, script: &mut Script, hook: &[u8], path: &[u8]) ->
 }
 
 /// Takes away the mounts of a hook at these paths.
-fn release_all(site: Site<'_, '_>, script: &mut Script, hook: &[u8], paths: &[Vec<u8>]) -> Written
+fn release_all(site: Site<'_, '_>, script: &mut Script, hook: &[u8], paths: &[Vec<u8>]) -> Done
     ensures { OnOk result (script.new ≡ script.old ++ flat_map (release_text site.entry.space.now hook.now) (map (λ path. path.items) paths.now)) }
 {
     'paths: for path in paths {
@@ -46,7 +46,7 @@ pub(crate) fn isolate(
     hook: &[u8],
     others: &[Vec<u8>],
     place: &[u8],
-) -> Written
+) -> Done
     ensures { OnOk result (script.new ≡ script.old ++ isolate_text site.entry.space.now hook.now (map (λ path. path.items) others.now) place.now) }
 {
     site.run(script, b"mount", STAGE_FS, hook)?;

@@ -75,7 +75,7 @@ pub fn script_of(alloc: Global, tables: &[Vec<HostMount>]) -> Result<Script, Fau
 {
     let trees = trees_of(alloc, tables)?;
     let (plan, left) = plan_with_room(alloc, trees.as_slice())?;
-    let spaces = spaces_of(alloc, trees, left, &plan.groups)?;
+    let spaces = spaces_of(alloc, trees, left.as_slice(), &plan.groups)?;
     let script = script_with(alloc, &plan, spaces.as_slice())?;
     Ok(script)
 }

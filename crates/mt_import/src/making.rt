@@ -8,10 +8,10 @@ use crate::groups::Groups;
 use crate::mount::Mount;
 use crate::options::options_of;
 use crate::path::path_word;
-use crate::script::{Script, Written};
+use crate::script::Script;
 use crate::site::{SHARED, SLAVE, Site, UNBINDABLE};
 use crate::told::HostMount;
-use crate::writer::{comment, digits_of, joined, push_command};
+use crate::writer::{Done, comment, digits_of, joined, push_command};
 
 /// The options that are those of a new mount.
 const UNCHANGED: &[u8] = b"relatime";
@@ -24,7 +24,7 @@ fn set_attributes(
     options: &[u8],
     path: &[u8],
     kind: Option<&'static [u8]>,
-) -> Written
+) -> Done
     ensures { OnOk result (script.new ≡ script.old ++ attributes_text site.entry.space.now options.now path.now (option_map (λ word. word.now) kind.entry)) }
 {
     let words = options_of(site.alloc, options, kind)?;
@@ -46,7 +46,7 @@ fn make_of(
     device: &[u8],
     root: &[u8],
     path: &[u8],
-) -> Written
+) -> Done
     ensures { OnOk result (script.new ≡ script.old ++ made_text site.entry.space.now site.entry.stage.now source device.now root.now path.now) }
 {
     if let Some(group) = source {
@@ -92,7 +92,7 @@ pub(crate) fn make_bare(
     script: &mut Script,
     mount: &Mount<'_>,
     path: &[u8],
-) -> Written
+) -> Done
     ensures { OnOk result (script.new ≡ script.old ++ bare_text site.entry.groups.now.all site.entry.space.now site.entry.stage.now mount.now path.now) }
 {
     let row = mount.row;
@@ -122,7 +122,7 @@ fn late_options(waits: bool, options: &[u8]) -> &[u8]
 
 /// Says which group of the tables the next line makes, if it makes one.
 #[tactic(auto, unfolding(crate::specs::Script::next_comment))]
-fn alone_comment(script: &mut Script, group: Option<u64>) -> Written
+fn alone_comment(script: &mut Script, group: Option<u64>) -> Done
     ensures { OnOk result (script.new ≡ script.old ++ alone_comment group) }
 {
     let Some(group) = group else {
@@ -144,7 +144,7 @@ pub(crate) fn share_alone(
     script: &mut Script,
     row: &HostMount,
     path: &[u8],
-) -> Written
+) -> Done
     ensures { OnOk result (script.new ≡ script.old ++ share_text site.entry.groups.now.all site.entry.space.now row.now path.now) }
 {
     if !site.groups.is_alone(row.shared) {

@@ -5,8 +5,9 @@ ghost use Rattle.std.specs.Option.{option_map};
 ghost use Rattle.mt_words.specs.Words.{pieces};
 ghost use Rattle.mt_import.specs.Options.{has_option, is_known, has_both, are_known, times_of, before_set, with_set, with_flag, with_flags, with_times, with_kind, options_text};
 
+use crate::writer::{Done, Text};
 use mt_words::words::Pieces;
-use std::alloc::{AllocError, Global};
+use std::alloc::Global;
 
 /// The options that are set alone.
 const FLAGS: [&[u8]; 6] = [
@@ -85,8 +86,8 @@ fn before_set(text: &[u8]) -> &'static [u8]
     if text.is_empty() { b" set=" } else { b"," }
 }
 
-/// Appends a word to those of `set=`. Fails for want of memory alone.
-fn push_set(text: &mut Vec<u8>, word: &[u8]) -> Result<(), AllocError>
+/// Appends a word to those of `set=`.
+fn push_set(text: &mut Vec<u8>, word: &[u8]) -> Done
     ensures { OnOk result (text.new.items ≡ with_set text.old.items word.now) }
 {
     let before = before_set(text.as_slice());
@@ -95,8 +96,8 @@ fn push_set(text: &mut Vec<u8>, word: &[u8]) -> Result<(), AllocError>
     Ok(())
 }
 
-/// Appends a flag to the words of `set=`, if it is among options. Fails for want of memory alone.
-fn push_flag(text: &mut Vec<u8>, options: &[u8], flag: &[u8]) -> Result<(), AllocError>
+/// Appends a flag to the words of `set=`, if it is among options.
+fn push_flag(text: &mut Vec<u8>, options: &[u8], flag: &[u8]) -> Done
     ensures { OnOk result (text.new.items ≡ with_flag options.now text.old.items flag.now) }
 {
     if has_option(options, flag) {
@@ -105,8 +106,8 @@ fn push_flag(text: &mut Vec<u8>, options: &[u8], flag: &[u8]) -> Result<(), Allo
     Ok(())
 }
 
-/// Appends those of these flags that are among options. Fails for want of memory alone.
-fn push_flags(text: &mut Vec<u8>, options: &[u8], flags: &[&[u8]]) -> Result<(), AllocError>
+/// Appends those of these flags that are among options.
+fn push_flags(text: &mut Vec<u8>, options: &[u8], flags: &[&[u8]]) -> Done
     ensures { OnOk result (text.new.items ≡ with_flags options.now text.old.items (map (λ flag. flag.now) flags.now)) }
 {
     'flags: for flag in flags {
@@ -115,8 +116,8 @@ fn push_flags(text: &mut Vec<u8>, options: &[u8], flags: &[&[u8]]) -> Result<(),
     Ok(())
 }
 
-/// Appends the access times of options, if they are not those of a new mount. Fails for want of memory alone.
-fn push_times(text: &mut Vec<u8>, options: &[u8]) -> Result<(), AllocError>
+/// Appends the access times of options, if they are not those of a new mount.
+fn push_times(text: &mut Vec<u8>, options: &[u8]) -> Done
     ensures { OnOk result (text.new.items ≡ with_times (times_of options.now) text.old.items) }
 {
     let Some(times) = times_of(options) else {
@@ -127,8 +128,8 @@ fn push_times(text: &mut Vec<u8>, options: &[u8]) -> Result<(), AllocError>
     Ok(())
 }
 
-/// Appends a word behind a space, if there is one. Fails for want of memory alone.
-fn push_kind(text: &mut Vec<u8>, kind: Option<&'static [u8]>) -> Result<(), AllocError>
+/// Appends a word behind a space, if there is one.
+fn push_kind(text: &mut Vec<u8>, kind: Option<&'static [u8]>) -> Done
     ensures { OnOk result (text.new.items ≡ with_kind (option_map (λ word. word.now) kind.entry) text.old.items) }
 {
     let Some(kind) = kind else {
@@ -141,11 +142,7 @@ fn push_kind(text: &mut Vec<u8>, kind: Option<&'static [u8]>) -> Result<(), Allo
 
 /// The words behind a path in a `setattr` line, each behind a space: those for the options of a row, none where they
 /// are those of a new mount, and one for its propagation. Fails for want of memory alone.
-pub(crate) fn options_of(
-    alloc: Global,
-    options: &[u8],
-    kind: Option<&'static [u8]>,
-) -> Result<Vec<u8>, AllocError>
+pub(crate) fn options_of(alloc: Global, options: &[u8], kind: Option<&'static [u8]>) -> Text
     ensures { IfOk result (λ text. text.items ≡ options_text options.now (option_map (λ word. word.now) kind.entry)) }
 {
     let mut text = Vec::new(alloc);

@@ -3,9 +3,10 @@ ghost use Rattle.std.specs.Prelude.{◌≡◌, ◌≢◌, Some, None, IfOk, IfEr
 ghost use Rattle.mt_import.specs.Reading.{mount_in, no_fields, with_field, fields_in, is_device, end_in};
 
 use crate::told::HostMount;
+use crate::writer::Text;
 use mt_skel::fault::Fault;
 use mt_words::words::{Pieces, Words, number, words};
-use std::alloc::{AllocError, Global};
+use std::alloc::Global;
 
 /// The optional fields of a line, those that are known.
 #[derive(Clone, Copy)]
@@ -98,8 +99,8 @@ fn read_end<'a>(words: &mut Words<'a>) -> Option<(&'a [u8], &'a [u8])>
     Some((kind, source))
 }
 
-/// A copy of a word. Fails for want of memory alone.
-fn copy_of(alloc: Global, word: &[u8]) -> Result<Vec<u8>, AllocError>
+/// A copy of a word.
+fn copy_of(alloc: Global, word: &[u8]) -> Text
     ensures { IfOk result (λ copy. copy.items ≡ word.now) }
 {
     let mut copy = Vec::new(alloc);

@@ -1,10 +1,11 @@
 //! The room that a server has for a script: as many mounts are made, in their order, as find it.
 
-use crate::choice::{Choice, Left, Made, choose, is_made};
+use crate::choice::{Candidate, Choice, Left, candidates_of, choose};
 use crate::directories::{Directories, directories_of};
 use crate::filesystems::{Filesystems, filesystems_of};
 use crate::groups::{Groups, MOST_ABOVE};
 use crate::tree::Tree;
+use crate::writer::Done;
 use std::alloc::{AllocError, Global};
 use std::collections::{BTreeMap, BTreeSet};
 
@@ -54,12 +55,12 @@ impl<'a> Plan<'a> {
 /// The devices of filesystems of which directories are bound with no group. Fails for want of memory alone.
 fn plains_of<'a>(
     alloc: Global,
-    made: &[Made<'_, 'a>],
+    made: &[Candidate<'_, 'a>],
     groups: &Groups<'_>,
 ) -> Result<BTreeSet<&'a [u8]>, AllocError> {
     let mut plains = BTreeSet::new(alloc);
-    for made in made {
-        let (row, mount) = (made.row, made.mount);
+    for candidate in made {
+        let (row, mount) = (candidate.row, candidate.mount);
         if groups.source_of(row.shared, row.master).is_none() && !mount.root.is_empty() {
             plains.insert(row.device.as_slice())?;
         }
@@ -70,7 +71,7 @@ fn plains_of<'a>(
 /// What these mounts need, in these groups. Fails for want of memory alone.
 fn plan_of<'a>(
     alloc: Global,
-    made: &[Made<'_, 'a>],
+    made: &[Candidate<'_, 'a>],
     groups: Groups<'a>,
 ) -> Result<Plan<'a>, AllocError> {
     let filesystems = filesystems_of(alloc, made)?;
@@ -92,7 +93,7 @@ fn count_up(
     groups: &Groups<'_>,
     group: Option<u64>,
     count: usize,
-) -> Result<(), AllocError> {
+) -> Done {
     let mut next = group;
     for _step in 0..=MOST_ABOVE {
         let Some(number) = next else {
@@ -110,12 +111,12 @@ fn count_up(
 fn most_receivers(
     alloc: Global,
     plan: &Plan<'_>,
-    made: &[Made<'_, '_>],
+    made: &[Candidate<'_, '_>],
     stages: usize,
 ) -> Result<usize, AllocError> {
     let mut counts = BTreeMap::new(alloc);
-    for made in made {
-        let row = made.row;
+    for candidate in made {
+        let row = candidate.row;
         count_up(&mut counts, &plan.groups, row.shared.or(row.master), 1)?;
     }
     for group in plan.staged.iter() {
@@ -129,10 +130,10 @@ fn most_receivers(
 }
 
 /// How many namespaces have what is staged at a time: the first one alone, or beside it the copy that is made.
-fn stages(left: &[Left], plan: &Plan<'_>) -> usize {
-    let shown = left
+fn stages(plan: &Plan<'_>, made: &[Candidate<'_, '_>]) -> usize {
+    let shown = made
         .iter()
-        .filter(|tree| is_made(tree.as_slice(), 0))
+        .filter(|candidate| candidate.above == candidate.number)
         .count();
     if shown > 1 || plan.has_unseen() { 2 } else { 1 }
 }
@@ -142,9 +143,9 @@ fn stages(left: &[Left], plan: &Plan<'_>) -> usize {
 fn mounts_at_once(
     alloc: Global,
     plan: &Plan<'_>,
-    made: &[Made<'_, '_>],
-    stages: usize,
+    made: &[Candidate<'_, '_>],
 ) -> Result<usize, AllocError> {
+    let stages = stages(plan, made);
     let isolated = most_receivers(alloc, plan, made, stages)?.saturating_add(1);
     let staged = plan
         .staged
@@ -159,27 +160,27 @@ fn mounts_at_once(
 }
 
 /// Whether a server has room for so many mounts, from the first. Fails for want of memory alone.
-fn fits(alloc: Global, trees: &[Tree<'_>], most: usize) -> Result<bool, AllocError> {
-    let Choice { left, made, groups } = choose(alloc, trees, most)?;
-    let plan = plan_of(alloc, made.as_slice(), groups)?;
-    let stages = stages(left.as_slice(), &plan);
-    let mounts = mounts_at_once(alloc, &plan, made.as_slice(), stages)?;
+fn fits(alloc: Global, all: &[Candidate<'_, '_>], most: usize) -> Result<bool, AllocError> {
+    let Choice {
+        left: _left,
+        made,
+        groups,
+    } = choose(alloc, all, most)?;
+    let made = made.as_slice();
+    let plan = plan_of(alloc, made, groups)?;
+    let mounts = mounts_at_once(alloc, &plan, made)?;
     Ok(plan.has_directories() && mounts <= MOST_MOUNTS)
 }
 
 /// How many mounts find room, from the first. Fails for want of memory alone.
-fn fitting(alloc: Global, trees: &[Tree<'_>]) -> Result<usize, AllocError> {
-    let mut all = 0_usize;
-    for tree in trees {
-        all = all.saturating_add(tree.mounts().len());
-    }
-    if fits(alloc, trees, all)? {
-        return Ok(all);
+fn fitting(alloc: Global, all: &[Candidate<'_, '_>]) -> Result<usize, AllocError> {
+    if fits(alloc, all, all.len())? {
+        return Ok(all.len());
     }
     let mut count = 0_usize;
     for step in STEPS {
         let more = count.saturating_add(step);
-        if more <= all && fits(alloc, trees, more)? {
+        if more <= all.len() && fits(alloc, all, more)? {
             count = more;
         }
     }
@@ -191,9 +192,10 @@ fn fitting(alloc: Global, trees: &[Tree<'_>]) -> Result<usize, AllocError> {
 pub(crate) fn plan_with_room<'a>(
     alloc: Global,
     trees: &[Tree<'a>],
-) -> Result<(Plan<'a>, Vec<Left>), AllocError> {
-    let most = fitting(alloc, trees)?;
-    let Choice { left, made, groups } = choose(alloc, trees, most)?;
+) -> Result<(Plan<'a>, Left), AllocError> {
+    let all = candidates_of(alloc, trees)?;
+    let most = fitting(alloc, all.as_slice())?;
+    let Choice { left, made, groups } = choose(alloc, all.as_slice(), most)?;
     let plan = plan_of(alloc, made.as_slice(), groups)?;
     Ok((plan, left))
 }

@@ -4,6 +4,7 @@ ghost use Rattle.std.specs.List.{list_all};
 ghost use Rattle.mt_requests.specs.Requests.{request_of};
 ghost use Rattle.mt_import.specs.Script.{is_run, is_script_line, IsScript, line_text};
 
+use crate::writer::{Done, Text};
 use mt_requests::request::{Request, read_request};
 use mt_skel::fault::Fault;
 use std::alloc::{AllocError, Global};
@@ -26,9 +27,6 @@ impl Model for Script {
 
     ghost invariant = { λ s. IsScript s.text.items };
 }
-
-/// What a call answers that writes lines: it fails for want of memory alone.
-pub(crate) type Written = Result<(), AllocError>;
 
 /// Whether no byte ends a line.
 fn is_one_line(line: &[u8]) -> bool
@@ -61,8 +59,8 @@ fn is_script_line(alloc: Global, line: &[u8]) -> Result<bool, AllocError>
     is_command(alloc, line)
 }
 
-/// A line with its line end. Fails for want of memory alone.
-fn ended(alloc: Global, line: &[u8]) -> Result<Vec<u8>, AllocError>
+/// A line with its line end.
+fn ended(alloc: Global, line: &[u8]) -> Text
     ensures { IfOk result (λ text. text.items ≡ line.now ++ 10 ∷ []) }
 {
     let mut text = Vec::new(alloc);
@@ -115,7 +113,7 @@ impl Script {
     }
 
     /// Appends the lines of another script.
-    pub(crate) fn append(&mut self, other: &Script) -> Written
+    pub(crate) fn append(&mut self, other: &Script) -> Done
         ensures { OnOk result (self.new ≡ self.old ++ other.now) }
     {
         self.text.extend_from_slice(other.text())?;

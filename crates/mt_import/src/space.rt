@@ -6,6 +6,7 @@ ghost use Rattle.mt_import.specs.Telling.{is_shown};
 use crate::choice::{Left, is_made};
 use crate::groups::Groups;
 use crate::path::STAGE;
+use crate::reason::Reason;
 use crate::site::Site;
 use crate::tree::Tree;
 use crate::ways::{Way, ways_of};
@@ -33,11 +34,11 @@ impl<'a> Space<'a> {
     }
 }
 
-/// The tables with what is made of them. Fails for want of memory alone.
+/// The tables with what is made of them: why mounts are left out is told for all trees, one after another. Fails for want of memory alone.
 pub(crate) fn spaces_of<'a>(
     alloc: Global,
     trees: Vec<Tree<'a>>,
-    left: Vec<Left>,
+    left: &[Option<Reason>],
     groups: &Groups<'a>,
 ) -> Result<Vec<Space<'a>>, AllocError>
     ensures rows { IfOk result (λ spaces. map (λ space. space.tree.rows) spaces.items ≡ map (λ tree. tree.rows) trees.entry.items) }
@@ -49,10 +50,13 @@ pub(crate) fn spaces_of<'a>(
         stage: STAGE,
     };
     let mut spaces: Vec<Space<'a>> = Vec::new(alloc);
-    let mut others = left.into_iter();
+    let mut rest = left;
     let mut number = 1_usize;
     'trees: for tree in trees {
-        let left = others.next().unwrap_or(Vec::new(alloc));
+        let (here, others) = rest.split_at(tree.mounts().len().min(rest.len()));
+        rest = others;
+        let mut left = Vec::new(alloc);
+        left.extend_from_slice(here)?;
         let ways = ways_of(site, tree.mounts())?;
         let space = Space {
             number,

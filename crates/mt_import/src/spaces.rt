@@ -14,23 +14,22 @@ use crate::mount::Mount;
 use crate::path::STAGE;
 use crate::reason::Reason;
 use crate::room::Plan;
-use crate::script::{Script, Written};
+use crate::script::Script;
 use crate::site::Site;
 use crate::space::Space;
 use crate::staging::keeper_of;
 use crate::turns::take_turn;
-use crate::writer::{command, comment, digits_of};
+use crate::writer::{Done, command, comment, digits_of};
 use std::alloc::{AllocError, Global};
 
 /// Does the turns of a table.
-fn take_turns(site: Site<'_, '_>, script: &mut Script, space: &Space<'_>) -> Written
+fn take_turns(site: Site<'_, '_>, script: &mut Script, space: &Space<'_>) -> Done
     requires { site.stage.now ≡ stage }
     ensures { OnOk result (script.new ≡ script.old ++ turns_text site.entry.groups.now.all site.entry.space.now space.now) }
 {
-    let mounts = space.tree.mounts();
-    let (ways, left) = (space.ways.as_slice(), space.left.as_slice());
-    'turns: for turn in space.tree.turns() {
-        take_turn(site, script, mounts, ways, left, *turn)?;
+    let tree = &space.tree;
+    'turns: for turn in tree.turns.as_slice() {
+        take_turn(site, script, space, *turn)?;
     }
     Ok(())
 }
@@ -66,7 +65,7 @@ fn raise_all(
     script: &mut Script,
     mounts: &[Mount<'_>],
     covers: &[usize],
-) -> Written
+) -> Done
     ensures { OnOk result (script.new ≡ script.old ++ flat_map (raised site.entry.groups.now.all site.entry.space.now mounts.now) covers.now) }
 {
     'covers: for number in covers {
@@ -81,7 +80,7 @@ fn lower_all(
     script: &mut Script,
     mounts: &[Mount<'_>],
     covers: &[usize],
-) -> Written
+) -> Done
     ensures { OnOk result (script.new ≡ script.old ++ flat_map (lowered site.entry.groups.now.all site.entry.space.now mounts.now) covers.now) }
 {
     'covers: for number in covers {
@@ -92,7 +91,7 @@ fn lower_all(
 
 /// Brings the mounts to their place that stand on the root of the root mount.
 #[tactic(auto, unfolding(crate::specs::Spaces::covers_text))]
-fn cover(site: Site<'_, '_>, script: &mut Script, space: &Space<'_>) -> Written
+fn cover(site: Site<'_, '_>, script: &mut Script, space: &Space<'_>) -> Done
     ensures { OnOk result (script.new ≡ script.old ++ covers_text site.entry.groups.now.all site.entry.space.now space.now) }
 {
     let mounts = space.tree.mounts();
@@ -104,7 +103,7 @@ fn cover(site: Site<'_, '_>, script: &mut Script, space: &Space<'_>) -> Written
 }
 
 /// Makes the mounts of a table in the namespace of a number.
-fn make_in(site: Site<'_, '_>, script: &mut Script, space: &Space<'_>) -> Written
+fn make_in(site: Site<'_, '_>, script: &mut Script, space: &Space<'_>) -> Done
     requires { site.stage.now ≡ stage }
     ensures { OnOk result (script.new ≡ script.old ++ mounts_made site.entry.groups.now.all site.entry.space.now space.now) }
 {
@@ -115,7 +114,7 @@ fn make_in(site: Site<'_, '_>, script: &mut Script, space: &Space<'_>) -> Writte
 }
 
 /// Copies the first namespace, for any other one.
-fn copy_for(script: &mut Script, number: usize) -> Written
+fn copy_for(script: &mut Script, number: usize) -> Done
     ensures { OnOk result (script.new ≡ script.old ++ copied_if (nat_lt 1 number)) }
 {
     if number > 1 {
@@ -126,7 +125,7 @@ fn copy_for(script: &mut Script, number: usize) -> Written
 
 /// Says of which table a namespace is made.
 #[tactic(auto, unfolding(crate::specs::Script::space_comment))]
-fn space_comment(script: &mut Script, table: usize, space: &[u8]) -> Written
+fn space_comment(script: &mut Script, table: usize, space: &[u8]) -> Done
     ensures { OnOk result (script.new ≡ script.old ++ space_comment table space.now) }
 {
     let table = digits_of(script.alloc(), table as u64)?;
@@ -138,12 +137,7 @@ fn space_comment(script: &mut Script, table: usize, space: &[u8]) -> Written
 
 /// Makes the namespace of the table of a number.
 #[tactic(auto, unfolding(crate::specs::Spaces::space_text))]
-fn make_space(
-    script: &mut Script,
-    groups: &Groups<'_>,
-    spaces: &[Space<'_>],
-    number: usize,
-) -> Written
+fn make_space(script: &mut Script, groups: &Groups<'_>, spaces: &[Space<'_>], number: usize) -> Done
     ensures { OnOk result (script.new ≡ script.old ++ made_space_at groups.now.all spaces.now number) }
 {
     let Some(space) = spaces.get(number) else {
@@ -157,7 +151,8 @@ fn make_space(
         space: digits.as_slice(),
         stage: STAGE,
     };
-    space_comment(script, space.tree.table(), digits.as_slice())?;
+    let tree = &space.tree;
+    space_comment(script, tree.table, digits.as_slice())?;
     copy_for(script, space.number)?;
     make_in(site, script, space)?;
     Ok(())
@@ -169,7 +164,7 @@ fn make_each(
     groups: &Groups<'_>,
     spaces: &[Space<'_>],
     numbers: &[usize],
-) -> Written
+) -> Done
     ensures { OnOk result (script.new ≡ script.old ++ flat_map (made_space_at groups.now.all spaces.now) numbers.now) }
 {
     'spaces: for number in numbers {
@@ -193,7 +188,7 @@ fn shown_of(alloc: Global, spaces: &[Space<'_>]) -> Result<Vec<usize>, AllocErro
 
 /// Makes the namespaces of all tables of which the root mount is made, that of the first one last: it is the one of which the
 /// others are copies.
-pub(crate) fn make_spaces(script: &mut Script, plan: &Plan<'_>, spaces: &[Space<'_>]) -> Written
+pub(crate) fn make_spaces(script: &mut Script, plan: &Plan<'_>, spaces: &[Space<'_>]) -> Done
     ensures { OnOk result (AreMade plan.now.groups.all spaces.now script.old script.new) }
 {
     let shown = shown_of(script.alloc(), spaces)?;

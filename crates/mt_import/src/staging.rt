@@ -3,14 +3,14 @@
 
 use crate::groups::Group;
 use crate::room::Plan;
-use crate::script::{Script, Written};
+use crate::script::Script;
 use crate::site::{SHARED, SLAVE};
 use crate::slots::{STAGE_FS, slot};
-use crate::writer::{command, comment, digits_of, one_behind};
+use crate::writer::{Done, command, comment, digits_of, one_behind};
 use std::alloc::{AllocError, Global};
 
 /// Stages a mount of each filesystem of which directories are bound.
-fn stage_plains(script: &mut Script, plan: &Plan<'_>) -> Written {
+fn stage_plains(script: &mut Script, plan: &Plan<'_>) -> Done {
     for device in plan.plains.iter() {
         let path = one_behind(script.alloc(), b"/", device)?;
         command(script, &[b"mount", b"1", device, path.as_slice()])?;
@@ -19,7 +19,7 @@ fn stage_plains(script: &mut Script, plan: &Plan<'_>) -> Written {
 }
 
 /// Has a member of a group come from that of its master, as a slave, or else from its filesystem.
-fn stage_below(script: &mut Script, group: &Group<'_>, path: &[u8]) -> Written {
+fn stage_below(script: &mut Script, group: &Group<'_>, path: &[u8]) -> Done {
     let Some(master) = group.master else {
         return command(script, &[b"mount", b"1", group.device, path]);
     };
@@ -29,7 +29,7 @@ fn stage_below(script: &mut Script, group: &Group<'_>, path: &[u8]) -> Written {
 }
 
 /// Stages a member of a group of the tables, which is the one of a number here.
-fn stage_group(script: &mut Script, plan: &Plan<'_>, number: u64, here: usize) -> Written {
+fn stage_group(script: &mut Script, plan: &Plan<'_>, number: u64, here: usize) -> Done {
     let Some(group) = plan.groups.get(number) else {
         return Ok(());
     };
@@ -46,7 +46,7 @@ fn stage_group(script: &mut Script, plan: &Plan<'_>, number: u64, here: usize) -
 }
 
 /// Makes the first namespace, with what is staged: of the groups those above others first.
-pub(crate) fn stage(script: &mut Script, plan: &Plan<'_>) -> Written {
+pub(crate) fn stage(script: &mut Script, plan: &Plan<'_>) -> Done {
     command(script, &[b"newns", STAGE_FS])?;
     stage_plains(script, plan)?;
     for (before, number) in plan.staged.iter().enumerate() {
@@ -56,7 +56,7 @@ pub(crate) fn stage(script: &mut Script, plan: &Plan<'_>) -> Written {
 }
 
 /// Unmounts the staged members of groups in a namespace, but of those of which no table has one.
-fn unstage_groups(script: &mut Script, plan: &Plan<'_>, space: &[u8]) -> Written {
+fn unstage_groups(script: &mut Script, plan: &Plan<'_>, space: &[u8]) -> Done {
     for number in plan.staged.iter() {
         if !plan.groups.is_unseen(*number) {
             let path = slot(script.alloc(), b"/", *number)?;
@@ -67,7 +67,7 @@ fn unstage_groups(script: &mut Script, plan: &Plan<'_>, space: &[u8]) -> Written
 }
 
 /// Unmounts the staged filesystems there.
-fn unstage_plains(script: &mut Script, plan: &Plan<'_>, space: &[u8]) -> Written {
+fn unstage_plains(script: &mut Script, plan: &Plan<'_>, space: &[u8]) -> Done {
     for device in plan.plains.iter() {
         let path = one_behind(script.alloc(), b"/", device)?;
         command(script, &[b"umount", space, path.as_slice()])?;

@@ -7,10 +7,10 @@ ghost use Rattle.mt_import.specs.Telling.{why_of, rows_text, tree_rows, mounts_t
 use crate::mount::{Mount, Verdict};
 use crate::options::are_known;
 use crate::reason::Reason;
-use crate::script::{Script, Written};
+use crate::script::Script;
 use crate::space::Space;
 use crate::told::HostMount;
-use crate::writer::{comment, digits_of, left_out, row_comment};
+use crate::writer::{Done, comment, digits_of, left_out, note};
 
 /// Why a row has no mount in the tree of its table, if it has none: one of which the turn never came is in a ring.
 fn why_of(verdict: Verdict) -> Option<Reason>
@@ -24,7 +24,7 @@ fn why_of(verdict: Verdict) -> Option<Reason>
 }
 
 /// Tells a row that is left out, for a reason.
-fn tell_row(script: &mut Script, table: usize, row: &HostMount, left: Option<Reason>) -> Written
+fn tell_row(script: &mut Script, table: usize, row: &HostMount, left: Option<Reason>) -> Done
     ensures { OnOk result (script.new ≡ script.old ++ left_row_text table row.now left) }
 {
     let Some(why) = left else {
@@ -34,7 +34,7 @@ fn tell_row(script: &mut Script, table: usize, row: &HostMount, left: Option<Rea
 }
 
 /// Tells the rows of a table that have no mount in its tree.
-fn tell_rows(script: &mut Script, table: usize, rows: &[HostMount], verdicts: &[Verdict]) -> Written
+fn tell_rows(script: &mut Script, table: usize, rows: &[HostMount], verdicts: &[Verdict]) -> Done
     ensures { OnOk result (script.new ≡ script.old ++ rows_text table rows.now verdicts.now) }
 {
     let mut others = verdicts.iter();
@@ -49,19 +49,19 @@ fn tell_rows(script: &mut Script, table: usize, rows: &[HostMount], verdicts: &[
 }
 
 /// Tells the rows of the tables that have no mount in the trees.
-pub(crate) fn tell_tables(script: &mut Script, spaces: &[Space<'_>]) -> Written
+pub(crate) fn tell_tables(script: &mut Script, spaces: &[Space<'_>]) -> Done
     ensures { OnOk result (script.new ≡ script.old ++ flat_map tree_rows spaces.now) }
 {
     'spaces: for space in spaces {
         let tree = &space.tree;
-        tell_rows(script, tree.table(), tree.rows(), tree.verdicts())?;
+        tell_rows(script, tree.table, tree.rows, tree.verdicts.as_slice())?;
     }
     Ok(())
 }
 
 /// Tells a mount that is left out, or one with options that no mount has here.
 #[tactic(auto, unfolding(crate::specs::Script::options_comment))]
-fn tell_mount(script: &mut Script, table: usize, row: &HostMount, left: Option<Reason>) -> Written
+fn tell_mount(script: &mut Script, table: usize, row: &HostMount, left: Option<Reason>) -> Done
     ensures { OnOk result (script.new ≡ script.old ++ mount_comment table row.now left) }
 {
     if let Some(why) = left {
@@ -70,7 +70,7 @@ fn tell_mount(script: &mut Script, table: usize, row: &HostMount, left: Option<R
     if are_known(row.options.as_slice()) {
         return Ok(());
     }
-    row_comment(script, table, row, b"has options that are left out")
+    note(script, table, row, b"has options that are left out")
 }
 
 /// Tells the mounts of a table that are left out, and those with options that no mount has here.
@@ -79,7 +79,7 @@ fn tell_mounts(
     table: usize,
     mounts: &[Mount<'_>],
     left: &[Option<Reason>],
-) -> Written
+) -> Done
     ensures { OnOk result (script.new ≡ script.old ++ mounts_text table mounts.now left.now) }
 {
     let mut others = left.iter();
@@ -95,7 +95,7 @@ fn tell_mounts(
 
 /// Tells that no namespace is made of a table, if none is.
 #[tactic(auto, unfolding(crate::specs::Script::rootless_comment))]
-fn tell_rootless(script: &mut Script, is_shown: bool, table: usize) -> Written
+fn tell_rootless(script: &mut Script, is_shown: bool, table: usize) -> Done
     ensures { OnOk result (script.new ≡ script.old ++ rootless_text is_shown table) }
 {
     if is_shown {
@@ -109,19 +109,19 @@ fn tell_rootless(script: &mut Script, is_shown: bool, table: usize) -> Written
 }
 
 /// Tells what is not made of a table.
-fn tell_space(script: &mut Script, space: &Space<'_>) -> Written
+fn tell_space(script: &mut Script, space: &Space<'_>) -> Done
     ensures tree { OnOk result (HasMakingOrder space.now) }
     ensures pushed { OnOk result (script.new ≡ script.old ++ space_comments space.now) }
 {
     let tree = &space.tree;
-    let (table, left) = (tree.table(), space.left.as_slice());
+    let (table, left) = (tree.table, space.left.as_slice());
     tell_mounts(script, table, tree.mounts(), left)?;
     tell_rootless(script, space.is_shown(), table)?;
     Ok(())
 }
 
 /// Tells what is not made of all tables, each of which has its tree.
-pub(crate) fn tell_spaces(script: &mut Script, spaces: &[Space<'_>]) -> Written
+pub(crate) fn tell_spaces(script: &mut Script, spaces: &[Space<'_>]) -> Done
     ensures trees { OnOk result (AllByRecursion HasMakingOrder spaces.now) }
     ensures pushed { OnOk result (script.new ≡ script.old ++ flat_map space_comments spaces.now) }
 {

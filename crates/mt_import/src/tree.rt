@@ -2,13 +2,14 @@
 //! hides is made before that.
 ghost use Rattle.std.specs.Prelude.{◌≡◌, [], IfOk, OnOk};
 ghost use Rattle.mt_import.specs.Tree.{IsMakingOrder};
-ghost use Rattle.mt_import.specs.Growth.{IsGrowth};
+ghost use Rattle.mt_import.specs.Growth.{GrowsOn};
 
 use crate::below::Below;
 use crate::growth::Growth;
 use crate::mount::{Mount, Turn, Verdict};
 use crate::reason::Reason;
 use crate::told::HostMount;
+use crate::writer::Done;
 use std::alloc::{AllocError, Global};
 use std::collections::BTreeSet;
 use std::marker::Model;
@@ -16,11 +17,16 @@ use std::marker::Model;
 /// The mounts of a table, and the turns of their making.
 #[derive(Drop)]
 pub(crate) struct Tree<'a> {
-    table: usize,
-    rows: &'a [HostMount],
-    mounts: Vec<Mount<'a>>,
-    turns: Vec<Turn>,
-    verdicts: Vec<Verdict>,
+    /// The number of the table, from 1.
+    pub(crate) table: usize,
+    /// Its rows.
+    pub(crate) rows: &'a [HostMount],
+    /// The mounts, each behind the one that it stands on.
+    pub(crate) mounts: Vec<Mount<'a>>,
+    /// What is done, in order.
+    pub(crate) turns: Vec<Turn>,
+    /// What becomes of each row.
+    pub(crate) verdicts: Vec<Verdict>,
 }
 
 impl<'a> Model for Tree<'a> {
@@ -35,61 +41,12 @@ impl<'a> Model for Tree<'a> {
 }
 
 impl<'a> Tree<'a> {
-    /// The tree of the table of a number, with its rows, its mounts, their turns, and what becomes of each row.
-    pub(crate) fn new(
-        table: usize,
-        rows: &'a [HostMount],
-        mounts: Vec<Mount<'a>>,
-        turns: Vec<Turn>,
-        verdicts: Vec<Verdict>,
-    ) -> Tree<'a>
-        requires { IsMakingOrder rows.now mounts.items turns.items verdicts.items [] }
-        ensures table { result.table ≡ table }
-        ensures rows { result.rows ≡ rows.now }
-    {
-        Tree {
-            table,
-            rows,
-            mounts,
-            turns,
-            verdicts,
-        }
-    }
-
-    /// The number of the table, from 1.
-    pub(crate) fn table(&self) -> usize
-        ensures { result ≡ self.now.table }
-    {
-        self.table
-    }
-
-    /// The rows.
-    pub(crate) fn rows(&self) -> &'a [HostMount]
-        ensures { result.now ≡ self.now.rows }
-    {
-        self.rows
-    }
-
     /// The mounts, each behind the one that it stands on.
     pub(crate) fn mounts(&self) -> &[Mount<'a>]
         ensures mounts { result.now ≡ self.now.mounts }
         ensures kept { IsMakingOrder self.now.rows self.now.mounts self.now.turns self.now.verdicts [] }
     {
         self.mounts.as_slice()
-    }
-
-    /// What is done, in order.
-    pub(crate) fn turns(&self) -> &[Turn]
-        ensures { result.now ≡ self.now.turns }
-    {
-        self.turns.as_slice()
-    }
-
-    /// What becomes of each row.
-    pub(crate) fn verdicts(&self) -> &[Verdict]
-        ensures { result.now ≡ self.now.verdicts }
-    {
-        self.verdicts.as_slice()
     }
 }
 
@@ -100,8 +57,7 @@ fn ids_of(
     rows: &[HostMount],
     growth: &mut Growth<'_>,
 ) -> Result<BTreeSet<u64>, AllocError>
-    ensures kept { OnOk result (IsGrowth growth.old → IsGrowth growth.new) }
-    ensures rows { OnOk result (growth.new.rows ≡ growth.old.rows) }
+    ensures { OnOk result (GrowsOn growth.old growth.new) }
 {
     let mut ids = BTreeSet::new(alloc);
     'rows: for (number, row) in rows.iter().enumerate() {
@@ -130,9 +86,8 @@ fn sort_in<'a>(
     row: &HostMount,
     number: usize,
     growth: &mut Growth<'a>,
-) -> Result<(), AllocError>
-    ensures kept { OnOk result (IsGrowth growth.old → IsGrowth growth.new) }
-    ensures rows { OnOk result (growth.new.rows ≡ growth.old.rows) }
+) -> Done
+    ensures { OnOk result (GrowsOn growth.old growth.new) }
 {
     if is_top(ids, row) {
         growth.wait_for_row(number, Some(Reason::NoParent))?;
@@ -151,8 +106,7 @@ fn sorted<'a>(
     root: usize,
     growth: &mut Growth<'a>,
 ) -> Result<Vec<Below>, AllocError>
-    ensures kept { OnOk result (IsGrowth growth.old → IsGrowth growth.new) }
-    ensures rows { OnOk result (growth.new.rows ≡ growth.old.rows) }
+    ensures { OnOk result (GrowsOn growth.old growth.new) }
 {
     let mut below = Vec::new(alloc);
     'rows: for (number, row) in rows.iter().enumerate() {
@@ -166,18 +120,16 @@ fn sorted<'a>(
 
 /// Leaves out so many rows, for a reason.
 fn leave_all_out(growth: &mut Growth<'_>, count: usize, why: Reason)
-    ensures kept { IsGrowth growth.old → IsGrowth growth.new }
-    ensures rows { growth.new.rows ≡ growth.old.rows }
+    ensures { GrowsOn growth.old growth.new }
 {
     'rows: for number in 0..count {
         growth.leave_out(number, why);
     }
 }
 
-/// Places the mounts that rows tell. Fails for want of memory alone.
-fn grow<'a>(alloc: Global, rows: &'a [HostMount], growth: &mut Growth<'a>) -> Result<(), AllocError>
-    ensures kept { OnOk result (IsGrowth growth.old → IsGrowth growth.new) }
-    ensures rows { OnOk result (growth.new.rows ≡ growth.old.rows) }
+/// Places the mounts that rows tell.
+fn grow<'a>(alloc: Global, rows: &'a [HostMount], growth: &mut Growth<'a>) -> Done
+    ensures { OnOk result (GrowsOn growth.old growth.new) }
 {
     let ids = ids_of(alloc, rows, growth)?;
     let Some(root) = root_of(&ids, rows) else {

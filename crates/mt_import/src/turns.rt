@@ -10,14 +10,15 @@ use crate::covers::make_base;
 use crate::hook::isolate;
 use crate::making::{make_bare, share_alone};
 use crate::mount::{Mount, Turn};
-use crate::reason::Reason;
-use crate::script::{Script, Written};
+use crate::script::Script;
 use crate::site::Site;
+use crate::space::Space;
 use crate::ways::{Way, hooked_by};
+use crate::writer::Done;
 
 /// Begins a mount: one that is made apart is made.
 #[tactic(auto, unfolding(crate::specs::Turns::begun_text))]
-fn begin(site: Site<'_, '_>, script: &mut Script, apart: bool, mount: &Mount<'_>) -> Written
+fn begin(site: Site<'_, '_>, script: &mut Script, apart: bool, mount: &Mount<'_>) -> Done
     ensures { OnOk result (script.new ≡ script.old ++ begun_text site.entry.groups.now.all site.entry.space.now site.entry.stage.now apart mount.now) }
 {
     if !apart {
@@ -29,7 +30,7 @@ fn begin(site: Site<'_, '_>, script: &mut Script, apart: bool, mount: &Mount<'_>
 
 /// Brings a mount to its place, where nothing propagates.
 #[tactic(auto, unfolding(crate::specs::Turns::settle_text))]
-fn settle(site: Site<'_, '_>, script: &mut Script, apart: bool, mount: &Mount<'_>) -> Written
+fn settle(site: Site<'_, '_>, script: &mut Script, apart: bool, mount: &Mount<'_>) -> Done
     ensures { OnOk result (script.new ≡ script.old ++ settle_text site.entry.groups.now.all site.entry.space.now site.entry.stage.now apart mount.now) }
 {
     let place = site.place_path(mount)?;
@@ -49,7 +50,7 @@ fn settle_alone(
     way: &Way,
     mount: &Mount<'_>,
     group: u64,
-) -> Written
+) -> Done
     ensures { OnOk result (script.new ≡ script.old ++ hooked_text site.entry.space.now (group_path site.entry.stage.now group mount.now.place.items) (map (λ path. path.items) way.now.others.items)
         (place_path site.entry.stage.now mount.now) (settle_text site.entry.groups.now.all site.entry.space.now site.entry.stage.now way.now.apart mount.now)) }
 {
@@ -63,7 +64,7 @@ fn settle_alone(
 }
 
 /// Makes a mount shared that was made apart and is alone in its group.
-fn share_apart(site: Site<'_, '_>, script: &mut Script, apart: bool, mount: &Mount<'_>) -> Written
+fn share_apart(site: Site<'_, '_>, script: &mut Script, apart: bool, mount: &Mount<'_>) -> Done
     ensures { OnOk result (script.new ≡ script.old ++ (if apart then share_text site.entry.groups.now.all site.entry.space.now mount.now.row.now (apart_path site.entry.stage.now mount.now) else [])) }
 {
     if !apart {
@@ -81,7 +82,7 @@ fn place(
     hooked: Option<u64>,
     way: &Way,
     mount: &Mount<'_>,
-) -> Written
+) -> Done
     ensures { OnOk result (script.new ≡ script.old ++ placed_text hooked site.entry.space.now site.entry.stage.now (map (λ path. path.items) way.now.others.items) mount.now
         (settle_text site.entry.groups.now.all site.entry.space.now site.entry.stage.now way.now.apart mount.now)) }
 {
@@ -99,7 +100,7 @@ fn end(
     mounts: &[Mount<'_>],
     way: &Way,
     mount: &Mount<'_>,
-) -> Written
+) -> Done
     ensures { OnOk result (script.new ≡ script.old ++ ended_text site.entry.groups.now.all site.entry.space.now site.entry.stage.now mounts.now way.now mount.now) }
 {
     let hooked = hooked_by(site.groups, mounts, mount);
@@ -116,7 +117,7 @@ fn make_turn(
     way: &Way,
     mount: &Mount<'_>,
     turn: Turn,
-) -> Written
+) -> Done
     ensures { OnOk result (script.new ≡ script.old ++ made_turn site.entry.groups.now.all site.entry.space.now site.entry.stage.now mounts.now way.now mount.now turn) }
 {
     match turn {
@@ -131,17 +132,16 @@ fn make_turn(
 pub(crate) fn take_turn(
     site: Site<'_, '_>,
     script: &mut Script,
-    mounts: &[Mount<'_>],
-    ways: &[Way],
-    left: &[Option<Reason>],
+    space: &Space<'_>,
     turn: Turn,
-) -> Written
-    ensures { OnOk result (script.new ≡ script.old ++ turn_text site.entry.groups.now.all site.entry.space.now site.entry.stage.now mounts.now ways.now left.now turn) }
+) -> Done
+    ensures { OnOk result (script.new ≡ script.old ++ turn_text site.entry.groups.now.all site.entry.space.now site.entry.stage.now space.now.tree.mounts space.now.ways.items space.now.left.items turn) }
 {
     let number = turn.mount();
-    if !is_made(left, number) {
+    if !is_made(space.left.as_slice(), number) {
         return Ok(());
     }
+    let (mounts, ways) = (space.tree.mounts(), space.ways.as_slice());
     let (Some(mount), Some(way)) = (mounts.get(number), ways.get(number)) else {
         return Ok(());
     };

@@ -4,13 +4,16 @@ ghost use Rattle.std.specs.List.{flat_map, join_with_byte};
 ghost use Rattle.mt_import.specs.Script.{line_text, line_or_comment, command_text, comment_text, left_out_text};
 
 use crate::reason::Reason;
-use crate::script::{Script, Written};
+use crate::script::Script;
 use crate::told::HostMount;
 use itoa::Buffer;
 use std::alloc::{AllocError, Global};
 
 /// How many bytes of a row a comment tells.
 const MOST_TOLD: usize = 8_000;
+
+/// What a call answers that fails for want of memory alone.
+pub(crate) type Done = Result<(), AllocError>;
 
 /// A text that is made: this fails for want of memory alone.
 pub(crate) type Text = Result<Vec<u8>, AllocError>;
@@ -47,7 +50,7 @@ pub(crate) fn digits_of(alloc: Global, number: u64) -> Text
 }
 
 /// Appends words, each behind a space.
-fn push_words(line: &mut Vec<u8>, words: &[&[u8]]) -> Written
+fn push_words(line: &mut Vec<u8>, words: &[&[u8]]) -> Done
     ensures { OnOk result (line.new.items ≡ line.old.items ++ flat_map (λ word. 32 ∷ word.now) words.now) }
 {
     'words: for word in words {
@@ -72,7 +75,7 @@ pub(crate) fn spaced(alloc: Global, words: &[&[u8]]) -> Text
 
 /// Appends a line that is to be a command, or a comment in its place.
 #[tactic(auto, unfolding(crate::specs::Script::line_or_comment))]
-pub(crate) fn push_command(script: &mut Script, line: &[u8]) -> Written
+pub(crate) fn push_command(script: &mut Script, line: &[u8]) -> Done
     ensures { OnOk result (script.new ≡ script.old ++ line_or_comment line.now) }
 {
     if !script.add(line)? {
@@ -83,7 +86,7 @@ pub(crate) fn push_command(script: &mut Script, line: &[u8]) -> Written
 
 /// Appends the command of these words, or a comment in its place.
 #[tactic(auto, unfolding(crate::specs::Script::command_text))]
-pub(crate) fn command(script: &mut Script, words: &[&[u8]]) -> Written
+pub(crate) fn command(script: &mut Script, words: &[&[u8]]) -> Done
     ensures { OnOk result (script.new ≡ script.old ++ command_text (map (λ word. word.now) words.now)) }
 {
     let line = spaced(script.alloc(), words)?;
@@ -102,7 +105,7 @@ fn first_bytes(text: &[u8], most: usize) -> &[u8]
 }
 
 /// Appends a comment of these texts.
-pub(crate) fn comment(script: &mut Script, texts: &[&[u8]]) -> Written
+pub(crate) fn comment(script: &mut Script, texts: &[&[u8]]) -> Done
     ensures { OnOk result (script.new ≡ script.old ++ line_text (flat_map (λ text. text.now) texts.now)) }
 {
     let line = joined(script.alloc(), texts)?;
@@ -112,12 +115,7 @@ pub(crate) fn comment(script: &mut Script, texts: &[&[u8]]) -> Written
 
 /// Appends a comment on a mount of a table, with its row, of which as much is told as a line that is sent may hold.
 #[tactic(auto, unfolding(crate::specs::Script::comment_text))]
-pub(crate) fn row_comment(
-    script: &mut Script,
-    table: usize,
-    row: &HostMount,
-    text: &[u8],
-) -> Written
+pub(crate) fn note(script: &mut Script, table: usize, row: &HostMount, text: &[u8]) -> Done
     ensures { OnOk result (script.new ≡ script.old ++ comment_text table row.now text.now) }
 {
     let table = digits_of(script.alloc(), table as u64)?;
@@ -139,9 +137,9 @@ pub(crate) fn row_comment(
 
 /// Says that a mount is left out, and why.
 #[tactic(auto, unfolding(crate::specs::Script::left_out_text))]
-pub(crate) fn left_out(script: &mut Script, table: usize, row: &HostMount, why: Reason) -> Written
+pub(crate) fn left_out(script: &mut Script, table: usize, row: &HostMount, why: Reason) -> Done
     ensures { OnOk result (script.new ≡ script.old ++ left_out_text table row.now why) }
 {
     let text = one_behind(script.alloc(), b"is left out: ", why.text())?;
-    row_comment(script, table, row, text.as_slice())
+    note(script, table, row, text.as_slice())
 }

@@ -6,5 +6,5 @@ use Rattle.mt_import.proofs.spaces.take_turns.Given as goal
 -- what was appended and what is left are all
 abbrev pub invariant-turns : goal.invariant-turns
 invariant-turns l =
-    l.script ++ flat_map (turn_text l.site.groups.now.all l.site.space.now l.site.stage.now l.mounts l.ways l.left) (drop l.turn-index l.space.tree.turns)
-    ≡ l.initial.script ++ flat_map (turn_text l.site.groups.now.all l.site.space.now l.site.stage.now l.mounts l.ways l.left) l.space.tree.turns
+    l.script ++ flat_map (turn_text l.site.groups.now.all l.site.space.now l.site.stage.now l.space.tree.mounts l.space.ways.items l.space.left.items) (drop l.turn-index l.space.tree.turns)
+    ≡ l.initial.script ++ flat_map (turn_text l.site.groups.now.all l.site.space.now l.site.stage.now l.space.tree.mounts l.space.ways.items l.space.left.items) l.space.tree.turns
