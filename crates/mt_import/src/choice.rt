@@ -81,34 +81,6 @@ pub(crate) fn candidates_of<'t, 'a>(
     Ok(all)
 }
 
-/// That of so many mounts those are left out for which there is no room. Fails for want of memory alone.
-fn first_of(alloc: Global, count: usize, most: usize) -> Result<Left, AllocError> {
-    let mut left = Vec::new(alloc);
-    for number in 0..count {
-        left.push(if number < most {
-            None
-        } else {
-            Some(Reason::NoRoom)
-        })?;
-    }
-    Ok(left)
-}
-
-/// The mounts that are made. Fails for want of memory alone.
-fn made_of<'t, 'a>(
-    alloc: Global,
-    all: &[Candidate<'t, 'a>],
-    left: &[Option<Reason>],
-) -> Result<Vec<Candidate<'t, 'a>>, AllocError> {
-    let mut made = Vec::new(alloc);
-    for candidate in all {
-        if is_made(left, candidate.number) {
-            made.push(*candidate)?;
-        }
-    }
-    Ok(made)
-}
-
 /// The peer groups of mounts. A member is staged of one in which a mount is on whose root another one stands, elsewhere than
 /// at the root of the namespace. Fails for want of memory alone.
 fn groups_of<'a>(alloc: Global, made: &[Candidate<'_, 'a>]) -> Result<Groups<'a>, AllocError> {
@@ -167,13 +139,16 @@ pub(crate) fn choose<'t, 'a>(
     all: &[Candidate<'t, 'a>],
     most: usize,
 ) -> Result<Choice<'t, 'a>, AllocError> {
-    let mut left = first_of(alloc, all.len(), most)?;
-    let mut made = made_of(alloc, all, left.as_slice())?;
+    let mut left = Vec::new(alloc);
+    left.resize_with(all.len().min(most), || None)?;
+    left.resize_with(all.len(), || Some(Reason::NoRoom))?;
+    let mut made = Vec::from_slice(alloc, all)?;
+    made.truncate(most);
     let mut groups = groups_of(alloc, made.as_slice())?;
     for _round in 0..=most {
         let count = made.len();
         judge(&groups, made.as_slice(), &mut left);
-        made = made_of(alloc, all, left.as_slice())?;
+        made.retain(|candidate| is_made(left.as_slice(), candidate.number));
         if made.len() == count {
             break;
         }

@@ -2,7 +2,7 @@
 //! there, so each one becomes the root of the namespace, and the one before it is put on it, or back.
 
 ghost use Rattle.std.specs.Prelude.{◌≡◌, ◌++◌, is_some, OnOk};
-ghost use Rattle.mt_import.specs.Covers.{isolated_text, root_text, base_text, shelf_text, raise_from, raised, lower_member_text, shelve_text, unshelve_text, lower_in, lowered, finished};
+ghost use Rattle.mt_import.specs.Covers.{isolated_text, root_text, base_text, shelf_text, raised, lower_member_text, shelve_text, unshelve_text, lower_in, lowered, finished};
 
 use crate::making::{make_bare, share_alone};
 use crate::mount::Mount;
@@ -75,19 +75,6 @@ pub(crate) fn make_base(site: Site<'_, '_>, script: &mut Script, mount: &Mount<'
     make_bare(site, script, mount, path.as_slice())
 }
 
-/// Makes one at a slot the root of the namespace, with the old one below it.
-fn raise_from(site: Site<'_, '_>, script: &mut Script, mount: &Mount<'_>, path: &[u8]) -> Done
-    ensures { OnOk result (script.new ≡ script.old ++ raise_from site.entry.groups.now.all site.entry.space.now site.entry.stage.now mount.now path.now) }
-{
-    let old = one_behind(site.alloc, path, STAGE)?;
-    let row = mount.row;
-    let group = site.groups.receiving(row.shared);
-    let is_shared = row.shared.is_some();
-    shelve(site, script, mount, group, is_shared, old.as_slice())?;
-    site.run(script, b"pivot", path, old.as_slice())?;
-    Ok(())
-}
-
 /// Makes the mount of a number, at a slot, the root of the namespace, with those below it that were made so before.
 #[tactic(auto, unfolding(crate::specs::Covers::raise_text))]
 pub(crate) fn raise(
@@ -107,7 +94,11 @@ pub(crate) fn raise(
         ..site
     };
     let path = site.cover_path(mount.base)?;
-    raise_from(site, script, mount, path.as_slice())?;
+    let old = one_behind(site.alloc, path.as_slice(), STAGE)?;
+    let row = mount.row;
+    let (group, is_shared) = (site.groups.receiving(row.shared), row.shared.is_some());
+    shelve(site, script, mount, group, is_shared, old.as_slice())?;
+    site.run(script, b"pivot", path.as_slice(), old.as_slice())?;
     Ok(())
 }
 

@@ -1,7 +1,6 @@
 //! A tree as it grows: the mounts that were placed, and what waits for its turn.
-ghost use Rattle.std.specs.Prelude.{◌≡◌, ◌≤◌, ◌-◌, [], ◌∷◌, ◌++◌, length, slice_get, replicate, OnOk, IfOk};
+ghost use Rattle.std.specs.Prelude.{◌≡◌, ◌≤◌, ◌-◌, [], ◌∷◌, ◌++◌, length, slice_get, OnOk, IfOk};
 ghost use Rattle.mt_import.specs.declared.mount.Turn.TheVariants as Turn;
-ghost use Rattle.mt_import.specs.declared.mount.Verdict.TheVariants as Verdict;
 ghost use Rattle.mt_import.specs.Growth.{waiting_ends, is_waiting, IsGrowth, GrowsOn, IsNextPlaced};
 ghost use Rattle.mt_import.specs.Tree.{StandsThere};
 
@@ -76,7 +75,7 @@ impl<'a> Growth<'a> {
         ensures rows { IfOk result (λ growth. growth.rows.now ≡ rows.now) }
         ensures kept { IfOk result (λ growth. IsGrowth growth) }
     {
-        let verdicts = waits(alloc, rows.len())?;
+        let verdicts = vec![in alloc; Verdict::Waits; rows.len()]?;
         Ok(Growth {
             rows,
             mounts: Vec::new(alloc),
@@ -289,15 +288,4 @@ impl<'a> Growth<'a> {
             verdicts,
         })
     }
-}
-
-/// That the turns of so many rows have not come. Fails for want of memory alone.
-fn waits(alloc: Global, count: usize) -> Result<Vec<Verdict>, AllocError>
-    ensures { IfOk result (λ verdicts. verdicts.items ≡ replicate count Verdict.Waits) }
-{
-    let mut verdicts = Vec::new(alloc);
-    'rows: for _row in 0..count {
-        verdicts.push(Verdict::Waits)?;
-    }
-    Ok(verdicts)
 }

@@ -3,7 +3,6 @@ ghost use Rattle.std.specs.Prelude.{◌≡◌, ◌≢◌, Some, None, IfOk, IfEr
 ghost use Rattle.mt_import.specs.Reading.{mount_in, no_fields, with_field, fields_in, is_device, end_in};
 
 use crate::told::HostMount;
-use crate::writer::Text;
 use mt_skel::fault::Fault;
 use mt_words::words::{Pieces, Words, number, words};
 use std::alloc::Global;
@@ -99,15 +98,6 @@ fn read_end<'a>(words: &mut Words<'a>) -> Option<(&'a [u8], &'a [u8])>
     Some((kind, source))
 }
 
-/// A copy of a word.
-fn copy_of(alloc: Global, word: &[u8]) -> Text
-    ensures { IfOk result (λ copy. copy.items ≡ word.now) }
-{
-    let mut copy = Vec::new(alloc);
-    copy.extend_from_slice(word)?;
-    Ok(copy)
-}
-
 /// The row that a line of a mountinfo tells, without its line end.
 ///
 /// Refused as `BadLine` exactly where it is no such line, and else as `NoMemory` alone.
@@ -141,18 +131,18 @@ pub fn read_mount(alloc: Global, line: &[u8]) -> Result<HostMount, Fault>
         return Err(Fault::BadLine);
     }
     Ok(HostMount {
-        line: copy_of(alloc, line)?,
+        line: Vec::from_slice(alloc, line)?,
         id,
         parent,
-        device: copy_of(alloc, device)?,
-        root: copy_of(alloc, root)?,
-        point: copy_of(alloc, point)?,
-        options: copy_of(alloc, options)?,
+        device: Vec::from_slice(alloc, device)?,
+        root: Vec::from_slice(alloc, root)?,
+        point: Vec::from_slice(alloc, point)?,
+        options: Vec::from_slice(alloc, options)?,
         shared: fields.shared,
         master: fields.master,
         via: fields.via,
         unbindable: fields.unbindable,
-        kind: copy_of(alloc, kind)?,
-        source: copy_of(alloc, source)?,
+        kind: Vec::from_slice(alloc, kind)?,
+        source: Vec::from_slice(alloc, source)?,
     })
 }

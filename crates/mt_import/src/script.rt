@@ -63,8 +63,7 @@ fn is_script_line(alloc: Global, line: &[u8]) -> Result<bool, AllocError>
 fn ended(alloc: Global, line: &[u8]) -> Text
     ensures { IfOk result (λ text. text.items ≡ line.now ++ 10 ∷ []) }
 {
-    let mut text = Vec::new(alloc);
-    text.extend_from_slice(line)?;
+    let mut text = Vec::from_slice(alloc, line)?;
     text.push(b'\n')?;
     Ok(text)
 }

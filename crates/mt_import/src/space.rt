@@ -34,7 +34,8 @@ impl<'a> Space<'a> {
     }
 }
 
-/// The tables with what is made of them: why mounts are left out is told for all trees, one after another. Fails for want of memory alone.
+/// The tables with what is made of them: why mounts are left out is told for all trees, one after another. Fails for want
+/// of memory alone.
 pub(crate) fn spaces_of<'a>(
     alloc: Global,
     trees: Vec<Tree<'a>>,
@@ -55,8 +56,7 @@ pub(crate) fn spaces_of<'a>(
     'trees: for tree in trees {
         let (here, others) = rest.split_at(tree.mounts().len().min(rest.len()));
         rest = others;
-        let mut left = Vec::new(alloc);
-        left.extend_from_slice(here)?;
+        let left = Vec::from_slice(alloc, here)?;
         let ways = ways_of(site, tree.mounts())?;
         let space = Space {
             number,

@@ -10,7 +10,7 @@ use crate::reason::Reason;
 use crate::script::Script;
 use crate::space::Space;
 use crate::told::HostMount;
-use crate::writer::{Done, comment, digits_of, left_out, note};
+use crate::writer::{Done, comment, digits_of, note, one_behind};
 
 /// Why a row has no mount in the tree of its table, if it has none: one of which the turn never came is in a ring.
 fn why_of(verdict: Verdict) -> Option<Reason>
@@ -23,14 +23,16 @@ fn why_of(verdict: Verdict) -> Option<Reason>
     }
 }
 
-/// Tells a row that is left out, for a reason.
+/// Tells a row that is left out, and why, if it is.
+#[tactic(auto, unfolding(crate::specs::Script::left_out_text))]
 fn tell_row(script: &mut Script, table: usize, row: &HostMount, left: Option<Reason>) -> Done
     ensures { OnOk result (script.new ≡ script.old ++ left_row_text table row.now left) }
 {
     let Some(why) = left else {
         return Ok(());
     };
-    left_out(script, table, row, why)
+    let text = one_behind(script.alloc(), b"is left out: ", why.text())?;
+    note(script, table, row, text.as_slice())
 }
 
 /// Tells the rows of a table that have no mount in its tree.
@@ -64,8 +66,8 @@ pub(crate) fn tell_tables(script: &mut Script, spaces: &[Space<'_>]) -> Done
 fn tell_mount(script: &mut Script, table: usize, row: &HostMount, left: Option<Reason>) -> Done
     ensures { OnOk result (script.new ≡ script.old ++ mount_comment table row.now left) }
 {
-    if let Some(why) = left {
-        return left_out(script, table, row, why);
+    if left.is_some() {
+        return tell_row(script, table, row, left);
     }
     if are_known(row.options.as_slice()) {
         return Ok(());

@@ -78,25 +78,6 @@ fn root_of(ids: &BTreeSet<u64>, rows: &[HostMount]) -> Option<usize> {
     rows.iter().position(|row| is_top(ids, row) && row.point.as_slice() == b"/".as_slice())
 }
 
-/// Adds a row to those that stand on others, or has it wait to be left out, if it stands on none. Fails for want of memory
-/// alone.
-fn sort_in<'a>(
-    below: &mut Vec<Below>,
-    ids: &BTreeSet<u64>,
-    row: &HostMount,
-    number: usize,
-    growth: &mut Growth<'a>,
-) -> Done
-    ensures { OnOk result (GrowsOn growth.old growth.new) }
-{
-    if is_top(ids, row) {
-        growth.wait_for_row(number, Some(Reason::NoParent))?;
-        return Ok(());
-    }
-    below.push(Below::of(row, number))?;
-    Ok(())
-}
-
 /// The rows that stand on others, by the numbers of these, and by how many names lead to where they stand. Those that stand on
 /// none wait to be left out, but for that of the root mount. Fails for want of memory alone.
 fn sorted<'a>(
@@ -110,8 +91,13 @@ fn sorted<'a>(
 {
     let mut below = Vec::new(alloc);
     'rows: for (number, row) in rows.iter().enumerate() {
-        if number != root && growth.is_waiting(number) {
-            sort_in(&mut below, ids, row, number, growth)?;
+        if number == root || !growth.is_waiting(number) {
+            continue;
+        }
+        if is_top(ids, row) {
+            growth.wait_for_row(number, Some(Reason::NoParent))?;
+        } else {
+            below.push(Below::of(row, number))?;
         }
     }
     below.sort_unstable_by_key(|row| (row.parent, row.names, row.number));

@@ -1,9 +1,7 @@
 //! The turns of a tree: each mount is made once, and comes to its place when all stands on it that does.
 ghost use Rattle.std.specs.Prelude.{◌≡◌, ◌++◌, if◌then◌else◌, [], map, OnOk};
 ghost use Rattle.mt_import.specs.Making.{share_text};
-ghost use Rattle.mt_import.specs.Hook.{hooked_text};
-ghost use Rattle.mt_import.specs.Slots.{group_path};
-ghost use Rattle.mt_import.specs.Turns.{apart_path, place_path, begun_text, settle_text, placed_text, ended_text, made_turn, turn_text};
+ghost use Rattle.mt_import.specs.Turns.{apart_path, begun_text, settle_text, placed_text, ended_text, made_turn, turn_text};
 
 use crate::choice::is_made;
 use crate::covers::make_base;
@@ -43,26 +41,6 @@ fn settle(site: Site<'_, '_>, script: &mut Script, apart: bool, mount: &Mount<'_
     Ok(())
 }
 
-/// Brings a mount to its place on a member of a peer group, which is isolated meanwhile.
-fn settle_alone(
-    site: Site<'_, '_>,
-    script: &mut Script,
-    way: &Way,
-    mount: &Mount<'_>,
-    group: u64,
-) -> Done
-    ensures { OnOk result (script.new ≡ script.old ++ hooked_text site.entry.space.now (group_path site.entry.stage.now group mount.now.place.items) (map (λ path. path.items) way.now.others.items)
-        (place_path site.entry.stage.now mount.now) (settle_text site.entry.groups.now.all site.entry.space.now site.entry.stage.now way.now.apart mount.now)) }
-{
-    let hook = site.group_path(group, mount.place.as_slice())?;
-    let place = site.place_path(mount)?;
-    let (others, place) = (way.others.as_slice(), place.as_slice());
-    isolate(site, script, hook.as_slice(), others, place)?;
-    settle(site, script, way.apart, mount)?;
-    site.unmount(script, hook.as_slice())?;
-    Ok(())
-}
-
 /// Makes a mount shared that was made apart and is alone in its group.
 fn share_apart(site: Site<'_, '_>, script: &mut Script, apart: bool, mount: &Mount<'_>) -> Done
     ensures { OnOk result (script.new ≡ script.old ++ (if apart then share_text site.entry.groups.now.all site.entry.space.now mount.now.row.now (apart_path site.entry.stage.now mount.now) else [])) }
@@ -89,7 +67,13 @@ fn place(
     let Some(group) = hooked else {
         return settle(site, script, way.apart, mount);
     };
-    settle_alone(site, script, way, mount, group)
+    let hook = site.group_path(group, mount.place.as_slice())?;
+    let place = site.place_path(mount)?;
+    let (others, place) = (way.others.as_slice(), place.as_slice());
+    isolate(site, script, hook.as_slice(), others, place)?;
+    settle(site, script, way.apart, mount)?;
+    site.unmount(script, hook.as_slice())?;
+    Ok(())
 }
 
 /// Ends a mount, on which all stands that does: it comes to its place.

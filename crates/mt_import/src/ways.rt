@@ -38,11 +38,6 @@ fn has_others(mounts: &[Mount<'_>], number: usize) -> bool {
         .is_some_and(|other| other.above == number && other.lowest == next)
 }
 
-/// Whether the hook at the place of a mount would come to where that is bound from.
-fn is_hooked(groups: &Groups<'_>, mount: &Mount<'_>, group: u64) -> bool {
-    groups.gets_from(mount.row, group) && path_behind(mount.root, mount.place.as_slice()).is_some()
-}
-
 /// Where a hook would hide the place of a mount that is stacked on another: the names from the mount below the stack to there.
 fn names_to_hiding<'m, 'a>(
     groups: &Groups<'_>,
@@ -83,7 +78,8 @@ fn others_of(
     Ok(paths)
 }
 
-/// How the mount of a number comes to its place. Fails for want of memory alone.
+/// How the mount of a number comes to its place: apart also where the hook there would come to what it is bound from. Fails
+/// for want of memory alone.
 fn way_of(
     site: Site<'_, '_>,
     mounts: &[Mount<'_>],
@@ -97,8 +93,10 @@ fn way_of(
             others: Vec::new(site.alloc),
         });
     };
+    let is_hooked = site.groups.gets_from(mount.row, group)
+        && path_behind(mount.root, mount.place.as_slice()).is_some();
     Ok(Way {
-        apart: apart || is_hooked(site.groups, mount, group),
+        apart: apart || is_hooked,
         others: others_of(site, mounts, mount, group)?,
     })
 }

@@ -1,9 +1,8 @@
 //! The lines of the script, made of their words.
 ghost use Rattle.std.specs.Prelude.{◌≡◌, ◌∷◌, ◌++◌, map, take, decimal, IfOk, OnOk};
 ghost use Rattle.std.specs.List.{flat_map, join_with_byte};
-ghost use Rattle.mt_import.specs.Script.{line_text, line_or_comment, command_text, comment_text, left_out_text};
+ghost use Rattle.mt_import.specs.Script.{line_text, line_or_comment, command_text, comment_text};
 
-use crate::reason::Reason;
 use crate::script::Script;
 use crate::told::HostMount;
 use itoa::Buffer;
@@ -33,8 +32,7 @@ pub(crate) fn joined(alloc: Global, texts: &[&[u8]]) -> Text
 pub(crate) fn one_behind(alloc: Global, first: &[u8], second: &[u8]) -> Text
     ensures { IfOk result (λ all. all.items ≡ first.now ++ second.now) }
 {
-    let mut all = Vec::new(alloc);
-    all.extend_from_slice(first)?;
+    let mut all = Vec::from_slice(alloc, first)?;
     all.extend_from_slice(second)?;
     Ok(all)
 }
@@ -43,10 +41,8 @@ pub(crate) fn one_behind(alloc: Global, first: &[u8], second: &[u8]) -> Text
 pub(crate) fn digits_of(alloc: Global, number: u64) -> Text
     ensures { IfOk result (λ digits. digits.items ≡ decimal number) }
 {
-    let mut digits = Vec::new(alloc);
     let mut buffer = Buffer::new();
-    digits.extend_from_slice(buffer.format(number).as_bytes())?;
-    Ok(digits)
+    Vec::from_slice(alloc, buffer.format(number).as_bytes())
 }
 
 /// Appends words, each behind a space.
@@ -133,13 +129,4 @@ pub(crate) fn note(script: &mut Script, table: usize, row: &HostMount, text: &[u
         told,
     ];
     comment(script, texts.as_slice())
-}
-
-/// Says that a mount is left out, and why.
-#[tactic(auto, unfolding(crate::specs::Script::left_out_text))]
-pub(crate) fn left_out(script: &mut Script, table: usize, row: &HostMount, why: Reason) -> Done
-    ensures { OnOk result (script.new ≡ script.old ++ left_out_text table row.now why) }
-{
-    let text = one_behind(script.alloc(), b"is left out: ", why.text())?;
-    note(script, table, row, text.as_slice())
 }
