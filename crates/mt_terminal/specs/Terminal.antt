@@ -1,0 +1,48 @@
+-- Strangers' bytes as a terminal is given them (the form: findmnt(8), which writes `\xNN` for what cannot be printed).
+-- A word with no source is this project's rule.
+use Rattle.std.specs.Prelude.{ℕ, ◌+◌, ◌/◌, ◌%◌, Bool, false, ◌||◌, ◌&&◌, nat_lt, nat_le, cond, List, [], ◌∷◌, ◌++◌, take, drop, min, Option, Some, None, unwrap_or, codes}
+use Rattle.std.specs.List.{flat_map}
+use Rattle.bstr.specs.Utf8.{Decoded, decoded}
+use Rattle.unicode_width.specs.Width.{char_width}
+
+-- a hexadecimal digit
+abbrev pub hex_digit : ℕ → ℕ
+hex_digit n = cond (nat_lt n 10) (48 + n) (87 + n)
+
+-- a byte in hexadecimal digits
+abbrev pub hex_byte : ℕ → List ℕ
+hex_byte b = codes "\\x" ++ hex_digit (b / 16) ∷ hex_digit (b % 16) ∷ []
+
+-- a character that a terminal obeys: the controls of ASCII, and those behind them (ECMA-48, C0 and C1)
+abbrev pub is_obeyed : ℕ → Bool
+is_obeyed c = nat_lt c 32 || (nat_le 127 c && nat_le c 159)
+
+-- the bytes of a character stand as they are, unless a terminal obeys it; these and bytes that are none are written as hexadecimal digits
+abbrev pub piece_text : Option ℕ → List ℕ → List ℕ
+piece_text (Some c) bytes = cond (is_obeyed c) (flat_map hex_byte bytes) bytes
+piece_text None bytes = flat_map hex_byte bytes
+
+abbrev pub first_text : Decoded → List ℕ → List ℕ
+first_text first bytes = piece_text first.char (take first.size bytes)
+
+-- so many characters at most, as many as the first list is long
+abbrev pub text_by : List ℕ → List ℕ → List ℕ
+text_by [] bytes = []
+text_by (f ∷ fs) bytes = first_text (decoded bytes) bytes ++ text_by fs (drop (decoded bytes).size bytes)
+
+-- bytes as a terminal is given them
+unfoldable pub terminal_text : List ℕ → List ℕ
+terminal_text bytes = text_by bytes bytes
+
+-- how many cells of a line a character takes: two if it is wide, and none if it combines with the one before it (Unicode Standard Annex #11)
+abbrev pub character_cells : Option ℕ → ℕ
+character_cells (Some c) = min (unwrap_or (char_width false c) 0) 2
+character_cells None = 0
+
+abbrev pub cells_by : List ℕ → List ℕ → ℕ
+cells_by [] bytes = 0
+cells_by (f ∷ fs) bytes = character_cells (decoded bytes).char + cells_by fs (drop (decoded bytes).size bytes)
+
+-- how many cells of a line a text takes
+unfoldable pub cells_of_text : List ℕ → ℕ
+cells_of_text bytes = cells_by bytes bytes
