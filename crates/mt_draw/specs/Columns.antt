@@ -1,8 +1,8 @@
 -- Columns of text: cells with spaces behind them up to the widest one of their column (the form: findmnt(8)).
 -- A word with no source is this project's rule.
-use Rattle.std.specs.Prelude.{ℕ, ◌-◌, max, Bool, ◌||◌, nat_lt, nat_le, List, ◌++◌, replicate, codes, refl}
+use Rattle.std.specs.Prelude.{ℕ, ◌-◌, max, List, ◌++◌, replicate, codes, refl}
 use Rattle.std.specs.Coded.{Coded, code_by, coded×, coded_ℕ, coded_list}
-use Rattle.std.specs.List.{count_by}
+use Rattle.mt_terminal.specs.Terminal.{cells_of_text}
 use Rattle.mt_draw.specs.declared.columns.Widths.{Widths}
 
 -- the cells of one line
@@ -21,14 +21,6 @@ cells_code =
     (λ c. (c.id, (c.target, (c.source, (c.kind, (c.options, c.propagation))))))
     (λ t. record { id = t.0; target = t.1.0; source = t.1.1.0; kind = t.1.1.1.0; options = t.1.1.1.1.0; propagation = t.1.1.1.1.1 }) (λ _. refl)
 
--- a byte that begins a character: those that go on with one are 128 to 191 (utf-8(7))
-abbrev pub begins_character : ℕ → Bool
-begins_character b = nat_lt b 128 || nat_le 192 b
-
--- how wide a text is: how many characters it has
-abbrev pub width : List ℕ → ℕ
-width text = count_by begins_character text
-
 -- columns without a cell
 abbrev pub no_widths : Widths
 no_widths = record { id = 0; target = 0; source = 0; kind = 0; options = 0 }
@@ -36,16 +28,16 @@ no_widths = record { id = 0; target = 0; source = 0; kind = 0; options = 0 }
 -- columns that are wide enough for these cells too
 abbrev pub widened : Widths → CellsView → Widths
 widened w c = record {
-  id = max w.id (width c.id);
-  target = max w.target (width c.target);
-  source = max w.source (width c.source);
-  kind = max w.kind (width c.kind);
-  options = max w.options (width c.options);
+  id = max w.id (cells_of_text c.id);
+  target = max w.target (cells_of_text c.target);
+  source = max w.source (cells_of_text c.source);
+  kind = max w.kind (cells_of_text c.kind);
+  options = max w.options (cells_of_text c.options);
 }
 
 -- a cell that others follow: spaces up to the width of its column, and one more
 abbrev pub padded : ℕ → List ℕ → List ℕ
-padded w cell = cell ++ (replicate (w - width cell) 32 ++ codes " ")
+padded w cell = cell ++ (replicate (w - cells_of_text cell) 32 ++ codes " ")
 
 -- the line of these cells: behind the last one stands no space
 unfoldable pub cells_line : Widths → CellsView → List ℕ

@@ -5,7 +5,8 @@ use Rattle.std.specs.List.{flat_map, join_with_byte}
 use Rattle.mt_skel.specs.Escapes.{escaped}
 use Rattle.mt_info.specs.declared.row.Row.{Row}
 use Rattle.mt_info.specs.RowLine.{path_text, option_words}
-use Rattle.mt_draw.specs.Trees.{propagation, shown_root}
+use Rattle.mt_draw.specs.Propagation.{propagation}
+use Rattle.mt_draw.specs.Trees.{shown_root}
 
 -- a byte that stands for itself in a label: printable ASCII but for the quote, the ampersand, which begins a character
 -- by name, and the backslash

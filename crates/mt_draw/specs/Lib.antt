@@ -1,5 +1,6 @@
 pub mod Columns
 pub mod Forest
+pub mod Propagation
 pub mod Trees
 pub mod Labels
 pub mod Edges

@@ -3,12 +3,13 @@
 use Rattle.std.specs.Prelude.{ℕ, Bool, ◌==◌, cond, List, [], ◌∷◌, ◌++◌, map, length, codes, decimal}
 use Rattle.std.specs.List.{flat_map, fold, join_with_byte}
 use Rattle.mt_skel.specs.Escapes.{escaped}
-use Rattle.mt_info.specs.declared.row.Row.{Row}
-use Rattle.mt_info.specs.RowLine.{path_text, option_words, tags}
+use Rattle.mt_info.specs.RowLine.{path_text, option_words}
 use Rattle.mt_events.specs.Mirrors.{MirrorView}
+use Rattle.mt_terminal.specs.Terminal.{terminal_text}
 use Rattle.mt_draw.specs.declared.trees.Strokes.{Strokes}
 use Rattle.mt_draw.specs.declared.trees.Strokes.TheVariants.{Lines, Ascii}
 use Rattle.mt_draw.specs.declared.columns.Widths.{Widths}
+use Rattle.mt_draw.specs.Propagation.{propagation}
 use Rattle.mt_draw.specs.Columns.{CellsView, no_widths, widened, cells_line}
 use Rattle.mt_draw.specs.Forest.{BranchView, tree, strays}
 
@@ -33,26 +34,18 @@ lead s [] = []
 lead s (last ∷ []) = cond last (corner s) (tee s)
 lead s (last ∷ next ∷ lasts) = cond last (codes "  ") (bar s) ++ lead s (next ∷ lasts)
 
--- how a mount propagates: its optional fields, joined by commas, or a word of its own where it has none
-abbrev pub words_or_private : List (List ℕ) → List ℕ
-words_or_private [] = codes "private"
-words_or_private (w ∷ ws) = join_with_byte 44 (w ∷ ws)
-
-abbrev pub propagation : Row → List ℕ
-propagation r = words_or_private (tags r)
-
 -- the directory that a mount shows at its root, where that is not the root of its filesystem
 abbrev pub shown_root : List (List ℕ) → List ℕ
 shown_root [] = []
 shown_root (n ∷ ns) = codes "[" ++ (path_text (n ∷ ns) ++ codes "]")
 
--- the cells of a row
+-- the cells of a row, of which the names are strangers' text
 abbrev pub cells : Strokes → BranchView → CellsView
 cells s b = record {
   id = decimal b.row.id;
-  target = lead s b.lasts ++ path_text b.row.point;
-  source = escaped b.row.source ++ shown_root b.row.root;
-  kind = escaped b.row.kind;
+  target = lead s b.lasts ++ terminal_text (path_text b.row.point);
+  source = terminal_text (escaped b.row.source ++ shown_root b.row.root);
+  kind = terminal_text (escaped b.row.kind);
   options = join_with_byte 44 (option_words b.row.attrs);
   propagation = propagation b.row;
 }

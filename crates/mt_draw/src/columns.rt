@@ -1,8 +1,9 @@
 //! Columns: cells that are padded with spaces to the widest one below each other.
 ghost use Rattle.std.specs.Prelude.{◌≡◌, ◌++◌, OnOk, replicate};
 ghost use Rattle.std.specs.List.{fold, flat_map};
-ghost use Rattle.mt_draw.specs.Columns.{begins_character, width, no_widths, widened, padded, cells_line};
+ghost use Rattle.mt_draw.specs.Columns.{no_widths, widened, padded, cells_line};
 
+use mt_terminal::terminal::cells_of_text;
 use std::alloc::AllocError;
 use std::marker::Model;
 
@@ -37,26 +38,6 @@ pub(crate) struct Widths {
     options: usize,
 }
 
-/// Whether a byte begins a character of UTF-8. Those that go on with one are 10xxxxxx.
-fn begins_character(byte: u8) -> bool
-    ensures { result ≡ begins_character byte }
-{
-    byte < 128 || 192 <= byte
-}
-
-/// How many characters a text has.
-fn width(text: &[u8]) -> usize
-    ensures { result ≡ width text.now }
-{
-    let mut count = 0usize;
-    for byte in text {
-        if begins_character(*byte) {
-            count += 1;
-        }
-    }
-    count
-}
-
 /// Appends so many spaces.
 fn push_spaces(text: &mut Vec<u8>, count: usize) -> Result<(), AllocError>
     ensures { OnOk result (text.new.items ≡ text.old.items ++ replicate count 32) }
@@ -72,7 +53,7 @@ fn push_padded(text: &mut Vec<u8>, width_of_column: usize, cell: &[u8]) -> Resul
     ensures { OnOk result (text.new.items ≡ text.old.items ++ padded width_of_column cell.now) }
 {
     text.extend_from_slice(cell)?;
-    push_spaces(text, width_of_column.saturating_sub(width(cell)))?;
+    push_spaces(text, width_of_column.saturating_sub(cells_of_text(cell)))?;
     text.extend_from_slice(b" ")?;
     Ok(())
 }
@@ -104,11 +85,11 @@ impl Cells {
         ensures { result ≡ widened widths self.now }
     {
         Widths {
-            id: widths.id.max(width(&self.id)),
-            target: widths.target.max(width(&self.target)),
-            source: widths.source.max(width(&self.source)),
-            kind: widths.kind.max(width(&self.kind)),
-            options: widths.options.max(width(&self.options)),
+            id: widths.id.max(cells_of_text(&self.id)),
+            target: widths.target.max(cells_of_text(&self.target)),
+            source: widths.source.max(cells_of_text(&self.source)),
+            kind: widths.kind.max(cells_of_text(&self.kind)),
+            options: widths.options.max(cells_of_text(&self.options)),
         }
     }
 

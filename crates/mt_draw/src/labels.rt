@@ -4,7 +4,8 @@ ghost use Rattle.mt_skel.specs.Escapes.{escaped};
 ghost use Rattle.mt_draw.specs.Labels.{is_plain, label_byte, label_text, numbered_point, label};
 ghost use Rattle.mt_draw.specs.Trees.{shown_root};
 
-use crate::trees::{push_propagation, push_shown_root};
+use crate::propagation::push_propagation;
+use crate::trees::push_shown_root;
 use mt_info::print::{push_label, push_number, push_options, push_path};
 use mt_info::row::Row;
 use std::alloc::AllocError;

@@ -2,8 +2,8 @@
 //!
 //! [`drawing`] draws tables as trees or as a graph. [`forest`] puts the rows of a table in the order of a tree, and
 //! [`trees`] writes them so, in the columns of [`columns`]. [`graph`] writes a text for Graphviz: the mounts, with
-//! their [`labels`], and [`edges`], of which those of peer groups are in [`groups`]. [`laws`] has what is true of all
-//! trees.
+//! their [`labels`], and [`edges`], of which those of peer groups are in [`groups`]. [`propagation`] is the word of both for
+//! how a mount propagates. [`laws`] has what is true of all trees.
 #![tactic(auto)]
 
 pub mod columns;
@@ -14,4 +14,5 @@ pub mod graph;
 pub mod groups;
 pub mod labels;
 pub mod laws;
+pub mod propagation;
 pub mod trees;

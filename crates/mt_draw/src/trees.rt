@@ -1,12 +1,17 @@
 //! Tables as trees of text, as findmnt(8) draws them.
 ghost use Rattle.std.specs.Prelude.{◌≡◌, ◌++◌, cond, map, codes, OnOk, IfOk};
-ghost use Rattle.mt_draw.specs.Trees.{tee, corner, bar, lead, propagation, shown_root, cells, header, strays_text, fitted_text, part_tree, apart, trees_text};
+ghost use Rattle.mt_skel.specs.Escapes.{escaped};
+ghost use Rattle.mt_info.specs.RowLine.{path_text};
+ghost use Rattle.mt_terminal.specs.Terminal.{terminal_text};
+ghost use Rattle.mt_draw.specs.Trees.{tee, corner, bar, lead, shown_root, cells, header, strays_text, fitted_text, part_tree, apart, trees_text};
 
 use crate::columns::{Cells, Widths, push_lines};
 use crate::forest::{Branch, strays, tree};
+use crate::propagation::push_propagation;
 use mt_events::mirror::Mirror;
-use mt_info::print::{push_label, push_number, push_options, push_path, push_tag_list};
+use mt_info::print::{push_label, push_number, push_options, push_path};
 use mt_info::row::Row;
+use mt_terminal::terminal::push_terminal_text;
 use std::alloc::{AllocError, Global};
 
 /// What the lines of a tree are made of.
@@ -81,18 +86,6 @@ fn push_lead(text: &mut Vec<u8>, strokes: Strokes, lasts: &[bool]) -> Result<(),
     Ok(())
 }
 
-/// Appends how a mount propagates: its optional fields, joined by commas, or `private` where it has none.
-pub(crate) fn push_propagation(text: &mut Vec<u8>, row: &Row) -> Result<(), AllocError>
-    ensures { OnOk result (text.new.items ≡ text.old.items ++ propagation row.now) }
-{
-    let start = text.len();
-    push_tag_list(text, row)?;
-    if text.len() == start {
-        text.extend_from_slice(b"private")?;
-    }
-    Ok(())
-}
-
 /// Appends the directory that a mount shows at its root, in brackets, where that is not the root of its filesystem.
 pub(crate) fn push_shown_root(text: &mut Vec<u8>, row: &Row) -> Result<(), AllocError>
     ensures { OnOk result (text.new.items ≡ text.old.items ++ shown_root row.now.root) }
@@ -106,6 +99,41 @@ pub(crate) fn push_shown_root(text: &mut Vec<u8>, row: &Row) -> Result<(), Alloc
     Ok(())
 }
 
+/// The cell of a mount point, behind the lines that lead to it.
+fn target_of(alloc: Global, strokes: Strokes, branch: &Branch<'_>) -> Result<Vec<u8>, AllocError>
+    ensures { IfOk result (λ cell. cell.items ≡ lead strokes branch.now.lasts ++ terminal_text (path_text branch.now.row.point)) }
+{
+    let mut point = Vec::new(alloc);
+    push_path(&mut point, &branch.row().point)?;
+    let mut cell = Vec::new(alloc);
+    push_lead(&mut cell, strokes, branch.lasts())?;
+    push_terminal_text(&mut cell, &point)?;
+    Ok(cell)
+}
+
+/// The cell of a source, and of the directory that is shown.
+fn source_of(alloc: Global, row: &Row) -> Result<Vec<u8>, AllocError>
+    ensures { IfOk result (λ cell. cell.items ≡ terminal_text (escaped row.now.source ++ shown_root row.now.root)) }
+{
+    let mut source = Vec::new(alloc);
+    push_label(&mut source, &row.source)?;
+    push_shown_root(&mut source, row)?;
+    let mut cell = Vec::new(alloc);
+    push_terminal_text(&mut cell, &source)?;
+    Ok(cell)
+}
+
+/// The cell of a type.
+fn kind_of(alloc: Global, row: &Row) -> Result<Vec<u8>, AllocError>
+    ensures { IfOk result (λ cell. cell.items ≡ terminal_text (escaped row.now.kind)) }
+{
+    let mut kind = Vec::new(alloc);
+    push_label(&mut kind, &row.kind)?;
+    let mut cell = Vec::new(alloc);
+    push_terminal_text(&mut cell, &kind)?;
+    Ok(cell)
+}
+
 /// The cells of a row.
 fn cells_of(alloc: Global, strokes: Strokes, branch: &Branch<'_>) -> Result<Cells, AllocError>
     ensures { IfOk result (λ found. found ≡ cells strokes branch.now) }
@@ -113,14 +141,9 @@ fn cells_of(alloc: Global, strokes: Strokes, branch: &Branch<'_>) -> Result<Cell
     let row = branch.row();
     let mut id = Vec::new(alloc);
     push_number(&mut id, row.id)?;
-    let mut target = Vec::new(alloc);
-    push_lead(&mut target, strokes, branch.lasts())?;
-    push_path(&mut target, &row.point)?;
-    let mut source = Vec::new(alloc);
-    push_label(&mut source, &row.source)?;
-    push_shown_root(&mut source, row)?;
-    let mut kind = Vec::new(alloc);
-    push_label(&mut kind, &row.kind)?;
+    let target = target_of(alloc, strokes, branch)?;
+    let source = source_of(alloc, row)?;
+    let kind = kind_of(alloc, row)?;
     let mut options = Vec::new(alloc);
     push_options(&mut options, &row.attrs)?;
     let mut propagation = Vec::new(alloc);

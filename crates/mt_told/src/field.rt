@@ -1,12 +1,12 @@
 //! What of a mount is not as it was, in words.
-ghost use Rattle.std.specs.Prelude.{◌≡◌, ◌++◌, cond, codes, OnOk, IfOk};
+ghost use Rattle.std.specs.Prelude.{◌≡◌, ◌++◌, cond, OnOk, IfOk};
 ghost use Rattle.std.specs.List.{filter};
-ghost use Rattle.mt_told.specs.Told.{field_differs, flag_words, group_words, atime_word, field_words, further_words, listed, changes_text};
+ghost use Rattle.mt_told.specs.Told.{propagation_differs, field_differs, atime_word, field_name, field_words, change_words, further_words, listed, changes_text};
 
+use mt_draw::propagation::push_propagation;
 use mt_info::print::{push_number, push_path};
 use mt_info::row::Row;
 use mt_mounts::mount::Atime;
-use mt_peers::state::GroupId;
 use std::alloc::{AllocError, Global};
 
 /// A field of a row of which it is told that it is not as it was.
@@ -32,18 +32,12 @@ pub(crate) enum Field {
     Nodiratime,
     /// When times of access are updated.
     AccessTimes,
-    /// The peer group.
-    Shared,
-    /// The peer group that the mount gets from.
-    Master,
-    /// The nearest group above it that is seen in its namespace.
-    Via,
-    /// Whether a bind is refused.
-    Unbindable,
+    /// How the mount propagates: the optional fields.
+    Propagation,
 }
 
 /// The fields, in the order in which they are told.
-const FIELDS: [Field; 14] = [
+const FIELDS: [Field; 11] = [
     Field::Point,
     Field::Parent,
     Field::Root,
@@ -54,11 +48,18 @@ const FIELDS: [Field; 14] = [
     Field::Nosymfollow,
     Field::Nodiratime,
     Field::AccessTimes,
-    Field::Shared,
-    Field::Master,
-    Field::Via,
-    Field::Unbindable,
+    Field::Propagation,
 ];
+
+/// Whether two rows differ in one of the optional fields.
+fn propagation_differs(before: &Row, after: &Row) -> bool
+    ensures { result ≡ propagation_differs before.now after.now }
+{
+    before.shared != after.shared
+        || before.master != after.master
+        || before.via != after.via
+        || before.unbindable != after.unbindable
+}
 
 /// Whether two rows differ in a field.
 fn field_differs(before: &Row, after: &Row, field: Field) -> bool
@@ -75,10 +76,7 @@ fn field_differs(before: &Row, after: &Row, field: Field) -> bool
         Field::Nosymfollow => before.attrs.nosymfollow != after.attrs.nosymfollow,
         Field::Nodiratime => before.attrs.nodiratime != after.attrs.nodiratime,
         Field::AccessTimes => before.attrs.atime != after.attrs.atime,
-        Field::Shared => before.shared != after.shared,
-        Field::Master => before.master != after.master,
-        Field::Via => before.via != after.via,
-        Field::Unbindable => before.unbindable != after.unbindable,
+        Field::Propagation => propagation_differs(before, after),
     }
 }
 
@@ -100,40 +98,6 @@ fn changed_fields(
     Ok(changed)
 }
 
-/// What stands in front of something that holds now, or no longer.
-fn now_or_no_longer(holds: bool) -> &'static [u8]
-    ensures { result.now ≡ cond holds (codes "now ") (codes "no longer ") }
-{
-    if holds { b"now " } else { b"no longer " }
-}
-
-/// Appends that something holds now, or no longer.
-fn push_flag(text: &mut Vec<u8>, holds: bool, word: &[u8]) -> Result<(), AllocError>
-    ensures { OnOk result (text.new.items ≡ text.old.items ++ flag_words holds word.now) }
-{
-    text.extend_from_slice(now_or_no_longer(holds))?;
-    text.extend_from_slice(word)?;
-    Ok(())
-}
-
-/// Appends an optional field that holds now, or what the mount is no longer.
-fn push_group(
-    text: &mut Vec<u8>,
-    group: Option<GroupId>,
-    name: &[u8],
-    lost: &[u8],
-) -> Result<(), AllocError>
-    ensures { OnOk result (text.new.items ≡ text.old.items ++ group_words group name.now lost.now) }
-{
-    let Some(group) = group else {
-        return push_flag(text, false, lost);
-    };
-    push_flag(text, true, name)?;
-    text.extend_from_slice(b":")?;
-    push_number(text, group)?;
-    Ok(())
-}
-
 /// The name of a kind of access times.
 fn atime_word(atime: Atime) -> &'static [u8]
     ensures { result.now ≡ atime_word atime }
@@ -145,57 +109,101 @@ fn atime_word(atime: Atime) -> &'static [u8]
     }
 }
 
-/// Appends what a field of a row is now.
-fn push_field(text: &mut Vec<u8>, row: &Row, field: Field) -> Result<(), AllocError>
-    ensures { OnOk result (text.new.items ≡ text.old.items ++ field_words row.now field) }
+/// What stands in front of what a field says, where that does not tell which field it is.
+fn field_name(field: Field) -> &'static [u8]
+    ensures { result.now ≡ field_name field }
 {
     match field {
-        Field::Point => {
-            text.extend_from_slice(b"now at ")?;
-            push_path(text, &row.point)
-        }
-        Field::Parent => {
-            text.extend_from_slice(b"now on ")?;
-            push_number(text, row.parent)
-        }
-        Field::Root => {
-            text.extend_from_slice(b"now shows ")?;
-            push_path(text, &row.root)
-        }
-        Field::ReadOnly if row.attrs.ro => text.extend_from_slice(b"now read-only"),
-        Field::ReadOnly => text.extend_from_slice(b"now writable"),
-        Field::Nosuid => push_flag(text, row.attrs.nosuid, b"nosuid"),
-        Field::Nodev => push_flag(text, row.attrs.nodev, b"nodev"),
-        Field::Noexec => push_flag(text, row.attrs.noexec, b"noexec"),
-        Field::Nosymfollow => push_flag(text, row.attrs.nosymfollow, b"nosymfollow"),
-        Field::Nodiratime => push_flag(text, row.attrs.nodiratime, b"nodiratime"),
-        Field::AccessTimes => push_flag(text, true, atime_word(row.attrs.atime)),
-        Field::Shared => push_group(text, row.shared, b"shared", b"shared"),
-        Field::Master => push_group(text, row.master, b"master", b"a slave"),
-        Field::Via => push_group(text, row.via, b"propagate_from", b"propagate_from"),
-        Field::Unbindable => push_flag(text, row.unbindable, b"unbindable"),
+        Field::Parent => b"parent ",
+        Field::Root => b"root ",
+        Field::Point
+        | Field::ReadOnly
+        | Field::Nosuid
+        | Field::Nodev
+        | Field::Noexec
+        | Field::Nosymfollow
+        | Field::Nodiratime
+        | Field::AccessTimes
+        | Field::Propagation => b"",
     }
 }
 
-/// Appends what each of these fields of a row is now, each behind a comma.
-fn push_further(text: &mut Vec<u8>, row: &Row, changed: &[Field]) -> Result<(), AllocError>
-    ensures { OnOk result (text.new.items ≡ text.old.items ++ further_words row.now changed.now) }
+/// One of two words.
+fn either(holds: bool, word: &'static [u8], opposite: &'static [u8]) -> &'static [u8]
+    ensures { result.now ≡ cond holds word.now opposite.now }
+{
+    if holds { word } else { opposite }
+}
+
+/// Appends what a field of a row says.
+fn push_field(text: &mut Vec<u8>, row: &Row, field: Field) -> Result<(), AllocError>
+    ensures { OnOk result (text.new.items ≡ text.old.items ++ field_words row.now field) }
+{
+    let attrs = row.attrs;
+    match field {
+        Field::Point => push_path(text, &row.point),
+        Field::Parent => push_number(text, row.parent),
+        Field::Root => push_path(text, &row.root),
+        Field::ReadOnly => text.extend_from_slice(either(attrs.ro, b"ro", b"rw")),
+        Field::Nosuid => text.extend_from_slice(either(attrs.nosuid, b"nosuid", b"suid")),
+        Field::Nodev => text.extend_from_slice(either(attrs.nodev, b"nodev", b"dev")),
+        Field::Noexec => text.extend_from_slice(either(attrs.noexec, b"noexec", b"exec")),
+        Field::Nosymfollow => {
+            text.extend_from_slice(either(attrs.nosymfollow, b"nosymfollow", b"symfollow"))
+        }
+        Field::Nodiratime => {
+            text.extend_from_slice(either(attrs.nodiratime, b"nodiratime", b"diratime"))
+        }
+        Field::AccessTimes => text.extend_from_slice(atime_word(attrs.atime)),
+        Field::Propagation => push_propagation(text, row),
+    }
+}
+
+/// Appends what a field was, and what it is.
+fn push_change(
+    text: &mut Vec<u8>,
+    before: &Row,
+    after: &Row,
+    field: Field,
+) -> Result<(), AllocError>
+    ensures { OnOk result (text.new.items ≡ text.old.items ++ change_words before.now after.now field) }
+{
+    text.extend_from_slice(field_name(field))?;
+    push_field(text, before, field)?;
+    text.extend_from_slice(b" -> ")?;
+    push_field(text, after, field)?;
+    Ok(())
+}
+
+/// Appends what each of these fields was and is, each behind a comma.
+fn push_further(
+    text: &mut Vec<u8>,
+    before: &Row,
+    after: &Row,
+    changed: &[Field],
+) -> Result<(), AllocError>
+    ensures { OnOk result (text.new.items ≡ text.old.items ++ further_words before.now after.now changed.now) }
 {
     'changed: for field in changed {
         text.extend_from_slice(b", ")?;
-        push_field(text, row, *field)?;
+        push_change(text, before, after, *field)?;
     }
     Ok(())
 }
 
-/// Appends what each of these fields of a row is now, joined by commas, or that nothing changed.
-fn push_fields(text: &mut Vec<u8>, row: &Row, changed: &[Field]) -> Result<(), AllocError>
-    ensures { OnOk result (text.new.items ≡ text.old.items ++ listed row.now changed.now) }
+/// Appends what each of these fields was and is, joined by commas, or that nothing changed.
+fn push_fields(
+    text: &mut Vec<u8>,
+    before: &Row,
+    after: &Row,
+    changed: &[Field],
+) -> Result<(), AllocError>
+    ensures { OnOk result (text.new.items ≡ text.old.items ++ listed before.now after.now changed.now) }
 {
     match changed {
         [first, others @ ..] => {
-            push_field(text, row, *first)?;
-            push_further(text, row, others)
+            push_change(text, before, after, *first)?;
+            push_further(text, before, after, others)
         }
         [] => text.extend_from_slice(b"as before"),
     }
@@ -207,6 +215,6 @@ pub(crate) fn push_changes(text: &mut Vec<u8>, before: &Row, after: &Row) -> Res
     ensures { OnOk result (text.new.items ≡ text.old.items ++ changes_text before.now after.now) }
 {
     let changed = changed_fields(*text.allocator(), &FIELDS, before, after)?;
-    push_fields(text, after, &changed)?;
+    push_fields(text, before, after, &changed)?;
     Ok(())
 }

@@ -3,16 +3,18 @@ ghost use Rattle.std.specs.Prelude.{◌≡◌, ◌++◌, OnOk, IsTrue};
 ghost use Rattle.std.specs.List.{flat_map};
 ghost use Rattle.mt_skel.specs.Keyed.{rises};
 ghost use Rattle.mt_info.specs.Table.{row_id};
-ghost use Rattle.mt_told.specs.Told.{mount_words, name_words, space_words, left_words, left_text, new_text, changed_text, row_text, named_text, told_text};
+ghost use Rattle.mt_told.specs.Told.{mount_words, name_words, space_words, left_words, shown_line, left_text, kind_words, new_text, standing, changed_text, row_text, named_text, told_text};
 
 use crate::field::push_changes;
+use mt_draw::propagation::push_propagation;
 use mt_events::mirror::Mirror;
 use mt_events::post::Post;
-use mt_info::print::{push_number, push_path};
+use mt_info::print::{push_label, push_number, push_options, push_path};
 use mt_info::row::Row;
 use mt_info::table::find_row;
 use mt_mounts::mount::{MountId, SpaceId};
 use mt_skel::escape::push_escaped;
+use mt_terminal::terminal::push_terminal_text;
 use std::alloc::AllocError;
 
 /// A namespace by its number, and its name.
@@ -24,8 +26,8 @@ struct Named<'a> {
 
 /// Appends what a post says of its namespace, in words: first a line for each mount that left, by rising ID, and then
 /// one for each row, by rising ID. The mirror has the table before the post: from it are the mount points of the mounts
-/// that left, and what of a mount is not as it was. Each name is written with its escapes, so that each line is that of
-/// one mount. Fails for want of memory alone.
+/// that left, and what of a mount is not as it was, with what it was. Each name is written with its escapes, so that each
+/// line is that of one mount, and as a terminal is given it. Fails for want of memory alone.
 pub fn push_told(text: &mut Vec<u8>, mirror: &Mirror, post: &Post) -> Result<(), AllocError>
     ensures told { OnOk result (text.new.items ≡ text.old.items ++ told_text mirror.now post.now) }
 {
@@ -130,7 +132,17 @@ fn push_left_mount(text: &mut Vec<u8>, rows: &[Row], id: MountId) -> Result<(), 
     }
 }
 
+/// Appends a line as a terminal is given it.
+fn push_shown(text: &mut Vec<u8>, line: &[u8]) -> Result<(), AllocError>
+    ensures { OnOk result (text.new.items ≡ text.old.items ++ shown_line line.now) }
+{
+    push_terminal_text(text, line)?;
+    text.extend_from_slice(b"\n")?;
+    Ok(())
+}
+
 /// Appends the line of a mount that left.
+#[tactic(auto, unfolding(crate::specs::Told::left_text))]
 fn push_left_line(
     text: &mut Vec<u8>,
     rows: &[Row],
@@ -140,27 +152,52 @@ fn push_left_line(
     requires { IsTrue (rises row_id rows.now) }
     ensures { OnOk result (text.new.items ≡ text.old.items ++ left_text rows.now space.entry.name.now space.entry.number id) }
 {
-    text.extend_from_slice(b"- ")?;
-    push_left_mount(text, rows, id)?;
-    push_space(text, space)?;
-    text.extend_from_slice(b"\n")?;
+    let mut line = Vec::new(*text.allocator());
+    line.extend_from_slice(b"- ")?;
+    push_left_mount(&mut line, rows, id)?;
+    push_space(&mut line, space)?;
+    push_shown(text, &line)
+}
+
+/// Appends what a new mount is: its type, its options, and how it propagates.
+fn push_kind(text: &mut Vec<u8>, row: &Row) -> Result<(), AllocError>
+    ensures { OnOk result (text.new.items ≡ text.old.items ++ kind_words row.now) }
+{
+    text.extend_from_slice(b" ")?;
+    push_label(text, &row.kind)?;
+    text.extend_from_slice(b" ")?;
+    push_options(text, &row.attrs)?;
+    text.extend_from_slice(b" ")?;
+    push_propagation(text, row)?;
     Ok(())
 }
 
 /// Appends the line of a mount that is new.
+#[tactic(auto, unfolding(crate::specs::Told::new_text))]
 fn push_new_line(text: &mut Vec<u8>, space: Named<'_>, row: &Row) -> Result<(), AllocError>
     ensures { OnOk result (text.new.items ≡ text.old.items ++ new_text space.entry.name.now space.entry.number row.now) }
 {
-    text.extend_from_slice(b"+ ")?;
-    push_mount(text, row)?;
-    text.extend_from_slice(b" ")?;
-    push_escaped(text, row.kind.bytes())?;
-    push_space(text, space)?;
-    text.extend_from_slice(b"\n")?;
+    let mut line = Vec::new(*text.allocator());
+    line.extend_from_slice(b"+ ")?;
+    push_mount(&mut line, row)?;
+    push_kind(&mut line, row)?;
+    push_space(&mut line, space)?;
+    push_shown(text, &line)
+}
+
+/// Appends the mount point of a mount that stands where it stood.
+fn push_standing(text: &mut Vec<u8>, before: &Row, after: &Row) -> Result<(), AllocError>
+    ensures { OnOk result (text.new.items ≡ text.old.items ++ standing before.now after.now) }
+{
+    if before.point.is_same(&after.point) {
+        push_path(text, &after.point)?;
+        text.extend_from_slice(b" ")?;
+    }
     Ok(())
 }
 
 /// Appends the line of a mount that was there before.
+#[tactic(auto, unfolding(crate::specs::Told::changed_text))]
 fn push_changed_line(
     text: &mut Vec<u8>,
     space: Named<'_>,
@@ -169,13 +206,14 @@ fn push_changed_line(
 ) -> Result<(), AllocError>
     ensures { OnOk result (text.new.items ≡ text.old.items ++ changed_text space.entry.name.now space.entry.number before.now after.now) }
 {
-    text.extend_from_slice(b"~ ")?;
-    push_mount(text, after)?;
-    push_space(text, space)?;
-    text.extend_from_slice(b": ")?;
-    push_changes(text, before, after)?;
-    text.extend_from_slice(b"\n")?;
-    Ok(())
+    let mut line = Vec::new(*text.allocator());
+    line.extend_from_slice(b"~ ")?;
+    push_number(&mut line, after.id)?;
+    line.extend_from_slice(b" ")?;
+    push_standing(&mut line, before, after)?;
+    push_changes(&mut line, before, after)?;
+    push_space(&mut line, space)?;
+    push_shown(text, &line)
 }
 
 /// Appends the line of a row, new or not as it was.

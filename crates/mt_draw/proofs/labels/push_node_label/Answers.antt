@@ -3,7 +3,8 @@ use Rattle.std.specs.List.{join_with_byte}
 use Rattle.mt_skel.specs.Escapes.{escaped}
 use Rattle.mt_info.specs.RowLine.{option_words}
 use Rattle.mt_draw.specs.Labels.{label_text, numbered_point}
-use Rattle.mt_draw.specs.Trees.{propagation, shown_root}
+use Rattle.mt_draw.specs.Propagation.{propagation}
+use Rattle.mt_draw.specs.Trees.{shown_root}
 use Rattle.mt_draw.proofs.AppendLaws.{seven}
 use Rattle.mt_draw.proofs.labels.push_node_label.Goals as goal
 
