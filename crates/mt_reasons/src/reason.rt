@@ -1,0 +1,143 @@
+//! What is wrong with a line that is refused as `BadLine`.
+
+use mt_terminal::shown::Shown;
+use std::fmt;
+use std::fmt::{Display, Formatter};
+
+/// What is wrong with a line that is refused as `BadLine`. Words are as the line has them, with their escapes.
+#[derive(Clone, Copy)]
+pub enum Reason<'a> {
+    /// It is empty.
+    Empty,
+    /// A word is empty.
+    EmptyWord,
+    /// Its first word is no command. This one is nearest to it.
+    Unknown {
+        word: &'a [u8],
+        nearest: Option<&'static [u8]>,
+    },
+    /// It has too few words, or too many.
+    Count {
+        usage: &'static [u8],
+    },
+    /// A word should be a number.
+    Number {
+        place: &'static [u8],
+        word: &'a [u8],
+    },
+    /// A count is not within its bounds.
+    Range {
+        word: &'a [u8],
+        most: u64,
+    },
+    /// A word has a zero byte.
+    Zero {
+        word: &'a [u8],
+    },
+    /// A word has a backslash that begins no escape.
+    Escape {
+        word: &'a [u8],
+    },
+    /// Another word stands where `less` may stand.
+    Less {
+        word: &'a [u8],
+    },
+    /// A word is no option of `setattr`.
+    NoOption {
+        word: &'a [u8],
+    },
+    /// A list of `setattr` has a word that is not its own, or is empty.
+    Attribute {
+        word: &'a [u8],
+        of: &'static str,
+        words: &'static str,
+    },
+    /// The word of `prop=` is no kind of propagation.
+    Propagation {
+        word: &'a [u8],
+    },
+    /// An option of `setattr` is there twice.
+    Twice,
+}
+
+impl<'a> Reason<'a> {
+    /// Writes what is wrong with an option of `setattr`, or where another word stands in the place of `less`.
+    fn write_option<W: fmt::Write>(&self, f: &mut Formatter<W>) -> fmt::Result {
+        match self {
+            Reason::Less { word } => { write!(f, "{}: only less may stand there", Shown(*word)) }
+            Reason::NoOption { word } => {
+                write!(
+                    f,
+                    "{}: the options are rec, set=, clr= and prop=",
+                    Shown(*word)
+                )
+            }
+            Reason::Attribute {
+                word: [],
+                of,
+                words,
+            } => { write!(f, "an empty word: {of} takes {words}, joined by commas") }
+            Reason::Attribute { word, of, words } => {
+                write!(f, "{}: {of} takes {words}, joined by commas", Shown(*word))
+            }
+            Reason::Propagation { word } => write!(
+                f,
+                "{}: prop= takes shared, private, slave or unbindable",
+                Shown(*word)
+            ),
+            _ => f.write_str("an option is there twice"),
+        }
+    }
+
+    /// Writes what is wrong with a word.
+    fn write_word<W: fmt::Write>(&self, f: &mut Formatter<W>) -> fmt::Result {
+        match self {
+            Reason::Number { place, word } => write!(
+                f,
+                "{}: {} is a number, digits without a leading zero, below 18446744073709551616",
+                Shown(*word),
+                Shown(*place)
+            ),
+            Reason::Range { word, most } => {
+                write!(f, "{}: K is a number from 1 to {most}", Shown(*word))
+            }
+            Reason::Zero { word } => write!(f, "{}: a byte is zero", Shown(*word)),
+            Reason::Escape { word } => write!(
+                f,
+                "{}: a backslash begins none of \\040, \\011, \\012 and \\134",
+                Shown(*word)
+            ),
+            _ => self.write_option(f),
+        }
+    }
+}
+
+impl<'a> Display for Reason<'a> {
+    fn fmt<W: fmt::Write>(&self, f: &mut Formatter<W>) -> fmt::Result {
+        match self {
+            Reason::Empty => f.write_str("the line is empty"),
+            Reason::EmptyWord => {
+                f.write_str(
+                    "a word is empty: one space stands between two words, and none at an end",
+                )
+            }
+            Reason::Unknown {
+                word,
+                nearest: Some(nearest),
+            } => write!(
+                f,
+                "{}: no line begins so; the nearest is {}",
+                Shown(*word),
+                Shown(*nearest)
+            ),
+            Reason::Unknown {
+                word,
+                nearest: None,
+            } => { write!(f, "{}: no line begins so", Shown(*word)) }
+            Reason::Count { usage } => {
+                write!(f, "too few words, or too many: {}", Shown(*usage))
+            }
+            _ => self.write_word(f),
+        }
+    }
+}

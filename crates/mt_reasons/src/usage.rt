@@ -1,0 +1,73 @@
+//! The usage of each line, as the help has it.
+
+use mt_requests::help::LINES;
+use mt_words::words::{Pieces, Words, words};
+
+/// What stands in a text in front of a piece of it, or all where it has no such piece.
+fn front_of<'a>(text: &'a [u8], piece: &[u8]) -> &'a [u8] {
+    for place in 0..text.len() {
+        let (front, rest) = text.split_at(place);
+        if rest.starts_with(piece) {
+            return front;
+        }
+    }
+    text
+}
+
+/// The usage that a row of the help begins with, if it does. Two of one line have a comma between them, and the first is
+/// told.
+pub(crate) fn usage_in(row: &'static [u8]) -> Option<&'static [u8]> {
+    let usage = row.strip_prefix(b"  ")?;
+    if usage.starts_with(b" ") {
+        return None;
+    }
+    Some(front_of(front_of(usage, b"  "), b", "))
+}
+
+/// The first word of a usage.
+pub(crate) fn command_of(usage: &'static [u8]) -> Option<&'static [u8]> {
+    words(usage).next()
+}
+
+/// The usage of the lines that begin with a command. None where there are none.
+pub(crate) fn usage_of(command: &[u8]) -> Option<&'static [u8]> {
+    for row in Pieces::new(b'\n', LINES.as_bytes()) {
+        if let Some(usage) = usage_in(row) {
+            if command_of(usage) == Some(command) {
+                return Some(usage);
+            }
+        }
+    }
+    None
+}
+
+/// Whether a word of a usage need not be there.
+pub(crate) fn is_optional(word: &[u8]) -> bool {
+    word.starts_with(b"[")
+}
+
+/// How many words are left.
+pub(crate) fn count_of(words: Words<'_>) -> usize {
+    let mut count = 0usize;
+    for _word in words {
+        count = count.saturating_add(1);
+    }
+    count
+}
+
+/// How many words of a usage need not be there.
+fn optional_count(usage: &'static [u8]) -> usize {
+    let mut count = 0usize;
+    for word in words(usage) {
+        if is_optional(word) {
+            count = count.saturating_add(1);
+        }
+    }
+    count
+}
+
+/// How many words a usage has at least, and at most.
+pub(crate) fn bounds_of(usage: &'static [u8]) -> (usize, usize) {
+    let most = count_of(words(usage));
+    (most.saturating_sub(optional_count(usage)), most)
+}
