@@ -26,7 +26,7 @@ from typing import NamedTuple
 
 from documents import tour
 from harness import commands
-from harness.protocol import word_of
+from harness.protocol import Ended, word_of
 from harness.runs import check, failures, read, shown
 from harness.scripts import Author, shorter
 from kernels import differences
@@ -91,7 +91,7 @@ def play_lines(program, source, is_thorough=False):
             lines.append(line)
             try:
                 play.step(line)
-            except (Unknown, Silent) as found:
+            except (Unknown, Silent, Ended) as found:
                 unknown = f"behind {shown(line)}\n{found}\n{play.both_tables()}"
     return Played(lines, play, unknown)
 

@@ -107,6 +107,11 @@ def check_help(helps):
     check_same("the words of mountctl.1", wanted, found)
 
 
+def refusals_of_page():
+    """The refusals of mountd-lines.7."""
+    return re.findall(r"(?m)^\.It Er (\w+)", section("mountd-lines.7", "REFUSALS"))
+
+
 def refusals_by_line():
     """The refusals of each line in docs/RULES.md, in their order."""
     table = shown(read("docs", "RULES.md")).split("| Line | Refusals |\n")[1].split("\n\n")[0]
@@ -128,8 +133,7 @@ def refusals_named(text):
 def check_refusals():
     """The refusals of the source stand in mountd-lines.7, and no other in any page; each line has its own."""
     names = re.findall(r'=> b"(\w+)"', shown(read("crates", "mt_skel", "src", "fault.rt")))
-    listed = re.findall(r"(?m)^\.It Er (\w+)", section("mountd-lines.7", "REFUSALS"))
-    check_same("the refusals of mountd-lines.7", names, listed)
+    check_same("the refusals of mountd-lines.7", names, refusals_of_page())
     for name in PAGES:
         found = {*refusals_named(page(name)), *re.findall(r"\bno ([A-Z][a-z]+[A-Z]\w*)", page(name))}
         unknown = found - set(names)
@@ -140,12 +144,30 @@ def check_refusals():
         check(f"the refusals of {word} in mountd-lines.7", found == wanted.get(word, []), " ".join(found))
 
 
+def check_explained(mountctl):
+    """What `explain` says of each refusal is its sentence in mountd-lines.7, and a sentence on Linux."""
+    for name, text in re.findall(r"(?m)^\.It Er (\w+)\n((?:(?!\.It |\.El).*\n)*)", section("mountd-lines.7", "REFUSALS")):
+        # A literal has its text behind its name, and a point that stands alone behind a space.
+        sentence = re.sub(r"(?m)^\.Ql ", "", text).replace("\\&", "").replace("\n", " ").replace("/ ,", "/,").strip()
+        found = run(mountctl, b"", "explain", name)
+        first, _, second = shown(found[1]).partition("\n")
+        check(f"explain {name}", (found[0], found[2], first) == (0, b"", f"{name}: {sentence}"), f"{found}, {sentence}")
+        check(f"explain {name}: Linux", re.fullmatch(r"(In Linux it is E|Linux has none such: ).*\.\n", second) is not None, second)
+    for words in [], ["Such"], ["busy"], ["Busy", "Busy"]:
+        found = run(mountctl, b"", "explain", *words)
+        check(f"explain {words}", found == (2, b"", b"mountctl: explain takes the name of a refusal\n"), repr(found))
+
+
 # The messages that a program puts together, with a word of capital letters for each part that a run finds.
 PUT_TOGETHER = {
     "mountd": ["cannot listen: SOCKET: REASON"],
     "mountctl": [
         "connection fault: SOCKET: REASON",
         "line N: LINE: no NAME",
+        "line N: BadLine: REASON",
+        "line N: NoEntry: DST, PATH",
+        "BadLine: REASON",
+        "NoEntry: DST, PATH",
         "line N is no row of a mountinfo",
         "FILE: line N is no row of a mountinfo",
         "FILE: REASON",
@@ -238,11 +260,19 @@ def offered(*words):
 def check_offers(helps):
     """The completion offers the options and words of mountctl --help, and behind each word what may stand there."""
     check_same("the options that the completion offers", options(helps["mountctl"]), offered("-"))
-    check_same("the words that the completion offers alone", words_in_place(helps["mountctl"], "SOCKET WORD.."), offered("imp"))
+    check_same("the words that the completion offers alone", words_in_place(helps["mountctl"], "SOCKET WORD.."), [*offered("imp"), *offered("exp")])
+    check_same("the refusals that the completion offers", refusals_of_page(), offered("explain", ""))
     there = usages(helps["mountctl"])
-    check_same("the words that the completion offers", {*there, *words_in_place(helps["mountctl"])}, offered("socket", ""))
+    words = {*there, *words_in_place(helps["mountctl"])}
+    check_same("the words that the completion offers", words, offered("socket", ""))
+    # With a socket in the environment they are offered in its place, beside options and files.
+    os.environ["MOUNTD_SOCKET"] = "socket"
+    check("the words that the completion offers without a socket", words <= {*offered("")}, " ".join(offered("")))
+    del os.environ["MOUNTD_SOCKET"]
+    for front in [], ["-e"], ["--wait", "5"], ["--wait=5", "-q"]:
+        check_same(f"what completes tree behind {front}", ["--ascii", "all"], offered(*front, "tree", ""))
     for word, usage in {**usages(helps["mountd"]), **words_in_place(helps["mountctl"])}.items():
-        wanted = set(re.findall(r"(?<![^\s\[])(?:--)?[a-z]+=?", usage.removeprefix(word))) - {word}
+        wanted = set(re.findall(r"(?<![^\s\[|])(?:--)?[a-z]+=?", usage.removeprefix(word))) - {word}
         found = {offer for count in range(4) for offer in offered("socket", word, *["1"] * count, "")}
         check(f"what the completion offers behind {word}", found == wanted, " ".join(sorted(found)))
 
@@ -292,6 +322,7 @@ def main():
     check_help(helps)
     check_refusals()
     check_statuses(programs)
+    check_explained(programs["mountctl"])
     check_examples(programs)
     check_offers(helps)
     check_options(programs["mountd"])

@@ -32,6 +32,8 @@ from clients.mountctl import (
 from clients.pictures import check_pictures, update_pictures
 from clients.python import check_python
 from clients.questions import check_questions
+from clients.reasons import check_reasons
+from clients.starts import check_starts
 from clients.worlds import check_worlds
 from harness.protocol import Broken
 from harness.runs import check, failures
@@ -74,6 +76,8 @@ CLIENT_PARTS = {
     "refused": check_refused,
     "answers": check_answers,
     "reading": check_reading,
+    "reasons": check_reasons,
+    "starts": check_starts,
     "retold": check_retold,
     "pictures": check_pictures,
     "telling": check_telling,

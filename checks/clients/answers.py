@@ -14,13 +14,14 @@ from harness.servers import Door
 
 class Exchange(NamedTuple):
     """Words as a shell reads them, what they send, what is answered, what is printed, and the status. With 3 a
-    connection fault is told."""
+    connection fault is told, behind what is said of the line."""
 
     words: str
     sent: bytes
     answer: bytes
     printed: bytes
     status: int
+    said: bytes = b""
 
 
 ROWS = b"2 2 0:1 / / rw,relatime master:1 - tmpfs none rw\n5 2 0:2 / /m rw,relatime master:2 - ext4 /dev/x rw\n"
@@ -40,7 +41,7 @@ REQUESTS = (
     Exchange("show 1", b"show 1\n", b"", b"", 3),
     Exchange("newns a", b"newns a\n", b"ok\n", b"", 3),
     Exchange("stop", b"stop\n", b"okay\n", b"", 3),
-    Exchange("rm a", b"rm a\n", b"ok\n", b"", 3),
+    Exchange("rm a", b"rm a\n", b"ok\n", b"", 3, b"mountctl: BadLine: rm: no line begins so\n"),
     Exchange("take 1", b"take 1\n", b"ok 2\n" + POST, b"ok 2\n" + POST, 0),
     Exchange("take 1", b"take 1\n", b"ok 1\nnonsense\n", b"ok 1\n", 3),
     Exchange("take 1", b"take 1\n", b"ok 2\nevent 1 1 1\n- 2 2\n", b"ok 2\n", 3),
@@ -58,7 +59,7 @@ TURNED_AWAY = (
 )
 
 # The words of a request that no socket holds unread.
-LONG = ["show", *["x" * 100_000] * 5]
+LONG = ["mkfs", *["x" * 100_000] * 3]
 
 # What a watcher of namespace 2 is answered, and the table that the posts lead to.
 FOLLOWED = b"""ok 3
@@ -112,6 +113,19 @@ ID TARGET         SOURCE FSTYPE OPTIONS     PROPAGATION
 9  │   └─/mnt/a/n none   tmpfs  rw,relatime private
 7  ├─/proc        p      proc   rw,relatime unbindable
 8  └─/kä\\040b     none   tmpfs  rw,relatime private
+""".encode()
+# Wide characters, a combining one, and bytes that a terminal obeys or that are no text.
+WIDE = b"1 1 0:1 / / rw,relatime - rootfs \xe6\x9c\xa8 rw\n", (
+    b"2 2 0:1 / / rw,relatime - rootfs none rw\n3 2 0:2 /\x7f /e\xcc\x81\xe6\x97\xa5\xe6\x9c\xac rw,relatime - e\x1bt \xff\xc2\x9b rw\n"
+)
+TREES_OF_WIDE = """namespace 1
+ID TARGET SOURCE FSTYPE OPTIONS     PROPAGATION
+1  /      木     rootfs rw,relatime private
+
+namespace 2
+ID TARGET   SOURCE              FSTYPE OPTIONS     PROPAGATION
+2  /        none                rootfs rw,relatime private
+3  └─/e\u0301日本 \\xff\\xc2\\x9b[/\\x7f] e\\x1bt rw,relatime private
 """.encode()
 RING = b"""1 1 0:1 / / rw,relatime shared:1 - rootfs none rw
 2 1 0:1 / /a rw,relatime - rootfs none rw
@@ -181,6 +195,16 @@ label="namespace 2";
 "group 7" -> "2.5" [style=dashed, color=goldenrod3];
 }
 """
+GRAPH_OF_ONE = b"""digraph mounts {
+node [shape=box, fontsize=10, height=0];
+subgraph "cluster_1" {
+label="namespace 1";
+"1.3" [label="3 /\\nrootfs\\nrw,relatime\\nmaster:1"];
+}
+"group 1" -> "1.3" [style=dashed, color=blue3];
+}
+"""
+SPACES = b"namespace 1: 2 mounts\nnamespace 2: 1 mount\nnamespace 3: 0 mounts\n"
 
 
 def opening(*tables):
@@ -199,8 +223,15 @@ PICTURES = (
     Exchange("tree", ALL, opening(STACKS), TREE_OF_STACKS, 0),
     Exchange("tree --ascii", ALL, opening(RING), TREE_OF_RING, 0),
     Exchange("tree", ALL, opening(*WIDTHS), TREES_OF_WIDTHS, 0),
+    Exchange("tree", ALL, opening(*WIDE), TREES_OF_WIDE, 0),
     Exchange("tree", ALL, opening(b"", b""), NO_TREES, 0),
     Exchange("dot", ALL, opening(*RINGS), GRAPH, 0),
+    Exchange("tree all --ascii", ALL, opening(TWO, ONE), TREES, 0),
+    Exchange("dot all", ALL, opening(*RINGS), GRAPH, 0),
+    Exchange("dot 1", b"watch 1\n", opening(ONE), GRAPH_OF_ONE, 0),
+    Exchange("spaces", ALL, opening(TWO, ONE, b""), SPACES, 0),
+    Exchange("spaces", ALL, opening(), b"", 0),
+    Exchange("spaces", ALL, b"no TooManyWatchers\n", b"no TooManyWatchers\n", 1),
     Exchange("tree", ALL, b"no TooManyWatchers\n", b"no TooManyWatchers\n", 1),
     Exchange("tree 2 --ascii", b"watch 2\n", b"ok 2\nspace 2 0 1\n" + ONE, TREE_OF_ONE, 0),
     Exchange("tree 2", b"watch 2\n", opening(TWO, ONE), b"", 3),
@@ -233,22 +264,22 @@ CHANGES = (
 - 6
 = 2 2 0:1 / / rw,relatime shared:1 - tmpfs none rw
 = 3 2 0:2 / /a ro,relatime shared:2 master:1 - ext4 /dev/x rw
-= 8 3 0:3 / /a\\012b rw,relatime - e\\011t /dev/y rw
+= 8 3 0:3 / /a\\012b\x1b\xc2\x9b\xff\xc3\xa4 rw,relatime - e\\011t\x7f /dev/y rw
 """,
         b"""- 5 /m\\040n/c in namespace 2
 - 6 in namespace 2
-~ 2 / in namespace 2: as before
-~ 3 /a in namespace 2: now read-only
-+ 8 /a\\012b e\\011t in namespace 2
+~ 2 / as before in namespace 2
+~ 3 /a rw -> ro in namespace 2
++ 8 /a\\012b\\x1b\\xc2\\x9b\\xff\xc3\xa4 e\\011t\\x7f rw,relatime private in namespace 2
 """,
     ),
     (
         b"""event 2 9 1
 = 4 3 0:2 / /a/n rw shared:4 master:2 propagate_from:1 - ext4 /dev/x rw
 """,
-        b"~ 4 /a/n in namespace 2: now at /a/n, now on 3, now shows /, now writable, no longer nosuid, no longer nodev, "
-        b"no longer noexec, no longer nosymfollow, no longer nodiratime, now strictatime, now shared:4, now master:2, "
-        b"now propagate_from:1, no longer unbindable\n",
+        b"~ 4 /m\\040n -> /a/n, parent 2 -> 3, root /b -> /, ro -> rw, nosuid -> suid, nodev -> dev, noexec -> exec, "
+        b"nosymfollow -> symfollow, nodiratime -> diratime, noatime -> strictatime, "
+        b"unbindable -> shared:4,master:2,propagate_from:1 in namespace 2\n",
     ),
     (
         b"""event 2 9 3
@@ -256,10 +287,10 @@ CHANGES = (
 = 4 2 0:2 /b /m\\040n ro,nosuid,nodev,noexec,nodiratime,relatime,nosymfollow unbindable - ext4 /dev/x rw
 = 7 2 0:2 / /d rw,relatime master:6 - ext4 /dev/x rw
 """,
-        b"~ 3 /a in namespace 2: now shows /b, now nosuid, now nodev, now noexec, now nosymfollow, now nodiratime, "
-        b"now noatime, no longer shared, no longer a slave, now unbindable\n"
-        b"~ 4 /m\\040n in namespace 2: now relatime\n"
-        b"~ 7 /d in namespace 2: now master:6, no longer propagate_from\n",
+        b"~ 3 /a root / -> /b, suid -> nosuid, dev -> nodev, exec -> noexec, symfollow -> nosymfollow, "
+        b"diratime -> nodiratime, relatime -> noatime, shared:2,master:1 -> unbindable in namespace 2\n"
+        b"~ 4 /m\\040n noatime -> relatime in namespace 2\n"
+        b"~ 7 /d master:5,propagate_from:1 -> master:6 in namespace 2\n",
     ),
 )
 STOPPED = b"no Stopped\n"
@@ -267,9 +298,9 @@ FOLLOWING = b"watch 2\nfollow 1048576\n"
 MONITORS = tuple(Exchange("monitor 2", FOLLOWING, BEFORE + post + STOPPED, told + STOPPED, 1) for post, told in CHANGES)
 
 
-def check_ended(name, client, path, found, printed, status):
-    """Whether a program that asked at a path has printed this and ended so."""
-    wanted = (status, (printed, connection_fault(path) if status == 3 else b""))
+def check_ended(name, client, path, found, printed, status, said=b""):
+    """Whether a program that asked at a path has printed this, said this of its line, and ended so."""
+    wanted = (status, (printed, said + (connection_fault(path) if status == 3 else b"")))
     check(name, (client.returncode, found) == wanted, f"wanted {wanted}\nfound  {(client.returncode, found)}")
 
 
@@ -280,7 +311,7 @@ def check_exchange(mountctl, door, exchange):
         sent = door.answers(exchange.answer)
         found = client.communicate(timeout=MOST_SECONDS)
     check(f"{name}: what it sends", sent == exchange.sent, repr(sent))
-    check_ended(name, client, door.path, found, exchange.printed, exchange.status)
+    check_ended(name, client, door.path, found, exchange.printed, exchange.status, exchange.said)
 
 
 def check_turned_away(mountctl, door, answer, printed, status):

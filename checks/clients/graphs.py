@@ -46,8 +46,7 @@ def root_shown(mount):
 
 def cells_of(mount, before):
     """The cells of a mount, of which one has this before its target."""
-    source, propagation = mount.source + root_shown(mount), b",".join(mount.tags) or b"private"
-    return b"%d" % mount.id, before + mount.point, source, mount.kind, mount.options, propagation
+    return b"%d" % mount.id, before + mount.point, mount.source + root_shown(mount), mount.kind, mount.options, mount.propagation()
 
 
 def joined(names):

@@ -156,7 +156,7 @@ def check_foretold(program, mountctl, guests, point):
     with Server(program) as server:
         found = run(mountctl, b"", server.path, "what-if", "--pid", *pids, "--", "mount", "1", "usb", shown(point))
         server.stop()
-    told = sorted(re.findall(rb"(?m)^\+ \d+ (\S+) usb in namespace \d+ \(/proc/(\d+)/mountinfo\)$", found[1]))
+    told = sorted(re.findall(rb"(?m)^\+ \d+ (\S+) usb rw,relatime \S+ in namespace \d+ \(/proc/(\d+)/mountinfo\)$", found[1]))
     guests[0].ask("mount", b"usb", point)
     usb = b"tmpfs", b"usb"
     fields = [(row.point, pid.encode()) for guest, pid in zip(guests, pids) for row in guest.rows() if (row.kind, row.source) == usb]

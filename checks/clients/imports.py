@@ -21,10 +21,10 @@ from clients.outcomes import (
     made_lines,
     row_of,
 )
+from harness.allocations import Refusing
 from harness.runs import answer_groups, check, run, session, shown
 from harness.servers import Server
 from sessions import cases
-from sessions.memory import Refusing
 
 # How many random worlds there are, and how many commands lead to each.
 WORLDS = 300

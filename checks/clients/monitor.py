@@ -10,36 +10,51 @@ import tempfile
 import threading
 
 from clients.mountctl import Asked
+from harness.allocations import Refusing
 from harness.runs import MOST_SECONDS, check, connection_fault, run, shown
 from harness.servers import START, Client, Door, Server
-from sessions.memory import Refusing
 
 # How long a change may be on its way before another one is made, in seconds.
 ON_ITS_WAY = 0.2
 
 # Changes of an attribute that are made until a monitor tells one of them, and the last one, which it tells then.
 TRIED = b"setattr 1 / set=nodev", b"setattr 1 / clr=nodev"
-MARK = b"setattr 1 / set=noexec", b"~ 1 / in namespace 1: now noexec\n"
+MARK = b"setattr 1 / set=noexec", b"~ 1 / exec -> noexec in namespace 1\n"
 
 # What somebody else does, and what a monitor of all namespaces tells of it: namespaces 1 and 2 are peers, and 2 has its
 # mount as a slave then.
 TOLD = (
-    (b"mount 1 d /m", [b"+ 3 /m ext4 in namespace 1\n", b"+ 4 /m ext4 in namespace 2\n"]),
-    (b"setattr 1 /m set=ro,nosuid,noatime clr=atime", [b"~ 3 /m in namespace 1: now read-only, now nosuid, now noatime\n"]),
-    (b"setattr 2 /m prop=slave", [b"~ 4 /m in namespace 2: no longer shared, now master:2\n"]),
-    (b"setattr 1 /m clr=ro,nosuid", [b"~ 3 /m in namespace 1: now writable, no longer nosuid\n"]),
-    (b"copyns 1", [b"+ 5 / tmpfs in namespace 3\n", b"+ 6 /m ext4 in namespace 3\n"]),
+    (
+        b"mount 1 d /m",
+        [b"+ 3 /m ext4 rw,relatime shared:2 in namespace 1\n", b"+ 4 /m ext4 rw,relatime shared:2 in namespace 2\n"],
+    ),
+    (
+        b"setattr 1 /m set=ro,nosuid,noatime clr=atime",
+        [b"~ 3 /m rw -> ro, suid -> nosuid, relatime -> noatime in namespace 1\n"],
+    ),
+    (b"setattr 2 /m prop=slave", [b"~ 4 /m shared:2 -> master:2 in namespace 2\n"]),
+    (b"setattr 1 /m clr=ro,nosuid", [b"~ 3 /m ro -> rw, nosuid -> suid in namespace 1\n"]),
+    (
+        b"copyns 1",
+        [b"+ 5 / tmpfs rw,noexec,relatime shared:1 in namespace 3\n", b"+ 6 /m ext4 rw,noatime shared:2 in namespace 3\n"],
+    ),
     (b"mkfs e vfat /dev/y", []),
-    (b"mount 3 e /n", [b"+ 8 /n vfat in namespace 1\n", b"+ 9 /n vfat in namespace 2\n", b"+ 7 /n vfat in namespace 3\n"]),
-    (b"umount 1 /m", [b"- 3 /m in namespace 1\n", b"- 4 /m in namespace 2\n", b"- 6 /m in namespace 3\n"]),
-    (b"dropns 2", [b"- 2 / in namespace 2\n", b"- 9 /n in namespace 2\n"]),
+    (b"setattr 1 /m prop=private", [b"~ 3 /m shared:2 -> private in namespace 1\n"]),
+    (b"setattr 1 / prop=private", [b"~ 1 / shared:1 -> private in namespace 1\n"]),
+    (b"move 1 /m /n", [b"~ 3 /m -> /n in namespace 1\n"]),
+    (
+        b"mount 3 e /n",
+        [b"+ 8 /n vfat rw,relatime shared:3 in namespace 2\n", b"+ 7 /n vfat rw,relatime shared:3 in namespace 3\n"],
+    ),
+    (b"umount 3 /m", [b"- 4 /m in namespace 2\n", b"- 6 /m in namespace 3\n"]),
+    (b"dropns 2", [b"- 2 / in namespace 2\n", b"- 8 /n in namespace 2\n"]),
     (b"stop", [b"no Stopped\n"]),
 )
 
 # An opening, two posts, and what is told of them.
 OPENING = b"ok 2\nspace 1 3 1\n1 1 0:1 / / rw,relatime - tmpfs none rw\n"
 POSTS = b"event 1 4 1\n= 1 1 0:1 / / ro,relatime - tmpfs none rw\nevent 2 1 1\n= 2 2 0:1 / / rw,relatime - tmpfs none rw\n"
-WORDS = b"~ 1 / in namespace 1: now read-only\n+ 2 / tmpfs in namespace 2\n"
+WORDS = b"~ 1 / rw -> ro in namespace 1\n+ 2 / tmpfs rw,relatime private in namespace 2\n"
 
 WATCH, FOLLOW = b"watch all\n", b"follow 1048576\n"
 

@@ -10,12 +10,12 @@ import subprocess
 import tempfile
 import time
 
+from clients.reasons import EMPTY_WORD, without_reasons
 from harness import commands, protocol
+from harness.allocations import Refusing, Words
 from harness.runs import MOST_SECONDS, check, connection_fault, difference, run, shown
-from harness.servers import START, STOP, Door, Server, rests, stop_behind, until_it_rests
-from servers.paths import leave_socket, user_of_none
+from harness.servers import START, STOP, Door, Server, leave_socket, rests, stop_behind, until_it_rests, user_of_none
 from sessions import cases
-from sessions.memory import Refusing, Words
 
 
 def without_comments(case):
@@ -23,9 +23,15 @@ def without_comments(case):
     return case._replace(turns=[turn for turn in case.turns if turn.sent()[:1] not in (b"\n", b"#")])
 
 
+def is_obeyed(character):
+    """Whether a terminal obeys a character, or it stands for a byte that is of none."""
+    return ord(character) < 32 or 127 <= ord(character) <= 159 or 0xDC80 <= ord(character) <= 0xDCFF
+
+
 def printable(line):
     """A line as a message shows it."""
-    return b"".join(b"%c" % byte if 32 <= byte <= 126 else b"\\x%02x" % byte for byte in line)
+    pieces = ((one, one.encode("utf-8", "surrogateescape")) for one in line.decode("utf-8", "surrogateescape"))
+    return b"".join(b"".join(b"\\x%02x" % byte for byte in piece) if is_obeyed(one) else piece for one, piece in pieces)
 
 
 def told_of(case):
@@ -64,8 +70,11 @@ def check_scripts(program, mountctl):
                     found, complaint = script.communicate(text, timeout=MOST_SECONDS)
         check(f"case {name} as a script", found == wanted, difference(wanted, found, name))
         refused = re.search(rb"(?m)^no ", wanted) is not None
-        ended = script.returncode, complaint
+        told, said = without_reasons(complaint)
+        ended = script.returncode, told
         check(f"case {name} as a script: its status", ended == (int(refused), told_of(case)), repr(ended))
+        bad = [int(number) for number in re.findall(rb"(?m)^mountctl: line (\d+): .*: no BadLine$", told)]
+        check(f"case {name} as a script: its bad lines", [number for number, name in said if name == b"BadLine"] == bad, repr(said))
 
 
 def check_client(program, mountctl):
@@ -92,12 +101,13 @@ def check_client(program, mountctl):
 NO_MIRRORS = "mirror", "mirror 1", "mirror x 1", "mirror 01 1", "mirror 1 1 1", "mirror 1 -1"
 NO_MONITORS = "monitor", "monitor x", "monitor 01", "monitor 1 2", "monitor all all", "monitor -1"
 NO_TREES = "tree x", "tree 01", "tree 1 2", "tree --ascii --ascii", "tree 1 --ascii 2", "tree --plain", "tree 1 -a"
-NO_GRAPHS = "dot 1", "dot --ascii"
+NO_GRAPHS = "dot x", "dot 1 2", "dot --ascii"
 NO_TASKS = (
     (NO_MONITORS, b"mountctl: monitor takes a namespace, or all\n"),
     (NO_MIRRORS, b"mountctl: mirror takes a namespace and a count\n"),
-    (NO_TREES, b"mountctl: tree takes a namespace, or none, and --ascii\n"),
-    (NO_GRAPHS, b"mountctl: dot takes no words\n"),
+    (NO_TREES, b"mountctl: tree takes a namespace, all or none, and --ascii\n"),
+    (NO_GRAPHS, b"mountctl: dot takes a namespace, all or none\n"),
+    (["spaces 1", "spaces all"], b"mountctl: spaces takes no words\n"),
 )
 
 # Lines of the server that a user might take for the client's own, and what answers each, of two namespaces.
@@ -184,7 +194,12 @@ def check_closed(_program, mountctl):
 
 # A script with two refused lines, of which one has bytes that a terminal obeys.
 SCRIPT = b"# none\nshow 1\nshow \x1b[2J\nshow 7\n"
-TOLD = b"mountctl: line 2: show 1: no NoNamespace\n", b"mountctl: line 3: show \\x1b[2J: no BadLine\n", b"mountctl: line 4: show 7: no NoNamespace\n"
+TOLD = (
+    b"mountctl: line 2: show 1: no NoNamespace\n",
+    b"mountctl: line 3: show \\x1b[2J: no BadLine\n",
+    b"mountctl: line 3: BadLine: \\x1b[2J: NS is a number, digits without a leading zero, below 18446744073709551616\n",
+    b"mountctl: line 4: show 7: no NoNamespace\n",
+)
 NAMELESS_AND_BAD = NAMELESS + b"no BadLine\n" + NAMELESS
 
 # Options, the words, and how the program ends: a script to its end, up to the first refusal, without its answers, and both;
@@ -213,7 +228,7 @@ def check_comments(program, mountctl):
     """A script's empty lines and comments are not sent."""
     with Server(program) as server:
         found = run(mountctl, COMMENTED, server.path, "-")
-        told = b"mountctl: line 5:  # no comment: no BadLine\n"
+        told = b"mountctl: line 5:  # no comment: no BadLine\nmountctl: line 5: BadLine: %b\n" % EMPTY_WORD
         check("mountctl: a script with comments", found == (1, COMMENTED_ANSWERS, told), repr(found))
         for text, answer in (b"#" * 8_193 + b"\n", b"no TooLong\n"), (b"# no line end", b"no BadLine\n"):
             found = run(mountctl, text, server.path, "-")
@@ -234,18 +249,18 @@ def words_of(program, title):
 def check_lines(program, mountctl):
     """Each line of the server is sent, and none begins with a word that the client keeps for itself."""
     kept, lines = words_of(mountctl, b"In the place of WORD..:"), words_of(program, b"Lines of a session:")
-    check("the words of the client", kept == {b"-", b"monitor", b"mirror", b"tree", b"dot", b"what-if"}, repr(kept))
+    check("the words of the client", kept == {b"-", b"monitor", b"mirror", b"tree", b"dot", b"spaces", b"what-if"}, repr(kept))
     check("the words of the server", lines == set(commands.LINES) and not kept & lines, repr(sorted(lines)))
     with Server(program) as server, server.free() as client:
         for line in START:
             client.ask(line)
-        for word in sorted(kept | {b"import"}):
+        for word in sorted(kept | {b"import", b"explain"}):
             for behind in b"", b" 1", b" 1 1", b" 1 / /", b" all":
                 found = client.ask(word + behind)
                 check(f"{shown(word + behind)} is no line", found == [b"no BadLine"], repr(found))
         for words, status, answer in LINES:
             found = run(mountctl, b"", server.path, *words.split())
-            check(f"mountctl {words}", found == (status, answer, b""), repr(found))
+            check(f"mountctl {words}", found[:2] == (status, answer), repr(found))
         found = run(mountctl, b"", server.path, "watch", "all")
         check("mountctl watch all", found[0] == 0 and found[1].startswith(b"ok 4\nspace 1 2 1\n"), repr(found))
 
@@ -308,13 +323,14 @@ class Asked(Words):
     """A run of the other program, which says behind a part of what it prints that memory is missing."""
 
     def allows(self, status, text, complaint):
-        return (status, b"", complaint) == OUT_OF_MEMORY and self.plain[1].startswith(text)
+        said = complaint.removesuffix(OUT_OF_MEMORY[2])
+        return (status, b"", complaint[len(said) :]) == OUT_OF_MEMORY and self.plain[1].startswith(text) and self.plain[2].startswith(said)
 
 
 class Script(Asked):
     """The same, with lines to send."""
 
-    input = b"show 1\nfind 1 /m\n"
+    input = b"show 1\nfind 1 /m\nmove 1 / /m\nfnd 1 /m\n"
 
 
 def check_refused(program, mountctl):
@@ -324,8 +340,8 @@ def check_refused(program, mountctl):
             for line in START:
                 client.ask(line)
         refusing, total = Refusing(folder), 0
-        tasks = "show 1", "monitor 9", "mirror 9 1", "tree", "tree 2 --ascii", "dot", "-"
-        for words in ["--help"], *[[server.path, *task.split()] for task in tasks]:
+        tasks = "show 1", "shwo 1", "bind 1 /m /none", "monitor 9", "mirror 9 1", "spaces", "tree", "tree 2 --ascii", "dot", "-"
+        for words in ["--help"], ["--version"], *[[server.path, *task.split()] for task in tasks]:
             asked = (Script if words[-1] == "-" else Asked)(mountctl, words)
             count = refusing.count(asked)
             refusing.each(asked, f"mountctl {' '.join(words)}", count)

@@ -8,7 +8,7 @@ import tempfile
 from clients.outcomes import SPACE, files_of
 from clients.worlds import worlds
 from harness.commands import PLACING
-from harness.protocol import rows_of, word_of
+from harness.protocol import id_of, posts_in, row_of, rows_of, word_of
 from harness.runs import answer_groups, check, connection_fault, library, run, session, shown
 from harness.scripts import Author
 from harness.servers import Door, Server
@@ -18,6 +18,10 @@ WORLDS, LINES = 20, 5
 
 # Refusals of what a line needs, which is made for a mount where it can be.
 PROVIDED = b"no NoFilesystem", b"no NoEntry"
+
+# The attributes that are told by their names, or by the names of their opposites, and the access times.
+FLAGS = b"nosuid", b"nodev", b"noexec", b"nosymfollow", b"nodiratime"
+TIMES = b"relatime", b"noatime"
 
 # The filesystems of a random world, by their names in a script.
 DEVICES = [b"0:1", b"0:2", b"0:3"]
@@ -37,19 +41,44 @@ def asked(program, mountctl, names, *lines):
     return found
 
 
-def told_of(posts, names, points):
-    """What is told of the lines of posts, up to what of a mount is not as it was. The points are those before, by namespace and mount."""
-    space, name = 0, b""
-    for mark, *words in (line.split(b" ") for line in posts):
-        if mark == b"event":
-            space = int(words[0])
-            name = b" in namespace %d" % space + (b" (%b)" % names[space] if space in names else b"")
-        elif mark == b"-":
-            yield b"- %b%b" % (b" ".join([words[0], *points.get((space, words[0]), [])]), name)
-        elif (space, words[0]) in points:
-            yield b"~ %b %b%b: " % (words[0], words[4], name)
-        else:
-            yield b"+ %b %b %b%b" % (words[0], words[4], words[words.index(b"-") + 1], name)
+def fields_of(row):
+    """What is told of a row where it is not as before, each with what stands in front of it."""
+    access, *options = row.options.split(b",")
+    flags = [flag if flag in options else flag.removeprefix(b"no") for flag in FLAGS]
+    [times] = [word for word in options if word in TIMES] or [b"strictatime"]
+    return [
+        (b"", row.point),
+        (b"parent ", b"%d" % row.parent),
+        (b"root ", row.root),
+        *((b"", word) for word in (access, *flags, times, row.propagation())),
+    ]
+
+
+def changes_of(before, after):
+    """What is told of a row that is there in the place of another one of its mount."""
+    pairs = zip(fields_of(before), fields_of(after), strict=True)
+    changes = b", ".join(b"%b%b -> %b" % (front, old, new) for (front, old), (_, new) in pairs if old != new) or b"as before"
+    return changes if before.point != after.point else b"%b %b" % (after.point, changes)
+
+
+def change_told(change, before):
+    """What is told of a change of a post, but for its namespace. The row before is that of the same mount, or none."""
+    mark, text = change.split(b" ", 1)
+    if mark == b"-":
+        return b" ".join([b"-", text, *([before.point] if before else [])])
+    row = row_of(text)
+    if before:
+        return b"~ %d %b" % (row.id, changes_of(before, row))
+    return b" ".join([b"+", b"%d" % row.id, row.point, row.kind, row.options, row.propagation()])
+
+
+def told_of(lines, names, rows):
+    """What is told of the lines of posts. The rows are those before, by namespace and mount."""
+    for head, changes in posts_in(lines):
+        name = b" (%b)" % names[head.space] if head.space in names else b""
+        for change in changes:
+            before = rows.get((head.space, id_of(change.split(b" ", 1)[1])))
+            yield b"%b in namespace %d%b" % (change_told(change, before), head.space, name)
 
 
 def check_told(program, mountctl, name, tables, line):
@@ -65,10 +94,10 @@ def check_told(program, mountctl, name, tables, line):
     if answer[0] in PROVIDED and word_of(line) in PLACING:
         return 0
     shows = groups[len(commands) : -3]
-    points = {(space, row.split(b" ")[0]): [row.split(b" ")[4]] for space, rows in enumerate(shows, 1) for row in rows[1:]}
-    wanted = [*answer, *told_of(posts[1:], names, points)] if answer[0].startswith(b"ok") else answer
-    cut = [re.sub(rb"^(~ .*?: ).*", rb"\1", told) for told in found[1].splitlines()]
-    check(f"what {shown(line)} changes in {name}", (found[0], cut) == (0 if answer[0].startswith(b"ok") else 1, wanted), shown(found[1] + found[2] + b"\n".join([b"", *wanted, *script])))
+    rows = {(space, row.id): row for space, table in enumerate(shows, 1) for row in map(row_of, table[1:])}
+    wanted = [*answer, *told_of(posts[1:], names, rows)] if answer[0].startswith(b"ok") else answer
+    told = found[1].splitlines()
+    check(f"what {shown(line)} changes in {name}", (found[0], told) == (0 if answer[0].startswith(b"ok") else 1, wanted), shown(found[1] + found[2] + b"\n".join([b"", *wanted, *script])))
     return len(wanted) - len(answer)
 
 
@@ -91,12 +120,12 @@ def check_by_hand(program, mountctl):
         [name], left = names, b"mountctl: table 1: mount 3 is left out: "
         mounted = [["mkfs", "usb", "vfat", "/dev/b"], ["mkdir", "0:1", "/m"], ["mount", "1", "usb", "/m"]]
         status, text, complaint = asked(program, mountctl, names, *mounted)
-        told = re.fullmatch(rb"ok (\d+)\n\+ (\d+) /m vfat in namespace 1 \(%b\)\n" % name.encode(), text)
+        told = re.fullmatch(rb"ok (\d+)\n\+ (\d+) /m vfat rw,relatime \S+ in namespace 1 \(%b\)\n" % name.encode(), text)
         check("what a mount changes", status == 0 and told is not None and told[1] == told[2], shown(text + complaint))
         check("what is left out", re.fullmatch(left + rb"[^:\n]+\n", complaint) is not None, shown(complaint))
         for line in ["mount", "1", "usb", "/a/b/c d"], ["bind", "1", "/a", "/n/o"]:
             status, text, complaint = asked(program, mountctl, names, line)
-            told = re.fullmatch(rb"ok (\d+)\n\+ (\d+) (/\S+) (usb|tmpfs) in namespace 1 \(%b\)\n" % name.encode(), text)
+            told = re.fullmatch(rb"ok (\d+)\n\+ (\d+) (/\S+) (usb|tmpfs) rw,relatime \S+ in namespace 1 \(%b\)\n" % name.encode(), text)
             good = status == 0 and told is not None and told[3] == line[3].replace(" ", "\\040").encode()
             check(f"{' '.join(line)}, of which the directories are made", good, shown(text + complaint))
         status, text, complaint = asked(program, mountctl, names, ["show", "2"])
@@ -104,6 +133,13 @@ def check_by_hand(program, mountctl):
         status, text, complaint = asked(program, mountctl, names, ["mkdir", "0:9", "/m"], *mounted)
         good = (status, text) == (1, b"") and complaint.endswith(b"mountctl: line 1: mkdir 0:9 /m: no NoFilesystem\n")
         check("a line in front that is refused", good, shown(complaint))
+        for lines, said in (
+            ([["shwo", "1"], *mounted], b"mountctl: line 1: shwo 1: no BadLine\nmountctl: line 1: BadLine: shwo: no line begins so; the nearest is show\n"),
+            ([["bind", "1", "/a", "/none"], *mounted], b"mountctl: line 1: bind 1 /a /none: no NoEntry\nmountctl: line 1: NoEntry: DST, /none\n"),
+            ([["show", "x"]], b"mountctl: BadLine: x: NS is a number, digits without a leading zero, below 18446744073709551616\n"),
+        ):
+            status, text, complaint = asked(program, mountctl, names, *lines)
+            check(f"what is said of {lines[0]}", status == 1 and complaint.endswith(said), shown(complaint))
         for words in [name, os.path.join(os.path.dirname(name), "none")], [name, name]:
             ended = run(mountctl, b"", server.path, "what-if", *words, "--", "show", "1")
             gone = b"mountctl: %b: no such file or directory\n" % words[1].encode()

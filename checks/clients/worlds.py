@@ -16,11 +16,10 @@ from clients.imports import directories, random_command
 from clients.mountctl import Asked
 from clients.outcomes import MOST_TABLES, check_world, files_of, import_tables
 from harness import commands
+from harness.allocations import Refusing
 from harness.protocol import rows_of, word_of
-from harness.runs import answer_groups, check, run, session, shown
+from harness.runs import Served, answer_groups, check, run, session, shown
 from harness.scripts import Author
-from kernels.plays import Served
-from sessions.memory import Refusing
 
 # How many random worlds there are, how many without one of their tables, and how many of which rows are changed or gone.
 WORLDS, LESS, CHANGED = 300, 100, 100

@@ -65,6 +65,10 @@ class Row(NamedTuple):
     source: bytes
     super_options: bytes
 
+    def propagation(self):
+        """The tags as they are shown by themselves: `private` where there are none."""
+        return b",".join(self.tags) or b"private"
+
     def numbered(self):
         """Each tag as its name and its number, or 0."""
         return [(name, int(number or 0)) for name, _, number in (tag.partition(b":") for tag in self.tags)]
@@ -135,12 +139,12 @@ def parts(word, lines):
         yield head, behind
 
 
-def tables(lines):
+def tables_in(lines):
     """The tables behind the first line of an answer to `watch`: the head of each, and its rows."""
     return parts(b"space", lines)
 
 
-def posts(lines):
+def posts_in(lines):
     """The posts behind the first line of an answer to `take` or `close`, or before the last of one to `follow`: the head of each, and its changes."""
     return parts(b"event", lines)
 

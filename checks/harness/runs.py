@@ -51,6 +51,32 @@ def session(program, lines):
     return run(program, b"".join(line + b"\n" for line in lines))
 
 
+class Served:
+    """A plain session of the program that is asked line by line."""
+
+    def __init__(self, program):
+        self.process = subprocess.Popen([program, "-"], stdin=subprocess.PIPE, stdout=subprocess.PIPE)
+
+    def ask(self, *lines):
+        """The answers to these lines, each as a list of its lines."""
+        with contextlib.suppress(BrokenPipeError):
+            self.process.stdin.write(b"".join(line + b"\n" for line in lines))
+            self.process.stdin.flush()
+        return [protocol.answer_to(line, self.line) for line in lines]
+
+    def line(self):
+        line = self.process.stdout.readline()
+        if not line.endswith(b"\n"):
+            raise protocol.Ended("the program has ended")
+        return line[:-1]
+
+    def close(self):
+        with contextlib.suppress(BrokenPipeError):
+            self.process.stdin.close()
+        self.process.stdout.close()
+        self.process.wait()
+
+
 def connection_fault(path, reason="no whole answer"):
     """How a run of the other program ends that has no answer of the server at a path: by its complaint."""
     return f"mountctl: connection fault: {path}: {reason}\n".encode()

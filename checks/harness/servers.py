@@ -22,6 +22,9 @@ LATEST = 10
 # How long a stop may take, in seconds: sessions that do not end by themselves are cut off after ten.
 STOP = LATEST + 5
 
+# A user that is not root.
+NOBODY = 65_534
+
 # Two namespaces that are peers, so that a command in one posts to both.
 START = [
     b"mkfs a tmpfs none",
@@ -155,6 +158,17 @@ class Door:
             while more := stream.recv(1 << 16):
                 parts.append(more)
         return b"".join(parts)
+
+
+def leave_socket(path, kind=socket.SOCK_STREAM):
+    """Leaves a stale socket at a path."""
+    with socket.socket(socket.AF_UNIX, kind) as left:
+        left.bind(path)
+
+
+def user_of_none():
+    """A user who owns nothing here, where this one may become another, and else this one."""
+    return NOBODY if os.geteuid() == 0 else None
 
 
 class Server:

@@ -1,12 +1,10 @@
 """A script on both sides at once, compared behind every command. A module, a part of kernel.py."""
 import collections
-import contextlib
-import subprocess
 
 from harness import commands, protocol
 from harness.comparison import Comparison
 from harness.protocol import unescaped
-from harness.runs import shown
+from harness.runs import Served, shown
 from kernels import differences, syscalls
 from kernels.differences import Step
 from kernels.spaces import Worker
@@ -26,32 +24,6 @@ NO_COUNTERPART = {
 
 class Unknown(Exception):
     """A difference that has no name."""
-
-
-class Served:
-    """A plain session of the program."""
-
-    def __init__(self, program):
-        self.process = subprocess.Popen([program, "-"], stdin=subprocess.PIPE, stdout=subprocess.PIPE)
-
-    def ask(self, *lines):
-        """The answers to these lines, each as a list of its lines."""
-        with contextlib.suppress(BrokenPipeError):
-            self.process.stdin.write(b"".join(line + b"\n" for line in lines))
-            self.process.stdin.flush()
-        return [protocol.answer_to(line, self.line) for line in lines]
-
-    def line(self):
-        line = self.process.stdout.readline()
-        if not line.endswith(b"\n"):
-            raise Unknown("the program has ended")
-        return line[:-1]
-
-    def close(self):
-        with contextlib.suppress(BrokenPipeError):
-            self.process.stdin.close()
-        self.process.stdout.close()
-        self.process.wait()
 
 
 class Play:

@@ -65,7 +65,7 @@ def check_lag(program):
 def are_in_order(lines):
     """Whether there are posts, and those of each namespace have numbers without gap."""
     last = {}
-    for head, _ in protocol.posts(lines):
+    for head, _ in protocol.posts_in(lines):
         if last.get(head.space, head.number - 1) != head.number - 1:
             return False
         last[head.space] = head.number

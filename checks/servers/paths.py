@@ -12,7 +12,7 @@ import time
 
 from harness.protocol import Broken
 from harness.runs import MOST_SECONDS, check, library
-from harness.servers import STOP, Client, Server
+from harness.servers import STOP, Client, Server, leave_socket, user_of_none
 from servers.stops import check_stopped
 
 # Why a start may not have its path.
@@ -24,9 +24,6 @@ STARTS = (), ("--replace",)
 
 # The mode of a socket, and of another file.
 OWN, PLAIN = 0o600, 0o644
-
-# A user that is not root.
-NOBODY = 65_534
 
 
 def refusal(path, reason):
@@ -55,23 +52,11 @@ def which(path):
     return found.st_dev, found.st_ino, stat.S_IFMT(found.st_mode)
 
 
-def leave_socket(path, kind=socket.SOCK_STREAM):
-    """Leaves a stale socket at a path, and says which it is."""
-    with socket.socket(socket.AF_UNIX, kind) as left:
-        left.bind(path)
-    return which(path)
-
-
 def check_stays(name, program, path, reason=NO_SOCKET, *, starts=STARTS):
     """A start at a path of something is refused, and it is still there."""
     before = which(path)
     check_refused(name, program, path, reason, starts=starts)
     check(f"{name}: it stays", which(path) == before)
-
-
-def user_of_none():
-    """A user who owns nothing here, where this one may become another, and else this one."""
-    return NOBODY if os.geteuid() == 0 else None
 
 
 def check_denied(program):
@@ -121,7 +106,8 @@ def check_strangers(program):
         os.mkfifo(paths["queue"])
         os.symlink("stale", paths["link"])
         os.symlink("none", paths["lost"])
-        left = leave_socket(paths["stale"])
+        leave_socket(paths["stale"])
+        left = which(paths["stale"])
         check_stays("a path with a file", program, paths["file"])
         check_stays("a folder as path", program, folder)
         check_stays("a path with a queue", program, paths["queue"])

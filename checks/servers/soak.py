@@ -55,13 +55,13 @@ class Mirror:
 
     def __init__(self, opening):
         self.tables, self.numbers = {}, {}
-        for head, rows in protocol.tables(opening):
+        for head, rows in protocol.tables_in(opening):
             self.numbers[head.space] = head.number
             self.tables[head.space] = {protocol.id_of(row): row for row in rows}
 
     def apply(self, lines):
         """Applies the posts that these lines are, and answers how many there were."""
-        posts = list(protocol.posts(lines))
+        posts = list(protocol.posts_in(lines))
         for head, changes in posts:
             if head.number != self.numbers.get(head.space, 0) + 1:
                 raise Broken(f"post {head.number} of namespace {head.space} behind {self.numbers.get(head.space)}")

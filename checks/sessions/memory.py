@@ -6,16 +6,13 @@ This says, for each allocation of the program in each of these sessions: either 
 ends with status 1 and `mountd: out of memory` on standard error, before any answer. A line that is
 refused for its form, and `quit`, are never answered so. A session of which no allocation was refused
 fails.
-
-It needs a C compiler, `cc`.
 """
-import concurrent.futures
-import os
 import tempfile
 
 from harness import commands
+from harness.allocations import OUT_OF_MEMORY, Refusing, Words
 from harness.protocol import word_of
-from harness.runs import answer_groups, check, library, run, shown
+from harness.runs import answer_groups, check, run, shown
 from sessions import cases
 
 # The lines that may want memory; each is accepted in one of the sessions.
@@ -29,7 +26,6 @@ OTHER_WORDS = ["--help"], ["a", "b"], ["--frobnicate"], ["/"]
 
 NO_MEMORY = [b"no NoMemory"]
 FOUND_WITHOUT_MEMORY = [], [b"no BadLine"], [b"no TooLong"], [b"no NoWatcher"], [b"no WatcherOpen"]
-OUT_OF_MEMORY = (1, b"", b"mountd: out of memory\n")
 
 
 class Session:
@@ -68,48 +64,6 @@ class Session:
         if (status, complaint) != (0, b"") or len(refused) != 1:
             return False
         return groups == self.without(refused[0]) and self.may_want_memory(refused[0])
-
-
-class Refusing:
-    """Runs of the program with the library that counts allocations, and refuses one."""
-
-    def __init__(self, folder):
-        self.preloaded = library(folder, "refuse_nth")
-        self.told = os.path.join(folder, "count")
-
-    def run(self, asked, **settings):
-        return run(asked.program, asked.input, *asked.arguments, environment={"LD_PRELOAD": self.preloaded, **settings})
-
-    def count(self, asked):
-        """How many allocations a run makes that is answered as it is without the library."""
-        check("a run whose allocations are counted", self.run(asked, COUNT_TO=self.told) == asked.plain)
-        with open(self.told, encoding="ascii") as file:
-            return int(file.read())
-
-    def each(self, asked, name, count):
-        """Refuses each allocation of a run in turn; behind the last one there is none to refuse."""
-
-        def refuse(nth):
-            told = self.run(asked, REFUSE_NTH=str(nth))
-            check(f"allocation {nth} of {name} refused", asked.allows(*told), shown(told[1] + told[2]))
-
-        check(f"an allocation of {name} is refused", count > 0)
-        with concurrent.futures.ThreadPoolExecutor(os.cpu_count()) as pool:
-            list(pool.map(refuse, range(1, count + 1)))
-        check(f"{name} without a refused allocation", self.run(asked, REFUSE_NTH=str(count + 1)) == asked.plain)
-
-
-class Words:
-    """A run with other arguments, which says what it says, or that memory is missing."""
-
-    input = b""
-
-    def __init__(self, program, words):
-        self.program, self.arguments = program, words
-        self.plain = run(program, self.input, *words)
-
-    def allows(self, *told):
-        return told in (self.plain, OUT_OF_MEMORY)
 
 
 def refuse_arguments(program, refusing):

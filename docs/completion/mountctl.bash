@@ -1,15 +1,22 @@
 # Completion of the words of mountctl(1) for bash: to be sourced, or installed under the name `mountctl` in a folder
 # of completions.
 
+# The refusals of a server.
+_mountctl_refusals="BadLine TooLong BadPath JournalFull NoFilesystem FilesystemExists NoNamespace NoEntry EntryExists NotMountRoot RootPlace
+Unbindable SharedParent IntoItself UnbindableInside Busy BadAttr TooMany NoWatcher WatcherOpen TooManyWatchers Lagged Stopped NoMemory"
+
 # The words that may follow those of a line, where it takes more than names, numbers and paths.
 _mountctl_words()
 {
     local count=$#
     case $1:$count in
-        :0) echo mkfs mkdir newns copyns dropns mount bind rbind move pivot umount detach setattr show find watch take follow close quit stop - monitor mirror tree dot what-if ;;
+        :0) echo mkfs mkdir newns copyns dropns mount bind rbind move pivot umount detach setattr show find watch take follow close quit stop - monitor mirror tree dot spaces what-if ;;
         copyns:2) echo less ;;
-        watch:1 | monitor:1) echo all ;;
-        tree:[12]) [[ " $* " == *" --ascii "* ]] || echo --ascii ;;
+        watch:1 | monitor:1 | dot:1) echo all ;;
+        tree:[12])
+            [[ " $* " == *" --ascii "* ]] || echo --ascii
+            [[ " $* " == *" --ascii "* || $count == 1 ]] && echo all
+            ;;
         setattr:[3-9])
             # Each option may be there once.
             [[ " ${*:4} " == *" rec "* ]] || echo rec
@@ -67,13 +74,27 @@ _mountctl()
     done
     current=${words[-1]}
     unset "words[-1]"
-    while ((${#words[@]})) && [[ ${words[0]} == -[eq]* ]]; do
+    # Options come first; `--wait` has a number behind it, for which nothing is offered.
+    while ((${#words[@]})) && [[ ${words[0]} == -?* ]]; do
+        [[ ${words[*]} == --wait ]] && return
+        [[ ${words[0]} == --wait ]] && words=("${words[@]:1}")
         words=("${words[@]:1}")
     done
     if ((${#words[@]} == 0)); then
-        mapfile -t COMPREPLY < <(_mountctl_sockets "$current"; compgen -W "-e -h --help -q import" -- "$current")
+        mapfile -t COMPREPLY < <(
+            _mountctl_sockets "$current"
+            compgen -W "-e -h --help -q -V --version --wait import explain ${MOUNTD_SOCKET:+$(_mountctl_words)}" -- "$current"
+        )
         compopt -o filenames 2> /dev/null
         return
+    fi
+    if [[ ${words[0]} == explain ]]; then
+        mapfile -t COMPREPLY < <(((${#words[@]} == 1)) && compgen -W "$_mountctl_refusals" -- "$current")
+        return
+    fi
+    # A word that begins a line is no socket: that is the one of the environment.
+    if [[ " $(_mountctl_words) " == *" ${words[0]} "* ]]; then
+        words=("" "${words[@]}")
     fi
     if [[ ${words[0]} == import || ${words[1]-} == what-if ]]; then
         # Files stand here, which readline completes itself.

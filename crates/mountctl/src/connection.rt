@@ -3,14 +3,21 @@
 use crate::PROGRAM;
 use crate::fault::{CONNECTION_FAULT, Fault};
 use mt_arguments::socket::SocketFault;
+use std::io::ErrorKind;
 use std::net::Net;
 use std::os::fd::AsRawFd;
 use std::os::unix::net::UnixStream;
 use std::process::ExitCode;
-use std::{fs, io};
+use std::time::Duration;
+use std::{fs, io, thread};
 
 /// The highest descriptor of a standard stream.
 const LAST_STANDARD: i32 = 2;
+
+/// How many milliseconds lie between two tries to connect, and how many tries a second has.
+const PAUSE: u64 = 50;
+
+const TRIES: u64 = 20;
 
 /// Connects to a socket. The connection has none of the descriptors of the standard streams.
 ///
@@ -25,14 +32,43 @@ fn connect(rt: &impl Net, socket: &str) -> io::Result<UnixStream> {
     stream.try_clone()
 }
 
-/// Connects to a socket, or says why not, and answers the status.
-pub(crate) fn connected(rt: &HostRuntime, socket: &str) -> Result<UnixStream, ExitCode> {
-    match connect(rt, socket) {
-        Ok(stream) => Ok(stream),
-        Err(error) => {
-            let fault = SocketFault::new(socket, &error, &fs::metadata(rt, socket));
-            Err(PROGRAM.fail_at(rt, CONNECTION_FAULT, socket, fault))
+/// Connects to a socket, or answers why not.
+fn try_once(rt: &HostRuntime, socket: &str) -> Result<UnixStream, SocketFault> {
+    connect(rt, socket).map_err(|error| SocketFault::new(socket, &error, &fs::metadata(rt, socket)))
+}
+
+/// Whether there may be a connection soon: the server has not made its socket yet, or does not listen there yet.
+fn may_come(fault: SocketFault) -> bool {
+    matches!(
+        fault,
+        SocketFault::Call(ErrorKind::NotFound | ErrorKind::ConnectionRefused)
+    )
+}
+
+/// Connects to a socket, or answers why not. While there may be a connection soon it tries again, for so many seconds.
+fn connect_within(rt: &HostRuntime, socket: &str, seconds: u64) -> Result<UnixStream, SocketFault> {
+    let mut found = try_once(rt, socket);
+    for _try in 0..seconds.saturating_mul(TRIES) {
+        match found {
+            Err(fault) if may_come(fault) => {
+                thread::sleep(rt, Duration::from_millis(PAUSE));
+                found = try_once(rt, socket);
+            }
+            found => return found,
         }
+    }
+    found
+}
+
+/// Connects to a socket, for so many seconds where it is not there yet, or says why not, and answers the status.
+pub(crate) fn connected(
+    rt: &HostRuntime,
+    socket: &str,
+    seconds: u64,
+) -> Result<UnixStream, ExitCode> {
+    match connect_within(rt, socket, seconds) {
+        Ok(stream) => Ok(stream),
+        Err(fault) => Err(PROGRAM.fail_at(rt, CONNECTION_FAULT, socket, fault)),
     }
 }
 

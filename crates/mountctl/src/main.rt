@@ -4,38 +4,45 @@
 ghost use Rattle.std.specs.Prelude.{◌≡◌, None};
 ghost use Rattle.mt_lines.specs.Reading.{fault_of};
 
+mod arguments;
 mod connection;
+mod explain;
 mod fault;
 mod import;
 mod kept;
+mod lines;
+mod places;
 mod provide;
 mod quiet;
 mod script;
 mod sources;
+mod spaces;
 mod tables;
 mod task;
 mod told;
 mod what_if;
 
+use crate::arguments::{Lack, Manner, manner_of, parser, socket_of, usage, words_of};
 use crate::connection::{connected, status_of};
+use crate::explain::explain;
 use crate::fault::Fault;
 use crate::import::{ImportFault, ROW_LIMIT, import};
+use crate::lines::run_line;
 use crate::quiet::Quiet;
 use crate::script::{SCRIPT_LIMIT, run_script};
+use crate::spaces::list_spaces;
 use crate::tables::import_files;
 use crate::task::{Task, task_of};
 use crate::told::NAME;
-use crate::what_if::run_what_if;
-use clap::{Arg, ArgAction, Command, Error};
+use crate::what_if::{line_of, run_what_if};
+use clap::{ArgMatches, Error};
 use mt_arguments::program::{Program, read_arguments};
-use mt_client::ask::ask;
 use mt_client::mirror::mirror;
 use mt_client::picture::draw;
 use mt_client::telling::tell;
 use mt_lines::line::LineReader;
 use mt_lines::stream::{Input, Output, Reading, Writing};
-use mt_requests::help::LINES;
-use std::alloc::{AllocError, Global};
+use std::alloc::AllocError;
 use std::io;
 use std::os::unix::net::UnixStream;
 use std::process::ExitCode;
@@ -48,70 +55,6 @@ pub(crate) const PROGRAM: Program = Program {
 
 /// The longest line of an answer, in bytes before its line end.
 pub(crate) const LINE_LIMIT: u32 = 134_217_728;
-
-/// What may stand in the place of a line, for the help, behind the lines.
-const TASKS: &str = "
-
-In the place of WORD..:
-  -                        sends the lines of standard input, one after another, but for comments
-  monitor NS, monitor all  tells each change as it comes, in words
-  mirror NS K              follows K posts of a namespace, and shows the table that they lead to
-  tree [NS] [--ascii]      draws the mounts of a namespace, or of all, each below its parent
-  dot                      draws all mounts and peer groups as a graph for Graphviz
-  what-if FILE.. -- LINE..
-                           makes the namespaces of an import in a new server, and tells what a line changes there;
-                           further lines may stand in front of it, each behind --
-
-In the place of SOCKET WORD..:
-  import                   reads the lines of a mountinfo, and prints a script that makes its namespace
-  import FILE..            reads those of several processes, and prints a script that makes all their namespaces
-  import --pid PID..       reads those of these processes";
-
-/// The lines of a session, and what may stand in their place.
-fn usage(alloc: Global) -> Result<String, AllocError> {
-    let mut text = String::from_str(alloc, LINES)?;
-    text.push_str(TASKS)?;
-    Ok(text)
-}
-
-/// How lines are sent, and what is shown of their answers.
-#[derive(Clone, Copy)]
-struct Manner {
-    /// Whether a script ends at the first refusal.
-    strict: bool,
-    /// Whether answers are left out.
-    quiet: bool,
-}
-
-/// What the program takes: a socket, and the words of a request. `usage` stands behind its help.
-fn parser<'a>(alloc: Global, usage: &'a str) -> Result<Command<'a>, Error> {
-    let socket = Arg::new(alloc, "SOCKET")
-        .help("The socket of the server")
-        .required(true)
-        .action(ArgAction::Set);
-    let words = Arg::new(alloc, "WORD")
-        .help("The words of a line, or what may stand in its place")
-        .required(true)
-        .num_args(1..)
-        .trailing_var_arg(true)
-        .allow_hyphen_values(true)
-        .action(ArgAction::Append);
-    let strict = Arg::new(alloc, "strict")
-        .short('e')
-        .help("End a script at the first line that is refused")
-        .action(ArgAction::SetTrue);
-    let quiet = Arg::new(alloc, "quiet")
-        .short('q')
-        .help("Leave out the answers to lines")
-        .action(ArgAction::SetTrue);
-    let command = Command::new(alloc, NAME)
-        .arg(strict)?
-        .arg(quiet)?
-        .arg(socket)?
-        .arg(words)?
-        .after_help(usage);
-    Ok(command)
-}
 
 /// Sends a line of these words, or a script, and prints the answers to an output: whether each was `ok`.
 fn run_lines<R: Input + Drop, W: Output, O: Output>(
@@ -130,12 +73,8 @@ fn run_lines<R: Input + Drop, W: Output, O: Output>(
         let mut input = LineReader::new(alloc, Reading::new(rt.reader()), SCRIPT_LIMIT)?;
         return run_script(rt, alloc, strict, &mut input, lines, writer, out);
     }
-    let mut bytes = Vec::new(alloc);
-    for word in words {
-        bytes.push(word.as_bytes())?;
-    }
-    let told = ask(alloc, lines, writer, bytes.as_slice(), out)?;
-    Ok(told)
+    let line = line_of(alloc, words)?;
+    run_line(rt, alloc, line.as_slice(), lines, writer, out)
 }
 
 /// Does a task over a connection: whether each answer was `ok`.
@@ -168,6 +107,7 @@ fn run_task(
             tell(alloc, &mut lines, &mut writer, scope, &mut out)?;
             false
         }
+        Task::List => list_spaces(alloc, &mut lines, &mut writer, &mut out)?,
         Task::WhatIf => false,
     };
     Ok(told)
@@ -176,11 +116,11 @@ fn run_task(
 /// Connects to a socket and does what the words ask for.
 fn run_words(rt: &HostRuntime, socket: &str, words: &[&str], manner: Manner) -> ExitCode {
     let task = match task_of(words) {
-        Ok(Task::WhatIf) => return run_what_if(rt, socket, words),
+        Ok(Task::WhatIf) => return run_what_if(rt, socket, words, manner.wait),
         Ok(task) => task,
         Err(fault) => return PROGRAM.refuse(rt, fault.message()),
     };
-    match connected(rt, socket) {
+    match connected(rt, socket, manner.wait) {
         Ok(stream) => status_of(rt, socket, run_task(rt, &stream, task, words, manner)),
         Err(status) => status,
     }
@@ -206,17 +146,26 @@ fn run_import(rt: &HostRuntime) -> ExitCode {
     }
 }
 
+/// Does what arguments ask for that are taken apart.
+fn run_matches(rt: &HostRuntime, matches: &ArgMatches<'_>) -> Result<ExitCode, AllocError> {
+    let first = matches.get_str("SOCKET");
+    let behind = matches.get_strs("WORD").unwrap_or(&[]);
+    let words = words_of(rt.alloc(), first, behind)?;
+    if words.is_empty() {
+        return Ok(PROGRAM.refuse(rt, Lack::Word.message()));
+    }
+    match socket_of(rt, first)? {
+        Ok(socket) => Ok(run_words(rt, socket.as_str(), words.as_slice(), manner_of(matches))),
+        Err(Lack::NoMemory) => Ok(PROGRAM.fail(rt, Lack::NoMemory.message())),
+        Err(lack) => Ok(PROGRAM.refuse(rt, lack.message())),
+    }
+}
+
 /// Reads the arguments and does what they ask for.
 fn run_arguments(rt: &HostRuntime, arguments: &[&str]) -> Result<ExitCode, Error> {
     let usage = usage(rt.alloc())?;
     let matches = parser(rt.alloc(), usage.as_str())?.try_get_matches_from(arguments)?;
-    let socket = matches.get_str("SOCKET").unwrap_or("");
-    let words = matches.get_strs("WORD").unwrap_or(&[]);
-    let manner = Manner {
-        strict: matches.get_flag("strict"),
-        quiet: matches.get_flag("quiet"),
-    };
-    Ok(run_words(rt, socket, words, manner))
+    Ok(run_matches(rt, &matches)?)
 }
 
 /// Does what the arguments ask for, where they are those of a request to a server or of the help, or says why not.
@@ -235,6 +184,8 @@ fn run(rt: &HostRuntime) -> io::Result<ExitCode> {
         [_, "import"] => run_import(rt),
         [_, "import", "-h" | "--help"] => run_or_explain(rt, &[NAME, "--help"]),
         [_, "import", words @ ..] => import_files(rt, words),
+        [_, "explain", "-h" | "--help"] => run_or_explain(rt, &[NAME, "--help"]),
+        [_, "explain", words @ ..] => explain(rt, words),
         words => run_or_explain(rt, words),
     };
     Ok(code)

@@ -3,6 +3,7 @@ ghost use Rattle.std.specs.Prelude.{◌≡◌, None, OnOk};
 ghost use Rattle.mt_lines.specs.Reading.{fault_of};
 
 use crate::fault::Fault;
+use crate::lines::tell_refused_line;
 use crate::told::tell_refused;
 use mt_client::ask::ask_line;
 use mt_client::relay::print_text;
@@ -58,7 +59,7 @@ fn send_line<E: Eprint, R: Input + Drop, W: Output, O: Output>(
         return Ok(Outcome::Next);
     }
     if !ask_line(alloc, lines, writer, line, out)? {
-        tell_refused(rt, number, line, lines.line());
+        tell_refused_line(rt, alloc, number, line, lines, writer)?;
         return Ok(Outcome::Refused);
     }
     if ends_session(line) {

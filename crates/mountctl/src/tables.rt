@@ -12,6 +12,7 @@ use mt_import::script::Script;
 use mt_import::told::HostMount;
 use mt_lines::line::LineReader;
 use mt_lines::stream::{Reading, Writing, send};
+use mt_terminal::shown::Shown;
 use std::alloc::{AllocError, AllocFailed};
 use std::fmt::{Display, Formatter};
 use std::fs::File;
@@ -100,6 +101,7 @@ fn tell_unread(rt: &HostRuntime, path: &str, fault: TableFault) -> ExitCode {
     if matches!(fault, TableFault::NoMemory) {
         return PROGRAM.fail(rt, Fault::NoMemory.message());
     }
+    let path = Shown(path.as_bytes());
     let _ = eprintln!(rt; "{NAME}: {path}: {fault}");
     ExitCode::from(1)
 }

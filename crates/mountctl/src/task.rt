@@ -1,11 +1,20 @@
 //! What the words behind the socket ask for.
 
+use mt_client::answer::{Form, form_of};
 use mt_draw::drawing::Drawing;
 use mt_events::opening::Scope;
 use mt_words::words::number;
 
 /// The first words of lines that are about their session.
 const SESSION_WORDS: [&str; 6] = ["watch", "take", "follow", "close", "quit", "stop"];
+
+/// The first words of what may stand in the place of a line.
+const TASK_WORDS: [&str; 7] = ["-", "monitor", "mirror", "tree", "dot", "spaces", "what-if"];
+
+/// Whether a word begins a line of a session, or what may stand in its place.
+pub(crate) fn begins_words(word: &str) -> bool {
+    form_of(word.as_bytes()) != Form::Never || TASK_WORDS.contains(&word)
+}
 
 /// What the words behind the socket ask for.
 #[derive(Clone, Copy)]
@@ -20,6 +29,8 @@ pub(crate) enum Task {
     Draw { scope: Scope, drawing: Drawing },
     /// Each change of these namespaces as it comes, in words.
     Tell { scope: Scope },
+    /// The namespaces, with the number of their mounts.
+    List,
     /// What lines change in the namespaces of tables.
     WhatIf,
 }
@@ -35,12 +46,16 @@ pub(crate) enum WordFault {
     Tree,
     /// Behind `dot`.
     Graph,
+    /// Behind `spaces`.
+    Spaces,
     /// Behind `import`, which stands in the place of a socket.
     Import,
     /// Behind `what-if`.
     WhatIf,
     /// More tables than a server has namespaces.
     TooMany,
+    /// Behind `explain`, which stands in the place of a socket.
+    Explain,
 }
 
 impl WordFault {
@@ -49,26 +64,33 @@ impl WordFault {
         match self {
             WordFault::Monitor => "monitor takes a namespace, or all",
             WordFault::Mirror => "mirror takes a namespace and a count",
-            WordFault::Tree => "tree takes a namespace, or none, and --ascii",
-            WordFault::Graph => "dot takes no words",
+            WordFault::Tree => "tree takes a namespace, all or none, and --ascii",
+            WordFault::Graph => "dot takes a namespace, all or none",
+            WordFault::Spaces => "spaces takes no words",
             WordFault::Import => "import takes files, or --pid and processes, or no words",
             WordFault::WhatIf => "what-if takes files, and lines behind --",
             WordFault::TooMany => "more than 64 tables",
+            WordFault::Explain => "explain takes the name of a refusal",
         }
     }
 }
 
 /// The telling of these words, or None where they are neither a namespace nor `all`.
 fn monitor_of(words: &[&str]) -> Option<Task> {
-    let [word] = words else {
+    if words.is_empty() {
         return None;
-    };
-    let scope = if *word == "all" {
-        Scope::All
-    } else {
-        Scope::One(number(word.as_bytes())?)
-    };
+    }
+    let scope = scope_of(words)?;
     Some(Task::Tell { scope })
+}
+
+/// The graph of these words, or None where they are no namespace, `all` or none.
+fn graph_of(words: &[&str]) -> Option<Task> {
+    let scope = scope_of(words)?;
+    Some(Task::Draw {
+        scope,
+        drawing: Drawing::Graph,
+    })
 }
 
 /// The mirror of these words, or None where they are not two numbers. A count that is none is the server's to refuse.
@@ -81,16 +103,16 @@ fn mirror_of(words: &[&str]) -> Option<Task> {
     Some(Task::Mirror { space, count })
 }
 
-/// The namespaces of these words: one, or all where there is no word. None where they are neither.
+/// The namespaces of these words: one, or all where there is no word or that of all. None where they are neither.
 fn scope_of(words: &[&str]) -> Option<Scope> {
     match words {
-        [] => Some(Scope::All),
+        [] | ["all"] => Some(Scope::All),
         [space] => Some(Scope::One(number(space.as_bytes())?)),
         _ => None,
     }
 }
 
-/// The tree of these words, or None where they are no namespace, or none, and `--ascii` before or behind it.
+/// The tree of these words, or None where they are no namespace, `all` or none, and `--ascii` before or behind it.
 fn tree_of(words: &[&str]) -> Option<Task> {
     let (words, drawing) = match words {
         [words @ .., "--ascii"] | ["--ascii", words @ ..] => (words, Drawing::PlainTree),
@@ -137,11 +159,9 @@ pub(crate) fn task_of(words: &[&str]) -> Result<Task, WordFault> {
         ["monitor", behind @ ..] => monitor_of(behind).ok_or(WordFault::Monitor),
         ["mirror", behind @ ..] => mirror_of(behind).ok_or(WordFault::Mirror),
         ["tree", behind @ ..] => tree_of(behind).ok_or(WordFault::Tree),
-        ["dot"] => Ok(Task::Draw {
-            scope: Scope::All,
-            drawing: Drawing::Graph,
-        }),
-        ["dot", ..] => Err(WordFault::Graph),
+        ["dot", behind @ ..] => graph_of(behind).ok_or(WordFault::Graph),
+        ["spaces"] => Ok(Task::List),
+        ["spaces", ..] => Err(WordFault::Spaces),
         ["what-if", behind @ ..] if is_what_if(behind) => Ok(Task::WhatIf),
         ["what-if", ..] => Err(WordFault::WhatIf),
         _ => Ok(Task::Ask),

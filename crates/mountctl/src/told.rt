@@ -1,7 +1,8 @@
 //! What is told of a refused line on standard error.
 
-use std::fmt;
-use std::fmt::{Display, Formatter, Write};
+use crate::places::{NamedPath, Refused};
+use mt_reasons::reason::Reason;
+use mt_terminal::shown::Shown;
 use std::io::Eprint;
 
 /// The name that the program goes by in its messages.
@@ -10,25 +11,6 @@ pub(crate) const NAME: &str = "mountctl";
 /// What stands between a mount and the reason for which it is left out.
 const LEFT_OUT: &str = " is left out: ";
 
-/// Bytes as a message shows them: as they are where they are printable ASCII, and else as `\x` and two hexadecimal digits,
-/// so that no terminal obeys them.
-#[derive(Clone, Copy)]
-struct Shown<'a>(&'a [u8]);
-
-impl<'a> Display for Shown<'a> {
-    fn fmt<W: fmt::Write>(&self, f: &mut Formatter<W>) -> fmt::Result {
-        let Shown(bytes) = self;
-        for byte in *bytes {
-            if 32 <= *byte && *byte <= 126 {
-                f.write_char(char::from(*byte))?;
-            } else {
-                write!(f, "\\x{byte:02x}")?;
-            }
-        }
-        Ok(())
-    }
-}
-
 /// Says on standard error which line of a script was refused, by its number, and how. A line that was not read is empty.
 pub(crate) fn tell_refused<E: Eprint>(rt: &E, number: u64, line: &[u8], refusal: &[u8]) {
     let (line, refusal) = (Shown(line), Shown(refusal));
@@ -36,6 +18,36 @@ pub(crate) fn tell_refused<E: Eprint>(rt: &E, number: u64, line: &[u8], refusal:
         let _ = eprintln!(rt; "{NAME}: line {number}: {refusal}");
     } else {
         let _ = eprintln!(rt; "{NAME}: line {number}: {line}: {refusal}");
+    }
+}
+
+/// Says on standard error why a line is bad, with its number where it is one of a script.
+pub(crate) fn tell_reason<E: Eprint>(rt: &E, number: Option<u64>, reason: Reason<'_>) {
+    match number {
+        Some(number) => {
+            let _ = eprintln!(rt; "{NAME}: line {number}: BadLine: {reason}");
+        }
+        None => {
+            let _ = eprintln!(rt; "{NAME}: BadLine: {reason}");
+        }
+    }
+}
+
+/// Says on standard error of which path a refusal is, with the number of the line where it is one of a script.
+pub(crate) fn tell_path<E: Eprint>(
+    rt: &E,
+    number: Option<u64>,
+    refused: Refused,
+    named: NamedPath<'_>,
+) {
+    let (why, name, path) = (refused.name(), named.name, Shown(named.path));
+    match number {
+        Some(number) => {
+            let _ = eprintln!(rt; "{NAME}: line {number}: {why}: {name}, {path}");
+        }
+        None => {
+            let _ = eprintln!(rt; "{NAME}: {why}: {name}, {path}");
+        }
     }
 }
 

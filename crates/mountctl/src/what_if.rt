@@ -4,12 +4,13 @@ ghost use Rattle.mt_lines.specs.Reading.{fault_of};
 
 use crate::connection::{connected, status_of};
 use crate::fault::Fault;
+use crate::lines::{tell_bad, tell_refused_line};
 use crate::provide::provide;
 use crate::quiet::Quiet;
 use crate::script::{SCRIPT_LIMIT, run_script};
 use crate::tables::{named_files, script_of_files};
 use crate::task::{WordFault, parted};
-use crate::told::{NAME, tell_left_out, tell_refused};
+use crate::told::{NAME, tell_left_out};
 use crate::{LINE_LIMIT, PROGRAM};
 use mt_client::ask::ask_line;
 use mt_client::effects::{SpaceName, tell_effects};
@@ -17,6 +18,7 @@ use mt_client::request::request_line;
 use mt_import::script::Script;
 use mt_lines::line::LineReader;
 use mt_lines::stream::{Input, Output, Reading, Writing};
+use mt_terminal::shown::Shown;
 use mt_words::words::{Pieces, number, words};
 use std::alloc::{AllocError, Global};
 use std::io;
@@ -104,7 +106,7 @@ fn is_new<R: Input + Drop, W: Output>(
 }
 
 /// The line of these words, each with its escapes. Fails for want of memory alone.
-fn line_of(alloc: Global, words: &[&str]) -> Result<Vec<u8>, AllocError> {
+pub(crate) fn line_of(alloc: Global, words: &[&str]) -> Result<Vec<u8>, AllocError> {
     let mut line = Vec::new(alloc);
     for word in words {
         line.push(word.as_bytes())?;
@@ -128,7 +130,7 @@ fn prepare<E: Eprint, R: Input + Drop, W: Output>(
     if ask_line(alloc, lines, writer, line.as_slice(), &mut Quiet)? {
         return Ok(true);
     }
-    tell_refused(rt, number, line.as_slice(), lines.line());
+    tell_refused_line(rt, alloc, number, line.as_slice(), lines, writer)?;
     Ok(false)
 }
 
@@ -187,6 +189,7 @@ pub(crate) fn tell_what_if<E: Eprint, R: Input + Drop, W: Output, O: Output>(
     };
     provide(alloc, script, words.as_slice(), lines, writer)?;
     let line = line_of(alloc, words.as_slice())?;
+    tell_bad(rt, alloc, None, line.as_slice())?;
     let told = tell_effects(alloc, lines, writer, line.as_slice(), names.as_slice(), out)?;
     Ok(Effects::Told(told))
 }
@@ -222,13 +225,15 @@ fn answer_what_if(
     socket: &str,
     named: &[&str],
     lines: &[&str],
+    wait: u64,
 ) -> Result<ExitCode, ExitCode> {
     let files = named_files(rt, named, WordFault::WhatIf)?;
     let script = script_of_files(rt, files.as_slice())?;
-    let stream = connected(rt, socket)?;
+    let stream = connected(rt, socket, wait)?;
     match ask_what_if(rt, &stream, &script, files.as_slice(), lines) {
         Ok(Effects::Told(told)) => Ok(status_of(rt, socket, Ok(told))),
         Ok(Effects::NotNew) => {
+            let socket = Shown(socket.as_bytes());
             let _ = eprintln!(rt; "{NAME}: {socket}: not a new server");
             Ok(ExitCode::from(1))
         }
@@ -237,14 +242,14 @@ fn answer_what_if(
 }
 
 /// Does what words ask for of which the first is `what-if`.
-pub(crate) fn run_what_if(rt: &HostRuntime, socket: &str, words: &[&str]) -> ExitCode {
+pub(crate) fn run_what_if(rt: &HostRuntime, socket: &str, words: &[&str], wait: u64) -> ExitCode {
     let [_, behind @ ..] = words else {
         return PROGRAM.refuse(rt, WordFault::WhatIf.message());
     };
     let Some((named, lines)) = parted(behind) else {
         return PROGRAM.refuse(rt, WordFault::WhatIf.message());
     };
-    match answer_what_if(rt, socket, named, lines) {
+    match answer_what_if(rt, socket, named, lines, wait) {
         Ok(status) => status,
         Err(status) => status,
     }

@@ -5,7 +5,7 @@ mod listening;
 mod socket;
 
 use clap::{Arg, ArgAction, Command, Error, value_parser};
-use mt_arguments::program::{OUT_OF_MEMORY, Program, WRITE_FAULT, read_arguments};
+use mt_arguments::program::{OUT_OF_MEMORY, Program, VERSION, WRITE_FAULT, read_arguments};
 use mt_requests::help::LINES;
 use mt_session::floor::Floor;
 use mt_session::line::{LineReader, ReadFault};
@@ -77,6 +77,7 @@ fn parser<'a>(alloc: Global) -> Result<Command<'a>, Error> {
         .value_parser(value_parser!(u16).range(0..=65535))
         .default_value("0");
     let command = Command::new(alloc, NAME)
+        .version(VERSION)
         .arg(socket)?
         .after_help(LINES)
         .arg(replace)?

@@ -3,6 +3,7 @@ ghost use Rattle.std.specs.Prelude.{◌≡◌, ◌∷◌, map, drop, string_byte
 
 use clap::Error;
 use clap::error::ErrorKind;
+use mt_terminal::shown::Shown;
 use std::alloc::{AllocError, AllocGlobal, Global};
 use std::env::Env;
 use std::fmt::Display;
@@ -12,6 +13,9 @@ use std::{env, io};
 
 /// The status of a run whose arguments are no good, as is usual.
 const FAULTY: u8 = 2;
+
+/// The version of the programs, which are made together.
+pub const VERSION: &str = "0.1.0";
 
 /// What is said where there is no memory.
 pub const OUT_OF_MEMORY: &str = "out of memory";
@@ -35,7 +39,8 @@ impl Program {
         ExitCode::from(self.failed)
     }
 
-    /// Says on standard error why a run fails, at which path, and for what reason, and answers its status.
+    /// Says on standard error why a run fails, at which path, as a terminal is given it, and for what
+    /// reason, and answers its status.
     pub fn fail_at<R: Eprint, D: Display + Drop>(
         self,
         rt: &R,
@@ -43,6 +48,7 @@ impl Program {
         path: &str,
         reason: D,
     ) -> ExitCode {
+        let path = Shown(path.as_bytes());
         let _ = eprintln!(rt; "{}: {why}: {path}: {reason}", self.name);
         ExitCode::from(self.failed)
     }
@@ -53,11 +59,11 @@ impl Program {
         ExitCode::from(FAULTY)
     }
 
-    /// Says what the parser of the arguments says, and answers the status: its help on standard output, of status 0 where
-    /// it goes out, and else its complaints on standard error, of status 2.
+    /// Says what the parser of the arguments says, and answers the status: its help or the version on standard output, of
+    /// status 0 where it goes out, and else its complaints on standard error, of status 2.
     pub fn explain<R: Print + Eprint>(self, rt: &R, error: &Error) -> ExitCode {
         match error.kind() {
-            ErrorKind::DisplayHelp => match print!(rt; "{error}") {
+            ErrorKind::DisplayHelp | ErrorKind::DisplayVersion => match print!(rt; "{error}") {
                 Ok(()) => ExitCode::SUCCESS,
                 Err(_) => self.fail(rt, WRITE_FAULT),
             },

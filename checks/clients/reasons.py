@@ -1,0 +1,145 @@
+"""What the other program says of a line that is refused, beside its refusal: a module, a part of server.py.
+
+What is wrong with a bad line, and which of two paths is refused, stands on standard error; the answers are those of the
+server. Of random lines it is asked that something is said exactly where the answer is `no BadLine`.
+"""
+import random
+import re
+import subprocess
+
+from harness import commands
+from harness.runs import MOST_SECONDS, check, run, shown
+from harness.servers import START, Server
+
+# How many random lines are sent, in one script.
+LINES = 4_000
+
+# What is said of a line of a script behind its refusal: its number, and the name of the refusal.
+SAID = re.compile(rb"mountctl: line (\d+): (BadLine|NoEntry|NotMountRoot|RootPlace): ")
+
+USAGE = b"too few words, or too many: "
+NUMBER = b": NS is a number, digits without a leading zero, below 18446744073709551616"
+SET_WORDS = b"ro, nosuid, nodev, noexec, nosymfollow, nodiratime, relatime, noatime and strictatime, joined by commas"
+CLR_WORDS = b"ro, nosuid, nodev, noexec, nosymfollow, nodiratime and atime, joined by commas"
+EMPTY_WORD = b"a word is empty: one space stands between two words, and none at an end"
+OPTIONS = b"setattr NS PATH [rec] [set=W,..] [clr=W,..] [prop=KIND]"
+TWICE = b"an option is there twice"
+
+# Bad lines, and what is said of each.
+BAD = (
+    (b"shwo 1", b"shwo: no line begins so; the nearest is show"),
+    (b"unmount 1 /m", b"unmount: no line begins so; the nearest is umount"),
+    (b"Show 1", b"Show: no line begins so; the nearest is show"),
+    (b"x", b"x: no line begins so"),
+    (b"\x1bxyz\xff 1", b"\\x1bxyz\\xff: no line begins so"),
+    (b"show  1", EMPTY_WORD),
+    (b" show 1", EMPTY_WORD),
+    (b"show 1 ", EMPTY_WORD),
+    (b"show", USAGE + b"show NS"),
+    (b"watch", USAGE + b"watch NS"),
+    (b"mount 1 a", USAGE + b"mount NS FS PATH"),
+    (b"copyns 1 less less", USAGE + b"copyns NS [less]"),
+    (b"setattr 1", USAGE + OPTIONS),
+    (b"quit now", USAGE + b"quit"),
+    (b"show 01", b"01" + NUMBER),
+    (b"watch any", b"any" + NUMBER),
+    (b"find 18446744073709551616 /", b"18446744073709551616" + NUMBER),
+    (b"take 0", b"0: K is a number from 1 to 1024"),
+    (b"take 1025", b"1025: K is a number from 1 to 1024"),
+    (b"follow x", b"x: K is a number from 1 to 1048576"),
+    (b"copyns 1 more", b"more: only less may stand there"),
+    (b"mkfs a\0 t s", b"a\\x00: a byte is zero"),
+    (b"mkdir a /\\041", b"/\\041: a backslash begins none of \\040, \\011, \\012 and \\134"),
+    (b"setattr 1 / rw", b"rw: the options are rec, set=, clr= and prop="),
+    (b"setattr 1 / set=ro,atime", b"atime: set= takes " + SET_WORDS),
+    (b"setattr 1 / set=", b"an empty word: set= takes " + SET_WORDS),
+    (b"setattr 1 / clr=relatime", b"relatime: clr= takes " + CLR_WORDS),
+    (b"setattr 1 / prop=share", b"share: prop= takes shared, private, slave or unbindable"),
+    (b"setattr 1 / rec set=ro rec", TWICE),
+)
+
+# Lines with two paths behind START and a mount at /m, the refusal of each, and the path that it is of.
+TWO_PATHS = (
+    (b"bind 1 /none /m", b"NoEntry", b"SRC, /none"),
+    (b"rbind 1 /m /none", b"NoEntry", b"DST, /none"),
+    (b"bind 1 /none /other", b"NoEntry", b"SRC, /none"),
+    (b"bind 1 / /", b"RootPlace", b"DST, /"),
+    (b"move 1 /n /m", b"NotMountRoot", b"SRC, /n"),
+    (b"move 1 / /m", b"RootPlace", b"SRC, /"),
+    (b"move 1 /m /", b"RootPlace", b"DST, /"),
+    (b"move 1 /m /no\x7fne", b"NoEntry", b"DST, /no\\x7fne"),
+    (b"pivot 1 /none /", b"NoEntry", b"NEW, /none"),
+    (b"pivot 1 /m /none", b"NoEntry", b"OLD, /none"),
+    (b"pivot 1 /n /n", b"NotMountRoot", b"NEW, /n"),
+    (b"pivot 1 / /n", b"RootPlace", b"NEW, /"),
+    (b"pivot 1 /m /", b"RootPlace", b"OLD, /"),
+)
+
+# Words of random lines: those that begin one, but for what waits or ends, and others.
+BEGINNINGS = [word for word in commands.LINES if word not in (b"follow", *commands.ENDING)]
+WORDS = (
+    *(b"1", b"2", b"01", b"1025", b"all", b"less", b"rec", b"rec", b"set=ro", b"set=", b"set=ro,", b"clr=atime", b"clr=relatime"),
+    *(b"prop=slave", b"prop=", b"/", b"/m", b"//", b"m", b"", b"\\040", b"\\", b"a\0", b"\xff", b"x" * 300),
+)
+
+
+def without_reasons(complaint):
+    """A complaint without what is said of its lines behind their refusals, and that: the lines' numbers and refusals."""
+    lines = complaint.splitlines(keepends=True)
+    said = [(int(found[1]), found[2]) for found in map(SAID.match, lines) if found]
+    return b"".join(line for line in lines if not SAID.match(line)), said
+
+
+def check_of_script(server, mountctl, line, refusal, said):
+    """What is said of a line that stands in a script."""
+    found = run(mountctl, b"# none\n" + line + b"\n", server.path, "-")
+    shown_line = run(mountctl, line + b"\n", server.path, "-")[2].split(b"\n")[0].split(b": ", 2)[2]
+    wanted = b"mountctl: line 2: %b\nmountctl: line 2: %b: %b\n" % (shown_line, refusal, said)
+    check(f"what is said of {line!r} in a script", found == (1, b"no %b\n" % refusal, wanted), repr(found))
+
+
+def check_by_hand(server, mountctl):
+    """Each of these lines, in a script and as words; those of words that no argument can have are in scripts alone."""
+    for line, refusal, said in (*((line, b"BadLine", said) for line, said in BAD), *TWO_PATHS):
+        check_of_script(server, mountctl, line, refusal, said)
+        words = line.split(b" ")
+        # Backslashes of words are escaped, no word may have a zero byte, and all have to be UTF-8.
+        if b"\\" in line or b"\0" in line or b"\xff" in line:
+            continue
+        found = subprocess.run([mountctl, server.path, *words], input=b"", capture_output=True, timeout=MOST_SECONDS)
+        found = found.returncode, found.stdout, found.stderr
+        # An empty word in front is no socket, and the program takes it for a word.
+        check(f"what is said of the words {line!r}", found == (1, b"no %b\n" % refusal, b"mountctl: %b: %b\n" % (refusal, said)), repr(found))
+
+
+def random_line(author):
+    """A line of random words, of which the first may begin a line."""
+    words = [author.choice(BEGINNINGS) if author.random() < 0.9 else b"x" * author.randrange(4)]
+    return b" ".join([*words, *author.choices(WORDS, k=author.randrange(5))])
+
+
+def check_random(server, mountctl):
+    """Something is said of exactly the lines that are refused as bad, and of no other but those with two paths."""
+    author = random.Random(7)
+    lines = [line for line in (random_line(author) for _ in range(LINES)) if not line.startswith((b"#", b"watch")) and line]
+    found = run(mountctl, b"".join(line + b"\n" for line in lines), server.path, "-")
+    refused = re.findall(rb"(?m)^mountctl: line (\d+): .*: no (\w+)$", without_reasons(found[2])[0])
+    wanted = [int(number) for number, name in refused if name == b"BadLine"]
+    _, said = without_reasons(found[2])
+    bad = [number for number, name in said if name == b"BadLine"]
+    check("bad lines, and what is said of them", len(wanted) > LINES // 4 and bad == wanted, f"{len(bad)} of {len(wanted)}")
+    names = {(int(number), name) for number, name in refused}
+    check("nothing is said of other refusals", {*said} <= names, repr([one for one in said if one not in names][:9]))
+    print(f"{len(wanted)} of {len(lines)} random lines are bad, and it is said why", flush=True)
+
+
+def check_reasons(program, mountctl):
+    """What is said of refused lines."""
+    with Server(program) as server:
+        with server.free() as client:
+            for line in *START[:5], b"mount 1 d /m":
+                client.ask(line)
+        check_by_hand(server, mountctl)
+        check_random(server, mountctl)
+        ended = server.stop()
+        check("the server behind bad lines", ended == (0, b""), shown(ended[1]))

@@ -1,0 +1,192 @@
+//! What the arguments of a request to a server say.
+
+use crate::task::begins_words;
+use crate::told::NAME;
+use clap::{Arg, ArgAction, ArgMatches, Command, Error, value_parser};
+use mt_arguments::program::{OUT_OF_MEMORY, VERSION};
+use mt_requests::help::LINES;
+use std::alloc::{AllocError, Global};
+use std::env;
+use std::env::VarError;
+
+/// The variable of the environment that names the socket where no argument does.
+const SOCKET_VARIABLE: &str = "MOUNTD_SOCKET";
+
+/// What may stand in the place of a line, for the help, behind the lines.
+const TASKS: &str = "
+
+In the place of WORD..:
+  -                        sends the lines of standard input, one after another, but for comments
+  monitor NS, monitor all  tells each change as it comes, in words
+  mirror NS K              follows K posts of a namespace, and shows the table that they lead to
+  tree [NS|all] [--ascii]  draws the mounts of a namespace, or of all, each below its parent
+  dot [NS|all]             draws mounts and peer groups as a graph for Graphviz
+  spaces                   lists the namespaces, each with the number of its mounts
+  what-if FILE.. -- LINE..
+                           makes the namespaces of an import in a new server, and tells what a line changes there;
+                           further lines may stand in front of it, each behind --
+
+In the place of SOCKET WORD..:
+  import                   reads the lines of a mountinfo, and prints a script that makes its namespace
+  import FILE..            reads those of several processes, and prints a script that makes all their namespaces
+  import --pid PID..       reads those of these processes
+  explain REFUSAL          says what the refusal of this name is, and what Linux says in its place
+
+Environment:
+  MOUNTD_SOCKET            the socket of the server, where the first word is none: one that begins a line, or what may
+                           stand in its place, is no socket (./show is)";
+
+/// The lines of a session, and what may stand in their place.
+pub(crate) fn usage(alloc: Global) -> Result<String, AllocError> {
+    let mut text = String::from_str(alloc, LINES)?;
+    text.push_str(TASKS)?;
+    Ok(text)
+}
+
+/// How lines are sent, and what is shown of their answers.
+#[derive(Clone, Copy)]
+pub(crate) struct Manner {
+    /// Whether a script ends at the first refusal.
+    pub(crate) strict: bool,
+    /// Whether answers are left out.
+    pub(crate) quiet: bool,
+    /// For how many seconds a server that is not there yet is waited for.
+    pub(crate) wait: u64,
+}
+
+/// The manner that the arguments ask for.
+pub(crate) fn manner_of(matches: &ArgMatches<'_>) -> Manner {
+    Manner {
+        strict: matches.get_flag("strict"),
+        quiet: matches.get_flag("quiet"),
+        wait: matches.get_one::<u64>("wait").unwrap_or(0),
+    }
+}
+
+/// The socket.
+fn socket_argument<'a>(alloc: Global) -> Arg<'a> {
+    Arg::new(alloc, "SOCKET")
+        .help("The socket of the server")
+        .action(ArgAction::Set)
+}
+
+/// The words.
+fn words_argument<'a>(alloc: Global) -> Arg<'a> {
+    Arg::new(alloc, "WORD")
+        .help("The words of a line, or what may stand in its place")
+        .num_args(1..)
+        .trailing_var_arg(true)
+        .allow_hyphen_values(true)
+        .action(ArgAction::Append)
+}
+
+/// Whether a script ends at the first refusal.
+fn strict_option<'a>(alloc: Global) -> Arg<'a> {
+    Arg::new(alloc, "strict")
+        .short('e')
+        .help("End a script at the first line that is refused")
+        .action(ArgAction::SetTrue)
+}
+
+/// Whether answers are left out.
+fn quiet_option<'a>(alloc: Global) -> Arg<'a> {
+    Arg::new(alloc, "quiet")
+        .short('q')
+        .help("Leave out the answers to lines")
+        .action(ArgAction::SetTrue)
+}
+
+/// For how many seconds a server that is not there yet is waited for.
+fn wait_option<'a>(alloc: Global) -> Arg<'a> {
+    Arg::new(alloc, "wait")
+        .long("wait")
+        .value_name("SECONDS")
+        .help("Wait so long for a server that is not there yet")
+        .value_parser(value_parser!(u16).range(0..=65535))
+        .default_value("0")
+}
+
+/// What the program takes: a socket, and the words of a request. `usage` stands behind its help.
+pub(crate) fn parser<'a>(alloc: Global, usage: &'a str) -> Result<Command<'a>, Error> {
+    let command = Command::new(alloc, NAME)
+        .version(VERSION)
+        .override_usage("mountctl [OPTIONS] [SOCKET] <WORD>...")
+        .after_help(usage)
+        .arg(strict_option(alloc))?
+        .arg(quiet_option(alloc))?
+        .arg(wait_option(alloc))?
+        .arg(socket_argument(alloc))?
+        .arg(words_argument(alloc))?;
+    Ok(command)
+}
+
+/// What is missing of the arguments.
+#[derive(Clone, Copy)]
+pub(crate) enum Lack {
+    /// There is no word to be sent.
+    Word,
+    /// Neither an argument nor the environment names a socket.
+    Socket,
+    /// What the environment names is no text.
+    Text,
+    /// There is no memory for what the environment names.
+    NoMemory,
+}
+
+impl Lack {
+    /// What is said on standard error.
+    pub(crate) fn message(self) -> &'static str {
+        match self {
+            Lack::Word => "no WORD: --help says what can be sent",
+            Lack::Socket => "no SOCKET, and MOUNTD_SOCKET is not set",
+            Lack::Text => "the socket of MOUNTD_SOCKET is not UTF-8",
+            Lack::NoMemory => OUT_OF_MEMORY,
+        }
+    }
+}
+
+/// The socket that the environment names. One that is empty names none.
+fn named_socket(rt: &HostRuntime) -> Result<String, Lack> {
+    match env::var(rt, SOCKET_VARIABLE) {
+        Ok(socket) if socket.is_empty() => Err(Lack::Socket),
+        Ok(socket) => Ok(socket),
+        Err(VarError::NotPresent) => Err(Lack::Socket),
+        Err(VarError::NotUnicode) => Err(Lack::Text),
+        Err(VarError::OutOfMemory) => Err(Lack::NoMemory),
+    }
+}
+
+/// Whether the first argument is a socket: it begins no line, nor what may stand in the place of one.
+fn is_socket(first: Option<&str>) -> bool {
+    match first {
+        Some(word) => !begins_words(word),
+        None => false,
+    }
+}
+
+/// The socket of the server: the first argument, or that of the environment where the first argument is none.
+pub(crate) fn socket_of(
+    rt: &HostRuntime,
+    first: Option<&str>,
+) -> Result<Result<String, Lack>, AllocError> {
+    match first {
+        Some(socket) if is_socket(first) => Ok(Ok(String::from_str(rt.alloc(), socket)?)),
+        _ => Ok(named_socket(rt)),
+    }
+}
+
+/// The words of a line, or what stands in its place: the arguments behind the socket. Fails for want of memory alone.
+pub(crate) fn words_of<'a>(
+    alloc: Global,
+    first: Option<&'a str>,
+    behind: &[&'a str],
+) -> Result<Vec<&'a str>, AllocError> {
+    let mut words = Vec::new(alloc);
+    if let Some(word) = first {
+        if !is_socket(first) {
+            words.push(word)?;
+        }
+    }
+    words.extend_from_slice(behind)?;
+    Ok(words)
+}
