@@ -26,7 +26,8 @@ import re
 import subprocess
 import sys
 
-TOP = os.path.dirname(os.path.dirname(os.path.abspath(__file__)))
+from harness.runs import TOP, end_self_test
+
 DOCUMENTS = ["README.md", "checks/README.md", "docs/*.md"]
 # What is no code, as this file's own texts are none: documents and their pictures.
 TEXTS = (".md", ".svg", ".1", ".7")
@@ -132,9 +133,7 @@ def main():
     parser = argparse.ArgumentParser(description=__doc__.split("\n", maxsplit=1)[0])
     parser.add_argument("--self-test", action="store_true")
     if parser.parse_args().self_test:
-        passed = self_test()
-        print("names.py finds what it looks for" if passed else "names.py misses what it looks for")
-        sys.exit(0 if passed else 1)
+        end_self_test("names.py", self_test())
     listed = subprocess.run(["git", "ls-files", "-co", "--exclude-standard"], cwd=TOP, stdout=subprocess.PIPE, text=True, check=True)
     paths = [path for path in listed.stdout.splitlines() if os.path.isfile(os.path.join(TOP, path))]
     documents = {path: read(path) for pattern in DOCUMENTS for path in glob.glob(pattern, root_dir=TOP)}

@@ -21,6 +21,7 @@ The status is 0 where there is none. --self-test shows that each is found in tex
 import argparse
 import sys
 
+from harness.runs import end_self_test
 from sources.duplicates import twice_written
 from sources.meanings import twice_meant, twice_named
 from sources.texts import read_all
@@ -115,9 +116,7 @@ def main():
     parser = argparse.ArgumentParser(description=__doc__.split("\n", maxsplit=1)[0])
     parser.add_argument("--self-test", action="store_true")
     if parser.parse_args().self_test:
-        passed = self_test()
-        print("words.py finds what it looks for" if passed else "words.py misses what it looks for")
-        sys.exit(0 if passed else 1)
+        end_self_test("words.py", self_test())
     files = read_all()
     found = twice_named(files) + twice_written(files) + twice_meant(files, KNOWN) + brought_for_nothing(files)
     known = len(KNOWN.split("\n")) - 2

@@ -5,6 +5,7 @@ import functools
 import os
 import shutil
 import subprocess
+import sys
 
 from harness import protocol
 
@@ -126,3 +127,9 @@ def difference(wanted, found, name):
     """How one text differs from the other, as unified diff prints it."""
     texts = shown(wanted).split("\n"), shown(found).split("\n")
     return "\n".join(difflib.unified_diff(*texts, f"{name} (wanted)", f"{name} (found)", lineterm=""))
+
+
+def end_self_test(program, passed):
+    """Says whether a program finds what was made for it to be found, and ends it."""
+    print(f"{program} finds what it looks for" if passed else f"{program} misses what it looks for")
+    sys.exit(0 if passed else 1)
