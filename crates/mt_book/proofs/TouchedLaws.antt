@@ -99,11 +99,12 @@ part_holds w v n rows h g held i out = go (is_part w v n i) refl
     go true is = held i (among-out (is_part w v n) rows i is out)
     go false is = outside w n i h (front-off (space_of w i == n) _ is) ∙ sym (outside v n i g (rest-off (space_of w i == n) _ is))
 
--- the mounts of one namespace, by its place among all
-in_range : {X : Type 0} (xs : List X) (k : ℕ) (d e : X) → k < length xs → get_or xs k d ≡ get_or xs k e
+-- what stands at a place of a list, whatever would stand behind its end
+pub in_range : {X : Type 0} (xs : List X) (k : ℕ) (d e : X) → k < length xs → get_or xs k d ≡ get_or xs k e
 in_range [] k d e l = absurd (omega (arith, l))
 in_range (x ∷ xs) zero d e l = refl
 in_range (x ∷ xs) (suc k) d e l = in_range xs k d e (omega (arith, l))
 
+-- the mounts of one namespace, by its place among all
 pub part_is : (parts : List (List ℕ)) (part ids : List ℕ) (k n : ℕ) (t : ℕ → Bool) → part ≡ get_or parts k part → length parts ≡ n → k < n → (k < n → part_at parts k ≡ filter t ids) → part ≡ filter t ids
 part_is parts part ids k n t at e l is = at ∙ in_range parts k part [] (omega (arith, e, l)) ∙ is l

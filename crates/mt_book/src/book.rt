@@ -15,6 +15,7 @@ ghost use Rattle.mt_book.specs.Inside.{StaysInCopy, AllStayInCopies};
 ghost use Rattle.mt_book.specs.Book.{answer, accepts, command_limit, found_at, space_in, number_in, spaces_of, AreAnswered};
 ghost use Rattle.mt_book.specs.Kept.{IsPrepared, prepared_command, prepared_reply, prepared_posts, is_heard};
 
+use crate::between::Between;
 use crate::changes::changes_after;
 use crate::command::{Command, Reply};
 use crate::prepared::Prepared;
@@ -162,15 +163,8 @@ impl Book {
                 let shown: &World = self.shown.world();
                 let changed: &World = &world;
                 let ids = touched(shown, changed)?;
-                let changes = changes_after(
-                    self.alloc,
-                    shown,
-                    changed,
-                    &ids,
-                    &self.numbers,
-                    command,
-                    heard,
-                )?;
+                let between = Between::new(shown, changed, heard);
+                let changes = changes_after(self.alloc, &between, &ids, &self.numbers, command)?;
                 Ok(Prepared {
                     world,
                     command: copy,

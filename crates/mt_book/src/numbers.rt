@@ -13,17 +13,21 @@ use mt_propagate::world::World;
 use mt_skel::fault::Fault;
 use std::alloc::Global;
 
-/// The numbers of namespaces with that of one that is made: 0. Refused as `NoMemory` alone.
-pub(crate) fn with_newborn(
+/// The numbers of namespaces before a command, with that of one that it makes, if it makes one: 0. Refused as `NoMemory`
+/// alone.
+pub(crate) fn numbers_before(
     alloc: Global,
     numbers: &[(SpaceId, u64)],
     newborn: SpaceId,
+    makes_space: bool,
 ) -> Result<Vec<(SpaceId, u64)>, Fault>
-    ensures numbers { IfOk result (λ before. before.items ≡ with_newborn numbers.now newborn true) }
+    ensures numbers { IfOk result (λ before. before.items ≡ with_newborn numbers.now newborn makes_space) }
     ensures memory { IsOkUnless result Fault.NoMemory }
 {
     let mut before = Vec::from_slice(alloc, numbers)?;
-    before.push((newborn, 0))?;
+    if makes_space {
+        before.push((newborn, 0))?;
+    }
     Ok(before)
 }
 
@@ -92,21 +96,14 @@ pub(crate) fn put_number(all: &mut Vec<(SpaceId, u64)>, row: (SpaceId, u64))
     all[at] = row;
 }
 
-/// The numbers of all namespaces once some have changed. One that had no number has none. Refused as `NoMemory` alone.
-pub(crate) fn with_numbers(
-    alloc: Global,
-    numbers: &[(SpaceId, u64)],
-    changed: &[(SpaceId, u64)],
-) -> Result<Vec<(SpaceId, u64)>, Fault>
-    requires rising { IsTrue (rises space_in numbers.now) }
+/// Puts new numbers of namespaces in the places of their numbers. One that had none has none.
+pub(crate) fn put_numbers(all: &mut Vec<(SpaceId, u64)>, changed: &[(SpaceId, u64)])
+    requires rising { IsTrue (rises space_in all.old.items) }
     requires changed { IsTrue (rises space_in changed.now) }
-    ensures rising { IfOk result (λ all. IsTrue (rises space_in all.items)) }
-    ensures rows { IfOk result (λ all. (n : ℕ) → row_at space_in n all.items ≡ merged numbers.now changed.now n) }
-    ensures memory { IsOkUnless result Fault.NoMemory }
+    ensures rising { IsTrue (rises space_in all.new.items) }
+    ensures rows { (n : ℕ) → row_at space_in n all.new.items ≡ merged all.old.items changed.now n }
 {
-    let mut all = Vec::from_slice(alloc, numbers)?;
     'rows: for row in changed {
-        put_number(&mut all, *row);
+        put_number(all, *row);
     }
-    Ok(all)
 }

@@ -1,6 +1,6 @@
 use Rattle.std.proofs.Common.{◌∙◌}
 use Rattle.mt_book.proofs.ChangedLaws.{next_merged}
-use Rattle.mt_book.proofs.numbers.with_numbers.Goals as goal
+use Rattle.mt_book.proofs.numbers.put_numbers.Goals as goal
 
 pub rows-preserved : goal.rows-preserved
 rows-preserved c = record {

@@ -1,0 +1,30 @@
+use Rattle.std.proofs.Common.{◌≡◌, ◌∙◌, ℕ, List, true, sym, subst, ap, arith}
+use Rattle.std.specs.List.{filter}
+use Rattle.mt_skel.specs.Keyed.{rises}
+use Rattle.mt_skel.proofs.KeyedLaws.{rises-filter}
+use Rattle.mt_info.specs.Table.{table_of}
+use Rattle.mt_events.specs.Difference.{HoldsChanged}
+use Rattle.mt_book.specs.Between.{BetweenView, AreWorlds}
+use Rattle.mt_book.specs.Parts.{is_part, space_at}
+use Rattle.mt_book.proofs.TouchedLaws.{part_holds, part_is}
+use Rattle.mt_book.proofs.changes.changes_in_each.Goals as goal
+
+pub change-requires-clause-rising : goal.change-requires-clause-rising
+change-requires-clause-rising c =
+    let b = c.args.between.now in
+    let t = is_part b.old b.new (space_at c.args.numbers.now c.spaces.i) in
+    let ids = c.args.ids.now in
+    let part : c.as_slice-part.result.now ≡ filter t ids =
+    c.as_slice-part.ensures ∙ part_is c.in_ok-parts.parts.items c.index.result.now ids c.spaces.i _ t c.index.ensures c.in_ok-parts.ensures.len (omega (arith, c.spaces-test.true)) (λ l. c.in_ok-parts.ensures.parts c.spaces.i l ∙ ap (λ (b : BetweenView). filter (is_part b.old b.new (space_at c.args.numbers.now c.spaces.i)) ids) c.between.view_is) in
+    subst (λ (l : List ℕ). rises (λ k. k) l ≡ true) (sym part) (rises-filter (λ k. k) t ids c.requires.rising)
+
+pub change-requires-clause-held : goal.change-requires-clause-held
+change-requires-clause-held c =
+    let b = c.args.between.now in
+    let worlds = subst AreWorlds c.between.view_is c.between.invariant in
+    let n = space_at c.args.numbers.now c.spaces.i in
+    let t = is_part b.old b.new n in
+    let ids = c.args.ids.now in
+    let part : c.as_slice-part.result.now ≡ filter t ids =
+    c.as_slice-part.ensures ∙ part_is c.in_ok-parts.parts.items c.index.result.now ids c.spaces.i _ t c.index.ensures c.in_ok-parts.ensures.len (omega (arith, c.spaces-test.true)) (λ l. c.in_ok-parts.ensures.parts c.spaces.i l ∙ ap (λ (b : BetweenView). filter (is_part b.old b.new (space_at c.args.numbers.now c.spaces.i)) ids) c.between.view_is) in
+    subst (HoldsChanged (table_of b.old n) (table_of b.new n)) (sym part) (part_holds b.old b.new n ids worlds.old worlds.new (c.requires.held n))
