@@ -1,22 +1,17 @@
 -- Where mounts come to stand and namespaces come and go, contained namespaces stay contained, and what happens in them changes
 -- nothing outside.
-use Rattle.std.proofs.Common.{◌≡◌, ◌≢◌, ◌⊎◌, ℕ, ◌+◌, ◌<◌, Bool, true, not, ◌==◌, eqb-true, List, [], ◌∷◌, ◌++◌, map, length, Some, None, Ok, refl, sym, ap, subst, ◌∙◌, inl, inr, arith}
-use Rattle.std.specs.Prelude.{unwrap_or, is_none}
+use Rattle.std.proofs.Common.{◌≡◌, ◌≢◌, ◌⊎◌, ℕ, ◌+◌, ◌<◌, Bool, true, not, ◌==◌, eqb-true, List, [], ◌∷◌, ◌++◌, map, Some, None, Ok, refl, sym, ap, subst, ◌∙◌, inl, inr, arith}
+use Rattle.std.specs.Prelude.{unwrap_or}
 use Rattle.std.specs.Option.{option_map}
 use Rattle.std.proofs.lemmas.Bool.{ne_eqb}
-use Rattle.mt_skel.specs.declared.fault.Fault.TheVariants.{NoFilesystem, NoNamespace, TooMany}
 use Rattle.mt_skel.specs.Keyed.{without}
-use Rattle.mt_skel.specs.Outcome.{refuse_if}
-use Rattle.mt_skel.specs.Skeleton.{fs_named}
-use Rattle.mt_skel.proofs.OutcomeLaws.{outcome_ok}
 use Rattle.mt_mounts.specs.declared.mount.Mount.{Mount}
 use Rattle.mt_mounts.specs.Forest.{id_of, mount_at, in_space}
 use Rattle.mt_peers.specs.declared.state.State.{State}
 use Rattle.mt_peers.specs.Peers.{Peer, mount_of, state_at}
 use Rattle.mt_peers.specs.Loss.{left}
 use Rattle.mt_peers.proofs.ClosedLaws.{like-IsClosed}
-use Rattle.mt_propagate.specs.World.{WorldView, is_space, private, space_of, group_of}
-use Rattle.mt_propagate.specs.Limits.{too_many_mounts, too_many_spaces}
+use Rattle.mt_propagate.specs.World.{WorldView, private, space_of, group_of}
 use Rattle.mt_propagate.specs.WellFormed.{IsWellFormed}
 use Rattle.mt_propagate.specs.Contained.{IsContained, IsSameOutside}
 use Rattle.mt_propagate.proofs.ContainedLaws.{closed, contained, left-contained, left-state}
@@ -29,6 +24,7 @@ use Rattle.mt_propagate.proofs.WalkLaws.{root_fits}
 use Rattle.mt_bind.specs.Spaces.{with_space, new_space, originals, with_copy, copy_space, without_space}
 use Rattle.mt_bind.specs.Copying.{copy_number}
 use Rattle.mt_bind.specs.Mounting.{mounted, bound, moved}
+use Rattle.mt_bind.proofs.AcceptedLaws.{fs_of, new_space_accepted, copy_space_accepted}
 use Rattle.mt_bind.proofs.SpaceLaws.{new_root}
 use Rattle.mt_bind.proofs.NamespaceCopyLaws.{old-in, copy-in}
 use Rattle.mt_bind.proofs.CopyLaws.{IsStateOfCopy, new_peers, copy-from, copy-group, copy-master, copy-kept}
@@ -153,32 +149,18 @@ less_contained w h m = record {
   chains = λ i j u g ei ej q far. no_member w h m j g ej q;
 }
 
--- an accepted copy
-pub copy_parts : (w : WorldView) (m : ℕ) (less : Bool) (v : WorldView) (i : ℕ) → copy_space w m less ≡ Ok (v, i) → (with_copy w m less ≡ v) × (w.next_space ≡ i)
-copy_parts w m less v i e =
-    let none = refuse_if (not (is_space w m)) NoNamespace in
-    let spaces = refuse_if (too_many_spaces w) TooMany in
-    let mounts = refuse_if (too_many_mounts w (length (originals w m))) TooMany in
-    let ok = outcome_ok (none ∷ spaces ∷ mounts ∷ []) (with_copy w m less, w.next_space) (v, i) e in
-    (ap (λ x. x.0) ok.0, ap (λ x. x.1) ok.0)
-
+-- where the copy was accepted
 pub copied_contained : (k : ℕ) (w : WorldView) (m : ℕ) (less : Bool) (v : WorldView) (i : ℕ) → IsWellFormed w → IsContained k w → k < w.next_space → k ≢ m → copy_space w m less ≡ Ok (v, i) → IsContained k v
-copied_contained k w m less v i h c low other e = subst (IsContained k) (copy_parts w m less v i e).0 (copy_contained w h m less k low other c)
+copied_contained k w m less v i h c low other e = subst (IsContained k) (copy_space_accepted w m less v i e).world (copy_contained w h m less k low other c)
 
 pub less_copied : (w : WorldView) (m : ℕ) (v : WorldView) (n : ℕ) → IsWellFormed w → copy_space w m true ≡ Ok (v, n) → IsContained n v
 less_copied w m v n h e =
-    let p = copy_parts w m true v n e in
-    subst (λ k. IsContained k v) p.1 (subst (IsContained w.next_space) p.0 (less_contained w h m))
+    let a = copy_space_accepted w m true v n e in
+    subst (λ k. IsContained k v) a.number (subst (IsContained w.next_space) a.world (less_contained w h m))
 
 -- an accepted new namespace
 pub made_contained : (k : ℕ) (w : WorldView) (name : List ℕ) (v : WorldView) (i : ℕ) → IsWellFormed w → IsContained k w → new_space w name ≡ Ok (v, i) → IsContained k v
-made_contained k w name v i h c e =
-    let fs = unwrap_or (fs_named w.skel name) 0 in
-    let none = refuse_if (is_none (fs_named w.skel name)) NoFilesystem in
-    let spaces = refuse_if (too_many_spaces w) TooMany in
-    let mounts = refuse_if (too_many_mounts w 1) TooMany in
-    let ok = outcome_ok (none ∷ spaces ∷ mounts ∷ []) (with_space w fs, w.next_space) (v, i) e in
-    subst (IsContained k) (ap (λ x. x.0) ok.0) (space_contained k w fs h c)
+made_contained k w name v i h c e = subst (IsContained k) (new_space_accepted w name v i e).world (space_contained k w (fs_of w name) h c)
 
 -- a namespace that ends
 module _ (w : WorldView) (h : IsWellFormed w) (n : ℕ) where

@@ -1,3 +1,4 @@
+pub mod AcceptedLaws
 pub mod SpaceLaws
 pub mod GoneLaws
 pub mod NamespaceCopyLaws

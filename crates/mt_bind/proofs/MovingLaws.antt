@@ -2,18 +2,18 @@
 use Rattle.std.proofs.Common.{◌≡◌, ℕ, Bool, true, false, cond, not, ◌&&◌, ◌||◌, ◌==◌, eqb-true, eq-eqb, List, [], ◌∷◌, map, length, Option, Some, None, Result, Ok, Err, refl, sym, ap, ◌∙◌}
 use Rattle.std.specs.Prelude.{unwrap_or, is_some}
 use Rattle.std.specs.List.{filter, list_any}
-use Rattle.std.specs.Option.{option_map, option_map_or}
+use Rattle.std.specs.Option.{option_map}
 use Rattle.mt_skel.specs.declared.fault.Fault.{Fault}
 use Rattle.mt_skel.specs.declared.fault.Fault.TheVariants.{NotMountRoot, RootPlace, SharedParent, IntoItself, UnbindableInside, TooMany}
 use Rattle.mt_skel.specs.Keyed.{rises}
-use Rattle.mt_skel.specs.Outcome.{refuse_if, fault_of, outcome}
+use Rattle.mt_skel.specs.Outcome.{refuse_if, outcome}
 use Rattle.mt_skel.proofs.OutcomeLaws.{passed, stopped}
 use Rattle.mt_mounts.specs.declared.mount.Mount.{Mount}
 use Rattle.mt_mounts.specs.declared.mount.Place.{Place}
-use Rattle.mt_mounts.specs.Forest.{id_of, mount_at, parent, is_below, subtree}
+use Rattle.mt_mounts.specs.Forest.{id_of, mount_at, is_below, subtree}
 use Rattle.mt_mounts.specs.Walk.{walk}
 use Rattle.mt_propagate.specs.World.{WorldView, state_of, group_of, root_dir}
-use Rattle.mt_propagate.specs.Named.{unknown, place_or_nowhere, is_root_place, is_root_mount, is_mount_root}
+use Rattle.mt_propagate.specs.Named.{unknown, is_root_place, is_root_mount, is_mount_root}
 use Rattle.mt_propagate.specs.Limits.{too_many_mounts}
 use Rattle.mt_propagate.specs.Copies.{new_copies}
 use Rattle.mt_propagate.specs.Copied.{copied}
@@ -23,91 +23,47 @@ use Rattle.mt_propagate.specs.Plans.{copied_source}
 use Rattle.mt_propagate.proofs.WalkLaws.{walked}
 use Rattle.mt_propagate.proofs.BelowSourceLaws.{below-source}
 use Rattle.mt_bind.specs.Sources.{tree_of}
-use Rattle.mt_bind.specs.Mounting.{moved}
+use Rattle.mt_bind.specs.Mounting.{too_many, stands_on_shared, any_unbindable, moved_refusals, moved_effect, moved}
+use Rattle.mt_bind.proofs.AcceptedLaws.{AreFew}
 use Rattle.mt_bind.proofs.TreeOfLaws.{tree_source}
 use Rattle.mt_bind.proofs.MemberLaws.{filter_ids}
 
 module _ (w : WorldView) (n : ℕ) (from to : List (List ℕ)) where
-  -- the mount that would move stands on a shared one
-  abbrev pub shared_parent : Place → Bool
-  shared_parent s = option_map_or (λ k. is_some (group_of w k)) (parent w.forest s.mount) false
-
-  abbrev pub any_unbindable : Place → Bool
-  any_unbindable s = list_any (λ (m : Mount). (state_of w m.id).unbindable) (tree_of w s.mount).mounts
-
-  abbrev pub is_full : Place → Place → Bool
-  is_full s p = too_many_mounts w (length (new_copies w (tree_of w s.mount) p))
-
-  -- the refusals behind the two walks
-  abbrev behind : Place → Place → List (Option Fault)
-  behind s p =
-      refuse_if (is_root_place w p) RootPlace
-      ∷ refuse_if (shared_parent s) SharedParent
-      ∷ refuse_if (is_below w.forest s.mount p.mount) IntoItself
-      ∷ refuse_if (is_some (group_of w p.mount) && any_unbindable s) UnbindableInside
-      ∷ refuse_if (is_full s p) TooMany ∷ []
-
-  abbrev effect : Place → Place → WorldView
-  effect s p = copied w (tree_of w s.mount) p
-
   -- what a move answers with its paths walked
   abbrev answer : Result Place Fault → Result Place Fault → Result WorldView Fault
-  answer q r =
-      outcome (fault_of q
-      ∷ refuse_if (not (is_mount_root w (place_or_nowhere q))) NotMountRoot
-      ∷ refuse_if (is_root_mount w (place_or_nowhere q)) RootPlace
-      ∷ fault_of r ∷ behind (place_or_nowhere q) (place_or_nowhere r))
-      (effect (place_or_nowhere q) (place_or_nowhere r))
+  answer q r = outcome (moved_refusals w q r) (moved_effect w q r)
 
-  module _ (s : Place) (began : walk w.skel w.forest n from ≡ Ok s) where
-    pub begun : moved w n from to ≡ answer (Ok s) (walk w.skel w.forest n to)
-    begun = ap (λ q. answer q (walk w.skel w.forest n to)) began
+  module _ (s : Place) (began : walk w.skel w.forest n from ≡ Ok s) (named : is_mount_root w s ≡ true) (placed : is_root_mount w s ≡ false) (p : Place) (ended : walk w.skel w.forest n to ≡ Ok p) (off : is_root_place w p ≡ false) (alone : stands_on_shared w s.mount ≡ false) where
+    past_shared : moved w n from to ≡ outcome (refuse_if (is_below w.forest s.mount p.mount) IntoItself
+        ∷ refuse_if (is_some (group_of w p.mount) && any_unbindable w s.mount) UnbindableInside
+        ∷ too_many w (tree_of w s.mount) p ∷ []) (copied w (tree_of w s.mount) p)
+    past_shared =
+        ap (λ q. answer q (walk w.skel w.forest n to)) began
+        ∙ ap (answer (Ok s)) ended
+        ∙ passed (not (is_mount_root w s)) NotMountRoot _ _ (ap not named)
+        ∙ passed (is_root_mount w s) RootPlace _ _ placed
+        ∙ passed (is_root_place w p) RootPlace _ _ off
+        ∙ passed (stands_on_shared w s.mount) SharedParent _ _ alone
 
-    pub not_named : is_mount_root w s ≡ false → moved w n from to ≡ Err NotMountRoot
-    not_named off = begun ∙ stopped (not (is_mount_root w s)) NotMountRoot _ _ (ap not off)
+    pub into_itself : is_below w.forest s.mount p.mount ≡ true → moved w n from to ≡ Err IntoItself
+    into_itself at = past_shared ∙ stopped (is_below w.forest s.mount p.mount) IntoItself _ _ at
 
-    module _ (named : is_mount_root w s ≡ true) where
-      pub is_root : is_root_mount w s ≡ true → moved w n from to ≡ Err RootPlace
-      is_root at = begun ∙ passed (not (is_mount_root w s)) NotMountRoot _ _ (ap not named) ∙ stopped (is_root_mount w s) RootPlace _ _ at
+    module _ (outside : is_below w.forest s.mount p.mount ≡ false) where
+      past_itself : moved w n from to ≡ outcome (refuse_if (is_some (group_of w p.mount) && any_unbindable w s.mount) UnbindableInside ∷ too_many w (tree_of w s.mount) p ∷ []) (copied w (tree_of w s.mount) p)
+      past_itself = past_shared ∙ passed (is_below w.forest s.mount p.mount) IntoItself _ _ outside
 
-      module _ (placed : is_root_mount w s ≡ false) where
-        rooted : (r : Result Place Fault) → walk w.skel w.forest n to ≡ r → moved w n from to ≡ outcome (fault_of r ∷ behind s (place_or_nowhere r)) (effect s (place_or_nowhere r))
-        rooted r e = begun ∙ ap (answer (Ok s)) e ∙ passed (not (is_mount_root w s)) NotMountRoot _ _ (ap not named) ∙ passed (is_root_mount w s) RootPlace _ _ placed
+      pub unbindable_inside : is_some (group_of w p.mount) && any_unbindable w s.mount ≡ true → moved w n from to ≡ Err UnbindableInside
+      unbindable_inside at = past_itself ∙ stopped (is_some (group_of w p.mount) && any_unbindable w s.mount) UnbindableInside _ _ at
 
-        pub no_end : (f : Fault) → walk w.skel w.forest n to ≡ Err f → moved w n from to ≡ Err f
-        no_end f e = rooted (Err f) e
+      module _ (bindable : is_some (group_of w p.mount) && any_unbindable w s.mount ≡ false) where
+        late : moved w n from to ≡ outcome (too_many w (tree_of w s.mount) p ∷ []) (copied w (tree_of w s.mount) p)
+        late = past_itself ∙ passed (is_some (group_of w p.mount) && any_unbindable w s.mount) UnbindableInside _ _ bindable
 
-        module _ (p : Place) (ended : walk w.skel w.forest n to ≡ Ok p) where
-          pub to_root : is_root_place w p ≡ true → moved w n from to ≡ Err RootPlace
-          to_root at = rooted (Ok p) ended ∙ stopped (is_root_place w p) RootPlace _ _ at
+        pub moved_full : too_many_mounts w (length (new_copies w (tree_of w s.mount) p)) ≡ true → moved w n from to ≡ Err TooMany
+        moved_full many = late ∙ stopped (too_many_mounts w (length (new_copies w (tree_of w s.mount) p))) TooMany _ _ many
 
-          module _ (off : is_root_place w p ≡ false) where
-            past_root : moved w n from to ≡ outcome (refuse_if (shared_parent s) SharedParent
-                ∷ refuse_if (is_below w.forest s.mount p.mount) IntoItself
-                ∷ refuse_if (is_some (group_of w p.mount) && any_unbindable s) UnbindableInside
-                ∷ refuse_if (is_full s p) TooMany ∷ []) (effect s p)
-            past_root = rooted (Ok p) ended ∙ passed (is_root_place w p) RootPlace _ _ off
-
-            pub from_shared : shared_parent s ≡ true → moved w n from to ≡ Err SharedParent
-            from_shared at = past_root ∙ stopped (shared_parent s) SharedParent _ _ at
-
-            module _ (alone : shared_parent s ≡ false) where
-              pub into_itself : is_below w.forest s.mount p.mount ≡ true → moved w n from to ≡ Err IntoItself
-              into_itself at = past_root ∙ passed (shared_parent s) SharedParent _ _ alone ∙ stopped (is_below w.forest s.mount p.mount) IntoItself _ _ at
-
-              module _ (outside : is_below w.forest s.mount p.mount ≡ false) where
-                past_itself : moved w n from to ≡ outcome (refuse_if (is_some (group_of w p.mount) && any_unbindable s) UnbindableInside ∷ refuse_if (is_full s p) TooMany ∷ []) (effect s p)
-                past_itself = past_root ∙ passed (shared_parent s) SharedParent _ _ alone ∙ passed (is_below w.forest s.mount p.mount) IntoItself _ _ outside
-
-                pub unbindable_inside : is_some (group_of w p.mount) && any_unbindable s ≡ true → moved w n from to ≡ Err UnbindableInside
-                unbindable_inside at = past_itself ∙ stopped (is_some (group_of w p.mount) && any_unbindable s) UnbindableInside _ _ at
-
-                module _ (bindable : is_some (group_of w p.mount) && any_unbindable s ≡ false) where
-                  pub moved_full : is_full s p ≡ true → moved w n from to ≡ Err TooMany
-                  moved_full many = past_itself ∙ passed (is_some (group_of w p.mount) && any_unbindable s) UnbindableInside _ _ bindable ∙ stopped (is_full s p) TooMany _ _ many
-
-                  pub moved_done : is_full s p ≡ false → moved w n from to ≡ Ok (copied w (tree_of w s.mount) p)
-                  moved_done few = past_itself ∙ passed (is_some (group_of w p.mount) && any_unbindable s) UnbindableInside _ _ bindable ∙ passed (is_full s p) TooMany [] _ few
+        pub moved_done : AreFew w (tree_of w s.mount) p → moved w n from to ≡ Ok (copied w (tree_of w s.mount) p)
+        moved_done few = late ∙ passed (too_many_mounts w (length (new_copies w (tree_of w s.mount) p))) TooMany [] _ few
 
 -- a test of IDs is one of their mounts
 any_ids : (t : ℕ → Bool) (ms : List Mount) → list_any t (map id_of ms) ≡ list_any (λ (m : Mount). t m.id) ms

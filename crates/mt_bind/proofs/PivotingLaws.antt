@@ -1,25 +1,24 @@
 -- What a pivot that is accepted exchanges, and that it keeps worlds well-formed and namespaces contained.
-use Rattle.std.proofs.Common.{◌≡◌, ℕ, Bool, true, false, not, ◌||◌, List, [], ◌∷◌, Option, Some, None, Ok, Err, refl, sym, ap, ◌∙◌, subst}
-use Rattle.std.specs.Prelude.{unwrap_or, is_some, is_none}
+use Rattle.std.proofs.Common.{◌≡◌, ℕ, true, false, List, Option, Some, None, Ok, Err, refl, sym, ap, ◌∙◌, subst}
+use Rattle.std.specs.Prelude.{unwrap_or, is_none}
 use Rattle.std.specs.Option.{option_map, option_map_or, ok_or}
 use Rattle.std.proofs.lemmas.Bool.{true≢false}
-use Rattle.mt_skel.specs.declared.fault.Fault.TheVariants.{NoNamespace, NoEntry, NotMountRoot, RootPlace, SharedParent, IntoItself}
-use Rattle.mt_skel.specs.Outcome.{refuse_if}
-use Rattle.mt_skel.proofs.OutcomeLaws.{outcome_ok, first_none, not_refused}
+use Rattle.mt_skel.specs.declared.fault.Fault.TheVariants.{NoNamespace, NoEntry}
+use Rattle.mt_skel.specs.Outcome.{fault_of}
 use Rattle.mt_mounts.specs.declared.mount.Mount.{Mount}
 use Rattle.mt_mounts.specs.declared.mount.Place.{Place}
-use Rattle.mt_mounts.specs.Forest.{id_of, mount_at, parent, is_below, is_root, root_mount, root_place}
+use Rattle.mt_mounts.specs.Forest.{id_of, mount_at, is_below, is_root, root_mount, root_place}
 use Rattle.mt_mounts.specs.Walk.{walk, walk_from}
 use Rattle.mt_mounts.proofs.ForestLaws.{find_row, find_passes}
-use Rattle.mt_propagate.specs.World.{WorldView, group_of, space_of}
-use Rattle.mt_propagate.specs.Named.{unknown, is_root_place, is_root_mount, is_mount_root}
+use Rattle.mt_propagate.specs.World.{WorldView, space_of}
+use Rattle.mt_propagate.specs.Named.{unknown, is_root_place, is_root_mount}
 use Rattle.mt_propagate.specs.WellFormed.{IsWellFormed}
 use Rattle.mt_propagate.specs.Contained.{IsContained, IsSameOutside}
 use Rattle.mt_propagate.proofs.ContainedLaws.{ended-inside}
 use Rattle.mt_propagate.proofs.WalkLaws.{walked, root_here}
 use Rattle.mt_bind.specs.Pivoting.{root_id, pivoted, with_pivot, MayPivot}
-use Rattle.mt_bind.specs.Mounting.{path_end, no_end}
-use Rattle.mt_bind.proofs.MountLaws.{has_ended, destination}
+use Rattle.mt_bind.proofs.AcceptedLaws.{path_end, pivot_accepted}
+use Rattle.mt_bind.proofs.MountLaws.{destination}
 use Rattle.mt_bind.proofs.PivotLaws.{pivot_kept, pivot_contained, pivot_outside}
 
 -- a walk begins at the root mount of its namespace
@@ -64,45 +63,14 @@ pub record IsPivot (n : ℕ) (w v : WorldView) : Type 0 where
 
 pub pivots : (w : WorldView) (n : ℕ) (new old : List (List ℕ)) (v : WorldView) → IsWellFormed w → pivoted w n new old ≡ Ok v → IsPivot n w v
 pivots w n new old v h e =
+    let a = pivot_accepted w n new old v e in
     let s = path_end w n new in
     let p = path_end w n old in
-    let lost_new = no_end w n new in
-    let named = refuse_if (not (is_mount_root w s)) NotMountRoot in
-    let root = refuse_if (is_root_mount w s) RootPlace in
-    let lost_old = no_end w n old in
-    let root_old = refuse_if (is_root_place w p) RootPlace in
-    let shared = refuse_if (option_map_or (λ k. is_some (group_of w k)) (parent w.forest s.mount) false || is_some (group_of w p.mount)) SharedParent in
-    let itself = refuse_if (not (is_below w.forest s.mount p.mount)) IntoItself in
-    let ok = outcome_ok (lost_new ∷ named ∷ root ∷ lost_old ∷ root_old ∷ shared ∷ itself ∷ []) (with_pivot w s.mount (root_id w n) p) v e in
-    let one = first_none lost_new (named ∷ root ∷ lost_old ∷ root_old ∷ shared ∷ itself ∷ []) ok.1 in
-    let two = first_none named (root ∷ lost_old ∷ root_old ∷ shared ∷ itself ∷ []) one.1 in
-    let three = first_none root (lost_old ∷ root_old ∷ shared ∷ itself ∷ []) two.1 in
-    let four = first_none lost_old (root_old ∷ shared ∷ itself ∷ []) three.1 in
-    let five = first_none root_old (shared ∷ itself ∷ []) four.1 in
-    let six = first_none shared (itself ∷ []) five.1 in
-    let seven = first_none itself [] six.1 in
-    let began = has_ended (walk w.skel w.forest n new) one.0 in
-    let may = may_pivot w n new old s p h began (not_refused (is_root_mount w s) RootPlace three.0)
-    (has_ended (walk w.skel w.forest n old) four.0) (not_refused (is_root_place w p) RootPlace five.0)
-    (not_not (is_below w.forest s.mount p.mount) (not_refused (not (is_below w.forest s.mount p.mount)) IntoItself seven.0)) in
-    record { new = s.mount; old = root_id w n; dest = p; made = ok.0; may = may; here = ended-inside w h n new one.0 }
-  where
-    not_not : (b : Bool) → not b ≡ false → b ≡ true
-    not_not true e = refl
-    not_not false e = absurd (cc)
+    record { new = s.mount; old = root_id w n; dest = p; made = a.world; may = may_pivot w n new old s p h a.begun a.placed a.ended a.off_root a.inside; here = ended-inside w h n new (ap fault_of a.begun) }
 
 -- what it makes of the world
 pub pivot_made : (w v : WorldView) (n : ℕ) (new old : List (List ℕ)) → pivoted w n new old ≡ Ok v → (i : ℕ) × (j : ℕ) × (p : Place) × (v ≡ with_pivot w i j p)
-pivot_made w v n new old e =
-    let s = path_end w n new in
-    let p = path_end w n old in
-    let named = refuse_if (not (is_mount_root w s)) NotMountRoot in
-    let root = refuse_if (is_root_mount w s) RootPlace in
-    let root_old = refuse_if (is_root_place w p) RootPlace in
-    let shared = refuse_if (option_map_or (λ k. is_some (group_of w k)) (parent w.forest s.mount) false || is_some (group_of w p.mount)) SharedParent in
-    let itself = refuse_if (not (is_below w.forest s.mount p.mount)) IntoItself in
-    let ok = outcome_ok (no_end w n new ∷ named ∷ root ∷ no_end w n old ∷ root_old ∷ shared ∷ itself ∷ []) (with_pivot w s.mount (root_id w n) p) v e in
-    (s.mount, root_id w n, p, sym ok.0)
+pivot_made w v n new old e = ((path_end w n new).mount, root_id w n, path_end w n old, sym (pivot_accepted w n new old v e).world)
 
 pub pivoted_keeps : (w : WorldView) (n : ℕ) (new old : List (List ℕ)) (v : WorldView) → IsWellFormed w → pivoted w n new old ≡ Ok v → IsWellFormed v
 pivoted_keeps w n new old v h e =

@@ -1,9 +1,8 @@
 -- What a new namespace leads to, and that a well-formed world stays so.
-use Rattle.std.proofs.Common.{◌≡◌, ℕ, ◌+◌, ◌<◌, true, false, ◌||◌, List, [], ◌∷◌, length, Some, None, Ok, refl, ap, ◌∙◌, arith}
+use Rattle.std.proofs.Common.{◌≡◌, ℕ, ◌+◌, ◌<◌, true, false, ◌||◌, List, length, Some, None, Ok, refl, ap, ◌∙◌, arith}
 use Rattle.std.specs.Prelude.{Bool}
-use Rattle.std.specs.Option.{is_none, unwrap_or}
-use Rattle.mt_skel.specs.declared.fault.Fault.TheVariants.{NoFilesystem, TooMany}
-use Rattle.mt_skel.specs.Outcome.{refuse_if, outcome}
+use Rattle.mt_skel.specs.declared.fault.Fault.TheVariants.{TooMany}
+use Rattle.mt_skel.specs.Outcome.{outcome}
 use Rattle.mt_skel.proofs.OutcomeLaws.{passed}
 use Rattle.mt_skel.specs.Skeleton.{root_of, fs_named}
 use Rattle.mt_mounts.specs.declared.mount.Mount.{Mount}
@@ -13,7 +12,7 @@ use Rattle.mt_propagate.specs.World.{WorldView}
 use Rattle.mt_propagate.specs.WellFormed.{IsWellFormed}
 use Rattle.mt_propagate.proofs.WalkLaws.{root_fits}
 use Rattle.mt_propagate.proofs.PrivateLaws.{private-kept, with_private}
-use Rattle.mt_bind.specs.Spaces.{with_space, new_space}
+use Rattle.mt_bind.specs.Spaces.{with_space, new_space_refusals, new_space_effect, new_space}
 
 -- the root mount of a new namespace
 abbrev pub new_root : WorldView → ℕ → Mount
@@ -34,7 +33,7 @@ pub new_space_done : (w : WorldView) (name : List ℕ) (f : ℕ) → fs_named w.
     → new_space w name ≡ Ok (with_space w f, w.next_space)
 new_space_done w name f e few =
     let both = neither (too_many_spaces w) (too_many_mounts w 1) few in
-    ap (λ o. outcome (refuse_if (is_none o) NoFilesystem ∷ refuse_if (too_many_spaces w) TooMany ∷ refuse_if (too_many_mounts w 1) TooMany ∷ []) (with_space w (unwrap_or o 0), w.next_space)) e
+    ap (λ o. outcome (new_space_refusals w o) (new_space_effect w o)) e
     ∙ passed (too_many_spaces w) TooMany _ _ both.0 ∙ passed (too_many_mounts w 1) TooMany _ _ both.1
 
 -- a world with the new root mount is the one with the namespace

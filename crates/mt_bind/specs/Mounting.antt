@@ -1,6 +1,7 @@
--- mount, bind, rbind and move: the world after the call, or the first refusal whose condition holds.
+-- mount, bind, rbind and move: the world after the call, or the first refusal whose condition holds. The refusals and the effect of
+-- a command are said of what its paths were found to lead to: a place, or the refusal of the walk.
 -- A word with no source is this project's rule.
-use Rattle.std.specs.Prelude.{ℕ, Bool, false, cond, not, ◌&&◌, List, [], ◌∷◌, length, Option, is_some, is_none, Result}
+use Rattle.std.specs.Prelude.{ℕ, Bool, false, not, ◌&&◌, List, [], ◌∷◌, length, Option, is_some, is_none, Result}
 use Rattle.std.specs.List.{list_any}
 use Rattle.std.specs.Option.{unwrap_or, option_map_or}
 use Rattle.mt_skel.specs.declared.fault.Fault.{Fault}
@@ -16,60 +17,89 @@ use Rattle.mt_propagate.specs.Named.{place_or_nowhere, is_root_place, is_root_mo
 use Rattle.mt_propagate.specs.Limits.{too_many_mounts}
 use Rattle.mt_propagate.specs.Copies.{Source, new_copies, copy_id}
 use Rattle.mt_propagate.specs.Copied.{copied}
-use Rattle.mt_bind.specs.Sources.{fresh, alone, tree_within, tree_of}
+use Rattle.mt_bind.specs.Sources.{fresh, source_at, tree_of}
 
-module _ (w : WorldView) (n : ℕ) where
-  -- the place where a path ends in the namespace n
-  abbrev pub path_end : List (List ℕ) → Place
-  path_end path = place_or_nowhere (walk w.skel w.forest n path)
-
-  -- the refusal of a path that ends nowhere
-  abbrev pub no_end : List (List ℕ) → Option Fault
-  no_end path = fault_of (walk w.skel w.forest n path)
-
+module _ (w : WorldView) where
   -- the copies are too many
   abbrev pub too_many : Source → Place → Option Fault
   too_many src p = refuse_if (too_many_mounts w (length (new_copies w src p))) TooMany
 
+  -- the world once a source tree is at a place, and the ID of its top there
+  abbrev pub copied_with_id : Source → Place → WorldView × ℕ
+  copied_with_id src p = (copied w src p, copy_id w src p p.mount src.top.id)
+
+  -- the mount on which a mount stands is in a peer group
+  abbrev pub stands_on_shared : ℕ → Bool
+  stands_on_shared i = option_map_or (λ k. is_some (group_of w k)) (parent w.forest i) false
+
+  -- a mount, or one below it, is unbindable
+  abbrev pub any_unbindable : ℕ → Bool
+  any_unbindable i = list_any (λ (m : Mount). (state_of w m.id).unbindable) (tree_of w i).mounts
+
+  -- the refusals of a mount, of the filesystem that was found
+  abbrev pub mounted_refusals : Option ℕ → Result Place Fault → List (Option Fault)
+  mounted_refusals fs to =
+      let p = place_or_nowhere to in
+      refuse_if (is_none fs) NoFilesystem
+      ∷ fault_of to
+      ∷ refuse_if (is_root_place w p) RootPlace
+      ∷ too_many (fresh w (unwrap_or fs 0)) p ∷ []
+
+  abbrev pub mounted_effect : Option ℕ → Result Place Fault → WorldView × ℕ
+  mounted_effect fs to = copied_with_id (fresh w (unwrap_or fs 0)) (place_or_nowhere to)
+
   -- a new mount of a filesystem where a path ends, and its ID (`sharedsubtree`, mount semantics; that a root place is no
   -- destination is this project's rule)
-  abbrev pub mounted : List ℕ → List (List ℕ) → Result (WorldView × ℕ) Fault
-  mounted name path =
-      let p = path_end path in
-      let src = fresh w (unwrap_or (fs_named w.skel name) 0) in
-      outcome (refuse_if (is_none (fs_named w.skel name)) NoFilesystem
-      ∷ no_end path
-      ∷ refuse_if (is_root_place w p) RootPlace
-      ∷ too_many src p ∷ [])
-      (copied w src p, copy_id w src p p.mount 0)
+  abbrev pub mounted : ℕ → List ℕ → List (List ℕ) → Result (WorldView × ℕ) Fault
+  mounted n name path =
+      let fs = fs_named w.skel name in
+      let place = walk w.skel w.forest n path in
+      outcome (mounted_refusals fs place) (mounted_effect fs place)
 
-  -- a copy of a mount, or with `deep` of the tree below a directory, where a path ends, and its ID (`sharedsubtree`, bind and
+  -- the refusals of a bind
+  abbrev pub bound_refusals : Bool → Result Place Fault → Result Place Fault → List (Option Fault)
+  bound_refusals recursive from to =
+      let s = place_or_nowhere from in
+      let p = place_or_nowhere to in
+      fault_of from
+      ∷ fault_of to
+      ∷ refuse_if (is_root_place w p) RootPlace
+      ∷ refuse_if (state_of w s.mount).unbindable Unbindable
+      ∷ too_many (source_at w recursive s) p ∷ []
+
+  abbrev pub bound_effect : Bool → Result Place Fault → Result Place Fault → WorldView × ℕ
+  bound_effect recursive from to = copied_with_id (source_at w recursive (place_or_nowhere from)) (place_or_nowhere to)
+
+  -- a copy of a mount, or with `recursive` of the tree below a directory, where a path ends, and its ID (`sharedsubtree`, bind and
   -- rbind semantics)
-  abbrev pub bound : Bool → List (List ℕ) → List (List ℕ) → Result (WorldView × ℕ) Fault
-  bound recursive from to =
-      let p = path_end to in
-      let src = cond recursive (tree_within w (path_end from)) (alone w (path_end from)) in
-      outcome (no_end from
-      ∷ no_end to
-      ∷ refuse_if (is_root_place w p) RootPlace
-      ∷ refuse_if (state_of w (path_end from).mount).unbindable Unbindable
-      ∷ too_many src p ∷ [])
-      (copied w src p, copy_id w src p p.mount src.top.id)
+  abbrev pub bound : ℕ → Bool → List (List ℕ) → List (List ℕ) → Result (WorldView × ℕ) Fault
+  bound n recursive from to =
+      let source = walk w.skel w.forest n from in
+      let place = walk w.skel w.forest n to in
+      outcome (bound_refusals recursive source place) (bound_effect recursive source place)
 
-  -- a mount and all below it go to another place; not from a shared parent, not into itself, and not with an unbindable mount
-  -- below a shared one (`sharedsubtree`, move semantics)
-  abbrev pub moved : List (List ℕ) → List (List ℕ) → Result WorldView Fault
-  moved from to =
-      let p = path_end to in
-      let i = (path_end from).mount in
-      let src = tree_of w i in
-      outcome (no_end from
-      ∷ refuse_if (not (is_mount_root w (path_end from))) NotMountRoot
-      ∷ refuse_if (is_root_mount w (path_end from)) RootPlace
-      ∷ no_end to
+  -- the refusals of a move: not from a shared parent, not into itself, and not with an unbindable mount below a shared one
+  -- (`sharedsubtree`, move semantics)
+  abbrev pub moved_refusals : Result Place Fault → Result Place Fault → List (Option Fault)
+  moved_refusals from to =
+      let s = place_or_nowhere from in
+      let p = place_or_nowhere to in
+      fault_of from
+      ∷ refuse_if (not (is_mount_root w s)) NotMountRoot
+      ∷ refuse_if (is_root_mount w s) RootPlace
+      ∷ fault_of to
       ∷ refuse_if (is_root_place w p) RootPlace
-      ∷ refuse_if (option_map_or (λ k. is_some (group_of w k)) (parent w.forest i) false) SharedParent
-      ∷ refuse_if (is_below w.forest i p.mount) IntoItself
-      ∷ refuse_if (is_some (group_of w p.mount) && list_any (λ (m : Mount). (state_of w m.id).unbindable) src.mounts) UnbindableInside
-      ∷ too_many src p ∷ [])
-      (copied w src p)
+      ∷ refuse_if (stands_on_shared s.mount) SharedParent
+      ∷ refuse_if (is_below w.forest s.mount p.mount) IntoItself
+      ∷ refuse_if (is_some (group_of w p.mount) && any_unbindable s.mount) UnbindableInside
+      ∷ too_many (tree_of w s.mount) p ∷ []
+
+  abbrev pub moved_effect : Result Place Fault → Result Place Fault → WorldView
+  moved_effect from to = copied w (tree_of w (place_or_nowhere from).mount) (place_or_nowhere to)
+
+  -- a mount and all below it go to another place (`sharedsubtree`, move semantics)
+  abbrev pub moved : ℕ → List (List ℕ) → List (List ℕ) → Result WorldView Fault
+  moved n from to =
+      let source = walk w.skel w.forest n from in
+      let place = walk w.skel w.forest n to in
+      outcome (moved_refusals source place) (moved_effect source place)

@@ -55,6 +55,10 @@ tree_within w p = record {
   moved = false;
 }
 
+-- what a bind of a place copies: with `recursive` the tree of mounts below the directory, else the mount alone
+abbrev pub source_at : WorldView → Bool → Place → Source
+source_at w recursive p = cond recursive (tree_within w p) (alone w p)
+
 -- move: the named mount and all below it (`sharedsubtree`, move semantics)
 abbrev pub tree_of : WorldView → ℕ → Source
 tree_of w i = record { mounts = filter (λ m. is_below w.forest i m.id) w.forest; top = mount_or_unknown w i; moved = true }

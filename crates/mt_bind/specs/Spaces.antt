@@ -1,6 +1,6 @@
 -- New namespaces: with one private mount, and as a copy of another; and the end of a namespace.
 -- A word with no source is this project's rule.
-use Rattle.std.specs.Prelude.{ℕ, ◌+◌, Bool, not, ◌==◌, List, [], ◌∷◌, ◌++◌, map, length, None, is_none, Result}
+use Rattle.std.specs.Prelude.{ℕ, ◌+◌, Bool, not, ◌==◌, List, [], ◌∷◌, ◌++◌, map, length, Option, None, is_none, Result}
 use Rattle.std.specs.Option.{unwrap_or}
 use Rattle.mt_skel.specs.declared.fault.Fault.{Fault}
 use Rattle.mt_skel.specs.declared.fault.Fault.TheVariants.{NoFilesystem, NoNamespace, TooMany}
@@ -24,13 +24,19 @@ with_space w fs = record w {
   next_space = w.next_space + 1;
 }
 
+-- the refusals of a new namespace, of the filesystem that was found
+abbrev pub new_space_refusals : WorldView → Option ℕ → List (Option Fault)
+new_space_refusals w fs =
+    refuse_if (is_none fs) NoFilesystem
+    ∷ refuse_if (too_many_spaces w) TooMany
+    ∷ refuse_if (too_many_mounts w 1) TooMany ∷ []
+
+abbrev pub new_space_effect : WorldView → Option ℕ → WorldView × ℕ
+new_space_effect w fs = (with_space w (unwrap_or fs 0), w.next_space)
+
 -- a new namespace of a filesystem, and its number
 abbrev pub new_space : WorldView → List ℕ → Result (WorldView × ℕ) Fault
-new_space w name =
-    outcome (refuse_if (is_none (fs_named w.skel name)) NoFilesystem
-    ∷ refuse_if (too_many_spaces w) TooMany
-    ∷ refuse_if (too_many_mounts w 1) TooMany ∷ [])
-    (with_space w (unwrap_or (fs_named w.skel name) 0), w.next_space)
+new_space w name = outcome (new_space_refusals w (fs_named w.skel name)) (new_space_effect w (fs_named w.skel name))
 
 module _ (w : WorldView) (n : ℕ) where
   -- the mounts of a namespace, by rising ID (mount_namespaces(7))
@@ -46,13 +52,19 @@ module _ (w : WorldView) (n : ℕ) where
     next_space = w.next_space + 1;
   }
 
+  -- the refusals of a copy of a namespace
+  abbrev pub copy_space_refusals : List (Option Fault)
+  copy_space_refusals =
+      refuse_if (not (is_space w n)) NoNamespace
+      ∷ refuse_if (too_many_spaces w) TooMany
+      ∷ refuse_if (too_many_mounts w (length originals)) TooMany ∷ []
+
+  abbrev pub copy_space_effect : Bool → WorldView × ℕ
+  copy_space_effect less = (with_copy less, w.next_space)
+
   -- a copy of a namespace, and its number (mount_namespaces(7); the limits: this project's rule)
   abbrev pub copy_space : Bool → Result (WorldView × ℕ) Fault
-  copy_space less =
-      outcome (refuse_if (not (is_space w n)) NoNamespace
-      ∷ refuse_if (too_many_spaces w) TooMany
-      ∷ refuse_if (too_many_mounts w (length originals)) TooMany ∷ [])
-      (with_copy less, w.next_space)
+  copy_space less = outcome copy_space_refusals (copy_space_effect less)
 
 -- all mounts of a namespace vanish with it, and nothing propagates (namespaces(7): a namespace goes with its last
 -- process; that masters are settled as after a loss is this project's rule)
@@ -62,6 +74,10 @@ without_space w n = record w {
   peering = left (λ i. space_of w i == n) w.peering;
 }
 
+-- the refusals of the end of a namespace
+abbrev pub drop_space_refusals : WorldView → ℕ → List (Option Fault)
+drop_space_refusals w n = refuse_if (not (is_space w n)) NoNamespace ∷ []
+
 -- the end of a namespace that is there; its number is not given again (namespaces(7); the number: this project's rule)
 abbrev pub drop_space : WorldView → ℕ → Result WorldView Fault
-drop_space w n = outcome (refuse_if (not (is_space w n)) NoNamespace ∷ []) (without_space w n)
+drop_space w n = outcome (drop_space_refusals w n) (without_space w n)

@@ -1,4 +1,4 @@
-use Rattle.std.proofs.Common.{◌≡◌, ℕ, ◌+◌, ◌≤◌, true, cond, length, Ok, Err, sym, ap, ◌∙◌, subst, arith}
+use Rattle.std.proofs.Common.{◌≡◌, ℕ, ◌+◌, ◌≤◌, true, length, Ok, Err, sym, ap, ◌∙◌, subst, arith}
 use Rattle.std.specs.Prelude.{nat_lt}
 use Rattle.std.proofs.lemmas.Bool.Decides.{nat_tests}
 use Rattle.std.proofs.lemmas.Result.{err_from_is_err_and}
@@ -9,10 +9,11 @@ use Rattle.mt_propagate.specs.Limits.{mount_limit, too_many_mounts}
 use Rattle.mt_propagate.specs.Copies.{Source, new_copies}
 use Rattle.mt_propagate.specs.Sound.{IsSource, IsDestination}
 use Rattle.mt_propagate.specs.Plans.{source_in, place_in}
-use Rattle.mt_bind.specs.Sources.{alone, tree_within}
+use Rattle.mt_bind.specs.Sources.{source_at}
+use Rattle.mt_bind.specs.Mounting.{copied_with_id}
 use Rattle.mt_bind.proofs.MountLaws.{bound_source, destination}
 use Rattle.mt_bind.proofs.MemberLaws.{stays, full}
-use Rattle.mt_bind.proofs.BoundLaws.{effect, bound_done, bound_full}
+use Rattle.mt_bind.proofs.BoundLaws.{bound_done, bound_full}
 use Rattle.mt_bind.proofs.binding.bind_from.Goals as goal
 
 -- where one more is too many, there are as many as there can be
@@ -27,7 +28,7 @@ returns-then-too_many_mounts-clause-refused c _ =
     let s = c.in_ok-source.source in
     let p = c.in_ok-place.place in
     let began = sym c.walk.ensures ∙ c.in_ok-source.was in
-    let src = cond recursive (tree_within w s) (alone w s) in
+    let src = source_at w recursive s in
     let tree = bound_source w n c.args.from.now recursive s p c.requires.well_formed began in
     bound_full w n recursive c.args.from.now c.args.to.now s began p (sym c.walk-2.ensures ∙ c.in_ok-place.was)
     (sym c.is_root_place.ensures ∙ c.if-is_root_place.false)
@@ -54,7 +55,7 @@ carry_out-requires-clause-source c =
     let w = world_view c.args.world.now in
     let s = c.in_ok-source.source in
     let p = place_in c.in_ok-plan.plan in
-    let source : source_in c.in_ok-plan.plan ≡ cond c.args.recursive (tree_within w s) (alone w s) = c.in_ok-plan.ensures.given.0 ∙ c.in_ok-sources.ensures.sources in
+    let source : source_in c.in_ok-plan.plan ≡ source_at w c.args.recursive s = c.in_ok-plan.ensures.given.0 ∙ c.in_ok-sources.ensures.sources in
     let tree = bound_source w c.args.space c.args.from.now c.args.recursive s p c.requires.well_formed (sym c.walk.ensures ∙ c.in_ok-source.was) in
     subst (λ (v : WorldView). IsSource v (source_in c.in_ok-plan.plan) p) (sym c.in_ok-ready.ensures.world) (subst (λ (src : Source). IsSource w src p) (sym source) tree)
 
@@ -75,12 +76,12 @@ returns-clause-done c =
     let s = c.in_ok-source.source in
     let p = c.in_ok-place.place in
     let plan = c.in_ok-plan.plan in
-    let src = cond recursive (tree_within w s) (alone w s) in
+    let src = source_at w recursive s in
     let source : source_in plan ≡ src = c.in_ok-plan.ensures.given.0 ∙ c.in_ok-sources.ensures.sources in
-    let same : effect (world_view c.ready.new.world) (source_in plan) (place_in plan) ≡ effect w src p =
-    ap (λ (v : WorldView). effect v (source_in plan) (place_in plan)) c.in_ok-ready.ensures.world
-    ∙ ap (λ (t : Source). effect w t (place_in plan)) source
-    ∙ ap (λ (q : Place). effect w src q) c.in_ok-plan.ensures.given.1 in
+    let same : copied_with_id (world_view c.ready.new.world) (source_in plan) (place_in plan) ≡ copied_with_id w src p =
+    ap (λ (v : WorldView). copied_with_id v (source_in plan) (place_in plan)) c.in_ok-ready.ensures.world
+    ∙ ap (λ (t : Source). copied_with_id w t (place_in plan)) source
+    ∙ ap (λ (q : Place). copied_with_id w src q) c.in_ok-plan.ensures.given.1 in
     let few = ap (λ (t : Source). too_many_mounts w (length (new_copies w t p))) (sym c.in_ok-sources.ensures.sources) ∙ c.in_ok-plan.ensures.few in
     bound_done w n recursive from to s (sym c.walk.ensures ∙ c.in_ok-source.was) p (sym c.walk-2.ensures ∙ c.in_ok-place.was)
     (sym c.is_root_place.ensures ∙ c.if-is_root_place.false)

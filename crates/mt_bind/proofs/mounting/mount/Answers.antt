@@ -5,20 +5,16 @@ use Rattle.mt_skel.proofs.SkeletonLaws.{directory_within}
 use Rattle.mt_mounts.specs.declared.mount.Place.{Place}
 use Rattle.mt_propagate.specs.World.{WorldView, world_view}
 use Rattle.mt_propagate.specs.Limits.{too_many_mounts}
-use Rattle.mt_propagate.specs.Copies.{Source, new_copies, copy_id}
-use Rattle.mt_propagate.specs.Copied.{copied}
+use Rattle.mt_propagate.specs.Copies.{Source, new_copies}
 use Rattle.mt_propagate.specs.Sound.{IsSource, IsDestination}
 use Rattle.mt_propagate.specs.Plans.{source_of, source_in, place_in}
 use Rattle.mt_propagate.specs.declared.copies.Sources.TheVariants.{Fresh}
 use Rattle.mt_bind.specs.Sources.{fresh}
+use Rattle.mt_bind.specs.Mounting.{copied_with_id}
 use Rattle.mt_bind.proofs.SourceLaws.{fresh_is_source}
 use Rattle.mt_bind.proofs.MountLaws.{destination}
 use Rattle.mt_bind.proofs.MountedLaws.{mounted_done, mounted_full}
 use Rattle.mt_bind.proofs.mounting.mount.Goals as goal
-
--- the world with the copies of a source tree, and the ID of the top at the place
-abbrev effect : WorldView → Source → Place → WorldView × ℕ
-effect w src p = (copied w src p, copy_id w src p p.mount src.top.id)
 
 pub returns-in_err-plan-clause-refused : goal.returns-in_err-plan-clause-refused
 returns-in_err-plan-clause-refused c =
@@ -55,10 +51,10 @@ returns-clause-done c =
     let plan = c.in_ok-plan.plan in
     let few : too_many_mounts w (length (new_copies w (source_of w (Fresh c.root-root.result)) p)) ≡ false = c.in_ok-plan.ensures.few in
     let source : source_in plan ≡ fresh w f = c.in_ok-plan.ensures.given.0 ∙ ap (λ (root : ℕ). source_of w (Fresh root)) c.root-root.ensures.root in
-    let same : effect (world_view c.ready.new.world) (source_in plan) (place_in plan) ≡ effect w (fresh w f) p =
-    ap (λ (v : WorldView). effect v (source_in plan) (place_in plan)) c.in_ok-ready.ensures.world
-    ∙ ap (λ (s : Source). effect w s (place_in plan)) source
-    ∙ ap (λ (q : Place). effect w (fresh w f) q) c.in_ok-plan.ensures.given.1 in
+    let same : copied_with_id (world_view c.ready.new.world) (source_in plan) (place_in plan) ≡ copied_with_id w (fresh w f) p =
+    ap (λ (v : WorldView). copied_with_id v (source_in plan) (place_in plan)) c.in_ok-ready.ensures.world
+    ∙ ap (λ (s : Source). copied_with_id w s (place_in plan)) source
+    ∙ ap (λ (q : Place). copied_with_id w (fresh w f) q) c.in_ok-plan.ensures.given.1 in
     mounted_done w c.args.space c.args.fs.now c.args.path.now f p (sym c.fs.ensures.number ∙ c.in-Some.is) (sym c.walk.ensures ∙ c.in_ok-place.was)
     (sym c.is_root_place.ensures ∙ c.if-is_root_place.false)
     (ap (λ (root : ℕ). too_many_mounts w (length (new_copies w (source_of w (Fresh root)) p))) (sym c.root-root.ensures.root) ∙ few)

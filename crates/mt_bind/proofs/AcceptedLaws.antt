@@ -1,0 +1,210 @@
+-- What is known of a command that was accepted: its effect, and that no refusal holds.
+use Rattle.std.proofs.Common.{◌≡◌, ℕ, Bool, true, false, ◌&&◌, ◌||◌, List, [], ◌∷◌, length, Option, Some, None, Result, Ok, Err, refl, ap}
+use Rattle.std.specs.Prelude.{not, is_none, is_some, unwrap_or}
+use Rattle.std.specs.List.{AllByRecursion}
+use Rattle.std.proofs.lemmas.Bool.{not-false}
+use Rattle.mt_skel.specs.declared.fault.Fault.{Fault}
+use Rattle.mt_skel.specs.declared.fault.Fault.TheVariants.{NoFilesystem, NoNamespace, RootPlace, TooMany, Unbindable, NotMountRoot, SharedParent, IntoItself, UnbindableInside}
+use Rattle.mt_skel.specs.Outcome.{fault_of, outcome}
+use Rattle.mt_skel.proofs.OutcomeLaws.{not_refused}
+use Rattle.mt_skel.specs.Skeleton.{fs_named}
+use Rattle.mt_mounts.specs.declared.mount.Place.{Place}
+use Rattle.mt_mounts.specs.Forest.{is_below}
+use Rattle.mt_mounts.specs.Walk.{walk}
+use Rattle.mt_propagate.specs.World.{WorldView, is_space, state_of, group_of}
+use Rattle.mt_propagate.specs.Named.{place_or_nowhere, is_root_place, is_root_mount, is_mount_root}
+use Rattle.mt_propagate.specs.Limits.{too_many_mounts, too_many_spaces}
+use Rattle.mt_propagate.specs.Copies.{Source, new_copies, copy_id}
+use Rattle.mt_propagate.specs.Copied.{copied}
+use Rattle.mt_bind.specs.Spaces.{originals, with_space, new_space_refusals, new_space_effect, new_space, with_copy, copy_space_refusals, copy_space_effect, copy_space, without_space, drop_space_refusals, drop_space}
+use Rattle.mt_bind.specs.Sources.{fresh, source_at, tree_of}
+use Rattle.mt_bind.specs.Mounting.{stands_on_shared, any_unbindable, mounted_refusals, mounted_effect, mounted, bound_refusals, bound_effect, bound, moved_refusals, moved_effect, moved}
+use Rattle.mt_bind.specs.Pivoting.{root_id, with_pivot, pivoted_refusals, pivoted_effect, pivoted}
+
+-- an accepted call gives its effect, and each refusal of its list is absent
+pub accepted : {A : Type 0} (fs : List (Option Fault)) (a b : A) → outcome fs a ≡ Ok b → (a ≡ b) × AllByRecursion (λ o. o ≡ None) fs
+accepted [] a b e = (cc, tt)
+accepted (None ∷ fs) a b e = let later = accepted fs a b e in (later.0, (refl, later.1))
+accepted (Some f ∷ fs) a b e = absurd (cc)
+
+-- the place where a path ends
+abbrev pub path_end : WorldView → ℕ → List (List ℕ) → Place
+path_end w n path = place_or_nowhere (walk w.skel w.forest n path)
+
+has_ended : (r : Result Place Fault) → fault_of r ≡ None → r ≡ Ok (place_or_nowhere r)
+has_ended (Ok p) e = refl
+has_ended (Err f) e = absurd (cc)
+
+has_name : (o : Option ℕ) → is_none o ≡ false → o ≡ Some (unwrap_or o 0)
+has_name (Some f) e = refl
+has_name None e = absurd (cc)
+
+-- the filesystem of a name, and the copies of a source tree at a place are not too many
+abbrev pub fs_of : WorldView → List ℕ → ℕ
+fs_of w name = unwrap_or (fs_named w.skel name) 0
+
+abbrev pub AreFew : WorldView → Source → Place → Type 0
+AreFew w src p = too_many_mounts w (length (new_copies w src p)) ≡ false
+
+-- a new namespace
+pub record IsAcceptedSpace (w : WorldView) (name : List ℕ) (v : WorldView) (i : ℕ) : Type 0 where
+  pub named : fs_named w.skel name ≡ Some (fs_of w name)
+  pub few_spaces : too_many_spaces w ≡ false
+  pub few : too_many_mounts w 1 ≡ false
+  pub world : with_space w (fs_of w name) ≡ v
+  pub number : w.next_space ≡ i
+
+pub new_space_accepted : (w : WorldView) (name : List ℕ) (v : WorldView) (i : ℕ) → new_space w name ≡ Ok (v, i) → IsAcceptedSpace w name v i
+new_space_accepted w name v i e =
+    let a = accepted (new_space_refusals w (fs_named w.skel name)) (new_space_effect w (fs_named w.skel name)) (v, i) e in
+    record {
+      named = has_name (fs_named w.skel name) (not_refused (is_none (fs_named w.skel name)) NoFilesystem a.1.0);
+      few_spaces = not_refused (too_many_spaces w) TooMany a.1.1.0;
+      few = not_refused (too_many_mounts w 1) TooMany a.1.1.1.0;
+      world = ap (λ x. x.0) a.0;
+      number = ap (λ x. x.1) a.0;
+    }
+
+-- a copy of a namespace
+pub record IsAcceptedCopy (w : WorldView) (n : ℕ) (less : Bool) (v : WorldView) (i : ℕ) : Type 0 where
+  pub there : is_space w n ≡ true
+  pub few_spaces : too_many_spaces w ≡ false
+  pub few : too_many_mounts w (length (originals w n)) ≡ false
+  pub world : with_copy w n less ≡ v
+  pub number : w.next_space ≡ i
+
+pub copy_space_accepted : (w : WorldView) (n : ℕ) (less : Bool) (v : WorldView) (i : ℕ) → copy_space w n less ≡ Ok (v, i) → IsAcceptedCopy w n less v i
+copy_space_accepted w n less v i e =
+    let a = accepted (copy_space_refusals w n) (copy_space_effect w n less) (v, i) e in
+    record {
+      there = not-false (is_space w n) (not_refused (not (is_space w n)) NoNamespace a.1.0);
+      few_spaces = not_refused (too_many_spaces w) TooMany a.1.1.0;
+      few = not_refused (too_many_mounts w (length (originals w n))) TooMany a.1.1.1.0;
+      world = ap (λ x. x.0) a.0;
+      number = ap (λ x. x.1) a.0;
+    }
+
+-- the end of a namespace
+pub record IsAcceptedDrop (w : WorldView) (n : ℕ) (v : WorldView) : Type 0 where
+  pub there : is_space w n ≡ true
+  pub world : without_space w n ≡ v
+
+pub drop_space_accepted : (w : WorldView) (n : ℕ) (v : WorldView) → drop_space w n ≡ Ok v → IsAcceptedDrop w n v
+drop_space_accepted w n v e =
+    let a = accepted (drop_space_refusals w n) (without_space w n) v e in
+    record { there = not-false (is_space w n) (not_refused (not (is_space w n)) NoNamespace a.1.0); world = a.0 }
+
+-- a mount
+pub record IsAcceptedMount (w : WorldView) (n : ℕ) (name : List ℕ) (path : List (List ℕ)) (v : WorldView) (i : ℕ) : Type 0 where
+  pub named : fs_named w.skel name ≡ Some (fs_of w name)
+  pub ended : walk w.skel w.forest n path ≡ Ok (path_end w n path)
+  pub off_root : is_root_place w (path_end w n path) ≡ false
+  pub few : AreFew w (fresh w (fs_of w name)) (path_end w n path)
+  pub world : copied w (fresh w (fs_of w name)) (path_end w n path) ≡ v
+  pub id : copy_id w (fresh w (fs_of w name)) (path_end w n path) (path_end w n path).mount 0 ≡ i
+
+pub mount_accepted : (w : WorldView) (n : ℕ) (name : List ℕ) (path : List (List ℕ)) (v : WorldView) (i : ℕ) → mounted w n name path ≡ Ok (v, i) → IsAcceptedMount w n name path v i
+mount_accepted w n name path v i e =
+    let fs = fs_named w.skel name in
+    let to = walk w.skel w.forest n path in
+    let p = path_end w n path in
+    let a = accepted (mounted_refusals w fs to) (mounted_effect w fs to) (v, i) e in
+    record {
+      named = has_name fs (not_refused (is_none fs) NoFilesystem a.1.0);
+      ended = has_ended to a.1.1.0;
+      off_root = not_refused (is_root_place w p) RootPlace a.1.1.1.0;
+      few = not_refused (too_many_mounts w (length (new_copies w (fresh w (fs_of w name)) p))) TooMany a.1.1.1.1.0;
+      world = ap (λ x. x.0) a.0;
+      id = ap (λ x. x.1) a.0;
+    }
+
+-- a bind
+pub record IsAcceptedBind (w : WorldView) (n : ℕ) (recursive : Bool) (from to : List (List ℕ)) (v : WorldView) (i : ℕ) : Type 0 where
+  pub begun : walk w.skel w.forest n from ≡ Ok (path_end w n from)
+  pub ended : walk w.skel w.forest n to ≡ Ok (path_end w n to)
+  pub off_root : is_root_place w (path_end w n to) ≡ false
+  pub bindable : (state_of w (path_end w n from).mount).unbindable ≡ false
+  pub few : AreFew w (source_at w recursive (path_end w n from)) (path_end w n to)
+  pub world : copied w (source_at w recursive (path_end w n from)) (path_end w n to) ≡ v
+  pub id : copy_id w (source_at w recursive (path_end w n from)) (path_end w n to) (path_end w n to).mount (source_at w recursive (path_end w n from)).top.id ≡ i
+
+pub bind_accepted : (w : WorldView) (n : ℕ) (recursive : Bool) (from to : List (List ℕ)) (v : WorldView) (i : ℕ) → bound w n recursive from to ≡ Ok (v, i) → IsAcceptedBind w n recursive from to v i
+bind_accepted w n recursive from to v i e =
+    let q = walk w.skel w.forest n from in
+    let r = walk w.skel w.forest n to in
+    let s = path_end w n from in
+    let p = path_end w n to in
+    let a = accepted (bound_refusals w recursive q r) (bound_effect w recursive q r) (v, i) e in
+    record {
+      begun = has_ended q a.1.0;
+      ended = has_ended r a.1.1.0;
+      off_root = not_refused (is_root_place w p) RootPlace a.1.1.1.0;
+      bindable = not_refused (state_of w s.mount).unbindable Unbindable a.1.1.1.1.0;
+      few = not_refused (too_many_mounts w (length (new_copies w (source_at w recursive s) p))) TooMany a.1.1.1.1.1.0;
+      world = ap (λ x. x.0) a.0;
+      id = ap (λ x. x.1) a.0;
+    }
+
+-- a move
+pub record IsAcceptedMove (w : WorldView) (n : ℕ) (from to : List (List ℕ)) (v : WorldView) : Type 0 where
+  pub begun : walk w.skel w.forest n from ≡ Ok (path_end w n from)
+  pub named : is_mount_root w (path_end w n from) ≡ true
+  pub placed : is_root_mount w (path_end w n from) ≡ false
+  pub ended : walk w.skel w.forest n to ≡ Ok (path_end w n to)
+  pub off_root : is_root_place w (path_end w n to) ≡ false
+  pub unshared : stands_on_shared w (path_end w n from).mount ≡ false
+  pub outside : is_below w.forest (path_end w n from).mount (path_end w n to).mount ≡ false
+  pub bindable : (is_some (group_of w (path_end w n to).mount) && any_unbindable w (path_end w n from).mount) ≡ false
+  pub few : AreFew w (tree_of w (path_end w n from).mount) (path_end w n to)
+  pub world : copied w (tree_of w (path_end w n from).mount) (path_end w n to) ≡ v
+
+pub move_accepted : (w : WorldView) (n : ℕ) (from to : List (List ℕ)) (v : WorldView) → moved w n from to ≡ Ok v → IsAcceptedMove w n from to v
+move_accepted w n from to v e =
+    let q = walk w.skel w.forest n from in
+    let r = walk w.skel w.forest n to in
+    let s = path_end w n from in
+    let p = path_end w n to in
+    let a = accepted (moved_refusals w q r) (moved_effect w q r) v e in
+    let late = a.1.1.1.1 in
+    record {
+      begun = has_ended q a.1.0;
+      named = not-false (is_mount_root w s) (not_refused (not (is_mount_root w s)) NotMountRoot a.1.1.0);
+      placed = not_refused (is_root_mount w s) RootPlace a.1.1.1.0;
+      ended = has_ended r late.0;
+      off_root = not_refused (is_root_place w p) RootPlace late.1.0;
+      unshared = not_refused (stands_on_shared w s.mount) SharedParent late.1.1.0;
+      outside = not_refused (is_below w.forest s.mount p.mount) IntoItself late.1.1.1.0;
+      bindable = not_refused (is_some (group_of w p.mount) && any_unbindable w s.mount) UnbindableInside late.1.1.1.1.0;
+      few = not_refused (too_many_mounts w (length (new_copies w (tree_of w s.mount) p))) TooMany late.1.1.1.1.1.0;
+      world = a.0;
+    }
+
+-- a pivot
+pub record IsAcceptedPivot (w : WorldView) (n : ℕ) (new old : List (List ℕ)) (v : WorldView) : Type 0 where
+  pub begun : walk w.skel w.forest n new ≡ Ok (path_end w n new)
+  pub named : is_mount_root w (path_end w n new) ≡ true
+  pub placed : is_root_mount w (path_end w n new) ≡ false
+  pub ended : walk w.skel w.forest n old ≡ Ok (path_end w n old)
+  pub off_root : is_root_place w (path_end w n old) ≡ false
+  pub unshared : (stands_on_shared w (path_end w n new).mount || is_some (group_of w (path_end w n old).mount)) ≡ false
+  pub inside : is_below w.forest (path_end w n new).mount (path_end w n old).mount ≡ true
+  pub world : with_pivot w (path_end w n new).mount (root_id w n) (path_end w n old) ≡ v
+
+pub pivot_accepted : (w : WorldView) (n : ℕ) (new old : List (List ℕ)) (v : WorldView) → pivoted w n new old ≡ Ok v → IsAcceptedPivot w n new old v
+pivot_accepted w n new old v e =
+    let q = walk w.skel w.forest n new in
+    let r = walk w.skel w.forest n old in
+    let s = path_end w n new in
+    let p = path_end w n old in
+    let a = accepted (pivoted_refusals w q r) (pivoted_effect w n q r) v e in
+    let late = a.1.1.1.1 in
+    record {
+      begun = has_ended q a.1.0;
+      named = not-false (is_mount_root w s) (not_refused (not (is_mount_root w s)) NotMountRoot a.1.1.0);
+      placed = not_refused (is_root_mount w s) RootPlace a.1.1.1.0;
+      ended = has_ended r late.0;
+      off_root = not_refused (is_root_place w p) RootPlace late.1.0;
+      unshared = not_refused (stands_on_shared w s.mount || is_some (group_of w p.mount)) SharedParent late.1.1.0;
+      inside = not-false (is_below w.forest s.mount p.mount) (not_refused (not (is_below w.forest s.mount p.mount)) IntoItself late.1.1.1.0);
+      world = a.0;
+    }
