@@ -1,32 +1,28 @@
 -- Where mounts are changed, a contained namespace stays contained, and a change in it changes nothing outside.
-use Rattle.std.proofs.Common.{◌≡◌, ◌≢◌, ℕ, Bool, true, false, cond, not, ◌||◌, ◌&&◌, eqb, eqb-true, List, [], ◌∷◌, map, length, Option, Some, None, Ok, refl, sym, ap, subst, ◌∙◌}
+use Rattle.std.proofs.Common.{◌≡◌, ◌≢◌, ℕ, Bool, true, false, cond, ◌||◌, ◌&&◌, eqb, eqb-true, List, map, length, Option, Some, None, Ok, refl, sym, ap, subst, ◌∙◌}
 use Rattle.std.specs.Prelude.{unwrap_or}
 use Rattle.std.specs.List.{filter}
 use Rattle.std.specs.Option.{option_map, option_map_or, option_and_then}
 use Rattle.std.proofs.lemmas.Bool.{true≢false}
-use Rattle.mt_skel.specs.declared.fault.Fault.TheVariants.{NotMountRoot, BadAttr}
-use Rattle.mt_skel.specs.Outcome.{refuse_if, fault_of}
 use Rattle.mt_skel.proofs.KeyedLaws.{row_at-map}
 use Rattle.mt_skel.proofs.MiddleLaws.{and_second}
-use Rattle.mt_skel.proofs.OutcomeLaws.{outcome_ok, first_none}
 use Rattle.mt_mounts.specs.declared.mount.Mount.{Mount}
 use Rattle.mt_mounts.specs.declared.mount.Place.{Place}
 use Rattle.mt_mounts.specs.Forest.{id_of, mount_at, in_space, parent, is_below}
-use Rattle.mt_mounts.specs.Walk.{walk}
 use Rattle.mt_mounts.proofs.Walks.{below_stop}
 use Rattle.mt_peers.specs.declared.state.Kind.{Kind}
 use Rattle.mt_peers.specs.Peers.{Peering, state_at}
 use Rattle.mt_peers.specs.Making.{made}
 use Rattle.mt_peers.proofs.ClosedLaws.{IsClosed, same-IsClosed}
 use Rattle.mt_propagate.specs.World.{WorldView, state_of, space_of, private}
-use Rattle.mt_propagate.specs.Named.{place_or_nowhere, is_mount_root}
 use Rattle.mt_propagate.specs.WellFormed.{IsWellFormed}
 use Rattle.mt_propagate.specs.Contained.{IsContained, IsSameOutside}
 use Rattle.mt_propagate.proofs.ContainedLaws.{closed, contained, made-contained, made-state, below-space, ended-inside}
 use Rattle.mt_propagate.proofs.CopyRowLaws.{space_is}
 use Rattle.mt_propagate.proofs.RowLaws.{all-each, found-each, part-mapped}
 use Rattle.mt_setattr.specs.declared.change.Change.{Change}
-use Rattle.mt_setattr.specs.Change.{changed_attrs, changed_mount, clashes, is_chosen, with_change, attributed}
+use Rattle.mt_setattr.specs.Change.{changed_attrs, changed_mount, is_chosen, with_change, attributed}
+use Rattle.mt_setattr.proofs.AcceptedLaws.{path_end, change_accepted}
 use Rattle.mt_setattr.proofs.ChangeLaws.{change-kept}
 
 module _ (w : WorldView) (h : IsWellFormed w) (c : Change) (i : ℕ) (n : ℕ) (a : IsContained n w) where
@@ -101,20 +97,10 @@ module _ (w : WorldView) (h : IsWellFormed w) (c : Change) (i : ℕ) (n : ℕ) (
 
 -- so it is where a change was accepted, in any namespace and in the contained one
 pub attributed-contained : (k : ℕ) (w : WorldView) (n : ℕ) (path : List (List ℕ)) (c : Change) (v : WorldView) → IsWellFormed w → IsContained k w → attributed w n path c ≡ Ok v → IsContained k v
-attributed-contained k w n path c v h a e =
-    let p = place_or_nowhere (walk w.skel w.forest n path) in
-    let lost = fault_of (walk w.skel w.forest n path) in
-    let unnamed = refuse_if (not (is_mount_root w p)) NotMountRoot in
-    let bad = refuse_if (clashes c) BadAttr in
-    let ok = outcome_ok (lost ∷ unnamed ∷ bad ∷ []) (with_change w c p.mount) v e in
-    subst (IsContained k) ok.0 (change-contained w h c p.mount k a)
+attributed-contained k w n path c v h inside e =
+    subst (IsContained k) (change_accepted w n path c v e).world (change-contained w h c (path_end w n path).mount k inside)
 
 pub attributed-outside : (w : WorldView) (n : ℕ) (path : List (List ℕ)) (c : Change) (v : WorldView) → IsWellFormed w → IsContained n w → attributed w n path c ≡ Ok v → IsSameOutside n w v
-attributed-outside w n path c v h a e =
-    let p = place_or_nowhere (walk w.skel w.forest n path) in
-    let lost = fault_of (walk w.skel w.forest n path) in
-    let unnamed = refuse_if (not (is_mount_root w p)) NotMountRoot in
-    let bad = refuse_if (clashes c) BadAttr in
-    let ok = outcome_ok (lost ∷ unnamed ∷ bad ∷ []) (with_change w c p.mount) v e in
-    let one = first_none lost (unnamed ∷ bad ∷ []) ok.1 in
-    subst (IsSameOutside n w) ok.0 (change-outside w h c p.mount n a (ended-inside w h n path one.0))
+attributed-outside w n path c v h inside e =
+    let a = change_accepted w n path c v e in
+    subst (IsSameOutside n w) a.world (change-outside w h c (path_end w n path).mount n inside (ended-inside w h n path a.ended))

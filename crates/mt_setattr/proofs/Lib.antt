@@ -1,3 +1,4 @@
+pub mod AcceptedLaws
 pub mod ChangeLaws
 pub mod SettingLaws
 pub mod ChosenLaws

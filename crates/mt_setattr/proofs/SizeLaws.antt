@@ -1,22 +1,18 @@
 -- How much a change of mounts adds to a world.
-use Rattle.std.proofs.Common.{◌≡◌, ℕ, ◌+◌, ◌≤◌, Bool, true, false, cond, ◌&&◌, not, List, [], ◌∷◌, length, Option, Some, None, Ok, sym, ap, subst, ◌∙◌, arith}
+use Rattle.std.proofs.Common.{◌≡◌, ℕ, ◌+◌, ◌≤◌, Bool, true, false, cond, ◌&&◌, List, length, Option, Some, None, Ok, sym, ap, subst, ◌∙◌, arith}
 use Rattle.std.specs.List.{filter}
 use Rattle.std.specs.Option.{is_none, option_map_or}
 use Rattle.std.proofs.lemmas.List.{length-map}
-use Rattle.mt_skel.specs.declared.fault.Fault.TheVariants.{NotMountRoot, BadAttr}
-use Rattle.mt_skel.specs.Outcome.{refuse_if, fault_of}
-use Rattle.mt_skel.proofs.OutcomeLaws.{outcome_ok}
 use Rattle.mt_mounts.specs.Forest.{id_of}
-use Rattle.mt_mounts.specs.Walk.{walk}
 use Rattle.mt_peers.specs.declared.state.Kind.{Kind}
 use Rattle.mt_peers.specs.Peers.{Peer, Peering, mount_of}
 use Rattle.mt_peers.specs.Making.{made, groupless, is_shared}
 use Rattle.mt_propagate.specs.World.{WorldView}
-use Rattle.mt_propagate.specs.Named.{place_or_nowhere, is_mount_root}
 use Rattle.mt_propagate.specs.WellFormed.{IsWellFormed}
 use Rattle.mt_propagate.proofs.SizeLaws.{IsSized, few_pass}
 use Rattle.mt_setattr.specs.declared.change.Change.{Change}
-use Rattle.mt_setattr.specs.Change.{attributed, clashes, with_change, changed_mount, is_chosen}
+use Rattle.mt_setattr.specs.Change.{attributed, with_change, changed_mount, is_chosen}
+use Rattle.mt_setattr.proofs.AcceptedLaws.{path_end, change_accepted}
 
 -- a change gives at most as many groups as there are mounts
 few_groups : (k : Kind) (chosen : ℕ → Bool) (p : Peering) → (made k chosen p).next ≤ p.next + length p.peers
@@ -47,7 +43,4 @@ changed_sized w c i h few =
     }
 
 pub attr_sized : (w v : WorldView) (n : ℕ) (path : List (List ℕ)) (c : Change) → IsWellFormed w → length w.forest ≤ 4096 → attributed w n path c ≡ Ok v → IsSized w v 0
-attr_sized w v n path c h few e =
-    let p = place_or_nowhere (walk w.skel w.forest n path) in
-    let same = (outcome_ok (fault_of (walk w.skel w.forest n path) ∷ refuse_if (not (is_mount_root w p)) NotMountRoot ∷ refuse_if (clashes c) BadAttr ∷ []) (with_change w c p.mount) v e).0 in
-    subst (λ (x : WorldView). IsSized w x 0) same (changed_sized w c p.mount h few)
+attr_sized w v n path c h few e = subst (λ (x : WorldView). IsSized w x 0) (change_accepted w n path c v e).world (changed_sized w c (path_end w n path).mount h few)

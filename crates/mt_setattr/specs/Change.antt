@@ -1,11 +1,12 @@
 -- setattr: the attributes of the chosen mounts and their propagation, all at once.
 -- A word with no source is this project's rule.
-use Rattle.std.specs.Prelude.{ℕ, Bool, cond, not, ◌&&◌, ◌||◌, ◌==◌, List, [], ◌∷◌, map, Result}
+use Rattle.std.specs.Prelude.{ℕ, Bool, cond, not, ◌&&◌, ◌||◌, ◌==◌, List, [], ◌∷◌, map, Option, Result}
 use Rattle.std.specs.Option.{option_map_or}
 use Rattle.mt_skel.specs.declared.fault.Fault.{Fault}
 use Rattle.mt_skel.specs.declared.fault.Fault.TheVariants.{NotMountRoot, BadAttr}
 use Rattle.mt_skel.specs.Outcome.{refuse_if, fault_of, outcome}
 use Rattle.mt_mounts.specs.declared.mount.Mount.{Mount}
+use Rattle.mt_mounts.specs.declared.mount.Place.{Place}
 use Rattle.mt_mounts.specs.declared.mount.Attrs.{Attrs}
 use Rattle.mt_mounts.specs.declared.mount.Atime.{Atime}
 use Rattle.mt_mounts.specs.declared.mount.Atime.TheVariants.{Relatime, Noatime, Strictatime}
@@ -55,12 +56,19 @@ with_change w c i = record w {
   peering = option_map_or (λ k. made k (is_chosen w c i) w.peering) c.prop w.peering;
 }
 
--- the mount that a path names is changed; it may be a root mount, and an empty change does nothing (mount_setattr(2); the order
--- of the refusals: this project's rule)
+-- the refusals of a change, where its path was found to lead there (mount_setattr(2); their order: this project's rule)
+abbrev pub attributed_refusals : WorldView → Change → Result Place Fault → List (Option Fault)
+attributed_refusals w c at =
+    fault_of at
+    ∷ refuse_if (not (is_mount_root w (place_or_nowhere at))) NotMountRoot
+    ∷ refuse_if (clashes c) BadAttr ∷ []
+
+-- what it makes of the world
+abbrev pub attributed_effect : WorldView → Change → Result Place Fault → WorldView
+attributed_effect w c at = with_change w c (place_or_nowhere at).mount
+
+-- the mount that a path names is changed; it may be a root mount, and an empty change does nothing (mount_setattr(2))
 abbrev pub attributed : WorldView → ℕ → List (List ℕ) → Change → Result WorldView Fault
 attributed w n path c =
-    let p = place_or_nowhere (walk w.skel w.forest n path) in
-    outcome (fault_of (walk w.skel w.forest n path)
-    ∷ refuse_if (not (is_mount_root w p)) NotMountRoot
-    ∷ refuse_if (clashes c) BadAttr ∷ [])
-    (with_change w c p.mount)
+    let at = walk w.skel w.forest n path in
+    outcome (attributed_refusals w c at) (attributed_effect w c at)

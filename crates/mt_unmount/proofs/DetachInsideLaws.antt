@@ -26,7 +26,8 @@ use Rattle.mt_unmount.specs.Detaching.{is_candidate, is_detached, without_tree, 
 use Rattle.mt_unmount.proofs.GapLaws.{placed-mount}
 use Rattle.mt_unmount.proofs.CandidateLaws.{IsReceived, candidate-cases, tree-below}
 use Rattle.mt_unmount.proofs.LeftInsideLaws.{gone-contained, gone-outside}
-use Rattle.mt_unmount.proofs.DetachedLaws.{detached-ok, detached-kept}
+use Rattle.mt_unmount.proofs.AcceptedLaws.{detach_accepted}
+use Rattle.mt_unmount.proofs.DetachedLaws.{detached-kept}
 
 module _ (w : WorldView) (h : IsWellFormed w) (i : ℕ) (n : ℕ) (c : IsContained n w) (here : space_of w i ≡ n) where
   -- the tree is in the namespace
@@ -97,10 +98,10 @@ module _ (w : WorldView) (h : IsWellFormed w) (n : ℕ) where
 -- so it is where a detach was accepted, in any namespace and in the contained one
 pub detached-contained : (k : ℕ) (w : WorldView) (n : ℕ) (path : List (List ℕ)) (v : WorldView) → IsWellFormed w → IsContained k w → detached w n path ≡ Ok v → IsContained k v
 detached-contained k w n path v h c e =
-    let d = detached-ok w n path v e in
-    subst (IsContained k) d.0 (detach-contained w h (named_place w n path).mount k c (subst IsWellFormed (sym d.0) (detached-kept w h n path v e)))
+    let a = detach_accepted w n path v e in
+    subst (IsContained k) a.world (detach-contained w h (named_place w n path).mount k c (subst IsWellFormed (sym a.world) (detached-kept w h n path v e)))
 
 pub detached-outside : (w : WorldView) (n : ℕ) (path : List (List ℕ)) (v : WorldView) → IsWellFormed w → IsContained n w → detached w n path ≡ Ok v → IsSameOutside n w v
 detached-outside w n path v h c e =
-    let d = detached-ok w n path v e in
-    subst (IsSameOutside n w) d.0 (detach-outside w h (named_place w n path).mount n c (named-inside w h n path d.1))
+    let a = detach_accepted w n path v e in
+    subst (IsSameOutside n w) a.world (detach-outside w h (named_place w n path).mount n c (named-inside w h n path a.ended))

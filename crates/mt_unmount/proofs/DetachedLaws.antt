@@ -1,29 +1,26 @@
 -- What a detach leads to where its path names a mount that is no root mount, and that a well-formed world stays so.
-use Rattle.std.proofs.Common.{◌≡◌, ℕ, Bool, true, false, not, List, [], ◌∷◌, None, Result, Ok, sym, ap, ◌∙◌, subst}
+use Rattle.std.proofs.Common.{◌≡◌, ℕ, Bool, true, false, not, List, [], ◌∷◌, Result, Ok, sym, ap, ◌∙◌, subst}
 use Rattle.std.specs.Option.{is_none}
 use Rattle.mt_skel.specs.declared.fault.Fault.{Fault}
 use Rattle.mt_skel.specs.declared.fault.Fault.TheVariants.{NotMountRoot, RootPlace}
-use Rattle.mt_skel.specs.Outcome.{refuse_if, fault_of, outcome}
-use Rattle.mt_skel.proofs.OutcomeLaws.{passed, outcome_ok, first_none, not_refused}
+use Rattle.mt_skel.specs.Outcome.{refuse_if, outcome}
+use Rattle.mt_skel.proofs.OutcomeLaws.{passed}
 use Rattle.mt_mounts.specs.declared.mount.Place.{Place}
 use Rattle.mt_mounts.specs.Forest.{top}
 use Rattle.mt_mounts.specs.Walk.{walk}
 use Rattle.mt_propagate.specs.World.{WorldView}
-use Rattle.mt_propagate.specs.Named.{place_or_nowhere, is_mount_root, is_root_mount}
+use Rattle.mt_propagate.specs.Named.{is_mount_root, is_root_mount}
 use Rattle.mt_propagate.specs.WellFormed.{IsWellFormed}
 use Rattle.mt_unmount.specs.Sliding.{place_of, once_gone}
-use Rattle.mt_unmount.specs.Detaching.{is_detached, without_tree, named_place, detached}
+use Rattle.mt_unmount.specs.Detaching.{is_detached, without_tree, named_place, detached_refusals, detached_effect, detached}
+use Rattle.mt_unmount.proofs.AcceptedLaws.{detach_accepted}
 use Rattle.mt_unmount.proofs.CandidateLaws.{detached-can-go}
 use Rattle.mt_unmount.proofs.LeftLaws.{gone-kept}
 
 module _ (w : WorldView) (n : ℕ) (path : List (List ℕ)) (end p : Place) (named : p ≡ top w.forest end) where
   -- what a detach answers with its path walked
   abbrev answer : Result Place Fault → Result WorldView Fault
-  answer r =
-      outcome (fault_of r
-      ∷ refuse_if (not (is_mount_root w (top w.forest (place_or_nowhere r)))) NotMountRoot
-      ∷ refuse_if (is_root_mount w (top w.forest (place_or_nowhere r))) RootPlace ∷ [])
-      (without_tree w (top w.forest (place_or_nowhere r)).mount)
+  answer r = outcome (detached_refusals w r) (detached_effect w r)
 
   abbrev rest : Place → Result WorldView Fault
   rest q = outcome (refuse_if (not (is_mount_root w q)) NotMountRoot ∷ refuse_if (is_root_mount w q) RootPlace ∷ []) (without_tree w q.mount)
@@ -39,20 +36,6 @@ detach-kept : (w : WorldView) → IsWellFormed w → (i : ℕ) → is_none (plac
 unfolding without_tree
 detach-kept w h i rooted = gone-kept w h (is_detached w i) (detached-can-go w h i rooted)
 
--- an accepted detach is one of a mount that has a place
-pub detached-ok : (w : WorldView) (n : ℕ) (path : List (List ℕ)) (v : WorldView) → detached w n path ≡ Ok v
-    → (without_tree w (named_place w n path).mount ≡ v) × (fault_of (walk w.skel w.forest n path) ≡ None) × (is_none (place_of w (named_place w n path).mount) ≡ false)
-detached-ok w n path v e =
-    let p = named_place w n path in
-    let lost = fault_of (walk w.skel w.forest n path) in
-    let unnamed = refuse_if (not (is_mount_root w p)) NotMountRoot in
-    let root = refuse_if (is_root_mount w p) RootPlace in
-    let ok = outcome_ok (lost ∷ unnamed ∷ root ∷ []) (without_tree w p.mount) v e in
-    let one = first_none lost (unnamed ∷ root ∷ []) ok.1 in
-    let two = first_none unnamed (root ∷ []) one.1 in
-    let three = first_none root [] two.1 in
-    (ok.0, one.0, not_refused (is_root_mount w p) RootPlace three.0)
-
--- and keeps a world well-formed
+-- and an accepted one keeps a world well-formed
 pub detached-kept : (w : WorldView) → IsWellFormed w → (n : ℕ) (path : List (List ℕ)) (v : WorldView) → detached w n path ≡ Ok v → IsWellFormed v
-detached-kept w h n path v e = let d = detached-ok w n path v e in subst IsWellFormed d.0 (detach-kept w h (named_place w n path).mount d.2)
+detached-kept w h n path v e = let a = detach_accepted w n path v e in subst IsWellFormed a.world (detach-kept w h (named_place w n path).mount a.placed)

@@ -1,18 +1,13 @@
 -- Where a mount is unmounted, a contained namespace stays contained, and an unmount in it changes nothing outside.
-use Rattle.std.proofs.Common.{◌≡◌, ℕ, Bool, true, false, not, ◌||◌, ◌==◌, eqb, eqb-true, List, [], ◌∷◌, map, Option, Some, None, Ok, refl, sym, ap, subst, ◌∙◌}
+use Rattle.std.proofs.Common.{◌≡◌, ℕ, Bool, true, false, ◌||◌, ◌==◌, eqb, eqb-true, List, [], map, Option, Some, None, Ok, refl, sym, ap, subst, ◌∙◌}
 use Rattle.std.specs.List.{filter, filter_map, list_any}
 use Rattle.std.specs.Option.{option_map_or}
-use Rattle.mt_skel.specs.declared.fault.Fault.TheVariants.{NotMountRoot, RootPlace, Busy}
-use Rattle.mt_skel.specs.Outcome.{refuse_if, fault_of}
 use Rattle.mt_skel.proofs.ElementLaws.{in_any, in_map, in_filter}
-use Rattle.mt_skel.proofs.OutcomeLaws.{outcome_ok, first_none}
 use Rattle.mt_mounts.specs.declared.mount.Mount.{Mount}
 use Rattle.mt_mounts.specs.declared.mount.Place.{Place}
-use Rattle.mt_mounts.specs.Forest.{id_of, on, is_at, stands_on}
-use Rattle.mt_mounts.specs.Walk.{walk}
+use Rattle.mt_mounts.specs.Forest.{id_of, on, is_at}
 use Rattle.mt_mounts.proofs.ForestLaws.{find_row, find_passes}
 use Rattle.mt_propagate.specs.World.{WorldView, space_of}
-use Rattle.mt_propagate.specs.Named.{place_or_nowhere, is_mount_root, is_root_mount}
 use Rattle.mt_propagate.specs.WellFormed.{IsWellFormed}
 use Rattle.mt_propagate.specs.Receivers.{hits}
 use Rattle.mt_propagate.specs.Contained.{IsContained, IsSameOutside}
@@ -22,6 +17,7 @@ use Rattle.mt_propagate.proofs.CopyRowLaws.{space_is}
 use Rattle.mt_propagate.proofs.WalkLaws.{stands_at}
 use Rattle.mt_unmount.specs.Sliding.{place_of}
 use Rattle.mt_unmount.specs.Unmounting.{may_go, going_at, is_removed, without_mount, unmounted}
+use Rattle.mt_unmount.proofs.AcceptedLaws.{path_end, unmount_accepted}
 use Rattle.mt_unmount.proofs.GapLaws.{placed-mount}
 use Rattle.mt_unmount.proofs.HeldLaws.{in_filter_map}
 use Rattle.mt_unmount.proofs.LeftInsideLaws.{gone-contained, gone-outside}
@@ -74,21 +70,10 @@ unmount-outside w h i n c here = gone-outside w h (is_removed w i) n c (removed-
 -- so it is where an unmount was accepted, in any namespace and in the contained one
 pub unmounted-contained : (k : ℕ) (w : WorldView) (n : ℕ) (path : List (List ℕ)) (v : WorldView) → IsWellFormed w → IsContained k w → unmounted w n path ≡ Ok v → IsContained k v
 unmounted-contained k w n path v h c e =
-    let p = place_or_nowhere (walk w.skel w.forest n path) in
-    let lost = fault_of (walk w.skel w.forest n path) in
-    let unnamed = refuse_if (not (is_mount_root w p)) NotMountRoot in
-    let root = refuse_if (is_root_mount w p) RootPlace in
-    let busy = refuse_if (list_any (stands_on p.mount) w.forest) Busy in
-    let ok = outcome_ok (lost ∷ unnamed ∷ root ∷ busy ∷ []) (without_mount w p.mount) v e in
-    subst (IsContained k) ok.0 (unmount-contained w h p.mount k c (subst IsWellFormed (sym ok.0) (unmounted-kept w h n path v e)))
+    let a = unmount_accepted w n path v e in
+    subst (IsContained k) a.world (unmount-contained w h (path_end w n path).mount k c (subst IsWellFormed (sym a.world) (unmounted-kept w h n path v e)))
 
 pub unmounted-outside : (w : WorldView) (n : ℕ) (path : List (List ℕ)) (v : WorldView) → IsWellFormed w → IsContained n w → unmounted w n path ≡ Ok v → IsSameOutside n w v
 unmounted-outside w n path v h c e =
-    let p = place_or_nowhere (walk w.skel w.forest n path) in
-    let lost = fault_of (walk w.skel w.forest n path) in
-    let unnamed = refuse_if (not (is_mount_root w p)) NotMountRoot in
-    let root = refuse_if (is_root_mount w p) RootPlace in
-    let busy = refuse_if (list_any (stands_on p.mount) w.forest) Busy in
-    let ok = outcome_ok (lost ∷ unnamed ∷ root ∷ busy ∷ []) (without_mount w p.mount) v e in
-    let one = first_none lost (unnamed ∷ root ∷ busy ∷ []) ok.1 in
-    subst (IsSameOutside n w) ok.0 (unmount-outside w h p.mount n c (ended-inside w h n path one.0))
+    let a = unmount_accepted w n path v e in
+    subst (IsSameOutside n w) a.world (unmount-outside w h (path_end w n path).mount n c (ended-inside w h n path a.ended))

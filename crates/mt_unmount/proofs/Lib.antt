@@ -1,3 +1,4 @@
+pub mod AcceptedLaws
 pub mod GapLaws
 pub mod SlideLaws
 pub mod LeftTreeLaws

@@ -5,16 +5,16 @@ use Rattle.std.specs.List.{filter, list_any}
 use Rattle.std.proofs.lemmas.Bool.Decides.{nat_tests}
 use Rattle.mt_skel.specs.declared.fault.Fault.{Fault}
 use Rattle.mt_skel.specs.declared.fault.Fault.TheVariants.{NotMountRoot, RootPlace, Busy}
-use Rattle.mt_skel.specs.Outcome.{refuse_if, fault_of, outcome}
+use Rattle.mt_skel.specs.Outcome.{outcome}
 use Rattle.mt_skel.proofs.OutcomeLaws.{passed}
 use Rattle.mt_mounts.specs.Forest.{id_of, stands_on}
 use Rattle.mt_mounts.specs.declared.mount.Mount.{Mount}
 use Rattle.mt_mounts.specs.declared.mount.Place.{Place}
 use Rattle.mt_mounts.specs.Walk.{walk}
 use Rattle.mt_propagate.specs.World.{WorldView}
-use Rattle.mt_propagate.specs.Named.{place_or_nowhere, is_mount_root, is_root_mount}
+use Rattle.mt_propagate.specs.Named.{is_mount_root, is_root_mount}
 use Rattle.mt_unmount.specs.Sliding.{once_gone}
-use Rattle.mt_unmount.specs.Unmounting.{is_removed, without_mount, unmounted}
+use Rattle.mt_unmount.specs.Unmounting.{is_removed, without_mount, unmounted_refusals, unmounted_effect, unmounted}
 
 -- a mount stands on one where that has children
 pub some-child : (t : Mount → Bool) (ms : List Mount) → list_any t ms ≡ nat_lt 0 (length (map id_of (filter t ms)))
@@ -28,12 +28,7 @@ some-child t (m ∷ ms) = go (t m) (some-child t ms)
 module _ (w : WorldView) (n : ℕ) (path : List (List ℕ)) (p : Place) where
   -- what an unmount answers with its path walked
   abbrev answer : Result Place Fault → Result WorldView Fault
-  answer r =
-      outcome (fault_of r
-      ∷ refuse_if (not (is_mount_root w (place_or_nowhere r))) NotMountRoot
-      ∷ refuse_if (is_root_mount w (place_or_nowhere r)) RootPlace
-      ∷ refuse_if (list_any (stands_on (place_or_nowhere r).mount) w.forest) Busy ∷ [])
-      (without_mount w (place_or_nowhere r).mount)
+  answer r = outcome (unmounted_refusals w r) (unmounted_effect w r)
 
   pub unmounted-done : walk w.skel w.forest n path ≡ Ok p → is_mount_root w p ≡ true → is_root_mount w p ≡ false → list_any (stands_on p.mount) w.forest ≡ false
       → (gone : ℕ → Bool) → gone ≡ is_removed w p.mount → unmounted w n path ≡ Ok (once_gone w gone)

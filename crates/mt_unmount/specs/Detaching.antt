@@ -1,6 +1,6 @@
 -- detach, umount2(2) with MNT_DETACH: the world after the call, or the first refusal whose condition holds.
 -- A word with no source is this project's rule.
-use Rattle.std.specs.Prelude.{ℕ, Bool, not, ◌&&◌, ◌++◌, List, [], ◌∷◌, Result}
+use Rattle.std.specs.Prelude.{ℕ, Bool, not, ◌&&◌, ◌++◌, List, [], ◌∷◌, Option, Result}
 use Rattle.std.specs.List.{filter_map, flat_map, list_all}
 use Rattle.std.specs.Option.{option_map, option_map_or}
 use Rattle.mt_skel.specs.declared.fault.Fault.{Fault}
@@ -42,14 +42,27 @@ without_tree w i = once_gone w (is_detached w i)
 
 -- detach names the topmost mount at the end of a path, so with `/` the one on top of what stands on the root place (umount2(2):
 -- the topmost mount)
-abbrev pub named_place : WorldView → ℕ → List (List ℕ) → Place
-named_place w n path = top w.forest (place_or_nowhere (walk w.skel w.forest n path))
+abbrev pub topmost : WorldView → Result Place Fault → Place
+topmost w at = top w.forest (place_or_nowhere at)
 
--- the mount that a path names is detached (umount2(2), MNT_DETACH and EINVAL; that a root mount stays is this project's rule)
+abbrev pub named_place : WorldView → ℕ → List (List ℕ) → Place
+named_place w n path = topmost w (walk w.skel w.forest n path)
+
+-- the refusals of a detach, where its path was found to lead there (umount2(2), EINVAL; that a root mount stays is this project's
+-- rule)
+abbrev pub detached_refusals : WorldView → Result Place Fault → List (Option Fault)
+detached_refusals w at =
+    let p = topmost w at in
+    fault_of at
+    ∷ refuse_if (not (is_mount_root w p)) NotMountRoot
+    ∷ refuse_if (is_root_mount w p) RootPlace ∷ []
+
+-- what it makes of the world
+abbrev pub detached_effect : WorldView → Result Place Fault → WorldView
+detached_effect w at = without_tree w (topmost w at).mount
+
+-- the mount that a path names is detached (umount2(2), MNT_DETACH)
 abbrev pub detached : WorldView → ℕ → List (List ℕ) → Result WorldView Fault
 detached w n path =
-    let p = named_place w n path in
-    outcome (fault_of (walk w.skel w.forest n path)
-    ∷ refuse_if (not (is_mount_root w p)) NotMountRoot
-    ∷ refuse_if (is_root_mount w p) RootPlace ∷ [])
-    (without_tree w p.mount)
+    let at = walk w.skel w.forest n path in
+    outcome (detached_refusals w at) (detached_effect w at)

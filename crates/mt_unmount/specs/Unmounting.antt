@@ -1,12 +1,13 @@
 -- umount: the world after the call, or the first refusal whose condition holds.
 -- A word with no source is this project's rule.
-use Rattle.std.specs.Prelude.{ℕ, Bool, false, not, ◌==◌, List, [], ◌∷◌, map, Result}
+use Rattle.std.specs.Prelude.{ℕ, Bool, false, not, ◌==◌, List, [], ◌∷◌, map, Option, Result}
 use Rattle.std.specs.List.{filter, filter_map, list_any, list_all}
 use Rattle.std.specs.Option.{option_map_or}
 use Rattle.mt_skel.specs.declared.fault.Fault.{Fault}
 use Rattle.mt_skel.specs.declared.fault.Fault.TheVariants.{NotMountRoot, RootPlace, Busy}
 use Rattle.mt_skel.specs.Outcome.{refuse_if, fault_of, outcome}
 use Rattle.mt_mounts.specs.declared.mount.Mount.{Mount}
+use Rattle.mt_mounts.specs.declared.mount.Place.{Place}
 use Rattle.mt_mounts.specs.Forest.{on, id_of, stands_on}
 use Rattle.mt_mounts.specs.Walk.{walk}
 use Rattle.mt_propagate.specs.World.{WorldView}
@@ -37,13 +38,22 @@ is_removed w i j = list_any (λ k. k == j) (removed w i)
 unfoldable pub without_mount : WorldView → ℕ → WorldView
 without_mount w i = once_gone w (is_removed w i)
 
--- the mount that a path names is unmounted (`sharedsubtree`, unmount semantics; umount(2), EBUSY and EINVAL; that a root mount
--- stays is this project's rule)
-abbrev pub unmounted : WorldView → ℕ → List (List ℕ) → Result WorldView Fault
-unmounted w n path =
-    let p = place_or_nowhere (walk w.skel w.forest n path) in
-    outcome (fault_of (walk w.skel w.forest n path)
+-- the refusals of an unmount, where its path was found to lead there (umount(2), EBUSY and EINVAL; that a root mount stays is this
+-- project's rule)
+abbrev pub unmounted_refusals : WorldView → Result Place Fault → List (Option Fault)
+unmounted_refusals w at =
+    let p = place_or_nowhere at in
+    fault_of at
     ∷ refuse_if (not (is_mount_root w p)) NotMountRoot
     ∷ refuse_if (is_root_mount w p) RootPlace
-    ∷ refuse_if (list_any (stands_on p.mount) w.forest) Busy ∷ [])
-    (without_mount w p.mount)
+    ∷ refuse_if (list_any (stands_on p.mount) w.forest) Busy ∷ []
+
+-- what it makes of the world
+abbrev pub unmounted_effect : WorldView → Result Place Fault → WorldView
+unmounted_effect w at = without_mount w (place_or_nowhere at).mount
+
+-- the mount that a path names is unmounted (`sharedsubtree`, unmount semantics)
+abbrev pub unmounted : WorldView → ℕ → List (List ℕ) → Result WorldView Fault
+unmounted w n path =
+    let at = walk w.skel w.forest n path in
+    outcome (unmounted_refusals w at) (unmounted_effect w at)
