@@ -39,10 +39,11 @@ has_name : (o : Option ℕ) → is_none o ≡ false → o ≡ Some (unwrap_or o 
 has_name (Some f) e = refl
 has_name None e = absurd (cc)
 
--- the filesystem of a name, and the copies of a source tree at a place are not too many
+-- the number of the filesystem with a name
 abbrev pub fs_of : WorldView → List ℕ → ℕ
 fs_of w name = unwrap_or (fs_named w.skel name) 0
 
+-- the copies of a source tree at a place are not too many
 abbrev pub AreFew : WorldView → Source → Place → Type 0
 AreFew w src p = too_many_mounts w (length (new_copies w src p)) ≡ false
 

@@ -1,12 +1,12 @@
 -- What the copy of a namespace, done mount by mount, makes of a world.
-use Rattle.std.proofs.Common.{◌≡◌, ℕ, ◌+◌, Bool, true, false, ◌||◌, List, [], ◌∷◌, ◌++◌, map, length, Option, Some, None, Result, Ok, not, refl, sym, ap, ◌∙◌, subst, arith}
+use Rattle.std.proofs.Common.{◌≡◌, ℕ, ◌+◌, Bool, true, false, ◌||◌, List, [], ◌++◌, map, length, Option, Some, None, Ok, not, refl, sym, ap, ◌∙◌, subst, arith}
 use Rattle.std.specs.Option.{is_some, option_map}
+use Rattle.std.proofs.lemmas.Bool.{or_parts}
 use Rattle.std.proofs.lemmas.Bool.Decides.{nat_tests}
 use Rattle.std.proofs.lemmas.List.{length-map}
-use Rattle.mt_skel.specs.declared.fault.Fault.{Fault}
 use Rattle.mt_skel.specs.declared.fault.Fault.TheVariants.{NoNamespace, TooMany}
 use Rattle.mt_skel.specs.Keyed.{rises}
-use Rattle.mt_skel.specs.Outcome.{refuse_if, outcome}
+use Rattle.mt_skel.proofs.OutcomeLaws.{passed}
 use Rattle.mt_mounts.specs.declared.mount.Mount.{Mount}
 use Rattle.mt_mounts.specs.Forest.{id_of}
 use Rattle.mt_peers.specs.declared.state.State.{State}
@@ -66,18 +66,7 @@ space-there None id b e f off = absurd (let v : is_some id ≡ false = ap is_som
 space-there (Some m) id b e f off = refl
 
 -- what a copy of a namespace answers
-module _ (w : WorldView) (n : ℕ) (less : Bool) where
-  abbrev both : Bool
-  both = too_many_spaces w || too_many_mounts w (length (originals w n))
-
-  module _ (there : is_space w n ≡ true) where
-    abbrev answer : Bool → Bool → Bool → Result (WorldView × ℕ) Fault
-    answer a b c = outcome (refuse_if (not a) NoNamespace ∷ refuse_if b TooMany ∷ refuse_if c TooMany ∷ []) (with_copy w n less, w.next_space)
-
-    neither : (b c : Bool) → (b || c) ≡ false → answer true b c ≡ Ok (with_copy w n less, w.next_space)
-    neither true c e = absurd (cc)
-    neither false true e = absurd (cc)
-    neither false false e = refl
-
-    pub copy-done : both ≡ false → copy_space w n less ≡ Ok (with_copy w n less, w.next_space)
-    copy-done e = ap (λ a. answer a (too_many_spaces w) (too_many_mounts w (length (originals w n)))) there ∙ neither (too_many_spaces w) (too_many_mounts w (length (originals w n))) e
+pub copy-done : (w : WorldView) (n : ℕ) (less : Bool) → is_space w n ≡ true → (too_many_spaces w || too_many_mounts w (length (originals w n))) ≡ false → copy_space w n less ≡ Ok (with_copy w n less, w.next_space)
+copy-done w n less there e =
+    let few = or_parts (too_many_spaces w) (too_many_mounts w (length (originals w n))) e in
+    passed (not (is_space w n)) NoNamespace _ _ (ap not there) ∙ passed (too_many_spaces w) TooMany _ _ few.0 ∙ passed (too_many_mounts w (length (originals w n))) TooMany [] _ few.1

@@ -4,7 +4,7 @@ use Rattle.std.specs.Option.{is_some, option_map, unwrap_or}
 use Rattle.std.proofs.lemmas.Bool.Decides.{nat_tests}
 use Rattle.mt_skel.specs.declared.fault.Fault.TheVariants.{NoNamespace}
 use Rattle.mt_skel.specs.Keyed.{without, among}
-use Rattle.mt_skel.specs.Outcome.{refuse_if, outcome}
+use Rattle.mt_skel.proofs.OutcomeLaws.{passed}
 use Rattle.mt_skel.proofs.KeyedLaws.{row_at-filter, passing}
 use Rattle.mt_mounts.specs.declared.mount.Mount.{Mount}
 use Rattle.mt_mounts.specs.Forest.{id_of, is_root, root_mount, mount_at}
@@ -67,7 +67,7 @@ module _ (w : WorldView) (h : IsWellFormed w) (n : ℕ) where
   -- and so is what the end of a namespace answers
   pub drop-done : is_space w n ≡ true → (u v : WorldView) (ids : List ℕ) → u ≡ w → ids ≡ map id_of (originals w n) → v ≡ without_mounts u ids → drop_space w n ≡ Ok v
   drop-done is u v ids still e made =
-      ap (λ a. outcome (refuse_if (not a) NoNamespace ∷ []) (without_space w n)) is
+      passed (not (is_space w n)) NoNamespace [] (without_space w n) (ap not is)
       ∙ ap (λ (x : WorldView). Ok x) (sym (made ∙ ap (λ (x : WorldView). without_mounts x ids) still ∙ without-is is ids e))
 
   pub drop-kept : is_space w n ≡ true → (u v : WorldView) (ids : List ℕ) → u ≡ w → ids ≡ map id_of (originals w n) → v ≡ without_mounts u ids → IsWellFormed v

@@ -68,10 +68,6 @@ pivots w n new old v h e =
     let p = path_end w n old in
     record { new = s.mount; old = root_id w n; dest = p; made = a.world; may = may_pivot w n new old s p h a.begun a.placed a.ended a.off_root a.inside; here = ended-inside w h n new (ap fault_of a.begun) }
 
--- what it makes of the world
-pub pivot_made : (w v : WorldView) (n : ℕ) (new old : List (List ℕ)) → pivoted w n new old ≡ Ok v → (i : ℕ) × (j : ℕ) × (p : Place) × (v ≡ with_pivot w i j p)
-pivot_made w v n new old e = ((path_end w n new).mount, root_id w n, path_end w n old, sym (pivot_accepted w n new old v e).world)
-
 pub pivoted_keeps : (w : WorldView) (n : ℕ) (new old : List (List ℕ)) (v : WorldView) → IsWellFormed w → pivoted w n new old ≡ Ok v → IsWellFormed v
 pivoted_keeps w n new old v h e =
     let a = pivots w n new old v h e in

@@ -1,6 +1,6 @@
 -- What a new namespace leads to, and that a well-formed world stays so.
-use Rattle.std.proofs.Common.{◌≡◌, ℕ, ◌+◌, ◌<◌, true, false, ◌||◌, List, length, Some, None, Ok, refl, ap, ◌∙◌, arith}
-use Rattle.std.specs.Prelude.{Bool}
+use Rattle.std.proofs.Common.{◌≡◌, ℕ, ◌+◌, ◌<◌, false, ◌||◌, List, length, Some, None, Ok, refl, ap, ◌∙◌, arith}
+use Rattle.std.proofs.lemmas.Bool.{or_parts}
 use Rattle.mt_skel.specs.declared.fault.Fault.TheVariants.{TooMany}
 use Rattle.mt_skel.specs.Outcome.{outcome}
 use Rattle.mt_skel.proofs.OutcomeLaws.{passed}
@@ -24,15 +24,11 @@ unfolding with_space
 space-kept w fs h there =
     private-kept w (new_root w fs) (w.next_space + 1) h (root_fits w (new_root w fs) h refl refl refl) refl h.from_one.1 (omega arith) (omega arith) there
 
-neither : (a b : Bool) → (a || b) ≡ false → (a ≡ false) × (b ≡ false)
-neither true b e = absurd (cc)
-neither false b e = (refl, e)
-
 -- a new namespace where no refusal holds
 pub new_space_done : (w : WorldView) (name : List ℕ) (f : ℕ) → fs_named w.skel name ≡ Some f → (too_many_spaces w || too_many_mounts w 1) ≡ false
     → new_space w name ≡ Ok (with_space w f, w.next_space)
 new_space_done w name f e few =
-    let both = neither (too_many_spaces w) (too_many_mounts w 1) few in
+    let both = or_parts (too_many_spaces w) (too_many_mounts w 1) few in
     ap (λ o. outcome (new_space_refusals w o) (new_space_effect w o)) e
     ∙ passed (too_many_spaces w) TooMany _ _ both.0 ∙ passed (too_many_mounts w 1) TooMany _ _ both.1
 
