@@ -1,12 +1,10 @@
 -- Only `Open` begins a watcher, and what a watcher is when it begins.
 use Rattle.std.proofs.Common.{◌≡◌, ◌⊎◌, inl, inr, ℕ, ◌+◌, Bool, true, false, cond, List, [], ◌∷◌, ◌++◌, length, Option, Some, None, slice_get, Ok, Err, refl, sym, ap, ◌∙◌, subst, arith}
-use Rattle.std.specs.Prelude.{Result, nat_le}
+use Rattle.std.specs.Prelude.{Result}
 use Rattle.std.specs.Option.{option_map_or}
 use Rattle.mt_skel.specs.declared.fault.Fault.{Fault}
-use Rattle.mt_skel.specs.declared.fault.Fault.TheVariants.{NoWatcher, Stopped, JournalFull, NoNamespace, TooManyWatchers}
-use Rattle.mt_skel.specs.Outcome.{refuse_if, first_fault}
+use Rattle.mt_skel.specs.declared.fault.Fault.TheVariants.{NoWatcher}
 use Rattle.mt_skel.specs.Keyed.{row_at}
-use Rattle.mt_skel.proofs.OutcomeLaws.{first_none, not_refused}
 use Rattle.std.proofs.lemmas.List.{append-nil}
 use Rattle.mt_propagate.specs.World.{WorldView}
 use Rattle.mt_propagate.proofs.RowLaws.{row-second}
@@ -23,8 +21,8 @@ use Rattle.mt_floor.specs.declared.event.Event.TheVariants.{Apply, PostNext, Ope
 use Rattle.mt_floor.specs.declared.event.Answer.{Answer}
 use Rattle.mt_floor.specs.declared.event.Answer.TheVariants.{Opened, Took, NotNow}
 use Rattle.mt_floor.specs.Watcher.{Watcher, Due, key_of, due_for, opening_of, is_missing}
-use Rattle.mt_floor.specs.Schedule.{FloorView, Stepped, floor_step, unless, if_idle, at_row, changed, sent_to, is_full, posted, applied, replied, nothing_left, took, met, closed, halted, opened, too_many_watchers, has_open}
-use Rattle.mt_book.specs.Book.{command_limit}
+use Rattle.mt_floor.specs.Schedule.{FloorView, Stepped, floor_step, unless, if_idle, at_row, changed, sent_to, is_full, posted, applied, replied, nothing_left, took, met, closed, halted, opened, has_open, command_refusal, opening_refusal}
+use Rattle.mt_floor.proofs.AllowedLaws.{opening_allowed}
 use Rattle.mt_floor.proofs.RowLaws.{same_key, fresh}
 use Rattle.mt_floor.proofs.HeldLaws.{Kept, IsRowFor, Held}
 use Rattle.mt_floor.proofs.FloorLaws.{newcomer, newcomer_kept, nothing}
@@ -130,12 +128,12 @@ open_begins s sc k none there k' key o e =
 
 pub begins : (s : FloorView) (e : Event) → Kept s → Begins s (floor_step s e)
 unfolding floor_step
-begins s (Apply c) k = idle s (applied s c) (λ none. refused s (first_fault (refuse_if s.stopped Stopped ∷ refuse_if (nat_le command_limit (length s.journal)) JournalFull ∷ [])) (replied s c (step (after s.journal) c)) (λ q. no_apply s c (step (after s.journal) c)))
+begins s (Apply c) k = idle s (applied s c) (λ none. refused s (command_refusal s) (replied s c (step (after s.journal) c)) (λ q. no_apply s c (step (after s.journal) c)))
 begins s PostNext k = no_post s s.due
 begins s (Open sc) k =
-    idle s (opened s sc) (λ none. refused s (first_fault (refuse_if (is_missing s.journal sc) NoNamespace ∷ refuse_if (too_many_watchers s) TooManyWatchers ∷ refuse_if s.stopped Stopped ∷ []))
+    idle s (opened s sc) (λ none. refused s (opening_refusal s sc)
     (opens s sc, Ok (Opened s.next_key (opening_of s.journal sc)))
-    (λ q. open_begins s sc k none (not_refused (is_missing s.journal sc) NoNamespace (first_none (refuse_if (is_missing s.journal sc) NoNamespace) (refuse_if (too_many_watchers s) TooManyWatchers ∷ refuse_if s.stopped Stopped ∷ []) q).0) (newcomer_kept s sc k)))
+    (λ q. open_begins s sc k none (opening_allowed s sc q).there (newcomer_kept s sc k)))
 begins s (Take q) k = of_row s q (took s) (no_take s)
 begins s (Meet q) k = idle s (at_row s q (met s)) (λ none. of_row s q (met s) (λ r key o e. absurd (cc)))
 begins s (Close q) k = idle s (at_row s q (closed s)) (λ none. of_row s q (closed s) (λ r key o e. absurd (cc)))
@@ -194,10 +192,10 @@ take_counts s r = by (slice_get r.sent (length r.taken))
 
 pub counts : (s : FloorView) (e : Event) → Counts s (floor_step s e)
 unfolding floor_step
-counts s (Apply c) = idle_counts s (applied s c) (refused_counts s (first_fault (refuse_if s.stopped Stopped ∷ refuse_if (nat_le command_limit (length s.journal)) JournalFull ∷ [])) (replied s c (step (after s.journal) c)) (apply_counts s c (step (after s.journal) c)))
+counts s (Apply c) = idle_counts s (applied s c) (refused_counts s (command_refusal s) (replied s c (step (after s.journal) c)) (apply_counts s c (step (after s.journal) c)))
 counts s PostNext = post_counts s s.due
 counts s (Open sc) =
-    idle_counts s (opened s sc) (refused_counts s (first_fault (refuse_if (is_missing s.journal sc) NoNamespace ∷ refuse_if (too_many_watchers s) TooManyWatchers ∷ refuse_if s.stopped Stopped ∷ []))
+    idle_counts s (opened s sc) (refused_counts s (opening_refusal s sc)
     (opens s sc, Ok (Opened s.next_key (opening_of s.journal sc))) (inr (record { opening = opening_of s.journal sc; answer = refl; next = refl })))
 counts s (Take q) = row_counts s q (took s) (take_counts s)
 counts s (Meet q) = idle_counts s (at_row s q (met s)) (row_counts s q (met s) (λ r. inl refl))

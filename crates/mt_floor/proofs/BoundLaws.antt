@@ -6,9 +6,7 @@ use Rattle.std.specs.Option.{option_map_or}
 use Rattle.std.proofs.lemmas.Bool.Decides.{nat_tests}
 use Rattle.std.proofs.lemmas.List.{length-map, take-append-drop}
 use Rattle.mt_skel.specs.declared.fault.Fault.{Fault}
-use Rattle.mt_skel.specs.declared.fault.Fault.TheVariants.{NoWatcher, Stopped, JournalFull, NoNamespace, TooManyWatchers}
-use Rattle.mt_skel.specs.Outcome.{refuse_if, first_fault}
-use Rattle.mt_skel.proofs.OutcomeLaws.{first_none, not_refused}
+use Rattle.mt_skel.specs.declared.fault.Fault.TheVariants.{NoWatcher}
 use Rattle.mt_skel.specs.Keyed.{row_at, put, rises}
 use Rattle.mt_skel.proofs.KeyedLaws.{row_at-key, row_at-below}
 use Rattle.mt_propagate.specs.World.{WorldView}
@@ -26,8 +24,9 @@ use Rattle.mt_floor.specs.declared.watch.Phase.TheVariants.{Lagged, Ended}
 use Rattle.mt_floor.specs.declared.event.Event.{Event}
 use Rattle.mt_floor.specs.declared.event.Event.TheVariants.{Apply, PostNext, Open, Take, Meet, Close, Stop}
 use Rattle.mt_floor.specs.declared.event.Answer.TheVariants.{Opened, Took, NotNow}
-use Rattle.mt_floor.specs.Watcher.{Watcher, Due, key_of, is_open, opening_of, is_missing}
-use Rattle.mt_floor.specs.Schedule.{FloorView, Stepped, watcher_limit, floor_step, unless, if_idle, at_row, changed, sent_to, is_full, posted, applied, replied, nothing_left, took, met, closed, halted, opened, too_many_watchers}
+use Rattle.mt_floor.specs.Watcher.{Watcher, Due, key_of, is_open, opening_of}
+use Rattle.mt_floor.specs.Schedule.{FloorView, Stepped, watcher_limit, floor_step, unless, if_idle, at_row, changed, sent_to, is_full, posted, applied, replied, nothing_left, took, met, closed, halted, opened, too_many_watchers, command_refusal, opening_refusal}
+use Rattle.mt_floor.proofs.AllowedLaws.{command_allowed, opening_allowed}
 use Rattle.mt_book.specs.Book.{command_limit}
 use Rattle.mt_floor.specs.WellFormed.{IsFollower, IsBounded}
 use Rattle.mt_floor.proofs.RowLaws.{is_low}
@@ -125,22 +124,13 @@ module _ (s : FloorView) (h : IsBounded s) (order : rises key_of s.watchers ≡ 
 pub bounded : (s : FloorView) (e : Event) → IsBounded s → rises key_of s.watchers ≡ true → IsBounded (floor_step s e).0
 unfolding floor_step
 bounded s (Apply c) h order =
-    let stop = refuse_if s.stopped Stopped in
-    let full = refuse_if (nat_le command_limit (length s.journal)) JournalFull in
-    idle s h order (applied s c) (refused s h order (first_fault (stop ∷ full ∷ [])) (replied s c (step (after s.journal) c)) (λ none.
-    let one = first_none stop (full ∷ []) none in
-    let two = first_none full [] one.1 in
-    apply_bounded s h order c (step (after s.journal) c) (room command_limit (length s.journal) (not_refused (nat_le command_limit (length s.journal)) JournalFull two.0))))
+    idle s h order (applied s c) (refused s h order (command_refusal s) (replied s c (step (after s.journal) c)) (λ none.
+    apply_bounded s h order c (step (after s.journal) c) (room command_limit (length s.journal) (command_allowed s none).few)))
 bounded s PostNext h order = post_bounded s h order s.due
 bounded s (Open sc) h order =
-    let missing = refuse_if (is_missing s.journal sc) NoNamespace in
-    let many = refuse_if (too_many_watchers s) TooManyWatchers in
-    let stop = refuse_if s.stopped Stopped in
-    idle s h order (opened s sc) (refused s h order (first_fault (missing ∷ many ∷ stop ∷ []))
-    (record s { next_key = s.next_key + 1; watchers = s.watchers ++ newcomer s sc ∷ [] }, Ok (Opened s.next_key (opening_of s.journal sc))) (λ none.
-    let one = first_none missing (many ∷ stop ∷ []) none in
-    let two = first_none many (stop ∷ []) one.1 in
-    open_bounded s h order sc (not_refused (too_many_watchers s) TooManyWatchers two.0)))
+    idle s h order (opened s sc) (refused s h order (opening_refusal s sc)
+    (record s { next_key = s.next_key + 1; watchers = s.watchers ++ newcomer s sc ∷ [] }, Ok (Opened s.next_key (opening_of s.journal sc)))
+    (λ none. open_bounded s h order sc (opening_allowed s sc none).few))
 bounded s (Take q) h order = of_row s h order q (took s) (λ r at. take_bounded s h order q r at)
 bounded s (Meet q) h order = idle s h order (at_row s q (met s)) (of_row s h order q (met s) (λ r at. h))
 bounded s (Close q) h order = idle s h order (at_row s q (closed s)) (of_row s h order q (closed s) (λ r at. close_bounded s h order r))

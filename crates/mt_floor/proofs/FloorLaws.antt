@@ -1,12 +1,11 @@
 -- What each event keeps, and what it does to the watcher of one key.
 use Rattle.std.proofs.Common.{◌≡◌, ℕ, ◌+◌, Bool, true, false, cond, not, ◌⊎◌, inl, inr, eqb, ltb, List, [], ◌∷◌, ◌++◌, length, drop, map, Option, Some, None, slice_get, Ok, Err, refl, sym, ap, ◌∙◌, subst, arith, append_assoc}
-use Rattle.std.specs.Prelude.{Result, nat_le}
+use Rattle.std.specs.Prelude.{Result}
 use Rattle.std.specs.List.{filter, list_all}
 use Rattle.std.specs.Option.{option_map, option_map_or}
 use Rattle.std.proofs.lemmas.List.{append-nil}
 use Rattle.mt_skel.specs.declared.fault.Fault.{Fault}
-use Rattle.mt_skel.specs.declared.fault.Fault.TheVariants.{Lagged as WasLagged, Stopped, JournalFull, NoNamespace, TooManyWatchers}
-use Rattle.mt_skel.specs.Outcome.{refuse_if, first_fault}
+use Rattle.mt_skel.specs.declared.fault.Fault.TheVariants.{Lagged as WasLagged, Stopped}
 use Rattle.mt_skel.specs.Keyed.{row_at}
 use Rattle.mt_skel.proofs.KeyedLaws.{row_at-key, row_at-filter, row_at-map, rises-filter, rises-map, passing}
 use Rattle.mt_propagate.specs.World.{WorldView}
@@ -20,9 +19,8 @@ use Rattle.mt_floor.specs.declared.watch.Phase.TheVariants.{Open as IsOpen, Lagg
 use Rattle.mt_floor.specs.declared.event.Event.{Event}
 use Rattle.mt_floor.specs.declared.event.Event.TheVariants.{Apply, PostNext, Open, Take, Meet, Close, Stop}
 use Rattle.mt_floor.specs.declared.event.Answer.TheVariants.{Opened, Took}
-use Rattle.mt_floor.specs.Watcher.{Watcher, key_of, is_open, due_for, opening_of, is_missing}
-use Rattle.mt_floor.specs.Schedule.{FloorView, floor_step, unless, at_row, changed, replied, nothing_left, took, met, closed, halted, opened, too_many_watchers, has_open}
-use Rattle.mt_book.specs.Book.{command_limit}
+use Rattle.mt_floor.specs.Watcher.{Watcher, key_of, is_open, due_for, opening_of}
+use Rattle.mt_floor.specs.Schedule.{FloorView, floor_step, at_row, changed, replied, nothing_left, took, met, closed, halted, opened, has_open, applied, command_refusal, opening_refusal}
 use Rattle.mt_floor.proofs.RowLaws.{differs, same_key, is_key, low_test, put_same, put_other, other_last, all_filter, all_higher, all_last, rises-last}
 use Rattle.mt_floor.proofs.HeldLaws.{Kept, IsRowFor, Held, Goes, held_same, more, off, still, idle, refused, of_row, kept_put, apply_goes, post_goes}
 
@@ -256,8 +254,8 @@ pub goes :
     → Goes key scope before since sent taken s e (floor_step s e)
 unfolding floor_step
 goes key scope before since sent taken s k h (Apply c) =
-    idle key scope before since sent taken s k h (Apply c) (unless (first_fault (refuse_if s.stopped Stopped ∷ refuse_if (nat_le command_limit (length s.journal)) JournalFull ∷ [])) s (replied s c (step (after s.journal) c)))
-    (λ none. refused key scope before since sent taken s k h (Apply c) (first_fault (refuse_if s.stopped Stopped ∷ refuse_if (nat_le command_limit (length s.journal)) JournalFull ∷ [])) (replied s c (step (after s.journal) c)) (by none (step (after s.journal) c)))
+    idle key scope before since sent taken s k h (Apply c) (applied s c)
+    (λ none. refused key scope before since sent taken s k h (Apply c) (command_refusal s) (replied s c (step (after s.journal) c)) (by none (step (after s.journal) c)))
   where
     by : s.due ≡ [] → (q : Result (WorldView × Reply) Fault) → Goes key scope before since sent taken s (Apply c) (replied s c q)
     by none (Ok p) = apply_goes key scope before since sent taken s k h c p none
@@ -265,7 +263,7 @@ goes key scope before since sent taken s k h (Apply c) =
 goes key scope before since sent taken s k h PostNext = post_goes key scope before since sent taken s k h
 goes key scope before since sent taken s k h (Open sc) =
     idle key scope before since sent taken s k h (Open sc) (opened s sc)
-    (λ none. refused key scope before since sent taken s k h (Open sc) (first_fault (refuse_if (is_missing s.journal sc) NoNamespace ∷ refuse_if (too_many_watchers s) TooManyWatchers ∷ refuse_if s.stopped Stopped ∷ []))
+    (λ none. refused key scope before since sent taken s k h (Open sc) (opening_refusal s sc)
     (record s { next_key = s.next_key + 1; watchers = s.watchers ++ newcomer s sc ∷ [] }, Ok (Opened s.next_key (opening_of s.journal sc)))
     (open_goes key scope before since sent taken s k h sc))
 goes key scope before since sent taken s k h (Take q) = of_row key scope before since sent taken s k h (Take q) q (took s) (λ r at. take_goes key scope before since sent taken s k h q r at)

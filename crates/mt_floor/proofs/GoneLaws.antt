@@ -1,11 +1,10 @@
 -- Nothing is due to a key that has no watcher, and nothing becomes due to it.
 use Rattle.std.proofs.Common.{◌≡◌, ℕ, Bool, true, false, cond, eqb, List, [], ◌∷◌, ◌++◌, length, Option, Some, None, slice_get, Ok, Err, refl, ap, ◌∙◌}
-use Rattle.std.specs.Prelude.{Result, nat_le}
+use Rattle.std.specs.Prelude.{Result}
 use Rattle.std.specs.Option.{option_map_or}
 use Rattle.mt_skel.specs.declared.fault.Fault.{Fault}
-use Rattle.mt_skel.specs.declared.fault.Fault.TheVariants.{NoWatcher, Stopped, JournalFull, NoNamespace, TooManyWatchers}
+use Rattle.mt_skel.specs.declared.fault.Fault.TheVariants.{NoWatcher}
 use Rattle.mt_skel.specs.Keyed.{row_at, rises}
-use Rattle.mt_skel.specs.Outcome.{refuse_if, first_fault}
 use Rattle.mt_propagate.specs.World.{WorldView}
 use Rattle.mt_events.specs.Posts.{PostView}
 use Rattle.mt_book.specs.declared.command.Command.{Command}
@@ -15,9 +14,8 @@ use Rattle.mt_book.specs.History.{posts_of}
 use Rattle.mt_floor.specs.declared.event.Event.{Event}
 use Rattle.mt_floor.specs.declared.event.Event.TheVariants.{Apply, PostNext, Open, Take, Meet, Close, Stop}
 use Rattle.mt_floor.specs.declared.event.Answer.TheVariants.{Opened, Took, NotNow}
-use Rattle.mt_floor.specs.Watcher.{Watcher, Due, key_of, due_for, opening_of, is_missing}
-use Rattle.mt_floor.specs.Schedule.{FloorView, Stepped, floor_step, unless, if_idle, at_row, changed, sent_to, is_full, posted, replied, nothing_left, took, met, closed, halted, opened, too_many_watchers}
-use Rattle.mt_book.specs.Book.{command_limit}
+use Rattle.mt_floor.specs.Watcher.{Watcher, Due, key_of, due_for, opening_of}
+use Rattle.mt_floor.specs.Schedule.{FloorView, Stepped, floor_step, unless, if_idle, at_row, changed, sent_to, is_full, posted, replied, nothing_left, took, met, closed, halted, opened, applied, command_refusal, opening_refusal}
 use Rattle.mt_floor.proofs.DueLaws.{due_row, due_all, but_other}
 use Rattle.mt_floor.proofs.BeginLaws.{opens}
 
@@ -73,11 +71,11 @@ module _ (s : FloorView) (key : ℕ) (order : rises key_of s.watchers ≡ true) 
   pub none_stays : (e : Event) → Still (floor_step s e)
   unfolding floor_step
   none_stays (Apply c) =
-      idle (unless (first_fault (refuse_if s.stopped Stopped ∷ refuse_if (nat_le command_limit (length s.journal)) JournalFull ∷ [])) s (replied s c (step (after s.journal) c)))
-      (refused (first_fault (refuse_if s.stopped Stopped ∷ refuse_if (nat_le command_limit (length s.journal)) JournalFull ∷ [])) (replied s c (step (after s.journal) c)) (after_reply c (step (after s.journal) c)))
+      idle (applied s c)
+      (refused (command_refusal s) (replied s c (step (after s.journal) c)) (after_reply c (step (after s.journal) c)))
   none_stays PostNext = after_post s.due h
   none_stays (Open scope) =
-      idle (opened s scope) (refused (first_fault (refuse_if (is_missing s.journal scope) NoNamespace ∷ refuse_if (too_many_watchers s) TooManyWatchers ∷ refuse_if s.stopped Stopped ∷ [])) (opens s scope, Ok (Opened s.next_key (opening_of s.journal scope))) h)
+      idle (opened s scope) (refused (opening_refusal s scope) (opens s scope, Ok (Opened s.next_key (opening_of s.journal scope))) h)
   none_stays (Take q) = of_row q (took s) after_take
   none_stays (Meet q) = idle (at_row s q (met s)) (of_row q (met s) (λ r. h))
   none_stays (Close q) = idle (at_row s q (closed s)) (of_row q (closed s) (λ r. h))

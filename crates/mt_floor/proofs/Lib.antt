@@ -1,3 +1,4 @@
+pub mod AllowedLaws
 pub mod DueLaws
 pub mod RowLaws
 pub mod HeldLaws

@@ -4,17 +4,16 @@ use Rattle.std.specs.Prelude.{Result}
 use Rattle.std.specs.List.{filter}
 use Rattle.std.specs.Option.{option_map_or}
 use Rattle.mt_skel.specs.declared.fault.Fault.{Fault}
-use Rattle.mt_skel.specs.declared.fault.Fault.TheVariants.{NoWatcher, Stopped, NoNamespace, TooManyWatchers}
+use Rattle.mt_skel.specs.declared.fault.Fault.TheVariants.{NoWatcher}
 use Rattle.mt_skel.specs.Keyed.{row_at}
-use Rattle.mt_skel.specs.Outcome.{refuse_if, first_fault}
 use Rattle.mt_events.specs.Posts.{PostView}
 use Rattle.mt_events.specs.declared.opening.Scope.{Scope}
 use Rattle.mt_floor.specs.declared.event.Event.{Event}
 use Rattle.mt_floor.specs.declared.event.Event.TheVariants.{PostNext, Open, Take, Meet, Close, Stop}
 use Rattle.mt_floor.specs.declared.event.Answer.{Answer}
 use Rattle.mt_floor.specs.declared.event.Answer.TheVariants.{Opened, Took, NotNow}
-use Rattle.mt_floor.specs.Watcher.{Watcher, Due, key_of, is_open, due_for, opening_of, is_missing}
-use Rattle.mt_floor.specs.Schedule.{FloorView, Stepped, floor_step, run, settled, unless, if_idle, at_row, changed, sent_to, is_full, posted, nothing_left, took, met, closed, halted, opened, too_many_watchers}
+use Rattle.mt_floor.specs.Watcher.{Watcher, Due, key_of, is_open, due_for, opening_of}
+use Rattle.mt_floor.specs.Schedule.{FloorView, Stepped, floor_step, run, settled, unless, if_idle, at_row, changed, sent_to, is_full, posted, nothing_left, took, met, closed, halted, opened, opening_refusal}
 use Rattle.mt_floor.specs.WellFormed.{IsFloor}
 use Rattle.mt_floor.proofs.RowLaws.{same_key}
 use Rattle.mt_floor.proofs.BeginLaws.{opens}
@@ -64,7 +63,7 @@ stop_idle s none = idle_so s (halted s) none none
 
 pub open_idle : (s : FloorView) (scope : Scope) → s.due ≡ [] → (floor_step s (Open scope)).0.due ≡ []
 unfolding floor_step
-open_idle s scope none = idle_so s (opened s scope) none (by (first_fault (refuse_if (is_missing s.journal scope) NoNamespace ∷ refuse_if (too_many_watchers s) TooManyWatchers ∷ refuse_if s.stopped Stopped ∷ [])))
+open_idle s scope none = idle_so s (opened s scope) none (by (opening_refusal s scope))
   where
     by : (o : Option Fault) → (unless o s (opens s scope, Ok (Opened s.next_key (opening_of s.journal scope)))).0.due ≡ []
     by None = none
