@@ -1,20 +1,14 @@
 -- A namespace that is there has a mount, and keeps one through each command that does not end it.
-use Rattle.std.proofs.Common.{◌≡◌, ℕ, Bool, true, false, cond, ◌&&◌, ◌==◌, eqb, List, [], ◌∷◌, ◌++◌, map, length, Option, Some, None, Ok, refl, sym, ap, ◌∙◌, subst, arith}
-use Rattle.std.specs.Prelude.{not}
+use Rattle.std.proofs.Common.{◌≡◌, ℕ, Bool, true, false, cond, ◌&&◌, ◌==◌, eqb, List, ◌++◌, map, length, Option, Some, None, Ok, refl, sym, ap, ◌∙◌, subst, arith}
 use Rattle.std.specs.List.{list_any}
 use Rattle.std.specs.Option.{option_map_or, is_none, is_some}
 use Rattle.std.proofs.lemmas.Bool.Decides.{nat_tests}
-use Rattle.mt_skel.specs.declared.fault.Fault.TheVariants.{NotMountRoot, RootPlace, Busy}
-use Rattle.mt_skel.specs.Outcome.{refuse_if, fault_of}
-use Rattle.mt_skel.proofs.OutcomeLaws.{outcome_ok, first_none, not_refused}
 use Rattle.mt_skel.specs.Skeleton.{Filesystem, added_fs, added_dir}
 use Rattle.mt_mounts.specs.declared.mount.Mount.{Mount}
 use Rattle.mt_mounts.specs.declared.mount.Place.{Place}
 use Rattle.mt_mounts.specs.Forest.{id_of, mount_at, is_root, root_mount, stands_on}
-use Rattle.mt_mounts.specs.Walk.{walk}
 use Rattle.mt_propagate.specs.World.{WorldView, is_space}
 use Rattle.mt_propagate.specs.WellFormed.{IsWellFormed}
-use Rattle.mt_propagate.specs.Named.{place_or_nowhere, is_mount_root, is_root_mount}
 use Rattle.mt_propagate.specs.Copies.{Source}
 use Rattle.mt_propagate.specs.Places.{relocated, made_way, stack_end, new_mounts}
 use Rattle.mt_propagate.specs.Copied.{copied}
@@ -26,13 +20,12 @@ use Rattle.mt_bind.specs.Spaces.{with_space, new_space, with_copy, copy_space, o
 use Rattle.mt_bind.specs.Copying.{copy_of}
 use Rattle.mt_bind.specs.Mounting.{mounted, bound, moved}
 use Rattle.mt_bind.specs.Pivoting.{pivoted_mount, with_pivot, pivoted}
-use Rattle.mt_bind.proofs.PivotingLaws.{pivot_made}
 use Rattle.mt_unmount.specs.Sliding.{place_of, CanGo, once_gone}
 use Rattle.mt_unmount.specs.Unmounting.{is_removed, without_mount, unmounted}
 use Rattle.mt_unmount.specs.Detaching.{is_detached, without_tree, named_place, detached}
 use Rattle.mt_unmount.proofs.RemovedLaws.{removed-can-go}
 use Rattle.mt_unmount.proofs.CandidateLaws.{detached-can-go}
-use Rattle.mt_unmount.proofs.DetachedLaws.{detached-ok}
+use Rattle.mt_unmount.proofs.AcceptedLaws.{path_end, unmount_accepted, detach_accepted}
 use Rattle.mt_unmount.proofs.LeftTreeLaws.{stays-in}
 use Rattle.mt_setattr.specs.declared.change.Change.{Change}
 use Rattle.mt_setattr.specs.Change.{changed_mount, is_chosen, with_change, attributed}
@@ -41,7 +34,7 @@ use Rattle.mt_book.specs.declared.command.Command.TheVariants.{MakeFs, MakeDir, 
 use Rattle.mt_book.specs.declared.command.Reply.{Reply}
 use Rattle.mt_book.specs.declared.command.Reply.TheVariants.{Done, Number}
 use Rattle.mt_book.specs.Step.{step, ends_space}
-use Rattle.mt_book.proofs.EffectLaws.{skel_ok, number_ok, done_ok, space_made, copy_made, space_dropped, mount_made, bind_made, move_made, change_made}
+use Rattle.mt_book.proofs.EffectLaws.{skel_ok, number_ok, done_ok, space_made, copy_made, space_dropped, mount_made, bind_made, move_made, pivot_made, change_made}
 
 -- a mount of a namespace
 pub record Has (n : ℕ) (w : WorldView) : Type 0 where
@@ -172,20 +165,11 @@ step_has n w (Pivot k new old) v r g e d h =
     let m = pivot_made w v k new old (done_ok (pivoted w k new old) v r e) in
     subst (Has n) (sym m.3) (pivot_has n w m.0 m.1 m.2 h)
 step_has n w (Unmount k path) v r g e d h =
-    let p = place_or_nowhere (walk w.skel w.forest k path) in
-    let lost = fault_of (walk w.skel w.forest k path) in
-    let unnamed = refuse_if (not (is_mount_root w p)) NotMountRoot in
-    let root = refuse_if (is_root_mount w p) RootPlace in
-    let busy = refuse_if (list_any (stands_on p.mount) w.forest) Busy in
-    let ok = outcome_ok (lost ∷ unnamed ∷ root ∷ busy ∷ []) (without_mount w p.mount) v (done_ok (unmounted w k path) v r e) in
-    let one = first_none lost (unnamed ∷ root ∷ busy ∷ []) ok.1 in
-    let two = first_none unnamed (root ∷ busy ∷ []) one.1 in
-    let three = first_none root (busy ∷ []) two.1 in
-    let four = first_none busy [] three.1 in
-    subst (Has n) ok.0 (unmounted_has n w p.mount g (not_refused (is_root_mount w p) RootPlace three.0) (not_refused (list_any (stands_on p.mount) w.forest) Busy four.0) h)
+    let a = unmount_accepted w k path v (done_ok (unmounted w k path) v r e) in
+    subst (Has n) a.world (unmounted_has n w (path_end w k path).mount g a.placed a.bare h)
 step_has n w (Detach k path) v r g e d h =
-    let q = detached-ok w k path v (done_ok (detached w k path) v r e) in
-    subst (Has n) q.0 (detached_has n w (named_place w k path).mount g q.2 h)
+    let a = detach_accepted w k path v (done_ok (detached w k path) v r e) in
+    subst (Has n) a.world (detached_has n w (named_place w k path).mount g a.placed h)
 step_has n w (SetAttr k path change) v r g e d h =
     let m = change_made w v k path change (done_ok (attributed w k path change) v r e) in
     subst (Has n) (sym m.1) (change_has n w change m.0 h)

@@ -14,7 +14,8 @@ use Rattle.mt_propagate.specs.Contained.{IsContained, IsSameOutside}
 use Rattle.mt_bind.specs.Spaces.{new_space, with_copy, copy_space, drop_space}
 use Rattle.mt_bind.specs.Mounting.{mounted, bound, moved}
 use Rattle.mt_bind.specs.Pivoting.{pivoted}
-use Rattle.mt_bind.proofs.InsideLaws.{mount_contained, mount_outside, bind_contained, bind_outside, move_contained, move_outside, made_contained, copied_contained, less_copied, copy_parts, end_contained, end_outside}
+use Rattle.mt_bind.proofs.AcceptedLaws.{copy_space_accepted}
+use Rattle.mt_bind.proofs.InsideLaws.{mount_contained, mount_outside, bind_contained, bind_outside, move_contained, move_outside, made_contained, copied_contained, less_copied, end_contained, end_outside}
 use Rattle.mt_bind.proofs.PivotingLaws.{pivoted_contained, pivoted_outside}
 use Rattle.mt_unmount.specs.Unmounting.{unmounted}
 use Rattle.mt_unmount.specs.Detaching.{detached}
@@ -158,11 +159,11 @@ less_stands : (w : WorldView) (m n : ℕ) (v : WorldView) → IsGood w → step 
 unfolding step
 less_stands w m n v g e =
     let is = numbered_ok (copy_space w m true) v n e in
-    let made = copy_parts w m true v n is in
+    let made = copy_space_accepted w m true v n is in
     let kept = step_kept w (CopySpace m true) v (Number n) g.formed g.skeleton e in
     record {
       good = record { formed = kept.0; skeleton = kept.1 };
-      given = subst (λ x. n < x.next_space) made.0 (subst (λ k. k < (with_copy w m true).next_space) made.1 (new_given w m));
+      given = subst (λ x. n < x.next_space) made.world (subst (λ k. k < (with_copy w m true).next_space) made.number (new_given w m));
       contained = less_copied w m v n g.formed is;
     }
 

@@ -1,3 +1,4 @@
+pub mod AcceptedLaws
 pub mod SkelLaws
 pub mod EffectLaws
 pub mod StepLaws

@@ -25,7 +25,6 @@ use Rattle.mt_bind.proofs.NamespaceCopyLaws.{copy-in}
 use Rattle.mt_bind.specs.Copying.{copy_number, copy_of}
 use Rattle.mt_bind.specs.Mounting.{mounted, bound, moved}
 use Rattle.mt_bind.specs.Pivoting.{pivoted_mount, with_pivot, pivoted}
-use Rattle.mt_bind.proofs.PivotingLaws.{pivot_made}
 use Rattle.mt_unmount.specs.Sliding.{once_gone}
 use Rattle.mt_unmount.specs.Unmounting.{unmounted}
 use Rattle.mt_unmount.specs.Detaching.{detached}
@@ -38,7 +37,7 @@ use Rattle.mt_book.specs.declared.command.Command.TheVariants.{MakeFs, MakeDir, 
 use Rattle.mt_book.specs.declared.command.Reply.{Reply}
 use Rattle.mt_book.specs.declared.command.Reply.TheVariants.{Done, Number}
 use Rattle.mt_book.specs.Step.{step, makes_space, ends_space}
-use Rattle.mt_book.proofs.EffectLaws.{skel_ok, number_ok, done_ok, space_made, copy_made, copy_there, space_dropped, mount_made, bind_made, move_made, mount_gone, tree_gone, change_made}
+use Rattle.mt_book.proofs.EffectLaws.{skel_ok, number_ok, done_ok, space_made, copy_made, copy_there, space_dropped, mount_made, bind_made, move_made, pivot_made, mount_gone, tree_gone, change_made}
 use Rattle.mt_book.proofs.StepLaws.{step_kept}
 use Rattle.mt_book.proofs.HasLaws.{Has, copy_forest, copied_forest, relocated_space, step_has, space_has, has_space}
 

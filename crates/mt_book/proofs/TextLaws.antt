@@ -1,14 +1,10 @@
 -- The texts of the directories and filesystems of a world are those of the commands that made them.
-use Rattle.std.proofs.Common.{◌≡◌, ℕ, ◌+◌, ◌-◌, ◌≤◌, false, List, [], ◌∷◌, ◌++◌, length, take, nat_lt, nat_le, Result, Ok, Err, IsTrue, refl, sym, subst, arith, length-append}
+use Rattle.std.proofs.Common.{◌≡◌, ℕ, ◌+◌, ◌≤◌, false, List, [], ◌∷◌, ◌++◌, length, nat_le, Result, Ok, Err, IsTrue, refl, sym, subst, arith, length-append}
 use Rattle.std.specs.List.{list_all, AllByRecursion}
-use Rattle.std.specs.Option.{is_none, is_some, unwrap_or}
 use Rattle.std.proofs.lemmas.Bool.Decides.{nat_tests}
 use Rattle.mt_skel.specs.declared.fault.Fault.{Fault}
-use Rattle.mt_skel.specs.declared.fault.Fault.TheVariants.{TooMany, NoFilesystem, FilesystemExists, NoEntry, EntryExists}
 use Rattle.mt_skel.specs.Names.{is_label, is_name}
-use Rattle.mt_skel.specs.Outcome.{refuse_if}
-use Rattle.mt_skel.proofs.OutcomeLaws.{outcome_ok, first_none, not_refused}
-use Rattle.mt_skel.specs.Skeleton.{Skeleton, Directory, Filesystem, added_fs, added_dir, with_fs, with_dir, fs_named, directory_number, filesystem_limit, directory_limit, depth_limit}
+use Rattle.mt_skel.specs.Skeleton.{Skeleton, Directory, Filesystem, added_fs, added_dir}
 use Rattle.mt_propagate.specs.World.{WorldView, empty_world}
 use Rattle.mt_book.specs.declared.command.Command.{Command}
 use Rattle.mt_book.specs.declared.command.Command.TheVariants.{MakeFs, MakeDir}
@@ -16,6 +12,7 @@ use Rattle.mt_book.specs.declared.command.Reply.{Reply}
 use Rattle.mt_book.specs.declared.command.Reply.TheVariants.{Done, Number}
 use Rattle.mt_book.specs.Step.{step, world_or, next_world, after_from, after}
 use Rattle.mt_book.specs.Commands.{IsCommand}
+use Rattle.mt_book.proofs.AcceptedLaws.{fs_accepted, named_dir, dir_accepted}
 use Rattle.mt_book.proofs.EachLaws.{each_append}
 use Rattle.mt_book.proofs.EffectLaws.{skel_ok}
 use Rattle.mt_book.proofs.TouchedLaws.{skel_kept}
@@ -41,14 +38,10 @@ one_more fs f e =
 -- a filesystem more
 fs_texts : (s t : Skeleton) (f : Filesystem) → HasTexts s → HasLabels f → added_fs s f ≡ Ok t → HasTexts t
 fs_texts s t f h l e =
-    let there = refuse_if (is_some (fs_named s f.name)) FilesystemExists in
-    let many = refuse_if (nat_le filesystem_limit (length s.filesystems)) TooMany in
-    let full = refuse_if (nat_le directory_limit (length s.directories)) TooMany in
+    let a = fs_accepted s f t e in
     let root : Directory = record { fs = length s.filesystems + 1; path = [] } in
-    let ok = outcome_ok (there ∷ many ∷ full ∷ []) (with_fs s f) t e in
-    let two = first_none many (full ∷ []) (first_none there (many ∷ full ∷ []) ok.1).1 in
-    subst HasTexts ok.0 (record {
-      few = one_more s.filesystems f (not_refused (nat_le filesystem_limit (length s.filesystems)) TooMany two.0);
+    subst HasTexts a.skeleton (record {
+      few = one_more s.filesystems f a.few;
       labels = each_append HasLabels s.filesystems (f ∷ []) h.labels (l, tt);
       names = each_append HasNames s.directories (root ∷ []) h.names (refl, tt);
     })
@@ -56,17 +49,10 @@ fs_texts s t f h l e =
 -- a directory more
 dir_texts : (s t : Skeleton) (name : List ℕ) (path : List (List ℕ)) → HasTexts s → IsTrue (list_all is_name path) → added_dir s name path ≡ Ok t → HasTexts t
 dir_texts s t name path h l e =
-    let f = unwrap_or (fs_named s name) 0 in
-    let d : Directory = record { fs = f; path = path } in
-    let ok = outcome_ok (refuse_if (is_none (fs_named s name)) NoFilesystem
-    ∷ refuse_if (is_none (directory_number s (record { fs = f; path = take (length path - 1) path }))) NoEntry
-    ∷ refuse_if (is_some (directory_number s d)) EntryExists
-    ∷ refuse_if (nat_lt depth_limit (length path)) TooMany
-    ∷ refuse_if (nat_le directory_limit (length s.directories)) TooMany ∷ []) (with_dir s d) t e in
-    subst HasTexts ok.0 (record {
+    subst HasTexts (dir_accepted s name path t e).skeleton (record {
       few = h.few;
       labels = h.labels;
-      names = each_append HasNames s.directories (d ∷ []) h.names (l, tt);
+      names = each_append HasNames s.directories (named_dir s name path ∷ []) h.names (l, tt);
     })
 
 -- an accepted command

@@ -12,7 +12,6 @@ use Rattle.mt_propagate.specs.WellFormed.{IsWellFormed}
 use Rattle.mt_bind.specs.Spaces.{new_space, copy_space, drop_space}
 use Rattle.mt_bind.specs.Mounting.{mounted, bound, moved}
 use Rattle.mt_bind.specs.Pivoting.{pivoted}
-use Rattle.mt_bind.proofs.PivotingLaws.{pivot_made}
 use Rattle.mt_unmount.specs.Unmounting.{unmounted}
 use Rattle.mt_unmount.specs.Detaching.{detached}
 use Rattle.mt_setattr.specs.Change.{attributed}
@@ -25,7 +24,7 @@ use Rattle.mt_book.specs.declared.command.Command.TheVariants.{MakeFs, MakeDir, 
 use Rattle.mt_book.specs.declared.command.Reply.{Reply}
 use Rattle.mt_book.specs.Step.{step, next_world, world_or, makes_directories}
 use Rattle.mt_book.specs.Parts.{is_part, part_at}
-use Rattle.mt_book.proofs.EffectLaws.{number_ok, done_ok, space_made, copy_made, space_dropped, mount_made, bind_made, move_made, mount_gone, tree_gone, change_made, space-skel, copy-skel, end-skel, copied-skel, pivot-skel, gone-skel, change-skel}
+use Rattle.mt_book.proofs.EffectLaws.{number_ok, done_ok, space_made, copy_made, space_dropped, mount_made, bind_made, move_made, pivot_made, mount_gone, tree_gone, change_made, space-skel, copy-skel, end-skel, copied-skel, pivot-skel, gone-skel, change-skel}
 
 -- a command that makes no directories leaves them as they are
 pub skel_kept : (w : WorldView) (c : Command) (v : WorldView) (r : Reply) → makes_directories c ≡ false → step w c ≡ Ok (v, r) → v.skel ≡ w.skel
