@@ -5,9 +5,6 @@ use Rattle.std.specs.List.{filter, AllByRecursion}
 use Rattle.std.proofs.lemmas.Bool.Decides.{nat_tests}
 use Rattle.std.proofs.lemmas.List.{length-map}
 use Rattle.mt_skel.specs.declared.fault.Fault.{Fault}
-use Rattle.mt_skel.specs.declared.fault.Fault.TheVariants.{NoNamespace, TooManyWatchers, Stopped}
-use Rattle.mt_skel.specs.Outcome.{refuse_if}
-use Rattle.mt_skel.proofs.OutcomeLaws.{first_none, not_refused}
 use Rattle.mt_skel.specs.Keyed.{row_at, put, without, rises}
 use Rattle.mt_events.specs.Posts.{PostView}
 use Rattle.mt_events.specs.declared.opening.Scope.{Scope}
@@ -17,8 +14,9 @@ use Rattle.mt_queue.specs.Halves.{LineId, LineView, ReceiverView}
 use Rattle.mt_floor.specs.declared.watch.Meeting.{Meeting}
 use Rattle.mt_floor.specs.declared.event.Event.TheVariants.{Open, Stop}
 use Rattle.mt_floor.specs.declared.event.Answer.TheVariants.{Opened, Halted}
-use Rattle.mt_floor.specs.Watcher.{opening_of, is_missing}
-use Rattle.mt_floor.specs.Schedule.{FloorView, empty_floor, floor_step, unless, opening_refusal, too_many_watchers, watcher_limit}
+use Rattle.mt_floor.specs.Watcher.{opening_of}
+use Rattle.mt_floor.specs.Schedule.{FloorView, empty_floor, floor_step, unless, opening_refusal, watcher_limit}
+use Rattle.mt_floor.proofs.AllowedLaws.{opening_allowed}
 use Rattle.mt_floor.specs.WellFormed.{IsFloor}
 use Rattle.mt_floor.proofs.BeginLaws.{opens}
 use Rattle.mt_floor.proofs.StandingLaws.{begins_well}
@@ -231,9 +229,7 @@ opening_refused d scope f is = ap (λ o. unless o (floor_of_desk d) (opens (floo
 pub room_for_one : (d : DeskView) (scope : Scope) → opening_refusal (floor_of_desk d) scope ≡ None → length d.rows < 64
 room_for_one d scope none =
     let f : FloorView = floor_of_desk d in
-    let later = (first_none (refuse_if (is_missing d.journal scope) NoNamespace) (refuse_if (too_many_watchers f) TooManyWatchers ∷ refuse_if d.stopped Stopped ∷ []) none).1 in
-    let test = not_refused (too_many_watchers f) TooManyWatchers (first_none (refuse_if (too_many_watchers f) TooManyWatchers) (refuse_if d.stopped Stopped ∷ []) later).0 in
-    low (length d.rows) (nat_le (2 ^ 64) f.next_key) (ap (λ n. nat_le watcher_limit n || nat_le (2 ^ 64) f.next_key) (sym (length-map d.rows (late_watcher d.capacity))) ∙ test)
+    low (length d.rows) (nat_le (2 ^ 64) f.next_key) (ap (λ n. nat_le watcher_limit n || nat_le (2 ^ 64) f.next_key) (sym (length-map d.rows (late_watcher d.capacity))) ∙ (opening_allowed f scope none).few)
   where
     low : (n : ℕ) (b : Bool) → (nat_le watcher_limit n || b) ≡ false → n < 64
     low n b e = by (nat_le watcher_limit n) refl e
