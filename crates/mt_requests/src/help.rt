@@ -20,7 +20,7 @@ Lines of a session:
   show NS                  lists the mounts of a namespace
   find NS PATH             says on which mount and directory a path ends
   watch NS, watch all      begins a watcher of one namespace, or of all, and lists what it finds
-  take K                   gives up to K posts that the watcher has not taken
+  take K                   prints at most K posts that wait
   follow K                 gives K posts, and rests where none wait
   close                    ends the watcher, and gives the posts that it has not taken
   quit                     ends the session
