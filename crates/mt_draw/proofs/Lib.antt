@@ -2,3 +2,5 @@ pub mod AppendLaws
 pub mod ForestLaws
 pub mod OnceLaws
 pub mod BelowLaws
+pub mod FloatLaws
+pub mod NodeLaws

@@ -6,5 +6,7 @@ pub mod Labels
 pub mod Edges
 pub mod Groups
 pub mod Graphs
+pub mod Members
+pub mod Objects
 pub mod Drawings
 pub mod Laws

@@ -3,6 +3,7 @@ ghost use Rattle.std.specs.Prelude.{◌≡◌, ◌++◌, OnOk};
 ghost use Rattle.mt_draw.specs.Drawings.{drawing_text};
 
 use crate::graph::push_graph;
+use crate::objects::{push_flat_lines, push_nested_lines};
 use crate::trees::{Strokes, push_trees};
 use mt_events::mirror::Mirror;
 use std::alloc::AllocError;
@@ -16,6 +17,10 @@ pub enum Drawing {
     PlainTree,
     /// One graph of all tables for Graphviz, in ASCII.
     Graph,
+    /// A line of JSON for each table, with its rows by rising ID.
+    FlatJson,
+    /// A line of JSON for each table, with each row within that of its parent, as findmnt(8) nests them.
+    NestedJson,
 }
 
 /// Appends a drawing of the tables of namespaces, which stand in it in their order. Each of them should be of another
@@ -33,5 +38,7 @@ pub fn push_drawing(
         Drawing::Tree => push_trees(text, alloc, Strokes::Lines, parts),
         Drawing::PlainTree => push_trees(text, alloc, Strokes::Ascii, parts),
         Drawing::Graph => push_graph(text, alloc, parts),
+        Drawing::FlatJson => push_flat_lines(text, alloc, parts),
+        Drawing::NestedJson => push_nested_lines(text, alloc, parts),
     }
 }

@@ -76,7 +76,7 @@ pub(crate) fn is_top(rows: &[Row], row: &Row) -> bool
 }
 
 /// Whether a row is drawn below this mount's.
-fn is_child(parent: MountId, row: &Row) -> bool
+pub(crate) fn is_child(parent: MountId, row: &Row) -> bool
     ensures { result ≡ is_child parent row.now }
 {
     row.parent == parent && row.id != parent
