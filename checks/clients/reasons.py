@@ -19,6 +19,7 @@ SAID = re.compile(rb"mountctl: line (\d+): (BadLine|NoEntry|NotMountRoot|RootPla
 
 USAGE = b"too few words, or too many: "
 NUMBER = b": NS is a number, digits without a leading zero, below 18446744073709551616"
+SCOPE = b": NS is all, or a number, digits without a leading zero, below 18446744073709551616"
 SET_WORDS = b"ro, nosuid, nodev, noexec, nosymfollow, nodiratime, relatime, noatime and strictatime, joined by commas"
 CLR_WORDS = b"ro, nosuid, nodev, noexec, nosymfollow, nodiratime and atime, joined by commas"
 EMPTY_WORD = b"a word is empty: one space stands between two words, and none at an end"
@@ -42,7 +43,7 @@ BAD = (
     (b"setattr 1", USAGE + OPTIONS),
     (b"quit now", USAGE + b"quit"),
     (b"show 01", b"01" + NUMBER),
-    (b"watch any", b"any" + NUMBER),
+    (b"watch any", b"any" + SCOPE),
     (b"find 18446744073709551616 /", b"18446744073709551616" + NUMBER),
     (b"take 0", b"0: K is a number from 1 to 1024"),
     (b"take 1025", b"1025: K is a number from 1 to 1024"),

@@ -54,6 +54,17 @@ fn number_reason<'a>(place: &'static [u8], word: &'a [u8]) -> Option<Reason<'a>>
     }
 }
 
+/// What is wrong with a number that `all` may stand for.
+fn scope_reason<'a>(place: &'static [u8], word: &'a [u8]) -> Option<Reason<'a>>
+    ensures { ForSome result IsSo }
+{
+    match number(word) {
+        Some(_) => None,
+        None if word == b"all".as_slice() => None,
+        None => Some(Reason::Scope { place, word }),
+    }
+}
+
 /// What is wrong with a count of posts, of at most so many.
 fn count_reason(word: &[u8], most: u64) -> Option<Reason<'_>>
     ensures { ForSome result IsSo }
@@ -68,7 +79,9 @@ fn count_reason(word: &[u8], most: u64) -> Option<Reason<'_>>
 fn word_reason<'a>(command: &[u8], place: &'static [u8], word: &'a [u8]) -> Option<Reason<'a>>
     ensures { ForSome result IsSo }
 {
-    if place == b"NS".as_slice() {
+    if place == b"NS".as_slice() && command == b"watch".as_slice() {
+        scope_reason(place, word)
+    } else if place == b"NS".as_slice() {
         number_reason(place, word)
     } else if place == b"K".as_slice() && command == b"take".as_slice() {
         count_reason(word, MOST_TAKEN)

@@ -25,6 +25,11 @@ pub enum Reason<'a> {
         place: &'static [u8],
         word: &'a [u8],
     },
+    /// A word should be a number, or `all`.
+    Scope {
+        place: &'static [u8],
+        word: &'a [u8],
+    },
     /// A count is not within its bounds.
     Range {
         word: &'a [u8],
@@ -95,6 +100,12 @@ impl<'a> Reason<'a> {
             Reason::Number { place, word } => write!(
                 f,
                 "{}: {} is a number, digits without a leading zero, below 18446744073709551616",
+                Shown(*word),
+                Shown(*place)
+            ),
+            Reason::Scope { place, word } => write!(
+                f,
+                "{}: {} is all, or a number, digits without a leading zero, below 18446744073709551616",
                 Shown(*word),
                 Shown(*place)
             ),
