@@ -29,6 +29,7 @@ from clients.mountctl import (
     check_scripts,
     check_statuses,
 )
+from clients.objects import check_objects
 from clients.pictures import check_pictures, update_pictures
 from clients.python import check_python
 from clients.questions import check_questions
@@ -80,6 +81,7 @@ CLIENT_PARTS = {
     "starts": check_starts,
     "retold": check_retold,
     "pictures": check_pictures,
+    "objects": check_objects,
     "telling": check_telling,
     "scripts": check_scripts,
     "import": check_import,

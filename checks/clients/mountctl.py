@@ -99,13 +99,17 @@ def check_client(program, mountctl):
 
 # Words of a mirror, of a monitor and of drawings that are none, and what is said of them.
 NO_MIRRORS = "mirror", "mirror 1", "mirror x 1", "mirror 01 1", "mirror 1 1 1", "mirror 1 -1"
-NO_MONITORS = "monitor", "monitor x", "monitor 01", "monitor 1 2", "monitor all all", "monitor -1"
-NO_TREES = "tree x", "tree 01", "tree 1 2", "tree --ascii --ascii", "tree 1 --ascii 2", "tree --plain", "tree 1 -a"
+NO_MONITORS = "monitor", "monitor --json", "monitor 1 --ascii", "monitor 1 --json", "monitor 1 --time --time", "monitor x", "monitor 01", "monitor 1 2", "monitor all all", "monitor -1"
+NO_TREES = "tree x", "tree 01", "tree 1 2", "tree --ascii --ascii", "tree 1 --ascii 2", "tree --plain", "tree 1 -a", "tree --json --ascii", "tree --time"
+NO_TABLES = "show --json", "show all --json", "show --json 1 --json", "show 1 2 --json"
+NO_PLACES = "find --json", "find 1 --json", "find x / --json", "find 1 / / --json"
 NO_GRAPHS = "dot x", "dot 1 2", "dot --ascii"
 NO_TASKS = (
-    (NO_MONITORS, b"mountctl: monitor takes a namespace, or all\n"),
+    (NO_MONITORS, b"mountctl: monitor takes a namespace, or all, and --time\n"),
     (NO_MIRRORS, b"mountctl: mirror takes a namespace and a count\n"),
-    (NO_TREES, b"mountctl: tree takes a namespace, all or none, and --ascii\n"),
+    (NO_TREES, b"mountctl: tree takes a namespace, all or none, and --ascii or --json\n"),
+    (NO_TABLES, b"mountctl: show takes a namespace, and --json\n"),
+    (NO_PLACES, b"mountctl: find takes a namespace and a path, and --json\n"),
     (NO_GRAPHS, b"mountctl: dot takes a namespace, all or none\n"),
     (["spaces 1", "spaces all"], b"mountctl: spaces takes no words\n"),
 )
@@ -247,10 +251,12 @@ def words_of(program, title):
 
 
 def check_lines(program, mountctl):
-    """Each line of the server is sent, and none begins with a word that the client keeps for itself."""
+    """Each line of the server is sent, and none begins with a word that the client keeps for itself; two have JSON too."""
     kept, lines = words_of(mountctl, b"In the place of WORD..:"), words_of(program, b"Lines of a session:")
+    check("the words of both", kept & lines == {b"show", b"find"}, repr(kept & lines))
+    kept -= lines
     check("the words of the client", kept == {b"-", b"monitor", b"mirror", b"tree", b"dot", b"spaces", b"what-if"}, repr(kept))
-    check("the words of the server", lines == set(commands.LINES) and not kept & lines, repr(sorted(lines)))
+    check("the words of the server", lines == set(commands.LINES), repr(sorted(lines)))
     with Server(program) as server, server.free() as client:
         for line in START:
             client.ask(line)

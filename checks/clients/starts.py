@@ -18,12 +18,12 @@ NO_SOCKET = 2, b"", b"mountctl: no SOCKET, and MOUNTD_SOCKET is not set\n"
 NO_WORD = 2, b"", b"mountctl: no WORD: --help says what can be sent\n"
 
 
-def asked(mountctl, socket, *words, text=b""):
-    """How the program ends, with a socket in its environment, or none."""
+def asked(mountctl, socket, *words, text=b"", folder=None):
+    """How the program ends in a folder, with a socket in its environment, or none."""
     settings = {name: value for name, value in os.environ.items() if name != "MOUNTD_SOCKET"}
     if socket is not None:
         settings["MOUNTD_SOCKET"] = socket
-    done = subprocess.run([mountctl, *words], input=text, capture_output=True, timeout=MOST_SECONDS, env=settings)
+    done = subprocess.run([mountctl, *words], input=text, capture_output=True, timeout=MOST_SECONDS, env=settings, cwd=folder)
     return done.returncode, done.stdout, done.stderr
 
 
@@ -33,6 +33,23 @@ def check_version(program, mountctl):
     versions = [re.fullmatch(rb"(mountd|mountctl) (\d+\.\d+\.\d+)\n", text) for _, text, _ in told]
     check("versions", all(versions) and len({found[2] for found in versions}) == 1, repr(told))
     check("the version", {(status, complaint) for status, _, complaint in told} == {(0, b"")}, repr(told))
+
+
+def check_slips(mountctl, server):
+    """Where the environment names a socket, letters that begin no line are one with a slip, unless a file has this name."""
+    for word in "shwo", "Show":
+        found = asked(mountctl, server.path, word, "1")
+        said = b"mountctl: BadLine: %b: no line begins so; the nearest is show\n" % word.encode()
+        check(f"{word} at the socket of the environment", found == (1, b"no BadLine\n", said), repr(found))
+    for word in "shwo.sock", "./shwo", "sock-et", "shwo1":
+        found = asked(mountctl, server.path, word, "show", "1")
+        check(f"{word} for a socket", found == (3, b"", connection_fault(word, "no such file or directory")), repr(found))
+    found = asked(mountctl, None, "shwo", "show", "1")
+    check("a socket of letters alone", found == (3, b"", connection_fault("shwo", "no such file or directory")), repr(found))
+    with tempfile.TemporaryDirectory() as folder:
+        os.symlink(server.path, os.path.join(folder, "server"))
+        found = asked(mountctl, "none.sock", "server", "show", "1", folder=folder)
+        check("a file of letters alone", found[0] == 0, repr(found))
 
 
 def check_environment(program, mountctl):
@@ -57,6 +74,7 @@ def check_environment(program, mountctl):
         ):
             found = asked(mountctl, server.path, *words, text=text)
             check(f"{words} at the socket of the environment", found == (0, answer, b""), repr(found))
+        check_slips(mountctl, server)
         found = asked(mountctl, "none.sock", server.path, "show", "1")
         check("a socket in front of the words", found[0] == 0, repr(found))
         ended = server.stop()

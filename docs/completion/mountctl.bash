@@ -12,10 +12,15 @@ _mountctl_words()
     case $1:$count in
         :0) echo mkfs mkdir newns copyns dropns mount bind rbind move pivot umount detach setattr show find watch take follow close quit stop - monitor mirror tree dot spaces what-if ;;
         copyns:2) echo less ;;
-        watch:1 | monitor:1 | dot:1) echo all ;;
+        watch:1 | dot:1) echo all ;;
+        show:2 | find:3) echo --json ;;
         tree:[12])
-            [[ " $* " == *" --ascii "* ]] || echo --ascii
-            [[ " $* " == *" --ascii "* || $count == 1 ]] && echo all
+            [[ " $* " == *" --"* ]] || printf '%s\n' --ascii --json
+            [[ " $* " == *" --"* || $count == 1 ]] && echo all
+            ;;
+        monitor:[12])
+            [[ " $* " == *" --time "* ]] || echo --time
+            [[ " ${*:2}" == *" "[^-]* ]] || echo all
             ;;
         setattr:[3-9])
             # Each option may be there once.

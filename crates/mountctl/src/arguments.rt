@@ -6,8 +6,9 @@ use clap::{Arg, ArgAction, ArgMatches, Command, Error, value_parser};
 use mt_arguments::program::{OUT_OF_MEMORY, VERSION};
 use mt_requests::help::LINES;
 use std::alloc::{AllocError, Global};
-use std::env;
 use std::env::VarError;
+use std::io::ErrorKind;
+use std::{env, fs};
 
 /// The variable of the environment that names the socket where no argument does.
 const SOCKET_VARIABLE: &str = "MOUNTD_SOCKET";
@@ -17,9 +18,13 @@ const TASKS: &str = "
 
 In the place of WORD..:
   -                        sends the lines of standard input, one after another, but for comments
-  monitor NS, monitor all  tells each change as it comes, in words
+  monitor NS|all [--time]
+                           tells each change as it comes, in words, and when it came
   mirror NS K              follows K posts of a namespace, and shows the table that they lead to
-  tree [NS|all] [--ascii]  draws the mounts of a namespace, or of all, each below its parent
+  tree [NS|all] [--ascii|--json]
+                           draws the mounts of a namespace, or of all, each below its parent
+  show NS --json           prints the mounts of a namespace as JSON
+  find NS PATH --json      prints the mount on which a path ends as JSON
   dot [NS|all]             draws mounts and peer groups as a graph for Graphviz
   spaces                   lists the namespaces, each with the number of its mounts
   what-if FILE.. -- LINE..
@@ -34,7 +39,7 @@ In the place of SOCKET WORD..:
 
 Environment:
   MOUNTD_SOCKET            the socket of the server, where the first word is none: one that begins a line, or what may
-                           stand in its place, is no socket (./show is)";
+                           stand in its place, is no socket (./show is), nor are letters that are no file's name";
 
 /// The lines of a session, and what may stand in their place.
 pub(crate) fn usage(alloc: Global) -> Result<String, AllocError> {
@@ -156,34 +161,50 @@ fn named_socket(rt: &HostRuntime) -> Result<String, Lack> {
     }
 }
 
-/// Whether the first argument is a socket: it begins no line, nor what may stand in the place of one.
-fn is_socket(first: Option<&str>) -> bool {
-    match first {
-        Some(word) => !begins_words(word),
-        None => false,
+/// Whether a word looks as the first word of a line does: it has letters alone.
+fn is_lettered(word: &str) -> bool {
+    word.as_bytes()
+        .iter()
+        .all(|byte| byte.is_ascii_alphabetic())
+}
+
+/// Whether there is a file of a name.
+fn is_there(rt: &HostRuntime, path: &str) -> bool {
+    match fs::metadata(rt, path) {
+        Ok(_) => true,
+        Err(error) => error.kind() != ErrorKind::NotFound,
     }
 }
 
-/// The socket of the server: the first argument, or that of the environment where the first argument is none.
+/// Whether the first argument is a socket: it begins no line, nor what may stand in the place of one. Where the environment
+/// names a socket, letters alone are one only if there is a file of this name, since they may be a line with a slip.
+fn is_socket(rt: &HostRuntime, word: &str) -> bool {
+    if begins_words(word) {
+        return false;
+    }
+    !is_lettered(word) || named_socket(rt).is_err() || is_there(rt, word)
+}
+
+/// The socket of the server: the first argument, if it is one, or that of the environment.
 pub(crate) fn socket_of(
     rt: &HostRuntime,
     first: Option<&str>,
 ) -> Result<Result<String, Lack>, AllocError> {
     match first {
-        Some(socket) if is_socket(first) => Ok(Ok(String::from_str(rt.alloc(), socket)?)),
+        Some(socket) if is_socket(rt, socket) => Ok(Ok(String::from_str(rt.alloc(), socket)?)),
         _ => Ok(named_socket(rt)),
     }
 }
 
 /// The words of a line, or what stands in its place: the arguments behind the socket. Fails for want of memory alone.
 pub(crate) fn words_of<'a>(
-    alloc: Global,
+    rt: &HostRuntime,
     first: Option<&'a str>,
     behind: &[&'a str],
 ) -> Result<Vec<&'a str>, AllocError> {
-    let mut words = Vec::new(alloc);
+    let mut words = Vec::new(rt.alloc());
     if let Some(word) = first {
-        if !is_socket(first) {
+        if !is_socket(rt, word) {
             words.push(word)?;
         }
     }

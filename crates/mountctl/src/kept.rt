@@ -1,6 +1,12 @@
 //! An output that keeps what it takes.
+ghost use Rattle.std.specs.Prelude.{◌≡◌, None, OnOk};
+ghost use Rattle.mt_lines.specs.Reading.{fault_of};
 
-use mt_lines::stream::{Output, StreamFault};
+use crate::fault::Fault;
+use mt_client::ask::ask_line;
+use mt_client::fault::ClientFault;
+use mt_lines::line::LineReader;
+use mt_lines::stream::{Input, Output, StreamFault};
 use std::alloc::Global;
 
 /// The text of an answer, which is not printed.
@@ -42,5 +48,23 @@ impl Output for Kept {
             Ok(()) => Ok(bytes.len()),
             Err(_) => Err(StreamFault::Failed),
         }
+    }
+}
+
+/// Sends a line and keeps its answer: whether it is `ok`.
+pub(crate) fn ask_kept<R: Input + Drop, W: Output>(
+    alloc: Global,
+    lines: &mut LineReader<R>,
+    writer: &mut W,
+    line: &[u8],
+    kept: &mut Kept,
+) -> Result<bool, Fault>
+    requires fresh { fault_of lines.old ≡ None }
+    ensures fresh { OnOk result (fault_of lines.new ≡ None) }
+{
+    match ask_line(alloc, lines, writer, line, kept) {
+        Ok(told) => Ok(told),
+        Err(ClientFault::Output) => Err(Fault::NoMemory),
+        Err(fault) => Err(Fault::from(fault)),
     }
 }

@@ -8,9 +8,12 @@ mod arguments;
 mod connection;
 mod explain;
 mod fault;
+mod found;
 mod import;
 mod kept;
 mod lines;
+mod marked;
+mod options;
 mod places;
 mod provide;
 mod quiet;
@@ -26,13 +29,15 @@ use crate::arguments::{Lack, Manner, manner_of, parser, socket_of, usage, words_
 use crate::connection::{connected, status_of};
 use crate::explain::explain;
 use crate::fault::Fault;
+use crate::found::find_place;
 use crate::import::{ImportFault, ROW_LIMIT, import};
 use crate::lines::run_line;
+use crate::marked::Marked;
 use crate::quiet::Quiet;
 use crate::script::{SCRIPT_LIMIT, run_script};
 use crate::spaces::list_spaces;
 use crate::tables::import_files;
-use crate::task::{Task, task_of};
+use crate::task::{Task, found_words, task_of};
 use crate::told::NAME;
 use crate::what_if::{line_of, run_what_if};
 use clap::{ArgMatches, Error};
@@ -77,6 +82,36 @@ fn run_lines<R: Input + Drop, W: Output, O: Output>(
     run_line(rt, alloc, line.as_slice(), lines, writer, out)
 }
 
+/// Does a task and prints to an output: whether each answer was `ok`.
+fn run_on<R: Input + Drop, W: Output, O: Output>(
+    rt: &HostRuntime,
+    task: Task,
+    words: &[&str],
+    strict: bool,
+    lines: &mut LineReader<R>,
+    writer: &mut W,
+    out: &mut O,
+) -> Result<bool, Fault>
+    requires fresh { fault_of lines.old ≡ None }
+{
+    let alloc = rt.alloc();
+    match task {
+        Task::Ask | Task::Script => run_lines(rt, task, words, strict, lines, writer, out),
+        Task::Mirror { space, count } => Ok(mirror(alloc, lines, writer, space, count, out)?),
+        Task::Draw { scope, drawing } => Ok(draw(alloc, lines, writer, scope, drawing, out)?),
+        Task::Tell { scope, .. } => {
+            tell(alloc, lines, writer, scope, out)?;
+            Ok(false)
+        }
+        Task::Find => match found_words(words) {
+            Some((space, path)) => find_place(rt, alloc, space, path, lines, writer, out),
+            None => Ok(false),
+        },
+        Task::List => list_spaces(alloc, lines, writer, out),
+        Task::WhatIf => Ok(false),
+    }
+}
+
 /// Does a task over a connection: whether each answer was `ok`.
 fn run_task(
     rt: &HostRuntime,
@@ -87,30 +122,22 @@ fn run_task(
 ) -> Result<bool, Fault> {
     let alloc = rt.alloc();
     let mut out = Writing::new(io::writer(rt));
-    let strict = manner.strict;
     let mut lines = LineReader::new(alloc, Reading::new(stream), LINE_LIMIT)?;
     let mut writer = Writing::new(stream);
-    let told = match task {
-        Task::Ask | Task::Script if manner.quiet => {
-            run_lines(rt, task, words, strict, &mut lines, &mut writer, &mut Quiet)?
+    let strict = manner.strict;
+    if manner.quiet && matches!(task, Task::Ask | Task::Script) {
+        return run_on(rt, task, words, strict, &mut lines, &mut writer, &mut Quiet);
+    }
+    match task.marks() {
+        Some(marks) => {
+            let mut out = Marked::new(rt, alloc, marks, out);
+            match run_on(rt, task, words, strict, &mut lines, &mut writer, &mut out) {
+                Ok(told) => Ok(told),
+                Err(fault) => Err(out.fault(fault)),
+            }
         }
-        Task::Ask | Task::Script => {
-            run_lines(rt, task, words, strict, &mut lines, &mut writer, &mut out)?
-        }
-        Task::Mirror { space, count } => {
-            mirror(alloc, &mut lines, &mut writer, space, count, &mut out)?
-        }
-        Task::Draw { scope, drawing } => {
-            draw(alloc, &mut lines, &mut writer, scope, drawing, &mut out)?
-        }
-        Task::Tell { scope } => {
-            tell(alloc, &mut lines, &mut writer, scope, &mut out)?;
-            false
-        }
-        Task::List => list_spaces(alloc, &mut lines, &mut writer, &mut out)?,
-        Task::WhatIf => false,
-    };
-    Ok(told)
+        None => run_on(rt, task, words, strict, &mut lines, &mut writer, &mut out),
+    }
 }
 
 /// Connects to a socket and does what the words ask for.
@@ -150,7 +177,7 @@ fn run_import(rt: &HostRuntime) -> ExitCode {
 fn run_matches(rt: &HostRuntime, matches: &ArgMatches<'_>) -> Result<ExitCode, AllocError> {
     let first = matches.get_str("SOCKET");
     let behind = matches.get_strs("WORD").unwrap_or(&[]);
-    let words = words_of(rt.alloc(), first, behind)?;
+    let words = words_of(rt, first, behind)?;
     if words.is_empty() {
         return Ok(PROGRAM.refuse(rt, Lack::Word.message()));
     }

@@ -3,9 +3,7 @@ ghost use Rattle.std.specs.Prelude.{◌≡◌, None, OnOk};
 ghost use Rattle.mt_lines.specs.Reading.{fault_of};
 
 use crate::fault::Fault;
-use crate::kept::Kept;
-use mt_client::ask::ask_line;
-use mt_client::fault::ClientFault;
+use crate::kept::{Kept, ask_kept};
 use mt_lines::line::LineReader;
 use mt_lines::stream::{Input, Output};
 use mt_words::words::words;
@@ -119,11 +117,8 @@ fn place_of<R: Input + Drop, W: Output>(
 {
     let mut kept = Kept::new(alloc);
     let line = find_line(alloc, space, path)?;
-    match ask_line(alloc, lines, writer, line.as_slice(), &mut kept) {
-        Ok(_) => Ok(kept),
-        Err(ClientFault::Output) => Err(Fault::NoMemory),
-        Err(fault) => Err(Fault::from(fault)),
-    }
+    let _found = ask_kept(alloc, lines, writer, line.as_slice(), &mut kept)?;
+    Ok(kept)
 }
 
 /// Whether a path of a namespace is refused so by itself.

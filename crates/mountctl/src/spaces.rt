@@ -3,9 +3,7 @@ ghost use Rattle.std.specs.Prelude.{◌≡◌, None};
 ghost use Rattle.mt_lines.specs.Reading.{fault_of};
 
 use crate::fault::Fault;
-use crate::kept::Kept;
-use mt_client::ask::ask_line;
-use mt_client::fault::ClientFault;
+use crate::kept::{Kept, ask_kept};
 use mt_client::relay::print_text;
 use mt_lines::line::LineReader;
 use mt_lines::stream::{Input, Output};
@@ -61,11 +59,7 @@ pub(crate) fn list_spaces<R: Input + Drop, W: Output, O: Output>(
     requires fresh { fault_of lines.old ≡ None }
 {
     let mut kept = Kept::new(alloc);
-    let told = match ask_line(alloc, lines, writer, b"watch all", &mut kept) {
-        Ok(told) => told,
-        Err(ClientFault::Output) => return Err(Fault::NoMemory),
-        Err(fault) => return Err(Fault::from(fault)),
-    };
+    let told = ask_kept(alloc, lines, writer, b"watch all", &mut kept)?;
     if told {
         print_text(out, listed(alloc, kept.text())?.as_slice())?;
     } else {

@@ -1,8 +1,11 @@
 //! What the words behind the socket ask for.
 
+use crate::marked::Marks;
+use crate::options::{Chosen, Options, chosen_in};
 use mt_client::answer::{Form, form_of};
 use mt_draw::drawing::Drawing;
 use mt_events::opening::Scope;
+use mt_told::telling::Telling;
 use mt_words::words::number;
 
 /// The first words of lines that are about their session.
@@ -27,17 +30,42 @@ pub(crate) enum Task {
     Mirror { space: u64, count: u64 },
     /// A drawing of the tables of these namespaces.
     Draw { scope: Scope, drawing: Drawing },
+    /// The mount on which a path ends, as JSON.
+    Find,
     /// Each change of these namespaces as it comes, in words.
-    Tell { scope: Scope },
+    Tell { scope: Scope, marks: Marks },
     /// The namespaces, with the number of their mounts.
     List,
     /// What lines change in the namespaces of tables.
     WhatIf,
 }
 
+impl Task {
+    /// What is done to each line of an answer, if something is.
+    pub(crate) fn marks(self) -> Option<Marks> {
+        let untimed = Marks {
+            telling: Telling::Json,
+            time: false,
+        };
+        match self {
+            Task::Draw {
+                drawing: Drawing::FlatJson | Drawing::NestedJson,
+                ..
+            }
+            | Task::Find => Some(untimed),
+            Task::Tell { marks, .. } if marks.time || marks.telling == Telling::Json => Some(marks),
+            _ => None,
+        }
+    }
+}
+
 /// Words that begin as those of a task which is no request, and go on in another way.
 #[derive(Clone, Copy)]
 pub(crate) enum WordFault {
+    /// Behind `show`, with `--json`.
+    Show,
+    /// Behind `find`, with `--json`.
+    Find,
     /// Behind `monitor`.
     Monitor,
     /// Behind `mirror`.
@@ -62,9 +90,11 @@ impl WordFault {
     /// What is said on standard error.
     pub(crate) fn message(self) -> &'static str {
         match self {
-            WordFault::Monitor => "monitor takes a namespace, or all",
+            WordFault::Show => "show takes a namespace, and --json",
+            WordFault::Find => "find takes a namespace and a path, and --json",
+            WordFault::Monitor => "monitor takes a namespace, or all, and --time",
             WordFault::Mirror => "mirror takes a namespace and a count",
-            WordFault::Tree => "tree takes a namespace, all or none, and --ascii",
+            WordFault::Tree => "tree takes a namespace, all or none, and --ascii or --json",
             WordFault::Graph => "dot takes a namespace, all or none",
             WordFault::Spaces => "spaces takes no words",
             WordFault::Import => "import takes files, or --pid and processes, or no words",
@@ -75,13 +105,18 @@ impl WordFault {
     }
 }
 
-/// The telling of these words, or None where they are neither a namespace nor `all`.
+/// The telling of these words, or None where they are no namespace nor `all`, or other options than `--time`.
 fn monitor_of(words: &[&str]) -> Option<Task> {
-    if words.is_empty() {
+    let Chosen { options, word } = chosen_in(words)?;
+    if options.ascii || options.json {
         return None;
     }
-    let scope = scope_of(words)?;
-    Some(Task::Tell { scope })
+    let scope = named_scope(word?)?;
+    let marks = Marks {
+        telling: Telling::Words,
+        time: options.time,
+    };
+    Some(Task::Tell { scope, marks })
 }
 
 /// The graph of these words, or None where they are no namespace, `all` or none.
@@ -103,23 +138,80 @@ fn mirror_of(words: &[&str]) -> Option<Task> {
     Some(Task::Mirror { space, count })
 }
 
+/// The namespace of a word, or all. None where it is neither a number nor `all`.
+fn named_scope(word: &str) -> Option<Scope> {
+    match word {
+        "all" => Some(Scope::All),
+        space => Some(Scope::One(number(space.as_bytes())?)),
+    }
+}
+
 /// The namespaces of these words: one, or all where there is no word or that of all. None where they are neither.
 fn scope_of(words: &[&str]) -> Option<Scope> {
     match words {
-        [] | ["all"] => Some(Scope::All),
-        [space] => Some(Scope::One(number(space.as_bytes())?)),
+        [] => Some(Scope::All),
+        [word] => named_scope(word),
         _ => None,
     }
 }
 
-/// The tree of these words, or None where they are no namespace, `all` or none, and `--ascii` before or behind it.
+/// The tree of these words, or None where they are no namespace, `all` or none, or other options than `--ascii` or `--json`.
 fn tree_of(words: &[&str]) -> Option<Task> {
-    let (words, drawing) = match words {
-        [words @ .., "--ascii"] | ["--ascii", words @ ..] => (words, Drawing::PlainTree),
-        _ => (words, Drawing::Tree),
+    let Chosen { options, word } = chosen_in(words)?;
+    let drawing = match options {
+        Options {
+            ascii: false,
+            json: false,
+            time: false,
+        } => Drawing::Tree,
+        Options {
+            ascii: true,
+            json: false,
+            time: false,
+        } => Drawing::PlainTree,
+        Options {
+            ascii: false,
+            json: true,
+            time: false,
+        } => Drawing::NestedJson,
+        _ => return None,
     };
-    let scope = scope_of(words)?;
+    let scope = match word {
+        Some(word) => named_scope(word)?,
+        None => Scope::All,
+    };
     Some(Task::Draw { scope, drawing })
+}
+
+/// The words without `--json`, where it stands first or last among them. None where it does not.
+fn without_json<'a, 'w>(words: &'w [&'a str]) -> Option<&'w [&'a str]> {
+    match words {
+        [others @ .., "--json"] | ["--json", others @ ..] => Some(others),
+        _ => None,
+    }
+}
+
+/// The table of these words, or None where they are no namespace and `--json`.
+fn table_of(words: &[&str]) -> Option<Task> {
+    let [space] = without_json(words)? else {
+        return None;
+    };
+    Some(Task::Draw {
+        scope: Scope::One(number(space.as_bytes())?),
+        drawing: Drawing::FlatJson,
+    })
+}
+
+/// The namespace and the path of the words of a `find` with `--json`, or None where they are others.
+pub(crate) fn found_words<'a>(words: &[&'a str]) -> Option<(&'a str, &'a str)> {
+    let [_find, behind @ ..] = words else {
+        return None;
+    };
+    let [space, path] = without_json(behind)? else {
+        return None;
+    };
+    let _space = number(space.as_bytes())?;
+    Some((space, path))
 }
 
 /// The words in front of the first `--` and those behind it.
@@ -156,6 +248,14 @@ fn is_what_if(words: &[&str]) -> bool {
 pub(crate) fn task_of(words: &[&str]) -> Result<Task, WordFault> {
     match words {
         ["-"] => Ok(Task::Script),
+        ["show", behind @ ..] if behind.contains(&"--json") => table_of(behind).ok_or(
+            WordFault::Show,
+        ),
+        ["find", behind @ ..] if behind.contains(&"--json") => {
+            found_words(words)
+                .map(|_| Task::Find)
+                .ok_or(WordFault::Find)
+        }
         ["monitor", behind @ ..] => monitor_of(behind).ok_or(WordFault::Monitor),
         ["mirror", behind @ ..] => mirror_of(behind).ok_or(WordFault::Mirror),
         ["tree", behind @ ..] => tree_of(behind).ok_or(WordFault::Tree),

@@ -1,0 +1,258 @@
+"""What the other program prints as JSON, and when: a module, a part of server.py.
+
+Each object is written here as well, of the rows that `show` answers, by what mountctl(1) says of them. Where findmnt(8) is there,
+it finds the same fields in the same rows. The texts are read by the reader of Python.
+"""
+import collections
+import datetime
+import json
+import os
+import random
+import select
+import shutil
+import subprocess
+import tempfile
+
+from clients.monitor import ON_ITS_WAY, TRIED
+from clients.pictures import LARGE, tables_of, world_of
+from harness.protocol import row_of, unescaped
+from harness.runs import MOST_SECONDS, check, run, shown
+from harness.scripts import Author
+from harness.servers import START, Server
+from sessions import cases
+
+# How many random worlds are looked at.
+WORLDS = 20
+
+# The columns of findmnt that an object of a mount has under the same name.
+COLUMNS = "id", "parent", "maj:min", "fsroot", "target", "options", "propagation", "fstype", "source"
+
+# The members that are groups, by their tags.
+GROUPS = b"shared", b"master", b"propagate_from"
+
+# A filesystem, directories and mounts with names of every kind.
+ODD_NAMES = (
+    *(b'q"uote', b"back\\134slash", b"a\\040space\\011tab", b"new\\012line", b"\x01\x1f\x7f\xc2\x80", "é語😀".encode()),
+    *(b"\xff\xfe", b"\xe8\xaa", b"a\xf0\x9f\x98z", b"\xed\xa0\x80", b"<&>"),
+)
+ODD = [
+    b'mkfs a"\xff t\\040y\\134"pe\xfe /dev/\xc3\xa9\\012"',
+    *[b'mkdir a"\xff /%b' % name for name in ODD_NAMES],
+    b'newns a"\xff',
+    *[b'bind 1 /%b /%b' % (name, name) for name in ODD_NAMES],
+]
+
+# What somebody else does, and what a monitor of namespace 1 tells of it: a mark, and the mount.
+CHANGES = (
+    (b"mount 1 d /m", [(b"+", 3)]),
+    (b"setattr 1 /m set=ro,noatime clr=atime", [(b"~", 3)]),
+    (b"setattr 1 /m prop=slave", [(b"~", 3)]),
+    (b"setattr 1 / prop=private", [(b"~", 1)]),
+    (b"setattr 1 /m set=nosuid prop=private", [(b"~", 3)]),
+    (b"mount 1 d /m", [(b"+", 5)]),
+    (b"move 1 /m /n", [(b"~", 5)]),
+    (b"mount 1 a /n", [(b"+", 6)]),
+    (b"detach 1 /n", [(b"-", 6)]),
+    (b"umount 1 /n", [(b"-", 5)]),
+)
+
+
+def text(name):
+    """Bytes as JSON has them: what is no UTF-8 is U+FFFD."""
+    return name.decode("utf-8", "replace")
+
+
+def object_of(row):
+    """The object of a mount."""
+    tags = dict(row.numbered())
+    words = [b"shared" if b"shared" in tags else b"private", *[b"slave"] * (b"master" in tags), *[b"unbindable"] * (b"unbindable" in tags)]
+    root = unescaped(row.root)
+    return {
+        "id": row.id,
+        "parent": row.parent,
+        "target": text(unescaped(row.point)),
+        "source": text(unescaped(row.source) + (b"[" + root + b"]" if root != b"/" else b"")),
+        "fstype": text(unescaped(row.kind)),
+        "options": text(row.options),
+        "propagation": text(b",".join(words)),
+        "fsroot": text(root),
+        "maj:min": text(row.device),
+        **{text(name): tags[name] for name in GROUPS if name in tags},
+    }
+
+
+def nested(rows):
+    """The objects of rows, each within that of its parent."""
+    objects, below, tops = {row.id: object_of(row) for row in rows}, collections.defaultdict(list), []
+    for row in rows:
+        is_top = row.parent == row.id or row.parent not in objects
+        (tops if is_top else below[row.parent]).append(objects[row.id])
+    for parent, children in below.items():
+        objects[parent]["children"] = children
+    return tops
+
+
+def asked(mountctl, path, *words):
+    """The objects that these words print, a line each, and how the program ends."""
+    status, found, complaint = run(mountctl, b"", path, *words)
+    return status, [json.loads(line) for line in found.decode("utf-8").splitlines()], complaint
+
+
+def found_by_findmnt(rows):
+    """The objects that findmnt makes of rows, with the bytes that are no UTF-8 in the same way."""
+    with tempfile.NamedTemporaryFile() as file:
+        file.write(b"".join(row + b"\n" for row in rows))
+        file.flush()
+        words = ["findmnt", "--json", "--list", "--tab-file", file.name, "--output", ",".join(COLUMNS)]
+        done = subprocess.run(words, capture_output=True, timeout=MOST_SECONDS, check=True)
+    return json.loads(text(done.stdout))["filesystems"]
+
+
+def columns_of(mount):
+    """The members of an object that findmnt has too."""
+    return {name: mount[name] for name in COLUMNS}
+
+
+def check_world(name, mountctl, path, tables, rows):
+    """The objects of a world: each namespace flat and nested, and all nested."""
+    trees = []
+    for space, mounts in tables.items():
+        flat, tree = ({"namespace": space, "filesystems": all_of} for all_of in ([*map(object_of, mounts)], nested(mounts)))
+        trees.append(tree)
+        for words, wanted in (["show", str(space), "--json"], flat), (["tree", str(space), "--json"], tree):
+            found = asked(mountctl, path, *words)
+            check(f"{name}: {words}", found == (0, [wanted], b""), f"wanted {wanted}\nfound  {found}")
+        if shutil.which("findmnt") and rows[space]:
+            wanted, found = [columns_of(mount) for mount in flat["filesystems"]], found_by_findmnt(rows[space])
+            check(f"{name}: findmnt on namespace {space}", found == wanted, f"wanted {wanted}\nfound  {found}")
+    found = asked(mountctl, path, "tree", "--json", "all")
+    check(f"{name}: tree --json all", found == (0, trees, b""), f"wanted {trees}\nfound  {found}")
+
+
+def rows_of(client, tables):
+    """The rows of each namespace, as they are shown."""
+    return {space: client.ask(b"show %d" % space)[1:] for space in tables}
+
+
+def check_places(name, mountctl, server, client, tables):
+    """The mount at each mount point, beside what the line answers."""
+    for space, mounts in tables.items():
+        objects = {mount.id: object_of(mount) for mount in mounts}
+        for point in {mount.point for mount in mounts}:
+            answer = client.ask(b"find %d %b" % (space, point))[0].split(b" ")
+            try:
+                path = unescaped(point).decode()
+            except UnicodeDecodeError:
+                continue
+            found = asked(mountctl, server.path, "find", str(space), path, "--json")
+            wanted = (1, [{"refusal": text(answer[1])}], b"")
+            if answer[0] == b"ok":
+                place = {"namespace": space, "directory": text(unescaped(answer[2])), "filesystems": [objects[int(answer[1])]]}
+                wanted = (0, [place], b"")
+            check(f"{name}: find {space} {shown(point)} --json", found == wanted, f"wanted {wanted}\nfound  {found}")
+
+
+def look_at(name, program, mountctl, lines, spaces, places=True, arguments=()):
+    """Makes a world, and looks at its objects. How many mounts it has."""
+    with Server(program, *arguments) as server, server.client() as client:
+        for line in lines:
+            client.ask(line)
+        tables = tables_of(client, spaces)
+        check_world(name, mountctl, server.path, tables, rows_of(client, tables))
+        if places:
+            check_places(name, mountctl, server, client, tables)
+        return sum(map(len, tables.values()))
+
+
+def check_cases(program, mountctl):
+    """The world that each case leaves."""
+    mounts = 0
+    for name in cases.names():
+        case = cases.load(name)
+        lines, spaces = world_of(case)
+        if len(lines) < 300:
+            mounts += look_at(f"case {name}", program, mountctl, lines, spaces, False, case.arguments)
+    check("mounts of cases are objects", mounts > 0)
+    print(f"{mounts} mounts of cases as JSON", flush=True)
+
+
+def check_random(program, mountctl):
+    """Random worlds, of the scripts of an author who is told what is there."""
+    mounts = 0
+    for seed in range(WORLDS):
+        author, lines, tables = Author(random.Random(seed)), [], {}
+        with Server(program) as server, server.client() as client:
+            while (line := author.next_line(tables)) is not None:
+                client.ask(line)
+                lines.append(line)
+                tables = tables_of(client, 8)
+        mounts += look_at(f"random world {seed}", program, mountctl, lines, 8, seed < 3)
+    check("mounts of random worlds are objects", mounts > 0)
+    print(f"{mounts} mounts of {WORLDS} random worlds as JSON", flush=True)
+
+
+def check_odd(program, mountctl):
+    """Names of every kind, a deep stack of mounts, and no namespace at all."""
+    mounts = look_at("odd names", program, mountctl, ODD, 1)
+    check("mounts of odd names", mounts == len(ODD_NAMES) + 1, str(mounts))
+    look_at("no namespace", program, mountctl, [], 1)
+    look_at("a large world", program, mountctl, LARGE, 1, False)
+    for words in ["show", "9", "--json"], ["tree", "9", "--json"], ["find", "9", "/", "--json"]:
+        with Server(program) as server:
+            found = asked(mountctl, server.path, *words)
+            check(f"{words} without a namespace", found == (1, [{"refusal": "NoNamespace"}], b""), repr(found))
+
+
+def is_within(time, begun, ended):
+    """Whether a time is one of RFC 3339, in UTC, between two others."""
+    told = datetime.datetime.fromisoformat(time.replace("Z", "+00:00"))
+    return time.endswith("Z") and begun <= told <= ended
+
+
+def now():
+    """The time, to a thousandth of a second."""
+    time = datetime.datetime.now(datetime.timezone.utc)
+    return time.replace(microsecond=time.microsecond // 1000 * 1000)
+
+
+def until_it_tells(client, output):
+    """Makes changes until a monitor tells them, and one more, which it tells last."""
+    for tries in range(int(MOST_SECONDS / ON_ITS_WAY)):
+        client.ask(TRIED[tries % 2])
+        if select.select([output], [], [], ON_ITS_WAY)[0]:
+            break
+    client.ask(b"setattr 1 / set=noexec")
+    while b"noexec" not in (found := output.readline()) and found:
+        pass
+    check("a monitor tells what it was made to", found != b"")
+
+
+def check_times(program, mountctl):
+    """A monitor tells of each change when it came."""
+    with Server(program) as server, server.client() as client:
+        for line in START:
+            client.ask(line)
+        words = [mountctl, server.path, "monitor", "1", "--time"]
+        with subprocess.Popen(words, bufsize=0, stdout=subprocess.PIPE, stderr=subprocess.PIPE) as monitor:
+            until_it_tells(client, monitor.stdout)
+            start = now()
+            for line, events in CHANGES:
+                answer = client.ask(line)[0]
+                for mark, mount in events:
+                    time, found = monitor.stdout.readline().split(b" ", 1)
+                    check(f"the time of {shown(line)}", is_within(time.decode(), start, now()), repr(time))
+                    check(f"what is told of {shown(line)}", answer[:2] == b"ok" and found.startswith(b"%b %d " % (mark, mount)), f"{answer}, {found}")
+            client.ask(b"stop")
+            ended, complaint = monitor.communicate(timeout=MOST_SECONDS)
+        time, last = ended.split(b" ", 1)
+        check("the end of a monitor with times", (last, complaint, monitor.returncode) == (b"no Stopped\n", b"", 1), repr(ended))
+        check("the time of the end", is_within(time.decode(), start, now()), repr(time))
+
+
+def check_objects(program, mountctl):
+    """Tables and places as JSON, and when a change is told."""
+    check("findmnt is there, as CI needs it", shutil.which("findmnt") is not None or "CI" not in os.environ)
+    check_cases(program, mountctl)
+    check_random(program, mountctl)
+    check_odd(program, mountctl)
+    check_times(program, mountctl)

@@ -1,0 +1,138 @@
+//! `find` with `--json`: the mount on which a path ends, with its row.
+ghost use Rattle.std.specs.Prelude.{◌≡◌, None, OnOk};
+ghost use Rattle.mt_lines.specs.Reading.{fault_of};
+
+use crate::fault::Fault;
+use crate::kept::{Kept, ask_kept};
+use crate::lines::tell_bad;
+use crate::what_if::line_of;
+use mt_client::relay::print_text;
+use mt_draw::objects::push_place;
+use mt_info::read::read_row;
+use mt_info::row::Row;
+use mt_lines::line::LineReader;
+use mt_lines::stream::{Input, Output};
+use mt_skel::escape::unescape;
+use mt_skel::fault::Fault as Refusal;
+use mt_words::words::{Pieces, number, words};
+use std::alloc::Global;
+use std::io::Eprint;
+
+/// How often a path is looked for whose mount somebody else takes away before its row is read.
+const MOST_TRIES: u32 = 1_000;
+
+/// What comes of a look for a path.
+#[derive(Clone, Copy)]
+enum Look {
+    /// It was printed.
+    Found,
+    /// The refusal was printed.
+    Refused,
+    /// The mount has gone.
+    Gone,
+}
+
+/// What is no line of an answer is a connection fault, but for want of memory.
+fn fault_of_line(fault: Refusal) -> Fault {
+    match fault {
+        Refusal::NoMemory => Fault::NoMemory,
+        _ => Fault::Connection,
+    }
+}
+
+/// The mount on which a path ends and the directory, as an answer says them.
+fn place_in(answer: &[u8]) -> Option<(&[u8], &[u8])> {
+    let mut words = words(answer.strip_prefix(b"ok ")?.strip_suffix(b"\n")?);
+    let (Some(id), Some(directory), None) = (words.next(), words.next(), words.next()) else {
+        return None;
+    };
+    Some((id, directory))
+}
+
+/// The row of a mount among the lines of an answer, if it is there.
+fn row_in(alloc: Global, answer: &[u8], id: &[u8]) -> Result<Option<Row>, Fault> {
+    for line in Pieces::new(b'\n', answer) {
+        if words(line).next() == Some(id) {
+            return match read_row(alloc, line) {
+                Ok(row) => Ok(Some(row)),
+                Err(fault) => Err(fault_of_line(fault)),
+            };
+        }
+    }
+    Ok(None)
+}
+
+/// Prints where a path ends.
+fn print_place<O: Output>(
+    alloc: Global,
+    space: &str,
+    directory: &[u8],
+    row: &Row,
+    out: &mut O,
+) -> Result<(), Fault> {
+    let Some(space) = number(space.as_bytes()) else {
+        return Err(Fault::Connection);
+    };
+    let directory = match unescape(alloc, directory) {
+        Ok(directory) => directory,
+        Err(fault) => return Err(fault_of_line(fault)),
+    };
+    let mut text = Vec::new(alloc);
+    push_place(&mut text, space, directory.as_slice(), row)?;
+    print_text(out, text.as_slice())?;
+    Ok(())
+}
+
+/// Looks once for a path of a namespace by the line that asks for it, and for the row of the mount on which it ends.
+fn look<R: Input + Drop, W: Output, O: Output>(
+    alloc: Global,
+    space: &str,
+    line: &[u8],
+    lines: &mut LineReader<R>,
+    writer: &mut W,
+    out: &mut O,
+) -> Result<Look, Fault>
+    requires fresh { fault_of lines.old ≡ None }
+    ensures fresh { OnOk result (fault_of lines.new ≡ None) }
+{
+    let mut found = Kept::new(alloc);
+    if !ask_kept(alloc, lines, writer, line, &mut found)? {
+        print_text(out, found.text())?;
+        return Ok(Look::Refused);
+    }
+    let Some((id, directory)) = place_in(found.text()) else {
+        return Err(Fault::Connection);
+    };
+    let mut shown = Kept::new(alloc);
+    let show = line_of(alloc, &["show", space])?;
+    let _shown = ask_kept(alloc, lines, writer, show.as_slice(), &mut shown)?;
+    let Some(row) = row_in(alloc, shown.text(), id)? else {
+        return Ok(Look::Gone);
+    };
+    print_place(alloc, space, directory, &row, out)?;
+    Ok(Look::Found)
+}
+
+/// Prints where a path of a namespace ends as JSON: false where it is refused, which is printed.
+pub(crate) fn find_place<E: Eprint, R: Input + Drop, W: Output, O: Output>(
+    rt: &E,
+    alloc: Global,
+    space: &str,
+    path: &str,
+    lines: &mut LineReader<R>,
+    writer: &mut W,
+    out: &mut O,
+) -> Result<bool, Fault>
+    requires fresh { fault_of lines.old ≡ None }
+{
+    let line = line_of(alloc, &["find", space, path])?;
+    tell_bad(rt, alloc, None, line.as_slice())?;
+    'tries: for _try in 0..MOST_TRIES {
+        match look(alloc, space, line.as_slice(), lines, writer, out)? {
+            Look::Found => return Ok(true),
+            Look::Refused => return Ok(false),
+            Look::Gone => {}
+        }
+    }
+    Err(Fault::Connection)
+}
