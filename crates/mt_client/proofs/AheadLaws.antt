@@ -1,5 +1,5 @@
 -- What cannot come first where a telling is cut off, and what of it has come.
-use Rattle.std.proofs.Common.{◌≡◌, ℕ, ◌+◌, ◌<◌, ◌≤◌, true, false, List, [], ◌∷◌, ◌++◌, map, length, refl, sym, ap, subst, ◌∙◌, arith, append_assoc, append-nil, length-append, ◌⊎◌, inl, inr, Bool, MatchBool, Result, Ok, IfOk}
+use Rattle.std.proofs.Common.{◌≡◌, ℕ, ◌+◌, ◌<◌, ◌≤◌, true, false, List, [], ◌∷◌, ◌++◌, map, length, refl, sym, ap, subst, ◌∙◌, arith, append_assoc, append-nil, length-append, inl, inr, Bool, MatchBool, Result, Ok, IfOk}
 use Rattle.std.proofs.lemmas.Bool.{false≢true}
 use Rattle.std.proofs.lemmas.Grind.{flat_map-append}
 use Rattle.std.specs.List.{flat_map, join_with_byte, AllByRecursion}
@@ -83,10 +83,6 @@ only_applied seen before middle after post old new there only make other rest va
 -- a result that is true, and one of two causes
 pub when_ok_true : (T A B : Type 0) (r : Result Bool ClientFault) → r ≡ Ok true → IfOk r (λ going. T → MatchBool going A B) → T → A
 when_ok_true T A B r is h = subst (λ x. IfOk x (λ going. T → MatchBool going A B)) is h
-
-pub either : {A B C D : Type 0} → (A → C) → (B → D) → A ⊎ B → C ⊎ D
-either f h (inl a) = inl (f a)
-either f h (inr b) = inr (h b)
 
 -- so many posts, of which some have come
 abbrev pub Came : ℕ → ℕ → Scope → List MirrorView → List MirrorView → List Item → List Item → Type 0

@@ -1,17 +1,15 @@
 -- Posts that were passed on up to the line that ends them, and what cannot come first where one is refused.
-use Rattle.std.proofs.Common.{◌≡◌, ◌≢◌, ℕ, ◌+◌, ◌<◌, ◌≤◌, Bool, true, false, List, [], ◌∷◌, ◌++◌, length, refl, sym, ap, subst, ◌∙◌, arith, append_assoc, length-append, codes, Some, None, if◌then◌else◌, Result, Ok, Err, IfOk, inl, inr, ◌⊎◌}
+use Rattle.std.proofs.Common.{◌≡◌, ◌≢◌, ℕ, ◌+◌, ◌<◌, ◌≤◌, Bool, true, false, List, [], ◌∷◌, ◌++◌, length, refl, sym, ap, subst, ◌∙◌, arith, append_assoc, length-append, codes, Some, None, if◌then◌else◌, inl, inr, ◌⊎◌}
 use Rattle.std.specs.List.{flat_map, AllByRecursion}
 use Rattle.std.specs.Str.{bytes_eq}
 use Rattle.std.proofs.lemmas.Slice.Eq.{bytes_eq-Decides}
 use Rattle.mt_words.specs.Words.{words, number_in_text}
 use Rattle.mt_lines.specs.Lines.{Item, Text}
-use Rattle.mt_lines.specs.declared.stream.StreamFault.{StreamFault}
 use Rattle.mt_client.specs.declared.block.Block.TheVariants.{Post}
 use Rattle.mt_client.specs.declared.answer.Form.{Form}
 use Rattle.mt_client.specs.declared.answer.Form.TheVariants.{Done, Number, Place, Table, Opening, Posts, Followed, Never}
-use Rattle.mt_client.specs.declared.fault.ClientFault.{ClientFault}
 use Rattle.mt_client.specs.Requests.{first_of, verdict}
-use Rattle.mt_client.specs.Reading.{texts, HasRead, HasPassed, HasBroken, IsBroken, NoneFirst, AreSoMany}
+use Rattle.mt_client.specs.Reading.{texts, HasRead, NoneFirst, AreSoMany}
 use Rattle.mt_client.specs.Awaited.{event_count}
 use Rattle.mt_client.specs.Replies.{IsPostLines, IsBlockOf, most_posts, IsEnding, IsHeaded, IsFollowed, IsAnswer}
 use Rattle.mt_client.proofs.OpeningLaws.{first_taken, texts_split}
@@ -174,13 +172,6 @@ heads Posts other = refl
 heads Followed other = absurd (other refl)
 heads Never other = refl
 
--- a post behind its first line, where that was read
-pub post_passed_on : (kind : List (List ℕ) → Type 0) (seen : List ℕ) (before rest after : List Item) (old new : List ℕ) → before ≡ Text seen ∷ rest → HasPassed kind (Text seen ∷ rest) after old new → HasPassed kind before after old new
-post_passed_on kind seen before rest after old new there h = subst (λ x. HasPassed kind x after old new) (sym there) h
-
-pub post_broken : (f : ClientFault) (seen : List ℕ) (before rest : List Item) (old new : List ℕ) → before ≡ Text seen ∷ rest → IsBroken f (Text seen ∷ rest) old new → IsBroken f before old new
-post_broken f seen before rest old new there b = subst (λ x. IsBroken f x old new) (sym there) b
-
 pub never_followed : (form : Form) → ((form ≡ Done) ⊎ ((form ≡ Number) ⊎ ((form ≡ Place) ⊎ ((form ≡ Table) ⊎ ((form ≡ Opening) ⊎ ((form ≡ Posts) ⊎ (form ≡ Never))))))) → form ≢ Followed
 never_followed form (inl e) is = let both : Done ≡ Followed = sym e ∙ is in cc
 never_followed form (inr (inl e)) is = let both : Number ≡ Followed = sym e ∙ is in cc
@@ -190,12 +181,11 @@ never_followed form (inr (inr (inr (inr (inl e))))) is = let both : Opening ≡ 
 never_followed form (inr (inr (inr (inr (inr (inl e)))))) is = let both : Posts ≡ Followed = sym e ∙ is in cc
 never_followed form (inr (inr (inr (inr (inr (inr e)))))) is = let both : Never ≡ Followed = sym e ∙ is in cc
 
-pub headed_answer : (T U : Type 0) (r : Result Bool ClientFault) (form : Form) → form ≢ Followed → (before after : List Item) (old new : List ℕ) → IfOk r (λ told. T → U → HasPassed (λ all. IsHeaded form all told) before after old new)
-    → IfOk r (λ told. T → U → HasPassed (λ all. IsAnswer form all told) before after old new)
-headed_answer T U (Ok told) form other before after old new h = λ t u. let p = h t u in (p.0, subst (λ K. K p.0 told) (heads form other) p.1, p.2)
-headed_answer T U (Err f) form other before after old new h = tt
+pub headed_is : (form : Form) (told : Bool) → form ≢ Followed → (lines : List (List ℕ)) → IsHeaded form lines told → IsAnswer form lines told
+headed_is form told other lines h = subst (λ K. K lines told) (heads form other) h
 
-pub headed_cut : (form : Form) → form ≢ Followed → (before : List Item) (old new : ℕ) (none all : List StreamFault) → HasBroken old new none all ⊎ NoneFirst (λ ls. (told : Bool) × IsHeaded form ls told) before
-    → HasBroken old new none all ⊎ NoneFirst (λ ls. (told : Bool) × IsAnswer form ls told) before
-headed_cut form other before old new none all (inl b) = inl b
-headed_cut form other before old new none all (inr none_first) = inr (subst (λ K. NoneFirst (λ ls. (told : Bool) × K ls told) before) (heads form other) none_first)
+pub headed_none : (form : Form) → form ≢ Followed → (before : List Item) → NoneFirst (λ ls. (told : Bool) × IsHeaded form ls told) before → NoneFirst (λ ls. (told : Bool) × IsAnswer form ls told) before
+headed_none form other before none = subst (λ K. NoneFirst (λ ls. (told : Bool) × K ls told) before) (heads form other) none
+
+pub followed_none : (form : Form) → form ≡ Followed → (before : List Item) → NoneFirst (λ ls. (told : Bool) × IsFollowed ls told) before → NoneFirst (λ ls. (told : Bool) × IsAnswer form ls told) before
+followed_none form is before none = subst (λ k. NoneFirst (λ ls. (told : Bool) × IsAnswer k ls told) before) (sym is) none

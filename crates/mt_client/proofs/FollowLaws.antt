@@ -16,7 +16,8 @@ use Rattle.mt_events.proofs.PostLaws.{text_tells}
 use Rattle.mt_client.specs.Reading.{texts, printed, NoneFirst, AreSoMany}
 use Rattle.mt_client.specs.Mirroring.{IsRefusal, counted_line, opening_lines, Follows, HasOpened, IsPosted, HasPosted, HasFollowed}
 use Rattle.mt_client.specs.Awaited.{event_count, IsOneRefusal, IsRefusedOr, IsOpening, IsNextPost, IsBehind, IsPostBehind, IsOnlyPost, TakesPost, TakesBehind, IsLast, IsFollowing, IsEnd, IsMirroring}
-use Rattle.mt_client.proofs.OpeningLaws.{texts_split, needs_line, unrefused_or, opened_alike}
+use Rattle.mt_client.specs.Requests.{is_refusal}
+use Rattle.mt_client.proofs.OpeningLaws.{first_taken, texts_split, needs_line, no_refusal, unrefused_or, opened_alike}
 
 pub on_ok : {A E : Type 0} {P : Type 0} (r : Result A E) → P → OnOk r P
 on_ok (Ok a) p = p
@@ -153,6 +154,12 @@ next_some mirror lines (inr k) = (event_line k.post, behind_lines k.post, k.all)
 
 pub next_needs_line : (mirror : MirrorView) (before : List Item) → NoneFirst (AreSoMany 1) before → NoneFirst (IsRefusedOr (IsNextPost mirror)) before
 next_needs_line mirror before none = needs_line before (next_some mirror) none
+
+pub next_needs_behind : (mirror : MirrorView) (seen : List ℕ) (before middle : List Item) → before ≡ Text seen ∷ middle → is_refusal seen ≡ false → NoneFirst (IsBehind seen mirror) middle → NoneFirst (IsRefusedOr (IsNextPost mirror)) before
+next_needs_behind mirror seen before middle there tells none =
+    unrefused_or before (no_refusal seen before middle there tells) (λ lines later k e.
+    let t = first_taken seen (event_line k.post) lines (behind_lines k.post) before middle later there k.all e in
+    none (behind_lines k.post) later (record { post = k.post; valid = k.valid; next = k.next; all = ap (λ l. l ∷ behind_lines k.post) (sym t.0) }) t.1)
 
 -- mirrors of one namespace and one number have the same posts next
 pub are_alike : (m n : MirrorView) (posts : List PostView) → m.space ≡ n.space → m.number ≡ n.number → are_next m posts ≡ are_next n posts

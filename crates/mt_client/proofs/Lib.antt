@@ -1,5 +1,6 @@
 pub mod RequestLaws
 pub mod RelayLaws
+pub mod CallLaws
 pub mod MirrorLaws
 pub mod OpeningLaws
 pub mod FollowLaws

@@ -18,20 +18,7 @@ use Rattle.mt_events.specs.Texts.{count_text, part_text, opening_text}
 use Rattle.mt_client.specs.Reading.{texts, printed}
 use Rattle.mt_client.specs.Mirroring.{counted_line, heading_words, heading_line, part_lines, opening_lines, opening_with, Follows, HasOpened, HasPosted, HasFollowed, HasFollowedSome, HasFollowedAll, HasRefused, HasMirrored, IsLeft}
 use Rattle.mt_client.specs.Finding.{part_found}
-use Rattle.mt_client.proofs.RelayLaws.{read_more, texts-append, printed-append}
-
--- lines that were appended, and one more
-pub line_came : (n : ℕ) (line : List ℕ) (before middle after : List Item) (begun text more : List ℕ)
-    → ((all : List (List ℕ)) × (length all ≡ n) × (before ≡ texts all ++ middle) × (text ≡ begun ++ printed all)) → middle ≡ Text line ∷ after → more ≡ text ++ ended line
-    → (all : List (List ℕ)) × (length all ≡ n + 1) × (before ≡ texts all ++ after) × (more ≡ begun ++ printed all)
-line_came n line before middle after begun text more h e f =
-    let l = length-append h.0 (line ∷ []) in (
-      h.0 ++ line ∷ [],
-      omega (arith, l, h.1),
-      read_more h.0 line before middle after h.2 e,
-      f ∙ ap (λ x. x ++ ended line) h.3 ∙ append_assoc begun (printed h.0) (ended line)
-          ∙ ap (λ x. begun ++ (printed h.0 ++ x)) (sym (append-nil (ended line))) ∙ ap (λ x. begun ++ x) (sym (printed-append h.0 (line ∷ []))),
-    )
+use Rattle.mt_client.proofs.RelayLaws.{texts-append, printed-append}
 
 -- lines read in two runs
 pub runs_read : (ls ms : List (List ℕ)) (before middle after : List Item) → before ≡ texts ls ++ middle → middle ≡ texts ms ++ after → before ≡ texts (ls ++ ms) ++ after

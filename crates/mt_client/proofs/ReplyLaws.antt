@@ -15,22 +15,12 @@ use Rattle.mt_client.specs.declared.block.Block.{Block}
 use Rattle.mt_client.specs.declared.block.Block.TheVariants.{Namespace, Post}
 use Rattle.mt_client.specs.declared.opening.Heading.{Heading}
 use Rattle.mt_client.specs.Requests.{verdict, lines_behind}
-use Rattle.mt_client.specs.Reading.{texts, printed, HasRead, HasPassed, NoneFirst, AreSoMany}
+use Rattle.mt_client.specs.Reading.{texts, printed, HasRead, NoneFirst, AreSoMany}
 use Rattle.mt_client.specs.Mirroring.{heading_words}
 use Rattle.mt_client.specs.Awaited.{event_count, IsRowLine, AreRowLines}
 use Rattle.mt_client.specs.Replies.{IsPartLines, IsPostLines, IsBlock, IsBlockOf, AreBlocks, AreBlockLines, AreBehind, IsHeaded}
-use Rattle.mt_client.proofs.RelayLaws.{passed_more}
-use Rattle.mt_client.proofs.MirrorLaws.{runs_read}
 use Rattle.mt_client.proofs.OpeningLaws.{first_taken, texts_split, needs_line, heading_tells, rows_cut}
 use Rattle.mt_client.proofs.FollowLaws.{lines_alike}
-
--- lines of one kind behind lines of another
-pub read_join : {kind more all : List (List ℕ) → Type 0} (before middle after : List Item) → ((ls ms : List (List ℕ)) → kind ls → more ms → all (ls ++ ms)) → HasRead kind before middle → HasRead more middle after → HasRead all before after
-read_join before middle after join h k = (h.0 ++ k.0, join h.0 k.0 h.1 k.1, runs_read h.0 k.0 before middle after h.2 k.2)
-
-pub passed_join : {kind more all : List (List ℕ) → Type 0} (before middle after : List Item) (old between new : List ℕ) → ((ls ms : List (List ℕ)) → kind ls → more ms → all (ls ++ ms)) → HasPassed kind before middle old between → HasPassed more middle after between new
-    → HasPassed all before after old new
-passed_join before middle after old between new join h k = (h.0 ++ k.0, join h.0 k.0 h.1 k.1, passed_more h.0 k.0 before middle after old between new h.2 k.2)
 
 -- rows
 valid_more : (rows : List Row) (row : Row) → AllByRecursion IsRow rows → IsRow row → AllByRecursion IsRow (rows ++ row ∷ [])
@@ -98,7 +88,7 @@ part_needs_rows h seen middle is small none lines later k e =
 some_same : (n m : ℕ) → Some n ≡ Some m → n ≡ m
 some_same n m e = cc
 
-post_made : (n : ℕ) (seen : List ℕ) (others : List (List ℕ)) (text begun : List ℕ) → Some n ≡ event_count (words seen) → length others ≡ n → begun ≡ [] ++ ended seen → text ≡ begun ++ printed others → ((post : PostView) × IsPost post × (text ≡ post_text post))
+pub post_made : (n : ℕ) (seen : List ℕ) (others : List (List ℕ)) (text begun : List ℕ) → Some n ≡ event_count (words seen) → length others ≡ n → begun ≡ [] ++ ended seen → text ≡ begun ++ printed others → ((post : PostView) × IsPost post × (text ≡ post_text post))
     → IsBlockOf Post n (seen ∷ others) × (text ≡ printed (seen ∷ others))
 post_made n seen others text begun counts many began is post =
     let whole : text ≡ printed (seen ∷ others) = is ∙ ap (λ x. x ++ printed others) began in (
@@ -108,16 +98,6 @@ post_made n seen others text begun counts many began is post =
 
 abbrev pub HasAppended : ℕ → List Item → List Item → List ℕ → List ℕ → Type 0
 HasAppended n middle after begun text = (all : List (List ℕ)) × (length all ≡ n) × (middle ≡ texts all ++ after) × (text ≡ begun ++ printed all)
-
-pub post_came : (n : ℕ) (seen : List ℕ) (middle after : List Item) (text begun : List ℕ) → Some n ≡ event_count (words seen) → begun ≡ [] ++ ended seen → HasAppended n middle after begun text → ((post : PostView) × IsPost post × (text ≡ post_text post))
-    → HasRead (IsBlockOf Post n) (Text seen ∷ middle) after
-post_came n seen middle after text begun counts began read post = (seen ∷ read.0, (post_made n seen read.0 text begun counts read.1 began read.3 post).0, ap (λ x. Text seen ∷ x) read.2)
-
-pub post_passed : (n : ℕ) (seen : List ℕ) (middle after : List Item) (text begun old new : List ℕ) → Some n ≡ event_count (words seen) → begun ≡ [] ++ ended seen → HasAppended n middle after begun text → ((post : PostView) × IsPost post × (text ≡ post_text post)) → new ≡ old ++ text
-    → HasPassed (IsBlockOf Post n) (Text seen ∷ middle) after old new
-post_passed n seen middle after text begun old new counts began read post out =
-    let made = post_made n seen read.0 text begun counts read.1 began read.3 post in
-    (seen ∷ read.0, made.0, record { read = ap (λ x. Text seen ∷ x) read.2; out = out ∙ ap (λ x. old ++ x) made.1 })
 
 post_first : (seen : List ℕ) (middle later : List Item) (lines : List (List ℕ)) (k : IsPostLines lines) → Text seen ∷ middle ≡ texts lines ++ later → (k.first ≡ seen) × (middle ≡ texts k.others ++ later)
 post_first seen middle later lines k e = first_taken seen k.first lines k.others (Text seen ∷ middle) middle later refl k.all e
@@ -173,6 +153,9 @@ part_some lines k = (join_with_byte 32 (heading_words k.space k.number k.count),
 
 pub post_some : (lines : List (List ℕ)) → IsPostLines lines → (first : List ℕ) × (others : List (List ℕ)) × (lines ≡ first ∷ others)
 post_some lines k = (k.first, k.others, k.all)
+
+pub block_read : {T : Type 0} (block read : Block) (before middle : List Item) → read ≡ block → (T → before ≡ middle) → T → NoneFirst (IsBlock read) middle → NoneFirst (IsBlock block) before
+block_read block read before middle is came t none = subst (λ b. NoneFirst (IsBlock b) before) is (subst (NoneFirst (IsBlock read)) (sym (came t)) none)
 
 pub block_needs_line : (block : Block) (before : List Item) → NoneFirst (AreSoMany 1) before → NoneFirst (IsBlock block) before
 block_needs_line Namespace before none = needs_line before part_some none

@@ -1,15 +1,17 @@
 -- A refusal that is read in the place of an answer, over a connection that has ended.
-use Rattle.std.proofs.Common.{◌≡◌, ℕ, Bool, true, false, ◌&&◌, if◌then◌else◌, List, [], ◌∷◌, ◌++◌, Some, None, codes, refl, arith, Result, Ok, Err, OnOk, OnErr}
+use Rattle.std.proofs.Common.{◌≡◌, ℕ, Bool, true, false, ◌&&◌, if◌then◌else◌, List, [], ◌∷◌, ◌++◌, Some, None, codes, refl, arith, IsTrue, Result, Ok, Err, OnOk, OnErr}
 use Rattle.std.proofs.lemmas.Slice.Eq.{bytes_eq-Decides}
 use Rattle.std.specs.Str.{bytes_eq}
 use Rattle.mt_words.specs.Words.{words}
 use Rattle.mt_lines.specs.Lines.{Item}
 use Rattle.mt_lines.specs.declared.stream.Cut.{Cut}
+use Rattle.mt_lines.specs.declared.stream.Output.{Ghosts as OutputGhosts}
 use Rattle.mt_events.specs.Posts.{ended}
 use Rattle.mt_client.specs.declared.answer.Form.{Form}
 use Rattle.mt_client.specs.declared.answer.Form.TheVariants.{Done, Number, Place, Table, Opening, Posts, Followed, Never}
 use Rattle.mt_client.specs.Requests.{first_of, refuses, is_refusal, is_refusal_name, verdict}
-use Rattle.mt_client.specs.Reading.{HasPassed, IsCutOff, IsSentPart, NoneFirst, AreSoMany}
+use Rattle.mt_client.specs.Reading.{HasPassed, IsSentPart, NoneFirst, AreSoMany}
+use Rattle.mt_client.specs.Calls.{IsOut, IsOutInPart}
 use Rattle.mt_client.specs.Awaited.{IsOneRefusal}
 use Rattle.mt_client.specs.Mirroring.{HasRefused}
 use Rattle.mt_client.specs.Replies.{AreBehind, IsHeaded, IsAnswer}
@@ -52,9 +54,9 @@ pub refused_passed : (form : Form) (refusal : List ℕ) (before after : List Ite
 refused_passed form refusal before after old new refused e = (refusal ∷ [], refusal_answers form refusal refused.is, one_passed refusal before after old new refused.read e)
 
 -- what of a text went out, all of it or not
-pub part_sent : {T : Type 0} (r : Result (Unit {0}) Cut) (text old new : List ℕ) → T → OnOk r (T → new ≡ old ++ text) → OnErr r (T → IsCutOff text old new) → IsSentPart text old new
-part_sent (Ok u) text old new t sent cut = sent_whole text old new (sent t)
-part_sent (Err f) text old new t sent cut = let k = cut t in record { count = k.count; out = k.out }
+pub part_sent : {W : Type 0} (w : OutputGhosts W) (text : List ℕ) (old new : W) (r : Result (Unit {0}) Cut) → IsTrue w.tells → OnOk r (IsOut w text old new) → OnErr r (IsOutInPart w text old new) → IsSentPart text (w.written old) (w.written new)
+part_sent w text old new (Ok u) t sent cut = sent_whole text (w.written old) (w.written new) (sent.went t)
+part_sent w text old new (Err f) t sent cut = let k = cut.cut t in record { count = k.count; out = k.out }
 
 -- where no line comes first, no refusal does
 pub refusal_needs_line : (before : List Item) → NoneFirst (AreSoMany 1) before → NoneFirst IsOneRefusal before

@@ -1,5 +1,5 @@
 -- Posts that were told, one after another, and what stands behind them.
-use Rattle.std.proofs.Common.{◌≡◌, ◌≢◌, ℕ, zero, suc, ◌+◌, ◌≤◌, MatchBool, MatchOption, Option, Some, None, IfSome, IfOk, IfErr, Result, Ok, Err, OnOk, OnErr, Bool, true, false, List, [], ◌∷◌, ◌++◌, length, replicate, refl, sym, ap, subst, ◌∙◌, arith, append_assoc, length-append, codes, ◌⊎◌, inl, inr}
+use Rattle.std.proofs.Common.{◌≡◌, ◌≢◌, ℕ, zero, suc, ◌+◌, ◌≤◌, MatchBool, MatchOption, Option, Some, None, IfSome, IfOk, IfErr, Result, Ok, Err, OnOk, Bool, true, false, List, [], ◌∷◌, ◌++◌, length, replicate, refl, sym, ap, subst, ◌∙◌, arith, append_assoc, length-append, codes, ◌⊎◌, inl, inr}
 use Rattle.std.proofs.lemmas.List.{append-nil}
 use Rattle.std.proofs.lemmas.Grind.{flat_map-append}
 use Rattle.std.specs.List.{flat_map, AllByRecursion}
@@ -252,10 +252,10 @@ pub up_to_some : (fault : ClientFault) (count n : ℕ) (scope : Scope) (old new 
 up_to_some fault count n scope old new before middle begun between done le f s =
     record { made = new; middle = middle; between = between; so = so_few count n scope old new before middle begun between le f; stopped = s }
 
-pub end_broken : (r : Result Bool ClientFault) (count n : ℕ) (scope : Scope) (old new : List MirrorView) (before middle : List Item) (begun done : List ℕ) → r ≢ Err Output → n ≤ count → HasToldSome n scope old new before middle begun done
+pub end_broken : (r : Result Bool ClientFault) (count n : ℕ) (scope : Scope) (old new : List MirrorView) (before middle : List Item) (begun done : List ℕ) → IfErr r (λ f. f ≢ Output) → n ≤ count → HasToldSome n scope old new before middle begun done
     → IfErr r (λ fault. IsToldUpTo fault count scope old before begun done)
 end_broken (Ok b) count n scope old new before middle begun done kind le f = tt
-end_broken (Err k) count n scope old new before middle begun done kind le f = up_to_some k count n scope old new before middle begun done done le f (inl (unsaid k middle done done (λ e. kind (ap Err e)) refl))
+end_broken (Err k) count n scope old new before middle begun done kind le f = up_to_some k count n scope old new before middle begun done done le f (inl (unsaid k middle done done kind refl))
 
 pub up_to_none : (fault : ClientFault) (count : ℕ) (scope : Scope) (old : List MirrorView) (before : List Item) (begun done : List ℕ) → IsUnsaid fault before begun done → IsToldUpTo fault count scope old before begun done
 up_to_none fault count scope old before begun done u = record { made = old; middle = before; between = begun; so = so_none count scope old before begun; stopped = inl u }
@@ -367,13 +367,9 @@ pub refused_out : (T U Y : Type 0) (r : Result (Unit {0}) ClientFault) (refusal 
 refused_out T U Y (Ok u) refusal before after old new h e = λ t v. inl (refusal, h t, e v)
 refused_out T U Y (Err f) refusal before after old new h e = tt
 
-pub cut_told : (T Q : Type 0) (r : Result (Unit {0}) ClientFault) → T → OnErr r (T → Q) → OnErr r Q
-cut_told T Q (Ok u) t h = tt
-cut_told T Q (Err f) t h = h t
-
-pub refused_part : (r : Result (Unit {0}) ClientFault) (scope : Scope) (refusal : List ℕ) (before after : List Item) (old new : List ℕ) → HasRefused refusal before after → IfErr r (λ f. f ≡ Output) → OnErr r (IsCutOff (ended refusal) old new)
+pub refused_part : (r : Result (Unit {0}) ClientFault) (scope : Scope) (refusal : List ℕ) (before after : List Item) (old new : List ℕ) → HasRefused refusal before after → IfErr r (λ f. (f ≡ Output) × IsCutOff (ended refusal) old new)
     → IfErr r (λ fault. IsBrokenOff fault scope before old new)
-refused_part (Ok u) scope refusal before after old new h kind cut = tt
-refused_part (Err f) scope refusal before after old new h kind cut =
-    let part : IsUnsaid Output before old new = broken_cut Output refusal before after old new h.read refl cut in
-    inl (subst (λ k. IsUnsaid k before old new) (sym kind) part)
+refused_part (Ok u) scope refusal before after old new h cut = tt
+refused_part (Err f) scope refusal before after old new h cut =
+    let part : IsUnsaid Output before old new = broken_cut Output refusal before after old new h.read refl cut.1 in
+    inl (subst (λ k. IsUnsaid k before old new) (sym cut.0) part)

@@ -1,5 +1,6 @@
 pub mod Requests
 pub mod Reading
+pub mod Calls
 pub mod Mirroring
 pub mod Awaited
 pub mod Finding

@@ -1,9 +1,8 @@
 //! The rows, namespaces and posts of an answer, which are printed once they are known for such.
-ghost use Rattle.std.specs.Prelude.{◌≡◌, ◌≢◌, ◌⊎◌, ◌≤◌, [], ◌∷◌, None, Err, IfOk, IfErr, OnOk, IsTrue};
-ghost use Rattle.mt_lines.specs.Lines.{Text};
-ghost use Rattle.mt_lines.specs.Reading.{failed_calls, last_faults, fault_of, last_line, limit_of};
+ghost use Rattle.std.specs.Prelude.{◌≡◌, ◌≢◌, [], ◌∷◌, None, Err, IfOk, IfErr, OnOk};
+ghost use Rattle.mt_lines.specs.Reading.{fault_of, last_line};
 ghost use Rattle.mt_events.specs.Posts.{PostView, IsPost, post_text};
-ghost use Rattle.mt_client.specs.Reading.{lines_left, HasBroken, IsBroken, NoneFirst, HasRead, HasPassed, IsCut};
+ghost use Rattle.mt_client.specs.Calls.{IsPassFault, PassesOn};
 ghost use Rattle.mt_client.specs.Awaited.{IsRowLine, AreRowLines};
 ghost use Rattle.mt_client.specs.Replies.{IsPartLines, IsPostLines, IsBlock, IsBlockOf, AreBlockLines, AreBehind};
 
@@ -11,7 +10,7 @@ use crate::answer::Form;
 use crate::fault::ClientFault;
 use crate::opening::read_heading;
 use crate::posts::{lines_of_event, push_line, push_lines};
-use crate::relay::{next_text, print_line, print_text};
+use crate::relay::{next_text, print, print_line};
 use mt_events::read::read_post;
 use mt_info::read::read_row;
 use mt_lines::line::LineReader;
@@ -48,22 +47,8 @@ fn pass_row<R: Input + Drop, O: Output>(
     out: &mut O,
 ) -> Result<(), ClientFault>
     requires fresh { fault_of lines.old ≡ None }
-    ensures passed { OnOk result (IsTrue R.tells → IsTrue O.tells
-        → HasPassed IsRowLine (lines_left lines.old) (lines_left lines.new) (O.written out.old) (O.written out.new)) }
-    ensures came { OnOk result (IsTrue R.tells
-        → HasRead IsRowLine (lines_left lines.old) (lines_left lines.new)) }
-    ensures fresh { OnOk result (fault_of lines.new ≡ None) }
-    ensures broken { IsTrue R.tells → IsTrue O.tells → IfErr result
-        (λ fault. IsBroken fault (lines_left lines.old) (O.written out.old) (O.written out.new)) }
-    ensures cut { result ≡ Err ClientFault.Connection → IsTrue R.tells → IsTrue R.counts
-        → IsCut IsRowLine lines.old lines.new }
-    ensures cause { result ≡ Err ClientFault.Output → IsTrue O.counts
-        → HasBroken (O.failed out.old) (O.failed out.new) (O.faults out.old) (O.faults out.new) }
-    ensures read { IsTrue R.counts → failed_calls lines.old ≤ failed_calls lines.new }
-    ensures reads { OnOk result (IsTrue R.counts → last_faults lines.old ≡ [] → last_faults lines.new ≡ []) }
-    ensures printed { IsTrue O.counts → O.failed out.old ≤ O.failed out.new }
-    ensures prints { OnOk result (IsTrue O.counts → O.faults out.old ≡ [] → O.faults out.new ≡ []) }
-    ensures limit { limit_of lines.new ≡ limit_of lines.old }
+    ensures passed { OnOk result (PassesOn O.Output [] IsRowLine lines.old lines.new out.old out.new) }
+    ensures fault { IfErr result (λ fault. IsPassFault O.Output fault IsRowLine [] lines.old lines.new out.old out.new) }
 {
     next_text(lines)?;
     check_row(alloc, lines.line())?;
@@ -78,22 +63,8 @@ fn pass_rows<R: Input + Drop, O: Output>(
     out: &mut O,
 ) -> Result<(), ClientFault>
     requires fresh { fault_of lines.old ≡ None }
-    ensures passed { OnOk result (IsTrue R.tells → IsTrue O.tells
-        → HasPassed (AreRowLines count) (lines_left lines.old) (lines_left lines.new) (O.written out.old) (O.written out.new)) }
-    ensures came { OnOk result (IsTrue R.tells
-        → HasRead (AreRowLines count) (lines_left lines.old) (lines_left lines.new)) }
-    ensures fresh { OnOk result (fault_of lines.new ≡ None) }
-    ensures broken { IsTrue R.tells → IsTrue O.tells → IfErr result
-        (λ fault. IsBroken fault (lines_left lines.old) (O.written out.old) (O.written out.new)) }
-    ensures cut { result ≡ Err ClientFault.Connection → IsTrue R.tells → IsTrue R.counts
-        → IsCut (AreRowLines count) lines.old lines.new }
-    ensures cause { result ≡ Err ClientFault.Output → IsTrue O.counts
-        → HasBroken (O.failed out.old) (O.failed out.new) (O.faults out.old) (O.faults out.new) }
-    ensures read { IsTrue R.counts → failed_calls lines.old ≤ failed_calls lines.new }
-    ensures reads { OnOk result (IsTrue R.counts → last_faults lines.old ≡ [] → last_faults lines.new ≡ []) }
-    ensures printed { IsTrue O.counts → O.failed out.old ≤ O.failed out.new }
-    ensures prints { OnOk result (IsTrue O.counts → O.faults out.old ≡ [] → O.faults out.new ≡ []) }
-    ensures limit { limit_of lines.new ≡ limit_of lines.old }
+    ensures passed { OnOk result (PassesOn O.Output [] (AreRowLines count) lines.old lines.new out.old out.new) }
+    ensures fault { IfErr result (λ fault. IsPassFault O.Output fault (AreRowLines count) [] lines.old lines.new out.old out.new) }
 {
     'rows: for _row in 0..count {
         pass_row(alloc, lines, out)?;
@@ -108,22 +79,8 @@ fn pass_part<R: Input + Drop, O: Output>(
     out: &mut O,
 ) -> Result<u64, ClientFault>
     requires fresh { fault_of lines.old ≡ None }
-    ensures passed { IfOk result (λ behind. IsTrue R.tells → IsTrue O.tells
-        → HasPassed (IsBlockOf Block.Namespace behind) (Text (last_line lines.old) ∷ lines_left lines.old) (lines_left lines.new) (O.written out.old) (O.written out.new)) }
-    ensures came { IfOk result (λ behind. IsTrue R.tells
-        → HasRead (IsBlockOf Block.Namespace behind) (Text (last_line lines.old) ∷ lines_left lines.old) (lines_left lines.new)) }
-    ensures fresh { OnOk result (fault_of lines.new ≡ None) }
-    ensures broken { IsTrue R.tells → IsTrue O.tells → IfErr result
-        (λ fault. IsBroken fault (Text (last_line lines.old) ∷ lines_left lines.old) (O.written out.old) (O.written out.new)) }
-    ensures cut { result ≡ Err ClientFault.Connection → IsTrue R.tells → IsTrue R.counts
-        → HasBroken (failed_calls lines.old) (failed_calls lines.new) (last_faults lines.old) (last_faults lines.new) ⊎ NoneFirst IsPartLines (Text (last_line lines.old) ∷ lines_left lines.old) }
-    ensures cause { result ≡ Err ClientFault.Output → IsTrue O.counts
-        → HasBroken (O.failed out.old) (O.failed out.new) (O.faults out.old) (O.faults out.new) }
-    ensures read { IsTrue R.counts → failed_calls lines.old ≤ failed_calls lines.new }
-    ensures reads { OnOk result (IsTrue R.counts → last_faults lines.old ≡ [] → last_faults lines.new ≡ []) }
-    ensures printed { IsTrue O.counts → O.failed out.old ≤ O.failed out.new }
-    ensures prints { OnOk result (IsTrue O.counts → O.faults out.old ≡ [] → O.faults out.new ≡ []) }
-    ensures limit { limit_of lines.new ≡ limit_of lines.old }
+    ensures passed { IfOk result (λ behind. PassesOn O.Output (last_line lines.old ∷ []) (IsBlockOf Block.Namespace behind) lines.old lines.new out.old out.new) }
+    ensures fault { IfErr result (λ fault. IsPassFault O.Output fault IsPartLines (last_line lines.old ∷ []) lines.old lines.new out.old out.new) }
 {
     let Some(heading) = read_heading(lines.line()) else {
         return Err(ClientFault::Connection);
@@ -154,22 +111,8 @@ pub(crate) fn pass_post<R: Input + Drop, O: Output>(
     out: &mut O,
 ) -> Result<u64, ClientFault>
     requires fresh { fault_of lines.old ≡ None }
-    ensures passed { IfOk result (λ behind. IsTrue R.tells → IsTrue O.tells
-        → HasPassed (IsBlockOf Block.Post behind) (Text (last_line lines.old) ∷ lines_left lines.old) (lines_left lines.new) (O.written out.old) (O.written out.new)) }
-    ensures came { IfOk result (λ behind. IsTrue R.tells
-        → HasRead (IsBlockOf Block.Post behind) (Text (last_line lines.old) ∷ lines_left lines.old) (lines_left lines.new)) }
-    ensures fresh { OnOk result (fault_of lines.new ≡ None) }
-    ensures broken { IsTrue R.tells → IsTrue O.tells → IfErr result
-        (λ fault. IsBroken fault (Text (last_line lines.old) ∷ lines_left lines.old) (O.written out.old) (O.written out.new)) }
-    ensures cut { result ≡ Err ClientFault.Connection → IsTrue R.tells → IsTrue R.counts
-        → HasBroken (failed_calls lines.old) (failed_calls lines.new) (last_faults lines.old) (last_faults lines.new) ⊎ NoneFirst IsPostLines (Text (last_line lines.old) ∷ lines_left lines.old) }
-    ensures cause { result ≡ Err ClientFault.Output → IsTrue O.counts
-        → HasBroken (O.failed out.old) (O.failed out.new) (O.faults out.old) (O.faults out.new) }
-    ensures read { IsTrue R.counts → failed_calls lines.old ≤ failed_calls lines.new }
-    ensures reads { OnOk result (IsTrue R.counts → last_faults lines.old ≡ [] → last_faults lines.new ≡ []) }
-    ensures printed { IsTrue O.counts → O.failed out.old ≤ O.failed out.new }
-    ensures prints { OnOk result (IsTrue O.counts → O.faults out.old ≡ [] → O.faults out.new ≡ []) }
-    ensures limit { limit_of lines.new ≡ limit_of lines.old }
+    ensures passed { IfOk result (λ behind. PassesOn O.Output (last_line lines.old ∷ []) (IsBlockOf Block.Post behind) lines.old lines.new out.old out.new) }
+    ensures fault { IfErr result (λ fault. IsPassFault O.Output fault IsPostLines (last_line lines.old ∷ []) lines.old lines.new out.old out.new) }
 {
     let Some(count) = lines_of_event(lines.line()) else {
         return Err(ClientFault::Connection);
@@ -178,7 +121,7 @@ pub(crate) fn pass_post<R: Input + Drop, O: Output>(
     push_line(&mut text, lines.line())?;
     push_lines(&mut text, lines, count)?;
     check_post(alloc, &text)?;
-    print_text(out, &text)?;
+    print(out, &text)?;
     Ok(count)
 }
 
@@ -190,22 +133,8 @@ fn pass_block<R: Input + Drop, O: Output>(
     out: &mut O,
 ) -> Result<u64, ClientFault>
     requires fresh { fault_of lines.old ≡ None }
-    ensures passed { IfOk result (λ behind. IsTrue R.tells → IsTrue O.tells
-        → HasPassed (IsBlockOf block behind) (lines_left lines.old) (lines_left lines.new) (O.written out.old) (O.written out.new)) }
-    ensures came { IfOk result (λ behind. IsTrue R.tells
-        → HasRead (IsBlockOf block behind) (lines_left lines.old) (lines_left lines.new)) }
-    ensures fresh { OnOk result (fault_of lines.new ≡ None) }
-    ensures broken { IsTrue R.tells → IsTrue O.tells → IfErr result
-        (λ fault. IsBroken fault (lines_left lines.old) (O.written out.old) (O.written out.new)) }
-    ensures cut { result ≡ Err ClientFault.Connection → IsTrue R.tells → IsTrue R.counts
-        → IsCut (IsBlock block) lines.old lines.new }
-    ensures cause { result ≡ Err ClientFault.Output → IsTrue O.counts
-        → HasBroken (O.failed out.old) (O.failed out.new) (O.faults out.old) (O.faults out.new) }
-    ensures read { IsTrue R.counts → failed_calls lines.old ≤ failed_calls lines.new }
-    ensures reads { OnOk result (IsTrue R.counts → last_faults lines.old ≡ [] → last_faults lines.new ≡ []) }
-    ensures printed { IsTrue O.counts → O.failed out.old ≤ O.failed out.new }
-    ensures prints { OnOk result (IsTrue O.counts → O.faults out.old ≡ [] → O.faults out.new ≡ []) }
-    ensures limit { limit_of lines.new ≡ limit_of lines.old }
+    ensures passed { IfOk result (λ behind. PassesOn O.Output [] (IsBlockOf block behind) lines.old lines.new out.old out.new) }
+    ensures fault { IfErr result (λ fault. IsPassFault O.Output fault (IsBlock block) [] lines.old lines.new out.old out.new) }
 {
     next_text(lines)?;
     match block {
@@ -223,22 +152,8 @@ fn pass_blocks<R: Input + Drop, O: Output>(
     out: &mut O,
 ) -> Result<(), ClientFault>
     requires fresh { fault_of lines.old ≡ None }
-    ensures passed { OnOk result (IsTrue R.tells → IsTrue O.tells
-        → HasPassed (AreBlockLines block count) (lines_left lines.old) (lines_left lines.new) (O.written out.old) (O.written out.new)) }
-    ensures came { OnOk result (IsTrue R.tells
-        → HasRead (AreBlockLines block count) (lines_left lines.old) (lines_left lines.new)) }
-    ensures fresh { OnOk result (fault_of lines.new ≡ None) }
-    ensures broken { IsTrue R.tells → IsTrue O.tells → IfErr result
-        (λ fault. IsBroken fault (lines_left lines.old) (O.written out.old) (O.written out.new)) }
-    ensures cut { result ≡ Err ClientFault.Connection → IsTrue R.tells → IsTrue R.counts
-        → IsCut (AreBlockLines block count) lines.old lines.new }
-    ensures cause { result ≡ Err ClientFault.Output → IsTrue O.counts
-        → HasBroken (O.failed out.old) (O.failed out.new) (O.faults out.old) (O.faults out.new) }
-    ensures read { IsTrue R.counts → failed_calls lines.old ≤ failed_calls lines.new }
-    ensures reads { OnOk result (IsTrue R.counts → last_faults lines.old ≡ [] → last_faults lines.new ≡ []) }
-    ensures printed { IsTrue O.counts → O.failed out.old ≤ O.failed out.new }
-    ensures prints { OnOk result (IsTrue O.counts → O.faults out.old ≡ [] → O.faults out.new ≡ []) }
-    ensures limit { limit_of lines.new ≡ limit_of lines.old }
+    ensures passed { OnOk result (PassesOn O.Output [] (AreBlockLines block count) lines.old lines.new out.old out.new) }
+    ensures fault { IfErr result (λ fault. IsPassFault O.Output fault (AreBlockLines block count) [] lines.old lines.new out.old out.new) }
 {
     let mut left = count;
     'passing: while left > 0 {
@@ -260,22 +175,8 @@ pub(crate) fn pass_behind<R: Input + Drop, O: Output>(
     out: &mut O,
 ) -> Result<(), ClientFault>
     requires fresh { fault_of lines.old ≡ None }
-    ensures passed { OnOk result (IsTrue R.tells → IsTrue O.tells
-        → HasPassed (AreBehind form count) (lines_left lines.old) (lines_left lines.new) (O.written out.old) (O.written out.new)) }
-    ensures came { OnOk result (IsTrue R.tells
-        → HasRead (AreBehind form count) (lines_left lines.old) (lines_left lines.new)) }
-    ensures fresh { OnOk result (fault_of lines.new ≡ None) }
-    ensures broken { IsTrue R.tells → IsTrue O.tells → IfErr result
-        (λ fault. IsBroken fault (lines_left lines.old) (O.written out.old) (O.written out.new)) }
-    ensures cut { result ≡ Err ClientFault.Connection → IsTrue R.tells → IsTrue R.counts
-        → IsCut (AreBehind form count) lines.old lines.new }
-    ensures cause { result ≡ Err ClientFault.Output → IsTrue O.counts
-        → HasBroken (O.failed out.old) (O.failed out.new) (O.faults out.old) (O.faults out.new) }
-    ensures read { IsTrue R.counts → failed_calls lines.old ≤ failed_calls lines.new }
-    ensures reads { OnOk result (IsTrue R.counts → last_faults lines.old ≡ [] → last_faults lines.new ≡ []) }
-    ensures printed { IsTrue O.counts → O.failed out.old ≤ O.failed out.new }
-    ensures prints { OnOk result (IsTrue O.counts → O.faults out.old ≡ [] → O.faults out.new ≡ []) }
-    ensures limit { limit_of lines.new ≡ limit_of lines.old }
+    ensures passed { OnOk result (PassesOn O.Output [] (AreBehind form count) lines.old lines.new out.old out.new) }
+    ensures fault { IfErr result (λ fault. IsPassFault O.Output fault (AreBehind form count) [] lines.old lines.new out.old out.new) }
 {
     match form {
         Form::Table => pass_rows(alloc, lines, count, out),

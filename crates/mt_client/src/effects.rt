@@ -1,11 +1,12 @@
 //! What a line changes, told in words.
-ghost use Rattle.std.specs.Prelude.{◌≡◌, ◌≢◌, ◌+◌, ◌≤◌, [], ◌++◌, true, false, None, Ok, Err, IfOk, OnOk, OnErr, IsTrue, codes};
+ghost use Rattle.std.specs.Prelude.{◌≡◌, ◌+◌, [], ◌++◌, true, false, None, Ok, Err, IfOk, IfErr, OnOk, IsTrue, codes};
 ghost use Rattle.mt_skel.specs.Keyed.{rises};
 ghost use Rattle.mt_lines.specs.Reading.{last_faults, fault_of, limit_of};
 ghost use Rattle.mt_events.specs.Posts.{ended};
 ghost use Rattle.mt_events.specs.Mirrors.{is_next};
 ghost use Rattle.mt_told.specs.Told.{named_text};
 ghost use Rattle.mt_client.specs.Reading.{lines_left, HasBroken, IsSentPart};
+ghost use Rattle.mt_client.specs.Calls.{ReadsOn, WritesOn, IsOut, IsPrintFault};
 ghost use Rattle.mt_client.specs.Finding.{mirror_space};
 ghost use Rattle.mt_client.specs.Telling.{mirror_in, mirrors_with};
 ghost use Rattle.mt_client.specs.Effects.{name_in, effects_text, HasNamed, HasNamedAll, HasEffects, IsRefusedOut, IsRefusedEffect};
@@ -16,7 +17,7 @@ use crate::mirrors::apply_told;
 use crate::parts::read_found;
 use crate::picture::watch_line;
 use crate::posts::{lines_of_event, push_line, push_lines, read_text};
-use crate::relay::{next_text, pass_answer, print_line, print_text};
+use crate::relay::{next_text, pass_answer, print, print_line};
 use crate::sending::send_request;
 use mt_events::mirror::Mirror;
 use mt_events::opening::Scope;
@@ -56,22 +57,17 @@ fn tell_named<O: Output>(
     out: &mut O,
 ) -> Result<(), ClientFault>
     requires rising { IsTrue (rises mirror_space mirrors.old.items) }
-    ensures told { OnOk result (IsTrue O.tells
-        → O.written out.new ≡ O.written out.old ++ named_text (name_in names.now post.now.space) (mirror_in mirrors.old.items post.now.space) post.now) }
     ensures applied { OnOk result (mirrors.new.items ≡ mirrors_with mirrors.old.items post.now) }
     ensures next { OnOk result (is_next (mirror_in mirrors.old.items post.now.space) post.now ≡ true) }
     ensures rising { OnOk result (IsTrue (rises mirror_space mirrors.new.items)) }
-    ensures kept { OnErr result (result ≢ Err ClientFault.Output → IsTrue O.tells
-        → O.written out.new ≡ O.written out.old) }
     ensures cause { result ≡ Err ClientFault.Output → IsTrue O.counts
         → HasBroken (O.failed out.old) (O.failed out.new) (O.faults out.old) (O.faults out.new) }
-    ensures printed { IsTrue O.counts → O.failed out.old ≤ O.failed out.new }
-    ensures prints { OnOk result (IsTrue O.counts → O.faults out.old ≡ [] → O.faults out.new ≡ []) }
+    ensures out { OnOk result (IsOut O.Output (named_text (name_in names.now post.now.space) (mirror_in mirrors.old.items post.now.space) post.now) out.old out.new) }
 {
     let mut text = Vec::new(alloc);
     let name = name_of(names, post.space);
     apply_told(alloc, &mut text, mirrors, post, name)?;
-    print_text(out, text.as_slice())
+    print(out, text.as_slice())
 }
 
 /// Tells the next post: how many lines stood behind its first one.
@@ -87,13 +83,9 @@ fn tell_next<R: Input + Drop, O: Output>(
     ensures told { IfOk result (λ behind. IsTrue R.tells → IsTrue O.tells
         → HasNamed (1 + behind) names.now mirrors.old.items mirrors.new.items (lines_left lines.old) (lines_left lines.new) (O.written out.old) (O.written out.new)) }
     ensures rising { OnOk result (IsTrue (rises mirror_space mirrors.new.items)) }
-    ensures fresh { OnOk result (fault_of lines.new ≡ None) }
-    ensures cause { result ≡ Err ClientFault.Output → IsTrue O.counts
-        → HasBroken (O.failed out.old) (O.failed out.new) (O.faults out.old) (O.faults out.new) }
-    ensures reads { OnOk result (IsTrue R.counts → last_faults lines.old ≡ [] → last_faults lines.new ≡ []) }
-    ensures printed { IsTrue O.counts → O.failed out.old ≤ O.failed out.new }
-    ensures prints { OnOk result (IsTrue O.counts → O.faults out.old ≡ [] → O.faults out.new ≡ []) }
-    ensures limit { limit_of lines.new ≡ limit_of lines.old }
+    ensures on { OnOk result (ReadsOn lines.old lines.new) }
+    ensures prints { OnOk result (WritesOn O.Output out.old out.new) }
+    ensures fault { IfErr result (λ fault. IsPrintFault O.Output fault lines.old lines.new out.old out.new) }
 {
     next_text(lines)?;
     let Some(behind) = lines_of_event(lines.line()) else {
@@ -120,13 +112,9 @@ fn tell_lines<R: Input + Drop, O: Output>(
     requires rising { IsTrue (rises mirror_space mirrors.old.items) }
     ensures told { OnOk result (IsTrue R.tells → IsTrue O.tells
         → HasNamed count names.now mirrors.old.items mirrors.new.items (lines_left lines.old) (lines_left lines.new) (O.written out.old) (O.written out.new)) }
-    ensures fresh { OnOk result (fault_of lines.new ≡ None) }
-    ensures cause { result ≡ Err ClientFault.Output → IsTrue O.counts
-        → HasBroken (O.failed out.old) (O.failed out.new) (O.faults out.old) (O.faults out.new) }
-    ensures reads { OnOk result (IsTrue R.counts → last_faults lines.old ≡ [] → last_faults lines.new ≡ []) }
-    ensures printed { IsTrue O.counts → O.failed out.old ≤ O.failed out.new }
-    ensures prints { OnOk result (IsTrue O.counts → O.faults out.old ≡ [] → O.faults out.new ≡ []) }
-    ensures limit { limit_of lines.new ≡ limit_of lines.old }
+    ensures on { OnOk result (ReadsOn lines.old lines.new) }
+    ensures prints { OnOk result (WritesOn O.Output out.old out.new) }
+    ensures fault { IfErr result (λ fault. IsPrintFault O.Output fault lines.old lines.new out.old out.new) }
 {
     let mut left = count;
     'telling: while left > 0 {
@@ -153,12 +141,9 @@ fn tell_closed<R: Input + Drop, O: Output>(
         → HasNamedAll names.now mirrors.old.items (lines_left lines.old) (lines_left lines.new) (O.written out.old) (O.written out.new) }
     ensures refused { result ≡ Ok false → IsTrue R.tells → IsTrue O.tells
         → IsRefusedOut (lines_left lines.old) (lines_left lines.new) (O.written out.old) (O.written out.new) }
-    ensures fresh { OnOk result (fault_of lines.new ≡ None) }
-    ensures cause { result ≡ Err ClientFault.Output → IsTrue O.counts
-        → HasBroken (O.failed out.old) (O.failed out.new) (O.faults out.old) (O.faults out.new) }
-    ensures reads { OnOk result (IsTrue R.counts → last_faults lines.old ≡ [] → last_faults lines.new ≡ []) }
-    ensures prints { OnOk result (IsTrue O.counts → O.faults out.old ≡ [] → O.faults out.new ≡ []) }
-    ensures limit { limit_of lines.new ≡ limit_of lines.old }
+    ensures on { OnOk result (ReadsOn lines.old lines.new) }
+    ensures prints { OnOk result (WritesOn O.Output out.old out.new) }
+    ensures fault { IfErr result (λ fault. IsPrintFault O.Output fault lines.old lines.new out.old out.new) }
 {
     next_text(lines)?;
     if is_refusal(lines.line()) {
@@ -185,18 +170,14 @@ fn tell_changes<R: Input + Drop, W: Output, O: Output>(
     requires rising { IsTrue (rises mirror_space mirrors.old.items) }
     ensures told { result ≡ Ok true → IsTrue R.tells → IsTrue O.tells
         → HasNamedAll names.now mirrors.old.items (lines_left lines.old) (lines_left lines.new) (O.written out.old) (O.written out.new) }
-    ensures sent { result ≡ Ok true → IsTrue W.tells
-        → W.written writer.new ≡ W.written writer.old ++ ended (codes "close") }
     ensures part { IsTrue W.tells
         → IsSentPart (ended (codes "close")) (W.written writer.old) (W.written writer.new) }
     ensures refused { result ≡ Ok false → IsTrue R.tells → IsTrue O.tells
         → IsRefusedOut (lines_left lines.old) (lines_left lines.new) (O.written out.old) (O.written out.new) }
-    ensures fresh { OnOk result (fault_of lines.new ≡ None) }
-    ensures cause { result ≡ Err ClientFault.Output → IsTrue O.counts
-        → HasBroken (O.failed out.old) (O.failed out.new) (O.faults out.old) (O.faults out.new) }
-    ensures reads { OnOk result (IsTrue R.counts → last_faults lines.old ≡ [] → last_faults lines.new ≡ []) }
-    ensures prints { OnOk result (IsTrue O.counts → O.faults out.old ≡ [] → O.faults out.new ≡ []) }
-    ensures limit { limit_of lines.new ≡ limit_of lines.old }
+    ensures sent { result ≡ Ok true → IsOut W.Output (ended (codes "close")) writer.old writer.new }
+    ensures on { OnOk result (ReadsOn lines.old lines.new) }
+    ensures prints { OnOk result (WritesOn O.Output out.old out.new) }
+    ensures fault { IfErr result (λ fault. IsPrintFault O.Output fault lines.old lines.new out.old out.new) }
 {
     if !send_request(lines, writer, b"close", out)? {
         return Ok(false);

@@ -1,10 +1,11 @@
 //! The table of a namespace, as its posts tell it to a client.
-ghost use Rattle.std.specs.Prelude.{◌≡◌, ◌≢◌, ◌⊎◌, ℕ, ◌+◌, ◌≤◌, List, [], ◌∷◌, ◌++◌, true, false, None, Ok, Err, IfOk, IfErr, IfSome, OnOk, OnErr, IsTrue, MatchBool, MatchOption};
-ghost use Rattle.mt_lines.specs.Reading.{failed_calls, last_faults, fault_of, last_line, limit_of};
+ghost use Rattle.std.specs.Prelude.{◌≡◌, ◌≢◌, ◌⊎◌, ℕ, List, [], ◌∷◌, ◌++◌, true, false, None, Ok, Err, IfOk, IfErr, IfSome, OnOk, OnErr, IsTrue, MatchBool, MatchOption};
+ghost use Rattle.mt_lines.specs.Reading.{last_faults, fault_of, last_line, limit_of};
 ghost use Rattle.mt_events.specs.Texts.{table_text};
 ghost use Rattle.mt_events.specs.Mirrors.{MirrorView};
 ghost use Rattle.mt_events.specs.Posts.{ended};
-ghost use Rattle.mt_client.specs.Reading.{lines_left, texts, printed, HasBroken, IsSentPart, NoneFirst, IsCut};
+ghost use Rattle.mt_client.specs.Reading.{lines_left, texts, HasBroken, IsSentPart, NoneFirst, IsCut};
+ghost use Rattle.mt_client.specs.Calls.{ReadsOn, IsOut, IsReadFault};
 ghost use Rattle.mt_client.specs.Mirroring.{counted_line, HasOpened, HasFollowed, HasFollowedAll, HasRefused, IsLeft, HasMirrored, requests_text, IsRefused};
 ghost use Rattle.mt_client.specs.Awaited.{IsOneRefusal, IsRefusedOr, IsOpening, IsNextPost, TakesPost, IsFollowing, IsEnd, IsMirroring};
 
@@ -13,7 +14,7 @@ use crate::fault::ClientFault;
 use crate::opening::read_count;
 use crate::parts::read_found;
 use crate::posts::apply_post;
-use crate::relay::{next_text, print_line, print_text};
+use crate::relay::{next_text, print, print_line};
 use crate::request::numbered_line;
 use crate::sending::send_request;
 use mt_events::mirror::Mirror;
@@ -40,14 +41,9 @@ fn read_opening<R: Input + Drop>(
     ensures found { IfOk result (λ found. IsTrue R.tells → MatchOption found
         (HasRefused (last_line lines.new) (lines_left lines.old) (lines_left lines.new))
         (λ mirror. HasOpened space (lines_left lines.old) (lines_left lines.new) mirror)) }
-    ensures fresh { OnOk result (fault_of lines.new ≡ None) }
-    ensures kind { result ≢ Err ClientFault.Output }
     ensures unrefused { IfOk result (λ found. IsTrue R.tells → IfSome found (λ mirror. NoneFirst IsOneRefusal (lines_left lines.old))) }
-    ensures cut { result ≡ Err ClientFault.Connection → IsTrue R.tells → IsTrue R.counts
-        → IsCut (IsRefusedOr (IsOpening space)) lines.old lines.new }
-    ensures counted { IsTrue R.counts → failed_calls lines.old ≤ failed_calls lines.new }
-    ensures reads { OnOk result (IsTrue R.counts → last_faults lines.old ≡ [] → last_faults lines.new ≡ []) }
-    ensures limit { limit_of lines.new ≡ limit_of lines.old }
+    ensures on { OnOk result (ReadsOn lines.old lines.new) }
+    ensures fault { IfErr result (λ fault. IsReadFault fault (IsRefusedOr (IsOpening space)) (lines_left lines.old) lines.old lines.new) }
 {
     match read_found(alloc, lines, Scope::One(space))? {
         Some(parts) => Ok(last_of(parts)),
@@ -66,15 +62,10 @@ fn follow_post<R: Input + Drop>(
         (HasFollowed (lines_left lines.old) (lines_left lines.new) mirror.old mirror.new)
         (HasRefused (last_line lines.new) (lines_left lines.old) (lines_left lines.new))) }
     ensures unchanged { result ≡ Ok false → mirror.new ≡ mirror.old }
-    ensures fresh { OnOk result (fault_of lines.new ≡ None) }
-    ensures kind { result ≢ Err ClientFault.Output }
     ensures taken { result ≡ Ok true → IsTrue R.tells → TakesPost (lines_left lines.old) (lines_left lines.new) }
     ensures unrefused { result ≡ Ok true → IsTrue R.tells → NoneFirst IsOneRefusal (lines_left lines.old) }
-    ensures cut { result ≡ Err ClientFault.Connection → IsTrue R.tells → IsTrue R.counts
-        → IsCut (IsRefusedOr (IsNextPost mirror.old)) lines.old lines.new }
-    ensures counted { IsTrue R.counts → failed_calls lines.old ≤ failed_calls lines.new }
-    ensures reads { OnOk result (IsTrue R.counts → last_faults lines.old ≡ [] → last_faults lines.new ≡ []) }
-    ensures limit { limit_of lines.new ≡ limit_of lines.old }
+    ensures on { OnOk result (ReadsOn lines.old lines.new) }
+    ensures fault { IfErr result (λ fault. IsReadFault fault (IsRefusedOr (IsNextPost mirror.old)) (lines_left lines.old) lines.old lines.new) }
 {
     next_text(lines)?;
     if is_refusal(lines.line()) {
@@ -103,14 +94,9 @@ pub(crate) fn read_end<R: Input + Drop>(
     ensures ended { IfOk result (λ going. IsTrue R.tells → MatchBool going
         (lines_left lines.old ≡ texts (counted_line count ∷ []) ++ lines_left lines.new)
         (HasRefused (last_line lines.new) (lines_left lines.old) (lines_left lines.new))) }
-    ensures fresh { OnOk result (fault_of lines.new ≡ None) }
     ensures unrefused { result ≡ Ok true → IsTrue R.tells → NoneFirst IsOneRefusal (lines_left lines.old) }
-    ensures kind { result ≢ Err ClientFault.Output }
-    ensures cut { result ≡ Err ClientFault.Connection → IsTrue R.tells → IsTrue R.counts
-        → IsCut (IsRefusedOr (IsEnd count)) lines.old lines.new }
-    ensures counted { IsTrue R.counts → failed_calls lines.old ≤ failed_calls lines.new }
-    ensures reads { OnOk result (IsTrue R.counts → last_faults lines.old ≡ [] → last_faults lines.new ≡ []) }
-    ensures limit { limit_of lines.new ≡ limit_of lines.old }
+    ensures on { OnOk result (ReadsOn lines.old lines.new) }
+    ensures fault { IfErr result (λ fault. IsReadFault fault (IsRefusedOr (IsEnd count)) (lines_left lines.old) lines.old lines.new) }
 {
     next_text(lines)?;
     if is_refusal(lines.line()) {
@@ -135,13 +121,8 @@ fn follow_posts<R: Input + Drop>(
     ensures followed { IfOk result (λ going. IsTrue R.tells → MatchBool going
         (HasFollowedAll count (lines_left lines.old) (lines_left lines.new) mirror.old mirror.new)
         (IsLeft count (last_line lines.new) (lines_left lines.old) (lines_left lines.new) mirror.old mirror.new)) }
-    ensures fresh { OnOk result (fault_of lines.new ≡ None) }
-    ensures kind { result ≢ Err ClientFault.Output }
-    ensures cut { result ≡ Err ClientFault.Connection → IsTrue R.tells → IsTrue R.counts
-        → IsCut (IsFollowing (counted_line count) count mirror.old) lines.old lines.new }
-    ensures counted { IsTrue R.counts → failed_calls lines.old ≤ failed_calls lines.new }
-    ensures reads { OnOk result (IsTrue R.counts → last_faults lines.old ≡ [] → last_faults lines.new ≡ []) }
-    ensures limit { limit_of lines.new ≡ limit_of lines.old }
+    ensures on { OnOk result (ReadsOn lines.old lines.new) }
+    ensures fault { IfErr result (λ fault. IsReadFault fault (IsFollowing (counted_line count) count mirror.old) (lines_left lines.old) lines.old lines.new) }
 {
     'posts: for _post in 0..count {
         if !follow_post(alloc, lines, mirror)? {
@@ -153,17 +134,15 @@ fn follow_posts<R: Input + Drop>(
 
 /// Prints the table of a mirror, as the server shows it.
 fn print_mirror<O: Output>(alloc: Global, out: &mut O, mirror: &Mirror) -> Result<(), ClientFault>
-    ensures printed { OnOk result (IsTrue O.tells
-        → O.written out.new ≡ O.written out.old ++ table_text mirror.now.number mirror.now.rows) }
     ensures kept { OnErr result (result ≢ Err ClientFault.Output → IsTrue O.tells
         → O.written out.new ≡ O.written out.old) }
     ensures kind { result ≢ Err ClientFault.Connection }
     ensures cause { result ≡ Err ClientFault.Output → IsTrue O.counts
         → HasBroken (O.failed out.old) (O.failed out.new) (O.faults out.old) (O.faults out.new) }
-    ensures prints { OnOk result (IsTrue O.counts → O.faults out.old ≡ [] → O.faults out.new ≡ []) }
+    ensures out { OnOk result (IsOut O.Output (table_text mirror.now.number mirror.now.rows) out.old out.new) }
 {
     let lines = table_lines(alloc, mirror.number(), mirror.table())?;
-    print_text(out, lines.as_slice())
+    print(out, lines.as_slice())
 }
 
 /// Watches a namespace, follows so many posts of it, and prints `ok`, the count and the number of the table that they

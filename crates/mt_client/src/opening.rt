@@ -1,11 +1,11 @@
 //! The lines of what a watcher found.
-ghost use Rattle.std.specs.Prelude.{◌≡◌, ◌≢◌, ℕ, ◌+◌, ◌<◌, ◌≤◌, ◌^◌, [], ◌∷◌, ◌++◌, map, length, None, Err, IfOk, IfSome, OnOk, IsTrue, MatchOption};
+ghost use Rattle.std.specs.Prelude.{◌≡◌, ◌≢◌, ℕ, ◌<◌, ◌^◌, [], ◌∷◌, map, length, None, IfOk, IfErr, IfSome, MatchOption};
 ghost use Rattle.std.specs.List.{join_with_byte, AllByRecursion};
-ghost use Rattle.mt_lines.specs.Lines.{Text};
-ghost use Rattle.mt_lines.specs.Reading.{failed_calls, last_faults, fault_of, limit_of};
+ghost use Rattle.mt_lines.specs.Reading.{fault_of};
 ghost use Rattle.mt_info.specs.Laws.{IsRow};
 ghost use Rattle.mt_info.specs.RowLine.{line};
-ghost use Rattle.mt_client.specs.Reading.{lines_left, texts, IsCut};
+ghost use Rattle.mt_client.specs.Reading.{lines_left};
+ghost use Rattle.mt_client.specs.Calls.{AreRead, IsReadFault};
 ghost use Rattle.mt_client.specs.Mirroring.{counted_line, heading_words};
 ghost use Rattle.mt_client.specs.Awaited.{IsRowLine, AreRowLines};
 
@@ -80,16 +80,9 @@ fn read_row_line<R: Input + Drop>(
     lines: &mut LineReader<R>,
 ) -> Result<Row, ClientFault>
     requires fresh { fault_of lines.old ≡ None }
-    ensures row { IfOk result (λ row. IsTrue R.tells
-        → lines_left lines.old ≡ Text (line row) ∷ lines_left lines.new) }
-    ensures fresh { OnOk result (fault_of lines.new ≡ None) }
-    ensures kind { result ≢ Err ClientFault.Output }
+    ensures row { IfOk result (λ row. AreRead (line row ∷ []) lines.old lines.new) }
     ensures valid { IfOk result (λ row. IsRow row) }
-    ensures cut { result ≡ Err ClientFault.Connection → IsTrue R.tells → IsTrue R.counts
-        → IsCut IsRowLine lines.old lines.new }
-    ensures counted { IsTrue R.counts → failed_calls lines.old ≤ failed_calls lines.new }
-    ensures reads { OnOk result (IsTrue R.counts → last_faults lines.old ≡ [] → last_faults lines.new ≡ []) }
-    ensures limit { limit_of lines.new ≡ limit_of lines.old }
+    ensures fault { IfErr result (λ fault. IsReadFault fault IsRowLine (lines_left lines.old) lines.old lines.new) }
 {
     next_text(lines)?;
     match read_row(alloc, lines.line()) {
@@ -106,17 +99,10 @@ pub(crate) fn read_rows<R: Input + Drop>(
     count: u64,
 ) -> Result<Vec<Row>, ClientFault>
     requires fresh { fault_of lines.old ≡ None }
-    ensures rows { IfOk result (λ rows. IsTrue R.tells
-        → lines_left lines.old ≡ texts (map line rows.items) ++ lines_left lines.new) }
+    ensures rows { IfOk result (λ rows. AreRead (map line rows.items) lines.old lines.new) }
     ensures many { IfOk result (λ rows. length rows.items ≡ count) }
-    ensures fresh { OnOk result (fault_of lines.new ≡ None) }
-    ensures kind { result ≢ Err ClientFault.Output }
     ensures valid { IfOk result (λ rows. AllByRecursion IsRow rows.items) }
-    ensures cut { result ≡ Err ClientFault.Connection → IsTrue R.tells → IsTrue R.counts
-        → IsCut (AreRowLines count) lines.old lines.new }
-    ensures counted { IsTrue R.counts → failed_calls lines.old ≤ failed_calls lines.new }
-    ensures reads { OnOk result (IsTrue R.counts → last_faults lines.old ≡ [] → last_faults lines.new ≡ []) }
-    ensures limit { limit_of lines.new ≡ limit_of lines.old }
+    ensures fault { IfErr result (λ fault. IsReadFault fault (AreRowLines count) (lines_left lines.old) lines.old lines.new) }
 {
     let mut rows = Vec::new(alloc);
     'rows: for _row in 0..count {

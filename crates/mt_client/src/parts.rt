@@ -1,9 +1,10 @@
 //! The namespaces that a watcher found.
-ghost use Rattle.std.specs.Prelude.{◌≡◌, ◌≢◌, ◌+◌, ◌≤◌, [], ◌∷◌, ◌++◌, map, length, None, Err, IfOk, IfSome, OnOk, IsTrue, MatchBool, MatchOption};
+ghost use Rattle.std.specs.Prelude.{◌≡◌, ◌≢◌, ◌+◌, ◌≤◌, [], ◌∷◌, map, length, None, IfOk, IfErr, IfSome, OnOk, IsTrue, MatchBool, MatchOption};
 ghost use Rattle.std.specs.List.{AllByRecursion};
 ghost use Rattle.mt_skel.specs.Keyed.{rises};
-ghost use Rattle.mt_lines.specs.Reading.{failed_calls, last_faults, fault_of, last_line, limit_of};
-ghost use Rattle.mt_client.specs.Reading.{lines_left, texts, NoneFirst, IsCut};
+ghost use Rattle.mt_lines.specs.Reading.{fault_of, last_line};
+ghost use Rattle.mt_client.specs.Reading.{lines_left, NoneFirst};
+ghost use Rattle.mt_client.specs.Calls.{ReadsOn, AreRead, IsReadFault};
 ghost use Rattle.mt_client.specs.Mirroring.{IsShown, part_lines, HasRefused};
 ghost use Rattle.mt_client.specs.Awaited.{IsOneRefusal, IsRefusedOr};
 ghost use Rattle.mt_client.specs.Finding.{mirror_space, parts_lines, AreOf, HasFound, IsFinding, IsPartWithin, ArePartLines};
@@ -28,17 +29,10 @@ fn read_next<R: Input + Drop>(
     left: u64,
 ) -> Result<Mirror, ClientFault>
     requires fresh { fault_of lines.old ≡ None }
-    ensures part { IfOk result (λ mirror. IsTrue R.tells
-        → lines_left lines.old ≡ texts (part_lines mirror) ++ lines_left lines.new) }
+    ensures part { IfOk result (λ mirror. AreRead (part_lines mirror) lines.old lines.new) }
     ensures within { IfOk result (λ mirror. 1 + length mirror.rows ≤ left) }
-    ensures fresh { OnOk result (fault_of lines.new ≡ None) }
-    ensures kind { result ≢ Err ClientFault.Output }
     ensures shown { IfOk result (λ mirror. IsShown mirror) }
-    ensures cut { result ≡ Err ClientFault.Connection → IsTrue R.tells → IsTrue R.counts
-        → IsCut (IsPartWithin left) lines.old lines.new }
-    ensures counted { IsTrue R.counts → failed_calls lines.old ≤ failed_calls lines.new }
-    ensures reads { OnOk result (IsTrue R.counts → last_faults lines.old ≡ [] → last_faults lines.new ≡ []) }
-    ensures limit { limit_of lines.new ≡ limit_of lines.old }
+    ensures fault { IfErr result (λ fault. IsReadFault fault (IsPartWithin left) (lines_left lines.old) lines.old lines.new) }
 {
     next_text(lines)?;
     let Some(heading) = read_heading(lines.line()) else {
@@ -61,17 +55,10 @@ fn read_parts<R: Input + Drop>(
     count: u64,
 ) -> Result<Vec<Mirror>, ClientFault>
     requires fresh { fault_of lines.old ≡ None }
-    ensures parts { IfOk result (λ parts. IsTrue R.tells
-        → lines_left lines.old ≡ texts (parts_lines parts.items) ++ lines_left lines.new) }
+    ensures parts { IfOk result (λ parts. AreRead (parts_lines parts.items) lines.old lines.new) }
     ensures many { IfOk result (λ parts. length (parts_lines parts.items) ≡ count) }
-    ensures fresh { OnOk result (fault_of lines.new ≡ None) }
-    ensures kind { result ≢ Err ClientFault.Output }
     ensures shown { IfOk result (λ parts. AllByRecursion IsShown parts.items) }
-    ensures cut { result ≡ Err ClientFault.Connection → IsTrue R.tells → IsTrue R.counts
-        → IsCut (ArePartLines count) lines.old lines.new }
-    ensures counted { IsTrue R.counts → failed_calls lines.old ≤ failed_calls lines.new }
-    ensures reads { OnOk result (IsTrue R.counts → last_faults lines.old ≡ [] → last_faults lines.new ≡ []) }
-    ensures limit { limit_of lines.new ≡ limit_of lines.old }
+    ensures fault { IfErr result (λ fault. IsReadFault fault (ArePartLines count) (lines_left lines.old) lines.old lines.new) }
 {
     let mut parts = Vec::new(alloc);
     let mut left = count;
@@ -129,14 +116,9 @@ pub(crate) fn read_found<R: Input + Drop>(
         (HasRefused (last_line lines.new) (lines_left lines.old) (lines_left lines.new))
         (λ parts. HasFound scope (lines_left lines.old) (lines_left lines.new) parts.items)) }
     ensures rising { IfOk result (λ found. IfSome found (λ parts. IsTrue (rises mirror_space parts.items))) }
-    ensures fresh { OnOk result (fault_of lines.new ≡ None) }
-    ensures kind { result ≢ Err ClientFault.Output }
     ensures unrefused { IfOk result (λ found. IsTrue R.tells → IfSome found (λ parts. NoneFirst IsOneRefusal (lines_left lines.old))) }
-    ensures cut { result ≡ Err ClientFault.Connection → IsTrue R.tells → IsTrue R.counts
-        → IsCut (IsRefusedOr (IsFinding scope)) lines.old lines.new }
-    ensures counted { IsTrue R.counts → failed_calls lines.old ≤ failed_calls lines.new }
-    ensures reads { OnOk result (IsTrue R.counts → last_faults lines.old ≡ [] → last_faults lines.new ≡ []) }
-    ensures limit { limit_of lines.new ≡ limit_of lines.old }
+    ensures on { OnOk result (ReadsOn lines.old lines.new) }
+    ensures fault { IfErr result (λ fault. IsReadFault fault (IsRefusedOr (IsFinding scope)) (lines_left lines.old) lines.old lines.new) }
 {
     next_text(lines)?;
     if is_refusal(lines.line()) {

@@ -5,13 +5,14 @@ ghost use Rattle.mt_events.specs.Mirrors.{MirrorView};
 ghost use Rattle.mt_events.specs.Posts.{ended};
 ghost use Rattle.mt_draw.specs.Drawings.{drawing_text};
 ghost use Rattle.mt_client.specs.Reading.{lines_left, HasBroken, IsSentPart, IsCut};
+ghost use Rattle.mt_client.specs.Calls.{IsOut};
 ghost use Rattle.mt_client.specs.Mirroring.{HasRefused};
 ghost use Rattle.mt_client.specs.Awaited.{IsOneRefusal, IsRefusedOr};
 ghost use Rattle.mt_client.specs.Finding.{watch_text, HasWatched, IsFinding};
 
 use crate::fault::ClientFault;
 use crate::parts::read_found;
-use crate::relay::{print_line, print_text};
+use crate::relay::{print, print_line};
 use crate::request::numbered_line;
 use crate::sending::send_request;
 use mt_draw::drawing::{Drawing, push_drawing};
@@ -42,18 +43,16 @@ fn print_drawing<O: Output>(
     drawing: Drawing,
     parts: &[Mirror],
 ) -> Result<(), ClientFault>
-    ensures printed { OnOk result (IsTrue O.tells
-        → O.written out.new ≡ O.written out.old ++ drawing_text drawing parts.now) }
     ensures kept { OnErr result (result ≢ Err ClientFault.Output → IsTrue O.tells
         → O.written out.new ≡ O.written out.old) }
     ensures kind { result ≢ Err ClientFault.Connection }
     ensures cause { result ≡ Err ClientFault.Output → IsTrue O.counts
         → HasBroken (O.failed out.old) (O.failed out.new) (O.faults out.old) (O.faults out.new) }
-    ensures prints { OnOk result (IsTrue O.counts → O.faults out.old ≡ [] → O.faults out.new ≡ []) }
+    ensures out { OnOk result (IsOut O.Output (drawing_text drawing parts.now) out.old out.new) }
 {
     let mut text = Vec::new(alloc);
     push_drawing(&mut text, drawing, parts)?;
-    print_text(out, text.as_slice())
+    print(out, text.as_slice())
 }
 
 /// Watches a scope and prints a drawing of the tables that the watcher found.

@@ -1,10 +1,11 @@
 //! Posts as they are followed.
-ghost use Rattle.std.specs.Prelude.{◌≡◌, ◌≢◌, ℕ, ◌+◌, ◌≤◌, List, [], ◌++◌, length, true, false, None, Err, IfOk, OnOk, IsTrue};
-ghost use Rattle.mt_lines.specs.Reading.{failed_calls, last_faults, fault_of, last_line, limit_of};
+ghost use Rattle.std.specs.Prelude.{◌≡◌, ◌≢◌, ℕ, List, ◌++◌, length, true, false, None, Err, IfOk, IfErr, OnOk, IsTrue};
+ghost use Rattle.mt_lines.specs.Reading.{fault_of, last_line};
 ghost use Rattle.mt_words.specs.Words.{words};
 ghost use Rattle.mt_events.specs.Posts.{PostView, IsPost, post_text, ended};
 ghost use Rattle.mt_events.specs.Mirrors.{is_next, mirrored};
-ghost use Rattle.mt_client.specs.Reading.{lines_left, texts, printed, AreSoMany, IsCut};
+ghost use Rattle.mt_client.specs.Reading.{lines_left, printed, AreSoMany};
+ghost use Rattle.mt_client.specs.Calls.{ReadsOn, AreRead, IsReadFault};
 ghost use Rattle.mt_client.specs.Mirroring.{HasPosted, IsPosted};
 ghost use Rattle.mt_client.specs.Awaited.{event_count, IsBehind, IsPostBehind, IsOnlyPost, TakesBehind};
 
@@ -54,16 +55,9 @@ pub(crate) fn push_lines<R: Input + Drop>(
     count: u64,
 ) -> Result<(), ClientFault>
     requires fresh { fault_of lines.old ≡ None }
-    ensures text { OnOk result (IsTrue R.tells → (all : List (List ℕ)) × (length all ≡ count)
-        × (lines_left lines.old ≡ texts all ++ lines_left lines.new)
+    ensures text { OnOk result ((all : List (List ℕ)) × (length all ≡ count) × AreRead all lines.old lines.new
         × (text.new.items ≡ text.old.items ++ printed all)) }
-    ensures fresh { OnOk result (fault_of lines.new ≡ None) }
-    ensures kind { result ≢ Err ClientFault.Output }
-    ensures cut { result ≡ Err ClientFault.Connection → IsTrue R.tells → IsTrue R.counts
-        → IsCut (AreSoMany count) lines.old lines.new }
-    ensures counted { IsTrue R.counts → failed_calls lines.old ≤ failed_calls lines.new }
-    ensures reads { OnOk result (IsTrue R.counts → last_faults lines.old ≡ [] → last_faults lines.new ≡ []) }
-    ensures limit { limit_of lines.new ≡ limit_of lines.old }
+    ensures fault { IfErr result (λ fault. IsReadFault fault (AreSoMany count) (lines_left lines.old) lines.old lines.new) }
 {
     'lines: for _line in 0..count {
         next_text(lines)?;
@@ -92,15 +86,10 @@ pub(crate) fn read_posted<R: Input + Drop>(
     ensures posted { IfOk result (λ post. IsTrue R.tells
         → IsPosted (last_line lines.old) (lines_left lines.old) (lines_left lines.new) post) }
     ensures valid { IfOk result (λ post. IsPost post) }
-    ensures fresh { OnOk result (fault_of lines.new ≡ None) }
-    ensures kind { result ≢ Err ClientFault.Output }
     ensures only { IfOk result (λ post. IsTrue R.tells
         → IsOnlyPost (last_line lines.old) (lines_left lines.old) (lines_left lines.new) post) }
-    ensures cut { result ≡ Err ClientFault.Connection → IsTrue R.tells → IsTrue R.counts
-        → IsCut (IsPostBehind (last_line lines.old)) lines.old lines.new }
-    ensures counted { IsTrue R.counts → failed_calls lines.old ≤ failed_calls lines.new }
-    ensures reads { OnOk result (IsTrue R.counts → last_faults lines.old ≡ [] → last_faults lines.new ≡ []) }
-    ensures limit { limit_of lines.new ≡ limit_of lines.old }
+    ensures on { OnOk result (ReadsOn lines.old lines.new) }
+    ensures fault { IfErr result (λ fault. IsReadFault fault (IsPostBehind (last_line lines.old)) (lines_left lines.old) lines.old lines.new) }
 {
     let Some(count) = lines_of_event(lines.line()) else {
         return Err(ClientFault::Connection);
@@ -145,15 +134,10 @@ pub(crate) fn apply_post<R: Input + Drop>(
     requires fresh { fault_of lines.old ≡ None }
     ensures posted { OnOk result (IsTrue R.tells
         → HasPosted (last_line lines.old) (lines_left lines.old) (lines_left lines.new) mirror.old mirror.new) }
-    ensures fresh { OnOk result (fault_of lines.new ≡ None) }
-    ensures kind { result ≢ Err ClientFault.Output }
     ensures taken { OnOk result (IsTrue R.tells
         → TakesBehind (last_line lines.old) (lines_left lines.old) (lines_left lines.new)) }
-    ensures cut { result ≡ Err ClientFault.Connection → IsTrue R.tells → IsTrue R.counts
-        → IsCut (IsBehind (last_line lines.old) mirror.old) lines.old lines.new }
-    ensures counted { IsTrue R.counts → failed_calls lines.old ≤ failed_calls lines.new }
-    ensures reads { OnOk result (IsTrue R.counts → last_faults lines.old ≡ [] → last_faults lines.new ≡ []) }
-    ensures limit { limit_of lines.new ≡ limit_of lines.old }
+    ensures on { OnOk result (ReadsOn lines.old lines.new) }
+    ensures fault { IfErr result (λ fault. IsReadFault fault (IsBehind (last_line lines.old) mirror.old) (lines_left lines.old) lines.old lines.new) }
 {
     let post = read_posted(alloc, lines)?;
     apply_next(mirror, &post)

@@ -1,10 +1,10 @@
 //! Lines of answers, printed as they are read.
-ghost use Rattle.std.specs.Prelude.{◌≡◌, ◌≢◌, Bool, ◌≤◌, [], ◌∷◌, ◌++◌, None, Err, IfOk, IfErr, OnOk, OnErr, IsTrue, MatchBool};
-ghost use Rattle.mt_lines.specs.Lines.{Text};
-ghost use Rattle.mt_lines.specs.Reading.{failed_calls, last_faults, fault_of, last_line, limit_of};
+ghost use Rattle.std.specs.Prelude.{◌≡◌, Bool, ◌≤◌, [], ◌∷◌, ◌++◌, None, IfOk, IfErr, OnOk, OnErr, IsTrue, MatchBool};
+ghost use Rattle.mt_lines.specs.Reading.{fault_of, last_line};
 ghost use Rattle.mt_events.specs.Posts.{ended};
 ghost use Rattle.mt_client.specs.Replies.{IsHeaded, IsEnding, IsFollowed, IsAnswer};
-ghost use Rattle.mt_client.specs.Reading.{lines_left, IsCutOff, HasBroken, IsBroken, AreSoMany, IsCut, HasPassed, reading_fault};
+ghost use Rattle.mt_client.specs.Reading.{lines_left, IsCutOff, HasBroken, AreSoMany, reading_fault};
+ghost use Rattle.mt_client.specs.Calls.{AreRead, IsOut, IsOutInPart, IsReadFault, IsPassFault, PassesOn};
 
 use crate::answer::{Form, is_refusal, lines_behind, verdict};
 use crate::block::{pass_behind, pass_post};
@@ -31,15 +31,8 @@ fn reading_fault(fault: ReadFault) -> ClientFault
 /// Reads a whole line, which the reader then lends.
 pub(crate) fn next_text<R: Input + Drop>(lines: &mut LineReader<R>) -> Result<(), ClientFault>
     requires fresh { fault_of lines.old ≡ None }
-    ensures text { OnOk result (IsTrue R.tells
-        → lines_left lines.old ≡ Text (last_line lines.new) ∷ lines_left lines.new) }
-    ensures fresh { OnOk result (fault_of lines.new ≡ None) }
-    ensures kind { result ≢ Err ClientFault.Output }
-    ensures cut { result ≡ Err ClientFault.Connection → IsTrue R.tells → IsTrue R.counts
-        → IsCut (AreSoMany 1) lines.old lines.new }
-    ensures counted { IsTrue R.counts → failed_calls lines.old ≤ failed_calls lines.new }
-    ensures reads { OnOk result (IsTrue R.counts → last_faults lines.old ≡ [] → last_faults lines.new ≡ []) }
-    ensures limit { limit_of lines.new ≡ limit_of lines.old }
+    ensures read { OnOk result (AreRead (last_line lines.new ∷ []) lines.old lines.new) }
+    ensures fault { IfErr result (λ fault. IsReadFault fault (AreSoMany 1) (lines_left lines.old) lines.old lines.new) }
 {
     match lines.next() {
         Ok(Line::Text) => Ok(()),
@@ -61,6 +54,14 @@ pub fn print_text<O: Output>(out: &mut O, text: &[u8]) -> Result<(), ClientFault
     ensures counted { IsTrue O.counts → O.failed out.old ≤ O.failed out.new }
     ensures prints { OnOk result (IsTrue O.counts → O.faults out.old ≡ [] → O.faults out.new ≡ []) }
 {
+    print(out, text)
+}
+
+/// Prints a text, as [`print_text`].
+pub(crate) fn print<O: Output>(out: &mut O, text: &[u8]) -> Result<(), ClientFault>
+    ensures out { OnOk result (IsOut O.Output text.now out.old out.new) }
+    ensures part { IfErr result (λ fault. (fault ≡ ClientFault.Output) × IsOutInPart O.Output text.now out.old out.new) }
+{
     match send(out, text) {
         Ok(()) => Ok(()),
         Err(_) => Err(ClientFault::Output),
@@ -69,14 +70,8 @@ pub fn print_text<O: Output>(out: &mut O, text: &[u8]) -> Result<(), ClientFault
 
 /// Prints a line and its line end.
 pub(crate) fn print_line<O: Output>(out: &mut O, line: &[u8]) -> Result<(), ClientFault>
-    ensures printed { OnOk result (IsTrue O.tells
-        → O.written out.new ≡ O.written out.old ++ ended line.now) }
-    ensures cut { OnErr result (IsTrue O.tells
-        → IsCutOff (ended line.now) (O.written out.old) (O.written out.new)) }
-    ensures kind { IfErr result (λ fault. fault ≡ ClientFault.Output) }
-    ensures cause { OnErr result (IsTrue O.counts → HasBroken (O.failed out.old) (O.failed out.new) (O.faults out.old) (O.faults out.new)) }
-    ensures counted { IsTrue O.counts → O.failed out.old ≤ O.failed out.new }
-    ensures prints { OnOk result (IsTrue O.counts → O.faults out.old ≡ [] → O.faults out.new ≡ []) }
+    ensures out { OnOk result (IsOut O.Output (ended line.now) out.old out.new) }
+    ensures part { IfErr result (λ fault. (fault ≡ ClientFault.Output) × IsOutInPart O.Output (ended line.now) out.old out.new) }
 {
     match send_line(out, line) {
         Ok(()) => Ok(()),
@@ -93,20 +88,8 @@ fn pass_headed<R: Input + Drop, O: Output>(
     out: &mut O,
 ) -> Result<bool, ClientFault>
     requires fresh { fault_of lines.old ≡ None }
-    ensures passed { IfOk result (λ told. IsTrue R.tells → IsTrue O.tells
-        → HasPassed (λ all. IsHeaded form all told) (lines_left lines.old) (lines_left lines.new) (O.written out.old) (O.written out.new)) }
-    ensures fresh { OnOk result (fault_of lines.new ≡ None) }
-    ensures broken { IsTrue R.tells → IsTrue O.tells → IfErr result
-        (λ fault. IsBroken fault (lines_left lines.old) (O.written out.old) (O.written out.new)) }
-    ensures cut { result ≡ Err ClientFault.Connection → IsTrue R.tells → IsTrue R.counts
-        → IsCut (λ all. (told : Bool) × IsHeaded form all told) lines.old lines.new }
-    ensures cause { result ≡ Err ClientFault.Output → IsTrue O.counts
-        → HasBroken (O.failed out.old) (O.failed out.new) (O.faults out.old) (O.faults out.new) }
-    ensures read { IsTrue R.counts → failed_calls lines.old ≤ failed_calls lines.new }
-    ensures reads { OnOk result (IsTrue R.counts → last_faults lines.old ≡ [] → last_faults lines.new ≡ []) }
-    ensures printed { IsTrue O.counts → O.failed out.old ≤ O.failed out.new }
-    ensures prints { OnOk result (IsTrue O.counts → O.faults out.old ≡ [] → O.faults out.new ≡ []) }
-    ensures limit { limit_of lines.new ≡ limit_of lines.old }
+    ensures passed { IfOk result (λ told. PassesOn O.Output [] (λ all. IsHeaded form all told) lines.old lines.new out.old out.new) }
+    ensures fault { IfErr result (λ fault. IsPassFault O.Output fault (λ all. (told : Bool) × IsHeaded form all told) [] lines.old lines.new out.old out.new) }
 {
     next_text(lines)?;
     let Some(told) = verdict(lines.line()) else {
@@ -138,20 +121,8 @@ fn pass_followed<R: Input + Drop, O: Output>(
     out: &mut O,
 ) -> Result<bool, ClientFault>
     requires fresh { fault_of lines.old ≡ None }
-    ensures passed { IfOk result (λ told. IsTrue R.tells → IsTrue O.tells
-        → HasPassed (λ all. IsFollowed all told) (lines_left lines.old) (lines_left lines.new) (O.written out.old) (O.written out.new)) }
-    ensures fresh { OnOk result (fault_of lines.new ≡ None) }
-    ensures broken { IsTrue R.tells → IsTrue O.tells → IfErr result
-        (λ fault. IsBroken fault (lines_left lines.old) (O.written out.old) (O.written out.new)) }
-    ensures cut { result ≡ Err ClientFault.Connection → IsTrue R.tells → IsTrue R.counts
-        → IsCut (λ all. (told : Bool) × IsFollowed all told) lines.old lines.new }
-    ensures cause { result ≡ Err ClientFault.Output → IsTrue O.counts
-        → HasBroken (O.failed out.old) (O.failed out.new) (O.faults out.old) (O.faults out.new) }
-    ensures read { IsTrue R.counts → failed_calls lines.old ≤ failed_calls lines.new }
-    ensures reads { OnOk result (IsTrue R.counts → last_faults lines.old ≡ [] → last_faults lines.new ≡ []) }
-    ensures printed { IsTrue O.counts → O.failed out.old ≤ O.failed out.new }
-    ensures prints { OnOk result (IsTrue O.counts → O.faults out.old ≡ [] → O.faults out.new ≡ []) }
-    ensures limit { limit_of lines.new ≡ limit_of lines.old }
+    ensures passed { IfOk result (λ told. PassesOn O.Output [] (λ all. IsFollowed all told) lines.old lines.new out.old out.new) }
+    ensures fault { IfErr result (λ fault. IsPassFault O.Output fault (λ all. (told : Bool) × IsFollowed all told) [] lines.old lines.new out.old out.new) }
 {
     'following: for taken in 0..MOST_POSTS {
         next_text(lines)?;
@@ -175,20 +146,8 @@ pub(crate) fn pass_answer<R: Input + Drop, O: Output>(
     out: &mut O,
 ) -> Result<bool, ClientFault>
     requires fresh { fault_of lines.old ≡ None }
-    ensures passed { IfOk result (λ told. IsTrue R.tells → IsTrue O.tells
-        → HasPassed (λ all. IsAnswer form all told) (lines_left lines.old) (lines_left lines.new) (O.written out.old) (O.written out.new)) }
-    ensures fresh { OnOk result (fault_of lines.new ≡ None) }
-    ensures broken { IsTrue R.tells → IsTrue O.tells → IfErr result
-        (λ fault. IsBroken fault (lines_left lines.old) (O.written out.old) (O.written out.new)) }
-    ensures cut { result ≡ Err ClientFault.Connection → IsTrue R.tells → IsTrue R.counts
-        → IsCut (λ all. (told : Bool) × IsAnswer form all told) lines.old lines.new }
-    ensures cause { result ≡ Err ClientFault.Output → IsTrue O.counts
-        → HasBroken (O.failed out.old) (O.failed out.new) (O.faults out.old) (O.faults out.new) }
-    ensures read { IsTrue R.counts → failed_calls lines.old ≤ failed_calls lines.new }
-    ensures reads { OnOk result (IsTrue R.counts → last_faults lines.old ≡ [] → last_faults lines.new ≡ []) }
-    ensures printed { IsTrue O.counts → O.failed out.old ≤ O.failed out.new }
-    ensures prints { OnOk result (IsTrue O.counts → O.faults out.old ≡ [] → O.faults out.new ≡ []) }
-    ensures limit { limit_of lines.new ≡ limit_of lines.old }
+    ensures passed { IfOk result (λ told. PassesOn O.Output [] (λ all. IsAnswer form all told) lines.old lines.new out.old out.new) }
+    ensures fault { IfErr result (λ fault. IsPassFault O.Output fault (λ all. (told : Bool) × IsAnswer form all told) [] lines.old lines.new out.old out.new) }
 {
     match form {
         Form::Followed => pass_followed(alloc, lines, out),

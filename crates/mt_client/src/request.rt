@@ -1,10 +1,10 @@
 //! The lines of requests, and sending them.
-ghost use Rattle.std.specs.Prelude.{◌≡◌, ◌≤◌, [], ◌++◌, ◌∷◌, map, IfOk, OnOk, OnErr, IsTrue};
+ghost use Rattle.std.specs.Prelude.{◌≡◌, ◌++◌, ◌∷◌, map, IfOk, OnOk, OnErr};
 ghost use Rattle.std.specs.List.{flat_map};
 ghost use Rattle.mt_skel.specs.Escapes.{escaped};
 ghost use Rattle.mt_events.specs.Posts.{ended};
 ghost use Rattle.mt_client.specs.Requests.{request_text, numbered_text};
-ghost use Rattle.mt_client.specs.Reading.{HasBroken, IsCutOff};
+ghost use Rattle.mt_client.specs.Calls.{IsOut, IsOutInPart};
 
 use mt_info::print::push_number;
 use mt_lines::stream::{Cut, Output, send};
@@ -61,13 +61,8 @@ pub(crate) fn numbered_line(
 
 /// Sends a line and its line end. After a cut, a part of them went out, and not all.
 pub(crate) fn send_line<W: Output>(writer: &mut W, line: &[u8]) -> Result<(), Cut>
-    ensures sent { OnOk result (IsTrue W.tells
-        → W.written writer.new ≡ W.written writer.old ++ ended line.now) }
-    ensures cut { OnErr result (IsTrue W.tells
-        → IsCutOff (ended line.now) (W.written writer.old) (W.written writer.new)) }
-    ensures cause { OnErr result (IsTrue W.counts → HasBroken (W.failed writer.old) (W.failed writer.new) (W.faults writer.old) (W.faults writer.new)) }
-    ensures counted { IsTrue W.counts → W.failed writer.old ≤ W.failed writer.new }
-    ensures writes { OnOk result (IsTrue W.counts → W.faults writer.old ≡ [] → W.faults writer.new ≡ []) }
+    ensures out { OnOk result (IsOut W.Output (ended line.now) writer.old writer.new) }
+    ensures part { OnErr result (IsOutInPart W.Output (ended line.now) writer.old writer.new) }
 {
     send(writer, line)?;
     send(writer, b"\n")?;

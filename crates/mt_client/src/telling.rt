@@ -1,12 +1,13 @@
 //! The posts of a watcher, told in words as they come.
-ghost use Rattle.std.specs.Prelude.{◌≡◌, ◌≢◌, ℕ, ◌≤◌, ◌⊎◌, List, [], ◌++◌, true, false, None, Ok, Err, IfOk, IfErr, OnOk, OnErr, IsTrue, MatchBool, codes};
+ghost use Rattle.std.specs.Prelude.{◌≡◌, ◌≢◌, ℕ, ◌⊎◌, List, [], ◌++◌, true, false, None, Ok, Err, IfOk, IfErr, OnOk, OnErr, IsTrue, MatchBool, codes};
 ghost use Rattle.mt_skel.specs.Keyed.{rises};
-ghost use Rattle.mt_lines.specs.Reading.{failed_calls, last_faults, fault_of, last_line, limit_of};
+ghost use Rattle.mt_lines.specs.Reading.{last_faults, fault_of, last_line, limit_of};
 ghost use Rattle.mt_events.specs.Mirrors.{MirrorView};
 ghost use Rattle.mt_events.specs.Posts.{PostView, ended};
 ghost use Rattle.mt_told.specs.Told.{told_text};
 ghost use Rattle.mt_client.specs.Requests.{numbered_text};
-ghost use Rattle.mt_client.specs.Reading.{lines_left, HasBroken, IsSentPart, IsCutOff, NoneFirst, IsCut};
+ghost use Rattle.mt_client.specs.Reading.{lines_left, HasBroken, IsSentPart, NoneFirst, IsCut};
+ghost use Rattle.mt_client.specs.Calls.{ReadsOn, WritesOn, IsOut, IsOutInPart, IsTellFault, IsTalkFault};
 ghost use Rattle.mt_client.specs.Mirroring.{HasRefused};
 ghost use Rattle.mt_client.specs.Awaited.{IsOneRefusal, IsRefusedOr};
 ghost use Rattle.mt_client.specs.Finding.{mirror_space};
@@ -20,7 +21,7 @@ use crate::mirrors::apply_told;
 use crate::parts::read_found;
 use crate::picture::watch_line;
 use crate::posts::read_posted;
-use crate::relay::{next_text, print_line, print_text};
+use crate::relay::{next_text, print, print_line};
 use crate::request::numbered_line;
 use crate::sending::send_request;
 use mt_events::mirror::Mirror;
@@ -45,27 +46,22 @@ fn tell_due<O: Output>(
     out: &mut O,
 ) -> Result<(), ClientFault>
     requires rising { IsTrue (rises mirror_space mirrors.old.items) }
-    ensures told { OnOk result (IsTrue O.tells
-        → O.written out.new ≡ O.written out.old ++ told_text (mirror_in mirrors.old.items post.now.space) post.now) }
     ensures applied { OnOk result (mirrors.new.items ≡ mirrors_with mirrors.old.items post.now) }
     ensures due { OnOk result (is_due scope mirrors.old.items post.now ≡ true) }
     ensures rising { OnOk result (IsTrue (rises mirror_space mirrors.new.items)) }
     ensures refused { result ≡ Err ClientFault.Connection → is_due scope mirrors.old.items post.now ≡ false }
     ensures kept { OnErr result (result ≢ Err ClientFault.Output → IsTrue O.tells
         → O.written out.new ≡ O.written out.old) }
-    ensures cut { result ≡ Err ClientFault.Output → (is_due scope mirrors.old.items post.now ≡ true) × (IsTrue O.tells
-        → IsCutOff (told_text (mirror_in mirrors.old.items post.now.space) post.now) (O.written out.old) (O.written out.new)) }
-    ensures cause { result ≡ Err ClientFault.Output → IsTrue O.counts
-        → HasBroken (O.failed out.old) (O.failed out.new) (O.faults out.old) (O.faults out.new) }
-    ensures printed { IsTrue O.counts → O.failed out.old ≤ O.failed out.new }
-    ensures prints { OnOk result (IsTrue O.counts → O.faults out.old ≡ [] → O.faults out.new ≡ []) }
+    ensures out { OnOk result (IsOut O.Output (told_text (mirror_in mirrors.old.items post.now.space) post.now) out.old out.new) }
+    ensures part { result ≡ Err ClientFault.Output → (is_due scope mirrors.old.items post.now ≡ true)
+        × IsOutInPart O.Output (told_text (mirror_in mirrors.old.items post.now.space) post.now) out.old out.new }
 {
     if !scope.names(post.space) {
         return Err(ClientFault::Connection);
     }
     let mut text = Vec::new(alloc);
     apply_told(alloc, &mut text, mirrors, post, &[])?;
-    print_text(out, text.as_slice())
+    print(out, text.as_slice())
 }
 
 /// Tells the next post: false where a refusal stands in its place, which the reader lends.
@@ -87,16 +83,9 @@ fn tell_post<R: Input + Drop, O: Output>(
     ensures applied { result ≡ Ok true → IsTrue R.tells
         → IsOnlyApplied mirrors.old.items mirrors.new.items (lines_left lines.old) (lines_left lines.new) }
     ensures unrefused { result ≡ Ok true → IsTrue R.tells → NoneFirst IsOneRefusal (lines_left lines.old) }
-    ensures cut { result ≡ Err ClientFault.Connection → IsTrue R.tells → IsTrue R.counts
-        → IsCut (IsRefusedOr (IsDuePost scope mirrors.old.items)) lines.old lines.new }
-    ensures fresh { OnOk result (fault_of lines.new ≡ None) }
-    ensures cause { result ≡ Err ClientFault.Output → IsTrue O.counts
-        → HasBroken (O.failed out.old) (O.failed out.new) (O.faults out.old) (O.faults out.new) }
-    ensures counted { IsTrue R.counts → failed_calls lines.old ≤ failed_calls lines.new }
-    ensures reads { OnOk result (IsTrue R.counts → last_faults lines.old ≡ [] → last_faults lines.new ≡ []) }
-    ensures printed { IsTrue O.counts → O.failed out.old ≤ O.failed out.new }
-    ensures prints { OnOk result (IsTrue O.counts → O.faults out.old ≡ [] → O.faults out.new ≡ []) }
-    ensures limit { limit_of lines.new ≡ limit_of lines.old }
+    ensures on { OnOk result (ReadsOn lines.old lines.new) }
+    ensures prints { OnOk result (WritesOn O.Output out.old out.new) }
+    ensures fault { IfErr result (λ fault. IsTellFault O.Output fault (IsRefusedOr (IsDuePost scope mirrors.old.items)) lines.old lines.new out.old out.new) }
 {
     next_text(lines)?;
     if is_refusal(lines.line()) {
@@ -127,16 +116,9 @@ fn tell_posts<R: Input + Drop, O: Output>(
         (λ fault. IsToldUpTo fault count scope mirrors.old.items (lines_left lines.old) (O.written out.old) (O.written out.new)) }
     ensures applied { result ≡ Ok true → IsTrue R.tells
         → AreOnlyApplied count scope mirrors.old.items mirrors.new.items (lines_left lines.old) (lines_left lines.new) }
-    ensures cut { result ≡ Err ClientFault.Connection → IsTrue R.tells → IsTrue R.counts
-        → IsCut (AreDuePosts count scope mirrors.old.items) lines.old lines.new }
-    ensures fresh { OnOk result (fault_of lines.new ≡ None) }
-    ensures cause { result ≡ Err ClientFault.Output → IsTrue O.counts
-        → HasBroken (O.failed out.old) (O.failed out.new) (O.faults out.old) (O.faults out.new) }
-    ensures counted { IsTrue R.counts → failed_calls lines.old ≤ failed_calls lines.new }
-    ensures reads { OnOk result (IsTrue R.counts → last_faults lines.old ≡ [] → last_faults lines.new ≡ []) }
-    ensures printed { IsTrue O.counts → O.failed out.old ≤ O.failed out.new }
-    ensures prints { OnOk result (IsTrue O.counts → O.faults out.old ≡ [] → O.faults out.new ≡ []) }
-    ensures limit { limit_of lines.new ≡ limit_of lines.old }
+    ensures on { OnOk result (ReadsOn lines.old lines.new) }
+    ensures prints { OnOk result (WritesOn O.Output out.old out.new) }
+    ensures fault { IfErr result (λ fault. IsTellFault O.Output fault (AreDuePosts count scope mirrors.old.items) lines.old lines.new out.old out.new) }
 {
     'posts: for _post in 0..count {
         if !tell_post(alloc, lines, scope, mirrors, out)? {
@@ -164,24 +146,14 @@ fn tell_portion<R: Input + Drop, W: Output, O: Output>(
     ensures rising { OnOk result (IsTrue (rises mirror_space mirrors.new.items)) }
     ensures broken { IsTrue R.tells → IsTrue O.tells → IfErr result
         (λ fault. IsToldUpTo fault count scope mirrors.old.items (lines_left lines.old) (O.written out.old) (O.written out.new)) }
-    ensures sent { result ≡ Ok true → IsTrue W.tells
-        → W.written writer.new ≡ W.written writer.old ++ ended (numbered_text (codes "follow") count) }
     ensures part { IsTrue W.tells
         → IsSentPart (ended (numbered_text (codes "follow") count)) (W.written writer.old) (W.written writer.new) }
     ensures applied { result ≡ Ok true → IsTrue R.tells
         → AreOnlyApplied count scope mirrors.old.items mirrors.new.items (lines_left lines.old) (lines_left lines.new) }
-    ensures connection { result ≡ Err ClientFault.Connection → IsTrue R.tells → IsTrue R.counts → IsTrue W.counts
-        → HasBroken (W.failed writer.old) (W.failed writer.new) (W.faults writer.old) (W.faults writer.new) ⊎ IsCut (AreDuePosts count scope mirrors.old.items) lines.old lines.new }
-    ensures wrote { result ≡ Ok true → IsTrue W.counts → W.failed writer.old ≤ W.failed writer.new }
-    ensures writes { result ≡ Ok true → IsTrue W.counts → W.faults writer.old ≡ [] → W.faults writer.new ≡ [] }
-    ensures fresh { OnOk result (fault_of lines.new ≡ None) }
-    ensures cause { result ≡ Err ClientFault.Output → IsTrue O.counts
-        → HasBroken (O.failed out.old) (O.failed out.new) (O.faults out.old) (O.faults out.new) }
-    ensures counted { result ≡ Ok true → IsTrue R.counts → failed_calls lines.old ≤ failed_calls lines.new }
-    ensures reads { OnOk result (IsTrue R.counts → last_faults lines.old ≡ [] → last_faults lines.new ≡ []) }
-    ensures printed { result ≡ Ok true → IsTrue O.counts → O.failed out.old ≤ O.failed out.new }
-    ensures prints { OnOk result (IsTrue O.counts → O.faults out.old ≡ [] → O.faults out.new ≡ []) }
-    ensures limit { limit_of lines.new ≡ limit_of lines.old }
+    ensures sent { result ≡ Ok true → IsOut W.Output (ended (numbered_text (codes "follow") count)) writer.old writer.new }
+    ensures on { OnOk result (ReadsOn lines.old lines.new) }
+    ensures prints { OnOk result (WritesOn O.Output out.old out.new) }
+    ensures fault { IfErr result (λ fault. IsTalkFault W.Output O.Output fault (AreDuePosts count scope mirrors.old.items) lines.old lines.new writer.old writer.new out.old out.new) }
 {
     let follow = numbered_line(alloc, b"follow", count)?;
     if !send_request(lines, writer, follow.as_slice(), out)? {
@@ -212,14 +184,9 @@ fn tell_portions<R: Input + Drop, W: Output, O: Output>(
         (λ fault. IsToldUpTo fault count scope mirrors.old.items (lines_left lines.old) (O.written out.old) (O.written out.new)) }
     ensures part { IsTrue W.tells
         → (times : ℕ) × IsSentPart (follows_text count times) (W.written writer.old) (W.written writer.new) }
-    ensures connection { result ≡ Err ClientFault.Connection → IsTrue R.tells → IsTrue R.counts → IsTrue W.counts
-        → HasBroken (W.failed writer.old) (W.failed writer.new) (W.faults writer.old) (W.faults writer.new) ⊎ IsCut (AreDuePortions count scope mirrors.old.items) lines.old lines.new }
-    ensures fresh { OnOk result (fault_of lines.new ≡ None) }
-    ensures cause { result ≡ Err ClientFault.Output → IsTrue O.counts
-        → HasBroken (O.failed out.old) (O.failed out.new) (O.faults out.old) (O.faults out.new) }
-    ensures reads { OnOk result (IsTrue R.counts → last_faults lines.old ≡ [] → last_faults lines.new ≡ []) }
-    ensures prints { OnOk result (IsTrue O.counts → O.faults out.old ≡ [] → O.faults out.new ≡ []) }
-    ensures limit { limit_of lines.new ≡ limit_of lines.old }
+    ensures on { OnOk result (ReadsOn lines.old lines.new) }
+    ensures prints { OnOk result (WritesOn O.Output out.old out.new) }
+    ensures fault { IfErr result (λ fault. IsTalkFault W.Output O.Output fault (AreDuePortions count scope mirrors.old.items) lines.old lines.new writer.old writer.new out.old out.new) }
 {
     'portions: for _portion in 0..MOST_PORTIONS {
         if !tell_portion(alloc, lines, writer, scope, count, mirrors, out)? {

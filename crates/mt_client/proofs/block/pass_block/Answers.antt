@@ -1,11 +1,26 @@
-use Rattle.std.proofs.Common.{Err, arith, ap}
-use Rattle.std.proofs.lemmas.Result.{err_from_is_err_and}
-use Rattle.mt_client.proofs.RelayLaws.{cut_within, same_fault}
-use Rattle.mt_client.proofs.ReplyLaws.{block_needs_line}
+use Rattle.std.proofs.Common.{sym, subst}
+use Rattle.std.proofs.lemmas.Result.{IfOk-weaker, IfErr-weaker}
+use Rattle.mt_client.specs.declared.block.Block.TheVariants.{Namespace, Post}
+use Rattle.mt_client.specs.Replies.{IsBlockOf}
+use Rattle.mt_client.proofs.CallLaws.{read_still, handed_on, passes_as, passes_behind, pass_fault_reading, pass_fault_inner}
+use Rattle.mt_client.proofs.ReplyLaws.{block_needs_line, block_read}
 use Rattle.mt_client.proofs.block.pass_block.Goals as goal
 
-pub returns-in_err-next_text-clause-cut : goal.returns-in_err-next_text-clause-cut
-returns-in_err-next_text-clause-cut g c is t u =
-    let p = err_from_is_err_and c.from_residual.result c.from_residual.ensures.1 in
-    let same = same_fault _ _ _ _ p.1 p.2 is in
-    cut_within _ _ _ _ _ _ _ _ (omega arith) (λ e. e) (block_needs_line c.args.block _) (c.in_err-next_text.ensures.cut (ap Err same) t u)
+pub returns-in_err-next_text-clause-fault : goal.returns-in_err-next_text-clause-fault
+returns-in_err-next_text-clause-fault g c = handed_on _ _ _ c.from_residual.ensures.1 (pass_fault_reading (read_still _ c.requires.fresh) (λ t. block_needs_line c.args.block _) c.in_err-next_text.ensures.fault)
+
+pub returns-in-Namespace-clause-passed : goal.returns-in-Namespace-clause-passed
+returns-in-Namespace-clause-passed g c =
+    IfOk-weaker c.pass_part.result _ _ (λ behind p. passes_as (λ ls k. subst (λ b. IsBlockOf b behind ls) (sym c.in-Namespace.is) k) (passes_behind c.in_ok-next_text.ensures.read p)) c.pass_part.ensures.passed
+
+pub returns-in-Namespace-clause-fault : goal.returns-in-Namespace-clause-fault
+returns-in-Namespace-clause-fault g c =
+    IfErr-weaker c.pass_part.result _ _ (λ f q. pass_fault_inner c.in_ok-next_text.ensures.read (block_read c.args.block Namespace _ _ (sym c.in-Namespace.is) c.in_ok-next_text.ensures.read.came) q) c.pass_part.ensures.fault
+
+pub returns-in-Post-clause-passed : goal.returns-in-Post-clause-passed
+returns-in-Post-clause-passed g c =
+    IfOk-weaker c.pass_post.result _ _ (λ behind p. passes_as (λ ls k. subst (λ b. IsBlockOf b behind ls) (sym c.in-Post.is) k) (passes_behind c.in_ok-next_text.ensures.read p)) c.pass_post.ensures.passed
+
+pub returns-in-Post-clause-fault : goal.returns-in-Post-clause-fault
+returns-in-Post-clause-fault g c =
+    IfErr-weaker c.pass_post.result _ _ (λ f q. pass_fault_inner c.in_ok-next_text.ensures.read (block_read c.args.block Post _ _ (sym c.in-Post.is) c.in_ok-next_text.ensures.read.came) q) c.pass_post.ensures.fault

@@ -1,42 +1,36 @@
-use Rattle.std.proofs.Common.{Err, ◌++◌, arith, ap, inr, ◌∙◌}
-use Rattle.std.proofs.lemmas.Result.{err_from_is_err_and}
+use Rattle.std.proofs.Common.{Err, ◌++◌, ap, refl, ◌∙◌}
 use Rattle.mt_events.specs.Posts.{ended}
 use Rattle.mt_lines.specs.Reading.{last_line}
-use Rattle.mt_client.proofs.RelayLaws.{broken_text, cut_within, same_fault}
-use Rattle.mt_client.proofs.ReplyLaws.{post_passed, post_came, post_needs_count, post_needs_lines, post_needs_text}
+use Rattle.mt_client.proofs.CallLaws.{read_still, appended_of, text_whole, out_as, handed_on, pass_fault_reading, pass_fault_printing, pass_refused, pass_checked}
+use Rattle.mt_client.proofs.ReplyLaws.{post_made, post_needs_count, post_needs_lines, post_needs_text}
 use Rattle.mt_client.proofs.block.pass_post.Goals as goal
 
-pub returns-in_default-clause-cut : goal.returns-in_default-clause-cut
-returns-in_default-clause-cut g c is t u = inr (post_needs_count _ _ (rw c.line.ensures at c.in_default.ensures))
+pub returns-in_default-clause-fault : goal.returns-in_default-clause-fault
+returns-in_default-clause-fault g c = pass_refused refl (λ t. post_needs_count _ _ (rw c.line.ensures at c.in_default.ensures))
 
-pub returns-in_err-push_lines-clause-cut : goal.returns-in_err-push_lines-clause-cut
-returns-in_err-push_lines-clause-cut g c is t u =
-    let p = err_from_is_err_and c.from_residual-in_err-push_lines.result c.from_residual-in_err-push_lines.ensures.1 in
-    let same = same_fault _ _ _ _ p.1 p.2 is in
-    cut_within _ _ _ _ _ _ _ _ (omega arith) (λ e. e) (post_needs_lines c.in-Some.count _ _ (rw c.line.ensures at c.in-Some.ensures)) (c.in_err-push_lines.ensures.cut (ap Err same) t u)
+pub returns-in_err-push_lines-clause-fault : goal.returns-in_err-push_lines-clause-fault
+returns-in_err-push_lines-clause-fault g c =
+    handed_on _ _ _ c.from_residual-in_err-push_lines.ensures.1
+    (pass_fault_reading (read_still _ c.requires.fresh) (λ t. post_needs_lines c.in-Some.count _ _ (rw c.line.ensures at c.in-Some.ensures)) c.in_err-push_lines.ensures.fault)
 
-pub returns-in_err-check_post-clause-cut : goal.returns-in_err-check_post-clause-cut
-returns-in_err-check_post-clause-cut g c is t u =
-    let p = err_from_is_err_and c.from_residual-in_err-check_post.result c.from_residual-in_err-check_post.ensures.1 in
-    let same = same_fault _ _ _ _ p.1 p.2 is in
+pub returns-in_err-check_post-clause-fault : goal.returns-in_err-check_post-clause-fault
+returns-in_err-check_post-clause-fault g c =
     let begun = c.in_ok-push_line.ensures ∙ (λ i. c.new-text.ensures.items i ++ ended (c.line-2.ensures i)) in
-    inr (post_needs_text c.in-Some.count _ _ _ c.push_lines.new.text.items c.push_line.new.text.items (rw c.line.ensures at c.in-Some.ensures) begun (c.in_ok-push_lines.ensures.text t)
-    (λ post valid e. c.in_err-check_post.ensures.refused (ap Err same) post valid (c.deref.ensures.value ∙ e)))
+    handed_on _ _ _ c.from_residual-in_err-check_post.ensures.1
+    (pass_checked (λ e. c.in_err-check_post.ensures.kind (ap Err e)) c.in_ok-push_lines.ensures.text.2.on.limit
+    (λ e t. post_needs_text c.in-Some.count _ _ _ c.push_lines.new.text.items c.push_line.new.text.items (rw c.line.ensures at c.in-Some.ensures) begun (appended_of _ _ _ _ _ c.in_ok-push_lines.ensures.text t)
+    (λ post valid is. c.in_err-check_post.ensures.refused (ap Err e) post valid (c.deref.ensures.value ∙ is))))
 
-pub returns-in_err-print_text-clause-broken : goal.returns-in_err-print_text-clause-broken
-returns-in_err-print_text-clause-broken g c t u =
-    let p = err_from_is_err_and c.from_residual-in_err-print_text.result c.from_residual-in_err-print_text.ensures.1 in
+pub returns-in_err-print-clause-fault : goal.returns-in_err-print-clause-fault
+returns-in_err-print-clause-fault g c =
     let begun = c.in_ok-push_line.ensures ∙ (λ i. c.new-text.ensures.items i ++ ended (c.line-2.ensures i)) in
-    rw (p.1, p.2) (broken_text c.in_err-print_text.field-0.0 (last_line c.args.lines.now) _ _ c.push_lines.new.text.items c.push_line.new.text.items _ _ begun (c.in_ok-push_lines.ensures.text t) c.in_err-print_text.ensures.kind
-    (rw c.deref-2.ensures.value at c.in_err-print_text.ensures.cut u))
+    let h = c.in_ok-push_lines.ensures.text in
+    handed_on _ _ _ c.from_residual-in_err-print.ensures.1 (pass_fault_printing h.2 (c.deref-2.ensures.value ∙ text_whole (last_line c.args.lines.now) h.0 c.push_lines.new.text.items c.push_line.new.text.items begun h.3) c.in_err-print.ensures.part)
 
 pub returns-clause-passed : goal.returns-clause-passed
-returns-clause-passed g c t u =
+returns-clause-passed g c =
     let begun = c.in_ok-push_line.ensures ∙ (λ i. c.new-text.ensures.items i ++ ended (c.line-2.ensures i)) in
-    post_passed c.in-Some.count (last_line c.args.lines.now) _ _ c.push_lines.new.text.items c.push_line.new.text.items _ _ (rw c.line.ensures at c.in-Some.ensures) begun (c.in_ok-push_lines.ensures.text t) (rw c.deref.ensures.value at c.in_ok-check_post.ensures.post)
-    (rw c.deref-2.ensures.value at c.in_ok-print_text.ensures.printed u)
-
-pub returns-clause-came : goal.returns-clause-came
-returns-clause-came g c t =
-    let begun = c.in_ok-push_line.ensures ∙ (λ i. c.new-text.ensures.items i ++ ended (c.line-2.ensures i)) in
-    post_came c.in-Some.count (last_line c.args.lines.now) _ _ c.push_lines.new.text.items c.push_line.new.text.items (rw c.line.ensures at c.in-Some.ensures) begun (c.in_ok-push_lines.ensures.text t) (rw c.deref.ensures.value at c.in_ok-check_post.ensures.post)
+    let h = c.in_ok-push_lines.ensures.text in
+    let made =
+    post_made c.in-Some.count (last_line c.args.lines.now) h.0 c.push_lines.new.text.items c.push_line.new.text.items (rw c.line.ensures at c.in-Some.ensures) h.1 begun h.3 (rw c.deref.ensures.value at c.in_ok-check_post.ensures.post) in
+    record { others = h.0; is = made.0; read = h.2; out = out_as (c.deref-2.ensures.value ∙ made.1) c.in_ok-print.ensures.out }

@@ -1,15 +1,16 @@
-use Rattle.std.proofs.Common.{Err, arith, ap}
-use Rattle.std.proofs.lemmas.Result.{err_from_is_err_and}
-use Rattle.mt_client.proofs.RelayLaws.{cut_within, same_fault}
-use Rattle.mt_client.proofs.FollowLaws.{next_needs_line}
+use Rattle.std.proofs.Common.{rules}
+use Rattle.mt_client.proofs.CallLaws.{handed_on, read_fault_of, read_fault_behind}
+use Rattle.mt_client.proofs.FollowLaws.{next_needs_line, next_needs_behind}
 use Rattle.mt_client.proofs.MirrorLaws.{followed_by_post}
 use Rattle.mt_client.proofs.mirror.follow_post.Goals as goal
 
 pub returns-clause-followed : goal.returns-clause-followed
-returns-clause-followed g c t = followed_by_post _ _ _ _ _ _ (c.in_ok-next_text.ensures.text t) (c.in_ok-apply_post.ensures.posted t)
+returns-clause-followed g c t = followed_by_post _ _ _ _ _ _ (c.in_ok-next_text.ensures.read.came t) (c.in_ok-apply_post.ensures.posted t)
 
-pub returns-in_err-next_text-clause-cut : goal.returns-in_err-next_text-clause-cut
-returns-in_err-next_text-clause-cut g c is t u =
-    let p = err_from_is_err_and c.from_residual.result c.from_residual.ensures.1 in
-    let same = same_fault _ _ _ _ p.1 p.2 is in
-    cut_within _ _ _ _ _ _ _ _ (omega arith) (λ e. e) (next_needs_line c.args.mirror.now _) (c.in_err-next_text.ensures.cut (ap Err same) t u)
+pub returns-in_err-next_text-clause-fault : goal.returns-in_err-next_text-clause-fault
+returns-in_err-next_text-clause-fault g c = handed_on _ _ _ c.from_residual.ensures.1 (read_fault_of (next_needs_line c.args.mirror.now _) c.in_err-next_text.ensures.fault)
+
+pub returns-in_err-apply_post-clause-fault : goal.returns-in_err-apply_post-clause-fault
+returns-in_err-apply_post-clause-fault g c =
+    handed_on _ _ _ c.from_residual-in_err-apply_post.ensures.1
+    (read_fault_behind c.in_ok-next_text.ensures.read.on (λ t. next_needs_behind c.args.mirror.now _ _ _ (c.in_ok-next_text.ensures.read.came t) (search rules)) c.in_err-apply_post.ensures.fault)

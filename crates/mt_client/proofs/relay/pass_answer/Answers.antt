@@ -1,19 +1,15 @@
-use Rattle.mt_client.proofs.EndingLaws.{never_followed, headed_answer, headed_cut}
+use Rattle.std.proofs.lemmas.Result.{IfOk-weaker, IfErr-weaker}
+use Rattle.mt_client.proofs.CallLaws.{passes_as, pass_fault_of}
+use Rattle.mt_client.proofs.EndingLaws.{never_followed, headed_is, headed_none, followed_none}
 use Rattle.mt_client.proofs.relay.pass_answer.Goals as goal
 
 pub returns-in-Done : goal.returns-in-Done
 returns-in-Done g c =
-    let headed = c.pass_headed.ensures in
     let other = never_followed c.args.form c.in-Done.is in
     record {
-      passed = headed_answer _ _ c.pass_headed.result c.args.form other _ _ _ _ headed.passed;
-      fresh = headed.fresh;
-      broken = headed.broken;
-      cut = λ is t u. headed_cut c.args.form other _ _ _ _ _ (headed.cut is t u);
-      cause = headed.cause;
-      read = headed.read;
-      reads = headed.reads;
-      printed = headed.printed;
-      prints = headed.prints;
-      limit = headed.limit;
+      passed = IfOk-weaker c.pass_headed.result _ _ (λ told p. passes_as (headed_is c.args.form told other) p) c.pass_headed.ensures.passed;
+      fault = IfErr-weaker c.pass_headed.result _ _ (λ f q. pass_fault_of (headed_none c.args.form other _) q) c.pass_headed.ensures.fault;
     }
+
+pub returns-in-Followed-clause-fault : goal.returns-in-Followed-clause-fault
+returns-in-Followed-clause-fault g c = IfErr-weaker c.pass_followed.result _ _ (λ f q. pass_fault_of (followed_none c.args.form c.in-Followed.is _) q) c.pass_followed.ensures.fault

@@ -1,9 +1,10 @@
-use Rattle.std.proofs.Common.{rules, Err, arith, refl, ap, inr}
+use Rattle.std.proofs.Common.{rules, Err, refl, ap, ◌∙◌}
 use Rattle.std.proofs.lemmas.Result.{err_from_is_err_and}
 use Rattle.mt_lines.specs.Reading.{last_line}
 use Rattle.mt_client.specs.Reading.{lines_left}
 use Rattle.mt_client.specs.declared.fault.ClientFault.TheVariants.{Output}
-use Rattle.mt_client.proofs.RelayLaws.{cut_within, same_fault}
+use Rattle.mt_client.proofs.RelayLaws.{same_fault}
+use Rattle.mt_client.proofs.CallLaws.{read_still, handed_on, tell_fault_reading, tell_checked}
 use Rattle.mt_client.proofs.AheadLaws.{due_needs_line, due_needs_post, due_needs_due, only_applied}
 use Rattle.mt_client.proofs.TellingLaws.{post_told, stopped_post}
 use Rattle.mt_client.proofs.telling.tell_post.Goals as goal
@@ -12,33 +13,30 @@ pub returns-in_err-tell_due-clause-broken : goal.returns-in_err-tell_due-clause-
 returns-in_err-tell_due-clause-broken g c t u =
     let p = err_from_is_err_and c.from_residual-in_err-tell_due.result c.from_residual-in_err-tell_due.ensures.1 in
     let f = c.in_err-tell_due.field-0.0 in
-    rw (p.1, p.2) (stopped_post f c.args.scope (last_line c.next_text.new.lines) c.in_ok-post.post c.args.mirrors.now.items _ _ _ _ _ (c.in_ok-next_text.ensures.text t) (c.in_ok-post.ensures.posted t) c.in_ok-post.ensures.valid
+    rw (p.1, p.2) (stopped_post f c.args.scope (last_line c.next_text.new.lines) c.in_ok-post.post c.args.mirrors.now.items _ _ _ _ _ (c.in_ok-next_text.ensures.read.came t) (c.in_ok-post.ensures.posted t) c.in_ok-post.ensures.valid
     (λ other. c.in_err-tell_due.ensures.kept (λ e. other (same_fault _ f f Output refl refl e)) u)
-    (λ e. let k = c.in_err-tell_due.ensures.cut (ap Err e) in (k.0, k.1 u)))
+    (λ e. let k = c.in_err-tell_due.ensures.part (ap Err e) in (k.0, k.1.cut u)))
 
 pub returns-clause-told : goal.returns-clause-told
 returns-clause-told g c t u =
-    post_told c.args.scope (last_line c.next_text.new.lines) c.in_ok-post.post c.args.mirrors.now.items _ _ _ _ _ _ (c.in_ok-next_text.ensures.text t) (c.in_ok-post.ensures.posted t) c.in_ok-post.ensures.valid
-    c.in_ok-tell_due.ensures.due c.in_ok-tell_due.ensures.applied (c.in_ok-tell_due.ensures.told u)
-
-pub returns-in_err-next_text-clause-cut : goal.returns-in_err-next_text-clause-cut
-returns-in_err-next_text-clause-cut g c is t u =
-    let p = err_from_is_err_and c.from_residual.result c.from_residual.ensures.1 in
-    let same = same_fault _ _ _ _ p.1 p.2 is in
-    cut_within _ _ _ _ _ _ _ _ (omega arith) (λ e. e) (due_needs_line c.args.scope c.args.mirrors.now.items _) (c.in_err-next_text.ensures.cut (ap Err same) t u)
-
-pub returns-in_err-post-clause-cut : goal.returns-in_err-post-clause-cut
-returns-in_err-post-clause-cut g c is t u =
-    let p = err_from_is_err_and c.from_residual-in_err-post.result c.from_residual-in_err-post.ensures.1 in
-    let same = same_fault _ _ _ _ p.1 p.2 is in
-    cut_within _ _ _ _ _ _ _ _ (c.in_ok-next_text.ensures.counted u) (c.in_ok-next_text.ensures.reads u)
-    (due_needs_post c.args.scope c.args.mirrors.now.items (last_line c.next_text.new.lines) _ _ (c.in_ok-next_text.ensures.text t) (search rules)) (c.in_err-post.ensures.cut (ap Err same) t u)
-
-pub returns-in_err-tell_due-clause-cut : goal.returns-in_err-tell_due-clause-cut
-returns-in_err-tell_due-clause-cut g c is t u =
-    let p = err_from_is_err_and c.from_residual-in_err-tell_due.result c.from_residual-in_err-tell_due.ensures.1 in
-    let same = same_fault _ _ _ _ p.1 p.2 is in
-    inr (due_needs_due c.args.scope c.args.mirrors.now.items (last_line c.next_text.new.lines) _ _ _ c.in_ok-post.post (c.in_ok-next_text.ensures.text t) (search rules) (c.in_ok-post.ensures.only t) (c.in_err-tell_due.ensures.refused (ap Err same)))
+    post_told c.args.scope (last_line c.next_text.new.lines) c.in_ok-post.post c.args.mirrors.now.items _ _ _ _ _ _ (c.in_ok-next_text.ensures.read.came t) (c.in_ok-post.ensures.posted t) c.in_ok-post.ensures.valid
+    c.in_ok-tell_due.ensures.due c.in_ok-tell_due.ensures.applied (c.in_ok-tell_due.ensures.out.went u)
 
 pub returns-clause-applied : goal.returns-clause-applied
-returns-clause-applied g c is t = only_applied (last_line c.next_text.new.lines) (lines_left c.args.lines.now) (lines_left c.next_text.new.lines) (lines_left c.read_posted.new.lines) c.in_ok-post.post c.args.mirrors.now.items c.tell_due.new.mirrors.items (c.in_ok-next_text.ensures.text t) (c.in_ok-post.ensures.only t) c.in_ok-tell_due.ensures.applied
+returns-clause-applied g c is t = only_applied (last_line c.next_text.new.lines) (lines_left c.args.lines.now) (lines_left c.next_text.new.lines) (lines_left c.read_posted.new.lines) c.in_ok-post.post c.args.mirrors.now.items c.tell_due.new.mirrors.items (c.in_ok-next_text.ensures.read.came t) (c.in_ok-post.ensures.only t) c.in_ok-tell_due.ensures.applied
+
+pub returns-in_err-next_text-clause-fault : goal.returns-in_err-next_text-clause-fault
+returns-in_err-next_text-clause-fault g c =
+    handed_on _ _ _ c.from_residual.ensures.1 (tell_fault_reading (read_still _ c.requires.fresh) (λ t. due_needs_line c.args.scope c.args.mirrors.now.items _) c.in_err-next_text.ensures.fault)
+
+pub returns-in_err-post-clause-fault : goal.returns-in_err-post-clause-fault
+returns-in_err-post-clause-fault g c =
+    handed_on _ _ _ c.from_residual-in_err-post.ensures.1
+    (tell_fault_reading c.in_ok-next_text.ensures.read.on (λ t. due_needs_post c.args.scope c.args.mirrors.now.items (last_line c.next_text.new.lines) _ _ (c.in_ok-next_text.ensures.read.came t) (search rules)) c.in_err-post.ensures.fault)
+
+pub returns-in_err-tell_due-clause-fault : goal.returns-in_err-tell_due-clause-fault
+returns-in_err-tell_due-clause-fault g c =
+    handed_on _ _ _ c.from_residual-in_err-tell_due.ensures.1
+    (tell_checked (c.in_ok-post.ensures.on.limit ∙ c.in_ok-next_text.ensures.read.on.limit)
+    (λ e t. due_needs_due c.args.scope c.args.mirrors.now.items (last_line c.next_text.new.lines) _ _ _ c.in_ok-post.post (c.in_ok-next_text.ensures.read.came t) (search rules) (c.in_ok-post.ensures.only t) (c.in_err-tell_due.ensures.refused (ap Err e)))
+    (λ e. (c.in_err-tell_due.ensures.part (ap Err e)).1.cause))

@@ -1,7 +1,7 @@
-use Rattle.std.proofs.Common.{◌≡◌, ◌≤◌, [], IsTrue, None}
+use Rattle.std.proofs.Common.{IsTrue}
 use Rattle.mt_skel.specs.Keyed.{rises}
-use Rattle.mt_lines.specs.Reading.{failed_calls, last_faults, fault_of, limit_of}
 use Rattle.mt_client.specs.Reading.{lines_left}
+use Rattle.mt_client.specs.Calls.{ReadsOn, WritesOn}
 use Rattle.mt_client.specs.Finding.{mirror_space}
 use Rattle.mt_client.specs.Telling.{HasToldSome}
 use Rattle.mt_client.proofs.AheadLaws.{Came}
@@ -10,13 +10,9 @@ use Rattle.mt_client.proofs.telling.tell_posts.Given as goal
 -- so many posts were told
 abbrev pub invariant-posts : goal.invariant-posts
 invariant-posts g l = record {
-  fresh : fault_of l.lines ≡ None;
-  limit : limit_of l.lines ≡ limit_of l.initial.lines;
+  on : ReadsOn l.initial.lines l.lines;
+  prints : WritesOn g.O.Output l.initial.out l.out;
   rising : IsTrue (rises mirror_space l.mirrors.items);
-  read : IsTrue g.R.Input.counts → failed_calls l.initial.lines ≤ failed_calls l.lines;
-  reads : IsTrue g.R.Input.counts → last_faults l.initial.lines ≡ [] → last_faults l.lines ≡ [];
-  printed : IsTrue g.O.Output.counts → g.O.Output.failed l.initial.out ≤ g.O.Output.failed l.out;
-  prints : IsTrue g.O.Output.counts → g.O.Output.faults l.initial.out ≡ [] → g.O.Output.faults l.out ≡ [];
   goes : IsTrue g.R.Input.tells → Came l.initial.count l._post l.initial.scope l.initial.mirrors.items l.mirrors.items (lines_left l.initial.lines) (lines_left l.lines);
   told : IsTrue g.R.Input.tells → IsTrue g.O.Output.tells → HasToldSome l._post l.initial.scope l.initial.mirrors.items l.mirrors.items (lines_left l.initial.lines) (lines_left l.lines) (g.O.Output.written l.initial.out) (g.O.Output.written l.out);
 }

@@ -1,0 +1,84 @@
+-- What calls leave of the streams: which lines were read, what went out, and what a fault leaves.
+-- A word with no source is this project's rule.
+use Rattle.std.specs.Prelude.{◌≡◌, ◌≢◌, ℕ, ◌≤◌, true, List, [], ◌∷◌, ◌++◌, ◌⊎◌, None, IsTrue}
+use Rattle.mt_lines.specs.Lines.{Item}
+use Rattle.mt_lines.specs.Reading.{failed_calls, last_faults, limit_of, fault_of, last_line}
+use Rattle.mt_lines.specs.declared.line.LineReader.{LineReader}
+use Rattle.mt_lines.specs.declared.stream.Input.{Ghosts}
+use Rattle.mt_lines.specs.declared.stream.Output.{Ghosts as OutputGhosts}
+use Rattle.mt_client.specs.declared.fault.ClientFault.{ClientFault}
+use Rattle.mt_client.specs.declared.fault.ClientFault.TheVariants.{Connection, Output}
+use Rattle.mt_events.specs.Posts.{ended}
+use Rattle.mt_client.specs.Requests.{is_refusal}
+use Rattle.mt_client.specs.Reading.{lines_left, texts, printed, HasBroken, IsBroken, IsCutOff, NoneFirst}
+
+-- a reader reads on: it has met no fault, its limit stays, and where no fault of the stream stood none does
+pub record ReadsOn {R : Type 0} {g : Ghosts R} (old new : LineReader R g) : Type 0 where
+  pub fresh : fault_of new ≡ None
+  pub limit : limit_of new ≡ limit_of old
+  pub counted : IsTrue g.counts → failed_calls old ≤ failed_calls new
+  pub reads : IsTrue g.counts → last_faults old ≡ [] → last_faults new ≡ []
+
+-- an output writes on: where no fault of it stood none does
+pub record WritesOn {W : Type 0} (g : OutputGhosts W) (old new : W) : Type 0 where
+  pub counted : IsTrue g.counts → g.failed old ≤ g.failed new
+  pub serves : IsTrue g.counts → g.faults old ≡ [] → g.faults new ≡ []
+
+-- these lines were read, and the reader reads on
+pub record AreRead {R : Type 0} {g : Ghosts R} (lines : List (List ℕ)) (old new : LineReader R g) : Type 0 where
+  pub on : ReadsOn old new
+  pub came : IsTrue g.tells → lines_left old ≡ texts lines ++ lines_left new
+
+-- this text went out, and the output writes on
+pub record IsOut {W : Type 0} (g : OutputGhosts W) (text : List ℕ) (old new : W) : Type 0 where
+  pub on : WritesOn g old new
+  pub went : IsTrue g.tells → g.written new ≡ g.written old ++ text
+
+-- calls of an output failed, and a part of this text went out, and not all
+pub record IsOutInPart {W : Type 0} (g : OutputGhosts W) (text : List ℕ) (old new : W) : Type 0 where
+  pub cause : IsTrue g.counts → HasBroken (g.failed old) (g.failed new) (g.faults old) (g.faults new)
+  pub cut : IsTrue g.tells → IsCutOff text (g.written old) (g.written new)
+
+-- a fault of calls that read: none of an output, and Connection only where calls failed or no lines of this kind come first
+pub record IsReadFault {R : Type 0} {g : Ghosts R} (fault : ClientFault) (kind : List (List ℕ) → Type 0) (before : List Item) (old new : LineReader R g) : Type 0 where
+  pub limit : limit_of new ≡ limit_of old
+  pub reading : fault ≢ Output
+  pub cut : fault ≡ Connection → IsTrue g.tells → IsTrue g.counts → HasBroken (failed_calls old) (failed_calls new) (last_faults old) (last_faults new) ⊎ NoneFirst kind before
+
+-- a fault of calls that read and print: Connection only where calls that read failed or no lines of this kind come first, and Output only where calls of the output failed
+pub record IsTellFault {R O : Type 0} {g : Ghosts R} (h : OutputGhosts O) (fault : ClientFault) (kind : List (List ℕ) → Type 0) (old new : LineReader R g) (begun done : O) : Type 0 where
+  pub limit : limit_of new ≡ limit_of old
+  pub cut : fault ≡ Connection → IsTrue g.tells → IsTrue g.counts → HasBroken (failed_calls old) (failed_calls new) (last_faults old) (last_faults new) ⊎ NoneFirst kind (lines_left old)
+  pub cause : fault ≡ Output → IsTrue h.counts → HasBroken (h.failed begun) (h.failed done) (h.faults begun) (h.faults done)
+
+-- a fault of calls that print lines as they read them, behind some that were read before: the same, and the lines were printed as far as they were read whole
+pub record IsPassFault {R O : Type 0} {g : Ghosts R} (h : OutputGhosts O) (fault : ClientFault) (kind : List (List ℕ) → Type 0) (seen : List (List ℕ)) (old new : LineReader R g) (begun done : O) : Type 0 where
+  pub limit : limit_of new ≡ limit_of old
+  pub cut : fault ≡ Connection → IsTrue g.tells → IsTrue g.counts → HasBroken (failed_calls old) (failed_calls new) (last_faults old) (last_faults new) ⊎ NoneFirst kind (texts seen ++ lines_left old)
+  pub cause : fault ≡ Output → IsTrue h.counts → HasBroken (h.failed begun) (h.failed done) (h.faults begun) (h.faults done)
+  pub broken : IsTrue g.tells → IsTrue h.tells → IsBroken fault (texts seen ++ lines_left old) (h.written begun) (h.written done)
+
+-- a fault of calls that read, print and ask: as one of calls that read and print, and Connection too where calls of the writer failed
+pub record IsTalkFault {R W O : Type 0} {g : Ghosts R} (w : OutputGhosts W) (h : OutputGhosts O) (fault : ClientFault) (kind : List (List ℕ) → Type 0) (old new : LineReader R g) (asked sent : W) (begun done : O) : Type 0 where
+  pub limit : limit_of new ≡ limit_of old
+  pub cut : fault ≡ Connection → IsTrue g.tells → IsTrue g.counts → IsTrue w.counts
+      → HasBroken (w.failed asked) (w.failed sent) (w.faults asked) (w.faults sent) ⊎ (HasBroken (failed_calls old) (failed_calls new) (last_faults old) (last_faults new) ⊎ NoneFirst kind (lines_left old))
+  pub cause : fault ≡ Output → IsTrue h.counts → HasBroken (h.failed begun) (h.failed done) (h.faults begun) (h.faults done)
+
+-- a fault of calls that print: Output only where calls of the output failed
+pub record IsPrintFault {R O : Type 0} {g : Ghosts R} (h : OutputGhosts O) (fault : ClientFault) (old new : LineReader R g) (begun done : O) : Type 0 where
+  pub limit : limit_of new ≡ limit_of old
+  pub cause : fault ≡ Output → IsTrue h.counts → HasBroken (h.failed begun) (h.failed done) (h.faults begun) (h.faults done)
+
+-- lines were read that are, behind some that were read before, of this kind, and all of them were printed
+pub record PassesOn {R O : Type 0} {g : Ghosts R} (h : OutputGhosts O) (seen : List (List ℕ)) (kind : List (List ℕ) → Type 0) (old new : LineReader R g) (begun done : O) : Type 0 where
+  pub others : List (List ℕ)
+  pub is : kind (seen ++ others)
+  pub read : AreRead others old new
+  pub out : IsOut h (printed (seen ++ others)) begun done
+
+-- a refusal was read, which the reader lends, and printed
+pub record PassesRefusal {R O : Type 0} {g : Ghosts R} (h : OutputGhosts O) (old new : LineReader R g) (begun done : O) : Type 0 where
+  pub is : is_refusal (last_line new) ≡ true
+  pub read : AreRead (last_line new ∷ []) old new
+  pub out : IsOut h (ended (last_line new)) begun done
