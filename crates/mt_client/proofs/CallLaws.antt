@@ -21,13 +21,13 @@ use Rattle.mt_client.proofs.RelayLaws.{texts-append, printed-append, broken_late
 connection≢output : Connection ≢ Output
 connection≢output e = let both : ◌≡◌ {A = ClientFault} Connection Output = e in cc
 
-no_memory≢output : NoMemory ≢ Output
+pub no_memory≢output : NoMemory ≢ Output
 no_memory≢output e = let both : ◌≡◌ {A = ClientFault} NoMemory Output = e in cc
 
-no_memory≢connection : NoMemory ≢ Connection
+pub no_memory≢connection : NoMemory ≢ Connection
 no_memory≢connection e = let both : ◌≡◌ {A = ClientFault} NoMemory Connection = e in cc
 
-output≢connection : Output ≢ Connection
+pub output≢connection : Output ≢ Connection
 output≢connection e = let both : ◌≡◌ {A = ClientFault} Output Connection = e in cc
 
 -- one of two causes

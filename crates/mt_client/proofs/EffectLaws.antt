@@ -75,22 +75,3 @@ pub more_named : (count left more rest : ℕ) (names : List SpaceName) (old mid 
     → ((k : ℕ) × (k + left ≡ count) × HasNamed k names old mid before middle begun between) → HasNamed more names mid new middle after between done → (k : ℕ) × (k + rest ≡ count) × HasNamed k names old new before after begun done
 more_named count left more rest names old mid new before middle after begun between done less h i =
     (h.0 + more, omega (arith, less, h.1), both_named h.0 more names old mid new before middle after begun between done h.2 i)
-
--- how much of the requests went out
-abbrev effects_behind : List ℕ → List ℕ
-effects_behind line = ended line ++ ended (codes "close")
-
-pub effects_first : (line old new : List ℕ) → IsSentPart (ended (watch_text All)) old new → IsSentPart (effects_text line) old new
-effects_first line old new p = part_first (ended (watch_text All)) (effects_behind line) old new p
-
-pub effects_watched : (line old new : List ℕ) → new ≡ old ++ ended (watch_text All) → IsSentPart (effects_text line) old new
-effects_watched line old new e = part_one (ended (watch_text All)) (effects_behind line) old new e
-
-pub effects_second : (line old mid new : List ℕ) → mid ≡ old ++ ended (watch_text All) → IsSentPart (ended line) mid new → IsSentPart (effects_text line) old new
-effects_second line old mid new e p = part_second (ended (watch_text All)) (effects_behind line) old mid new e (part_first (ended line) (ended (codes "close")) mid new p)
-
-pub effects_asked : (line old mid new : List ℕ) → mid ≡ old ++ ended (watch_text All) → new ≡ mid ++ ended line → IsSentPart (effects_text line) old new
-effects_asked line old mid new e f = part_second (ended (watch_text All)) (effects_behind line) old mid new e (part_one (ended line) (ended (codes "close")) mid new f)
-
-pub effects_third : (line old mid late new : List ℕ) → mid ≡ old ++ ended (watch_text All) → late ≡ mid ++ ended line → IsSentPart (ended (codes "close")) late new → IsSentPart (effects_text line) old new
-effects_third line old mid late new e f p = part_second (ended (watch_text All)) (effects_behind line) old mid new e (part_second (ended line) (ended (codes "close")) mid late new f p)

@@ -1,6 +1,7 @@
 pub mod RequestLaws
 pub mod RelayLaws
 pub mod CallLaws
+pub mod AskLaws
 pub mod MirrorLaws
 pub mod OpeningLaws
 pub mod FollowLaws

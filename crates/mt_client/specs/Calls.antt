@@ -10,7 +10,9 @@ use Rattle.mt_client.specs.declared.fault.ClientFault.{ClientFault}
 use Rattle.mt_client.specs.declared.fault.ClientFault.TheVariants.{Connection, Output}
 use Rattle.mt_events.specs.Posts.{ended}
 use Rattle.mt_client.specs.Requests.{is_refusal}
-use Rattle.mt_client.specs.Reading.{lines_left, texts, printed, HasBroken, IsBroken, IsCutOff, NoneFirst}
+use Rattle.mt_client.specs.Reading.{lines_left, texts, printed, HasBroken, IsBroken, IsCutOff, NoneFirst, IsCut}
+use Rattle.mt_client.specs.Awaited.{IsOneRefusal}
+use Rattle.mt_client.specs.Mirroring.{HasRefused}
 
 -- a reader reads on: it has met no fault, its limit stays, and where no fault of the stream stood none does
 pub record ReadsOn {R : Type 0} {g : Ghosts R} (old new : LineReader R g) : Type 0 where
@@ -82,3 +84,18 @@ pub record PassesRefusal {R O : Type 0} {g : Ghosts R} (h : OutputGhosts O) (old
   pub is : is_refusal (last_line new) ≡ true
   pub read : AreRead (last_line new ∷ []) old new
   pub out : IsOut h (ended (last_line new)) begun done
+
+-- a refusal was read, which the reader lends, and printed, and the request went out, or calls of the writer failed
+pub record IsTurnedAway {R W O : Type 0} {g : Ghosts R} (w : OutputGhosts W) (h : OutputGhosts O) (request : List ℕ) (old new : LineReader R g) (asked sent : W) (begun done : O) : Type 0 where
+  pub refused : IsTrue g.tells → HasRefused (last_line new) (lines_left old) (lines_left new)
+  pub out : IsOut h (ended (last_line new)) begun done
+  pub gone : IsOut w request asked sent ⊎ (IsTrue w.counts → HasBroken (w.failed asked) (w.failed sent) (w.faults asked) (w.faults sent))
+
+-- a fault of a request and of what is read behind it: Connection where calls of the writer failed and no refusal comes first, too; but for Output nothing was printed
+pub record IsAskFault {R W O : Type 0} {g : Ghosts R} (w : OutputGhosts W) (h : OutputGhosts O) (fault : ClientFault) (kind : List (List ℕ) → Type 0) (old new : LineReader R g) (asked sent : W) (begun done : O) : Type 0 where
+  pub limit : limit_of new ≡ limit_of old
+  pub cut : fault ≡ Connection → IsTrue g.tells → IsTrue g.counts → IsTrue w.counts
+      → (HasBroken (w.failed asked) (w.failed sent) (w.faults asked) (w.faults sent) × IsCut IsOneRefusal old new) ⊎ IsCut kind old new
+  pub cause : fault ≡ Output → IsTrue h.counts → HasBroken (h.failed begun) (h.failed done) (h.faults begun) (h.faults done)
+  pub kept : fault ≢ Output → IsTrue h.tells → h.written done ≡ h.written begun
+  pub broken : IsTrue g.tells → IsTrue h.tells → IsBroken fault (lines_left old) (h.written begun) (h.written done)

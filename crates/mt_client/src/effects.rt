@@ -1,24 +1,26 @@
 //! What a line changes, told in words.
-ghost use Rattle.std.specs.Prelude.{◌≡◌, ◌+◌, [], ◌++◌, true, false, None, Ok, Err, IfOk, IfErr, OnOk, IsTrue, codes};
+ghost use Rattle.std.specs.Prelude.{◌≡◌, ℕ, ◌+◌, List, [], ◌++◌, true, false, None, Ok, Err, IfOk, IfErr, OnOk, IsTrue, codes};
 ghost use Rattle.mt_skel.specs.Keyed.{rises};
 ghost use Rattle.mt_lines.specs.Reading.{last_faults, fault_of, limit_of};
 ghost use Rattle.mt_events.specs.Posts.{ended};
 ghost use Rattle.mt_events.specs.Mirrors.{is_next};
 ghost use Rattle.mt_told.specs.Told.{named_text};
-ghost use Rattle.mt_client.specs.Reading.{lines_left, HasBroken, IsSentPart};
+ghost use Rattle.mt_lines.specs.Lines.{Item};
+ghost use Rattle.mt_client.specs.Requests.{form_of};
+ghost use Rattle.mt_client.specs.Replies.{IsAnswer};
+ghost use Rattle.mt_client.specs.Reading.{lines_left, HasBroken, IsSentPart, HasPassed};
 ghost use Rattle.mt_client.specs.Calls.{ReadsOn, WritesOn, IsOut, IsPrintFault};
 ghost use Rattle.mt_client.specs.Finding.{mirror_space};
 ghost use Rattle.mt_client.specs.Telling.{mirror_in, mirrors_with};
-ghost use Rattle.mt_client.specs.Effects.{name_in, effects_text, HasNamed, HasNamedAll, HasEffects, IsRefusedOut, IsRefusedEffect};
+ghost use Rattle.mt_client.specs.Effects.{name_in, effects_text, HasNamed, HasNamedAll, HasEffects, IsRefusedOut, IsRefusedLine, IsRefusedEffect};
 
 use crate::answer::{Form, form_of, is_refusal, lines_behind};
 use crate::fault::ClientFault;
 use crate::mirrors::apply_told;
-use crate::parts::read_found;
-use crate::picture::watch_line;
 use crate::posts::{lines_of_event, push_line, push_lines, read_text};
 use crate::relay::{next_text, pass_answer, print, print_line};
 use crate::sending::send_request;
+use crate::watch::watch;
 use mt_events::mirror::Mirror;
 use mt_events::opening::Scope;
 use mt_events::post::Post;
@@ -185,6 +187,40 @@ fn tell_changes<R: Input + Drop, W: Output, O: Output>(
     tell_closed(alloc, lines, names, mirrors, out)
 }
 
+/// Sends a line and prints its answer, closes the watcher, and tells the posts that it had: false where a refusal was
+/// printed.
+fn tell_answered<R: Input + Drop, W: Output, O: Output>(
+    alloc: Global,
+    lines: &mut LineReader<R>,
+    writer: &mut W,
+    line: &[u8],
+    names: &[SpaceName<'_>],
+    mirrors: &mut Vec<Mirror>,
+    out: &mut O,
+) -> Result<bool, ClientFault>
+    requires fresh { fault_of lines.old ≡ None }
+    requires rising { IsTrue (rises mirror_space mirrors.old.items) }
+    ensures told { result ≡ Ok true → IsTrue R.tells → IsTrue O.tells → (answered : List Item) × (between : List ℕ)
+        × HasPassed (λ all. IsAnswer (form_of line.now) all true) (lines_left lines.old) answered (O.written out.old) between
+        × HasNamedAll names.now mirrors.old.items answered (lines_left lines.new) between (O.written out.new) }
+    ensures refused { result ≡ Ok false → IsTrue R.tells → IsTrue O.tells
+        → IsRefusedLine line.now (lines_left lines.old) (lines_left lines.new) (O.written out.old) (O.written out.new) }
+    ensures sent { result ≡ Ok true → IsOut W.Output (ended line.now ++ ended (codes "close")) writer.old writer.new }
+    ensures part { IsTrue W.tells
+        → IsSentPart (ended line.now ++ ended (codes "close")) (W.written writer.old) (W.written writer.new) }
+    ensures on { OnOk result (ReadsOn lines.old lines.new) }
+    ensures prints { OnOk result (WritesOn O.Output out.old out.new) }
+    ensures fault { IfErr result (λ fault. IsPrintFault O.Output fault lines.old lines.new out.old out.new) }
+{
+    if !send_request(lines, writer, line, out)? {
+        return Ok(false);
+    }
+    if !pass_answer(alloc, lines, form_of(line), out)? {
+        return Ok(false);
+    }
+    tell_changes(alloc, lines, writer, names, mirrors, out)
+}
+
 /// Watches all namespaces, sends a line and prints its answer, and then what has changed since, in words: each post that
 /// the watcher had when it was closed, with the names of the namespaces.
 ///
@@ -234,19 +270,8 @@ pub fn tell_effects<R: Input + Drop, W: Output, O: Output>(
     ensures prints { OnOk result (IsTrue O.counts → O.faults out.old ≡ [] → O.faults out.new ≡ []) }
     ensures limit { limit_of lines.new ≡ limit_of lines.old }
 {
-    let watch = watch_line(alloc, Scope::All)?;
-    if !send_request(lines, writer, watch.as_slice(), out)? {
-        return Ok(false);
-    }
-    let Some(mut mirrors) = read_found(alloc, lines, Scope::All)? else {
-        print_line(out, lines.line())?;
+    let Some(mut mirrors) = watch(alloc, lines, writer, Scope::All, out)? else {
         return Ok(false);
     };
-    if !send_request(lines, writer, line, out)? {
-        return Ok(false);
-    }
-    if !pass_answer(alloc, lines, form_of(line), out)? {
-        return Ok(false);
-    }
-    tell_changes(alloc, lines, writer, names, &mut mirrors, out)
+    tell_answered(alloc, lines, writer, line, names, &mut mirrors, out)
 }

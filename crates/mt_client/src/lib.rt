@@ -22,3 +22,4 @@ pub mod relay;
 pub mod request;
 mod sending;
 pub mod telling;
+mod watch;

@@ -11,30 +11,14 @@ ghost use Rattle.mt_client.specs.Awaited.{IsOneRefusal, IsRefusedOr};
 ghost use Rattle.mt_client.specs.Finding.{watch_text, HasWatched, IsFinding};
 
 use crate::fault::ClientFault;
-use crate::parts::read_found;
-use crate::relay::{print, print_line};
-use crate::request::numbered_line;
-use crate::sending::send_request;
+use crate::relay::print;
+use crate::watch::watch;
 use mt_draw::drawing::{Drawing, push_drawing};
 use mt_events::mirror::Mirror;
 use mt_events::opening::Scope;
 use mt_lines::line::LineReader;
 use mt_lines::stream::{Input, Output};
-use std::alloc::{AllocError, Global};
-
-/// The line of the request of a watcher, without its line end. Fails for want of memory alone.
-pub(crate) fn watch_line(alloc: Global, scope: Scope) -> Result<Vec<u8>, AllocError>
-    ensures { IfOk result (λ line. line.items ≡ watch_text scope) }
-{
-    match scope {
-        Scope::One(space) => numbered_line(alloc, b"watch", space),
-        Scope::All => {
-            let mut line = Vec::new(alloc);
-            line.extend_from_slice(b"watch all")?;
-            Ok(line)
-        }
-    }
-}
+use std::alloc::Global;
 
 /// Prints a drawing of tables.
 fn print_drawing<O: Output>(
@@ -115,12 +99,7 @@ pub fn draw<R: Input + Drop, W: Output, O: Output>(
     ensures prints { OnOk result (IsTrue O.counts → O.faults out.old ≡ [] → O.faults out.new ≡ []) }
     ensures limit { limit_of lines.new ≡ limit_of lines.old }
 {
-    let line = watch_line(alloc, scope)?;
-    if !send_request(lines, writer, line.as_slice(), out)? {
-        return Ok(false);
-    }
-    let Some(parts) = read_found(alloc, lines, scope)? else {
-        print_line(out, lines.line())?;
+    let Some(parts) = watch(alloc, lines, writer, scope, out)? else {
         return Ok(false);
     };
     print_drawing(alloc, out, drawing, parts.as_slice())?;

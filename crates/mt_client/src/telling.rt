@@ -18,12 +18,11 @@ use crate::answer::is_refusal;
 use crate::fault::ClientFault;
 use crate::mirror::read_end;
 use crate::mirrors::apply_told;
-use crate::parts::read_found;
-use crate::picture::watch_line;
 use crate::posts::read_posted;
 use crate::relay::{next_text, print, print_line};
 use crate::request::numbered_line;
 use crate::sending::send_request;
+use crate::watch::watch;
 use mt_events::mirror::Mirror;
 use mt_events::opening::Scope;
 use mt_events::post::Post;
@@ -255,12 +254,8 @@ pub fn tell<R: Input + Drop, W: Output, O: Output>(
     ensures prints { OnOk result (IsTrue O.counts → O.faults out.old ≡ [] → O.faults out.new ≡ []) }
     ensures limit { limit_of lines.new ≡ limit_of lines.old }
 {
-    let watch = watch_line(alloc, scope)?;
-    if !send_request(lines, writer, watch.as_slice(), out)? {
+    let Some(mut mirrors) = watch(alloc, lines, writer, scope, out)? else {
         return Ok(());
-    }
-    let Some(mut mirrors) = read_found(alloc, lines, scope)? else {
-        return print_line(out, lines.line());
     };
     tell_portions(alloc, lines, writer, scope, PORTION, &mut mirrors, out)
 }

@@ -1,63 +1,56 @@
-use Rattle.std.proofs.Common.{rules, refl, inl, inr}
-use Rattle.std.proofs.lemmas.Result.{IfErr-at_err}
+use Rattle.std.proofs.Common.{rules, refl, ◌++◌, codes, inl, inr}
+use Rattle.std.proofs.lemmas.Result.{err_from_is_err_and, IfErr-at_err}
+use Rattle.mt_lines.specs.Reading.{last_line}
+use Rattle.mt_events.specs.Posts.{ended}
+use Rattle.mt_events.specs.declared.opening.Scope.TheVariants.{All}
 use Rattle.mt_client.specs.Reading.{lines_left}
-use Rattle.mt_client.proofs.MirrorLaws.{when_some}
-use Rattle.mt_client.proofs.RelayLaws.{broken_later}
-use Rattle.mt_client.proofs.CallLaws.{passes_passed}
-use Rattle.mt_client.proofs.EffectLaws.{effects_first, effects_watched, effects_second, effects_asked, effects_third}
+use Rattle.mt_client.specs.Finding.{watch_text}
+use Rattle.mt_client.proofs.RequestLaws.{part_first, part_second}
+use Rattle.mt_client.proofs.RelayLaws.{same_fault}
+use Rattle.mt_client.proofs.TellingLaws.{when_present}
+use Rattle.mt_client.proofs.CallLaws.{out_both}
 use Rattle.mt_client.proofs.effects.tell_effects.Goals as goal
 
-pub returns-in_err-send_request-clause-part : goal.returns-in_err-send_request-clause-part
-returns-in_err-send_request-clause-part g c u = effects_first c.args.line.now _ _ (rw (c.as_slice.ensures.value, c.in_ok-watch.ensures) at (c.send_request.ensures.part u))
-
-pub returns-then-not-branch-clause-part : goal.returns-then-not-branch-clause-part
-returns-then-not-branch-clause-part g c u = effects_first c.args.line.now _ _ (rw (c.as_slice.ensures.value, c.in_ok-watch.ensures) at (c.send_request.ensures.part u))
-
 pub returns-in_err-mirrors-clause-part : goal.returns-in_err-mirrors-clause-part
-returns-in_err-mirrors-clause-part g c u = effects_watched c.args.line.now _ _ (rw (c.as_slice.ensures.value, c.in_ok-watch.ensures) at ((c.send_request.ensures.sent (search rules)).went u))
+returns-in_err-mirrors-clause-part g c u = part_first (ended (watch_text All)) (ended c.args.line.now ++ ended (codes "close")) _ _ (c.watch.ensures.part u)
 
-pub returns-in_err-print_line-clause-part : goal.returns-in_err-print_line-clause-part
-returns-in_err-print_line-clause-part g c u = effects_watched c.args.line.now _ _ (rw (c.as_slice.ensures.value, c.in_ok-watch.ensures) at ((c.send_request.ensures.sent (search rules)).went u))
+pub returns-in_err-mirrors-clause-output : goal.returns-in_err-mirrors-clause-output
+returns-in_err-mirrors-clause-output g c is u =
+    let p = err_from_is_err_and c.from_residual.result c.from_residual.ensures.1 in
+    c.in_err-mirrors.ensures.fault.cause (same_fault _ _ _ _ p.1 p.2 is) u
 
 pub returns-in_default-clause-part : goal.returns-in_default-clause-part
-returns-in_default-clause-part g c u = effects_watched c.args.line.now _ _ (rw (c.as_slice.ensures.value, c.in_ok-watch.ensures) at ((c.send_request.ensures.sent (search rules)).went u))
+returns-in_default-clause-part g c u = part_first (ended (watch_text All)) (ended c.args.line.now ++ ended (codes "close")) _ _ (c.watch.ensures.part u)
 
-pub returns-in_err-send_request-2-clause-part : goal.returns-in_err-send_request-2-clause-part
-returns-in_err-send_request-2-clause-part g c u =
-    effects_second c.args.line.now _ _ _ (rw (c.as_slice.ensures.value, c.in_ok-watch.ensures) at ((c.send_request.ensures.sent (search rules)).went u)) (c.send_request-2.ensures.part u)
-
-pub returns-then-not-branch-2-clause-part : goal.returns-then-not-branch-2-clause-part
-returns-then-not-branch-2-clause-part g c u =
-    effects_second c.args.line.now _ _ _ (rw (c.as_slice.ensures.value, c.in_ok-watch.ensures) at ((c.send_request.ensures.sent (search rules)).went u)) (c.send_request-2.ensures.part u)
-
-pub returns-in_err-pass_answer-clause-part : goal.returns-in_err-pass_answer-clause-part
-returns-in_err-pass_answer-clause-part g c u =
-    effects_asked c.args.line.now _ _ _ (rw (c.as_slice.ensures.value, c.in_ok-watch.ensures) at ((c.send_request.ensures.sent (search rules)).went u)) ((c.send_request-2.ensures.sent (search rules)).went u)
-
-pub returns-then-not-branch-3-clause-part : goal.returns-then-not-branch-3-clause-part
-returns-then-not-branch-3-clause-part g c u =
-    effects_asked c.args.line.now _ _ _ (rw (c.as_slice.ensures.value, c.in_ok-watch.ensures) at ((c.send_request.ensures.sent (search rules)).went u)) ((c.send_request-2.ensures.sent (search rules)).went u)
+pub returns-in_default-clause-refused : goal.returns-in_default-clause-refused
+returns-in_default-clause-refused g c is t u = let a = c.watch.ensures.refused (search rules) in inl (last_line c.watch.new.lines, a.refused t, a.out.went u)
 
 pub returns-clause-part : goal.returns-clause-part
 returns-clause-part g c u =
-    effects_third c.args.line.now _ _ _ _ (rw (c.as_slice.ensures.value, c.in_ok-watch.ensures) at ((c.send_request.ensures.sent (search rules)).went u)) ((c.send_request-2.ensures.sent (search rules)).went u) (c.tell_changes.ensures.part u)
+    let sent = when_present _ c.in_ok-mirrors.field-0 c.in-Some.mirrors (search rules) c.in_ok-mirrors.ensures.sent in
+    part_second (ended (watch_text All)) (ended c.args.line.now ++ ended (codes "close")) _ _ _ (sent.went u) (c.tell_answered.ensures.part u)
 
-pub returns-then-not-branch-3-clause-refused : goal.returns-then-not-branch-3-clause-refused
-returns-then-not-branch-3-clause-refused g c is t u =
-    let found = when_some _ _ c.in_ok-mirrors.field-0 c.in-Some.mirrors (search rules) (rw (c.send_request.ensures.unread (search rules)) at (c.in_ok-mirrors.ensures.found t)) in
-    let passed =
-    rw (c.if-not-branch-3.true, c.form_of.ensures, c.send_request-2.ensures.unread (search rules), c.send_request-2.ensures.unprinted (search rules), c.send_request.ensures.unprinted (search rules)) at (passes_passed c.in_ok-pass_answer.ensures.passed t u) in
-    inr (c.in-Some.mirrors.items, lines_left c.read_found.new.lines, found, inr (inl passed))
+pub returns-clause-sent : goal.returns-clause-sent
+returns-clause-sent g c is u =
+    let sent = when_present _ c.in_ok-mirrors.field-0 c.in-Some.mirrors (search rules) c.in_ok-mirrors.ensures.sent in
+    let all = out_both sent (c.tell_answered.ensures.sent is) in
+    all.went u
+
+pub returns-clause-told : goal.returns-clause-told
+returns-clause-told g c is t u =
+    let found = when_present _ c.in_ok-mirrors.field-0 c.in-Some.mirrors (search rules) c.in_ok-mirrors.ensures.found in
+    let same = when_present _ c.in_ok-mirrors.field-0 c.in-Some.mirrors (search rules) c.in_ok-mirrors.ensures.unprinted in
+    let told = rw same at (c.tell_answered.ensures.told is t u) in
+    record { found = c.in-Some.mirrors.items; opened = lines_left c.watch.new.lines; answered = told.0; between = told.1; watched = found t; answer = told.2; changes = told.3 }
 
 pub returns-clause-refused : goal.returns-clause-refused
 returns-clause-refused g c is t u =
-    let found = when_some _ _ c.in_ok-mirrors.field-0 c.in-Some.mirrors (search rules) (rw (c.send_request.ensures.unread (search rules)) at (c.in_ok-mirrors.ensures.found t)) in
-    let passed =
-    rw (c.if-not-branch-3.false, c.form_of.ensures, c.send_request-2.ensures.unread (search rules), c.send_request-2.ensures.unprinted (search rules), c.send_request.ensures.unprinted (search rules)) at (passes_passed c.in_ok-pass_answer.ensures.passed t u) in
-    inr (c.in-Some.mirrors.items, lines_left c.read_found.new.lines, found, inr (inr (lines_left c.pass_answer.new.lines, g.O.Output.written c.pass_answer.new.out, passed, c.tell_changes.ensures.refused is t u)))
+    let found = when_present _ c.in_ok-mirrors.field-0 c.in-Some.mirrors (search rules) c.in_ok-mirrors.ensures.found in
+    let same = when_present _ c.in_ok-mirrors.field-0 c.in-Some.mirrors (search rules) c.in_ok-mirrors.ensures.unprinted in
+    inr (c.in-Some.mirrors.items, lines_left c.watch.new.lines, found t, rw same at (c.tell_answered.ensures.refused is t u))
 
 pub returns-clause-output : goal.returns-clause-output
 returns-clause-output g c is u =
-    let out = rw (c.send_request-2.ensures.unprinted (search rules), c.send_request.ensures.unprinted (search rules)) at c.in_ok-pass_answer.ensures.passed.out in
-    let fault = IfErr-at_err _ is c.tell_changes.ensures.fault in
-    broken_later _ _ _ _ _ _ (out.on.counted u) (out.on.serves u) (fault.cause refl u)
+    let same = when_present _ c.in_ok-mirrors.field-0 c.in-Some.mirrors (search rules) c.in_ok-mirrors.ensures.unprinted in
+    let fault = IfErr-at_err _ is c.tell_answered.ensures.fault in
+    rw same at (fault.cause refl u)

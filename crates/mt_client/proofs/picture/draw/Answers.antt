@@ -1,31 +1,37 @@
-use Rattle.std.proofs.Common.{rules, ap, inl, inr, ◌∙◌, ◌++◌}
+use Rattle.std.proofs.Common.{rules, refl, ap, ◌∙◌, ◌++◌, inl}
 use Rattle.std.proofs.lemmas.Result.{err_from_is_err_and}
-use Rattle.mt_draw.specs.Drawings.{drawing_text}
-use Rattle.mt_client.proofs.MirrorLaws.{when_some}
 use Rattle.mt_lines.specs.Reading.{last_line}
+use Rattle.mt_draw.specs.Drawings.{drawing_text}
 use Rattle.mt_client.proofs.RelayLaws.{same_fault}
-use Rattle.mt_client.proofs.CallLaws.{refused_of}
+use Rattle.mt_client.proofs.TellingLaws.{when_present}
 use Rattle.mt_client.proofs.FoundLaws.{watched_whole}
+use Rattle.mt_client.proofs.CallLaws.{handed_on, either}
 use Rattle.mt_client.proofs.picture.draw.Goals as goal
-
-pub returns-clause-drawn : goal.returns-clause-drawn
-returns-clause-drawn g c is t u =
-    let found = rw (c.send_request.ensures.unread (search rules)) at (c.in_ok-parts.ensures.found t) in
-    let printed = rw (c.send_request.ensures.unprinted (search rules)) at (c.in_ok-print_drawing.ensures.out.went u) in (
-      c.in-Some.parts.items,
-      watched_whole c.args.scope c.in-Some.parts.items _ _ (when_some _ _ c.in_ok-parts.field-0 c.in-Some.parts (search rules) found),
-      printed ∙ ap (λ ps. g.O.Output.written c.args.out.now ++ drawing_text c.args.drawing ps) c.as_slice-2.ensures.value,
-    )
 
 pub returns-in_err-parts-clause-connection : goal.returns-in_err-parts-clause-connection
 returns-in_err-parts-clause-connection g c is t u v =
-    let p = err_from_is_err_and c.from_residual-in_err-parts.result c.from_residual-in_err-parts.ensures.1 in
-    inr (rw (c.send_request.ensures.unread (search rules)) at (c.in_err-parts.ensures.fault.cut (same_fault _ _ _ _ p.1 p.2 is) t u))
+    let p = err_from_is_err_and c.from_residual.result c.from_residual.ensures.1 in
+    c.in_err-parts.ensures.fault.cut (same_fault _ _ _ _ p.1 p.2 is) t u v
 
-pub returns-in_err-send_request-clause-connection : goal.returns-in_err-send_request-clause-connection
-returns-in_err-send_request-clause-connection g c is t u v =
-    let p = err_from_is_err_and c.from_residual-in_err-send_request.result c.from_residual-in_err-send_request.ensures.1 in
-    inl (c.send_request.ensures.cause (search rules) v, c.in_err-send_request.ensures.fault.cut (same_fault _ _ _ _ p.1 p.2 is) t u)
+pub returns-in_err-parts-clause-output : goal.returns-in_err-parts-clause-output
+returns-in_err-parts-clause-output g c is u =
+    let p = err_from_is_err_and c.from_residual.result c.from_residual.ensures.1 in
+    c.in_err-parts.ensures.fault.cause (same_fault _ _ _ _ p.1 p.2 is) u
 
-pub returns-then-not-branch-clause-refused : goal.returns-then-not-branch-clause-refused
-returns-then-not-branch-clause-refused g c is t u = let p = c.send_request.ensures.passed (search rules) in (last_line c.send_request.new.lines, refused_of p t, p.out.went u)
+pub returns-in_err-parts-clause-kept : goal.returns-in_err-parts-clause-kept
+returns-in_err-parts-clause-kept g c = handed_on _ _ _ c.from_residual.ensures.1 c.in_err-parts.ensures.fault.kept
+
+pub returns-in_default-clause-refused : goal.returns-in_default-clause-refused
+returns-in_default-clause-refused g c is t u = let a = c.watch.ensures.refused (search rules) in (last_line c.watch.new.lines, a.refused t, a.out.went u)
+
+pub returns-in_default-clause-unsent : goal.returns-in_default-clause-unsent
+returns-in_default-clause-unsent g c is u v = let a = c.watch.ensures.refused (search rules) in either (λ o. o.went u) (λ b. b v) a.gone
+
+pub returns-in_default-clause-writes : goal.returns-in_default-clause-writes
+returns-in_default-clause-writes g c v e = let a = c.watch.ensures.refused (search rules) in either (λ o. o.on.serves v e) (λ b. (refl, b v)) a.gone
+
+pub returns-clause-drawn : goal.returns-clause-drawn
+returns-clause-drawn g c is t u =
+    let found = when_present _ c.in_ok-parts.field-0 c.in-Some.parts (search rules) c.in_ok-parts.ensures.found in
+    let same = when_present _ c.in_ok-parts.field-0 c.in-Some.parts (search rules) c.in_ok-parts.ensures.unprinted in
+    (c.in-Some.parts.items, watched_whole c.args.scope c.in-Some.parts.items _ _ (found t), (rw same at (c.in_ok-print_drawing.ensures.out.went u)) ∙ ap (λ ps. g.O.Output.written c.args.out.now ++ drawing_text c.args.drawing ps) c.as_slice.ensures.value)

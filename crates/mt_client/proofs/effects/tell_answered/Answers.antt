@@ -1,0 +1,70 @@
+use Rattle.std.proofs.Common.{rules, inl, inr}
+use Rattle.std.proofs.lemmas.Result.{IfErr-weaker, on_ok_weaker}
+use Rattle.mt_lines.specs.Reading.{last_line}
+use Rattle.mt_client.specs.Reading.{lines_left}
+use Rattle.mt_client.proofs.RequestLaws.{part_first, part_second, part_one}
+use Rattle.mt_client.proofs.CallLaws.{reads_both, writes_both, out_both, handed_on, passes_passed, refused_of, print_fault_behind}
+use Rattle.mt_client.proofs.AskLaws.{print_fault_passing}
+use Rattle.mt_client.proofs.effects.tell_answered.Goals as goal
+
+pub returns-in_err-send_request-clause-part : goal.returns-in_err-send_request-clause-part
+returns-in_err-send_request-clause-part g c u = part_first _ _ _ _ (c.send_request.ensures.part u)
+
+pub returns-in_err-send_request-clause-fault : goal.returns-in_err-send_request-clause-fault
+returns-in_err-send_request-clause-fault g c = handed_on _ _ _ c.from_residual.ensures.1 (print_fault_passing c.in_err-send_request.ensures.fault)
+
+pub returns-then-not-branch-clause-part : goal.returns-then-not-branch-clause-part
+returns-then-not-branch-clause-part g c u = part_first _ _ _ _ (c.send_request.ensures.part u)
+
+pub returns-then-not-branch-clause-refused : goal.returns-then-not-branch-clause-refused
+returns-then-not-branch-clause-refused g c is t u = let p = c.send_request.ensures.passed (search rules) in inl (last_line c.send_request.new.lines, refused_of p t, p.out.went u)
+
+pub returns-in_err-pass_answer-clause-part : goal.returns-in_err-pass_answer-clause-part
+returns-in_err-pass_answer-clause-part g c u = part_one _ _ _ _ ((c.send_request.ensures.sent (search rules)).went u)
+
+pub returns-in_err-pass_answer-clause-fault : goal.returns-in_err-pass_answer-clause-fault
+returns-in_err-pass_answer-clause-fault g c =
+    handed_on _ _ _ c.from_residual-in_err-pass_answer.ensures.1
+    (print_fault_passing (rw (c.send_request.ensures.unread (search rules), c.send_request.ensures.unprinted (search rules)) at c.in_err-pass_answer.ensures.fault))
+
+pub returns-then-not-branch-2-clause-part : goal.returns-then-not-branch-2-clause-part
+returns-then-not-branch-2-clause-part g c u = part_one _ _ _ _ ((c.send_request.ensures.sent (search rules)).went u)
+
+pub returns-then-not-branch-2-clause-refused : goal.returns-then-not-branch-2-clause-refused
+returns-then-not-branch-2-clause-refused g c is t u =
+    inr (inl (rw (c.if-not-branch-2.true, c.form_of.ensures, c.send_request.ensures.unread (search rules), c.send_request.ensures.unprinted (search rules)) at (passes_passed c.in_ok-pass_answer.ensures.passed t u)))
+
+pub returns-clause-part : goal.returns-clause-part
+returns-clause-part g c u = part_second _ _ _ _ _ ((c.send_request.ensures.sent (search rules)).went u) (c.tell_changes.ensures.part u)
+
+pub returns-clause-sent : goal.returns-clause-sent
+returns-clause-sent g c is = out_both (c.send_request.ensures.sent (search rules)) (c.tell_changes.ensures.sent is)
+
+pub returns-clause-told : goal.returns-clause-told
+returns-clause-told g c is t u = (
+  lines_left c.pass_answer.new.lines,
+  g.O.Output.written c.pass_answer.new.out,
+  rw (c.if-not-branch-2.false, c.form_of.ensures, c.send_request.ensures.unread (search rules), c.send_request.ensures.unprinted (search rules)) at (passes_passed c.in_ok-pass_answer.ensures.passed t u),
+  c.tell_changes.ensures.told is t u,
+)
+
+pub returns-clause-refused : goal.returns-clause-refused
+returns-clause-refused g c is t u =
+    let passed = rw (c.if-not-branch-2.false, c.form_of.ensures, c.send_request.ensures.unread (search rules), c.send_request.ensures.unprinted (search rules)) at (passes_passed c.in_ok-pass_answer.ensures.passed t u) in
+    inr (inr (lines_left c.pass_answer.new.lines, g.O.Output.written c.pass_answer.new.out, passed, c.tell_changes.ensures.refused is t u))
+
+pub returns-clause-on : goal.returns-clause-on
+returns-clause-on g c =
+    let on = rw (c.send_request.ensures.unread (search rules)) at c.in_ok-pass_answer.ensures.passed.read.on in
+    on_ok_weaker c.tell_changes.result (λ q. reads_both on q) c.tell_changes.ensures.on
+
+pub returns-clause-prints : goal.returns-clause-prints
+returns-clause-prints g c =
+    let on = rw (c.send_request.ensures.unprinted (search rules)) at c.in_ok-pass_answer.ensures.passed.out.on in
+    on_ok_weaker c.tell_changes.result (λ q. writes_both on q) c.tell_changes.ensures.prints
+
+pub returns-clause-fault : goal.returns-clause-fault
+returns-clause-fault g c =
+    let on = rw (c.send_request.ensures.unread (search rules)) at c.in_ok-pass_answer.ensures.passed.read.on in
+    let prints = rw (c.send_request.ensures.unprinted (search rules)) at c.in_ok-pass_answer.ensures.passed.out.on in
+    IfErr-weaker c.tell_changes.result _ _ (λ f q. print_fault_behind on prints q) c.tell_changes.ensures.fault
