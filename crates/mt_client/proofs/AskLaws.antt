@@ -1,5 +1,5 @@
 -- What a request leaves of the streams, and what is read behind it.
-use Rattle.std.proofs.Common.{◌≡◌, ◌≢◌, List, [], ◌∷◌, ◌++◌, ℕ, refl, sym, ap, subst, ◌∙◌, IsTrue, ◌⊎◌, inl, inr}
+use Rattle.std.proofs.Common.{◌≡◌, ◌≢◌, List, [], ◌∷◌, ◌++◌, ℕ, refl, sym, ap, subst, ◌∙◌, IsTrue, Bool, true, false, Result, Ok, Err, IfOk, ◌⊎◌, inl, inr}
 use Rattle.mt_lines.specs.Lines.{Text}
 use Rattle.mt_lines.specs.Reading.{limit_of, last_line}
 use Rattle.mt_lines.specs.declared.line.LineReader.{LineReader}
@@ -8,12 +8,12 @@ use Rattle.mt_lines.specs.declared.stream.Output.{Ghosts as OutputGhosts}
 use Rattle.mt_events.specs.Posts.{ended}
 use Rattle.mt_client.specs.declared.fault.ClientFault.{ClientFault}
 use Rattle.mt_client.specs.declared.fault.ClientFault.TheVariants.{Connection, Output, NoMemory}
-use Rattle.mt_client.specs.Reading.{lines_left, HasBroken, IsBroken}
+use Rattle.mt_client.specs.Reading.{lines_left, HasBroken, IsBroken, NoneFirst}
 use Rattle.mt_client.specs.Awaited.{IsOneRefusal}
 use Rattle.mt_client.specs.Mirroring.{HasRefused}
 use Rattle.mt_client.specs.Calls.{ReadsOn, WritesOn, IsOut, IsOutInPart, IsReadFault, IsPassFault, IsPrintFault, IsTurnedAway, IsAskFault, PassesRefusal}
-use Rattle.mt_client.proofs.RelayLaws.{broken_cut, unprinted}
-use Rattle.mt_client.proofs.CallLaws.{writes_still, out_as, refused_of, no_memory≢output, no_memory≢connection, output≢connection}
+use Rattle.mt_client.proofs.RelayLaws.{broken_later, broken_cut, unprinted}
+use Rattle.mt_client.proofs.CallLaws.{either, writes_still, out_as, refused_of, no_memory≢output, no_memory≢connection, output≢connection}
 
 -- an output that nothing was printed to
 pub writes_same : {O : Type 0} (h : OutputGhosts O) (x y : O) → y ≡ x → WritesOn h x y
@@ -71,3 +71,18 @@ ask_fault_printing w h f kind shown a m b k l x y z same still lent on refused p
 
 pub print_fault_passing : {R O : Type 0} {g : Ghosts R} {h : OutputGhosts O} {f : ClientFault} {kind : List (List ℕ) → Type 0} {seen : List (List ℕ)} {a b : LineReader R g} {x y : O} → IsPassFault h f kind seen a b x y → IsPrintFault h f a b x y
 print_fault_passing q = record { limit = q.limit; cause = q.cause }
+
+pub ask_fault_of : {R W O : Type 0} {g : Ghosts R} {w : OutputGhosts W} {h : OutputGhosts O} {f : ClientFault} {inner kind : List (List ℕ) → Type 0} {a b : LineReader R g} {k l : W} {x y : O} → (NoneFirst inner (lines_left a) → NoneFirst kind (lines_left a)) → IsAskFault w h f inner a b k l x y
+    → IsAskFault w h f kind a b k l x y
+ask_fault_of needs q = record { limit = q.limit; cut = λ e t u v. either (λ b. b) (either (λ b. b) needs) (q.cut e t u v); cause = q.cause; kept = q.kept; broken = q.broken }
+
+-- calls that failed behind a request, if they did
+pub broken_behind : {W : Type 0} {w : OutputGhosts W} {text : List ℕ} {k l m : W} → IsOut w text k l → IsTrue w.counts → HasBroken (w.failed l) (w.failed m) (w.faults l) (w.faults m) → HasBroken (w.failed k) (w.failed m) (w.faults k) (w.faults m)
+broken_behind {W} {w} {text} {k} {l} {m} o v b = broken_later (w.failed k) (w.failed l) (w.failed m) (w.faults k) (w.faults l) (w.faults m) (o.on.counted v) (o.on.serves v) b
+
+pub writes_told : {W : Type 0} (w : OutputGhosts W) (text : List ℕ) (more : List ℕ) (k l m : W) (r : Result Bool ClientFault) → IsOut w text k l → (r ≡ Ok true → IsOut w more l m)
+    → (r ≡ Ok false → IsTrue w.counts → (w.faults l ≡ [] → w.faults m ≡ []) ⊎ HasBroken (w.failed l) (w.failed m) (w.faults l) (w.faults m))
+    → IfOk r (λ told. IsTrue w.counts → w.faults k ≡ [] → (w.faults m ≡ []) ⊎ ((told ≡ false) × HasBroken (w.failed k) (w.failed m) (w.faults k) (w.faults m)))
+writes_told w text more k l m (Err f) o sent unsent = tt
+writes_told w text more k l m (Ok true) o sent unsent = λ v e. inl ((sent refl).on.serves v (o.on.serves v e))
+writes_told w text more k l m (Ok false) o sent unsent = λ v e. either (λ s. s (o.on.serves v e)) (λ b. (refl, broken_behind o v b)) (unsent refl v)

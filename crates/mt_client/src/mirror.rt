@@ -1,22 +1,23 @@
 //! The table of a namespace, as its posts tell it to a client.
-ghost use Rattle.std.specs.Prelude.{◌≡◌, ◌≢◌, ◌⊎◌, ℕ, List, [], ◌∷◌, ◌++◌, true, false, None, Ok, Err, IfOk, IfErr, IfSome, OnOk, OnErr, IsTrue, MatchBool, MatchOption};
+ghost use Rattle.std.specs.Prelude.{◌≡◌, ◌≢◌, ◌⊎◌, ℕ, List, [], ◌∷◌, ◌++◌, true, false, None, Ok, Err, IfOk, IfErr, IfSome, OnOk, OnErr, IsTrue, MatchBool, MatchOption, codes};
 ghost use Rattle.mt_lines.specs.Reading.{last_faults, fault_of, last_line, limit_of};
 ghost use Rattle.mt_events.specs.Texts.{table_text};
 ghost use Rattle.mt_events.specs.Mirrors.{MirrorView};
 ghost use Rattle.mt_events.specs.Posts.{ended};
 ghost use Rattle.mt_client.specs.Reading.{lines_left, texts, HasBroken, IsSentPart, NoneFirst, IsCut};
-ghost use Rattle.mt_client.specs.Calls.{ReadsOn, IsOut, IsReadFault};
+ghost use Rattle.mt_client.specs.Calls.{ReadsOn, WritesOn, IsOut, IsReadFault, IsTalkFault, IsTurnedAway, IsAskFault};
+ghost use Rattle.mt_client.specs.Requests.{numbered_text};
 ghost use Rattle.mt_client.specs.Mirroring.{counted_line, HasOpened, HasFollowed, HasFollowedAll, HasRefused, IsLeft, HasMirrored, requests_text, IsRefused};
 ghost use Rattle.mt_client.specs.Awaited.{IsOneRefusal, IsRefusedOr, IsOpening, IsNextPost, TakesPost, IsFollowing, IsEnd, IsMirroring};
 
 use crate::answer::is_refusal;
 use crate::fault::ClientFault;
 use crate::opening::read_count;
-use crate::parts::read_found;
 use crate::posts::apply_post;
 use crate::relay::{next_text, print, print_line};
 use crate::request::numbered_line;
 use crate::sending::send_request;
+use crate::watch::watch;
 use mt_events::mirror::Mirror;
 use mt_events::opening::Scope;
 use mt_events::texts::table_lines;
@@ -31,23 +32,33 @@ fn last_of(mut parts: Vec<Mirror>) -> Option<Mirror>
     parts.pop()
 }
 
-/// What a watcher of one namespace found, or None where a refusal stands in its place, which the reader lends.
-fn read_opening<R: Input + Drop>(
+/// Watches one namespace: what the watcher found, or None where a refusal was printed.
+fn watch_one<R: Input + Drop, W: Output, O: Output>(
     alloc: Global,
     lines: &mut LineReader<R>,
+    writer: &mut W,
     space: u64,
+    out: &mut O,
 ) -> Result<Option<Mirror>, ClientFault>
     requires fresh { fault_of lines.old ≡ None }
-    ensures found { IfOk result (λ found. IsTrue R.tells → MatchOption found
-        (HasRefused (last_line lines.new) (lines_left lines.old) (lines_left lines.new))
-        (λ mirror. HasOpened space (lines_left lines.old) (lines_left lines.new) mirror)) }
-    ensures unrefused { IfOk result (λ found. IsTrue R.tells → IfSome found (λ mirror. NoneFirst IsOneRefusal (lines_left lines.old))) }
+    ensures opened { IfOk result (λ found. IfSome found (λ mirror. IsTrue R.tells
+        → HasOpened space (lines_left lines.old) (lines_left lines.new) mirror)) }
+    ensures unrefused { IfOk result (λ found. IfSome found (λ mirror. IsTrue R.tells → NoneFirst IsOneRefusal (lines_left lines.old))) }
+    ensures sent { IfOk result (λ found. IfSome found (λ mirror. IsOut W.Output (ended (numbered_text (codes "watch") space)) writer.old writer.new)) }
+    ensures unprinted { IfOk result (λ found. IfSome found (λ mirror. out.new ≡ out.old)) }
+    ensures refused { result ≡ Ok None → IsTurnedAway W.Output O.Output (ended (numbered_text (codes "watch") space)) lines.old lines.new writer.old writer.new out.old out.new }
+    ensures part { IsTrue W.tells
+        → IsSentPart (ended (numbered_text (codes "watch") space)) (W.written writer.old) (W.written writer.new) }
     ensures on { OnOk result (ReadsOn lines.old lines.new) }
-    ensures fault { IfErr result (λ fault. IsReadFault fault (IsRefusedOr (IsOpening space)) (lines_left lines.old) lines.old lines.new) }
+    ensures prints { OnOk result (WritesOn O.Output out.old out.new) }
+    ensures fault { IfErr result (λ fault. IsAskFault W.Output O.Output fault (IsRefusedOr (IsOpening space)) lines.old lines.new writer.old writer.new out.old out.new) }
 {
-    match read_found(alloc, lines, Scope::One(space))? {
-        Some(parts) => Ok(last_of(parts)),
-        None => Ok(None),
+    let Some(parts) = watch(alloc, lines, writer, Scope::One(space), out)? else {
+        return Ok(None);
+    };
+    match last_of(parts) {
+        Some(mirror) => Ok(Some(mirror)),
+        None => Err(ClientFault::Connection),
     }
 }
 
@@ -145,6 +156,44 @@ fn print_mirror<O: Output>(alloc: Global, out: &mut O, mirror: &Mirror) -> Resul
     print(out, lines.as_slice())
 }
 
+/// Asks for so many posts, applies them and prints the table that they lead to: false where a refusal was printed.
+fn print_followed<R: Input + Drop, W: Output, O: Output>(
+    alloc: Global,
+    lines: &mut LineReader<R>,
+    writer: &mut W,
+    mirror: &mut Mirror,
+    count: u64,
+    out: &mut O,
+) -> Result<bool, ClientFault>
+    requires fresh { fault_of lines.old ≡ None }
+    ensures followed { result ≡ Ok true → IsTrue R.tells → HasFollowedAll count (lines_left lines.old) (lines_left lines.new) mirror.old mirror.new }
+    ensures printed { result ≡ Ok true → IsOut O.Output (table_text mirror.new.number mirror.new.rows) out.old out.new }
+    ensures left { result ≡ Ok false → IsTrue R.tells → (made : MirrorView)
+        × IsLeft count (last_line lines.new) (lines_left lines.old) (lines_left lines.new) mirror.old made }
+    ensures refused { result ≡ Ok false → IsOut O.Output (ended (last_line lines.new)) out.old out.new }
+    ensures sent { result ≡ Ok true → IsOut W.Output (ended (numbered_text (codes "follow") count)) writer.old writer.new }
+    ensures unsent { result ≡ Ok false → IsTrue W.counts → (W.faults writer.old ≡ [] → W.faults writer.new ≡ [])
+        ⊎ HasBroken (W.failed writer.old) (W.failed writer.new) (W.faults writer.old) (W.faults writer.new) }
+    ensures part { IsTrue W.tells
+        → IsSentPart (ended (numbered_text (codes "follow") count)) (W.written writer.old) (W.written writer.new) }
+    ensures on { OnOk result (ReadsOn lines.old lines.new) }
+    ensures prints { OnOk result (WritesOn O.Output out.old out.new) }
+    ensures fault { IfErr result (λ fault. IsTalkFault W.Output O.Output fault (IsFollowing (counted_line count) count mirror.old) lines.old lines.new writer.old writer.new out.old out.new) }
+    ensures kept { IfErr result (λ fault. fault ≢ ClientFault.Output → IsTrue O.tells
+        → O.written out.new ≡ O.written out.old) }
+{
+    let follow = numbered_line(alloc, b"follow", count)?;
+    if !send_request(lines, writer, follow.as_slice(), out)? {
+        return Ok(false);
+    }
+    if !follow_posts(alloc, lines, mirror, count)? {
+        print_line(out, lines.line())?;
+        return Ok(false);
+    }
+    print_mirror(alloc, out, mirror)?;
+    Ok(true)
+}
+
 /// Watches a namespace, follows so many posts of it, and prints `ok`, the count and the number of the table that they
 /// lead to, and its rows, as the server shows it.
 ///
@@ -207,22 +256,8 @@ pub fn mirror<R: Input + Drop, W: Output, O: Output>(
     ensures prints { OnOk result (IsTrue O.counts → O.faults out.old ≡ [] → O.faults out.new ≡ []) }
     ensures limit { limit_of lines.new ≡ limit_of lines.old }
 {
-    let watch = numbered_line(alloc, b"watch", space)?;
-    if !send_request(lines, writer, watch.as_slice(), out)? {
-        return Ok(false);
-    }
-    let Some(mut mirror) = read_opening(alloc, lines, space)? else {
-        print_line(out, lines.line())?;
+    let Some(mut mirror) = watch_one(alloc, lines, writer, space, out)? else {
         return Ok(false);
     };
-    let follow = numbered_line(alloc, b"follow", count)?;
-    if !send_request(lines, writer, follow.as_slice(), out)? {
-        return Ok(false);
-    }
-    if !follow_posts(alloc, lines, &mut mirror, count)? {
-        print_line(out, lines.line())?;
-        return Ok(false);
-    }
-    print_mirror(alloc, out, &mirror)?;
-    Ok(true)
+    print_followed(alloc, lines, writer, &mut mirror, count, out)
 }

@@ -1,108 +1,88 @@
-use Rattle.std.proofs.Common.{rules, arith, inl, inr}
-use Rattle.std.proofs.lemmas.Result.{err_from_is_err_and}
-use Rattle.mt_client.proofs.RequestLaws.{part_first, part_second, part_one, part_both}
+use Rattle.std.proofs.Common.{rules, Ok, refl, inl, inr}
+use Rattle.std.proofs.lemmas.Result.{err_from_is_err_and, IfErr-at_err}
 use Rattle.mt_lines.specs.Reading.{last_line}
 use Rattle.mt_client.specs.Reading.{lines_left}
-use Rattle.mt_client.proofs.MirrorLaws.{mirrored_whole, when_some, when_true, left_behind, none_followed}
-use Rattle.mt_client.proofs.RelayLaws.{broken_later, cut_within, same_fault}
-use Rattle.mt_client.proofs.CallLaws.{either, refused_of}
+use Rattle.mt_client.proofs.RequestLaws.{part_first, part_second}
+use Rattle.mt_client.proofs.RelayLaws.{cut_within, same_fault}
+use Rattle.mt_client.proofs.MirrorLaws.{mirrored_whole}
 use Rattle.mt_client.proofs.FollowLaws.{mirroring_needs_opening, mirroring_needs_posts}
+use Rattle.mt_client.proofs.TellingLaws.{when_present}
+use Rattle.mt_client.proofs.CallLaws.{either, out_both, handed_on}
+use Rattle.mt_client.proofs.AskLaws.{broken_behind, writes_told}
 use Rattle.mt_client.proofs.mirror.mirror.Goals as goal
 
-pub returns-clause-mirrored : goal.returns-clause-mirrored
-returns-clause-mirrored g c is t u =
-    let found = rw (c.send_request.ensures.unread (search rules)) at (c.in_ok-mirror.ensures.found t) in
-    let followed = rw (c.send_request-2.ensures.unread (search rules)) at (c.in_ok-follow_posts.ensures.followed t) in
-    let printed = rw (c.send_request-2.ensures.unprinted (search rules), c.send_request.ensures.unprinted (search rules)) at (c.in_ok-print_mirror.ensures.out.went u) in (
-      c.follow_posts.new.mirror,
-      mirrored_whole c.args.space c.args.count _ _ _ _ _ (when_some _ _ c.in_ok-mirror.field-0 c.in-Some.mirror (search rules) found) (when_true _ _ _ c.if-not-branch-3.false followed),
-      printed,
-    )
-
-pub returns-in_err-send_request-clause-part : goal.returns-in_err-send_request-clause-part
-returns-in_err-send_request-clause-part g c u = part_first _ _ _ _ (rw (c.as_slice.ensures.value, c.in_ok-watch.ensures) at (c.send_request.ensures.part u))
-
-pub returns-then-not-branch-clause-part : goal.returns-then-not-branch-clause-part
-returns-then-not-branch-clause-part g c u = part_first _ _ _ _ (rw (c.as_slice.ensures.value, c.in_ok-watch.ensures) at (c.send_request.ensures.part u))
-
 pub returns-in_err-mirror-clause-part : goal.returns-in_err-mirror-clause-part
-returns-in_err-mirror-clause-part g c u = part_one _ _ _ _ (rw (c.as_slice.ensures.value, c.in_ok-watch.ensures) at ((c.send_request.ensures.sent (search rules)).went u))
-
-pub returns-in_err-print_line-clause-part : goal.returns-in_err-print_line-clause-part
-returns-in_err-print_line-clause-part g c u = part_one _ _ _ _ (rw (c.as_slice.ensures.value, c.in_ok-watch.ensures) at ((c.send_request.ensures.sent (search rules)).went u))
-
-pub returns-in_default-clause-part : goal.returns-in_default-clause-part
-returns-in_default-clause-part g c u = part_one _ _ _ _ (rw (c.as_slice.ensures.value, c.in_ok-watch.ensures) at ((c.send_request.ensures.sent (search rules)).went u))
-
-pub returns-in_err-follow-clause-part : goal.returns-in_err-follow-clause-part
-returns-in_err-follow-clause-part g c u = part_one _ _ _ _ (rw (c.as_slice.ensures.value, c.in_ok-watch.ensures) at ((c.send_request.ensures.sent (search rules)).went u))
-
-pub returns-in_err-send_request-2-clause-part : goal.returns-in_err-send_request-2-clause-part
-returns-in_err-send_request-2-clause-part g c u =
-    part_second _ _ _ _ _ (rw (c.as_slice.ensures.value, c.in_ok-watch.ensures) at ((c.send_request.ensures.sent (search rules)).went u)) (rw (c.as_slice-2.ensures.value, c.in_ok-follow.ensures) at (c.send_request-2.ensures.part u))
-
-pub returns-then-not-branch-2-clause-part : goal.returns-then-not-branch-2-clause-part
-returns-then-not-branch-2-clause-part g c u =
-    part_second _ _ _ _ _ (rw (c.as_slice.ensures.value, c.in_ok-watch.ensures) at ((c.send_request.ensures.sent (search rules)).went u)) (rw (c.as_slice-2.ensures.value, c.in_ok-follow.ensures) at (c.send_request-2.ensures.part u))
-
-pub returns-in_err-follow_posts-clause-part : goal.returns-in_err-follow_posts-clause-part
-returns-in_err-follow_posts-clause-part g c u =
-    part_both _ _ _ _ _ (rw (c.as_slice.ensures.value, c.in_ok-watch.ensures) at ((c.send_request.ensures.sent (search rules)).went u)) (rw (c.as_slice-2.ensures.value, c.in_ok-follow.ensures) at ((c.send_request-2.ensures.sent (search rules)).went u))
-
-pub returns-in_err-print_line-2-clause-part : goal.returns-in_err-print_line-2-clause-part
-returns-in_err-print_line-2-clause-part g c u =
-    part_both _ _ _ _ _ (rw (c.as_slice.ensures.value, c.in_ok-watch.ensures) at ((c.send_request.ensures.sent (search rules)).went u)) (rw (c.as_slice-2.ensures.value, c.in_ok-follow.ensures) at ((c.send_request-2.ensures.sent (search rules)).went u))
-
-pub returns-then-not-branch-3-clause-part : goal.returns-then-not-branch-3-clause-part
-returns-then-not-branch-3-clause-part g c u =
-    part_both _ _ _ _ _ (rw (c.as_slice.ensures.value, c.in_ok-watch.ensures) at ((c.send_request.ensures.sent (search rules)).went u)) (rw (c.as_slice-2.ensures.value, c.in_ok-follow.ensures) at ((c.send_request-2.ensures.sent (search rules)).went u))
-
-pub returns-in_err-print_mirror-clause-part : goal.returns-in_err-print_mirror-clause-part
-returns-in_err-print_mirror-clause-part g c u =
-    part_both _ _ _ _ _ (rw (c.as_slice.ensures.value, c.in_ok-watch.ensures) at ((c.send_request.ensures.sent (search rules)).went u)) (rw (c.as_slice-2.ensures.value, c.in_ok-follow.ensures) at ((c.send_request-2.ensures.sent (search rules)).went u))
-
-pub returns-clause-part : goal.returns-clause-part
-returns-clause-part g c u =
-    part_both _ _ _ _ _ (rw (c.as_slice.ensures.value, c.in_ok-watch.ensures) at ((c.send_request.ensures.sent (search rules)).went u)) (rw (c.as_slice-2.ensures.value, c.in_ok-follow.ensures) at ((c.send_request-2.ensures.sent (search rules)).went u))
-
-pub returns-then-not-branch-2-clause-refused : goal.returns-then-not-branch-2-clause-refused
-returns-then-not-branch-2-clause-refused g c is t u =
-    let found = rw (c.send_request.ensures.unread (search rules)) at (c.in_ok-mirror.ensures.found t) in
-    let opened = when_some _ _ c.in_ok-mirror.field-0 c.in-Some.mirror (search rules) found in
-    let printed = rw (c.send_request.ensures.unprinted (search rules)) at ((c.send_request-2.ensures.passed (search rules)).out.went u) in
-    let m = c.in-Some.mirror in (
-      last_line c.send_request-2.new.lines,
-      inr (m, m, lines_left c.read_opening.new.lines, opened, left_behind c.args.count 0 _ _ _ _ m m (omega arith) (none_followed _ m) (refused_of (c.send_request-2.ensures.passed (search rules)) t)),
-      printed,
-    )
-
-pub returns-in_err-send_request-clause-connection : goal.returns-in_err-send_request-clause-connection
-returns-in_err-send_request-clause-connection g c is t u v =
-    let p = err_from_is_err_and c.from_residual-in_err-send_request.result c.from_residual-in_err-send_request.ensures.1 in
-    inl (c.send_request.ensures.cause (search rules) v, c.in_err-send_request.ensures.fault.cut (same_fault _ _ _ _ p.1 p.2 is) t u)
+returns-in_err-mirror-clause-part g c u = part_first _ _ _ _ (c.watch_one.ensures.part u)
 
 pub returns-in_err-mirror-clause-connection : goal.returns-in_err-mirror-clause-connection
 returns-in_err-mirror-clause-connection g c is t u v =
-    let p = err_from_is_err_and c.from_residual-in_err-mirror.result c.from_residual-in_err-mirror.ensures.1 in
-    let cut = rw (c.send_request.ensures.unread (search rules)) at (c.in_err-mirror.ensures.fault.cut (same_fault _ _ _ _ p.1 p.2 is) t u) in
-    inr (either (λ b. b) (mirroring_needs_opening c.args.space c.args.count _) cut)
+    let p = err_from_is_err_and c.from_residual.result c.from_residual.ensures.1 in
+    either (λ b. b) (either (λ b. b) (mirroring_needs_opening c.args.space c.args.count _)) (c.in_err-mirror.ensures.fault.cut (same_fault _ _ _ _ p.1 p.2 is) t u v)
 
-pub returns-in_err-send_request-2-clause-connection : goal.returns-in_err-send_request-2-clause-connection
-returns-in_err-send_request-2-clause-connection g c is t u v =
-    let p = err_from_is_err_and c.from_residual-in_err-send_request-2.result c.from_residual-in_err-send_request-2.ensures.1 in
-    let sent = c.send_request.ensures.sent (search rules) in
-    let broken = broken_later _ _ _ _ _ _ (sent.on.counted v) (sent.on.serves v) (c.send_request-2.ensures.cause (search rules) v) in
-    let on = rw (c.send_request.ensures.unread (search rules)) at c.in_ok-mirror.ensures.on in
-    inl (broken, cut_within _ _ _ _ _ _ _ _ (on.counted u) (on.reads u) (λ none. (search rules)) (c.in_err-send_request-2.ensures.fault.cut (same_fault _ _ _ _ p.1 p.2 is) t u))
+pub returns-in_err-mirror-clause-kept : goal.returns-in_err-mirror-clause-kept
+returns-in_err-mirror-clause-kept g c = handed_on _ _ _ c.from_residual.ensures.1 c.in_err-mirror.ensures.fault.kept
 
-pub returns-in_err-follow_posts-clause-connection : goal.returns-in_err-follow_posts-clause-connection
-returns-in_err-follow_posts-clause-connection g c is t u v =
-    let p = err_from_is_err_and c.from_residual-in_err-follow_posts.result c.from_residual-in_err-follow_posts.ensures.1 in
-    let found = rw (c.send_request.ensures.unread (search rules)) at (c.in_ok-mirror.ensures.found t) in
-    let on = rw (c.send_request.ensures.unread (search rules)) at c.in_ok-mirror.ensures.on in
-    let cut = rw (c.send_request-2.ensures.unread (search rules)) at (c.in_err-follow_posts.ensures.fault.cut (same_fault _ _ _ _ p.1 p.2 is) t u) in
-    inr (cut_within _ _ _ _ _ _ _ _ (on.counted u) (on.reads u)
-    (mirroring_needs_posts c.args.space c.args.count c.in-Some.mirror _ _ (when_some _ _ c.in_ok-mirror.field-0 c.in-Some.mirror (search rules) found) (search rules)) cut)
+pub returns-in_err-mirror-clause-output : goal.returns-in_err-mirror-clause-output
+returns-in_err-mirror-clause-output g c is u =
+    let p = err_from_is_err_and c.from_residual.result c.from_residual.ensures.1 in
+    c.in_err-mirror.ensures.fault.cause (same_fault _ _ _ _ p.1 p.2 is) u
 
-pub returns-then-not-branch-clause-refused : goal.returns-then-not-branch-clause-refused
-returns-then-not-branch-clause-refused g c is t u = let p = c.send_request.ensures.passed (search rules) in (last_line c.send_request.new.lines, inl (refused_of p t), p.out.went u)
+pub returns-in_default-clause-part : goal.returns-in_default-clause-part
+returns-in_default-clause-part g c u = part_first _ _ _ _ (c.watch_one.ensures.part u)
+
+pub returns-in_default-clause-refused : goal.returns-in_default-clause-refused
+returns-in_default-clause-refused g c is t u = let a = c.watch_one.ensures.refused (search rules) in (last_line c.watch_one.new.lines, inl (a.refused t), a.out.went u)
+
+pub returns-in_default-clause-writes : goal.returns-in_default-clause-writes
+returns-in_default-clause-writes g c v e = let a = c.watch_one.ensures.refused (search rules) in either (λ o. o.on.serves v e) (λ b. (refl, b v)) a.gone
+
+pub returns-clause-mirrored : goal.returns-clause-mirrored
+returns-clause-mirrored g c is t u =
+    let opened = when_present _ c.in_ok-mirror.field-0 c.in-Some.mirror (search rules) c.in_ok-mirror.ensures.opened in
+    let same = when_present _ c.in_ok-mirror.field-0 c.in-Some.mirror (search rules) c.in_ok-mirror.ensures.unprinted in
+    let printed = rw same at (c.print_followed.ensures.printed is) in
+    (c.print_followed.new.mirror, mirrored_whole c.args.space c.args.count _ _ _ _ _ (opened t) (c.print_followed.ensures.followed is t), printed.went u)
+
+pub returns-clause-refused : goal.returns-clause-refused
+returns-clause-refused g c is t u =
+    let opened = when_present _ c.in_ok-mirror.field-0 c.in-Some.mirror (search rules) c.in_ok-mirror.ensures.opened in
+    let same = when_present _ c.in_ok-mirror.field-0 c.in-Some.mirror (search rules) c.in_ok-mirror.ensures.unprinted in
+    let out = rw same at (c.print_followed.ensures.refused is) in
+    let left = c.print_followed.ensures.left is t in
+    (last_line c.print_followed.new.lines, inr (c.in-Some.mirror, left.0, lines_left c.watch_one.new.lines, opened t, left.1), out.went u)
+
+pub returns-clause-sent : goal.returns-clause-sent
+returns-clause-sent g c is u =
+    let sent = when_present _ c.in_ok-mirror.field-0 c.in-Some.mirror (search rules) c.in_ok-mirror.ensures.sent in
+    let all = out_both sent (c.print_followed.ensures.sent is) in
+    all.went u
+
+pub returns-clause-part : goal.returns-clause-part
+returns-clause-part g c u =
+    let sent = when_present _ c.in_ok-mirror.field-0 c.in-Some.mirror (search rules) c.in_ok-mirror.ensures.sent in
+    part_second _ _ _ _ _ (sent.went u) (c.print_followed.ensures.part u)
+
+pub returns-clause-connection : goal.returns-clause-connection
+returns-clause-connection g c is t u v =
+    let opened = when_present _ c.in_ok-mirror.field-0 c.in-Some.mirror (search rules) c.in_ok-mirror.ensures.opened in
+    let unrefused = when_present _ c.in_ok-mirror.field-0 c.in-Some.mirror (search rules) c.in_ok-mirror.ensures.unrefused in
+    let sent = when_present _ c.in_ok-mirror.field-0 c.in-Some.mirror (search rules) c.in_ok-mirror.ensures.sent in
+    let on = c.in_ok-mirror.ensures.on in
+    let fault = IfErr-at_err _ is c.print_followed.ensures.fault in
+    either (λ broken. (broken_behind sent v broken, inr (unrefused t)))
+    (cut_within _ _ _ _ _ _ _ _ (on.counted u) (on.reads u) (mirroring_needs_posts c.args.space c.args.count c.in-Some.mirror _ _ (opened t) (unrefused t)))
+    (fault.cut refl t u v)
+
+pub returns-clause-kept : goal.returns-clause-kept
+returns-clause-kept g c = rw (when_present _ c.in_ok-mirror.field-0 c.in-Some.mirror (search rules) c.in_ok-mirror.ensures.unprinted) at c.print_followed.ensures.kept
+
+pub returns-clause-output : goal.returns-clause-output
+returns-clause-output g c is u =
+    let same = when_present _ c.in_ok-mirror.field-0 c.in-Some.mirror (search rules) c.in_ok-mirror.ensures.unprinted in
+    let fault = IfErr-at_err _ is c.print_followed.ensures.fault in
+    rw same at (fault.cause refl u)
+
+pub returns-clause-writes : goal.returns-clause-writes
+returns-clause-writes g c =
+    let sent = when_present _ c.in_ok-mirror.field-0 c.in-Some.mirror (search rules) c.in_ok-mirror.ensures.sent in
+    writes_told g.W.Output _ _ c.args.writer.now c.watch_one.new.writer c.print_followed.new.writer c.print_followed.result sent c.print_followed.ensures.sent c.print_followed.ensures.unsent

@@ -1,0 +1,51 @@
+use Rattle.std.proofs.Common.{rules, refl, arith, ap, inl, inr}
+use Rattle.std.proofs.lemmas.Result.{err_from_is_err_and}
+use Rattle.mt_lines.specs.Reading.{last_line}
+use Rattle.mt_events.specs.Posts.{ended}
+use Rattle.mt_client.specs.declared.fault.ClientFault.TheVariants.{Output}
+use Rattle.mt_client.proofs.RelayLaws.{same_fault}
+use Rattle.mt_client.proofs.MirrorLaws.{when_true, left_behind, none_followed}
+use Rattle.mt_client.proofs.TellingLaws.{when_false}
+use Rattle.mt_client.proofs.CallLaws.{handed_on, out_as, refused_of, talk_no_memory, talk_fault_sending, talk_fault_telling, talk_fault_printing, tell_fault_reading, read_still}
+use Rattle.mt_client.proofs.AskLaws.{writes_same}
+use Rattle.mt_client.proofs.mirror.print_followed.Goals as goal
+
+pub returns-in_err-follow-clause-fault : goal.returns-in_err-follow-clause-fault
+returns-in_err-follow-clause-fault g c = handed_on _ _ _ c.from_residual.ensures.1 (talk_no_memory refl)
+
+pub returns-in_err-send_request-clause-fault : goal.returns-in_err-send_request-clause-fault
+returns-in_err-send_request-clause-fault g c = handed_on _ _ _ c.from_residual-in_err-send_request.ensures.1 (talk_fault_sending (c.send_request.ensures.cause (search rules)) c.in_err-send_request.ensures.fault)
+
+pub returns-then-not-branch-clause-left : goal.returns-then-not-branch-clause-left
+returns-then-not-branch-clause-left g c is t =
+    let m = c.args.mirror.now in
+    (m, left_behind c.args.count 0 _ _ _ _ m m (omega arith) (none_followed _ m) (refused_of (c.send_request.ensures.passed (search rules)) t))
+
+pub returns-then-not-branch-clause-unsent : goal.returns-then-not-branch-clause-unsent
+returns-then-not-branch-clause-unsent g c is v = inr (c.send_request.ensures.cause (search rules) v)
+
+pub returns-in_err-follow_posts-clause-fault : goal.returns-in_err-follow_posts-clause-fault
+returns-in_err-follow_posts-clause-fault g c =
+    let fault = rw (c.send_request.ensures.unread (search rules)) at c.in_err-follow_posts.ensures.fault in
+    handed_on _ _ _ c.from_residual-in_err-follow_posts.ensures.1 (talk_fault_telling (tell_fault_reading (read_still _ c.requires.fresh) (λ t none. none) fault))
+
+pub returns-in_err-print_line-clause-fault : goal.returns-in_err-print_line-clause-fault
+returns-in_err-print_line-clause-fault g c =
+    handed_on _ _ _ c.from_residual-in_err-print_line.ensures.1
+    (talk_fault_printing (rw (c.send_request.ensures.unread (search rules)) at c.in_ok-follow_posts.ensures.on) (writes_same g.O.Output c.args.out.now c.send_request.new.out (c.send_request.ensures.unprinted (search rules))) c.in_err-print_line.ensures.part)
+
+pub returns-then-not-branch-2-clause-left : goal.returns-then-not-branch-2-clause-left
+returns-then-not-branch-2-clause-left g c is t =
+    let followed = rw (c.send_request.ensures.unread (search rules)) at (c.in_ok-follow_posts.ensures.followed t) in
+    (c.follow_posts.new.mirror, when_false _ _ _ c.if-not-branch-2.true followed)
+
+pub returns-then-not-branch-2-clause-refused : goal.returns-then-not-branch-2-clause-refused
+returns-then-not-branch-2-clause-refused g c is = out_as (ap ended c.line.ensures) (rw (c.send_request.ensures.unprinted (search rules)) at c.in_ok-print_line.ensures.out)
+
+pub returns-then-not-branch-2-clause-unsent : goal.returns-then-not-branch-2-clause-unsent
+returns-then-not-branch-2-clause-unsent g c is v = inl ((c.send_request.ensures.sent (search rules)).on.serves v)
+
+pub returns-clause-followed : goal.returns-clause-followed
+returns-clause-followed g c is t =
+    let followed = rw (c.send_request.ensures.unread (search rules)) at (c.in_ok-follow_posts.ensures.followed t) in
+    when_true _ _ _ c.if-not-branch-2.false followed
