@@ -1,5 +1,5 @@
 -- What a request leaves of the streams, and what is read behind it.
-use Rattle.std.proofs.Common.{◌≡◌, ◌≢◌, List, [], ◌∷◌, ◌++◌, ℕ, refl, sym, ap, subst, ◌∙◌, IsTrue, Bool, true, false, Result, Ok, Err, IfOk, ◌⊎◌, inl, inr}
+use Rattle.std.proofs.Common.{◌≡◌, ◌≢◌, List, [], ◌∷◌, ℕ, refl, sym, ap, subst, ◌∙◌, IsTrue, Bool, true, false, Result, Ok, Err, IfOk, ◌⊎◌, inl, inr}
 use Rattle.mt_lines.specs.Lines.{Text}
 use Rattle.mt_lines.specs.Reading.{limit_of, last_line}
 use Rattle.mt_lines.specs.declared.line.LineReader.{LineReader}
@@ -7,7 +7,7 @@ use Rattle.mt_lines.specs.declared.stream.Input.{Ghosts}
 use Rattle.mt_lines.specs.declared.stream.Output.{Ghosts as OutputGhosts}
 use Rattle.mt_events.specs.Posts.{ended}
 use Rattle.mt_client.specs.declared.fault.ClientFault.{ClientFault}
-use Rattle.mt_client.specs.declared.fault.ClientFault.TheVariants.{Connection, Output, NoMemory}
+use Rattle.mt_client.specs.declared.fault.ClientFault.TheVariants.{Output, NoMemory}
 use Rattle.mt_client.specs.Reading.{lines_left, HasBroken, IsBroken, NoneFirst}
 use Rattle.mt_client.specs.Awaited.{IsOneRefusal}
 use Rattle.mt_client.specs.Mirroring.{HasRefused}

@@ -1,5 +1,5 @@
 -- Posts that were told with names, one after another.
-use Rattle.std.proofs.Common.{◌≡◌, ℕ, ◌+◌, true, List, [], ◌∷◌, ◌++◌, length, refl, sym, ap, subst, ◌∙◌, arith, append_assoc, length-append, codes}
+use Rattle.std.proofs.Common.{◌≡◌, ℕ, ◌+◌, true, List, [], ◌∷◌, ◌++◌, length, refl, sym, ap, subst, ◌∙◌, arith, append_assoc, length-append}
 use Rattle.std.proofs.lemmas.List.{append-nil}
 use Rattle.std.proofs.lemmas.Grind.{flat_map-append}
 use Rattle.mt_lines.specs.Lines.{Item, Text}
@@ -8,11 +8,9 @@ use Rattle.mt_events.specs.Mirrors.{MirrorView, is_next}
 use Rattle.mt_events.specs.declared.opening.Scope.TheVariants.{All}
 use Rattle.mt_told.specs.Told.{named_text}
 use Rattle.mt_client.specs.declared.effects.SpaceName.{SpaceName}
-use Rattle.mt_client.specs.Reading.{texts, printed, IsSentPart}
-use Rattle.mt_client.specs.Finding.{watch_text}
+use Rattle.mt_client.specs.Reading.{texts, printed}
 use Rattle.mt_client.specs.Telling.{mirror_in, mirrors_with, mirrors_by, is_due, are_due}
-use Rattle.mt_client.specs.Effects.{name_in, posts_named, effects_text, HasNamed}
-use Rattle.mt_client.proofs.RequestLaws.{part_first, part_second, part_one}
+use Rattle.mt_client.specs.Effects.{name_in, posts_named, HasNamed}
 use Rattle.mt_client.proofs.RelayLaws.{printed-append}
 use Rattle.mt_client.proofs.MirrorLaws.{runs_read}
 use Rattle.mt_client.proofs.TellingLaws.{all_both, due_both, by_both}

@@ -88,11 +88,6 @@ broken_printing (Err f) line before after old new e kind cut =
       out = subst (λ x. IsCutOff x old new) (sym (append-nil (ended line))) cut;
     })
 
--- lines that came, and one more
-pub read_more : (ls : List (List ℕ)) (line : List ℕ) (before middle after : List Item) → before ≡ texts ls ++ middle → middle ≡ Text line ∷ after → before ≡ texts (ls ++ line ∷ []) ++ after
-read_more ls line before middle after e f =
-    e ∙ ap (λ x. texts ls ++ x) f ∙ sym (append_assoc (texts ls) (Text line ∷ []) after) ∙ ap (λ x. x ++ after) (sym (texts-append ls (line ∷ [])))
-
 -- fewer lines came than were to come
 pub so_many_cut : (n count : ℕ) (before middle : List Item) → HasRead (AreSoMany n) before middle → n < count → NoneFirst (AreSoMany 1) middle → NoneFirst (AreSoMany count) before
 so_many_cut n count before middle h lt none lines later many e =
@@ -117,12 +112,6 @@ never_output Interrupted is = cc
 never_output Endless is = cc
 never_output NoRoom is = cc
 
-pub fault_counted : (f : ReadFault) (old new : ℕ) → IsFaultCause f old new → old ≤ new
-fault_counted Device old new cause = omega (arith, cause)
-fault_counted Interrupted old new cause = omega (arith, cause)
-fault_counted Endless old new cause = cause
-fault_counted NoRoom old new cause = cause
-
 -- a fault that was handed on is the one that is answered
 pub same_fault : {A : Type 0} (r : Result A ClientFault) (e f k : ClientFault) → r ≡ Err e → e ≡ f → r ≡ Err k → f ≡ k
 same_fault {A} r e f k is same answered = let both : ◌≡◌ {A = Result A ClientFault} (Err e) (Err k) = sym is ∙ answered in let alike : e ≡ k = cc in sym same ∙ alike
@@ -142,14 +131,3 @@ unprinted f before old other = go f other
     go Connection never = whole
     go NoMemory never = whole
     go Output never = absurd (never refl)
-
--- a fault of the output within the lines of a post
-pub broken_text : {n : ℕ} (f : ClientFault) (seen : List ℕ) (middle after : List Item) (text begun old new : List ℕ) → begun ≡ [] ++ ended seen → ((all : List (List ℕ)) × (length all ≡ n) × (middle ≡ texts all ++ after) × (text ≡ begun ++ printed all)) → f ≡ Output → IsCutOff text old new
-    → IsBroken f (Text seen ∷ middle) old new
-broken_text f seen middle after text begun old new began read kind cut =
-    subst (λ x. IsBroken x (Text seen ∷ middle) old new) (sym kind) (record {
-      lines = seen ∷ read.0;
-      later = after;
-      read = ap (λ x. Text seen ∷ x) read.2;
-      out = subst (λ x. IsCutOff x old new) (read.3 ∙ ap (λ x. x ++ printed read.0) began) cut;
-    })

@@ -80,6 +80,3 @@ part_second first second old between new e p = record {
 -- the first of two texts went out, or both
 pub part_one : (first second old new : List ℕ) → new ≡ old ++ first → IsSentPart (first ++ second) old new
 part_one first second old new e = part_first first second old new (sent_whole first old new e)
-
-pub part_both : (first second old between new : List ℕ) → between ≡ old ++ first → new ≡ between ++ second → IsSentPart (first ++ second) old new
-part_both first second old between new e f = part_second first second old between new e (sent_whole second between new f)

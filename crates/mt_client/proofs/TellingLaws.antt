@@ -275,9 +275,6 @@ refusal_cut fault count scope refusal old before after begun between done kind a
     record { made = a.made; middle = a.middle; between = between; so = a.so; stopped = inl (subst (λ f. IsUnsaid f a.middle between done) (sym kind) part) }
 
 -- the requests for posts
-follow_line : ℕ → List ℕ
-follow_line count = numbered_text (codes "follow") count
-
 follows_again : (line : List ℕ) (k : ℕ) → flat_map ended (replicate k line) ++ ended line ≡ ended line ++ flat_map ended (replicate k line)
 follows_again line zero = sym (append-nil (ended line))
 follows_again line (suc k) = append_assoc (ended line) (flat_map ended (replicate k line)) (ended line) ∙ ap (λ x. ended line ++ x) (follows_again line k)
@@ -300,9 +297,6 @@ follows_whole count k old new e = (k, sent_whole (follows_text count k) old new 
 
 pub telling_first : (scope : Scope) (old new : List ℕ) → IsSentPart (ended (watch_text scope)) old new → (times : ℕ) × IsSentPart (telling_text scope times) old new
 telling_first scope old new p = (0, part_first (ended (watch_text scope)) (follows_text portion 0) old new p)
-
-pub telling_sent : (scope : Scope) (old new : List ℕ) → new ≡ old ++ ended (watch_text scope) → (times : ℕ) × IsSentPart (telling_text scope times) old new
-telling_sent scope old new e = telling_first scope old new (sent_whole (ended (watch_text scope)) old new e)
 
 pub telling_second : (scope : Scope) (old mid new : List ℕ) → mid ≡ old ++ ended (watch_text scope) → ((times : ℕ) × IsSentPart (follows_text portion times) mid new) → (times : ℕ) × IsSentPart (telling_text scope times) old new
 telling_second scope old mid new e p = (p.0, part_second (ended (watch_text scope)) (follows_text portion p.0) old mid new e p.1)
@@ -362,14 +356,3 @@ told_behind T U Y (Ok x) scope found before opened after begun done f h = λ t u
 told_behind T U Y (Err k) scope found before opened after begun done f h = tt
 
 -- a refusal in the place of an opening
-pub refused_out : (T U Y : Type 0) (r : Result (Unit {0}) ClientFault) (refusal : List ℕ) (before after : List Item) (old new : List ℕ) → (T → HasRefused refusal before after) → OnOk r (U → new ≡ old ++ ended refusal)
-    → OnOk r (T → U → ((x : List ℕ) × HasRefused x before after × (new ≡ old ++ ended x)) ⊎ Y)
-refused_out T U Y (Ok u) refusal before after old new h e = λ t v. inl (refusal, h t, e v)
-refused_out T U Y (Err f) refusal before after old new h e = tt
-
-pub refused_part : (r : Result (Unit {0}) ClientFault) (scope : Scope) (refusal : List ℕ) (before after : List Item) (old new : List ℕ) → HasRefused refusal before after → IfErr r (λ f. (f ≡ Output) × IsCutOff (ended refusal) old new)
-    → IfErr r (λ fault. IsBrokenOff fault scope before old new)
-refused_part (Ok u) scope refusal before after old new h cut = tt
-refused_part (Err f) scope refusal before after old new h cut =
-    let part : IsUnsaid Output before old new = broken_cut Output refusal before after old new h.read refl cut.1 in
-    inl (subst (λ k. IsUnsaid k before old new) (sym cut.0) part)

@@ -1,4 +1,4 @@
-use Rattle.std.proofs.Common.{rules, Ok, refl, inl, inr}
+use Rattle.std.proofs.Common.{rules, refl, inl, inr}
 use Rattle.std.proofs.lemmas.Result.{err_from_is_err_and, IfErr-at_err}
 use Rattle.mt_lines.specs.Reading.{last_line}
 use Rattle.mt_client.specs.Reading.{lines_left}

@@ -1,9 +1,5 @@
 use Rattle.std.proofs.Common.{rules, refl, arith, ap, inl, inr}
-use Rattle.std.proofs.lemmas.Result.{err_from_is_err_and}
-use Rattle.mt_lines.specs.Reading.{last_line}
 use Rattle.mt_events.specs.Posts.{ended}
-use Rattle.mt_client.specs.declared.fault.ClientFault.TheVariants.{Output}
-use Rattle.mt_client.proofs.RelayLaws.{same_fault}
 use Rattle.mt_client.proofs.MirrorLaws.{when_true, left_behind, none_followed}
 use Rattle.mt_client.proofs.TellingLaws.{when_false}
 use Rattle.mt_client.proofs.CallLaws.{handed_on, out_as, refused_of, talk_no_memory, talk_fault_sending, talk_fault_telling, talk_fault_printing, tell_fault_reading, read_still}

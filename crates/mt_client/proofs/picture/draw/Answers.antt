@@ -1,4 +1,4 @@
-use Rattle.std.proofs.Common.{rules, refl, ap, ◌∙◌, ◌++◌, inl}
+use Rattle.std.proofs.Common.{rules, refl, ap, ◌∙◌, ◌++◌}
 use Rattle.std.proofs.lemmas.Result.{err_from_is_err_and}
 use Rattle.mt_lines.specs.Reading.{last_line}
 use Rattle.mt_draw.specs.Drawings.{drawing_text}

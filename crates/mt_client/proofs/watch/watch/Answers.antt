@@ -1,5 +1,4 @@
 use Rattle.std.proofs.Common.{rules, refl, ap, ◌∙◌}
-use Rattle.mt_lines.specs.Reading.{last_line}
 use Rattle.mt_events.specs.Posts.{ended}
 use Rattle.mt_client.specs.declared.fault.ClientFault.TheVariants.{Output}
 use Rattle.mt_client.specs.Awaited.{IsRefusedOr}
