@@ -1,16 +1,14 @@
 -- What becomes of the watcher of a session in a thread of its own: it goes on, or is closed.
-use Rattle.std.proofs.Common.{subst, ◌≡◌, ℕ, List, [], ◌++◌, refl, ap, sym, ◌∙◌, Option, Some, None, append_assoc}
+use Rattle.std.proofs.Common.{subst, ◌≡◌, ℕ, List, [], ◌++◌, ap, sym, ◌∙◌, Option, Some, None, append_assoc}
 use Rattle.std.proofs.lemmas.List.{append-nil}
 use Rattle.mt_events.specs.Posts.{PostView}
-use Rattle.mt_floor.specs.declared.watch.Meeting.{Meeting}
 use Rattle.mt_desk.specs.Desk.{DeskView, IsDesk}
 use Rattle.mt_desk.specs.Calls.{WatcherView}
 use Rattle.mt_requests.specs.declared.request.Request.{Request}
 use Rattle.mt_requests.specs.declared.request.Request.TheVariants.{Run, Show, Find, Watch, Take, Follow, Close, Quit, Stop}
-use Rattle.mt_session.specs.SharedTurns.{with_posts, GoesOn, KeepsWatcher, IsDoneBy}
+use Rattle.mt_session.specs.SharedTurns.{with_posts, HasTaken, GoesOn, KeepsWatcher, IsDoneBy}
 use Rattle.mt_session.specs.SharedSession.{IsAnsweredAt, HasLeft, WasLeft}
-use Rattle.mt_session.specs.SharedServing.{IsUndoneAt, HasMet, IsKeptOrLeft}
-use Rattle.mt_session.proofs.SharedTakeLaws.{met_moved}
+use Rattle.mt_session.specs.SharedServing.{IsUndoneAt, IsKeptOrLeft}
 
 -- it has taken none
 pub goes_none : (w : WatcherView) → GoesOn w w
@@ -26,31 +24,19 @@ goes_then w mid w' a b = (
       ∙ ap (λ (posts : List PostView). record w { half = record w.half { taken = posts; told = b.1 } }) (append_assoc w.half.taken a.0 b.0),
 )
 
-pub keeps_same : (w : Option WatcherView) → KeepsWatcher w w
-keeps_same None = refl
-keeps_same (Some w) = (w, refl, goes_none w)
+pub taken_goes : (w after : WatcherView) (posts : List PostView) → HasTaken w posts after → GoesOn w after
+taken_goes w after posts h = (posts, h.0, h.2)
 
-pub keeps_then : (w mid w' : Option WatcherView) → KeepsWatcher w mid → KeepsWatcher mid w' → KeepsWatcher w w'
-keeps_then None mid w' a b = subst (λ (x : Option WatcherView). KeepsWatcher x w') a b
-keeps_then (Some w) mid w' a b =
-    let c : KeepsWatcher (Some a.0) w' = subst (λ (x : Option WatcherView). KeepsWatcher x w') a.1 b in
-    (c.0, c.1, goes_then w a.0 c.0 a.2 c.2)
+pub onward : (w after : WatcherView) (w' : Option WatcherView) → w' ≡ Some after → GoesOn w after → IsKeptOrLeft (Some w) w'
+onward w after w' is goes = subst (λ (x : Option WatcherView). IsKeptOrLeft (Some w) x) (sym is) goes
 
 -- posts were taken
 pub taken_keeps : (own own' : Option WatcherView) (w w' : WatcherView) (posts : List PostView) → own ≡ Some w → own' ≡ Some w' → w' ≡ with_posts w posts → KeepsWatcher own own'
 taken_keeps own own' w w' posts is is' taken = subst (λ (x : Option WatcherView). KeepsWatcher x own') (sym is) (w', is', (posts, w.half.told, taken))
 
--- a meeting keeps it
-pub met_keeps : (w : Option WatcherView) (m : Option Meeting) (w' : Option WatcherView) → HasMet w m w' → KeepsWatcher w w'
-met_keeps None m w' h = h.1
-met_keeps (Some w) m w' h = let moved = met_moved h.0 w h.2 h.1 h.3 h.5 in (h.3, h.7, ([], moved.0, moved.2))
-
-pub kept_of : (w w' : Option WatcherView) → KeepsWatcher w w' → IsKeptOrLeft w w'
-kept_of None w' k = tt
-kept_of (Some w) w' k = subst (λ (x : Option WatcherView). IsKeptOrLeft (Some w) x) (sym k.1) k.2
-
 pub kept_same : (w : Option WatcherView) → IsKeptOrLeft w w
-kept_same w = kept_of w w (keeps_same w)
+kept_same None = tt
+kept_same (Some w) = goes_none w
 
 -- a request that is done while the desk is held
 pub still : (w : WatcherView) (w' : Option WatcherView) → w' ≡ Some w → IsKeptOrLeft (Some w) w'

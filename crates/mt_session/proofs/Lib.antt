@@ -4,6 +4,7 @@ pub mod SharedLaws
 pub mod LeavingLaws
 pub mod SharedFollowLaws
 pub mod SharedLineLaws
+pub mod SharedPieceLaws
 pub mod SharedTakeLaws
 pub mod TurnLaws
 pub mod GivingLaws

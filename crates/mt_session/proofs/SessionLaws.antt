@@ -1,5 +1,5 @@
 -- What a session has served, line by line.
-use Rattle.std.proofs.Common.{subst, ◌≡◌, ◌≢◌, ℕ, ◌+◌, ◌<◌, ◌≤◌, List, [], ◌∷◌, ◌++◌, take, refl, ap, sym, ◌∙◌, inl, inr, true, false, not, ◌&&◌, is_some, Result, Ok, Err, Option, Some, None, ◌⊎◌, append_assoc, arith, length}
+use Rattle.std.proofs.Common.{subst, ◌≡◌, ◌≢◌, ℕ, ◌+◌, ◌<◌, ◌≤◌, IsTrue, Bool, List, [], ◌∷◌, ◌++◌, take, refl, ap, sym, ◌∙◌, inl, inr, true, false, not, ◌&&◌, is_some, Result, Ok, Err, Option, Some, None, ◌⊎◌, append_assoc, arith, length}
 use Rattle.std.proofs.lemmas.List.{append-nil}
 use Rattle.std.specs.Option.{ForSome}
 use Rattle.mt_skel.specs.declared.fault.Fault.{Fault}
@@ -146,37 +146,37 @@ served_cut before later line old new sent written text end result lines a cut is
     rw is one
 
 -- a line with its line end
-pub after_text : (before later : List ℕ) (line : Asking) (old new : SessionState) (sent written text : List ℕ) (end : Option End) (result : Option End) → lines_of line_limit before ≡ item_of line ∷ lines_of line_limit later → has_end line ≡ true → Answered old new line text end → ForSome end (λ e. ends_whole e ≡ true) → IsSent sent written text end result → ServedLine before later old new sent written result
-after_text before later line old new sent written text (Some by) result lines ends a h (inl s) =
+pub after_text : (tells : Bool) (before later : List ℕ) (line : Asking) (old new : SessionState) (sent written text : List ℕ) (end : Option End) (result : Option End) → IsTrue tells → lines_of line_limit before ≡ item_of line ∷ lines_of line_limit later → has_end line ≡ true → Answered old new line text end → ForSome end (λ e. ends_whole e ≡ true) → IsSent tells sent written text end result → ServedLine before later old new sent written result
+after_text tells before later line old new sent written text (Some by) result t lines ends a h (inl s) =
     let whole = whole_sent by (answer old (the_turn line a.0)) (h by refl) in
-    let one = served_last before later (the_turn line a.0) old new sent written by lines a.2 (s.1 ∙ ap (λ x. sent ++ x) (a.1 ∙ sym whole)) (cause_of (the_turn line a.0) _ _ by a.3) in
+    let one = served_last before later (the_turn line a.0) old new sent written by lines a.2 (s.1 t ∙ ap (λ x. sent ++ x) (a.1 ∙ sym whole)) (cause_of (the_turn line a.0) _ _ by a.3) in
     rw s.0 one
-after_text before later line old new sent written text None result lines ends a h (inl s) =
+after_text tells before later line old new sent written text None result t lines ends a h (inl s) =
     rw s.0 (
       the_turn line a.0,
       record {
         lines = lines;
         state = a.2;
-        out = s.1 ∙ ap (λ x. sent ++ x) (a.1 ∙ sym (append-nil (answer old (the_turn line a.0))));
+        out = s.1 t ∙ ap (λ x. sent ++ x) (a.1 ∙ sym (append-nil (answer old (the_turn line a.0))));
         goes = (ends, sym a.3, tt);
       },
     )
-after_text before later line old new sent written text end result lines ends a h (inr s) =
-    served_cut before later line old new sent written text end result lines a s.0 s.1 s.2 s.3
+after_text tells before later line old new sent written text end result t lines ends a h (inr s) =
+    served_cut before later line old new sent written text end result lines a s.0 s.1 (s.2 t) s.3
 
 lines_of-nil : (limit : ℕ) → lines_of limit [] ≡ []
 unfolding lines_of
 lines_of-nil limit = refl
 
 -- the last line has no line end
-pub after_unended : (before later : List ℕ) (old : SessionState) (sent written text : List ℕ) (result : Option End) → lines_of line_limit before ≡ Unended ∷ [] → later ≡ [] → Answered old old Broken text None → IsSent sent written text (Some Input) result → ServedLine before later old old sent written result
-after_unended before later old sent written text result lines none a (inl s) =
+pub after_unended : (tells : Bool) (before later : List ℕ) (old : SessionState) (sent written text : List ℕ) (result : Option End) → IsTrue tells → lines_of line_limit before ≡ Unended ∷ [] → later ≡ [] → Answered old old Broken text None → IsSent tells sent written text (Some Input) result → ServedLine before later old old sent written result
+after_unended tells before later old sent written text result t lines none a (inl s) =
     let empty : lines_of line_limit later ≡ [] = rw none (lines_of-nil line_limit) in
-    let one = served_last before later (the_turn Broken a.0) old old sent written Input (rw empty lines) a.2 (s.1 ∙ ap (λ x. sent ++ x) a.1) (empty, inr (the_turn Broken a.0, refl, refl)) in
+    let one = served_last before later (the_turn Broken a.0) old old sent written Input (rw empty lines) a.2 (s.1 t ∙ ap (λ x. sent ++ x) a.1) (empty, inr (the_turn Broken a.0, refl, refl)) in
     rw s.0 one
-after_unended before later old sent written text result lines none a (inr s) =
+after_unended tells before later old sent written text result t lines none a (inr s) =
     let empty : lines_of line_limit later ≡ [] = rw none (lines_of-nil line_limit) in
-    served_cut before later Broken old old sent written text None result (rw empty lines) a s.0 s.1 s.2 s.3
+    served_cut before later Broken old old sent written text None result (rw empty lines) a s.0 s.1 (s.2 t) s.3
 
 -- nothing more was served
 served_none : (before : List ℕ) (later : List Item) (old : SessionState) (sent : List ℕ) (by : End) → lines_of line_limit before ≡ later → sent_by by [] ≡ [] → IsCause by [] [] [] later → ServedOne before old old sent sent by

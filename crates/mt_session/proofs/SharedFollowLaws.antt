@@ -1,5 +1,5 @@
 -- A session in a thread of its own leaves each watcher that it has behind a line, so that what this has taken is in order.
-use Rattle.std.proofs.Common.{subst, ◌≡◌, ℕ, List, [], ◌∷◌, ◌++◌, refl, sym, ◌∙◌, inl, inr, true, Result, Ok, Err, Option, Some, None, append_assoc}
+use Rattle.std.proofs.Common.{subst, ◌≡◌, ℕ, List, [], ◌∷◌, ◌++◌, refl, ◌∙◌, inl, inr, true, Result, Ok, Err, Option, Some, None, append_assoc}
 use Rattle.std.specs.Prelude.{◌⊎◌}
 use Rattle.mt_skel.specs.declared.fault.Fault.{Fault}
 use Rattle.mt_events.specs.Posts.{PostView}
@@ -12,23 +12,17 @@ use Rattle.mt_requests.specs.declared.request.Request.{Request}
 use Rattle.mt_requests.specs.declared.request.Request.TheVariants.{Run, Show, Find, Watch, Take, Follow, Close, Quit, Stop}
 use Rattle.mt_requests.specs.Requests.{may_want_memory}
 use Rattle.mt_session.specs.Session.{request_of_line}
-use Rattle.mt_session.specs.SharedTurns.{HasTaken, GoesOn}
+use Rattle.mt_session.specs.SharedTurns.{GoesOn}
 use Rattle.mt_session.specs.SharedSession.{IsSpent, IsTaken, IsFollowed, IsTold, IsTurn, IsNotDone, SharedTurn, AreTurns, WasLeft}
 use Rattle.mt_session.specs.SharedServing.{IsKeptOrLeft}
 use Rattle.mt_session.specs.SharedHeadline.{FollowsInOrder, SharedSessionsFollow}
 use Rattle.mt_session.proofs.SharedTakeLaws.{met_moved}
-use Rattle.mt_session.proofs.LeavingLaws.{goes_none, goes_then, still, answered_keeps, undone_keeps}
+use Rattle.mt_session.proofs.LeavingLaws.{goes_none, goes_then, taken_goes, onward, still, answered_keeps, undone_keeps}
 
 -- ---- A line keeps the session's watcher, or leaves it
 
-taken_goes : (w after : WatcherView) (posts : List PostView) → HasTaken w posts after → GoesOn w after
-taken_goes w after posts h = (posts, h.0, h.2)
-
 spent_goes : (w after : WatcherView) (phase : Phase) → IsSpent w phase after → GoesOn w after
 spent_goes w after phase s = let moved = met_moved s.desk w s.meeting s.now after s.met in ([], moved.0, moved.2)
-
-onward : (w after : WatcherView) (w' : Option WatcherView) → w' ≡ Some after → GoesOn w after → IsKeptOrLeft (Some w) w'
-onward w after w' is goes = subst (λ (x : Option WatcherView). IsKeptOrLeft (Some w) x) (sym is) goes
 
 take_keeps : (w : WatcherView) (most : ℕ) (text : List ℕ) (w' : Option WatcherView) → IsTaken (Some w) most text w' → IsKeptOrLeft (Some w) w'
 take_keeps w most text w' (inl t) = onward w t.after w' t.watcher (taken_goes w t.after t.posts t.taken)
@@ -54,7 +48,7 @@ not_done_keeps : (w : WatcherView) (asked : Result Request Fault) (w' : Option W
 not_done_keeps w (Ok r) w' n = undone_keeps (Some w) w' r (n.1, n.2, n.3, n.4)
 not_done_keeps w (Err f) w' n = absurd n
 
-turn_keeps : (w : Option WatcherView) (asked : Result Request Fault) (text : List ℕ) (w' : Option WatcherView) → IsTurn w asked text w' → IsKeptOrLeft w w'
+pub turn_keeps : (w : Option WatcherView) (asked : Result Request Fault) (text : List ℕ) (w' : Option WatcherView) → IsTurn w asked text w' → IsKeptOrLeft w w'
 turn_keeps None asked text w' t = tt
 turn_keeps (Some w) asked text w' (inl t) = told_keeps w asked text w' t
 turn_keeps (Some w) asked text w' (inr t) = wants t.1

@@ -1,6 +1,6 @@
 -- One line of a session, as its steps see it. No public clause cites this module.
 -- A word with no source is this project's rule.
-use Rattle.std.specs.Prelude.{◌≡◌, ℕ, ◌+◌, ◌<◌, ◌≤◌, List, [], ◌∷◌, ◌++◌, length, take, Bool, true, false, Option, None, Some, ◌⊎◌}
+use Rattle.std.specs.Prelude.{◌≡◌, ℕ, ◌+◌, ◌<◌, ◌≤◌, List, [], ◌∷◌, ◌++◌, length, take, Bool, true, false, IsTrue, Option, None, Some, ◌⊎◌}
 use Rattle.mt_lines.specs.declared.stream.Cut.{Cut}
 use Rattle.mt_events.specs.declared.opening.Opening.{Opening}
 use Rattle.mt_book.specs.declared.command.Reply.{Reply}
@@ -45,11 +45,11 @@ Answered old new line text end =
 abbrev pub Ran : List ℕ → SessionState → SessionState → List ℕ → List ℕ → End → Type 0
 Ran before old new sent written by = ServedThen (λ state. state) before old new sent written by
 
--- the text went out whole, and the session ends as it would, or it was cut
-abbrev pub IsSent : List ℕ → List ℕ → List ℕ → Option End → Option End → Type 0
-IsSent sent written text wanted result =
-    ((result ≡ wanted) × (written ≡ sent ++ text))
-    ⊎ ((cut : Cut) × (result ≡ Some (CutOff cut)) × (written ≡ sent ++ take cut.sent text) × (cut.sent < length text))
+-- the text went out whole, and the session ends as it would, or it was cut; a writer shows what went out if it tells its bytes
+abbrev pub IsSent : Bool → List ℕ → List ℕ → List ℕ → Option End → Option End → Type 0
+IsSent tells sent written text wanted result =
+    ((result ≡ wanted) × (IsTrue tells → written ≡ sent ++ text))
+    ⊎ ((cut : Cut) × (result ≡ Some (CutOff cut)) × (IsTrue tells → written ≡ sent ++ take cut.sent text) × (cut.sent < length text))
 
 -- a line was served: the session goes on, or has ended with it
 abbrev pub ServedLine : List ℕ → List ℕ → SessionState → SessionState → List ℕ → List ℕ → Option End → Type 0

@@ -1,12 +1,13 @@
 -- One line of a session in a thread of its own, as its steps see it. No public clause cites this module.
 -- A word with no source is this project's rule.
-use Rattle.std.specs.Prelude.{⊤, ◌≡◌, ◌≢◌, ℕ, ◌<◌, ◌≤◌, Bool, true, false, List, [], ◌∷◌, ◌++◌, map, length, Option, Some, None, Result, Ok}
+use Rattle.std.specs.Prelude.{⊤, ◌≡◌, ◌≢◌, ◌⊎◌, ℕ, ◌+◌, ◌<◌, ◌≤◌, Bool, IsTrue, List, [], ◌∷◌, ◌++◌, map, length, unwrap_or, Option, Some, None, Result, Ok, Err}
 use Rattle.std.specs.List.{flat_map}
 use Rattle.mt_skel.specs.declared.fault.Fault.{Fault}
 use Rattle.mt_skel.specs.declared.fault.Fault.TheVariants.{NoWatcher, NoMemory as WantsMemory}
 use Rattle.mt_lines.specs.Lines.{Item, lines_of}
 use Rattle.mt_events.specs.Posts.{PostView, post_text}
-use Rattle.mt_floor.specs.declared.watch.Phase.TheVariants.{Open as IsOpen}
+use Rattle.mt_events.specs.Texts.{lines_of_posts}
+use Rattle.mt_events.specs.declared.texts.PrintedPosts.{PrintedPosts}
 use Rattle.mt_floor.specs.declared.watch.Meeting.{Meeting}
 use Rattle.mt_desk.specs.Desk.{DeskView, IsDesk}
 use Rattle.mt_desk.specs.Calls.{WatcherView, IsMet}
@@ -14,14 +15,14 @@ use Rattle.mt_desk.specs.Headline.{Meet as Meets, IsScheduledBy}
 use Rattle.mt_requests.specs.declared.request.Request.{Request}
 use Rattle.mt_requests.specs.declared.request.Request.TheVariants.{Follow}
 use Rattle.mt_session.specs.declared.serving.End.{End}
-use Rattle.mt_session.specs.declared.serving.End.TheVariants.{Read, Spent}
-use Rattle.mt_session.specs.declared.shared_follow.Portion.{Portion}
-use Rattle.mt_session.specs.declared.shared_follow.Portion.TheVariants.{Posts, Rest, Over as NoMore, Refused}
-use Rattle.mt_session.specs.declared.shared_follow.Round.{Round}
-use Rattle.mt_session.specs.declared.shared_follow.Round.TheVariants.{Told, Over}
+use Rattle.mt_session.specs.declared.serving.End.TheVariants.{Memory}
+use Rattle.mt_session.specs.declared.shared_answer.Portion.{Portion}
+use Rattle.mt_session.specs.declared.shared_answer.Portion.TheVariants.{Posts, Empty}
+use Rattle.mt_session.specs.declared.shared_answer.Then.{Then}
+use Rattle.mt_session.specs.declared.shared_answer.Then.TheVariants.{More, Over}
 use Rattle.mt_session.specs.Session.{item_of, ends_by, line_limit}
 use Rattle.mt_session.specs.SharedTurns.{HasTaken, GoesOn, IsUndoneBy}
-use Rattle.mt_session.specs.SharedSession.{SharedTurn, IsTurn, IsSpent, EndsOfAnswer, EndsByNext, AreTurns, TurnsGoOn, HasLeft}
+use Rattle.mt_session.specs.SharedSession.{SharedTurn, IsSpent, IsTurn, IsLost, EndsOfAnswer, EndsByNext, AreTurns, TurnsGoOn, HasLeft, WasLeft}
 
 -- there was no memory to do a request at some desk
 abbrev pub IsUndoneAt : Option WatcherView → Request → Option WatcherView → Type 0
@@ -40,65 +41,85 @@ IsKeptOrLeft None w' = ⊤
 IsKeptOrLeft (Some w) None = HasLeft (Some w)
 IsKeptOrLeft (Some w) (Some w') = GoesOn w w'
 
--- what a portion of a `follow` is, of at most so many posts
-abbrev pub IsPortion : Option WatcherView → ℕ → Portion → Option WatcherView → Type 0
-IsPortion None most (Refused f) w' = (f ≡ NoWatcher) × (w' ≡ None)
-IsPortion None most p w' = ⊥
-IsPortion (Some w) most (Posts printed) w' =
-    (posts : List PostView) × (after : WatcherView) × HasTaken w posts after × (w' ≡ Some after)
-    × (printed.text.items ≡ flat_map post_text posts) × (printed.posts ≡ length posts) × (length posts ≤ most)
-IsPortion (Some w) most Rest w' = (after : WatcherView) × HasTaken w [] after × (w' ≡ Some after)
-IsPortion (Some w) most (NoMore phase) w' = (after : WatcherView) × IsSpent w phase after × (phase ≢ IsOpen) × (w' ≡ Some after) × (0 < most)
-IsPortion (Some w) most (Refused f) w' = (f ≡ WantsMemory) × (lost : List PostView) × (after : WatcherView) × HasTaken w lost after × (w' ≡ Some after) × (length lost ≤ most)
+-- ---- posts that are taken
+
+-- Posts were taken and printed, at least one and up to so many, fewer only where all are told that the last meeting told of.
+pub record HasPortion (w : WatcherView) (most : ℕ) (printed : PrintedPosts) (w' : Option WatcherView) : Type 0 where
+  pub posts : List PostView
+  pub after : WatcherView
+  pub taken : HasTaken w posts after
+  pub watcher : w' ≡ Some after
+  pub some : posts ≢ []
+  pub most_is : length posts ≤ most
+  pub fewer : length posts < most → w.half.told ≤ length w.half.taken + length posts
+  pub text : printed.text.items ≡ flat_map post_text posts
+  pub lines : printed.lines ≡ lines_of_posts posts
+  pub count : printed.posts ≡ length posts
+
+-- what a session finds that takes up to so many posts: some, none, no watcher, or no memory to print those that it took
+abbrev pub IsPortion : Option WatcherView → ℕ → Result Portion Fault → Option WatcherView → Type 0
+IsPortion None most (Ok p) w' = ⊥
+IsPortion None most (Err f) w' = (f ≡ NoWatcher) × (w' ≡ None)
+IsPortion (Some w) most (Ok (Posts printed)) w' = HasPortion w most printed w'
+IsPortion (Some w) most (Ok (Empty phase)) w' = (after : WatcherView) × IsSpent w phase after × HasTaken w [] after × (w' ≡ Some after)
+IsPortion (Some w) most (Err f) w' = (f ≡ WantsMemory) × (lost : List PostView) × (after : WatcherView) × HasTaken w lost after × (w' ≡ Some after) × (length lost ≤ most)
+
+-- ---- pieces of an answer
 
 -- a `follow` has told so many posts, in this text
-abbrev pub Follows : Option WatcherView → List ℕ → ℕ → Option WatcherView → Type 0
-Follows None out told w' = (out ≡ []) × (told ≡ 0) × (w' ≡ None)
-Follows (Some w) out told w' =
-    (posts : List PostView) × (after : WatcherView) × HasTaken w posts after × (w' ≡ Some after) × (length posts ≡ told) × (out ≡ flat_map post_text posts)
+pub record Follows (w : Option WatcherView) (r : Request) (out : List ℕ) (told : ℕ) (w' : Option WatcherView) : Type 0 where
+  pub most : ℕ
+  pub asked : r ≡ Follow most
+  pub before : WatcherView
+  pub had : w ≡ Some before
+  pub posts : List PostView
+  pub after : WatcherView
+  pub taken : HasTaken before posts after
+  pub has : w' ≡ Some after
+  pub count : length posts ≡ told
+  pub within : told ≤ most
+  pub text : out ≡ flat_map post_text posts
+
+-- what is out of an answer before its next piece: nothing, or so many posts that a `follow` has told
+abbrev pub IsSoFar : Option WatcherView → Request → List ℕ → ℕ → Option WatcherView → Type 0
+IsSoFar w r out told w' = ((out ≡ []) × (told ≡ 0) × (w' ≡ w)) ⊎ Follows w r out told w'
+
+-- a `follow` has told no more posts than it was asked for
+abbrev pub IsWithin : Request → ℕ → Type 0
+IsWithin r told = (most : ℕ) → r ≡ Follow most → told ≤ most
+
+-- a whole answer, and how the session ends with it: by want of memory where posts were lost
+abbrev pub AnswersWhole : Option WatcherView → Result Request Fault → List ℕ → Option End → Option WatcherView → Type 0
+AnswersWhole w asked text end w' = (IsTurn w asked text w' × (end ≡ ends_by asked)) ⊎ (IsLost w asked text × IsKeptOrLeft w w' × (end ≡ Some Memory))
+
+-- a piece is the last one, of this text, and so the session ends with it, if it does
+abbrev pub EndsWith : List ℕ → Option End → Option (List ℕ) → Then → Type 0
+EndsWith text end piece next = (piece ≡ Some text) × (next ≡ Over end)
+
+-- A piece behind this text: a part of the answer to a `follow`, of no text where the session has rested, or the rest of an answer.
+abbrev pub IsPiece : Option WatcherView → Request → List ℕ → Option (List ℕ) → Then → Option WatcherView → Type 0
+IsPiece w r out piece (More told) w' = Follows w r (out ++ unwrap_or piece []) told w'
+IsPiece w r out (Some text) (Over end) w' = AnswersWhole w (Ok r) (out ++ text) end w'
+IsPiece w r out None (Over end) w' = ⊥
+
+-- so many bytes of a piece are out where it was cut: not all, or none where it has no text
+abbrev pub IsCutPiece : ℕ → Option (List ℕ) → Type 0
+IsCutPiece sent None = sent ≡ 0
+IsCutPiece sent (Some text) = sent < length text
+
+-- ---- lines
 
 -- what was asked is answered in this text, or the session ends by it
 abbrev pub IsOutcome : Option End → Option WatcherView → Result Request Fault → List ℕ → Option WatcherView → Type 0
 IsOutcome None w asked out w' = IsTurn w asked out w' × (ends_by asked ≡ None)
 IsOutcome (Some by) w asked out w' = EndsOfAnswer by w asked out
 
--- what was asked is answered behind what was sent, or the session ends by it
-pub record ServesAsked (w : Option WatcherView) (asked : Result Request Fault) (sent written : List ℕ) (result : Option End) (w' : Option WatcherView) : Type 0 where
+-- what was asked is answered behind what was sent, which a writer shows if it tells its bytes, or the session ends by it
+pub record ServesAsked (tells : Bool) (w : Option WatcherView) (asked : Result Request Fault) (sent written : List ℕ) (result : Option End) (w' : Option WatcherView) : Type 0 where
   pub out : List ℕ
-  pub written_is : written ≡ sent ++ out
+  pub written_is : IsTrue tells → written ≡ sent ++ out
   pub outcome : IsOutcome result w asked out w'
-
--- a `follow` of up to so many posts has told so many, or is answered, or the session ends by it
-abbrev pub IsRound : Round → Option WatcherView → ℕ → List ℕ → Option WatcherView → Type 0
-IsRound (Told n) w most out w' = Follows w out n w'
-IsRound (Over end) w most out w' = IsOutcome end w (Ok (Follow most)) out w'
-
--- the same, behind what was sent
-pub record FollowsOn (w : Option WatcherView) (most : ℕ) (sent written : List ℕ) (result : Round) (w' : Option WatcherView) : Type 0 where
-  pub out : List ℕ
-  pub written_is : written ≡ sent ++ out
-  pub round : IsRound result w most out w'
-
--- no more posts were told than were asked for
-abbrev pub IsWithin : ℕ → Round → Type 0
-IsWithin most (Told n) = n ≤ most
-IsWithin most (Over end) = Unit {0}
-
--- how the session ends by a round, if it does
-abbrev pub end_of_round : Round → Option End
-end_of_round (Told n) = None
-end_of_round (Over end) = end
-
--- an end that an answer brings, the last one of all
-abbrev pub ends_by_request : End → Bool
-ends_by_request (Read f) = false
-ends_by_request Spent = false
-ends_by_request by = true
-
--- an end that a line brings, or the want of one
-abbrev pub ends_by_shared_line : End → Bool
-ends_by_shared_line Spent = false
-ends_by_shared_line by = true
+  pub watcher : IsKeptOrLeft w w'
 
 -- the session has served these lines and goes on
 pub record SharedGoing (turns : List SharedTurn) (before later : List ℕ) (old new : Option WatcherView) (sent written : List ℕ) : Type 0 where
@@ -107,15 +128,16 @@ pub record SharedGoing (turns : List SharedTurn) (before later : List ℕ) (old 
   pub goes : TurnsGoOn turns
   pub written_is : written ≡ sent ++ flat_map (λ (t : SharedTurn). t.text) turns
 
--- the session ends with the next line
-pub record SharedEnding (before : List ℕ) (w : Option WatcherView) (sent written : List ℕ) (by : End) : Type 0 where
+-- the session ends with the next line, and has left its watcher once it leaves what it has then
+pub record SharedEnding (before : List ℕ) (w w' : Option WatcherView) (sent written : List ℕ) (by : End) : Type 0 where
   pub items : List Item
   pub lines : lines_of line_limit before ≡ items
   pub out : List ℕ
   pub written_is : written ≡ sent ++ out
   pub ends : EndsByNext by w items out
+  pub left : HasLeft w' → WasLeft w
 
 -- a line was served: the session goes on, or has ended with it
 abbrev pub ServedSharedLine : List ℕ → List ℕ → Option WatcherView → Option WatcherView → List ℕ → List ℕ → Option End → Type 0
 ServedSharedLine before later old new sent written None = (turn : SharedTurn) × SharedGoing (turn ∷ []) before later old new sent written
-ServedSharedLine before later old new sent written (Some by) = SharedEnding before old sent written by
+ServedSharedLine before later old new sent written (Some by) = SharedEnding before old new sent written by

@@ -99,7 +99,7 @@ fn answer_line(alloc: Global, session: &mut Session, floor: &mut Floor, line: &[
 /// Sends an answer: how the session ends by it, if it does.
 pub(crate) fn answer_with<W: Output>(writer: &mut W, text: &Text, end: Option<End>) -> Option<End>
     requires { ForSome end (λ e. ends_whole e ≡ true) }
-    ensures sent { IsTrue W.tells → IsSent (W.written writer.old) (W.written writer.new) text.now end result }
+    ensures sent { IsSent W.tells (W.written writer.old) (W.written writer.new) text.now end result }
     ensures cut { IsTrue W.counts → IsCutCause result (W.failed writer.old) (W.failed writer.new) }
     ensures cut_run { IsTrue W.counts → W.faults writer.old ≡ [] → IsCutRun result (W.faults writer.new) }
     ensures ended { ForSome result (λ e. ends_by_answer e ≡ true) }

@@ -1,36 +1,31 @@
-//! How a session in a thread of its own answers a request.
-ghost use Rattle.std.specs.Prelude.{◌≡◌, ◌≢◌, ◌+◌, ◌++◌, ◌<◌, [], Option, true, IsTrue, IfOk, OnErr, IsOkUnless, Ok, None, Some};
+//! How a session in a thread of its own answers a request. An answer is pieces, one after another, and no stream is known here.
+ghost use Rattle.std.specs.Prelude.{◌≡◌, ◌≢◌, ◌++◌, ◌<◌, ◌⊎◌, [], Option, true, IfOk, OnErr, IsOkUnless, None, Some};
 ghost use Rattle.std.specs.Option.{ForSome};
 ghost use Rattle.mt_skel.specs.declared.fault.Fault.TheVariants.{NoMemory};
-ghost use Rattle.mt_requests.specs.declared.request.Request.TheVariants.{Take};
-ghost use Rattle.mt_requests.specs.Requests.{HasRightCount};
-ghost use Rattle.mt_session.specs.declared.serving.End.TheVariants.{Memory};
+ghost use Rattle.mt_events.specs.Following.{IsRun};
 ghost use Rattle.mt_events.specs.Texts.{count_text};
+ghost use Rattle.mt_desk.specs.Calls.{WatcherView};
+ghost use Rattle.mt_requests.specs.declared.request.Request.TheVariants.{Take};
+ghost use Rattle.mt_session.specs.declared.serving.End.TheVariants.{Memory};
 ghost use Rattle.mt_session.specs.Answers.{refusal};
-ghost use Rattle.mt_session.specs.Serving.{IsSent};
-ghost use Rattle.mt_session.specs.Session.{IsCutCause, IsCutRun};
-ghost use Rattle.mt_session.specs.SharedTurns.{KeepsWatcher, is_under_lock};
-ghost use Rattle.mt_session.specs.SharedSession.{IsAnsweredAt, IsTaken, IsLost, HasLeft};
-ghost use Rattle.mt_session.specs.SharedServing.{IsUndoneAt, HasMet, IsKeptOrLeft, ServesAsked, ends_by_request};
+ghost use Rattle.mt_session.specs.SharedTurns.{is_under_lock};
+ghost use Rattle.mt_session.specs.SharedSession.{IsAnsweredAt, HasLeft};
+ghost use Rattle.mt_session.specs.SharedServing.{IsUndoneAt, HasMet, IsPortion, EndsWith, IsPiece};
 
 use crate::bell::Bell;
 use crate::gate::Gate;
-use crate::serving::{End, answer_with, end_of};
+use crate::serving::{End, end_of};
 use crate::session::phase_text;
-use crate::shared_follow::serve_follow;
 use crate::shared_session::SharedSession;
-use crate::shown::told_refusal;
 use crate::text::Text;
 use mt_desk::desk::Desk;
 use mt_desk::lines::Naming;
 use mt_events::texts::PrintedPosts;
-use mt_floor::watch::Meeting;
-use mt_lines::stream::Output;
+use mt_floor::watch::{Meeting, Phase};
 use mt_requests::request::Request;
 use mt_skel::fault::Fault;
 use std::alloc::Global;
 use std::sync::{Mutex, Wait};
-use std::time::Clock;
 
 /// What a session shares with the others, and what is its own for all its requests.
 #[derive(Drop)]
@@ -45,6 +40,61 @@ pub struct Shared<'a, J: Naming, G: Gate> {
     pub number: u64,
     /// What memory for answers comes from.
     pub alloc: Global,
+}
+
+/// A piece of an answer.
+pub(crate) struct Piece {
+    /// Its lines. None where the session has rested: then it finds out whether its client is still there.
+    pub(crate) text: Option<Text>,
+    /// Whether the lines tell posts.
+    pub(crate) tells: bool,
+    /// What comes behind it.
+    pub(crate) then: Then,
+}
+
+/// What comes behind a piece of an answer.
+#[derive(Clone, Copy)]
+pub(crate) enum Then {
+    /// More pieces. So many posts are told with this one.
+    More(u64),
+    /// Nothing, and so the session ends by the answer, if it does.
+    Over(Option<End>),
+}
+
+// Written out, as for Text.
+impl Drop for Piece {
+    fn drop(self) {
+        let Piece {
+            text: _text,
+            tells: _tells,
+            then: _then,
+        } = self;
+    }
+}
+
+impl Piece {
+    /// The last piece of an answer.
+    pub(crate) fn last(text: Text, end: Option<End>) -> Piece
+        ensures { EndsWith text end result.text result.then }
+    {
+        Piece {
+            text: Some(text),
+            tells: false,
+            then: Then::Over(end),
+        }
+    }
+
+    /// Why a request that takes posts is refused. Where memory was wanting, posts are lost, with which the session ends.
+    pub(crate) fn refusal(fault: Fault) -> Piece
+        ensures lost { fault ≡ Fault.NoMemory → EndsWith (refusal NoMemory) (Some Memory) result.text result.then }
+        ensures others { fault ≢ Fault.NoMemory → EndsWith (refusal fault) None result.text result.then }
+    {
+        if fault == Fault::NoMemory {
+            Piece::last(Text::refusal(Fault::NoMemory), Some(End::Memory))
+        } else {
+            Piece::last(Text::refusal(fault), None)
+        }
+    }
 }
 
 /// Does a request while the desk is held. Refused as `NoMemory` alone.
@@ -68,7 +118,7 @@ fn do_locked<J: Naming, G: Gate, R: Wait>(
 }
 
 /// Meets the desk while it is held.
-pub(crate) fn meet<J: Naming, G: Gate, R: Wait>(
+fn meet<J: Naming, G: Gate, R: Wait>(
     rt: &R,
     shared: &Shared<'_, J, G>,
     session: &mut SharedSession<J>,
@@ -92,53 +142,32 @@ pub fn leave<J: Naming, G: Gate, R: Wait>(
     session.leave(rt, &mut *desk);
 }
 
-/// Says that there was no memory to tell posts that were taken, with which the session ends.
-pub(crate) fn tell_lost<O: Output>(writer: &mut O) -> Option<End>
-    ensures sent { IsTrue O.tells → IsSent (O.written writer.old) (O.written writer.new) (refusal NoMemory) (Some Memory) result }
-    ensures cut { IsTrue O.counts → IsCutCause result (O.failed writer.old) (O.failed writer.new) }
-    ensures cut_run { IsTrue O.counts → O.faults writer.old ≡ [] → IsCutRun result (O.faults writer.new) }
-    ensures ended { ForSome result (λ e. ends_by_request e ≡ true) }
-{
-    match answer_with(writer, &Text::refusal(Fault::NoMemory), None) {
-        Some(end) => Some(end),
-        None => Some(End::Memory),
-    }
-}
-
 /// Whether a request may give other sessions something to take, or end what they follow.
 fn wakes(request: &Request) -> bool {
     matches!(request, Request::Run(_) | Request::Stop)
 }
 
-/// Says that there was no memory to do a request, with which the session ends where posts were lost with it.
-fn tell_undone<O: Output>(writer: &mut O, request: &Request) -> Option<End>
-    ensures close { request.now ≡ Request.Close → IsTrue O.tells → IsSent (O.written writer.old) (O.written writer.new) (refusal NoMemory) (Some Memory) result }
-    ensures others { request.now ≢ Request.Close → IsTrue O.tells → IsSent (O.written writer.old) (O.written writer.new) (refusal NoMemory) None result }
-    ensures cut { IsTrue O.counts → IsCutCause result (O.failed writer.old) (O.failed writer.new) }
-    ensures cut_run { IsTrue O.counts → O.faults writer.old ≡ [] → IsCutRun result (O.faults writer.new) }
-    ensures ended { ForSome result (λ e. ends_by_request e ≡ true) }
+/// What is answered where there was no memory to do a request. A `close` has lost posts by it.
+fn undone(request: &Request) -> Piece
+    ensures close { request.now ≡ Request.Close → EndsWith (refusal NoMemory) (Some Memory) result.text result.then }
+    ensures others { request.now ≢ Request.Close → EndsWith (refusal NoMemory) None result.text result.then }
 {
     if matches!(request, Request::Close) {
-        tell_lost(writer)
+        Piece::refusal(Fault::NoMemory)
     } else {
-        answer_with(writer, &Text::refusal(Fault::NoMemory), None)
+        Piece::last(Text::refusal(Fault::NoMemory), None)
     }
 }
 
-/// Serves a request that is done while the desk is held: how the session ends by it, if it does.
-fn serve_locked<J: Naming, O: Output, G: Gate, R: Wait>(
+/// Does a request while the desk is held: its answer, a single piece.
+pub(crate) fn answer_locked<J: Naming, G: Gate, R: Wait>(
     rt: &R,
     shared: &Shared<'_, J, G>,
     session: &mut SharedSession<J>,
-    writer: &mut O,
     request: &Request,
-) -> Option<End>
+) -> Piece
     requires { is_under_lock request.now ≡ true }
-    ensures served { IsTrue O.tells → ServesAsked session.old (Ok request.now) (O.written writer.old) (O.written writer.new) result session.new }
-    ensures watcher { IsKeptOrLeft session.old session.new }
-    ensures cut { IsTrue O.counts → IsCutCause result (O.failed writer.old) (O.failed writer.new) }
-    ensures cut_run { IsTrue O.counts → O.faults writer.old ≡ [] → IsCutRun result (O.faults writer.new) }
-    ensures ended { ForSome result (λ e. ends_by_request e ≡ true) }
+    ensures { IsPiece session.old request.now [] result.text result.then session.new }
 {
     let answer = do_locked(rt, shared, session, request);
     if wakes(request) {
@@ -149,126 +178,87 @@ fn serve_locked<J: Naming, O: Output, G: Gate, R: Wait>(
     }
     shared.gate.before_answer(rt, shared.number);
     match answer {
-        Ok(text) => answer_with(writer, &text, end_of(request)),
-        Err(_) => tell_undone(writer, request),
+        Ok(text) => Piece::last(text, end_of(request)),
+        Err(_) => undone(request),
     }
 }
 
-/// What a `take` is answered, and whether it took posts.
+/// What a session finds that takes posts.
 #[derive(Drop)]
-struct TakeAnswer {
-    text: Text,
-    took: bool,
+pub(crate) enum Portion {
+    /// Posts, at least one.
+    Posts(PrintedPosts),
+    /// None wait, and the watcher is so far.
+    Empty(Phase),
 }
 
-/// The answer of a `take` that took no posts.
-fn took_none(text: Text) -> TakeAnswer
-    ensures { result.text ≡ text }
-{
-    TakeAnswer { text, took: false }
-}
-
-/// The answer of a `take` that took these posts. Refused as `NoMemory` alone.
-fn took_posts(alloc: Global, printed: &PrintedPosts) -> Result<TakeAnswer, Fault>
-    ensures told { IfOk result (λ answer. answer.text ≡ count_text printed.now.lines ++ printed.now.text.items) }
-    ensures memory { IsOkUnless result Fault.NoMemory }
-{
-    let text = Text::counted(alloc, printed.lines, &printed.text)?;
-    Ok(TakeAnswer { text, took: true })
-}
-
-/// The answer of a `take` that took none at first: the session meets the desk, and takes again if some have come.
-/// Refused as `NoMemory` alone, where the posts that were taken are lost.
+/// Takes up to so many posts, of which none waited at first: the session meets the desk, and takes again if some have
+/// come. Refused as `NoWatcher` where it has none, and as `NoMemory`, where the posts that were taken are lost.
 fn take_met<J: Naming, G: Gate, R: Wait>(
     rt: &R,
     shared: &Shared<'_, J, G>,
     session: &mut SharedSession<J>,
     most: u64,
-) -> Result<TakeAnswer, Fault>
-    requires { 0 < most }
-    ensures taken { IfOk result (λ answer. IsTaken session.old most answer.text session.new) }
-    ensures lost { OnErr result (IsLost session.old (Ok (Take most)) (refusal NoMemory)) }
-    ensures watcher { KeepsWatcher session.old session.new }
+) -> Result<Portion, Fault>
+    requires some { 0 < most }
+    requires running { ForSome session.old (λ (w : WatcherView). IsRun w.half.opening w.half.taken) }
+    ensures { IsPortion session.old most result session.new }
 {
     let Some(meeting) = meet(rt, shared, session) else {
-        return Ok(took_none(Text::refusal(Fault::NoWatcher)));
+        return Err(Fault::NoWatcher);
     };
     if meeting.posted > meeting.taken {
-        let printed = session.pops(rt, most)?;
-        return took_posts(shared.alloc, &printed);
+        let posts = session.pops(rt, most)?;
+        return Ok(Portion::Posts(posts));
     }
-    Ok(took_none(phase_text(0, meeting.state)))
+    Ok(Portion::Empty(meeting.state))
 }
 
-/// Takes up to so many posts. Refused as `NoMemory` alone, where the posts that were taken are lost.
-fn take<J: Naming, G: Gate, R: Wait>(
+/// Takes up to so many posts. Refused as `NoWatcher` where the session has none, and as `NoMemory`, where the posts that
+/// were taken are lost.
+pub(crate) fn take_posts<J: Naming, G: Gate, R: Wait>(
     rt: &R,
     shared: &Shared<'_, J, G>,
     session: &mut SharedSession<J>,
     most: u64,
-) -> Result<TakeAnswer, Fault>
+) -> Result<Portion, Fault>
     requires { 0 < most }
-    ensures taken { IfOk result (λ answer. IsTaken session.old most answer.text session.new) }
-    ensures lost { OnErr result (IsLost session.old (Ok (Take most)) (refusal NoMemory)) }
-    ensures watcher { KeepsWatcher session.old session.new }
+    ensures { IsPortion session.old most result session.new }
 {
-    let printed = match session.pops(rt, most) {
-        Ok(printed) => printed,
-        Err(fault) => return Ok(took_none(told_refusal(fault)?)),
-    };
+    let printed = session.pops(rt, most)?;
     if printed.posts == 0 {
         return take_met(rt, shared, session, most);
     }
-    took_posts(shared.alloc, &printed)
+    Ok(Portion::Posts(printed))
 }
 
-/// Serves a `take`: how the session ends by it, if it does.
-fn serve_take<J: Naming, O: Output, G: Gate, R: Wait>(
+/// The answer to a `take` that took these posts.
+fn took_posts(alloc: Global, printed: &PrintedPosts) -> Piece
+    ensures { EndsWith (count_text printed.now.lines ++ printed.now.text.items) None result.text result.then ⊎ EndsWith (refusal NoMemory) (Some Memory) result.text result.then }
+{
+    match Text::counted(alloc, printed.lines, &printed.text) {
+        Ok(text) => Piece {
+            text: Some(text),
+            tells: true,
+            then: Then::Over(None),
+        },
+        Err(_) => Piece::refusal(Fault::NoMemory),
+    }
+}
+
+/// Takes up to so many posts: the answer to a `take`, a single piece.
+pub(crate) fn answer_take<J: Naming, G: Gate, R: Wait>(
     rt: &R,
     shared: &Shared<'_, J, G>,
     session: &mut SharedSession<J>,
-    writer: &mut O,
     most: u64,
-) -> Option<End>
+) -> Piece
     requires { 0 < most }
-    ensures served { IsTrue O.tells → ServesAsked session.old (Ok (Take most)) (O.written writer.old) (O.written writer.new) result session.new }
-    ensures watcher { KeepsWatcher session.old session.new }
-    ensures cut { IsTrue O.counts → IsCutCause result (O.failed writer.old) (O.failed writer.new) }
-    ensures cut_run { IsTrue O.counts → O.faults writer.old ≡ [] → IsCutRun result (O.faults writer.new) }
-    ensures ended { ForSome result (λ e. ends_by_request e ≡ true) }
+    ensures { IsPiece session.old (Take most) [] result.text result.then session.new }
 {
-    let answer = take(rt, shared, session, most);
-    shared.gate.before_answer(rt, shared.number);
-    let Ok(answer) = answer else {
-        return tell_lost(writer);
-    };
-    let end = answer_with(writer, &answer.text, None);
-    if end.is_none() && answer.took {
-        shared.gate.taken(rt, shared.number);
+    match take_posts(rt, shared, session, most) {
+        Ok(Portion::Posts(printed)) => took_posts(shared.alloc, &printed),
+        Ok(Portion::Empty(phase)) => Piece::last(phase_text(0, phase), None),
+        Err(fault) => Piece::refusal(fault),
     }
-    end
-}
-
-/// Serves a request: how the session ends by it, if it does.
-pub fn serve_request<J: Naming, O: Output, G: Gate, R: Wait + Clock>(
-    rt: &R,
-    shared: &Shared<'_, J, G>,
-    session: &mut SharedSession<J>,
-    writer: &mut O,
-    request: &Request,
-) -> Option<End>
-    requires { HasRightCount request.now }
-    ensures served { IsTrue O.tells → ServesAsked session.old (Ok request.now) (O.written writer.old) (O.written writer.new) result session.new }
-    ensures watcher { IsKeptOrLeft session.old session.new }
-    ensures cut { IsTrue O.counts → IsCutCause result (O.failed writer.old) (O.failed writer.new) }
-    ensures cut_run { IsTrue O.counts → O.faults writer.old ≡ [] → IsCutRun result (O.faults writer.new) }
-    ensures ended { ForSome result (λ e. ends_by_request e ≡ true) }
-{
-    if let Request::Take(most) = request {
-        return serve_take(rt, shared, session, writer, *most);
-    }
-    if let Request::Follow(most) = request {
-        return serve_follow(rt, shared, session, writer, *most);
-    }
-    serve_locked(rt, shared, session, writer, request)
 }

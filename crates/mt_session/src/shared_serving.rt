@@ -1,27 +1,98 @@
 //! A session in a thread of its own: lines in, answers out, at a desk that others share.
-ghost use Rattle.std.specs.Prelude.{◌≡◌, true, IsTrue, IfNone, None, Some, []};
-ghost use Rattle.std.specs.Option.{ForSome};
+ghost use Rattle.std.specs.Prelude.{◌≡◌, ◌++◌, ◌<◌, ◌≤◌, ◌⊎◌, ℕ, List, [], take, unwrap_or, Option, IsTrue, IfErr, OnOk, OnErr, IfNone, Ok, None, Some};
+ghost use Rattle.mt_desk.specs.Calls.{WatcherView};
 ghost use Rattle.mt_lines.specs.Reading.{bytes_left, failed_calls, last_faults, limit_of, fault_of};
-ghost use Rattle.mt_requests.specs.Requests.{request_of};
+ghost use Rattle.mt_lines.specs.Stream.{HasFailed, IsInterrupted};
+ghost use Rattle.mt_requests.specs.Requests.{request_of, HasRightCount};
 ghost use Rattle.mt_session.specs.Session.{line_limit, IsReadEnd, IsReadEndRun, IsCutCause, IsCutRun};
 ghost use Rattle.mt_session.specs.SharedSession.{ServedShared, HasLeft};
-ghost use Rattle.mt_session.specs.SharedServing.{IsKeptOrLeft, ServesAsked, ServedSharedLine, ends_by_request, ends_by_shared_line};
+ghost use Rattle.mt_session.specs.SharedServing.{IsSoFar, IsPiece, IsWithin, IsCutPiece, ServesAsked, ServedSharedLine};
 
 use crate::bell::Bell;
 use crate::gate::Gate;
 use crate::serving::{End, MOST_LINES, answer_with};
-use crate::shared_answer::{Shared, leave, serve_request};
+use crate::shared_answer::{Piece, Shared, Then, answer_locked, answer_take, leave};
+use crate::shared_follow::follow;
 use crate::shared_session::SharedSession;
 use crate::text::Text;
 use mt_desk::desk::Desk;
 use mt_desk::lines::Naming;
 use mt_lines::line::{Line, LineReader};
-use mt_lines::stream::{Input, Output};
-use mt_requests::request::read_request;
+use mt_lines::stream::{Cut, Input, Output, find_reader, send};
+use mt_requests::request::{Request, read_request};
 use mt_skel::fault::Fault;
 use std::alloc::Global;
 use std::sync::{Mutex, Wait};
 use std::time::Clock;
+
+/// The next piece of the answer to a request, of which so many posts were told.
+fn next_piece<J: Naming, G: Gate, R: Wait + Clock>(
+    rt: &R,
+    shared: &Shared<'_, J, G>,
+    session: &mut SharedSession<J>,
+    request: &Request,
+    told: u64,
+) -> Piece
+    requires count { HasRightCount request.now }
+    requires within { IsWithin request.now told }
+    ensures { (w : Option WatcherView) (out : List ℕ) → IsSoFar w request.now out told session.old → IsPiece w request.now out result.text result.then session.new }
+{
+    if let Request::Follow(most) = request {
+        return follow(rt, shared, session, *most, told);
+    }
+    if let Request::Take(most) = request {
+        let piece = answer_take(rt, shared, session, *most);
+        shared.gate.before_answer(rt, shared.number);
+        return piece;
+    }
+    answer_locked(rt, shared, session, request)
+}
+
+/// Sends a piece of an answer, or finds out whether the client is still there where it has no text.
+fn send_piece<O: Output>(writer: &mut O, text: &Option<Text>) -> Result<(), Cut>
+    ensures whole { OnOk result (IsTrue O.tells → O.written writer.new ≡ O.written writer.old ++ unwrap_or text.now []) }
+    ensures cut { IfErr result (λ cut. IsTrue O.tells → O.written writer.new ≡ O.written writer.old ++ take cut.sent (unwrap_or text.now [])) }
+    ensures within { IfErr result (λ cut. IsCutPiece cut.sent text.now) }
+    ensures cause { OnErr result (IsTrue O.counts → O.failed writer.old < O.failed writer.new) }
+    ensures counted { IsTrue O.counts → O.failed writer.old ≤ O.failed writer.new }
+    ensures faults { OnErr result (IsTrue O.counts → O.faults writer.old ≡ [] → HasFailed (O.faults writer.new) ⊎ IsInterrupted (O.faults writer.new)) }
+    ensures served { OnOk result (IsTrue O.counts → O.faults writer.old ≡ [] → O.faults writer.new ≡ []) }
+{
+    match text {
+        Some(text) => send(writer, text.bytes()),
+        None => find_reader(writer),
+    }
+}
+
+/// Serves a request: how the session ends by it, if it does.
+fn serve_request<J: Naming, O: Output, G: Gate, R: Wait + Clock>(
+    rt: &R,
+    shared: &Shared<'_, J, G>,
+    session: &mut SharedSession<J>,
+    writer: &mut O,
+    request: &Request,
+) -> Option<End>
+    requires { HasRightCount request.now }
+    ensures served { ServesAsked O.tells session.old (Ok request.now) (O.written writer.old) (O.written writer.new) result session.new }
+    ensures cut { IsTrue O.counts → IsCutCause result (O.failed writer.old) (O.failed writer.new) }
+    ensures cut_run { IsTrue O.counts → O.faults writer.old ≡ [] → IsCutRun result (O.faults writer.new) }
+{
+    let mut told = 0u64;
+    'pieces: for _piece in rt.forever() {
+        let piece = next_piece(rt, shared, session, request, told);
+        if let Err(cut) = send_piece(writer, &piece.text) {
+            return Some(End::Cut(cut));
+        }
+        if piece.tells {
+            shared.gate.taken(rt, shared.number);
+        }
+        match piece.then {
+            Then::More(count) => told = count,
+            Then::Over(end) => return end,
+        }
+    }
+    unreachable!()
+}
 
 /// Serves a line that was read whole: how the session ends by it, if it does.
 fn serve_text<J: Naming, O: Output, G: Gate, R: Wait + Clock>(
@@ -31,11 +102,9 @@ fn serve_text<J: Naming, O: Output, G: Gate, R: Wait + Clock>(
     line: &[u8],
     writer: &mut O,
 ) -> Option<End>
-    ensures served { IsTrue O.tells → ServesAsked session.old (request_of line.now) (O.written writer.old) (O.written writer.new) result session.new }
-    ensures watcher { IsKeptOrLeft session.old session.new }
+    ensures served { ServesAsked O.tells session.old (request_of line.now) (O.written writer.old) (O.written writer.new) result session.new }
     ensures cut { IsTrue O.counts → IsCutCause result (O.failed writer.old) (O.failed writer.new) }
     ensures cut_run { IsTrue O.counts → O.faults writer.old ≡ [] → IsCutRun result (O.faults writer.new) }
-    ensures ended { ForSome result (λ e. ends_by_request e ≡ true) }
 {
     match read_request(shared.alloc, line) {
         Ok(request) => serve_request(rt, shared, session, writer, &request),
@@ -54,12 +123,10 @@ fn serve_line<J: Naming, I: Input + Drop, O: Output, G: Gate, R: Wait + Clock>(
     requires fresh { fault_of lines.old ≡ None }
     requires limit { limit_of lines.old ≡ line_limit }
     ensures served { IsTrue I.tells → IsTrue O.tells → ServedSharedLine (bytes_left lines.old) (bytes_left lines.new) session.old session.new (O.written writer.old) (O.written writer.new) result }
-    ensures watcher { IsKeptOrLeft session.old session.new }
     ensures cut { IsTrue O.counts → IsCutCause result (O.failed writer.old) (O.failed writer.new) }
     ensures cut_run { IsTrue O.counts → O.faults writer.old ≡ [] → IsCutRun result (O.faults writer.new) }
     ensures read { IsTrue I.counts → IsReadEnd result (failed_calls lines.old) (failed_calls lines.new) }
     ensures read_run { IsTrue I.counts → last_faults lines.old ≡ [] → IsReadEndRun result (last_faults lines.new) }
-    ensures ended { ForSome result (λ e. ends_by_shared_line e ≡ true) }
     ensures fresh { IfNone result (fault_of lines.new ≡ None) }
     ensures limit { limit_of lines.new ≡ line_limit }
 {

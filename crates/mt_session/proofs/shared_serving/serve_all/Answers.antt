@@ -1,5 +1,4 @@
 use Rattle.std.proofs.Common.{[], ◌∷◌, ◌++◌, arith, length-append, refl}
-use Rattle.mt_session.proofs.LeavingLaws.{kept_same, was_left}
 use Rattle.mt_session.proofs.SharedLineLaws.{going_none, going_more, served_ending, served_spent}
 use Rattle.mt_session.proofs.shared_serving.serve_all.Goals as goal
 
@@ -31,11 +30,9 @@ lines-preserved g c = record {
 pub returns-in-Some-clause-served : goal.returns-in-Some-clause-served
 returns-in-Some-clause-served g c t u left =
     let i = c.lines.invariant.going t u in
-    served_ending i.0 _ _ c.args.session.now c.lines.session _ _ _ c.in-Some.end c.requires.none i.2 (c.in-Some.ensures.served t u) (omega (arith, i.1, c.lines-test.true))
-    (was_left c.lines.session c.serve_line.new.session c.in-Some.ensures.watcher left)
+    served_ending i.0 _ _ c.args.session.now c.lines.session c.serve_line.new.session _ _ _ c.in-Some.end c.requires.none i.2 (c.in-Some.ensures.served t u) (omega (arith, i.1, c.lines-test.true)) left
 
 pub returns-clause-served : goal.returns-clause-served
 returns-clause-served g c t u left =
     let i = c.lines.invariant.going t u in
-    served_spent i.0 _ _ c.args.session.now c.lines.session _ _ c.requires.none i.2 (omega (arith, i.1, c.lines.auto._count-end, c.lines-test.false))
-    (was_left c.lines.session c.lines.session (kept_same c.lines.session) left)
+    served_spent i.0 _ _ c.args.session.now c.lines.session _ _ c.requires.none i.2 (omega (arith, i.1, c.lines.auto._count-end, c.lines-test.false)) left
