@@ -1,5 +1,6 @@
 -- What the takes and the close of a session's watcher give, and when nothing is due.
 use Rattle.std.proofs.Common.{◌≡◌, ◌∙◌, ℕ, zero, suc, ◌≤◌, Bool, true, false, cond, List, [], ◌∷◌, ◌++◌, length, take, drop, replicate, Option, Some, None, slice_get, Ok, Err, refl, sym, ap, subst, arith, length-append}
+use Rattle.std.proofs.lemmas.List.{append-nil}
 use Rattle.std.specs.Prelude.{Result, ◌==◌}
 use Rattle.std.specs.Option.{option_map_or}
 use Rattle.mt_skel.specs.declared.fault.Fault.{Fault}
@@ -126,12 +127,8 @@ unfolding floor_step
 close_step s own o idle at = ap (λ ds. if_idle ds s (option_map_or (closed s) (row_at key_of own s.watchers) (s, Err NoWatcher))) idle ∙ ap (λ o. option_map_or (closed s) o (s, Err NoWatcher)) at
 
 pub close_given : (s : FloorView) (key own : ℕ) → s.due ≡ [] → given_posts key (Close own ∷ []) (run s (Close own ∷ [])).1 ≡ cond (own == key) (waiting s own) []
-close_given s key own idle = ap (λ l. l ++ []) (by (row_at key_of own s.watchers) refl) ∙ end (cond (own == key) (waiting s own) [])
+close_given s key own idle = ap (λ l. l ++ []) (by (row_at key_of own s.watchers) refl) ∙ append-nil (cond (own == key) (waiting s own) [])
   where
-    end : (l : List PostView) → l ++ [] ≡ l
-    end [] = refl
-    end (p ∷ l) = ap (λ m. p ∷ m) (end l)
-
     by : (o : Option Watcher) → row_at key_of own s.watchers ≡ o → given_by key (Close own) (floor_step s (Close own)).1 ≡ cond (own == key) (waiting s own) []
     by None at =
         ap (λ (a : Stepped). given_by key (Close own) a.1) (close_step s own None idle at)

@@ -3,7 +3,7 @@ use Rattle.std.proofs.Common.{subst, ◌≡◌, ◌≢◌, ℕ, ◌+◌, ◌<◌
 use Rattle.std.proofs.lemmas.List.{append-nil}
 use Rattle.std.specs.Option.{ForSome}
 use Rattle.mt_skel.specs.declared.fault.Fault.{Fault}
-use Rattle.mt_skel.specs.declared.fault.Fault.TheVariants.{NoMemory as WantsMemory}
+use Rattle.mt_skel.specs.declared.fault.Fault.TheVariants.{BadLine, TooLong as LineTooLong, NoMemory as WantsMemory}
 use Rattle.mt_requests.specs.declared.request.Request.{Request}
 use Rattle.mt_requests.specs.declared.request.Request.TheVariants.{Run, Show, Find, Watch, Take, Follow, Close, Quit as AsksQuit, Stop as AsksStop}
 use Rattle.mt_requests.specs.Requests.{request_of, may_want_memory, ReadsAs}
@@ -12,6 +12,8 @@ use Rattle.mt_lines.specs.declared.stream.Cut.{Cut}
 use Rattle.mt_lines.specs.declared.line.ReadFault.{ReadFault}
 use Rattle.mt_lines.specs.declared.line.ReadFault.TheVariants.{Device, Interrupted, Endless as NeverEnds, NoMemory as NoRoom}
 use Rattle.mt_lines.specs.Lines.{Item, Unended, Endless, lines_of}
+use Rattle.mt_lines.specs.declared.line.Line.{Line}
+use Rattle.mt_lines.specs.declared.line.Line.TheVariants.{Text as TextLine, TooLong as LongLine, Unended as BrokenLine, End as NoLine}
 use Rattle.mt_lines.specs.Reading.{IsNext}
 use Rattle.mt_session.specs.declared.serving.End.{End}
 use Rattle.mt_session.specs.declared.serving.End.TheVariants.{Quit, Stop, Input, Read, Cut as CutOff, Memory, Spent}
@@ -19,8 +21,8 @@ use Rattle.mt_floor.specs.Schedule.{FloorView, settled}
 use Rattle.mt_floor.proofs.SettledLaws.{settled_idle}
 use Rattle.mt_session.specs.Answers.{refusal}
 use Rattle.mt_session.specs.Requests.{SessionState, state_at, session_at, answer_to, state_to, begins, left, IsUndone}
-use Rattle.mt_session.specs.Session.{Granted, Refused, Unshown, Asking, Whole, Broken, item_of, items_of, has_end, Turn, request_of_line, may_fail, answer, after, ends, ends_by, text_of, state_after, AllGoOn, Going, Served, IsCause, sent_by, line_limit, IsReadEnd, IsReadEndRun, IsCutCause, IsCutRun}
-use Rattle.mt_session.specs.Serving.{the_turn, Answered, Ran, IsSent, ends_by_line, ServedLine, ends_whole, ends_by_answer}
+use Rattle.mt_session.specs.Session.{Granted, Refused, Unshown, Asking, Whole, Overlong, Broken, item_of, items_of, has_end, Turn, request_of_line, may_fail, may_be_unshown, answer, after, ends, ends_by, text_of, state_after, AllGoOn, Going, Served, IsCause, sent_by, line_limit, IsReadEnd, IsReadEndRun, IsCutCause, IsCutRun}
+use Rattle.mt_session.specs.Serving.{the_turn, Answered, AnswersLine, Ran, IsSent, ends_by_line, ServedLine, ends_whole, ends_by_answer}
 
 -- a line that may want memory to be read wants it to be done, and ends no session
 reading_fails : (s : SessionState) (x : Result Request Fault) → may_want_memory x ≡ true → may_fail s x ≡ true
@@ -35,17 +37,30 @@ reading_fails s (Ok AsksQuit) m = cc
 reading_fails s (Ok AsksStop) m = cc
 reading_fails s (Err f) m = cc
 
+-- a line goes on, or ends a session as `quit` does, or as `stop`
+pub ends_cases : (x : Result Request Fault) → (ends_by x ≡ None) ⊎ ((x ≡ Ok AsksQuit) ⊎ (x ≡ Ok AsksStop))
+ends_cases (Ok (Run c)) = inl refl
+ends_cases (Ok (Show n)) = inl refl
+ends_cases (Ok (Find n path)) = inl refl
+ends_cases (Ok (Watch scope)) = inl refl
+ends_cases (Ok (Take k)) = inl refl
+ends_cases (Ok (Follow k)) = inl refl
+ends_cases (Ok Close) = inl refl
+ends_cases (Ok AsksQuit) = inr (inl refl)
+ends_cases (Ok AsksStop) = inr (inr refl)
+ends_cases (Err f) = inl refl
+
+-- what holds of no such line goes on
+pub goes_on : (P : Result Request Fault → Type 0) (x : Result Request Fault) → (P (Ok AsksQuit) → ⊥) → (P (Ok AsksStop) → ⊥) → P x → ends_by x ≡ None
+goes_on P x quits stops p = by (ends_cases x)
+  where
+    by : (ends_by x ≡ None) ⊎ ((x ≡ Ok AsksQuit) ⊎ (x ≡ Ok AsksStop)) → ends_by x ≡ None
+    by (inl none) = none
+    by (inr (inl is)) = absurd (quits (subst P is p))
+    by (inr (inr is)) = absurd (stops (subst P is p))
+
 failing_goes_on : (s : SessionState) (x : Result Request Fault) → may_fail s x ≡ true → ends_by x ≡ None
-failing_goes_on s (Ok (Run c)) m = refl
-failing_goes_on s (Ok (Show n)) m = refl
-failing_goes_on s (Ok (Find n path)) m = refl
-failing_goes_on s (Ok (Watch scope)) m = refl
-failing_goes_on s (Ok (Take k)) m = refl
-failing_goes_on s (Ok (Follow k)) m = refl
-failing_goes_on s (Ok Close) m = refl
-failing_goes_on s (Ok AsksQuit) m = cc
-failing_goes_on s (Ok AsksStop) m = cc
-failing_goes_on s (Err f) m = cc
+failing_goes_on s x m = goes_on (λ y. may_fail s y ≡ true) x (λ e. cc) (λ e. cc) m
 
 none_begins : (w : Option ℕ) → (not (is_some w) && is_some w) ≡ false
 none_begins None = refl
@@ -53,28 +68,16 @@ none_begins (Some k) = refl
 
 beginning_goes_on : (s : SessionState) (r : Request) → begins s r ≡ true → ends_by (Ok r) ≡ None
 unfolding state_to
-beginning_goes_on s (Run c) m = refl
-beginning_goes_on s (Show n) m = refl
-beginning_goes_on s (Find n path) m = refl
-beginning_goes_on s (Watch scope) m = refl
-beginning_goes_on s (Take k) m = refl
-beginning_goes_on s (Follow k) m = refl
-beginning_goes_on s Close m = refl
-beginning_goes_on s AsksQuit m = absurd (let none = none_begins s.watcher in cc)
-beginning_goes_on s AsksStop m = absurd (let none = none_begins s.watcher in cc)
+beginning_goes_on s r m =
+    goes_on (λ y. may_be_unshown s y ≡ true) (Ok r) (λ e. let none = none_begins s.watcher in cc) (λ e. let none = none_begins s.watcher in cc) m
 
--- a line ends a session as `quit` does, or as `stop`
 ends_two : (x : Result Request Fault) (by : End) → Some by ≡ ends_by x → (by ≡ Quit) ⊎ (by ≡ Stop)
-ends_two (Ok (Run c)) by e = cc
-ends_two (Ok (Show n)) by e = cc
-ends_two (Ok (Find n path)) by e = cc
-ends_two (Ok (Watch scope)) by e = cc
-ends_two (Ok (Take k)) by e = cc
-ends_two (Ok (Follow k)) by e = cc
-ends_two (Ok Close) by e = cc
-ends_two (Ok AsksQuit) by e = inl (let same : by ≡ Quit = cc in same)
-ends_two (Ok AsksStop) by e = inr (let same : by ≡ Stop = cc in same)
-ends_two (Err f) by e = cc
+ends_two x by e = go (ends_cases x)
+  where
+    go : (ends_by x ≡ None) ⊎ ((x ≡ Ok AsksQuit) ⊎ (x ≡ Ok AsksStop)) → (by ≡ Quit) ⊎ (by ≡ Stop)
+    go (inl none) = let never = e ∙ none in cc
+    go (inr (inl is)) = inl (let same = e ∙ ap ends_by is in cc)
+    go (inr (inr is)) = inr (let same = e ∙ ap ends_by is in cc)
 
 -- a request that was read and done, one that found no memory, and a line that is none
 pub answered_ok : (old new : SessionState) (bytes text : List ℕ) (r : Request) (end : Option End) → ReadsAs (request_of bytes) (Ok r) → text ≡ answer_to old r → new ≡ state_to old r → end ≡ ends_by (Ok r) → Answered old new (Whole bytes) text end
@@ -97,7 +100,7 @@ answered_err old bytes text f end (inr (e, m)) t k =
     (Refused, rw fails (rw same at t), rw fails refl, k ∙ sym (failing_goes_on old (request_of bytes) fails))
 
 -- a line that is too long, or has no end
-pub answered_fixed : (old : SessionState) (line : Asking) (f : Fault) → request_of_line line ≡ Err f → Answered old old line (refusal f) None
+answered_fixed : (old : SessionState) (line : Asking) (f : Fault) → request_of_line line ≡ Err f → Answered old old line (refusal f) None
 unfolding answer after ends
 answered_fixed old line f e = (Granted, rw e refl, rw e refl, rw e refl)
 
@@ -146,7 +149,7 @@ served_cut before later line old new sent written text end result lines a cut is
     rw is one
 
 -- a line with its line end
-pub after_text : (tells : Bool) (before later : List ℕ) (line : Asking) (old new : SessionState) (sent written text : List ℕ) (end : Option End) (result : Option End) → IsTrue tells → lines_of line_limit before ≡ item_of line ∷ lines_of line_limit later → has_end line ≡ true → Answered old new line text end → ForSome end (λ e. ends_whole e ≡ true) → IsSent tells sent written text end result → ServedLine before later old new sent written result
+after_text : (tells : Bool) (before later : List ℕ) (line : Asking) (old new : SessionState) (sent written text : List ℕ) (end : Option End) (result : Option End) → IsTrue tells → lines_of line_limit before ≡ item_of line ∷ lines_of line_limit later → has_end line ≡ true → Answered old new line text end → ForSome end (λ e. ends_whole e ≡ true) → IsSent tells sent written text end result → ServedLine before later old new sent written result
 after_text tells before later line old new sent written text (Some by) result t lines ends a h (inl s) =
     let whole = whole_sent by (answer old (the_turn line a.0)) (h by refl) in
     let one = served_last before later (the_turn line a.0) old new sent written by lines a.2 (s.1 t ∙ ap (λ x. sent ++ x) (a.1 ∙ sym whole)) (cause_of (the_turn line a.0) _ _ by a.3) in
@@ -169,7 +172,7 @@ unfolding lines_of
 lines_of-nil limit = refl
 
 -- the last line has no line end
-pub after_unended : (tells : Bool) (before later : List ℕ) (old : SessionState) (sent written text : List ℕ) (result : Option End) → IsTrue tells → lines_of line_limit before ≡ Unended ∷ [] → later ≡ [] → Answered old old Broken text None → IsSent tells sent written text (Some Input) result → ServedLine before later old old sent written result
+after_unended : (tells : Bool) (before later : List ℕ) (old : SessionState) (sent written text : List ℕ) (result : Option End) → IsTrue tells → lines_of line_limit before ≡ Unended ∷ [] → later ≡ [] → Answered old old Broken text None → IsSent tells sent written text (Some Input) result → ServedLine before later old old sent written result
 after_unended tells before later old sent written text result t lines none a (inl s) =
     let empty : lines_of line_limit later ≡ [] = rw none (lines_of-nil line_limit) in
     let one = served_last before later (the_turn Broken a.0) old old sent written Input (rw empty lines) a.2 (s.1 t ∙ ap (λ x. sent ++ x) a.1) (empty, inr (the_turn Broken a.0, refl, refl)) in
@@ -199,7 +202,7 @@ served_none before later old sent by lines nothing cause = (
 none_served : (before later : List ℕ) (items : List Item) (old : SessionState) (sent : List ℕ) (by : End) → lines_of line_limit before ≡ items → sent_by by [] ≡ [] → IsCause by [] [] [] items → ServedLine before later old old sent sent (Some by)
 none_served before later items old sent by lines nothing cause = served_none before items old sent by lines nothing cause
 
-pub after_end : (before later : List ℕ) (old : SessionState) (sent : List ℕ) → lines_of line_limit before ≡ [] → ServedLine before later old old sent sent (Some Input)
+after_end : (before later : List ℕ) (old : SessionState) (sent : List ℕ) → lines_of line_limit before ≡ [] → ServedLine before later old old sent sent (Some Input)
 after_end before later old sent lines = none_served before later [] old sent Input lines refl (refl, inl refl)
 
 -- a reader with the limit of sessions never wants memory
@@ -212,6 +215,38 @@ after_fault before later kept NoRoom old sent m n = absurd (m refl)
 pub after_fault_at : (limit : ℕ) (before later kept : List ℕ) (f : ReadFault) (old : SessionState) (sent : List ℕ) → limit ≡ line_limit → (f ≡ NoRoom → 8192 < limit) → IsNext limit before (Err f) kept later → ServedLine before later old old sent sent (Some (Read f))
 after_fault_at limit before later kept f old sent e m n =
     after_fault before later kept f old sent (λ none. absurd (let over = m none in omega (arith, over, e))) (subst (λ x. IsNext x before (Err f) kept later) e n)
+
+pub answer_ends : (by : End) → ends_whole by ≡ true → ends_by_answer by ≡ true
+answer_ends Quit h = refl
+answer_ends Stop h = refl
+answer_ends Input h = refl
+answer_ends (Read f) h = cc
+answer_ends (CutOff c) h = refl
+answer_ends Memory h = cc
+answer_ends Spent h = cc
+
+-- a line that a reader served
+pub line_served : (tells : Bool) (limit : ℕ) (before later bytes : List ℕ) (line : Line) (old new : SessionState) (sent written : List ℕ) (result : Option End) → IsTrue tells → limit ≡ line_limit
+    → IsNext limit before (Ok line) bytes later → AnswersLine tells line bytes old new sent written result → ServedLine before later old new sent written result
+line_served tells limit before later bytes line old new sent written result t e n a = by line (subst (λ x. IsNext x before (Ok line) bytes later) e n) a
+  where
+    by : (l : Line) → IsNext line_limit before (Ok l) bytes later → AnswersLine tells l bytes old new sent written result → ServedLine before later old new sent written result
+    by TextLine n a = after_text tells before later (Whole bytes) old new sent written a.0 a.1 result t n refl a.2 a.3 a.4
+    by LongLine n a = subst (λ s. ServedLine before later old s sent written result) (sym a.0)
+        (after_text tells before later Overlong old old sent written (refusal LineTooLong) None result t n refl (answered_fixed old Overlong LineTooLong refl) (λ e is. cc) a.1)
+    by BrokenLine n a = subst (λ s. ServedLine before later old s sent written result) (sym a.0)
+        (after_unended tells before later old sent written (refusal BadLine) result t n.0 n.1 (answered_fixed old Broken BadLine refl) a.1)
+    by NoLine n a = rw (a.0, a.1 t, a.2) (after_end before later old sent n.0)
+
+sent_ends : (tells : Bool) (sent written text : List ℕ) (end result : Option End) → ForSome end (λ e. ends_whole e ≡ true) → IsSent tells sent written text end result → ForSome result (λ e. ends_by_answer e ≡ true)
+sent_ends tells sent written text end result h (inl s) = λ by is. answer_ends by (h by (sym s.0 ∙ is))
+sent_ends tells sent written text end result h (inr s) = λ by is. let same : CutOff s.0 ≡ by = let both = sym s.1 ∙ is in cc in subst (λ e. ends_by_answer e ≡ true) same refl
+
+pub line_ends : (tells : Bool) (line : Line) (bytes : List ℕ) (old new : SessionState) (sent written : List ℕ) (result : Option End) → AnswersLine tells line bytes old new sent written result → ForSome result (λ e. ends_by_answer e ≡ true)
+line_ends tells TextLine bytes old new sent written result a = sent_ends tells sent written a.0 a.1 result a.3 a.4
+line_ends tells LongLine bytes old new sent written result a = sent_ends tells sent written (refusal LineTooLong) None result (λ e is. cc) a.1
+line_ends tells BrokenLine bytes old new sent written result a = sent_ends tells sent written (refusal BadLine) (Some Input) result (λ e is. let same : Input ≡ e = cc in subst (λ x. ends_whole x ≡ true) same refl) a.1
+line_ends tells NoLine bytes old new sent written result a = λ by is. let same : Input ≡ by = let both = sym a.2 ∙ is in cc in subst (λ e. ends_by_answer e ≡ true) same refl
 
 -- its watcher was closed behind its lines
 pub served_left : (before : List ℕ) (old ran new : SessionState) (sent written : List ℕ) (by : End) → Ran before old ran sent written by → new ≡ left ran → Served before old new sent written by
@@ -292,9 +327,6 @@ Served-more turns before mid old now new sent so_far written by a b ended count 
   count = count;
 }
 
-pub Going-none : (before : List ℕ) (old : SessionState) (sent : List ℕ) → Going [] before before old old sent sent
-Going-none before old sent = record { lines = refl; state = refl; out = sym (append-nil sent); goes = tt }
-
 -- the count of lines was reached
 pub served_spent : (turns : List Turn) (before later : List ℕ) (old new : SessionState) (sent written : List ℕ) → Going turns before later old new sent written → length turns ≡ 16777216 → Ran before old new sent written Spent
 served_spent turns before later old new sent written a count = record {
@@ -350,15 +382,6 @@ run_answered (Some (Read f)) faults h none = let e : ends_by_answer (Read f) ≡
 run_answered (Some (CutOff c)) faults h none = none
 run_answered (Some Memory) faults h none = none
 run_answered (Some Spent) faults h none = none
-
-pub answer_ends : (by : End) → ends_whole by ≡ true → ends_by_answer by ≡ true
-answer_ends Quit h = refl
-answer_ends Stop h = refl
-answer_ends Input h = refl
-answer_ends (Read f) h = cc
-answer_ends (CutOff c) h = refl
-answer_ends Memory h = cc
-answer_ends Spent h = cc
 
 pub line_answered : (by : End) → ends_by_answer by ≡ true → ends_by_line by ≡ true
 line_answered Quit h = refl

@@ -1,30 +1,33 @@
 -- What a session in a thread of its own has answered, line by line.
 use Rattle.std.proofs.Common.{subst, ◌≡◌, ◌≢◌, ℕ, ◌<◌, ◌≤◌, IsTrue, Bool, List, [], ◌∷◌, ◌++◌, map, take, refl, ap, sym, ◌∙◌, inl, inr, true, false, Result, Ok, Err, Option, Some, None, append_assoc, arith, length}
-use Rattle.std.specs.Prelude.{unwrap_or}
+use Rattle.std.specs.Prelude.{◌⊎◌, unwrap_or}
 use Rattle.std.proofs.lemmas.List.{append-nil, map-append}
 use Rattle.std.proofs.lemmas.Grind.{flat_map-append}
 use Rattle.std.specs.List.{flat_map}
 use Rattle.mt_skel.specs.declared.fault.Fault.{Fault}
-use Rattle.mt_skel.specs.declared.fault.Fault.TheVariants.{BadLine, NoMemory as WantsMemory}
+use Rattle.mt_skel.specs.declared.fault.Fault.TheVariants.{BadLine, TooLong as LineTooLong, NoMemory as WantsMemory}
 use Rattle.mt_lines.specs.declared.stream.Cut.{Cut}
 use Rattle.mt_lines.specs.declared.stream.StreamFault.{StreamFault}
 use Rattle.mt_lines.specs.declared.line.ReadFault.{ReadFault}
 use Rattle.mt_lines.specs.declared.line.ReadFault.TheVariants.{Device, Interrupted, Endless as NeverEnds, NoMemory as NoRoom}
 use Rattle.mt_lines.specs.Lines.{Item, Unended, Endless, lines_of}
+use Rattle.mt_lines.specs.declared.line.Line.{Line}
+use Rattle.mt_lines.specs.declared.line.Line.TheVariants.{Text as TextLine, TooLong as LongLine, Unended as BrokenLine, End as NoLine}
 use Rattle.mt_lines.specs.Reading.{IsNext}
 use Rattle.mt_desk.specs.Calls.{WatcherView}
 use Rattle.mt_requests.specs.declared.request.Request.{Request}
-use Rattle.mt_requests.specs.declared.request.Request.TheVariants.{Run, Show, Find, Watch, Take, Follow, Close, Quit as AsksQuit, Stop as AsksStop}
-use Rattle.mt_requests.specs.Requests.{may_want_memory, ReadsAs}
+use Rattle.mt_requests.specs.declared.request.Request.TheVariants.{Quit as AsksQuit, Stop as AsksStop}
+use Rattle.mt_requests.specs.Requests.{request_of, may_want_memory, ReadsAs}
 use Rattle.mt_session.specs.declared.serving.End.{End}
 use Rattle.mt_session.specs.declared.serving.End.TheVariants.{Quit, Stop, Input, Read, Cut as CutOff, Memory, Spent}
 use Rattle.mt_session.specs.declared.shared_answer.Then.{Then}
 use Rattle.mt_session.specs.declared.shared_answer.Then.TheVariants.{More, Over}
 use Rattle.mt_session.specs.Answers.{refusal}
-use Rattle.mt_session.specs.Session.{Asking, Broken, item_of, has_end, request_of_line, ends_by, line_limit, IsReadEnd, IsReadEndRun, IsCutCause, IsCutRun}
+use Rattle.mt_session.specs.Session.{Asking, Whole, Overlong, Broken, item_of, has_end, request_of_line, ends_by, line_limit, IsReadEnd, IsReadEndRun, IsCutCause, IsCutRun}
 use Rattle.mt_session.specs.Serving.{IsSent}
 use Rattle.mt_session.specs.SharedSession.{IsTurn, IsInFront, IsAnswerSoFar, SharedTurn, AreTurns, TurnsGoOn, HasLeft, WasLeft, ServedShared}
-use Rattle.mt_session.specs.SharedServing.{IsKeptOrLeft, Follows, IsSoFar, AnswersWhole, IsPiece, IsCutPiece, IsOutcome, ServesAsked, SharedGoing, SharedEnding, ServedSharedLine}
+use Rattle.mt_session.specs.SharedServing.{IsKeptOrLeft, Follows, IsSoFar, AnswersWhole, IsPiece, IsCutPiece, IsOutcome, ServesAsked, ServesLine, SharedGoing, SharedEnding, ServedSharedLine}
+use Rattle.mt_session.proofs.SessionLaws.{ends_cases, goes_on}
 use Rattle.mt_session.proofs.LeavingLaws.{taken_goes, onward, kept_same, was_left}
 use Rattle.mt_session.proofs.SharedFollowLaws.{turn_keeps}
 use Rattle.mt_session.proofs.SharedPieceLaws.{so_far_front, following_so_far}
@@ -33,16 +36,12 @@ use Rattle.mt_session.proofs.SharedPieceLaws.{so_far_front, following_so_far}
 
 -- an answer that is out whole
 outcome_of : (w w' : Option WatcherView) (asked : Result Request Fault) (out : List ℕ) → IsTurn w asked out w' → IsOutcome (ends_by asked) w asked out w'
-outcome_of w w' (Ok (Run c)) out t = (t, refl)
-outcome_of w w' (Ok (Show n)) out t = (t, refl)
-outcome_of w w' (Ok (Find n path)) out t = (t, refl)
-outcome_of w w' (Ok (Watch scope)) out t = (t, refl)
-outcome_of w w' (Ok (Take k)) out t = (t, refl)
-outcome_of w w' (Ok (Follow k)) out t = (t, refl)
-outcome_of w w' (Ok Close) out t = (t, refl)
-outcome_of w w' (Ok AsksQuit) out t = (refl, w', t)
-outcome_of w w' (Ok AsksStop) out t = (refl, w', t)
-outcome_of w w' (Err f) out t = (t, refl)
+outcome_of w w' asked out t = by (ends_cases asked)
+  where
+    by : (ends_by asked ≡ None) ⊎ ((asked ≡ Ok AsksQuit) ⊎ (asked ≡ Ok AsksStop)) → IsOutcome (ends_by asked) w asked out w'
+    by (inl none) = subst (λ (e : Option End). IsOutcome e w asked out w') (sym none) (t, none)
+    by (inr (inl is)) = subst (λ (e : Option End). IsOutcome e w asked out w') (sym (ap ends_by is)) (is, w', t)
+    by (inr (inr is)) = subst (λ (e : Option End). IsOutcome e w asked out w') (sym (ap ends_by is)) (is, w', t)
 
 whole_outcome : (w w' : Option WatcherView) (asked : Result Request Fault) (out : List ℕ) (end : Option End) → AnswersWhole w asked out end w' → IsOutcome end w asked out w'
 whole_outcome w w' asked out end (inl (turn, is)) = subst (λ (e : Option End). IsOutcome e w asked out w') (sym is) (outcome_of w w' asked out turn)
@@ -123,16 +122,12 @@ ends_asked (Some Spent) = false
 ends_asked end = true
 
 asked_ends : (asked : Result Request Fault) → ends_asked (ends_by asked) ≡ true
-asked_ends (Ok (Run c)) = refl
-asked_ends (Ok (Show n)) = refl
-asked_ends (Ok (Find n path)) = refl
-asked_ends (Ok (Watch scope)) = refl
-asked_ends (Ok (Take k)) = refl
-asked_ends (Ok (Follow k)) = refl
-asked_ends (Ok Close) = refl
-asked_ends (Ok AsksQuit) = refl
-asked_ends (Ok AsksStop) = refl
-asked_ends (Err f) = refl
+asked_ends asked = by (ends_cases asked)
+  where
+    by : (ends_by asked ≡ None) ⊎ ((asked ≡ Ok AsksQuit) ⊎ (asked ≡ Ok AsksStop)) → ends_asked (ends_by asked) ≡ true
+    by (inl none) = ap ends_asked none
+    by (inr (inl is)) = ap (λ (x : Result Request Fault). ends_asked (ends_by x)) is
+    by (inr (inr is)) = ap (λ (x : Result Request Fault). ends_asked (ends_by x)) is
 
 whole_ends : (w w' : Option WatcherView) (asked : Result Request Fault) (out : List ℕ) (end : Option End) → AnswersWhole w asked out end w' → ends_asked end ≡ true
 whole_ends w w' asked out end (inl (turn, is)) = ap ends_asked is ∙ asked_ends asked
@@ -172,27 +167,15 @@ piece_run w w' r out p n end faults piece is none = asked_run end faults (piece_
 -- ---- Lines
 
 -- a line that is refused for itself, that says no request, or that could not be read for want of memory
-pub refused_served : (tells : Bool) (w : Option WatcherView) (f : Fault) (sent written : List ℕ) (result : Option End) → IsSent tells sent written (refusal f) None result → ServesAsked tells w (Err f) sent written result w
+refused_served : (tells : Bool) (w : Option WatcherView) (f : Fault) (sent written : List ℕ) (result : Option End) → IsSent tells sent written (refusal f) None result → ServesAsked tells w (Err f) sent written result w
 refused_served tells w f sent written result s = serves_sent tells w w (Err f) sent written (refusal f) None result s (inl (inl (refl, refl), refl))
-
-wanting_goes_on : (x : Result Request Fault) → may_want_memory x ≡ true → ends_by x ≡ None
-wanting_goes_on (Ok (Run c)) m = refl
-wanting_goes_on (Ok (Show n)) m = refl
-wanting_goes_on (Ok (Find n path)) m = refl
-wanting_goes_on (Ok (Watch scope)) m = refl
-wanting_goes_on (Ok (Take k)) m = refl
-wanting_goes_on (Ok (Follow k)) m = refl
-wanting_goes_on (Ok Close) m = refl
-wanting_goes_on (Ok AsksQuit) m = cc
-wanting_goes_on (Ok AsksStop) m = cc
-wanting_goes_on (Err f) m = refl
 
 pub unread_served : (tells : Bool) (w : Option WatcherView) (asked : Result Request Fault) (f : Fault) (sent written : List ℕ) (result : Option End)
     → ReadsAs asked (Err f) → IsSent tells sent written (refusal f) None result → ServesAsked tells w asked sent written result w
 unread_served tells w asked f sent written result (inl e) s = subst (λ (x : Result Request Fault). ServesAsked tells w x sent written result w) e (refused_served tells w f sent written result s)
 unread_served tells w asked f sent written result (inr (e, m)) s =
     let same : f ≡ WantsMemory = cc in
-    serves_sent tells w w asked sent written (refusal f) None result s (inl (inr (ap refusal same, inl (m, refl)), sym (wanting_goes_on asked m)))
+    serves_sent tells w w asked sent written (refusal f) None result s (inl (inr (ap refusal same, inl (m, refl)), sym (goes_on (λ (x : Result Request Fault). may_want_memory x ≡ true) asked (λ e. cc) (λ e. cc) m)))
 
 pub read_is : (tells : Bool) (w w' : Option WatcherView) (asked : Result Request Fault) (r : Request) (sent written : List ℕ) (result : Option End)
     → ReadsAs asked (Ok r) → ServesAsked tells w (Ok r) sent written result w' → ServesAsked tells w asked sent written result w'
@@ -200,34 +183,46 @@ read_is tells w w' asked r sent written result (inl e) s = subst (λ (x : Result
 read_is tells w w' asked r sent written result (inr e) s = cc
 
 -- the answer to a line brings no end by the reader
-outcome_cause : (by : Option End) (w w' : Option WatcherView) (asked : Result Request Fault) (out : List ℕ) (old new : ℕ) → IsOutcome by w asked out w' → old ≤ new → IsReadEnd by old new
-outcome_cause None w w' asked out old new h le = le
-outcome_cause (Some Quit) w w' asked out old new h le = le
-outcome_cause (Some Stop) w w' asked out old new h le = le
-outcome_cause (Some Input) w w' asked out old new h le = le
-outcome_cause (Some (Read f)) w w' asked out old new h le = absurd h
-outcome_cause (Some (CutOff cut)) w w' asked out old new h le = le
-outcome_cause (Some Memory) w w' asked out old new h le = le
-outcome_cause (Some Spent) w w' asked out old new h le = le
+abbrev is_answer_end : Option End → Bool
+is_answer_end (Some (Read f)) = false
+is_answer_end end = true
 
-outcome_run : (by : Option End) (w w' : Option WatcherView) (asked : Result Request Fault) (out : List ℕ) (faults : List StreamFault) → IsOutcome by w asked out w' → faults ≡ [] → IsReadEndRun by faults
-outcome_run None w w' asked out faults h none = none
-outcome_run (Some Quit) w w' asked out faults h none = none
-outcome_run (Some Stop) w w' asked out faults h none = none
-outcome_run (Some Input) w w' asked out faults h none = none
-outcome_run (Some (Read f)) w w' asked out faults h none = absurd h
-outcome_run (Some (CutOff cut)) w w' asked out faults h none = none
-outcome_run (Some Memory) w w' asked out faults h none = none
-outcome_run (Some Spent) w w' asked out faults h none = none
+outcome_end : (by : Option End) (w w' : Option WatcherView) (asked : Result Request Fault) (out : List ℕ) → IsOutcome by w asked out w' → is_answer_end by ≡ true
+outcome_end None w w' asked out h = refl
+outcome_end (Some Quit) w w' asked out h = refl
+outcome_end (Some Stop) w w' asked out h = refl
+outcome_end (Some Input) w w' asked out h = refl
+outcome_end (Some (Read f)) w w' asked out h = absurd h
+outcome_end (Some (CutOff cut)) w w' asked out h = refl
+outcome_end (Some Memory) w w' asked out h = refl
+outcome_end (Some Spent) w w' asked out h = refl
 
-pub asked_read : (tells : Bool) (w w' : Option WatcherView) (asked : Result Request Fault) (sent written : List ℕ) (result : Option End) (old new : ℕ) → ServesAsked tells w asked sent written result w' → old ≤ new → IsReadEnd result old new
-asked_read tells w w' asked sent written result old new s le = outcome_cause result w w' asked s.out old new s.outcome le
+sent_end : (tells : Bool) (sent written text : List ℕ) (end result : Option End) → is_answer_end end ≡ true → IsSent tells sent written text end result → is_answer_end result ≡ true
+sent_end tells sent written text end result h (inl s) = ap is_answer_end s.0 ∙ h
+sent_end tells sent written text end result h (inr s) = ap is_answer_end s.1
 
-pub asked_read_run : (tells : Bool) (w w' : Option WatcherView) (asked : Result Request Fault) (sent written : List ℕ) (result : Option End) (faults : List StreamFault) → ServesAsked tells w asked sent written result w' → faults ≡ [] → IsReadEndRun result faults
-asked_read_run tells w w' asked sent written result faults s none = outcome_run result w w' asked s.out faults s.outcome none
+end_read : (by : Option End) (old new : ℕ) → is_answer_end by ≡ true → old ≤ new → IsReadEnd by old new
+end_read None old new h le = le
+end_read (Some Quit) old new h le = le
+end_read (Some Stop) old new h le = le
+end_read (Some Input) old new h le = le
+end_read (Some (Read f)) old new h le = cc
+end_read (Some (CutOff cut)) old new h le = le
+end_read (Some Memory) old new h le = le
+end_read (Some Spent) old new h le = le
+
+end_run : (by : Option End) (faults : List StreamFault) → is_answer_end by ≡ true → faults ≡ [] → IsReadEndRun by faults
+end_run None faults h none = none
+end_run (Some Quit) faults h none = none
+end_run (Some Stop) faults h none = none
+end_run (Some Input) faults h none = none
+end_run (Some (Read f)) faults h none = cc
+end_run (Some (CutOff cut)) faults h none = none
+end_run (Some Memory) faults h none = none
+end_run (Some Spent) faults h none = none
 
 -- a line with its line end
-pub line_served : (tells : Bool) (before later : List ℕ) (line : Asking) (w w' : Option WatcherView) (sent written : List ℕ) (result : Option End) → IsTrue tells
+line_served : (tells : Bool) (before later : List ℕ) (line : Asking) (w w' : Option WatcherView) (sent written : List ℕ) (result : Option End) → IsTrue tells
     → lines_of line_limit before ≡ item_of line ∷ lines_of line_limit later → has_end line ≡ true → ServesAsked tells w (request_of_line line) sent written result w'
     → ServedSharedLine before later w w' sent written result
 line_served tells before later line w w' sent written None t lines ends s =
@@ -253,7 +248,7 @@ line_served tells before later line w w' sent written (Some by) t lines ends s =
 left_so : (w : Option WatcherView) → HasLeft w → WasLeft w
 left_so w left = was_left w w (kept_same w) left
 
-pub unended_served : (tells : Bool) (before later : List ℕ) (w : Option WatcherView) (sent written : List ℕ) (result : Option End) → IsTrue tells
+unended_served : (tells : Bool) (before later : List ℕ) (w : Option WatcherView) (sent written : List ℕ) (result : Option End) → IsTrue tells
     → lines_of line_limit before ≡ Unended ∷ [] → IsSent tells sent written (refusal BadLine) (Some Input) result → ServedSharedLine before later w w sent written result
 unended_served tells before later w sent written result t lines (inl s) =
     let ending : SharedEnding before w w sent written Input = record { items = Unended ∷ []; lines = lines; out = refusal BadLine; written_is = s.1 t; ends = inl (inr (refl, refl)); left = left_so w } in
@@ -269,7 +264,7 @@ unended_served tells before later w sent written result t lines (inr s) =
     } in
     subst (λ (r : Option End). ServedSharedLine before later w w sent written r) (sym s.1) ending
 
-pub end_served : (before later : List ℕ) (w : Option WatcherView) (sent : List ℕ) → lines_of line_limit before ≡ [] → ServedSharedLine before later w w sent sent (Some Input)
+end_served : (before later : List ℕ) (w : Option WatcherView) (sent : List ℕ) → lines_of line_limit before ≡ [] → ServedSharedLine before later w w sent sent (Some Input)
 end_served before later w sent lines = record { items = []; lines = lines; out = []; written_is = sym (append-nil sent); ends = inl (inl (refl, refl)); left = left_so w }
 
 -- a reader with the limit of sessions never wants memory
@@ -286,6 +281,30 @@ pub fault_served : (limit : ℕ) (before later kept : List ℕ) (f : ReadFault) 
     → limit ≡ line_limit → (f ≡ NoRoom → 8192 < limit) → IsNext limit before (Err f) kept later → ServedSharedLine before later w w sent sent (Some (Read f))
 fault_served limit before later kept f w sent e m n =
     fault_at before later kept f w sent (λ none. absurd (let over = m none in omega (arith, over, e))) (subst (λ x. IsNext x before (Err f) kept later) e n)
+
+-- a line that a reader served
+pub line_answered : (tells : Bool) (limit : ℕ) (before later bytes : List ℕ) (line : Line) (w w' : Option WatcherView) (sent written : List ℕ) (result : Option End) → IsTrue tells → limit ≡ line_limit
+    → IsNext limit before (Ok line) bytes later → ServesLine tells line bytes w sent written result w' → ServedSharedLine before later w w' sent written result
+line_answered tells limit before later bytes line w w' sent written result t e n a = by line (subst (λ x. IsNext x before (Ok line) bytes later) e n) a
+  where
+    by : (l : Line) → IsNext line_limit before (Ok l) bytes later → ServesLine tells l bytes w sent written result w' → ServedSharedLine before later w w' sent written result
+    by TextLine n a = line_served tells before later (Whole bytes) w w' sent written result t n refl a
+    by LongLine n a = subst (λ (x : Option WatcherView). ServedSharedLine before later w x sent written result) (sym a.0)
+        (line_served tells before later Overlong w w sent written result t n refl (refused_served tells w LineTooLong sent written result a.1))
+    by BrokenLine n a = subst (λ (x : Option WatcherView). ServedSharedLine before later w x sent written result) (sym a.0) (unended_served tells before later w sent written result t n.0 a.1)
+    by NoLine n a = rw (a.0, a.1 t, a.2) (end_served before later w sent n.0)
+
+line_ends : (tells : Bool) (line : Line) (bytes : List ℕ) (w w' : Option WatcherView) (sent written : List ℕ) (result : Option End) → ServesLine tells line bytes w sent written result w' → is_answer_end result ≡ true
+line_ends tells TextLine bytes w w' sent written result a = outcome_end result w w' (request_of bytes) a.out a.outcome
+line_ends tells LongLine bytes w w' sent written result a = sent_end tells sent written (refusal LineTooLong) None result refl a.1
+line_ends tells BrokenLine bytes w w' sent written result a = sent_end tells sent written (refusal BadLine) (Some Input) result refl a.1
+line_ends tells NoLine bytes w w' sent written result a = ap is_answer_end a.2
+
+pub line_read : (tells : Bool) (line : Line) (bytes : List ℕ) (w w' : Option WatcherView) (sent written : List ℕ) (result : Option End) (old new : ℕ) → ServesLine tells line bytes w sent written result w' → old ≤ new → IsReadEnd result old new
+line_read tells line bytes w w' sent written result old new a le = end_read result old new (line_ends tells line bytes w w' sent written result a) le
+
+pub line_run : (tells : Bool) (line : Line) (bytes : List ℕ) (w w' : Option WatcherView) (sent written : List ℕ) (result : Option End) (faults : List StreamFault) → ServesLine tells line bytes w sent written result w' → faults ≡ [] → IsReadEndRun result faults
+line_run tells line bytes w w' sent written result faults a none = end_run result faults (line_ends tells line bytes w w' sent written result a) none
 
 -- lines one after another
 AreTurns-append : (xs ys : List SharedTurn) (w mid w' : Option WatcherView) → AreTurns w xs mid → AreTurns mid ys w' → AreTurns w (xs ++ ys) w'

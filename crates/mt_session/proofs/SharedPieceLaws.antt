@@ -1,6 +1,6 @@
 -- The pieces of an answer of a session in a thread of its own.
 use Rattle.std.proofs.Common.{subst, ◌≡◌, ◌≢◌, ℕ, ◌+◌, ◌<◌, ◌≤◌, List, [], ◌++◌, refl, ap, sym, ◌∙◌, inl, inr, true, Ok, Err, Option, Some, None, arith, length}
-use Rattle.std.specs.Prelude.{◌⊎◌, unwrap_or}
+use Rattle.std.specs.Prelude.{◌⊎◌, Result, unwrap_or}
 use Rattle.std.specs.List.{flat_map}
 use Rattle.std.proofs.lemmas.List.{append-nil, length-append}
 use Rattle.std.proofs.lemmas.Grind.{flat_map-append}
@@ -27,6 +27,7 @@ use Rattle.mt_session.specs.SharedTurns.{HasTaken, is_under_lock}
 use Rattle.mt_session.specs.SharedSession.{IsSpent, IsFollowed, IsAnsweredAt, IsTold, IsTurn, IsLost, IsInFront, FollowsSoFar}
 use Rattle.mt_session.specs.SharedServing.{IsUndoneAt, IsKeptOrLeft, IsPortion, Follows, IsSoFar, IsWithin, AnswersWhole, EndsWith, IsPiece}
 use Rattle.mt_session.proofs.SharedTakeLaws.{HasMoved, moved_none, moved_by, moved_taken, takes_more}
+use Rattle.mt_session.proofs.SessionLaws.{goes_on}
 use Rattle.mt_session.proofs.LeavingLaws.{taken_goes, onward, undone_keeps}
 
 -- ---- A whole answer
@@ -69,18 +70,16 @@ undone_turn w w' Close under other u = absurd (other refl)
 undone_turn w w' AsksQuit under other u = inr (refl, inr (refl, u.0, u.1, u.2, u.3))
 undone_turn w w' AsksStop under other u = inr (refl, inr (refl, u.0, u.1, u.2, u.3))
 
+undone_none : (w w' : Option WatcherView) → (IsUndoneAt w AsksQuit w' → ⊥) × (IsUndoneAt w AsksStop w' → ⊥)
+undone_none None w' = (λ u. u.3, λ u. u.3)
+undone_none (Some v) w' = (λ u. u.3, λ u. u.3)
+
+abbrev IsUndoneOf : Option WatcherView → Option WatcherView → Result Request Fault → Type 0
+IsUndoneOf w w' (Ok r) = IsUndoneAt w r w'
+IsUndoneOf w w' (Err f) = Unit {0}
+
 undone_goes_on : (w w' : Option WatcherView) (r : Request) → IsUndoneAt w r w' → ends_by (Ok r) ≡ None
-undone_goes_on w w' (Run c) u = refl
-undone_goes_on w w' (Show n) u = refl
-undone_goes_on w w' (Find n path) u = refl
-undone_goes_on w w' (Watch scope) u = refl
-undone_goes_on w w' (Take k) u = refl
-undone_goes_on w w' (Follow k) u = refl
-undone_goes_on w w' Close u = refl
-undone_goes_on None w' AsksQuit u = absurd u.3
-undone_goes_on (Some v) w' AsksQuit u = absurd u.3
-undone_goes_on None w' AsksStop u = absurd u.3
-undone_goes_on (Some v) w' AsksStop u = absurd u.3
+undone_goes_on w w' r u = goes_on (IsUndoneOf w w') (Ok r) (undone_none w w').0 (undone_none w w').1 u
 
 undone_close : (w w' : Option WatcherView) → IsUndoneAt w Close w' → IsLost w (Ok Close) (refusal WantsMemory)
 undone_close None w' u = absurd u.3
@@ -138,9 +137,9 @@ has_gone w r out told mid (inr f) =
     record { before = f.before; had = f.had; posts = f.posts; moved = subst (λ (v : WatcherView). HasMoved f.before f.posts v) same (moved_by f.before f.after f.posts f.taken); count = f.count; text = f.text }
 
 -- it has told more
-goes_on : (w : Option WatcherView) (most told next : ℕ) (mid after : WatcherView) (w' : Option WatcherView) (out text : List ℕ) (posts : List PostView)
+goes_further : (w : Option WatcherView) (most told next : ℕ) (mid after : WatcherView) (w' : Option WatcherView) (out text : List ℕ) (posts : List PostView)
     → HasGone w out told mid → HasTaken mid posts after → w' ≡ Some after → next ≡ told + length posts → next ≤ most → text ≡ flat_map post_text posts → Follows w (Follow most) (out ++ text) next w'
-goes_on w most told next mid after w' out text posts g h is count within says = record {
+goes_further w most told next mid after w' out text posts g h is count within says = record {
   most = most;
   asked = refl;
   before = g.before;
@@ -160,7 +159,7 @@ follow_posts w None w' most told limit printed out p n s h within text next = ab
 follow_posts w (Some mid) w' most told limit printed out p n s h within text next =
     let g = has_gone w (Follow most) out told mid s in
     let on : Follows w (Follow most) (out ++ printed.text.items) (told + printed.posts) w' =
-    goes_on w most told (told + printed.posts) mid h.after w' out printed.text.items h.posts g h.taken h.watcher (omega (arith, h.count)) (omega (arith, within, h.count, h.most_is)) h.text in
+    goes_further w most told (told + printed.posts) mid h.after w' out printed.text.items h.posts g h.taken h.watcher (omega (arith, h.count)) (omega (arith, within, h.count, h.most_is)) h.text in
     rw (text, next) on
 
 -- why there are no more does not depend on how many were told
@@ -197,7 +196,7 @@ follow_paused w None w' most told limit phase out p n s h fewer rests over = abs
 follow_paused w (Some mid) w' most told limit phase out p n s h fewer rests over =
     let gone = has_gone w (Follow most) out told mid s in
     let run : IsRun mid.half.opening mid.half.taken = subst (λ (posts : List PostView). IsRun mid.half.opening posts) (append-nil mid.half.taken) h.2.3 in
-    let on : Follows w (Follow most) (out ++ []) told w' = goes_on w most told told mid h.0 w' out [] [] gone h.2 h.3 (omega arith) (omega (arith, fewer)) refl in
+    let on : Follows w (Follow most) (out ++ []) told w' = goes_further w most told told mid h.0 w' out [] [] gone h.2 h.3 (omega arith) (omega (arith, fewer)) refl in
     by_open phase
     (λ is. rw ((rests is).0, (rests is).1) on)
     (λ ended. told_piece w w' (Follow most) out (by_phase (count_text told) phase) p n (over ended) (inl (goes_not w most told mid h.0 w' out phase gone run h.1 h.3 fewer ended)) refl)

@@ -3,6 +3,7 @@ use Rattle.std.proofs.Common.{◌≡◌, ◌≢◌, ◌∙◌, ℕ, suc, ◌+◌
 use Rattle.std.specs.Prelude.{Result, IfOk, IfErr, fold}
 use Rattle.std.specs.List.{flat_map}
 use Rattle.std.proofs.Math.Seq.{take-length}
+use Rattle.std.proofs.lemmas.List.{append-nil}
 use Rattle.std.proofs.lemmas.List.Concat.{flat_map-append}
 use Rattle.mt_skel.specs.declared.fault.Fault.{Fault}
 use Rattle.mt_skel.specs.declared.fault.Fault.TheVariants.{NoMemory}
@@ -30,9 +31,6 @@ step_is s n e (Err f) t done refused memory = refused (λ none. let m = memory n
 pub floor_is : (s n : FloorView) (e : Event) (r : Result Answer Fault) → floor_step s e ≡ (n, r) → n ≡ (floor_step s e).0
 floor_is s n e r is = sym (ap (λ (p : Stepped). p.0) is)
 
-pub answer_is : (s n : FloorView) (e : Event) (r : Result Answer Fault) → floor_step s e ≡ (n, r) → r ≡ (floor_step s e).1
-answer_is s n e r is = sym (ap (λ (p : Stepped). p.1) is)
-
 -- one post taken, and then the others
 pub taken_next : (s n : FloorView) (key i k : ℕ) → n ≡ (floor_step s (Take key)).0 → i < k → taken n key (k - (i + 1)) ≡ taken s key (k - i)
 taken_next s n key i k is h =
@@ -44,11 +42,7 @@ lines-append n [] p = refl
 lines-append n (q ∷ ps) p = lines-append (n + length (post_lines q)) ps p
 
 text_more : (ps : List PostView) (p : PostView) → flat_map post_text (ps ++ p ∷ []) ≡ flat_map post_text ps ++ post_text p
-text_more ps p = flat_map-append post_text ps (p ∷ []) ∙ ap (λ t. flat_map post_text ps ++ t) (last (post_text p))
-  where
-    last : (t : List ℕ) → t ++ [] ≡ t
-    last [] = refl
-    last (x ∷ t) = ap (λ l. x ∷ l) (last t)
+text_more ps p = flat_map-append post_text ps (p ∷ []) ∙ ap (λ t. flat_map post_text ps ++ t) (append-nil (post_text p))
 
 -- a post told behind others
 pub told_next : (w : List PostView) (i : ℕ) (p : PostView) (text more : List ℕ) → slice_get w i ≡ Some p → text ≡ flat_map post_text (take i w) → more ≡ text ++ post_text p

@@ -1,7 +1,11 @@
 -- One line of a session, as its steps see it. No public clause cites this module.
 -- A word with no source is this project's rule.
 use Rattle.std.specs.Prelude.{◌≡◌, ℕ, ◌+◌, ◌<◌, ◌≤◌, List, [], ◌∷◌, ◌++◌, length, take, Bool, true, false, IsTrue, Option, None, Some, ◌⊎◌}
+use Rattle.std.specs.Option.{ForSome}
+use Rattle.mt_skel.specs.declared.fault.Fault.TheVariants.{BadLine, TooLong as LineTooLong}
 use Rattle.mt_lines.specs.declared.stream.Cut.{Cut}
+use Rattle.mt_lines.specs.declared.line.Line.{Line}
+use Rattle.mt_lines.specs.declared.line.Line.TheVariants.{Text, TooLong, Unended, End as NoLine}
 use Rattle.mt_events.specs.declared.opening.Opening.{Opening}
 use Rattle.mt_book.specs.declared.command.Reply.{Reply}
 use Rattle.mt_floor.specs.declared.watch.Phase.{Phase}
@@ -10,7 +14,8 @@ use Rattle.mt_floor.specs.declared.event.Answer.TheVariants.{Replied, Opened, Me
 use Rattle.mt_session.specs.declared.serving.End.{End}
 use Rattle.mt_session.specs.declared.serving.End.TheVariants.{Quit, Stop, Input, Cut as CutOff, Memory, Spent}
 use Rattle.mt_session.specs.Requests.{SessionState}
-use Rattle.mt_session.specs.Session.{Growth, Asking, Turn, answer, after, ends, Going, ServedThen}
+use Rattle.mt_session.specs.Answers.{refusal}
+use Rattle.mt_session.specs.Session.{Growth, Asking, Whole, Turn, answer, after, ends, Going, ServedThen}
 
 -- an end that a line brings once its answer is out whole
 abbrev pub ends_whole : End → Bool
@@ -50,6 +55,14 @@ abbrev pub IsSent : Bool → List ℕ → List ℕ → List ℕ → Option End �
 IsSent tells sent written text wanted result =
     ((result ≡ wanted) × (IsTrue tells → written ≡ sent ++ text))
     ⊎ ((cut : Cut) × (result ≡ Some (CutOff cut)) × (IsTrue tells → written ≡ sent ++ take cut.sent text) × (cut.sent < length text))
+
+-- what a reader said of a line was answered, and so the session ends with it, if it does
+abbrev pub AnswersLine : Bool → Line → List ℕ → SessionState → SessionState → List ℕ → List ℕ → Option End → Type 0
+AnswersLine tells Text bytes old new sent written result =
+    (text : List ℕ) × (end : Option End) × Answered old new (Whole bytes) text end × ForSome end (λ e. ends_whole e ≡ true) × IsSent tells sent written text end result
+AnswersLine tells TooLong bytes old new sent written result = (new ≡ old) × IsSent tells sent written (refusal LineTooLong) None result
+AnswersLine tells Unended bytes old new sent written result = (new ≡ old) × IsSent tells sent written (refusal BadLine) (Some Input) result
+AnswersLine tells NoLine bytes old new sent written result = (new ≡ old) × (IsTrue tells → written ≡ sent) × (result ≡ Some Input)
 
 -- a line was served: the session goes on, or has ended with it
 abbrev pub ServedLine : List ℕ → List ℕ → SessionState → SessionState → List ℕ → List ℕ → Option End → Type 0

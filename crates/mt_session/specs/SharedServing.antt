@@ -3,8 +3,10 @@
 use Rattle.std.specs.Prelude.{⊤, ◌≡◌, ◌≢◌, ◌⊎◌, ℕ, ◌+◌, ◌<◌, ◌≤◌, Bool, IsTrue, List, [], ◌∷◌, ◌++◌, map, length, unwrap_or, Option, Some, None, Result, Ok, Err}
 use Rattle.std.specs.List.{flat_map}
 use Rattle.mt_skel.specs.declared.fault.Fault.{Fault}
-use Rattle.mt_skel.specs.declared.fault.Fault.TheVariants.{NoWatcher, NoMemory as WantsMemory}
+use Rattle.mt_skel.specs.declared.fault.Fault.TheVariants.{BadLine, TooLong as LineTooLong, NoWatcher, NoMemory as WantsMemory}
 use Rattle.mt_lines.specs.Lines.{Item, lines_of}
+use Rattle.mt_lines.specs.declared.line.Line.{Line}
+use Rattle.mt_lines.specs.declared.line.Line.TheVariants.{Text, TooLong, Unended, End as NoLine}
 use Rattle.mt_events.specs.Posts.{PostView, post_text}
 use Rattle.mt_events.specs.Texts.{lines_of_posts}
 use Rattle.mt_events.specs.declared.texts.PrintedPosts.{PrintedPosts}
@@ -15,11 +17,14 @@ use Rattle.mt_desk.specs.Headline.{Meet as Meets, IsScheduledBy}
 use Rattle.mt_requests.specs.declared.request.Request.{Request}
 use Rattle.mt_requests.specs.declared.request.Request.TheVariants.{Follow}
 use Rattle.mt_session.specs.declared.serving.End.{End}
-use Rattle.mt_session.specs.declared.serving.End.TheVariants.{Memory}
+use Rattle.mt_session.specs.declared.serving.End.TheVariants.{Input, Memory}
 use Rattle.mt_session.specs.declared.shared_answer.Portion.{Portion}
 use Rattle.mt_session.specs.declared.shared_answer.Portion.TheVariants.{Posts, Empty}
 use Rattle.mt_session.specs.declared.shared_answer.Then.{Then}
 use Rattle.mt_session.specs.declared.shared_answer.Then.TheVariants.{More, Over}
+use Rattle.mt_requests.specs.Requests.{request_of}
+use Rattle.mt_session.specs.Answers.{refusal}
+use Rattle.mt_session.specs.Serving.{IsSent}
 use Rattle.mt_session.specs.Session.{item_of, ends_by, line_limit}
 use Rattle.mt_session.specs.SharedTurns.{HasTaken, GoesOn, IsUndoneBy}
 use Rattle.mt_session.specs.SharedSession.{SharedTurn, IsSpent, IsTurn, IsLost, EndsOfAnswer, EndsByNext, AreTurns, TurnsGoOn, HasLeft, WasLeft}
@@ -120,6 +125,13 @@ pub record ServesAsked (tells : Bool) (w : Option WatcherView) (asked : Result R
   pub written_is : IsTrue tells → written ≡ sent ++ out
   pub outcome : IsOutcome result w asked out w'
   pub watcher : IsKeptOrLeft w w'
+
+-- what a reader said of a line is answered, or the session ends by it
+abbrev pub ServesLine : Bool → Line → List ℕ → Option WatcherView → List ℕ → List ℕ → Option End → Option WatcherView → Type 0
+ServesLine tells Text bytes w sent written result w' = ServesAsked tells w (request_of bytes) sent written result w'
+ServesLine tells TooLong bytes w sent written result w' = (w' ≡ w) × IsSent tells sent written (refusal LineTooLong) None result
+ServesLine tells Unended bytes w sent written result w' = (w' ≡ w) × IsSent tells sent written (refusal BadLine) (Some Input) result
+ServesLine tells NoLine bytes w sent written result w' = (w' ≡ w) × (IsTrue tells → written ≡ sent) × (result ≡ Some Input)
 
 -- the session has served these lines and goes on
 pub record SharedGoing (turns : List SharedTurn) (before later : List ℕ) (old new : Option WatcherView) (sent written : List ℕ) : Type 0 where

@@ -1,12 +1,12 @@
 //! A plain session: lines in, answers out.
-ghost use Rattle.std.specs.Prelude.{◌≡◌, ◌≢◌, ◌+◌, ◌<◌, true, IsTrue, IfNone, None, Some, Ok, []};
+ghost use Rattle.std.specs.Prelude.{◌≡◌, ◌≢◌, ◌+◌, ◌<◌, true, IsTrue, None, Some, Ok, []};
 ghost use Rattle.std.specs.Option.{ForSome};
 ghost use Rattle.mt_session.specs.Answers.{refusal};
 ghost use Rattle.mt_session.specs.Requests.{state_at, session_at};
 ghost use Rattle.mt_lines.specs.Reading.{bytes_left, failed_calls, last_faults, limit_of, fault_of};
 ghost use Rattle.mt_session.specs.Session.{Whole, ends_by, Served, line_limit, IsReadEnd, IsReadEndRun, IsCutCause, IsCutRun};
 ghost use Rattle.mt_session.specs.Headline.{TranscriptHolds};
-ghost use Rattle.mt_session.specs.Serving.{Answered, IsSent, Ran, ServedLine, ends_whole, ends_by_answer, ends_by_line};
+ghost use Rattle.mt_session.specs.Serving.{Answered, AnswersLine, IsSent, Ran, ends_whole};
 
 use crate::session::Session;
 use crate::text::Text;
@@ -77,7 +77,7 @@ fn refused(fault: Fault) -> LineAnswer
 }
 
 /// Answers a line that was read whole.
-fn answer_line(alloc: Global, session: &mut Session, floor: &mut Floor, line: &[u8]) -> LineAnswer
+fn answer_text(alloc: Global, session: &mut Session, floor: &mut Floor, line: &[u8]) -> LineAnswer
     requires idle { floor.old.due ≡ [] }
     ensures answered { Answered (state_at floor.old session.old) (state_at floor.new session.new) (Whole line.now) result.text result.end }
     ensures whole { ForSome result.end (λ e. ends_whole e ≡ true) }
@@ -102,7 +102,6 @@ pub(crate) fn answer_with<W: Output>(writer: &mut W, text: &Text, end: Option<En
     ensures sent { IsSent W.tells (W.written writer.old) (W.written writer.new) text.now end result }
     ensures cut { IsTrue W.counts → IsCutCause result (W.failed writer.old) (W.failed writer.new) }
     ensures cut_run { IsTrue W.counts → W.faults writer.old ≡ [] → IsCutRun result (W.faults writer.new) }
-    ensures ended { ForSome result (λ e. ends_by_answer e ≡ true) }
 {
     match send(writer, text.bytes()) {
         Ok(()) => end,
@@ -110,38 +109,29 @@ pub(crate) fn answer_with<W: Output>(writer: &mut W, text: &Text, end: Option<En
     }
 }
 
-/// Serves one line: how the session ends by it, if it does.
-fn serve_line<R: Input + Drop, W: Output>(
+/// Answers what a reader says of a line: how the session ends by it, if it does.
+fn serve_line<W: Output>(
     alloc: Global,
-    lines: &mut LineReader<R>,
-    writer: &mut W,
     session: &mut Session,
     floor: &mut Floor,
+    writer: &mut W,
+    line: Line,
+    bytes: &[u8],
 ) -> Option<End>
     requires idle { floor.old.due ≡ [] }
-    requires fresh { fault_of lines.old ≡ None }
-    requires limit { limit_of lines.old ≡ line_limit }
-    ensures served { IsTrue R.tells → IsTrue W.tells → ServedLine (bytes_left lines.old) (bytes_left lines.new) (state_at floor.old session.old) (state_at floor.new session.new) (W.written writer.old) (W.written writer.new) result }
+    ensures answered { AnswersLine W.tells line bytes.now (state_at floor.old session.old) (state_at floor.new session.new) (W.written writer.old) (W.written writer.new) result }
     ensures idle { floor.new.due ≡ [] }
     ensures cut { IsTrue W.counts → IsCutCause result (W.failed writer.old) (W.failed writer.new) }
     ensures cut_run { IsTrue W.counts → W.faults writer.old ≡ [] → IsCutRun result (W.faults writer.new) }
-    ensures read { IsTrue R.counts → IsReadEnd result (failed_calls lines.old) (failed_calls lines.new) }
-    ensures read_run { IsTrue R.counts → last_faults lines.old ≡ [] → IsReadEndRun result (last_faults lines.new) }
-    ensures ended { ForSome result (λ e. ends_by_line e ≡ true) }
-    ensures fresh { IfNone result (fault_of lines.new ≡ None) }
-    ensures limit { limit_of lines.new ≡ line_limit }
 {
-    match lines.next() {
-        Ok(Line::Text) => {
-            let reply = answer_line(alloc, session, floor, lines.line());
+    match line {
+        Line::Text => {
+            let reply = answer_text(alloc, session, floor, bytes);
             answer_with(writer, &reply.text, reply.end)
         }
-        Ok(Line::TooLong) => answer_with(writer, &Text::refusal(Fault::TooLong), None),
-        Ok(Line::Unended) => {
-            answer_with(writer, &Text::refusal(Fault::BadLine), Some(End::Input))
-        }
-        Ok(Line::End) => Some(End::Input),
-        Err(fault) => Some(End::Read(fault)),
+        Line::TooLong => answer_with(writer, &Text::refusal(Fault::TooLong), None),
+        Line::Unended => { answer_with(writer, &Text::refusal(Fault::BadLine), Some(End::Input)) }
+        Line::End => Some(End::Input),
     }
 }
 
@@ -164,8 +154,12 @@ fn serve_session<R: Input + Drop, W: Output>(
     ensures cut { IsTrue W.counts → IsCutCause (Some result) (W.failed writer.old) (W.failed writer.new) }
     ensures cut_run { IsTrue W.counts → W.faults writer.old ≡ [] → IsCutRun (Some result) (W.faults writer.new) }
 {
-    for _count in 0..MOST_LINES {
-        if let Some(end) = serve_line(alloc, lines, writer, session, floor) {
+    'lines: for _count in 0..MOST_LINES {
+        let line = match lines.next() {
+            Ok(line) => line,
+            Err(fault) => return End::Read(fault),
+        };
+        if let Some(end) = serve_line(alloc, session, floor, writer, line, lines.line()) {
             return end;
         }
     }

@@ -1,12 +1,12 @@
 //! A session in a thread of its own: lines in, answers out, at a desk that others share.
-ghost use Rattle.std.specs.Prelude.{◌≡◌, ◌++◌, ◌<◌, ◌≤◌, ◌⊎◌, ℕ, List, [], take, unwrap_or, Option, IsTrue, IfErr, OnOk, OnErr, IfNone, Ok, None, Some};
+ghost use Rattle.std.specs.Prelude.{◌≡◌, ◌++◌, ◌<◌, ◌≤◌, ◌⊎◌, ℕ, List, [], take, unwrap_or, Option, IsTrue, IfErr, OnOk, OnErr, Ok, None, Some};
 ghost use Rattle.mt_desk.specs.Calls.{WatcherView};
 ghost use Rattle.mt_lines.specs.Reading.{bytes_left, failed_calls, last_faults, limit_of, fault_of};
 ghost use Rattle.mt_lines.specs.Stream.{HasFailed, IsInterrupted};
 ghost use Rattle.mt_requests.specs.Requests.{request_of, HasRightCount};
 ghost use Rattle.mt_session.specs.Session.{line_limit, IsReadEnd, IsReadEndRun, IsCutCause, IsCutRun};
 ghost use Rattle.mt_session.specs.SharedSession.{ServedShared, HasLeft};
-ghost use Rattle.mt_session.specs.SharedServing.{IsSoFar, IsPiece, IsWithin, IsCutPiece, ServesAsked, ServedSharedLine};
+ghost use Rattle.mt_session.specs.SharedServing.{IsSoFar, IsPiece, IsWithin, IsCutPiece, ServesAsked, ServesLine};
 
 use crate::bell::Bell;
 use crate::gate::Gate;
@@ -112,32 +112,24 @@ fn serve_text<J: Naming, O: Output, G: Gate, R: Wait + Clock>(
     }
 }
 
-/// Serves one line: how the session ends by it, if it does.
-fn serve_line<J: Naming, I: Input + Drop, O: Output, G: Gate, R: Wait + Clock>(
+/// Serves what a reader says of a line: how the session ends by it, if it does.
+fn serve_line<J: Naming, O: Output, G: Gate, R: Wait + Clock>(
     rt: &R,
     shared: &Shared<'_, J, G>,
     session: &mut SharedSession<J>,
-    lines: &mut LineReader<I>,
     writer: &mut O,
+    line: Line,
+    bytes: &[u8],
 ) -> Option<End>
-    requires fresh { fault_of lines.old ≡ None }
-    requires limit { limit_of lines.old ≡ line_limit }
-    ensures served { IsTrue I.tells → IsTrue O.tells → ServedSharedLine (bytes_left lines.old) (bytes_left lines.new) session.old session.new (O.written writer.old) (O.written writer.new) result }
+    ensures served { ServesLine O.tells line bytes.now session.old (O.written writer.old) (O.written writer.new) result session.new }
     ensures cut { IsTrue O.counts → IsCutCause result (O.failed writer.old) (O.failed writer.new) }
     ensures cut_run { IsTrue O.counts → O.faults writer.old ≡ [] → IsCutRun result (O.faults writer.new) }
-    ensures read { IsTrue I.counts → IsReadEnd result (failed_calls lines.old) (failed_calls lines.new) }
-    ensures read_run { IsTrue I.counts → last_faults lines.old ≡ [] → IsReadEndRun result (last_faults lines.new) }
-    ensures fresh { IfNone result (fault_of lines.new ≡ None) }
-    ensures limit { limit_of lines.new ≡ line_limit }
 {
-    match lines.next() {
-        Ok(Line::Text) => serve_text(rt, shared, session, lines.line(), writer),
-        Ok(Line::TooLong) => answer_with(writer, &Text::refusal(Fault::TooLong), None),
-        Ok(Line::Unended) => {
-            answer_with(writer, &Text::refusal(Fault::BadLine), Some(End::Input))
-        }
-        Ok(Line::End) => Some(End::Input),
-        Err(fault) => Some(End::Read(fault)),
+    match line {
+        Line::Text => serve_text(rt, shared, session, bytes, writer),
+        Line::TooLong => answer_with(writer, &Text::refusal(Fault::TooLong), None),
+        Line::Unended => { answer_with(writer, &Text::refusal(Fault::BadLine), Some(End::Input)) }
+        Line::End => Some(End::Input),
     }
 }
 
@@ -159,7 +151,11 @@ fn serve_all<J: Naming, I: Input + Drop, O: Output, G: Gate, R: Wait + Clock>(
     ensures cut_run { IsTrue O.counts → O.faults writer.old ≡ [] → IsCutRun (Some result) (O.faults writer.new) }
 {
     'lines: for _count in 0..MOST_LINES {
-        if let Some(end) = serve_line(rt, shared, session, lines, writer) {
+        let line = match lines.next() {
+            Ok(line) => line,
+            Err(fault) => return End::Read(fault),
+        };
+        if let Some(end) = serve_line(rt, shared, session, writer, line, lines.line()) {
             return end;
         }
     }

@@ -1,4 +1,4 @@
-use Rattle.mt_session.proofs.SessionLaws.{answer_ends, cause_whole, run_whole}
+use Rattle.mt_session.proofs.SessionLaws.{cause_whole, run_whole}
 use Rattle.mt_session.proofs.serving.answer_with.Goals as goal
 
 pub returns-in-Ok-clause-cut : goal.returns-in-Ok-clause-cut
@@ -6,6 +6,3 @@ returns-in-Ok-clause-cut g c t = cause_whole c.args.end _ _ c.requires (c.in-Ok.
 
 pub returns-in-Ok-clause-cut_run : goal.returns-in-Ok-clause-cut_run
 returns-in-Ok-clause-cut_run g c t none = run_whole c.args.end _ c.requires (c.in-Ok.ensures.served t none)
-
-pub returns-in-Ok-clause-ended : goal.returns-in-Ok-clause-ended
-returns-in-Ok-clause-ended g c by is = answer_ends by (c.requires by is)

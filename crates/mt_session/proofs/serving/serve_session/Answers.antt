@@ -1,28 +1,55 @@
-use Rattle.std.proofs.Common.{[], ◌∷◌, ◌++◌, arith, length-append, refl}
+use Rattle.std.proofs.Common.{[], ◌∷◌, ◌++◌, ◌∙◌, None, Some, arith, length-append, refl}
+use Rattle.mt_lines.specs.Reading.{limit_of}
 use Rattle.mt_session.specs.Requests.{state_at}
-use Rattle.mt_session.proofs.SessionLaws.{Going-more, Served-more, not_memory}
+use Rattle.mt_session.proofs.SessionLaws.{Going-more, Served-more, after_fault_at, line_served, line_ends, line_answered, read_answered, run_answered, not_memory}
 use Rattle.mt_session.proofs.serving.serve_session.Goals as goal
+
+pub returns-in-Err-clause-ran : goal.returns-in-Err-clause-ran
+returns-in-Err-clause-ran g c t u =
+    let i = c.lines.invariant.going t u in
+    let now = state_at c.lines.floor c.lines.session in
+    let b = after_fault_at (limit_of c.lines.lines) _ _ _ c.in-Err.fault now (g.W.Output.written c.lines.writer) c.lines.invariant.limit
+    (λ e. c.in-Err.ensures.memory (rw c.lines.invariant.fresh refl) (rw e refl)) (c.in-Err.ensures.next (rw c.lines.invariant.fresh refl) t) in
+    Served-more i.0 _ _ (state_at c.args.floor.now c.args.session.now) now now _ _ _ _ i.2 b.0 refl (simp length-append (omega (arith, i.1, b.1, c.lines-test.true)))
 
 pub returns-in-Some-clause-ran : goal.returns-in-Some-clause-ran
 returns-in-Some-clause-ran g c t u =
-    let i = c.loop-count.invariant.going t u in
-    let b = c.in-Some.ensures.served t u in
-    Served-more i.0 _ _ (state_at c.args.floor.now c.args.session.now) (state_at c.loop-count.floor c.loop-count.session) (state_at c.serve_line.new.floor c.serve_line.new.session) _ _ _ _ i.2 b.0 (c.in-Some.ensures.ended _ refl) (simp length-append (omega (arith, i.1, b.1)))
-
-pub loop-count-preserved : goal.loop-count-preserved
-loop-count-preserved g c = record {
-  read = λ t. omega (arith, c.loop-count.invariant.read t, c.in_default.ensures.read t);
-  read_run = λ t none. c.in_default.ensures.read_run t (c.loop-count.invariant.read_run t none);
-  failed = λ t. omega (arith, c.loop-count.invariant.failed t, c.in_default.ensures.cut t);
-  cut_run = λ t none. c.in_default.ensures.cut_run t (c.loop-count.invariant.cut_run t none);
-  idle = c.in_default.ensures.idle;
-  fresh = c.in_default.ensures.fresh;
-  limit = c.in_default.ensures.limit;
-  going = λ t u.
-      let i = c.loop-count.invariant.going t u in
-      let n = c.in_default.ensures.served t u in
-      (i.0 ++ n.0 ∷ [], simp length-append (omega (arith, i.1)), Going-more i.0 (n.0 ∷ []) _ _ _ (state_at c.args.floor.now c.args.session.now) (state_at c.loop-count.floor c.loop-count.session) (state_at c.serve_line.new.floor c.serve_line.new.session) _ _ _ i.2 n.1);
-}
+    let i = c.lines.invariant.going t u in
+    let now = state_at c.lines.floor c.lines.session in
+    let new = state_at c.serve_line.new.floor c.serve_line.new.session in
+    let b = line_served g.W.Output.tells (limit_of c.lines.lines) _ _ _ c.in-Ok.line now new _ _ (Some c.in-Some.end) u c.lines.invariant.limit
+    (c.in-Ok.ensures.next (rw c.lines.invariant.fresh refl) t) (rw c.line.ensures at c.in-Some.ensures.answered) in
+    let ended = line_answered c.in-Some.end (line_ends g.W.Output.tells c.in-Ok.line _ now new _ _ (Some c.in-Some.end) c.in-Some.ensures.answered c.in-Some.end refl) in
+    Served-more i.0 _ _ (state_at c.args.floor.now c.args.session.now) now new _ _ _ _ i.2 b.0 ended (simp length-append (omega (arith, i.1, b.1, c.lines-test.true)))
 
 pub returns-in-Some-clause-memory : goal.returns-in-Some-clause-memory
-returns-in-Some-clause-memory g c = not_memory _ (c.in-Some.ensures.ended _ refl)
+returns-in-Some-clause-memory g c =
+    not_memory c.in-Some.end (line_answered c.in-Some.end (line_ends g.W.Output.tells c.in-Ok.line _ _ _ _ _ (Some c.in-Some.end) c.in-Some.ensures.answered c.in-Some.end refl))
+
+pub returns-in-Some-clause-read : goal.returns-in-Some-clause-read
+returns-in-Some-clause-read g c t =
+    read_answered (Some c.in-Some.end) _ _ (line_ends g.W.Output.tells c.in-Ok.line _ _ _ _ _ (Some c.in-Some.end) c.in-Some.ensures.answered)
+    (omega (arith, c.lines.invariant.read t, c.in-Ok.ensures.cause (rw c.lines.invariant.fresh refl) t))
+
+pub returns-in-Some-clause-read_run : goal.returns-in-Some-clause-read_run
+returns-in-Some-clause-read_run g c t none =
+    run_answered (Some c.in-Some.end) _ (line_ends g.W.Output.tells c.in-Ok.line _ _ _ _ _ (Some c.in-Some.end) c.in-Some.ensures.answered)
+    (c.in-Ok.ensures.faults (rw c.lines.invariant.fresh refl) t (c.lines.invariant.read_run t none))
+
+pub lines-preserved : goal.lines-preserved
+lines-preserved g c = record {
+  read = λ t. omega (arith, c.lines.invariant.read t, c.in-Ok.ensures.cause (rw c.lines.invariant.fresh refl) t);
+  read_run = λ t none. c.in-Ok.ensures.faults (rw c.lines.invariant.fresh refl) t (c.lines.invariant.read_run t none);
+  failed = λ t. omega (arith, c.lines.invariant.failed t, c.in_default.ensures.cut t);
+  cut_run = λ t none. c.in_default.ensures.cut_run t (c.lines.invariant.cut_run t none);
+  idle = c.in_default.ensures.idle;
+  fresh = c.in-Ok.ensures.fault;
+  limit = c.in-Ok.ensures.same ∙ c.lines.invariant.limit;
+  going = λ t u.
+      let i = c.lines.invariant.going t u in
+      let now = state_at c.lines.floor c.lines.session in
+      let new = state_at c.serve_line.new.floor c.serve_line.new.session in
+      let n = line_served g.W.Output.tells (limit_of c.lines.lines) _ _ _ c.in-Ok.line now new _ _ None u c.lines.invariant.limit
+      (c.in-Ok.ensures.next (rw c.lines.invariant.fresh refl) t) (rw c.line.ensures at c.in_default.ensures.answered) in
+      (i.0 ++ n.0 ∷ [], simp length-append (omega (arith, i.1)), Going-more i.0 (n.0 ∷ []) _ _ _ (state_at c.args.floor.now c.args.session.now) now new _ _ _ i.2 n.1);
+}

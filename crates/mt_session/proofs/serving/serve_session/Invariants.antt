@@ -5,8 +5,8 @@ use Rattle.mt_session.specs.Session.{Turn, Going, line_limit}
 use Rattle.mt_session.proofs.serving.serve_session.Given as goal
 
 -- so many lines were served, and the session goes on
-abbrev pub invariant-loop-count : goal.invariant-loop-count
-invariant-loop-count g l = record {
+abbrev pub invariant-lines : goal.invariant-lines
+invariant-lines g l = record {
   read : IsTrue g.R.Input.counts → failed_calls l.initial.lines ≤ failed_calls l.lines;
   read_run : IsTrue g.R.Input.counts → last_faults l.initial.lines ≡ [] → last_faults l.lines ≡ [];
   failed : IsTrue g.W.Output.counts → g.W.Output.failed l.initial.writer ≤ g.W.Output.failed l.writer;

@@ -1,7 +1,7 @@
 use Rattle.std.proofs.Common.{◌∙◌, ap, subst}
 use Rattle.mt_session.specs.Requests.{SessionState, state_at, answer_to, state_to, IsUndone}
 use Rattle.mt_session.proofs.SessionLaws.{at_rest, answered_ok, answered_none, answered_err}
-use Rattle.mt_session.proofs.serving.answer_line.Goals as goal
+use Rattle.mt_session.proofs.serving.answer_text.Goals as goal
 
 pub returns-in-Err-clause-answered : goal.returns-in-Err-clause-answered
 returns-in-Err-clause-answered c =
