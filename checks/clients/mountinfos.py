@@ -100,6 +100,22 @@ PARTLY = [
     ],
 ]
 
+# Tables of slaves, each alone in a peer group, at the directories that they show: what is mounted for one of them comes to it too,
+# and is taken away there. Groups that are made behind that show how many groups this took.
+HOOKED = [
+    [
+        b"1 1 0:1 / / rw shared:1 - tmpfs none rw",
+        b"2 1 0:2 / /b rw shared:2 - tmpfs none rw",
+        b"3 1 0:1 /a/c /a/c rw shared:3 master:1 - tmpfs none rw",
+        b"4 1 0:1 /a /a rw shared:4 master:1 - tmpfs none rw",
+    ],
+    [
+        b"5 5 0:1 /a / rw shared:5 master:1 - tmpfs none rw",
+        b"6 5 0:1 /a/a /a rw shared:6 master:1 - tmpfs none rw",
+        b"7 5 0:3 / /a/b rw shared:7 - tmpfs none rw",
+    ],
+]
+
 # As many groups as may be above one.
 MOST_ABOVE = 64
 

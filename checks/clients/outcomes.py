@@ -39,7 +39,6 @@ ROOTLESS = re.compile(rb"# table (\d+) has no root mount")
 KEEPER = re.compile(rb"# namespace (\d+) keeps masters of which no table has a mount")
 FILESYSTEM = re.compile(rb"# (\d+:\d+) is filesystem (\d+)")
 GROUP = re.compile(rb"# shared:(\d+) of the tables is shared:(\d+)")
-ALONE = re.compile(rb"# the next line makes shared:(\d+) of the tables")
 
 ESCAPE = re.compile(rb"\\([0-3][0-7]{2})")
 
@@ -283,10 +282,8 @@ class Imported:
         devices = self.numbers.devices.to
         self.check("filesystems are told", dict(pairs) == devices and len(pairs) == len(devices), f"{pairs} {devices}")
         pairs = [found.groups() for found in map(GROUP.match, self.script) if found]
-        alone = [found[1] for found in map(ALONE.match, self.script) if found]
         groups = self.numbers.groups.to
-        good = all(groups.get(told) == here for told, here in pairs) and sorted([*dict(pairs), *alone]) == sorted(groups)
-        self.check("groups are told", good and len(pairs) == len(dict(pairs)), f"{pairs} {alone} {groups}")
+        self.check("groups are told", dict(pairs) == groups and len(pairs) == len(groups), f"{pairs} {groups}")
 
     def left(self):
         return left_out(self.script)

@@ -151,6 +151,12 @@ def check_same(program, mountctl):
     check("a table given twice is told", all(b" is left out: its table is told before: " in line for line in again) and len(again) >= len(table), shown(b"\n".join(again)))
 
 
+def check_hooked(program, mountctl):
+    """Slaves that what is mounted for them comes to are made, and the numbers of their groups are told."""
+    world = check_world(program, mountctl, "slaves that a hook comes to", mountinfos.HOOKED)
+    world.check("nothing is left out", world.left() == [])
+
+
 def check_files(mountctl):
     """Files that cannot be read and lines that are none are refused by name, and more than 64 files, and nothing is printed."""
     good = b"1 1 0:1 / / rw,relatime - tmpfs none rw"
@@ -225,5 +231,6 @@ def check_worlds(program, mountctl):
     check_files(mountctl)
     check_refused(mountctl)
     check_same(program, mountctl)
+    check_hooked(program, mountctl)
     check_random(program, mountctl)
     check_large(program, mountctl)

@@ -16,7 +16,7 @@ use Rattle.mt_import.specs.declared.mount.Mount.{Mount}
 
 -- which mounts wait for their end
 abbrev pub waiting_end : Waiting → List ℕ
-waiting_end (Row number above left) = []
+waiting_end (Row number on) = []
 waiting_end (End number) = number ∷ []
 
 abbrev pub waiting_ends : List Waiting → List ℕ

@@ -6,10 +6,10 @@ use Rattle.mt_import.specs.declared.groups.Group.{Group}
 use Rattle.mt_import.specs.declared.mount.Mount.{Mount}
 use Rattle.mt_import.specs.Reading.{ToldMount}
 use Rattle.mt_import.specs.Commands.{mount_text, bind_text}
-use Rattle.mt_import.specs.Groups.{receiving, source_group, is_alone}
+use Rattle.mt_import.specs.Groups.{receiving, source_group, is_alone, number_here}
 use Rattle.mt_import.specs.Options.{options_text}
 use Rattle.mt_import.specs.Paths.{path_word}
-use Rattle.mt_import.specs.Script.{line_or_comment, alone_comment}
+use Rattle.mt_import.specs.Script.{line_or_comment, group_comment}
 use Rattle.mt_import.specs.Slots.{staged_path, group_path}
 
 -- options and the propagation of a mount are set, if there is anything to set
@@ -55,6 +55,10 @@ abbrev pub late_options : Bool → List ℕ → List ℕ
 late_options true options = options
 late_options false options = codes "relatime"
 
+abbrev pub alone_comment : BTreeMap ℕ Group → Option ℕ → List ℕ
+alone_comment groups None = []
+alone_comment groups (Some group) = group_comment group (number_here groups group)
+
 unfoldable pub share_text : BTreeMap ℕ Group → List ℕ → ToldMount → List ℕ → List ℕ
 share_text groups space row path =
-    if is_alone groups row.shared then alone_comment row.shared ++ attributes_text space (late_options (waits groups row) row.options) path (Some (codes "prop=shared")) else []
+    if is_alone groups row.shared then alone_comment groups row.shared ++ attributes_text space (late_options (waits groups row) row.options) path (Some (codes "prop=shared")) else []

@@ -16,11 +16,6 @@ why_pathless root point =
     else (if has_script_name root || has_script_name point then Some ScriptName
     else (if is_too_deep root then Some TooDeep else None))
 
--- a mount that has a place shows a directory and stands on another one
-abbrev pub IsAt : List ℕ → List ℕ → Placed → Type 0
-IsAt root place (There mount) = (mount.root.now ≡ root) × (mount.place.items ≡ place)
-IsAt root place (Left why) = Unit {0}
-
 -- The mount of a row on another one shows the directory of the row, and stands on the directory that its mount point is below that of the other one. Both
 -- are paths that the script can name.
 pub record IsPlacedOn (parent : Mount) (row : ToldMount) (mount : Mount) : Type 0 where

@@ -80,13 +80,9 @@ abbrev pub mount_comment : ℕ → ToldMount → Option Reason → List ℕ
 mount_comment table row None = options_comment table row
 mount_comment table row (Some why) = left_out_text table row why
 
--- which group a mount comes into that is alone in it
-unfoldable pub next_comment : ℕ → List ℕ
-next_comment group = line_text (flat_map (λ x. x) (codes "# the next line makes shared:" ∷ decimal group ∷ codes " of the tables" ∷ []))
-
-abbrev pub alone_comment : Option ℕ → List ℕ
-alone_comment None = []
-alone_comment (Some group) = next_comment group
+-- which group of the tables is which one of the server
+unfoldable pub group_comment : ℕ → ℕ → List ℕ
+group_comment there here = line_text (flat_map (λ x. x) (codes "# shared:" ∷ decimal there ∷ codes " of the tables is shared:" ∷ decimal here ∷ []))
 
 -- of which table none is made
 unfoldable pub rootless_comment : ℕ → List ℕ

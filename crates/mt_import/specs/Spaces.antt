@@ -33,12 +33,12 @@ unfoldable pub covers_text : BTreeMap ℕ Group → List ℕ → Space → List 
 covers_text groups space of = flat_map (raised groups space of.tree.mounts) (covers of) ++ flat_map (lowered groups space of.tree.mounts) (reverse (covers of))
 
 -- the mounts of a table are made, one after another, in the namespace of a number
-abbrev pub turns_text : BTreeMap ℕ Group → List ℕ → Space → List ℕ
-turns_text groups space of = flat_map (turn_text groups space stage of.tree.mounts of.ways.items of.left.items) of.tree.turns
+abbrev pub turns_text : BTreeMap ℕ Group → List ℕ → List ℕ → Space → List ℕ
+turns_text groups space at of = flat_map (turn_text groups space at of.tree.mounts of.ways.items of.left.items) of.tree.turns
 
-abbrev pub mounts_made : BTreeMap ℕ Group → List ℕ → Space → List ℕ
-mounts_made groups space of =
-    (turns_text groups space of ++ covers_text groups space of) ++ finished groups space stage of.tree.mounts
+abbrev pub mounts_made : BTreeMap ℕ Group → List ℕ → List ℕ → Space → List ℕ
+mounts_made groups space at of =
+    (turns_text groups space at of ++ covers_text groups space of) ++ finished groups space at of.tree.mounts
 
 -- in a copy of the first namespace, but for that itself
 abbrev pub copied_if : Bool → List ℕ
@@ -47,7 +47,7 @@ copied_if false = []
 
 unfoldable pub space_text : BTreeMap ℕ Group → Space → List ℕ
 space_text groups of =
-    (space_comment of.tree.table (decimal of.number) ++ copied_if (nat_lt 1 of.number)) ++ mounts_made groups (decimal of.number) of
+    (space_comment of.tree.table (decimal of.number) ++ copied_if (nat_lt 1 of.number)) ++ mounts_made groups (decimal of.number) stage of
 
 abbrev pub made_space_at : BTreeMap ℕ Group → List Space → ℕ → List ℕ
 made_space_at groups spaces number = option_map_or (space_text groups) (slice_get spaces number) []

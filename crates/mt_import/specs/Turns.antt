@@ -8,7 +8,7 @@ use Rattle.mt_import.specs.declared.mount.Mount.{Mount}
 use Rattle.mt_import.specs.declared.mount.Turn.{Turn}
 use Rattle.mt_import.specs.declared.mount.Turn.TheVariants.{Base, Begin, End}
 use Rattle.mt_import.specs.declared.reason.Reason.{Reason}
-use Rattle.mt_import.specs.declared.ways.Way.{Way}
+use Rattle.mt_import.specs.declared.space.Way.{Way}
 use Rattle.mt_import.specs.Commands.{move_text}
 use Rattle.mt_import.specs.Covers.{base_text}
 use Rattle.mt_import.specs.Groups.{receiving}

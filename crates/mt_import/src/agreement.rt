@@ -1,7 +1,7 @@
 //! Whether rows tell the same of peer groups.
 
 use crate::groups::{Groups, MOST_CHAIN};
-use crate::reason::Reason;
+use crate::reason::{Reason, Why};
 use crate::told::HostMount;
 
 /// Whether a mount can be in peer groups as its row tells: only one in none is unbindable, and only a slave gets from a group
@@ -72,7 +72,7 @@ fn agrees(groups: &Groups<'_>, row: &HostMount, table: usize) -> bool {
 }
 
 /// Why a mount cannot be made by its peer groups, if it cannot.
-pub(crate) fn why_groupless(groups: &Groups<'_>, row: &HostMount, table: usize) -> Option<Reason> {
+pub(crate) fn why_groupless(groups: &Groups<'_>, row: &HostMount, table: usize) -> Why {
     if groups.height(row.shared.or(row.master)) > MOST_CHAIN {
         return Some(Reason::TooLow);
     }

@@ -6,14 +6,14 @@ ghost use Rattle.mt_import.specs.Tree.{is_made};
 use crate::agreement::why_groupless;
 use crate::groups::Groups;
 use crate::mount::Mount;
-use crate::reason::Reason;
+use crate::reason::{Reason, Why};
 use crate::told::HostMount;
 use crate::tree::Tree;
-use crate::writer::Done;
-use std::alloc::{AllocError, Global};
+use crate::writer::{Allocated, Done};
+use std::alloc::Global;
 
 /// Why mounts are left out, by their numbers: those of which this is None are made.
-pub(crate) type Left = Vec<Option<Reason>>;
+pub(crate) type Left = Vec<Why>;
 
 /// A mount of the trees, which is made unless it is left out.
 #[derive(Clone, Copy)]
@@ -45,7 +45,7 @@ pub(crate) struct Choice<'t, 'a> {
 
 /// Whether the mount of a number is made.
 #[tactic(auto, unfolding(crate::specs::Tree::is_made))]
-pub(crate) fn is_made(left: &[Option<Reason>], number: usize) -> bool
+pub(crate) fn is_made(left: &[Why], number: usize) -> bool
     ensures { result ≡ is_made left.now number }
 {
     matches!(left.get(number), Some(None))
@@ -69,11 +69,11 @@ fn add_tree<'t, 'a>(all: &mut Vec<Candidate<'t, 'a>>, tree: &'t Tree<'a>) -> Don
     Ok(())
 }
 
-/// The mounts of the trees. Fails for want of memory alone.
+/// The mounts of the trees.
 pub(crate) fn candidates_of<'t, 'a>(
     alloc: Global,
     trees: &'t [Tree<'a>],
-) -> Result<Vec<Candidate<'t, 'a>>, AllocError> {
+) -> Allocated<Vec<Candidate<'t, 'a>>> {
     let mut all = Vec::new(alloc);
     for tree in trees {
         add_tree(&mut all, tree)?;
@@ -81,9 +81,9 @@ pub(crate) fn candidates_of<'t, 'a>(
     Ok(all)
 }
 
-/// The peer groups of mounts. A member is staged of one in which a mount is on whose root another one stands, elsewhere than
-/// at the root of the namespace. Fails for want of memory alone.
-fn groups_of<'a>(alloc: Global, made: &[Candidate<'_, 'a>]) -> Result<Groups<'a>, AllocError> {
+/// The peer groups of mounts. A member is staged of one in which a mount is on whose root another one stands, elsewhere than at
+/// the root of the namespace.
+fn groups_of<'a>(alloc: Global, made: &[Candidate<'_, 'a>]) -> Allocated<Groups<'a>> {
     let mut groups = Groups::new(alloc);
     for candidate in made {
         groups.add(candidate.row, candidate.table)?;
@@ -96,16 +96,11 @@ fn groups_of<'a>(alloc: Global, made: &[Candidate<'_, 'a>]) -> Result<Groups<'a>
         }
     }
     groups.settle(alloc)?;
-    groups.stage_all_above(alloc)?;
     Ok(groups)
 }
 
 /// Why a mount is left out beside the others, if it is: what it stands on is, by its groups, or at the root of the namespace.
-fn why_left(
-    groups: &Groups<'_>,
-    candidate: &Candidate<'_, '_>,
-    left: &[Option<Reason>],
-) -> Option<Reason> {
+fn why_left(groups: &Groups<'_>, candidate: &Candidate<'_, '_>, left: &[Why]) -> Why {
     if let Some(why) = why_groupless(groups, candidate.row, candidate.table) {
         return Some(why);
     }
@@ -133,12 +128,12 @@ fn judge(groups: &Groups<'_>, made: &[Candidate<'_, '_>], left: &mut Left) {
     }
 }
 
-/// Which mounts are made, of so many from the first: as many as agree. Fails for want of memory alone.
+/// Which mounts are made, of so many from the first: as many as agree.
 pub(crate) fn choose<'t, 'a>(
     alloc: Global,
     all: &[Candidate<'t, 'a>],
     most: usize,
-) -> Result<Choice<'t, 'a>, AllocError> {
+) -> Allocated<Choice<'t, 'a>> {
     let mut left = Vec::new(alloc);
     left.resize_with(all.len().min(most), || None)?;
     left.resize_with(all.len(), || Some(Reason::NoRoom))?;

@@ -3,8 +3,8 @@
 use crate::choice::Candidate;
 use crate::script::Script;
 use crate::told::HostMount;
-use crate::writer::{Done, Text, command, comment, digits_of, note, spaced};
-use std::alloc::{AllocError, Global};
+use crate::writer::{Allocated, Done, Text, comment, digits_of, note, spaced};
+use std::alloc::Global;
 use std::collections::BTreeMap;
 
 /// The filesystems of mounts.
@@ -40,35 +40,29 @@ impl<'a> Filesystems<'a> {
     /// Makes the filesystems. A mount whose line tells another type or source than the first of its device is told in a
     /// comment.
     pub(crate) fn make(&self, script: &mut Script) -> Done {
-        let mut here = 1_u64;
-        for (_, first) in self.all.iter() {
+        for (before, first) in self.all.values().enumerate() {
             let (table, row) = *first;
-            make_one(script, table, row, here)?;
-            here = here.saturating_add(1);
+            make_one(script, table, row, before.saturating_add(1))?;
         }
         self.tell_others(script)
     }
 
     /// Tells the rows that tell another type or source of their device.
     fn tell_others(&self, script: &mut Script) -> Done {
+        let text = b"tells another type or source of its device";
         for other in self.others.iter() {
             let (table, row) = *other;
-            note(
-                script,
-                table,
-                row,
-                b"tells another type or source of its device",
-            )?;
+            note(script, table, row, text)?;
         }
         Ok(())
     }
 }
 
-/// The filesystems of the mounts that are made. Fails for want of memory alone.
+/// The filesystems of the mounts that are made.
 pub(crate) fn filesystems_of<'a>(
     alloc: Global,
     made: &[Candidate<'_, 'a>],
-) -> Result<Filesystems<'a>, AllocError> {
+) -> Allocated<Filesystems<'a>> {
     let mut filesystems = Filesystems {
         all: BTreeMap::new(alloc),
         others: Vec::new(alloc),
@@ -96,15 +90,10 @@ fn source_word(alloc: Global, source: &[u8]) -> Text {
     Ok(word)
 }
 
-/// Appends the command that makes a filesystem, if the server would read it: whether it would. Fails for want of memory alone.
-fn push_filesystem(
-    script: &mut Script,
-    device: &[u8],
-    kind: &[u8],
-    source: &[u8],
-) -> Result<bool, AllocError> {
+/// Appends the command that makes a filesystem, if the server would read it: whether it would.
+fn push_mkfs(script: &mut Script, device: &[u8], kind: &[u8], source: &[u8]) -> Allocated<bool> {
     let line = spaced(script.alloc(), &[b"mkfs", device, kind, source])?;
-    script.add(line.as_slice())
+    script.push(line.as_slice())
 }
 
 /// Makes the filesystem of a device. A type or source that no filesystem can have is told in a comment, and `none` in its
@@ -112,31 +101,26 @@ fn push_filesystem(
 fn make_filesystem(script: &mut Script, table: usize, row: &HostMount) -> Done {
     let (device, kind) = (row.device.as_slice(), row.kind.as_slice());
     let source = source_word(script.alloc(), row.source.as_slice())?;
-    if push_filesystem(script, device, kind, source.as_slice())? {
+    if push_mkfs(script, device, kind, source.as_slice())? {
         return Ok(());
     }
-    note(
-        script,
-        table,
-        row,
-        b"has a type or source that no filesystem can have",
-    )?;
-    if push_filesystem(script, device, kind, b"none")?
-        || push_filesystem(script, device, b"none", source.as_slice())?
-    {
-        return Ok(());
-    }
-    command(script, &[b"mkfs", device, b"none", b"none"])
+    let text = b"has a type or source that no filesystem can have";
+    note(script, table, row, text)?;
+    let _is_read = push_mkfs(script, device, kind, b"none")?
+        || push_mkfs(script, device, b"none", source.as_slice())?
+        || push_mkfs(script, device, b"none", b"none")?;
+    Ok(())
 }
 
 /// Makes the filesystem of a row, the one of a number here. Its super options are told with its first mount, if they are
 /// others than `rw`: they are the last word of a line.
-fn make_one(script: &mut Script, table: usize, row: &HostMount, here: u64) -> Done {
-    let (device, here) = (row.device.as_slice(), digits_of(script.alloc(), here)?);
-    comment(
-        script,
-        &[b"# ", device, b" is filesystem ", here.as_slice()],
-    )?;
+fn make_one(script: &mut Script, table: usize, row: &HostMount, here: usize) -> Done {
+    let (device, here) = (
+        row.device.as_slice(),
+        digits_of(script.alloc(), here as u64)?,
+    );
+    let texts: [&[u8]; 4] = [b"# ", device, b" is filesystem ", here.as_slice()];
+    comment(script, texts.as_slice())?;
     make_filesystem(script, table, row)?;
     if row.line.as_slice().ends_with(b" rw") {
         return Ok(());

@@ -1,19 +1,18 @@
 //! The peer groups that the rows of all tables name.
 ghost use Rattle.std.specs.Prelude.{◌≡◌};
 ghost use Rattle.std.specs.BTreeMap.{get};
+ghost use Rattle.std.specs.Iterator.{at_most};
 ghost use Rattle.std.specs.Ordering.{nat_cmp};
-ghost use Rattle.mt_import.specs.Groups.{is_staged, has_receivers, receiving, source_group, is_alone};
+ghost use Rattle.mt_import.specs.Groups.{is_staged, receiving, source_group, is_alone, number_here};
 
 use crate::agreement::may_add;
 use crate::told::HostMount;
-use crate::writer::Done;
-use std::alloc::{AllocError, Global};
+use crate::writer::{Allocated, Done};
+use std::alloc::Global;
 use std::collections::{BTreeMap, BTreeSet};
 
-/// The most groups above one of which mounts are made, and the same with that one.
-pub(crate) const MOST_ABOVE: usize = 64;
-
-pub(crate) const MOST_CHAIN: usize = MOST_ABOVE + 1;
+/// The most groups in a row of which mounts are made, each the master of the one before.
+pub(crate) const MOST_CHAIN: usize = 65;
 
 /// What rows tell of a peer group.
 #[derive(Clone, Copy)]
@@ -25,8 +24,10 @@ pub(crate) struct Group<'a> {
     /// How many rows are members.
     pub(crate) members: u64,
     /// Whether one is staged in any case: a row has it as its master, or as the group that it gets from, or a member has
-    /// another mount on its root, or it is above such a group.
+    /// another mount on its root.
     is_needed: bool,
+    /// The number that the server gives it, once that is found out.
+    pub(crate) here: u64,
 }
 
 impl<'a> Group<'a> {
@@ -38,6 +39,12 @@ impl<'a> Group<'a> {
     }
 }
 
+/// The groups of which a member is staged, each behind how many are above it, itself among them.
+pub(crate) type Staged = BTreeSet<(usize, u64)>;
+
+/// Counts of groups, by their numbers.
+pub(crate) type Counts = BTreeMap<u64, usize>;
+
 /// The groups that rows name, by their numbers.
 #[derive(Drop)]
 pub(crate) struct Groups<'a> {
@@ -46,6 +53,30 @@ pub(crate) struct Groups<'a> {
     inside: BTreeSet<(u64, usize)>,
     /// Which group slaves of a group get from by way of it.
     beyond: BTreeSet<(u64, u64)>,
+}
+
+/// A group and those above it, one after another, as far as they are followed.
+#[derive(Drop)]
+pub(crate) struct Upwards<'g, 'a> {
+    groups: &'g Groups<'a>,
+    next: Option<u64>,
+    left: usize,
+}
+
+impl<'g, 'a> Iterator for Upwards<'g, 'a> {
+    type Item = u64;
+
+    ghost remaining = { λ s. at_most s.left };
+
+    fn next(&mut self) -> Option<u64> {
+        if self.left == 0 {
+            return None;
+        }
+        self.left -= 1;
+        let number = self.next?;
+        self.next = self.groups.above(number);
+        Some(number)
+    }
 }
 
 impl<'a> Groups<'a> {
@@ -70,54 +101,38 @@ impl<'a> Groups<'a> {
         self.get(number).and_then(|group| group.master)
     }
 
+    /// A group, if it is one, and those above it: no more than one more than those of which mounts are made.
+    pub(crate) fn upwards(&self, first: Option<u64>) -> Upwards<'_, 'a> {
+        Upwards {
+            groups: self,
+            next: first,
+            left: MOST_CHAIN + 1,
+        }
+    }
+
+    /// Counts so many more for a group, if for one, and for each above it.
+    pub(crate) fn count_up(&self, counts: &mut Counts, first: Option<u64>, count: usize) -> Done {
+        for number in self.upwards(first) {
+            let old = counts.get(&number).copied().unwrap_or(0);
+            counts.insert(number, old.saturating_add(count))?;
+        }
+        Ok(())
+    }
+
     /// Whether a group is this one, or has it above.
     pub(crate) fn leads_to(&self, first: Option<u64>, group: u64) -> bool {
-        let mut next = first;
-        for _step in 0..=MOST_ABOVE {
-            let Some(number) = next else {
-                return false;
-            };
-            if number == group {
-                return true;
-            }
-            next = self.above(number);
-        }
-        false
+        self.upwards(first).any(|number| number == group)
     }
 
     /// How many groups are above one, itself among them; `MOST_CHAIN` and 1 where there are more.
     pub(crate) fn height(&self, first: Option<u64>) -> usize {
-        let mut next = first;
-        for step in 0..=MOST_CHAIN {
-            let Some(number) = next else {
-                return step;
-            };
-            next = self.above(number);
-        }
-        MOST_CHAIN + 1
+        self.upwards(first).count()
     }
 
     /// The nearest group that is this one or above it and has a member in a table.
     pub(crate) fn seen_from(&self, first: Option<u64>, table: usize) -> Option<u64> {
-        let mut next = first;
-        for _step in 0..=MOST_ABOVE {
-            let number = next?;
-            if self.inside.contains(&(number, table)) {
-                return Some(number);
-            }
-            next = self.above(number);
-        }
-        None
-    }
-
-    /// Whether a mount of this group, if it is in one, has others that get what is mounted on it.
-    fn has_receivers(&self, shared: Option<u64>) -> bool
-        ensures { result ≡ has_receivers self.now.all shared }
-    {
-        let Some(number) = shared else {
-            return false;
-        };
-        self.get(number).is_some_and(|group| group.is_staged())
+        self.upwards(first)
+            .find(|number| self.inside.contains(&(*number, table)))
     }
 
     /// The group of a mount, if it is in one and others get what is mounted on it.
@@ -125,11 +140,8 @@ impl<'a> Groups<'a> {
     pub(crate) fn receiving(&self, shared: Option<u64>) -> Option<u64>
         ensures { result ≡ receiving self.now.all shared }
     {
-        if self.has_receivers(shared) {
-            shared
-        } else {
-            None
-        }
+        let group = self.get(shared?)?;
+        if group.is_staged() { shared } else { None }
     }
 
     /// The group from whose staged member a mount is bound, if from one: its own, or its master.
@@ -144,7 +156,21 @@ impl<'a> Groups<'a> {
     pub(crate) fn is_alone(&self, shared: Option<u64>) -> bool
         ensures { result ≡ is_alone self.now.all shared }
     {
-        shared.is_some() && !self.has_receivers(shared)
+        shared.is_some() && self.receiving(shared).is_none()
+    }
+
+    /// The number that the server gives a group, or 0.
+    pub(crate) fn here(&self, number: u64) -> u64
+        ensures { result ≡ number_here self.now.all number }
+    {
+        self.get(number).map_or(0, |group| group.here)
+    }
+
+    /// Notes the number that the server gives a group.
+    pub(crate) fn set_here(&mut self, number: u64, here: u64) {
+        if let Some(group) = self.all.get_mut(&number) {
+            group.here = here;
+        }
     }
 
     /// Whether a mount gets what is mounted on one of a group: it is of this group, or of one that has it above.
@@ -184,30 +210,34 @@ impl<'a> Groups<'a> {
         Ok(())
     }
 
-    /// Adds a member of a group.
-    fn add_member(&mut self, number: u64, row: &'a HostMount) -> Done {
-        let old = self.get(number);
-        let group = Group {
-            members: old.map_or(1, |group| group.members.saturating_add(1)),
-            is_needed: old.is_some_and(|group| group.is_needed),
-            master: row.master,
-            device: row.device.as_slice(),
-        };
-        self.all.insert(number, group)?;
+    /// Adds a group of the device of a row, if none named it before.
+    fn add_group(&mut self, number: u64, row: &'a HostMount) -> Done {
+        if self.get(number).is_none() {
+            let new = Group {
+                master: None,
+                device: row.device.as_slice(),
+                members: 0,
+                is_needed: false,
+                here: 0,
+            };
+            self.all.insert(number, new)?;
+        }
         Ok(())
     }
 
-    /// Adds a group that others come from.
-    fn add_master(&mut self, number: u64, row: &'a HostMount) -> Done {
-        let new = Group {
-            master: None,
-            device: row.device.as_slice(),
-            members: 0,
-            is_needed: true,
-        };
-        if self.get(number).is_none() {
-            self.all.insert(number, new)?;
+    /// Adds a member of a group.
+    fn add_member(&mut self, number: u64, row: &'a HostMount) -> Done {
+        self.add_group(number, row)?;
+        if let Some(group) = self.all.get_mut(&number) {
+            group.members = group.members.saturating_add(1);
+            group.master = row.master;
         }
+        Ok(())
+    }
+
+    /// Adds a group that others come from: so each group above another one has a member staged.
+    fn add_master(&mut self, number: u64, row: &'a HostMount) -> Done {
+        self.add_group(number, row)?;
         self.stage(number);
         Ok(())
     }
@@ -219,25 +249,13 @@ impl<'a> Groups<'a> {
         }
     }
 
-    /// The group at the end of those above one, itself among them.
-    fn top_of(&self, first: u64) -> u64 {
-        let mut here = first;
-        for _step in 0..=MOST_ABOVE {
-            let Some(number) = self.above(here) else {
-                return here;
-            };
-            here = number;
-        }
-        here
-    }
-
     /// Brings a group above another one: at the end of those above it, if no row is a member of that end. Whether it is above
     /// then.
     fn join(&mut self, low: u64, high: u64) -> bool {
         if self.leads_to(Some(low), high) {
             return true;
         }
-        let top = self.top_of(low);
+        let top = self.upwards(Some(low)).last().unwrap_or(low);
         if !self.is_unseen(top)
             || self.leads_to(Some(high), low)
             || self.leads_to(Some(high), top)
@@ -263,13 +281,12 @@ impl<'a> Groups<'a> {
 
     /// Finds out what is above the groups of which no row is a member, by what their slaves tell, the lowest groups first.
     pub(crate) fn settle(&mut self, alloc: Global) -> Done {
-        let mut pairs = Vec::new(alloc);
+        let mut pairs = BTreeSet::new(alloc);
         for pair in self.beyond.iter() {
             let (low, high) = *pair;
             let below_top = MOST_CHAIN.saturating_sub(self.height(Some(high)));
-            pairs.push((low, below_top, high))?;
+            pairs.insert((low, below_top, high))?;
         }
-        pairs.sort_unstable();
         for pair in pairs.iter() {
             let (low, _, high) = *pair;
             self.bring_above(low, high);
@@ -277,40 +294,14 @@ impl<'a> Groups<'a> {
         Ok(())
     }
 
-    /// The numbers of the groups of which a member is staged, those above others first. Fails for want of memory alone.
-    pub(crate) fn staged(&self, alloc: Global) -> Result<Vec<u64>, AllocError> {
-        let mut ranked = Vec::new(alloc);
+    /// The groups of which a member is staged, those above others first.
+    pub(crate) fn staged(&self, alloc: Global) -> Allocated<Staged> {
+        let mut staged = BTreeSet::new(alloc);
         for (number, group) in self.all.iter() {
             if group.is_staged() {
-                ranked.push((self.height(Some(*number)), *number))?;
+                staged.insert((self.height(Some(*number)), *number))?;
             }
         }
-        ranked.sort_unstable();
-        let mut numbers = Vec::new(alloc);
-        for (_, number) in ranked.iter() {
-            numbers.push(*number)?;
-        }
-        Ok(numbers)
-    }
-
-    /// Has a member staged of each group above those of which one is.
-    pub(crate) fn stage_all_above(&mut self, alloc: Global) -> Done {
-        let staged = self.staged(alloc)?;
-        for number in staged.iter() {
-            self.stage_above(*number);
-        }
-        Ok(())
-    }
-
-    /// Has a member staged of each group above one.
-    fn stage_above(&mut self, number: u64) {
-        let mut next = self.above(number);
-        for _step in 0..=MOST_ABOVE {
-            let Some(above) = next else {
-                return;
-            };
-            self.stage(above);
-            next = self.above(above);
-        }
+        Ok(staged)
     }
 }

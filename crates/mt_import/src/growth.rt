@@ -4,25 +4,23 @@ ghost use Rattle.mt_import.specs.declared.mount.Turn.TheVariants as Turn;
 ghost use Rattle.mt_import.specs.Growth.{waiting_ends, is_waiting, IsGrowth, GrowsOn, IsNextPlaced};
 ghost use Rattle.mt_import.specs.Tree.{StandsThere};
 
-use crate::below::{Below, below_of};
 use crate::mount::{Mount, Turn, Verdict};
 use crate::placing::{Placed, mount_on, root_mount};
 use crate::reason::Reason;
 use crate::told::HostMount;
-use crate::tree::Tree;
-use crate::writer::Done;
-use std::alloc::{AllocError, Global};
+use crate::tree::{Below, Tree, below_of};
+use crate::writer::{Allocated, Done};
+use std::alloc::Global;
 use std::collections::BTreeSet;
+
+/// The mount of the tree that a row stands on, of any number if it is the root mount's; or why the row is left out.
+type On = Result<usize, Reason>;
 
 /// What waits for its turn.
 #[derive(Clone, Copy)]
 pub(crate) enum Waiting {
-    /// A row on a mount of the tree, or the root mount's.
-    Row {
-        number: usize,
-        above: usize,
-        left: Option<Reason>,
-    },
+    /// A row.
+    Row(usize, On),
     /// A mount of the tree on which all is placed that stands on it.
     End(usize),
 }
@@ -30,7 +28,8 @@ pub(crate) enum Waiting {
 /// A tree as it grows.
 #[derive(Drop)]
 pub(crate) struct Growth<'a> {
-    rows: &'a [HostMount],
+    pub(crate) alloc: Global,
+    pub(crate) rows: &'a [HostMount],
     mounts: Vec<Mount<'a>>,
     turns: Vec<Turn>,
     verdicts: Vec<Verdict>,
@@ -41,15 +40,11 @@ pub(crate) struct Growth<'a> {
 }
 
 /// Has these rows wait for their turns, the last one first.
-fn wait_for(waiting: &mut Vec<Waiting>, rows: &[Below], above: usize, left: Option<Reason>) -> Done
+fn wait_for(waiting: &mut Vec<Waiting>, rows: &[Below], on: On) -> Done
     ensures ends { OnOk result (waiting_ends waiting.new.items ≡ waiting_ends waiting.old.items) }
 {
     'rows: for row in rows {
-        waiting.push(Waiting::Row {
-            number: row.number,
-            above,
-            left,
-        })?;
+        waiting.push(Waiting::Row(row.number, on))?;
     }
     Ok(())
 }
@@ -70,13 +65,14 @@ fn is_waiting(verdicts: &[Verdict], number: usize) -> bool
 }
 
 impl<'a> Growth<'a> {
-    /// A tree of no mounts, for the rows of a table. Fails for want of memory alone.
-    pub(crate) fn new(alloc: Global, rows: &'a [HostMount]) -> Result<Growth<'a>, AllocError>
+    /// A tree of no mounts, for the rows of a table.
+    pub(crate) fn new(alloc: Global, rows: &'a [HostMount]) -> Allocated<Growth<'a>>
         ensures rows { IfOk result (λ growth. growth.rows.now ≡ rows.now) }
         ensures kept { IfOk result (λ growth. IsGrowth growth) }
     {
         let verdicts = vec![in alloc; Verdict::Waits; rows.len()]?;
         Ok(Growth {
+            alloc,
             rows,
             mounts: Vec::new(alloc),
             turns: Vec::new(alloc),
@@ -101,25 +97,15 @@ impl<'a> Growth<'a> {
     }
 
     /// Has a row wait for its turn.
-    pub(crate) fn wait_for_row(&mut self, number: usize, left: Option<Reason>) -> Done
+    pub(crate) fn wait_for_row(&mut self, number: usize, on: On) -> Done
         ensures { OnOk result (GrowsOn self.old self.new) }
     {
-        self.waiting.push(Waiting::Row {
-            number,
-            above: 0,
-            left,
-        })?;
+        self.waiting.push(Waiting::Row(number, on))?;
         Ok(())
     }
 
-    /// Where a row stands on a mount of the tree, or why it is left out. Fails for want of memory alone.
-    fn placed(
-        &mut self,
-        alloc: Global,
-        row: &'a HostMount,
-        number: usize,
-        above: usize,
-    ) -> Result<Placed<'a>, AllocError>
+    /// Where a row stands on a mount of the tree, or why it is left out.
+    fn placed(&mut self, row: &'a HostMount, number: usize, above: usize) -> Allocated<Placed<'a>>
         ensures placed { IfOk result (λ placed. IsNextPlaced self.old.mounts.items row.now number placed) }
         ensures rows { OnOk result (self.new.rows ≡ self.old.rows) }
         ensures kept { OnOk result (IsGrowth self.old → IsGrowth self.new) }
@@ -127,12 +113,12 @@ impl<'a> Growth<'a> {
     {
         let here = self.mounts.len();
         if here == 0 {
-            return Ok(root_mount(alloc, row, number));
+            return Ok(root_mount(self.alloc, row, number));
         }
         let Some(parent) = self.mounts.get(above) else {
             return Ok(Placed::Left(Reason::NoParent));
         };
-        match mount_on(alloc, row, number, here, parent, above)? {
+        match mount_on(self.alloc, row, number, here, parent, above)? {
             Placed::There(mount) => {
                 if !self.places.insert((above, row.point.as_slice()))? {
                     return Ok(Placed::Left(Reason::SamePlace));
@@ -155,19 +141,19 @@ impl<'a> Growth<'a> {
         }
         self.verdicts[number] = Verdict::Made;
         self.mounts.push(mount)?;
-        wait_for(&mut self.waiting, stacked, here, None)?;
+        wait_for(&mut self.waiting, stacked, Ok(here))?;
         if is_base {
             self.turns.push(Turn::Base(here))?;
-            wait_for(&mut self.waiting, others, here, None)?;
+            wait_for(&mut self.waiting, others, Ok(here))?;
             return Ok(());
         }
         self.turns.push(Turn::Begin(here))?;
         wait_for_end(&mut self.waiting, here)?;
-        wait_for(&mut self.waiting, others, here, None)?;
+        wait_for(&mut self.waiting, others, Ok(here))?;
         Ok(())
     }
 
-    /// Leaves a row out, and has those that stand on it wait to be left out too. Fails for want of memory alone.
+    /// Leaves a row out, and has those that stand on it wait to be left out too.
     fn leave_tree_out(
         &mut self,
         number: usize,
@@ -178,31 +164,24 @@ impl<'a> Growth<'a> {
         ensures { OnOk result (GrowsOn self.old self.new) }
     {
         self.leave_out(number, why);
-        wait_for(&mut self.waiting, stacked, 0, Some(Reason::ParentLeftOut))?;
-        wait_for(&mut self.waiting, others, 0, Some(Reason::ParentLeftOut))?;
+        wait_for(&mut self.waiting, stacked, Err(Reason::ParentLeftOut))?;
+        wait_for(&mut self.waiting, others, Err(Reason::ParentLeftOut))?;
         Ok(())
     }
 
-    /// Does the turn of a row. Fails for want of memory alone.
-    fn take_row(
-        &mut self,
-        alloc: Global,
-        number: usize,
-        above: usize,
-        left: Option<Reason>,
-        below: &[Below],
-    ) -> Done
+    /// Does the turn of a row.
+    fn take_row(&mut self, number: usize, on: On, below: &[Below]) -> Done
         ensures { OnOk result (GrowsOn self.old self.new) }
     {
         let Some(row) = self.rows.get(number) else {
             return Ok(());
         };
         let (stacked, others) = below_of(below, row);
-        if let Some(why) = left {
+        if let Err(why) = on {
             self.leave_tree_out(number, why, stacked, others)?;
             return Ok(());
         }
-        match self.placed(alloc, row, number, above)? {
+        match self.placed(row, number, on.unwrap_or(0))? {
             Placed::There(mount) => self.begin(mount, stacked, others)?,
             Placed::Left(why) => self.leave_tree_out(number, why, stacked, others)?,
         }
@@ -221,8 +200,8 @@ impl<'a> Growth<'a> {
         Ok(())
     }
 
-    /// Does the next turn, if there is one: whether there was. Fails for want of memory alone.
-    fn take_next(&mut self, alloc: Global, below: &[Below]) -> Result<bool, AllocError>
+    /// Does the next turn, if there is one: whether there was.
+    fn take_next(&mut self, below: &[Below]) -> Allocated<bool>
         ensures { OnOk result (GrowsOn self.old self.new) }
     {
         let Some(next) = self.waiting.pop() else {
@@ -230,21 +209,17 @@ impl<'a> Growth<'a> {
         };
         match next {
             Waiting::End(here) => self.end(here)?,
-            Waiting::Row {
-                number,
-                above,
-                left,
-            } => self.take_row(alloc, number, above, left, below)?,
+            Waiting::Row(number, on) => self.take_row(number, on, below)?,
         }
         Ok(true)
     }
 
     /// Does all turns.
-    pub(crate) fn take_all(&mut self, alloc: Global, below: &[Below]) -> Done
+    pub(crate) fn take_all(&mut self, below: &[Below]) -> Done
         ensures { OnOk result (GrowsOn self.old self.new) }
     {
         'turns: for _step in 0..=self.rows.len().saturating_mul(2) {
-            if !self.take_next(alloc, below)? {
+            if !self.take_next(below)? {
                 return Ok(());
             }
         }
@@ -264,8 +239,8 @@ impl<'a> Growth<'a> {
         Ok(())
     }
 
-    /// The tree, once all turns are done, of the table of a number. Fails for want of memory alone.
-    pub(crate) fn grown(self, table: usize) -> Result<Tree<'a>, AllocError>
+    /// The tree, once all turns are done, of the table of a number.
+    pub(crate) fn grown(self, table: usize) -> Allocated<Tree<'a>>
         requires { IsGrowth self }
         ensures table { IfOk result (λ tree. tree.table ≡ table) }
         ensures rows { IfOk result (λ tree. tree.rows ≡ self.entry.rows.now) }
@@ -273,6 +248,7 @@ impl<'a> Growth<'a> {
         let mut growth = self;
         growth.end_all()?;
         let Growth {
+            alloc: _alloc,
             rows,
             mounts,
             turns,

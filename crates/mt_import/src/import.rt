@@ -2,18 +2,19 @@
 ghost use Rattle.std.specs.Prelude.{◌≡◌, map, IfOk, IsOkUnless};
 ghost use Rattle.mt_import.specs.Import.{IsImport};
 
+use crate::numbers::number_groups;
 use crate::room::{Plan, plan_with_room};
 use crate::script::Script;
-use crate::slots::STAGE_FS;
+use crate::site::STAGE_FS;
 use crate::space::{Space, spaces_of};
 use crate::spaces::make_spaces;
 use crate::staging::stage;
 use crate::telling::{tell_spaces, tell_tables};
 use crate::told::HostMount;
 use crate::tree::{Tree, tree_of};
-use crate::writer::command;
+use crate::writer::{Allocated, command};
 use mt_skel::fault::Fault;
-use std::alloc::{AllocError, Global};
+use std::alloc::Global;
 
 /// Whether two tables have the same lines.
 fn are_same(left: &[HostMount], right: &[HostMount]) -> bool {
@@ -21,8 +22,8 @@ fn are_same(left: &[HostMount], right: &[HostMount]) -> bool {
         && left.iter().zip(right).all(|(row, other)| row.line.as_slice() == other.line.as_slice())
 }
 
-/// The trees of tables. Fails for want of memory alone.
-fn trees_of(alloc: Global, tables: &[Vec<HostMount>]) -> Result<Vec<Tree<'_>>, AllocError>
+/// The trees of tables.
+fn trees_of(alloc: Global, tables: &[Vec<HostMount>]) -> Allocated<Vec<Tree<'_>>>
     ensures rows { IfOk result (λ trees. map (λ tree. tree.rows) trees.items ≡ map (λ rows. rows.items) tables.now) }
 {
     let mut trees = Vec::new(alloc);
@@ -36,9 +37,8 @@ fn trees_of(alloc: Global, tables: &[Vec<HostMount>]) -> Result<Vec<Tree<'_>>, A
     Ok(trees)
 }
 
-/// What makes the filesystems and their directories, and what is staged, if there is a namespace to make. Fails for want of
-/// memory alone.
-fn front_of(alloc: Global, plan: &Plan<'_>, spaces: &[Space<'_>]) -> Result<Script, AllocError> {
+/// What makes the filesystems and their directories, and what is staged, if there is a namespace to make.
+fn front_of(alloc: Global, plan: &Plan<'_>, spaces: &[Space<'_>]) -> Allocated<Script> {
     let mut script = Script::new(alloc);
     if !spaces.iter().any(|space| space.is_shown()) {
         return Ok(script);
@@ -50,8 +50,8 @@ fn front_of(alloc: Global, plan: &Plan<'_>, spaces: &[Space<'_>]) -> Result<Scri
     Ok(script)
 }
 
-/// The script of tables of which this is planned. Fails for want of memory alone.
-fn script_with(alloc: Global, plan: &Plan<'_>, spaces: &[Space<'_>]) -> Result<Script, AllocError>
+/// The script of tables of which this is planned.
+fn script_with(alloc: Global, plan: &Plan<'_>, spaces: &[Space<'_>]) -> Allocated<Script>
     ensures { IfOk result (IsImport (map (λ space. space.tree.rows) spaces.now)) }
 {
     let front = front_of(alloc, plan, spaces)?;
@@ -74,8 +74,9 @@ pub fn script_of(alloc: Global, tables: &[Vec<HostMount>]) -> Result<Script, Fau
     ensures memory { IsOkUnless result Fault.NoMemory }
 {
     let trees = trees_of(alloc, tables)?;
-    let (plan, left) = plan_with_room(alloc, trees.as_slice())?;
+    let (mut plan, left) = plan_with_room(alloc, trees.as_slice())?;
     let spaces = spaces_of(alloc, trees, left.as_slice(), &plan.groups)?;
+    number_groups(alloc, &mut plan, spaces.as_slice())?;
     let script = script_with(alloc, &plan, spaces.as_slice())?;
     Ok(script)
 }

@@ -3,11 +3,14 @@ ghost use Rattle.std.specs.Prelude.{◌≡◌, map, IfOk, OnOk};
 ghost use Rattle.std.specs.List.{list_all};
 ghost use Rattle.std.specs.Option.{option_map};
 ghost use Rattle.mt_words.specs.Words.{pieces};
-ghost use Rattle.mt_import.specs.Options.{has_option, is_known, has_both, are_known, times_of, before_set, with_set, with_flag, with_flags, with_times, with_kind, options_text};
+ghost use Rattle.mt_import.specs.Options.{has_option, is_known, has_both, are_known, times_of, before_set, with_set, with_flags, with_times, with_kind, options_text};
 
 use crate::writer::{Done, Text};
 use mt_words::words::Pieces;
 use std::alloc::Global;
+
+/// The word of `setattr` for a propagation, if it is set.
+pub(crate) type Kind = Option<&'static [u8]>;
 
 /// The options that are set alone.
 const FLAGS: [&[u8]; 6] = [
@@ -96,22 +99,14 @@ fn push_set(text: &mut Vec<u8>, word: &[u8]) -> Done
     Ok(())
 }
 
-/// Appends a flag to the words of `set=`, if it is among options.
-fn push_flag(text: &mut Vec<u8>, options: &[u8], flag: &[u8]) -> Done
-    ensures { OnOk result (text.new.items ≡ with_flag options.now text.old.items flag.now) }
-{
-    if has_option(options, flag) {
-        push_set(text, flag)?;
-    }
-    Ok(())
-}
-
-/// Appends those of these flags that are among options.
+/// Appends those of these flags to the words of `set=` that are among options.
 fn push_flags(text: &mut Vec<u8>, options: &[u8], flags: &[&[u8]]) -> Done
     ensures { OnOk result (text.new.items ≡ with_flags options.now text.old.items (map (λ flag. flag.now) flags.now)) }
 {
     'flags: for flag in flags {
-        push_flag(text, options, flag)?;
+        if has_option(options, flag) {
+            push_set(text, flag)?;
+        }
     }
     Ok(())
 }
@@ -129,7 +124,7 @@ fn push_times(text: &mut Vec<u8>, options: &[u8]) -> Done
 }
 
 /// Appends a word behind a space, if there is one.
-fn push_kind(text: &mut Vec<u8>, kind: Option<&'static [u8]>) -> Done
+fn push_kind(text: &mut Vec<u8>, kind: Kind) -> Done
     ensures { OnOk result (text.new.items ≡ with_kind (option_map (λ word. word.now) kind.entry) text.old.items) }
 {
     let Some(kind) = kind else {
@@ -140,9 +135,9 @@ fn push_kind(text: &mut Vec<u8>, kind: Option<&'static [u8]>) -> Done
     Ok(())
 }
 
-/// The words behind a path in a `setattr` line, each behind a space: those for the options of a row, none where they
-/// are those of a new mount, and one for its propagation. Fails for want of memory alone.
-pub(crate) fn options_of(alloc: Global, options: &[u8], kind: Option<&'static [u8]>) -> Text
+/// The words behind a path in a `setattr` line, each behind a space: those for the options of a row, none where they are those
+/// of a new mount, and one for its propagation.
+pub(crate) fn options_of(alloc: Global, options: &[u8], kind: Kind) -> Text
     ensures { IfOk result (λ text. text.items ≡ options_text options.now (option_map (λ word. word.now) kind.entry)) }
 {
     let mut text = Vec::new(alloc);

@@ -3,16 +3,16 @@
 ghost use Rattle.std.specs.Prelude.{◌≡◌, IfOk};
 ghost use Rattle.mt_import.specs.Growth.{IsOn, IsOf};
 ghost use Rattle.mt_import.specs.Paths.{is_too_deep};
-ghost use Rattle.mt_import.specs.Placing.{why_pathless, IsAt, IsPlacedBy};
+ghost use Rattle.mt_import.specs.Placing.{why_pathless, IsPlacedBy};
 
 use crate::mount::Mount;
 use crate::path::{
     MOST_BYTES, MOST_NAMES, below_root, can_be_named, has_script_name, names, path_behind,
 };
-use crate::reason::Reason;
+use crate::reason::{Reason, Why};
 use crate::told::HostMount;
-use crate::writer::one_behind;
-use std::alloc::{AllocError, Global};
+use crate::writer::{Allocated, one_behind};
+use std::alloc::Global;
 
 /// The most mounts that stand on the root of a root mount, one on the other.
 const MOST_AT_ROOT: usize = 32;
@@ -34,7 +34,7 @@ fn is_too_deep(path: &[u8]) -> bool
 }
 
 /// Why the paths that a row tells cannot be those of a mount, if they cannot.
-fn why_pathless(root: &[u8], point: &[u8]) -> Option<Reason>
+fn why_pathless(root: &[u8], point: &[u8]) -> Why
     ensures { result ≡ why_pathless root.now point.now }
 {
     if !can_be_named(root) || !can_be_named(point) {
@@ -54,10 +54,8 @@ pub(crate) fn root_mount<'a>(alloc: Global, row: &'a HostMount, number: usize) -
     ensures on { IsOn 0 number result }
     ensures of { IsOf row.now result }
 {
-    let (root, point) = (
-        below_root(row.root.as_slice()),
-        below_root(row.point.as_slice()),
-    );
+    let (root, point) = (row.root.as_slice(), row.point.as_slice());
+    let (root, point) = (below_root(root), below_root(point));
     if let Some(why) = why_pathless(root, point) {
         return Placed::Left(why);
     }
@@ -75,50 +73,20 @@ pub(crate) fn root_mount<'a>(alloc: Global, row: &'a HostMount, number: usize) -
     })
 }
 
-/// The mount that a row tells, on the root of another one at the root place of the namespace.
-fn base_on<'a>(mount: Mount<'a>, parent: &Mount<'a>) -> Placed<'a>
-    ensures place { IsAt mount.entry.root.now mount.entry.place.items result }
-    ensures on { IsOn mount.entry.above mount.entry.number result }
-    ensures of { IsOf mount.entry.row.now result }
-{
-    if parent.base >= MOST_AT_ROOT {
-        return Placed::Left(Reason::AtRoot);
-    }
-    Placed::There(Mount {
-        base: parent.base + 1,
-        is_base: true,
-        ..mount
-    })
-}
-
-/// A mount on another one, in the stack or on the level that it comes to.
-fn leveled<'a>(mount: Mount<'a>, parent: &Mount<'a>, is_stacked: bool) -> Placed<'a>
-    ensures place { IsAt mount.entry.root.now mount.entry.place.items result }
-    ensures on { IsOn mount.entry.above mount.entry.number result }
-    ensures of { IsOf mount.entry.row.now result }
-{
-    if is_stacked && parent.is_base {
-        return base_on(mount, parent);
-    }
-    if is_stacked {
-        return Placed::There(Mount {
-            lowest: parent.lowest,
-            names: parent.names,
-            level: parent.level,
-            ..mount
-        });
-    }
+/// Of a mount at these names on another one, as the next of a number in the order: the lowest of its stack, the names from what
+/// that stands on to its place, and its level.
+fn stack_on<'a>(parent: &Mount<'a>, names: &'a [u8], here: usize) -> (usize, &'a [u8], usize) {
     if parent.is_base {
-        return Placed::There(mount);
+        return (here, names, 0);
     }
-    Placed::There(Mount {
-        level: parent.level.saturating_add(1),
-        ..mount
-    })
+    if names.is_empty() {
+        return (parent.lowest, parent.names, parent.level);
+    }
+    (here, names, parent.level.saturating_add(1))
 }
 
-/// The mount that a row tells on another one, which is the one of a number in the order, as the next one of these numbers
-/// in the order and among the rows. Fails for want of memory alone.
+/// The mount that a row tells on another one, which is the one of a number in the order, as the next one of these numbers in
+/// the order and among the rows.
 pub(crate) fn mount_on<'a>(
     alloc: Global,
     row: &'a HostMount,
@@ -126,15 +94,13 @@ pub(crate) fn mount_on<'a>(
     here: usize,
     parent: &Mount<'a>,
     above: usize,
-) -> Result<Placed<'a>, AllocError>
+) -> Allocated<Placed<'a>>
     ensures place { IfOk result (λ placed. IsPlacedBy parent.now row.now placed) }
     ensures on { IfOk result (λ placed. IsOn above number placed) }
     ensures of { IfOk result (λ placed. IsOf row.now placed) }
 {
-    let (root, point) = (
-        below_root(row.root.as_slice()),
-        below_root(row.point.as_slice()),
-    );
+    let (root, point) = (row.root.as_slice(), row.point.as_slice());
+    let (root, point) = (below_root(root), below_root(point));
     if let Some(why) = why_pathless(root, point) {
         return Ok(Placed::Left(why));
     }
@@ -146,17 +112,21 @@ pub(crate) fn mount_on<'a>(
     if is_too_deep(place.as_slice()) {
         return Ok(Placed::Left(Reason::TooDeep));
     }
-    let mount = Mount {
+    let is_base = parent.is_base && names.is_empty();
+    if is_base && parent.base >= MOST_AT_ROOT {
+        return Ok(Placed::Left(Reason::AtRoot));
+    }
+    let (lowest, names, level) = stack_on(parent, names, here);
+    Ok(Placed::There(Mount {
         row,
         number,
         above,
         root,
         place,
-        lowest: here,
+        lowest,
         names,
-        level: 0,
-        base: parent.base,
-        is_base: false,
-    };
-    Ok(leveled(mount, parent, names.is_empty()))
+        level,
+        base: parent.base.saturating_add(usize::from(is_base)),
+        is_base,
+    }))
 }

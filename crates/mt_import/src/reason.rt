@@ -5,40 +5,31 @@ ghost use Rattle.mt_import.specs.Script.{reason_text};
 /// Why a mount is left out.
 #[derive(Clone, Copy)]
 pub(crate) enum Reason {
-    /// A table before it has the same lines.
     SameTable,
-    /// A line before it tells the same mount.
     SecondLine,
-    /// No row is that of a root mount.
     NoRootMount,
-    /// No row is that of what it stands on.
     NoParent,
-    /// What it stands on is left out.
     ParentLeftOut,
-    /// Each of its parents stands on another of them.
     Ring,
     /// Its root or its mount point is no path of names, or too long.
     NoDirectory,
-    /// Its mount point is not below that of its parent.
     Elsewhere,
-    /// It stands on the root of a root mount, or of one that stands there, and others are in the peer group of that one; or
-    /// on too many others that stand so.
+    /// Or it stands on too many others that stand so.
     AtRoot,
-    /// A directory of its root or mount point has the name that the script uses.
     ScriptName,
     /// The path of the directory that it shows, or of that on which it stands, has too many names, or too many bytes.
     TooDeep,
-    /// What it tells of peer groups cannot be: a row tells another device or master of one, or a group would have itself
-    /// above it; the group that it gets from by way of its master is not the nearest above that has a member among the rows
-    /// of its table; or it is unbindable.
+    /// A row tells another device or master of a group, or a group would have itself above it; the group that it gets from by
+    /// way of its master is not the nearest above that has a member among the rows of its table; or it is unbindable.
     NoSuchGroups,
-    /// Too many groups are above its own.
     TooLow,
-    /// Another mount stands where it does.
     SamePlace,
-    /// The server has no room for it, or for what comes with it while it is made.
+    /// Or for what comes with it while it is made.
     NoRoom,
 }
+
+/// Why something is left out, if it is.
+pub(crate) type Why = Option<Reason>;
 
 impl Reason {
     /// What a comment says.

@@ -3,10 +3,10 @@
 use crate::choice::{Candidate, Choice, Left, candidates_of, choose};
 use crate::directories::{Directories, directories_of};
 use crate::filesystems::{Filesystems, filesystems_of};
-use crate::groups::{Groups, MOST_ABOVE};
+use crate::groups::{Groups, Staged};
 use crate::tree::Tree;
-use crate::writer::Done;
-use std::alloc::{AllocError, Global};
+use crate::writer::{Allocated, Done};
+use std::alloc::Global;
 use std::collections::{BTreeMap, BTreeSet};
 
 /// The most mounts of a server, those of all namespaces.
@@ -22,7 +22,6 @@ const MOST_FILESYSTEMS: usize = 256;
 const STEPS: [usize; 13] = [4_096, 2_048, 1_024, 512, 256, 128, 64, 32, 16, 8, 4, 2, 1];
 
 /// What mounts need that are made.
-#[derive(Drop)]
 pub(crate) struct Plan<'a> {
     /// Their peer groups.
     pub(crate) groups: Groups<'a>,
@@ -30,34 +29,61 @@ pub(crate) struct Plan<'a> {
     pub(crate) filesystems: Filesystems<'a>,
     /// The devices of filesystems of which directories are bound without a group.
     pub(crate) plains: BTreeSet<&'a [u8]>,
-    /// The numbers of the groups of which a member is staged, those above others first.
-    pub(crate) staged: Vec<u64>,
+    /// The groups of which a member is staged.
+    pub(crate) staged: Staged,
     /// The directories of all filesystems.
     pub(crate) directories: Directories,
 }
 
+impl<'a> Drop for Plan<'a> {
+    fn drop(self) {
+        let Plan {
+            groups: _groups,
+            filesystems: _filesystems,
+            plains: _plains,
+            staged: _staged,
+            directories: _directories,
+        } = self;
+    }
+}
+
 impl<'a> Plan<'a> {
+    /// What these mounts need, in these groups.
+    fn of(alloc: Global, made: &[Candidate<'_, 'a>], groups: Groups<'a>) -> Allocated<Plan<'a>> {
+        let filesystems = filesystems_of(alloc, made)?;
+        let plains = plains_of(alloc, made, &groups)?;
+        let staged = groups.staged(alloc)?;
+        let directories = directories_of(alloc, made, &plains, &staged)?;
+        Ok(Plan {
+            groups,
+            filesystems,
+            plains,
+            staged,
+            directories,
+        })
+    }
+
     /// Whether a group is staged of which no table has a member.
     pub(crate) fn has_unseen(&self) -> bool {
         self.staged
             .iter()
-            .any(|group| self.groups.is_unseen(*group))
+            .any(|(_, group)| self.groups.is_unseen(*group))
     }
 
-    /// Whether a server has room for the filesystems and directories.
-    fn has_directories(&self) -> bool {
+    /// Whether a server has room for the filesystems and directories, and for so many mounts.
+    fn fits(&self, mounts: usize) -> bool {
         let filesystems = self.filesystems.len().saturating_add(1);
         let directories = self.directories.len().saturating_add(filesystems);
-        filesystems <= MOST_FILESYSTEMS && directories <= MOST_DIRECTORIES
+        filesystems <= MOST_FILESYSTEMS && directories <= MOST_DIRECTORIES && mounts <= MOST_MOUNTS
     }
 }
 
-/// The devices of filesystems of which directories are bound with no group. Fails for want of memory alone.
+/// The devices of filesystems of which directories are bound with no group.
 fn plains_of<'a>(
     alloc: Global,
     made: &[Candidate<'_, 'a>],
     groups: &Groups<'_>,
-) -> Result<BTreeSet<&'a [u8]>, AllocError> {
+) -> Allocated<BTreeSet<&'a [u8]>> {
     let mut plains = BTreeSet::new(alloc);
     for candidate in made {
         let (row, mount) = (candidate.row, candidate.mount);
@@ -68,65 +94,24 @@ fn plains_of<'a>(
     Ok(plains)
 }
 
-/// What these mounts need, in these groups. Fails for want of memory alone.
-fn plan_of<'a>(
-    alloc: Global,
-    made: &[Candidate<'_, 'a>],
-    groups: Groups<'a>,
-) -> Result<Plan<'a>, AllocError> {
-    let filesystems = filesystems_of(alloc, made)?;
-    let plains = plains_of(alloc, made, &groups)?;
-    let staged = groups.staged(alloc)?;
-    let directories = directories_of(alloc, made, &plains, staged.as_slice())?;
-    Ok(Plan {
-        groups,
-        filesystems,
-        plains,
-        staged,
-        directories,
-    })
-}
-
-/// Counts so many mounts more for a group, if for one, and for each above it. Fails for want of memory alone.
-fn count_up(
-    counts: &mut BTreeMap<u64, usize>,
-    groups: &Groups<'_>,
-    group: Option<u64>,
-    count: usize,
-) -> Done {
-    let mut next = group;
-    for _step in 0..=MOST_ABOVE {
-        let Some(number) = next else {
-            return Ok(());
-        };
-        let old = counts.get(&number).copied().unwrap_or(0);
-        counts.insert(number, old.saturating_add(count))?;
-        next = groups.above(number);
-    }
-    Ok(())
-}
-
-/// How many mounts get what is mounted on one of a staged group, at most, where so many stages are there. Fails for want of
-/// memory alone.
+/// How many mounts get what is mounted on one of a staged group, at most, where so many stages are there.
 fn most_receivers(
     alloc: Global,
     plan: &Plan<'_>,
     made: &[Candidate<'_, '_>],
     stages: usize,
-) -> Result<usize, AllocError> {
-    let mut counts = BTreeMap::new(alloc);
+) -> Allocated<usize> {
+    let (mut counts, groups) = (BTreeMap::new(alloc), &plan.groups);
     for candidate in made {
         let row = candidate.row;
-        count_up(&mut counts, &plan.groups, row.shared.or(row.master), 1)?;
+        let source = groups.source_of(row.shared, row.master);
+        groups.count_up(&mut counts, source, 1)?;
     }
-    for group in plan.staged.iter() {
-        count_up(&mut counts, &plan.groups, Some(*group), stages)?;
+    for staged in plan.staged.iter() {
+        let (_, group) = *staged;
+        groups.count_up(&mut counts, Some(group), stages)?;
     }
-    let mut most = 0_usize;
-    for group in plan.staged.iter() {
-        most = most.max(counts.get(group).copied().unwrap_or(0));
-    }
-    Ok(most)
+    Ok(counts.values().copied().max().unwrap_or(0))
 }
 
 /// How many namespaces have what is staged at a time: the first one alone, or beside it the copy that is made.
@@ -139,12 +124,8 @@ fn stages(plan: &Plan<'_>, made: &[Candidate<'_, '_>]) -> usize {
 }
 
 /// How many mounts there are at a time, at most: those that are made, those that are staged, and three for each that gets what
-/// is mounted on one of a group: a mount that isolates its place, and what spares it. Fails for want of memory alone.
-fn mounts_at_once(
-    alloc: Global,
-    plan: &Plan<'_>,
-    made: &[Candidate<'_, '_>],
-) -> Result<usize, AllocError> {
+/// is mounted on one of a group: a mount that isolates its place, and what spares it.
+fn mounts_at_once(alloc: Global, plan: &Plan<'_>, made: &[Candidate<'_, '_>]) -> Allocated<usize> {
     let stages = stages(plan, made);
     let isolated = most_receivers(alloc, plan, made, stages)?.saturating_add(1);
     let staged = plan
@@ -159,43 +140,40 @@ fn mounts_at_once(
     )
 }
 
-/// Whether a server has room for so many mounts, from the first. Fails for want of memory alone.
-fn fits(alloc: Global, all: &[Candidate<'_, '_>], most: usize) -> Result<bool, AllocError> {
-    let Choice {
-        left: _left,
-        made,
-        groups,
-    } = choose(alloc, all, most)?;
-    let made = made.as_slice();
-    let plan = plan_of(alloc, made, groups)?;
-    let mounts = mounts_at_once(alloc, &plan, made)?;
-    Ok(plan.has_directories() && mounts <= MOST_MOUNTS)
+/// What is needed where so many mounts are made, from the first, why the others are left out, and whether a server has room for
+/// that.
+fn planned<'a>(
+    alloc: Global,
+    all: &[Candidate<'_, 'a>],
+    most: usize,
+) -> Allocated<(Plan<'a>, Left, bool)> {
+    let Choice { left, made, groups } = choose(alloc, all, most)?;
+    let plan = Plan::of(alloc, made.as_slice(), groups)?;
+    let mounts = mounts_at_once(alloc, &plan, made.as_slice())?;
+    let fits = plan.fits(mounts);
+    Ok((plan, left, fits))
 }
 
-/// How many mounts find room, from the first. Fails for want of memory alone.
-fn fitting(alloc: Global, all: &[Candidate<'_, '_>]) -> Result<usize, AllocError> {
-    if fits(alloc, all, all.len())? {
-        return Ok(all.len());
-    }
+/// How many mounts find room, from the first.
+fn fitting(alloc: Global, all: &[Candidate<'_, '_>]) -> Allocated<usize> {
     let mut count = 0_usize;
     for step in STEPS {
         let more = count.saturating_add(step);
-        if more <= all.len() && fits(alloc, all, more)? {
+        if more <= all.len() && planned(alloc, all, more)?.2 {
             count = more;
         }
     }
     Ok(count)
 }
 
-/// What is needed where as many mounts are made as find room, from the first, and why the others are left out. Fails for want
-/// of memory alone.
-pub(crate) fn plan_with_room<'a>(
-    alloc: Global,
-    trees: &[Tree<'a>],
-) -> Result<(Plan<'a>, Left), AllocError> {
+/// What is needed where as many mounts are made as find room, from the first, and why the others are left out.
+pub(crate) fn plan_with_room<'a>(alloc: Global, trees: &[Tree<'a>]) -> Allocated<(Plan<'a>, Left)> {
     let all = candidates_of(alloc, trees)?;
+    let (plan, left, fits) = planned(alloc, all.as_slice(), all.len())?;
+    if fits {
+        return Ok((plan, left));
+    }
     let most = fitting(alloc, all.as_slice())?;
-    let Choice { left, made, groups } = choose(alloc, all.as_slice(), most)?;
-    let plan = plan_of(alloc, made.as_slice(), groups)?;
+    let (plan, left, _) = planned(alloc, all.as_slice(), most)?;
     Ok((plan, left))
 }

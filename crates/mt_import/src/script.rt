@@ -1,10 +1,10 @@
 //! The script: comments and commands.
-ghost use Rattle.std.specs.Prelude.{◌≡◌, not, ◌==◌, [], ◌∷◌, ◌++◌, IfOk, OnOk, IsOkUnless};
+ghost use Rattle.std.specs.Prelude.{◌≡◌, not, ◌==◌, [], ◌∷◌, ◌++◌, IfOk, OnOk};
 ghost use Rattle.std.specs.List.{list_all};
 ghost use Rattle.mt_requests.specs.Requests.{request_of};
 ghost use Rattle.mt_import.specs.Script.{is_run, is_script_line, IsScript, line_text};
 
-use crate::writer::{Done, Text};
+use crate::writer::{Allocated, Done, Text};
 use mt_requests::request::{Request, read_request};
 use mt_skel::fault::Fault;
 use std::alloc::{AllocError, Global};
@@ -35,8 +35,8 @@ fn is_one_line(line: &[u8]) -> bool
     line.iter().all(|byte| *byte != b'\n')
 }
 
-/// Whether the server reads a line as a command. Fails for want of memory alone.
-fn is_command(alloc: Global, line: &[u8]) -> Result<bool, AllocError>
+/// Whether the server reads a line as a command.
+fn is_command(alloc: Global, line: &[u8]) -> Allocated<bool>
     ensures { IfOk result (λ is. is ≡ is_run (request_of line.now)) }
 {
     match read_request(alloc, line) {
@@ -46,8 +46,8 @@ fn is_command(alloc: Global, line: &[u8]) -> Result<bool, AllocError>
     }
 }
 
-/// Whether a line can stand in a script. Fails for want of memory alone.
-fn is_script_line(alloc: Global, line: &[u8]) -> Result<bool, AllocError>
+/// Whether a line can stand in a script.
+fn is_script_line(alloc: Global, line: &[u8]) -> Allocated<bool>
     ensures { IfOk result (λ is. is ≡ is_script_line line.now) }
 {
     if !is_one_line(line) {
@@ -86,19 +86,9 @@ impl Script {
         self.text.as_slice()
     }
 
-    /// Appends a line with a line end, if it is a comment or a command: whether it is. Refused as `NoMemory` alone.
-    pub fn push(&mut self, line: &[u8]) -> Result<bool, Fault>
-        ensures told { IfOk result (λ is. is ≡ is_script_line line.now) }
-        ensures pushed { OnOk result (self.new ≡ self.old ++ line_text line.now) }
-        ensures memory { IsOkUnless result Fault.NoMemory }
-    {
-        let is = self.add(line)?;
-        Ok(is)
-    }
-
-    /// The same, which fails for want of memory alone.
+    /// Appends a line with a line end, if it is a comment or a command: whether it is.
     #[tactic(auto, unfolding(crate::specs::Script::line_text))]
-    pub(crate) fn add(&mut self, line: &[u8]) -> Result<bool, AllocError>
+    pub(crate) fn push(&mut self, line: &[u8]) -> Allocated<bool>
         ensures told { IfOk result (λ is. is ≡ is_script_line line.now) }
         ensures pushed { OnOk result (self.new ≡ self.old ++ line_text line.now) }
     {

@@ -4,10 +4,9 @@
 use crate::groups::Group;
 use crate::room::Plan;
 use crate::script::Script;
-use crate::site::{SHARED, SLAVE};
-use crate::slots::{STAGE_FS, slot};
-use crate::writer::{Done, command, comment, digits_of, one_behind};
-use std::alloc::{AllocError, Global};
+use crate::site::{SHARED, SLAVE, STAGE_FS, slot};
+use crate::writer::{Allocated, Done, command, comment, digits_of, group_comment, one_behind};
+use std::alloc::Global;
 
 /// Stages a mount of each filesystem of which directories are bound.
 fn stage_plains(script: &mut Script, plan: &Plan<'_>) -> Done {
@@ -28,19 +27,13 @@ fn stage_below(script: &mut Script, group: &Group<'_>, path: &[u8]) -> Done {
     command(script, &[b"setattr", b"1", path, SLAVE])
 }
 
-/// Stages a member of a group of the tables, which is the one of a number here.
-fn stage_group(script: &mut Script, plan: &Plan<'_>, number: u64, here: usize) -> Done {
+/// Stages a member of a group of the tables.
+fn stage_group(script: &mut Script, plan: &Plan<'_>, number: u64) -> Done {
     let Some(group) = plan.groups.get(number) else {
         return Ok(());
     };
-    let alloc = script.alloc();
-    let (there, here) = (digits_of(alloc, number)?, digits_of(alloc, here as u64)?);
-    let (there, here) = (there.as_slice(), here.as_slice());
-    comment(
-        script,
-        &[b"# shared:", there, b" of the tables is shared:", here],
-    )?;
-    let path = slot(alloc, b"/", number)?;
+    group_comment(script, number, group.here)?;
+    let path = slot(script.alloc(), b"/", number)?;
     stage_below(script, &group, path.as_slice())?;
     command(script, &[b"setattr", b"1", path.as_slice(), SHARED])
 }
@@ -49,17 +42,17 @@ fn stage_group(script: &mut Script, plan: &Plan<'_>, number: u64, here: usize) -
 pub(crate) fn stage(script: &mut Script, plan: &Plan<'_>) -> Done {
     command(script, &[b"newns", STAGE_FS])?;
     stage_plains(script, plan)?;
-    for (before, number) in plan.staged.iter().enumerate() {
-        stage_group(script, plan, *number, before.saturating_add(1))?;
+    for group in plan.staged.iter() {
+        stage_group(script, plan, group.1)?;
     }
     Ok(())
 }
 
 /// Unmounts the staged members of groups in a namespace, but of those of which no table has one.
 fn unstage_groups(script: &mut Script, plan: &Plan<'_>, space: &[u8]) -> Done {
-    for number in plan.staged.iter() {
-        if !plan.groups.is_unseen(*number) {
-            let path = slot(script.alloc(), b"/", *number)?;
+    for group in plan.staged.iter() {
+        if !plan.groups.is_unseen(group.1) {
+            let path = slot(script.alloc(), b"/", group.1)?;
             command(script, &[b"umount", space, path.as_slice()])?;
         }
     }
@@ -75,13 +68,8 @@ fn unstage_plains(script: &mut Script, plan: &Plan<'_>, space: &[u8]) -> Done {
     Ok(())
 }
 
-/// What makes the namespace of a number that keeps members of groups of which no table has one, if there are any. Fails for
-/// want of memory alone.
-pub(crate) fn keeper_of(
-    alloc: Global,
-    plan: &Plan<'_>,
-    number: usize,
-) -> Result<Script, AllocError> {
+/// What makes the namespace of a number that keeps members of groups of which no table has one, if there are any.
+pub(crate) fn keeper_of(alloc: Global, plan: &Plan<'_>, number: usize) -> Allocated<Script> {
     let mut script = Script::new(alloc);
     if !plan.has_unseen() {
         return Ok(script);

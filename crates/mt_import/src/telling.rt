@@ -6,14 +6,14 @@ ghost use Rattle.mt_import.specs.Telling.{why_of, rows_text, tree_rows, mounts_t
 
 use crate::mount::{Mount, Verdict};
 use crate::options::are_known;
-use crate::reason::Reason;
+use crate::reason::{Reason, Why};
 use crate::script::Script;
 use crate::space::Space;
 use crate::told::HostMount;
 use crate::writer::{Done, comment, digits_of, note, one_behind};
 
 /// Why a row has no mount in the tree of its table, if it has none: one of which the turn never came is in a ring.
-fn why_of(verdict: Verdict) -> Option<Reason>
+fn why_of(verdict: Verdict) -> Why
     ensures { result ≡ why_of verdict }
 {
     match verdict {
@@ -25,7 +25,7 @@ fn why_of(verdict: Verdict) -> Option<Reason>
 
 /// Tells a row that is left out, and why, if it is.
 #[tactic(auto, unfolding(crate::specs::Script::left_out_text))]
-fn tell_row(script: &mut Script, table: usize, row: &HostMount, left: Option<Reason>) -> Done
+fn tell_row(script: &mut Script, table: usize, row: &HostMount, left: Why) -> Done
     ensures { OnOk result (script.new ≡ script.old ++ left_row_text table row.now left) }
 {
     let Some(why) = left else {
@@ -63,7 +63,7 @@ pub(crate) fn tell_tables(script: &mut Script, spaces: &[Space<'_>]) -> Done
 
 /// Tells a mount that is left out, or one with options that no mount has here.
 #[tactic(auto, unfolding(crate::specs::Script::options_comment))]
-fn tell_mount(script: &mut Script, table: usize, row: &HostMount, left: Option<Reason>) -> Done
+fn tell_mount(script: &mut Script, table: usize, row: &HostMount, left: Why) -> Done
     ensures { OnOk result (script.new ≡ script.old ++ mount_comment table row.now left) }
 {
     if left.is_some() {
@@ -76,12 +76,7 @@ fn tell_mount(script: &mut Script, table: usize, row: &HostMount, left: Option<R
 }
 
 /// Tells the mounts of a table that are left out, and those with options that no mount has here.
-fn tell_mounts(
-    script: &mut Script,
-    table: usize,
-    mounts: &[Mount<'_>],
-    left: &[Option<Reason>],
-) -> Done
+fn tell_mounts(script: &mut Script, table: usize, mounts: &[Mount<'_>], left: &[Why]) -> Done
     ensures { OnOk result (script.new ≡ script.old ++ mounts_text table mounts.now left.now) }
 {
     let mut others = left.iter();

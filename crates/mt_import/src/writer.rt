@@ -1,7 +1,7 @@
 //! The lines of the script, made of their words.
 ghost use Rattle.std.specs.Prelude.{◌≡◌, ◌∷◌, ◌++◌, map, take, decimal, IfOk, OnOk};
 ghost use Rattle.std.specs.List.{flat_map, join_with_byte};
-ghost use Rattle.mt_import.specs.Script.{line_text, line_or_comment, command_text, comment_text};
+ghost use Rattle.mt_import.specs.Script.{line_text, line_or_comment, command_text, comment_text, group_comment};
 
 use crate::script::Script;
 use crate::told::HostMount;
@@ -12,10 +12,13 @@ use std::alloc::{AllocError, Global};
 const MOST_TOLD: usize = 8_000;
 
 /// What a call answers that fails for want of memory alone.
-pub(crate) type Done = Result<(), AllocError>;
+pub(crate) type Allocated<T> = Result<T, AllocError>;
 
-/// A text that is made: this fails for want of memory alone.
-pub(crate) type Text = Result<Vec<u8>, AllocError>;
+/// The same of a call that makes nothing.
+pub(crate) type Done = Allocated<()>;
+
+/// The same of one that makes a text.
+pub(crate) type Text = Allocated<Vec<u8>>;
 
 /// Texts, one behind the other.
 pub(crate) fn joined(alloc: Global, texts: &[&[u8]]) -> Text
@@ -74,8 +77,8 @@ pub(crate) fn spaced(alloc: Global, words: &[&[u8]]) -> Text
 pub(crate) fn push_command(script: &mut Script, line: &[u8]) -> Done
     ensures { OnOk result (script.new ≡ script.old ++ line_or_comment line.now) }
 {
-    if !script.add(line)? {
-        let _said = script.add(b"# a line that the server would not read is left out")?;
+    if !script.push(line)? {
+        let _said = script.push(b"# a line that the server would not read is left out")?;
     }
     Ok(())
 }
@@ -105,7 +108,22 @@ pub(crate) fn comment(script: &mut Script, texts: &[&[u8]]) -> Done
     ensures { OnOk result (script.new ≡ script.old ++ line_text (flat_map (λ text. text.now) texts.now)) }
 {
     let line = joined(script.alloc(), texts)?;
-    let _said = script.add(line.as_slice())?;
+    let _said = script.push(line.as_slice())?;
+    Ok(())
+}
+
+/// Tells which group of the tables is which one of the server.
+#[tactic(auto, unfolding(crate::specs::Script::group_comment))]
+pub(crate) fn group_comment(script: &mut Script, there: u64, here: u64) -> Done
+    ensures { OnOk result (script.new ≡ script.old ++ group_comment there here) }
+{
+    let there = digits_of(script.alloc(), there)?;
+    let here = digits_of(script.alloc(), here)?;
+    let (there, here) = (there.as_slice(), here.as_slice());
+    comment(
+        script,
+        &[b"# shared:", there, b" of the tables is shared:", here],
+    )?;
     Ok(())
 }
 

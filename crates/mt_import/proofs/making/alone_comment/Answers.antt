@@ -4,5 +4,5 @@ use Rattle.mt_import.proofs.making.alone_comment.Goals as goal
 
 pub returns : goal.returns
 returns c =
-    alone_pushed c.args.script.now c.as_slice-group.result.now c.comment.new.script c.args.group c.in-Some.group (search rules) (search rules)
-    c.in_ok-comment.ensures
+    alone_pushed c.args.groups.now.all c.args.script.now c.group_comment.new.script c.args.group c.in-Some.group c.here-here.result (search rules) (search rules)
+    c.in_ok-group_comment.ensures

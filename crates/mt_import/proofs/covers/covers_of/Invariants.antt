@@ -1,6 +1,6 @@
 use Rattle.std.proofs.Common.{◌≡◌, ◌++◌, drop}
 use Rattle.mt_import.specs.Spaces.{numbers_where, is_cover}
-use Rattle.mt_import.proofs.spaces.covers_of.Given as goal
+use Rattle.mt_import.proofs.covers.covers_of.Given as goal
 
 -- those that were found and those among the others are all
 abbrev pub invariant-mounts : goal.invariant-mounts

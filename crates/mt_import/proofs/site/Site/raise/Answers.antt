@@ -6,14 +6,14 @@ use Rattle.mt_import.specs.Commands.{pivot_text}
 use Rattle.mt_import.specs.Covers.{shelf_text, raise_text}
 use Rattle.mt_import.specs.Groups.{receiving}
 use Rattle.mt_import.specs.Slots.{stage, stage_below, cover_slot}
-use Rattle.mt_import.proofs.covers.raise.Goals as goal
+use Rattle.mt_import.proofs.site.Site.raise.Goals as goal
 
 pub returns : goal.returns
 unfolding raise_text
 returns c =
     let mount = c.in-Some.mount.now in
-    let groups = c.args.site.groups.now.all in
-    let space = c.args.site.space.now in
+    let groups = c.args.self.groups.now.all in
+    let space = c.args.self.space.now in
     let path = stage_below mount.base ++ cover_slot mount.base in
     let got = got_of c.args.mounts.now c.args.number mount (search rules) (search rules) in
     two_pushed c.args.script.now c.shelve.new.script c.run.new.script
