@@ -84,7 +84,7 @@ fn print_place<O: Output>(
 }
 
 /// Looks once for a path of a namespace by the line that asks for it, and for the row of the mount on which it ends.
-fn look<R: Input + Drop, W: Output, O: Output>(
+fn look_once<R: Input + Drop, W: Output, O: Output>(
     alloc: Global,
     space: &str,
     line: &[u8],
@@ -128,7 +128,7 @@ pub(crate) fn find_place<E: Eprint, R: Input + Drop, W: Output, O: Output>(
     let line = line_of(alloc, &["find", space, path])?;
     tell_bad(rt, alloc, None, line.as_slice())?;
     'tries: for _try in 0..MOST_TRIES {
-        match look(alloc, space, line.as_slice(), lines, writer, out)? {
+        match look_once(alloc, space, line.as_slice(), lines, writer, out)? {
             Look::Found => return Ok(true),
             Look::Refused => return Ok(false),
             Look::Gone => {}
