@@ -9,7 +9,8 @@ use Rattle.mt_events.specs.Posts.{PostView, IsPost, post_text, ended}
 use Rattle.mt_events.specs.Mirrors.{MirrorView}
 use Rattle.mt_events.specs.Texts.{count_text, followed_text}
 use Rattle.mt_events.specs.declared.opening.Scope.{Scope}
-use Rattle.mt_told.specs.Told.{told_text}
+use Rattle.mt_told.specs.declared.telling.Telling.{Telling}
+use Rattle.mt_told.specs.Events.{told_as}
 use Rattle.mt_client.specs.declared.fault.ClientFault.{ClientFault}
 use Rattle.mt_client.specs.declared.fault.ClientFault.TheVariants.{Connection, Output, NoMemory}
 use Rattle.mt_client.specs.Requests.{numbered_text}
@@ -37,15 +38,15 @@ pub by_both : (ps qs : List PostView) (old : List MirrorView) → mirrors_by old
 by_both [] qs old = refl
 by_both (p ∷ ps) qs old = by_both ps qs (mirrors_with old p)
 
-told_both : (ps qs : List PostView) (old : List MirrorView) → posts_told old (ps ++ qs) ≡ posts_told old ps ++ posts_told (mirrors_by old ps) qs
-told_both [] qs old = refl
-told_both (p ∷ ps) qs old =
-    ap (λ t. told_text (mirror_in old p.space) p ++ t) (told_both ps qs (mirrors_with old p))
-    ∙ sym (append_assoc (told_text (mirror_in old p.space) p) (posts_told (mirrors_with old p) ps) (posts_told (mirrors_by (mirrors_with old p) ps) qs))
+told_both : (telling : Telling) (ps qs : List PostView) (old : List MirrorView) → posts_told telling old (ps ++ qs) ≡ posts_told telling old ps ++ posts_told telling (mirrors_by old ps) qs
+told_both telling [] qs old = refl
+told_both telling (p ∷ ps) qs old =
+    ap (λ t. told_as telling [] (mirror_in old p.space) p ++ t) (told_both telling ps qs (mirrors_with old p))
+    ∙ sym (append_assoc (told_as telling [] (mirror_in old p.space) p) (posts_told telling (mirrors_with old p) ps) (posts_told telling (mirrors_by (mirrors_with old p) ps) qs))
 
-pub both_told : (scope : Scope) (ps qs : List PostView) (s t : List ℕ) (old mid new : List MirrorView) (before middle after : List Item) (begun between done : List ℕ)
-    → AreTold scope ps s old mid before middle begun between → AreTold scope qs t mid new middle after between done → AreTold scope (ps ++ qs) (s ++ t) old new before after begun done
-both_told scope ps qs s t old mid new before middle after begun between done f h = record {
+pub both_told : {telling : Telling} (scope : Scope) (ps qs : List PostView) (s t : List ℕ) (old mid new : List MirrorView) (before middle after : List Item) (begun between done : List ℕ)
+    → AreTold telling scope ps s old mid before middle begun between → AreTold telling scope qs t mid new middle after between done → AreTold telling scope (ps ++ qs) (s ++ t) old new before after begun done
+both_told {telling} scope ps qs s t old mid new before middle after begun between done f h = record {
   lines = f.lines ++ h.lines;
   valid = all_both IsPost ps qs f.valid h.valid;
   due = due_both scope ps qs old f.due (subst (λ ms. are_due scope ms qs ≡ true) f.make h.due);
@@ -53,21 +54,21 @@ both_told scope ps qs s t old mid new before middle after begun between done f h
   read = runs_read f.lines h.lines before middle after f.read h.read;
   text = printed-append f.lines h.lines ∙ (λ k. f.text k ++ h.text k);
   out =
-      h.out ∙ (λ k. f.out k ++ posts_told (f.make k) qs)
-      ∙ append_assoc begun (posts_told old ps) (posts_told (mirrors_by old ps) qs)
-      ∙ ap (λ x. begun ++ x) (sym (told_both ps qs old));
+      h.out ∙ (λ k. f.out k ++ posts_told telling (f.make k) qs)
+      ∙ append_assoc begun (posts_told telling old ps) (posts_told telling (mirrors_by old ps) qs)
+      ∙ ap (λ x. begun ++ x) (sym (told_both telling ps qs old));
 }
 
-none_told : (scope : Scope) (old : List MirrorView) (before : List Item) (begun : List ℕ) → AreTold scope [] [] old old before before begun begun
-none_told scope old before begun = record { lines = []; valid = tt; due = refl; make = refl; read = refl; text = refl; out = sym (append-nil begun) }
+none_told : {telling : Telling} (scope : Scope) (old : List MirrorView) (before : List Item) (begun : List ℕ) → AreTold telling scope [] [] old old before before begun begun
+none_told {telling} scope old before begun = record { lines = []; valid = tt; due = refl; make = refl; read = refl; text = refl; out = sym (append-nil begun) }
 
-said_so : (scope : Scope) (ps : List PostView) (s t : List ℕ) (old new : List MirrorView) (before after : List Item) (begun done : List ℕ) → s ≡ t → AreTold scope ps s old new before after begun done → AreTold scope ps t old new before after begun done
-said_so scope ps s t old new before after begun done e f = subst (λ x. AreTold scope ps x old new before after begun done) e f
+said_so : {telling : Telling} (scope : Scope) (ps : List PostView) (s t : List ℕ) (old new : List MirrorView) (before after : List Item) (begun done : List ℕ) → s ≡ t → AreTold telling scope ps s old new before after begun done → AreTold telling scope ps t old new before after begun done
+said_so {telling} scope ps s t old new before after begun done e f = subst (λ x. AreTold telling scope ps x old new before after begun done) e f
 
 -- one post
-pub post_told : (scope : Scope) (first : List ℕ) (post : PostView) (old new : List MirrorView) (before middle after : List Item) (begun done : List ℕ) → before ≡ Text first ∷ middle → IsPosted first middle after post → IsPost post
-    → is_due scope old post ≡ true → new ≡ mirrors_with old post → done ≡ begun ++ told_text (mirror_in old post.space) post → HasToldPost scope old new before after begun done
-post_told scope first post old new before middle after begun done there p valid due make out = (
+pub post_told : {telling : Telling} (scope : Scope) (first : List ℕ) (post : PostView) (old new : List MirrorView) (before middle after : List Item) (begun done : List ℕ) → before ≡ Text first ∷ middle → IsPosted first middle after post → IsPost post
+    → is_due scope old post ≡ true → new ≡ mirrors_with old post → done ≡ begun ++ told_as telling [] (mirror_in old post.space) post → HasToldPost telling scope old new before after begun done
+post_told {telling} scope first post old new before middle after begun done there p valid due make out = (
   post,
   record {
     lines = first ∷ p.others;
@@ -76,13 +77,13 @@ post_told scope first post old new before middle after begun done there p valid 
     make = make;
     read = there ∙ ap (λ x. Text first ∷ x) p.read;
     text = p.text;
-    out = out ∙ ap (λ x. begun ++ x) (sym (append-nil (told_text (mirror_in old post.space) post)));
+    out = out ∙ ap (λ x. begun ++ x) (sym (append-nil (told_as telling [] (mirror_in old post.space) post)));
   },
 )
 
-pub half_told : (scope : Scope) (first : List ℕ) (post : PostView) (old : List MirrorView) (before middle after : List Item) (begun done : List ℕ) → before ≡ Text first ∷ middle → IsPosted first middle after post → IsPost post → is_due scope old post ≡ true
-    → IsCutOff (told_text (mirror_in old post.space) post) begun done → IsHalfTold scope old before begun done
-half_told scope first post old before middle after begun done there p valid due out = record {
+pub half_told : {telling : Telling} (scope : Scope) (first : List ℕ) (post : PostView) (old : List MirrorView) (before middle after : List Item) (begun done : List ℕ) → before ≡ Text first ∷ middle → IsPosted first middle after post → IsPost post → is_due scope old post ≡ true
+    → IsCutOff (told_as telling [] (mirror_in old post.space) post) begun done → IsHalfTold telling scope old before begun done
+half_told {telling} scope first post old before middle after begun done there p valid due out = record {
   post = post;
   lines = first ∷ p.others;
   later = after;
@@ -104,11 +105,11 @@ unsaid_of Connection before old new b kept = kept (λ e. let no : ◌≡◌ {A =
 unsaid_of NoMemory before old new b kept = kept (λ e. let no : ◌≡◌ {A = ClientFault} NoMemory Output = e in cc)
 unsaid_of Output before old new b kept = b
 
-pub stopped_post : (f : ClientFault) (scope : Scope) (first : List ℕ) (post : PostView) (old : List MirrorView) (before middle after : List Item) (begun done : List ℕ) → before ≡ Text first ∷ middle → IsPosted first middle after post → IsPost post
-    → (f ≢ Output → done ≡ begun) → (f ≡ Output → (is_due scope old post ≡ true) × IsCutOff (told_text (mirror_in old post.space) post) begun done) → IsStopped f scope old before begun done
-stopped_post f scope first post old before middle after begun done there p valid kept cut = go f kept cut
+pub stopped_post : {telling : Telling} (f : ClientFault) (scope : Scope) (first : List ℕ) (post : PostView) (old : List MirrorView) (before middle after : List Item) (begun done : List ℕ) → before ≡ Text first ∷ middle → IsPosted first middle after post → IsPost post
+    → (f ≢ Output → done ≡ begun) → (f ≡ Output → (is_due scope old post ≡ true) × IsCutOff (told_as telling [] (mirror_in old post.space) post) begun done) → IsStopped telling f scope old before begun done
+stopped_post {telling} f scope first post old before middle after begun done there p valid kept cut = go f kept cut
   where
-    go : (f : ClientFault) → (f ≢ Output → done ≡ begun) → (f ≡ Output → (is_due scope old post ≡ true) × IsCutOff (told_text (mirror_in old post.space) post) begun done) → IsStopped f scope old before begun done
+    go : (f : ClientFault) → (f ≢ Output → done ≡ begun) → (f ≡ Output → (is_due scope old post ≡ true) × IsCutOff (told_as telling [] (mirror_in old post.space) post) begun done) → IsStopped telling f scope old before begun done
     go Connection same half = inl (same (λ e. let no : ◌≡◌ {A = ClientFault} Connection Output = e in cc))
     go NoMemory same half = inl (same (λ e. let no : ◌≡◌ {A = ClientFault} NoMemory Output = e in cc))
     go Output same half = let h = half refl in inr (refl, half_told scope first post old before middle after begun done there p valid h.0 h.1)
@@ -124,12 +125,12 @@ pub when_none : {X : Type 0} (A : Type 0) (P : X → Type 0) (o : Option X) → 
 when_none A P o e m = subst (λ y. MatchOption y A P) e m
 
 -- so many posts
-pub none_yet : (scope : Scope) (old : List MirrorView) (before : List Item) (begun : List ℕ) → HasToldSome 0 scope old old before before begun begun
-none_yet scope old before begun = record { posts = []; many = refl; told = none_told scope old before begun }
+pub none_yet : {telling : Telling} (scope : Scope) (old : List MirrorView) (before : List Item) (begun : List ℕ) → HasToldSome telling 0 scope old old before before begun begun
+none_yet {telling} scope old before begun = record { posts = []; many = refl; told = none_told scope old before begun }
 
-pub some_more : (n : ℕ) (scope : Scope) (old mid new : List MirrorView) (before middle after : List Item) (begun between done : List ℕ) → HasToldSome n scope old mid before middle begun between → HasToldPost scope mid new middle after between done
-    → HasToldSome (n + 1) scope old new before after begun done
-some_more n scope old mid new before middle after begun between done f h =
+pub some_more : {telling : Telling} (n : ℕ) (scope : Scope) (old mid new : List MirrorView) (before middle after : List Item) (begun between done : List ℕ) → HasToldSome telling n scope old mid before middle begun between → HasToldPost telling scope mid new middle after between done
+    → HasToldSome telling (n + 1) scope old new before after begun done
+some_more {telling} n scope old mid new before middle after begun between done f h =
     let p : PostView = h.0 in
     let l = length-append f.posts (p ∷ []) in
     let m = f.many in
@@ -142,9 +143,9 @@ some_more n scope old mid new before middle after begun between done f h =
     }
 
 -- their end
-pub portion_whole : (count n : ℕ) (scope : Scope) (old new : List MirrorView) (before middle after : List Item) (begun done : List ℕ) → n ≡ count → HasToldSome n scope old new before middle begun done → middle ≡ texts (counted_line count ∷ []) ++ after
-    → HasToldPortion count scope old new before after begun done
-portion_whole count n scope old new before middle after begun done all f e =
+pub portion_whole : {telling : Telling} (count n : ℕ) (scope : Scope) (old new : List MirrorView) (before middle after : List Item) (begun done : List ℕ) → n ≡ count → HasToldSome telling n scope old new before middle begun done → middle ≡ texts (counted_line count ∷ []) ++ after
+    → HasToldPortion telling count scope old new before after begun done
+portion_whole {telling} count n scope old new before middle after begun done all f e =
     let t = f.told in
     record {
       posts = f.posts;
@@ -161,24 +162,24 @@ portion_whole count n scope old new before middle after begun done all f e =
     }
 
 -- at most so many posts, and no whole portion before them
-pub so_few : (count n : ℕ) (scope : Scope) (old new : List MirrorView) (before after : List Item) (begun done : List ℕ) → n ≤ count → HasToldSome n scope old new before after begun done → HasToldSo count scope old new before after begun done
-so_few count n scope old new before after begun done le f = record { portions = []; rest = f.posts; whole = tt; within = let m = f.many in omega (arith, m, le); told = f.told }
+pub so_few : {telling : Telling} (count n : ℕ) (scope : Scope) (old new : List MirrorView) (before after : List Item) (begun done : List ℕ) → n ≤ count → HasToldSome telling n scope old new before after begun done → HasToldSo telling count scope old new before after begun done
+so_few {telling} count n scope old new before after begun done le f = record { portions = []; rest = f.posts; whole = tt; within = let m = f.many in omega (arith, m, le); told = f.told }
 
-pub so_none : (count : ℕ) (scope : Scope) (old : List MirrorView) (before : List Item) (begun : List ℕ) → HasToldSo count scope old old before before begun begun
-so_none count scope old before begun = so_few count 0 scope old old before before begun begun (omega arith) (none_yet scope old before begun)
+pub so_none : {telling : Telling} (count : ℕ) (scope : Scope) (old : List MirrorView) (before : List Item) (begun : List ℕ) → HasToldSo telling count scope old old before before begun begun
+so_none {telling} count scope old before begun = so_few count 0 scope old old before before begun begun (omega arith) (none_yet scope old before begun)
 
 -- whole portions
-pub record HasToldWhole (count : ℕ) (scope : Scope) (old new : List MirrorView) (before after : List Item) (begun done : List ℕ) : Type 0 where
+pub record HasToldWhole (telling : Telling) (count : ℕ) (scope : Scope) (old new : List MirrorView) (before after : List Item) (begun done : List ℕ) : Type 0 where
   pub portions : List (List PostView)
   pub whole : AllByRecursion (λ posts. length posts ≡ count) portions
-  pub told : AreTold scope (flat_map (λ posts. posts) portions) (flat_map (λ posts. followed_text posts (count_text count)) portions) old new before after begun done
+  pub told : AreTold telling scope (flat_map (λ posts. posts) portions) (flat_map (λ posts. followed_text posts (count_text count)) portions) old new before after begun done
 
-pub none_whole : (count : ℕ) (scope : Scope) (old : List MirrorView) (before : List Item) (begun : List ℕ) → HasToldWhole count scope old old before before begun begun
-none_whole count scope old before begun = record { portions = []; whole = tt; told = none_told scope old before begun }
+pub none_whole : {telling : Telling} (count : ℕ) (scope : Scope) (old : List MirrorView) (before : List Item) (begun : List ℕ) → HasToldWhole telling count scope old old before before begun begun
+none_whole {telling} count scope old before begun = record { portions = []; whole = tt; told = none_told scope old before begun }
 
-pub whole_more : (count : ℕ) (scope : Scope) (old mid new : List MirrorView) (before middle after : List Item) (begun between done : List ℕ) → HasToldWhole count scope old mid before middle begun between → HasToldPortion count scope mid new middle after between done
-    → HasToldWhole count scope old new before after begun done
-whole_more count scope old mid new before middle after begun between done f h =
+pub whole_more : {telling : Telling} (count : ℕ) (scope : Scope) (old mid new : List MirrorView) (before middle after : List Item) (begun between done : List ℕ) → HasToldWhole telling count scope old mid before middle begun between → HasToldPortion telling count scope mid new middle after between done
+    → HasToldWhole telling count scope old new before after begun done
+whole_more {telling} count scope old mid new before middle after begun between done f h =
     let said : List (List PostView) → List ℕ = λ portions. flat_map (λ posts. followed_text posts (count_text count)) portions in
     let posts : flat_map (λ posts. posts) f.portions ++ h.posts ≡ flat_map (λ posts. posts) (f.portions ++ h.posts ∷ []) =
     ap (λ x. flat_map (λ posts. posts) f.portions ++ x) (sym (append-nil h.posts)) ∙ sym (flat_map-append (λ posts. posts) f.portions (h.posts ∷ [])) in
@@ -187,14 +188,14 @@ whole_more count scope old mid new before middle after begun between done f h =
     record {
       portions = f.portions ++ h.posts ∷ [];
       whole = all_both (λ (posts : List PostView). length posts ≡ count) f.portions (h.posts ∷ []) f.whole (h.many, tt);
-      told = subst (λ x. AreTold scope x (said (f.portions ++ h.posts ∷ [])) old new before after begun done) posts
-          (subst (λ x. AreTold scope (flat_map (λ posts. posts) f.portions ++ h.posts) x old new before after begun done) text
+      told = subst (λ x. AreTold telling scope x (said (f.portions ++ h.posts ∷ [])) old new before after begun done) posts
+          (subst (λ x. AreTold telling scope (flat_map (λ posts. posts) f.portions ++ h.posts) x old new before after begun done) text
           (both_told scope (flat_map (λ posts. posts) f.portions) h.posts (said f.portions) (followed_text h.posts (count_text count)) old mid new before middle after begun between done f.told h.told));
     }
 
-pub so_behind : (count : ℕ) (scope : Scope) (old mid new : List MirrorView) (before middle after : List Item) (begun between done : List ℕ) → HasToldWhole count scope old mid before middle begun between → HasToldSo count scope mid new middle after between done
-    → HasToldSo count scope old new before after begun done
-so_behind count scope old mid new before middle after begun between done f h =
+pub so_behind : {telling : Telling} (count : ℕ) (scope : Scope) (old mid new : List MirrorView) (before middle after : List Item) (begun between done : List ℕ) → HasToldWhole telling count scope old mid before middle begun between → HasToldSo telling count scope mid new middle after between done
+    → HasToldSo telling count scope old new before after begun done
+so_behind {telling} count scope old mid new before middle after begun between done f h =
     let all : List (List PostView) → List PostView = λ portions. flat_map (λ posts. posts) portions in
     let said : List (List PostView) → List ℕ = λ portions. flat_map (λ posts. followed_text posts (count_text count)) portions in
     let posts : all f.portions ++ all_posts h.portions h.rest ≡ all_posts (f.portions ++ h.portions) h.rest =
@@ -206,70 +207,70 @@ so_behind count scope old mid new before middle after begun between done f h =
       rest = h.rest;
       whole = all_both (λ (posts : List PostView). length posts ≡ count) f.portions h.portions f.whole h.whole;
       within = h.within;
-      told = subst (λ x. AreTold scope x (portions_text count (f.portions ++ h.portions) h.rest) old new before after begun done) posts
-          (subst (λ x. AreTold scope (all f.portions ++ all_posts h.portions h.rest) x old new before after begun done) text
+      told = subst (λ x. AreTold telling scope x (portions_text count (f.portions ++ h.portions) h.rest) old new before after begun done) posts
+          (subst (λ x. AreTold telling scope (all f.portions ++ all_posts h.portions h.rest) x old new before after begun done) text
           (both_told scope (all f.portions) (all_posts h.portions h.rest) (said f.portions) (portions_text count h.portions h.rest) old mid new before middle after begun between done f.told h.told));
     }
 
-pub so_whole : (count : ℕ) (scope : Scope) (old new : List MirrorView) (before after : List Item) (begun done : List ℕ) → HasToldWhole count scope old new before after begun done → HasToldSo count scope old new before after begun done
-so_whole count scope old new before after begun done f = so_behind count scope old new new before after after begun done done f (so_none count scope new after done)
+pub so_whole : {telling : Telling} (count : ℕ) (scope : Scope) (old new : List MirrorView) (before after : List Item) (begun done : List ℕ) → HasToldWhole telling count scope old new before after begun done → HasToldSo telling count scope old new before after begun done
+so_whole {telling} count scope old new before after begun done f = so_behind count scope old new new before after after begun done done f (so_none count scope new after done)
 
 -- a refusal behind them, and a fault
-pub all_behind : (count : ℕ) (scope : Scope) (old mid : List MirrorView) (before middle after : List Item) (begun between done : List ℕ) → HasToldWhole count scope old mid before middle begun between → HasToldAllOut count scope mid middle after between done
-    → HasToldAllOut count scope old before after begun done
-all_behind count scope old mid before middle after begun between done f h =
-    let a : HasToldAll count scope h.0 mid middle after between h.1 = h.2 in
+pub all_behind : {telling : Telling} (count : ℕ) (scope : Scope) (old mid : List MirrorView) (before middle after : List Item) (begun between done : List ℕ) → HasToldWhole telling count scope old mid before middle begun between → HasToldAllOut telling count scope mid middle after between done
+    → HasToldAllOut telling count scope old before after begun done
+all_behind {telling} count scope old mid before middle after begun between done f h =
+    let a : HasToldAll telling count scope h.0 mid middle after between h.1 = h.2 in
     (h.0, h.1, record { made = a.made; middle = a.middle; so = so_behind count scope old mid a.made before middle a.middle begun between h.1 f a.so; refused = a.refused }, h.3)
 
-pub up_to_behind : (fault : ClientFault) (count : ℕ) (scope : Scope) (old mid : List MirrorView) (before middle : List Item) (begun between done : List ℕ) → HasToldWhole count scope old mid before middle begun between → IsToldUpTo fault count scope mid middle between done
-    → IsToldUpTo fault count scope old before begun done
-up_to_behind fault count scope old mid before middle begun between done f h =
+pub up_to_behind : {telling : Telling} (fault : ClientFault) (count : ℕ) (scope : Scope) (old mid : List MirrorView) (before middle : List Item) (begun between done : List ℕ) → HasToldWhole telling count scope old mid before middle begun between → IsToldUpTo telling fault count scope mid middle between done
+    → IsToldUpTo telling fault count scope old before begun done
+up_to_behind {telling} fault count scope old mid before middle begun between done f h =
     record { made = h.made; middle = h.middle; between = h.between; so = so_behind count scope old mid h.made before middle h.middle begun between h.between f h.so; stopped = h.stopped }
 
-pub up_to_whole : (count : ℕ) (scope : Scope) (old new : List MirrorView) (before middle : List Item) (begun done : List ℕ) → HasToldWhole count scope old new before middle begun done → IsToldUpTo Connection count scope old before begun done
-up_to_whole count scope old new before middle begun done f = record { made = new; middle = middle; between = done; so = so_whole count scope old new before middle begun done f; stopped = inl refl }
+pub up_to_whole : {telling : Telling} (count : ℕ) (scope : Scope) (old new : List MirrorView) (before middle : List Item) (begun done : List ℕ) → HasToldWhole telling count scope old new before middle begun done → IsToldUpTo telling Connection count scope old before begun done
+up_to_whole {telling} count scope old new before middle begun done f = record { made = new; middle = middle; between = done; so = so_whole count scope old new before middle begun done f; stopped = inl refl }
 
 -- the line behind so many posts
-pub all_told : {T O : Type 0} (r : Result Bool ClientFault) (count n : ℕ) (scope : Scope) (refusal : List ℕ) (old new : List MirrorView) (before middle after : List Item) (begun done : List ℕ) → n ≡ count → (T → O → HasToldSome n scope old new before middle begun done)
+pub all_told : {telling : Telling} {T O : Type 0} (r : Result Bool ClientFault) (count n : ℕ) (scope : Scope) (refusal : List ℕ) (old new : List MirrorView) (before middle after : List Item) (begun done : List ℕ) → n ≡ count → (T → O → HasToldSome telling n scope old new before middle begun done)
     → IfOk r (λ going. T → MatchBool going (middle ≡ texts (counted_line count ∷ []) ++ after) (HasRefused refusal middle after))
-    → IfOk r (λ going. T → O → MatchBool going (HasToldPortion count scope old new before after begun done) (HasToldAll count scope refusal old before after begun done))
-all_told (Ok true) count n scope refusal old new before middle after begun done e f h = λ t u. portion_whole count n scope old new before middle after begun done e (f t u) (h t)
-all_told (Ok false) count n scope refusal old new before middle after begun done e f h =
+    → IfOk r (λ going. T → O → MatchBool going (HasToldPortion telling count scope old new before after begun done) (HasToldAll telling count scope refusal old before after begun done))
+all_told {telling} (Ok true) count n scope refusal old new before middle after begun done e f h = λ t u. portion_whole count n scope old new before middle after begun done e (f t u) (h t)
+all_told {telling} (Ok false) count n scope refusal old new before middle after begun done e f h =
     λ t u. record { made = new; middle = middle; so = so_few count n scope old new before middle begun done (omega (arith, e)) (f t u); refused = h t }
-all_told (Err k) count n scope refusal old new before middle after begun done e f h = tt
+all_told {telling} (Err k) count n scope refusal old new before middle after begun done e f h = tt
 
-pub all_few : (count n : ℕ) (scope : Scope) (refusal : List ℕ) (old new : List MirrorView) (before middle after : List Item) (begun between done : List ℕ) → n ≤ count → HasToldSome n scope old new before middle begun between → (done ≡ between) × HasRefused refusal middle after
-    → HasToldAll count scope refusal old before after begun done
-all_few count n scope refusal old new before middle after begun between done le f r = record {
+pub all_few : {telling : Telling} (count n : ℕ) (scope : Scope) (refusal : List ℕ) (old new : List MirrorView) (before middle after : List Item) (begun between done : List ℕ) → n ≤ count → HasToldSome telling n scope old new before middle begun between → (done ≡ between) × HasRefused refusal middle after
+    → HasToldAll telling count scope refusal old before after begun done
+all_few {telling} count n scope refusal old new before middle after begun between done le f r = record {
   made = new;
   middle = middle;
-  so = subst (λ x. HasToldSo count scope old new before middle begun x) (sym r.0) (so_few count n scope old new before middle begun between le f);
+  so = subst (λ x. HasToldSo telling count scope old new before middle begun x) (sym r.0) (so_few count n scope old new before middle begun between le f);
   refused = r.1;
 }
 
-pub up_to_some : (fault : ClientFault) (count n : ℕ) (scope : Scope) (old new : List MirrorView) (before middle : List Item) (begun between done : List ℕ) → n ≤ count → HasToldSome n scope old new before middle begun between → IsStopped fault scope new middle between done
-    → IsToldUpTo fault count scope old before begun done
-up_to_some fault count n scope old new before middle begun between done le f s =
+pub up_to_some : {telling : Telling} (fault : ClientFault) (count n : ℕ) (scope : Scope) (old new : List MirrorView) (before middle : List Item) (begun between done : List ℕ) → n ≤ count → HasToldSome telling n scope old new before middle begun between → IsStopped telling fault scope new middle between done
+    → IsToldUpTo telling fault count scope old before begun done
+up_to_some {telling} fault count n scope old new before middle begun between done le f s =
     record { made = new; middle = middle; between = between; so = so_few count n scope old new before middle begun between le f; stopped = s }
 
-pub end_broken : (r : Result Bool ClientFault) (count n : ℕ) (scope : Scope) (old new : List MirrorView) (before middle : List Item) (begun done : List ℕ) → IfErr r (λ f. f ≢ Output) → n ≤ count → HasToldSome n scope old new before middle begun done
-    → IfErr r (λ fault. IsToldUpTo fault count scope old before begun done)
-end_broken (Ok b) count n scope old new before middle begun done kind le f = tt
-end_broken (Err k) count n scope old new before middle begun done kind le f = up_to_some k count n scope old new before middle begun done done le f (inl (unsaid k middle done done kind refl))
+pub end_broken : {telling : Telling} (r : Result Bool ClientFault) (count n : ℕ) (scope : Scope) (old new : List MirrorView) (before middle : List Item) (begun done : List ℕ) → IfErr r (λ f. f ≢ Output) → n ≤ count → HasToldSome telling n scope old new before middle begun done
+    → IfErr r (λ fault. IsToldUpTo telling fault count scope old before begun done)
+end_broken {telling} (Ok b) count n scope old new before middle begun done kind le f = tt
+end_broken {telling} (Err k) count n scope old new before middle begun done kind le f = up_to_some k count n scope old new before middle begun done done le f (inl (unsaid k middle done done kind refl))
 
-pub up_to_none : (fault : ClientFault) (count : ℕ) (scope : Scope) (old : List MirrorView) (before : List Item) (begun done : List ℕ) → IsUnsaid fault before begun done → IsToldUpTo fault count scope old before begun done
-up_to_none fault count scope old before begun done u = record { made = old; middle = before; between = begun; so = so_none count scope old before begun; stopped = inl u }
+pub up_to_none : {telling : Telling} (fault : ClientFault) (count : ℕ) (scope : Scope) (old : List MirrorView) (before : List Item) (begun done : List ℕ) → IsUnsaid fault before begun done → IsToldUpTo telling fault count scope old before begun done
+up_to_none {telling} fault count scope old before begun done u = record { made = old; middle = before; between = begun; so = so_none count scope old before begun; stopped = inl u }
 
-pub no_memory_told : (fault : ClientFault) (count : ℕ) (scope : Scope) (old : List MirrorView) (before : List Item) (begun : List ℕ) → fault ≡ NoMemory → IsToldUpTo fault count scope old before begun begun
-no_memory_told fault count scope old before begun kind = up_to_none fault count scope old before begun begun (subst (λ f. IsUnsaid f before begun begun) (sym kind) refl)
+pub no_memory_told : {telling : Telling} (fault : ClientFault) (count : ℕ) (scope : Scope) (old : List MirrorView) (before : List Item) (begun : List ℕ) → fault ≡ NoMemory → IsToldUpTo telling fault count scope old before begun begun
+no_memory_told {telling} fault count scope old before begun kind = up_to_none fault count scope old before begun begun (subst (λ f. IsUnsaid f before begun begun) (sym kind) refl)
 
 -- a refusal that is printed, in part or whole
-pub refused_at_once : (count : ℕ) (scope : Scope) (refusal : List ℕ) (old : List MirrorView) (before after : List Item) (begun done : List ℕ) → HasRefused refusal before after → done ≡ begun ++ ended refusal → HasToldAllOut count scope old before after begun done
-refused_at_once count scope refusal old before after begun done r e = (refusal, begun, record { made = old; middle = before; so = so_none count scope old before begun; refused = r }, e)
+pub refused_at_once : {telling : Telling} (count : ℕ) (scope : Scope) (refusal : List ℕ) (old : List MirrorView) (before after : List Item) (begun done : List ℕ) → HasRefused refusal before after → done ≡ begun ++ ended refusal → HasToldAllOut telling count scope old before after begun done
+refused_at_once {telling} count scope refusal old before after begun done r e = (refusal, begun, record { made = old; middle = before; so = so_none count scope old before begun; refused = r }, e)
 
-pub refusal_cut : (fault : ClientFault) (count : ℕ) (scope : Scope) (refusal : List ℕ) (old : List MirrorView) (before after : List Item) (begun between done : List ℕ) → fault ≡ Output → HasToldAll count scope refusal old before after begun between → IsCutOff (ended refusal) between done
-    → IsToldUpTo fault count scope old before begun done
-refusal_cut fault count scope refusal old before after begun between done kind a cut =
+pub refusal_cut : {telling : Telling} (fault : ClientFault) (count : ℕ) (scope : Scope) (refusal : List ℕ) (old : List MirrorView) (before after : List Item) (begun between done : List ℕ) → fault ≡ Output → HasToldAll telling count scope refusal old before after begun between → IsCutOff (ended refusal) between done
+    → IsToldUpTo telling fault count scope old before begun done
+refusal_cut {telling} fault count scope refusal old before after begun between done kind a cut =
     let r = a.refused in
     let part : IsUnsaid Output a.middle between done = broken_cut Output refusal a.middle after between done r.read refl cut in
     record { made = a.made; middle = a.middle; between = between; so = a.so; stopped = inl (subst (λ f. IsUnsaid f a.middle between done) (sym kind) part) }
@@ -302,8 +303,8 @@ pub telling_second : (scope : Scope) (old mid new : List ℕ) → mid ≡ old ++
 telling_second scope old mid new e p = (p.0, part_second (ended (watch_text scope)) (follows_text portion p.0) old mid new e p.1)
 
 -- a whole telling
-come_whole : (scope : Scope) (found made : List MirrorView) (before opened after : List Item) (begun done : List ℕ) → HasFound scope before opened found → (s : HasToldSo portion scope found made opened after begun done) → HasCome scope s.portions s.rest before after found
-come_whole scope found made before opened after begun done f s =
+come_whole : {telling : Telling} (scope : Scope) (found made : List MirrorView) (before opened after : List Item) (begun done : List ℕ) → HasFound scope before opened found → (s : HasToldSo telling portion scope found made opened after begun done) → HasCome scope s.portions s.rest before after found
+come_whole {telling} scope found made before opened after begun done f s =
     let w = watched_whole scope found before opened f in
     let t = s.told in
     record {
@@ -317,10 +318,10 @@ come_whole scope found made before opened after begun done f s =
       text = printed-append w.lines t.lines ∙ (λ k. w.text k ++ t.text k);
     }
 
-pub told_whole : (scope : Scope) (found : List MirrorView) (before opened after : List Item) (begun done : List ℕ) → HasFound scope before opened found → HasToldAllOut portion scope found opened after begun done
-    → (mirrors : List MirrorView) × (portions : List (List PostView)) × (rest : List PostView) × (refusal : List ℕ) × HasTold scope portions rest refusal before after mirrors × (done ≡ begun ++ posts_told mirrors (all_posts portions rest) ++ ended refusal)
-told_whole scope found before opened after begun done f h =
-    let a : HasToldAll portion scope h.0 found opened after begun h.1 = h.2 in
+pub told_whole : {telling : Telling} (scope : Scope) (found : List MirrorView) (before opened after : List Item) (begun done : List ℕ) → HasFound scope before opened found → HasToldAllOut telling portion scope found opened after begun done
+    → (mirrors : List MirrorView) × (portions : List (List PostView)) × (rest : List PostView) × (refusal : List ℕ) × HasTold scope portions rest refusal before after mirrors × (done ≡ begun ++ posts_told telling mirrors (all_posts portions rest) ++ ended refusal)
+told_whole {telling} scope found before opened after begun done f h =
+    let a : HasToldAll telling portion scope h.0 found opened after begun h.1 = h.2 in
     let s = a.so in
     let t = s.told in (
       found,
@@ -331,8 +332,8 @@ told_whole scope found before opened after begun done f h =
       h.3 ∙ ap (λ x. x ++ ended h.0) t.out,
     )
 
-pub telling_stopped : (fault : ClientFault) (scope : Scope) (found : List MirrorView) (before opened : List Item) (begun done : List ℕ) → HasFound scope before opened found → IsToldUpTo fault portion scope found opened begun done → IsBrokenOff fault scope before begun done
-telling_stopped fault scope found before opened begun done f h =
+pub telling_stopped : {telling : Telling} (fault : ClientFault) (scope : Scope) (found : List MirrorView) (before opened : List Item) (begun done : List ℕ) → HasFound scope before opened found → IsToldUpTo telling fault portion scope found opened begun done → IsBrokenOff telling fault scope before begun done
+telling_stopped {telling} fault scope found before opened begun done f h =
     let s = h.so in
     let t = s.told in
     inr (
@@ -341,18 +342,18 @@ telling_stopped fault scope found before opened begun done f h =
       s.rest,
       h.middle,
       come_whole scope found h.made before opened h.middle begun h.between f s,
-      subst (λ x. IsStopped fault scope (mirrors_by found (all_posts s.portions s.rest)) h.middle x done) t.out
-          (subst (λ ms. IsStopped fault scope ms h.middle h.between done) t.make h.stopped),
+      subst (λ x. IsStopped telling fault scope (mirrors_by found (all_posts s.portions s.rest)) h.middle x done) t.out
+          (subst (λ ms. IsStopped telling fault scope ms h.middle h.between done) t.make h.stopped),
     )
 
-pub stopped_behind : (r : Result (Unit {0}) ClientFault) (scope : Scope) (found : List MirrorView) (before opened : List Item) (begun done : List ℕ) → HasFound scope before opened found → IfErr r (λ fault. IsToldUpTo fault portion scope found opened begun done)
-    → IfErr r (λ fault. IsBrokenOff fault scope before begun done)
-stopped_behind (Ok u) scope found before opened begun done f h = tt
-stopped_behind (Err k) scope found before opened begun done f h = telling_stopped k scope found before opened begun done f h
+pub stopped_behind : (telling : Telling) (r : Result (Unit {0}) ClientFault) (scope : Scope) (found : List MirrorView) (before opened : List Item) (begun done : List ℕ) → HasFound scope before opened found → IfErr r (λ fault. IsToldUpTo telling fault portion scope found opened begun done)
+    → IfErr r (λ fault. IsBrokenOff telling fault scope before begun done)
+stopped_behind telling (Ok u) scope found before opened begun done f h = tt
+stopped_behind telling (Err k) scope found before opened begun done f h = telling_stopped k scope found before opened begun done f h
 
-pub told_behind : (T U Y : Type 0) (r : Result (Unit {0}) ClientFault) (scope : Scope) (found : List MirrorView) (before opened after : List Item) (begun done : List ℕ) → (T → HasFound scope before opened found) → OnOk r (T → U → HasToldAllOut portion scope found opened after begun done)
-    → OnOk r (T → U → Y ⊎ ((mirrors : List MirrorView) × (portions : List (List PostView)) × (rest : List PostView) × (refusal : List ℕ) × HasTold scope portions rest refusal before after mirrors × (done ≡ begun ++ posts_told mirrors (all_posts portions rest) ++ ended refusal)))
-told_behind T U Y (Ok x) scope found before opened after begun done f h = λ t u. inr (told_whole scope found before opened after begun done (f t) (h t u))
-told_behind T U Y (Err k) scope found before opened after begun done f h = tt
+pub told_behind : (telling : Telling) (T U Y : Type 0) (r : Result (Unit {0}) ClientFault) (scope : Scope) (found : List MirrorView) (before opened after : List Item) (begun done : List ℕ) → (T → HasFound scope before opened found) → OnOk r (T → U → HasToldAllOut telling portion scope found opened after begun done)
+    → OnOk r (T → U → Y ⊎ ((mirrors : List MirrorView) × (portions : List (List PostView)) × (rest : List PostView) × (refusal : List ℕ) × HasTold scope portions rest refusal before after mirrors × (done ≡ begun ++ posts_told telling mirrors (all_posts portions rest) ++ ended refusal)))
+told_behind telling T U Y (Ok x) scope found before opened after begun done f h = λ t u. inr (told_whole scope found before opened after begun done (f t) (h t u))
+told_behind telling T U Y (Err k) scope found before opened after begun done f h = tt
 
 -- a refusal in the place of an opening

@@ -10,7 +10,8 @@ use Rattle.mt_events.specs.Mirrors.{MirrorView, is_next, mirrored}
 use Rattle.mt_events.specs.Following.{names_space}
 use Rattle.mt_events.specs.Texts.{count_text, opening_text, followed_text}
 use Rattle.mt_events.specs.declared.opening.Scope.{Scope}
-use Rattle.mt_told.specs.Told.{told_text}
+use Rattle.mt_told.specs.declared.telling.Telling.{Telling}
+use Rattle.mt_told.specs.Events.{told_as}
 use Rattle.mt_client.specs.declared.fault.ClientFault.{ClientFault}
 use Rattle.mt_client.specs.declared.fault.ClientFault.TheVariants.{Connection, Output, NoMemory}
 use Rattle.mt_client.specs.Requests.{numbered_text}
@@ -44,9 +45,9 @@ are_due scope mirrors [] = true
 are_due scope mirrors (p ∷ ps) = is_due scope mirrors p && are_due scope (mirrors_with mirrors p) ps
 
 -- posts in words, each against the mirror that those before it have made
-abbrev pub posts_told : List MirrorView → List PostView → List ℕ
-posts_told mirrors [] = []
-posts_told mirrors (p ∷ ps) = told_text (mirror_in mirrors p.space) p ++ posts_told (mirrors_with mirrors p) ps
+abbrev pub posts_told : Telling → List MirrorView → List PostView → List ℕ
+posts_told telling mirrors [] = []
+posts_told telling mirrors (p ∷ ps) = told_as telling [] (mirror_in mirrors p.space) p ++ posts_told telling (mirrors_with mirrors p) ps
 
 -- how many posts a request asks for
 abbrev pub portion : ℕ
@@ -92,7 +93,7 @@ IsUnsaid Connection before old new = new ≡ old
 IsUnsaid NoMemory before old new = new ≡ old
 
 -- a post was read that is due, and a part of its words was printed, not all
-pub record IsHalfTold (scope : Scope) (mirrors : List MirrorView) (before : List Item) (old new : List ℕ) : Type 0 where
+pub record IsHalfTold (telling : Telling) (scope : Scope) (mirrors : List MirrorView) (before : List Item) (old new : List ℕ) : Type 0 where
   pub post : PostView
   pub lines : List (List ℕ)
   pub later : List Item
@@ -100,69 +101,69 @@ pub record IsHalfTold (scope : Scope) (mirrors : List MirrorView) (before : List
   pub due : is_due scope mirrors post ≡ true
   pub read : before ≡ texts lines ++ later
   pub text : printed lines ≡ post_text post
-  pub out : IsCutOff (told_text (mirror_in mirrors post.space) post) old new
+  pub out : IsCutOff (told_as telling [] (mirror_in mirrors post.space) post) old new
 
 -- what was printed up to a fault, where these mirrors have followed
-abbrev pub IsStopped : ClientFault → Scope → List MirrorView → List Item → List ℕ → List ℕ → Type 0
-IsStopped fault scope mirrors before old new = IsUnsaid fault before old new ⊎ ((fault ≡ Output) × IsHalfTold scope mirrors before old new)
+abbrev pub IsStopped : Telling → ClientFault → Scope → List MirrorView → List Item → List ℕ → List ℕ → Type 0
+IsStopped telling fault scope mirrors before old new = IsUnsaid fault before old new ⊎ ((fault ≡ Output) × IsHalfTold telling scope mirrors before old new)
 
 -- the same of a whole telling: nothing was told, or posts that had come behind the opening
-abbrev pub IsBrokenOff : ClientFault → Scope → List Item → List ℕ → List ℕ → Type 0
-IsBrokenOff fault scope before old new =
+abbrev pub IsBrokenOff : Telling → ClientFault → Scope → List Item → List ℕ → List ℕ → Type 0
+IsBrokenOff telling fault scope before old new =
     IsUnsaid fault before old new
     ⊎ ((found : List MirrorView) × (portions : List (List PostView)) × (rest : List PostView) × (middle : List Item) × HasCome scope portions rest before middle found
-    × IsStopped fault scope (mirrors_by found (all_posts portions rest)) middle (old ++ posts_told found (all_posts portions rest)) new)
+    × IsStopped telling fault scope (mirrors_by found (all_posts portions rest)) middle (old ++ posts_told telling found (all_posts portions rest)) new)
 
 -- lines were read that are this text, of these posts, which are due; they were told, and the mirrors have followed
-pub record AreTold (scope : Scope) (posts : List PostView) (said : List ℕ) (old new : List MirrorView) (before after : List Item) (begun done : List ℕ) : Type 0 where
+pub record AreTold (telling : Telling) (scope : Scope) (posts : List PostView) (said : List ℕ) (old new : List MirrorView) (before after : List Item) (begun done : List ℕ) : Type 0 where
   pub lines : List (List ℕ)
   pub valid : AllByRecursion IsPost posts
   pub due : are_due scope old posts ≡ true
   pub make : new ≡ mirrors_by old posts
   pub read : before ≡ texts lines ++ after
   pub text : printed lines ≡ said
-  pub out : done ≡ begun ++ posts_told old posts
+  pub out : done ≡ begun ++ posts_told telling old posts
 
 -- one post was told
-abbrev pub HasToldPost : Scope → List MirrorView → List MirrorView → List Item → List Item → List ℕ → List ℕ → Type 0
-HasToldPost scope old new before after begun done = (post : PostView) × AreTold scope (post ∷ []) (post_text post) old new before after begun done
+abbrev pub HasToldPost : Telling → Scope → List MirrorView → List MirrorView → List Item → List Item → List ℕ → List ℕ → Type 0
+HasToldPost telling scope old new before after begun done = (post : PostView) × AreTold telling scope (post ∷ []) (post_text post) old new before after begun done
 
 -- so many posts were told
-pub record HasToldSome (count : ℕ) (scope : Scope) (old new : List MirrorView) (before after : List Item) (begun done : List ℕ) : Type 0 where
+pub record HasToldSome (telling : Telling) (count : ℕ) (scope : Scope) (old new : List MirrorView) (before after : List Item) (begun done : List ℕ) : Type 0 where
   pub posts : List PostView
   pub many : length posts ≡ count
-  pub told : AreTold scope posts (flat_map post_text posts) old new before after begun done
+  pub told : AreTold telling scope posts (flat_map post_text posts) old new before after begun done
 
 -- so many posts were told, and their end was read
-pub record HasToldPortion (count : ℕ) (scope : Scope) (old new : List MirrorView) (before after : List Item) (begun done : List ℕ) : Type 0 where
+pub record HasToldPortion (telling : Telling) (count : ℕ) (scope : Scope) (old new : List MirrorView) (before after : List Item) (begun done : List ℕ) : Type 0 where
   pub posts : List PostView
   pub many : length posts ≡ count
-  pub told : AreTold scope posts (followed_text posts (count_text count)) old new before after begun done
+  pub told : AreTold telling scope posts (followed_text posts (count_text count)) old new before after begun done
 
 -- portions of so many posts were told, and at most so many posts more
-pub record HasToldSo (count : ℕ) (scope : Scope) (old new : List MirrorView) (before after : List Item) (begun done : List ℕ) : Type 0 where
+pub record HasToldSo (telling : Telling) (count : ℕ) (scope : Scope) (old new : List MirrorView) (before after : List Item) (begun done : List ℕ) : Type 0 where
   pub portions : List (List PostView)
   pub rest : List PostView
   pub whole : AllByRecursion (λ posts. length posts ≡ count) portions
   pub within : length rest ≤ count
-  pub told : AreTold scope (all_posts portions rest) (portions_text count portions rest) old new before after begun done
+  pub told : AreTold telling scope (all_posts portions rest) (portions_text count portions rest) old new before after begun done
 
 -- and behind them a refusal was read
-pub record HasToldAll (count : ℕ) (scope : Scope) (refusal : List ℕ) (old : List MirrorView) (before after : List Item) (begun done : List ℕ) : Type 0 where
+pub record HasToldAll (telling : Telling) (count : ℕ) (scope : Scope) (refusal : List ℕ) (old : List MirrorView) (before after : List Item) (begun done : List ℕ) : Type 0 where
   pub made : List MirrorView
   pub middle : List Item
-  pub so : HasToldSo count scope old made before middle begun done
+  pub so : HasToldSo telling count scope old made before middle begun done
   pub refused : HasRefused refusal middle after
 
 -- and it was printed
-abbrev pub HasToldAllOut : ℕ → Scope → List MirrorView → List Item → List Item → List ℕ → List ℕ → Type 0
-HasToldAllOut count scope old before after begun done =
-    (refusal : List ℕ) × (between : List ℕ) × HasToldAll count scope refusal old before after begun between × (done ≡ between ++ ended refusal)
+abbrev pub HasToldAllOut : Telling → ℕ → Scope → List MirrorView → List Item → List Item → List ℕ → List ℕ → Type 0
+HasToldAllOut telling count scope old before after begun done =
+    (refusal : List ℕ) × (between : List ℕ) × HasToldAll telling count scope refusal old before after begun between × (done ≡ between ++ ended refusal)
 
 -- posts were told up to a fault
-pub record IsToldUpTo (fault : ClientFault) (count : ℕ) (scope : Scope) (old : List MirrorView) (before : List Item) (begun done : List ℕ) : Type 0 where
+pub record IsToldUpTo (telling : Telling) (fault : ClientFault) (count : ℕ) (scope : Scope) (old : List MirrorView) (before : List Item) (begun done : List ℕ) : Type 0 where
   pub made : List MirrorView
   pub middle : List Item
   pub between : List ℕ
-  pub so : HasToldSo count scope old made before middle begun between
-  pub stopped : IsStopped fault scope made middle between done
+  pub so : HasToldSo telling count scope old made before middle begun between
+  pub stopped : IsStopped telling fault scope made middle between done

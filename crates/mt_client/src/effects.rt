@@ -16,7 +16,7 @@ ghost use Rattle.mt_client.specs.Effects.{name_in, effects_text, HasNamed, HasNa
 
 use crate::answer::{Form, form_of, is_refusal, lines_behind};
 use crate::fault::ClientFault;
-use crate::mirrors::apply_told;
+use crate::mirrors::apply_named;
 use crate::posts::{lines_of_event, push_line, push_lines, read_text};
 use crate::relay::{next_text, pass_answer, print, print_line};
 use crate::sending::send_request;
@@ -68,7 +68,7 @@ fn tell_named<O: Output>(
 {
     let mut text = Vec::new(alloc);
     let name = name_of(names, post.space);
-    apply_told(alloc, &mut text, mirrors, post, name)?;
+    apply_named(alloc, &mut text, mirrors, post, name)?;
     print(out, text.as_slice())
 }
 

@@ -5,6 +5,7 @@ ghost use Rattle.std.specs.Option.{option_map_or};
 ghost use Rattle.mt_skel.specs.Keyed.{rises};
 ghost use Rattle.mt_events.specs.Mirrors.{MirrorView, is_next};
 ghost use Rattle.mt_told.specs.Told.{named_text};
+ghost use Rattle.mt_told.specs.Events.{told_as};
 ghost use Rattle.mt_client.specs.Finding.{mirror_space};
 ghost use Rattle.mt_client.specs.Telling.{mirror_begun, mirror_in, mirrors_with};
 
@@ -14,7 +15,7 @@ use mt_events::mirror::Mirror;
 use mt_events::post::Post;
 use mt_info::table::Table;
 use mt_mounts::mount::SpaceId;
-use mt_told::told::push_named;
+use mt_told::telling::{Telling, push_telling};
 use std::alloc::Global;
 
 /// The index of the first mirror that is not of a lesser namespace.
@@ -67,9 +68,34 @@ fn take_at(alloc: Global, mirrors: &mut Vec<Mirror>, place: usize, space: SpaceI
     }
 }
 
-/// Appends a post in words, with the name of its namespace, and applies it to the mirror of that; one that came later
+/// Tells a post, with the name of its namespace, and applies it to the mirror of that; one that came later
 /// begins at 0 with the empty table. Refused as `Connection` where the post is not the next one, and else as `NoMemory` alone.
 pub(crate) fn apply_told(
+    alloc: Global,
+    text: &mut Vec<u8>,
+    telling: Telling,
+    mirrors: &mut Vec<Mirror>,
+    post: &Post,
+    name: &[u8],
+) -> Result<(), ClientFault>
+    requires rising { IsTrue (rises mirror_space mirrors.old.items) }
+    ensures told { OnOk result (text.new.items ≡ text.old.items ++ told_as telling name.now (mirror_in mirrors.old.items post.now.space) post.now) }
+    ensures applied { OnOk result (mirrors.new.items ≡ mirrors_with mirrors.old.items post.now) }
+    ensures next { OnOk result (is_next (mirror_in mirrors.old.items post.now.space) post.now ≡ true) }
+    ensures refused { result ≡ Err ClientFault.Connection → is_next (mirror_in mirrors.old.items post.now.space) post.now ≡ false }
+    ensures rising { OnOk result (IsTrue (rises mirror_space mirrors.new.items)) }
+    ensures kind { result ≢ Err ClientFault.Output }
+{
+    let place = place_for(mirrors.as_slice(), post.space);
+    let mut mirror = take_at(alloc, mirrors, place, post.space);
+    push_telling(text, telling, &mirror, post, name)?;
+    apply_next(&mut mirror, post)?;
+    mirrors.insert(place, mirror)?;
+    Ok(())
+}
+
+/// Tells a post in words, with the name of its namespace, and applies it as [`apply_told`] does.
+pub(crate) fn apply_named(
     alloc: Global,
     text: &mut Vec<u8>,
     mirrors: &mut Vec<Mirror>,
@@ -84,10 +110,5 @@ pub(crate) fn apply_told(
     ensures rising { OnOk result (IsTrue (rises mirror_space mirrors.new.items)) }
     ensures kind { result ≢ Err ClientFault.Output }
 {
-    let place = place_for(mirrors.as_slice(), post.space);
-    let mut mirror = take_at(alloc, mirrors, place, post.space);
-    push_named(text, &mirror, post, name)?;
-    apply_next(&mut mirror, post)?;
-    mirrors.insert(place, mirror)?;
-    Ok(())
+    apply_told(alloc, text, Telling::Words, mirrors, post, name)
 }

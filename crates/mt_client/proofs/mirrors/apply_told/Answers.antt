@@ -2,7 +2,7 @@ use Rattle.std.proofs.Common.{◌++◌, Err, sym, ap, ◌∙◌}
 use Rattle.std.proofs.lemmas.Result.{err_from_is_err_and}
 use Rattle.mt_events.specs.Posts.{PostView}
 use Rattle.mt_events.specs.Mirrors.{is_next}
-use Rattle.mt_told.specs.Told.{named_text}
+use Rattle.mt_told.specs.Events.{told_as}
 use Rattle.mt_client.proofs.RelayLaws.{same_fault}
 use Rattle.mt_client.proofs.PlaceLaws.{found_there, applied_there, rises_with}
 use Rattle.mt_client.proofs.mirrors.apply_told.Goals as goal
@@ -21,7 +21,7 @@ returns-clause-told c =
     let is =
     found_there c.args.post.now.space c.post.inside.space c.place_for-place.result c.as_slice.result.now c.args.mirrors.now.items c.take_at-mirror.result (ap (λ (p : PostView). p.space) c.post.view_is) c.as_slice.ensures.value
     c.requires.rising c.place_for-place.ensures.place c.take_at-mirror.ensures.there c.take_at-mirror.ensures.begun in
-    c.in_ok-push_named.ensures.told ∙ ap (λ m. c.args.text.now.items ++ named_text c.args.name.now m c.args.post.now) is
+    c.in_ok-push_telling.ensures.told ∙ ap (λ m. c.args.text.now.items ++ told_as c.args.telling c.args.name.now m c.args.post.now) is
 
 pub returns-clause-applied : goal.returns-clause-applied
 returns-clause-applied c =
