@@ -99,13 +99,13 @@ def check_client(program, mountctl):
 
 # Words of a mirror, of a monitor and of drawings that are none, and what is said of them.
 NO_MIRRORS = "mirror", "mirror 1", "mirror x 1", "mirror 01 1", "mirror 1 1 1", "mirror 1 -1"
-NO_MONITORS = "monitor", "monitor --json", "monitor 1 --ascii", "monitor 1 --json", "monitor 1 --time --time", "monitor x", "monitor 01", "monitor 1 2", "monitor all all", "monitor -1"
+NO_MONITORS = "monitor", "monitor --json", "monitor 1 --ascii", "monitor 1 --time --time", "monitor x", "monitor 01", "monitor 1 2", "monitor all all", "monitor -1"
 NO_TREES = "tree x", "tree 01", "tree 1 2", "tree --ascii --ascii", "tree 1 --ascii 2", "tree --plain", "tree 1 -a", "tree --json --ascii", "tree --time"
 NO_TABLES = "show --json", "show all --json", "show --json 1 --json", "show 1 2 --json"
 NO_PLACES = "find --json", "find 1 --json", "find x / --json", "find 1 / / --json"
 NO_GRAPHS = "dot x", "dot 1 2", "dot --ascii"
 NO_TASKS = (
-    (NO_MONITORS, b"mountctl: monitor takes a namespace, or all, and --time\n"),
+    (NO_MONITORS, b"mountctl: monitor takes a namespace, or all, and --json and --time\n"),
     (NO_MIRRORS, b"mountctl: mirror takes a namespace and a count\n"),
     (NO_TREES, b"mountctl: tree takes a namespace, all or none, and --ascii or --json\n"),
     (NO_TABLES, b"mountctl: show takes a namespace, and --json\n"),

@@ -42,18 +42,18 @@ ODD = [
     *[b'bind 1 /%b /%b' % (name, name) for name in ODD_NAMES],
 ]
 
-# What somebody else does, and what a monitor of namespace 1 tells of it: a mark, and the mount.
+# What somebody else does, and the events of namespace 1 that a monitor tells of it, each with its mount.
 CHANGES = (
-    (b"mount 1 d /m", [(b"+", 3)]),
-    (b"setattr 1 /m set=ro,noatime clr=atime", [(b"~", 3)]),
-    (b"setattr 1 /m prop=slave", [(b"~", 3)]),
-    (b"setattr 1 / prop=private", [(b"~", 1)]),
-    (b"setattr 1 /m set=nosuid prop=private", [(b"~", 3)]),
-    (b"mount 1 d /m", [(b"+", 5)]),
-    (b"move 1 /m /n", [(b"~", 5)]),
-    (b"mount 1 a /n", [(b"+", 6)]),
-    (b"detach 1 /n", [(b"-", 6)]),
-    (b"umount 1 /n", [(b"-", 5)]),
+    (b"mount 1 d /m", [("mount", 3)]),
+    (b"setattr 1 /m set=ro,noatime clr=atime", [("remount", 3)]),
+    (b"setattr 1 /m prop=slave", [("change", 3)]),
+    (b"setattr 1 / prop=private", [("change", 1)]),
+    (b"setattr 1 /m set=nosuid prop=private", [("remount", 3)]),
+    (b"mount 1 d /m", [("mount", 5)]),
+    (b"move 1 /m /n", [("move", 5)]),
+    (b"mount 1 a /n", [("mount", 6)]),
+    (b"detach 1 /n", [("umount", 6)]),
+    (b"umount 1 /n", [("umount", 5)]),
 )
 
 
@@ -197,7 +197,7 @@ def check_odd(program, mountctl):
     check("mounts of odd names", mounts == len(ODD_NAMES) + 1, str(mounts))
     look_at("no namespace", program, mountctl, [], 1)
     look_at("a large world", program, mountctl, LARGE, 1, False)
-    for words in ["show", "9", "--json"], ["tree", "9", "--json"], ["find", "9", "/", "--json"]:
+    for words in ["show", "9", "--json"], ["tree", "9", "--json"], ["find", "9", "/", "--json"], ["monitor", "9", "--json"]:
         with Server(program) as server:
             found = asked(mountctl, server.path, *words)
             check(f"{words} without a namespace", found == (1, [{"refusal": "NoNamespace"}], b""), repr(found))
@@ -215,6 +215,17 @@ def now():
     return time.replace(microsecond=time.microsecond // 1000 * 1000)
 
 
+def table_of(client):
+    """The objects of namespace 1, by their mounts."""
+    return {row.id: object_of(row) for row in map(row_of, client.ask(b"show 1")[1:])}
+
+
+def wanted_event(event, mount, before, after):
+    """The object of an event of a mount."""
+    told = {"event": event, "namespace": 1, **(after if mount in after else before)[mount]}
+    return {**told, "old": before[mount]} if mount in before and mount in after else told
+
+
 def until_it_tells(client, output):
     """Makes changes until a monitor tells them, and one more, which it tells last."""
     for tries in range(int(MOST_SECONDS / ON_ITS_WAY)):
@@ -227,32 +238,49 @@ def until_it_tells(client, output):
     check("a monitor tells what it was made to", found != b"")
 
 
-def check_times(program, mountctl):
-    """A monitor tells of each change when it came."""
+def check_events(program, mountctl, options):
+    """What a monitor tells of each change, and when."""
+    is_json, is_timed = "--json" in options, "--time" in options
     with Server(program) as server, server.client() as client:
         for line in START:
             client.ask(line)
-        words = [mountctl, server.path, "monitor", "1", "--time"]
+        words = [mountctl, server.path, "monitor", "1", *options]
         with subprocess.Popen(words, bufsize=0, stdout=subprocess.PIPE, stderr=subprocess.PIPE) as monitor:
             until_it_tells(client, monitor.stdout)
-            start = now()
+            before, start = table_of(client), now()
             for line, events in CHANGES:
-                answer = client.ask(line)[0]
-                for mark, mount in events:
-                    time, found = monitor.stdout.readline().split(b" ", 1)
-                    check(f"the time of {shown(line)}", is_within(time.decode(), start, now()), repr(time))
-                    check(f"what is told of {shown(line)}", answer[:2] == b"ok" and found.startswith(b"%b %d " % (mark, mount)), f"{answer}, {found}")
+                answer = client.ask(line)
+                after = table_of(client)
+                for event, mount in events:
+                    found = monitor.stdout.readline().decode("utf-8")
+                    time, found = read_event(found, is_json, is_timed)
+                    check(f"the time of {shown(line)}", time is None or is_within(time, start, now()), repr(time))
+                    if is_json:
+                        wanted = wanted_event(event, mount, before, after)
+                        check(f"{options} of {shown(line)}", (answer[0][:2], found) == (b"ok", wanted), f"{answer}\nwanted {wanted}\nfound  {found}")
+                    else:
+                        check(f"{options} of {shown(line)}", found[:1] in "+-~" and f" {mount} " in found, f"{answer}, {found!r}")
+                before = after
             client.ask(b"stop")
             ended, complaint = monitor.communicate(timeout=MOST_SECONDS)
-        time, last = ended.split(b" ", 1)
-        check("the end of a monitor with times", (last, complaint, monitor.returncode) == (b"no Stopped\n", b"", 1), repr(ended))
-        check("the time of the end", is_within(time.decode(), start, now()), repr(time))
+        time, last = read_event(ended.decode("utf-8"), is_json, is_timed)
+        check(f"{options}: the end", (last, complaint, monitor.returncode) == ({"refusal": "Stopped"} if is_json else "no Stopped\n", b"", 1), f"{ended}")
+        check(f"{options}: the time of the end", time is None or is_within(time, start, now()), repr(time))
+
+
+def read_event(line, is_json, is_timed):
+    """The time of a line, if it has one, and the rest of it."""
+    if is_json:
+        found = json.loads(line)
+        return found.pop("time") if is_timed else None, found
+    return line.split(" ", 1) if is_timed else (None, line)
 
 
 def check_objects(program, mountctl):
-    """Tables and places as JSON, and when a change is told."""
+    """Tables, places and events as JSON."""
     check("findmnt is there, as CI needs it", shutil.which("findmnt") is not None or "CI" not in os.environ)
     check_cases(program, mountctl)
     check_random(program, mountctl)
     check_odd(program, mountctl)
-    check_times(program, mountctl)
+    for options in ["--json"], ["--time"], ["--json", "--time"], ["--time", "--json"]:
+        check_events(program, mountctl, options)

@@ -18,7 +18,8 @@ _mountctl_words()
             [[ " $* " == *" --"* ]] || printf '%s\n' --ascii --json
             [[ " $* " == *" --"* || $count == 1 ]] && echo all
             ;;
-        monitor:[12])
+        monitor:[1-3])
+            [[ " $* " == *" --json "* ]] || echo --json
             [[ " $* " == *" --time "* ]] || echo --time
             [[ " ${*:2}" == *" "[^-]* ]] || echo all
             ;;

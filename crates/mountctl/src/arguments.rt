@@ -18,8 +18,8 @@ const TASKS: &str = "
 
 In the place of WORD..:
   -                        sends the lines of standard input, one after another, but for comments
-  monitor NS|all [--time]
-                           tells each change as it comes, in words, and when it came
+  monitor NS|all [--json] [--time]
+                           tells each change as it comes, in words or as JSON, and when it came
   mirror NS K              follows K posts of a namespace, and shows the table that they lead to
   tree [NS|all] [--ascii|--json]
                            draws the mounts of a namespace, or of all, each below its parent

@@ -99,8 +99,8 @@ fn run_on<R: Input + Drop, W: Output, O: Output>(
         Task::Ask | Task::Script => run_lines(rt, task, words, strict, lines, writer, out),
         Task::Mirror { space, count } => Ok(mirror(alloc, lines, writer, space, count, out)?),
         Task::Draw { scope, drawing } => Ok(draw(alloc, lines, writer, scope, drawing, out)?),
-        Task::Tell { scope, .. } => {
-            tell(alloc, lines, writer, scope, out)?;
+        Task::Tell { scope, marks } => {
+            tell(alloc, lines, writer, scope, marks.telling, out)?;
             Ok(false)
         }
         Task::Find => match found_words(words) {

@@ -32,7 +32,7 @@ pub(crate) enum Task {
     Draw { scope: Scope, drawing: Drawing },
     /// The mount on which a path ends, as JSON.
     Find,
-    /// Each change of these namespaces as it comes, in words.
+    /// Each change of these namespaces as it comes.
     Tell { scope: Scope, marks: Marks },
     /// The namespaces, with the number of their mounts.
     List,
@@ -92,7 +92,7 @@ impl WordFault {
         match self {
             WordFault::Show => "show takes a namespace, and --json",
             WordFault::Find => "find takes a namespace and a path, and --json",
-            WordFault::Monitor => "monitor takes a namespace, or all, and --time",
+            WordFault::Monitor => "monitor takes a namespace, or all, and --json and --time",
             WordFault::Mirror => "mirror takes a namespace and a count",
             WordFault::Tree => "tree takes a namespace, all or none, and --ascii or --json",
             WordFault::Graph => "dot takes a namespace, all or none",
@@ -105,15 +105,20 @@ impl WordFault {
     }
 }
 
-/// The telling of these words, or None where they are no namespace nor `all`, or other options than `--time`.
+/// The telling of these words, or None where they are no namespace nor `all`, or other options than `--json` and `--time`.
 fn monitor_of(words: &[&str]) -> Option<Task> {
     let Chosen { options, word } = chosen_in(words)?;
-    if options.ascii || options.json {
+    if options.ascii {
         return None;
     }
     let scope = named_scope(word?)?;
+    let telling = if options.json {
+        Telling::Json
+    } else {
+        Telling::Words
+    };
     let marks = Marks {
-        telling: Telling::Words,
+        telling,
         time: options.time,
     };
     Some(Task::Tell { scope, marks })
