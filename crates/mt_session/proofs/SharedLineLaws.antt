@@ -17,13 +17,13 @@ use Rattle.mt_lines.specs.Reading.{IsNext}
 use Rattle.mt_desk.specs.Calls.{WatcherView}
 use Rattle.mt_requests.specs.declared.request.Request.{Request}
 use Rattle.mt_requests.specs.declared.request.Request.TheVariants.{Quit as AsksQuit, Stop as AsksStop}
-use Rattle.mt_requests.specs.Requests.{request_of, may_want_memory, ReadsAs}
+use Rattle.mt_requests.specs.Requests.{may_want_memory, ReadsAs}
 use Rattle.mt_session.specs.declared.serving.End.{End}
 use Rattle.mt_session.specs.declared.serving.End.TheVariants.{Quit, Stop, Input, Read, Cut as CutOff, Memory, Spent}
 use Rattle.mt_session.specs.declared.shared_answer.Then.{Then}
 use Rattle.mt_session.specs.declared.shared_answer.Then.TheVariants.{More, Over}
 use Rattle.mt_session.specs.Answers.{refusal}
-use Rattle.mt_session.specs.Session.{Asking, Whole, Overlong, Broken, item_of, has_end, request_of_line, ends_by, line_limit, IsReadEnd, IsReadEndRun, IsCutCause, IsCutRun}
+use Rattle.mt_session.specs.Session.{Asking, Whole, Overlong, Broken, item_of, has_end, request_of_line, ends_by, line_limit, IsCutCause, IsCutRun}
 use Rattle.mt_session.specs.Serving.{IsSent}
 use Rattle.mt_session.specs.SharedSession.{IsTurn, IsInFront, IsAnswerSoFar, SharedTurn, AreTurns, TurnsGoOn, HasLeft, WasLeft, ServedShared}
 use Rattle.mt_session.specs.SharedServing.{IsKeptOrLeft, Follows, IsSoFar, AnswersWhole, IsPiece, IsCutPiece, IsOutcome, ServesAsked, ServesLine, SharedGoing, SharedEnding, ServedSharedLine}
@@ -182,45 +182,6 @@ pub read_is : (tells : Bool) (w w' : Option WatcherView) (asked : Result Request
 read_is tells w w' asked r sent written result (inl e) s = subst (λ (x : Result Request Fault). ServesAsked tells w x sent written result w') e s
 read_is tells w w' asked r sent written result (inr e) s = cc
 
--- the answer to a line brings no end by the reader
-abbrev is_answer_end : Option End → Bool
-is_answer_end (Some (Read f)) = false
-is_answer_end end = true
-
-outcome_end : (by : Option End) (w w' : Option WatcherView) (asked : Result Request Fault) (out : List ℕ) → IsOutcome by w asked out w' → is_answer_end by ≡ true
-outcome_end None w w' asked out h = refl
-outcome_end (Some Quit) w w' asked out h = refl
-outcome_end (Some Stop) w w' asked out h = refl
-outcome_end (Some Input) w w' asked out h = refl
-outcome_end (Some (Read f)) w w' asked out h = absurd h
-outcome_end (Some (CutOff cut)) w w' asked out h = refl
-outcome_end (Some Memory) w w' asked out h = refl
-outcome_end (Some Spent) w w' asked out h = refl
-
-sent_end : (tells : Bool) (sent written text : List ℕ) (end result : Option End) → is_answer_end end ≡ true → IsSent tells sent written text end result → is_answer_end result ≡ true
-sent_end tells sent written text end result h (inl s) = ap is_answer_end s.0 ∙ h
-sent_end tells sent written text end result h (inr s) = ap is_answer_end s.1
-
-end_read : (by : Option End) (old new : ℕ) → is_answer_end by ≡ true → old ≤ new → IsReadEnd by old new
-end_read None old new h le = le
-end_read (Some Quit) old new h le = le
-end_read (Some Stop) old new h le = le
-end_read (Some Input) old new h le = le
-end_read (Some (Read f)) old new h le = cc
-end_read (Some (CutOff cut)) old new h le = le
-end_read (Some Memory) old new h le = le
-end_read (Some Spent) old new h le = le
-
-end_run : (by : Option End) (faults : List StreamFault) → is_answer_end by ≡ true → faults ≡ [] → IsReadEndRun by faults
-end_run None faults h none = none
-end_run (Some Quit) faults h none = none
-end_run (Some Stop) faults h none = none
-end_run (Some Input) faults h none = none
-end_run (Some (Read f)) faults h none = cc
-end_run (Some (CutOff cut)) faults h none = none
-end_run (Some Memory) faults h none = none
-end_run (Some Spent) faults h none = none
-
 -- a line with its line end
 line_served : (tells : Bool) (before later : List ℕ) (line : Asking) (w w' : Option WatcherView) (sent written : List ℕ) (result : Option End) → IsTrue tells
     → lines_of line_limit before ≡ item_of line ∷ lines_of line_limit later → has_end line ≡ true → ServesAsked tells w (request_of_line line) sent written result w'
@@ -294,18 +255,6 @@ line_answered tells limit before later bytes line w w' sent written result t e n
     by BrokenLine n a = subst (λ (x : Option WatcherView). ServedSharedLine before later w x sent written result) (sym a.0) (unended_served tells before later w sent written result t n.0 a.1)
     by NoLine n a = rw (a.0, a.1 t, a.2) (end_served before later w sent n.0)
 
-line_ends : (tells : Bool) (line : Line) (bytes : List ℕ) (w w' : Option WatcherView) (sent written : List ℕ) (result : Option End) → ServesLine tells line bytes w sent written result w' → is_answer_end result ≡ true
-line_ends tells TextLine bytes w w' sent written result a = outcome_end result w w' (request_of bytes) a.out a.outcome
-line_ends tells LongLine bytes w w' sent written result a = sent_end tells sent written (refusal LineTooLong) None result refl a.1
-line_ends tells BrokenLine bytes w w' sent written result a = sent_end tells sent written (refusal BadLine) (Some Input) result refl a.1
-line_ends tells NoLine bytes w w' sent written result a = ap is_answer_end a.2
-
-pub line_read : (tells : Bool) (line : Line) (bytes : List ℕ) (w w' : Option WatcherView) (sent written : List ℕ) (result : Option End) (old new : ℕ) → ServesLine tells line bytes w sent written result w' → old ≤ new → IsReadEnd result old new
-line_read tells line bytes w w' sent written result old new a le = end_read result old new (line_ends tells line bytes w w' sent written result a) le
-
-pub line_run : (tells : Bool) (line : Line) (bytes : List ℕ) (w w' : Option WatcherView) (sent written : List ℕ) (result : Option End) (faults : List StreamFault) → ServesLine tells line bytes w sent written result w' → faults ≡ [] → IsReadEndRun result faults
-line_run tells line bytes w w' sent written result faults a none = end_run result faults (line_ends tells line bytes w w' sent written result a) none
-
 -- lines one after another
 AreTurns-append : (xs ys : List SharedTurn) (w mid w' : Option WatcherView) → AreTurns w xs mid → AreTurns mid ys w' → AreTurns w (xs ++ ys) w'
 AreTurns-append [] ys w mid w' h k = subst (λ (v : Option WatcherView). AreTurns v ys w') h k
@@ -314,9 +263,6 @@ AreTurns-append (x ∷ xs) ys w mid w' h k = (h.0, h.1, AreTurns-append xs ys h.
 TurnsGoOn-append : (xs ys : List SharedTurn) → TurnsGoOn xs → TurnsGoOn ys → TurnsGoOn (xs ++ ys)
 TurnsGoOn-append [] ys h k = k
 TurnsGoOn-append (x ∷ xs) ys h k = (h.0, h.1, TurnsGoOn-append xs ys h.2 k)
-
-pub going_none : (before : List ℕ) (w : Option WatcherView) (sent : List ℕ) → SharedGoing [] before before w w sent sent
-going_none before w sent = record { lines = refl; told = refl; goes = tt; written_is = sym (append-nil sent) }
 
 pub going_more : (turns more : List SharedTurn) (before mid later : List ℕ) (w now w' : Option WatcherView) (sent so_far written : List ℕ)
     → SharedGoing turns before mid w now sent so_far → SharedGoing more mid later now w' so_far written → SharedGoing (turns ++ more) before later w w' sent written

@@ -1,9 +1,7 @@
 -- What the watcher of a session in a thread of its own has taken, and what the session finds of it.
-use Rattle.std.proofs.Common.{subst, ◌≡◌, ◌≢◌, ℕ, ◌+◌, ◌<◌, ◌≤◌, List, [], ◌++◌, refl, ap, sym, ◌∙◌, Ok, Err, Option, Some, None, append_assoc, arith, length}
-use Rattle.std.proofs.lemmas.List.{append-nil, nil_from_length, length-append}
+use Rattle.std.proofs.Common.{subst, ◌≡◌, ◌≢◌, ℕ, ◌+◌, ◌<◌, ◌≤◌, List, [], ◌++◌, refl, ap, sym, ◌∙◌, Ok, Option, Some, None, append_assoc, arith, length}
+use Rattle.std.proofs.lemmas.List.{append-nil, nil_from_length}
 use Rattle.std.specs.Option.{ForSome, IsSome}
-use Rattle.mt_skel.specs.declared.fault.Fault.{Fault}
-use Rattle.mt_skel.specs.declared.fault.Fault.TheVariants.{NoWatcher}
 use Rattle.mt_events.specs.Posts.{PostView}
 use Rattle.mt_events.specs.Following.{IsRun}
 use Rattle.mt_floor.specs.declared.watch.Meeting.{Meeting}
@@ -11,9 +9,8 @@ use Rattle.mt_desk.specs.Desk.{DeskView, IsDesk}
 use Rattle.mt_desk.specs.Calls.{WatcherView, IsMet}
 use Rattle.mt_desk.specs.Headline.{Meet as Meets, IsScheduledBy}
 use Rattle.mt_events.specs.declared.texts.PrintedPosts.{PrintedPosts}
-use Rattle.mt_session.specs.declared.shared_answer.Portion.TheVariants.{Posts, Empty}
+use Rattle.mt_session.specs.declared.shared_answer.Portion.TheVariants.{Posts}
 use Rattle.mt_session.specs.SharedTurns.{HasTaken, IsPopped, with_posts}
-use Rattle.mt_session.specs.SharedSession.{IsSpent}
 use Rattle.mt_session.specs.SharedServing.{HasMet, HasPortion, IsPortion}
 
 -- a watcher that has taken posts more, and was told so many at its last meeting
@@ -33,10 +30,6 @@ moved_none w = (w.half.told, omega arith, sym (with_none w))
 
 pub moved_by : (w after : WatcherView) (posts : List PostView) → HasTaken w posts after → HasMoved w posts after
 moved_by w after posts h = (h.0, h.1, h.2)
-
--- what was taken stays a run
-pub moved_taken : (w mid : WatcherView) (posts : List PostView) → HasMoved w posts mid → IsRun mid.half.opening mid.half.taken → HasTaken w posts mid
-moved_taken w mid posts h run = (h.0, h.1, h.2, subst (λ (m : WatcherView). IsRun m.half.opening m.half.taken) h.2 run)
 
 -- posts were taken, and then more
 pub takes_more : (w mid after : WatcherView) (a b : List PostView) → HasMoved w a mid → HasTaken mid b after → HasTaken w (a ++ b) after
@@ -69,22 +62,11 @@ pub met_moved : (d : DeskView) (w : WatcherView) (m : Meeting) (now : DeskView) 
 met_moved d w m now after i =
     (length i.row.sent, i.halved.told, i.watcher ∙ ap (λ (posts : List PostView). record w { half = record w.half { taken = posts; told = length i.row.sent } }) (sym (append-nil w.half.taken)))
 
-met_taken : (d : DeskView) (w : WatcherView) (m : Meeting) (now : DeskView) (after : WatcherView) → IsMet d w m now after → IsRun w.half.opening (w.half.taken ++ []) → HasTaken w [] after
-met_taken d w m now after i run = let moved = met_moved d w m now after i in (moved.0, moved.1, moved.2, run)
-
 posted_is : (d : DeskView) (w : WatcherView) (m : Meeting) (now : DeskView) (after : WatcherView) → IsMet d w m now after → m.posted ≡ after.half.told
 posted_is d w m now after i = ap (λ (x : Meeting). x.posted) i.meeting ∙ sym (ap (λ (v : WatcherView). v.half.told) i.watcher)
 
 taken_is : (d : DeskView) (w : WatcherView) (m : Meeting) (now : DeskView) (after : WatcherView) → IsMet d w m now after → m.taken ≡ length after.half.taken
 taken_is d w m now after i = ap (λ (x : Meeting). x.taken) i.meeting ∙ sym (ap (λ (v : WatcherView). length v.half.taken) i.watcher)
-
--- all that was sent was taken
-met_spent : (d : DeskView) (w : WatcherView) (m : Meeting) (now : DeskView) (after : WatcherView) → IsDesk d → IsMet d w m now after → IsScheduledBy (Meets w m after) now → m.posted ≤ m.taken → IsSpent w m.state after
-met_spent d w m now after kept i scheduled most =
-    let posted : m.posted ≡ length i.row.sent = ap (λ (x : Meeting). x.posted) i.meeting in
-    let taken : m.taken ≡ length w.half.taken = ap (λ (x : Meeting). x.taken) i.meeting in
-    let sent : length i.row.sent ≡ length w.half.taken + length i.rest = ap (λ (posts : List PostView). length posts) i.halved.split ∙ length-append w.half.taken i.rest in
-    record { desk = d; now = now; kept = kept; meeting = m; met = i; all = omega (arith, posted, taken, sent, most); phase_is = refl; scheduled = scheduled }
 
 -- some have come by a meeting, so that some are taken after it
 met_some : (d : DeskView) (w : WatcherView) (m : Meeting) (now : DeskView) (after : WatcherView) (most : ℕ) (printed : PrintedPosts) (w' : Option WatcherView)
@@ -148,30 +130,3 @@ portion_met (Some w) mid w' m most printed any h more p =
     let same : h.2 ≡ m = cc in
     let more_then : h.2.taken < h.2.posted = rw same more in
     has_portion w h.3 most printed w' (met_moved h.0 w h.2 h.1 h.3 h.5) pop (met_some h.0 w h.2 h.1 h.3 most printed w' h.5 more_then pop any)
-
--- none wait
-pub portion_empty : (w w' : Option WatcherView) (m : Meeting) (most : ℕ) → HasMet w (Some m) w' → m.posted ≤ m.taken → ForSome w (λ (v : WatcherView). IsRun v.half.opening v.half.taken)
-    → IsPortion w most (Ok (Empty m.state)) w'
-portion_empty None w' m most h all run = cc
-portion_empty (Some w) w' m most h all run =
-    let same : h.2 ≡ m = cc in
-    let all_then : h.2.posted ≤ h.2.taken = rw same all in
-    let stays : IsRun w.half.opening (w.half.taken ++ []) = subst (λ (posts : List PostView). IsRun w.half.opening posts) (sym (append-nil w.half.taken)) (run w refl) in
-    (h.3, subst (λ (x : Meeting). IsSpent w x.state h.3) same (met_spent h.0 w h.2 h.1 h.3 h.4 h.5 h.8 all_then), met_taken h.0 w h.2 h.1 h.3 h.5 stays, h.7)
-
--- no watcher
-pub portion_none : (w w' : Option WatcherView) (most : ℕ) → HasMet w None w' → IsPortion w most (Err NoWatcher) w'
-portion_none None w' most h = (refl, h.1)
-portion_none (Some w) w' most h = let none : ◌≡◌ {A = Option Meeting} None (Some h.2) = h.6 in cc
-
--- posts were lost behind a meeting
-pub portion_lost : (w mid w' : Option WatcherView) (m : Meeting) (most : ℕ) (f : Fault) → HasMet w (Some m) mid → IsPortion mid most (Err f) w' → IsPortion w most (Err f) w'
-portion_lost None mid w' m most f h p = cc
-portion_lost (Some w) mid w' m most f h p =
-    let lost : IsPortion (Some h.3) most (Err f) w' = subst (λ (x : Option WatcherView). IsPortion x most (Err f) w') h.7 p in
-    (lost.0, lost.1, lost.2, takes_more w h.3 lost.2 [] lost.1 (met_moved h.0 w h.2 h.1 h.3 h.5) lost.3, lost.4, lost.5)
-
--- no more were taken than were asked for
-pub portion_count : (w w' : Option WatcherView) (most : ℕ) (printed : PrintedPosts) → IsPortion w most (Ok (Posts printed)) w' → printed.posts ≤ most
-portion_count None w' most printed p = absurd p
-portion_count (Some w) w' most printed p = omega (arith, p.count, p.most_is)
