@@ -78,6 +78,8 @@ def until_it_tells(client, output):
         client.ask(TRIED[tries % 2])
         if select.select([output], [], [], ON_ITS_WAY)[0]:
             break
+    # The attribute is as it was, however many changes were made.
+    client.ask(TRIED[1])
     line, mark = MARK
     client.ask(line)
     while (found := output.readline()) not in (mark, b""):
