@@ -1,5 +1,5 @@
 //! What a command changes in the tables of namespaces.
-ghost use Rattle.std.specs.Prelude.{◌≡◌, ℕ, ◌∷◌, ◌++◌, map, IfOk, OnOk, IsOkUnless, IsTrue, []};
+ghost use Rattle.std.specs.Prelude.{◌≡◌, ℕ, ◌≤◌, ◌∷◌, ◌++◌, map, IfOk, OnOk, IsOkUnless, IsTrue, []};
 ghost use Rattle.std.specs.List.{list_all};
 ghost use Rattle.std.specs.Option.{option_to_list};
 ghost use Rattle.std.specs.Arc.{arc_value};
@@ -11,7 +11,7 @@ ghost use Rattle.mt_propagate.specs.Touched.{IsTouched};
 ghost use Rattle.mt_book.specs.Step.{step, next_world, makes_space};
 ghost use Rattle.mt_book.specs.Between.{HoldsAll, numbers_after, heard_posts};
 ghost use Rattle.mt_book.specs.Parts.{is_touched};
-ghost use Rattle.mt_book.specs.Book.{AreNumbers, with_newborn, still_there, space_in};
+ghost use Rattle.mt_book.specs.Book.{AreNumbers, with_newborn, still_there, space_in, command_limit};
 
 use crate::between::Between;
 use crate::command::Command;
@@ -45,6 +45,31 @@ fn push_post(alloc: Global, posts: &mut Vec<Arc<Post>>, post: Option<Post>) -> R
     Ok(())
 }
 
+/// What changes in one namespace that had this number. Refused as `NoMemory` alone.
+fn changes_in_one(
+    alloc: Global,
+    between: &Between<'_>,
+    ids: &[MountId],
+    row: (SpaceId, u64),
+) -> Result<Changes, Fault>
+    requires rising { IsTrue (rises (λ k. k) ids.now) }
+    requires held { HoldsAll between.now ids.now row.0 }
+    requires few { row.1 ≤ command_limit }
+    ensures numbers { IfOk result (λ changes. changes.numbers.items ≡ numbers_after between.now (row ∷ [])) }
+    ensures posts { IfOk result (λ changes. changes.posts ≡ heard_posts between.now (row ∷ [])) }
+    ensures memory { IsOkUnless result Fault.NoMemory }
+{
+    let change = between.change(ids, row.0, row.1)?;
+    let mut numbers = Vec::with_capacity(alloc, 1)?;
+    numbers.push((row.0, change.number))?;
+    let mut posts = Vec::new(alloc);
+    push_post(alloc, &mut posts, change.post)?;
+    Ok(Changes {
+        numbers,
+        posts: SharedPosts::new(posts),
+    })
+}
+
 /// What changes in namespaces that had these numbers: in each, the mounts that were or are in it are compared. Refused
 /// as `NoMemory` alone.
 fn changes_in_each(
@@ -74,6 +99,27 @@ fn changes_in_each(
         numbers: after,
         posts: SharedPosts::new(posts),
     })
+}
+
+/// What changes in namespaces that had these numbers. Where there is one, as for most commands, the mounts are not told
+/// apart. Refused as `NoMemory` alone.
+fn changes_in(
+    alloc: Global,
+    between: &Between<'_>,
+    ids: &[MountId],
+    numbers: &[(SpaceId, u64)],
+) -> Result<Changes, Fault>
+    requires rising { IsTrue (rises (λ k. k) ids.now) }
+    requires held { (n : ℕ) → HoldsAll between.now ids.now n }
+    requires numbers { AreNumbers numbers.now }
+    ensures numbers { IfOk result (λ changes. changes.numbers.items ≡ numbers_after between.now numbers.now) }
+    ensures posts { IfOk result (λ changes. changes.posts ≡ heard_posts between.now numbers.now) }
+    ensures memory { IsOkUnless result Fault.NoMemory }
+{
+    if let [row] = numbers {
+        return changes_in_one(alloc, between, ids, *row);
+    }
+    changes_in_each(alloc, between, ids, numbers)
 }
 
 /// Renews the numbers where all these mounts were, and are, in one namespace, and answers the posts: no other number
@@ -123,7 +169,7 @@ fn renew_touched(
 {
     let spaces = spaces_touched(alloc, between.old, between.new, ids)?;
     let before = numbers_in(alloc, numbers, &spaces)?;
-    let changes = changes_in_each(alloc, between, ids, &before)?;
+    let changes = changes_in(alloc, between, ids, &before)?;
     put_numbers(numbers, &changes.numbers);
     Ok(changes.posts)
 }

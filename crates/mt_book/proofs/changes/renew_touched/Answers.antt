@@ -9,8 +9,8 @@ use Rattle.mt_book.specs.Parts.{is_touched, merged}
 use Rattle.mt_book.proofs.ChangedLaws.{is_in, few_filter, counted_rises, all_numbers, all_posts}
 use Rattle.mt_book.proofs.changes.renew_touched.Goals as goal
 
-pub changes_in_each-requires-clause-numbers : goal.changes_in_each-requires-clause-numbers
-changes_in_each-requires-clause-numbers c =
+pub changes_in-requires-clause-numbers : goal.changes_in-requires-clause-numbers
+changes_in-requires-clause-numbers c =
     let t = is_in c.in_ok-spaces.spaces.items in
     let rs = c.args.numbers.now.items in
     let before : c.deref-3.result.now ≡ filter t rs =
