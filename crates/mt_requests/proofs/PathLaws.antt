@@ -10,7 +10,7 @@ use Rattle.mt_skel.specs.declared.fault.Fault.TheVariants.{BadLine, TooLong, Bad
 use Rattle.mt_skel.specs.Outcome.{refuse_if, first_fault}
 use Rattle.mt_skel.specs.Names.{is_name}
 use Rattle.mt_skel.specs.Escapes.{unescaped, cons_to, byte_of_digits}
-use Rattle.mt_skel.proofs.EscapeLaws.{unescaped-plain, unescaped-nil, unescaped-escape, rest_of, rest_of-cons}
+use Rattle.mt_skel.proofs.EscapeLaws.{bare_unescaped, unescaped-plain, unescaped-nil, unescaped-escape, rest_of, rest_of-cons}
 use Rattle.mt_words.specs.Words.{pieces}
 use Rattle.mt_requests.specs.Requests.{text_length, label_bytes, components, is_path, has_long_piece, path_fault, path_names}
 use Rattle.mt_skel.proofs.UnescapeLaws.{IsKept, all_kept, and-parts, or-parts, after_first}
@@ -315,3 +315,11 @@ made_names w h long =
     let p = good_path w h in
     let r = rooted_word w p.some p.slash long in
     word_bytes (pieces 47 (rest_of w)) (pieces 47 (r.first ∷ r.others)) (pieces_stand (rest_of w) (r.first ∷ r.others) r.stands) ∙ ap components (sym r.label)
+
+-- a text without an escape, and its pieces, stand for themselves
+module _ (text : List ℕ) (bare : list_any (λ b. b == 92) text ≡ false) where
+  pub bare_valid : list_all is_name_word (pieces 47 text) ≡ list_all is_name (pieces 47 text)
+  bare_valid = name_words (pieces 47 text) (pieces 47 text) (pieces_stand text text (bare_unescaped text bare))
+
+  pub bare_names : map label_bytes (pieces 47 text) ≡ pieces 47 text
+  bare_names = word_bytes (pieces 47 text) (pieces 47 text) (pieces_stand text text (bare_unescaped text bare))

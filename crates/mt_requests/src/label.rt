@@ -9,7 +9,7 @@ use mt_skel::name::Label;
 use std::alloc::Global;
 
 /// Whether a byte is among these.
-fn has_byte(bytes: &[u8], byte: u8) -> bool
+pub(crate) fn has_byte(bytes: &[u8], byte: u8) -> bool
     ensures { result ≡ list_any (λ b. b == byte) bytes.now }
 {
     bytes.iter().any(|here| *here == byte)
@@ -38,12 +38,15 @@ pub fn label_fault(word: &[u8]) -> Option<Fault>
     }
 }
 
-/// The label that a word without a fault says. Refused as `NoMemory` alone.
+/// The label that a word without a fault says: the word itself, where it has no escape. Refused as `NoMemory` alone.
 pub fn label_of(alloc: Global, word: &[u8]) -> Result<Label, Fault>
     requires { label_fault word.now ≡ None }
     ensures label { IfOk result (λ label. label ≡ label_bytes word.now) }
     ensures memory { IsOkUnless result Fault.NoMemory }
 {
+    if !has_byte(word, b'\\') {
+        return Label::of(alloc, word);
+    }
     let bytes = unescape(alloc, word)?;
     match Label::new(bytes) {
         Ok(label) => Ok(label),

@@ -8,7 +8,7 @@ ghost use Rattle.mt_skel.specs.Names.{is_name};
 ghost use Rattle.mt_words.specs.Words.{pieces};
 ghost use Rattle.mt_requests.specs.Requests.{text_length, label_bytes, path_fault, path_names, has_long_piece, is_path};
 
-use crate::label::text_length;
+use crate::label::{has_byte, text_length};
 use mt_skel::escape::{unescape, unescaped_len};
 use mt_skel::fault::Fault;
 use mt_skel::name::Name;
@@ -99,12 +99,15 @@ fn name_of(alloc: Global, piece: &[u8]) -> Result<Name, Fault>
     }
 }
 
-/// The names that stand between slashes. Refused as `NoMemory` alone.
+/// The names that stand between slashes: as they are, where the text has no escape. Refused as `NoMemory` alone.
 fn names_between(alloc: Global, text: &[u8]) -> Result<Names, Fault>
     requires { list_all (λ piece. option_map_or is_name (unescaped piece) false) (pieces 47 text.now) ≡ true }
     ensures names { IfOk result (λ names. names ≡ map label_bytes (pieces 47 text.now)) }
     ensures memory { IsOkUnless result Fault.NoMemory }
 {
+    if !has_byte(text, b'\\') {
+        return Names::between(alloc, text);
+    }
     let mut names = Names::root(alloc);
     let mut pieces = Pieces::new(b'/', text);
     while let Some(piece) = pieces.next() {

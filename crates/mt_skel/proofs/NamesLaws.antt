@@ -1,12 +1,13 @@
 -- Paths as they lie: the names, each behind a slash, and the way back.
-use Rattle.std.proofs.Common.{◌≡◌, ℕ, List, [], ◌∷◌, ◌++◌, true, refl, sym, ap, ◌∙◌, arith, append-nil, append_assoc}
-use Rattle.std.specs.List.{list_all, join_with_byte}
+use Rattle.std.proofs.Common.{◌≡◌, ◌≢◌, ◌==◌, ℕ, Bool, cond, false, List, [], ◌∷◌, ◌++◌, true, refl, sym, ap, ◌∙◌, arith, append-nil, append_assoc}
+use Rattle.std.specs.List.{list_all, join_with_byte, onto_first}
 use Rattle.std.specs.Str.{bytes_eq}
 use Rattle.std.proofs.lemmas.Bool.Decides.{nat_tests, Decides-like, same_from_decides}
 use Rattle.std.proofs.lemmas.Grind.{flat_map-append}
 use Rattle.std.proofs.lemmas.List.Folds.{list_all-append}
 use Rattle.std.proofs.lemmas.Slice.Eq.{bytes_eq-Decides}
-use Rattle.mt_words.proofs.PieceLaws.{lacks_byte, pieces_joined}
+use Rattle.mt_words.specs.Words.{pieces}
+use Rattle.mt_words.proofs.PieceLaws.{lacks_byte, pieces_joined, joined_pieces}
 use Rattle.mt_skel.specs.Names.{is_name, names_text, names_in}
 use Rattle.mt_skel.specs.Skeleton.{path_eq}
 use Rattle.mt_skel.proofs.MiddleLaws.{and_first, and_second, and-true}
@@ -28,6 +29,23 @@ text_joined n (m ∷ ns) = ap (λ t. 47 ∷ (n ++ t)) (text_joined m ns)
 pub names_of_text : (ns : List (List ℕ)) → list_all is_name ns ≡ true → names_in (names_text ns) ≡ ns
 names_of_text [] h = refl
 names_of_text (n ∷ ns) h = ap names_in (text_joined n ns) ∙ pieces_joined 47 n ns (names_lack (n ∷ ns) h)
+
+pieces_some : (c : ℕ) (text : List ℕ) → pieces c text ≢ []
+pieces_some c [] e = cc
+pieces_some c (b ∷ text) e = go (b == c) (pieces c text) (pieces_some c text) e
+  where
+    go : (t : Bool) (ps : List (List ℕ)) → ps ≢ [] → cond t ([] ∷ ps) (onto_first b ps) ≢ []
+    go true ps some = λ e. cc
+    go false [] some = λ e. some refl
+    go false (p ∷ ps) some = λ e. cc
+
+-- a slash and a text are the text of the names between its slashes
+pub text_between : (text : List ℕ) → 47 ∷ text ≡ names_text (pieces 47 text)
+text_between text = go (pieces 47 text) refl
+  where
+    go : (ps : List (List ℕ)) → pieces 47 text ≡ ps → 47 ∷ text ≡ names_text ps
+    go [] e = absurd (pieces_some 47 text e)
+    go (p ∷ ps) e = ap (λ t. 47 ∷ t) (sym (ap (join_with_byte 47) (sym e) ∙ joined_pieces 47 text)) ∙ sym (text_joined p ps)
 
 text_more : (ns : List (List ℕ)) (n : List ℕ) → names_text (ns ++ n ∷ []) ≡ names_text ns ++ 47 ∷ n
 text_more ns n = flat_map-append (λ n. 47 ∷ n) ns (n ∷ []) ∙ ap (λ t. names_text ns ++ 47 ∷ t) (append-nil n)

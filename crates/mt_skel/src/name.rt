@@ -74,6 +74,17 @@ impl Label {
         }
     }
 
+    /// The label of these bytes, which are one. Refused as `NoMemory` alone.
+    pub fn of(alloc: Global, bytes: &[u8]) -> Result<Label, Fault>
+        requires { IsTrue (is_label bytes.now) }
+        ensures label { IfOk result (λ label. label ≡ bytes.now) }
+        ensures memory { IsOkUnless result Fault.NoMemory }
+    {
+        Ok(Label {
+            bytes: Bytes::copied(alloc, bytes)?,
+        })
+    }
+
     /// The bytes, which are never zero.
     pub fn bytes(&self) -> &[u8]
         ensures bytes { result.now ≡ self.now }
@@ -151,9 +162,7 @@ impl Name {
         ensures memory { IsOkUnless result Fault.NoMemory }
     {
         Ok(Name {
-            label: Label {
-                bytes: Bytes::copied(alloc, bytes)?,
-            },
+            label: Label::of(alloc, bytes)?,
         })
     }
 

@@ -1,6 +1,7 @@
 //! Paths: the names that lead from a root directory down.
 ghost use Rattle.std.specs.Prelude.{◌≡◌, [], ◌∷◌, ◌++◌, IfOk, IsTrue, IsOkUnless};
 ghost use Rattle.std.specs.List.{list_all};
+ghost use Rattle.mt_words.specs.Words.{pieces};
 ghost use Rattle.mt_skel.specs.Names.{is_name, names_text};
 ghost use Rattle.mt_skel.specs.Skeleton.{path_eq};
 
@@ -42,6 +43,18 @@ impl Names {
         Names {
             text: Vec::new(alloc),
         }
+    }
+
+    /// The path whose names stand between the slashes of a text. Refused as `NoMemory` alone.
+    pub fn between(alloc: Global, text: &[u8]) -> Result<Names, Fault>
+        requires names { IsTrue (list_all is_name (pieces 47 text.now)) }
+        ensures names { IfOk result (λ names. names ≡ pieces 47 text.now) }
+        ensures memory { IsOkUnless result Fault.NoMemory }
+    {
+        let mut all = Vec::with_capacity(alloc, text.len() + 1)?;
+        all.push(b'/')?;
+        all.extend_from_slice(text)?;
+        Ok(Names { text: all })
     }
 
     /// The path with one name more at its end. Fails for want of memory alone.
