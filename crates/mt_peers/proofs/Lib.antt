@@ -25,6 +25,7 @@ pub mod ComingLaws
 pub mod VisitLaws
 pub mod FreeLaws
 pub mod ListedLaws
+pub mod SlaveLaws
 pub mod ChosenLaws
 pub mod FoundLaws
 pub mod RelistLaws

@@ -94,7 +94,7 @@ fn push_groups(
 {
     let (old, new) = (group_of(before, id), group_of(after, id));
     let is_groupless = old.is_none() && new.is_none();
-    if is_groupless || is_alike(before, after, id) {
+    if is_groupless || (old == new && is_alike(before, after, id)) {
         return Ok(());
     }
     push_next(groups, old)?;
@@ -236,8 +236,8 @@ fn push_all_below(ids: &mut Vec<MountId>, world: &World, groups: &[GroupId]) -> 
 }
 
 /// Appends to the mounts that came, went or changed those that may tell another group above their master for it: those
-/// below a group that got another master, or that has members in a namespace before or after alone. Refused as
-/// `NoMemory` alone.
+/// below a group that got another master, or that has members in a namespace before or after alone. Where no mount has a
+/// master, none is looked at. Refused as `NoMemory` alone.
 pub(crate) fn push_turned_below(
     ids: &mut Vec<MountId>,
     before: &World,
@@ -249,6 +249,9 @@ pub(crate) fn push_turned_below(
     ensures touched { OnOk result (IsTouched (world_view before.now) (world_view after.now) ids.new.items) }
     ensures memory { IsOkUnless result Fault.NoMemory }
 {
+    if !after.peers.has_slaves() {
+        return Ok(());
+    }
     let groups = changed_groups(before, after, ids)?;
     let turned = turned_groups(before, after, &groups)?;
     push_all_below(ids, after, &turned)?;

@@ -1,10 +1,24 @@
-use Rattle.std.proofs.Common.{ap, ◌∙◌}
-use Rattle.std.specs.List.{flat_map}
+use Rattle.std.proofs.Common.{◌≡◌, [], false, refl, sym, ap, ◌∙◌}
+use Rattle.std.specs.List.{flat_map, list_any}
 use Rattle.mt_skel.specs.Keyed.{among}
+use Rattle.mt_peers.specs.Peers.{is_slave}
+use Rattle.mt_peers.proofs.SlaveLaws.{no-slaves}
 use Rattle.mt_propagate.specs.World.{world_view}
 use Rattle.mt_propagate.specs.Turned.{groups_of_changed}
 use Rattle.mt_propagate.proofs.TurnedLaws.{turned-touched}
 use Rattle.mt_propagate.proofs.turned.push_turned_below.Goals as goal
+
+pub returns-then-not-has_slaves-clause-touched : goal.returns-then-not-has_slaves-clause-touched
+returns-then-not-has_slaves-clause-touched c =
+    let v = world_view c.args.before.now in
+    let w = world_view c.args.after.now in
+    let ids = c.args.ids.now.items in
+    let none : list_any is_slave w.peering.peers ≡ false = sym c.has_slaves.ensures ∙ c.if-not-has_slaves.true in
+    turned-touched v w c.requires.before c.requires.after ids ids (flat_map (groups_of_changed v w) ids) [] c.requires.noted
+    (λ i at. at)
+    (λ g. refl)
+    (λ g at out some. absurd (some (no-slaves w.peering.peers g none)))
+    (λ g i at. cc)
 
 pub returns-clause-touched : goal.returns-clause-touched
 returns-clause-touched c =
