@@ -1,13 +1,13 @@
 //! Whether the table of a namespace changed, where nobody asks how: no row is made but to compare it.
-ghost use Rattle.std.specs.Prelude.{◌≡◌, not, true, IfOk, IsOkUnless, IsTrue, is_some};
+ghost use Rattle.std.specs.Prelude.{◌≡◌, not, IfOk, IsOkUnless, IsTrue};
 ghost use Rattle.std.specs.List.{list_any};
-ghost use Rattle.mt_skel.specs.Keyed.{has, rises};
+ghost use Rattle.mt_skel.specs.Keyed.{rises};
 ghost use Rattle.mt_propagate.specs.World.{world_view};
 ghost use Rattle.mt_propagate.specs.WellFormed.{IsWellFormed};
-ghost use Rattle.mt_info.specs.Table.{row_id, table_of};
+ghost use Rattle.mt_info.specs.Table.{table_of};
 ghost use Rattle.mt_events.specs.Difference.{difference, is_empty, HoldsChanged};
 ghost use Rattle.mt_events.specs.Posts.{itself};
-ghost use Rattle.mt_events.specs.ByMount.{new_row, is_news};
+ghost use Rattle.mt_events.specs.ByMount.{is_news};
 
 use crate::touched::{is_in, new_row};
 use mt_info::differ::is_other;
@@ -16,25 +16,36 @@ use mt_mounts::mount::{MountId, SpaceId};
 use mt_propagate::world::World;
 use mt_skel::fault::Fault;
 
-/// Whether the row of a mount that is in the namespace after is not as it was. Refused as `NoMemory` alone.
-fn has_other_row(
-    before: &mut Findings<'_>,
-    after: &mut Findings<'_>,
-    space: SpaceId,
-    id: MountId,
-) -> Result<bool, Fault>
-    requires before { IsWellFormed (world_view before.old) }
-    requires after { IsWellFormed (world_view after.old) }
-    requires there { has row_id id (table_of (world_view after.old) space) ≡ true }
-    ensures new { IfOk result (λ new. new ≡ is_some (new_row (table_of (world_view before.old) space) (table_of (world_view after.old) space) id)) }
-    ensures before_kept { before.new ≡ before.old }
-    ensures after_kept { after.new ≡ after.old }
-    ensures memory { IsOkUnless result Fault.NoMemory }
+/// Whether a mount came or left, or has other attributes or another state, so that its rows need not be made to see that
+/// they differ. Takes no memory.
+fn is_plain_news(before: &World, after: &World, space: SpaceId, id: MountId) -> bool
+    requires before { IsWellFormed (world_view before.now) }
+    requires after { IsWellFormed (world_view after.now) }
+    ensures news { IsTrue result → IsTrue (is_news (table_of (world_view before.now) space) (table_of (world_view after.now) space) id) }
 {
-    if is_other(before.world(), after.world(), id) {
-        return Ok(true);
+    let was_there = is_in(before, space, id);
+    let is_there = is_in(after, space, id);
+    if !was_there {
+        return is_there;
     }
-    Ok(new_row(before, after, space, id)?.is_some())
+    if !is_there {
+        return true;
+    }
+    is_other(before, after, id)
+}
+
+/// Whether any of these mounts came or left, or has other attributes or another state. Takes no memory.
+fn any_plain_news(before: &World, after: &World, space: SpaceId, touched: &[MountId]) -> bool
+    requires before { IsWellFormed (world_view before.now) }
+    requires after { IsWellFormed (world_view after.now) }
+    ensures news { IsTrue result → IsTrue (list_any (is_news (table_of (world_view before.now) space) (table_of (world_view after.now) space)) touched.now) }
+{
+    'mounts: for id in touched {
+        if is_plain_news(before, after, space, *id) {
+            return true;
+        }
+    }
+    false
 }
 
 /// Whether a mount left the namespace, or its row is new or not as it was. Refused as `NoMemory` alone.
@@ -59,10 +70,11 @@ fn is_news(
     if !is_there {
         return Ok(true);
     }
-    has_other_row(before, after, space, id)
+    Ok(new_row(before, after, space, id)?.is_some())
 }
 
-/// Whether any of these mounts left the namespace, or has a row that is new or not as it was.
+/// Whether any of these mounts left the namespace, or has a row that is new or not as it was: for most commands one of
+/// which that is plain. Refused as `NoMemory` alone.
 fn any_news(
     before: &World,
     after: &World,
@@ -74,6 +86,9 @@ fn any_news(
     ensures news { IfOk result (λ news. news ≡ list_any (is_news (table_of (world_view before.now) space) (table_of (world_view after.now) space)) touched.now) }
     ensures memory { IsOkUnless result Fault.NoMemory }
 {
+    if any_plain_news(before, after, space, touched) {
+        return Ok(true);
+    }
     let mut old = Findings::new(before);
     let mut new = Findings::new(after);
     'mounts: for id in touched {
