@@ -212,14 +212,16 @@ counted_rises w v rs = ap (rises space_in) (counted-map w v rs) ∙ rises-map sp
 counted_at : (w v : WorldView) (q : ℕ) (rs : List (ℕ × ℕ)) → row_at space_in q (counted w v rs) ≡ option_map (count_row w v) (row_at space_in q rs)
 counted_at w v q rs = ap (row_at space_in q) (counted-map w v rs) ∙ row_at-map space_in (count_row w v) (λ r. refl) q rs
 
-module _ (w v : WorldView) (ids spaces : List ℕ) (h : IsWellFormed w) (g : IsWellFormed v) (held : (n : ℕ) → HoldsChanged (table_of w n) (table_of v n) ids)
-    (touched : (n : ℕ) → among spaces n ≡ is_touched w v ids n) where
-  none : (n : ℕ) → among spaces n ≡ false → (length (filter (is_part w v n) ids) == 0) ≡ true
-  none n off = ap (λ (l : List ℕ). length l == 0) (filter_nothing (is_part w v n) ids (sym (touched n) ∙ off))
+-- a namespace in which none of these mounts is has the same rows
+pub quiet_of : (w v : WorldView) (ids spaces : List ℕ) → IsWellFormed w → IsWellFormed v → ((n : ℕ) → HoldsChanged (table_of w n) (table_of v n) ids) → ((n : ℕ) → among spaces n ≡ is_touched w v ids n)
+    → (n : ℕ) → among spaces n ≡ false → HoldsChanged (table_of w n) (table_of v n) []
+quiet_of w v ids spaces h g held touched n off =
+    subst (HoldsChanged (table_of w n) (table_of v n)) (filter_nothing (is_part w v n) ids (sym (touched n) ∙ off)) (part_holds w v n ids h g (held n))
 
+-- these are all namespaces whose rows differ
+module _ (w v : WorldView) (spaces : List ℕ) (h : IsWellFormed w) (g : IsWellFormed v) (quiet : (n : ℕ) → among spaces n ≡ false → HoldsChanged (table_of w n) (table_of v n) []) where
   same_row : (r : ℕ × ℕ) → is_in spaces r ≡ false → count_row w v r ≡ r
-  same_row r off =
-      ap (numbered_row (space_in r)) (untouched_number w v (space_in r) (filter (is_part w v (space_in r)) ids) h g (part_holds w v (space_in r) ids h g (held (space_in r))) (none (space_in r) off) (number_in r))
+  same_row r off = ap (numbered_row (space_in r)) (untouched_number w v (space_in r) [] h g (quiet (space_in r) off) refl (number_in r))
 
   one_number : (q : ℕ) (rs : List (ℕ × ℕ)) → rises space_in rs ≡ true → merged rs (counted w v (filter (is_in spaces) rs)) q ≡ row_at space_in q (counted w v rs)
   one_number q rs up =
@@ -245,5 +247,5 @@ module _ (w v : WorldView) (ids spaces : List ℕ) (h : IsWellFormed w) (g : IsW
       by true is ih = ap (λ (l : List PostView). option_to_list (next_post w v (space_in r) (number_in r)) ++ l) ih
       by false is ih =
           ap (λ (o : Option PostView). option_to_list o ++ posted w v rs)
-          (untouched_post w v (space_in r) (filter (is_part w v (space_in r)) ids) h g (part_holds w v (space_in r) ids h g (held (space_in r))) (none (space_in r) is) (number_in r))
+          (untouched_post w v (space_in r) [] h g (quiet (space_in r) is) refl (number_in r))
           ∙ ih

@@ -1,16 +1,21 @@
--- What changes where all mounts touched were, and are, in one namespace.
-use Rattle.std.proofs.Common.{◌≡◌, ◌==◌, ◌||◌, ◌<◌, length, arith, ℕ, eqb-true, Bool, true, false, List, [], ◌∷◌, ◌++◌, Option, Some, None, refl, sym, ap, ◌∙◌, append-nil}
-use Rattle.std.specs.List.{filter, list_all}
-use Rattle.std.specs.Option.{option_map, option_to_list, unwrap_or}
+-- What changes where all mounts touched were, and are, in one namespace, as far as they are there.
+use Rattle.std.proofs.Common.{◌≡◌, ◌==◌, ◌||◌, ◌&&◌, not, ℕ, eqb, eqb-true, Bool, true, false, true≢false, List, [], ◌∷◌, ◌++◌, Option, Some, None, refl, sym, ap, ◌∙◌, append-nil}
+use Rattle.std.specs.List.{filter, list_all, list_any}
+use Rattle.std.specs.Option.{option_map, option_map_or, option_to_list, unwrap_or}
 use Rattle.mt_skel.specs.Keyed.{row_at, rises, among}
 use Rattle.mt_skel.proofs.KeyedLaws.{row_at-key}
-use Rattle.mt_propagate.specs.World.{WorldView, space_of}
-use Rattle.mt_skel.proofs.MiddleLaws.{and_first, and_second}
+use Rattle.mt_mounts.specs.declared.mount.Mount.{Mount}
+use Rattle.mt_mounts.specs.Forest.{mount_at, subtree}
+use Rattle.mt_propagate.specs.World.{WorldView}
+use Rattle.mt_skel.proofs.MiddleLaws.{and_first, and_second, and-true}
 use Rattle.mt_propagate.specs.WellFormed.{IsWellFormed}
-use Rattle.mt_info.specs.Table.{table_of}
+use Rattle.mt_info.specs.Table.{row_id, table_of}
+use Rattle.mt_info.specs.MayDiffer.{has_moved, may_differ}
+use Rattle.mt_info.proofs.KeptRows.{front-off}
 use Rattle.mt_events.specs.Difference.{HoldsChanged}
+use Rattle.mt_events.proofs.TouchedLaws.{row_nowhere, row_elsewhere}
 use Rattle.mt_book.specs.Book.{space_in, number_in, next_number, next_post, counted, posted}
-use Rattle.mt_book.specs.Parts.{is_part, is_touched, stays_in, merged}
+use Rattle.mt_book.specs.Parts.{only_in, stays_in, rests_in, merged}
 use Rattle.mt_book.proofs.ChangedLaws.{is_in, next_row, all_numbers, all_posts}
 
 none_in : (rs : List (ℕ × ℕ)) → filter (is_in []) rs ≡ []
@@ -21,19 +26,53 @@ none_in (r ∷ rs) = none_in rs
 one_in : (s : ℕ) (rs : List (ℕ × ℕ)) → rises space_in rs ≡ true → filter (is_in (s ∷ [])) rs ≡ option_to_list (row_at space_in s rs)
 one_in s rs up = next_row s [] rs refl up ∙ ap (λ l. option_to_list (row_at space_in s rs) ++ l) (none_in rs) ∙ append-nil (option_to_list (row_at space_in s rs))
 
+-- what holds of all of a list holds of each
+each : (t : ℕ → Bool) (ids : List ℕ) (i : ℕ) → list_all t ids ≡ true → among ids i ≡ true → t i ≡ true
+each t [] i all at = absurd (true≢false (sym at))
+each t (x ∷ xs) i all at = go (eqb x i) refl at (each t xs i (and_second (t x) (list_all t xs) all))
+  where
+    go : (b : Bool) → eqb x i ≡ b → (b || among xs i) ≡ true → (among xs i ≡ true → t i ≡ true) → t i ≡ true
+    go true is at ih = ap t (sym (eqb-true x i is)) ∙ and_first (t x) (list_all t xs) all
+    go false is at ih = ih at
+
+-- a mount that is in one namespace alone has no row in another
+nowhere : (w : WorldView) (s n i : ℕ) → IsWellFormed w → only_in w s i ≡ true → (s == n) ≡ false → row_at row_id i (table_of w n) ≡ None
+nowhere w s n i h only off = go (mount_at w.forest i) refl only
+  where
+    go : (o : Option Mount) → mount_at w.forest i ≡ o → option_map_or (λ (m : Mount). m.space == s) o true ≡ true → row_at row_id i (table_of w n) ≡ None
+    go None e here = row_nowhere w n i h e
+    go (Some m) e here = row_elsewhere w n i h m e (ap (λ k. k == n) (eqb-true m.space s here) ∙ off)
+
+-- so all others are as they were
+quiet_but : (w v : WorldView) (ids : List ℕ) (s : ℕ) → IsWellFormed w → IsWellFormed v → ((n : ℕ) → HoldsChanged (table_of w n) (table_of v n) ids) → list_all (stays_in w v s) ids ≡ true
+    → (n : ℕ) → among (s ∷ []) n ≡ false → HoldsChanged (table_of w n) (table_of v n) []
+quiet_but w v ids s h g held all n off i none = go (among ids i) refl
+  where
+    other : (s == n) ≡ false
+    other = front-off (s == n) false off
+
+    go : (b : Bool) → among ids i ≡ b → row_at row_id i (table_of w n) ≡ row_at row_id i (table_of v n)
+    go false e = held n i e
+    go true e =
+        let here = each (stays_in w v s) ids i all e in
+        nowhere w s n i h (and_first (only_in w s i) (only_in v s i) here) other ∙ sym (nowhere v s n i g (and_second (only_in w s i) (only_in v s i) here) other)
+
 module _ (w v : WorldView) (ids : List ℕ) (s : ℕ) (h : IsWellFormed w) (g : IsWellFormed v) (held : (n : ℕ) → HoldsChanged (table_of w n) (table_of v n) ids)
-    (touched : (n : ℕ) → among (s ∷ []) n ≡ is_touched w v ids n) where
+    (all : list_all (stays_in w v s) ids ≡ true) where
+  quiet : (n : ℕ) → among (s ∷ []) n ≡ false → HoldsChanged (table_of w n) (table_of v n) []
+  quiet = quiet_but w v ids s h g held all
+
   -- it has no number
   pub absent_numbers : (rs : List (ℕ × ℕ)) → rises space_in rs ≡ true → row_at space_in s rs ≡ None → rs ≡ counted w v rs
   absent_numbers rs up out =
-      all_numbers w v ids (s ∷ []) h g held touched rs rs up up (λ n. self (row_at space_in n rs) ∙ ap (λ (l : List (ℕ × ℕ)). merged rs (counted w v l) n) (sym (one_in s rs up ∙ ap option_to_list out)))
+      all_numbers w v (s ∷ []) h g quiet rs rs up up (λ n. self (row_at space_in n rs) ∙ ap (λ (l : List (ℕ × ℕ)). merged rs (counted w v l) n) (sym (one_in s rs up ∙ ap option_to_list out)))
     where
       self : (o : Option (ℕ × ℕ)) → o ≡ option_map (λ r. unwrap_or None r) o
       self None = refl
       self (Some r) = refl
 
   pub absent_posts : (rs : List (ℕ × ℕ)) → rises space_in rs ≡ true → row_at space_in s rs ≡ None → posted w v rs ≡ []
-  absent_posts rs up out = all_posts w v ids (s ∷ []) h g held touched rs ∙ ap (posted w v) (one_in s rs up ∙ ap option_to_list out)
+  absent_posts rs up out = all_posts w v (s ∷ []) h g quiet rs ∙ ap (posted w v) (one_in s rs up ∙ ap option_to_list out)
 
   -- it has one
   pub lone_numbers : (rs all : List (ℕ × ℕ)) (row : ℕ × ℕ) (k : ℕ) → rises space_in rs ≡ true → rises space_in all ≡ true → row_at space_in s rs ≡ Some row → k ≡ next_number w v s (number_in row)
@@ -41,43 +80,36 @@ module _ (w v : WorldView) (ids : List ℕ) (s : ℕ) (h : IsWellFormed w) (g : 
   lone_numbers rs all row k up rise at is rows =
       let one : counted w v (filter (is_in (s ∷ [])) rs) ≡ (s, k) ∷ [] =
       ap (counted w v) (one_in s rs up ∙ ap option_to_list at) ∙ ap (λ (n : ℕ). (n, next_number w v n (number_in row)) ∷ []) (row_at-key space_in s rs row at) ∙ ap (λ (m : ℕ). (s, m) ∷ []) (sym is) in
-      all_numbers w v ids (s ∷ []) h g held touched rs all up rise (λ n. rows n ∙ ap (λ (l : List (ℕ × ℕ)). merged rs l n) (sym one))
+      all_numbers w v (s ∷ []) h g quiet rs all up rise (λ n. rows n ∙ ap (λ (l : List (ℕ × ℕ)). merged rs l n) (sym one))
 
   pub lone_posts : (rs : List (ℕ × ℕ)) (row : ℕ × ℕ) → rises space_in rs ≡ true → row_at space_in s rs ≡ Some row → posted w v rs ≡ option_to_list (next_post w v s (number_in row))
   lone_posts rs row up at =
-      all_posts w v ids (s ∷ []) h g held touched rs ∙ ap (posted w v) (one_in s rs up ∙ ap option_to_list at) ∙ append-nil (option_to_list (next_post w v (space_in row) (number_in row)))
+      all_posts w v (s ∷ []) h g quiet rs ∙ ap (posted w v) (one_in s rs up ∙ ap option_to_list at) ∙ append-nil (option_to_list (next_post w v (space_in row) (number_in row)))
       ∙ ap (λ (n : ℕ). option_to_list (next_post w v n (number_in row))) (row_at-key space_in s rs row at)
 
--- it is the only one of mounts that stay in it
-or_none : (b : Bool) → (b || false) ≡ b
-or_none true = refl
-or_none false = refl
+-- mounts that rest stay in their namespace, and none has moved
+module _ (w v : WorldView) (s : ℕ) where
+  pub stays_of : (ids : List ℕ) → list_all (rests_in w v s) ids ≡ true → list_all (stays_in w v s) ids ≡ true
+  stays_of [] all = refl
+  stays_of (i ∷ ids) all =
+      and-true (stays_in w v s i) (list_all (stays_in w v s) ids) (and_first (stays_in w v s i) (not (has_moved w v i)) (and_first (rests_in w v s i) (list_all (rests_in w v s) ids) all))
+      (stays_of ids (and_second (rests_in w v s i) (list_all (rests_in w v s) ids) all))
 
-or_twice : (a b : Bool) → (a || ((a || a) || b)) ≡ (a || b)
-or_twice true b = refl
-or_twice false b = refl
+  none_moves : (j : ℕ) (ids : List ℕ) → list_all (rests_in w v s) ids ≡ true → list_any (λ i. has_moved w v i && among (subtree v.forest i) j) ids ≡ false
+  none_moves j [] all = refl
+  none_moves j (i ∷ ids) all =
+      let rests = and_second (stays_in w v s i) (not (has_moved w v i)) (and_first (rests_in w v s i) (list_all (rests_in w v s) ids) all) in
+      go (has_moved w v i) rests (none_moves j ids (and_second (rests_in w v s i) (list_all (rests_in w v s) ids) all))
+    where
+      go : (b : Bool) → not b ≡ true → list_any (λ i. has_moved w v i && among (subtree v.forest i) j) ids ≡ false
+          → ((b && among (subtree v.forest i) j) || list_any (λ i. has_moved w v i && among (subtree v.forest i) j) ids) ≡ false
+      go true rests ih = absurd (true≢false (sym rests))
+      go false rests ih = ih
 
-or_first : (a b : Bool) → ((a || a) || b) ≡ (a || b)
-or_first true b = refl
-or_first false b = refl
+  or_none : (b : Bool) → (b || false) ≡ b
+  or_none true = refl
+  or_none false = refl
 
-module _ (w v : WorldView) (s n : ℕ) where
-  both_in : (i : ℕ) → space_of w i ≡ s → space_of v i ≡ s → is_part w v n i ≡ ((s == n) || (s == n))
-  both_in i before after = ap (λ k. (k == n) || (space_of v i == n)) before ∙ ap (λ k. (s == n) || (k == n)) after
-
-  more_in : (ids : List ℕ) → list_all (stays_in w v s) ids ≡ true → ((s == n) || is_touched w v ids n) ≡ (s == n)
-  more_in [] all = or_none (s == n)
-  more_in (i ∷ ids) all =
-      let here : stays_in w v s i ≡ true = and_first _ _ all in
-      let before : space_of w i ≡ s = eqb-true (space_of w i) s (and_first _ _ here) in
-      let after : space_of v i ≡ s = eqb-true (space_of v i) s (and_second (space_of w i == s) _ here) in
-      ap (λ b. (s == n) || (b || is_touched w v ids n)) (both_in i before after) ∙ or_twice (s == n) (is_touched w v ids n) ∙ more_in ids (and_second (stays_in w v s i) _ all)
-
-  pub lone_of : (ids : List ℕ) → 0 < length ids → list_all (stays_in w v s) ids ≡ true → among (s ∷ []) n ≡ is_touched w v ids n
-  lone_of [] some all = absurd (omega (arith, some))
-  lone_of (i ∷ ids) some all =
-      let here : stays_in w v s i ≡ true = and_first _ _ all in
-      let before : space_of w i ≡ s = eqb-true (space_of w i) s (and_first _ _ here) in
-      let after : space_of v i ≡ s = eqb-true (space_of v i) s (and_second (space_of w i == s) _ here) in
-      or_none (s == n) ∙ sym (more_in ids (and_second (stays_in w v s i) _ all)) ∙ sym (or_first (s == n) (is_touched w v ids n))
-      ∙ sym (ap (λ b. b || is_touched w v ids n) (both_in i before after))
+  -- so no row but theirs may differ
+  pub may_differ_alone : (ids : List ℕ) (j : ℕ) → list_all (rests_in w v s) ids ≡ true → among ids j ≡ may_differ w v ids j
+  may_differ_alone ids j all = sym (or_none (among ids j)) ∙ ap (λ b. among ids j || b) (sym (none_moves j ids all))

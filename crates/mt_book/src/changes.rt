@@ -4,19 +4,20 @@ ghost use Rattle.std.specs.List.{list_all};
 ghost use Rattle.std.specs.Option.{option_to_list};
 ghost use Rattle.std.specs.Arc.{arc_value};
 ghost use Rattle.std.specs.Result.{is_ok};
-ghost use Rattle.mt_skel.specs.Keyed.{among, rises};
+ghost use Rattle.mt_skel.specs.Keyed.{rises};
 ghost use Rattle.mt_skel.specs.Skeleton.{IsSkeleton};
 ghost use Rattle.mt_propagate.specs.World.{is_space};
 ghost use Rattle.mt_propagate.specs.Touched.{IsTouched};
 ghost use Rattle.mt_book.specs.Step.{step, next_world, makes_space};
 ghost use Rattle.mt_book.specs.Between.{HoldsAll, numbers_after, heard_posts};
-ghost use Rattle.mt_book.specs.Parts.{is_touched};
+ghost use Rattle.mt_book.specs.Parts.{stays_in};
 ghost use Rattle.mt_book.specs.Book.{AreNumbers, with_newborn, still_there, space_in, command_limit};
 
 use crate::between::Between;
 use crate::command::Command;
+use crate::lone::{lone_space, resting_space};
 use crate::numbers::{numbers_before, numbers_in, put_number, put_numbers, still_there};
-use crate::parts::{lone_space, parts_of, place_among, spaces_touched};
+use crate::parts::{parts_of, place_among, spaces_touched};
 use mt_events::post::Post;
 use mt_events::shared::SharedPosts;
 use mt_info::touched::rows_touched;
@@ -122,8 +123,8 @@ fn changes_in(
     changes_in_each(alloc, between, ids, numbers)
 }
 
-/// Renews the numbers where all these mounts were, and are, in one namespace, and answers the posts: no other number
-/// changes. Refused as `NoMemory` alone.
+/// Renews the numbers where all these mounts are in no other namespace than this one, before or after, and answers the
+/// posts: no other number changes. Refused as `NoMemory` alone.
 fn renew_lone(
     alloc: Global,
     between: &Between<'_>,
@@ -133,7 +134,7 @@ fn renew_lone(
 ) -> Result<SharedPosts, Fault>
     requires rising { IsTrue (rises (λ k. k) ids.now) }
     requires held { (n : ℕ) → HoldsAll between.now ids.now n }
-    requires touched { (n : ℕ) → among (space ∷ []) n ≡ is_touched between.now.old between.now.new ids.now n }
+    requires lone { IsTrue (list_all (stays_in between.now.old between.now.new space) ids.now) }
     requires numbers { AreNumbers numbers.old.items }
     ensures numbers { OnOk result (numbers.new.items ≡ numbers_after between.now numbers.old.items) }
     ensures posts { IfOk result (λ posts. posts ≡ heard_posts between.now numbers.old.items) }
@@ -175,7 +176,8 @@ fn renew_touched(
 }
 
 /// Renews the numbers between two worlds with the same directories, where `touched` has each mount that changed, and
-/// answers the posts. Most commands touch one mount. Refused as `NoMemory` alone.
+/// answers the posts. Most commands touch one namespace and move no mount: then no other row may differ, and none is
+/// listed. Refused as `NoMemory` alone.
 fn renew(
     alloc: Global,
     between: &Between<'_>,
@@ -184,11 +186,15 @@ fn renew(
 ) -> Result<SharedPosts, Fault>
     requires skeleton { between.now.old.skel ≡ between.now.new.skel }
     requires touched { IsTouched between.now.old between.now.new touched.now }
+    requires rising { IsTrue (rises (λ k. k) touched.now) }
     requires numbers { AreNumbers numbers.old.items }
     ensures numbers { OnOk result (numbers.new.items ≡ numbers_after between.now numbers.old.items) }
     ensures posts { IfOk result (λ posts. posts ≡ heard_posts between.now numbers.old.items) }
     ensures memory { IsOkUnless result Fault.NoMemory }
 {
+    if let Some(space) = resting_space(between.old, between.new, touched) {
+        return renew_lone(alloc, between, touched, space, numbers);
+    }
     let ids = rows_touched(between.old, between.new, touched)?;
     match lone_space(between.old, between.new, &ids) {
         Some(space) => renew_lone(alloc, between, &ids, space, numbers),
@@ -208,6 +214,7 @@ fn renew_after(
     requires skeleton { IsSkeleton between.now.old.skel }
     requires next { between.now.new ≡ next_world between.now.old command.now }
     requires touched { IsTouched between.now.old between.now.new touched.now }
+    requires rising { IsTrue (rises (λ k. k) touched.now) }
     requires numbers { AreNumbers numbers.old.items }
     ensures numbers { OnOk result (numbers.new.items ≡ numbers_after between.now numbers.old.items) }
     ensures posts { IfOk result (λ posts. posts ≡ heard_posts between.now numbers.old.items) }
@@ -223,7 +230,7 @@ fn renew_after(
 
 /// What a command that is accepted changes for namespaces that had these numbers: those that are there. One that it
 /// makes had number 0, and one that it drops has none any more; only then is it asked which are there. `touched` has each
-/// mount that it changed. Refused as `NoMemory` alone.
+/// mount that it changed, by rising ID. Refused as `NoMemory` alone.
 pub(crate) fn changes_after(
     alloc: Global,
     between: &Between<'_>,
@@ -235,6 +242,7 @@ pub(crate) fn changes_after(
     requires accepted { IsTrue (is_ok (step between.now.old command.now)) }
     requires next { between.now.new ≡ next_world between.now.old command.now }
     requires touched { IsTouched between.now.old between.now.new touched.now }
+    requires rising { IsTrue (rises (λ k. k) touched.now) }
     requires there { IsTrue (list_all (λ r. is_space between.now.old (space_in r)) numbers.now) }
     requires numbers { AreNumbers (with_newborn numbers.now between.now.old.next_space (makes_space command.now)) }
     ensures numbers { IfOk result (λ changes. changes.numbers.items ≡ still_there between.now.new (numbers_after between.now (with_newborn numbers.now between.now.old.next_space (makes_space command.now)))) }

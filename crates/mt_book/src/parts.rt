@@ -5,7 +5,7 @@ ghost use Rattle.std.specs.Option.{option_map};
 ghost use Rattle.mt_propagate.specs.World.{world_view};
 ghost use Rattle.mt_skel.specs.Keyed.{among, rises, row_at};
 ghost use Rattle.mt_book.specs.Book.{space_in};
-ghost use Rattle.mt_book.specs.Parts.{is_part, is_touched, stays_in, part_at, space_at, is_at};
+ghost use Rattle.mt_book.specs.Parts.{is_part, is_touched, part_at, space_at, is_at};
 
 use mt_mounts::mount::{MountId, SpaceId};
 use mt_propagate::sorted::in_order;
@@ -164,27 +164,4 @@ pub(crate) fn spaces_touched(
         spaces.push(space_of(new, *id))?;
     }
     Ok(in_order(spaces))
-}
-
-/// Whether a mount was, and is, in a namespace.
-fn stays_in(old: &World, new: &World, space: SpaceId, id: MountId) -> bool
-    ensures { result ≡ stays_in (world_view old.now) (world_view new.now) space id }
-{
-    space_of(old, id) == space && space_of(new, id) == space
-}
-
-/// The namespace that all these mounts were in, and are in, where there is only one. Takes no memory.
-pub(crate) fn lone_space(old: &World, new: &World, ids: &[MountId]) -> Option<SpaceId>
-    ensures { IfSome result (λ space. (n : ℕ) → among (space ∷ []) n ≡ is_touched (world_view old.now) (world_view new.now) ids.now n) }
-{
-    let [first, ..] = ids else {
-        return None;
-    };
-    let space = space_of(old, *first);
-    'mounts: for id in ids {
-        if !stays_in(old, new, space, *id) {
-            return None;
-        }
-    }
-    Some(space)
 }

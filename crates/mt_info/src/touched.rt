@@ -5,9 +5,9 @@ ghost use Rattle.mt_mounts.specs.Forest.{subtree};
 ghost use Rattle.mt_propagate.specs.World.{world_view};
 ghost use Rattle.mt_propagate.specs.WellFormed.{IsWellFormed};
 ghost use Rattle.mt_propagate.specs.Touched.{IsTouched};
-ghost use Rattle.mt_info.specs.MayDiffer.{place_stays, has_moved, moves_along, moves_first, may_differ};
+ghost use Rattle.mt_info.specs.MayDiffer.{place_stays, is_elsewhere, has_moved, moves_along, moves_first, may_differ};
 
-use mt_mounts::mount::{MountId, Place};
+use mt_mounts::mount::{Mount, MountId, Place};
 use mt_propagate::sorted::in_order;
 use mt_propagate::world::World;
 use mt_skel::fault::Fault;
@@ -26,16 +26,20 @@ fn place_stays(before: Option<Place>, after: Option<Place>) -> bool
 }
 
 /// Whether a mount that is there before and after stands at another place, or shows another directory.
-fn has_moved(before: &World, after: &World, id: MountId) -> bool
-    ensures { result ≡ has_moved (world_view before.now) (world_view after.now) id }
+pub fn is_elsewhere(before: Option<Mount>, after: Option<Mount>) -> bool
+    ensures { result ≡ is_elsewhere before after }
 {
-    let Some(old) = before.forest.get(id) else {
-        return false;
-    };
-    let Some(new) = after.forest.get(id) else {
+    let (Some(old), Some(new)) = (before, after) else {
         return false;
     };
     !(place_stays(old.place, new.place) && old.root == new.root)
+}
+
+/// Whether a mount of two worlds is elsewhere in the second.
+fn has_moved(before: &World, after: &World, id: MountId) -> bool
+    ensures { result ≡ has_moved (world_view before.now) (world_view after.now) id }
+{
+    is_elsewhere(before.forest.get(id), after.forest.get(id))
 }
 
 /// Whether a mount stands, at whatever height, on one that moved. It goes up from the mount, and takes no memory.

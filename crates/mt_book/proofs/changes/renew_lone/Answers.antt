@@ -24,7 +24,7 @@ returns-in_default-clause-numbers c =
     let worlds = subst AreWorlds c.between.view_is c.between.invariant in
     let rs = c.args.numbers.now.items in
     let out = subst (λ (l : List (ℕ × ℕ)). row_at space_in c.args.space l ≡ None) c.deref.ensures.value c.in_default.ensures.row in
-    absent_numbers b.old b.new c.args.ids.now c.args.space worlds.old worlds.new c.requires.held c.requires.touched rs c.requires.numbers.rising out
+    absent_numbers b.old b.new c.args.ids.now c.args.space worlds.old worlds.new c.requires.held c.requires.lone rs c.requires.numbers.rising out
 
 pub returns-in_default-clause-posts : goal.returns-in_default-clause-posts
 returns-in_default-clause-posts c =
@@ -32,7 +32,7 @@ returns-in_default-clause-posts c =
     let worlds = subst AreWorlds c.between.view_is c.between.invariant in
     let rs = c.args.numbers.now.items in
     let out = subst (λ (l : List (ℕ × ℕ)). row_at space_in c.args.space l ≡ None) c.deref.ensures.value c.in_default.ensures.row in
-    let none : posted b.old b.new rs ≡ [] = absent_posts b.old b.new c.args.ids.now c.args.space worlds.old worlds.new c.requires.held c.requires.touched rs c.requires.numbers.rising out in
+    let none : posted b.old b.new rs ≡ [] = absent_posts b.old b.new c.args.ids.now c.args.space worlds.old worlds.new c.requires.held c.requires.lone rs c.requires.numbers.rising out in
     c.new.ensures ∙ ap (map (λ p. arc_value p)) c.new-posts.ensures.items ∙ sym (ap (λ (l : List PostView). cond b.heard l []) none ∙ same b.heard [])
 
 pub returns-clause-numbers : goal.returns-clause-numbers
@@ -44,7 +44,7 @@ returns-clause-numbers c =
     let there = subst (λ (l : List (ℕ × ℕ)). row_at space_in c.args.space l ≡ Some (slice_index_or l at (0, 0))) c.deref.ensures.value c.in-Some.ensures.row in
     let within = subst (λ (l : List (ℕ × ℕ)). at < length l) c.deref.ensures.value c.in-Some.ensures.within in
     let row = c.index-row.ensures ∙ in_range rs at c.index-row.result.now (0, 0) within in
-    lone_numbers b.old b.new c.args.ids.now c.args.space worlds.old worlds.new c.requires.held c.requires.touched rs c.put_number.new.all.items
+    lone_numbers b.old b.new c.args.ids.now c.args.space worlds.old worlds.new c.requires.held c.requires.lone rs c.put_number.new.all.items
     (slice_index_or rs at (0, 0)) c.in_ok-change.change.number c.requires.numbers.rising c.put_number.ensures.rising there
     (c.in_ok-change.ensures.number ∙ ap (λ (r : ℕ × ℕ). next_number b.old b.new c.args.space (number_in r)) row) c.put_number.ensures.rows
 
@@ -58,7 +58,7 @@ returns-clause-posts c =
     let within = subst (λ (l : List (ℕ × ℕ)). at < length l) c.deref.ensures.value c.in-Some.ensures.within in
     let row = c.index-row.ensures ∙ in_range rs at c.index-row.result.now (0, 0) within in
     let told : posted b.old b.new rs ≡ option_to_list (next_post b.old b.new c.args.space (number_in (slice_index_or rs at (0, 0)))) =
-    lone_posts b.old b.new c.args.ids.now c.args.space worlds.old worlds.new c.requires.held c.requires.touched rs (slice_index_or rs at (0, 0)) c.requires.numbers.rising there in
+    lone_posts b.old b.new c.args.ids.now c.args.space worlds.old worlds.new c.requires.held c.requires.lone rs (slice_index_or rs at (0, 0)) c.requires.numbers.rising there in
     c.new-2.ensures ∙ c.in_ok-push_post.ensures.posts ∙ ap (λ l. map (λ p. arc_value p) l ++ option_to_list c.in_ok-change.change.post) c.new-posts.ensures.items
     ∙ ap option_to_list c.in_ok-change.ensures.post ∙ ap (λ (r : ℕ × ℕ). option_to_list (cond b.heard (next_post b.old b.new c.args.space (number_in r)) None)) row
     ∙ kept b.heard (next_post b.old b.new c.args.space (number_in (slice_index_or rs at (0, 0)))) ∙ ap (λ (l : List PostView). cond b.heard l []) (sym told)

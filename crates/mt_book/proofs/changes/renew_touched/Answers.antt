@@ -6,7 +6,7 @@ use Rattle.mt_events.specs.Posts.{PostView}
 use Rattle.mt_book.specs.Book.{AreNumbers, space_in, counted}
 use Rattle.mt_book.specs.Between.{BetweenView, AreWorlds, heard_posts}
 use Rattle.mt_book.specs.Parts.{is_touched, merged}
-use Rattle.mt_book.proofs.ChangedLaws.{is_in, few_filter, counted_rises, all_numbers, all_posts}
+use Rattle.mt_book.proofs.ChangedLaws.{is_in, few_filter, counted_rises, quiet_of, all_numbers, all_posts}
 use Rattle.mt_book.proofs.changes.renew_touched.Goals as goal
 
 pub changes_in-requires-clause-numbers : goal.changes_in-requires-clause-numbers
@@ -38,8 +38,8 @@ returns-clause-numbers c =
     let before : c.deref-3.result.now ≡ filter t rs =
     c.deref-3.ensures.value ∙ c.in_ok-before.ensures.some ∙ ap (λ (l : List ℕ). filter (is_in l) c.deref.result.now) c.deref-2.ensures.value ∙ ap (λ (l : List (ℕ × ℕ)). filter t l) c.deref.ensures.value in
     let changed = c.deref-4.ensures.value ∙ c.in_ok-changes.ensures.numbers ∙ ap (counted b.old b.new) before in
-    all_numbers b.old b.new ids spaces worlds.old worlds.new c.requires.held
-    (λ n. c.in_ok-spaces.ensures.touched n ∙ ap (λ (x : BetweenView). is_touched x.old x.new ids n) c.between.view_is)
+    all_numbers b.old b.new spaces worlds.old worlds.new
+    (quiet_of b.old b.new ids spaces worlds.old worlds.new c.requires.held (λ n. c.in_ok-spaces.ensures.touched n ∙ ap (λ (x : BetweenView). is_touched x.old x.new ids n) c.between.view_is))
     rs c.put_numbers.new.all.items c.requires.numbers.rising c.put_numbers.ensures.rising
     (λ n. c.put_numbers.ensures.rows n ∙ ap (λ (l : List (ℕ × ℕ)). merged rs l n) changed)
 
@@ -56,5 +56,6 @@ returns-clause-posts c =
     c.in_ok-changes.ensures.posts ∙ ap (heard_posts b) before
     ∙ ap (λ (l : List PostView). cond b.heard l [])
     (sym
-    (all_posts b.old b.new ids spaces worlds.old worlds.new c.requires.held
-    (λ n. c.in_ok-spaces.ensures.touched n ∙ ap (λ (x : BetweenView). is_touched x.old x.new ids n) c.between.view_is) rs))
+    (all_posts b.old b.new spaces worlds.old worlds.new
+    (quiet_of b.old b.new ids spaces worlds.old worlds.new c.requires.held (λ n. c.in_ok-spaces.ensures.touched n ∙ ap (λ (x : BetweenView). is_touched x.old x.new ids n) c.between.view_is))
+    rs))

@@ -3,14 +3,12 @@ use Rattle.std.proofs.lemmas.List.{drop_all}
 use Rattle.std.specs.List.{list_all}
 use Rattle.mt_propagate.specs.World.{world_view}
 use Rattle.mt_book.specs.Parts.{stays_in}
-use Rattle.mt_book.proofs.LoneLaws.{lone_of}
-use Rattle.mt_book.proofs.parts.lone_space.Goals as goal
+use Rattle.mt_book.proofs.lone.lone_space.Goals as goal
 
 pub returns : goal.returns
 returns c =
     let w = world_view c.args.old.now in
     let v = world_view c.args.new.now in
-    let s = c.space_of-space.result in
+    let s = c.space_after-space.result in
     let ids = c.args.ids.now in
-    let all = sym c.mounts.invariant ∙ ap (list_all (stays_in w v s)) (drop_all c.mounts.id-index ids (omega (arith, c.mounts-test.false))) in
-    λ n. lone_of w v s n ids (omega (arith, c.in-len1-up.len_at_least)) all
+    sym c.mounts.invariant ∙ ap (list_all (stays_in w v s)) (drop_all c.mounts.id-index ids (omega (arith, c.mounts-test.false)))
