@@ -13,9 +13,8 @@ use Rattle.mt_lists.proofs.WalkLaws.{rest_from, rest-next}
 use Rattle.mt_peers.specs.Peers.{Peer, Peering, mount_of, state_at, in_group, has_master, has_member, members, slaves}
 use Rattle.mt_peers.specs.Masters.{master_of}
 use Rattle.mt_peers.specs.Loss.{heir, with_master, settle, left}
-use Rattle.mt_peers.specs.WellFormed.{IsPeering}
-use Rattle.mt_peers.specs.Listed.{IsListed}
-use Rattle.mt_peers.specs.Going.{stays, may_go}
+use Rattle.mt_peers.specs.Listed.{IsListed, MastersLive}
+use Rattle.mt_peers.specs.Going.{stays, may_go, keeps}
 use Rattle.mt_peers.proofs.ChangeLaws.{settled}
 use Rattle.mt_peers.proofs.ListLaws.{member-group}
 use Rattle.mt_peers.proofs.ListedLaws.{group-listed, members-listed, slaves-listed}
@@ -90,62 +89,78 @@ find-first : (t : ℕ → Bool) (next : ℕ → Option ℕ) (n g : ℕ) → t g 
 find-first t next zero g e = ap (λ b. cond b (Some g) None) e
 find-first t next (suc n) g e = ap (λ b. cond b (Some g) (find t (option_map_or (λ y. chain next n y) (next g) []))) e
 
-map-same : (f : Peer → Peer) (xs : List Peer) → ((e : Peer) → In e xs → f e ≡ e) → map f xs ≡ xs
+-- a group that lives is its own heir
+pub heir-stays : (old new : List Peer) (m : Option ℕ) → ((g : ℕ) → m ≡ Some g → has_member new g ≡ true) → heir old new m ≡ m
+heir-stays old new None f = refl
+heir-stays old new (Some g) f = find-first (has_member new) (master_of old) (length old) g (f g refl)
+
+pub map-same : (f : Peer → Peer) (xs : List Peer) → ((e : Peer) → In e xs → f e ≡ e) → map f xs ≡ xs
 map-same f [] same = refl
 map-same f (x ∷ xs) same = (λ i. same x (inl refl) i ∷ map-same f xs (λ e at. same e (inr at)) i)
 
-module _ (p : Peering) (h : IsPeering p) (them : List ℕ) (ms ss : List ListRow) (l : IsListed p.peers ms ss) (ok : list_all (may_go ms ss (among them)) them ≡ true) where
-  abbrev staying : List Peer
+module _ (p : Peering) (live : MastersLive p.peers) (them : List ℕ) (ms ss : List ListRow) (l : IsListed p.peers ms ss) where
+  abbrev pub staying : List Peer
   staying = without (λ (e : Peer). among them e.mount) p.peers
 
-  -- what is known of a first member that leaves
-  asked : (g j : ℕ) (rest : List ℕ) → members p.peers g ≡ j ∷ rest → may_go ms ss (among them) j ≡ true → (stays (among them) (members p.peers g) || not (stays (among them) (slaves p.peers g))) ≡ true
-  asked g j rest is may =
-      let listed : among (members p.peers g) j ≡ true = ap (λ xs. among xs j) is ∙ self j in
-      let number : number_at ms j ≡ Some g = group-listed p.peers ms ss l j ∙ member-group p.peers g j h.rising listed in
-      let head : names (first (ids ms g)) j ≡ true = ap (λ xs. names (first xs) j) (members-listed p.peers ms ss l g ∙ is) ∙ same j in
-      (λ i. stays (among them) (sym (members-listed p.peers ms ss l g) i) || not (stays (among them) (sym (slaves-listed p.peers ms ss l g) i)))
-      ∙ sym (ap (λ b. not b || (stays (among them) (ids ms g) || not (stays (among them) (ids ss g)))) head)
-      ∙ sym (ap (λ o. option_map_or (λ g. not (names (first (ids ms g)) j) || (stays (among them) (ids ms g) || not (stays (among them) (ids ss g)))) o true) number)
-      ∙ may
+  same : (j : ℕ) → eqb j j ≡ true
+  same j = grind (arith, nat_tests)
+
+  -- what was asked of a first member is asked of its group
+  listed-first : (g j : ℕ) (rest : List ℕ) → members p.peers g ≡ j ∷ rest → (number_at ms j ≡ Some g) × (names (first (ids ms g)) j ≡ true)
+  listed-first g j rest is =
+      let listed : among (members p.peers g) j ≡ true = ap (λ xs. among xs j) is ∙ ap (λ b. b || among rest j) (same j) in (
+        group-listed p.peers ms ss l j ∙ member-group p.peers g j l.rising listed,
+        ap (λ xs. names (first xs) j) (members-listed p.peers ms ss l g ∙ is) ∙ same j,
+      )
+
+  -- a group that has members keeps one, where its first member stays or something stays of which it is asked
+  some-stays : (g : ℕ) → has_member p.peers g ≡ true → ((j : ℕ) (rest : List ℕ) → members p.peers g ≡ j ∷ rest → among them j ≡ true → stays (among them) (members p.peers g) ≡ true) → has_member staying g ≡ true
+  some-stays g has asked = let f = first-member g p.peers has in sym (stays-picked (among them) (in_group g) p.peers) ∙ go f.0 f.1 f.2 (among them f.0) refl
     where
-      same : (j : ℕ) → eqb j j ≡ true
-      same j = grind (arith, nat_tests)
+      go : (j : ℕ) (rest : List ℕ) → members p.peers g ≡ j ∷ rest → (b : Bool) → among them j ≡ b → stays (among them) (members p.peers g) ≡ true
+      go j rest is false off = ap (stays (among them)) is ∙ ap (λ b. not b || stays (among them) rest) off
+      go j rest is true on = asked j rest is on
 
-      self : (j : ℕ) → (eqb j j || among rest j) ≡ true
-      self j = ap (λ b. b || among rest j) (same j)
+  -- what a first member answers that is lost
+  pub kept : list_all (keeps ms (among them)) them ≡ true → (g : ℕ) → has_member p.peers g ≡ true → has_member staying g ≡ true
+  kept ok g has =
+      some-stays g has (λ j rest is on.
+      let f = listed-first g j rest is in
+      (λ i. stays (among them) (sym (members-listed p.peers ms ss l g) i))
+      ∙ sym (ap (λ b. not b || stays (among them) (ids ms g)) f.1)
+      ∙ sym (ap (λ o. option_map_or (λ g. not (names (first (ids ms g)) j) || stays (among them) (ids ms g)) o true) f.0)
+      ∙ all-among (keeps ms (among them)) them j ok on)
 
-  -- the master of a mount that stays keeps a member
-  keeps-member : (e : Peer) (g : ℕ) → In e staying → e.state.master ≡ Some g → has_member staying g ≡ true
-  keeps-member e g at is =
-      let old = in_filter (λ (e : Peer). not (among them e.mount)) e p.peers at in
-      let state : state_at p.peers e.mount ≡ Some e.state = ap (option_map (λ (e : Peer). e.state)) (in_row mount_of p.peers e h.rising old.0) in
-      let f = first-member g p.peers (h.master_lives e.mount e.state g state is) in
-      let slave : stays (among them) (slaves p.peers g) ≡ true = stays-picked (among them) (has_master g) p.peers ∙ any_in (has_master g) e staying at (led g is) in
-      sym (stays-picked (among them) (in_group g) p.peers) ∙ go f.0 f.1 f.2 slave (among them f.0) refl
-    where
-      led : (g : ℕ) → e.state.master ≡ Some g → has_master g e ≡ true
-      led g is = ap (λ o. option_map_or (λ h. eqb h g) o false) is ∙ grind (arith, nat_tests)
+  module _ (ok : list_all (may_go ms ss (among them)) them ≡ true) where
+    -- what is known of a first member that leaves
+    asked : (g j : ℕ) (rest : List ℕ) → members p.peers g ≡ j ∷ rest → may_go ms ss (among them) j ≡ true → (stays (among them) (members p.peers g) || not (stays (among them) (slaves p.peers g))) ≡ true
+    asked g j rest is may =
+        let f = listed-first g j rest is in
+        (λ i. stays (among them) (sym (members-listed p.peers ms ss l g) i) || not (stays (among them) (sym (slaves-listed p.peers ms ss l g) i)))
+        ∙ sym (ap (λ b. not b || (stays (among them) (ids ms g) || not (stays (among them) (ids ss g)))) f.1)
+        ∙ sym (ap (λ o. option_map_or (λ g. not (names (first (ids ms g)) j) || (stays (among them) (ids ms g) || not (stays (among them) (ids ss g)))) o true) f.0)
+        ∙ may
 
-      go : (j : ℕ) (rest : List ℕ) → members p.peers g ≡ j ∷ rest → stays (among them) (slaves p.peers g) ≡ true → (b : Bool) → among them j ≡ b → stays (among them) (members p.peers g) ≡ true
-      go j rest is slave false off = ap (stays (among them)) is ∙ ap (λ b. not b || stays (among them) rest) off
-      go j rest is slave true on =
-          either (stays (among them) (members p.peers g)) (ap (λ b. stays (among them) (members p.peers g) || not b) (sym slave) ∙ asked g j rest is (all-among (may_go ms ss (among them)) them j ok on))
-        where
-          either : (b : Bool) → (b || false) ≡ true → b ≡ true
-          either true e = refl
-          either false e = e
+    -- the master of a mount that stays keeps a member
+    pub keeps-member : (e : Peer) (g : ℕ) → In e staying → e.state.master ≡ Some g → has_member staying g ≡ true
+    keeps-member e g at is =
+        let old = in_filter (λ (e : Peer). not (among them e.mount)) e p.peers at in
+        let state : state_at p.peers e.mount ≡ Some e.state = ap (option_map (λ (e : Peer). e.state)) (in_row mount_of p.peers e l.rising old.0) in
+        let slave : stays (among them) (slaves p.peers g) ≡ true = stays-picked (among them) (has_master g) p.peers ∙ any_in (has_master g) e staying at (led g is) in
+        some-stays g (live.lives e.mount e.state g state is) (λ j rest is on. either (stays (among them) (members p.peers g)) (ap (λ b. stays (among them) (members p.peers g) || not b) (sym slave) ∙ asked g j rest is (all-among (may_go ms ss (among them)) them j ok on)))
+      where
+        led : (g : ℕ) → e.state.master ≡ Some g → has_master g e ≡ true
+        led g is = ap (λ o. option_map_or (λ h. eqb h g) o false) is ∙ same g
 
-  same-peer : (e : Peer) → In e staying → settled p.peers staying e ≡ e
-  same-peer e at = ap (λ m. record { mount = e.mount; state = with_master e.state m }) (go e.state.master (λ g is. keeps-member e g at is))
-    where
-      go : (m : Option ℕ) → ((g : ℕ) → m ≡ Some g → has_member staying g ≡ true) → heir p.peers staying m ≡ m
-      go None f = refl
-      go (Some g) f = find-first (has_member staying) (master_of p.peers) (length p.peers) g (f g refl)
+        either : (b : Bool) → (b || false) ≡ true → b ≡ true
+        either true e = refl
+        either false e = e
 
-  pub going : left (among them) p ≡ record { peers = staying; next = p.next }
-  unfolding left settle
-  going = ap (λ (es : List Peer). peering es) (map-same (settled p.peers staying) staying same-peer)
-    where
-      peering : List Peer → Peering
-      peering es = record { peers = es; next = p.next }
+    pub going : left (among them) p ≡ record { peers = staying; next = p.next }
+    unfolding left settle
+    going =
+        ap (λ (es : List Peer). peering es)
+        (map-same (settled p.peers staying) staying (λ e at. ap (λ m. record { mount = e.mount; state = with_master e.state m }) (heir-stays p.peers staying e.state.master (λ g is. keeps-member e g at is))))
+      where
+        peering : List Peer → Peering
+        peering es = record { peers = es; next = p.next }

@@ -30,5 +30,8 @@ pub mod ChosenLaws
 pub mod FoundLaws
 pub mod RelistLaws
 pub mod GoingLaws
+pub mod LiveLaws
+pub mod EachLaws
+pub mod LocalLaws
 pub mod SinceLaws
 pub mod FollowLaws

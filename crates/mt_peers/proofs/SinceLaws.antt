@@ -1,5 +1,5 @@
 -- The mounts that a change does not note have the state that they had.
-use Rattle.std.proofs.Common.{◌≡◌, ◌≢◌, ℕ, Bool, true, false, cond, not, ◌||◌, eqb, List, [], ◌∷◌, ◌++◌, map, Option, Some, refl, sym, ap, ◌∙◌, arith}
+use Rattle.std.proofs.Common.{◌≡◌, ◌≢◌, ℕ, Bool, true, false, cond, not, ◌||◌, eqb, List, [], ◌∷◌, ◌++◌, map, Option, Some, refl, sym, ap, ◌∙◌, subst, arith}
 use Rattle.std.specs.List.{filter}
 use Rattle.std.specs.Option.{option_map}
 use Rattle.std.proofs.lemmas.Bool.{false≢true, ne_eqb}
@@ -14,7 +14,7 @@ use Rattle.mt_peers.specs.declared.state.State.{State}
 use Rattle.mt_peers.specs.declared.entries.Entry.{Entry}
 use Rattle.mt_peers.specs.Peers.{Peer, mount_of, state_at, with_state}
 use Rattle.mt_peers.specs.Entries.{now_peer, was_peer, now_peers, was_peers, differs, is_changed, noted_of}
-use Rattle.mt_peers.specs.Listed.{IsListed, IsKept}
+use Rattle.mt_peers.specs.Listed.{IsListed, IsKept, MastersLive}
 use Rattle.mt_peers.proofs.ListedLaws.{listed-is}
 
 same_mark : (a b : Bool) → differs a b ≡ false → a ≡ b
@@ -23,7 +23,7 @@ same_mark true false e = absurd (false≢true (sym e))
 same_mark false true e = absurd (false≢true (sym e))
 same_mark false false e = refl
 
-same_state : (e : Entry) → is_changed e ≡ false → e.was ≡ e.state
+pub same_state : (e : Entry) → is_changed e ≡ false → e.was ≡ e.state
 same_state e h =
     let groups = first-false _ _ h in
     let g = same_of e.state.group e.was.group (sym (first-false _ _ groups)) in
@@ -114,6 +114,10 @@ but_left (e ∷ es) ids i h =
     left_first ids i e es (without (λ (x : Peer). among ids x.mount) es) h (but_left es ids i h) (among ids e.mount) refl (eqb i e.mount) refl
 
 -- what is kept where the rows and the IDs noted are as they are said to be
-pub kept-is : (es fs : List Peer) (members ms slaves ss : List ListRow) (since : List Peer) (noted : List ℕ) → es ≡ fs → members ≡ ms → slaves ≡ ss → IsListed fs ms ss → AreAlikeBut noted (state_at since) (state_at fs)
-    → IsKept es members slaves since noted
-kept-is es fs members ms slaves ss since noted e m s l k = record { listed = listed-is es fs members ms slaves ss e m s l; known = alike-as noted (state_at since) (state_at fs) (state_at es) k (λ i. ap (λ l. state_at l i) (sym e)) }
+pub kept-is : (es fs : List Peer) (members ms slaves ss : List ListRow) (since : List Peer) (noted : List ℕ) (live : Bool) → es ≡ fs → members ≡ ms → slaves ≡ ss → IsListed fs ms ss → AreAlikeBut noted (state_at since) (state_at fs)
+    → (live ≡ true → MastersLive fs) → IsKept es members slaves since noted live
+kept-is es fs members ms slaves ss since noted live e m s l k led = record {
+  listed = listed-is es fs members ms slaves ss e m s l;
+  known = alike-as noted (state_at since) (state_at fs) (state_at es) k (λ i. ap (λ l. state_at l i) (sym e));
+  led = λ t. subst MastersLive (sym e) (led t);
+}

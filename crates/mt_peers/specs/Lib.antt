@@ -6,6 +6,7 @@ pub mod WellFormed
 pub mod Entries
 pub mod Listed
 pub mod Going
+pub mod Few
 pub mod Above
 pub mod Coming
 pub mod Laws

@@ -1,12 +1,13 @@
 -- How `Peers` keep lists beside the states: of each group's members, and of each group's slaves. No public clause cites this
 -- module.
 -- A word with no source is this project's rule.
-use Rattle.std.specs.Prelude.{◌≡◌, ℕ, List, Option, IsTrue}
+use Rattle.std.specs.Prelude.{◌≡◌, ℕ, Bool, true, List, Option, Some, IsTrue}
 use Rattle.mt_skel.specs.Keyed.{rises}
 use Rattle.mt_lists.specs.Lists.{ListRow}
 use Rattle.mt_lists.specs.Numbered.{rows_by}
 use Rattle.mt_lists.specs.Log.{AreAlikeBut}
-use Rattle.mt_peers.specs.Peers.{Peer, mount_of, state_at}
+use Rattle.mt_peers.specs.declared.state.State.{State}
+use Rattle.mt_peers.specs.Peers.{Peer, mount_of, state_at, has_member}
 
 -- the number of a mount in the list of members
 abbrev pub group_of : Peer → Option ℕ
@@ -22,7 +23,12 @@ pub record IsListed (es : List Peer) (members slaves : List ListRow) : Type 0 wh
   pub members_told : members ≡ rows_by mount_of group_of es
   pub slaves_told : slaves ≡ rows_by mount_of leader_of es
 
--- both lists are those of the states, and each mount whose state is not as it was is noted
-pub record IsKept (es : List Peer) (members slaves : List ListRow) (since : List Peer) (noted : List ℕ) : Type 0 where
+-- each master has a member
+pub record MastersLive (es : List Peer) : Type 0 where
+  pub lives : (i : ℕ) (s : State) (g : ℕ) → state_at es i ≡ Some s → s.master ≡ Some g → has_member es g ≡ true
+
+-- both lists are those of the states, each mount whose state is not as it was is noted, and what is said of masters is so
+pub record IsKept (es : List Peer) (members slaves : List ListRow) (since : List Peer) (noted : List ℕ) (live : Bool) : Type 0 where
   pub listed : IsListed es members slaves
   pub known : AreAlikeBut noted (state_at since) (state_at es)
+  pub led : live ≡ true → MastersLive es

@@ -1,5 +1,5 @@
 //! The mounts that a change chooses.
-ghost use Rattle.std.specs.Prelude.{◌≡◌};
+ghost use Rattle.std.specs.Prelude.{◌≡◌, IsTrue};
 ghost use Rattle.std.specs.List.Sorted.{IsNonDecreasing};
 ghost use Rattle.mt_skel.specs.Keyed.{among};
 
@@ -44,6 +44,13 @@ impl<'a> Chosen<'a> {
     {
         let sorted = ids.is_sorted();
         Chosen { ids, sorted }
+    }
+
+    /// Whether it is known that none of them is below the one before it.
+    pub(crate) fn is_sorted(&self) -> bool
+        ensures { IsTrue result → IsNonDecreasing self.now }
+    {
+        self.sorted
     }
 
     /// Whether an ID is one of these.

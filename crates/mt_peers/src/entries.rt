@@ -107,7 +107,7 @@ pub(crate) fn drop_entries(entries: &mut Vec<Entry>, ids: &Chosen<'_>)
 }
 
 /// The state after a change. A mount without group would get the group `fresh`.
-fn state_after(kind: Kind, fresh: GroupId, state: State) -> State
+pub(crate) fn state_after(kind: Kind, fresh: GroupId, state: State) -> State
     ensures { result ≡ changed kind fresh state }
 {
     match kind {
@@ -151,7 +151,7 @@ fn entry_after(kind: Kind, chosen: bool, fresh: GroupId, entry: &Entry) -> Entry
 }
 
 /// The next new group after a mount's change, which may have taken `fresh`.
-fn fresh_after(kind: Kind, chosen: bool, fresh: GroupId, was: &State) -> GroupId
+pub(crate) fn fresh_after(kind: Kind, chosen: bool, fresh: GroupId, was: &State) -> GroupId
     requires numbered { IsTrue (is_shared kind) → fresh + 1 < 2 ^ 64 }
     ensures { result ≡ cond (is_shared kind && (chosen && is_none was.now.group)) (fresh + 1) fresh }
 {

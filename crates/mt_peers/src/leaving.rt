@@ -6,11 +6,11 @@ ghost use Rattle.mt_lists.specs.Lists.{first, ids, names};
 ghost use Rattle.mt_peers.specs.Peers.{mount_of};
 ghost use Rattle.mt_peers.specs.Entries.{now_peers};
 ghost use Rattle.mt_peers.specs.Listed.{IsListed};
-ghost use Rattle.mt_peers.specs.Going.{stays, may_go};
+ghost use Rattle.mt_peers.specs.Going.{stays, may_go, keeps, loses_none};
 
 use crate::chosen::Chosen;
 use crate::entries::{Entry, drop_entries, drop_entry};
-use crate::state::GroupId;
+use crate::state::{GroupId, Kind};
 use mt_lists::lists::Lists;
 use mt_mounts::mount::MountId;
 
@@ -77,6 +77,49 @@ pub(crate) fn may_all_go(
         }
     }
     true
+}
+
+/// Whether the group that a mount loses keeps a member. It is asked of the first member of a group alone.
+fn keeps(members: &Lists, id: MountId, lost: &Chosen<'_>) -> bool
+    ensures { result ≡ keeps members.now.rows (among lost.now) id }
+{
+    let Some(group) = members.number(id) else {
+        return true;
+    };
+    if !is_first(members, group, id) {
+        return true;
+    }
+    any_stays(members, group, lost)
+}
+
+/// Whether each group that these mounts lose keeps a member.
+fn all_keep(members: &Lists, ids: &[MountId], lost: &Chosen<'_>) -> bool
+    ensures { result ≡ list_all (keeps members.now.rows (among lost.now)) ids.now }
+{
+    for id in ids {
+        if !keeps(members, *id, lost) {
+            return false;
+        }
+    }
+    true
+}
+
+/// Whether each group that is a master keeps a member when these mounts are made so.
+pub(crate) fn loses_none(
+    members: &Lists,
+    slaves: &Lists,
+    ids: &[MountId],
+    chosen: &Chosen<'_>,
+    kind: Kind,
+) -> bool
+    ensures { result ≡ loses_none kind members.now.rows slaves.now.rows (among chosen.now) ids.now }
+{
+    match kind {
+        Kind::Shared => true,
+        Kind::Slave => all_keep(members, ids, chosen),
+        Kind::Private => may_all_go(members, slaves, ids, chosen),
+        Kind::Unbindable => may_all_go(members, slaves, ids, chosen),
+    }
 }
 
 /// Takes these mounts, as far as they are there, out of lists.

@@ -16,7 +16,7 @@ fn differs(left: bool, right: bool) -> bool
 }
 
 /// Whether a mount's state is not the one that it had when the last change began.
-fn is_changed(entry: &Entry) -> bool
+pub(crate) fn is_changed(entry: &Entry) -> bool
     ensures { result ≡ is_changed entry.now }
 {
     entry.state.group != entry.was.group

@@ -1,5 +1,6 @@
 //! A change of many mounts at once: their states, their masters, and both lists after them.
-ghost use Rattle.std.specs.Prelude.{◌≡◌, List, ◌+◌, ◌<◌, ◌≤◌, ◌^◌, map, length, IsTrue};
+ghost use Rattle.std.specs.Prelude.{◌≡◌, List, ◌+◌, ◌<◌, ◌≤◌, ◌^◌, map, length, true, ◌&&◌, IsTrue};
+ghost use Rattle.std.specs.Option.{option_map_or};
 ghost use Rattle.indexmap.specs.IndexMap.{spare};
 ghost use Rattle.mt_skel.specs.Keyed.{rises, among};
 ghost use Rattle.mt_lists.specs.Numbered.{rows_by};
@@ -22,6 +23,19 @@ pub(crate) fn lives(members: &Lists, group: GroupId) -> bool
     ensures { (es : List Peer) → members.now.rows ≡ rows_by mount_of group_of es → result ≡ has_member es group }
 {
     members.count(group) > 0
+}
+
+/// Whether it is known that each master has a member, once a mount has this one.
+pub(crate) fn all_led(live: bool, members: &Lists, master: Option<GroupId>) -> bool
+    ensures { (es : List Peer) → members.now.rows ≡ rows_by mount_of group_of es → result ≡ (live && option_map_or (has_member es) master true) }
+{
+    if !live {
+        return false;
+    }
+    match master {
+        Some(group) => lives(members, group),
+        None => true,
+    }
 }
 
 /// A master, and the one that a slave of it gets.

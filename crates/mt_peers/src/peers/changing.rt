@@ -20,8 +20,8 @@ use mt_mounts::mount::MountId;
 use mt_skel::fault::Fault;
 
 impl Peers {
-    /// Makes these mounts so. Only new groups need numbers.
-    fn change(&mut self, ids: &[MountId], kind: Kind)
+    /// Makes these mounts so, whatever becomes of masters: it goes over all states.
+    fn change_all(&mut self, ids: &[MountId], kind: Kind)
         requires room { length self.old.peers ≤ self.old.room }
         requires numbered { IsTrue (is_shared kind) → self.old.next < 2 ^ 63 }
         ensures made { peering_of self.new ≡ made kind (among ids.now) (peering_of self.old) }
@@ -41,6 +41,24 @@ impl Peers {
         );
         note_changes(&self.entries, &Chosen::new(&[]), &mut self.log);
         self.next = next;
+        self.masters_live = true;
+    }
+
+    /// Makes these mounts so. Only new groups need numbers.
+    fn change(&mut self, ids: &[MountId], kind: Kind)
+        requires room { length self.old.peers ≤ self.old.room }
+        requires numbered { IsTrue (is_shared kind) → self.old.next < 2 ^ 63 }
+        ensures made { peering_of self.new ≡ made kind (among ids.now) (peering_of self.old) }
+        ensures since { self.new.since ≡ self.old.since }
+        ensures room { self.old.room ≤ self.new.room + length self.old.peers }
+        ensures kept { IsPeering (peering_of self.old) → IsPeering (peering_of self.new) }
+    {
+        let _alloc = self.allocator();
+        if !self.is_local(ids, kind) {
+            return self.change_all(ids, kind);
+        }
+        self.change_each(ids, kind);
+        self.masters_live = true;
     }
 
     /// Makes a mount shared, private, a slave or unbindable. An ID that is not there changes nothing. It
@@ -104,6 +122,7 @@ impl Peers {
         self.next = next;
         note_changes(&self.entries, &gone, &mut self.log);
         drop_all(&mut self.entries, ids);
+        self.masters_live = true;
     }
 
     /// Takes these mounts away, and settles no master. There is room to note as many.
@@ -116,6 +135,7 @@ impl Peers {
     {
         take_out(&mut self.entries, &mut self.members, &mut self.slaves, ids);
         note_all(ids, &mut self.log);
+        self.masters_live = false;
     }
 
     /// Takes mounts away as [`leave_all`](Peers::leave_all) does, where groups and masters are in order: then
@@ -134,6 +154,7 @@ impl Peers {
         }
         if may_all_go(&self.members, &self.slaves, ids, &Chosen::new(ids)) {
             self.take_away(ids);
+            self.masters_live = true;
         } else {
             self.leave_all(ids);
         }
@@ -155,6 +176,7 @@ impl Peers {
         follow_lists(&mut self.members, &mut self.slaves, &other.entries, ids);
         follow_entries(&mut self.entries, &other.entries, ids);
         self.next = other.next;
+        self.masters_live = other.masters_live;
         self.log.clear();
         self.since = Earlier::of(&self.entries);
         Ok(())

@@ -1,8 +1,9 @@
-use Rattle.std.proofs.Common.{List, ap, ◌∙◌}
+use Rattle.std.proofs.Common.{List, sym, ap, ◌∙◌, subst}
 use Rattle.mt_lists.specs.Log.{earlier}
 use Rattle.mt_peers.specs.declared.entries.Entry.{Entry}
 use Rattle.mt_peers.specs.Peers.{Peering, PeersView, state_at}
 use Rattle.mt_peers.specs.Members.{group_at, master_at}
+use Rattle.mt_peers.specs.Listed.{MastersLive}
 use Rattle.mt_peers.specs.Entries.{now_peers}
 use Rattle.mt_peers.proofs.FollowLaws.{alike_is, groups_alike, masters_alike, listed_as}
 use Rattle.mt_peers.proofs.peers.Peers.follow.Goals as goal
@@ -33,4 +34,5 @@ invariant_of-self-2 c = record {
       (c.follow_lists.ensures.members.0, λ i. c.follow_lists.ensures.members.1 i ∙ ap (λ (es : List Entry). group_at (now_peers es) i) c.deref.ensures.value)
       (c.follow_lists.ensures.slaves.0, λ i. c.follow_lists.ensures.slaves.1 i ∙ ap (λ (es : List Entry). master_at (now_peers es) i) c.deref.ensures.value);
   known = λ i n. ap (λ l. state_at (earlier l (λ v. now_peers v.items)) i) c.of-self-inside.ensures;
+  led = λ t. subst MastersLive (sym (c.follow_entries.ensures.peers ∙ ap now_peers c.deref-2.ensures.value)) (c.other.invariant.led t);
 }

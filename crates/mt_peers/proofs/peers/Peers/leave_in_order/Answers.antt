@@ -4,9 +4,11 @@ use Rattle.mt_skel.specs.Keyed.{among}
 use Rattle.mt_peers.specs.Peers.{Peer, Peering, PeersView, peering_of}
 use Rattle.mt_peers.specs.Loss.{left}
 use Rattle.mt_peers.specs.WellFormed.{IsPeering}
+use Rattle.mt_peers.specs.Listed.{MastersLive}
 use Rattle.mt_peers.specs.Entries.{now_peers}
 use Rattle.mt_peers.specs.Going.{may_go}
 use Rattle.mt_peers.proofs.LeavingLaws.{left-IsPeering}
+use Rattle.mt_peers.proofs.LiveLaws.{left-live}
 use Rattle.mt_peers.proofs.ListedLaws.{listed-is}
 use Rattle.mt_peers.proofs.GoingLaws.{going}
 use Rattle.mt_peers.proofs.peers.Peers.leave_in_order.Goals as goal
@@ -15,7 +17,10 @@ use Rattle.mt_peers.proofs.peers.Peers.leave_in_order.Goals as goal
 abbrev peering : List Peer → ℕ → Peering
 peering es n = record { peers = es; next = n }
 
-is_left : (c : goal.After-take_away) → peering_of c.take_away.new.self ≡ left (among c.args.ids.now) (peering_of c.args.self.now)
+in_order : {p : Peering} → IsPeering p → MastersLive p.peers
+in_order h = record { lives = h.master_lives }
+
+is_left : (c : goal.After-self-1) → peering_of c.take_away.new.self ≡ left (among c.args.ids.now) (peering_of c.args.self.now)
 is_left c =
     let ok =
     ap (λ (t : List ℕ). list_all (may_go c.self.inside.members.rows c.self.inside.slaves.rows (among t)) c.args.ids.now) (sym c.new.ensures)
@@ -24,10 +29,17 @@ is_left c =
     listed-is c.args.self.now.peers (now_peers c.self.inside.entries.items) _ _ _ _ (ap (λ (s : PeersView). s.peers) (sym c.self.view_is)) refl refl c.self.invariant.listed in
     ap (λ (es : List Peer). peering es c.take_away.new.self.next) c.take_away.ensures.peers
     ∙ ap (λ (n : ℕ). peering (filter (λ (e : Peer). not (among c.args.ids.now e.mount)) c.args.self.now.peers) n) c.take_away.ensures.next
-    ∙ sym (going (peering_of c.args.self.now) c.requires.order c.args.ids.now c.self.inside.members.rows c.self.inside.slaves.rows listed ok)
+    ∙ sym (going (peering_of c.args.self.now) (in_order c.requires.order) c.args.ids.now c.self.inside.members.rows c.self.inside.slaves.rows listed ok)
+
+pub invariant_of-self : goal.invariant_of-self
+invariant_of-self c = record {
+  listed = c.self-then-may_all_go.invariant.listed;
+  known = c.self-then-may_all_go.invariant.known;
+  led = λ t. subst MastersLive (sym (ap (λ (s : PeersView). s.peers) c.self-then-may_all_go.view_is ∙ ap (λ (p : Peering). p.peers) (is_left c))) (left-live (among c.args.ids.now) (peering_of c.args.self.now));
+}
 
 pub returns-then-may_all_go-clause-left : goal.returns-then-may_all_go-clause-left
-returns-then-may_all_go-clause-left c = is_left c
+returns-then-may_all_go-clause-left c = ap peering_of c.self-then-may_all_go.view_is ∙ is_left c
 
 pub returns-then-may_all_go-clause-kept : goal.returns-then-may_all_go-clause-kept
-returns-then-may_all_go-clause-kept c = subst IsPeering (sym (is_left c)) (left-IsPeering (peering_of c.args.self.now) c.requires.order (among c.args.ids.now))
+returns-then-may_all_go-clause-kept c = subst IsPeering (sym (ap peering_of c.self-then-may_all_go.view_is ∙ is_left c)) (left-IsPeering (peering_of c.args.self.now) c.requires.order (among c.args.ids.now))

@@ -1,4 +1,5 @@
 use Rattle.std.proofs.Common.{sym, ap}
+use Rattle.std.proofs.lemmas.Bool.{false≢true}
 use Rattle.mt_skel.specs.Keyed.{among, without}
 use Rattle.mt_lists.proofs.LogLaws.{alike-noted, alike-as}
 use Rattle.mt_lists.specs.Log.{earlier}
@@ -20,4 +21,5 @@ invariant_of-self c =
           alike-as c.note_all.new.log.ids (state_at since) (state_at rest) (state_at new)
           (alike-noted c.self.inside.log.ids ids c.note_all.new.log.ids (state_at since) (state_at es) (state_at rest) c.note_all.ensures.ids c.self.invariant.known (but_left es ids))
           (λ i. ap (λ l. state_at l i) (sym c.take_out.ensures.peers));
+      led = λ t. absurd (false≢true t);
     }

@@ -1,0 +1,309 @@
+-- Mounts that are changed one after the other, and no master settled.
+use Rattle.std.proofs.Common.{◌≡◌, ◌≢◌, ℕ, zero, suc, ◌+◌, ◌<◌, ◌≤◌, Bool, true, false, cond, ◌&&◌, ◌||◌, eqb, eqb-true, ltb, List, [], ◌∷◌, ◌++◌, map, drop, length, length-append, length-drop, get_or, get_or-drop, Option, Some, None, refl, sym, ap, ap₂, ◌∙◌, subst, inl, inr, arith}
+use Rattle.std.specs.Prelude.{nat_eq, nat_lt}
+use Rattle.std.specs.List.{filter, list_any, list_all, position_or_len}
+use Rattle.std.specs.List.Sorted.{IsNonDecreasing}
+use Rattle.std.specs.Option.{option_map, option_or, is_none, is_some}
+use Rattle.std.proofs.lemmas.Bool.Decides.{nat_tests}
+use Rattle.std.proofs.lemmas.List.{drop_more, drop_all}
+use Rattle.mt_skel.specs.Keyed.{row_at, rises, numbered, among}
+use Rattle.mt_skel.proofs.KeyedLaws.{rises-map}
+use Rattle.mt_skel.proofs.ElementLaws.{In, in_row}
+use Rattle.mt_peers.specs.declared.state.State.{State}
+use Rattle.mt_peers.specs.declared.state.Kind.{Kind}
+use Rattle.mt_peers.specs.declared.state.Kind.TheVariants.{Shared, Private, Slave, Unbindable}
+use Rattle.mt_peers.specs.Peers.{Peer, Peering, mount_of, state_at, with_state}
+use Rattle.mt_peers.specs.Making.{changed, changed_peer, is_shared, groupless, new_group}
+use Rattle.mt_peers.specs.Few.{unsettled}
+use Rattle.mt_peers.proofs.MemberLaws.{some-is}
+use Rattle.mt_peers.proofs.ChangeLaws.{same_change}
+use Rattle.mt_peers.proofs.MakingLaws.{among_groupless}
+
+same-number : (n : ℕ) → eqb n n ≡ true
+same-number n = grind (arith, nat_tests)
+
+-- two changes that agree at each mount of the list
+pub map-alike : (f g : Peer → Peer) (es : List Peer) → ((e : Peer) → In e es → f e ≡ g e) → map f es ≡ map g es
+map-alike f g [] same = refl
+map-alike f g (x ∷ es) same = ap₂ (λ (y : Peer) (t : List Peer). y ∷ t) (same x (inl refl)) (map-alike f g es (λ e at. same e (inr at)))
+
+map-twice : (f g : Peer → Peer) (es : List Peer) → map f (map g es) ≡ map (λ e. f (g e)) es
+map-twice f g [] = refl
+map-twice f g (x ∷ es) = ap (λ t. f (g x) ∷ t) (map-twice f g es)
+
+map-none : (f : Peer → Peer) (es : List Peer) → ((e : Peer) → In e es → f e ≡ e) → map f es ≡ es
+map-none f [] same = refl
+map-none f (x ∷ es) same = ap₂ (λ (y : Peer) (t : List Peer). y ∷ t) (same x (inl refl)) (map-none f es (λ e at. same e (inr at)))
+
+pub state-in : (es : List Peer) (e : Peer) → rises mount_of es ≡ true → In e es → state_at es e.mount ≡ Some e.state
+state-in es e up at = ap (option_map (λ (e : Peer). e.state)) (in_row mount_of es e up at)
+
+-- where a number stands in two lists, one behind the other
+place-front : (m : ℕ) (xs ys : List ℕ) → list_any (eqb m) xs ≡ true → position_or_len (nat_eq m) (xs ++ ys) ≡ position_or_len (nat_eq m) xs
+place-front m [] ys h = absurd (cc)
+place-front m (x ∷ xs) ys h = let ih = place-front m xs ys in grind (arith, nat_tests)
+
+place-back : (m : ℕ) (xs ys : List ℕ) → list_any (eqb m) xs ≡ false → position_or_len (nat_eq m) (xs ++ ys) ≡ length xs + position_or_len (nat_eq m) ys
+place-back m [] ys h = omega arith
+place-back m (x ∷ xs) ys h = let ih = place-back m xs ys in grind (arith, nat_tests)
+
+-- a mount that was made shared has a group, and to be made so again changes nothing
+gets-group : (k : Kind) (n : ℕ) (s : State) → is_shared k ≡ true → is_none (changed k n s).group ≡ false
+gets-group Shared n s sh = elim s.group as (λ o. is_none (option_or o (Some n)) ≡ false) [ None ↦ refl | Some g ↦ refl ]
+gets-group Private n s sh = absurd (cc)
+gets-group Slave n s sh = absurd (cc)
+gets-group Unbindable n s sh = absurd (cc)
+
+again : (k : Kind) (m n : ℕ) (s : State) → changed k m (changed k n s) ≡ changed k n s
+again Shared m n s = ap (λ (o : Option ℕ). record { group = o; master = s.master; unbindable = false }) (elim s.group as (λ o. option_or (option_or o (Some n)) (Some m) ≡ option_or o (Some n)) [ None ↦ refl | Some g ↦ refl ])
+again Private m n s = refl
+again Slave m n s = refl
+again Unbindable m n s = refl
+
+-- one mount alone
+module _ (x : ℕ) where
+  above-none : (n : ℕ) (es : List Peer) → x ≤ n → list_all (λ y. ltb n (mount_of y)) es ≡ true → groupless (nat_eq x) es ≡ []
+  above-none n [] l h = refl
+  above-none n (e ∷ es) l h =
+      let off : eqb x e.mount ≡ false = grind (arith, nat_tests) in
+      let rest : list_all (λ y. ltb n (mount_of y)) es ≡ true = grind (arith, nat_tests) in
+      ap (λ b. map mount_of (cond (b && is_none e.state.group) (e ∷ filter (λ e. eqb x e.mount && is_none e.state.group) es) (filter (λ e. eqb x e.mount && is_none e.state.group) es))) off ∙ above-none n es l rest
+
+  place-zero : (es : List Peer) → position_or_len (nat_eq x) (groupless (nat_eq x) es) ≡ 0
+  place-zero [] = refl
+  place-zero (e ∷ es) = go (eqb x e.mount) refl (is_none e.state.group) (place-zero es)
+    where
+      go : (a : Bool) → eqb x e.mount ≡ a → (c : Bool) → position_or_len (nat_eq x) (groupless (nat_eq x) es) ≡ 0
+          → position_or_len (nat_eq x) (map mount_of (cond (a && c) (e ∷ filter (λ e. eqb x e.mount && is_none e.state.group) es) (filter (λ e. eqb x e.mount && is_none e.state.group) es))) ≡ 0
+      go true is true ih = rw is refl
+      go true is false ih = ih
+      go false is c ih = ih
+
+  place-other : (m : ℕ) (es : List Peer) → eqb x m ≡ false → list_any (eqb m) (groupless (nat_eq x) es) ≡ false
+  place-other m [] off = refl
+  place-other m (e ∷ es) off = go (eqb x e.mount) refl (is_none e.state.group) (place-other m es off)
+    where
+      go : (a : Bool) → eqb x e.mount ≡ a → (c : Bool) → list_any (eqb m) (groupless (nat_eq x) es) ≡ false
+          → list_any (eqb m) (map mount_of (cond (a && c) (e ∷ filter (λ e. eqb x e.mount && is_none e.state.group) es) (filter (λ e. eqb x e.mount && is_none e.state.group) es))) ≡ false
+      go true is true ih = let other : eqb m e.mount ≡ false = grind (arith, nat_tests) in ap (λ b. b || list_any (eqb m) (groupless (nat_eq x) es)) other ∙ ih
+      go true is false ih = ih
+      go false is c ih = ih
+
+  count-one : (es : List Peer) (s : State) → rises mount_of es ≡ true → state_at es x ≡ Some s → length (groupless (nat_eq x) es) ≡ cond (is_none s.group) 1 0
+  count-one [] s up at = absurd (cc)
+  count-one (e ∷ es) s up at = go (eqb x e.mount) refl at (λ a. count-one es s (grind (arith, nat_tests)) a)
+    where
+      above : eqb x e.mount ≡ true → groupless (nat_eq x) es ≡ []
+      above is = above-none e.mount es (grind (arith, nat_tests)) (grind (arith, nat_tests))
+
+      go : (a : Bool) → eqb x e.mount ≡ a → option_map (λ (e : Peer). e.state) (cond a (Some e) (row_at mount_of x es)) ≡ Some s
+          → (state_at es x ≡ Some s → length (groupless (nat_eq x) es) ≡ cond (is_none s.group) 1 0)
+          → length (map mount_of (cond (a && is_none e.state.group) (e ∷ filter (λ e. eqb x e.mount && is_none e.state.group) es) (filter (λ e. eqb x e.mount && is_none e.state.group) es))) ≡ cond (is_none s.group) 1 0
+      go true is f ih =
+          let same : e.state ≡ s = some-is e.state s f in
+          by (is_none e.state.group) (above is) ∙ ap (λ (t : State). cond (is_none t.group) 1 0) same
+        where
+          by : (c : Bool) → groupless (nat_eq x) es ≡ []
+              → length (map mount_of (cond c (e ∷ filter (λ e. eqb x e.mount && is_none e.state.group) es) (filter (λ e. eqb x e.mount && is_none e.state.group) es))) ≡ cond c 1 0
+          by true none = ap (λ (t : List ℕ). suc (length t)) none
+          by false none = ap length none
+      go false is f ih = ih f
+
+  count-none : (es : List Peer) → state_at es x ≡ None → groupless (nat_eq x) es ≡ []
+  count-none [] at = refl
+  count-none (e ∷ es) at = go (eqb x e.mount) at (count-none es)
+    where
+      go : (a : Bool) → option_map (λ (e : Peer). e.state) (cond a (Some e) (row_at mount_of x es)) ≡ None → (state_at es x ≡ None → groupless (nat_eq x) es ≡ [])
+          → map mount_of (cond (a && is_none e.state.group) (e ∷ filter (λ e. eqb x e.mount && is_none e.state.group) es) (filter (λ e. eqb x e.mount && is_none e.state.group) es)) ≡ []
+      go true f ih = absurd (cc)
+      go false f ih = ih f
+
+abbrev pub peering : List Peer → ℕ → Peering
+peering es n = record { peers = es; next = n }
+
+-- what is made of one mount
+module _ (k : Kind) (x : ℕ) (p : Peering) (up : rises mount_of p.peers ≡ true) where
+  pub made-absent : state_at p.peers x ≡ None → p ≡ unsettled k (nat_eq x) p
+  made-absent none =
+      ap (λ (es : List Peer). peering es p.next) (sym (map-none (changed_peer k (nat_eq x) p) p.peers same))
+      ∙ ap (peering (map (changed_peer k (nat_eq x) p) p.peers)) (count (is_shared k) ∙ ap (λ (xs : List ℕ). cond (is_shared k) (p.next + length xs) p.next) (sym (count-none x p.peers none)))
+    where
+      count : (b : Bool) → p.next ≡ cond b (p.next + 0) p.next
+      count true = omega arith
+      count false = refl
+
+      same : (e : Peer) → In e p.peers → changed_peer k (nat_eq x) p e ≡ e
+      same e at = ap (λ b. record { mount = e.mount; state = cond b (changed k (new_group (nat_eq x) p e.mount) e.state) e.state }) (off (eqb x e.mount) refl)
+        where
+          off : (b : Bool) → eqb x e.mount ≡ b → eqb x e.mount ≡ false
+          off true is = absurd (let there = state-in p.peers e up at in let here = ap (state_at p.peers) (eqb-true x e.mount is) in let c : Some e.state ≡ None = sym there ∙ sym here ∙ none in cc)
+          off false is = is
+
+  pub made-one : (s : State) → state_at p.peers x ≡ Some s
+      → peering (with_state x (changed k p.next s) p.peers) (cond (is_shared k && (true && is_none s.group)) (p.next + 1) p.next) ≡ unsettled k (nat_eq x) p
+  made-one s there =
+      ap (λ (es : List Peer). peering es (cond (is_shared k && (true && is_none s.group)) (p.next + 1) p.next)) (map-alike (λ (e : Peer). record e { state = cond (eqb x e.mount) (changed k p.next s) e.state }) (changed_peer k (nat_eq x) p) p.peers same)
+      ∙ ap (peering (map (changed_peer k (nat_eq x) p) p.peers)) (count (is_shared k) (is_none s.group) ∙ ap (λ (n : ℕ). cond (is_shared k) (p.next + n) p.next) (sym (count-one x p.peers s up there)))
+    where
+      count : (a b : Bool) → cond (a && (true && b)) (p.next + 1) p.next ≡ cond a (p.next + cond b 1 0) p.next
+      count true true = refl
+      count true false = omega arith
+      count false b = refl
+
+      number : (m : ℕ) → eqb x m ≡ true → p.next ≡ new_group (nat_eq x) p m
+      number m is = let zero_at = place-zero x p.peers in subst (λ j. p.next ≡ p.next + position_or_len (nat_eq j) (groupless (nat_eq x) p.peers)) (eqb-true x m is) (omega (arith, zero_at))
+
+      same : (e : Peer) → In e p.peers → ◌≡◌ {A = Peer} (record { mount = e.mount; state = cond (eqb x e.mount) (changed k p.next s) e.state }) (changed_peer k (nat_eq x) p e)
+      same e at = ap (λ (t : State). record { mount = e.mount; state = t }) (go (eqb x e.mount) refl)
+        where
+          go : (b : Bool) → eqb x e.mount ≡ b → cond b (changed k p.next s) e.state ≡ cond b (changed k (new_group (nat_eq x) p e.mount) e.state) e.state
+          go true is =
+              let mine : s ≡ e.state = some-is s e.state (sym there ∙ ap (state_at p.peers) (eqb-true x e.mount is) ∙ state-in p.peers e up at) in
+              ap (changed k p.next) mine ∙ ap (λ (n : ℕ). changed k n e.state) (number e.mount is)
+          go false is = refl
+
+-- a mount gets the state that it has
+pub given-same : (x : ℕ) (s : State) (es : List Peer) → rises mount_of es ≡ true → state_at es x ≡ Some s → with_state x s es ≡ es
+given-same x s es up there = map-none (λ (e : Peer). record e { state = cond (eqb x e.mount) s e.state }) es same
+  where
+    same : (e : Peer) → In e es → ◌≡◌ {A = Peer} (record { mount = e.mount; state = cond (eqb x e.mount) s e.state }) e
+    same e at = ap (λ (t : State). record { mount = e.mount; state = t }) (go (eqb x e.mount) refl)
+      where
+        go : (b : Bool) → eqb x e.mount ≡ b → cond b s e.state ≡ e.state
+        go true is = some-is s e.state (sym there ∙ ap (state_at es) (eqb-true x e.mount is) ∙ state-in es e up at)
+        go false is = refl
+
+-- those that are counted of a list, where one of them gets a group
+split-step : (a b c : Bool) (e f : Peer) (both mine theirs : List Peer) → f.mount ≡ e.mount
+    → (a ≡ true → is_none f.state.group ≡ false) → (a ≡ false → is_none f.state.group ≡ c) → (a ≡ false → b ≡ true → map mount_of mine ≡ [])
+    → map mount_of both ≡ map mount_of mine ++ map mount_of theirs
+    → map mount_of (cond ((a || b) && c) (e ∷ both) both) ≡ map mount_of (cond (a && c) (e ∷ mine) mine) ++ map mount_of (cond (b && is_none f.state.group) (f ∷ theirs) theirs)
+split-step true b c e f both mine theirs m g h none ih = by c ∙ ap (λ d. map mount_of (cond c (e ∷ mine) mine) ++ map mount_of (cond d (f ∷ theirs) theirs)) (sym (off b))
+  where
+    off : (b : Bool) → (b && is_none f.state.group) ≡ false
+    off true = g refl
+    off false = refl
+
+    by : (c : Bool) → map mount_of (cond c (e ∷ both) both) ≡ map mount_of (cond c (e ∷ mine) mine) ++ map mount_of theirs
+    by true = ap (λ t. e.mount ∷ t) ih
+    by false = ih
+split-step false true c e f both mine theirs m g h none ih = by c ∙ ap (λ d. map mount_of mine ++ map mount_of (cond d (f ∷ theirs) theirs)) (sym (h refl))
+  where
+    gone : map mount_of mine ≡ []
+    gone = none refl refl
+
+    by : (c : Bool) → map mount_of (cond c (e ∷ both) both) ≡ map mount_of mine ++ map mount_of (cond c (f ∷ theirs) theirs)
+    by true = ap (λ t. e.mount ∷ t) (ih ∙ ap (λ t. t ++ map mount_of theirs) gone) ∙ ap (λ j. j ∷ map mount_of theirs) (sym m) ∙ ap (λ t. t ++ (f.mount ∷ map mount_of theirs)) (sym gone)
+    by false = ih
+split-step false false c e f both mine theirs m g h none ih = ih
+
+-- first one mount, and then those that are not below it
+module _ (k : Kind) (x : ℕ) (rest : List ℕ) (low : (i : ℕ) → among rest i ≡ true → x ≤ i) where
+  -- a mount once the first is changed, where it would get the number n
+  abbrev first_of : (ℕ → ℕ) → Peer → Peer
+  first_of n e = record { mount = e.mount; state = cond (eqb x e.mount) (changed k (n e.mount) e.state) e.state }
+
+  split : (n : ℕ → ℕ) (es : List Peer) → rises mount_of es ≡ true → is_shared k ≡ true
+      → groupless (among (x ∷ rest)) es ≡ groupless (nat_eq x) es ++ groupless (among rest) (map (first_of n) es)
+  split n [] up sh = refl
+  split n (e ∷ es) up sh =
+      split-step (eqb x e.mount) (among rest e.mount) (is_none e.state.group) e (first_of n e)
+      (filter (λ (e : Peer). among (x ∷ rest) e.mount && is_none e.state.group) es)
+      (filter (λ (e : Peer). eqb x e.mount && is_none e.state.group) es)
+      (filter (λ (e : Peer). among rest e.mount && is_none e.state.group) (map (first_of n) es))
+      refl
+      (λ is. ap (λ b. is_none (cond b (changed k (n e.mount) e.state) e.state).group) is ∙ gets-group k (n e.mount) e.state sh)
+      (λ is. ap (λ b. is_none (cond b (changed k (n e.mount) e.state) e.state).group) is)
+      (λ off at. let l = low e.mount at in above-none x e.mount es l (grind (arith, nat_tests)))
+      (split n es (grind (arith, nat_tests)) sh)
+
+  module _ (p : Peering) (up : rises mount_of p.peers ≡ true) where
+    abbrev front : List ℕ
+    front = groupless (nat_eq x) p.peers
+
+    abbrev back : List ℕ
+    back = groupless (among rest) (map (changed_peer k (nat_eq x) p) p.peers)
+
+    parts : is_shared k ≡ true → groupless (among (x ∷ rest)) p.peers ≡ front ++ back
+    parts sh = split (new_group (nat_eq x) p) p.peers up sh
+
+    -- the number of the first
+    number-first : (e : Peer) → In e p.peers → eqb x e.mount ≡ true → is_shared k ≡ true → is_none e.state.group ≡ true → new_group (nat_eq x) p e.mount ≡ new_group (among (x ∷ rest)) p e.mount
+    number-first e at is sh alone =
+        let there = among_groupless (nat_eq x) p.peers e.mount e.state (state-in p.peers e up at) is (none-is e.state.group alone) in
+        ap (λ n. p.next + n) (sym (place-front e.mount front back there)) ∙ ap (λ (xs : List ℕ). p.next + position_or_len (nat_eq e.mount) xs) (sym (parts sh))
+      where
+        none-is : (o : Option ℕ) → is_none o ≡ true → o ≡ None
+        none-is None h = refl
+        none-is (Some g) h = absurd (cc)
+
+    -- the number of another
+    number-later : (m : ℕ) → eqb x m ≡ false → is_shared k ≡ true → new_group (among rest) (unsettled k (nat_eq x) p) m ≡ new_group (among (x ∷ rest)) p m
+    number-later m off sh =
+        let count : (unsettled k (nat_eq x) p).next ≡ p.next + length front = ap (λ b. cond b (p.next + length front) p.next) sh in
+        let behind = place-back m front back (place-other x m p.peers off) in
+        ap (λ n. n + position_or_len (nat_eq m) back) count
+        ∙ (omega (arith, behind))
+        ∙ ap (λ (xs : List ℕ). p.next + position_or_len (nat_eq m) xs) (sym (parts sh))
+
+    step-peer : (e : Peer) → In e p.peers → changed_peer k (among rest) (unsettled k (nat_eq x) p) (changed_peer k (nat_eq x) p e) ≡ changed_peer k (among (x ∷ rest)) p e
+    step-peer e at = ap (λ (s : State). record { mount = e.mount; state = s }) (go (eqb x e.mount) refl (among rest e.mount))
+      where
+        go : (a : Bool) → eqb x e.mount ≡ a → (b : Bool)
+            → cond b (changed k (new_group (among rest) (unsettled k (nat_eq x) p) e.mount) (cond a (changed k (new_group (nat_eq x) p e.mount) e.state) e.state)) (cond a (changed k (new_group (nat_eq x) p e.mount) e.state) e.state)
+            ≡ cond (a || b) (changed k (new_group (among (x ∷ rest)) p e.mount) e.state) e.state
+        go true is true = again k _ _ e.state ∙ same_change k _ _ e.state (number-first e at is)
+        go true is false = same_change k _ _ e.state (number-first e at is)
+        go false is true = same_change k _ _ e.state (λ sh alone. number-later e.mount is sh)
+        go false is false = refl
+
+    pub step : unsettled k (among rest) (unsettled k (nat_eq x) p) ≡ unsettled k (among (x ∷ rest)) p
+    step =
+        ap (λ (es : List Peer). peering es (unsettled k (among rest) (unsettled k (nat_eq x) p)).next)
+        (map-twice (changed_peer k (among rest) (unsettled k (nat_eq x) p)) (changed_peer k (nat_eq x) p) p.peers ∙ map-alike (λ e. changed_peer k (among rest) (unsettled k (nat_eq x) p) (changed_peer k (nat_eq x) p e)) (changed_peer k (among (x ∷ rest)) p) p.peers step-peer)
+        ∙ ap (peering (map (changed_peer k (among (x ∷ rest)) p) p.peers)) (count (is_shared k) refl)
+      where
+        count : (b : Bool) → is_shared k ≡ b
+            → cond b (cond b (p.next + length front) p.next + length back) (cond b (p.next + length front) p.next) ≡ cond b (p.next + length (groupless (among (x ∷ rest)) p.peers)) p.next
+        count true sh = let both = length-append front back in (omega (arith, both)) ∙ ap (λ (xs : List ℕ). p.next + length xs) (sym (parts sh))
+        count false sh = refl
+
+-- none below the first
+lowest : (x d : ℕ) (rest : List ℕ) → ((j : ℕ) → j < length rest → x ≤ get_or rest j d) → (i : ℕ) → among rest i ≡ true → x ≤ i
+lowest x d [] all i h = absurd (cc)
+lowest x d (y ∷ ys) all i h =
+    let first = all 0 (omega arith) in
+    let ih = lowest x d ys (λ j l. all (suc j) (omega (arith, l))) i in
+    grind (arith, nat_tests)
+
+low-drop : (ids : List ℕ) (i d : ℕ) → IsNonDecreasing ids → i < length ids → (j : ℕ) → among (drop (i + 1) ids) j ≡ true → get_or ids i d ≤ j
+low-drop ids i d up l =
+    lowest (get_or ids i d) d (drop (i + 1) ids)
+    (λ j k. let long = length-drop (i + 1) ids in let high = up i (i + 1 + j) d (omega arith) (omega (arith, k, long)) in subst (λ v. get_or ids i d ≤ v) (sym (get_or-drop (i + 1) ids j d)) high)
+
+pub each-step : (k : Kind) (ids : List ℕ) (i d : ℕ) (p q all : Peering) → IsNonDecreasing ids → i < length ids → rises mount_of p.peers ≡ true → q ≡ unsettled k (nat_eq (get_or ids i d)) p
+    → unsettled k (among (drop i ids)) p ≡ all → unsettled k (among (drop (i + 1) ids)) q ≡ all
+each-step k ids i d p q all sorted l up one told =
+    ap (unsettled k (among (drop (i + 1) ids))) one
+    ∙ step k (get_or ids i d) (drop (i + 1) ids) (low-drop ids i d sorted l) p up
+    ∙ ap (λ (t : List ℕ). unsettled k (among t) p) (sym (drop_more ids i d l))
+    ∙ told
+
+pub each-end : (k : Kind) (ids : List ℕ) (i : ℕ) (p : Peering) → length ids ≤ i → p ≡ unsettled k (among (drop i ids)) p
+each-end k ids i p l = none ∙ ap (λ (t : List ℕ). unsettled k (among t) p) (sym (drop_all i ids l))
+  where
+    nobody : (es : List Peer) → groupless (among []) es ≡ []
+    nobody [] = refl
+    nobody (e ∷ es) = nobody es
+
+    count : (b : Bool) → p.next ≡ cond b (p.next + 0) p.next
+    count true = omega arith
+    count false = refl
+
+    none : p ≡ unsettled k (among []) p
+    none =
+        ap (λ (es : List Peer). peering es p.next) (sym (map-none (changed_peer k (among []) p) p.peers (λ e at. refl)))
+        ∙ ap (peering (map (changed_peer k (among []) p) p.peers)) (count (is_shared k) ∙ ap (λ (xs : List ℕ). cond (is_shared k) (p.next + length xs) p.next) (sym (nobody p.peers)))
+
+pub each-rises : (k : Kind) (chosen : ℕ → Bool) (p q : Peering) → q ≡ unsettled k chosen p → rises mount_of p.peers ≡ true → rises mount_of q.peers ≡ true
+each-rises k chosen p q e up = ap (λ (r : Peering). rises mount_of r.peers) e ∙ rises-map mount_of (changed_peer k chosen p) (λ e. refl) p.peers ∙ up

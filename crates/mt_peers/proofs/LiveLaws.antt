@@ -1,0 +1,132 @@
+-- Masters that live, also once a mount has joined or got another state, or many have.
+use Rattle.std.proofs.Common.{◌≡◌, ℕ, Bool, true, false, cond, not, ◌&&◌, ◌||◌, eqb, eqb-true, ltb, List, [], ◌∷◌, map, Option, Some, None, refl, sym, ap, ◌∙◌, subst, inl, inr, arith}
+use Rattle.std.specs.Prelude.{nat_eq}
+use Rattle.std.specs.Option.{option_map, option_map_or, option_or, option_eq, is_none}
+use Rattle.std.proofs.lemmas.Bool.Decides.{nat_tests}
+use Rattle.mt_skel.specs.Keyed.{row_at, put, rises}
+use Rattle.mt_skel.proofs.KeyedLaws.{row_at-put, row_at-map}
+use Rattle.mt_skel.proofs.ElementLaws.{In, row_in, in_row}
+use Rattle.mt_lists.proofs.RowLaws.{same_of}
+use Rattle.mt_peers.specs.declared.state.State.{State}
+use Rattle.mt_peers.specs.declared.state.Kind.{Kind}
+use Rattle.mt_peers.specs.declared.state.Kind.TheVariants.{Shared, Private, Slave, Unbindable}
+use Rattle.mt_peers.specs.Peers.{Peer, Peering, mount_of, state_at, with_state, in_group, has_member, names}
+use Rattle.mt_peers.specs.Loss.{left}
+use Rattle.mt_peers.specs.Making.{made, changed, is_shared}
+use Rattle.mt_peers.specs.Listed.{MastersLive}
+use Rattle.mt_peers.specs.Few.{gains}
+use Rattle.mt_peers.proofs.MemberLaws.{some-is}
+use Rattle.mt_peers.proofs.SettleLaws.{settle-live}
+
+pub live-none : MastersLive []
+live-none = record { lives = λ i s g e is. absurd (cc) }
+
+later : (b c : Bool) → c ≡ true → (b || c) ≡ true
+later true c h = refl
+later false c h = h
+
+-- a mount joins
+has-put : (g : ℕ) (x : Peer) (es : List Peer) → state_at es x.mount ≡ None → has_member es g ≡ true → has_member (put mount_of x es) g ≡ true
+has-put g x [] none h = absurd (cc)
+has-put g x (y ∷ ys) none h = go (ltb x.mount y.mount) (eqb x.mount y.mount) none h (has-put g x ys)
+  where
+    by : (b : Bool) → (b || has_member ys g) ≡ true → (has_member ys g ≡ true → has_member (put mount_of x ys) g ≡ true) → (b || has_member (put mount_of x ys) g) ≡ true
+    by true h f = refl
+    by false h f = f h
+
+    go : (less same : Bool) → option_map (λ (e : Peer). e.state) (cond same (Some y) (row_at mount_of x.mount ys)) ≡ None → (in_group g y || has_member ys g) ≡ true
+        → (state_at ys x.mount ≡ None → has_member ys g ≡ true → has_member (put mount_of x ys) g ≡ true)
+        → has_member (cond less (x ∷ y ∷ ys) (cond same (x ∷ ys) (y ∷ put mount_of x ys))) g ≡ true
+    go true same none h ih = later (in_group g x) (in_group g y || has_member ys g) h
+    go false true none h ih = absurd (cc)
+    go false false none h ih = by (in_group g y) h (ih none)
+
+pub live-put : (x : Peer) (es : List Peer) → state_at es x.mount ≡ None → MastersLive es → option_map_or (has_member (put mount_of x es)) x.state.master true ≡ true → MastersLive (put mount_of x es)
+live-put x es none h own = record {
+  lives = λ i s g e is. go i s g is (eqb i x.mount) (sym (ap (option_map (λ (e : Peer). e.state)) (row_at-put mount_of i x es)) ∙ e);
+}
+  where
+    go : (i : ℕ) (s : State) (g : ℕ) → s.master ≡ Some g → (b : Bool) → option_map (λ (e : Peer). e.state) (cond b (Some x) (row_at mount_of i es)) ≡ Some s → has_member (put mount_of x es) g ≡ true
+    go i s g is true f = sym (ap (λ o. option_map_or (has_member (put mount_of x es)) o true) (ap (λ (t : State). t.master) (some-is x.state s f) ∙ is)) ∙ own
+    go i s g is false f = has-put g x es none (h.lives i s g f is)
+
+-- a state that keeps its master, and its group if it has one
+pub both-first : (a b : Bool) → (a && b) ≡ true → a ≡ true
+both-first true b h = refl
+both-first false b h = h
+
+pub both-second : (a b : Bool) → (a && b) ≡ true → b ≡ true
+both-second true b h = h
+both-second false b h = absurd (cc)
+
+pub gained-master : (s t : State) → gains s t ≡ true → s.master ≡ t.master
+gained-master s t h = same_of s.master t.master (sym (ap not (both-first _ _ h)))
+
+gained-group : (s t : State) (g : ℕ) → gains s t ≡ true → names s.group g ≡ true → names t.group g ≡ true
+gained-group s t g h is = go s.group is (both-second (option_eq nat_eq s.master t.master) _ h)
+  where
+    go : (o : Option ℕ) → names o g ≡ true → (is_none o || option_eq nat_eq o t.group) ≡ true → names t.group g ≡ true
+    go None is h = absurd (cc)
+    go (Some k) is h = ap (λ o. names o g) (sym (same_of (Some k) t.group (sym (ap not h)))) ∙ is
+
+same-number : (n : ℕ) → eqb n n ≡ true
+same-number n = grind (arith, nat_tests)
+
+same-option : (o : Option ℕ) → option_eq nat_eq o o ≡ true
+same-option None = refl
+same-option (Some n) = same-number n
+
+pub gains-self : (s : State) → gains s s ≡ true
+gains-self s = ap (λ b. b && (is_none s.group || option_eq nat_eq s.group s.group)) (same-option s.master) ∙ later (is_none s.group) (option_eq nat_eq s.group s.group) (same-option s.group)
+
+pub gains-shared : (k : Kind) (n : ℕ) (s : State) → is_shared k ≡ true → gains s (changed k n s) ≡ true
+gains-shared Shared n s sh = ap (λ b. b && (is_none s.group || option_eq nat_eq s.group (option_or s.group (Some n)))) (same-option s.master) ∙ go s.group
+  where
+    go : (o : Option ℕ) → (is_none o || option_eq nat_eq o (option_or o (Some n))) ≡ true
+    go None = refl
+    go (Some g) = same-option (Some g)
+gains-shared Private n s sh = absurd (cc)
+gains-shared Slave n s sh = absurd (cc)
+gains-shared Unbindable n s sh = absurd (cc)
+
+-- states that change so
+module _ (f : Peer → Peer) (same : (e : Peer) → (f e).mount ≡ e.mount) where
+  pub has-map : (g : ℕ) (es : List Peer) → ((e : Peer) → In e es → gains e.state (f e).state ≡ true) → has_member es g ≡ true → has_member (map f es) g ≡ true
+  has-map g [] keep h = absurd (cc)
+  has-map g (x ∷ xs) keep h = go (in_group g x) refl h (has-map g xs (λ e at. keep e (inr at)))
+    where
+      go : (b : Bool) → in_group g x ≡ b → (b || has_member xs g) ≡ true → (has_member xs g ≡ true → has_member (map f xs) g ≡ true) → (in_group g (f x) || has_member (map f xs) g) ≡ true
+      go true is h ih = ap (λ b. b || has_member (map f xs) g) (gained-group x.state (f x).state g (keep x (inl refl)) is)
+      go false is h ih = later (in_group g (f x)) (has_member (map f xs) g) (ih h)
+
+  pub live-map : (es : List Peer) → ((e : Peer) → In e es → gains e.state (f e).state ≡ true) → MastersLive es → MastersLive (map f es)
+  live-map es keep h = record { lives = λ i t g e is. go i t g is (row_at mount_of i es) refl (sym (ap (option_map (λ (e : Peer). e.state)) (row_at-map mount_of f same i es)) ∙ e) }
+    where
+      go : (i : ℕ) (t : State) (g : ℕ) → t.master ≡ Some g → (o : Option Peer) → row_at mount_of i es ≡ o → option_map (λ (e : Peer). e.state) (option_map f o) ≡ Some t → has_member (map f es) g ≡ true
+      go i t g is None at k = absurd (cc)
+      go i t g is (Some x) at k =
+          let gain = keep x (row_in mount_of i es x at) in
+          let master = gained-master x.state (f x).state gain ∙ ap (λ (s : State). s.master) (some-is (f x).state t k) ∙ is in
+          has-map g es keep (h.lives i x.state g (ap (option_map (λ (e : Peer). e.state)) at) master)
+
+-- a mount gets such a state
+pub live-given : (i : ℕ) (s : State) (es : List Peer) → rises mount_of es ≡ true → option_map_or (λ u. gains u s) (state_at es i) true ≡ true → MastersLive es → MastersLive (with_state i s es)
+live-given i s es up gain h = live-map (λ (e : Peer). record e { state = cond (eqb i e.mount) s e.state }) (λ e. refl) es keep h
+  where
+    keep : (e : Peer) → In e es → gains e.state (cond (eqb i e.mount) s e.state) ≡ true
+    keep e at = go (eqb i e.mount) refl
+      where
+        go : (b : Bool) → eqb i e.mount ≡ b → gains e.state (cond b s e.state) ≡ true
+        go true is =
+            let state : state_at es i ≡ Some e.state = ap (state_at es) (eqb-true i e.mount is) ∙ ap (option_map (λ (e : Peer). e.state)) (in_row mount_of es e up at) in
+            sym (ap (λ o. option_map_or (λ u. gains u s) o true) state) ∙ gain
+        go false is = gains-self e.state
+
+-- what all changes leave
+pub made-live : (k : Kind) (chosen : ℕ → Bool) (p : Peering) → MastersLive (made k chosen p).peers
+unfolding made
+made-live k chosen p = settle-live _ _
+
+pub left-live : (gone : ℕ → Bool) (p : Peering) → MastersLive (left gone p).peers
+unfolding left
+left-live gone p = settle-live _ _

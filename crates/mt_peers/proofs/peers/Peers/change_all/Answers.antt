@@ -1,0 +1,51 @@
+use Rattle.std.proofs.Common.{◌≡◌, ℕ, List, [], ◌++◌, refl, sym, ap, ◌∙◌, subst}
+use Rattle.std.specs.Vec.{with_items}
+use Rattle.std.proofs.lemmas.List.{with_items_is}
+use Rattle.mt_skel.specs.Keyed.{among}
+use Rattle.mt_lists.specs.Log.{earlier}
+use Rattle.mt_peers.specs.declared.entries.Entry.{Entry}
+use Rattle.mt_peers.specs.Peers.{Peering, PeersView, peering_of}
+use Rattle.mt_peers.specs.Making.{made}
+use Rattle.mt_peers.specs.WellFormed.{IsPeering}
+use Rattle.mt_peers.specs.Entries.{now_peers, noted_of}
+use Rattle.mt_peers.specs.Listed.{MastersLive}
+use Rattle.mt_peers.proofs.LiveLaws.{made-live}
+use Rattle.mt_peers.proofs.MakingLaws.{made-IsPeering}
+use Rattle.mt_peers.proofs.ListedLaws.{listed-is}
+use Rattle.mt_peers.proofs.SinceLaws.{all_stay, known-noted}
+use Rattle.mt_peers.proofs.peers.Peers.change_all.Goals as goal
+
+-- the peering of entries and a next group
+abbrev peering : List Entry → ℕ → Peering
+peering es n = record { peers = now_peers es; next = n }
+
+-- the new entries are the states made from the old
+is_made : (c : goal.After-self-3-1)
+    → peering (with_items c.self.inside.entries c.make_entries-next.new.entries).items c.make_entries-next.result ≡ made c.args.kind (among c.args.ids.now) (peering_of c.args.self.now)
+is_made c =
+    let written = with_items_is c.self.inside.entries c.make_entries-next.new.entries (c.make_entries-next.auto.entries ∙ c.deref_mut.ensures.len) in
+    ap (λ (es : List Entry). peering es c.make_entries-next.result) written
+    ∙ c.make_entries-next.ensures.made
+    ∙ ap (λ (ids : List ℕ). made c.args.kind (among ids) (peering c.deref_mut.result.now c.self.inside.next)) c.new-chosen.ensures
+    ∙ ap (λ (es : List Entry). made c.args.kind (among c.args.ids.now) (peering es c.self.inside.next)) c.deref_mut.ensures.value
+    ∙ ap (λ (s : PeersView). made c.args.kind (among c.args.ids.now) (peering_of s)) c.self.view_is
+
+pub returns-clause-kept : goal.returns-clause-kept
+returns-clause-kept c h = subst IsPeering (sym (is_made c)) (made-IsPeering (peering_of c.args.self.now) h c.args.kind (among c.args.ids.now))
+
+pub invariant_of-self : goal.invariant_of-self
+invariant_of-self c =
+    let es = c.make_entries-next.new.entries in
+    let written = with_items_is c.self.inside.entries es (c.make_entries-next.auto.entries ∙ c.deref_mut.ensures.len) in
+    let noted = c.self.inside.log.ids in
+    record {
+      listed = listed-is _ _ _ _ _ _ (ap now_peers written) refl refl c.make_entries-next.ensures.listed;
+      known =
+          known-noted (among []) es (earlier c.self.inside.since.seen.items (λ v. now_peers v.items)) (now_peers c.self.inside.entries.items) (now_peers (with_items c.self.inside.entries es).items) noted c.note_changes.new.log.ids
+          (c.make_entries-next.ensures.was ∙ ap now_peers c.deref_mut.ensures.value)
+          (all_stay (now_peers es) ∙ ap now_peers (sym written))
+          (c.note_changes.ensures.ids ∙ ap (λ (l : List ℕ). noted ++ noted_of (among l) c.deref.result.now) c.new.ensures
+          ∙ ap (λ (l : List Entry). noted ++ noted_of (among []) l) (c.deref.ensures.value ∙ written))
+          c.self.invariant.known;
+      led = λ t. subst MastersLive (sym (ap (λ (p : Peering). p.peers) (is_made c))) (made-live c.args.kind (among c.args.ids.now) (peering_of c.args.self.now));
+    }
