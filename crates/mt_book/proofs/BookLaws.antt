@@ -94,13 +94,12 @@ book_committed old spare ks cs p h q =
     }
 
 -- the same, where the book has taken what was prepared
-pub book_taken : (old lagging new : Shown) (spare lags : Spare) (ks : List (ℕ × ℕ)) (cs js : List Command) (p : Prepared) → lagging ≡ old → new ≡ Later p.world → lags ≡ lagging_of lagging
+pub book_taken : (old new : Shown) (spare lags : Spare) (ks : List (ℕ × ℕ)) (cs js : List Command) (p : Prepared) → new ≡ Later p.world → lags ≡ lagging_of old
     → js ≡ cs ++ p.command ∷ [] → IsBook (world_view (shown_world old)) (since_view (shown_world old)) spare ks cs → IsPrepared cs p → IsBook (world_view (shown_world new)) (since_view (shown_world new)) lags p.numbers.items js
-book_taken old lagging new spare lags ks cs js p s n l j h q =
+book_taken old new spare lags ks cs js p n l j h q =
     subst (λ (x : Shown). IsBook (world_view (shown_world x)) (since_view (shown_world x)) lags p.numbers.items js) (sym n)
     (subst (λ (x : Spare). IsBook (world_view p.world.value) (since_view p.world.value) x p.numbers.items js) (sym l)
-    (subst (λ (x : List Command). IsBook (world_view p.world.value) (since_view p.world.value) (lagging_of lagging) p.numbers.items x) (sym j)
-    (book_committed lagging spare ks cs p (subst (λ (x : Shown). IsBook (world_view (shown_world x)) (since_view (shown_world x)) spare ks cs) (sym s) h) q)))
+    (subst (λ (x : List Command). IsBook (world_view p.world.value) (since_view p.world.value) (lagging_of old) p.numbers.items x) (sym j) (book_committed old spare ks cs p h q)))
 
 -- the world after a command is well-formed
 pub accepted_kept : (cs : List Command) (world v : WorldView) (c : Command) (r : Reply) → world ≡ after cs → step world c ≡ Ok (v, r) → IsWellFormed v

@@ -20,7 +20,7 @@ use crate::changes::changes_after;
 use crate::command::{Command, Reply};
 use crate::prepared::Prepared;
 use crate::shown::Shown;
-use crate::spare::{Spare, Tried, keep_level, lagging, level, try_on};
+use crate::spare::{Spare, Tried, keep_level, level, show, try_on};
 use mt_events::shared::SharedPosts;
 use mt_info::lines::push_table;
 use mt_info::table::{Table, table_of};
@@ -196,8 +196,7 @@ impl Book {
             posts,
             heard: _heard,
         } = prepared;
-        let shown = mem::replace(&mut self.shown, Shown::Later(world));
-        self.spare = lagging(shown);
+        self.spare = show(&mut self.shown, world);
         self.numbers = numbers;
         self.journal.push(command).unwrap();
         (reply, posts)
