@@ -1,12 +1,13 @@
 #!/usr/bin/env -S python3 -B
 """Compares the public clauses of two states of the repository. Called by hand, after a change that should keep them.
 
-    checks/clauses.py REVISION [CRATE..]
+    checks/clauses.py REVISION [OLD=NEW..] [CRATE..]
 
 For each public function of the crates, of src/ as it stands and as it was at REVISION (a name that git knows), it takes the
 header with its clauses, without comments and line ends. It prints a function that came or went, and of each that has
 another header the lines that went (-) and came (+). A function that moved to another module counts as kept where its
-header stayed. It says nothing of definitions that a clause cites. The status is 0 where nothing is printed.
+header stayed, and so does one of a crate OLD that is now in a crate NEW. It says nothing of definitions that a clause
+cites. The status is 0 where nothing is printed.
 """
 import collections
 import difflib
@@ -47,11 +48,11 @@ def headers(text):
         yield owner + NAME.search(found[0])[1], tuple(PARTS.split(words))
 
 
-def clauses(revision, crates):
-    """The headers of the public functions of these crates, or of all, by crate and name."""
+def clauses(revision, crates, names):
+    """The headers of the public functions of these crates, or of all, by crate and name, where crates have new names."""
     told = collections.defaultdict(list)
     for path, text in sources(revision):
-        crate = path.split("/")[1]
+        crate = names.get(path.split("/")[1], path.split("/")[1])
         if not crates or crate in crates:
             for name, header in headers(text):
                 told[f"{crate} {name}"].append(header)
@@ -75,8 +76,10 @@ def differences(old, new):
 def main():
     if len(sys.argv) < 2 or sys.argv[1] in ("-h", "--help"):
         raise SystemExit(__doc__)
-    revision, *crates = sys.argv[1:]
-    printed = list(differences(clauses(revision, crates), clauses("", crates)))
+    revision, *words = sys.argv[1:]
+    names = dict(word.split("=") for word in words if "=" in word)
+    crates = [word for word in words if "=" not in word]
+    printed = list(differences(clauses(revision, crates, names), clauses("", crates, {})))
     print(*printed, sep="\n")
     sys.exit(bool(printed))
 
