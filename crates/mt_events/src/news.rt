@@ -34,20 +34,6 @@ fn is_plain_news(before: &World, after: &World, space: SpaceId, id: MountId) -> 
     is_other(before, after, id)
 }
 
-/// Whether any of these mounts came or left, or has other attributes or another state. Takes no memory.
-fn any_plain_news(before: &World, after: &World, space: SpaceId, touched: &[MountId]) -> bool
-    requires before { IsWellFormed (world_view before.now) }
-    requires after { IsWellFormed (world_view after.now) }
-    ensures news { IsTrue result → IsTrue (list_any (is_news (table_of (world_view before.now) space) (table_of (world_view after.now) space)) touched.now) }
-{
-    'mounts: for id in touched {
-        if is_plain_news(before, after, space, *id) {
-            return true;
-        }
-    }
-    false
-}
-
 /// Whether a mount left the namespace, or its row is new or not as it was. Refused as `NoMemory` alone.
 fn is_news(
     before: &mut Findings<'_>,
@@ -73,8 +59,8 @@ fn is_news(
     Ok(new_row(before, after, space, id)?.is_some())
 }
 
-/// Whether any of these mounts left the namespace, or has a row that is new or not as it was: for most commands one of
-/// which that is plain. Refused as `NoMemory` alone.
+/// Whether any of these mounts left the namespace, or has a row that is new or not as it was. For most commands that is
+/// plain of the first. Refused as `NoMemory` alone.
 fn any_news(
     before: &World,
     after: &World,
@@ -86,8 +72,10 @@ fn any_news(
     ensures news { IfOk result (λ news. news ≡ list_any (is_news (table_of (world_view before.now) space) (table_of (world_view after.now) space)) touched.now) }
     ensures memory { IsOkUnless result Fault.NoMemory }
 {
-    if any_plain_news(before, after, space, touched) {
-        return Ok(true);
+    if let Some(first) = touched.first() {
+        if is_plain_news(before, after, space, *first) {
+            return Ok(true);
+        }
     }
     let mut old = Findings::new(before);
     let mut new = Findings::new(after);
