@@ -41,7 +41,7 @@ module _ (rows : List ListRow) (h : rises id_of rows ≡ true) where
   pub in-own : (q : ℕ) (s : ListRow) → row_at id_of q rows ≡ Some s → among (ids rows s.number) q ≡ true
   in-own q s e = among-ids q rows s.number h ∙ ap (λ o. option_map_or (λ (r : ListRow). eqb s.number r.number) o false) e ∙ eq-eqb s.number s.number refl
 
-  in-other : (q n : ℕ) (s : ListRow) → row_at id_of q rows ≡ Some s → n ≢ s.number → among (ids rows n) q ≡ false
+  pub in-other : (q n : ℕ) (s : ListRow) → row_at id_of q rows ≡ Some s → n ≢ s.number → among (ids rows n) q ≡ false
   in-other q n s e ne = among-ids q rows n h ∙ ap (λ o. option_map_or (λ (r : ListRow). eqb n r.number) o false) e ∙ ne_eqb n s.number ne
 
   pub in-none : (q n : ℕ) → row_at id_of q rows ≡ None → among (ids rows n) q ≡ false
@@ -108,20 +108,20 @@ module _ (rows : List ListRow) (h : rises id_of rows ≡ true) (r : ListRow) (ab
   apart-below : (q : ℕ) → among (ids rows r.number) q ≡ false → names (below r.id (ids rows r.number)) q ≡ false
   apart-below q n = names-not (below r.id (ids rows r.number)) q (ids rows r.number) n (λ a e. (below-among r.id a (ids rows r.number) e).0)
 
-  ids-same : ids (put id_of r rows) r.number ≡ put itself r.id (ids rows r.number)
+  pub ids-same : ids (put id_of r rows) r.number ≡ put itself r.id (ids rows r.number)
   ids-same = ids-put r rows r.number h absent ∙ ap (λ b. cond b (put itself r.id (ids rows r.number)) (ids rows r.number)) (eq-eqb r.number r.number refl)
 
   ids-other : (n : ℕ) → n ≢ r.number → ids (put id_of r rows) n ≡ ids rows n
   ids-other n ne = ids-put r rows n h absent ∙ ap (λ b. cond b (put itself r.id (ids rows n)) (ids rows n)) (ne_eqb n r.number ne)
 
-  low-put : (q n : ℕ) → among (ids rows n) q ≡ true → (n ≢ r.number → among (ids rows r.number) q ≡ false)
+  pub low-put : (q n : ℕ) → among (ids rows n) q ≡ true → (n ≢ r.number → among (ids rows r.number) q ≡ false)
       → below q (ids (put id_of r rows) n) ≡ cond (names (above r.id (ids rows r.number)) q) (Some r.id) (below q (ids rows n))
   low-put q n m off = elim (cases_eq n r.number) [
     | inl same ↦ rw same (ap (below q) ids-same ∙ below-put r.id q (ids rows r.number) (rising-ids rows r.number h) (in-none rows h r.id r.number absent) (ap (λ k. among (ids rows k) q) (sym same) ∙ m))
     | inr other ↦ ap (below q) (ids-other n other) ∙ sym (ap (λ b. cond b (Some r.id) (below q (ids rows n))) (apart-above q (off other)))
   ]
 
-  high-put : (q n : ℕ) → among (ids rows n) q ≡ true → (n ≢ r.number → among (ids rows r.number) q ≡ false)
+  pub high-put : (q n : ℕ) → among (ids rows n) q ≡ true → (n ≢ r.number → among (ids rows r.number) q ≡ false)
       → above q (ids (put id_of r rows) n) ≡ cond (names (below r.id (ids rows r.number)) q) (Some r.id) (above q (ids rows n))
   high-put q n m off = elim (cases_eq n r.number) [
     | inl same ↦ rw same (ap (above q) ids-same ∙ above-put r.id q (ids rows r.number) (rising-ids rows r.number h) (in-none rows h r.id r.number absent) (ap (λ k. among (ids rows k) q) (sym same) ∙ m))
@@ -193,14 +193,14 @@ module _ (rows : List ListRow) (h : rises id_of rows ≡ true) (i : ℕ) (r : Li
   ids-off : (n : ℕ) → n ≢ r.number → ids (without_id i rows) n ≡ ids rows n
   ids-off n ne = ids-without i rows n ∙ less-not (ids rows n) (in-other rows h i n r there ne)
 
-  low-less : (q n : ℕ) → q ≢ i → among (ids rows n) q ≡ true → (n ≢ r.number → among (ids rows r.number) q ≡ false)
+  pub low-less : (q n : ℕ) → q ≢ i → among (ids rows n) q ≡ true → (n ≢ r.number → among (ids rows r.number) q ≡ false)
       → below q (ids (without_id i rows) n) ≡ cond (names (above i (ids rows r.number)) q) (below i (ids rows r.number)) (below q (ids rows n))
   low-less q n apart m off = elim (cases_eq n r.number) [
     | inl same ↦ rw same (ap (below q) (ids-without i rows r.number) ∙ below-less i q (ids rows r.number) (rising-ids rows r.number h) here (ap (λ k. among (ids rows k) q) (sym same) ∙ m) apart)
     | inr other ↦ ap (below q) (ids-off n other) ∙ sym (ap (λ b. cond b (below i (ids rows r.number)) (below q (ids rows n))) (less-apart-above q (off other)))
   ]
 
-  high-less : (q n : ℕ) → q ≢ i → among (ids rows n) q ≡ true → (n ≢ r.number → among (ids rows r.number) q ≡ false)
+  pub high-less : (q n : ℕ) → q ≢ i → among (ids rows n) q ≡ true → (n ≢ r.number → among (ids rows r.number) q ≡ false)
       → above q (ids (without_id i rows) n) ≡ cond (names (below i (ids rows r.number)) q) (above i (ids rows r.number)) (above q (ids rows n))
   high-less q n apart m off = elim (cases_eq n r.number) [
     | inl same ↦ rw same (ap (above q) (ids-without i rows r.number) ∙ above-less i q (ids rows r.number) (rising-ids rows r.number h) here (ap (λ k. among (ids rows k) q) (sym same) ∙ m) apart)

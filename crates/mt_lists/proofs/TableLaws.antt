@@ -65,7 +65,7 @@ pub linked-none : (m : Index Entry) (heads : Index Head) → m.entries ≡ [] �
 linked-none m heads e f = linked-told m [] refl (λ q. ap (lookup (nat_eq q)) e) heads (λ k. ap (λ es. option_map (λ (h : Head). h.ends) (lookup (nat_eq k) es)) f)
 
 -- how many rows there are
-length-put-most : (r : ListRow) (rows : List ListRow) → length (put id_of r rows) ≤ suc (length rows)
+pub length-put-most : (r : ListRow) (rows : List ListRow) → length (put id_of r rows) ≤ suc (length rows)
 length-put-most r [] = omega arith
 length-put-most r (y ∷ ys) =
     let ih = length-put-most r ys in
@@ -102,7 +102,7 @@ length-rows-most : (m : Index Entry) → length (rows_of m) ≤ length m.entries
 unfolding rows_of
 length-rows-most m = length-from-most m.entries
 
-length-ids : (rows : List ListRow) (n : ℕ) → length (ids rows n) ≤ length rows
+pub length-ids : (rows : List ListRow) (n : ℕ) → length (ids rows n) ≤ length rows
 length-ids [] n = omega arith
 length-ids (r ∷ rs) n =
     let ih = length-ids rs n in

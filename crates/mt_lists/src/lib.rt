@@ -8,6 +8,9 @@
 //! [`lists`] keeps them in two tables, [`entries`] by ID and [`heads`] by number; [`links`] has what is written in
 //! both when an ID comes or goes. A [`log`] has the IDs that were changed, and [`earlier`] a value as it was, which
 //! proofs alone read.
+//!
+//! [`slot_lists`] has such lists for a table whose items lie in slots, as those of a slab do: each ID stands in the slot
+//! of its item, and what comes before and after it in its list is found there, without a look-up.
 #![tactic(auto)]
 
 pub mod earlier;
@@ -16,3 +19,4 @@ mod heads;
 mod links;
 pub mod lists;
 pub mod log;
+pub mod slot_lists;
