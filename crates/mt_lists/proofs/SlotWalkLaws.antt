@@ -1,5 +1,5 @@
 -- A walk along the slots of a list.
-use Rattle.std.proofs.Common.{◌≡◌, ℕ, suc, ◌<◌, ◌≤◌, ◌-◌, true, false, ltb, is_some, nat_eq, subst, List, [], ◌∷◌, Option, Some, None, refl, sym, ap, ◌∙◌, arith}
+use Rattle.std.proofs.Common.{◌≡◌, ℕ, suc, ◌<◌, ◌≤◌, ◌-◌, true, false, ltb, is_some, nat_eq, subst, List, Option, Some, None, refl, sym, ap, ◌∙◌, arith}
 use Rattle.std.specs.Option.{IfSome, option_map, option_map_or, option_and_then}
 use Rattle.std.proofs.lemmas.Bool.{ltb-true}
 use Rattle.std.proofs.lemmas.Bool.Decides.{nat_tests}
@@ -12,7 +12,7 @@ use Rattle.mt_lists.specs.declared.heads.Ends.{Ends}
 use Rattle.mt_lists.specs.Lists.{id_of, ids, above}
 use Rattle.mt_lists.specs.Links.{Index, below, ends_of, entry_of, IsSought}
 use Rattle.mt_lists.specs.SlotLists.{LeadsTo}
-use Rattle.mt_lists.specs.Ties.{tie_at, id_of_tie, id_at, tied_row, rows_in, last_of, ends_in, IsTied, IsBelow}
+use Rattle.mt_lists.specs.Ties.{tie_at, id_of_tie, id_at, tied_row, rows_in, ends_in, IsTied, IsBelow}
 use Rattle.mt_lists.proofs.NeighbourLaws.{rising, above-among, below-among, sought-member, sought-next, sought-end, sought-up, sought-end-last, above-below, above-first, ends-first}
 use Rattle.mt_lists.proofs.IdLaws.{rising-ids}
 use Rattle.mt_lists.proofs.EntryLaws.{in-own, in-none, before-among, after-among}
@@ -223,12 +223,6 @@ module _ (ties : List (Option Tie)) (tops : Index Top) (x : IsTied ties tops) (i
         go None is f = absurd (cc)
         go (Some e) is f = (e, is, let v : ends_in ties top ≡ Some e = cc in v)
 
-    pub top-last : id_at ties top.last ≡ last_of (ids (rows_in ties) n)
-    top-last = let e = top-ends in (ends-parts ties top e.0 e.2).1 ∙ sym (ap (option_map (λ (y : Ends). y.last)) e.1)
-
-    pub top-last-there : is_some (id_at ties top.last) ≡ true
-    top-last-there = let e = top-ends in ap is_some (ends-parts ties top e.0 e.2).1
-
     -- the last of the list is below a new ID
     pub last-below : option_map_or (λ i. ltb i id) (id_at ties top.last) false ≡ true → LeadsTo (id_at ties) (Some top.last) (below id (ids (rows_in ties) n))
     last-below low =
@@ -251,18 +245,3 @@ module _ (ties : List (Option Tie)) (tops : Index Top) (x : IsTied ties tops) (i
       let q = lead-at (id_at ties) other _ before in
       after-at ties tops x other q.0 n q.2 (below-among id q.0 xs q.1).0
       ∙ ap (option_map (λ i. Some i)) (above-below id q.0 xs (rising-ids (rows_in ties) n (rises-in ties)) (in-none (rows_in ties) (rises-in ties) id n absent) q.1)
-
-  -- a number that no ID has
-  pub none-below : get nat_eq tops n ≡ None → LeadsTo (id_at ties) None (below id (ids (rows_in ties) n))
-  none-below none = go (ids (rows_in ties) n) (ap (option_map (ends_in ties)) (sym none) ∙ x.tops_told n)
-    where
-      go : (xs : List ℕ) → None ≡ option_map (λ e. Some e) (ends_of xs) → LeadsTo (id_at ties) None (below id xs)
-      go [] e = refl
-      go (y ∷ ys) e = absurd (cc)
-
-  pub none-above : get nat_eq tops n ≡ None → LeadsTo (id_at ties) None (above id (ids (rows_in ties) n))
-  none-above none = go (ids (rows_in ties) n) (ap (option_map (ends_in ties)) (sym none) ∙ x.tops_told n)
-    where
-      go : (xs : List ℕ) → None ≡ option_map (λ e. Some e) (ends_of xs) → LeadsTo (id_at ties) None (above id xs)
-      go [] e = refl
-      go (y ∷ ys) e = absurd (cc)

@@ -19,9 +19,6 @@ use Rattle.mt_peers.proofs.MemberLaws.{some-is}
 use Rattle.mt_peers.proofs.ChangeLaws.{same_change}
 use Rattle.mt_peers.proofs.MakingLaws.{among_groupless}
 
-same-number : (n : ℕ) → eqb n n ≡ true
-same-number n = grind (arith, nat_tests)
-
 -- two changes that agree at each mount of the list
 pub map-alike : (f g : Peer → Peer) (es : List Peer) → ((e : Peer) → In e es → f e ≡ g e) → map f es ≡ map g es
 map-alike f g [] same = refl

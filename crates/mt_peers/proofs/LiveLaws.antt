@@ -18,9 +18,6 @@ use Rattle.mt_peers.specs.Few.{gains}
 use Rattle.mt_peers.proofs.MemberLaws.{some-is}
 use Rattle.mt_peers.proofs.SettleLaws.{settle-live}
 
-pub live-none : MastersLive []
-live-none = record { lives = λ i s g e is. absurd (cc) }
-
 later : (b c : Bool) → c ≡ true → (b || c) ≡ true
 later true c h = refl
 later false c h = h
