@@ -82,6 +82,15 @@ impl Lists {
         Ok(())
     }
 
+    /// How many rows may come with no more memory.
+    pub fn room(&self) -> usize
+        ensures { result ≡ self.now.room }
+    {
+        let entries = self.entries.capacity() - self.entries.len();
+        let heads = self.heads.capacity() - self.heads.len();
+        entries.min(heads)
+    }
+
     /// How many rows there are.
     pub fn len(&self) -> usize
         ensures len { result ≡ length self.now.rows }

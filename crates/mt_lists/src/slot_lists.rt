@@ -90,6 +90,13 @@ impl SlotLists {
         Ok(())
     }
 
+    /// How many IDs may come with no more memory.
+    pub fn room(&self) -> usize
+        ensures { result ≡ self.now.room }
+    {
+        self.tops.capacity() - self.tops.len()
+    }
+
     /// The ID in a slot, or `None` where the slot is free or not there.
     pub fn id(&self, slot: usize) -> Option<u64>
         ensures { result ≡ id_in self.now.slots slot }

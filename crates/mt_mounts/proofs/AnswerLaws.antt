@@ -1,4 +1,4 @@
--- What the indexes answer is what the mounts are.
+-- What the lists and indexes answer is what the mounts are.
 use Rattle.std.proofs.Common.{◌≡◌, ℕ, ◌++◌, Bool, true, false, cond, ◌&&◌, eqb, eq-eqb, List, [], ◌∷◌, map, length, Option, Some, None, refl, sym, ap, ◌∙◌, arith}
 use Rattle.std.specs.List.{find, filter}
 use Rattle.std.specs.Option.{option_map, option_map_or, option_and_then, is_none}
@@ -10,9 +10,9 @@ use Rattle.mt_lists.specs.Numbered.{rows_by, has_number}
 use Rattle.mt_lists.proofs.NumberedLaws.{ids-by}
 use Rattle.mt_mounts.specs.declared.mount.Place.{Place}
 use Rattle.mt_mounts.specs.declared.mount.Mount.{Mount}
-use Rattle.mt_mounts.specs.declared.indexes.Indexes.{Indexes}
 use Rattle.mt_mounts.specs.Forest.{id_of, mount_at, stands_on, children, in_space, mounts_in, is_root, root_mount, roots}
-use Rattle.mt_mounts.specs.Indexes.{parent_of, space_of, rooted_in, IsIndexed}
+use Rattle.mt_mounts.specs.Seats.{parent_of, space_of}
+use Rattle.mt_mounts.specs.Indexes.{rooted_in}
 use Rattle.mt_mounts.specs.Slots.{mounts_of}
 use Rattle.mt_mounts.proofs.ForestLaws.{find_row}
 
@@ -49,15 +49,14 @@ root_test n m = go (is_none m.place)
     go true = refl
     go false = refl
 
-module _ (ms : List Mount) (x : Indexes) (h : IsIndexed ms x) where
-  pub child_ids : (i : ℕ) → ids x.children.rows i ≡ children ms i
-  child_ids i = numbered_as parent_of stands_on child_test ms x.children.rows h.children i
+pub child_ids : (ms : List Mount) (rows : List ListRow) → rows ≡ rows_by id_of parent_of ms → (i : ℕ) → ids rows i ≡ children ms i
+child_ids ms rows e i = numbered_as parent_of stands_on child_test ms rows e i
 
-  pub space_ids : (n : ℕ) → ids x.spaces.rows n ≡ map id_of (mounts_in ms n)
-  space_ids n = numbered_as space_of in_space (λ k m. refl) ms x.spaces.rows h.spaces n
+pub space_ids : (ms : List Mount) (rows : List ListRow) → rows ≡ rows_by id_of space_of ms → (n : ℕ) → ids rows n ≡ map id_of (mounts_in ms n)
+space_ids ms rows e n = numbered_as space_of in_space (λ k m. refl) ms rows e n
 
-  pub root_first : (n : ℕ) → first (ids x.roots.rows n) ≡ option_map id_of (root_mount ms n)
-  root_first n = ap first (numbered_as rooted_in is_root root_test ms x.roots.rows h.roots n) ∙ first_found (is_root n) ms
+pub root_first : (ms : List Mount) (rows : List ListRow) → rows ≡ rows_by id_of rooted_in ms → (n : ℕ) → first (ids rows n) ≡ option_map id_of (root_mount ms n)
+root_first ms rows e n = ap first (numbered_as rooted_in is_root root_test ms rows e n) ∙ first_found (is_root n) ms
 
 -- how many root mounts there are
 count_roots : (ms : List Mount) → length (rows_by id_of rooted_in ms) ≡ length (roots ms)
@@ -69,8 +68,8 @@ count_roots (m ∷ ms) = go (is_none m.place) (count_roots ms)
     go true ih = rw ih refl
     go false ih = ih
 
-pub root_count : (ms : List Mount) (x : Indexes) → IsIndexed ms x → length x.roots.rows ≡ length (roots ms)
-root_count ms x h = ap length h.roots ∙ count_roots ms
+pub root_count : (ms : List Mount) (rows : List ListRow) → rows ≡ rows_by id_of rooted_in ms → length rows ≡ length (roots ms)
+root_count ms rows e = ap length e ∙ count_roots ms
 
 of_ids : (ms xs : List Mount) → rises id_of xs ≡ true → ((q : ℕ) (x : Mount) → row_at id_of q xs ≡ Some x → mount_at ms q ≡ Some x) → mounts_of ms (map id_of xs) ≡ xs
 of_ids ms [] r f = refl

@@ -27,6 +27,14 @@ attrs_other i a x ne = ap (λ b. record x { attrs = cond b a x.attrs }) (ne_eqb 
 pub place_other : (i : ℕ) (p : Place) (x : Mount) → x.id ≢ i → place_of i p x ≡ x
 place_other i p x ne = ap (λ b. record x { place = cond b (Some p) x.place }) (ne_eqb x.id i ne)
 
+-- the place that a mount has behind it
+module _ (i : ℕ) (p : Place) where
+  pub moved_place : (m : Mount) → m.id ≡ i → (place_of i p m).place ≡ Some p
+  moved_place m e = ap (λ b. cond b (Some p) m.place) (eq-eqb m.id i e)
+
+  pub stays_place : (m : Mount) → m.id ≢ i → (place_of i p m).place ≡ m.place
+  stays_place m ne = ap (λ b. cond b (Some p) m.place) (ne_eqb m.id i ne)
+
 module _ (s : Slab Mount) (keys : Keys) (k : IsKeyed s keys) (i : ℕ) where
   -- a change of a mount that is not there changes nothing
   module _ (absent : option_and_then (get s) (key_at keys i) ≡ None) where

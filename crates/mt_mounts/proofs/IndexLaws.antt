@@ -18,9 +18,9 @@ use Rattle.mt_mounts.specs.Forest.{id_of, mount_at, on, is_at, place_eq, root_pl
 use Rattle.mt_mounts.specs.Tree.{IsSingle}
 use Rattle.mt_mounts.specs.ForestView.{with_attrs, with_place, without_id}
 use Rattle.mt_mounts.specs.Stacks.{IsStacked, IsBare, linked, come_to, gone_from}
-use Rattle.mt_mounts.specs.Indexes.{parent_of, space_of, rooted_in, over, IsIndexed, IsUnlisted}
-use Rattle.mt_mounts.proofs.SlotLaws.{none_found, row_kept}
-use Rattle.mt_mounts.proofs.ChangeLaws.{attrs_of, place_of}
+use Rattle.mt_mounts.specs.Indexes.{rooted_in, over, IsIndexed}
+use Rattle.mt_mounts.proofs.SlotLaws.{none_found, row_kept, eqb-turned}
+use Rattle.mt_mounts.proofs.ChangeLaws.{attrs_of, place_of, moved_place, stays_place}
 use Rattle.mt_mounts.proofs.PlaceLaws.{same_place, found_without, found_put, found_map, moved_is}
 use Rattle.mt_mounts.proofs.StackLaws.{stacked_same}
 use Rattle.mt_mounts.proofs.ForestLaws.{find_row, find_passes}
@@ -71,18 +71,11 @@ module _ (ms : List Mount) (r : rises id_of ms ≡ true) (m : Mount) where
       let w : s.0 ≡ m = cc in
       subst (λ y. is_at q y ≡ true) w (find_passes (is_at q) ms s.0 s.1)
 
-eqb-turned : (a b : ℕ) → eqb a b ≡ eqb b a
-eqb-turned a b = grind (arith, nat_tests)
-
 -- what the lists have of a mount
 module _ (ms : List Mount) (x : Indexes) (r : rises id_of ms ≡ true) (h : IsIndexed ms x) where
   -- of one that is not there
-  pub unlisted : (i : ℕ) → mount_at ms i ≡ None → IsUnlisted i x
-  unlisted i absent = record {
-    children = ap (λ l. number_at l i) h.children ∙ number-by id_of parent_of i ms r ∙ ap (option_and_then parent_of) absent;
-    spaces = ap (λ l. number_at l i) h.spaces ∙ number-by id_of space_of i ms r ∙ ap (option_and_then space_of) absent;
-    roots = ap (λ l. number_at l i) h.roots ∙ number-by id_of rooted_in i ms r ∙ ap (option_and_then rooted_in) absent;
-  }
+  pub unrooted : (i : ℕ) → mount_at ms i ≡ None → number_at x.roots.rows i ≡ None
+  unrooted i absent = ap (λ l. number_at l i) h.roots ∙ number-by id_of rooted_in i ms r ∙ ap (option_and_then rooted_in) absent
 
   -- and of which namespace one is the root mount
   pub rooted : (m : Mount) → mount_at ms m.id ≡ Some m → number_at x.roots.rows m.id ≡ rooted_in m
@@ -92,17 +85,13 @@ module _ (ms : List Mount) (old new : Indexes) (r : rises id_of ms ≡ true) (x 
   -- a mount has come
   pub indexed_put : (m : Mount) → mount_at ms m.id ≡ None → ForSome m.place (λ p. on ms p ≡ None)
       → ((p : Place) → get place_eq new.places p ≡ cond (is_at p m) (Some m.id) (get place_eq old.places p))
-      → new.children.rows ≡ with_number m.id (parent_of m) old.children.rows
-      → new.spaces.rows ≡ with_number m.id (space_of m) old.spaces.rows
       → new.roots.rows ≡ with_number m.id (rooted_in m) old.roots.rows
       → (ForSome m.place (λ p. over ms p ≡ None) → IsBare (root_place m) (over ms) → IsStacked (over ms) old.stacks → IsStacked (come_to m (over ms)) new.stacks)
       → IsIndexed (put id_of m ms) new
-  indexed_put m absent free at ch sp ro st = record {
+  indexed_put m absent free at ro st = record {
     places = λ p.
         at p ∙ ap (cond (is_at p m) (Some m.id)) (x.places p) ∙ id_cond (is_at p m) m (on ms p)
         ∙ ap (option_map id_of) (sym (found_put (is_at p) m ms absent (free_place ms m p free)));
-    children = ch ∙ ap (with_number m.id (parent_of m)) x.children ∙ sym (put-by id_of parent_of m ms r);
-    spaces = sp ∙ ap (with_number m.id (space_of m)) x.spaces ∙ sym (put-by id_of space_of m ms r);
     roots = ro ∙ ap (with_number m.id (rooted_in m)) x.roots ∙ sym (put-by id_of rooted_in m ms r);
     stacked =
         stacked_same new.stacks (come_to m (over ms)) (over (put id_of m ms))
@@ -113,17 +102,13 @@ module _ (ms : List Mount) (old new : Indexes) (r : rises id_of ms ≡ true) (x 
   -- a mount has gone
   pub indexed_without : (m : Mount) → IsSingle ms → mount_at ms m.id ≡ Some m
       → ((p : Place) → get place_eq new.places p ≡ cond (is_at p m) None (get place_eq old.places p))
-      → new.children.rows ≡ without_row m.id old.children.rows
-      → new.spaces.rows ≡ without_row m.id old.spaces.rows
       → new.roots.rows ≡ without_row m.id old.roots.rows
       → (((q : Place) → over ms q ≡ Some (root_place m) → is_at q m ≡ true) → IsStacked (over ms) old.stacks → IsStacked (gone_from m (over ms)) new.stacks)
       → IsIndexed (without_id m.id ms) new
-  indexed_without m single there at ch sp ro st = record {
+  indexed_without m single there at ro st = record {
     places = λ p.
         at p ∙ ap (cond (is_at p m) None) (x.places p) ∙ none_cond (is_at p m) (on ms p)
         ∙ ap (option_map id_of) (sym (found_without (is_at p) ms r (single.places p) m.id m there));
-    children = ch ∙ ap (without_row m.id) x.children ∙ sym (without-by id_of parent_of m.id (λ y. eqb y.id m.id) ms (λ y. eqb-turned y.id m.id));
-    spaces = sp ∙ ap (without_row m.id) x.spaces ∙ sym (without-by id_of space_of m.id (λ y. eqb y.id m.id) ms (λ y. eqb-turned y.id m.id));
     roots = ro ∙ ap (without_row m.id) x.roots ∙ sym (without-by id_of rooted_in m.id (λ y. eqb y.id m.id) ms (λ y. eqb-turned y.id m.id));
     stacked =
         stacked_same new.stacks (gone_from m (over ms)) (over (without_id m.id ms))
@@ -132,13 +117,6 @@ module _ (ms : List Mount) (old new : Indexes) (r : rises id_of ms ≡ true) (x 
   }
 
 -- a mount has moved
-module _ (i : ℕ) (p : Place) where
-  moved_place : (m : Mount) → m.id ≡ i → (place_of i p m).place ≡ Some p
-  moved_place m e = ap (λ b. cond b (Some p) m.place) (eq-eqb m.id i e)
-
-  stays_place : (m : Mount) → m.id ≢ i → (place_of i p m).place ≡ m.place
-  stays_place m ne = ap (λ b. cond b (Some p) m.place) (ne_eqb m.id i ne)
-
 module _ (ms : List Mount) (old new : Indexes) (r : rises id_of ms ≡ true) (x : IsIndexed ms old) where
   gone : (i : ℕ) → row_at id_of i (without_id i ms) ≡ None
   gone i = none_found _ (λ y e. let k = row_kept ms i i y r e in k.1 (row_at-key id_of i ms y k.0))
@@ -165,22 +143,15 @@ module _ (ms : List Mount) (old new : Indexes) (r : rises id_of ms ≡ true) (x 
 
   pub indexed_moved : (m : Mount) (p : Place) → IsSingle ms → mount_at ms m.id ≡ Some m → on ms p ≡ None
       → ((q : Place) → get place_eq new.places q ≡ cond (place_eq q p) (Some m.id) (cond (is_at q m) None (get place_eq old.places q)))
-      → new.children.rows ≡ with_number m.id (Some p.mount) old.children.rows
-      → new.spaces.rows ≡ old.spaces.rows
       → new.roots.rows ≡ without_row m.id old.roots.rows
       → (gone_from m (over ms) p ≡ None → ((q : Place) → over ms q ≡ Some (root_place m) → is_at q m ≡ true) → IsStacked (over ms) old.stacks → IsStacked (linked p (root_place m) (gone_from m (over ms))) new.stacks)
       → IsIndexed (with_place m.id p ms) new
-  indexed_moved m p single there free at ch sp ro st = record {
+  indexed_moved m p single there free at ro st = record {
     places = λ q.
         at q ∙ ap (λ o. cond (place_eq q p) (Some m.id) (cond (is_at q m) None o)) (x.places q)
         ∙ ap (cond (place_eq q p) (Some m.id)) (none_cond (is_at q m) (on ms q))
         ∙ id_cond (place_eq q p) (place_of m.id p m) (cond (is_at q m) None (on ms q))
         ∙ ap (option_map id_of) (sym (moved_places m p single there free q));
-    children =
-        ch ∙ ap (with_number m.id (Some p.mount)) x.children
-        ∙ ap (λ o. with_number m.id o (rows_by id_of parent_of ms)) (ap (option_map (λ (q : Place). q.mount)) (sym (moved_place m.id p m refl)))
-        ∙ sym (change-by id_of parent_of m.id (place_of m.id p) m ms (λ y. refl) (λ y ne. ap (option_map (λ (q : Place). q.mount)) (stays_place m.id p y ne)) r there);
-    spaces = sp ∙ x.spaces ∙ sym (same-by id_of space_of (place_of m.id p) ms (λ y. refl) (λ y. refl));
     roots =
         ro ∙ ap (without_row m.id) x.roots
         ∙ ap (λ o. with_number m.id o (rows_by id_of rooted_in ms)) (ap (λ o. cond (is_none o) (Some m.space) None) (sym (moved_place m.id p m refl)))
@@ -194,12 +165,9 @@ module _ (ms : List Mount) (old new : Indexes) (r : rises id_of ms ≡ true) (x 
   }
 
 -- the same entries and rows
-pub indexed_same : (ms : List Mount) (old new : Indexes) → new.places.entries ≡ old.places.entries → new.children.rows ≡ old.children.rows
-    → new.spaces.rows ≡ old.spaces.rows → new.roots.rows ≡ old.roots.rows → (IsStacked (over ms) old.stacks → IsStacked (over ms) new.stacks) → IsIndexed ms old → IsIndexed ms new
-indexed_same ms old new at ch sp ro st x = record {
+pub indexed_same : (ms : List Mount) (old new : Indexes) → new.places.entries ≡ old.places.entries → new.roots.rows ≡ old.roots.rows → (IsStacked (over ms) old.stacks → IsStacked (over ms) new.stacks) → IsIndexed ms old → IsIndexed ms new
+indexed_same ms old new at ro st x = record {
   places = λ p. ap (lookup (place_eq p)) at ∙ x.places p;
-  children = ch ∙ x.children;
-  spaces = sp ∙ x.spaces;
   roots = ro ∙ x.roots;
   stacked = st x.stacked;
 }
@@ -208,8 +176,6 @@ indexed_same ms old new at ch sp ro st x = record {
 pub indexed_attrs : (ms : List Mount) (x : Indexes) (i : ℕ) (a : Attrs) → IsIndexed ms x → IsIndexed (with_attrs i a ms) x
 indexed_attrs ms x i a h = record {
   places = λ p. h.places p ∙ sym (ap (option_map id_of) (found_map (is_at p) (attrs_of i a) (λ m. refl) ms) ∙ same (on ms p));
-  children = h.children ∙ sym (same-by id_of parent_of (attrs_of i a) ms (λ y. refl) (λ y. refl));
-  spaces = h.spaces ∙ sym (same-by id_of space_of (attrs_of i a) ms (λ y. refl) (λ y. refl));
   roots = h.roots ∙ sym (same-by id_of rooted_in (attrs_of i a) ms (λ y. refl) (λ y. refl));
   stacked =
       stacked_same x.stacks (over ms) (over (with_attrs i a ms))

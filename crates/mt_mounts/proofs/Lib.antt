@@ -1,7 +1,9 @@
 pub mod SlotLaws
 pub mod TableLaws
+pub mod SeatLaws
 pub mod ForestLaws
 pub mod ChangeLaws
+pub mod TableStepLaws
 pub mod SinceLaws
 pub mod PlaceLaws
 pub mod StackLaws

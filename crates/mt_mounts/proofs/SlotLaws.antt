@@ -1,6 +1,7 @@
 -- What a slab of mounts holds, and the rows that these mounts make.
 use Rattle.std.proofs.Common.{◌≡◌, ◌≢◌, ◌↔◌, ℕ, Bool, true, false, cond, not, eqb, eq-eqb, List, [], ◌∷◌, map, Option, Some, None, refl, sym, ap, ◌∙◌, inl, inr, arith, Contains}
 use Rattle.std.proofs.lemmas.Bool.{cases_eq, ne_eqb, true≢false}
+use Rattle.std.proofs.lemmas.Bool.Decides.{nat_tests}
 use Rattle.slab.specs.Slab.{Slab, get, entries, Updates}
 use Rattle.slab.proofs.SlabLemmas.{Contains-cons, Contains-cons_cases, Contains-entries}
 use Rattle.mt_skel.specs.Keyed.{row_at, put, rises}
@@ -13,6 +14,9 @@ use Rattle.mt_mounts.specs.Slots.{by_id, slab_mounts}
 -- no two keys of the slab have mounts of one ID
 abbrev pub HasDistinctIds : Slab Mount → Type 0
 HasDistinctIds s = (i j : ℕ) (a b : Mount) → get s i ≡ Some a → get s j ≡ Some b → a.id ≡ b.id → i ≡ j
+
+pub eqb-turned : (a b : ℕ) → eqb a b ≡ eqb b a
+eqb-turned a b = grind (arith, nat_tests)
 
 -- the mounts of these entries, in the order of the slab
 abbrev pub vals : List (ℕ × Mount) → List Mount

@@ -1,10 +1,9 @@
 -- What the indexes of a `Forest` answer of its mounts. No public clause cites this module.
 -- A word with no source is this project's rule.
-use Rattle.std.specs.Prelude.{◌≡◌, ℕ, cond, List, Option, Some, None, IsTrue, is_none, min}
+use Rattle.std.specs.Prelude.{◌≡◌, ℕ, ◌≤◌, cond, List, Option, Some, None, IsTrue, is_none, min}
 use Rattle.std.specs.Option.{option_map}
 use Rattle.indexmap.specs.IndexMap.{get, spare}
 use Rattle.mt_skel.specs.Keyed.{rises}
-use Rattle.mt_lists.specs.Lists.{number_at}
 use Rattle.mt_lists.specs.Numbered.{rows_by}
 use Rattle.mt_lists.specs.Log.{AreAlikeBut}
 use Rattle.mt_mounts.specs.declared.mount.Place.{Place}
@@ -13,14 +12,6 @@ use Rattle.mt_mounts.specs.declared.indexes.Indexes.{Indexes}
 use Rattle.mt_mounts.specs.Forest.{id_of, mount_at, on, place_eq, root_place}
 use Rattle.mt_mounts.specs.Tree.{IsSingle}
 use Rattle.mt_mounts.specs.Stacks.{IsStacked, stack_room}
-
--- The mount that a mount stands on.
-abbrev pub parent_of : Mount → Option ℕ
-parent_of m = option_map (λ (p : Place). p.mount) m.place
-
--- The namespace that a mount is in.
-abbrev pub space_of : Mount → Option ℕ
-space_of m = Some m.space
 
 -- The namespace of which a mount is the root mount.
 abbrev pub rooted_in : Mount → Option ℕ
@@ -33,20 +24,16 @@ over ms q = option_map root_place (on ms q)
 -- Each index answers as a search of all mounts does.
 pub record IsIndexed (ms : List Mount) (x : Indexes) : Type 0 where
   pub places : (p : Place) → get place_eq x.places p ≡ option_map id_of (on ms p)
-  pub children : x.children.rows ≡ rows_by id_of parent_of ms
-  pub spaces : x.spaces.rows ≡ rows_by id_of space_of ms
   pub roots : x.roots.rows ≡ rows_by id_of rooted_in ms
   pub stacked : IsStacked (over ms) x.stacks
 
--- No list of the indexes has this ID.
-pub record IsUnlisted (i : ℕ) (x : Indexes) : Type 0 where
-  pub children : number_at x.children.rows i ≡ None
-  pub spaces : number_at x.spaces.rows i ≡ None
-  pub roots : number_at x.roots.rows i ≡ None
-
 -- How many mounts each of the indexes has room for.
 abbrev pub room_of : Indexes → ℕ
-room_of x = min (spare x.places) (min x.children.room (min x.spaces.room (min x.roots.room (stack_room x.stacks))))
+room_of x = min (spare x.places) (min x.roots.room (stack_room x.stacks))
+
+-- A count of mounts for which a table with this room and the indexes have room.
+abbrev pub IsCounted : ℕ → ℕ → Indexes → Type 0
+IsCounted count room x = count ≤ min room (room_of x)
 
 -- The mounts of a forest rise by their IDs, no two stand at one place and no two are roots of one namespace, the
 -- indexes answer of them, and each mount that is not as it was is noted.

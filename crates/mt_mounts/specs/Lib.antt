@@ -5,6 +5,7 @@ pub mod Tree
 pub mod ForestView
 pub mod TableView
 pub mod Slots
+pub mod Seats
 pub mod Stacks
 pub mod Indexes
 pub mod Follow

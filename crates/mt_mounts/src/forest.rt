@@ -45,6 +45,8 @@ pub struct Forest {
     log: Log,
     /// The mounts at the last `begin`, for contracts alone: it has no bytes.
     since: Earlier<Table>,
+    /// For how many mounts the table and the indexes are known to have room.
+    room: usize,
 }
 
 impl Model for Forest {
@@ -58,11 +60,11 @@ impl Model for Forest {
 
     ghost coded = { forest_code mount.the_row.coded };
 
-    ghost use Rattle.mt_mounts.specs.Indexes.{room_of, IsForest};
+    ghost use Rattle.mt_mounts.specs.Indexes.{IsForest, IsCounted};
 
-    ghost view = { λ f. record { mounts = f.table.mounts; since = earlier f.since.seen.items (λ t. t.mounts); room = min f.table.room (min (room_of f.indexes) f.log.room) } };
+    ghost view = { λ f. record { mounts = f.table.mounts; since = earlier f.since.seen.items (λ t. t.mounts); room = min f.room f.log.room } };
 
-    ghost invariant = { λ f. IsForest f.table.mounts f.indexes (earlier f.since.seen.items (λ t. t.mounts)) f.log.ids };
+    ghost invariant = { λ f. IsForest f.table.mounts f.indexes (earlier f.since.seen.items (λ t. t.mounts)) f.log.ids × IsCounted f.room f.table.room f.indexes };
 }
 
 // Written out, so that whoever owns a forest lets it go as one thing.
@@ -73,6 +75,7 @@ impl Drop for Forest {
             indexes: _indexes,
             log: _log,
             since: _since,
+            room: _room,
         } = self;
     }
 }
@@ -89,6 +92,7 @@ impl Forest {
             table,
             indexes: Indexes::new(alloc),
             log: Log::new(alloc),
+            room: 0,
         }
     }
 
@@ -105,6 +109,7 @@ impl Forest {
             table,
             indexes,
             log: Log::new(self.allocator()),
+            room: 0,
         })
     }
 
@@ -135,8 +140,11 @@ impl Forest {
         ensures mounts { self.new.mounts ≡ self.old.mounts }
         ensures since { self.new.since ≡ self.old.since }
     {
-        self.table.reserve(additional)?;
-        self.indexes.reserve(additional)?;
+        if self.room < additional {
+            self.table.reserve(additional)?;
+            self.indexes.reserve(additional)?;
+            self.room = self.table.room().min(self.indexes.room());
+        }
         self.log.reserve(additional)?;
         Ok(())
     }
@@ -183,6 +191,7 @@ impl Forest {
         self.indexes.insert(mount, on_root);
         self.table.insert(mount);
         self.log.add(mount.id);
+        self.room -= 1;
     }
 
     /// Takes the mount with this ID away, if it is there. What is mounted on it stays. It needs no
@@ -227,6 +236,7 @@ impl Forest {
             self.indexes.set_place(mount, place, on_root);
             self.table.set_place(id, place);
             self.log.add(mount.id);
+            self.room -= 1;
         }
     }
 
@@ -326,23 +336,21 @@ impl Forest {
         ensures mounts { IfOk result (λ mounts. mounts.items ≡ mounts_in self.now.mounts space) }
         ensures memory { IsOkUnless result Fault.NoMemory }
     {
-        let ids = self.indexes.spaces.ids(self.allocator(), space)?;
-        let mounts = self.table.mounts_of(&ids)?;
-        Ok(mounts)
+        self.table.mounts_in(space)
     }
 
     /// How many mounts stand on a mount.
     pub fn child_count(&self, id: MountId) -> usize
         ensures { result ≡ length (children self.now.mounts id) }
     {
-        self.indexes.children.count(id)
+        self.table.child_count(id)
     }
 
     /// How many mounts a namespace has.
     pub fn count_in(&self, space: SpaceId) -> usize
         ensures { result ≡ length (mounts_in self.now.mounts space) }
     {
-        self.indexes.spaces.count(space)
+        self.table.count_in(space)
     }
 
     /// The IDs of the mounts that stand on a mount, rising. Refused as `NoMemory` alone.
@@ -351,7 +359,6 @@ impl Forest {
         ensures rising { IsTrue (rises id_of self.now.mounts) }
         ensures memory { IsOkUnless result Fault.NoMemory }
     {
-        let ids = self.indexes.children.ids(self.allocator(), id)?;
-        Ok(ids)
+        self.table.children_of(id)
     }
 }

@@ -1,4 +1,4 @@
-//! What a forest looks up beside the ID of a mount: by place, by parent and by namespace, and where stacks lead.
+//! What a forest looks up beside its table: the mount at a place, the root mount of a namespace, and where stacks lead.
 ghost use Rattle.std.specs.Prelude.{◌≡◌, ◌+◌, ◌<◌, ◌≤◌, List, [], Some, None, IsTrue, OnOk, IfOk, IsOkUnless, cond};
 ghost use Rattle.std.specs.Option.{ForSome};
 ghost use Rattle.indexmap.specs.IndexMap.{get, spare};
@@ -9,7 +9,7 @@ ghost use Rattle.mt_mounts.specs.Forest.{id_of, mount_at, on, is_at, place_eq};
 ghost use Rattle.mt_mounts.specs.Tree.{IsSingle};
 ghost use Rattle.mt_mounts.specs.ForestView.{with_place, without_id};
 ghost use Rattle.mt_lists.specs.Lists.{number_at, without_id as without_row};
-ghost use Rattle.mt_mounts.specs.Indexes.{parent_of, rooted_in, IsIndexed, IsUnlisted, room_of};
+ghost use Rattle.mt_mounts.specs.Indexes.{rooted_in, IsIndexed, room_of};
 
 use crate::mount::{Mount, MountId, Place, SpaceId};
 use crate::stacks::Stacks;
@@ -18,14 +18,11 @@ use mt_lists::lists::Lists;
 use mt_skel::fault::Fault;
 use std::alloc::Global;
 
-/// Which mount stands at a place, and the lists of the mounts of a parent, of the mounts of a
-/// namespace and of its root mount, and where stacks of mounts lead.
+/// Which mount stands at a place, the root mount of each namespace, and where stacks of mounts lead.
 ///
 /// It holds IDs alone: a change of a forest is told to it with the mount as it was before.
 pub(crate) struct Indexes {
     pub(crate) places: IndexMap<Place, MountId>,
-    pub(crate) children: Lists,
-    pub(crate) spaces: Lists,
     pub(crate) roots: Lists,
     pub(crate) stacks: Stacks,
 }
@@ -35,21 +32,9 @@ impl Drop for Indexes {
     fn drop(self) {
         let Indexes {
             places: _places,
-            children: _children,
-            spaces: _spaces,
             roots: _roots,
             stacks: _stacks,
         } = self;
-    }
-}
-
-/// The mount that a mount stands on.
-fn parent_of(mount: Mount) -> Option<MountId>
-    ensures { result ≡ parent_of mount }
-{
-    match mount.place {
-        Some(place) => Some(place.mount),
-        None => None,
     }
 }
 
@@ -118,8 +103,6 @@ impl Indexes {
     {
         Indexes {
             places: IndexMap::new(alloc),
-            children: Lists::new(alloc),
-            spaces: Lists::new(alloc),
             roots: Lists::new(alloc),
             stacks: Stacks::new(alloc),
         }
@@ -132,8 +115,6 @@ impl Indexes {
     {
         Ok(Indexes {
             places: self.places.clone()?,
-            children: self.children.copy()?,
-            spaces: self.spaces.copy()?,
             roots: self.roots.copy()?,
             stacks: self.stacks.copy()?,
         })
@@ -147,11 +128,17 @@ impl Indexes {
         ensures indexed { (ms : List Mount) → IsIndexed ms self.old → IsIndexed ms self.new }
     {
         self.places.reserve(additional)?;
-        self.children.reserve(additional)?;
-        self.spaces.reserve(additional)?;
         self.roots.reserve(additional)?;
         self.stacks.reserve(additional)?;
         Ok(())
+    }
+
+    /// How many mounts there is room for.
+    pub(crate) fn room(&self) -> usize
+        ensures { result ≡ room_of self.now }
+    {
+        let places = self.places.capacity() - self.places.len();
+        places.min(self.roots.room().min(self.stacks.room()))
     }
 
     /// The ID of the mount that stands at a place.
@@ -164,13 +151,11 @@ impl Indexes {
     /// A mount with a new ID has come, for which there is room, to the root of another or not.
     pub(crate) fn insert(&mut self, mount: Mount, on_root: bool)
         requires room { 0 < room_of self.old }
-        requires absent { IsUnlisted mount.id self.old }
+        requires absent { number_at self.old.roots.rows mount.id ≡ None }
         ensures indexed { (ms : List Mount) → IsTrue (rises id_of ms) → IsSingle ms → mount_at ms mount.id ≡ None → ForSome mount.place (λ p. on ms p ≡ None) → IsIndexed ms self.old → IsIndexed (put id_of mount ms) self.new }
         ensures room { room_of self.old ≤ room_of self.new + 1 }
     {
         enter(&mut self.places, mount);
-        self.children.enter(mount.id, parent_of(mount));
-        self.spaces.enter(mount.id, Some(mount.space));
         self.roots.enter(mount.id, rooted_in(mount));
         self.stacks.enter(mount, on_root);
     }
@@ -181,8 +166,6 @@ impl Indexes {
         ensures room { room_of self.old ≤ room_of self.new }
     {
         leave(&mut self.places, mount);
-        self.children.remove(mount.id);
-        self.spaces.remove(mount.id);
         uproot(&mut self.roots, mount);
         self.stacks.leave(mount);
     }
@@ -195,7 +178,6 @@ impl Indexes {
     {
         leave(&mut self.places, mount);
         stand(&mut self.places, place, mount.id);
-        self.children.set(mount.id, Some(place.mount));
         uproot(&mut self.roots, mount);
         self.stacks.go(mount, place, on_root);
     }

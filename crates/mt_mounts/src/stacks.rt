@@ -151,6 +151,15 @@ impl Stacks {
         Ok(())
     }
 
+    /// How many mounts there is room for.
+    pub(crate) fn room(&self) -> usize
+        ensures { result ≡ stack_room self.now }
+    {
+        let ends = self.ends.capacity() - self.ends.len();
+        let starts = self.starts.capacity() - self.starts.len();
+        ends.min(starts)
+    }
+
     /// The first place of the known stack that ends at this one, which is free, and how many steps lead from there.
     fn begun(&self, place: Place) -> Reach
         ensures { (next : Place → Option Place) → IsStacked next self.now → leads next (get place_eq self.now.starts) result.place 0 result.steps result.place place }

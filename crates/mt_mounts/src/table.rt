@@ -1,33 +1,39 @@
-//! The mounts of a forest, each found by its ID.
-ghost use Rattle.std.specs.Prelude.{◌≡◌, ◌+◌, ◌<◌, ◌≤◌, [], ◌∷◌, ◌++◌, true, cond, map, length, Some, None, OnOk, IfOk, IsOkUnless};
+//! The mounts of a forest, each found by its ID, and those of a parent or of a namespace.
+ghost use Rattle.std.specs.Prelude.{◌≡◌, ◌+◌, ◌<◌, ◌≤◌, [], ◌∷◌, ◌++◌, true, cond, map, length, slice_get, slice_set, Some, None, OnOk, IfOk, IsOkUnless};
 ghost use Rattle.std.specs.Option.{option_map};
+ghost use Rattle.slab.specs.Slab.{HasRoomFor};
 ghost use Rattle.mt_skel.specs.Keyed.{put};
-ghost use Rattle.mt_mounts.specs.Forest.{id_of, mount_at};
+ghost use Rattle.mt_lists.specs.Lists.{number_at, with_number};
+ghost use Rattle.mt_lists.specs.SlotLists.{lengthened};
+ghost use Rattle.mt_mounts.specs.Seats.{parent_of};
+ghost use Rattle.mt_mounts.specs.Forest.{id_of, mount_at, children, mounts_in};
 ghost use Rattle.mt_mounts.specs.ForestView.{with_attrs, with_place, without_id};
 ghost use Rattle.mt_mounts.specs.Slots.{mounts_of};
 ghost use Rattle.mt_mounts.specs.Follow.{given_attrs};
 
-use crate::mount::{Attrs, Mount, MountId, Place};
+use crate::mount::{Attrs, Mount, MountId, Place, SpaceId};
 use indexmap::IndexMap;
+use mt_lists::slot_lists::SlotLists;
 use mt_skel::fault::Fault;
 use slab::Slab;
 use std::alloc::Global;
 use std::marker::Model;
 
-/// The mounts, each in a slot, and for each ID the key of its slot.
+/// The mounts, each in a slot, for each ID the key of its slot, and lists, by rising ID, of the children of each mount
+/// and of the mounts of each namespace.
 ///
 /// A call that names one mount takes the time of a look-up in a hash table. A list of all takes
-/// their number and a sort.
+/// their number and a sort. The other lists lie in the slots of the mounts, so that a mount comes and goes with one
+/// look-up for each list.
 pub(crate) struct Table {
     slots: Slab<Mount>,
     keys: IndexMap<MountId, usize>,
+    children: SlotLists,
+    spaces: SlotLists,
     alloc: Global,
 }
 
 impl Model for Table {
-    ghost use Rattle.std.specs.Prelude.{◌-◌, min};
-    ghost use Rattle.slab.specs.Slab.{slab_len};
-    ghost use Rattle.indexmap.specs.IndexMap.{spare};
     ghost use Rattle.mt_mounts.specs.TableView.{TableView, table_code};
 
     ghost Value = { TableView };
@@ -36,11 +42,12 @@ impl Model for Table {
 
     ghost coded = { table_code mount.the_row.coded };
 
-    ghost use Rattle.mt_mounts.specs.Slots.{slab_mounts, IsKeyed};
+    ghost use Rattle.mt_mounts.specs.Slots.{slab_mounts};
+    ghost use Rattle.mt_mounts.specs.Seats.{IsTable, table_room};
 
-    ghost view = { λ t. record { mounts = slab_mounts t.slots; room = min (t.slots.capacity - slab_len t.slots) (spare t.keys) } };
+    ghost view = { λ t. record { mounts = slab_mounts t.slots; room = table_room t.slots t.keys t.children t.spaces } };
 
-    ghost invariant = { λ t. IsKeyed t.slots t.keys };
+    ghost invariant = { λ t. IsTable t.slots t.keys t.children t.spaces };
 }
 
 // Written out, so that a forest lets its table go as one thing.
@@ -49,6 +56,8 @@ impl Drop for Table {
         let Table {
             slots: _slots,
             keys: _keys,
+            children: _children,
+            spaces: _spaces,
             alloc: _alloc,
         } = self;
     }
@@ -75,6 +84,54 @@ fn stands_as(old: Mount, new: Mount) -> bool
         && same_place(old.place, new.place)
 }
 
+/// The mount that a mount stands on.
+fn parent_of(mount: Mount) -> Option<MountId>
+    ensures { result ≡ parent_of mount }
+{
+    match mount.place {
+        Some(place) => Some(place.mount),
+        None => None,
+    }
+}
+
+/// Puts an ID that is in no slot into one that is free, if it has a number.
+fn seat(lists: &mut SlotLists, slot: usize, id: MountId, number: Option<u64>)
+    requires room { 0 < lists.old.room }
+    requires free { slice_get lists.old.slots slot ≡ Some None }
+    requires absent { number_at lists.old.rows id ≡ None }
+    ensures rows { lists.new.rows ≡ with_number id number lists.old.rows }
+    ensures slots { lists.new.slots ≡ slice_set lists.old.slots slot (option_map (λ _. id) number) }
+    ensures room { lists.old.room ≤ lists.new.room + 1 }
+{
+    if let Some(number) = number {
+        lists.insert(slot, id, number);
+    }
+}
+
+/// The same lists, with at least so many slots. Refused as `NoMemory` alone.
+fn copy_of(lists: &SlotLists, width: usize) -> Result<SlotLists, Fault>
+    ensures rows { IfOk result (λ copy. copy.rows ≡ lists.now.rows) }
+    ensures slots { IfOk result (λ copy. copy.slots ≡ lengthened width lists.now.slots) }
+    ensures memory { IsOkUnless result Fault.NoMemory }
+{
+    let mut copy = lists.copy()?;
+    copy.reserve(width, 0)?;
+    Ok(copy)
+}
+
+/// The same slots, with room for so many more mounts. Refused as `NoMemory` alone.
+///
+/// A table's slab grows in a copy: its lists have a slot for each key that it has room for, also where they cannot grow.
+fn grown(slots: &Slab<Mount>, additional: usize) -> Result<Slab<Mount>, Fault>
+    ensures slots { IfOk result (λ grown. grown.slots ≡ slots.now.slots) }
+    ensures room { IfOk result (λ grown. HasRoomFor grown additional) }
+    ensures memory { IsOkUnless result Fault.NoMemory }
+{
+    let mut grown = slots.clone()?;
+    grown.reserve(additional)?;
+    Ok(grown)
+}
+
 impl Table {
     /// No mounts. Their memory will come from `alloc`.
     pub(crate) fn new(alloc: Global) -> Self
@@ -83,6 +140,8 @@ impl Table {
         Table {
             slots: Slab::new(alloc),
             keys: IndexMap::new(alloc),
+            children: SlotLists::new(alloc),
+            spaces: SlotLists::new(alloc),
             alloc,
         }
     }
@@ -92,10 +151,13 @@ impl Table {
         ensures copy { IfOk result (λ table. table.mounts ≡ self.now.mounts) }
         ensures memory { IsOkUnless result Fault.NoMemory }
     {
+        let slots = self.slots.clone()?;
         Ok(Table {
-            slots: self.slots.clone()?,
+            children: copy_of(&self.children, slots.capacity())?,
+            spaces: copy_of(&self.spaces, slots.capacity())?,
             keys: self.keys.clone()?,
             alloc: self.alloc,
+            slots,
         })
     }
 
@@ -106,9 +168,26 @@ impl Table {
         ensures keeps { self.old.room ≤ self.new.room }
         ensures mounts { self.new.mounts ≡ self.old.mounts }
     {
-        self.slots.reserve(additional)?;
         self.keys.reserve(additional)?;
+        if self.slots.capacity() - self.slots.len() < additional {
+            let slots = grown(&self.slots, additional)?;
+            self.children.reserve(slots.capacity(), additional)?;
+            self.spaces.reserve(slots.capacity(), additional)?;
+            self.slots = slots;
+            return Ok(());
+        }
+        self.children.reserve(0, additional)?;
+        self.spaces.reserve(0, additional)?;
         Ok(())
+    }
+
+    /// How many mounts may come with no more memory.
+    pub(crate) fn room(&self) -> usize
+        ensures { result ≡ self.now.room }
+    {
+        let slots = self.slots.capacity() - self.slots.len();
+        let keys = self.keys.capacity() - self.keys.len();
+        slots.min(keys.min(self.children.room().min(self.spaces.room())))
     }
 
     /// The allocator of all its memory.
@@ -174,8 +253,10 @@ impl Table {
         ensures mounts { self.new.mounts ≡ put id_of mount self.old.mounts }
         ensures room { self.old.room ≤ self.new.room + 1 }
     {
-        let key = self.slots.insert_reserved(mount);
-        self.keys.insert(mount.id, key).unwrap();
+        let slot = self.slots.insert_reserved(mount);
+        self.keys.insert(mount.id, slot).unwrap();
+        seat(&mut self.children, slot, mount.id, parent_of(mount));
+        self.spaces.insert(slot, mount.id, mount.space);
     }
 
     /// Takes the mount with this ID away, if it is there, and answers it.
@@ -184,8 +265,10 @@ impl Table {
         ensures mounts { self.new.mounts ≡ without_id id self.old.mounts }
         ensures room { self.old.room ≤ self.new.room }
     {
-        if let Some(key) = self.keys.swap_remove(&id) {
-            return Some(self.slots.remove(key));
+        if let Some(slot) = self.keys.swap_remove(&id) {
+            self.children.remove(slot);
+            self.spaces.remove(slot);
+            return Some(self.slots.remove(slot));
         }
         None
     }
@@ -220,14 +303,17 @@ impl Table {
         }
     }
 
-    /// Gives the mount with this ID, if it is there, this place.
+    /// Gives the mount with this ID, if it is there, this place. There is room as for one more mount.
     pub(crate) fn set_place(&mut self, id: MountId, place: Place)
+        requires room { 0 < self.old.room }
         ensures mounts { self.new.mounts ≡ with_place id place self.old.mounts }
-        ensures room { self.old.room ≤ self.new.room }
+        ensures room { self.old.room ≤ self.new.room + 1 }
     {
-        if let Some(key) = self.keys.get(&id).copied() {
-            if let Some(mount) = self.slots.get_mut(key) {
+        if let Some(slot) = self.keys.get(&id).copied() {
+            if let Some(mount) = self.slots.get_mut(slot) {
                 mount.place = Some(place);
+                self.children.remove(slot);
+                self.children.insert(slot, id, place.mount);
             }
         }
     }
@@ -255,6 +341,39 @@ impl Table {
             mounts.push(*mount)?;
         }
         mounts.sort_unstable_by_key(|mount| mount.id);
+        Ok(mounts)
+    }
+
+    /// How many mounts stand on a mount.
+    pub(crate) fn child_count(&self, id: MountId) -> usize
+        ensures { result ≡ length (children self.now.mounts id) }
+    {
+        self.children.count(id)
+    }
+
+    /// The IDs of the mounts that stand on a mount, rising. Refused as `NoMemory` alone.
+    pub(crate) fn children_of(&self, id: MountId) -> Result<Vec<MountId>, Fault>
+        ensures children { IfOk result (λ ids. ids.items ≡ children self.now.mounts id) }
+        ensures memory { IsOkUnless result Fault.NoMemory }
+    {
+        let ids = self.children.ids(self.alloc, id)?;
+        Ok(ids)
+    }
+
+    /// How many mounts a namespace has.
+    pub(crate) fn count_in(&self, space: SpaceId) -> usize
+        ensures { result ≡ length (mounts_in self.now.mounts space) }
+    {
+        self.spaces.count(space)
+    }
+
+    /// The mounts of a namespace, by rising ID. Refused as `NoMemory` alone.
+    pub(crate) fn mounts_in(&self, space: SpaceId) -> Result<Vec<Mount>, Fault>
+        ensures mounts { IfOk result (λ mounts. mounts.items ≡ mounts_in self.now.mounts space) }
+        ensures memory { IsOkUnless result Fault.NoMemory }
+    {
+        let ids = self.spaces.ids(self.alloc, space)?;
+        let mounts = self.mounts_of(&ids)?;
         Ok(mounts)
     }
 }

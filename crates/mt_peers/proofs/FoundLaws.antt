@@ -1,6 +1,6 @@
 -- Entries that are found by halving their list: the place of a new one, one that gets another state, one that is taken out.
 use Rattle.std.proofs.Common.{◌≡◌, ℕ, zero, suc, ◌+◌, ◌-◌, ◌<◌, ◌≤◌, Bool, true, false, cond, not, eqb, leb, List, [], ◌∷◌, ◌++◌, map, take, drop, length, get_or, set, slice_get, Some, None, refl, sym, ap, ◌∙◌, arith}
-use Rattle.std.specs.Prelude.{nat_lt, nat_eq, is_some}
+use Rattle.std.specs.Prelude.{nat_lt, nat_eq}
 use Rattle.std.specs.List.{filter, list_all, position_or_len, HoldsAt}
 use Rattle.std.specs.List.Sorted.{IsNonDecreasingBy, IsPartitionPoint}
 use Rattle.std.specs.Ordering.{nat_cmp}
@@ -10,12 +10,10 @@ use Rattle.std.proofs.lemmas.Cmp.{ranked}
 use Rattle.std.proofs.lemmas.List.Sums.{position_or_len_is}
 use Rattle.std.proofs.lemmas.Option.{slice_get-get_or}
 use Rattle.mt_skel.specs.Keyed.{rises, row_at}
-use Rattle.mt_skel.proofs.SearchLaws.{found_at}
 use Rattle.mt_peers.specs.declared.state.State.{State}
 use Rattle.mt_peers.specs.declared.entries.Entry.{Entry}
-use Rattle.mt_peers.specs.Peers.{state_at}
 use Rattle.mt_peers.specs.Entries.{now_peers, given_entry}
-use Rattle.mt_peers.proofs.EntryLaws.{entry_mount, entry_state, state_now}
+use Rattle.mt_peers.proofs.EntryLaws.{entry_mount}
 
 above_at : (k : ℕ) (es : List Entry) (j : ℕ) (d : Entry) → list_all (λ e. nat_lt k (entry_mount e)) es ≡ true → j < length es → k < (get_or es j d).mount
 above_at k [] j d all l = absurd (omega (arith, l))
@@ -88,12 +86,6 @@ module _ (id : ℕ) (s : State) where
           → ◌≡◌ {A = List Entry} (x ∷ xs) (record { mount = x.mount; state = cond b s x.state; was = x.was } ∷ map (given_entry id s) xs)
       go true f ih = absurd (cc)
       go false f ih = ap (λ t. x ∷ t) (ih f)
-
-pub there_found : (id : ℕ) (es : List Entry) (i : ℕ) → rises entry_mount es ≡ true → i < length es → HoldsAt (λ e. nat_cmp (entry_mount e) id ≡ Equal) es i → true ≡ is_some (state_at (now_peers es) id)
-there_found id es i up l at = ap (λ o. is_some (entry_state o)) (found_at entry_mount id i es nothing up l at) ∙ ap is_some (sym (state_now id es))
-
-pub there_none : (id : ℕ) (es : List Entry) → row_at entry_mount id es ≡ None → false ≡ is_some (state_at (now_peers es) id)
-there_none id es none = ap (λ o. is_some (entry_state o)) (sym none) ∙ ap is_some (sym (state_now id es))
 
 -- one is taken out
 kept_above : (id : ℕ) (es : List Entry) → list_all (λ e. nat_lt id (entry_mount e)) es ≡ true → es ≡ filter (λ (e : Entry). not (nat_eq id e.mount)) es

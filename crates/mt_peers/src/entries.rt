@@ -1,5 +1,5 @@
 //! Mounts with their states, in a list by rising ID.
-ghost use Rattle.std.specs.Prelude.{◌≡◌, ◌+◌, ◌<◌, ◌≤◌, ◌^◌, map, length, cond, not, ◌&&◌, is_none, is_some, nat_eq, nat_lt, None, true, IsTrue, vec_capacity, vec_len};
+ghost use Rattle.std.specs.Prelude.{◌≡◌, ◌+◌, ◌<◌, ◌≤◌, ◌^◌, map, length, cond, not, ◌&&◌, is_none, nat_eq, nat_lt, None, true, IsTrue, vec_capacity, vec_len};
 ghost use Rattle.std.specs.List.{filter, position_or_len};
 ghost use Rattle.mt_skel.specs.Keyed.{put, rises, among};
 ghost use Rattle.mt_peers.specs.Peers.{mount_of, state_at};
@@ -70,18 +70,19 @@ pub(crate) fn add_entry(entries: &mut Vec<Entry>, id: MountId, state: State)
     entries.insert(place, entry).unwrap();
 }
 
-/// Gives the mount with this ID, if it is there, this state. Answers whether it is there.
-pub(crate) fn give_state(entries: &mut [Entry], id: MountId, state: State) -> bool
+/// Gives the mount with this ID, if it is there, this state. Answers the state that it had.
+pub(crate) fn give_state(entries: &mut [Entry], id: MountId, state: State) -> Option<State>
     requires { IsTrue (rises mount_of (now_peers entries.old)) }
     ensures entries { entries.new ≡ map (given_entry id state) entries.old }
-    ensures there { result ≡ is_some (state_at (now_peers entries.old) id) }
+    ensures was { result ≡ state_at (now_peers entries.old) id }
 {
     match entries.binary_search_by_key(&id, |entry| entry.mount) {
         Ok(at) => {
+            let was = entries[at].state;
             entries[at].state = state;
-            true
+            Some(was)
         }
-        Err(_) => false,
+        Err(_) => None,
     }
 }
 

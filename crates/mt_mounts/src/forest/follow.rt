@@ -137,5 +137,6 @@ impl Forest {
         self.table.insert(mount);
         self.log.clear();
         self.since = Earlier::of(&self.table);
+        self.room -= 1;
     }
 }

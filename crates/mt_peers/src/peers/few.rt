@@ -5,7 +5,6 @@ ghost use Rattle.std.specs.Option.{option_map_or};
 ghost use Rattle.mt_skel.specs.Keyed.{among};
 ghost use Rattle.mt_peers.specs.Peers.{peering_of, state_at, with_state};
 ghost use Rattle.mt_peers.specs.Making.{made, is_shared};
-ghost use Rattle.mt_peers.specs.Listed.{MastersLive};
 ghost use Rattle.mt_peers.specs.Few.{gains, unsettled};
 
 use crate::chosen::Chosen;
@@ -26,41 +25,36 @@ fn gains(was: &State, state: &State) -> bool
     was.master == state.master && (was.group.is_none() || was.group == state.group)
 }
 
+/// Whether it is known that each master has a member also once a mount has this state, in the place of the one that it
+/// had, if it is there.
+pub(crate) fn stays_live(live: bool, was: Option<State>, state: &State) -> bool
+    ensures live { IsTrue result → IsTrue live }
+    ensures gains { IsTrue result → IsTrue (option_map_or (λ s. gains s state.now) was true) }
+{
+    match was {
+        Some(was) if live => gains(&was, state),
+        _ => live,
+    }
+}
+
 impl Peers {
-    /// Gives a mount this state, and forgets what is known of masters.
-    pub(crate) fn give(&mut self, id: MountId, state: State)
+    /// Gives a mount this state, answers the one that it had, and forgets what is known of masters.
+    pub(crate) fn give(&mut self, id: MountId, state: State) -> Option<State>
         requires room { 0 < self.old.room }
+        ensures was { result ≡ state_at self.old.peers id }
         ensures peers { self.new.peers ≡ with_state id state self.old.peers }
         ensures next { self.new.next ≡ self.old.next }
         ensures since { self.new.since ≡ self.old.since }
         ensures room { self.old.room ≤ self.new.room + 1 }
     {
         self.masters_live = false;
-        if give_state(&mut self.entries, id, state) {
+        let was = give_state(&mut self.entries, id, state);
+        if was.is_some() {
             self.members.set(id, state.group);
             self.slaves.set(id, state.master);
             self.log.add(id);
         }
-    }
-
-    /// Whether a mount that gets this state, if it is there, keeps its master, and its group if it has one.
-    fn gains(&self, id: MountId, state: &State) -> bool
-        ensures { result ≡ option_map_or (λ s. gains s state.now) (state_at self.now.peers id) true }
-    {
-        match self.state(id) {
-            Some(was) => gains(&was, state),
-            None => true,
-        }
-    }
-
-    /// Whether it is known that each master has a member also once a mount has this state.
-    pub(crate) fn stays_live(&self, id: MountId, state: &State) -> bool
-        ensures { IsTrue result → MastersLive (with_state id state.now self.now.peers) }
-    {
-        if !self.masters_live {
-            return false;
-        }
-        self.gains(id, state)
+        was
     }
 
     /// Whether these mounts can be made so one after the other: they are few beside all, in order, and it is known that no

@@ -5,5 +5,5 @@ use Rattle.mt_mounts.proofs.forest.Forest.spaces.Goals as goal
 
 pub returns : goal.returns
 returns c =
-    c.len.ensures.len ∙ root_count c.self.inside.table.mounts c.self.inside.indexes c.self.invariant.indexed
+    c.len.ensures.len ∙ root_count c.self.inside.table.mounts c.self.inside.indexes.roots.rows c.self.invariant.0.indexed.roots
     ∙ ap (λ f. length (roots f.mounts)) c.self.view_is

@@ -6,6 +6,6 @@ use Rattle.mt_mounts.proofs.forest.Forest.standing_at.Goals as goal
 
 pub returns : goal.returns
 returns c =
-    c.get.ensures ∙ ap (option_and_then (mount_at c.self.inside.table.mounts)) (c.in_ok-id.ensures ∙ c.self.invariant.indexed.places c.args.place)
-    ∙ mount_found (is_at c.args.place) c.self.inside.table.mounts c.self.invariant.rising
+    c.get.ensures ∙ ap (option_and_then (mount_at c.self.inside.table.mounts)) (c.in_ok-id.ensures ∙ c.self.invariant.0.indexed.places c.args.place)
+    ∙ mount_found (is_at c.args.place) c.self.inside.table.mounts c.self.invariant.0.rising
     ∙ ap (λ f. on f.mounts c.args.place) c.self.view_is

@@ -7,4 +7,4 @@ pub returns-clause-copy : goal.returns-clause-copy
 returns-clause-copy c =
     λ ms x. indexed_same ms c.args.self.now _
     (same_from_all_zip _ c.args.self.now.places.entries c.in_ok-clone.field-0.entries c.in_ok-clone.ensures.cases (λ x y e. λ i. (e.0 i, e.1 i)))
-    c.in_ok-copy.ensures.copy c.in_ok-copy-2.ensures.copy c.in_ok-copy-3.ensures.copy (c.in_ok-copy-4.ensures.copy (over ms)) x
+    c.in_ok-copy.ensures.copy (c.in_ok-copy-2.ensures.copy (over ms)) x

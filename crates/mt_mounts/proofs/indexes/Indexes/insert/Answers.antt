@@ -7,7 +7,5 @@ use Rattle.mt_mounts.proofs.indexes.Indexes.insert.Goals as goal
 pub returns-clause-indexed : goal.returns-clause-indexed
 returns-clause-indexed c =
     λ ms r single absent free x. indexed_put ms c.args.self.now _ r x c.args.mount absent free c.enter.ensures.places
-    (c.enter-2.ensures.rows ∙ ap (λ o. with_number c.args.mount.id o c.args.self.now.children.rows) c.parent_of.ensures)
-    c.enter-3.ensures.rows
-    (c.enter-4.ensures.rows ∙ ap (λ o. with_number c.args.mount.id o c.args.self.now.roots.rows) c.rooted_in.ensures)
-    (c.enter-5.ensures.stacked (over ms))
+    (c.enter-2.ensures.rows ∙ ap (λ o. with_number c.args.mount.id o c.args.self.now.roots.rows) c.rooted_in.ensures)
+    (c.enter-3.ensures.stacked (over ms))

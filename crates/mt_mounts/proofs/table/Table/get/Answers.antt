@@ -8,17 +8,17 @@ use Rattle.mt_mounts.proofs.table.Table.get.Goals as goal
 pub returns-in_err-key : goal.returns-in_err-key
 returns-in_err-key c =
     c.from_residual.ensures
-    ∙ sym (mount_keyed c.self.inside.slots c.self.inside.keys c.self.invariant c.args.id ∙ ap (option_and_then (get c.self.inside.slots)) (sym c.get.ensures.value ∙ sym c.in_err-key.ensures))
+    ∙ sym (mount_keyed c.self.inside.slots c.self.inside.keys c.self.invariant.keyed c.args.id ∙ ap (option_and_then (get c.self.inside.slots)) (sym c.get.ensures.value ∙ sym c.in_err-key.ensures))
     ∙ ap (λ t. mount_at t.mounts c.args.id) c.self.view_is
 
 pub returns-in_err-mount : goal.returns-in_err-mount
 returns-in_err-mount c =
     c.from_residual-in_err-mount.ensures ∙ c.in_err-mount.ensures
-    ∙ sym (mount_keyed c.self.inside.slots c.self.inside.keys c.self.invariant c.args.id ∙ ap (option_and_then (get c.self.inside.slots)) (sym c.get.ensures.value ∙ sym c.in_ok-key.ensures))
+    ∙ sym (mount_keyed c.self.inside.slots c.self.inside.keys c.self.invariant.keyed c.args.id ∙ ap (option_and_then (get c.self.inside.slots)) (sym c.get.ensures.value ∙ sym c.in_ok-key.ensures))
     ∙ ap (λ t. mount_at t.mounts c.args.id) c.self.view_is
 
 pub returns : goal.returns
 returns c =
     c.in_ok-mount.ensures
-    ∙ sym (mount_keyed c.self.inside.slots c.self.inside.keys c.self.invariant c.args.id ∙ ap (option_and_then (get c.self.inside.slots)) (sym c.get.ensures.value ∙ sym c.in_ok-key.ensures))
+    ∙ sym (mount_keyed c.self.inside.slots c.self.inside.keys c.self.invariant.keyed c.args.id ∙ ap (option_and_then (get c.self.inside.slots)) (sym c.get.ensures.value ∙ sym c.in_ok-key.ensures))
     ∙ ap (λ t. mount_at t.mounts c.args.id) c.self.view_is

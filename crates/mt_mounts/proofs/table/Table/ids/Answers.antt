@@ -11,5 +11,5 @@ returns-clause-ids c =
     let first = c.into_iter-mount-iterator.ensures.into_iter_gives ∙ c.iter-mount-items.ensures.rest in
     let all : c.loop-mount.ids.items ≡ ids_of (entries c.self.inside.slots) =
     sym (append-nil c.loop-mount.ids.items) ∙ ap (λ x. c.loop-mount.ids.items ++ ids_of x) (sym left.0) ∙ c.loop-mount.invariant.listed ∙ ap ids_of first in
-    sorted_ids c.self.inside.slots c.loop-mount.ids.items c.sort.new.self.items (distinct_ids c.self.inside.slots c.self.inside.keys c.self.invariant) all c.in_ok-sort.ensures.permutation c.in_ok-sort.ensures.sorted
+    sorted_ids c.self.inside.slots c.loop-mount.ids.items c.sort.new.self.items (distinct_ids c.self.inside.slots c.self.inside.keys c.self.invariant.keyed) all c.in_ok-sort.ensures.permutation c.in_ok-sort.ensures.sorted
     ∙ ap (λ t. map id_of t.mounts) c.self.view_is

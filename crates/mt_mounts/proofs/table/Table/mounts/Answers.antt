@@ -14,5 +14,5 @@ returns-clause-mounts c =
     let all : c.loop-mount.mounts.items ≡ vals (entries c.self.inside.slots) =
     sym (append-nil c.loop-mount.mounts.items) ∙ ap (λ x. c.loop-mount.mounts.items ++ vals x) (sym left.0) ∙ c.loop-mount.invariant.listed ∙ ap vals first in
     let sorted = IsNonDecreasingBy-from_sort_by_key id_of _ c.sort_unstable_by_key.ensures.sorted (λ a r q k. search rules) in
-    sorted_mounts c.self.inside.slots c.loop-mount.mounts.items c.sort_unstable_by_key.new.self.items (distinct_ids c.self.inside.slots c.self.inside.keys c.self.invariant) all c.sort_unstable_by_key.ensures.permutation sorted
+    sorted_mounts c.self.inside.slots c.loop-mount.mounts.items c.sort_unstable_by_key.new.self.items (distinct_ids c.self.inside.slots c.self.inside.keys c.self.invariant.keyed) all c.sort_unstable_by_key.ensures.permutation sorted
     ∙ ap (λ t. t.mounts) c.self.view_is

@@ -1,26 +1,15 @@
-use Rattle.std.proofs.Common.{refl, ap, ◌∙◌}
-use Rattle.mt_mounts.proofs.TableLaws.{table_same, keyed_same}
+use Rattle.std.proofs.Common.{inr, ap, ◌∙◌, arith}
+use Rattle.mt_mounts.proofs.TableLaws.{table_same}
+use Rattle.mt_mounts.proofs.TableStepLaws.{table_wider}
 use Rattle.mt_mounts.proofs.table.Table.reserve.Goals as goal
 
-pub invariant_of-self : goal.invariant_of-self
-invariant_of-self c = keyed_same c.self.inside.slots c.reserve.new.self c.self.inside.keys c.self.inside.keys (ap (λ s. s.slots) c.reserve.ensures.rest_kept) refl c.self.invariant
+pub invariant_of-self-then-capacity-len : goal.invariant_of-self-then-capacity-len
+invariant_of-self-then-capacity-len c =
+    table_wider c.self.inside.slots c.self.inside.keys c.self.inside.children c.self.inside.spaces c.self.invariant
+    c.in_ok-slots.slots c.reserve.new.self c.reserve-then-capacity-len.new.self c.reserve-then-capacity-len-2.new.self c.capacity-then-capacity-len.result c.capacity-then-capacity-len-2.result
+    c.in_ok-slots.ensures.slots c.reserve.ensures.entries
+    c.reserve-then-capacity-len.ensures.rows c.in_ok-reserve-2.ensures.slots (inr (omega (arith, c.capacity-then-capacity-len.ensures.value)))
+    c.reserve-then-capacity-len-2.ensures.rows c.in_ok-reserve-3.ensures.slots (inr (omega (arith, c.capacity-then-capacity-len-2.ensures.value)))
 
-pub returns-in_err-reserve-clause-mounts : goal.returns-in_err-reserve-clause-mounts
-returns-in_err-reserve-clause-mounts c =
-    table_same c.self.inside.slots c.reserve.new.self (ap (λ s. s.slots) c.reserve.ensures.rest_kept) ∙ ap (λ t. t.mounts) c.self.view_is
-
-pub invariant_of-self-in_err-reserve-2 : goal.invariant_of-self-in_err-reserve-2
-invariant_of-self-in_err-reserve-2 c =
-    keyed_same c.self.inside.slots c.reserve.new.self c.self.inside.keys c.reserve-2.new.self (ap (λ s. s.slots) c.reserve.ensures.rest_kept) c.reserve-2.ensures.entries c.self.invariant
-
-pub returns-in_err-reserve-2-clause-mounts : goal.returns-in_err-reserve-2-clause-mounts
-returns-in_err-reserve-2-clause-mounts c =
-    table_same c.self.inside.slots c.reserve.new.self (ap (λ s. s.slots) c.reserve.ensures.rest_kept) ∙ ap (λ t. t.mounts) c.self.view_is
-
-pub invariant_of-self-2 : goal.invariant_of-self-2
-invariant_of-self-2 c =
-    keyed_same c.self.inside.slots c.reserve.new.self c.self.inside.keys c.reserve-2.new.self (ap (λ s. s.slots) c.reserve.ensures.rest_kept) c.reserve-2.ensures.entries c.self.invariant
-
-pub returns-clause-mounts : goal.returns-clause-mounts
-returns-clause-mounts c =
-    table_same c.self.inside.slots c.reserve.new.self (ap (λ s. s.slots) c.reserve.ensures.rest_kept) ∙ ap (λ t. t.mounts) c.self.view_is
+pub returns-then-capacity-len-clause-mounts : goal.returns-then-capacity-len-clause-mounts
+returns-then-capacity-len-clause-mounts c = table_same c.self.inside.slots c.in_ok-slots.slots c.in_ok-slots.ensures.slots ∙ ap (λ t. t.mounts) c.self.view_is

@@ -2,24 +2,25 @@ use Rattle.std.proofs.Common.{ap, ◌∙◌, sym, refl}
 use Rattle.std.specs.Option.{option_and_then}
 use Rattle.slab.specs.Slab.{get}
 use Rattle.mt_mounts.specs.ForestView.{with_attrs}
-use Rattle.mt_mounts.proofs.TableLaws.{keyed_written}
 use Rattle.mt_mounts.proofs.ChangeLaws.{attrs_absent, attrs_written}
+use Rattle.mt_mounts.proofs.TableStepLaws.{table_attrs}
 use Rattle.mt_mounts.proofs.table.Table.set_attrs.Goals as goal
 
 pub invariant_of-self : goal.invariant_of-self
 invariant_of-self c =
-    keyed_written c.self.inside.slots c.self.inside.keys c.self.invariant c.in-Some.key c.in-Some-get_mut.mount.now _ (sym c.in-Some-get_mut.ensures.value) refl
+    table_attrs c.self.inside.slots c.self.inside.keys c.self.inside.children c.self.inside.spaces c.self.invariant c.args.id c.in-Some.key c.in-Some-get_mut.mount.now
+    (sym c.get.ensures.value ∙ sym c.in-Some.ensures) (sym c.in-Some-get_mut.ensures.value) c.args.attrs
 
 pub returns-in-Some-get_mut-clause-mounts : goal.returns-in-Some-get_mut-clause-mounts
 returns-in-Some-get_mut-clause-mounts c =
-    attrs_written c.self.inside.slots c.self.inside.keys c.self.invariant c.args.id c.in-Some.key c.in-Some-get_mut.mount.now
+    attrs_written c.self.inside.slots c.self.inside.keys c.self.invariant.keyed c.args.id c.in-Some.key c.in-Some-get_mut.mount.now
     (sym c.get.ensures.value ∙ sym c.in-Some.ensures) (sym c.in-Some-get_mut.ensures.value) c.args.attrs
     ∙ ap (λ t. with_attrs c.args.id c.args.attrs t.mounts) c.self.view_is
 
 pub returns-in_default-get_mut-clause-mounts : goal.returns-in_default-get_mut-clause-mounts
 returns-in_default-get_mut-clause-mounts c =
     let e = ap (λ t. t.mounts) c.self.view_is in
-    attrs_absent c.self.inside.slots c.self.inside.keys c.self.invariant c.args.id
+    attrs_absent c.self.inside.slots c.self.inside.keys c.self.invariant.keyed c.args.id
     (ap (option_and_then (get c.self.inside.slots)) (sym c.get.ensures.value ∙ sym c.in-Some.ensures) ∙ sym c.in_default-get_mut.ensures.value) c.args.attrs
     ∙ ap (with_attrs c.args.id c.args.attrs) e
 
@@ -27,6 +28,6 @@ pub returns-in_default-clause-mounts : goal.returns-in_default-clause-mounts
 returns-in_default-clause-mounts c =
     let e = ap (λ t. t.mounts) c.self.view_is in
     sym e
-    ∙ attrs_absent c.self.inside.slots c.self.inside.keys c.self.invariant c.args.id
+    ∙ attrs_absent c.self.inside.slots c.self.inside.keys c.self.invariant.keyed c.args.id
     (ap (option_and_then (get c.self.inside.slots)) (sym c.get.ensures.value ∙ sym c.in_default.ensures)) c.args.attrs
     ∙ ap (with_attrs c.args.id c.args.attrs) e

@@ -12,21 +12,21 @@ use Rattle.mt_lists.proofs.LogLaws.{alike-noted}
 use Rattle.mt_peers.proofs.ListedLaws.{given-absent, listed-given}
 use Rattle.mt_peers.proofs.SinceLaws.{but_given, kept-is}
 use Rattle.mt_peers.proofs.peers.Peers.give.Goals as goal
-use Rattle.mt_peers.proofs.peers.Peers.give.Goals.{Else-give_state}
+use Rattle.mt_peers.proofs.peers.Peers.give.Goals.{Else-is_some}
 
 -- the new entries are the states with that one given
-is_given : (c : goal.After-add) → now_peers (with_items c.self.inside.entries c.give_state.new.entries).items ≡ with_state c.args.id c.args.state (now_peers c.self.inside.entries.items)
+is_given : (c : goal.After-add) → now_peers (with_items c.self.inside.entries c.give_state-was.new.entries).items ≡ with_state c.args.id c.args.state (now_peers c.self.inside.entries.items)
 is_given c =
-    ap now_peers (with_items_is c.self.inside.entries c.give_state.new.entries (c.give_state.auto.entries ∙ c.deref_mut.ensures.len))
-    ∙ ap now_peers c.give_state.ensures.entries
+    ap now_peers (with_items_is c.self.inside.entries c.give_state-was.new.entries (c.give_state-was.auto.entries ∙ c.deref_mut.ensures.len))
+    ∙ ap now_peers c.give_state-was.ensures.entries
     ∙ given-now c.args.id c.args.state c.deref_mut.result.now
     ∙ ap (λ (es : List Entry). with_state c.args.id c.args.state (now_peers es)) c.deref_mut.ensures.value
 
 -- and the same where there is none
-is_same : (c : Else-give_state) → now_peers (with_items c.self.inside.entries c.give_state.new.entries).items ≡ with_state c.args.id c.args.state (now_peers c.self.inside.entries.items)
+is_same : (c : Else-is_some) → now_peers (with_items c.self.inside.entries c.give_state-was.new.entries).items ≡ with_state c.args.id c.args.state (now_peers c.self.inside.entries.items)
 is_same c =
-    ap now_peers (with_items_is c.self.inside.entries c.give_state.new.entries (c.give_state.auto.entries ∙ c.deref_mut.ensures.len))
-    ∙ ap now_peers c.give_state.ensures.entries
+    ap now_peers (with_items_is c.self.inside.entries c.give_state-was.new.entries (c.give_state-was.auto.entries ∙ c.deref_mut.ensures.len))
+    ∙ ap now_peers c.give_state-was.ensures.entries
     ∙ given-now c.args.id c.args.state c.deref_mut.result.now
     ∙ ap (λ (es : List Entry). with_state c.args.id c.args.state (now_peers es)) c.deref_mut.ensures.value
 
@@ -34,21 +34,21 @@ pub invariant_of-self : goal.invariant_of-self
 invariant_of-self c =
     let es = now_peers c.self.inside.entries.items in
     let since = earlier c.self.inside.since.seen.items (λ v. now_peers v.items) in
-    let there = ap (λ (es : List Entry). is_some (state_at (now_peers es) c.args.id)) (sym c.deref_mut.ensures.value) ∙ sym c.give_state.ensures.there ∙ c.if-give_state.true in
-    kept-is _ _ _ _ _ _ since c.add.new.self.ids _ (is_given c) c.set.ensures.rows c.set-then-give_state.ensures.rows
+    let there = ap (λ (es : List Entry). is_some (state_at (now_peers es) c.args.id)) (sym c.deref_mut.ensures.value) ∙ ap is_some (sym c.give_state-was.ensures.was) ∙ sym c.is_some.ensures ∙ c.if-is_some.true in
+    kept-is _ _ _ _ _ _ since c.add.new.self.ids _ (is_given c) c.set.ensures.rows c.set-then-is_some.ensures.rows
     (listed-given c.args.id c.args.state es c.self.inside.members.rows c.self.inside.slaves.rows c.self.invariant.listed there)
     (alike-noted c.self.inside.log.ids (c.args.id ∷ []) c.add.new.self.ids (state_at since) (state_at es) (state_at (with_state c.args.id c.args.state es)) c.add.ensures.ids c.self.invariant.known
     (but_given es c.args.id c.args.state))
     (λ t. absurd (false≢true t))
 
-pub invariant_of-self-else-give_state : goal.invariant_of-self-else-give_state
-invariant_of-self-else-give_state c =
-    let none = ap (λ (es : List Entry). is_some (state_at (now_peers es) c.args.id)) (sym c.deref_mut.ensures.value) ∙ sym c.give_state.ensures.there ∙ c.if-give_state.false in
+pub invariant_of-self-else-is_some : goal.invariant_of-self-else-is_some
+invariant_of-self-else-is_some c =
+    let none = ap (λ (es : List Entry). is_some (state_at (now_peers es) c.args.id)) (sym c.deref_mut.ensures.value) ∙ ap is_some (sym c.give_state-was.ensures.was) ∙ sym c.is_some.ensures ∙ c.if-is_some.false in
     kept-is _ _ _ _ _ _ (earlier c.self.inside.since.seen.items (λ v. now_peers v.items)) c.self.inside.log.ids _ (is_same c ∙ given-absent c.args.id c.args.state (now_peers c.self.inside.entries.items) none) refl refl c.self.invariant.listed
     c.self.invariant.known (λ t. absurd (false≢true t))
 
-pub returns-then-give_state-clause-peers : goal.returns-then-give_state-clause-peers
-returns-then-give_state-clause-peers c = is_given c ∙ ap (λ (s : PeersView). with_state c.args.id c.args.state s.peers) c.self.view_is
+pub returns-then-is_some-clause-peers : goal.returns-then-is_some-clause-peers
+returns-then-is_some-clause-peers c = is_given c ∙ ap (λ (s : PeersView). with_state c.args.id c.args.state s.peers) c.self.view_is
 
-pub returns-else-give_state-clause-peers : goal.returns-else-give_state-clause-peers
-returns-else-give_state-clause-peers c = is_same c ∙ ap (λ (s : PeersView). with_state c.args.id c.args.state s.peers) c.self.view_is
+pub returns-else-is_some-clause-peers : goal.returns-else-is_some-clause-peers
+returns-else-is_some-clause-peers c = is_same c ∙ ap (λ (s : PeersView). with_state c.args.id c.args.state s.peers) c.self.view_is
