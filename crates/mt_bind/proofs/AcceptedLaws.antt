@@ -1,12 +1,11 @@
 -- What is known of a command that was accepted: its effect, and that no refusal holds.
-use Rattle.std.proofs.Common.{◌≡◌, ℕ, Bool, true, false, ◌&&◌, ◌||◌, List, [], ◌∷◌, length, Option, Some, None, Result, Ok, Err, refl, ap}
+use Rattle.std.proofs.Common.{◌≡◌, ℕ, Bool, true, false, ◌&&◌, ◌||◌, List, length, Option, Some, None, Result, Ok, Err, refl, ap}
 use Rattle.std.specs.Prelude.{not, is_none, is_some, unwrap_or}
-use Rattle.std.specs.List.{AllByRecursion}
 use Rattle.std.proofs.lemmas.Bool.{not-false}
 use Rattle.mt_skel.specs.declared.fault.Fault.{Fault}
 use Rattle.mt_skel.specs.declared.fault.Fault.TheVariants.{NoFilesystem, NoNamespace, RootPlace, TooMany, Unbindable, NotMountRoot, SharedParent, IntoItself, UnbindableInside}
-use Rattle.mt_skel.specs.Outcome.{fault_of, outcome}
-use Rattle.mt_skel.proofs.OutcomeLaws.{not_refused}
+use Rattle.mt_skel.specs.Outcome.{fault_of}
+use Rattle.mt_skel.proofs.OutcomeLaws.{not_refused, accepted}
 use Rattle.mt_skel.specs.Skeleton.{fs_named}
 use Rattle.mt_mounts.specs.declared.mount.Place.{Place}
 use Rattle.mt_mounts.specs.Forest.{is_below}
@@ -20,12 +19,6 @@ use Rattle.mt_bind.specs.Spaces.{originals, with_space, new_space_refusals, new_
 use Rattle.mt_bind.specs.Sources.{fresh, source_at, tree_of}
 use Rattle.mt_bind.specs.Mounting.{stands_on_shared, any_unbindable, mounted_refusals, mounted_effect, mounted, bound_refusals, bound_effect, bound, moved_refusals, moved_effect, moved}
 use Rattle.mt_bind.specs.Pivoting.{root_id, with_pivot, pivoted_refusals, pivoted_effect, pivoted}
-
--- an accepted call gives its effect, and each refusal of its list is absent
-pub accepted : {A : Type 0} (fs : List (Option Fault)) (a b : A) → outcome fs a ≡ Ok b → (a ≡ b) × AllByRecursion (λ o. o ≡ None) fs
-accepted [] a b e = (cc, tt)
-accepted (None ∷ fs) a b e = let later = accepted fs a b e in (later.0, (refl, later.1))
-accepted (Some f ∷ fs) a b e = absurd (cc)
 
 -- the place where a path ends
 abbrev pub path_end : WorldView → ℕ → List (List ℕ) → Place

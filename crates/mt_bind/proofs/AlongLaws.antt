@@ -1,5 +1,5 @@
 -- Whether a mount is bound with a directory, step by step up to the top.
-use Rattle.std.proofs.Common.{◌≡◌, ◌≢◌, ℕ, zero, suc, ◌&&◌, ◌||◌, Bool, true, false, cond, not, ◌==◌, eq-eqb, List, [], ◌∷◌, Option, Some, None, refl, sym, ap, ◌∙◌, ◌≤◌, length, inl, inr, arith}
+use Rattle.std.proofs.Common.{◌≡◌, ◌≢◌, ℕ, zero, suc, ◌&&◌, Bool, true, false, cond, not, ◌==◌, eq-eqb, List, [], ◌∷◌, Option, Some, None, refl, sym, ap, ◌∙◌, ◌≤◌, length, inl, inr, arith}
 use Rattle.std.specs.List.{list_all, list_any, take_while, last_or}
 use Rattle.std.specs.Option.{option_map_or, is_none}
 use Rattle.std.proofs.lemmas.Bool.{cases_lt, ne_eqb}
@@ -9,7 +9,7 @@ use Rattle.mt_skel.proofs.ChainLaws.{chain-suc}
 use Rattle.mt_propagate.proofs.TreeLaws.{ends-more}
 use Rattle.mt_mounts.specs.declared.mount.Place.{Place}
 use Rattle.mt_mounts.specs.Forest.{parent}
-use Rattle.mt_mounts.proofs.Walks.{below_within, below_here, below_stop, below_step}
+use Rattle.mt_mounts.proofs.Walks.{below_within, below_here, below_step}
 use Rattle.mt_propagate.specs.World.{WorldView, state_of}
 use Rattle.mt_bind.specs.Sources.{leads_within, is_bound_along}
 
@@ -62,15 +62,6 @@ module _ (w : WorldView) (p : Place) where
       let none : list_all unbound (way n j) ≡ false = ap (list_all unbound) rest.1 ∙ ap (λ b. not b && list_all unbound rest.0) e in
       ap (λ b. below_within w.forest p.mount n j && b && leads_within w p.dir (last_or passed (way n j))) none
       ∙ and_false (below_within w.forest p.mount n j) (leads_within w p.dir (last_or passed (way n j)))
-
-  -- nor one whose way ends elsewhere
-  pub taken_root : (n : ℕ) (passed : Option ℕ) (j : ℕ) → j ≢ p.mount → parent w.forest j ≡ None → taken n passed j ≡ false
-  taken_root n passed j ne e =
-      ap (λ b. b && list_all unbound (way n j) && leads_within w p.dir (last_or passed (way n j))) (below_stop w.forest p.mount n j e ∙ ap (λ b. b || false) (ne_eqb p.mount j (λ s. ne (sym s))))
-
-  pub taken_off : (passed : Option ℕ) (j : ℕ) → j ≢ p.mount → taken zero passed j ≡ false
-  taken_off passed j ne =
-      ap (λ b. (b || false) && list_all unbound (way zero j) && leads_within w p.dir (last_or passed (way zero j))) (ne_eqb p.mount j (λ s. ne (sym s)))
 
   -- elsewhere the parent decides
   pub taken_step : (n : ℕ) (passed : Option ℕ) (j q : ℕ) → j ≢ p.mount → (state_of w j).unbindable ≡ false → parent w.forest j ≡ Some q → taken (suc n) passed j ≡ taken n (Some j) q

@@ -15,7 +15,7 @@ use Rattle.mt_mounts.proofs.CycleLaws.{above_of, rank_of, rank_falls}
 use Rattle.mt_propagate.specs.World.{WorldView}
 use Rattle.mt_propagate.specs.WellFormed.{IsWellFormed}
 use Rattle.mt_skel.proofs.ElementLaws.{in_any, chain_low}
-use Rattle.mt_propagate.proofs.CopyForestLaws.{parent_is}
+use Rattle.mt_propagate.proofs.TreeLaws.{parent-is}
 use Rattle.mt_bind.specs.Sources.{path_to}
 
 module _ (w : WorldView) (h : IsWellFormed w) where
@@ -51,7 +51,7 @@ module _ (w : WorldView) (h : IsWellFormed w) where
   -- a parent of i is not below it
   pub above_not_below : (i : ℕ) (m : Mount) (p : Place) → mount_at w.forest i ≡ Some m → m.place ≡ Some p → is_below w.forest i p.mount ≡ true → ⊥
   above_not_below i m p row at b =
-      let falls = rank_falls w.forest h.forest.no_cycle i p.mount (parent_is w.forest i m p row at) in
+      let falls = rank_falls w.forest h.forest.no_cycle i p.mount (parent-is w.forest i m p row at) in
       let low = below_rank i p.mount b in
       absurd (omega (arith, falls, low))
 

@@ -2,8 +2,10 @@
 use Rattle.std.proofs.Common.{◌≡◌, ◌⊎◌, ℕ, ◌+◌, ◌<◌, ◌≤◌, Bool, true, false, List, ◌++◌, map, length, Option, Some, None, refl, sym, ap, subst, ◌∙◌, inl, inr, arith}
 use Rattle.std.specs.Prelude.{IsTrue}
 use Rattle.std.specs.Option.{option_map, option_or, unwrap_or}
+use Rattle.std.proofs.lemmas.List.{map-append}
 use Rattle.mt_skel.specs.Keyed.{rises}
 use Rattle.mt_skel.specs.Skeleton.{directory}
+use Rattle.mt_skel.proofs.SortedLaws.{rises-keys}
 use Rattle.mt_mounts.specs.declared.mount.Mount.{Mount}
 use Rattle.mt_mounts.specs.Forest.{id_of, mount_at}
 use Rattle.mt_peers.specs.declared.state.State.{State}
@@ -14,7 +16,7 @@ use Rattle.mt_peers.proofs.MemberLaws.{member-there}
 use Rattle.mt_peers.proofs.AlikeLaws.{IsAlike, like-IsAlike}
 use Rattle.mt_propagate.specs.World.{WorldView, state_of, private}
 use Rattle.mt_propagate.specs.WellFormed.{IsWellFormed, fs_at}
-use Rattle.mt_propagate.proofs.ListedLaws.{rises-keys, map-append, map-map}
+use Rattle.mt_propagate.proofs.ListedLaws.{map-map}
 use Rattle.mt_propagate.proofs.NumberLaws.{climbs}
 use Rattle.mt_propagate.proofs.RowLaws.{renamed-row, appended-row}
 use Rattle.mt_propagate.proofs.ShownLaws.{shown-alike, groups-show, masters-show, mount-state, state-mount, state-row}

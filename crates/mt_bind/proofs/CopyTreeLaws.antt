@@ -1,16 +1,18 @@
 -- The mounts of each namespace stay one tree where a namespace is copied.
 use Rattle.std.proofs.Common.{◌≡◌, ℕ, ◌<◌, ◌≤◌, true, List, ◌++◌, map, length, Option, Some, None, refl, sym, ap, ◌∙◌, inl, inr, arith, length-append}
 use Rattle.std.specs.Option.{option_map, option_and_then}
+use Rattle.std.proofs.lemmas.List.{map-append}
 use Rattle.mt_skel.specs.Chain.{ends}
 use Rattle.mt_skel.specs.Keyed.{rises}
 use Rattle.mt_skel.specs.Skeleton.{holds}
+use Rattle.mt_skel.proofs.SortedLaws.{rises-keys}
 use Rattle.mt_mounts.specs.declared.mount.Mount.{Mount}
 use Rattle.mt_mounts.specs.declared.mount.Place.{Place}
 use Rattle.mt_mounts.specs.Forest.{id_of, mount_at, parent}
 use Rattle.mt_propagate.specs.World.{WorldView}
 use Rattle.mt_propagate.specs.WellFormed.{IsForest, IsWellFormed}
 use Rattle.mt_propagate.proofs.AddedLaws.{parent_id}
-use Rattle.mt_propagate.proofs.ListedLaws.{rises-keys, map-append, below-all, climbs-append}
+use Rattle.mt_propagate.proofs.ListedLaws.{below-all, climbs-append}
 use Rattle.mt_propagate.proofs.NumberLaws.{climbs}
 use Rattle.mt_propagate.proofs.TreeLaws.{parent-from, ends-like, ends-more, ends-none}
 use Rattle.mt_bind.specs.Spaces.{originals}

@@ -9,7 +9,7 @@ use Rattle.mt_mounts.proofs.CycleLaws.{no_cycle, rank_of, rank_falls}
 use Rattle.mt_propagate.specs.World.{WorldView}
 use Rattle.mt_propagate.specs.WellFormed.{IsWellFormed}
 use Rattle.mt_propagate.specs.Sound.{IsTree}
-use Rattle.mt_propagate.proofs.CopyForestLaws.{parent_from, parent_is}
+use Rattle.mt_propagate.proofs.TreeLaws.{parent-from, parent-is}
 
 module _ (w : WorldView) (h : IsWellFormed w) (ms : List Mount) (top : Mount) (rising : rises id_of ms ≡ true) (there : mount_at ms top.id ≡ Some top)
     (origin : (i : ℕ) (m : Mount) → mount_at ms i ≡ Some m → (q : Mount) × (mount_at w.forest i ≡ Some q) × (q.place ≡ m.place) × (m.root < length w.skel.directories))
@@ -18,7 +18,7 @@ module _ (w : WorldView) (h : IsWellFormed w) (ms : List Mount) (top : Mount) (r
   falls : (x y : ℕ) (a : Mount) (p : Place) → mount_at ms x ≡ Some a → a.place ≡ Some p → p.mount ≡ y → rank_of w.forest y < rank_of w.forest x
   falls x y a p e at on =
       let o = origin x a e in
-      rank_falls w.forest h.forest.no_cycle x y (parent_is w.forest x o.0 p o.1 (o.2 ∙ at) ∙ ap (λ v. Some v) on)
+      rank_falls w.forest h.forest.no_cycle x y (parent-is w.forest x o.0 p o.1 (o.2 ∙ at) ∙ ap (λ v. Some v) on)
 
   pub part_tree : IsTree w.skel ms top
   part_tree = record {
@@ -30,6 +30,6 @@ module _ (w : WorldView) (h : IsWellFormed w) (ms : List Mount) (top : Mount) (r
         let a = origin i m ei in
         let b = origin j n ej in
         h.forest.apart i j a.0 b.0 p a.1 b.1 (a.2 ∙ at_i) (b.2 ∙ at_j);
-    no_cycle = no_cycle ms (rank_of w.forest) (λ x y e. let r = parent_from ms x y e in falls x y r.0 r.1 r.2 r.3 r.4);
+    no_cycle = no_cycle ms (rank_of w.forest) (λ x y e. let r = parent-from ms x y e in falls x y r.0 r.1 r.2 r.3 r.4);
     roots = λ i m e. let o = origin i m e in o.3;
   }

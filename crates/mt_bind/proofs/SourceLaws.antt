@@ -15,9 +15,9 @@ use Rattle.mt_propagate.specs.World.{WorldView, state_of, group_of}
 use Rattle.mt_propagate.specs.Named.{unknown, mount_or_unknown}
 use Rattle.mt_propagate.specs.WellFormed.{IsWellFormed, fs_at}
 use Rattle.mt_propagate.specs.Sound.{IsTree, IsSource}
-use Rattle.mt_propagate.proofs.CopyForestLaws.{parent_from, parent_is}
 use Rattle.mt_propagate.proofs.KeyLaws.{group_known, master_known}
 use Rattle.mt_propagate.proofs.CopyRowLaws.{state_at_mount, root_is}
+use Rattle.mt_propagate.proofs.TreeLaws.{parent-from, parent-is}
 use Rattle.mt_bind.specs.Sources.{fresh, alone, top_at}
 
 pub holds_fs : (s : Skeleton) (outer inner : ℕ) → holds s outer inner ≡ true → (directory s inner).fs ≡ (directory s outer).fs
@@ -69,7 +69,7 @@ module _ (s : Skeleton) (m : Mount) (off : (p : Place) → m.place ≡ Some p �
     top_outside = λ p e. none_found _ (λ x f. off p e (one_row m p.mount x f).0);
     placed = λ i x e ne. absurd (ne (one_row m i x e).0);
     apart = λ i j x y p ei ej at_i at_j. (one_row m i x ei).0 ∙ sym (one_row m j y ej).0;
-    no_cycle = no_cycle (m ∷ []) rank (λ x y e. let r = parent_from (m ∷ []) x y e in falls x y r.0 r.1 r.2 r.3 r.4);
+    no_cycle = no_cycle (m ∷ []) rank (λ x y e. let r = parent-from (m ∷ []) x y e in falls x y r.0 r.1 r.2 r.3 r.4);
     roots = λ i x e. subst (λ v. v.root < length s.directories) (sym (one_row m i x e).1) there;
   }
 
@@ -108,7 +108,7 @@ module _ (w : WorldView) (h : IsWellFormed w) where
 
     off_itself : (r : Place) → q.place ≡ Some r → r.mount ≢ q.id
     off_itself r e same =
-        let falls = rank_falls w.forest h.forest.no_cycle p.mount r.mount (parent_is w.forest p.mount q r row e) in
+        let falls = rank_falls w.forest h.forest.no_cycle p.mount r.mount (parent-is w.forest p.mount q r row e) in
         let here : rank_of w.forest r.mount ≡ rank_of w.forest p.mount = ap (rank_of w.forest) (same ∙ own_id) in
         omega (arith, falls, here)
 

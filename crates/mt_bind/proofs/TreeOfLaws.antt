@@ -13,8 +13,8 @@ use Rattle.mt_propagate.specs.World.{WorldView}
 use Rattle.mt_propagate.specs.Named.{unknown, mount_or_unknown}
 use Rattle.mt_propagate.specs.WellFormed.{IsWellFormed, fs_at}
 use Rattle.mt_propagate.specs.Sound.{IsTree, IsSource}
-use Rattle.mt_propagate.proofs.CopyForestLaws.{parent_is}
 use Rattle.mt_propagate.proofs.CopyRowLaws.{root_is}
+use Rattle.mt_propagate.proofs.TreeLaws.{parent-is}
 use Rattle.mt_bind.specs.Sources.{tree_of}
 use Rattle.mt_bind.proofs.PartLaws.{part_tree}
 use Rattle.mt_bind.proofs.BelowLaws.{below_self, below_parent, below_has_parent, above_not_below}
@@ -46,7 +46,7 @@ module _ (w : WorldView) (h : IsWellFormed w) (i : ℕ) (q : Mount) (row : mount
       let off : j ≢ i = (λ s. ne (s ∙ sym own)) in
       let p = below_has_parent w h i j m off x.0 x.1 in
       let u = h.forest.placed j m p.0 x.0 p.1 in
-      let b = sym (below_parent w h i j p.0.mount off (parent_is w.forest j m p.0 x.0 p.1)) ∙ x.1 in
+      let b = sym (below_parent w h i j p.0.mount off (parent-is w.forest j m p.0 x.0 p.1)) ∙ x.1 in
       (p.0, u.0, p.1, to_row p.0.mount u.0 u.1 b, u.3)
 
   tree : IsTree w.skel ms q

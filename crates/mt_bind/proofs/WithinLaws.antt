@@ -3,7 +3,8 @@ use Rattle.std.proofs.Common.{◌≡◌, ◌≢◌, ℕ, ◌<◌, ◌&&◌, Bool
 use Rattle.std.specs.Prelude.{unwrap_or}
 use Rattle.std.specs.List.{filter, list_all, last_or}
 use Rattle.std.specs.Option.{option_map, option_map_or}
-use Rattle.std.proofs.lemmas.Bool.{cases_eq, ne_eqb}
+use Rattle.std.proofs.lemmas.Bool.{cases_eq, ne_eqb, and_parts, and_from}
+use Rattle.std.proofs.lemmas.Option.{cond_some}
 use Rattle.mt_skel.specs.Skeleton.{holds, directory}
 use Rattle.mt_skel.proofs.KeyedLaws.{row_at-key, row_at-map, rises-map, row_at-filter, rises-filter, passing}
 use Rattle.mt_mounts.specs.declared.mount.Mount.{Mount}
@@ -14,8 +15,8 @@ use Rattle.mt_propagate.specs.World.{WorldView, state_of}
 use Rattle.mt_propagate.specs.Named.{unknown, mount_or_unknown}
 use Rattle.mt_propagate.specs.WellFormed.{IsWellFormed, fs_at}
 use Rattle.mt_propagate.specs.Sound.{IsSource}
-use Rattle.mt_propagate.proofs.CopyForestLaws.{parent_is}
 use Rattle.mt_propagate.proofs.CopyRowLaws.{root_is}
+use Rattle.mt_propagate.proofs.TreeLaws.{parent-is}
 use Rattle.mt_bind.specs.Sources.{top_at, tree_within, is_bound_along, path_to}
 use Rattle.mt_bind.proofs.SourceLaws.{holds_there, top_is, own_id, shows_same}
 use Rattle.mt_bind.proofs.PartLaws.{part_tree}
@@ -23,19 +24,7 @@ use Rattle.mt_bind.proofs.BelowLaws.{below_self, below_parent, below_has_parent,
 
 pub passed : (t : Mount → Bool) (o : Option Mount) (m : Mount) → passing t o ≡ Some m → (o ≡ Some m) × (t m ≡ true)
 passed t None m e = absurd (cc)
-passed t (Some x) m e = go (t x) refl e
-  where
-    go : (b : Bool) → t x ≡ b → cond b (Some x) None ≡ Some m → (Some x ≡ Some m) × (t m ≡ true)
-    go true is f = let s : x ≡ m = cc in (f, ap t (sym s) ∙ is)
-    go false is f = absurd (cc)
-
-both : (a b : Bool) → (a && b) ≡ true → (a ≡ true) × (b ≡ true)
-both true b e = (refl, e)
-both false b e = absurd (cc)
-
-from-both : (a b : Bool) → a ≡ true → b ≡ true → (a && b) ≡ true
-from-both true b e f = f
-from-both false b e f = absurd (cc)
+passed t (Some x) m e = let c = cond_some (t x) x m e in (ap Some c.1, ap t (sym c.1) ∙ c.0)
 
 module _ (w : WorldView) (h : IsWellFormed w) (p : Place) (q : Mount) (row : mount_at w.forest p.mount ≡ Some q) (held : holds w.skel q.root p.dir ≡ true) where
   abbrev bound : Mount → Bool
@@ -93,8 +82,8 @@ module _ (w : WorldView) (h : IsWellFormed w) (p : Place) (q : Mount) (row : mou
   bound_top : is_bound_along w p p.mount ≡ true
   bound_top =
       let e = path_top w h p.mount in
-      from-both (is_below w.forest p.mount p.mount && list_all unbound (path_to w p.mount p.mount)) (first_in (path_to w p.mount p.mount))
-      (from-both (is_below w.forest p.mount p.mount) (list_all unbound (path_to w p.mount p.mount)) (below_self w h p.mount) (ap (list_all unbound) e))
+      and_from (is_below w.forest p.mount p.mount && list_all unbound (path_to w p.mount p.mount)) (first_in (path_to w p.mount p.mount))
+      (and_from (is_below w.forest p.mount p.mount) (list_all unbound (path_to w p.mount p.mount)) (below_self w h p.mount) (ap (list_all unbound) e))
       (ap first_in e)
 
   last_in : (i : ℕ) (ks : List ℕ) → first_in (i ∷ ks) ≡ true → first_in ks ≡ true
@@ -104,17 +93,17 @@ module _ (w : WorldView) (h : IsWellFormed w) (p : Place) (q : Mount) (row : mou
   bound_parent : (i : ℕ) (x : Mount) → mount_at w.forest i ≡ Some x → i ≢ p.mount → is_bound_along w p i ≡ true
       → (r : Place) × (x.place ≡ Some r) × (is_bound_along w p r.mount ≡ true) × (r.mount ≡ p.mount → holds w.skel p.dir r.dir ≡ true)
   bound_parent i x e ne b =
-      let c = both (is_below w.forest p.mount i && list_all unbound (path_to w p.mount i)) (first_in (path_to w p.mount i)) b in
-      let d = both (is_below w.forest p.mount i) (list_all unbound (path_to w p.mount i)) c.0 in
+      let c = and_parts (is_below w.forest p.mount i && list_all unbound (path_to w p.mount i)) (first_in (path_to w p.mount i)) b in
+      let d = and_parts (is_below w.forest p.mount i) (list_all unbound (path_to w p.mount i)) c.0 in
       let r = below_has_parent w h p.mount i x ne e d.0 in
-      let up = parent_is w.forest i x r.0 e r.1 in
+      let up = parent-is w.forest i x r.0 e r.1 in
       let path = path_step w h p.mount i r.0.mount ne up in
-      let free = both (unbound i) (list_all unbound (path_to w p.mount r.0.mount)) (sym (ap (list_all unbound) path) ∙ d.1) in
+      let free = and_parts (unbound i) (list_all unbound (path_to w p.mount r.0.mount)) (sym (ap (list_all unbound) path) ∙ d.1) in
       let first = sym (ap first_in path) ∙ c.1 in (
         r.0,
         r.1,
-        from-both (is_below w.forest p.mount r.0.mount && list_all unbound (path_to w p.mount r.0.mount)) (first_in (path_to w p.mount r.0.mount))
-            (from-both (is_below w.forest p.mount r.0.mount) (list_all unbound (path_to w p.mount r.0.mount)) (sym (below_parent w h p.mount i r.0.mount ne up) ∙ d.0) free.1)
+        and_from (is_below w.forest p.mount r.0.mount && list_all unbound (path_to w p.mount r.0.mount)) (first_in (path_to w p.mount r.0.mount))
+            (and_from (is_below w.forest p.mount r.0.mount) (list_all unbound (path_to w p.mount r.0.mount)) (sym (below_parent w h p.mount i r.0.mount ne up) ∙ d.0) free.1)
             (last_in i (path_to w p.mount r.0.mount) first),
         λ same.
             let none : path_to w p.mount r.0.mount ≡ [] = ap (path_to w p.mount) same ∙ path_top w h p.mount in
@@ -168,8 +157,8 @@ module _ (w : WorldView) (h : IsWellFormed w) (p : Place) (q : Mount) (row : mou
   outside : (r : Place) → (top_at w p).place ≡ Some r → mount_at ms r.mount ≡ None
   outside r at = none_found _ (λ x e.
       let y = from_row r.mount x e in
-      let c = both (is_below w.forest p.mount r.mount && list_all unbound (path_to w p.mount r.mount)) (first_in (path_to w p.mount r.mount)) y.2 in
-      let d = both (is_below w.forest p.mount r.mount) (list_all unbound (path_to w p.mount r.mount)) c.0 in
+      let c = and_parts (is_below w.forest p.mount r.mount && list_all unbound (path_to w p.mount r.mount)) (first_in (path_to w p.mount r.mount)) y.2 in
+      let d = and_parts (is_below w.forest p.mount r.mount) (list_all unbound (path_to w p.mount r.mount)) c.0 in
       above_not_below w h p.mount q r row (ap (λ (m : Mount). m.place) (sym (top_is w h p q row held)) ∙ at) d.0)
 
   pub within_source : (dest : Place) → IsSource w (tree_within w p) dest
@@ -190,5 +179,5 @@ module _ (w : WorldView) (h : IsWellFormed w) (p : Place) (q : Mount) (row : mou
   pub within_below : (i : ℕ) (m : Mount) → mount_at ms i ≡ Some m → is_below w.forest p.mount i ≡ true
   within_below i m e =
       let x = from_row i m e in
-      let c = both (is_below w.forest p.mount i && list_all unbound (path_to w p.mount i)) (first_in (path_to w p.mount i)) x.2 in
-      (both (is_below w.forest p.mount i) (list_all unbound (path_to w p.mount i)) c.0).0
+      let c = and_parts (is_below w.forest p.mount i && list_all unbound (path_to w p.mount i)) (first_in (path_to w p.mount i)) x.2 in
+      (and_parts (is_below w.forest p.mount i) (list_all unbound (path_to w p.mount i)) c.0).0

@@ -4,9 +4,8 @@ use Rattle.std.specs.Option.{is_none, is_some, unwrap_or}
 use Rattle.mt_skel.specs.declared.fault.Fault.{Fault}
 use Rattle.mt_skel.specs.declared.fault.Fault.TheVariants.{TooMany, NoFilesystem, FilesystemExists, NoEntry, EntryExists}
 use Rattle.mt_skel.specs.Outcome.{refuse_if}
-use Rattle.mt_skel.proofs.OutcomeLaws.{not_refused}
+use Rattle.mt_skel.proofs.OutcomeLaws.{not_refused, accepted}
 use Rattle.mt_skel.specs.Skeleton.{Skeleton, Directory, Filesystem, added_fs, added_dir, with_fs, with_dir, fs_named, directory_number, filesystem_limit, directory_limit, depth_limit}
-use Rattle.mt_bind.proofs.AcceptedLaws.{accepted}
 
 none_of : {A : Type 0} (o : Option A) → is_some o ≡ false → o ≡ None
 none_of None e = refl

@@ -4,6 +4,7 @@ use Rattle.std.specs.List.{AllByRecursion}
 use Rattle.std.specs.Prelude.{if◌then◌else◌, Bool, true, false, cond}
 use Rattle.std.proofs.lemmas.Bool.{lt-leb}
 use Rattle.mt_skel.specs.declared.fault.Fault.TheVariants.{JournalFull}
+use Rattle.mt_skel.proofs.MiddleLaws.{each_append}
 use Rattle.mt_propagate.specs.World.{WorldView, world_view, empty_world}
 use Rattle.mt_propagate.specs.WellFormed.{IsWellFormed}
 use Rattle.mt_propagate.specs.Touched.{SinceView, since_of, since_view}
@@ -20,7 +21,6 @@ use Rattle.mt_book.specs.Commands.{IsCommand}
 use Rattle.mt_book.specs.History.{posts_of}
 use Rattle.mt_book.specs.Book.{command_limit, space_numbers, counted, posted, with_newborn, still_there, AreNumbers, answer, reply_of}
 use Rattle.mt_book.specs.Kept.{IsBehind, IsSpare, IsPrepared, IsBook, shown_world, lagging_of, prepared_posts}
-use Rattle.mt_book.proofs.EachLaws.{each_append}
 use Rattle.mt_book.proofs.ValidLaws.{one_valid}
 use Rattle.mt_book.proofs.GrowthLaws.{IsReached, reached}
 use Rattle.mt_book.proofs.NextLaws.{after-accepted, accepts-next, numbers-next, posts-next, numbers-are}
@@ -53,17 +53,6 @@ book_new noted = record {
   accepted = refl;
   few = omega arith;
   texts = tt;
-}
-
--- another spare world
-pub book_spare : (w : WorldView) (noted : SinceView) (spare other : Spare) (ks : List (ℕ × ℕ)) (cs : List Command) → IsBook w noted spare ks cs → IsSpare cs noted other → IsBook w noted other ks cs
-book_spare w noted spare other ks cs h s = record {
-  world = h.world;
-  lags = s;
-  counts = h.counts;
-  accepted = h.accepted;
-  few = h.few;
-  texts = h.texts;
 }
 
 -- the world that was shown, where it is kept
@@ -144,10 +133,6 @@ prepared_valid cs p texts q = subst (AllByRecursion IsPost) (sym q.posts) (asked
     asked : (b : Bool) → AllByRecursion IsPost (cond b (posts_of cs p.command) [])
     asked true = one_valid cs p.command q.few texts q.texts
     asked false = tt
-
--- what is asked for is told whole
-pub prepared_told : (cs : List Command) (p : Prepared) (c : Command) → IsPrepared cs p → p.command ≡ c → p.heard ≡ true → p.posts ≡ posts_of cs c
-prepared_told cs p c q same heard = q.posts ∙ ap (λ b. cond b (posts_of cs p.command) []) heard ∙ ap (posts_of cs) same
 
 -- what was prepared is answered
 pub prepared_answer : (cs : List Command) (p : Prepared) (c : Command) (r : Reply) → IsPrepared cs p → p.command ≡ c → r ≡ p.reply → answer cs c ≡ Ok r

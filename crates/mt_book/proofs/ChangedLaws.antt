@@ -1,15 +1,16 @@
 -- Of the numbers of all namespaces only those change in which a mount was touched.
-use Rattle.std.proofs.Common.{◌≡◌, ℕ, zero, suc, ◌+◌, ◌<◌, ◌≤◌, Bool, true, false, cond, ◌||◌, ◌&&◌, ◌==◌, List, [], ◌∷◌, ◌++◌, map, drop, length, slice_index_or, slice_set, Option, Some, None, refl, sym, ap, ◌∙◌, subst, arith, true≢false, append-nil, append_assoc}
+use Rattle.std.proofs.Common.{◌≡◌, ℕ, zero, suc, ◌+◌, ◌<◌, ◌≤◌, Bool, true, false, cond, ◌||◌, ◌&&◌, List, [], ◌∷◌, ◌++◌, map, drop, length, slice_index_or, slice_set, Option, Some, None, refl, sym, ap, ◌∙◌, subst, arith, true≢false, append-nil, append_assoc}
 use Rattle.std.specs.Prelude.{nat_eq, nat_lt}
 use Rattle.std.specs.List.{filter, list_all, list_any}
 use Rattle.std.specs.Option.{option_map, option_to_list, unwrap_or}
 use Rattle.std.proofs.lemmas.Bool.Decides.{nat_tests}
+use Rattle.std.proofs.lemmas.List.{drop_more}
 use Rattle.mt_skel.specs.Keyed.{row_at, rises, among}
 use Rattle.mt_skel.proofs.KeyedLaws.{row_at-below, row_at-filter, row_at-map, rises-map, same_rows, passing}
 use Rattle.mt_skel.proofs.MiddleLaws.{and_first, and_second, and-true}
 use Rattle.mt_propagate.specs.World.{WorldView}
 use Rattle.mt_propagate.specs.WellFormed.{IsWellFormed}
-use Rattle.mt_propagate.proofs.PlannedLaws.{left-step}
+use Rattle.mt_unmount.proofs.PlacedLaws.{not-among}
 use Rattle.mt_info.specs.Table.{table_of}
 use Rattle.mt_events.specs.Posts.{PostView}
 use Rattle.mt_events.specs.Difference.{HoldsChanged}
@@ -33,12 +34,6 @@ module _ {X : Type 0} (key : X → ℕ) where
       let ih = all_lower j k ys l in
       grind (arith, nat_tests)
 
-below : (k : ℕ) (ys : List ℕ) → list_all (λ y. nat_lt k y) ys ≡ true → among ys k ≡ false
-below k [] h = refl
-below k (y ∷ ys) h =
-    let ih = below k ys in
-    grind (arith, nat_tests)
-
 apart : (s : ℕ) (rest : List ℕ) (rs : List (ℕ × ℕ)) → list_all (λ r. nat_lt s (space_in r)) rs ≡ true → filter (is_in (s ∷ rest)) rs ≡ filter (is_in rest) rs
 apart s rest [] h = refl
 apart s rest (r ∷ rs) h =
@@ -61,12 +56,12 @@ next_row s rest (r ∷ rs) a up =
         → cond (b || c) (r ∷ filter (is_in (s ∷ rest)) rs) (filter (is_in (s ∷ rest)) rs) ≡ option_to_list (cond b (Some r) (row_at space_in s rs)) ++ cond c (r ∷ filter (is_in rest) rs) (filter (is_in rest) rs)
     by true e true f ih =
         let same : s ≡ space_in r = grind (arith, nat_tests) in
-        absurd (true≢false (sym f ∙ ap (among rest) (sym same) ∙ below s rest a))
+        absurd (true≢false (sym f ∙ ap (among rest) (sym same) ∙ not-among s rest a))
     by true e false f ih =
         let same : s ≡ space_in r = grind (arith, nat_tests) in
         ap (λ l. r ∷ l) (apart s rest rs (subst (λ k. list_all (λ q. nat_lt k (space_in q)) rs ≡ true) (sym same) over))
     by false e true f ih =
-        let off : space_in r ≤ s → among rest (space_in r) ≡ false = λ l. below (space_in r) rest (all_lower (λ k. k) (space_in r) s rest l a) in
+        let off : space_in r ≤ s → among rest (space_in r) ≡ false = λ l. not-among (space_in r) rest (all_lower (λ k. k) (space_in r) s rest l a) in
         let low : s ≤ space_in r = grind (arith, nat_tests) in
         let none : row_at space_in s rs ≡ None = row_at-below space_in s rs (all_lower space_in s (space_in r) rs low over) in
         ap (λ l. r ∷ l) (ih ∙ ap (λ o. option_to_list o ++ filter (is_in rest) rs) none) ∙ sym (ap (λ o. option_to_list o ++ r ∷ filter (is_in rest) rs) none)
@@ -83,7 +78,7 @@ pub next_found : (spaces : List ℕ) (rs found new all : List (ℕ × ℕ)) (i d
 next_found spaces rs found new all i d l rise up before e =
     let s = slice_index_or spaces i d in
     let rest = drop (i + 1) spaces in
-    let split = left-step spaces i d l in
+    let split = drop_more spaces i d l in
     let above = and_first (list_all (λ y. nat_lt s y) rest) (rises (λ k. k) rest) (ap (rises (λ k. k)) (sym split) ∙ drop_rises (λ k. k) spaces i rise) in
     ap (λ t. t ++ filter (is_in rest) rs) e ∙ append_assoc found (option_to_list (row_at space_in s rs)) (filter (is_in rest) rs)
     ∙ ap (λ t. found ++ t) (sym (next_row s rest rs above up)) ∙ ap (λ (t : List ℕ). found ++ filter (is_in t) rs) (sym split) ∙ before
@@ -174,7 +169,7 @@ pub next_merged : (changed rs new : List (ℕ × ℕ)) (i : ℕ) (d : ℕ × ℕ
 next_merged changed rs new i d l up rows n =
     let c = slice_index_or changed i d in
     let cs = drop (i + 1) changed in
-    let split = left-step changed i d l in
+    let split = drop_more changed i d l in
     let above = and_first (list_all (λ q. nat_lt (space_in c) (space_in q)) cs) (rises space_in cs) (ap (rises space_in) (sym split) ∙ drop_rises space_in changed i up) in
     put_next rs new c cs rows above n ∙ ap (λ (t : List (ℕ × ℕ)). merged rs t n) (sym split)
 

@@ -1,22 +1,8 @@
 -- What holds of each element of a list.
-use Rattle.std.proofs.Common.{◌≡◌, ℕ, zero, suc, ◌+◌, ◌<◌, ◌≤◌, Bool, true, false, cond, List, [], ◌∷◌, ◌++◌, map, length, slice_index_or, Option, Some, None, arith, refl}
+use Rattle.std.proofs.Common.{◌≡◌, ℕ, zero, suc, ◌+◌, ◌<◌, ◌≤◌, Bool, true, false, cond, List, [], ◌∷◌, map, length, slice_index_or, Option, Some, None, arith, refl}
 use Rattle.std.specs.List.{filter, filter_map, cons_option, range_with_len, AllByRecursion}
 
 module _ {X : Type 0} (P : X → Type 0) where
-  -- of the elements of two lists in a row
-  pub each_append : (xs ys : List X) → AllByRecursion P xs → AllByRecursion P ys → AllByRecursion P (xs ++ ys)
-  each_append [] ys h k = k
-  each_append (x ∷ xs) ys h k = (h.0, each_append xs ys h.1 k)
-
-  -- of those of the first, where it holds of both
-  pub each_left : (xs ys : List X) → AllByRecursion P (xs ++ ys) → AllByRecursion P xs
-  each_left [] ys h = tt
-  each_left (x ∷ xs) ys h = (h.0, each_left xs ys h.1)
-
-  -- of those of the second, where it holds of both
-  pub each_right : (xs ys : List X) → AllByRecursion P (xs ++ ys) → AllByRecursion P ys
-  each_right [] ys h = h
-  each_right (x ∷ xs) ys h = each_right xs ys h.1
 
   -- of those that pass a test
   pub each_kept : (t : X → Bool) (xs : List X) → AllByRecursion P xs → AllByRecursion P (filter t xs)
@@ -52,12 +38,3 @@ module _ {X : Type 0} (P : X → Type 0) where
 pub each_map : {X Y : Type 0} (P : X → Type 0) (Q : Y → Type 0) (f : X → Y) → ((x : X) → P x → Q (f x)) → (xs : List X) → AllByRecursion P xs → AllByRecursion Q (map f xs)
 each_map P Q f to [] h = tt
 each_map P Q f to (x ∷ xs) h = (to x h.0, each_map P Q f to xs h.1)
-
--- no more pass a test than there are
-pub few_kept : {X : Type 0} (t : X → Bool) (xs : List X) → length (filter t xs) ≤ length xs
-few_kept t [] = omega arith
-few_kept t (x ∷ xs) = by (t x) (few_kept t xs)
-  where
-    by : (b : Bool) → length (filter t xs) ≤ length xs → length (cond b (x ∷ filter t xs) (filter t xs)) ≤ suc (length xs)
-    by true l = omega (arith, l)
-    by false l = omega (arith, l)

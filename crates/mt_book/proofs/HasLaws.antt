@@ -1,7 +1,7 @@
 -- A namespace that is there has a mount, and keeps one through each command that does not end it.
-use Rattle.std.proofs.Common.{◌≡◌, ℕ, Bool, true, false, cond, ◌&&◌, ◌==◌, eqb, List, ◌++◌, map, length, Option, Some, None, Ok, refl, sym, ap, ◌∙◌, subst, arith}
+use Rattle.std.proofs.Common.{◌≡◌, ℕ, Bool, true, false, ◌==◌, eqb, List, ◌++◌, map, length, Option, Some, None, Ok, refl, sym, ap, ◌∙◌, subst, arith}
 use Rattle.std.specs.List.{list_any}
-use Rattle.std.specs.Option.{option_map_or, is_none, is_some}
+use Rattle.std.specs.Option.{is_none, is_some}
 use Rattle.std.proofs.lemmas.Bool.Decides.{nat_tests}
 use Rattle.mt_skel.specs.Skeleton.{Filesystem, added_fs, added_dir}
 use Rattle.mt_mounts.specs.declared.mount.Mount.{Mount}
@@ -10,10 +10,10 @@ use Rattle.mt_mounts.specs.Forest.{id_of, mount_at, is_root, root_mount, stands_
 use Rattle.mt_propagate.specs.World.{WorldView, is_space}
 use Rattle.mt_propagate.specs.WellFormed.{IsWellFormed}
 use Rattle.mt_propagate.specs.Copies.{Source}
-use Rattle.mt_propagate.specs.Places.{relocated, made_way, stack_end, new_mounts}
+use Rattle.mt_propagate.specs.Places.{relocated, new_mounts}
 use Rattle.mt_propagate.specs.Copied.{copied}
 use Rattle.mt_propagate.proofs.RowLaws.{row-mapped, row-first, row-kept}
-use Rattle.mt_propagate.proofs.ListedLaws.{relocated-id}
+use Rattle.mt_propagate.proofs.ListedLaws.{relocated-id, relocated-space}
 use Rattle.mt_skel.proofs.ElementLaws.{in_row, row_in, in_found, find_in}
 use Rattle.mt_skel.proofs.MiddleLaws.{and_second, and-true}
 use Rattle.mt_bind.specs.Spaces.{with_space, new_space, with_copy, copy_space, originals, without_space, drop_space}
@@ -75,16 +75,8 @@ pub copied_forest : (w : WorldView) (src : Source) (p : Place) → (copied w src
 unfolding copied
 copied_forest w src p = refl
 
-pub relocated_space : (w : WorldView) (src : Source) (dest : Place) (m : Mount) → (relocated w src dest m).space ≡ m.space
-relocated_space w src dest m = go (src.moved && (m.id == src.top.id)) (made_way w src dest m)
-  where
-    go : (b : Bool) (o : Option ℕ) → (cond b (record m { place = Some dest }) (option_map_or (λ t. record m { place = Some (stack_end w src dest t) }) o m)).space ≡ m.space
-    go true o = refl
-    go false None = refl
-    go false (Some t) = refl
-
 copied_has : (n : ℕ) (w v : WorldView) (src : Source) (p : Place) → v ≡ copied w src p → Has n w → Has n v
-copied_has n w v src p e h = kept_one n w v (relocated w src p) (new_mounts w src p) (relocated-id w src p) (relocated_space w src p) (ap (λ x. x.forest) e ∙ copied_forest w src p) h
+copied_has n w v src p e h = kept_one n w v (relocated w src p) (new_mounts w src p) (relocated-id w src p) (relocated-space w src p) (ap (λ x. x.forest) e ∙ copied_forest w src p) h
 
 change_has : (n : ℕ) (w : WorldView) (c : Change) (i : ℕ) → Has n w → Has n (with_change w c i)
 unfolding with_change

@@ -16,6 +16,7 @@ use Rattle.mt_skel.proofs.ElementLaws.{In, in_row, row_in, in_found}
 use Rattle.mt_info.specs.Table.{row_of, table_of}
 use Rattle.mt_info.proofs.TableLaws.{table_rises}
 use Rattle.mt_skel.proofs.MiddleLaws.{and-true}
+use Rattle.mt_propagate.proofs.RowLaws.{none-picked}
 use Rattle.mt_events.specs.Posts.{PostView}
 use Rattle.mt_events.specs.declared.post.Delta.{Delta}
 use Rattle.mt_events.specs.Difference.{difference, applied, is_empty, delta_of, post_of, with_posts}
@@ -74,12 +75,8 @@ next_higher w c = by (step w c) (λ v r e. (step_rises w c v r e).spaces)
 
 -- ---- a namespace that is not there has the empty table
 
-filter_none : {X : Type 0} (q : X → Bool) (xs : List X) → ((x : X) → In x xs → q x ≡ false) → filter q xs ≡ []
-filter_none q [] h = refl
-filter_none q (x ∷ xs) h = ap (λ b. cond b (x ∷ filter q xs) (filter q xs)) (h x (inl refl)) ∙ filter_none q xs (λ y i. h y (inr i))
-
 table_none : (w : WorldView) (n : ℕ) → ((m : Mount) → In m w.forest → (m.space == n) ≡ false) → table_of w n ≡ []
-table_none w n h = ap (map (row_of w)) (filter_none (λ (m : Mount). m.space == n) w.forest h)
+table_none w n h = ap (map (row_of w)) (none-picked (λ (m : Mount). m.space == n) w.forest h)
 
 pub table_outside : (w : WorldView) (n : ℕ) → IsWellFormed w → (n ≡ 0) ⊎ (w.next_space ≤ n) → table_of w n ≡ []
 table_outside w n h out = table_none w n (λ m there.

@@ -1,17 +1,18 @@
 -- What changes where all mounts touched were, and are, in one namespace, as far as they are there.
-use Rattle.std.proofs.Common.{◌≡◌, ◌==◌, ◌||◌, ◌&&◌, not, ℕ, eqb, eqb-true, Bool, true, false, true≢false, List, [], ◌∷◌, ◌++◌, Option, Some, None, refl, sym, ap, ◌∙◌, append-nil}
+use Rattle.std.proofs.Common.{◌≡◌, ◌==◌, ◌||◌, ◌&&◌, not, ℕ, eqb-true, Bool, true, false, true≢false, List, [], ◌∷◌, ◌++◌, Option, Some, None, refl, sym, ap, ◌∙◌, append-nil}
 use Rattle.std.specs.List.{filter, list_all, list_any}
 use Rattle.std.specs.Option.{option_map, option_map_or, option_to_list, unwrap_or}
+use Rattle.std.proofs.lemmas.Bool.{or_parts}
 use Rattle.mt_skel.specs.Keyed.{row_at, rises, among}
 use Rattle.mt_skel.proofs.KeyedLaws.{row_at-key}
 use Rattle.mt_mounts.specs.declared.mount.Mount.{Mount}
 use Rattle.mt_mounts.specs.Forest.{mount_at, subtree}
 use Rattle.mt_propagate.specs.World.{WorldView}
 use Rattle.mt_skel.proofs.MiddleLaws.{and_first, and_second, and-true}
+use Rattle.mt_peers.proofs.GoingLaws.{all-among}
 use Rattle.mt_propagate.specs.WellFormed.{IsWellFormed}
 use Rattle.mt_info.specs.Table.{row_id, table_of}
 use Rattle.mt_info.specs.MayDiffer.{has_moved, may_differ}
-use Rattle.mt_info.proofs.KeptRows.{front-off}
 use Rattle.mt_events.specs.Difference.{HoldsChanged}
 use Rattle.mt_events.proofs.TouchedLaws.{row_nowhere, row_elsewhere}
 use Rattle.mt_book.specs.Book.{space_in, number_in, next_number, next_post, counted, posted}
@@ -25,15 +26,6 @@ none_in (r ∷ rs) = none_in rs
 -- the row of one namespace
 one_in : (s : ℕ) (rs : List (ℕ × ℕ)) → rises space_in rs ≡ true → filter (is_in (s ∷ [])) rs ≡ option_to_list (row_at space_in s rs)
 one_in s rs up = next_row s [] rs refl up ∙ ap (λ l. option_to_list (row_at space_in s rs) ++ l) (none_in rs) ∙ append-nil (option_to_list (row_at space_in s rs))
-
--- what holds of all of a list holds of each
-each : (t : ℕ → Bool) (ids : List ℕ) (i : ℕ) → list_all t ids ≡ true → among ids i ≡ true → t i ≡ true
-each t [] i all at = absurd (true≢false (sym at))
-each t (x ∷ xs) i all at = go (eqb x i) refl at (each t xs i (and_second (t x) (list_all t xs) all))
-  where
-    go : (b : Bool) → eqb x i ≡ b → (b || among xs i) ≡ true → (among xs i ≡ true → t i ≡ true) → t i ≡ true
-    go true is at ih = ap t (sym (eqb-true x i is)) ∙ and_first (t x) (list_all t xs) all
-    go false is at ih = ih at
 
 -- a mount that is in one namespace alone has no row in another
 nowhere : (w : WorldView) (s n i : ℕ) → IsWellFormed w → only_in w s i ≡ true → (s == n) ≡ false → row_at row_id i (table_of w n) ≡ None
@@ -49,12 +41,12 @@ quiet_but : (w v : WorldView) (ids : List ℕ) (s : ℕ) → IsWellFormed w → 
 quiet_but w v ids s h g held all n off i none = go (among ids i) refl
   where
     other : (s == n) ≡ false
-    other = front-off (s == n) false off
+    other = (or_parts (s == n) false off).0
 
     go : (b : Bool) → among ids i ≡ b → row_at row_id i (table_of w n) ≡ row_at row_id i (table_of v n)
     go false e = held n i e
     go true e =
-        let here = each (stays_in w v s) ids i all e in
+        let here = all-among (stays_in w v s) ids i all e in
         nowhere w s n i h (and_first (only_in w s i) (only_in v s i) here) other ∙ sym (nowhere v s n i g (and_second (only_in w s i) (only_in v s i) here) other)
 
 module _ (w v : WorldView) (ids : List ℕ) (s : ℕ) (h : IsWellFormed w) (g : IsWellFormed v) (held : (n : ℕ) → HoldsChanged (table_of w n) (table_of v n) ids)

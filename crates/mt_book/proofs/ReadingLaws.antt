@@ -28,7 +28,7 @@ pub book_small : (w : WorldView) (noted : SinceView) (spare : Spare) (ks : List 
 book_small w noted spare ks cs h = subst IsSmall (sym h.world) (after_small cs h.few)
 
 -- a namespace that is there has one of the numbers that were given out
-space_numbered : (w : WorldView) (n : ℕ) → IsWellFormed w → is_space w n ≡ true → (1 ≤ n) × (n < w.next_space)
+pub space_numbered : (w : WorldView) (n : ℕ) → IsWellFormed w → is_space w n ≡ true → (1 ≤ n) × (n < w.next_space)
 space_numbered w n h is = by (root_mount w.forest n) refl is
   where
     by : (r : Option Mount) → root_mount w.forest n ≡ r → is_some r ≡ true → (1 ≤ n) × (n < w.next_space)

@@ -21,9 +21,10 @@ use Rattle.mt_propagate.specs.World.{WorldView, root_dir, state_of, space_of, pr
 use Rattle.mt_propagate.specs.FromGroup.{from_group, is_seen}
 use Rattle.mt_propagate.specs.WellFormed.{IsWellFormed}
 use Rattle.mt_propagate.specs.Named.{mount_or_unknown}
+use Rattle.mt_propagate.proofs.SizeLaws.{few_pass}
 use Rattle.mt_info.specs.Laws.{IsRow}
 use Rattle.mt_info.specs.Table.{own_names, mount_point, row_of, table_of}
-use Rattle.mt_book.proofs.EachLaws.{each_or, each_at, few_kept}
+use Rattle.mt_book.proofs.EachLaws.{each_or, each_at}
 use Rattle.mt_book.proofs.TextLaws.{HasTexts, HasLabels, HasNames}
 
 -- what a world has where its tables can be told: it is in order, its texts are labels and names, and its numbers fit 64 bits
@@ -146,4 +147,4 @@ table_valid w n h = rows_valid w (λ (m : Mount). m.space == n) w.forest (λ m t
 pub table_within : (w : WorldView) (n : ℕ) → CanTell w → length (table_of w n) ≤ 4096
 table_within w n h =
     let ms : List Mount = filter (λ (m : Mount). m.space == n) w.forest in
-    omega (arith, length-map ms (row_of w), few_kept (λ (m : Mount). m.space == n) w.forest, h.within)
+    omega (arith, length-map ms (row_of w), few_pass (λ (m : Mount). m.space == n) w.forest, h.within)

@@ -17,7 +17,7 @@ use Rattle.mt_propagate.specs.Places.{relocated, new_mounts, copy_place, copy_of
 use Rattle.mt_propagate.specs.Copied.{copied}
 use Rattle.mt_propagate.proofs.RowLaws.{mapped-row, row-second, appended-row, kept-row}
 use Rattle.mt_propagate.proofs.WalkLaws.{root_here, number_free}
-use Rattle.mt_propagate.proofs.ListedLaws.{relocated-id}
+use Rattle.mt_propagate.proofs.ListedLaws.{relocated-id, relocated-space}
 use Rattle.mt_skel.proofs.ElementLaws.{In, in_row, row_in, find_in, in_filtered, in_map, in_mapped, in_flat}
 use Rattle.mt_bind.specs.Spaces.{with_space, new_space, with_copy, copy_space, originals, without_space, drop_space}
 use Rattle.mt_bind.proofs.SpaceLaws.{new_root}
@@ -39,7 +39,7 @@ use Rattle.mt_book.specs.declared.command.Reply.TheVariants.{Done, Number}
 use Rattle.mt_book.specs.Step.{step, makes_space, ends_space}
 use Rattle.mt_book.proofs.EffectLaws.{skel_ok, number_ok, done_ok, space_made, copy_made, copy_there, space_dropped, mount_made, bind_made, move_made, pivot_made, mount_gone, tree_gone, change_made}
 use Rattle.mt_book.proofs.StepLaws.{step_kept}
-use Rattle.mt_book.proofs.HasLaws.{Has, copy_forest, copied_forest, relocated_space, step_has, space_has, has_space}
+use Rattle.mt_book.proofs.HasLaws.{Has, copy_forest, copied_forest, step_has, space_has, has_space}
 
 pub step_stays : (w : WorldView) (c : Command) (v : WorldView) (r : Reply) (n : ℕ) → IsWellFormed w → IsSkeleton w.skel → step w c ≡ Ok (v, r) → ends_space n c ≡ false → is_space w n ≡ true → is_space v n ≡ true
 step_stays w c v r n g s e d is = has_space n v (step_kept w c v r g s e).0 (step_has n w c v r g e d (space_has n w g is))
@@ -99,7 +99,7 @@ made_copy n k w less i m e s = elim (appended-row id_of w.forest (map (copy_of w
 -- a copy of a mount has a place
 made_placed : (n : ℕ) (w : WorldView) (src : Source) (p : Place) (i : ℕ) (m : Mount) → mount_at (copied w src p).forest i ≡ Some m → m.place ≡ None → m.space ≡ n → Has n w
 made_placed n w src p i m e none s = elim (appended-row id_of (map (relocated w src p) w.forest) (new_mounts w src p) i m (ap (λ l. mount_at l i) (sym (copied_forest w src p)) ∙ e)) [
-  | inl old ↦ was_mapped n w (relocated w src p) (relocated-id w src p) (relocated_space w src p) i m old s
+  | inl old ↦ was_mapped n w (relocated w src p) (relocated-id w src p) (relocated-space w src p) i m old s
   | inr new ↦
       let at = in_flat (λ t. map (copy_at w src p t) src.mounts) m (cond src.moved (hits w p) (targets w src p)) (row_in id_of i (new_mounts w src p) m new) in
       let x = in_map (copy_at w src p at.0) m src.mounts at.2 in

@@ -1,9 +1,9 @@
 -- The namespaces that were there stay, but where one is dropped; and what is not touched has no other number and no post.
-use Rattle.std.proofs.Common.{◌≡◌, ℕ, ◌+◌, ◌-◌, ◌==◌, length, arith, Bool, true, false, cond, List, [], ◌∷◌, None, Some, Result, Ok, Err, refl, sym, ap, ◌∙◌}
+use Rattle.std.proofs.Common.{◌≡◌, ℕ, ◌+◌, ◌-◌, ◌==◌, length, Bool, true, false, cond, List, [], ◌∷◌, None, Some, Result, Ok, Err, refl, sym, ap, ◌∙◌, eqb-true}
 use Rattle.std.specs.List.{filter, list_all, range_with_len}
 use Rattle.std.specs.Result.{is_ok}
-use Rattle.std.proofs.lemmas.Bool.Decides.{nat_tests}
 use Rattle.std.proofs.lemmas.List.Folds.{list_all-append, list_all-map}
+use Rattle.std.proofs.lemmas.List.{nil_from_length}
 use Rattle.mt_skel.specs.declared.fault.Fault.{Fault}
 use Rattle.mt_skel.specs.Skeleton.{IsSkeleton}
 use Rattle.mt_skel.specs.Keyed.{among}
@@ -28,16 +28,12 @@ use Rattle.mt_book.proofs.ThereLaws.{numbered_row}
 
 -- ---- a namespace in which no mount may have changed
 
-none : (ids : List ℕ) → (length ids == 0) ≡ true → ids ≡ []
-none [] e = refl
-none (i ∷ ids) e = absurd (grind (arith, nat_tests))
-
 -- no mount differs where none may
 module _ (w v : WorldView) (n : ℕ) (ids : List ℕ) (h : IsWellFormed w) (g : IsWellFormed v) (held : HoldsChanged (table_of w n) (table_of v n) ids) (e : (length ids == 0) ≡ true) where
   untouched : is_empty (difference (table_of w n) (table_of v n)) ≡ true
   untouched =
       unchanged w v n h
-      (same_rows row_id (table_of v n) (table_of w n) (table_rises v n g) (table_rises w n h) (λ q. sym (held q (ap (λ (l : List ℕ). among l q) (none ids e)))))
+      (same_rows row_id (table_of v n) (table_of w n) (table_rises v n g) (table_rises w n h) (λ q. sym (held q (ap (λ (l : List ℕ). among l q) (nil_from_length ids (eqb-true (length ids) 0 e))))))
 
   pub untouched_number : (k : ℕ) → next_number w v n k ≡ k
   untouched_number k = ap (λ b. cond b k (k + 1)) untouched

@@ -5,6 +5,7 @@ use Rattle.std.proofs.lemmas.Bool.Decides.{nat_tests}
 use Rattle.mt_skel.specs.declared.fault.Fault.{Fault}
 use Rattle.mt_skel.specs.Names.{is_label, is_name}
 use Rattle.mt_skel.specs.Skeleton.{Skeleton, Directory, Filesystem, added_fs, added_dir}
+use Rattle.mt_skel.proofs.MiddleLaws.{each_append}
 use Rattle.mt_propagate.specs.World.{WorldView, empty_world}
 use Rattle.mt_book.specs.declared.command.Command.{Command}
 use Rattle.mt_book.specs.declared.command.Command.TheVariants.{MakeFs, MakeDir}
@@ -13,7 +14,6 @@ use Rattle.mt_book.specs.declared.command.Reply.TheVariants.{Done, Number}
 use Rattle.mt_book.specs.Step.{step, world_or, next_world, after_from, after}
 use Rattle.mt_book.specs.Commands.{IsCommand}
 use Rattle.mt_book.proofs.AcceptedLaws.{fs_accepted, named_dir, dir_accepted}
-use Rattle.mt_book.proofs.EachLaws.{each_append}
 use Rattle.mt_book.proofs.EffectLaws.{skel_ok}
 use Rattle.mt_book.proofs.TouchedLaws.{skel_kept}
 

@@ -1,8 +1,9 @@
 -- Which mounts are looked at where the tables of two worlds are compared.
-use Rattle.std.proofs.Common.{◌≡◌, ℕ, zero, suc, ◌<◌, Bool, true, false, cond, ◌||◌, ◌==◌, eqb, eqb-true, List, [], ◌∷◌, length, get_or, Option, Some, None, Result, Ok, Err, refl, sym, ap, ◌∙◌, arith}
+use Rattle.std.proofs.Common.{◌≡◌, ℕ, ◌<◌, Bool, true, false, cond, ◌||◌, ◌==◌, eqb, eqb-true, List, [], ◌∷◌, length, get_or, Option, Some, None, Result, Ok, Err, refl, sym, ap, ◌∙◌, arith}
 use Rattle.std.specs.List.{filter}
 use Rattle.std.specs.Option.{option_map, unwrap_or}
-use Rattle.std.proofs.lemmas.Bool.{true≢false}
+use Rattle.std.proofs.lemmas.Bool.{true≢false, or_parts}
+use Rattle.std.proofs.lemmas.List.{get_or_default}
 use Rattle.mt_skel.specs.declared.fault.Fault.{Fault}
 use Rattle.mt_skel.specs.Keyed.{row_at, among}
 use Rattle.mt_mounts.specs.declared.mount.Mount.{Mount}
@@ -16,7 +17,6 @@ use Rattle.mt_unmount.specs.Unmounting.{unmounted}
 use Rattle.mt_unmount.specs.Detaching.{detached}
 use Rattle.mt_setattr.specs.Change.{attributed}
 use Rattle.mt_info.specs.Table.{row_id, table_of}
-use Rattle.mt_info.proofs.KeptRows.{front-off, rest-off}
 use Rattle.mt_events.specs.Difference.{HoldsChanged}
 use Rattle.mt_events.proofs.TouchedLaws.{row_nowhere, row_elsewhere}
 use Rattle.mt_book.specs.declared.command.Command.{Command}
@@ -79,7 +79,7 @@ among-out p (x ∷ xs) i t e = go (p x) refl (eqb x i) refl e (among-out p xs i 
   where
     go : (b : Bool) → p x ≡ b → (c : Bool) → eqb x i ≡ c → among (cond b (x ∷ filter p xs) (filter p xs)) i ≡ false → (among (filter p xs) i ≡ false → among xs i ≡ false) → (c || among xs i) ≡ false
     go true is true at e ih = absurd (true≢false (sym (ap (λ b. b || among (filter p xs) i) at) ∙ e))
-    go true is false at e ih = ih (rest-off (eqb x i) _ e)
+    go true is false at e ih = ih (or_parts (eqb x i) _ e).1
     go false is true at e ih = absurd (true≢false (sym t ∙ ap p (sym (eqb-true x i at)) ∙ is))
     go false is false at e ih = ih e
 
@@ -96,14 +96,8 @@ part_holds w v n rows h g held i out = go (is_part w v n i) refl
   where
     go : (b : Bool) → is_part w v n i ≡ b → row_at row_id i (table_of w n) ≡ row_at row_id i (table_of v n)
     go true is = held i (among-out (is_part w v n) rows i is out)
-    go false is = outside w n i h (front-off (space_of w i == n) _ is) ∙ sym (outside v n i g (rest-off (space_of w i == n) _ is))
-
--- what stands at a place of a list, whatever would stand behind its end
-pub in_range : {X : Type 0} (xs : List X) (k : ℕ) (d e : X) → k < length xs → get_or xs k d ≡ get_or xs k e
-in_range [] k d e l = absurd (omega (arith, l))
-in_range (x ∷ xs) zero d e l = refl
-in_range (x ∷ xs) (suc k) d e l = in_range xs k d e (omega (arith, l))
+    go false is = outside w n i h (or_parts (space_of w i == n) _ is).0 ∙ sym (outside v n i g (or_parts (space_of w i == n) _ is).1)
 
 -- the mounts of one namespace, by its place among all
 pub part_is : (parts : List (List ℕ)) (part ids : List ℕ) (k n : ℕ) (t : ℕ → Bool) → part ≡ get_or parts k part → length parts ≡ n → k < n → (k < n → part_at parts k ≡ filter t ids) → part ≡ filter t ids
-part_is parts part ids k n t at e l is = at ∙ in_range parts k part [] (omega (arith, e, l)) ∙ is l
+part_is parts part ids k n t at e l is = at ∙ get_or_default parts k part [] (omega (arith, e, l)) ∙ is l

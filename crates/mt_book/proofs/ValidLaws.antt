@@ -4,20 +4,23 @@ use Rattle.std.proofs.lemmas.List.{length-map}
 use Rattle.std.specs.List.{filter, AllByRecursion}
 use Rattle.mt_skel.specs.Keyed.{rises, has}
 use Rattle.mt_skel.proofs.KeyedLaws.{rises-filter}
+use Rattle.mt_skel.proofs.SortedLaws.{rises-keys}
+use Rattle.mt_skel.proofs.MiddleLaws.{each_append, each_left, each_right}
 use Rattle.mt_propagate.specs.World.{WorldView}
+use Rattle.mt_propagate.proofs.SizeLaws.{few_pass}
 use Rattle.mt_info.specs.declared.row.Row.{Row}
 use Rattle.mt_info.specs.Laws.{IsRow}
 use Rattle.mt_info.specs.Table.{row_id, table_of}
 use Rattle.mt_info.proofs.TableLaws.{table_rises}
 use Rattle.mt_events.specs.Posts.{PostView, IsPost}
 use Rattle.mt_events.specs.Difference.{difference, is_row_of, is_empty, post_of}
-use Rattle.mt_events.proofs.ChangeLaws.{rises_ids, difference_told}
+use Rattle.mt_events.proofs.ChangeLaws.{difference_told}
 use Rattle.mt_book.specs.declared.command.Command.{Command}
 use Rattle.mt_book.specs.Step.{next_world, after}
 use Rattle.mt_book.specs.Commands.{IsCommand}
 use Rattle.mt_book.specs.History.{space_number, posts_of, posts_from}
 use Rattle.mt_book.specs.Book.{command_limit}
-use Rattle.mt_book.proofs.EachLaws.{each_append, each_left, each_right, each_kept, each_given, each_map, few_kept}
+use Rattle.mt_book.proofs.EachLaws.{each_kept, each_given, each_map}
 use Rattle.mt_book.proofs.TextLaws.{HasTexts, after_texts, next_texts}
 use Rattle.mt_book.proofs.RowLaws.{CanTell, table_valid, table_within}
 use Rattle.mt_book.proofs.GrowthLaws.{IsReached, reached, next_reached}
@@ -45,8 +48,8 @@ difference_valid n number a b p h k space first small e = by (is_empty (differen
       first = first;
       gone = each_map IsRow (λ i. i < 2 ^ 64) row_id (λ r valid. valid.id) (filter (λ r. not (has row_id r.id b)) a) (each_kept IsRow (λ r. not (has row_id r.id b)) a h.valid);
       rows = each_kept IsRow (λ r. not (is_row_of a r)) b k.valid;
-      counted = omega (arith, length-map (filter (λ r. not (has row_id r.id b)) a) row_id, few_kept (λ r. not (has row_id r.id b)) a, few_kept (λ r. not (is_row_of a r)) b, h.within, k.within);
-      rising_gone = rises_ids (filter (λ (r : Row). not (has row_id r.id b)) a) ∙ rises-filter row_id (λ (r : Row). not (has row_id r.id b)) a h.rising;
+      counted = omega (arith, length-map (filter (λ r. not (has row_id r.id b)) a) row_id, few_pass (λ r. not (has row_id r.id b)) a, few_pass (λ r. not (is_row_of a r)) b, h.within, k.within);
+      rising_gone = rises-keys row_id (filter (λ (r : Row). not (has row_id r.id b)) a) ∙ rises-filter row_id (λ (r : Row). not (has row_id r.id b)) a h.rising;
       rising_rows = rises-filter row_id (λ r. not (is_row_of a r)) b k.rising;
       change = difference_told a b k.rising some;
     }

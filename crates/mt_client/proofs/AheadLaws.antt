@@ -3,7 +3,7 @@ use Rattle.std.proofs.Common.{◌≡◌, ℕ, ◌+◌, ◌<◌, ◌≤◌, true,
 use Rattle.std.proofs.lemmas.Bool.{false≢true}
 use Rattle.std.proofs.lemmas.Grind.{flat_map-append}
 use Rattle.std.specs.List.{flat_map, join_with_byte, AllByRecursion}
-use Rattle.mt_skel.proofs.MiddleLaws.{and-true, and_first, and_second}
+use Rattle.mt_skel.proofs.MiddleLaws.{and-true, and_first, and_second, each_left, each_right}
 use Rattle.mt_lines.specs.Lines.{Item, Text}
 use Rattle.mt_events.specs.Posts.{PostView, IsPost, event_words, gone_line, row_line, post_lines}
 use Rattle.mt_events.specs.Mirrors.{MirrorView}
@@ -19,15 +19,6 @@ use Rattle.mt_client.specs.Due.{IsDuePost, AreDuePosts, most_portions, portion_l
 use Rattle.mt_client.proofs.OpeningLaws.{first_taken, texts_split, needs_line, refused_some, no_refusal, unrefused_or}
 use Rattle.mt_client.proofs.FoundLaws.{found_alike}
 use Rattle.mt_client.proofs.TellingLaws.{by_both}
-
--- posts in two runs
-all_front : {X : Type 0} (P : X → Type 0) (xs ys : List X) → AllByRecursion P (xs ++ ys) → AllByRecursion P xs
-all_front P [] ys all = tt
-all_front P (x ∷ xs) ys all = (all.0, all_front P xs ys all.1)
-
-all_back : {X : Type 0} (P : X → Type 0) (xs ys : List X) → AllByRecursion P (xs ++ ys) → AllByRecursion P ys
-all_back P [] ys all = all
-all_back P (x ∷ xs) ys all = all_back P xs ys all.1
 
 due_front : (scope : Scope) (ps qs : List PostView) (old : List MirrorView) → are_due scope old (ps ++ qs) ≡ true → are_due scope old ps ≡ true
 due_front scope [] qs old h = refl
@@ -118,7 +109,7 @@ came_more count taken scope old now new before middle after lt came none only li
         let n = counted_front d.posts front taken is many in
         absurd (none (d.last ∷ []) later (d.last, refuses_early (counted_line count) count (length d.posts) d.last d.ends (omega (arith, n, lt)), refl) there)
     go front (p ∷ rest) is many by there =
-        let valid = all_back IsPost front (p ∷ rest) (subst (AllByRecursion IsPost) is d.valid) in
+        let valid = each_right IsPost front (p ∷ rest) (subst (AllByRecursion IsPost) is d.valid) in
         let k = only p (texts (flat_map post_lines rest ++ d.last ∷ []) ++ later) valid.0 (behind_post p rest d.last middle later there) in
         let l = length-append front (p ∷ []) in (
           front ++ p ∷ [],
@@ -138,7 +129,7 @@ came_cut count taken scope old now before middle lt came none lines later d e = 
         let n = counted_front d.posts front taken is many in
         none (d.last ∷ []) later (inl (d.last, refuses_early (counted_line count) count (length d.posts) d.last d.ends (omega (arith, n, lt)), refl)) there
     go front (p ∷ rest) is many by there =
-        let valid = all_back IsPost front (p ∷ rest) (subst (AllByRecursion IsPost) is d.valid) in
+        let valid = each_right IsPost front (p ∷ rest) (subst (AllByRecursion IsPost) is d.valid) in
         let due = due_back scope front (p ∷ rest) old (ap (are_due scope old) (sym is) ∙ d.due) in
         let here : is_due scope (mirrors_by old front) p ≡ true = and_first (is_due scope (mirrors_by old front) p) (are_due scope (mirrors_with (mirrors_by old front) p) rest) due in
         none (post_lines p) (texts (flat_map post_lines rest ++ d.last ∷ []) ++ later)
@@ -211,7 +202,7 @@ rest_due count scope old now lines a front is by =
       posts = a.rest;
       last = a.refusal;
       all = refl;
-      valid = all_back IsPost (flat front) a.rest (subst (AllByRecursion IsPost) e a.valid);
+      valid = each_right IsPost (flat front) a.rest (subst (AllByRecursion IsPost) e a.valid);
       due = ap (λ ms. are_due scope ms a.rest) by ∙ due_back scope (flat front) a.rest old (ap (are_due scope old) (sym e) ∙ a.due);
       ends = inr (a.within, a.refused);
     }
@@ -221,14 +212,14 @@ abbrev portion_due : (count : ℕ) (scope : Scope) (old now : List MirrorView) (
 portion_due count scope old now lines a front back q is by =
     let e : all_posts a.portions a.rest ≡ flat front ++ (q ++ all_posts back a.rest) =
     ap (λ ps. all_posts ps a.rest) is ∙ flat_both front (q ∷ back) a.rest ∙ ap (λ x. flat front ++ x) (append_assoc q (flat back) a.rest) in
-    let valid = all_back IsPost (flat front) (q ++ all_posts back a.rest) (subst (AllByRecursion IsPost) e a.valid) in
+    let valid = each_right IsPost (flat front) (q ++ all_posts back a.rest) (subst (AllByRecursion IsPost) e a.valid) in
     let due = due_back scope (flat front) (q ++ all_posts back a.rest) old (ap (are_due scope old) (sym e) ∙ a.due) in
-    let whole = all_back (λ (posts : List PostView). length posts ≡ count) front (q ∷ back) (subst (AllByRecursion (λ (posts : List PostView). length posts ≡ count)) is a.whole) in
+    let whole = each_right (λ (posts : List PostView). length posts ≡ count) front (q ∷ back) (subst (AllByRecursion (λ (posts : List PostView). length posts ≡ count)) is a.whole) in
     record {
       posts = q;
       last = counted_line count;
       all = refl;
-      valid = all_front IsPost q (all_posts back a.rest) valid;
+      valid = each_left IsPost q (all_posts back a.rest) valid;
       due = ap (λ ms. are_due scope ms q) by ∙ due_front scope q (all_posts back a.rest) (mirrors_by old (flat front)) due;
       ends = inl (whole.0, refl);
     }

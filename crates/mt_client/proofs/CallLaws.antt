@@ -16,7 +16,8 @@ use Rattle.mt_client.specs.Mirroring.{HasRefused}
 use Rattle.mt_client.specs.declared.answer.Form.{Form}
 use Rattle.mt_client.specs.Replies.{IsAnswer}
 use Rattle.mt_client.specs.Calls.{ReadsOn, WritesOn, AreRead, IsOut, IsOutInPart, IsReadFault, IsTellFault, IsPassFault, IsTalkFault, IsPrintFault, PassesOn, PassesRefusal}
-use Rattle.mt_client.proofs.RelayLaws.{texts-append, printed-append, broken_later, cut_within, broken_more, unprinted, cut_by_fault, never_output}
+use Rattle.mt_client.proofs.RelayLaws.{printed-append, broken_later, cut_within, broken_more, unprinted, cut_by_fault, never_output}
+use Rattle.mt_client.proofs.MirrorLaws.{runs_read}
 
 connection≢output : Connection ≢ Output
 connection≢output e = let both : ◌≡◌ {A = ClientFault} Connection Output = e in cc
@@ -50,14 +51,8 @@ reads_both p q = record {
 pub nothing_read : {R : Type 0} {g : Ghosts R} (r : LineReader R g) → fault_of r ≡ None → AreRead [] r r
 nothing_read r fresh = record { on = read_still r fresh; came = λ t. refl }
 
-lines_both : (xs ys : List (List ℕ)) (before middle after : List Item) → before ≡ texts xs ++ middle → middle ≡ texts ys ++ after → before ≡ texts (xs ++ ys) ++ after
-lines_both xs ys before middle after p q = p ∙ ap (λ m. texts xs ++ m) q ∙ sym (append_assoc (texts xs) (texts ys) after) ∙ ap (λ l. l ++ after) (sym (texts-append xs ys))
-
 pub read_both : {R : Type 0} {g : Ghosts R} {xs ys : List (List ℕ)} {a b c : LineReader R g} → AreRead xs a b → AreRead ys b c → AreRead (xs ++ ys) a c
-read_both {R} {g} {xs} {ys} {a} {b} {c} p q = record { on = reads_both p.on q.on; came = λ t. lines_both xs ys (lines_left a) (lines_left b) (lines_left c) (p.came t) (q.came t) }
-
-pub read_as : {R : Type 0} {g : Ghosts R} {xs ys : List (List ℕ)} {a b : LineReader R g} → xs ≡ ys → AreRead xs a b → AreRead ys a b
-read_as {R} {g} {xs} {ys} {a} {b} e p = record { on = p.on; came = λ t. p.came t ∙ ap (λ l. texts l ++ lines_left b) e }
+read_both {R} {g} {xs} {ys} {a} {b} {c} p q = record { on = reads_both p.on q.on; came = λ t. runs_read xs ys (lines_left a) (lines_left b) (lines_left c) (p.came t) (q.came t) }
 
 -- calls that print
 pub writes_still : {W : Type 0} (g : OutputGhosts W) (w : W) → WritesOn g w w
@@ -129,9 +124,6 @@ read_fault_behind {R} {g} {f} {inner} {kind} {middle} {before} {a} {b} {c} p nee
 pub read_refused : {R : Type 0} {g : Ghosts R} {kind : List (List ℕ) → Type 0} {before : List Item} {a b : LineReader R g} → limit_of b ≡ limit_of a → (IsTrue g.tells → NoneFirst kind before) → IsReadFault Connection kind before a b
 read_refused limit none = record { limit = limit; reading = connection≢output; cut = λ e t u. inr (none t) }
 
-pub read_no_memory : {R : Type 0} {g : Ghosts R} {kind : List (List ℕ) → Type 0} {before : List Item} {a b : LineReader R g} → limit_of b ≡ limit_of a → IsReadFault NoMemory kind before a b
-read_no_memory limit = record { limit = limit; reading = no_memory≢output; cut = λ e t u. absurd (no_memory≢connection e) }
-
 -- a last call that looks at what was read
 pub checked_end : {R T : Type 0} {g : Ghosts R} (kind : List (List ℕ) → Type 0) (before : List Item) (a b : LineReader R g) (r : Result T ClientFault) → r ≢ Err Output → limit_of b ≡ limit_of a → (r ≡ Err Connection → IsTrue g.tells → NoneFirst kind before) → IfErr r (λ f. IsReadFault f kind before a b)
 checked_end kind before a b (Ok x) other limit none = tt
@@ -140,13 +132,13 @@ checked_end kind before a b (Err f) other limit none = record { limit = limit; r
 -- what was read and printed
 pub passed_of : {R O : Type 0} {g : Ghosts R} {h : OutputGhosts O} (seen xs : List (List ℕ)) (a b : LineReader R g) (x y : O) → AreRead xs a b → IsOut h (printed (seen ++ xs)) x y → IsTrue g.tells → IsTrue h.tells
     → Passed (seen ++ xs) (texts seen ++ lines_left a) (lines_left b) (h.written x) (h.written y)
-passed_of seen xs a b x y p o t u = record { read = lines_both seen xs (texts seen ++ lines_left a) (lines_left a) (lines_left b) refl (p.came t); out = o.went u }
+passed_of seen xs a b x y p o t u = record { read = runs_read seen xs (texts seen ++ lines_left a) (lines_left a) (lines_left b) refl (p.came t); out = o.went u }
 
 pub passes_passed : {R O : Type 0} {g : Ghosts R} {h : OutputGhosts O} {kind : List (List ℕ) → Type 0} {a b : LineReader R g} {x y : O} → PassesOn h [] kind a b x y → IsTrue g.tells → IsTrue h.tells → HasPassed kind (lines_left a) (lines_left b) (h.written x) (h.written y)
 passes_passed p t u = (p.others, p.is, record { read = p.read.came t; out = p.out.went u })
 
 pub passes_read : {R O : Type 0} {g : Ghosts R} {h : OutputGhosts O} {seen : List (List ℕ)} {kind : List (List ℕ) → Type 0} {a b : LineReader R g} {x y : O} → PassesOn h seen kind a b x y → IsTrue g.tells → HasRead kind (texts seen ++ lines_left a) (lines_left b)
-passes_read {R} {O} {g} {h} {seen} {kind} {a} {b} {x} {y} p t = (seen ++ p.others, p.is, lines_both seen p.others (texts seen ++ lines_left a) (lines_left a) (lines_left b) refl (p.read.came t))
+passes_read {R} {O} {g} {h} {seen} {kind} {a} {b} {x} {y} p t = (seen ++ p.others, p.is, runs_read seen p.others (texts seen ++ lines_left a) (lines_left a) (lines_left b) refl (p.read.came t))
 
 pub passes_nothing : {R O : Type 0} {g : Ghosts R} (h : OutputGhosts O) (kind : List (List ℕ) → Type 0) (a : LineReader R g) (x : O) → fault_of a ≡ None → kind [] → PassesOn h [] kind a a x x
 passes_nothing h kind a x fresh is = record { others = []; is = is; read = nothing_read a fresh; out = nothing_out h x }
@@ -219,7 +211,7 @@ pass_fault_printing {R} {O} {g} {h} {f} {kind} {seen} {xs} {text} {a} {b} {x} {z
       subst (λ k. IsBroken k (texts seen ++ lines_left a) (h.written x) (h.written z)) (sym part.0) (record {
         lines = seen ++ xs;
         later = lines_left b;
-        read = lines_both seen xs (texts seen ++ lines_left a) (lines_left a) (lines_left b) refl (p.came t);
+        read = runs_read seen xs (texts seen ++ lines_left a) (lines_left a) (lines_left b) refl (p.came t);
         out = subst (λ s. IsCutOff s (h.written x) (h.written z)) is (part.1.cut u);
       });
 }
@@ -255,14 +247,6 @@ pass_refused_behind {R} {O} {g} {h} {kind} {seen} {xs} {a} {b} {c} {x} {y} p o l
   broken = λ t u. let q = passed_of seen xs a b x y p o t u in record { lines = seen ++ xs; later = lines_left b; read = q.read; out = q.out };
 }
 
-pub pass_no_memory : {R O : Type 0} {g : Ghosts R} {h : OutputGhosts O} {kind : List (List ℕ) → Type 0} {seen : List (List ℕ)} {a b : LineReader R g} {x : O} → limit_of b ≡ limit_of a → IsPassFault h NoMemory kind seen a b x x
-pass_no_memory {R} {O} {g} {h} {kind} {seen} {a} {b} {x} limit = record {
-  limit = limit;
-  cut = λ e t u. absurd (no_memory≢connection e);
-  cause = λ e. absurd (no_memory≢output e);
-  broken = λ t u. unprinted NoMemory (texts seen ++ lines_left a) (h.written x) no_memory≢output;
-}
-
 -- a fault of calls that read and print
 pub tell_fault_reading : {R O : Type 0} {g : Ghosts R} {h : OutputGhosts O} {f : ClientFault} {inner kind : List (List ℕ) → Type 0} {middle : List Item} {a b c : LineReader R g} {x y : O}
     → ReadsOn a b → (IsTrue g.tells → NoneFirst inner middle → NoneFirst kind (lines_left a)) → IsReadFault f inner middle b c → IsTellFault h f kind a c x y
@@ -283,9 +267,6 @@ pub tell_checked : {R O : Type 0} {g : Ghosts R} {h : OutputGhosts O} {f : Clien
 tell_checked limit none cause = record { limit = limit; cut = λ e t u. inr (none e t); cause = cause }
 
 -- a fault of calls that print
-pub print_fault_reading : {R O : Type 0} {g : Ghosts R} {h : OutputGhosts O} {f : ClientFault} {inner : List (List ℕ) → Type 0} {middle : List Item} {a b c : LineReader R g} {x y : O} → ReadsOn a b → IsReadFault f inner middle b c → IsPrintFault h f a c x y
-print_fault_reading p q = record { limit = q.limit ∙ p.limit; cause = λ e. absurd (q.reading e) }
-
 pub print_fault_printing : {R O : Type 0} {g : Ghosts R} {h : OutputGhosts O} {f : ClientFault} {text : List ℕ} {a b : LineReader R g} {x y : O} → ReadsOn a b → (f ≡ Output) × IsOutInPart h text x y → IsPrintFault h f a b x y
 print_fault_printing p part = record { limit = p.limit; cause = λ e u. part.1.cause u }
 

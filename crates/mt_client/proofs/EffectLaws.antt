@@ -13,8 +13,8 @@ use Rattle.mt_client.specs.Telling.{mirror_in, mirrors_with, mirrors_by, is_due,
 use Rattle.mt_client.specs.Effects.{name_in, posts_named, HasNamed}
 use Rattle.mt_client.proofs.RelayLaws.{printed-append}
 use Rattle.mt_client.proofs.MirrorLaws.{runs_read}
-use Rattle.mt_client.proofs.TellingLaws.{all_both, due_both, by_both}
-use Rattle.mt_skel.proofs.MiddleLaws.{and-true}
+use Rattle.mt_client.proofs.TellingLaws.{due_both, by_both}
+use Rattle.mt_skel.proofs.MiddleLaws.{and-true, each_append}
 
 named_both : (names : List SpaceName) (ps qs : List PostView) (old : List MirrorView) → posts_named names old (ps ++ qs) ≡ posts_named names old ps ++ posts_named names (mirrors_by old ps) qs
 named_both names [] qs old = refl
@@ -37,7 +37,7 @@ both_named k n names old mid new before middle after begun between done h i =
       ps ++ qs,
       record {
         lines = f.lines ++ g.lines;
-        valid = all_both IsPost ps qs f.valid g.valid;
+        valid = each_append IsPost ps qs f.valid g.valid;
         due = due_both All ps qs old f.due (subst (λ ms. are_due All ms qs ≡ true) f.make g.due);
         make = g.make ∙ ap (λ ms. mirrors_by ms qs) f.make ∙ sym (by_both ps qs old);
         read = runs_read f.lines g.lines before middle after f.read g.read;

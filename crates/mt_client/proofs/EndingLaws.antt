@@ -3,8 +3,10 @@ use Rattle.std.proofs.Common.{◌≡◌, ◌≢◌, ℕ, ◌+◌, ◌<◌, ◌�
 use Rattle.std.specs.List.{flat_map, AllByRecursion}
 use Rattle.std.specs.Str.{bytes_eq}
 use Rattle.std.proofs.lemmas.Slice.Eq.{bytes_eq-Decides}
+use Rattle.std.proofs.lemmas.Option.{same_Some}
 use Rattle.mt_words.specs.Words.{words, number_in_text}
 use Rattle.mt_lines.specs.Lines.{Item, Text}
+use Rattle.mt_skel.proofs.MiddleLaws.{each_last}
 use Rattle.mt_client.specs.declared.block.Block.TheVariants.{Post}
 use Rattle.mt_client.specs.declared.answer.Form.{Form}
 use Rattle.mt_client.specs.declared.answer.Form.TheVariants.{Done, Number, Place, Table, Opening, Posts, Followed, Never}
@@ -14,7 +16,7 @@ use Rattle.mt_client.specs.Awaited.{event_count}
 use Rattle.mt_client.specs.Replies.{IsPostLines, IsBlockOf, most_posts, IsEnding, IsHeaded, IsFollowed, IsAnswer}
 use Rattle.mt_client.proofs.OpeningLaws.{first_taken, texts_split}
 use Rattle.mt_client.proofs.FollowLaws.{lines_alike}
-use Rattle.mt_client.proofs.ReplyLaws.{posts_alike, each_more, flat_more}
+use Rattle.mt_client.proofs.ReplyLaws.{posts_alike, flat_more}
 
 -- so many posts
 abbrev pub ArePosts : ℕ → List (List ℕ) → Type 0
@@ -27,7 +29,7 @@ pub posts_join : (taken behind : ℕ) (ls ms : List (List ℕ)) → ArePosts tak
 posts_join taken behind ls ms a g =
     let l = length-append a.0 (ms ∷ []) in
     let m = a.1 in
-    (a.0 ++ ms ∷ [], omega (arith, l, m), each_more IsPostLines a.0 ms a.2 g.0, flat_more ls ms a.0 a.3)
+    (a.0 ++ ms ∷ [], omega (arith, l, m), each_last IsPostLines a.0 ms a.2 g.0, flat_more ls ms a.0 a.3)
 
 pub posts_ended : (taken : ℕ) (told : Bool) (seen : List ℕ) → taken < most_posts → Some told ≡ verdict seen → IsEnding told taken seen → (ls ms : List (List ℕ)) → ArePosts taken ls → ms ≡ seen ∷ [] → IsFollowed (ls ++ ms) told
 posts_ended taken told seen lt tells ends ls ms a one = record {
@@ -114,16 +116,13 @@ still_cut taken before middle still none lines later f e = let s = still lines l
         let rest : List Item = texts (flat_map (λ post. post) posts ++ last ∷ []) ++ later in
         none (each.0.first ∷ []) (texts each.0.others ++ rest) refl (split_post g posts last middle later here ∙ ap (λ ls. texts ls ++ rest) each.0.all)
 
-bool_same : (b c : Bool) → Some b ≡ Some c → b ≡ c
-bool_same b c e = cc
-
 pub still_ending : (taken : ℕ) (told : Bool) (seen : List ℕ) (before middle rest : List Item) → Still taken before middle → middle ≡ Text seen ∷ rest → Some told ≡ verdict seen → (IsEnding told taken seen → ⊥) → NoneFirst Whole before
 still_ending taken told seen before middle rest still there tells not lines later f e = let s = still lines later f.0 f.1 e in go s.last s.posts s.each s.here s.tells s.ends
   where
     go : (last : List ℕ) (posts : List (List (List ℕ))) → AllByRecursion IsPostLines posts → middle ≡ texts (flat_map (λ post. post) posts ++ last ∷ []) ++ later → verdict last ≡ Some f.0 → IsEnding f.0 (taken + length posts) last → ⊥
     go last [] each here says ends =
         let same = last_seen seen last middle rest later there here in
-        let alike : told ≡ f.0 = bool_same told f.0 (tells ∙ ap verdict (sym same) ∙ says) in
+        let alike : told ≡ f.0 = same_Some told f.0 (tells ∙ ap verdict (sym same) ∙ says) in
         let n : taken + length {A = List (List ℕ)} [] ≡ taken = omega arith in
         not (subst (λ b. IsEnding b taken seen) (sym alike) (subst (λ l. IsEnding f.0 taken l) same (subst (λ k. IsEnding f.0 k last) n ends)))
     go last (g ∷ posts) each here says ends =

@@ -1,20 +1,20 @@
 -- What cannot come first where a post or the end of posts is refused, and what was read of posts.
-use Rattle.std.proofs.Common.{◌≡◌, ◌≢◌, ℕ, zero, suc, ◌+◌, ◌<◌, ◌≤◌, ◌^◌, true, false, ◌&&◌, ◌==◌, List, [], ◌∷◌, ◌++◌, map, length, refl, sym, ap, subst, ◌∙◌, arith, append_assoc, codes, decimal, Some, None, Option, inl, inr, Result, Ok, Err, IfOk, OnOk}
-use Rattle.std.specs.List.{flat_map, join_with_byte, list_all, AllByRecursion}
+use Rattle.std.proofs.Common.{◌≡◌, ◌≢◌, ℕ, zero, suc, ◌+◌, ◌<◌, ◌≤◌, true, false, ◌&&◌, ◌==◌, List, [], ◌∷◌, ◌++◌, map, length, refl, sym, ap, subst, ◌∙◌, arith, append_assoc, codes, decimal, Some, None, Option, inl, inr, Result, Ok, Err, IfOk, OnOk}
+use Rattle.std.specs.List.{flat_map, join_with_byte, AllByRecursion}
 use Rattle.std.proofs.lemmas.Bool.Decides.{nat_tests}
 use Rattle.std.proofs.lemmas.Bool.{false≢true}
-use Rattle.mt_skel.proofs.MiddleLaws.{and-true, and_first, and_second}
+use Rattle.std.proofs.lemmas.Option.{same_Some}
+use Rattle.mt_skel.proofs.MiddleLaws.{and_first, and_second}
 use Rattle.mt_words.specs.Words.{words}
 use Rattle.mt_words.proofs.NumberLaws.{number_decimal}
 use Rattle.mt_words.proofs.PieceLaws.{pieces_joined}
 use Rattle.mt_lines.specs.Lines.{Item, Text}
-use Rattle.mt_info.proofs.WordLaws.{lacks, decimal-lacks}
 use Rattle.mt_info.specs.declared.row.Row.{Row}
 use Rattle.mt_events.specs.Posts.{PostView, IsPost, event_words, gone_line, row_line, post_lines, post_text, ended}
 use Rattle.mt_events.specs.Mirrors.{MirrorView, is_next, are_next, mirrored}
-use Rattle.mt_events.proofs.PostLaws.{text_tells}
+use Rattle.mt_events.proofs.PostLaws.{text_tells, event_lacks}
 use Rattle.mt_client.specs.Reading.{texts, printed, NoneFirst, AreSoMany}
-use Rattle.mt_client.specs.Mirroring.{IsRefusal, counted_line, opening_lines, Follows, HasOpened, IsPosted, HasPosted, HasFollowed}
+use Rattle.mt_client.specs.Mirroring.{IsRefusal, counted_line, opening_lines, Follows, HasOpened, IsPosted, HasFollowed}
 use Rattle.mt_client.specs.Awaited.{event_count, IsOneRefusal, IsRefusedOr, IsOpening, IsNextPost, IsBehind, IsPostBehind, IsOnlyPost, TakesPost, TakesBehind, IsLast, IsFollowing, IsEnd, IsMirroring}
 use Rattle.mt_client.specs.Requests.{is_refusal}
 use Rattle.mt_client.proofs.OpeningLaws.{first_taken, texts_split, needs_line, no_refusal, unrefused_or, opened_alike}
@@ -39,11 +39,6 @@ lines_alike (x ∷ xs) (y ∷ ys) middle later many e =
     let r = lines_alike xs ys middle later (omega (arith, many)) rest in
     ((λ i. here i ∷ r.0 i), r.1)
 
--- the number of lines in the first line of a post
-event_lacks : (space number count : ℕ) → space < 2 ^ 64 → number < 2 ^ 64 → count < 2 ^ 64 → list_all (lacks 32) (event_words space number count) ≡ true
-event_lacks space number count a b d =
-    and-true (lacks 32 (decimal space)) _ (decimal-lacks space a) (and-true (lacks 32 (decimal number)) _ (decimal-lacks number b) (and-true (lacks 32 (decimal count)) true (decimal-lacks count d) refl))
-
 -- the lines behind the first of a post are as many as it says
 lengths : (gone : List ℕ) (rows : List Row) → length (map gone_line gone ++ map row_line rows) ≡ length gone + length rows
 lengths [] [] = refl
@@ -59,13 +54,11 @@ event_line p = join_with_byte 32 (event_words p.space p.number (length p.gone + 
 first_is : (seen : List ℕ) (others : List (List ℕ)) (p : PostView) → seen ∷ others ≡ post_lines p → (seen ≡ event_line p) × (others ≡ behind_lines p)
 first_is seen others p all = let both : seen ∷ others ≡ event_line p ∷ behind_lines p = all in (cc, cc)
 
+-- the number of lines in the first line of a post
 event_counts : (seen : List ℕ) (p : PostView) → IsPost p → seen ≡ event_line p → event_count (words seen) ≡ Some (length p.gone + length p.rows)
 event_counts seen p valid e =
     ap (λ l. event_count (words l)) e ∙ ap event_count (pieces_joined 32 (codes "event") (decimal p.space ∷ decimal p.number ∷ decimal (length p.gone + length p.rows) ∷ []) (event_lacks p.space p.number (length p.gone + length p.rows) valid.space valid.number valid.counted))
     ∙ number_decimal (length p.gone + length p.rows) valid.counted
-
-some_same : (n m : ℕ) → Some n ≡ Some m → n ≡ m
-some_same n m e = cc
 
 pub event_many : (r : Option ℕ) (n : ℕ) (seen : List ℕ) (others : List (List ℕ)) (p : PostView) → r ≡ Some n
     → r ≡ event_count (words seen)
@@ -73,7 +66,7 @@ pub event_many : (r : Option ℕ) (n : ℕ) (seen : List ℕ) (others : List (Li
 event_many r n seen others p is counts valid all =
     let f = first_is seen others p all in
     let m = counts ∙ event_counts seen p valid f.0 in
-    ap length f.1 ∙ lengths p.gone p.rows ∙ some_same (length p.gone + length p.rows) n (sym m ∙ is)
+    ap length f.1 ∙ lengths p.gone p.rows ∙ same_Some (length p.gone + length p.rows) n (sym m ∙ is)
 
 pub behind_needs_event : (r : Option ℕ) (seen : List ℕ) (before : List Item) → r ≡ None
     → r ≡ event_count (words seen)
@@ -124,22 +117,8 @@ behind_posted seen before after begun text post began read said = record {
   text = ap (λ b. b ++ printed read.0) (sym began) ∙ sym read.3 ∙ said;
 }
 
--- a post that was read, and applied
-pub posted_next : (seen : List ℕ) (before after : List Item) (post : PostView) (old new : MirrorView) → IsPosted seen before after post → IsPost post → (is_next old post ≡ true) × (new ≡ mirrored old post) → HasPosted seen before after old new
-posted_next seen before after post old new p valid applied = record {
-  others = p.others;
-  post = post;
-  valid = valid;
-  read = p.read;
-  text = p.text;
-  follows = record { are = and-true (is_next old post) true applied.0 refl; make = applied.1 };
-}
-
 pub taken_behind : (seen : List ℕ) (before after : List Item) (post : PostView) → IsOnlyPost seen before after post → TakesBehind seen before after
 taken_behind seen before after post only other others rest valid all e = (only other others rest valid all e).1
-
-pub behind_any : (seen : List ℕ) (mirror : MirrorView) (before : List Item) → NoneFirst (IsPostBehind seen) before → NoneFirst (IsBehind seen mirror) before
-behind_any seen mirror before none lines later k e = none lines later (k.post, k.valid, k.all) e
 
 pub behind_needs_next : (seen : List ℕ) (mirror : MirrorView) (before after : List Item) (post : PostView) → IsOnlyPost seen before after post → is_next mirror post ≡ false → NoneFirst (IsBehind seen mirror) before
 behind_needs_next seen mirror before after post only other lines later k e =

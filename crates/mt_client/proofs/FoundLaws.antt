@@ -1,7 +1,6 @@
 -- What was read of an opening, and what cannot come first where one is refused.
-use Rattle.std.proofs.Common.{◌≡◌, ◌≢◌, true, false, ℕ, ◌+◌, ◌<◌, ◌≤◌, ◌^◌, List, [], ◌∷◌, ◌++◌, map, length, refl, sym, ap, ◌∙◌, subst, arith, append-nil, length-append, fold, drop, get_or, IsTrue, Option, Some, None, MatchOption, inl, inr}
-use Rattle.std.proofs.lemmas.List.{append_cancel_left}
-use Rattle.std.proofs.lemmas.Grind.{flat_map-append}
+use Rattle.std.proofs.Common.{◌≡◌, true, false, ℕ, ◌+◌, ◌<◌, ◌≤◌, ◌^◌, List, [], ◌∷◌, ◌++◌, map, length, refl, sym, ap, ◌∙◌, subst, arith, append-nil, length-append, fold, drop, get_or, IsTrue, Option, Some, inl, inr}
+use Rattle.std.proofs.lemmas.List.{append_cancel_left, length-map}
 use Rattle.std.specs.List.{flat_map, join_with_byte, AllByRecursion}
 use Rattle.mt_lines.specs.Lines.{Item, Text}
 use Rattle.mt_info.specs.RowLine.{line}
@@ -20,12 +19,11 @@ use Rattle.mt_events.specs.Texts.{count_text, part_text, lines_of_parts, opening
 use Rattle.mt_client.specs.declared.opening.Heading.{Heading}
 use Rattle.mt_client.specs.Requests.{is_refusal}
 use Rattle.mt_client.specs.Reading.{texts, printed, NoneFirst, AreSoMany}
-use Rattle.mt_client.specs.Mirroring.{IsShown, counted_line, heading_words, heading_line, part_lines, opening_lines, HasOpened}
+use Rattle.mt_client.specs.Mirroring.{IsShown, counted_line, heading_words, heading_line, part_lines, opening_lines}
 use Rattle.mt_client.specs.Awaited.{IsRefusedOr, AreRowLines, IsOpening}
 use Rattle.mt_client.specs.Finding.{mirror_space, parts_lines, found_lines, AreOf, AreShown, part_found, opening_found, HasFound, HasWatched, IsFinding, IsPartWithin, ArePartLines}
 use Rattle.mt_client.proofs.RelayLaws.{printed-append}
-use Rattle.mt_client.proofs.MirrorLaws.{runs_read, part_is}
-use Rattle.mt_client.proofs.ReplyLaws.{many_lines}
+use Rattle.mt_client.proofs.MirrorLaws.{part_is}
 use Rattle.mt_client.proofs.OpeningLaws.{first_taken, texts_split, needs_line, refused_some, no_refusal, unrefused_or, counted_tells, heading_tells, few, rows_alike, behind_rows}
 
 abbrev AllShown : List MirrorView → Type 0
@@ -35,22 +33,8 @@ AllShown parts = AllByRecursion IsShown parts
 part_count : (m : MirrorView) (parts : List MirrorView) → length (parts_lines (m ∷ parts)) ≡ 1 + length m.rows + length (parts_lines parts)
 part_count m parts =
     let l = length-append (map line m.rows) (parts_lines parts) in
-    let r = many_lines m.rows in
+    let r = length-map m.rows line in
     omega (arith, l, r)
-
--- the lines of one namespace more
-more_lines : (parts : List MirrorView) (m : MirrorView) → parts_lines (parts ++ m ∷ []) ≡ parts_lines parts ++ part_lines m
-more_lines parts m = flat_map-append part_lines parts (m ∷ []) ∙ ap (λ x. parts_lines parts ++ x) (append-nil (part_lines m))
-
-pub more_read : (parts : List MirrorView) (m : MirrorView) (before middle after : List Item) → before ≡ texts (parts_lines parts) ++ middle → middle ≡ texts (part_lines m) ++ after → before ≡ texts (parts_lines (parts ++ m ∷ [])) ++ after
-more_read parts m before middle after came next =
-    runs_read (parts_lines parts) (part_lines m) before middle after came next ∙ ap (λ ls. texts ls ++ after) (sym (more_lines parts m))
-
-pub more_counted : (parts : List MirrorView) (m : MirrorView) (count left rest : ℕ) → length (parts_lines parts) + left ≡ count → left ≡ 1 + length m.rows + rest → length (parts_lines (parts ++ m ∷ [])) + rest ≡ count
-more_counted parts m count left rest many less =
-    let l = ap length (more_lines parts m) ∙ length-append (parts_lines parts) (part_lines m) in
-    let r = many_lines m.rows in
-    omega (arith, l, r, many, less)
 
 -- lines determine the namespace that they show
 view_is : (m n : MirrorView) → m.space ≡ n.space → m.number ≡ n.number → m.rows ≡ n.rows → m ≡ n
@@ -118,12 +102,6 @@ within_told left h seen before middle later lines there is small k e =
     let w = heading_tells h.space h.number h.count k.found.space k.found.number (length k.found.rows) small.0 small.1 small.2 k.shown.space k.shown.number (few (length k.found.rows) k.shown.counted) (sym is ∙ sym t.0) in
     (w.2, t.1)
 
-pub within_needs_heading : (left : ℕ) (seen : List ℕ) (before middle : List Item) → before ≡ Text seen ∷ middle
-    → ((space number count : ℕ) → space < 2 ^ 64 → number < 2 ^ 64 → count < 2 ^ 64 → seen ≢ join_with_byte 32 (heading_words space number count)) → NoneFirst (IsPartWithin left) before
-within_needs_heading left seen before middle there none lines later k e =
-    let t = first_taken seen (heading_line k.found) lines (map line k.found.rows) before middle later there k.all e in
-    none k.found.space k.found.number (length k.found.rows) k.shown.space k.shown.number (few (length k.found.rows) k.shown.counted) (sym t.0)
-
 pub within_needs_room : (left : ℕ) (h : Heading) (seen : List ℕ) (before middle : List Item) → before ≡ Text seen ∷ middle → seen ≡ join_with_byte 32 (heading_words h.space h.number h.count)
     → (h.space < 2 ^ 64) × (h.number < 2 ^ 64) × (h.count < 2 ^ 64) → left ≤ h.count → NoneFirst (IsPartWithin left) before
 within_needs_room left h seen before middle there is small over lines later k e =
@@ -152,12 +130,6 @@ finding_some scope lines k = (counted_line (length (parts_lines k.found)), parts
 
 pub finding_needs_line : (scope : Scope) (before : List Item) → NoneFirst (AreSoMany 1) before → NoneFirst (IsRefusedOr (IsFinding scope)) before
 finding_needs_line scope before none = needs_line before (refused_some (finding_some scope)) none
-
-pub finding_needs_count : (scope : Scope) (seen : List ℕ) (before middle : List Item) → before ≡ Text seen ∷ middle → is_refusal seen ≡ false → ((n : ℕ) → n < 2 ^ 64 → seen ≢ counted_line n) → NoneFirst (IsRefusedOr (IsFinding scope)) before
-finding_needs_count scope seen before middle there tells none =
-    unrefused_or before (no_refusal seen before middle there tells) (λ lines later k e.
-    let t = first_taken seen (counted_line (length (parts_lines k.found))) lines (parts_lines k.found) before middle later there k.all e in
-    none (length (parts_lines k.found)) k.shown.counted (sym t.0))
 
 -- how many lines come for the namespaces, and what is behind the first line, where the lines of an opening come first
 finding_told : (scope : Scope) (count : ℕ) (seen : List ℕ) (before middle later : List Item) (lines : List (List ℕ)) → before ≡ Text seen ∷ middle → seen ≡ counted_line count → count < 2 ^ 64 → (k : IsFinding scope lines) → before ≡ texts lines ++ later
@@ -229,18 +201,6 @@ one_counted m s =
     let c = part_count m [] in
     let small = s.counted in
     omega (arith, c, small)
-
-pub opened_one : (space : ℕ) (refused : Type 0) (parts : List MirrorView) (o : Option MirrorView) (before after : List Item) → HasFound (One space) before after parts → MatchOption o (parts ≡ []) (λ m. (others : List MirrorView) × (parts ≡ others ++ m ∷ []))
-    → MatchOption o refused (λ m. HasOpened space before after m)
-opened_one space refused parts None before after f is = let no : map mirror_space [] ≡ space ∷ [] = subst (λ ps. map mirror_space ps ≡ space ∷ []) is f.shown.of in cc
-opened_one space refused parts (Some m) before after f is = go is.0 (subst (λ ps. HasFound (One space) before after ps) is.1 f)
-  where
-    go : (others : List MirrorView) → HasFound (One space) before after (others ++ m ∷ []) → HasOpened space before after m
-    go [] g =
-        let of : m.space ∷ [] ≡ space ∷ [] = g.shown.of in
-        record { shown = g.shown.each.0; of = cc; read = g.read ∙ ap (λ ls. texts ls ++ after) (one_opening m) }
-    go (n ∷ []) g = let no : n.space ∷ (m.space ∷ []) ≡ space ∷ [] = g.shown.of in cc
-    go (n ∷ (k ∷ others)) g = let no : n.space ∷ (k.space ∷ map mirror_space (others ++ m ∷ [])) ≡ space ∷ [] = g.shown.of in cc
 
 pub opening_needs_finding : (space : ℕ) (before : List Item) → NoneFirst (IsRefusedOr (IsFinding (One space))) before → NoneFirst (IsRefusedOr (IsOpening space)) before
 opening_needs_finding space before none lines later (inl r) e = none lines later (inl r) e

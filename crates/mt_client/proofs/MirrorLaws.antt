@@ -2,14 +2,14 @@
 use Rattle.std.proofs.Common.{◌≡◌, ◌≢◌, ℕ, ◌+◌, ◌<◌, ◌≤◌, ◌^◌, MatchOption, MatchBool, IfOk, Result, Ok, Err, Bool, true, false, List, [], ◌∷◌, ◌++◌, map, length, refl, sym, ap, subst, ◌∙◌, arith, append_assoc, length-append, codes, decimal, Some, None, Option}
 use Rattle.std.proofs.lemmas.List.{append-nil}
 use Rattle.std.proofs.lemmas.Grind.{flat_map-append}
-use Rattle.std.specs.List.{flat_map, join_with_byte, list_all, AllByRecursion}
+use Rattle.std.specs.List.{flat_map, join_with_byte, list_all}
 use Rattle.mt_words.specs.Words.{words}
 use Rattle.mt_words.proofs.PieceLaws.{pieces_joined, joined_pieces}
 use Rattle.mt_info.proofs.WordLaws.{lacks, decimal-lacks}
 use Rattle.mt_client.specs.declared.opening.Heading.{Heading}
 use Rattle.mt_client.specs.declared.fault.ClientFault.{ClientFault}
 use Rattle.mt_lines.specs.Lines.{Item, Text}
-use Rattle.mt_skel.proofs.MiddleLaws.{and-true, and_first, and_second}
+use Rattle.mt_skel.proofs.MiddleLaws.{and-true, and_first, and_second, each_last}
 use Rattle.mt_info.specs.RowLine.{line, row_line}
 use Rattle.mt_info.specs.declared.row.Row.{Row}
 use Rattle.mt_events.specs.Posts.{PostView, IsPost, post_text, ended}
@@ -42,10 +42,6 @@ follows_more posts post old between new f h = record {
   make = h.make ∙ ap (λ m. mirrored m post) f.make ∙ sym (mirrored_more posts post old);
 }
 
-all_more : (posts : List PostView) (post : PostView) → AllByRecursion IsPost posts → IsPost post → AllByRecursion IsPost (posts ++ post ∷ [])
-all_more [] post all valid = (valid, tt)
-all_more (p ∷ posts) post all valid = (all.0, all_more posts post all.1 valid)
-
 pub none_followed : (before : List Item) (mirror : MirrorView) → HasFollowedSome 0 before before mirror mirror
 none_followed before mirror = record { lines = []; posts = []; valid = tt; read = refl; text = refl; many = refl; follows = record { are = refl; make = refl } }
 
@@ -55,7 +51,7 @@ followed_more n before middle after old between new f h =
     record {
       lines = f.lines ++ h.lines;
       posts = f.posts ++ h.post ∷ [];
-      valid = all_more f.posts h.post f.valid h.valid;
+      valid = each_last IsPost f.posts h.post f.valid h.valid;
       read = runs_read f.lines h.lines before middle after f.read h.read;
       text =
           printed-append f.lines h.lines ∙ (λ k. f.text k ++ (h.text ∙ sym (append-nil (post_text h.post))) k)

@@ -13,6 +13,7 @@ use Rattle.mt_info.specs.RowLine.{line}
 use Rattle.mt_info.specs.declared.row.Row.{Row}
 use Rattle.mt_info.proofs.RowLineLaws.{line-injective}
 use Rattle.mt_events.specs.Mirrors.{MirrorView}
+use Rattle.mt_events.proofs.PostLaws.{second, third, fourth}
 use Rattle.mt_client.specs.Requests.{is_refusal}
 use Rattle.mt_client.specs.Reading.{texts, NoneFirst, AreSoMany}
 use Rattle.mt_client.specs.Mirroring.{IsShown, counted_line, heading_words, heading_line, part_lines, opening_lines, HasOpened}
@@ -60,18 +61,6 @@ number_told number count seen a b is = go (number == count) refl
     go : (same : Bool) → (number == count) ≡ same → MatchBool same (seen ≡ counted_line count) (seen ≢ counted_line count)
     go true e = let n : number ≡ count = grind (arith, nat_tests) in is ∙ ap counted_line n
     go false e = λ f. let n = counted_tells number count a b (sym is ∙ f) in grind (arith, nat_tests)
-
-abbrev second : List (List ℕ) → List ℕ
-second (a ∷ b ∷ rest) = b
-second _ = []
-
-abbrev third : List (List ℕ) → List ℕ
-third (a ∷ b ∷ c ∷ rest) = c
-third _ = []
-
-abbrev fourth : List (List ℕ) → List ℕ
-fourth (a ∷ b ∷ c ∷ d ∷ rest) = d
-fourth _ = []
 
 pub heading_tells : (space number count space_2 number_2 count_2 : ℕ) → space < 2 ^ 64 → number < 2 ^ 64 → count < 2 ^ 64 → space_2 < 2 ^ 64 → number_2 < 2 ^ 64 → count_2 < 2 ^ 64
     → join_with_byte 32 (heading_words space number count) ≡ join_with_byte 32 (heading_words space_2 number_2 count_2) → (space ≡ space_2) × (number ≡ number_2) × (count ≡ count_2)

@@ -1,28 +1,16 @@
 -- A mirror in its place among those of other namespaces.
-use Rattle.std.proofs.Common.{◌≡◌, ℕ, suc, ◌+◌, ◌<◌, ◌≤◌, Bool, true, false, cond, not, ◌==◌, ltb, nat_le, nat_lt, nat_eq, List, [], ◌∷◌, length, Option, Some, None, slice_get, IsTrue, refl, sym, ap, ◌∙◌, arith}
-use Rattle.std.specs.List.{list_all, insert, remove, position_from, position_or_len}
+use Rattle.std.proofs.Common.{◌≡◌, ℕ, suc, ◌+◌, ◌<◌, Bool, true, false, cond, not, ◌==◌, nat_le, nat_eq, List, [], ◌∷◌, length, Option, Some, None, slice_get, IsTrue, refl, sym, ap, ◌∙◌, arith}
+use Rattle.std.specs.List.{insert, remove, position_from, position_or_len}
 use Rattle.std.specs.Option.{option_map_or, unwrap_or}
-use Rattle.std.proofs.lemmas.Grind.{common_steps}
 use Rattle.std.proofs.lemmas.Bool.Decides.{nat_tests}
-use Rattle.std.proofs.lemmas.List.Sums.{prefix_len-le-length}
-use Rattle.std.proofs.lemmas.Iterator.Adapters.{position_from-zero}
 use Rattle.mt_skel.specs.Keyed.{put, row_at, rises}
-use Rattle.mt_skel.proofs.KeyedLaws.{row_at-key, row_at-below, rises-put}
+use Rattle.mt_skel.proofs.KeyedLaws.{row_at-key, row_at-below, rises-put, all-lower}
 use Rattle.mt_skel.proofs.MiddleLaws.{and_first, and_second}
+use Rattle.mt_skel.proofs.PlaceLaws.{put_is, first-or-length}
 use Rattle.mt_events.specs.Posts.{PostView}
 use Rattle.mt_events.specs.Mirrors.{MirrorView, mirrored}
 use Rattle.mt_client.specs.Finding.{mirror_space}
 use Rattle.mt_client.specs.Telling.{mirror_begun, mirror_in, mirrors_with}
-
-pub place-within : (p : MirrorView → Bool) (xs : List MirrorView) → position_or_len p xs ≤ length xs
-place-within p xs = prefix_len-le-length _ xs
-
-unwrap-within : (a n : ℕ) → a ≤ n → unwrap_or (cond (ltb a n) (Some a) None) n ≡ a
-unwrap-within a n h = grind (arith, common_steps)
-
--- where the test passes first, or else the length
-first-or-length : (p : MirrorView → Bool) (xs : List MirrorView) → unwrap_or (position_from p 0 xs) (length xs) ≡ position_or_len p xs
-first-or-length p xs = rw (← position_from-zero p xs) (unwrap-within (position_or_len p xs) (length xs) (place-within p xs))
 
 pub place_found : (o : Option ℕ) (at : ℕ) (p : MirrorView → Bool) (xs : List MirrorView) → o ≡ position_from p 0 xs → o ≡ Some at → at ≡ position_or_len p xs
 place_found o at p xs e is = ap (λ k. unwrap_or k (length xs)) (sym is ∙ e) ∙ first-or-length p xs
@@ -42,50 +30,14 @@ here n at xs = option_map_or (λ (y : MirrorView). y.space == n) (slice_get xs a
 abbrev without_here : ℕ → ℕ → List MirrorView → List MirrorView
 without_here n at xs = cond (here n at xs) (remove xs at) xs
 
-pull : (x y : MirrorView) (at : ℕ) (zs ys : List MirrorView) (b : Bool) → insert (cond b (y ∷ zs) (y ∷ ys)) (suc at) x ≡ y ∷ insert (cond b zs ys) at x
-pull x y at zs ys true = refl
-pull x y at zs ys false = refl
-
--- before the first mirror that is not of a lesser namespace, in place of that one where it is of the same namespace
-put_is : (x : MirrorView) (xs : List MirrorView) → insert (without_here x.space (place x.space xs) xs) (place x.space xs) x ≡ put mirror_space x xs
-put_is x [] = refl
-put_is x (y ∷ ys) = go (nat_le x.space y.space) refl (put_is x ys)
-  where
-    first : (b : Bool) → (y.space == x.space) ≡ b → nat_le x.space y.space ≡ true → insert (cond (y.space == x.space) ys (y ∷ ys)) 0 x ≡ put mirror_space x (y ∷ ys)
-    first true e is =
-        let less : nat_lt x.space y.space ≡ false = grind (arith, nat_tests) in
-        let same : nat_eq x.space y.space ≡ true = grind (arith, nat_tests) in
-        rw (e, less, same) refl
-    first false e is =
-        let less : nat_lt x.space y.space ≡ true = grind (arith, nat_tests) in
-        rw (e, less) refl
-
-    go : (le : Bool) → nat_le x.space y.space ≡ le
-        → insert (without_here x.space (place x.space ys) ys) (place x.space ys) x ≡ put mirror_space x ys
-        → insert (without_here x.space (cond (not le) (1 + place x.space ys) 0) (y ∷ ys)) (cond (not le) (1 + place x.space ys) 0) x ≡ put mirror_space x (y ∷ ys)
-    go true is ih = first (y.space == x.space) refl is
-    go false is ih =
-        let less : nat_lt x.space y.space ≡ false = grind (arith, nat_tests) in
-        let same : nat_eq x.space y.space ≡ false = grind (arith, nat_tests) in
-        let at : ℕ = place x.space ys in
-        let e : 1 + at ≡ suc at = omega arith in
-        let behind : put mirror_space x (y ∷ ys) ≡ y ∷ put mirror_space x ys = rw (less, same) refl in
-        ap (λ m. insert (without_here x.space m (y ∷ ys)) m x) e ∙ pull x y at (remove ys at) ys (here x.space at ys) ∙ ap (λ t. y ∷ t) ih ∙ sym behind
-
 pub placed : (n at : ℕ) (x : MirrorView) (old middle new : List MirrorView) → x.space ≡ n → at ≡ place n old → middle ≡ without_here n at old → new ≡ insert middle at x → new ≡ put mirror_space x old
 placed n at x old middle new same is taken e =
     e ∙ ap (λ xs. insert xs at x) taken
     ∙ ap (λ k. insert (without_here n k old) k x) is
     ∙ ap (λ k. insert (without_here k (place k old) old) (place k old) x) (sym same)
-    ∙ put_is x old
+    ∙ put_is mirror_space x old
 
 -- the mirror at that place
-all-lower : (j k : ℕ) (xs : List MirrorView) → j < k → list_all (λ (y : MirrorView). ltb k y.space) xs ≡ true → list_all (λ (y : MirrorView). ltb j y.space) xs ≡ true
-all-lower j k [] l h = refl
-all-lower j k (y ∷ ys) l h =
-    let ih = all-lower j k ys l in
-    grind (arith, nat_tests)
-
 row_here : (n : ℕ) (xs : List MirrorView) → rises mirror_space xs ≡ true → row_at mirror_space n xs ≡ cond (here n (place n xs) xs) (slice_get xs (place n xs)) None
 row_here n [] h = refl
 row_here n (y ∷ ys) h = go (nat_le n y.space) refl (row_here n ys (and_second _ _ h))
@@ -97,7 +49,7 @@ row_here n (y ∷ ys) h = go (nat_le n y.space) refl (row_here n ys (and_second 
     first false e is =
         let same : nat_eq n y.space ≡ false = grind (arith, nat_tests) in
         let less : n < y.space = grind (arith, nat_tests) in
-        let none = row_at-below mirror_space n ys (all-lower n y.space ys less (and_first _ _ h)) in
+        let none = row_at-below mirror_space n ys (all-lower mirror_space n y.space ys less (and_first _ _ h)) in
         rw (e, same) none
 
     go : (le : Bool) → nat_le n y.space ≡ le

@@ -1,14 +1,15 @@
 -- Rows, namespaces and posts that were passed on, and what cannot come first where one is refused.
-use Rattle.std.proofs.Common.{◌≡◌, ◌≢◌, ℕ, ◌+◌, ◌-◌, ◌<◌, ◌≤◌, ◌^◌, nat_le, Bool, true, false, List, [], ◌∷◌, ◌++◌, map, length, refl, sym, ap, subst, ◌∙◌, arith, append-nil, length-append, Some, None}
-use Rattle.std.proofs.lemmas.List.{map-append}
+use Rattle.std.proofs.Common.{◌≡◌, ◌≢◌, ℕ, ◌+◌, ◌-◌, ◌<◌, ◌≤◌, ◌^◌, nat_le, Bool, true, false, List, [], ◌∷◌, ◌++◌, length, refl, sym, ap, subst, ◌∙◌, arith, append-nil, length-append, Some, None}
+use Rattle.std.proofs.lemmas.List.{map-append, length-map}
 use Rattle.std.proofs.lemmas.Bool.Decides.{nat_tests}
 use Rattle.std.proofs.lemmas.Grind.{flat_map-append}
 use Rattle.std.specs.List.{flat_map, join_with_byte, AllByRecursion}
+use Rattle.std.proofs.lemmas.Option.{same_Some}
 use Rattle.mt_words.specs.Words.{words}
 use Rattle.mt_lines.specs.Lines.{Item, Text}
+use Rattle.mt_skel.proofs.MiddleLaws.{each_last}
 use Rattle.mt_info.specs.Laws.{IsRow}
 use Rattle.mt_info.specs.RowLine.{line}
-use Rattle.mt_info.specs.declared.row.Row.{Row}
 use Rattle.mt_events.specs.Posts.{PostView, IsPost, post_text, ended}
 use Rattle.mt_client.specs.declared.answer.Form.{Form}
 use Rattle.mt_client.specs.declared.block.Block.{Block}
@@ -23,10 +24,6 @@ use Rattle.mt_client.proofs.OpeningLaws.{first_taken, texts_split, needs_line, h
 use Rattle.mt_client.proofs.FollowLaws.{lines_alike}
 
 -- rows
-valid_more : (rows : List Row) (row : Row) → AllByRecursion IsRow rows → IsRow row → AllByRecursion IsRow (rows ++ row ∷ [])
-valid_more [] row all valid = (valid, tt)
-valid_more (r ∷ rows) row all valid = (all.0, valid_more rows row all.1 valid)
-
 pub no_rows : AreRowLines 0 []
 no_rows = record { rows = []; valid = tt; many = refl; all = refl }
 
@@ -36,7 +33,7 @@ rows_join n ls ms a r =
     let m = a.many in
     record {
       rows = a.rows ++ r.0 ∷ [];
-      valid = valid_more a.rows r.0 a.valid r.1;
+      valid = each_last IsRow a.rows r.0 a.valid r.1;
       many = omega (arith, l, m);
       all = (λ i. a.all i ++ r.2 i) ∙ sym (map-append line a.rows (r.0 ∷ []));
     }
@@ -44,12 +41,8 @@ rows_join n ls ms a r =
 pub rows_ended : (n count : ℕ) (before middle : List Item) → HasRead (AreRowLines n) before middle → n < count → NoneFirst IsRowLine middle → NoneFirst (AreRowLines count) before
 rows_ended n count before middle h lt none = rows_cut n count h.1.rows before middle (h.2 ∙ ap (λ ls. texts ls ++ middle) h.1.all) h.1.many lt none
 
-pub many_lines : (rows : List Row) → length (map line rows) ≡ length rows
-many_lines [] = refl
-many_lines (r ∷ rows) = let ih = many_lines rows in omega (arith, ih)
-
 rows_many : (n : ℕ) (ls : List (List ℕ)) → AreRowLines n ls → length ls ≡ n
-rows_many n ls a = ap length a.all ∙ many_lines a.rows ∙ a.many
+rows_many n ls a = ap length a.all ∙ length-map a.rows line ∙ a.many
 
 -- a row in the place of which something else came
 pub row_cut : (seen : List ℕ) (before middle : List Item) → before ≡ Text seen ∷ middle → (IsRowLine (seen ∷ []) → ⊥) → NoneFirst IsRowLine before
@@ -85,9 +78,6 @@ part_needs_rows h seen middle is small none lines later k e =
     none k.rows later (subst (λ n. AreRowLines n k.rows) w.2 k.valid) t.1
 
 -- posts
-some_same : (n m : ℕ) → Some n ≡ Some m → n ≡ m
-some_same n m e = cc
-
 pub post_made : (n : ℕ) (seen : List ℕ) (others : List (List ℕ)) (text begun : List ℕ) → Some n ≡ event_count (words seen) → length others ≡ n → begun ≡ [] ++ ended seen → text ≡ begun ++ printed others → ((post : PostView) × IsPost post × (text ≡ post_text post))
     → IsBlockOf Post n (seen ∷ others) × (text ≡ printed (seen ∷ others))
 post_made n seen others text begun counts many began is post =
@@ -111,7 +101,7 @@ post_needs_count seen middle none lines later k e =
 post_many : (n : ℕ) (seen : List ℕ) (middle later : List Item) (lines : List (List ℕ)) → Some n ≡ event_count (words seen) → (k : IsPostLines lines) → Text seen ∷ middle ≡ texts lines ++ later → length k.others ≡ n
 post_many n seen middle later lines counts k e =
     let t = post_first seen middle later lines k e in
-    sym (some_same n (length k.others) (counts ∙ ap (λ l. event_count (words l)) (sym t.0) ∙ k.counted))
+    sym (same_Some n (length k.others) (counts ∙ ap (λ l. event_count (words l)) (sym t.0) ∙ k.counted))
 
 pub post_needs_lines : (n : ℕ) (seen : List ℕ) (middle : List Item) → Some n ≡ event_count (words seen) → NoneFirst (AreSoMany n) middle → NoneFirst IsPostLines (Text seen ∷ middle)
 post_needs_lines n seen middle counts none lines later k e = none k.others later (post_many n seen middle later lines counts k e) (post_first seen middle later lines k e).1
@@ -162,10 +152,6 @@ block_needs_line Namespace before none = needs_line before part_some none
 block_needs_line Post before none = needs_line before post_some none
 
 -- blocks, and one more
-pub each_more : (kind : List (List ℕ) → Type 0) (blocks : List (List (List ℕ))) (block : List (List ℕ)) → AllByRecursion kind blocks → kind block → AllByRecursion kind (blocks ++ block ∷ [])
-each_more kind [] block all valid = (valid, tt)
-each_more kind (g ∷ blocks) block all valid = (all.0, each_more kind blocks block all.1 valid)
-
 pub flat_more : (ls ms : List (List ℕ)) (blocks : List (List (List ℕ))) → ls ≡ flat_map (λ block. block) blocks → ls ++ ms ≡ flat_map (λ block. block) (blocks ++ ms ∷ [])
 flat_more ls ms blocks e = ap (λ x. x ++ ms) e ∙ ap (λ x. flat_map (λ block. block) blocks ++ x) (sym (append-nil ms)) ∙ sym (flat_map-append (λ block. block) blocks (ms ∷ []))
 
@@ -175,15 +161,12 @@ AreSoFar block count left lines = AreBlocks (IsBlock block) lines × (length lin
 pub none_so_far : (block : Block) (count : ℕ) → AreSoFar block count count []
 none_so_far block count = (record { blocks = []; each = tt; all = refl }, omega arith)
 
-pub all_so_far : (block : Block) (count left : ℕ) (ls ms : List (List ℕ)) → left ≤ 0 → AreSoFar block count left ls → ms ≡ ls → AreBlockLines block count ms
-all_so_far block count left ls ms end a same = subst (AreBlockLines block count) (sym same) (a.0, (let m = a.1 in omega (arith, m, end)))
-
 pub blocks_join : (block : Block) (count left rest behind : ℕ) → left ≡ 1 + (behind + rest) → (ls ms : List (List ℕ)) → AreSoFar block count left ls → IsBlockOf block behind ms → AreSoFar block count rest (ls ++ ms)
 blocks_join block count left rest behind is ls ms a g =
     let l = length-append ls ms in
     let m = g.1 in
     let n = a.1 in (
-      record { blocks = a.0.blocks ++ ms ∷ []; each = each_more (IsBlock block) a.0.blocks ms a.0.each g.0; all = flat_more ls ms a.0.blocks a.0.all },
+      record { blocks = a.0.blocks ++ ms ∷ []; each = each_last (IsBlock block) a.0.blocks ms a.0.each g.0; all = flat_more ls ms a.0.blocks a.0.all },
       omega (arith, l, m, n, is),
     )
 
@@ -255,30 +238,16 @@ headed_needs_line form before none = needs_line before (λ lines k. (k.1.first, 
 headed_first : (form : Form) (seen : List ℕ) (before middle later : List Item) (lines : List (List ℕ)) (told : Bool) → before ≡ Text seen ∷ middle → (k : IsHeaded form lines told) → before ≡ texts lines ++ later → (k.first ≡ seen) × (middle ≡ texts k.others ++ later)
 headed_first form seen before middle later lines told there k e = first_taken seen k.first lines k.others before middle later there k.all e
 
-pub headed_needs_verdict : (form : Form) (seen : List ℕ) (before middle : List Item) → before ≡ Text seen ∷ middle → None ≡ verdict seen → NoneFirst (λ all. (told : Bool) × IsHeaded form all told) before
-headed_needs_verdict form seen before middle there none lines later k e =
-    let t = headed_first form seen before middle later lines k.0 there k.1 e in
-    let no : None ≡ Some k.0 = none ∙ ap verdict (sym t.0) ∙ k.1.tells in
-    cc
-
-bool_same : (b c : Bool) → Some b ≡ Some c → b ≡ c
-bool_same b c e = cc
-
 headed_told : (form : Form) (told : Bool) (seen : List ℕ) (before middle later : List Item) (lines : List (List ℕ)) → before ≡ Text seen ∷ middle → Some told ≡ verdict seen → (k : (told : Bool) × IsHeaded form lines told) → before ≡ texts lines ++ later
     → lines_behind form told seen ≡ Some k.1.count
 headed_told form told seen before middle later lines there tells k e =
     let t = headed_first form seen before middle later lines k.0 there k.1 e in
-    let same : told ≡ k.0 = bool_same told k.0 (tells ∙ ap verdict (sym t.0) ∙ k.1.tells) in
+    let same : told ≡ k.0 = same_Some told k.0 (tells ∙ ap verdict (sym t.0) ∙ k.1.tells) in
     (λ i. lines_behind form (same i) (sym t.0 i)) ∙ k.1.counted
-
-pub headed_needs_count : (form : Form) (told : Bool) (seen : List ℕ) (before middle : List Item) → before ≡ Text seen ∷ middle → Some told ≡ verdict seen → None ≡ lines_behind form told seen → NoneFirst (λ all. (told : Bool) × IsHeaded form all told) before
-headed_needs_count form told seen before middle there tells none lines later k e =
-    let no : None ≡ Some k.1.count = none ∙ headed_told form told seen before middle later lines there tells k e in
-    cc
 
 pub headed_needs_behind : (form : Form) (told : Bool) (count : ℕ) (seen : List ℕ) (before middle : List Item) → before ≡ Text seen ∷ middle → Some told ≡ verdict seen → Some count ≡ lines_behind form told seen → NoneFirst (AreBehind form count) middle
     → NoneFirst (λ all. (told : Bool) × IsHeaded form all told) before
 headed_needs_behind form told count seen before middle there tells counts none lines later k e =
     let t = headed_first form seen before middle later lines k.0 there k.1 e in
-    let same = some_same count k.1.count (counts ∙ headed_told form told seen before middle later lines there tells k e) in
+    let same = same_Some count k.1.count (counts ∙ headed_told form told seen before middle later lines there tells k e) in
     none k.1.others later (subst (λ n. AreBehind form n k.1.others) (sym same) k.1.behind) t.1

@@ -3,7 +3,7 @@ use Rattle.std.proofs.Common.{◌≡◌, ◌≢◌, ℕ, zero, suc, ◌+◌, ◌
 use Rattle.std.proofs.lemmas.List.{append-nil}
 use Rattle.std.proofs.lemmas.Grind.{flat_map-append}
 use Rattle.std.specs.List.{flat_map, AllByRecursion}
-use Rattle.mt_skel.proofs.MiddleLaws.{and-true, and_first, and_second}
+use Rattle.mt_skel.proofs.MiddleLaws.{and-true, and_first, and_second, each_append}
 use Rattle.mt_lines.specs.Lines.{Item, Text}
 use Rattle.mt_events.specs.Posts.{PostView, IsPost, post_text, ended}
 use Rattle.mt_events.specs.Mirrors.{MirrorView}
@@ -22,11 +22,6 @@ use Rattle.mt_client.proofs.RequestLaws.{sent_whole, part_first, part_second}
 use Rattle.mt_client.proofs.RelayLaws.{printed-append, broken_cut}
 use Rattle.mt_client.proofs.MirrorLaws.{runs_read}
 use Rattle.mt_client.proofs.FoundLaws.{watched_whole}
-
--- posts behind posts
-pub all_both : {X : Type 0} (P : X → Type 0) (xs ys : List X) → AllByRecursion P xs → AllByRecursion P ys → AllByRecursion P (xs ++ ys)
-all_both P [] ys all more = more
-all_both P (x ∷ xs) ys all more = (all.0, all_both P xs ys all.1 more)
 
 pub due_both : (scope : Scope) (ps qs : List PostView) (old : List MirrorView) → are_due scope old ps ≡ true → are_due scope (mirrors_by old ps) qs ≡ true → are_due scope old (ps ++ qs) ≡ true
 due_both scope [] qs old h k = k
@@ -48,7 +43,7 @@ pub both_told : {telling : Telling} (scope : Scope) (ps qs : List PostView) (s t
     → AreTold telling scope ps s old mid before middle begun between → AreTold telling scope qs t mid new middle after between done → AreTold telling scope (ps ++ qs) (s ++ t) old new before after begun done
 both_told {telling} scope ps qs s t old mid new before middle after begun between done f h = record {
   lines = f.lines ++ h.lines;
-  valid = all_both IsPost ps qs f.valid h.valid;
+  valid = each_append IsPost ps qs f.valid h.valid;
   due = due_both scope ps qs old f.due (subst (λ ms. are_due scope ms qs ≡ true) f.make h.due);
   make = h.make ∙ ap (λ ms. mirrors_by ms qs) f.make ∙ sym (by_both ps qs old);
   read = runs_read f.lines h.lines before middle after f.read h.read;
@@ -187,7 +182,7 @@ whole_more {telling} count scope old mid new before middle after begun between d
     ap (λ x. said f.portions ++ x) (sym (append-nil (followed_text h.posts (count_text count)))) ∙ sym (flat_map-append (λ posts. followed_text posts (count_text count)) f.portions (h.posts ∷ [])) in
     record {
       portions = f.portions ++ h.posts ∷ [];
-      whole = all_both (λ (posts : List PostView). length posts ≡ count) f.portions (h.posts ∷ []) f.whole (h.many, tt);
+      whole = each_append (λ (posts : List PostView). length posts ≡ count) f.portions (h.posts ∷ []) f.whole (h.many, tt);
       told = subst (λ x. AreTold telling scope x (said (f.portions ++ h.posts ∷ [])) old new before after begun done) posts
           (subst (λ x. AreTold telling scope (flat_map (λ posts. posts) f.portions ++ h.posts) x old new before after begun done) text
           (both_told scope (flat_map (λ posts. posts) f.portions) h.posts (said f.portions) (followed_text h.posts (count_text count)) old mid new before middle after begun between done f.told h.told));
@@ -205,7 +200,7 @@ so_behind {telling} count scope old mid new before middle after begun between do
     record {
       portions = f.portions ++ h.portions;
       rest = h.rest;
-      whole = all_both (λ (posts : List PostView). length posts ≡ count) f.portions h.portions f.whole h.whole;
+      whole = each_append (λ (posts : List PostView). length posts ≡ count) f.portions h.portions f.whole h.whole;
       within = h.within;
       told = subst (λ x. AreTold telling scope x (portions_text count (f.portions ++ h.portions) h.rest) old new before after begun done) posts
           (subst (λ x. AreTold telling scope (all f.portions ++ all_posts h.portions h.rest) x old new before after begun done) text

@@ -1,8 +1,9 @@
 -- Where no row is open, nothing is due.
-use Rattle.std.proofs.Common.{◌≡◌, ◌∙◌, ℕ, zero, suc, Bool, true, false, cond, ◌||◌, List, [], ◌∷◌, ◌++◌, refl, sym, ap}
+use Rattle.std.proofs.Common.{◌≡◌, ◌∙◌, ℕ, zero, suc, Bool, true, false, cond, List, [], ◌∷◌, ◌++◌, refl, sym, ap}
 use Rattle.std.specs.Prelude.{slice_get}
 use Rattle.std.specs.List.{flat_map, list_any}
 use Rattle.std.specs.Option.{option_map_or}
+use Rattle.std.proofs.lemmas.Bool.{or_parts}
 use Rattle.mt_events.specs.Posts.{PostView}
 use Rattle.mt_desk.specs.declared.row.Slot.{Slot}
 use Rattle.mt_desk.specs.declared.row.Slot.TheVariants.{Parked, Used, Away}
@@ -13,18 +14,10 @@ deaf_slot p (Parked l) e = refl
 deaf_slot p (Used r) e = rw e refl
 deaf_slot p Away e = refl
 
-first_deaf : (b c : Bool) → (b || c) ≡ false → b ≡ false
-first_deaf true c e = absurd (cc)
-first_deaf false c e = refl
-
-later_deaf : (b c : Bool) → (b || c) ≡ false → c ≡ false
-later_deaf true c e = absurd (cc)
-later_deaf false c e = e
-
 nobody_follows : (p : PostView) (slots : List Slot) (place : ℕ) → list_any slot_hears slots ≡ false → option_map_or (slot_follows p) (slice_get slots place) false ≡ false
 nobody_follows p [] place e = refl
-nobody_follows p (s ∷ slots) zero e = deaf_slot p s (first_deaf (slot_hears s) (list_any slot_hears slots) e)
-nobody_follows p (s ∷ slots) (suc place) e = nobody_follows p slots place (later_deaf (slot_hears s) (list_any slot_hears slots) e)
+nobody_follows p (s ∷ slots) zero e = deaf_slot p s (or_parts (slot_hears s) (list_any slot_hears slots) e).0
+nobody_follows p (s ∷ slots) (suc place) e = nobody_follows p slots place (or_parts (slot_hears s) (list_any slot_hears slots) e).1
 
 nothing_of : (p : PostView) (slots : List Slot) (order : List ℕ) → list_any slot_hears slots ≡ false → flat_map (due_at p slots) order ≡ []
 nothing_of p slots [] e = refl

@@ -4,11 +4,11 @@ use Rattle.std.specs.Prelude.{◌⊎◌, ◌==◌}
 use Rattle.std.specs.List.{filter, list_all, AllByRecursion}
 use Rattle.std.specs.Option.{option_map_or}
 use Rattle.std.proofs.lemmas.Bool.Decides.{nat_tests}
-use Rattle.std.proofs.lemmas.List.{map-append, length-set}
+use Rattle.std.proofs.lemmas.List.{map-append, length-set, length-map}
 use Rattle.std.proofs.lemmas.List.Elements.{filter-append}
 use Rattle.mt_skel.specs.Keyed.{row_at, put, without, rises}
 use Rattle.mt_queue.specs.Halves.{LineId, LineView}
-use Rattle.mt_skel.proofs.MiddleLaws.{and_first, and_second, row_mid, put_mid, without_mid, each_still}
+use Rattle.mt_skel.proofs.MiddleLaws.{and_first, and_second, row_mid, put_mid, without_mid, each_still, each_append, each_left, each_right}
 use Rattle.mt_desk.specs.Desk.{DeskRow, row_key, desk_row_after_stop}
 use Rattle.mt_desk.specs.Rows.{PlacedRowView, ended_row}
 use Rattle.mt_desk.specs.declared.row.Slot.{Slot}
@@ -50,18 +50,6 @@ pub each_get : {X : Type 0} (P : X → Type 0) (xs : List X) (k : ℕ) (s : X) �
 each_get P [] k s all e = absurd cc
 each_get P (y ∷ xs) zero s all e = let same : y ≡ s = cc in subst P same all.0
 each_get P (y ∷ xs) (suc k) s all e = each_get P xs k s all.1 e
-
-pub each_append : {X : Type 0} (P : X → Type 0) (xs ys : List X) → AllByRecursion P xs → AllByRecursion P ys → AllByRecursion P (xs ++ ys)
-each_append P [] ys a b = b
-each_append P (x ∷ xs) ys a b = (a.0, each_append P xs ys a.1 b)
-
-each_left : {X : Type 0} (P : X → Type 0) (xs ys : List X) → AllByRecursion P (xs ++ ys) → AllByRecursion P xs
-each_left P [] ys a = tt
-each_left P (x ∷ xs) ys a = (a.0, each_left P xs ys a.1)
-
-each_right : {X : Type 0} (P : X → Type 0) (xs ys : List X) → AllByRecursion P (xs ++ ys) → AllByRecursion P ys
-each_right P [] ys a = a
-each_right P (x ∷ xs) ys a = each_right P xs ys a.1
 
 uses_set : (slots : List Slot) (p : ℕ) (s x : Slot) → slice_get slots p ≡ Some s → uses (set slots p x) + use_of s ≡ uses slots + use_of x
 uses_set [] p s x e = absurd cc
@@ -330,10 +318,6 @@ ended_uses (s ∷ slots) = (λ i. same s i + ended_uses slots i)
     same (Used r) = refl
     same Away = refl
 
-ended_length : (slots : List Slot) → length (map ended_slot slots) ≡ length slots
-ended_length [] = refl
-ended_length (s ∷ slots) = ap suc (ended_length slots)
-
 ended_each : (c : ℕ) (slots : List Slot) → AllByRecursion (IsLine c) slots → AllByRecursion (IsLine c) (map ended_slot slots)
 ended_each c [] h = tt
 ended_each c (Parked l ∷ slots) h = (record { here = tt; capacity_is = h.0.capacity_is }, ended_each c slots h.1)
@@ -343,7 +327,7 @@ ended_each c (Away ∷ slots) h = absurd h.0.here
 pub ended_places : (lines : List LineId) (c : ℕ) (slots : List Slot) (order : List ℕ) → ArePlaces lines c slots order → ArePlaces lines c (map ended_slot slots) order
 ended_places lines c slots order h = record {
   lines_are = ended_lines slots ∙ h.lines_are;
-  number = ended_length slots ∙ h.number;
+  number = length-map slots ended_slot ∙ h.number;
   each = ended_each c slots h.each;
   used = each_still (IsUsed slots) (IsUsed (map ended_slot slots)) (λ k u. record { row = ended_row u.row; there = ended_get slots k u.row u.there }) order h.used;
   ordered = λ k r e. let q = was_used slots k r e in h.ordered k q.0 q.1;

@@ -12,12 +12,8 @@ module _ (c : ℕ) where
   -- the watcher of a key is that of its row
   pub watcher_at : (k : ℕ) (rs : List DeskRow) → row_at key_of k (map (late_watcher c) rs) ≡ option_map (late_watcher c) (row_at row_key k rs)
   watcher_at k [] = refl
-  watcher_at k (r ∷ rs) = by (eqb k r.key) (watcher_at k rs)
-    where
-      by : (b : Bool) → row_at key_of k (map (late_watcher c) rs) ≡ option_map (late_watcher c) (row_at row_key k rs)
-          → cond b (Some (late_watcher c r)) (row_at key_of k (map (late_watcher c) rs)) ≡ option_map (late_watcher c) (cond b (Some r) (row_at row_key k rs))
-      by true ih = refl
-      by false ih = ih
+  watcher_at k (r ∷ rs) =
+      elim (eqb k r.key) as (λ b. cond b (Some (late_watcher c r)) (row_at key_of k (map (late_watcher c) rs)) ≡ option_map (late_watcher c) (cond b (Some r) (row_at row_key k rs))) [ true ↦ refl | false ↦ watcher_at k rs ]
 
   pub watcher_there : (k : ℕ) (rs : List DeskRow) (r : DeskRow) → row_at row_key k rs ≡ Some r → row_at key_of k (map (late_watcher c) rs) ≡ Some (late_watcher c r)
   watcher_there k rs r at = watcher_at k rs ∙ ap (option_map (late_watcher c)) at

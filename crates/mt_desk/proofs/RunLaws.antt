@@ -18,8 +18,8 @@ use Rattle.mt_floor.specs.Schedule.{FloorView, Stepped, empty_floor, floor_step,
 use Rattle.mt_floor.specs.WellFormed.{IsFloor}
 use Rattle.mt_floor.specs.Headline.{floor_after}
 use Rattle.mt_floor.proofs.RowLaws.{put_same}
-use Rattle.mt_floor.proofs.RunLaws.{run_state, run_told, journal_told}
-use Rattle.mt_floor.proofs.StandingLaws.{stays}
+use Rattle.mt_floor.proofs.RunLaws.{run_state, journal_told}
+use Rattle.mt_floor.proofs.GivenLaws.{floors_stay}
 use Rattle.mt_desk.specs.Desk.{DeskView, HasHistory, floor_of_desk}
 use Rattle.mt_desk.specs.Calls.{IsDone}
 use Rattle.mt_desk.proofs.PutLaws.{put_back, put_twice}
@@ -32,18 +32,9 @@ Ran = FloorView × List (Result Answer Fault)
 pub run_cons : (s a b : FloorView) (e : Event) (es : List Event) (x : Result Answer Fault) (xs : List (Result Answer Fault)) → floor_step s e ≡ (a, x) → run a es ≡ (b, xs) → run s (e ∷ es) ≡ (b, x ∷ xs)
 run_cons s a b e es x xs first rest = ap (λ (st : Stepped). ((run st.0 es).0, st.1 ∷ (run st.0 es).1)) first ∙ ap (λ (q : Ran). (q.0, x ∷ q.1)) rest
 
--- events, and then others
-pub run_pair : (s a b : FloorView) (es fs : List Event) (xs ys : List (Result Answer Fault)) → run s es ≡ (a, xs) → run a fs ≡ (b, ys) → run s (es ++ fs) ≡ (b, xs ++ ys)
-run_pair s a b es fs xs ys first rest =
-    (λ i. (run_state s es fs i, run_told s es fs i)) ∙ ap (λ (q : Ran). ((run q.0 fs).0, q.1 ++ (run q.0 fs).1)) first ∙ ap (λ (q : Ran). (q.0, xs ++ q.1)) rest
-
 -- what a run keeps
-pub runs_stay : (s : FloorView) (es : List Event) → IsFloor s → IsFloor (run s es).0
-runs_stay s [] h = h
-runs_stay s (e ∷ es) h = runs_stay (floor_step s e).0 es (stays s e h)
-
 pub floor_stays : (s s' : FloorView) (es : List Event) (told : List (Result Answer Fault)) → IsFloor s → run s es ≡ (s', told) → IsFloor s'
-floor_stays s s' es told h is = subst IsFloor (ap (λ (q : Ran). q.0) is) (runs_stay s es h)
+floor_stays s s' es told h is = subst IsFloor (ap (λ (q : Ran). q.0) is) (floors_stay s es h)
 
 -- the floor after events, and then others
 pub floor_then : (capacity : ℕ) (s now : FloorView) (es fs : List Event) (told : List (Result Answer Fault)) → s ≡ floor_after capacity es → run s fs ≡ (now, told) → now ≡ floor_after capacity (es ++ fs)

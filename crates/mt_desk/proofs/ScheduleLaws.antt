@@ -23,13 +23,14 @@ use Rattle.mt_floor.specs.Schedule.{FloorView, Stepped, floor_step, run, unless,
 use Rattle.mt_floor.specs.WellFormed.{IsFloor}
 use Rattle.mt_floor.proofs.RowLaws.{put_same}
 use Rattle.mt_floor.proofs.StandingLaws.{stays}
+use Rattle.mt_floor.proofs.RunningLaws.{joined}
 use Rattle.mt_desk.specs.Late.{late, late_count}
 use Rattle.mt_desk.specs.Desk.{DeskRow, DeskView, IsDeskRow, IsInTime, IsDesk, row_key, late_watcher, floor_of_desk, new_row, with_watcher, desk_row_after_stop, halted_desk}
 use Rattle.mt_desk.specs.Calls.{WatcherView, IsHalved, IsMet, IsClosed, unseen, in_time_after, met_row, with_row}
 use Rattle.mt_desk.proofs.RowsLaws.{watcher_there, put_watchers, without_watchers, rises_watchers, snoc_watchers, each_at, each_put, each_without}
 use Rattle.mt_desk.proofs.LateLaws.{late_met, late_before}
 use Rattle.mt_desk.proofs.PutLaws.{without_put}
-use Rattle.mt_desk.proofs.RunLaws.{run_cons, run_pair, floor_stays, history_then, with_taken, takes_run}
+use Rattle.mt_desk.proofs.RunLaws.{run_cons, floor_stays, history_then, with_taken, takes_run}
 
 -- the rows of a desk stand by rising key
 pub rows_rise : (d : DeskView) → IsDesk d → rises row_key d.rows ≡ true
@@ -90,7 +91,7 @@ module _ (d : DeskView) (key : ℕ) (row : DeskRow) (half : ReceiverView) (rest 
   pub meet_schedule : (told : List (Result Answer Fault)) × (run (floor_of_desk d) (replicate (unseen d.capacity row half) (Take key) ++ Meet key ∷ []) ≡ (floor_of_desk met_desk, told ++ Ok (Met meeting) ∷ []))
   meet_schedule = (
     unseen_run.0,
-    run_pair (floor_of_desk d) (floor_of_desk met_desk) (floor_of_desk met_desk) (replicate (unseen d.capacity row half) (Take key)) (Meet key ∷ []) unseen_run.0 (Ok (Met meeting) ∷ []) unseen_run.1
+    joined (floor_of_desk d) (floor_of_desk met_desk) (replicate (unseen d.capacity row half) (Take key)) (Meet key ∷ []) unseen_run.0 (Ok (Met meeting) ∷ []) (floor_of_desk met_desk) unseen_run.1
         (run_cons (floor_of_desk met_desk) (floor_of_desk met_desk) (floor_of_desk met_desk) (Meet key) [] (Ok (Met meeting)) [] meet_step refl),
   )
 
@@ -113,7 +114,7 @@ module _ (d : DeskView) (key : ℕ) (row : DeskRow) (half : ReceiverView) (rest 
   pub close_schedule : (told : List (Result Answer Fault)) × (run (floor_of_desk d) (replicate (unseen d.capacity row half) (Take key) ++ Close key ∷ []) ≡ (floor_of_desk closed_desk, told ++ Ok (Closed rest) ∷ []))
   close_schedule = (
     unseen_run.0,
-    run_pair (floor_of_desk d) (floor_of_desk met_desk) (floor_of_desk closed_desk) (replicate (unseen d.capacity row half) (Take key)) (Close key ∷ []) unseen_run.0 (Ok (Closed rest) ∷ []) unseen_run.1
+    joined (floor_of_desk d) (floor_of_desk closed_desk) (replicate (unseen d.capacity row half) (Take key)) (Close key ∷ []) unseen_run.0 (Ok (Closed rest) ∷ []) (floor_of_desk met_desk) unseen_run.1
         (run_cons (floor_of_desk met_desk) (floor_of_desk closed_desk) (floor_of_desk closed_desk) (Close key) [] (Ok (Closed rest)) [] close_step refl),
   )
 

@@ -1,5 +1,5 @@
 -- Posts that a floor sends to the watcher of a row.
-use Rattle.std.proofs.Common.{◌≡◌, ℕ, ◌+◌, ◌<◌, ◌≤◌, Bool, true, false, cond, not, List, [], ◌∷◌, ◌++◌, length, take, Some, Ok, inl, inr, refl, sym, ap, ◌∙◌, arith, length-append}
+use Rattle.std.proofs.Common.{◌≡◌, ℕ, ◌+◌, ◌<◌, ◌≤◌, true, false, not, List, [], ◌∷◌, ◌++◌, length, take, Some, Ok, inl, inr, refl, sym, ap, ◌∙◌, arith, length-append}
 use Rattle.std.specs.Prelude.{Result, nat_le, ◌==◌}
 use Rattle.std.specs.List.{filter, AllByRecursion}
 use Rattle.std.specs.Option.{option_map_or}
@@ -22,7 +22,7 @@ use Rattle.mt_desk.specs.Late.{late, late_count}
 use Rattle.mt_desk.specs.Desk.{DeskRow, IsDeskRow, IsInTime, late_watcher}
 use Rattle.mt_desk.specs.Calls.{IsSend, IsDone}
 use Rattle.mt_desk.specs.Sent.{with_post, lagging}
-use Rattle.mt_desk.proofs.LateLaws.{HadRoom, WasFull, full_test, late_length, late_sent, watcher_full}
+use Rattle.mt_desk.proofs.LateLaws.{HadRoom, WasFull, late_sent, watcher_full}
 use Rattle.mt_desk.proofs.PutLaws.{put_twice}
 use Rattle.mt_desk.proofs.RunLaws.{run_cons, with_taken, take_step}
 
@@ -54,37 +54,28 @@ pub record Sends (s now : FloorView) : Type 0 where
   pub done : AllByRecursion IsDone told
   pub schedule : run s events ≡ (now, told)
 
--- and its events are these
-pub record SendsOne (s now : FloorView) (key : ℕ) (was_full : Bool) : Type 0 where
-  pub sends : Sends s now
-  pub events_are : sends.events ≡ cond was_full (Take key ∷ PostNext ∷ []) (PostNext ∷ [])
-
 module _ (s : FloorView) (c : ℕ) (e : Due) (ds : List Due) (r : DeskRow) (due : s.due ≡ e ∷ ds) (capacity : s.capacity ≡ c) (at : row_at key_of e.key s.watchers ≡ Some (late_watcher c r)) where
   -- the floor once the post was sent
   abbrev pub now : FloorView
   now = sent_floor s ds (late_watcher c (with_post e.post r))
 
-  with_room : HadRoom c r.met r.sent e.post → SendsOne s now e.key (is_full c (late_watcher c r))
+  with_room : HadRoom c r.met r.sent e.post → Sends s now
   with_room had =
       let w : Watcher = late_watcher c r in
       let room : is_full c w ≡ false = room_test c (length (late c r.met r.sent)) (length r.sent) had.room in
       let taken : sent_floor s ds (record w { sent = r.sent ++ e.post ∷ [] }) ≡ now = ap (λ (l : List PostView). sent_floor s ds (record w { sent = r.sent ++ e.post ∷ []; taken = l })) (sym had.same) in record {
-        sends = record {
-          events = PostNext ∷ [];
-          told = Ok (Posted e.key false) ∷ [];
-          each = (tt, tt);
-          done = (tt, tt);
-          schedule = run_cons s _ _ PostNext [] (Ok (Posted e.key false)) [] (post_room s e ds w due at (ap (λ n. is_full n w) capacity ∙ room)) refl ∙ ap (λ (f : FloorView). (f, Ok (Posted e.key false) ∷ [])) taken;
-        };
-        events_are = sym (ap (λ b. cond b (Take e.key ∷ PostNext ∷ []) (PostNext ∷ [])) room);
+        events = PostNext ∷ [];
+        told = Ok (Posted e.key false) ∷ [];
+        each = (tt, tt);
+        done = (tt, tt);
+        schedule = run_cons s _ _ PostNext [] (Ok (Posted e.key false)) [] (post_room s e ds w due at (ap (λ n. is_full n w) capacity ∙ room)) refl ∙ ap (λ (f : FloorView). (f, Ok (Posted e.key false) ∷ [])) taken;
       }
 
-  with_take : r.met ≤ length r.sent → WasFull c r.met r.sent e.post → SendsOne s now e.key (is_full c (late_watcher c r))
+  with_take : r.met ≤ length r.sent → WasFull c r.met r.sent e.post → Sends s now
   with_take met was =
       let k = late_count c r.met (length r.sent) in
       let w : Watcher = late_watcher c r in
       let v : Watcher = with_taken (k + 1) w in
-      let full : is_full c w ≡ true = full_test c (length (late c r.met r.sent)) (length r.sent) (omega (arith, late_length c r.met r.sent met, was.full)) in
       let mine : w.key ≡ e.key = row_at-key key_of e.key s.watchers w at in
       let takes = take_step s e.key k w at refl (omega (arith, was.within)) in
       let size : length (take (k + 1) r.sent) ≡ k + 1 = length-take-le (k + 1) r.sent was.within in
@@ -92,19 +83,16 @@ module _ (s : FloorView) (c : ℕ) (e : Due) (ds : List Due) (r : DeskRow) (due 
       let sends = post_room (changed s v) e ds v due (put_same key_of e.key v s.watchers (sym mine)) room in
       let once = put_twice key_of v (record v { sent = r.sent ++ e.post ∷ [] }) s.watchers refl in
       let taken : sent_floor s ds (record v { sent = r.sent ++ e.post ∷ [] }) ≡ now = ap (λ (l : List PostView). sent_floor s ds (record w { sent = r.sent ++ e.post ∷ []; taken = l })) (sym was.next) in record {
-        sends = record {
-          events = Take e.key ∷ PostNext ∷ [];
-          told = Ok (Took (Some takes.0)) ∷ Ok (Posted e.key false) ∷ [];
-          each = (tt, (tt, tt));
-          done = (tt, (tt, tt));
-          schedule =
-              run_cons s (changed s v) _ (Take e.key) (PostNext ∷ []) (Ok (Took (Some takes.0))) (Ok (Posted e.key false) ∷ []) takes.1 (run_cons (changed s v) _ _ PostNext [] (Ok (Posted e.key false)) [] sends refl)
-              ∙ ap (λ (f : FloorView). (f, Ok (Took (Some takes.0)) ∷ Ok (Posted e.key false) ∷ [])) (ap (λ (l : List Watcher). record s { due = ds; watchers = l }) once ∙ taken);
-        };
-        events_are = sym (ap (λ b. cond b (Take e.key ∷ PostNext ∷ []) (PostNext ∷ [])) full);
+        events = Take e.key ∷ PostNext ∷ [];
+        told = Ok (Took (Some takes.0)) ∷ Ok (Posted e.key false) ∷ [];
+        each = (tt, (tt, tt));
+        done = (tt, (tt, tt));
+        schedule =
+            run_cons s (changed s v) _ (Take e.key) (PostNext ∷ []) (Ok (Took (Some takes.0))) (Ok (Posted e.key false) ∷ []) takes.1 (run_cons (changed s v) _ _ PostNext [] (Ok (Posted e.key false)) [] sends refl)
+            ∙ ap (λ (f : FloorView). (f, Ok (Took (Some takes.0)) ∷ Ok (Posted e.key false) ∷ [])) (ap (λ (l : List Watcher). record s { due = ds; watchers = l }) once ∙ taken);
       }
 
-  pub sent_step : 0 < c → r.met ≤ length r.sent → SendsOne s now e.key (is_full c (late_watcher c r))
+  pub sent_step : 0 < c → r.met ≤ length r.sent → Sends s now
   sent_step room met = elim (late_sent c r.met r.sent e.post room met) [ inl had ↦ with_room had | inr was ↦ with_take met was ]
 
   -- It finds the queue full, and the row lags.

@@ -7,7 +7,7 @@ use Rattle.std.proofs.lemmas.Bool.Decides.{nat_tests}
 use Rattle.std.proofs.lemmas.List.{map-append}
 use Rattle.std.proofs.lemmas.Option.{slice_get_within}
 use Rattle.mt_skel.specs.Keyed.{row_at, rises}
-use Rattle.mt_skel.proofs.MiddleLaws.{and_first, and_second, each_still}
+use Rattle.mt_skel.proofs.MiddleLaws.{and_first, and_second, each_still, each_append}
 use Rattle.mt_events.specs.Posts.{PostView}
 use Rattle.mt_events.specs.Following.{IsRun}
 use Rattle.mt_book.specs.declared.command.Command.{Command}
@@ -31,7 +31,7 @@ use Rattle.mt_desk.specs.declared.row.Slot.{Slot}
 use Rattle.mt_desk.specs.declared.row.Slot.TheVariants.{Parked, Used, Away}
 use Rattle.mt_desk.specs.Places.{row_in, rows_of, desk_of, slot_row, no_row, IsLine, IsUsed, IsAmong, ArePlaces, IsKept}
 use Rattle.mt_desk.specs.Sending.{PlaceDue, slot_follows, slot_hears, due_at, posts_at, AreDue, MaySend, SendsSlot, SendsAt, SendsAll}
-use Rattle.mt_desk.proofs.PlaceLaws.{get_other, get_same, each_get, each_append, among_get, row_there, row_of_place, put_rows, put_places}
+use Rattle.mt_desk.proofs.PlaceLaws.{get_other, get_same, each_get, among_get, row_there, row_of_place, put_rows, put_places}
 use Rattle.mt_desk.proofs.ScheduleLaws.{rows_rise}
 use Rattle.mt_desk.proofs.ApplyLaws.{first_due, prepared_begins, row_is_due, due_rows, due_of_rows}
 use Rattle.mt_desk.proofs.SentLaws.{sent_first, left_is_run, sent_row, sent_all, sent_stays}

@@ -1,12 +1,13 @@
 -- What a desk keeps while it sends the posts of a command.
-use Rattle.std.proofs.Common.{◌≡◌, ℕ, ◌+◌, ◌≤◌, Bool, true, false, cond, not, eqb, List, [], ◌∷◌, ◌++◌, map, length, take, drop, Option, Some, Ok, inl, inr, refl, sym, ap, ◌∙◌, subst, arith, append_assoc}
+use Rattle.std.proofs.Common.{◌≡◌, ℕ, ◌+◌, ◌≤◌, Bool, true, false, cond, not, eqb, List, [], ◌∷◌, ◌++◌, map, length, take, drop, Option, Some, Ok, inl, inr, refl, sym, ap, ◌∙◌, subst, arith, append_assoc, eqb-true}
 use Rattle.std.specs.List.{filter, AllByRecursion}
 use Rattle.std.specs.Option.{option_map_or}
 use Rattle.std.proofs.lemmas.List.{append-nil}
+use Rattle.std.proofs.lemmas.List.Elements.{filter_agree}
 use Rattle.mt_skel.specs.Keyed.{row_at, put, rises}
 use Rattle.mt_skel.proofs.KeyedLaws.{row_at-put, row_at-key, rises-put}
 use Rattle.mt_skel.proofs.ElementLaws.{In, in_filter, in_map, in_flat, in_row}
-use Rattle.mt_skel.proofs.MiddleLaws.{and_first}
+use Rattle.mt_skel.proofs.MiddleLaws.{and_first, each_append}
 use Rattle.mt_events.specs.Posts.{PostView}
 use Rattle.mt_events.specs.Following.{IsRun}
 use Rattle.mt_book.specs.declared.command.Command.{Command}
@@ -19,19 +20,19 @@ use Rattle.mt_floor.specs.declared.event.Answer.TheVariants.{Replied}
 use Rattle.mt_floor.specs.Watcher.{Watcher, Due, key_of, is_open, follows, due_for, due_pairs}
 use Rattle.mt_floor.specs.Schedule.{FloorView, floor_step}
 use Rattle.mt_floor.specs.WellFormed.{IsFloor, IsFollower}
-use Rattle.mt_floor.proofs.RowLaws.{is_key, same_key, put_same, put_other}
+use Rattle.mt_floor.proofs.RowLaws.{put_same, put_other}
 use Rattle.mt_floor.proofs.DueLaws.{due_row, due_all}
 use Rattle.mt_floor.proofs.FollowedLaws.{is_run}
+use Rattle.mt_floor.proofs.RunningLaws.{joined}
 use Rattle.mt_desk.specs.Desk.{DeskRow, DeskView, IsDeskRow, IsDesk, row_key, late_watcher, floor_of_desk}
 use Rattle.mt_desk.specs.Calls.{IsSentIn, IsApplied, IsSend, IsDone, due_to}
 use Rattle.mt_desk.specs.Sent.{with_post, lagging, IsSentOne, IsSentOneIn, has_open_row, still_due, IsSentSoFarIn, RowSoFar, sending_floor, IsSending}
 use Rattle.mt_desk.proofs.RowsLaws.{watcher_there, put_watchers, each_at, each_put}
 use Rattle.mt_desk.proofs.PutLaws.{put_back}
-use Rattle.mt_desk.proofs.RunLaws.{run_cons, run_pair, floor_stays, history_then}
+use Rattle.mt_desk.proofs.RunLaws.{run_cons, floor_stays, history_then}
 use Rattle.mt_desk.proofs.ScheduleLaws.{rows_rise}
 use Rattle.mt_desk.proofs.SendLaws.{Sends, sent_floor, sent_step, full_sends, post_keeps, lag_rule}
 use Rattle.mt_desk.proofs.ApplyLaws.{first_due}
-use Rattle.mt_desk.proofs.PlaceLaws.{each_append}
 
 -- ---- what is due still
 
@@ -48,10 +49,6 @@ filter_both t u v is (x ∷ xs) = ap (λ b. cond b (x ∷ filter v xs) (filter v
     by true e false ih = ih
     by false e true ih = ih ∙ sym (ap (λ b. cond b (x ∷ filter u (filter t xs)) (filter u (filter t xs))) e)
     by false e false ih = ih
-
-filter_alike : {X : Type 0} (t u : X → Bool) → ((x : X) → t x ≡ u x) → (xs : List X) → filter t xs ≡ filter u xs
-filter_alike t u is [] = refl
-filter_alike t u is (x ∷ xs) = λ i. cond (is x i) (x ∷ filter_alike t u is xs i) (filter_alike t u is xs i)
 
 abbrev open_in : Option DeskRow → Bool
 open_in o = option_map_or (λ (r : DeskRow). is_open r.phase) o false
@@ -78,7 +75,7 @@ open_posted : (rows : List DeskRow) (key : ℕ) (p : PostView) (q : DeskRow) →
 open_posted rows key p q at k = by (eqb k q.key) refl ∙ sym (ap open_in (row_at-put row_key k (with_post p q) rows))
   where
     by : (b : Bool) → eqb k q.key ≡ b → has_open_row rows k ≡ open_in (cond b (Some (with_post p q)) (row_at row_key k rows))
-    by true e = ap (has_open_row rows) (is_key k q.key e ∙ row_at-key row_key key rows q at) ∙ ap open_in at
+    by true e = ap (has_open_row rows) (eqb-true k q.key e ∙ row_at-key row_key key rows q at) ∙ ap open_in at
     by false e = refl
 
 -- a row that lags is the only one that is open no more
@@ -102,7 +99,7 @@ still_for rows key is (e ∷ ds) = by (has_open_row rows e.key) refl (still_for 
       where
         other : (b : Bool) → eqb e.key key ≡ b → eqb e.key key ≡ false
         other false q = q
-        other true q = absurd (let bad : true ≡ false = sym is ∙ ap (has_open_row rows) (sym (is_key e.key key q)) ∙ o in cc)
+        other true q = absurd (let bad : true ≡ false = sym is ∙ ap (has_open_row rows) (sym (eqb-true e.key key q)) ∙ o in cc)
 
 -- ---- one row
 
@@ -202,7 +199,7 @@ module _ (d : DeskView) (c : Command) (reply : Reply) (h : IsDesk d) where
       told = k.told ++ more.told;
       each = each_append IsSend k.sends more.events k.each more.each;
       done = each_append IsDone k.told more.told k.done more.done;
-      schedule = run_pair (floor_of_desk d) before (sending_floor d c rows' (still_due rows' left)) (Apply c ∷ k.sends) more.events (Ok (Replied reply) ∷ k.told) more.told k.schedule more.schedule;
+      schedule = joined (floor_of_desk d) (sending_floor d c rows' (still_due rows' left)) (Apply c ∷ k.sends) more.events (Ok (Replied reply) ∷ k.told) more.told before k.schedule more.schedule;
       kept = kept;
       rising = rising;
       so_far = so_far;
@@ -219,7 +216,7 @@ module _ (d : DeskView) (c : Command) (reply : Reply) (h : IsDesk d) where
 
         by : (b : Bool) → eqb e.key key ≡ b → RowSoFar d.capacity (posts_of d.journal c) key r rows (e ∷ left) → RowSoFar d.capacity (posts_of d.journal c) key r (put row_key q' rows) left
         by true mine old =
-            let here : e.key ≡ key = is_key e.key key mine in
+            let here : e.key ≡ key = eqb-true e.key key mine in
             let is_q : old.now ≡ q = one_row (row_at row_key key rows) old.now q old.there (ap (λ n. row_at row_key n rows) (sym here) ∙ at) in
             let split : due_for key (e ∷ left) ≡ e.post ∷ due_for e.key left = ap (λ b. cond b (e.post ∷ due_for key left) (due_for key left)) mine ∙ ap (λ n. e.post ∷ due_for n left) (sym here) in
             let sent : IsSentSoFarIn r.phase d.capacity all (e.post ∷ due_for e.key left) r q = subst (λ (l : List PostView). IsSentSoFarIn r.phase d.capacity all l r q) split (subst (λ (x : DeskRow). IsSentSoFarIn r.phase d.capacity all (due_for key (e ∷ left)) r x) is_q old.sent) in
@@ -250,8 +247,8 @@ module _ (d : DeskView) (c : Command) (reply : Reply) (h : IsDesk d) where
       pub sent_more : IsSending d c reply (put row_key (with_post e.post q) rows) left
       sent_more =
           let q' = with_post e.post q in
-          let sends = (sent_step before d.capacity e (still_due rows left) q due_now refl there h.room (each_at (IsDeskRow d.capacity) e.key rows q k.kept at).met).sends in
-          let same = filter_alike (λ (x : Due). has_open_row rows x.key) (λ (x : Due). has_open_row (put row_key q' rows) x.key) (λ x. open_posted rows e.key e.post q at x.key) left in
+          let sends = sent_step before d.capacity e (still_due rows left) q due_now refl there h.room (each_at (IsDeskRow d.capacity) e.key rows q k.kept at).met in
+          let same = filter_agree (λ (x : Due). has_open_row rows x.key) (λ (x : Due). has_open_row (put row_key q' rows) x.key) (λ x. open_posted rows e.key e.post q at x.key) left in
           let now : sent_floor before (still_due rows left) (late_watcher d.capacity q') ≡ sending_floor d c (put row_key q' rows) (still_due (put row_key q' rows) left) =
           now_is q' (still_due rows left) (still_due (put row_key q' rows) left) same in
           go_on (put row_key q' rows) (subst (Sends before) now sends) (each_put (IsDeskRow d.capacity) q' rows k.kept (post_keeps d.capacity e.post q (each_at (IsDeskRow d.capacity) e.key rows q k.kept at)))
@@ -266,18 +263,6 @@ module _ (d : DeskView) (c : Command) (reply : Reply) (h : IsDesk d) where
           let now = now_is q' (filter (λ (x : Due). not (eqb x.key e.key)) (still_due rows left)) (still_due (put row_key q' rows) left) (sym same) in
           go_on (put row_key q' rows) (subst (Sends before) now sends) (each_put (IsDeskRow d.capacity) q' rows k.kept (lag_rule d.capacity q is full (each_at (IsDeskRow d.capacity) e.key rows q k.kept at)))
           (rises-put row_key q' rows k.rising) (so_far_put q' refl (λ f all r mine sent. row_lagged f d.capacity all (due_for e.key left) e.post r q mine is full sent (due_for e.key left)))
-
-      -- the post may be sent: it is the next one that the watcher follows
-      pub next_is_run : IsRun q.opening (q.sent ++ e.post ∷ [])
-      next_is_run =
-          let w : Watcher = late_watcher d.capacity q in
-          let f : IsFollower before w = (sent_is_floor rows (e ∷ left) k).rows e.key w there in
-          let journal : List Command = d.journal ++ c ∷ [] in
-          let next : f.not_posted ≡ e.post ∷ due_for q.key (still_due rows left) =
-          sym (ap (λ p. cond (is_open p) f.not_posted []) is) ∙ sym f.due ∙ ap (due_for q.key) due_now ∙ ap (λ b. cond b (e.post ∷ due_for q.key (still_due rows left)) (due_for q.key (still_due rows left))) (same_key e.key q.key (sym key_is)) in
-          subst (λ o. IsRun o (q.sent ++ e.post ∷ [])) (sym f.opening)
-          (is_run q.scope (take q.since journal) (drop q.since journal) (q.sent ++ e.post ∷ []) (due_for q.key (still_due rows left))
-          (f.posted ∙ ap (λ l. q.sent ++ l) next ∙ sym (append_assoc q.sent (e.post ∷ []) (due_for q.key (still_due rows left)))))
 
     -- nothing is sent to a row that is not open
     pub sent_skip : is_open q.phase ≡ false → IsSending d c reply rows left

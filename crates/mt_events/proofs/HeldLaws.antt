@@ -1,6 +1,7 @@
 -- A list of the mounts whose rows may differ holds every mount whose row differs.
 use Rattle.std.proofs.Common.{◌≡◌, ℕ, Bool, true, false, cond, eqb, List, Option, Some, None, refl, sym, ap, ◌∙◌}
 use Rattle.std.specs.Option.{option_map}
+use Rattle.std.proofs.lemmas.Bool.{or_parts}
 use Rattle.mt_skel.specs.Keyed.{row_at, among}
 use Rattle.mt_skel.proofs.KeyedLaws.{row_at-key}
 use Rattle.mt_mounts.specs.declared.mount.Mount.{Mount}
@@ -10,13 +11,13 @@ use Rattle.mt_propagate.specs.WellFormed.{IsWellFormed}
 use Rattle.mt_propagate.specs.Touched.{IsTouched}
 use Rattle.mt_info.specs.Table.{row_id, row_of, table_of}
 use Rattle.mt_info.specs.MayDiffer.{may_differ}
-use Rattle.mt_info.proofs.KeptRows.{front-off, row_kept}
+use Rattle.mt_info.proofs.KeptRows.{row_kept}
 use Rattle.mt_events.specs.Difference.{HoldsChanged}
 use Rattle.mt_events.proofs.TouchedLaws.{row_nowhere, row_by_space}
 
 module _ (w v : WorldView) (ids : List ℕ) (h : IsWellFormed w) (g : IsWellFormed v) (same : w.skel ≡ v.skel) (t : IsTouched w v ids) (n i : ℕ) (stays : may_differ w v ids i ≡ false) where
   both : mount_at w.forest i ≡ mount_at v.forest i
-  both = t.mounts i (front-off (among ids i) _ stays)
+  both = t.mounts i (or_parts (among ids i) _ stays).0
 
   at_row : (o : Option Mount) → mount_at w.forest i ≡ o → row_at row_id i (table_of w n) ≡ row_at row_id i (table_of v n)
   at_row None e = row_nowhere w n i h e ∙ sym (row_nowhere v n i g (sym both ∙ e))

@@ -3,13 +3,13 @@ use Rattle.std.proofs.Common.{◌≡◌, ℕ, suc, ◌==◌, ◌+◌, ◌<◌, B
 use Rattle.std.specs.List.{filter, list_any}
 use Rattle.std.specs.Option.{option_map_or, option_and_then, option_to_list, is_some}
 use Rattle.std.proofs.lemmas.Bool.Decides.{nat_tests}
+use Rattle.std.proofs.lemmas.List.{drop_more}
 use Rattle.mt_skel.specs.Keyed.{row_at, has, rises}
 use Rattle.mt_skel.proofs.KeyedLaws.{row_at-key}
 use Rattle.mt_mounts.specs.declared.mount.Mount.{Mount}
 use Rattle.mt_mounts.specs.Forest.{mount_at}
 use Rattle.mt_propagate.specs.World.{WorldView}
 use Rattle.mt_propagate.specs.WellFormed.{IsWellFormed}
-use Rattle.mt_propagate.proofs.PlannedLaws.{left-step}
 use Rattle.mt_info.specs.declared.row.Row.{Row}
 use Rattle.mt_info.specs.Table.{row_id, row_of, table_of}
 use Rattle.mt_info.specs.SameRow.{row_eq}
@@ -45,7 +45,7 @@ pub any-step : (p : ℕ → Bool) (ids : List ℕ) (i d : ℕ) (all b : Bool) �
 any-step p ids i d all b l before is = (λ t. sym (sym before ∙ whole ∙ ap (λ v. v || list_any p (drop (i + 1) ids)) (sym is ∙ t)), λ f. sym (whole ∙ ap (λ v. v || list_any p (drop (i + 1) ids)) (sym is ∙ f)) ∙ before)
   where
     whole : list_any p (drop i ids) ≡ p (get_or ids i d) || list_any p (drop (i + 1) ids)
-    whole = ap (list_any p) (left-step ids i d l)
+    whole = ap (list_any p) (drop_more ids i d l)
 
 -- what left and what is new, in lists, is nothing exactly where no mount has news
 listed : (p : ℕ → Bool) (f : ℕ → Option Row) (ids : List ℕ) → list_any (λ i. p i || is_some (f i)) ids ≡ not (is_nothing (filter p ids) (collected f ids))

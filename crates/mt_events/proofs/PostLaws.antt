@@ -5,6 +5,7 @@ use Rattle.std.proofs.lemmas.Grind.{flat_map-append}
 use Rattle.std.proofs.lemmas.List.{append_cancel_left}
 use Rattle.std.proofs.lemmas.Fmt.{decimal_injective}
 use Rattle.std.proofs.lemmas.Bool.Decides.{nat_tests}
+use Rattle.std.proofs.lemmas.List.Folds.{flat_map-map}
 use Rattle.mt_skel.specs.Keyed.{rises}
 use Rattle.mt_info.specs.Table.{row_id}
 use Rattle.mt_info.proofs.RowLineLaws.{line-injective}
@@ -18,10 +19,6 @@ use Rattle.mt_words.specs.Words.{pieces, words, begins}
 use Rattle.mt_words.proofs.PieceLaws.{pieces_joined, joined_pieces}
 use Rattle.mt_events.specs.Posts.{PostView, IsPost, itself, is_change, event_words, gone_line, row_line, minus, equals, post_lines, post_text, ended}
 
-flat_map-map : {X : Type 0} (f : X → List ℕ) (xs : List X) → flat_map ended (map f xs) ≡ flat_map (λ x. ended (f x)) xs
-flat_map-map f [] = refl
-flat_map-map f (x ∷ xs) = ap (λ t. ended (f x) ++ t) (flat_map-map f xs)
-
 -- the text of a post in three parts
 pub post_pieces : (p : PostView) (text0 text1 text2 text3 : List ℕ)
     → text1 ≡ text0 ++ ended (join_with_byte 32 (event_words p.space p.number (length p.gone + length p.rows)))
@@ -33,7 +30,7 @@ post_pieces p text0 text1 text2 text3 e1 e2 e3 =
     let event : List ℕ = ended (join_with_byte 32 (event_words p.space p.number (length p.gone + length p.rows))) in
     let gone : List ℕ = flat_map (λ i. ended (gone_line i)) p.gone in
     let rows : List ℕ = flat_map (λ r. ended (row_line r)) p.rows in
-    let lines : flat_map ended (map gone_line p.gone ++ map row_line p.rows) ≡ gone ++ rows = flat_map-append ended (map gone_line p.gone) (map row_line p.rows) ∙ (λ k. flat_map-map gone_line p.gone k ++ flat_map-map row_line p.rows k) in
+    let lines : flat_map ended (map gone_line p.gone ++ map row_line p.rows) ≡ gone ++ rows = flat_map-append ended (map gone_line p.gone) (map row_line p.rows) ∙ (λ k. flat_map-map ended gone_line p.gone k ++ flat_map-map ended row_line p.rows k) in
     joined text0 text1 text2 text3 event gone rows e1 e2 e3 ∙ ap (λ t. text0 ++ (event ++ t)) (sym lines)
   where
     joined : (text0 text1 text2 text3 a b c : List ℕ) → text1 ≡ text0 ++ a → text2 ≡ text1 ++ b → text3 ≡ text2 ++ c → text3 ≡ text0 ++ (a ++ (b ++ c))
@@ -97,7 +94,7 @@ rows_end (r ∷ rows) = refl
 abbrev pub event_line : PostView → List ℕ
 event_line p = join_with_byte 32 (event_words p.space p.number (length p.gone + length p.rows))
 
-event_lacks : (space number count : ℕ) → space < 2 ^ 64 → number < 2 ^ 64 → count < 2 ^ 64 → list_all (lacks 32) (event_words space number count) ≡ true
+pub event_lacks : (space number count : ℕ) → space < 2 ^ 64 → number < 2 ^ 64 → count < 2 ^ 64 → list_all (lacks 32) (event_words space number count) ≡ true
 event_lacks space number count a b d =
     and-true (lacks 32 (decimal space)) _ (decimal-lacks space a) (and-true (lacks 32 (decimal number)) _ (decimal-lacks number b) (and-true (lacks 32 (decimal count)) true (decimal-lacks count d) refl))
 
@@ -173,15 +170,15 @@ gone_tells i j a b e = decimal_injective i j a b (append_cancel_left minus (deci
 row_tells : (r s : Row) → IsRow r → IsRow s → row_line r ≡ row_line s → r ≡ s
 row_tells r s a b e = line-injective r s a b (append_cancel_left equals (line r) (line s) e)
 
-abbrev second : List (List ℕ) → List ℕ
+abbrev pub second : List (List ℕ) → List ℕ
 second (a ∷ b ∷ rest) = b
 second _ = []
 
-abbrev third : List (List ℕ) → List ℕ
+abbrev pub third : List (List ℕ) → List ℕ
 third (a ∷ b ∷ c ∷ rest) = c
 third _ = []
 
-abbrev fourth : List (List ℕ) → List ℕ
+abbrev pub fourth : List (List ℕ) → List ℕ
 fourth (a ∷ b ∷ c ∷ d ∷ rest) = d
 fourth _ = []
 

@@ -3,15 +3,16 @@ use Rattle.std.proofs.Common.{◌≡◌, ℕ, ◌+◌, ◌<◌, Bool, true, fals
 use Rattle.std.specs.List.{filter, list_all}
 use Rattle.std.specs.Option.{option_map, option_map_or, option_and_then, option_to_list, unwrap_or, is_some}
 use Rattle.std.proofs.lemmas.Bool.Decides.{nat_tests}
+use Rattle.std.proofs.lemmas.List.{drop_more}
 use Rattle.mt_skel.specs.Keyed.{row_at, has, rises, among}
 use Rattle.mt_skel.proofs.KeyedLaws.{row_at-key, row_at-filter, rises-filter, same_rows, passing}
 use Rattle.mt_skel.proofs.MiddleLaws.{and_first, and_second, and-true}
+use Rattle.mt_skel.proofs.SortedLaws.{rises-keys}
 use Rattle.mt_mounts.specs.declared.mount.Mount.{Mount}
 use Rattle.mt_mounts.specs.Forest.{id_of, mount_at, in_space}
 use Rattle.mt_propagate.specs.World.{WorldView}
 use Rattle.mt_propagate.specs.Named.{mount_or_unknown, unknown}
 use Rattle.mt_propagate.specs.WellFormed.{IsWellFormed}
-use Rattle.mt_propagate.proofs.PlannedLaws.{left-step}
 use Rattle.mt_info.specs.declared.row.Row.{Row}
 use Rattle.mt_info.specs.Table.{row_id, row_of, table_of}
 use Rattle.mt_info.specs.SameRow.{row_eq}
@@ -19,7 +20,6 @@ use Rattle.mt_info.proofs.SameRowLaws.{row_eq-refl}
 use Rattle.mt_events.specs.Posts.{itself}
 use Rattle.mt_events.specs.Difference.{is_row_of, HoldsChanged}
 use Rattle.mt_events.specs.ByMount.{collected, new_row}
-use Rattle.mt_events.proofs.ChangeLaws.{rises_ids}
 
 -- what is found through a map that keeps the keys
 module _ {X Y : Type 0} (key : X → ℕ) (code : Y → ℕ) (f : X → Y) (keeps : (x : X) → code (f x) ≡ key x) where
@@ -90,7 +90,7 @@ pub collected-step : {X : Type 0} (f : ℕ → Option X) (ids : List ℕ) (i d :
     → more ≡ out ++ option_to_list o → more ++ collected f (drop (i + 1) ids) ≡ all
 collected-step f ids i d out more all o l before is e =
     ap (λ t. t ++ collected f (drop (i + 1) ids)) e ∙ append_assoc out (option_to_list o) (collected f (drop (i + 1) ids)) ∙ ap (λ v. out ++ (option_to_list v ++ collected f (drop (i + 1) ids))) is
-    ∙ ap (λ t. out ++ collected f t) (sym (left-step ids i d l)) ∙ before
+    ∙ ap (λ t. out ++ collected f t) (sym (drop_more ids i d l)) ∙ before
 
 -- rows that are collected number by number
 module _ {X : Type 0} (key : X → ℕ) (f : ℕ → Option X) (named : (i : ℕ) (x : X) → f i ≡ Some x → key x ≡ i) where
@@ -186,7 +186,7 @@ module _ (a b : List Row) (ids : List ℕ) (rising : rises itself ids ≡ true) 
   gone_are ra =
       let left : List Row = filter (λ (r : Row). not (has row_id r.id b)) a in
       same_rows itself (filter (λ i. has row_id i a && not (has row_id i b)) ids) (map row_id left) (rises-filter itself (λ i. has row_id i a && not (has row_id i b)) ids rising)
-      (rises_ids left ∙ rises-filter row_id (λ (r : Row). not (has row_id r.id b)) a ra)
+      (rises-keys row_id left ∙ rises-filter row_id (λ (r : Row). not (has row_id r.id b)) a ra)
       (λ q. row_at-filter itself (λ i. has row_id i a && not (has row_id i b)) q ids rising ∙ gone_at q ∙ ap (option_map row_id) (sym (row_at-filter row_id (λ (r : Row). not (has row_id r.id b)) q a ra)) ∙ sym (row_at-mapped row_id itself row_id (λ r. refl) q left))
 
 -- the row of one mount, where its rows before and after are known

@@ -1,5 +1,5 @@
 -- Only `Open` begins a watcher, and what a watcher is when it begins.
-use Rattle.std.proofs.Common.{◌≡◌, ◌⊎◌, inl, inr, ℕ, ◌+◌, Bool, true, false, cond, List, [], ◌∷◌, ◌++◌, length, Option, Some, None, slice_get, Ok, Err, refl, sym, ap, ◌∙◌, subst, arith}
+use Rattle.std.proofs.Common.{◌≡◌, ◌⊎◌, inl, inr, ℕ, ◌+◌, Bool, true, false, cond, List, [], ◌∷◌, ◌++◌, length, Option, Some, None, slice_get, Ok, Err, refl, sym, ap, ◌∙◌, subst, arith, eq-eqb}
 use Rattle.std.specs.Prelude.{Result}
 use Rattle.std.specs.Option.{option_map_or}
 use Rattle.mt_skel.specs.declared.fault.Fault.{Fault}
@@ -23,7 +23,7 @@ use Rattle.mt_floor.specs.declared.event.Answer.TheVariants.{Opened, Took, NotNo
 use Rattle.mt_floor.specs.Watcher.{Watcher, Due, key_of, due_for, opening_of, is_missing}
 use Rattle.mt_floor.specs.Schedule.{FloorView, Stepped, floor_step, unless, if_idle, at_row, changed, sent_to, is_full, posted, applied, replied, nothing_left, took, met, closed, halted, opened, has_open, command_refusal, opening_refusal}
 use Rattle.mt_floor.proofs.AllowedLaws.{opening_allowed}
-use Rattle.mt_floor.proofs.RowLaws.{same_key, fresh}
+use Rattle.mt_floor.proofs.RowLaws.{fresh}
 use Rattle.mt_floor.proofs.HeldLaws.{Kept, IsRowFor, Held}
 use Rattle.mt_floor.proofs.FloorLaws.{newcomer, newcomer_kept, nothing}
 
@@ -102,7 +102,7 @@ same_answer i j x y e =
 begun : (s : FloorView) (sc : Scope) → Kept s → Kept (opens s sc) → s.due ≡ [] → is_missing s.journal sc ≡ false → Begun s s.next_key (opening_of s.journal sc) (opens s sc)
 begun s sc k k' none there =
     let here : row_at key_of s.next_key (s.watchers ++ newcomer s sc ∷ []) ≡ Some (newcomer s sc) =
-    row-second key_of s.watchers (newcomer s sc ∷ []) s.next_key (newcomer s sc) (fresh key_of s.next_key s.next_key s.watchers (omega arith) k.below) (ap (λ b. cond b (Some (newcomer s sc)) None) (same_key s.next_key s.next_key refl)) in
+    row-second key_of s.watchers (newcomer s sc ∷ []) s.next_key (newcomer s sc) (fresh key_of s.next_key s.next_key s.watchers (omega arith) k.below) (ap (λ b. cond b (Some (newcomer s sc)) None) (eq-eqb s.next_key s.next_key refl)) in
     let one : (x : Watcher) → ◌≡◌ {A = Option Watcher} (Some (newcomer s sc)) (Some x) → newcomer s sc ≡ x = λ x e. (let q : newcomer s sc ≡ x = cc in q) in record {
       key_is = refl;
       idle = none;

@@ -1,14 +1,15 @@
 -- How large a floor can be.
-use Rattle.std.proofs.Common.{◌≡◌, ℕ, suc, ◌+◌, ◌*◌, ◌^◌, ◌<◌, ◌≤◌, Bool, true, false, cond, eqb, ltb, List, [], ◌∷◌, ◌++◌, length, take, drop, Option, Some, None, slice_get, Ok, Err, refl, sym, ap, ◌∙◌, arith, length-append}
-use Rattle.std.specs.Prelude.{Result, not, nat_le, ◌||◌}
+use Rattle.std.proofs.Common.{◌≡◌, ℕ, suc, ◌+◌, ◌*◌, ◌^◌, ◌≤◌, Bool, true, false, cond, eqb, ltb, List, [], ◌∷◌, ◌++◌, length, take, drop, Option, Some, None, slice_get, Ok, Err, refl, sym, ap, ◌∙◌, arith, length-append, ltb-true}
+use Rattle.std.specs.Prelude.{Result, not, nat_le}
 use Rattle.std.specs.List.{filter, list_all}
 use Rattle.std.specs.Option.{option_map_or}
 use Rattle.std.proofs.lemmas.Bool.Decides.{nat_tests}
 use Rattle.std.proofs.lemmas.List.{length-map, take-append-drop}
+use Rattle.std.proofs.lemmas.Bool.{or_parts}
 use Rattle.mt_skel.specs.declared.fault.Fault.{Fault}
 use Rattle.mt_skel.specs.declared.fault.Fault.TheVariants.{NoWatcher}
 use Rattle.mt_skel.specs.Keyed.{row_at, put, rises}
-use Rattle.mt_skel.proofs.KeyedLaws.{row_at-key, row_at-below}
+use Rattle.mt_skel.proofs.KeyedLaws.{row_at-key, row_at-below, all-lower}
 use Rattle.mt_propagate.specs.World.{WorldView}
 use Rattle.mt_propagate.proofs.SizeLaws.{few_pass}
 use Rattle.mt_skel.proofs.MiddleLaws.{and_first, and_second, and-true}
@@ -29,13 +30,9 @@ use Rattle.mt_floor.specs.Schedule.{FloorView, Stepped, watcher_limit, floor_ste
 use Rattle.mt_floor.proofs.AllowedLaws.{command_allowed, opening_allowed}
 use Rattle.mt_book.specs.Book.{command_limit}
 use Rattle.mt_floor.specs.WellFormed.{IsFollower, IsBounded}
-use Rattle.mt_floor.proofs.RowLaws.{is_low}
 use Rattle.mt_floor.proofs.FloorLaws.{newcomer}
 
 module _ {X : Type 0} (key : X → ℕ) where
-  lower : (j k : ℕ) (xs : List X) → j < k → list_all (λ y. ltb k (key y)) xs ≡ true → list_all (λ y. ltb j (key y)) xs ≡ true
-  lower j k [] l h = refl
-  lower j k (y ∷ ys) l h = let ih = lower j k ys l in grind (arith, nat_tests)
 
   -- a row that is put in the place of another
   pub length-put : (x : X) (xs : List X) (y : X) → rises key xs ≡ true → row_at key (key x) xs ≡ Some y → length (put key x xs) ≡ length xs
@@ -45,21 +42,13 @@ module _ {X : Type 0} (key : X → ℕ) where
       by : (a : Bool) → ltb (key x) (key z) ≡ a → (b : Bool) → eqb (key x) (key z) ≡ b → (row_at key (key x) zs ≡ Some y → length (put key x zs) ≡ length zs)
           → length (cond a (x ∷ z ∷ zs) (cond b (x ∷ zs) (z ∷ put key x zs))) ≡ length (z ∷ zs)
       by true l b q ih =
-          let gone = row_at-below key (key x) (z ∷ zs) (and-true (ltb (key x) (key z)) (list_all (λ w. ltb (key x) (key w)) zs) l (lower (key x) (key z) zs (is_low (key x) (key z) l) (and_first _ _ h))) in
+          let gone = row_at-below key (key x) (z ∷ zs) (and-true (ltb (key x) (key z)) (list_all (λ w. ltb (key x) (key w)) zs) l (all-lower key (key x) (key z) zs (ltb-true (key x) (key z) l) (and_first _ _ h))) in
           absurd (let no_row : ◌≡◌ {A = Option X} None (Some y) = sym gone ∙ e in cc)
       by false l true q ih = refl
       by false l false q ih = ap suc (ih (sym (ap (λ c. cond c (Some z) (row_at key (key x) zs)) q) ∙ e))
 
 room : (a b : ℕ) → nat_le a b ≡ false → b + 1 ≤ a
 room a b e = grind (arith, nat_tests)
-
-or_first : (a b : Bool) → (a || b) ≡ false → a ≡ false
-or_first false b e = refl
-or_first true b e = absurd (cc)
-
-or_second : (a b : Bool) → (a || b) ≡ false → b ≡ false
-or_second false b e = e
-or_second true b e = absurd (cc)
 
 module _ (s : FloorView) (h : IsBounded s) (order : rises key_of s.watchers ≡ true) where
   idle : (done : Stepped) → IsBounded done.0 → IsBounded (if_idle s.due s done).0
@@ -117,8 +106,8 @@ module _ (s : FloorView) (h : IsBounded s) (order : rises key_of s.watchers ≡ 
 
   open_bounded : (sc : Scope) → too_many_watchers s ≡ false → IsBounded (record s { next_key = s.next_key + 1; watchers = s.watchers ++ newcomer s sc ∷ [] })
   open_bounded sc e =
-      let few = room watcher_limit (length s.watchers) (or_first (nat_le watcher_limit (length s.watchers)) (nat_le (2 ^ 64) s.next_key) e) in
-      let keys = room (2 ^ 64) s.next_key (or_second (nat_le watcher_limit (length s.watchers)) (nat_le (2 ^ 64) s.next_key) e) in
+      let few = room watcher_limit (length s.watchers) (or_parts (nat_le watcher_limit (length s.watchers)) (nat_le (2 ^ 64) s.next_key) e).0 in
+      let keys = room (2 ^ 64) s.next_key (or_parts (nat_le watcher_limit (length s.watchers)) (nat_le (2 ^ 64) s.next_key) e).1 in
       record { journal = h.journal; watchers = omega (arith, few, length-append s.watchers (newcomer s sc ∷ [])); keys = keys }
 
 pub bounded : (s : FloorView) (e : Event) → IsBounded s → rises key_of s.watchers ≡ true → IsBounded (floor_step s e).0

@@ -1,5 +1,5 @@
 -- The posts that are due to one watcher.
-use Rattle.std.proofs.Common.{◌≡◌, ℕ, Bool, true, false, cond, not, ◌&&◌, eqb, ltb, List, [], ◌∷◌, ◌++◌, map, Option, Some, None, refl, sym, ap, ◌∙◌}
+use Rattle.std.proofs.Common.{◌≡◌, ℕ, Bool, true, false, cond, not, ◌&&◌, eqb, ltb, List, [], ◌∷◌, ◌++◌, map, Option, Some, None, refl, sym, ap, ◌∙◌, eq-eqb, eqb-true}
 use Rattle.std.specs.List.{filter, list_all}
 use Rattle.std.specs.Option.{option_map_or}
 use Rattle.mt_skel.specs.Keyed.{row_at, rises}
@@ -8,7 +8,7 @@ use Rattle.mt_skel.proofs.MiddleLaws.{and_first, and_second}
 use Rattle.mt_events.specs.Posts.{PostView}
 use Rattle.mt_events.specs.Following.{names_space}
 use Rattle.mt_floor.specs.Watcher.{Watcher, Due, key_of, is_open, follows, due_for, due_pairs}
-use Rattle.mt_floor.proofs.RowLaws.{same_key, is_key, turned}
+use Rattle.mt_floor.proofs.RowLaws.{turned}
 
 due_for-append : (key : ℕ) (xs ys : List Due) → due_for key (xs ++ ys) ≡ due_for key xs ++ due_for key ys
 due_for-append key [] ys = refl
@@ -32,8 +32,8 @@ once key p (r ∷ rs) h = by (eqb r.key key) refl (once key p rs (and_second _ _
     by : (b : Bool) → eqb r.key key ≡ b → due_for key (for_each p rs) ≡ one_if p (row_at key_of key rs)
         → cond b (p ∷ due_for key (for_each p rs)) (due_for key (for_each p rs)) ≡ one_if p (cond (eqb key r.key) (Some r) (row_at key_of key rs))
     by true e ih =
-        let none = row_at-below key_of key rs (ap (λ k. list_all (λ y. ltb k (key_of y)) rs) (sym (is_key r.key key e)) ∙ and_first _ _ h) in
-        ap (λ l. p ∷ l) (ih ∙ ap (one_if p) none) ∙ sym (ap (λ b. one_if p (cond b (Some r) (row_at key_of key rs))) (same_key key r.key (sym (is_key r.key key e))))
+        let none = row_at-below key_of key rs (ap (λ k. list_all (λ y. ltb k (key_of y)) rs) (sym (eqb-true r.key key e)) ∙ and_first _ _ h) in
+        ap (λ l. p ∷ l) (ih ∙ ap (one_if p) none) ∙ sym (ap (λ b. one_if p (cond b (Some r) (row_at key_of key rs))) (eq-eqb key r.key (sym (eqb-true r.key key e))))
     by false e ih = ih ∙ sym (ap (λ b. one_if p (cond b (Some r) (row_at key_of key rs))) (turned r.key key e))
 
 -- what of some posts is due to a watcher
@@ -91,5 +91,5 @@ but_other key other (e ∷ ds) ne = by (eqb e.key key) refl (but_other key other
   where
     by : (b : Bool) → eqb e.key key ≡ b → due_for other (but key ds) ≡ due_for other ds
         → due_for other (cond (not b) (e ∷ but key ds) (but key ds)) ≡ cond (eqb e.key other) (e.post ∷ due_for other ds) (due_for other ds)
-    by true is h = h ∙ sym (ap (λ b. cond b (e.post ∷ due_for other ds) (due_for other ds)) (ap (λ k. eqb k other) (is_key e.key key is) ∙ ne))
+    by true is h = h ∙ sym (ap (λ b. cond b (e.post ∷ due_for other ds) (due_for other ds)) (ap (λ k. eqb k other) (eqb-true e.key key is) ∙ ne))
     by false is h = ap (λ l. cond (eqb e.key other) (e.post ∷ l) l) h

@@ -1,11 +1,11 @@
 -- What a watcher finds, one namespace after the other, is its opening.
-use Rattle.std.proofs.Common.{◌≡◌, ℕ, zero, suc, ◌+◌, ◌-◌, ◌<◌, ltb, arith, Bool, true, false, cond, ◌&&◌, List, [], ◌∷◌, ◌++◌, map, refl, ap, ◌∙◌}
+use Rattle.std.proofs.Common.{◌≡◌, ℕ, zero, suc, ◌+◌, ◌-◌, ltb, arith, Bool, true, false, cond, ◌&&◌, List, [], ◌∷◌, ◌++◌, map, refl, ap, ◌∙◌}
 use Rattle.std.specs.List.{filter, flat_map, list_all, range_with_len}
-use Rattle.std.proofs.lemmas.Bool.Decides.{nat_tests}
 use Rattle.mt_skel.specs.Keyed.{rises}
 use Rattle.mt_skel.proofs.KeyedLaws.{rises-filter}
 use Rattle.mt_events.specs.Posts.{itself}
 use Rattle.mt_propagate.specs.World.{is_space}
+use Rattle.mt_propagate.proofs.ListedLaws.{low-range}
 use Rattle.mt_events.specs.declared.opening.Scope.{Scope}
 use Rattle.mt_events.specs.declared.opening.Part.{Part}
 use Rattle.mt_events.specs.declared.opening.Opening.{Opening}
@@ -36,15 +36,9 @@ opening_found cs scope o ns ps spaces parts is =
     is ∙ ap (made scope) (parts ∙ ap (flat_map (part_if cs scope)) spaces ∙ parts_found cs scope (range_with_len 1 ((after cs).next_space - 1)))
 
 -- the numbers from one on rise, and so do the namespaces that a watcher finds
-above_range : (a b n : ℕ) → a < b → list_all (λ k. ltb a k) (range_with_len b n) ≡ true
-above_range a b zero h = refl
-above_range a b (suc n) h =
-    let here : ltb a b ≡ true = grind (arith, nat_tests) in
-    rw here (above_range a (b + 1) n (omega (arith, h)))
-
 rising_range : (a n : ℕ) → rises itself (range_with_len a n) ≡ true
 rising_range a zero = refl
-rising_range a (suc n) = rw (above_range a (a + 1) n (omega arith)) (rising_range (a + 1) n)
+rising_range a (suc n) = rw (low-range a (a + 1) n (omega arith)) (rising_range (a + 1) n)
 
 rising_parts : (cs : List Command) (ns : List ℕ) → rises part_space (map (part_of cs) ns) ≡ rises itself ns
 rising_parts cs [] = refl

@@ -1,5 +1,5 @@
 -- What each event keeps, and what it does to the watcher of one key.
-use Rattle.std.proofs.Common.{◌≡◌, ℕ, ◌+◌, Bool, true, false, cond, not, ◌⊎◌, inl, inr, eqb, ltb, List, [], ◌∷◌, ◌++◌, length, drop, map, Option, Some, None, slice_get, Ok, Err, refl, sym, ap, ◌∙◌, subst, arith, append_assoc}
+use Rattle.std.proofs.Common.{◌≡◌, ℕ, ◌+◌, Bool, true, false, cond, not, ◌⊎◌, inl, inr, eqb, ltb, List, [], ◌∷◌, ◌++◌, length, drop, map, Option, Some, None, slice_get, Ok, Err, refl, sym, ap, ◌∙◌, subst, arith, append_assoc, eq-eqb, eqb-true, lt-ltb, ne_eqb}
 use Rattle.std.specs.Prelude.{Result}
 use Rattle.std.specs.List.{filter, list_all}
 use Rattle.std.specs.Option.{option_map, option_map_or}
@@ -21,7 +21,7 @@ use Rattle.mt_floor.specs.declared.event.Event.TheVariants.{Apply, PostNext, Ope
 use Rattle.mt_floor.specs.declared.event.Answer.TheVariants.{Opened, Took}
 use Rattle.mt_floor.specs.Watcher.{Watcher, key_of, is_open, due_for, opening_of}
 use Rattle.mt_floor.specs.Schedule.{FloorView, floor_step, at_row, changed, replied, nothing_left, took, met, closed, halted, opened, has_open, applied, command_refusal, opening_refusal}
-use Rattle.mt_floor.proofs.RowLaws.{differs, same_key, is_key, low_test, put_same, put_other, other_last, all_filter, all_higher, all_last, rises-last}
+use Rattle.mt_floor.proofs.RowLaws.{put_same, put_other, other_last, all_filter, all_higher, all_last, rises-last}
 use Rattle.mt_floor.proofs.HeldLaws.{Kept, IsRowFor, Held, Goes, held_same, more, off, still, idle, refused, of_row, kept_put, apply_goes, post_goes}
 
 -- the post that is taken next
@@ -41,7 +41,7 @@ newcomer s sc = record { key = s.next_key; scope = sc; since = length s.journal;
 pub newcomer_kept : (s : FloorView) (sc : Scope) → Kept s → Kept (record s { next_key = s.next_key + 1; watchers = s.watchers ++ newcomer s sc ∷ [] })
 newcomer_kept s sc k = record {
   rising = rises-last key_of (newcomer s sc) s.watchers k.below k.rising;
-  below = all_last key_of (λ (x : Watcher). ltb x.key (s.next_key + 1)) (newcomer s sc) s.watchers (low_test s.next_key (s.next_key + 1) (omega arith)) (all_higher key_of s.next_key (s.next_key + 1) s.watchers (omega arith) k.below);
+  below = all_last key_of (λ (x : Watcher). ltb x.key (s.next_key + 1)) (newcomer s sc) s.watchers (lt-ltb s.next_key (s.next_key + 1) (omega arith)) (all_higher key_of s.next_key (s.next_key + 1) s.watchers (omega arith) k.below);
 }
 
 module _ (key : ℕ) (scope : Scope) (before since : List Command) (sent taken : List PostView) (s : FloorView) (k : Kept s) (h : Held key scope before since sent taken s) where
@@ -50,7 +50,7 @@ module _ (key : ℕ) (scope : Scope) (before since : List Command) (sent taken :
       (record s { next_key = s.next_key + 1; watchers = s.watchers ++ newcomer s sc ∷ [] }, Ok (Opened s.next_key (opening_of s.journal sc)))
   open_goes sc =
       let s' : FloorView = record s { next_key = s.next_key + 1; watchers = s.watchers ++ newcomer s sc ∷ [] } in
-      let row_is = other_last key_of key (newcomer s sc) s.watchers (differs key s.next_key (λ e. absurd (omega (arith, h.old, e)))) in
+      let row_is = other_last key_of key (newcomer s sc) s.watchers (ne_eqb key s.next_key (λ e. absurd (omega (arith, h.old, e)))) in
       let open_is = ap (λ o. option_map_or (λ (x : Watcher). is_open x.phase) o false) row_is in record {
         kept = newcomer_kept s sc k;
         held = held_same key scope before since (since ++ []) sent (sent ++ []) taken (taken ++ []) s'
@@ -104,7 +104,7 @@ module _ (key : ℕ) (scope : Scope) (before since : List Command) (sent taken :
       let was : IsRowFor scope before sent taken r = h.row r here in
       let row_is = put_same key_of key r' s.watchers (sym same ∙ sym (row_at-key key_of q s.watchers r at)) in
       let open_is = ap (λ o. option_map_or (λ (x : Watcher). is_open x.phase) o false) row_is ∙ sym (ap (λ o. option_map_or (λ (x : Watcher). is_open x.phase) o false) here) in
-      let some : cond (eqb q key) (p ∷ []) [] ≡ p ∷ [] = ap (λ b. cond b (p ∷ []) []) (same_key q key same) in
+      let some : cond (eqb q key) (p ∷ []) [] ≡ p ∷ [] = ap (λ b. cond b (p ∷ []) []) (eq-eqb q key same) in
       let left = next_taken taken h.not_taken p ((λ i. slice_get (sym h.taken_is i) (length taken)) ∙ sym ((λ i. slice_get (was.posted_is i) (length (was.taken_is i)))) ∙ next) in
       let one : (x y : Watcher) → ◌≡◌ {A = Option Watcher} (Some x) (Some y) → x ≡ y = λ x y e. (let eq : x ≡ y = cc in eq) in record {
         kept = kept_put key scope before since sent taken s k h q r r' s.due at refl;
@@ -139,7 +139,7 @@ module _ (key : ℕ) (scope : Scope) (before since : List Command) (sent taken :
       by (Some p) e = which (eqb q key) refl
         where
           which : (b : Bool) → eqb q key ≡ b → Goes key scope before since sent taken s (Take q) (changed s (record r { taken = r.taken ++ p ∷ [] }), Ok (Took (Some p)))
-          which true y = take_same q r p at e (is_key q key y)
+          which true y = take_same q r p at e (eqb-true q key y)
           which false y = take_other q r p at y
 
   -- Close
@@ -166,7 +166,7 @@ module _ (key : ℕ) (scope : Scope) (before since : List Command) (sent taken :
             });
         shut = λ o. (elim open_is [ inl shut ↦ shut | inr same ↦ same ∙ o ], refl);
         quiet = λ o. refl;
-        ended = λ x. gone_now (row_at key_of key s.watchers) refl (key_was ∙ is_key q key x) row_is;
+        ended = λ x. gone_now (row_at key_of key s.watchers) refl (key_was ∙ eqb-true q key x) row_is;
         next = omega arith;
       }
     where
@@ -178,7 +178,7 @@ module _ (key : ℕ) (scope : Scope) (before since : List Command) (sent taken :
           → option_map_or (λ (x : Watcher). is_open x.phase) (row_at key_of key (filter (λ (y : Watcher). not (eqb y.key r.key)) s.watchers)) false ≡ false
       gone_now None f same e = ap (λ o. option_map_or (λ (x : Watcher). is_open x.phase) o false) (e ∙ ap (passing (λ (y : Watcher). not (eqb y.key r.key))) f)
       gone_now (Some y) f same e =
-          let mine : eqb y.key r.key ≡ true = same_key y.key r.key (row_at-key key_of key s.watchers y f ∙ sym same) in
+          let mine : eqb y.key r.key ≡ true = eq-eqb y.key r.key (row_at-key key_of key s.watchers y f ∙ sym same) in
           ap (λ o. option_map_or (λ (x : Watcher). is_open x.phase) o false) (e ∙ ap (passing (λ (y : Watcher). not (eqb y.key r.key))) f ∙ ap (λ b. cond b (Some y) None) (ap not mine))
 
       was : (o : Option Watcher) (x : Watcher) → passing (λ (y : Watcher). not (eqb y.key r.key)) o ≡ Some x → o ≡ Some x

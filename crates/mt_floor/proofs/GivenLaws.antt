@@ -1,5 +1,5 @@
 -- What a watcher is given: the posts that it takes, and then those that its close answers.
-use Rattle.std.proofs.Common.{◌≡◌, inl, inr, ◌⊎◌, ℕ, zero, suc, ◌<◌, Bool, true, false, cond, eqb, List, [], ◌∷◌, ◌++◌, length, take, drop, Option, Some, None, slice_get, Ok, Err, refl, sym, ap, ◌∙◌, arith, append_assoc}
+use Rattle.std.proofs.Common.{◌≡◌, inl, inr, ◌⊎◌, ℕ, zero, suc, ◌<◌, Bool, true, false, cond, eqb, List, [], ◌∷◌, ◌++◌, length, take, drop, Option, Some, None, slice_get, Ok, Err, refl, sym, ap, ◌∙◌, arith, append_assoc, eq-eqb, eqb-true}
 use Rattle.std.specs.Prelude.{Result}
 use Rattle.std.specs.Option.{option_map_or}
 use Rattle.std.proofs.lemmas.List.{append-nil, drop_at}
@@ -19,7 +19,6 @@ use Rattle.mt_floor.specs.Watcher.{Watcher, Due, key_of, is_open}
 use Rattle.mt_floor.specs.Schedule.{FloorView, empty_floor, floor_step, run, if_idle, closed, has_open, waiting}
 use Rattle.mt_floor.specs.Headline.{answers, floor_after, taken_by, posted_by, posted_to, posted_since, given_by, given_posts, given_since, IsGivenInOrder}
 use Rattle.mt_floor.specs.WellFormed.{IsFloor}
-use Rattle.mt_floor.proofs.RowLaws.{same_key, is_key}
 use Rattle.mt_floor.proofs.HeldLaws.{off}
 use Rattle.mt_floor.proofs.FloorLaws.{goes}
 use Rattle.mt_floor.proofs.BeginLaws.{begins}
@@ -46,7 +45,7 @@ close_gone s key ps order e = by s.due (row_at key_of key s.watchers) refl e
     by [] None at e r there = absurd (cc)
     by [] (Some x) at e r there =
         let left = kept-row key_of (λ (q : Watcher). eqb q.key x.key) s.watchers order key r there in
-        off (sym (same_key r.key x.key (row_at-key key_of key s.watchers r left.0 ∙ sym (row_at-key key_of key s.watchers x at))) ∙ left.1)
+        off (sym (eq-eqb r.key x.key (row_at-key key_of key s.watchers r left.0 ∙ sym (row_at-key key_of key s.watchers x at))) ∙ left.1)
 
 -- an answer gives what it says was taken, or what a close answers
 abbrev Gives : ℕ → Event → Result Answer Fault → Type 0
@@ -56,7 +55,7 @@ closing : (key : ℕ) (e : Event) (ps : List PostView) → Gives key e (Ok (Clos
 closing key (Close k) ps = by (eqb k key) refl
   where
     by : (b : Bool) → eqb k key ≡ b → (cond b ps [] ≡ []) ⊎ ((qs : List PostView) × (Close k ≡ Close key) × (◌≡◌ {A = Result Answer Fault} (Ok (Closed ps)) (Ok (Closed qs))))
-    by true q = inr (ps, ap (λ n. Close n) (is_key k key q), refl)
+    by true q = inr (ps, ap (λ n. Close n) (eqb-true k key q), refl)
     by false q = inl refl
 closing key (Apply c) ps = inl refl
 closing key PostNext ps = inl refl
@@ -114,7 +113,7 @@ module _ (key : ℕ) (posted given : List PostView) (s : FloorView) (h : IsFloor
             let same : c.row ≡ r = one_row (row_at key_of key s.watchers) c.row r c.at at in
             let f = h.rows key r at in
             let left : ps ≡ f.not_taken = c.told ∙ ap (λ (x : Watcher). drop (length x.taken) x.sent) same ∙ ap (drop (length r.taken)) f.taken ∙ drop_at r.taken f.not_taken (length r.taken) refl in
-            let gave : given_by key e a.1 ≡ ps = (λ i. given_by key (event i) (answer i)) ∙ ap (λ b. cond b ps []) (same_key key key refl) in
+            let gave : given_by key e a.1 ≡ ps = (λ i. given_by key (event i) (answer i)) ∙ ap (λ b. cond b ps []) (eq-eqb key key refl) in
             let posts : posted_by key s.due a.1 ≡ [] = ap (posted_by key s.due) answer in
             let all : posted ≡ given ++ ps = sym sent ∙ f.taken ∙ (λ i. taken i ++ sym left i) in record {
               old = omega (arith, has.old, g.next);
@@ -173,7 +172,7 @@ given_from s (e ∷ es) key o h is =
     let more = all_given key [] [] a.0 (stays s e h) (record { old = b.held.old; row = λ r at. ((b.held.row r at).posted_is, (b.held.row r at).taken_is); not_given = []; given_is = refl }) es in
     (more.0, ap (λ (x : Result Answer Fault). posted_by key s.due x ++ posted_to key a.0 es) opened ∙ more.1 ∙ ap (λ (x : Result Answer Fault). (given_by key e x ++ given_posts key es (run a.0 es).1) ++ more.0) (sym opened))
 
-floors_stay : (s : FloorView) (es : List Event) → IsFloor s → IsFloor (run s es).0
+pub floors_stay : (s : FloorView) (es : List Event) → IsFloor s → IsFloor (run s es).0
 floors_stay s [] h = h
 floors_stay s (e ∷ es) h = floors_stay (floor_step s e).0 es (stays s e h)
 

@@ -1,5 +1,5 @@
 -- What the watcher of one key has, and that a command and each post keep it.
-use Rattle.std.proofs.Common.{◌≡◌, ℕ, ◌<◌, ◌≤◌, Bool, true, false, cond, eqb, ltb, List, [], ◌∷◌, ◌++◌, length, Option, Some, None, Ok, Err, refl, sym, ap, ◌∙◌, subst, arith, append_assoc, true≢false}
+use Rattle.std.proofs.Common.{◌≡◌, ℕ, ◌<◌, ◌≤◌, Bool, true, false, cond, eqb, ltb, List, [], ◌∷◌, ◌++◌, length, Option, Some, None, Ok, Err, refl, sym, ap, ◌∙◌, subst, arith, append_assoc, true≢false, eq-eqb, eqb-true}
 use Rattle.std.specs.Prelude.{Result}
 use Rattle.std.specs.List.{filter, list_all}
 use Rattle.std.specs.Option.{option_map_or}
@@ -26,7 +26,7 @@ use Rattle.mt_floor.specs.declared.event.Answer.TheVariants.{NotNow}
 use Rattle.mt_floor.specs.Watcher.{Watcher, Due, key_of, is_open, due_for, due_pairs, opening_of, followed_posts}
 use Rattle.mt_floor.specs.Schedule.{FloorView, Stepped, unless, if_idle, at_row, sent_to, is_full, posted, replied, has_open}
 use Rattle.mt_floor.specs.Headline.{accepted_by, taken_by, first_due, posted_by, posts_to, ends_watcher}
-use Rattle.mt_floor.proofs.RowLaws.{same_key, is_key, put_same, put_other, all_put}
+use Rattle.mt_floor.proofs.RowLaws.{put_same, put_other, all_put}
 use Rattle.mt_floor.proofs.DueLaws.{due_row, due_all, but, but_same, but_other}
 
 -- watchers stand by rising key, each below the next one
@@ -232,7 +232,7 @@ module _ (key : ℕ) (scope : Scope) (before since : List Command) (sent taken :
       here = ap (λ q. row_at key_of q s.watchers) (sym same) ∙ at
 
       mine : due_for key s.due ≡ d.post ∷ due_for key ds
-      mine = ap (due_for key) is ∙ ap (λ b. cond b (d.post ∷ due_for key ds) (due_for key ds)) (same_key d.key key same)
+      mine = ap (due_for key) is ∙ ap (λ b. cond b (d.post ∷ due_for key ds) (due_for key ds)) (eq-eqb d.key key same)
 
       opened : has_open key s ≡ true
       opened = by_open (has_open key s) refl
@@ -260,7 +260,7 @@ module _ (key : ℕ) (scope : Scope) (before since : List Command) (sent taken :
       open_is r' e = ap (λ o. option_map_or (λ (x : Watcher). is_open x.phase) o false) (row_is r' e)
 
       a_post : cond (eqb d.key key) (first_due s.due) [] ≡ d.post ∷ []
-      a_post = ap (λ b. cond b (first_due s.due) []) (same_key d.key key same) ∙ ap first_due is
+      a_post = ap (λ b. cond b (first_due s.due) []) (eq-eqb d.key key same) ∙ ap first_due is
 
       one : (x y : Watcher) → ◌≡◌ {A = Option Watcher} (Some x) (Some y) → x ≡ y
       one x y e = let q : x ≡ y = cc in q
@@ -317,5 +317,5 @@ module _ (key : ℕ) (scope : Scope) (before since : List Command) (sent taken :
           at (Some r) e = which (eqb d.key key) refl
             where
               which : (b : Bool) → eqb d.key key ≡ b → Goes key scope before since sent taken s PostNext (sent_to s d ds (is_full s.capacity r) r)
-              which true q = post_same d ds r (is_full s.capacity r) is e (is_key d.key key q)
+              which true q = post_same d ds r (is_full s.capacity r) is e (eqb-true d.key key q)
               which false q = post_other d ds r (is_full s.capacity r) is e q

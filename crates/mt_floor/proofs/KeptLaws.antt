@@ -20,12 +20,9 @@ use Rattle.mt_floor.specs.Watcher.{Watcher, Due, key_of, is_open, followed_posts
 use Rattle.mt_floor.specs.Schedule.{FloorView, Stepped, floor_step, if_idle, at_row, changed, is_full, nothing_left, took, met, closed, halted}
 use Rattle.mt_floor.specs.WellFormed.{IsFloor}
 use Rattle.mt_floor.specs.Rows.{FloorRowView, row_after_stop, next_taken, watcher_of, floor_of, IsFloorRow, IsKept}
-use Rattle.mt_floor.proofs.StandingLaws.{stays, begins_well, lists_short}
+use Rattle.mt_floor.proofs.StandingLaws.{stays, lists_short}
 use Rattle.mt_floor.proofs.PlaceLaws.{IsAt, is_of, found_at, got_at, within_at, row_read, watcher_at, changed_at, without_at, no_watcher}
 use Rattle.mt_skel.proofs.MiddleLaws.{each_mid, each_with, each_without, each_map, set_mid, remove_mid}
-
-pub kept_new : (c : ℕ) → IsKept c [] 0 false [] []
-kept_new c = record { floor = begins_well c; each = tt }
 
 -- a floor after an event is kept, if its rows are
 pub kept_after : (c c' : ℕ) (j j' : List Command) (l l' : ℕ) (st st' : Bool) (rows rows' : List FloorRowView) (due due' : List Due) (e : Event) (a : Result Answer Fault) → IsKept c j l st rows due

@@ -1,5 +1,5 @@
 -- Every watcher on a floor began with an event.
-use Rattle.std.proofs.Common.{◌≡◌, inl, inr, ℕ, zero, suc, ◌+◌, ◌<◌, ◌≤◌, Bool, true, false, eqb, ltb, List, [], ◌∷◌, Option, Some, None, slice_get, Ok, refl, sym, ap, ◌∙◌, subst, arith}
+use Rattle.std.proofs.Common.{◌≡◌, inl, inr, ℕ, zero, suc, ◌+◌, ◌<◌, ◌≤◌, Bool, true, false, eqb, ltb, List, [], ◌∷◌, Some, slice_get, Ok, refl, sym, ap, ◌∙◌, subst, arith, eqb-true, ltb-true}
 use Rattle.std.specs.Prelude.{Result}
 use Rattle.std.proofs.lemmas.Bool.Decides.{nat_tests}
 use Rattle.mt_skel.specs.declared.fault.Fault.{Fault}
@@ -15,10 +15,8 @@ use Rattle.mt_floor.specs.declared.event.Answer.TheVariants.{Opened}
 use Rattle.mt_floor.specs.Watcher.{Watcher, key_of}
 use Rattle.mt_floor.specs.Schedule.{FloorView, empty_floor, floor_step, run}
 use Rattle.mt_floor.specs.Headline.{answers, floor_after}
-use Rattle.mt_floor.proofs.RowLaws.{is_key, is_low}
-use Rattle.mt_floor.proofs.HeldLaws.{Held}
 use Rattle.mt_floor.proofs.BeginLaws.{counts}
-use Rattle.mt_floor.proofs.RunLaws.{ran, after_kept}
+use Rattle.mt_floor.proofs.RunLaws.{ran, after_kept, start_held}
 use Rattle.mt_floor.proofs.HeadLaws.{held_at, opening_told}
 
 -- an answer that begins the watcher of a key
@@ -40,26 +38,14 @@ given s (e ∷ es) key low high =
   where
     by : (b : Bool) → eqb s.next_key key ≡ b → (o : Opening) → (floor_step s e).1 ≡ Ok (Opened s.next_key o) → (floor_step s e).0.next_key ≡ s.next_key + 1
         → ((floor_step s e).0.next_key ≤ key → Given (run (floor_step s e).0 es).1 key) → Given (run s (e ∷ es)).1 key
-    by true q o answer next more = (0, o, ap (λ (x : Result Answer Fault). Some x) (answer ∙ ap (λ k. Ok (Opened k o)) (is_key s.next_key key q)))
+    by true q o answer next more = (0, o, ap (λ (x : Result Answer Fault). Some x) (answer ∙ ap (λ k. Ok (Opened k o)) (eqb-true s.next_key key q)))
     by false q o answer next more = later (floor_step s e).1 (run (floor_step s e).0 es).1 key (more (let above : s.next_key + 1 ≤ key = grind (arith, nat_tests) in omega (arith, above, next)))
 
 -- keys count from 1
-none_held : (capacity : ℕ) (scope : Scope) → Held 0 scope [] [] [] [] (empty_floor capacity)
-none_held capacity scope = record {
-  journal = refl;
-  old = omega arith;
-  not_taken = [];
-  taken_is = refl;
-  not_posted = [];
-  posted_is = refl;
-  row = λ r e. absurd (let no : ◌≡◌ {A = Option Watcher} None (Some r) = e in cc);
-  due = refl;
-}
-
 no_key : (capacity : ℕ) (es : List Event) (r : Watcher) → row_at key_of 0 (floor_after capacity es).watchers ≡ Some r → ⊥
 no_key capacity es r at =
-    let a = (ran 0 All [] [] [] [] (empty_floor capacity) (after_kept capacity []) (none_held capacity All) es).held.row r at in
-    let b = (ran 0 (One 0) [] [] [] [] (empty_floor capacity) (after_kept capacity []) (none_held capacity (One 0)) es).held.row r at in
+    let a = (ran 0 All [] [] [] [] (empty_floor capacity) (after_kept capacity []) (start_held capacity All) es).held.row r at in
+    let b = (ran 0 (One 0) [] [] [] [] (empty_floor capacity) (after_kept capacity []) (start_held capacity (One 0)) es).held.row r at in
     let bad : ◌≡◌ {A = Scope} All (One 0) = sym a.scope_is ∙ b.scope_is in cc
 
 -- so the watcher of a row has begun, with the row's opening
@@ -71,7 +57,7 @@ row_began capacity es (suc k) r at =
     let s = floor_after capacity es in
     let kept = after_kept capacity es in
     let low : ltb r.key s.next_key ≡ true = all-row key_of (λ (x : Watcher). ltb x.key s.next_key) s.watchers key r kept.below at in
-    let below : key < s.next_key = subst (λ n. n < s.next_key) (row_at-key key_of key s.watchers r at) (is_low r.key s.next_key low) in
+    let below : key < s.next_key = subst (λ n. n < s.next_key) (row_at-key key_of key s.watchers r at) (ltb-true r.key s.next_key low) in
     let g = given (empty_floor capacity) es key (omega arith) below in
     let opening : g.1 ≡ r.opening = opening_told capacity es g.0 key g.1 g.2 ∙ sym ((held_at capacity es g.0 key g.1 g.2).row r at).opening_is in
     (g.0, g.2 ∙ ap (λ (o : Opening). Some (Ok (Opened key o))) opening)

@@ -1,5 +1,5 @@
 -- A row among the others: the place where it stands, and what changes or leaves there.
-use Rattle.std.proofs.Common.{◌≡◌, ℕ, ◌+◌, Bool, true, false, cond, not, eqb, List, [], ◌∷◌, ◌++◌, map, length, set, get_or, Option, Some, None, slice_get, refl, sym, ap, ◌∙◌, subst, arith, length-append, ◌<◌}
+use Rattle.std.proofs.Common.{◌≡◌, ℕ, ◌+◌, Bool, true, false, cond, not, eqb, List, [], ◌∷◌, ◌++◌, map, length, set, get_or, Option, Some, None, slice_get, refl, sym, ap, ◌∙◌, subst, arith, length-append, ◌<◌, eqb-true}
 use Rattle.std.specs.List.{filter, position_from, remove}
 use Rattle.std.proofs.lemmas.List.{map-append}
 use Rattle.std.proofs.lemmas.Option.{slice_get_read}
@@ -8,7 +8,7 @@ use Rattle.mt_skel.proofs.MiddleLaws.{row_mid, put_mid, without_mid, set_mid, re
 use Rattle.mt_book.specs.declared.command.Command.{Command}
 use Rattle.mt_floor.specs.Watcher.{Watcher, key_of}
 use Rattle.mt_floor.specs.Rows.{FloorRowView, watcher_of}
-use Rattle.mt_floor.proofs.RowLaws.{is_key, turned}
+use Rattle.mt_floor.proofs.RowLaws.{turned}
 
 -- the row of a key, with those before it and those behind it
 pub record IsAt (q i : ℕ) (rows : List FloorRowView) (row : FloorRowView) : Type 0 where
@@ -30,7 +30,7 @@ found_from q n i (r ∷ rows) e = by (eqb r.key q) refl e (found_from q (n + 1) 
         → (j : ℕ) × (row : FloorRowView) × (i ≡ n + j) × IsAt q j (r ∷ rows) row
     by true is e ih =
         let same : n ≡ i = cc in
-        (0, r, omega (arith, same), record { front = []; back = rows; split = refl; place = refl; is = is_key r.key q is })
+        (0, r, omega (arith, same), record { front = []; back = rows; split = refl; place = refl; is = eqb-true r.key q is })
     by false is e ih =
         let f = ih e in
         let at = f.3 in

@@ -1,5 +1,5 @@
 -- What the sending of a due post does to the rows of a floor.
-use Rattle.std.proofs.Common.{◌≡◌, ℕ, ◌+◌, ◌<◌, ◌≤◌, Bool, true, false, cond, not, eqb, List, [], ◌∷◌, ◌++◌, map, length, set, drop, Option, Some, None, slice_get, Ok, refl, sym, ap, ◌∙◌, subst, arith, append_assoc, length-append}
+use Rattle.std.proofs.Common.{◌≡◌, ℕ, ◌+◌, ◌<◌, ◌≤◌, Bool, true, false, cond, not, eqb, List, [], ◌∷◌, ◌++◌, map, length, set, drop, Option, Some, None, slice_get, Ok, refl, sym, ap, ◌∙◌, subst, arith, append_assoc, length-append, eq-eqb}
 use Rattle.std.specs.Prelude.{nat_le}
 use Rattle.std.specs.List.{filter, position_from, AllByRecursion}
 use Rattle.std.specs.Option.{option_map, option_map_or, IfSome}
@@ -13,7 +13,6 @@ use Rattle.mt_floor.specs.declared.event.Answer.TheVariants.{Posted, NotNow}
 use Rattle.mt_floor.specs.Watcher.{Due, key_of}
 use Rattle.mt_floor.specs.Schedule.{floor_step, sent_to, is_full, posted}
 use Rattle.mt_floor.specs.Rows.{FloorRowView, with_post, lagged, watcher_of, floor_of, IsFloorRow, IsKept}
-use Rattle.mt_floor.proofs.RowLaws.{same_key}
 use Rattle.mt_floor.proofs.PlaceLaws.{IsAt, is_of, found_at, got_at, changed_at, no_watcher}
 use Rattle.mt_floor.proofs.KeptLaws.{full_is, row_is, each_set, found}
 
@@ -56,7 +55,7 @@ module _ (c : ℕ) (j : List Command) (l : ℕ) (st : Bool) (rows : List FloorRo
     but_first : filter (λ (e : Due). not (eqb e.key d.key)) ds ≡ filter (λ (e : Due). not (eqb e.key q)) (d ∷ ds)
     but_first =
         ap (λ k. filter (λ (e : Due). not (eqb e.key k)) ds) same
-        ∙ ap (λ b. cond (not b) (d ∷ filter (λ (e : Due). not (eqb e.key q)) ds) (filter (λ (e : Due). not (eqb e.key q)) ds)) (sym (same_key d.key q same))
+        ∙ ap (λ b. cond (not b) (d ∷ filter (λ (e : Due). not (eqb e.key q)) ds) (filter (λ (e : Due). not (eqb e.key q)) ds)) (sym (eq-eqb d.key q same))
 
     sent : (b : Bool) → sent_to (floor_of c j l st rows due) d ds b (watcher_of j row)
         ≡ (floor_of c j l st (set rows i (cond b (lagged row) (with_post row d.post))) (cond b (filter (λ (e : Due). not (eqb e.key q)) (d ∷ ds)) ds), Ok (Posted q b))

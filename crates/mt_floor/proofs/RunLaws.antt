@@ -121,8 +121,8 @@ ran_ended key scope before since sent taken s k h (x ∷ es) e a is at ends i b 
 start_kept : (capacity : ℕ) → Kept (empty_floor capacity)
 start_kept capacity = record { rising = refl; below = refl }
 
-start_held : (capacity : ℕ) → Held 0 All [] [] [] [] (empty_floor capacity)
-start_held capacity = record {
+pub start_held : (capacity : ℕ) (scope : Scope) → Held 0 scope [] [] [] [] (empty_floor capacity)
+start_held capacity scope = record {
   journal = refl;
   old = omega arith;
   not_taken = [];
@@ -134,11 +134,11 @@ start_held capacity = record {
 }
 
 pub after_kept : (capacity : ℕ) (es : List Event) → Kept (floor_after capacity es)
-after_kept capacity es = (ran 0 All [] [] [] [] (empty_floor capacity) (start_kept capacity) (start_held capacity) es).kept
+after_kept capacity es = (ran 0 All [] [] [] [] (empty_floor capacity) (start_kept capacity) (start_held capacity All) es).kept
 
 -- the journal is what the answers tell
 pub journal_told : (capacity : ℕ) (es : List Event) → (floor_after capacity es).journal ≡ accepted es (answers capacity es)
-journal_told capacity es = (ran 0 All [] [] [] [] (empty_floor capacity) (start_kept capacity) (start_held capacity) es).held.journal
+journal_told capacity es = (ran 0 All [] [] [] [] (empty_floor capacity) (start_kept capacity) (start_held capacity All) es).held.journal
 
 pub before_told : (capacity : ℕ) (es : List Event) (n : ℕ) → (floor_after capacity (take n es)).journal ≡ accepted_before capacity es n
 before_told capacity es n = journal_told capacity (take n es) ∙ ap (accepted (take n es)) (run_take (empty_floor capacity) es n)

@@ -48,12 +48,9 @@ answers_last (x ∷ es) (b ∷ ans) e a l = by (lacked x b) (answers_last es ans
     by true ih = ih
     by false ih = ap (λ r. b ∷ r) ih
 
-joined : (s now : FloorView) (xs ys : List Event) (told more : List (Result Answer Fault)) (mid : FloorView) → run s xs ≡ (mid, told) → run mid ys ≡ (now, more) → run s (xs ++ ys) ≡ (now, told ++ more)
-joined s now xs ys told more mid e f = pair (run s (xs ++ ys)) (run_state s xs ys ∙ ap (λ (x : Ran). (run x.0 ys).0) e ∙ ap (λ (x : Ran). x.0) f)
-    (run_told s xs ys ∙ (λ k. (e k).1 ++ (run (e k).0 ys).1) ∙ ap (λ (x : Ran). told ++ x.1) f)
-  where
-    pair : (x : Ran) → x.0 ≡ now → x.1 ≡ told ++ more → x ≡ (now, told ++ more)
-    pair x a b = λ k. (a k, b k)
+pub joined : (s now : FloorView) (xs ys : List Event) (told more : List (Result Answer Fault)) (mid : FloorView) → run s xs ≡ (mid, told) → run mid ys ≡ (now, more) → run s (xs ++ ys) ≡ (now, told ++ more)
+joined s now xs ys told more mid e f =
+    (λ k. (run_state s xs ys k, run_told s xs ys k)) ∙ ap (λ (x : Ran). ((run x.0 ys).0, x.1 ++ (run x.0 ys).1)) e ∙ ap (λ (x : Ran). (x.0, told ++ x.1)) f
 
 -- one event more
 pub run_next : (s mid now : FloorView) (es : List Event) (ans ans' : List (Result Answer Fault)) (e : Event) (a : Result Answer Fault) → length ans ≡ length es

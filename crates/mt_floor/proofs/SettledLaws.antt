@@ -1,28 +1,23 @@
 -- Floors on which nothing is due: how they are reached, and what keeps them so.
-use Rattle.std.proofs.Common.{◌≡◌, ℕ, zero, suc, ◌-◌, ◌≤◌, Bool, true, false, cond, not, eqb, List, [], ◌∷◌, ◌++◌, length, replicate, Option, Some, None, slice_get, Ok, Err, refl, sym, ap, ◌∙◌, subst, arith}
+use Rattle.std.proofs.Common.{◌≡◌, ℕ, zero, suc, ◌-◌, ◌≤◌, Bool, true, false, cond, not, eqb, List, [], ◌∷◌, ◌++◌, length, replicate, Option, Some, None, slice_get, Ok, Err, refl, sym, ap, ◌∙◌, subst, arith, eq-eqb}
 use Rattle.std.specs.Prelude.{Result}
-use Rattle.std.specs.List.{filter}
 use Rattle.std.specs.Option.{option_map_or}
 use Rattle.mt_skel.specs.declared.fault.Fault.{Fault}
 use Rattle.mt_skel.specs.declared.fault.Fault.TheVariants.{NoWatcher}
 use Rattle.mt_skel.specs.Keyed.{row_at}
+use Rattle.mt_propagate.proofs.SizeLaws.{few_pass}
 use Rattle.mt_events.specs.Posts.{PostView}
 use Rattle.mt_events.specs.declared.opening.Scope.{Scope}
-use Rattle.mt_floor.specs.declared.event.Event.{Event}
 use Rattle.mt_floor.specs.declared.event.Event.TheVariants.{PostNext, Open, Take, Meet, Close, Stop}
 use Rattle.mt_floor.specs.declared.event.Answer.{Answer}
 use Rattle.mt_floor.specs.declared.event.Answer.TheVariants.{Opened, Took, NotNow}
 use Rattle.mt_floor.specs.Watcher.{Watcher, Due, key_of, is_open, due_for, opening_of}
 use Rattle.mt_floor.specs.Schedule.{FloorView, Stepped, floor_step, run, settled, unless, if_idle, at_row, changed, sent_to, is_full, posted, nothing_left, took, met, closed, halted, opened, opening_refusal}
 use Rattle.mt_floor.specs.WellFormed.{IsFloor}
-use Rattle.mt_floor.proofs.RowLaws.{same_key}
 use Rattle.mt_floor.proofs.BeginLaws.{opens}
 use Rattle.mt_floor.proofs.StandingLaws.{stays}
 
 -- ---- Events one after another
-
-pub run_step : (s : FloorView) (e : Event) (es : List Event) → (run s (e ∷ es)).0 ≡ (run (floor_step s e).0 es).0
-run_step s e es = refl
 
 pub settled_idle : (s : FloorView) → s.due ≡ [] → settled s ≡ s
 unfolding settled
@@ -80,22 +75,13 @@ meet_same s key = by s.due (row_at key_of key s.watchers)
 
 -- ---- How a floor settles
 
-no_more : (key : ℕ) (ds : List Due) → length (filter (λ (e : Due). not (eqb e.key key)) ds) ≤ length ds
-no_more key [] = omega arith
-no_more key (d ∷ ds) = by (eqb d.key key) (no_more key ds)
-  where
-    by : (b : Bool) → length (filter (λ (e : Due). not (eqb e.key key)) ds) ≤ length ds
-        → length (cond (not b) (d ∷ filter (λ (e : Due). not (eqb e.key key)) ds) (filter (λ (e : Due). not (eqb e.key key)) ds)) ≤ suc (length ds)
-    by true e = omega (arith, e)
-    by false e = omega (arith, e)
-
 -- what is due first is due to a watcher that is there, so each `PostNext` leaves fewer due
 pub post_fewer : (s : FloorView) → IsFloor s → length (floor_step s PostNext).0.due ≤ length s.due - 1
 unfolding floor_step
 post_fewer s h = by s.due refl
   where
     sent : (d : Due) (ds : List Due) (r : Watcher) (b : Bool) → length (sent_to s d ds b r).0.due ≤ length ds
-    sent d ds r true = no_more d.key ds
+    sent d ds r true = few_pass (λ (e : Due). not (eqb e.key d.key)) ds
     sent d ds r false = omega arith
 
     to : (d : Due) (ds : List Due) → s.due ≡ d ∷ ds → (o : Option Watcher) → row_at key_of d.key s.watchers ≡ o
@@ -103,7 +89,7 @@ post_fewer s h = by s.due refl
     to d ds is None none =
         let shut = h.idle d.key (ap (λ o. option_map_or (λ (x : Watcher). is_open x.phase) o false) none) in
         let bad : ◌≡◌ {A = List PostView} (d.post ∷ due_for d.key ds) [] =
-        sym (ap (λ b. cond b (d.post ∷ due_for d.key ds) (due_for d.key ds)) (same_key d.key d.key refl)) ∙ sym (ap (due_for d.key) is) ∙ shut in
+        sym (ap (λ b. cond b (d.post ∷ due_for d.key ds) (due_for d.key ds)) (eq-eqb d.key d.key refl)) ∙ sym (ap (due_for d.key) is) ∙ shut in
         absurd (cc)
     to d ds is (Some r) at = sent d ds r (is_full s.capacity r)
 

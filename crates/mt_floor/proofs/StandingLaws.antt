@@ -1,5 +1,5 @@
 -- What is always true of a floor.
-use Rattle.std.proofs.Common.{◌≡◌, inl, inr, ℕ, ◌^◌, ◌<◌, ◌≤◌, Bool, true, false, cond, ltb, List, [], ◌++◌, length, take, drop, Option, Some, None, refl, sym, ap, ◌∙◌, subst, arith, append_assoc, length-append}
+use Rattle.std.proofs.Common.{◌≡◌, inl, inr, ℕ, ◌^◌, ◌<◌, ◌≤◌, Bool, true, false, cond, ltb, List, [], ◌++◌, length, take, drop, Option, Some, None, refl, sym, ap, ◌∙◌, subst, arith, length-append, ltb-true}
 use Rattle.std.specs.Option.{option_map_or}
 use Rattle.std.proofs.lemmas.List.{append-nil, take-append-drop, length-take-le, take_at, drop_at}
 use Rattle.std.proofs.lemmas.Bool.Decides.{nat_tests}
@@ -11,11 +11,11 @@ use Rattle.mt_events.specs.declared.opening.Scope.{Scope}
 use Rattle.mt_events.specs.declared.opening.Scope.TheVariants.{One, All}
 use Rattle.mt_book.specs.declared.command.Command.{Command}
 use Rattle.mt_floor.specs.declared.event.Event.{Event}
-use Rattle.mt_floor.specs.Watcher.{Watcher, key_of, is_open, due_for, opening_of, followed, followed_posts}
+use Rattle.mt_floor.specs.Watcher.{Watcher, key_of, is_open, due_for, opening_of, followed_posts}
 use Rattle.mt_floor.specs.Schedule.{FloorView, empty_floor, floor_step, has_open}
 use Rattle.mt_floor.specs.Headline.{accepted_by, taken_by, posted_by}
 use Rattle.mt_floor.specs.WellFormed.{IsFollower, IsFloor}
-use Rattle.mt_floor.proofs.RowLaws.{is_low, fresh}
+use Rattle.mt_floor.proofs.RowLaws.{fresh}
 use Rattle.mt_floor.proofs.HeldLaws.{Kept, IsRowFor, Held}
 use Rattle.mt_floor.proofs.FloorLaws.{goes}
 use Rattle.mt_floor.proofs.GoneLaws.{none_stays}
@@ -35,7 +35,7 @@ follower_held s h key r at =
     let key_is : r.key ≡ key = row_at-key key_of key s.watchers r at in
     let low : ltb r.key s.next_key ≡ true = all-row key_of (λ (x : Watcher). ltb x.key s.next_key) s.watchers key r h.below at in record {
       journal = sym (take-append-drop r.since s.journal);
-      old = subst (λ n. n < s.next_key) key_is (is_low r.key s.next_key low);
+      old = subst (λ n. n < s.next_key) key_is (ltb-true r.key s.next_key low);
       not_taken = f.not_taken;
       taken_is = f.taken;
       not_posted = f.not_posted;
@@ -89,9 +89,6 @@ shut_due : (s : FloorView) (key : ℕ) (scope : Scope) (before since : List Comm
 shut_due s key scope before since sent taken h o = h.due ∙ ap (λ b. cond b h.not_posted []) o
 
 module _ (s : FloorView) (e : Event) (h : IsFloor s) where
-  abbrev next : FloorView
-  next = (floor_step s e).0
-
   record Stands (key : ℕ) : Type 0 where
     row : (r : Watcher) → row_at key_of key (floor_step s e).0.watchers ≡ Some r → IsFollower (floor_step s e).0 r
     idle : has_open key (floor_step s e).0 ≡ false → due_for key (floor_step s e).0.due ≡ []
@@ -138,7 +135,7 @@ module _ (s : FloorView) (e : Event) (h : IsFloor s) where
       ]
 
       by : (b : Bool) → ltb key s.next_key ≡ b → Stands key
-      by true l = old_stands key (is_low key s.next_key l)
+      by true l = old_stands key (ltb-true key s.next_key l)
       by false l = new (grind (arith, nat_tests))
 
   -- nor is anything due to a key that was not given out
@@ -154,7 +151,7 @@ module _ (s : FloorView) (e : Event) (h : IsFloor s) where
       counted = elim (counts s e) [ inl same ↦ omega (arith, same) | inr gives ↦ omega (arith, gives.next) ]
 
       by : (b : Bool) → ltb key (floor_step s e).0.next_key ≡ b → due_for key (floor_step s e).0.due ≡ []
-      by true low = (stands key (is_low key (floor_step s e).0.next_key low)).idle shut
+      by true low = (stands key (ltb-true key (floor_step s e).0.next_key low)).idle shut
       by false high = not_yet (let above : (floor_step s e).0.next_key ≤ key = grind (arith, nat_tests) in omega (arith, above, counted))
 
   pub stays : IsFloor (floor_step s e).0
@@ -166,7 +163,7 @@ module _ (s : FloorView) (e : Event) (h : IsFloor s) where
       | inr gives ↦ omega (arith, gives.next)
     ];
     rows = λ key r at. (stands key (subst (λ n. n < (floor_step s e).0.next_key) (row_at-key key_of key (floor_step s e).0.watchers r at)
-        (is_low r.key (floor_step s e).0.next_key (all-row key_of (λ (x : Watcher). ltb x.key (floor_step s e).0.next_key) (floor_step s e).0.watchers key r kept_next.below at)))).row r at;
+        (ltb-true r.key (floor_step s e).0.next_key (all-row key_of (λ (x : Watcher). ltb x.key (floor_step s e).0.next_key) (floor_step s e).0.watchers key r kept_next.below at)))).row r at;
     bounds = bounded s e h.bounds h.rising;
     idle = idle_next;
   }
@@ -180,15 +177,6 @@ begins_well capacity = record {
   bounds = record { journal = omega arith; watchers = omega arith; keys = omega arith };
   idle = λ key o. refl;
 }
-
--- so the lists of a row are told by their lengths
-pub follower_lists : (s : FloorView) (r : Watcher) → IsFollower s r
-    → (r.sent ≡ take (length r.sent) (followed r s.journal)) × (r.taken ≡ take (length r.taken) (followed r s.journal)) × (r.sent ≡ r.taken ++ drop (length r.taken) r.sent)
-follower_lists s r f = (
-  sym (ap (take (length r.sent)) f.posted ∙ take_at r.sent f.not_posted (length r.sent) refl),
-  sym (ap (take (length r.taken)) (f.posted ∙ ap (λ l. l ++ f.not_posted) f.taken ∙ append_assoc r.taken f.not_taken f.not_posted) ∙ take_at r.taken (f.not_taken ++ f.not_posted) (length r.taken) refl),
-  f.taken ∙ ap (λ l. r.taken ++ l) (sym (ap (drop (length r.taken)) f.taken ∙ drop_at r.taken f.not_taken (length r.taken) refl)),
-)
 
 pub lists_short : (s : FloorView) (key : ℕ) (r : Watcher) → IsFloor s → row_at key_of key s.watchers ≡ Some r → (length r.taken ≤ length r.sent) × (length r.sent ≤ 2 ^ 40)
 lists_short s key r h at = short_lists s r (h.rows key r at) h.bounds

@@ -13,6 +13,7 @@ use Rattle.mt_mounts.specs.Forest.{id_of, parent, parents_up, is_below, subtree}
 use Rattle.mt_propagate.specs.World.{WorldView}
 use Rattle.mt_propagate.specs.WellFormed.{IsWellFormed}
 use Rattle.mt_propagate.specs.Touched.{IsTouched}
+use Rattle.mt_propagate.proofs.OutsideTagLaws.{same-bool}
 use Rattle.mt_info.specs.MayDiffer.{has_moved, moves_along, moves_first, may_differ}
 use Rattle.mt_info.proofs.KeptRows.{among-filter, any-at, moved_touched}
 
@@ -98,12 +99,6 @@ among-filtered p (x ∷ xs) j e = go (p x) refl (eqb x j) refl e (among-filtered
     go true is false at e ih = let r = ih (later (eqb x j) _ at e) in (r.0, right (eqb x j) _ r.1)
     go false is c at e ih = let r = ih e in (r.0, right (eqb x j) _ r.1)
 
-both : (a b : Bool) → (a ≡ true → b ≡ true) → (b ≡ true → a ≡ true) → a ≡ b
-both true true f g = refl
-both true false f g = sym (f refl)
-both false true f g = g refl
-both false false f g = refl
-
 module _ (w v : WorldView) (ids : List ℕ) (h : IsWellFormed v) (t : IsTouched w v ids) (j : ℕ) where
   found : list_any (λ i. has_moved w v i && among (subtree v.forest i) j) ids ≡ true → list_any (λ i. moves_first w v i && among (subtree v.forest i) j) ids ≡ true
   found e =
@@ -122,4 +117,4 @@ module _ (w v : WorldView) (ids : List ℕ) (h : IsWellFormed v) (t : IsTouched 
       any_in (λ i. has_moved w v i && among (subtree v.forest i) j) i.0 ids i.1 (and-true (has_moved w v i.0) (among (subtree v.forest i.0) j) (and_first _ _ (and_first _ _ i.2)) (and_second _ _ i.2))
 
   pub firsts_suffice : (among ids j || list_any (λ i. moves_first w v i && among (subtree v.forest i) j) ids) ≡ may_differ w v ids j
-  firsts_suffice = ap (λ b. among ids j || b) (both _ _ kept found)
+  firsts_suffice = ap (λ b. among ids j || b) (same-bool _ _ kept found)

@@ -1,11 +1,9 @@
 -- A row is as it was but for the mounts that were touched, and those below one that was touched and moved.
-use Rattle.std.proofs.Common.{◌≡◌, ℕ, zero, suc, ◌+◌, Bool, true, false, cond, not, ◌&&◌, ◌||◌, ◌==◌, eqb, eqb-true, eq-eqb, List, [], ◌∷◌, ◌++◌, map, length, drop, reverse, Option, Some, None, refl, sym, ap, subst, ◌∙◌, arith, add-zero, add-suc}
+use Rattle.std.proofs.Common.{◌≡◌, ℕ, zero, suc, ◌+◌, Bool, true, false, cond, not, ◌&&◌, ◌||◌, ◌==◌, eqb, eqb-true, eq-eqb, List, [], ◌∷◌, map, length, drop, reverse, Option, Some, None, refl, sym, ap, subst, ◌∙◌, arith, add-zero, add-suc}
 use Rattle.std.specs.List.{filter, flat_map, list_any, AllByRecursion}
 use Rattle.std.specs.Option.{is_none, option_map, option_map_or, option_and_then, unwrap_or}
-use Rattle.std.proofs.lemmas.Bool.{true≢false}
+use Rattle.std.proofs.lemmas.Bool.{true≢false, not-false, or_parts}
 use Rattle.std.proofs.lemmas.Bool.Decides.{nat_tests}
-use Rattle.std.proofs.lemmas.Grind.{flat_map-append}
-use Rattle.std.proofs.lemmas.List.{reverse-append}
 use Rattle.mt_skel.specs.Chain.{chain, ends}
 use Rattle.mt_skel.specs.Keyed.{among}
 use Rattle.mt_skel.specs.Skeleton.{directory, filesystem}
@@ -15,16 +13,17 @@ use Rattle.mt_skel.proofs.MiddleLaws.{and_first, and_second, and-true}
 use Rattle.mt_mounts.specs.declared.mount.Mount.{Mount}
 use Rattle.mt_mounts.specs.declared.mount.Place.{Place}
 use Rattle.mt_mounts.specs.Forest.{id_of, mount_at, parent, parents_up, is_below, subtree}
+use Rattle.mt_mounts.proofs.PlaceLaws.{same_place}
 use Rattle.mt_propagate.specs.World.{WorldView, state_of, private}
 use Rattle.mt_propagate.specs.WellFormed.{IsWellFormed}
 use Rattle.mt_propagate.specs.FromGroup.{from_group}
 use Rattle.mt_propagate.specs.Touched.{IsTouched}
 use Rattle.mt_propagate.proofs.TreeLaws.{parent-is}
-use Rattle.mt_propagate.proofs.WalkLaws.{place_same}
 use Rattle.mt_info.proofs.RowPaths.{fits_along}
 use Rattle.mt_info.specs.Table.{own_names, mount_point, row_of}
 use Rattle.mt_info.specs.MayDiffer.{place_stays, is_elsewhere, has_moved, may_differ}
 use Rattle.mt_info.proofs.TableLaws.{own_names_at, own_names_root}
+use Rattle.mt_info.proofs.OutsideTables.{reversed-same}
 
 -- more steps change nothing where a way has ended
 chain-more : (next : ℕ → Option ℕ) (d n x : ℕ) → ends next n x ≡ true → (ends next (n + d) x ≡ true) × (chain next (n + d) x ≡ chain next n x)
@@ -33,21 +32,13 @@ chain-more next (suc d) n x e =
     let ih = chain-more next d n x e in
     (ap (λ k. ends next k x) (add-suc n d) ∙ ends-suc next (n + d) x ih.0, ap (λ k. chain next k x) (add-suc n d) ∙ chain-suc next (n + d) x ih.0 ∙ ih.1)
 
-pub front-off : (a b : Bool) → (a || b) ≡ false → a ≡ false
-front-off false b e = refl
-front-off true b e = absurd (cc)
-
-pub rest-off : (a b : Bool) → (a || b) ≡ false → b ≡ false
-rest-off false b e = e
-rest-off true b e = absurd (cc)
-
 -- the first of a way
 start-off : (next : ℕ → Option ℕ) (t : ℕ → Bool) (n x : ℕ) → list_any t (chain next n x) ≡ false → t x ≡ false
 start-off next t n x e = go n e
   where
     go : (n : ℕ) → list_any t (chain next n x) ≡ false → t x ≡ false
-    go zero e = front-off (t x) false e
-    go (suc n) e = front-off (t x) _ e
+    go zero e = (or_parts (t x) false e).0
+    go (suc n) e = (or_parts (t x) _ e).0
 
 -- what is in a list and passes a test, and what stands below a mount
 pub among-filter : (p : ℕ → Bool) (xs : List ℕ) (j : ℕ) → p j ≡ true → among xs j ≡ true → among (filter p xs) j ≡ true
@@ -76,21 +67,13 @@ any-at p (x ∷ xs) i e t = go (eqb x i) refl e (λ f. any-at p xs i f t)
     go true at e ih = ap (λ b. b || list_any p xs) (ap p (eqb-true x i at) ∙ t)
     go false at e ih = right (p x) (list_any p xs) (ih e)
 
--- names that are the same one by one, from the last on
-flat_back : (f g : ℕ → List (List ℕ)) (xs : List ℕ) → AllByRecursion (λ x. f x ≡ g x) xs → flat_map f (reverse xs) ≡ flat_map g (reverse xs)
-flat_back f g [] h = refl
-flat_back f g (x ∷ xs) h =
-    let ih = flat_back f g xs h.1 in
-    let last = reverse-append (x ∷ []) xs in
-    ap (flat_map f) last ∙ flat_map-append f (reverse xs) (x ∷ []) ∙ (λ i. ih i ++ (h.0 i ++ [])) ∙ sym (flat_map-append g (reverse xs) (x ∷ [])) ∙ sym (ap (flat_map g) last)
-
 -- a mount is there before and after, at one place and with one root directory
 abbrev pub IsAlike : WorldView → WorldView → ℕ → Type 0
 IsAlike w v i = (m : Mount) × (n : Mount) × (mount_at w.forest i ≡ Some m) × (mount_at v.forest i ≡ Some n) × (m.place ≡ n.place) × (m.root ≡ n.root)
 
 same_stays : (o p : Option Place) → place_stays o p ≡ true → o ≡ p
 same_stays None None e = refl
-same_stays (Some p) (Some q) e = ap (λ x. Some x) (place_same p q e)
+same_stays (Some p) (Some q) e = ap (λ x. Some x) (same_place p q e)
 same_stays None (Some q) e = absurd (cc)
 same_stays (Some p) None e = absurd (cc)
 
@@ -98,14 +81,10 @@ stays_same : (o : Option Place) → place_stays o o ≡ true
 stays_same None = refl
 stays_same (Some p) = grind (arith, nat_tests)
 
-off_true : (b : Bool) → not b ≡ false → b ≡ true
-off_true true e = refl
-off_true false e = absurd (cc)
-
 module _ (w v : WorldView) where
   alike : (i : ℕ) (m n : Mount) → mount_at w.forest i ≡ Some m → mount_at v.forest i ≡ Some n → has_moved w v i ≡ false → IsAlike w v i
   alike i m n at to still =
-      let both : (place_stays m.place n.place && (m.root == n.root)) ≡ true = off_true _ (sym (λ k. is_elsewhere (at k) (to k)) ∙ still) in
+      let both : (place_stays m.place n.place && (m.root == n.root)) ≡ true = not-false _ (sym (λ k. is_elsewhere (at k) (to k)) ∙ still) in
       (m, n, at, to, same_stays m.place n.place (and_first _ _ both), eqb-true m.root n.root (and_second _ _ both))
 
   -- what did not change did not move
@@ -167,7 +146,7 @@ module _ (w v : WorldView) (h : IsWellFormed w) (g : IsWellFormed v) (same : w.s
           let before : parent w.forest i ≡ Some p.mount = parent-is w.forest i a.0 p a.2 (a.4 ∙ at) in
           let after : parent v.forest i ≡ Some p.mount = parent-is v.forest i a.1 p a.3 at in
           let rest : list_any (has_moved w v) (chain (parent v.forest) n p.mount) ≡ false =
-          ap (λ o. list_any (has_moved w v) (option_map_or (λ y. chain (parent v.forest) n y) o [])) (sym after) ∙ rest-off (has_moved w v i) _ still in
+          ap (λ o. list_any (has_moved w v) (option_map_or (λ y. chain (parent v.forest) n y) o [])) (sym after) ∙ (or_parts (has_moved w v i) _ still).1 in
           let on : ends (parent v.forest) n p.mount ≡ true = ap (λ o. option_map_or (λ y. ends (parent v.forest) n y) o true) (sym after) ∙ e in
           let up = above_alike i a p at (start-off (parent v.forest) (has_moved w v) n p.mount rest) in
           let way = ih p.mount up on rest in (
@@ -187,7 +166,7 @@ module _ (w v : WorldView) (h : IsWellFormed w) (g : IsWellFormed v) (same : w.s
             let below : is_below v.forest x.0 i ≡ true = any_in (λ y. eqb x.0 y) x.0 (parents_up v.forest i) x.1 (eq-eqb x.0 x.0 refl) in
             let within : among (subtree v.forest x.0) i ≡ true = among-filter (is_below v.forest x.0) (map id_of v.forest) i below (among-ids v.forest i m at) in
             let found = any-at (λ y. has_moved w v y && among (subtree v.forest y) i) ids x.0 (moved_touched w v ids t x.0 x.2) (and-true (has_moved w v x.0) (among (subtree v.forest x.0) i) x.2 within) in
-            absurd (true≢false (sym found ∙ rest-off (among ids i) _ stays))
+            absurd (true≢false (sym found ∙ (or_parts (among ids i) _ stays).1))
 
     module _ (m : Mount) (before : mount_at w.forest m.id ≡ Some m) (after : mount_at v.forest m.id ≡ Some m) (stays : may_differ w v ids m.id ≡ false) where
       same_point : mount_point w m.id ≡ mount_point v m.id
@@ -200,14 +179,14 @@ module _ (w v : WorldView) (h : IsWellFormed w) (g : IsWellFormed v) (same : w.s
           let to = chain-more (parent v.forest) lw lv i (g.forest.no_cycle i) in
           let way = same_way (lv + lw) i (m, m, before, after, refl, refl) to.0 (ap (list_any (has_moved w v)) to.1 ∙ still_above i m after stays) in
           ap (λ l. flat_map (own_names w) (reverse l)) (sym from.1 ∙ ap (λ n. chain (parent w.forest) n i) sum ∙ way.0)
-          ∙ flat_back (own_names w) (own_names v) (chain (parent v.forest) (lv + lw) i) way.1
+          ∙ reversed-same (own_names w) (own_names v) (chain (parent v.forest) (lv + lw) i) way.1
           ∙ ap (λ l. flat_map (own_names v) (reverse l)) to.1
 
       same_state : state_of w m.id ≡ state_of v m.id
-      same_state = ap (λ o. unwrap_or o private) (t.states m.id (front-off (among ids m.id) _ stays))
+      same_state = ap (λ o. unwrap_or o private) (t.states m.id (or_parts (among ids m.id) _ stays).0)
 
       same_tag : from_group w m.id ≡ from_group v m.id
-      same_tag = t.tags m.id (front-off (among ids m.id) _ stays)
+      same_tag = t.tags m.id (or_parts (among ids m.id) _ stays).0
 
       pub row_kept : row_of w m ≡ row_of v m
       row_kept =

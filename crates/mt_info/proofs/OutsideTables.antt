@@ -20,7 +20,7 @@ use Rattle.mt_info.specs.Table.{own_names, mount_point, row_of, table_of}
 use Rattle.mt_info.proofs.TableLaws.{all_found, own_names_at, own_names_root}
 
 -- what is said of the elements alone is said of them in reverse
-reversed-same : {X Y : Type 0} (f g : X → List Y) (xs : List X) → AllByRecursion (λ x. f x ≡ g x) xs → flat_map f (reverse xs) ≡ flat_map g (reverse xs)
+pub reversed-same : {X Y : Type 0} (f g : X → List Y) (xs : List X) → AllByRecursion (λ x. f x ≡ g x) xs → flat_map f (reverse xs) ≡ flat_map g (reverse xs)
 reversed-same f g [] h = refl
 reversed-same f g (x ∷ xs) h =
     let later = reversed-same f g xs h.1 in

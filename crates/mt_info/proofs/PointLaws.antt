@@ -1,14 +1,13 @@
 -- Where mounts stand, along the ways up from them.
-use Rattle.std.proofs.Common.{◌≡◌, ℕ, suc, ◌-◌, ◌+◌, ◌<◌, ◌&&◌, ltb, zero, get_or, Bool, true, false, cond, nat_eq, List, [], ◌∷◌, ◌++◌, reverse, length, drop, Option, Some, None, refl, sym, ap, subst, ◌∙◌, arith, append-nil, append_assoc}
+use Rattle.std.proofs.Common.{◌≡◌, ℕ, suc, ◌-◌, ◌+◌, ◌<◌, ◌&&◌, Bool, true, false, cond, nat_eq, List, [], ◌∷◌, ◌++◌, reverse, length, drop, Option, Some, None, refl, sym, ap, subst, ◌∙◌, arith, append-nil, append_assoc}
 use Rattle.std.specs.Prelude.{IfSome}
 use Rattle.std.specs.List.{flat_map, list_all}
-use Rattle.std.specs.Map.{lookup}
 use Rattle.std.specs.Option.{is_none, option_map, option_map_or, option_and_then}
 use Rattle.std.specs.declared.hash.FoldHasher.{FoldHasher}
 use Rattle.std.specs.declared.hash.BuildHasherDefault.{BuildHasherDefault}
 use Rattle.std.proofs.lemmas.Bool.Decides.{nat_tests}
 use Rattle.std.proofs.lemmas.Grind.{flat_map-append}
-use Rattle.std.proofs.lemmas.List.{reverse-append, drop_all}
+use Rattle.std.proofs.lemmas.List.{reverse-append}
 use Rattle.std.proofs.lemmas.List.Folds.{list_all-append}
 use Rattle.mt_skel.proofs.MiddleLaws.{and-true, and_first, and_second}
 use Rattle.indexmap.specs.IndexMap.{IndexMap, get}
@@ -26,12 +25,7 @@ use Rattle.mt_info.specs.Steps.{is_step, step_names}
 use Rattle.mt_info.specs.Points.{ArePoints}
 use Rattle.mt_info.proofs.TableLaws.{own_names_at, own_names_root, place_there}
 
--- what is true of all is true of each, of one more, and in the other order
-pub each_passes : {X : Type 0} (t : X → Bool) (xs : List X) (i : ℕ) (d : X) → list_all t xs ≡ true → i < length xs → t (get_or xs i d) ≡ true
-each_passes t [] i d all l = absurd (omega (arith, l))
-each_passes t (x ∷ xs) zero d all l = and_first _ _ all
-each_passes t (x ∷ xs) (suc i) d all l = each_passes t xs i d (and_second (t x) _ all) (omega (arith, l))
-
+-- what is true of all is true of one more, and in the other order
 pub more_pass : {X : Type 0} (t : X → Bool) (xs more : List X) (x : X) → more ≡ xs ++ x ∷ [] → list_all t xs ≡ true → t x ≡ true → list_all t more ≡ true
 more_pass t xs more x longer all one =
     ap (list_all t) longer ∙ list_all-append t xs (x ∷ []) ∙ and-true (list_all t xs) (t x && true) all (and-true (t x) true one refl)
@@ -40,18 +34,6 @@ pub reversed_pass : {X : Type 0} (t : X → Bool) (xs : List X) → list_all t x
 reversed_pass t [] all = refl
 reversed_pass t (x ∷ xs) all =
     more_pass t (reverse xs) (reverse (x ∷ xs)) x (reverse-append (x ∷ []) xs) (reversed_pass t xs (and_second (t x) _ all)) (and_first (t x) _ all)
-
--- the last names of a list, so many that these stay in front
-pub drop_back : {X : Type 0} (xs : List X) (n : ℕ) → drop (length xs - (length xs - n)) xs ≡ drop n xs
-drop_back xs n = go (ltb (length xs) n) refl
-  where
-    go : (b : Bool) → ltb (length xs) n ≡ b → drop (length xs - (length xs - n)) xs ≡ drop n xs
-    go true e =
-        let over : length xs < n = grind (arith, nat_tests) in
-        drop_all (length xs - (length xs - n)) xs (omega (arith, over)) ∙ sym (drop_all n xs (omega (arith, over)))
-    go false e =
-        let within : length xs - (length xs - n) ≡ n = grind (arith, nat_tests) in
-        ap (λ k. drop k xs) within
 
 module _ (w : WorldView) where
   -- the names of a mount's list, with one more mount in front of it
@@ -121,12 +103,6 @@ module _ (w : WorldView) where
   -- what is kept of a mount is its point
   abbrev pub IsPoint : ℕ → Option (List (List ℕ)) → Type 0
   IsPoint i o = IfSome o (λ point. point ≡ mount_point w i)
-
-  pub none_known : (m : IndexMap ℕ (List (List ℕ)) (BuildHasherDefault FoldHasher)) → m.entries ≡ [] → ArePoints w m
-  none_known m e i = let n : get nat_eq m i ≡ None = ap (lookup (nat_eq i)) e in subst (IsPoint i) (sym n) tt
-
-  pub point_known : (m : IndexMap ℕ (List (List ℕ)) (BuildHasherDefault FoldHasher)) (i : ℕ) (o : Option (List (List ℕ))) → ArePoints w m → get nat_eq m i ≡ o → IsPoint i o
-  point_known m i o all e = subst (IsPoint i) e (all i)
 
   -- one point more
   pub known_more : (m n : IndexMap ℕ (List (List ℕ)) (BuildHasherDefault FoldHasher)) (k : ℕ) (point : List (List ℕ)) → ArePoints w m → point ≡ mount_point w k

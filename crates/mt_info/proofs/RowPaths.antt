@@ -1,10 +1,9 @@
 -- Rows whose fields are equal are equal: that the group above the master fits is no second fact.
-use Rattle.std.proofs.Common.{◌≡◌, ℕ, List, Option, true}
+use Rattle.std.proofs.Common.{◌≡◌, ℕ, Option, true}
 use Rattle.std.specs.Bool.{IsTrue}
 use mathlib.Core.Path.{PathP}
 use mathlib.Core.HLevel.{is_prop→PathP}
 use mathlib.Core.Bool.{Bool-set}
-use Rattle.mt_mounts.specs.declared.mount.Attrs.{Attrs}
 use Rattle.mt_info.specs.declared.row.Row.{Row}
 use Rattle.mt_info.specs.Beside.{fits_master}
 

@@ -1,9 +1,9 @@
 -- A word without spaces, tabs and newlines is the one spelling of what it stands for.
 use Rattle.std.proofs.Common.{◌≡◌, ◌≢◌, ℕ, ◌==◌, ◌&&◌, not, List, [], ◌∷◌, ◌++◌, Bool, true, false, Some, refl, sym, ap, ◌∙◌}
 use Rattle.std.specs.List.{list_all}
-use Rattle.std.proofs.lemmas.Bool.{ne_eqb}
+use Rattle.std.proofs.lemmas.Bool.{ne_eqb, and_parts}
 use Rattle.mt_skel.specs.Escapes.{unescaped, escaped, escaped_byte}
-use Rattle.mt_skel.proofs.UnescapeLaws.{IsKept, all_kept, and-parts}
+use Rattle.mt_skel.proofs.UnescapeLaws.{IsKept, all_kept}
 use Rattle.mt_info.specs.Reading.{is_bare}
 use Rattle.mt_info.proofs.WordLaws.{all-append}
 
@@ -29,7 +29,7 @@ spelling_kept : IsKept IsSpelling
 spelling_kept = record {
   nil = λ _. refl;
   plain = λ x w b ne ih h.
-      let parts = and-parts (is_bare x) (list_all is_bare w) h in
+      let parts = and_parts (is_bare x) (list_all is_bare w) h in
       ap (λ t. x ∷ t) (ih parts.1) ∙ ap (λ t. t ++ escaped b) (sym (plain_byte x ne parts.0));
   space = λ w b ih h. ap (λ t. 92 ∷ 48 ∷ 52 ∷ 48 ∷ t) (ih h);
   tab = λ w b ih h. ap (λ t. 92 ∷ 48 ∷ 49 ∷ 49 ∷ t) (ih h);

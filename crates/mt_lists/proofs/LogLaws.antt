@@ -1,25 +1,16 @@
 -- What stays alike where more IDs are noted.
-use Rattle.std.proofs.Common.{◌≡◌, ◌≢◌, ℕ, Bool, true, false, ◌||◌, eqb, eq-eqb, List, [], ◌∷◌, ◌++◌, refl, sym, ap, ◌∙◌}
-use Rattle.std.proofs.lemmas.Bool.{false≢true}
+use Rattle.std.proofs.Common.{◌≡◌, ◌≢◌, ℕ, false, ◌||◌, eqb, eq-eqb, List, [], ◌∷◌, ◌++◌, sym, ap, ◌∙◌}
+use Rattle.std.proofs.lemmas.Bool.{false≢true, or_parts}
 use Rattle.std.proofs.lemmas.List.Folds.{list_any-append}
 use Rattle.mt_skel.specs.Keyed.{among}
 use Rattle.mt_lists.specs.Log.{AreAlikeBut}
 
--- where neither of two is so
-pub first-false : (a b : Bool) → (a || b) ≡ false → a ≡ false
-first-false false b e = refl
-first-false true b e = e
-
-pub second-false : (a b : Bool) → (a || b) ≡ false → b ≡ false
-second-false false b e = e
-second-false true b e = absurd (false≢true (sym e))
-
 -- an ID that is not among two lists is in neither
 pub not-first : (xs ys : List ℕ) (i : ℕ) → among (xs ++ ys) i ≡ false → among xs i ≡ false
-not-first xs ys i e = first-false (among xs i) (among ys i) (sym (list_any-append (λ k. eqb k i) xs ys) ∙ e)
+not-first xs ys i e = (or_parts (among xs i) (among ys i) (sym (list_any-append (λ k. eqb k i) xs ys) ∙ e)).0
 
 pub not-second : (xs ys : List ℕ) (i : ℕ) → among (xs ++ ys) i ≡ false → among ys i ≡ false
-not-second xs ys i e = second-false (among xs i) (among ys i) (sym (list_any-append (λ k. eqb k i) xs ys) ∙ e)
+not-second xs ys i e = (or_parts (among xs i) (among ys i) (sym (list_any-append (λ k. eqb k i) xs ys) ∙ e)).1
 
 -- an ID that is not the one of a list is another
 pub not-only : (k i : ℕ) → among (k ∷ []) i ≡ false → i ≢ k
@@ -37,7 +28,3 @@ module _ {A : Type 0} where
   -- a change of what is looked up with no ID noted
   pub alike-as : (xs : List ℕ) (f g h : ℕ → A) → AreAlikeBut xs f g → ((i : ℕ) → g i ≡ h i) → AreAlikeBut xs f h
   alike-as xs f g h a s i e = a i e ∙ s i
-
-  -- nothing has changed yet
-  pub alike-new : (xs : List ℕ) (f : ℕ → A) → AreAlikeBut xs f f
-  alike-new xs f i e = refl

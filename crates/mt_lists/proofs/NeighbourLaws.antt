@@ -33,10 +33,6 @@ over-among k q (x ∷ xs) h m =
     let ih = over-among k q xs in
     grind (arith, nat_tests)
 
-pub below-over : (k j : ℕ) (xs : List ℕ) → k ≤ suc j → over j xs ≡ true → below k xs ≡ None
-below-over k j [] l h = refl
-below-over k j (x ∷ xs) l h = grind (arith, nat_tests)
-
 pub above-over : (k : ℕ) (xs : List ℕ) → over k xs ≡ true → above k xs ≡ first xs
 above-over k [] h = refl
 above-over k (x ∷ xs) h = grind (arith, nat_tests)

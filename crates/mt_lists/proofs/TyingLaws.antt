@@ -1,9 +1,10 @@
 -- What the writes of a call make of the slots and of the table of numbers when an ID comes.
-use Rattle.std.proofs.Common.{◌≡◌, ◌≢◌, ℕ, zero, suc, ◌+◌, ◌<◌, Bool, true, false, cond, ltb, eq-eqb, nat_eq, is_none, List, [], ◌∷◌, length, slice_get, slice_set, subst, Option, Some, None, refl, sym, ap, ◌∙◌, inl, inr, arith}
+use Rattle.std.proofs.Common.{◌≡◌, ◌≢◌, ℕ, zero, suc, ◌+◌, Bool, true, false, cond, ltb, eq-eqb, nat_eq, is_none, List, [], ◌∷◌, length, slice_get, slice_set, subst, Option, Some, None, refl, sym, ap, ◌∙◌, inl, inr, arith}
 use Rattle.std.specs.Option.{option_map}
 use Rattle.std.proofs.lemmas.Bool.{cases_eq, ne_eqb}
 use Rattle.std.proofs.lemmas.Bool.Decides.{nat_tests}
 use Rattle.std.proofs.lemmas.List.{get_or-set_same, get_or-set_other}
+use Rattle.std.proofs.lemmas.Option.{slice_get_within}
 use Rattle.indexmap.specs.IndexMap.{get}
 use Rattle.mt_skel.specs.Keyed.{row_at, put, among}
 use Rattle.mt_lists.specs.declared.slot_lists.ties.Tie.{Tie}
@@ -29,12 +30,7 @@ last-none id x (y ∷ ys) r n =
     let low = over-last x y ys in
     grind (arith, nat_tests)
 
--- a slot that is free has a place and no ID
-pub free-within : (ties : List (Option Tie)) (k : ℕ) → slice_get ties k ≡ Some None → k < length ties
-free-within [] k e = absurd (cc)
-free-within (x ∷ ties) zero e = omega arith
-free-within (x ∷ ties) (suc k) e = omega (arith, free-within ties k e)
-
+-- a slot that is free has no ID
 free-none : (ties : List (Option Tie)) (k : ℕ) → slice_get ties k ≡ Some None → tie_at ties k ≡ None
 free-none [] k e = refl
 free-none (x ∷ ties) zero e = let v : Some x ≡ Some None = e in let w : x ≡ None = cc in w
@@ -57,7 +53,7 @@ module _ (ties : List (Option Tie)) (tops : Index Top) (x : IsTied ties tops) (s
   rows-more = rows_b ∙ ap rows_in sets ∙ rows-put ties slot new_tie free absent
 
   set-here : tie_at set_t slot ≡ Some new_tie
-  set-here = ap (λ t. tie_at t slot) sets ∙ get_or-set_same ties slot (Some new_tie) None (free-within ties slot free)
+  set-here = ap (λ t. tie_at t slot) sets ∙ get_or-set_same ties slot (Some new_tie) None (slice_get_within ties slot None free)
 
   set-other : (k : ℕ) → k ≢ slot → tie_at set_t k ≡ tie_at ties k
   set-other k ne = ap (λ t. tie_at t k) sets ∙ get_or-set_other ties slot k (Some new_tie) None ne

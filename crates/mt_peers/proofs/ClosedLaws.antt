@@ -1,9 +1,8 @@
 -- A set of mounts that has all that receive from its members stays one, and mounts outside keep their states.
-use Rattle.std.proofs.Common.{◌≡◌, ◌⊎◌, ℕ, zero, suc, ◌<◌, Bool, true, false, cond, not, eqb, List, [], ◌∷◌, map, length, Option, Some, None, refl, sym, ap, ◌∙◌, subst, inl, inr, arith}
-use Rattle.std.specs.List.{list_any, filter, find}
+use Rattle.std.proofs.Common.{◌≡◌, ◌⊎◌, ℕ, ◌<◌, Bool, true, false, cond, not, eqb, List, [], ◌∷◌, map, length, Option, Some, None, refl, sym, ap, ◌∙◌, subst, inl, inr, arith}
+use Rattle.std.specs.List.{list_any, filter}
 use Rattle.std.specs.Option.{option_map}
 use Rattle.std.proofs.lemmas.Bool.Decides.{nat_tests}
-use Rattle.mt_skel.specs.Chain.{chain}
 use Rattle.mt_skel.specs.Keyed.{row_at, rises}
 use Rattle.mt_skel.proofs.KeyedLaws.{row_at-filter, row_at-map, row_at-key, passing}
 use Rattle.mt_skel.proofs.ElementLaws.{In, in_any, any_in, in_row, in_filtered, in_mapped}
@@ -18,6 +17,7 @@ use Rattle.mt_peers.proofs.MemberLaws.{master_of-from, state_at-filter, named}
 use Rattle.mt_peers.proofs.SettleLaws.{before, state_at-settle}
 use Rattle.mt_peers.proofs.MakingLaws.{old_master, change, number, origin, source, both, number-high, made-settled}
 use Rattle.mt_peers.proofs.AlikeLaws.{along, heir-along, changed-master}
+use Rattle.mt_peers.proofs.GoingLaws.{find-first}
 
 -- with one member of a group, the set has all its members and all its slaves
 pub record IsClosed (P : ℕ → Type 0) (es : List Peer) : Type 0 where
@@ -61,14 +61,6 @@ reached P es r a i j m g s t ei ej ms gt q far =
     λ k u ek gu p. draws f.0 f.1 f.2 f.3 (a.masters f.0 k f.1 u y f.2 ek f.4 gu p))
     (length es) m g (λ k u ek gu p. a.masters i k s u m ei ek ms gu p) (turned g (groups_up es m) far) j t ej gt q
 
--- a group comes to itself
-pub reaches-self : (es : List Peer) (g : ℕ) → reaches es g g ≡ true
-reaches-self es g = go (length es)
-  where
-    go : (n : ℕ) → list_any (λ k. eqb k g) (chain (master_of es) n g) ≡ true
-    go zero = grind (arith, nat_tests)
-    go (suc n) = grind (arith, nat_tests)
-
 -- a member of a group that lives
 pub living : (es : List Peer) (g : ℕ) → rises mount_of es ≡ true → has_member es g ≡ true → (e : Peer) × In e es × (state_at es e.mount ≡ Some e.state) × (e.state.group ≡ Some g)
 living es g r h =
@@ -76,17 +68,13 @@ living es g r h =
     (m.0, m.1, ap (option_map (λ (e : Peer). e.state)) (in_row mount_of es m.0 r m.1), named m.0.state.group g m.2)
 
 -- a master that still lives stays
-heir-first : (p : ℕ → Bool) (next : ℕ → Option ℕ) (n g : ℕ) → p g ≡ true → find p (chain next n g) ≡ Some g
-heir-first p next zero g h = rw h refl
-heir-first p next (suc n) g h = rw h refl
-
 pub settled-same : (old mid : List Peer) (i : ℕ) (s : State) → state_at mid i ≡ Some s → ((m : ℕ) → s.master ≡ Some m → has_member mid m ≡ true) → state_at (settle old mid) i ≡ Some s
 settled-same old mid i s e lives =
     state_at-settle old mid i ∙ ap (option_map (λ s. with_master s (heir old mid s.master))) e ∙ ap (λ m. Some (with_master s m)) (go s.master refl)
   where
     go : (o : Option ℕ) → s.master ≡ o → heir old mid o ≡ o
     go None is = refl
-    go (Some m) is = heir-first (has_member mid) (master_of old) (length old) m (lives m is)
+    go (Some m) is = find-first (has_member mid) (master_of old) (length old) m (lives m is)
 
 module _ (P : ℕ → Type 0) (p : Peering) (h : IsPeering p) (a : IsClosed P p.peers) where
   -- a group that was given out, and that has no member in the set unless the mount is in it

@@ -1,12 +1,12 @@
 -- Mounts that are changed one after the other, and no master settled.
-use Rattle.std.proofs.Common.{◌≡◌, ◌≢◌, ℕ, zero, suc, ◌+◌, ◌<◌, ◌≤◌, Bool, true, false, cond, ◌&&◌, ◌||◌, eqb, eqb-true, ltb, List, [], ◌∷◌, ◌++◌, map, drop, length, length-append, length-drop, get_or, get_or-drop, Option, Some, None, refl, sym, ap, ap₂, ◌∙◌, subst, inl, inr, arith}
-use Rattle.std.specs.Prelude.{nat_eq, nat_lt}
+use Rattle.std.proofs.Common.{◌≡◌, ℕ, suc, ◌+◌, ◌<◌, ◌≤◌, Bool, true, false, cond, ◌&&◌, ◌||◌, eqb, eqb-true, ltb, List, [], ◌∷◌, ◌++◌, map, drop, length, length-append, length-drop, get_or, get_or-drop, Option, Some, None, refl, sym, ap, ap₂, ◌∙◌, subst, inl, inr, arith}
+use Rattle.std.specs.Prelude.{nat_eq}
 use Rattle.std.specs.List.{filter, list_any, list_all, position_or_len}
 use Rattle.std.specs.List.Sorted.{IsNonDecreasing}
-use Rattle.std.specs.Option.{option_map, option_or, is_none, is_some}
+use Rattle.std.specs.Option.{option_map, option_or, is_none}
 use Rattle.std.proofs.lemmas.Bool.Decides.{nat_tests}
 use Rattle.std.proofs.lemmas.List.{drop_more, drop_all}
-use Rattle.mt_skel.specs.Keyed.{row_at, rises, numbered, among}
+use Rattle.mt_skel.specs.Keyed.{row_at, rises, among}
 use Rattle.mt_skel.proofs.KeyedLaws.{rises-map}
 use Rattle.mt_skel.proofs.ElementLaws.{In, in_row}
 use Rattle.mt_peers.specs.declared.state.State.{State}
@@ -18,6 +18,7 @@ use Rattle.mt_peers.specs.Few.{unsettled}
 use Rattle.mt_peers.proofs.MemberLaws.{some-is}
 use Rattle.mt_peers.proofs.ChangeLaws.{same_change}
 use Rattle.mt_peers.proofs.MakingLaws.{among_groupless}
+use Rattle.mt_peers.proofs.GoingLaws.{map-same}
 
 -- two changes that agree at each mount of the list
 pub map-alike : (f g : Peer → Peer) (es : List Peer) → ((e : Peer) → In e es → f e ≡ g e) → map f es ≡ map g es
@@ -27,10 +28,6 @@ map-alike f g (x ∷ es) same = ap₂ (λ (y : Peer) (t : List Peer). y ∷ t) (
 map-twice : (f g : Peer → Peer) (es : List Peer) → map f (map g es) ≡ map (λ e. f (g e)) es
 map-twice f g [] = refl
 map-twice f g (x ∷ es) = ap (λ t. f (g x) ∷ t) (map-twice f g es)
-
-map-none : (f : Peer → Peer) (es : List Peer) → ((e : Peer) → In e es → f e ≡ e) → map f es ≡ es
-map-none f [] same = refl
-map-none f (x ∷ es) same = ap₂ (λ (y : Peer) (t : List Peer). y ∷ t) (same x (inl refl)) (map-none f es (λ e at. same e (inr at)))
 
 pub state-in : (es : List Peer) (e : Peer) → rises mount_of es ≡ true → In e es → state_at es e.mount ≡ Some e.state
 state-in es e up at = ap (option_map (λ (e : Peer). e.state)) (in_row mount_of es e up at)
@@ -122,7 +119,7 @@ peering es n = record { peers = es; next = n }
 module _ (k : Kind) (x : ℕ) (p : Peering) (up : rises mount_of p.peers ≡ true) where
   pub made-absent : state_at p.peers x ≡ None → p ≡ unsettled k (nat_eq x) p
   made-absent none =
-      ap (λ (es : List Peer). peering es p.next) (sym (map-none (changed_peer k (nat_eq x) p) p.peers same))
+      ap (λ (es : List Peer). peering es p.next) (sym (map-same (changed_peer k (nat_eq x) p) p.peers same))
       ∙ ap (peering (map (changed_peer k (nat_eq x) p) p.peers)) (count (is_shared k) ∙ ap (λ (xs : List ℕ). cond (is_shared k) (p.next + length xs) p.next) (sym (count-none x p.peers none)))
     where
       count : (b : Bool) → p.next ≡ cond b (p.next + 0) p.next
@@ -161,7 +158,7 @@ module _ (k : Kind) (x : ℕ) (p : Peering) (up : rises mount_of p.peers ≡ tru
 
 -- a mount gets the state that it has
 pub given-same : (x : ℕ) (s : State) (es : List Peer) → rises mount_of es ≡ true → state_at es x ≡ Some s → with_state x s es ≡ es
-given-same x s es up there = map-none (λ (e : Peer). record e { state = cond (eqb x e.mount) s e.state }) es same
+given-same x s es up there = map-same (λ (e : Peer). record e { state = cond (eqb x e.mount) s e.state }) es same
   where
     same : (e : Peer) → In e es → ◌≡◌ {A = Peer} (record { mount = e.mount; state = cond (eqb x e.mount) s e.state }) e
     same e at = ap (λ (t : State). record { mount = e.mount; state = t }) (go (eqb x e.mount) refl)
@@ -299,7 +296,7 @@ each-end k ids i p l = none ∙ ap (λ (t : List ℕ). unsettled k (among t) p) 
 
     none : p ≡ unsettled k (among []) p
     none =
-        ap (λ (es : List Peer). peering es p.next) (sym (map-none (changed_peer k (among []) p) p.peers (λ e at. refl)))
+        ap (λ (es : List Peer). peering es p.next) (sym (map-same (changed_peer k (among []) p) p.peers (λ e at. refl)))
         ∙ ap (peering (map (changed_peer k (among []) p) p.peers)) (count (is_shared k) ∙ ap (λ (xs : List ℕ). cond (is_shared k) (p.next + length xs) p.next) (sym (nobody p.peers)))
 
 pub each-rises : (k : Kind) (chosen : ℕ → Bool) (p q : Peering) → q ≡ unsettled k chosen p → rises mount_of p.peers ≡ true → rises mount_of q.peers ≡ true

@@ -76,7 +76,7 @@ first-member g (x ∷ xs) e = go (in_group g x) e (first-member g xs)
     go true e ih = (x.mount, members xs g, refl)
     go false e ih = ih e
 
-all-among : (t : ℕ → Bool) (xs : List ℕ) (j : ℕ) → list_all t xs ≡ true → among xs j ≡ true → t j ≡ true
+pub all-among : (t : ℕ → Bool) (xs : List ℕ) (j : ℕ) → list_all t xs ≡ true → among xs j ≡ true → t j ≡ true
 all-among t [] j all at = absurd (cc)
 all-among t (x ∷ xs) j all at = go (eqb x j) refl (t x) refl all at (all-among t xs j)
   where
@@ -85,7 +85,7 @@ all-among t (x ∷ xs) j all at = go (eqb x j) refl (t x) refl all at (all-among
     go a same false is all at ih = absurd (cc)
     go false same true is all at ih = ih all at
 
-find-first : (t : ℕ → Bool) (next : ℕ → Option ℕ) (n g : ℕ) → t g ≡ true → find t (chain next n g) ≡ Some g
+pub find-first : (t : ℕ → Bool) (next : ℕ → Option ℕ) (n g : ℕ) → t g ≡ true → find t (chain next n g) ≡ Some g
 find-first t next zero g e = ap (λ b. cond b (Some g) None) e
 find-first t next (suc n) g e = ap (λ b. cond b (Some g) (find t (option_map_or (λ y. chain next n y) (next g) []))) e
 

@@ -174,10 +174,6 @@ put-middle x y (z ∷ xs) ys same up =
 mixed-here : (i : ℕ) (es : List Entry) (d : Entry) → i < length es → mixed i es ≡ now_peers (take i es) ++ was_peer (get_or es i d) ∷ was_peers (drop (i + 1) es)
 mixed-here i es d l = ap (λ t. now_peers (take i es) ++ was_peers t) (drop_more es i d l)
 
-now-append : (xs ys : List Entry) → now_peers (xs ++ ys) ≡ now_peers xs ++ now_peers ys
-now-append [] ys = refl
-now-append (x ∷ xs) ys = ap (λ t. now_peer x ∷ t) (now-append xs ys)
-
 mixed-next : (es : List Entry) (i : ℕ) (d : Entry) → i < length es → now_peers (take i es) ++ now_peer (get_or es i d) ∷ was_peers (drop (i + 1) es) ≡ mixed (i + 1) es
 mixed-next es i d l =
     sym (append_assoc (now_peers (take i es)) (now_peer (get_or es i d) ∷ []) (was_peers (drop (i + 1) es)))

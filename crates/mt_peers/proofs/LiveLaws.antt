@@ -1,11 +1,13 @@
 -- Masters that live, also once a mount has joined or got another state, or many have.
-use Rattle.std.proofs.Common.{◌≡◌, ℕ, Bool, true, false, cond, not, ◌&&◌, ◌||◌, eqb, eqb-true, ltb, List, [], ◌∷◌, map, Option, Some, None, refl, sym, ap, ◌∙◌, subst, inl, inr, arith}
+use Rattle.std.proofs.Common.{◌≡◌, ℕ, Bool, true, false, cond, not, ◌&&◌, ◌||◌, eqb, eqb-true, ltb, List, [], ◌∷◌, map, Option, Some, None, refl, sym, ap, ◌∙◌, inl, inr, arith}
 use Rattle.std.specs.Prelude.{nat_eq}
 use Rattle.std.specs.Option.{option_map, option_map_or, option_or, option_eq, is_none}
 use Rattle.std.proofs.lemmas.Bool.Decides.{nat_tests}
+use Rattle.std.proofs.lemmas.Bool.{or_right}
 use Rattle.mt_skel.specs.Keyed.{row_at, put, rises}
 use Rattle.mt_skel.proofs.KeyedLaws.{row_at-put, row_at-map}
 use Rattle.mt_skel.proofs.ElementLaws.{In, row_in, in_row}
+use Rattle.mt_skel.proofs.MiddleLaws.{and_first, and_second}
 use Rattle.mt_lists.proofs.RowLaws.{same_of}
 use Rattle.mt_peers.specs.declared.state.State.{State}
 use Rattle.mt_peers.specs.declared.state.Kind.{Kind}
@@ -17,10 +19,6 @@ use Rattle.mt_peers.specs.Listed.{MastersLive}
 use Rattle.mt_peers.specs.Few.{gains}
 use Rattle.mt_peers.proofs.MemberLaws.{some-is}
 use Rattle.mt_peers.proofs.SettleLaws.{settle-live}
-
-later : (b c : Bool) → c ≡ true → (b || c) ≡ true
-later true c h = refl
-later false c h = h
 
 -- a mount joins
 has-put : (g : ℕ) (x : Peer) (es : List Peer) → state_at es x.mount ≡ None → has_member es g ≡ true → has_member (put mount_of x es) g ≡ true
@@ -34,7 +32,7 @@ has-put g x (y ∷ ys) none h = go (ltb x.mount y.mount) (eqb x.mount y.mount) n
     go : (less same : Bool) → option_map (λ (e : Peer). e.state) (cond same (Some y) (row_at mount_of x.mount ys)) ≡ None → (in_group g y || has_member ys g) ≡ true
         → (state_at ys x.mount ≡ None → has_member ys g ≡ true → has_member (put mount_of x ys) g ≡ true)
         → has_member (cond less (x ∷ y ∷ ys) (cond same (x ∷ ys) (y ∷ put mount_of x ys))) g ≡ true
-    go true same none h ih = later (in_group g x) (in_group g y || has_member ys g) h
+    go true same none h ih = or_right (in_group g x) (in_group g y || has_member ys g) h
     go false true none h ih = absurd (cc)
     go false false none h ih = by (in_group g y) h (ih none)
 
@@ -48,19 +46,11 @@ live-put x es none h own = record {
     go i s g is false f = has-put g x es none (h.lives i s g f is)
 
 -- a state that keeps its master, and its group if it has one
-pub both-first : (a b : Bool) → (a && b) ≡ true → a ≡ true
-both-first true b h = refl
-both-first false b h = h
-
-pub both-second : (a b : Bool) → (a && b) ≡ true → b ≡ true
-both-second true b h = h
-both-second false b h = absurd (cc)
-
 pub gained-master : (s t : State) → gains s t ≡ true → s.master ≡ t.master
-gained-master s t h = same_of s.master t.master (sym (ap not (both-first _ _ h)))
+gained-master s t h = same_of s.master t.master (sym (ap not (and_first _ _ h)))
 
 gained-group : (s t : State) (g : ℕ) → gains s t ≡ true → names s.group g ≡ true → names t.group g ≡ true
-gained-group s t g h is = go s.group is (both-second (option_eq nat_eq s.master t.master) _ h)
+gained-group s t g h is = go s.group is (and_second (option_eq nat_eq s.master t.master) _ h)
   where
     go : (o : Option ℕ) → names o g ≡ true → (is_none o || option_eq nat_eq o t.group) ≡ true → names t.group g ≡ true
     go None is h = absurd (cc)
@@ -74,7 +64,7 @@ same-option None = refl
 same-option (Some n) = same-number n
 
 pub gains-self : (s : State) → gains s s ≡ true
-gains-self s = ap (λ b. b && (is_none s.group || option_eq nat_eq s.group s.group)) (same-option s.master) ∙ later (is_none s.group) (option_eq nat_eq s.group s.group) (same-option s.group)
+gains-self s = ap (λ b. b && (is_none s.group || option_eq nat_eq s.group s.group)) (same-option s.master) ∙ or_right (is_none s.group) (option_eq nat_eq s.group s.group) (same-option s.group)
 
 pub gains-shared : (k : Kind) (n : ℕ) (s : State) → is_shared k ≡ true → gains s (changed k n s) ≡ true
 gains-shared Shared n s sh = ap (λ b. b && (is_none s.group || option_eq nat_eq s.group (option_or s.group (Some n)))) (same-option s.master) ∙ go s.group
@@ -94,7 +84,7 @@ module _ (f : Peer → Peer) (same : (e : Peer) → (f e).mount ≡ e.mount) whe
     where
       go : (b : Bool) → in_group g x ≡ b → (b || has_member xs g) ≡ true → (has_member xs g ≡ true → has_member (map f xs) g ≡ true) → (in_group g (f x) || has_member (map f xs) g) ≡ true
       go true is h ih = ap (λ b. b || has_member (map f xs) g) (gained-group x.state (f x).state g (keep x (inl refl)) is)
-      go false is h ih = later (in_group g (f x)) (has_member (map f xs) g) (ih h)
+      go false is h ih = or_right (in_group g (f x)) (has_member (map f xs) g) (ih h)
 
   pub live-map : (es : List Peer) → ((e : Peer) → In e es → gains e.state (f e).state ≡ true) → MastersLive es → MastersLive (map f es)
   live-map es keep h = record { lives = λ i t g e is. go i t g is (row_at mount_of i es) refl (sym (ap (option_map (λ (e : Peer). e.state)) (row_at-map mount_of f same i es)) ∙ e) }

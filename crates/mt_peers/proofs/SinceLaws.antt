@@ -1,15 +1,15 @@
 -- The mounts that a change does not note have the state that they had.
-use Rattle.std.proofs.Common.{◌≡◌, ◌≢◌, ℕ, Bool, true, false, cond, not, ◌||◌, eqb, List, [], ◌∷◌, ◌++◌, map, Option, Some, refl, sym, ap, ◌∙◌, subst, arith}
+use Rattle.std.proofs.Common.{◌≡◌, ◌≢◌, ℕ, Bool, true, false, cond, not, ◌||◌, eqb, List, [], ◌∷◌, ◌++◌, map, Some, refl, sym, ap, ◌∙◌, subst, arith}
 use Rattle.std.specs.List.{filter}
 use Rattle.std.specs.Option.{option_map}
-use Rattle.std.proofs.lemmas.Bool.{false≢true, ne_eqb}
+use Rattle.std.proofs.lemmas.Bool.{false≢true, ne_eqb, or_parts}
 use Rattle.std.proofs.lemmas.Bool.Decides.{nat_tests}
 use Rattle.mt_skel.specs.Keyed.{row_at, put, among, without}
 use Rattle.mt_skel.proofs.KeyedLaws.{row_at-put}
 use Rattle.mt_lists.specs.Lists.{ListRow}
 use Rattle.mt_lists.specs.Log.{AreAlikeBut}
 use Rattle.mt_lists.proofs.RowLaws.{same_of}
-use Rattle.mt_lists.proofs.LogLaws.{first-false, second-false, not-only, alike-as, alike-noted}
+use Rattle.mt_lists.proofs.LogLaws.{not-only, alike-as, alike-noted}
 use Rattle.mt_peers.specs.declared.state.State.{State}
 use Rattle.mt_peers.specs.declared.entries.Entry.{Entry}
 use Rattle.mt_peers.specs.Peers.{Peer, mount_of, state_at, with_state}
@@ -25,15 +25,11 @@ same_mark false false e = refl
 
 pub same_state : (e : Entry) → is_changed e ≡ false → e.was ≡ e.state
 same_state e h =
-    let groups = first-false _ _ h in
-    let g = same_of e.state.group e.was.group (sym (first-false _ _ groups)) in
-    let m = same_of e.state.master e.was.master (sym (second-false _ _ groups)) in
-    let u = same_mark e.state.unbindable e.was.unbindable (second-false _ _ h) in
+    let groups = (or_parts _ _ h).0 in
+    let g = same_of e.state.group e.was.group (sym (or_parts _ _ groups).0) in
+    let m = same_of e.state.master e.was.master (sym (or_parts _ _ groups).1) in
+    let u = same_mark e.state.unbindable e.was.unbindable (or_parts _ _ h).1 in
     λ i. record { group = sym g i; master = sym m i; unbindable = sym u i }
-
--- the state of a mount in a list that begins with another
-abbrev first_or : Bool → State → Option Peer → Option State
-first_or b s o = option_map (λ (e : Peer). e.state) (cond b (Some (record { mount = 0; state = s })) o)
 
 module _ (leaving : ℕ → Bool) (i : ℕ) where
   -- the mounts that stay
@@ -46,21 +42,21 @@ module _ (leaving : ℕ → Bool) (i : ℕ) where
   step : (e : Entry) (es : List Entry) (c l : Bool) → (c ≡ false → e.was ≡ e.state) → (among (noted_of leaving es) i ≡ false → state_at (was_peers es) i ≡ state_at (stays es) i)
       → among (map (λ (x : Entry). x.mount) (kept_of c l e es)) i ≡ false
       → state_at (was_peer e ∷ was_peers es) i ≡ state_at (cond (not l) (now_peer e ∷ stays es) (stays es)) i
-  step e es true true same ih h = off e es (first-false _ _ h) ∙ ih (second-false _ _ h)
+  step e es true true same ih h = off e es (or_parts _ _ h).0 ∙ ih (or_parts _ _ h).1
     where
       off : (e : Entry) (es : List Entry) → eqb e.mount i ≡ false → state_at (was_peer e ∷ was_peers es) i ≡ state_at (was_peers es) i
       off e es n = let m : eqb i e.mount ≡ false = grind (arith, nat_tests) in ap (λ b. option_map (λ (p : Peer). p.state) (cond b (Some (was_peer e)) (row_at mount_of i (was_peers es)))) m
   step e es true false same ih h =
-      let n = first-false (eqb e.mount i) _ h in
+      let n = (or_parts (eqb e.mount i) _ h).0 in
       let m : eqb i e.mount ≡ false = grind (arith, nat_tests) in
       ap (λ b. option_map (λ (p : Peer). p.state) (cond b (Some (was_peer e)) (row_at mount_of i (was_peers es)))) m
-      ∙ ih (second-false (eqb e.mount i) _ h)
+      ∙ ih (or_parts (eqb e.mount i) _ h).1
       ∙ sym (ap (λ b. option_map (λ (p : Peer). p.state) (cond b (Some (now_peer e)) (row_at mount_of i (stays es)))) m)
   step e es false true same ih h =
-      let n = first-false (eqb e.mount i) _ h in
+      let n = (or_parts (eqb e.mount i) _ h).0 in
       let m : eqb i e.mount ≡ false = grind (arith, nat_tests) in
       ap (λ b. option_map (λ (p : Peer). p.state) (cond b (Some (was_peer e)) (row_at mount_of i (was_peers es)))) m
-      ∙ ih (second-false (eqb e.mount i) _ h)
+      ∙ ih (or_parts (eqb e.mount i) _ h).1
   step e es false false same ih h = go (eqb i e.mount)
     where
       go : (b : Bool) → option_map (λ (p : Peer). p.state) (cond b (Some (was_peer e)) (row_at mount_of i (was_peers es))) ≡ option_map (λ (p : Peer). p.state) (cond b (Some (now_peer e)) (row_at mount_of i (stays es)))

@@ -1,5 +1,5 @@
 -- Whether any mount has a master.
-use Rattle.std.proofs.Common.{◌≡◌, ℕ, Bool, true, false, cond, ◌||◌, ltb, List, [], ◌∷◌, map, length, Option, Some, None, refl, arith, true≢false}
+use Rattle.std.proofs.Common.{◌≡◌, ℕ, false, cond, ◌||◌, ltb, List, [], ◌∷◌, map, length, Option, Some, None, refl, arith, true≢false}
 use Rattle.std.specs.Prelude.{is_some}
 use Rattle.std.proofs.lemmas.Bool.Decides.{nat_tests}
 use Rattle.std.specs.List.{filter, list_any}

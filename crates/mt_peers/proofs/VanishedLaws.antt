@@ -1,7 +1,7 @@
 -- What is known above groups that lost their last members, as searches come by.
-use Rattle.std.proofs.Common.{◌≡◌, ℕ, zero, suc, ◌+◌, ◌<◌, ◌≤◌, Bool, true, false, cond, nat_eq, eqb, List, [], ◌∷◌, drop, length, get_or, Option, Some, None, refl, sym, ap, ◌∙◌, arith, ◌⊎◌, inl, inr}
+use Rattle.std.proofs.Common.{◌≡◌, ℕ, zero, suc, ◌+◌, ◌<◌, ◌≤◌, Bool, true, false, cond, nat_eq, List, [], ◌∷◌, drop, length, get_or, Option, Some, None, refl, sym, ap, ◌∙◌, arith, ◌⊎◌, inl, inr}
 use Rattle.std.specs.List.{find}
-use Rattle.std.specs.Option.{option_map, option_and_then, option_or}
+use Rattle.std.specs.Option.{option_map, option_or}
 use Rattle.std.proofs.lemmas.Bool.Decides.{nat_tests}
 use Rattle.std.proofs.lemmas.List.{drop_more}
 use Rattle.indexmap.specs.IndexMap.{get}
@@ -13,7 +13,6 @@ use Rattle.mt_peers.specs.Masters.{master_of}
 use Rattle.mt_peers.specs.Entries.{now_peers, was_peers}
 use Rattle.mt_peers.specs.Ways.{IsAbove}
 use Rattle.mt_peers.specs.Vanished.{above_was, above_first, IsVanished, AreNear}
-use Rattle.mt_peers.proofs.WayLaws.{above-once}
 
 -- what is known above a group is of one that does not live
 pub known-step : (b : Bool) (o : Option Above) (x : Above) → cond b None o ≡ Some x → (b ≡ false) × (o ≡ Some x)
@@ -22,25 +21,10 @@ known-step false o x e = (refl, e)
 
 -- Groups are entered
 
-or_none : (o : Option Above) → o ≡ option_or o None
-or_none None = refl
-or_none (Some x) = refl
-
 or_joined : (o rest : Option Above) (b : Bool) (x : Above) → option_or (option_or o (cond b (Some x) None)) rest ≡ option_or o (cond b (Some x) rest)
 or_joined (Some y) rest b x = refl
 or_joined None rest true x = refl
 or_joined None rest false x = refl
-
--- the mount was not in this group
-pub entered-not : (o : Option Above) (g : ℕ) (e : Entry) → names e.was.group g ≡ false → o ≡ option_or o (above_was g e)
-entered-not o g e off = or_none o ∙ ap (λ b. option_or o (cond b (Some (record { up = e.was.master; steps = 1 })) None)) (sym off)
-
-pub named-apart : (es : List Peer) (g h : ℕ) → has_member es g ≡ false → has_member es h ≡ true → names (Some h) g ≡ false
-named-apart es g h off on = go (eqb h g) refl
-  where
-    go : (b : Bool) → eqb h g ≡ b → b ≡ false
-    go false e = refl
-    go true e = absurd (let s : h ≡ g = grind (arith, nat_tests) in let f : true ≡ false = sym on ∙ ap (has_member es) s ∙ off in cc)
 
 first-more : (g : ℕ) (e : Entry) (es : List Entry) → above_first g (e ∷ es) ≡ cond (names e.was.group g) (Some (record { up = e.was.master; steps = 1 })) (above_first g es)
 first-more g e es = go (names e.was.group g)
@@ -48,12 +32,6 @@ first-more g e es = go (names e.was.group g)
     go : (b : Bool) → option_map (λ (p : Peer). record { up = p.state.master; steps = 1 }) (cond b (Some (record { mount = e.mount; state = e.was })) (find (in_group g) (was_peers es))) ≡ cond b (Some (record { up = e.was.master; steps = 1 })) (above_first g es)
     go true = refl
     go false = refl
-
-drop_end : (es : List Entry) (i : ℕ) → length es ≤ i → drop i es ≡ []
-drop_end [] zero l = refl
-drop_end [] (suc i) l = refl
-drop_end (e ∷ es) zero l = absurd (omega arith)
-drop_end (e ∷ es) (suc i) l = drop_end es i (omega arith)
 
 -- a group of a mount has a member
 pub has-at : (es : List Entry) (i : ℕ) (d : Entry) (g : ℕ) → i < length es → has_member (now_peers es) g ≡ false → names (get_or es i d).state.group g ≡ false
@@ -70,27 +48,6 @@ enter-step es i g d o n l before adds =
     ∙ or_joined o (above_first g rest) (names e.was.group g) (record { up = e.was.master; steps = 1 })
     ∙ ap (option_or o) (sym (first-more g e rest))
     ∙ ap (λ r. option_or o (above_first g r)) (sym (drop_more es i d l)) ∙ before
-
-pub enter-end : (es : List Entry) (i g : ℕ) (o : Option Above) → length es ≤ i → option_or o (above_first g (drop i es)) ≡ above_first g es → o ≡ above_first g es
-enter-end es i g o l before = or_none o ∙ ap (λ r. option_or o (above_first g r)) (sym (drop_end es i l)) ∙ before
-
--- and so what is known is so
-module _ (es : List Entry) (vanished : Index Above) (told : (g : ℕ) → has_member (now_peers es) g ≡ false → get nat_eq vanished g ≡ above_first g es) where
-  first-known : (g : ℕ) (o : Option Peer) (x : Above) → option_map (λ (e : Peer). record { up = e.state.master; steps = 1 }) o ≡ Some x → (option_and_then (λ (e : Peer). e.state.master) o ≡ x.up) × (x.steps ≡ 1)
-  first-known g None x e = absurd (cc)
-  first-known g (Some p) x e = let v : ◌≡◌ {A = Above} (record { up = p.state.master; steps = 1 }) x = cc in (ap (λ (a : Above). a.up) v, sym (ap (λ (a : Above). a.steps) v))
-
-  first-none : (o : Option Peer) → ◌≡◌ {A = Option Above} (option_map (λ (e : Peer). record { up = e.state.master; steps = 1 }) o) None → option_and_then (λ (e : Peer). e.state.master) o ≡ None
-  first-none None e = refl
-  first-none (Some p) e = absurd (cc)
-
-  pub vanished-all : IsVanished (was_peers es) (now_peers es) vanished
-  vanished-all = record {
-    known = λ g x off e.
-        let k = first-known g (find (in_group g) (was_peers es)) x (sym (told g off) ∙ e) in
-        rw (← k.0, k.1) (above-once (has_member (now_peers es)) (master_of (was_peers es)) g off);
-    ended = λ g off e. first-none (find (in_group g) (was_peers es)) (sym (told g off) ∙ e);
-  }
 
 -- What was found is written
 

@@ -18,12 +18,6 @@ steps-rest x s r j l =
     ap (λ n. cond (ltb (j + s) r) None (x n)) e ∙ ap (λ b. cond b None (x (j - (r - s)))) b
 
 module _ (p : ℕ → Bool) (next : ℕ → Option ℕ) where
-  pub above-self : (m : Option ℕ) → IsAbove p next m m 0
-  above-self m k =
-      let f : k - 0 ≡ k = omega arith in
-      let b : nat_lt k 0 ≡ false = grind (arith, nat_tests) in
-      ap (λ n. first_within p next n m) (sym f) ∙ ap (λ b. cond b None (first_within p next (k - 0) m)) (sym b)
-
   pub above-join : (m u v : Option ℕ) (s t : ℕ) → IsAbove p next m u s → IsAbove p next u v t → IsAbove p next m v (s + t)
   above-join m u v s t a b k = a k ∙ ap (λ o. cond (ltb k s) None o) (b (k - s)) ∙ steps-join (λ n. first_within p next n v) s t k
 
@@ -71,12 +65,6 @@ module _ (p : ℕ → Bool) (next : ℕ → Option ℕ) where
       go : (b : Bool) → ◌≡◌ {A = Option ℕ} (cond b None None) None
       go true = refl
       go false = refl
-
-  -- the first that passes, where a search ended
-  pub first-far : (n g s : ℕ) (u : Option ℕ) → IsAbove p next (Some g) u s → n < s → None ≡ find p (chain next n g)
-  first-far n g s u a l =
-      let b : nat_lt n s ≡ true = grind (arith, nat_tests) in
-      sym (a n ∙ ap (λ b. cond b None (first_within p next (n - s) u)) b)
 
   pub first-near : (n g s : ℕ) (u : Option ℕ) → IsAbove p next (Some g) u s → s ≤ n → ((h : ℕ) → u ≡ Some h → p h ≡ false → next h ≡ None) → if_passes p u ≡ find p (chain next n g)
   first-near n g s u a l ended =

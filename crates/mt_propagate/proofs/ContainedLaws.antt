@@ -14,26 +14,24 @@ use Rattle.mt_peers.specs.Peers.{Peering, mount_of, state_at}
 use Rattle.mt_peers.specs.Loss.{left}
 use Rattle.mt_peers.specs.Making.{made}
 use Rattle.mt_peers.proofs.AlikeLaws.{along}
-use Rattle.mt_peers.proofs.ClosedLaws.{IsClosed, reached, reaches-self, same-IsClosed, left-IsClosed, made-IsClosed, left-outside, made-outside}
-use Rattle.mt_propagate.specs.World.{WorldView, state_of, group_of, space_of, private}
+use Rattle.mt_peers.proofs.ClosedLaws.{IsClosed, reached, same-IsClosed, left-IsClosed, made-IsClosed, left-outside, made-outside}
+use Rattle.mt_peers.proofs.ReachLaws.{reaches-self}
+use Rattle.mt_propagate.specs.World.{WorldView, state_of, space_of, private}
 use Rattle.mt_propagate.specs.WellFormed.{IsWellFormed}
 use Rattle.mt_propagate.specs.Contained.{IsContained}
 use Rattle.mt_propagate.proofs.CopyRowLaws.{space_is}
 use Rattle.mt_propagate.specs.Named.{place_or_nowhere}
 use Rattle.mt_propagate.proofs.TreeLaws.{parent-from}
 use Rattle.mt_propagate.proofs.WalkLaws.{walked}
-use Rattle.mt_propagate.proofs.ShownLaws.{grouped-state, slave-state, mount-state}
-
-pub group-is : (w : WorldView) (i g : ℕ) (s : State) → state_at w.peering.peers i ≡ Some s → s.group ≡ Some g → group_of w i ≡ Some g
-group-is w i g s e is = ap (λ o. (unwrap_or o private).group) e ∙ is
+use Rattle.mt_propagate.proofs.ShownLaws.{grouped-state, slave-state, mount-state, state-group}
 
 pub master-is : (w : WorldView) (i g : ℕ) (s : State) → state_at w.peering.peers i ≡ Some s → s.master ≡ Some g → (state_of w i).master ≡ Some g
 master-is w i g s e is = ap (λ o. (unwrap_or o private).master) e ∙ is
 
 pub closed : (n : ℕ) (w : WorldView) → IsContained n w → IsClosed (λ i. space_of w i ≡ n) w.peering.peers
 closed n w c = record {
-  groups = λ i j s t g es et gs gt q. c.groups j i g (group-is w j g t et gt) (group-is w i g s es gs) q;
-  masters = λ i j s t g es et ms gt q. c.chains i j g g (master-is w i g s es ms) (group-is w j g t et gt) q (reaches-self w.peering.peers g);
+  groups = λ i j s t g es et gs gt q. c.groups j i g (state-group w j g t et gt) (state-group w i g s es gs) q;
+  masters = λ i j s t g es et ms gt q. c.chains i j g g (master-is w i g s es ms) (state-group w j g t et gt) q (reaches-self w.peering.peers g);
 }
 
 pub contained : (n : ℕ) (w : WorldView) → rises mount_of w.peering.peers ≡ true → IsClosed (λ i. space_of w i ≡ n) w.peering.peers → IsContained n w

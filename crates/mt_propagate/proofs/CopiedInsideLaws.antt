@@ -17,23 +17,23 @@ use Rattle.mt_peers.specs.declared.state.State.{State}
 use Rattle.mt_peers.specs.Peers.{Peer, mount_of, state_at}
 use Rattle.mt_peers.specs.Masters.{reaches, groups_up}
 use Rattle.mt_peers.proofs.MemberLaws.{named, some-is}
-use Rattle.mt_peers.proofs.ClosedLaws.{reaches-self}
+use Rattle.mt_peers.proofs.ReachLaws.{reaches-self}
 use Rattle.mt_propagate.specs.World.{WorldView, state_of, group_of, space_of, root_dir, private}
 use Rattle.mt_propagate.specs.WellFormed.{IsWellFormed}
 use Rattle.mt_propagate.specs.Receivers.{gets_from, propagates_to, hits}
 use Rattle.mt_propagate.specs.Copies.{Source, MountCopy, targets, all_copies, new_copies, copy_id}
 use Rattle.mt_propagate.specs.Groups.{GroupKey, key_of, home, key_group, is_new_key, master_key, copy_state}
-use Rattle.mt_propagate.specs.Places.{copy_of, new_mounts, relocated, made_way, stack_end}
+use Rattle.mt_propagate.specs.Places.{copy_of, new_mounts, relocated, stack_end}
 use Rattle.mt_propagate.specs.Copied.{copied, regrouped, is_moved}
 use Rattle.mt_propagate.specs.Sound.{IsSource, IsDestination}
 use Rattle.mt_propagate.specs.Contained.{IsContained, IsSameOutside, IsLocal}
 use Rattle.mt_propagate.proofs.ContainLaws.{hit_contained}
-use Rattle.mt_propagate.proofs.ContainedLaws.{group-is, master-is, contained}
-use Rattle.mt_propagate.proofs.ListedLaws.{relocated-id}
+use Rattle.mt_propagate.proofs.ContainedLaws.{master-is, contained}
+use Rattle.mt_propagate.proofs.ListedLaws.{relocated-id, regrouped-mount, relocated-space}
 use Rattle.mt_propagate.proofs.WalkLaws.{stands_at}
 use Rattle.mt_propagate.proofs.JoinLaws.{state_row}
 use Rattle.mt_propagate.proofs.RowLaws.{row-mapped, row-first, all-each, found-each, part-mapped, none-picked}
-use Rattle.mt_propagate.proofs.ShownLaws.{mount-state}
+use Rattle.mt_propagate.proofs.ShownLaws.{mount-state, state-group}
 use Rattle.mt_propagate.proofs.KeyLaws.{group_known, master_known, old_low, key_at, copy_in, in_copies, state-unshared, state-shared, at_home, nearest, above_from, master_by_cases, key_in, new_number, old_key}
 use Rattle.mt_propagate.proofs.CopyRowLaws.{state_mount, state_at_mount, space_is}
 use Rattle.mt_propagate.proofs.MovedLaws.{source_kept}
@@ -60,19 +60,10 @@ module _ (w : WorldView) (h : IsWellFormed w) (src : Source) (dest : Place) (s :
   unfolding copied
   peers_rise = (source_kept w h src dest s d).peering.rising
 
-  -- a mount that was there stays in its namespace
-  relocated-space : (m : Mount) → (relocated w src dest m).space ≡ m.space
-  relocated-space m = go (src.moved && (m.id == src.top.id)) (made_way w src dest m)
-    where
-      go : (b : Bool) (o : Option ℕ) → (cond b (record m { place = Some dest }) (option_map_or (λ t. record m { place = Some (stack_end w src dest t) }) o m)).space ≡ m.space
-      go true o = refl
-      go false None = refl
-      go false (Some t) = refl
-
   old-space : (i : ℕ) (q : Mount) → mount_at w.forest i ≡ Some q → space i ≡ space_of w i
   old-space i q e =
       ap (λ o. unwrap_or (option_map (λ (m : Mount). m.space) o) 0) (row-first id_of (map (relocated w src dest) w.forest) (new_mounts w src dest) i (relocated w src dest q) (row-mapped id_of (relocated w src dest) (relocated-id w src dest) w.forest i q e))
-      ∙ relocated-space q ∙ sym (space_is w i q e)
+      ∙ relocated-space w src dest q ∙ sym (space_is w i q e)
 
   -- a copy is in the namespace of its target
   new-space : (t : ℕ) (m : Mount) → In t (cond src.moved (hits w dest) (targets w src dest)) → In m src.mounts → space (copy_id w src dest t m.id) ≡ space_of w t
@@ -163,7 +154,7 @@ module _ (w : WorldView) (h : IsWellFormed w) (src : Source) (dest : Place) (s :
 
     grouped : (i : ℕ) (t : State) (g : ℕ) → state_at peers i ≡ Some t → t.group ≡ Some g → Grouped i g
     grouped i t g e is = elim (rows i t e) [
-      | inl old ↦ inl (i, group-is w i g t old.0 is, λ q. sym old.1 ∙ q, λ q. old.1 ∙ q)
+      | inl old ↦ inl (i, state-group w i g t old.0 is, λ q. sym old.1 ∙ q, λ q. old.1 ∙ q)
       | inr new ↦ by new.0 new.1 new.2 new.3 (home w src dest) refl
     ]
       where
@@ -314,7 +305,7 @@ module _ (w : WorldView) (h : IsWellFormed w) (src : Source) (dest : Place) (s :
           old =
               part-mapped (in_space k) (relocated w src dest) w.forest
               (all-each (λ m. mount_at w.forest m.id ≡ Some m) (λ m. (in_space k (relocated w src dest m) ≡ in_space k m) × (in_space k m ≡ true → relocated w src dest m ≡ m))
-              (λ m e. (ap (λ v. v == k) (relocated-space m), λ is. stays m e (apart m is))) w.forest (found-each id_of w.forest h.forest.rising))
+              (λ m e. (ap (λ v. v == k) (relocated-space w src dest m), λ is. stays m e (apart m is))) w.forest (found-each id_of w.forest h.forest.rising))
 
           new : filter (in_space k) (new_mounts w src dest) ≡ []
           new = none-picked (in_space k) (new_mounts w src dest) (λ a e.
@@ -323,19 +314,12 @@ module _ (w : WorldView) (h : IsWellFormed w) (src : Source) (dest : Place) (s :
               let there : a.space ≡ n = ap (λ (m : Mount). m.space) (sym m.2) ∙ new-inside t.0 src.moved t.1 in
               ne_eqb a.space k (λ same. off (sym same ∙ there)))
 
-      regrouped-mount : (x : Peer) → mount_of (regrouped w src dest x) ≡ mount_of x
-      regrouped-mount x = go (is_moved w src dest x.mount)
-        where
-          go : (b : Bool) → mount_of (cond b (record { mount = x.mount; state = copy_state w src dest (record { target = dest.mount; source = x.mount }) }) x) ≡ x.mount
-          go true = refl
-          go false = refl
-
       same-state : (i : ℕ) (q : Mount) → mount_at w.forest i ≡ Some q → q.space ≢ n → unwrap_or (state_at peers i) private ≡ state_of w i
       same-state i q e off =
           let t = mount-state w.forest w.peering.peers i q h.same_mounts e in
           let r = state_row w.peering.peers i t.0 t.1 in
           let key = row_at-key mount_of i w.peering.peers r.0 r.2 in
-          let row = row-first mount_of (map (regrouped w src dest) w.peering.peers) (map new_peer (new_copies w src dest)) i (regrouped w src dest r.0) (row-mapped mount_of (regrouped w src dest) regrouped-mount w.peering.peers i r.0 r.2) in
+          let row = row-first mount_of (map (regrouped w src dest) w.peering.peers) (map new_peer (new_copies w src dest)) i (regrouped w src dest r.0) (row-mapped mount_of (regrouped w src dest) regrouped-mount w src dest w.peering.peers i r.0 r.2) in
           ap (λ o. unwrap_or (option_map (λ (e : Peer). e.state) o) private) (row ∙ ap (λ v. Some v) (unmoved r.0 key (is_moved w src dest r.0.mount) refl))
           ∙ sym (ap (λ o. unwrap_or (option_map (λ (e : Peer). e.state) o) private) r.2)
         where

@@ -1,22 +1,17 @@
 -- What is found above groups on the way up to the nearest one at which copies stand.
-use Rattle.std.proofs.Common.{◌≡◌, ℕ, ◌+◌, ◌<◌, ◌≤◌, Bool, true, false, cond, nat_eq, List, [], length, Option, Some, None, refl, sym, ap, subst, ◌∙◌, arith}
+use Rattle.std.proofs.Common.{◌≡◌, ℕ, ◌<◌, ◌≤◌, Bool, true, false, cond, nat_eq, List, length, Option, Some, None, refl, sym, ap, subst, ◌∙◌, arith}
 use Rattle.std.specs.Prelude.{IfSome}
 use Rattle.std.specs.List.{find}
 use Rattle.std.specs.Option.{unwrap_or}
-use Rattle.std.specs.Map.{lookup}
 use Rattle.std.proofs.lemmas.Bool.Decides.{nat_tests}
 use Rattle.indexmap.specs.IndexMap.{get}
 use Rattle.mt_lists.specs.Links.{Index}
 use Rattle.mt_peers.specs.Peers.{Peer}
 use Rattle.mt_peers.specs.Masters.{master_of, groups_up}
 use Rattle.mt_peers.specs.Ways.{IsAbove, if_passes}
-use Rattle.mt_peers.proofs.WayLaws.{above-join, above-once, above-dead, first-far, first-near}
+use Rattle.mt_peers.proofs.WayLaws.{above-once, above-dead, first-near}
 use Rattle.mt_propagate.specs.declared.nearest.Above.{Above}
 use Rattle.mt_propagate.specs.Nearest.{known_above, IsFoundAbove, IsFound, IsNearest}
-
--- nothing is found yet
-pub found-none : (p : ℕ → Bool) (es : List Peer) (found : Index Above) → found.entries ≡ [] → IsFound p es found
-found-none p es found e g off = let n : get nat_eq found g ≡ None = ap (lookup (nat_eq g)) e in subst (λ o. IfSome o (λ x. IsFoundAbove p es g x)) (sym n) tt
 
 module _ (p : ℕ → Bool) (es : List Peer) where
   -- what is known is so
@@ -38,14 +33,6 @@ module _ (p : ℕ → Bool) (es : List Peer) where
       by : (b : Bool) → nat_eq g k ≡ b → IfSome (cond b (Some x) (get nat_eq m k)) (λ y. IsFoundAbove p es k y)
       by true is = let same : g ≡ k = grind (arith, nat_tests) in subst (λ k. IsFoundAbove p es k x) same a
       by false is = f k off
-
-  -- a step of the search
-  pub nearest-step : (g passed : ℕ) (here : Option ℕ) (s : ℕ) (x : Above) → IsAbove p (master_of es) (Some g) here s → here ≡ Some passed → IsFoundAbove p es passed x → IsAbove p (master_of es) (Some g) x.up (s + x.steps)
-  nearest-step g passed here s x a is f = above-join p (master_of es) (Some g) here x.up s x.steps a (subst (λ m. IsAbove p (master_of es) m x.up x.steps) (sym is) f.above)
-
-  -- where it ended
-  pub nearest-far : (g : ℕ) (x : Above) → IsNearest p es g x → length es < x.steps → None ≡ find p (groups_up es g)
-  nearest-far g x n l = first-far p (master_of es) (length es) g x.steps x.up n.above l
 
   pub nearest-near : (g : ℕ) (x : Above) → IsNearest p es g x → x.steps ≤ length es → x.up ≡ find p (groups_up es g)
   nearest-near g x n l =

@@ -1,6 +1,6 @@
 -- IDs that are found by halving a list in which none is below the one before it.
 use Rattle.std.proofs.Common.{◌≡◌, ◌≢◌, ℕ, ◌<◌, ◌≤◌, true, false, List, length, get_or, sym, arith}
-use Rattle.std.specs.Prelude.{nat_eq, nat_lt, Bool, MatchBool}
+use Rattle.std.specs.Prelude.{nat_eq, nat_lt}
 use Rattle.std.specs.List.{position_or_len}
 use Rattle.std.specs.List.Sorted.{IsNonDecreasing, IsPartitionPoint}
 use Rattle.std.proofs.lemmas.Bool.Decides.{nat_tests}
@@ -30,8 +30,3 @@ module _ (ids : List ℕ) (id at : ℕ) (rise : IsNonDecreasing ids) (bound : at
           let here = parted.1 at d (omega arith) l in
           let apart : id ≢ get_or ids k d = λ same. e (grind (arith, nat_tests)) in
           grind (arith, nat_tests)
-
--- what holds at the answer true
-pub where_true : {P : Type 0} (Q : Type 0) (b : Bool) → MatchBool b P Q → b ≡ true → P
-where_true Q true m e = m
-where_true Q false m e = absurd (cc)

@@ -1,12 +1,13 @@
 -- The mounts that stay, as a list.
-use Rattle.std.proofs.Common.{◌≡◌, ℕ, zero, suc, ◌+◌, ◌<◌, ◌≤◌, length, drop, get_or, arith, Bool, true, false, cond, not, ◌||◌, eqb, eqb-true, eq-eqb, List, [], ◌∷◌, refl, sym, ap, ◌∙◌}
+use Rattle.std.proofs.Common.{◌≡◌, ℕ, suc, ◌+◌, ◌<◌, ◌≤◌, length, drop, get_or, arith, Bool, true, false, cond, not, ◌||◌, eqb, eqb-true, eq-eqb, List, [], ◌∷◌, refl, sym, ap, ◌∙◌, drop-cons}
 use Rattle.std.specs.List.{filter}
+use Rattle.std.proofs.lemmas.List.{drop_all}
 use Rattle.mt_mounts.specs.declared.mount.Mount.{Mount}
 use Rattle.mt_mounts.specs.ForestView.{without_id}
 use Rattle.mt_skel.specs.Keyed.{among}
 use Rattle.mt_propagate.specs.Carried.{staying}
 
-filter-all : {X : Type 0} (xs : List X) → filter (λ (x : X). true) xs ≡ xs
+pub filter-all : {X : Type 0} (xs : List X) → filter (λ (x : X). true) xs ≡ xs
 filter-all [] = refl
 filter-all (x ∷ xs) = ap (λ l. x ∷ l) (filter-all xs)
 
@@ -22,22 +23,11 @@ staying-one i ids (m ∷ ms) = go (eqb m.id i) (eqb i m.id) refl refl (staying-o
     go false true ea eb ih = absurd (let v : true ≡ false = sym (eq-eqb m.id i (sym (eqb-true i m.id eb))) ∙ ea in cc)
     go false false ea eb ih = ap (λ l. cond (not (among ids m.id)) (m ∷ l) l) ih
 
-drop-here : (ids : List ℕ) (k d : ℕ) → k < length ids → drop k ids ≡ get_or ids k d ∷ drop (suc k) ids
-drop-here [] k d l = absurd (omega (arith, l))
-drop-here (x ∷ ids) zero d l = refl
-drop-here (x ∷ ids) (suc k) d l = drop-here ids k d (omega (arith, l))
-
-drop-over : (ids : List ℕ) (k : ℕ) → length ids ≤ k → drop k ids ≡ []
-drop-over [] zero l = refl
-drop-over [] (suc k) l = refl
-drop-over (x ∷ ids) zero l = absurd (omega (arith, l))
-drop-over (x ∷ ids) (suc k) l = drop-over ids k (omega (arith, l))
-
 -- one after the other
 pub staying-step : (ids : List ℕ) (k d : ℕ) (ms ns all : List Mount) → k < length ids → staying (drop k ids) ms ≡ all → ns ≡ without_id (get_or ids k d) ms → staying (drop (k + 1) ids) ns ≡ all
 staying-step ids k d ms ns all l e is =
     ap (λ n. staying (drop n ids) ns) (let more : k + 1 ≡ suc k = omega arith in more)
-    ∙ ap (staying (drop (suc k) ids)) is ∙ staying-one (get_or ids k d) (drop (suc k) ids) ms ∙ ap (λ js. staying js ms) (sym (drop-here ids k d l)) ∙ e
+    ∙ ap (staying (drop (suc k) ids)) is ∙ staying-one (get_or ids k d) (drop (suc k) ids) ms ∙ ap (λ js. staying js ms) (sym (drop-cons ids k d l)) ∙ e
 
 pub staying-end : (ids : List ℕ) (k : ℕ) (ms all : List Mount) → length ids ≤ k → staying (drop k ids) ms ≡ all → ms ≡ all
-staying-end ids k ms all l e = sym (ap (λ js. staying js ms) (drop-over ids k l) ∙ filter-all ms) ∙ e
+staying-end ids k ms all l e = sym (ap (λ js. staying js ms) (drop_all k ids l) ∙ filter-all ms) ∙ e

@@ -5,7 +5,7 @@ use Rattle.std.specs.List.{find, flat_map, cons_option}
 use Rattle.std.specs.Option.{option_eq, option_map, option_map_or, option_and_then}
 use Rattle.mt_skel.specs.Keyed.{among}
 use Rattle.mt_skel.proofs.ElementLaws.{In, in_any, in_row, in_flatted}
-use Rattle.mt_skel.proofs.MiddleLaws.{and_first, and_second, and-true}
+use Rattle.mt_skel.proofs.MiddleLaws.{and_first, and_second}
 use Rattle.mt_mounts.specs.declared.mount.Mount.{Mount}
 use Rattle.mt_peers.specs.declared.state.State.{State}
 use Rattle.mt_peers.specs.Peers.{Peer, mount_of, names, in_group, state_at, slaves}
@@ -21,19 +21,13 @@ use Rattle.mt_propagate.specs.Turned.{IsSteady, IsQuiet, is_alike, is_below, gro
 use Rattle.mt_propagate.proofs.OutsideTagLaws.{same-bool, no-tag, tag_of, member-seen}
 use Rattle.mt_propagate.proofs.UpwardLaws.{find-chain}
 use Rattle.mt_propagate.proofs.BelowGroupLaws.{in-among, among-in, slave-in}
+use Rattle.mt_propagate.proofs.ShownLaws.{grouped-state}
 
 same-number : (a b : Option ℕ) → option_eq nat_eq a b ≡ true → a ≡ b
 same-number None None e = refl
 same-number None (Some y) e = absurd (cc)
 same-number (Some x) None e = absurd (cc)
 same-number (Some x) (Some y) e = ap Some (eqb-true x y e)
-
-number-same : (a b : Option ℕ) → a ≡ b → option_eq nat_eq a b ≡ true
-number-same a b e = subst (λ o. option_eq nat_eq a o ≡ true) e (self a)
-  where
-    self : (o : Option ℕ) → option_eq nat_eq o o ≡ true
-    self None = refl
-    self (Some x) = eq-eqb x x refl
 
 -- a mount has the same group, master and namespace
 record IsAlike (v w : WorldView) (i : ℕ) : Type 0 where
@@ -52,22 +46,8 @@ alike-from v w i e =
       space = eqb-true (space_of v i) (space_of w i) (and_second (group && master) _ e);
     }
 
-alike-to : (v w : WorldView) (i : ℕ) → IsAlike v w i → is_alike v w i ≡ true
-alike-to v w i a =
-    let group = option_eq nat_eq (group_of v i) (group_of w i) in
-    let master = option_eq nat_eq (state_of v i).master (state_of w i).master in
-    and-true (group && master) _ (and-true group master (number-same _ _ a.group) (number-same _ _ a.master)) (eq-eqb (space_of v i) (space_of w i) a.space)
-
 turned-round : (v w : WorldView) (i : ℕ) → IsAlike v w i → IsAlike w v i
 turned-round v w i a = record { group = sym a.group; master = sym a.master; space = sym a.space }
-
--- a mount that is in a group has a state
-group-state : (w : WorldView) (i g : ℕ) → group_of w i ≡ Some g → (s : State) × (state_at w.peering.peers i ≡ Some s) × (s.group ≡ Some g)
-group-state w i g e = go (state_at w.peering.peers i) refl e
-  where
-    go : (o : Option State) → state_at w.peering.peers i ≡ o → (unwrap_or o private).group ≡ Some g → (s : State) × (state_at w.peering.peers i ≡ Some s) × (s.group ≡ Some g)
-    go None is f = absurd (let x : None ≡ Some g = f in cc)
-    go (Some s) is f = (s, is, f)
 
 row-group : (w : WorldView) (i : ℕ) (s : State) (g : ℕ) → state_at w.peering.peers i ≡ Some s → names s.group g ≡ true → group_of w i ≡ Some g
 row-group w i s g e n = ap (λ (o : Option State). (unwrap_or o private).group) e ∙ named s.group g n
@@ -81,7 +61,7 @@ module _ (v w : WorldView) (h : IsWellFormed v) (k : IsWellFormed w) (x : ℕ) (
       let at : state_at v.peering.peers i ≡ Some q.0.state = ap (option_map (λ (p : Peer). p.state)) (in_row mount_of v.peering.peers q.0 h.peering.rising q.1) in
       let before = row-group v i q.0.state x at (and_first _ _ q.2) in
       let a = alike i before in
-      let s = group-state w i x (sym a.group ∙ before) in
+      let s = grouped-state w i x (sym a.group ∙ before) in
       member-seen w n x i s.0 s.1 (ap (λ o. names o x) s.2 ∙ eq-eqb x x refl) (sym a.space ∙ eqb-true (space_of v i) n (and_second _ _ q.2))
 
   master-stays : (e : Peer) → find (in_group x) v.peering.peers ≡ Some e → master_of w.peering.peers x ≡ e.state.master
@@ -91,7 +71,7 @@ module _ (v w : WorldView) (h : IsWellFormed v) (k : IsWellFormed w) (x : ℕ) (
       let at : state_at v.peering.peers i ≡ Some e.state = ap (option_map (λ (p : Peer). p.state)) r.0 in
       let before = row-group v i e.state x at r.1 in
       let a = alike i before in
-      let s = group-state w i x (sym a.group ∙ before) in
+      let s = grouped-state w i x (sym a.group ∙ before) in
       master_of-is w.peering.peers k.peering.rising k.peering.one_master i s.0 x s.1 s.2
       ∙ sym (ap (λ (o : Option State). (unwrap_or o private).master) s.1)
       ∙ sym a.master

@@ -1,7 +1,7 @@
 -- The pieces of a path word, and the names that they stand for.
 use Rattle.std.proofs.Common.{◌≡◌, ◌≢◌, ℕ, ◌<◌, ◌==◌, ◌&&◌, ◌||◌, not, nat_eq, nat_lt, nat_le, List, [], ◌∷◌, map, length, get_or, codes, Bool, true, false, Option, Some, None, IsSome, refl, ap, sym, subst, ◌∙◌, arith}
 use Rattle.std.proofs.Math.Dec.{eqb-suc-zero}
-use Rattle.std.proofs.lemmas.Bool.{ne_eqb, eqb-true, eqb-false}
+use Rattle.std.proofs.lemmas.Bool.{ne_eqb, eqb-true, eqb-false, and_parts, or_parts}
 use Rattle.std.proofs.lemmas.Bool.Decides.{nat_tests}
 use Rattle.std.specs.Option.{option_map_or}
 use Rattle.std.specs.List.{list_all, list_any, starts_with, onto_first}
@@ -13,7 +13,7 @@ use Rattle.mt_skel.specs.Escapes.{unescaped, cons_to, byte_of_digits}
 use Rattle.mt_skel.proofs.EscapeLaws.{bare_unescaped, unescaped-plain, unescaped-nil, unescaped-escape, rest_of, rest_of-cons}
 use Rattle.mt_words.specs.Words.{pieces}
 use Rattle.mt_requests.specs.Requests.{text_length, label_bytes, components, is_path, has_long_piece, path_fault, path_names}
-use Rattle.mt_skel.proofs.UnescapeLaws.{IsKept, all_kept, and-parts, or-parts, after_first}
+use Rattle.mt_skel.proofs.UnescapeLaws.{IsKept, all_kept, after_first}
 use Rattle.mt_requests.proofs.TextLaws.{IsText, is_nonzero, text, label_bytes-is, length_same}
 
 -- each piece of a word stands for a piece of the bytes
@@ -116,9 +116,9 @@ component_is p q h nonzero slashless short =
 components_are : (ps qs : List (List ℕ)) → StandFor ps qs → list_all is_nonzero qs ≡ true → list_all is_slashless qs ≡ true → list_any is_long qs ≡ false → list_all is_component ps ≡ list_all is_name qs
 components_are [] [] h nz ns lt = refl
 components_are (p ∷ ps) (q ∷ qs) h nz ns lt =
-    let z = and-parts (is_nonzero q) (list_all is_nonzero qs) nz in
-    let s = and-parts (is_slashless q) (list_all is_slashless qs) ns in
-    let l = or-parts (is_long q) (list_any is_long qs) lt in
+    let z = and_parts (is_nonzero q) (list_all is_nonzero qs) nz in
+    let s = and_parts (is_slashless q) (list_all is_slashless qs) ns in
+    let l = or_parts (is_long q) (list_any is_long qs) lt in
     let first : is_component p ≡ is_name q = component_is p q h.0 z.0 s.0 l.0 in
     let later : list_all is_component ps ≡ list_all is_name qs = components_are ps qs h.1 z.1 s.1 l.1 in
     ap (λ t. t && list_all is_component ps) first ∙ ap (λ t. is_name q && t) later
@@ -133,7 +133,7 @@ onto_all test x (q ∷ qs) h all = rw h all
 pieces_nonzero : (b : List ℕ) → is_nonzero b ≡ true → list_all is_nonzero (pieces 47 b) ≡ true
 pieces_nonzero [] h = refl
 pieces_nonzero (x ∷ b) h =
-    let parts = and-parts (not (x == 0)) (is_nonzero b) h in go (x == 47) refl parts.0 (pieces_nonzero b parts.1)
+    let parts = and_parts (not (x == 0)) (is_nonzero b) h in go (x == 47) refl parts.0 (pieces_nonzero b parts.1)
   where
     go : (t : Bool) → (x == 47) ≡ t → not (x == 0) ≡ true → list_all is_nonzero (pieces 47 b) ≡ true → list_all is_nonzero (pieces 47 (x ∷ b)) ≡ true
     go true is first later = rw is later
@@ -296,9 +296,6 @@ good_path w h = go (text_length w) refl h
     go None is none = cc
     go (Some n) is none =
         by_slash (get_or w 0 0 == 47) refl (rw is refl) (no_fault (nat_lt 4095 n || has_long_piece (label_bytes w)) (is_path (label_bytes w)) none)
-
-pub path_first : (w : List ℕ) → path_fault w ≡ None → 0 < length w
-path_first w h = let p = good_path w h in has_first w p.some
 
 -- the names of a path that is a slash alone, and of one that goes on
 pub no_names : (w : List ℕ) → path_fault w ≡ None → length w ≡ 1 → path_names w ≡ []

@@ -4,12 +4,13 @@ use Rattle.std.proofs.Math.Dec.{eqb-suc-zero}
 use Rattle.std.proofs.lemmas.Bool.Decides.{nat_tests}
 use Rattle.std.specs.Option.{option_map, option_map_or}
 use Rattle.std.specs.List.{list_all, list_any}
+use Rattle.std.proofs.lemmas.Bool.{or_parts}
 use Rattle.mt_skel.specs.declared.fault.Fault.TheVariants.{BadLine, TooLong}
 use Rattle.mt_skel.specs.Outcome.{refuse_if}
 use Rattle.mt_skel.proofs.OutcomeLaws.{not_refused}
 use Rattle.mt_skel.specs.Names.{is_label}
 use Rattle.mt_skel.specs.Escapes.{unescaped}
-use Rattle.mt_skel.proofs.UnescapeLaws.{IsKept, all_kept, or-parts}
+use Rattle.mt_skel.proofs.UnescapeLaws.{IsKept, all_kept}
 use Rattle.mt_requests.specs.Requests.{text_length, label_fault, label_bytes}
 
 abbrev pub is_nonzero : List ℕ → Bool
@@ -22,7 +23,7 @@ KeepsZero w b = list_any (λ x. x == 0) w ≡ false → is_nonzero b ≡ true
 nonzero_kept : IsKept KeepsZero
 nonzero_kept = record {
   nil = λ _. refl;
-  plain = λ x w b ne ih h. let parts = or-parts (x == 0) (list_any (λ x. x == 0) w) h in rw (parts.0, ih parts.1) refl;
+  plain = λ x w b ne ih h. let parts = or_parts (x == 0) (list_any (λ x. x == 0) w) h in rw (parts.0, ih parts.1) refl;
   space = λ w b ih h. ih h;
   tab = λ w b ih h. ih h;
   newline = λ w b ih h. ih h;
@@ -60,7 +61,7 @@ counted false (Some b) n h = (b, refl, refl, cc)
 pub text : (word : List ℕ) (n : ℕ) → text_length word ≡ Some n → (bytes : List ℕ) × IsText word bytes × (length bytes ≡ n)
 text word n h =
     let r = counted (nat_eq (length word) 0 || list_any (λ b. b == 0) word) (unescaped word) n h in
-    let parts = or-parts (nat_eq (length word) 0) (list_any (λ b. b == 0) word) r.1 in
+    let parts = or_parts (nat_eq (length word) 0) (list_any (λ b. b == 0) word) r.1 in
     let b = r.0 in
     let stands : unescaped word ≡ Some b = r.2 in (
       b,

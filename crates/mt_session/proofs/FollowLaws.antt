@@ -22,8 +22,9 @@ use Rattle.mt_floor.proofs.SettledLaws.{open_idle, close_idle, stop_idle}
 use Rattle.mt_floor.proofs.StandingLaws.{stays}
 use Rattle.mt_floor.proofs.HeadLaws.{in_order}
 use Rattle.mt_floor.proofs.TableLaws.{rebuild}
-use Rattle.mt_floor.proofs.GivenLaws.{given_in_order, after_well, begun_waits}
+use Rattle.mt_floor.proofs.GivenLaws.{given_in_order, after_well, begun_waits, floors_stay}
 use Rattle.mt_floor.proofs.SinceLaws.{told_count, given_behind, given_posts-append, at_seam}
+use Rattle.mt_floor.proofs.FloorLaws.{nothing}
 use Rattle.mt_requests.specs.declared.request.Request.{Request}
 use Rattle.mt_requests.specs.declared.request.Request.TheVariants.{Run, Show, Find, Watch, Take, Follow, Close, Quit, Stop}
 use Rattle.mt_session.specs.Answers.{refusal}
@@ -103,12 +104,8 @@ granted_turn : (key : ℕ) (s : SessionState) (q : Result Request Fault) → Res
 granted_turn key s (Ok r) h = request_turn key s r h
 granted_turn key s (Err f) h = still key s h.idle
 
-floors_rest : (s : FloorView) (es : List Event) → IsFloor s → IsFloor (run s es).0
-floors_rest s [] h = h
-floors_rest s (e ∷ es) h = floors_rest (floor_step s e).0 es (stays s e h)
-
 turn_rests : (key : ℕ) (s now : SessionState) (es : List Event) (told : List PostView) → Rests s → Turns key s now es told → Rests now
-turn_rests key s now es told h t = record { floor = subst IsFloor t.floor (floors_rest s.floor es h.floor); idle = t.idle }
+turn_rests key s now es told h t = record { floor = subst IsFloor t.floor (floors_stay s.floor es h.floor); idle = t.idle }
 
 -- ---- lines
 
@@ -129,10 +126,6 @@ open_told : (f : FloorView) (scope : Scope) → f.due ≡ [] → opening_refusal
 unfolding floor_step
 open_told f scope idle none =
     ap (λ ds. (if_idle ds f (opened f scope)).1) idle ∙ ap (λ o. (unless o f (opens f scope, Ok (Opened f.next_key (opening_of f.journal scope)))).1) none
-
-nothing : (b : Bool) → ◌≡◌ {A = List PostView} (cond b [] []) []
-nothing true = refl
-nothing false = refl
 
 -- what is told where it is closed again: it had no post
 unshown_watch : (key : ℕ) (f : FloorView) (scope : Scope) → IsFloor f → f.due ≡ [] → (o : Option Fault) → opening_refusal f scope ≡ o

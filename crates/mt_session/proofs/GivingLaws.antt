@@ -19,6 +19,7 @@ use Rattle.mt_floor.specs.Headline.{takes_from, closes, given_by, given_posts}
 use Rattle.mt_floor.proofs.RowLaws.{put_same}
 use Rattle.mt_floor.proofs.SettledLaws.{take_idle, post_fewer, none_due}
 use Rattle.mt_floor.proofs.StandingLaws.{stays}
+use Rattle.mt_floor.proofs.FloorLaws.{nothing}
 use Rattle.mt_session.specs.Requests.{next_posts}
 use Rattle.mt_session.specs.Headline.{sends}
 
@@ -70,10 +71,6 @@ one_taken s own r p at next =
 joined : (b : Bool) (p : PostView) (ps : List PostView) → cond b (p ∷ []) [] ++ cond b ps [] ≡ cond b (p ∷ ps) []
 joined true p ps = refl
 joined false p ps = refl
-
-nothing : (b : Bool) → ◌≡◌ {A = List PostView} (cond b [] []) []
-nothing true = refl
-nothing false = refl
 
 -- takes in a row give the next posts
 takes_give : (n : ℕ) (s : FloorView) (key own : ℕ) (r : Watcher) → row_at key_of own s.watchers ≡ Some r → n ≤ length (drop (length r.taken) r.sent)

@@ -327,20 +327,6 @@ Served-more turns before mid old now new sent so_far written by a b ended count 
   count = count;
 }
 
--- the count of lines was reached
-pub served_spent : (turns : List Turn) (before later : List ℕ) (old new : SessionState) (sent written : List ℕ) → Going turns before later old new sent written → length turns ≡ 16777216 → Ran before old new sent written Spent
-served_spent turns before later old new sent written a count = record {
-  turns = turns;
-  last = [];
-  later = lines_of line_limit later;
-  lines = a.lines;
-  state = a.state;
-  out = a.out ∙ ap (λ x. sent ++ x) (sym (append-nil (text_of turns old)));
-  goes = a.goes;
-  cause = (refl, count);
-  count = omega (arith, count);
-}
-
 -- an answer that went out whole leaves no fault of the writer
 pub cause_whole : (by : Option End) (old new : ℕ) → ForSome by (λ e. ends_whole e ≡ true) → old ≤ new → IsCutCause by old new
 cause_whole None old new h le = le

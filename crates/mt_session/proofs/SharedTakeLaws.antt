@@ -1,5 +1,5 @@
 -- What the watcher of a session in a thread of its own has taken, and what the session finds of it.
-use Rattle.std.proofs.Common.{subst, ◌≡◌, ◌≢◌, ℕ, ◌+◌, ◌<◌, ◌≤◌, List, [], ◌++◌, refl, ap, sym, ◌∙◌, Ok, Option, Some, None, append_assoc, arith, length}
+use Rattle.std.proofs.Common.{subst, ◌≡◌, ◌≢◌, ℕ, ◌<◌, ◌≤◌, List, [], ◌++◌, refl, ap, sym, ◌∙◌, Ok, Option, Some, None, append_assoc, arith, length}
 use Rattle.std.proofs.lemmas.List.{append-nil, nil_from_length}
 use Rattle.std.specs.Option.{ForSome, IsSome}
 use Rattle.mt_events.specs.Posts.{PostView}

@@ -1,24 +1,16 @@
 -- What is known of a change that was accepted: the effect, and that no refusal holds.
-use Rattle.std.proofs.Common.{◌≡◌, ℕ, true, false, List, [], ◌∷◌, Option, Some, None, Ok, refl}
+use Rattle.std.proofs.Common.{◌≡◌, ℕ, true, false, List, None, Ok}
 use Rattle.std.specs.Prelude.{not}
-use Rattle.std.specs.List.{AllByRecursion}
 use Rattle.std.proofs.lemmas.Bool.{not-false}
-use Rattle.mt_skel.specs.declared.fault.Fault.{Fault}
 use Rattle.mt_skel.specs.declared.fault.Fault.TheVariants.{NotMountRoot, BadAttr}
-use Rattle.mt_skel.specs.Outcome.{fault_of, outcome}
-use Rattle.mt_skel.proofs.OutcomeLaws.{not_refused}
+use Rattle.mt_skel.specs.Outcome.{fault_of}
+use Rattle.mt_skel.proofs.OutcomeLaws.{not_refused, accepted}
 use Rattle.mt_mounts.specs.declared.mount.Place.{Place}
 use Rattle.mt_mounts.specs.Walk.{walk}
 use Rattle.mt_propagate.specs.World.{WorldView}
 use Rattle.mt_propagate.specs.Named.{place_or_nowhere, is_mount_root}
 use Rattle.mt_setattr.specs.declared.change.Change.{Change}
 use Rattle.mt_setattr.specs.Change.{clashes, with_change, attributed_refusals, attributed_effect, attributed}
-
--- an accepted call gives its effect, and each refusal of its list is absent
-accepted : {A : Type 0} (fs : List (Option Fault)) (a b : A) → outcome fs a ≡ Ok b → (a ≡ b) × AllByRecursion (λ o. o ≡ None) fs
-accepted [] a b e = (cc, tt)
-accepted (None ∷ fs) a b e = let later = accepted fs a b e in (later.0, (refl, later.1))
-accepted (Some f ∷ fs) a b e = absurd (cc)
 
 -- the place where a path ends
 abbrev pub path_end : WorldView → ℕ → List (List ℕ) → Place

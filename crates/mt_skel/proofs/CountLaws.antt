@@ -123,14 +123,6 @@ any-is t (x ∷ xs) b e = go (t x) b (any-is t xs) e
     go true false ih e = absurd (omega (arith, e))
     go false b ih e = ih b e
 
-pub any-none : {X : Type 0} (t : X → Bool) (xs : List X) → list_any t xs ≡ false → count t xs ≡ 0
-any-none t [] e = refl
-any-none t (x ∷ xs) e = go (t x) (any-none t xs) e
-  where
-    go : (a : Bool) → (list_any t xs ≡ false → count t xs ≡ 0) → (a || list_any t xs) ≡ false → cond a (suc (count t xs)) (count t xs) ≡ 0
-    go true ih e = absurd (cc)
-    go false ih e = ih e
-
 pub any-some : {X : Type 0} (t : X → Bool) (xs : List X) → list_any t xs ≡ true → 1 ≤ count t xs
 any-some t [] e = absurd (cc)
 any-some t (x ∷ xs) e = go (t x) (any-some t xs) e

@@ -1,7 +1,7 @@
 -- A text with escapes: its first byte, and the way back from the bytes that it stands for.
 use Rattle.std.proofs.lemmas.List.{take_all, append-nil}
 use Rattle.std.proofs.Math.Dec.{eqb-suc-zero}
-use Rattle.std.proofs.Common.{get_or, ◌-◌, ◌≡◌, ◌≢◌, ℕ, ◌+◌, ◌<◌, ◌≤◌, ◌==◌, List, [], ◌∷◌, ◌++◌, length, take, drop, Bool, Option, Some, None, true, false, refl, ap, sym, ◌∙◌, arith, append_assoc, zero-add}
+use Rattle.std.proofs.Common.{get_or, ◌-◌, ◌≡◌, ◌≢◌, ℕ, ◌+◌, ◌<◌, ◌≤◌, ◌==◌, List, [], ◌∷◌, ◌++◌, length, take, drop, Bool, Option, Some, None, true, false, refl, ap, sym, ◌∙◌, arith, zero-add}
 use Rattle.std.proofs.lemmas.Bool.{ne_eqb, eqb-true, eqb-false}
 use Rattle.std.specs.Option.{option_map}
 use Rattle.std.specs.List.{list_any}
@@ -61,17 +61,9 @@ unescaped-nil (x ∷ xs) h = absurd (omega arith)
 abbrev pub before_all : List ℕ → Option (List ℕ) → Option (List ℕ)
 before_all out rest = option_map (λ r. out ++ r) rest
 
-pub before_all-push : (out : List ℕ) (b : ℕ) (rest : Option (List ℕ)) → before_all (out ++ b ∷ []) rest ≡ before_all out (cons_to (Some b) rest)
-before_all-push out b None = refl
-before_all-push out b (Some r) = ap Some (append_assoc out (b ∷ []) r)
-
 -- how many bytes there are, with n before those to come
 abbrev pub count_from : ℕ → Option (List ℕ) → Option ℕ
 count_from n rest = option_map (λ r. n + length r) rest
-
-pub count_from-push : (n b : ℕ) (rest : Option (List ℕ)) → count_from (n + 1) rest ≡ count_from n (cons_to (Some b) rest)
-count_from-push n b None = refl
-count_from-push n b (Some r) = ap Some (omega arith)
 
 pub unescaped-escape : (d e f : ℕ) (rest : List ℕ) → unescaped (92 ∷ d ∷ e ∷ f ∷ rest) ≡ cons_to (byte_of_digits d e f) (unescaped rest)
 unfolding unescaped
@@ -164,8 +156,3 @@ all_read out [] text n h is none = sym h ∙ ap (before_all out) (unescaped-nil 
 all_read out (x ∷ rest) text n h is none =
     let e : unescaped text ≡ None = sym h ∙ ap (before_all out) (none (omega arith)) in
     let f : Some n ≡ None = is ∙ ap (option_map (λ r. length r)) e in cc
-
--- a text whose bytes cannot be counted stands for none
-pub not_counted : (o : Option (List ℕ)) → None ≡ option_map (λ r. length r) o → o ≡ None
-not_counted None h = refl
-not_counted (Some r) h = cc

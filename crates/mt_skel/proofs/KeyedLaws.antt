@@ -28,16 +28,13 @@ module _ {X : Type 0} (key : X → ℕ) where
       let ih = row_at-key q ys x in
       grind (arith, nat_tests)
 
-  above : ℕ → List X → Bool
-  above k xs = list_all (λ y. ltb k (key y)) xs
-
   all-put : (k : ℕ) (x : X) (xs : List X) → k < key x → list_all (λ y. ltb k (key y)) xs ≡ true → list_all (λ y. ltb k (key y)) (put key x xs) ≡ true
   all-put k x [] l h = grind (arith, nat_tests)
   all-put k x (y ∷ ys) l h =
       let ih = all-put k x ys l in
       grind (arith, nat_tests)
 
-  all-lower : (j k : ℕ) (xs : List X) → j < k → list_all (λ y. ltb k (key y)) xs ≡ true → list_all (λ y. ltb j (key y)) xs ≡ true
+  pub all-lower : (j k : ℕ) (xs : List X) → j < k → list_all (λ y. ltb k (key y)) xs ≡ true → list_all (λ y. ltb j (key y)) xs ≡ true
   all-lower j k [] l h = refl
   all-lower j k (y ∷ ys) l h =
       let ih = all-lower j k ys l in

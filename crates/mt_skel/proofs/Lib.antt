@@ -12,6 +12,7 @@ pub mod MiddleLaws
 pub mod NamesLaws
 pub mod NodeLaws
 pub mod OutcomeLaws
+pub mod PlaceLaws
 pub mod RisingLaws
 pub mod SearchLaws
 pub mod SkeletonLaws

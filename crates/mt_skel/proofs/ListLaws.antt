@@ -1,23 +1,10 @@
 -- A list with one more element at its end, and its fronts.
-use Rattle.std.proofs.Common.{◌≡◌, ◌⊎◌, ℕ, zero, suc, ◌+◌, ◌-◌, ◌<◌, ◌≤◌, List, [], ◌∷◌, ◌++◌, length, get_or, take, drop, reverse, Some, None, slice_get, refl, sym, ap, ◌∙◌, inl, inr, arith, append-nil, append_assoc}
+use Rattle.std.proofs.Common.{◌≡◌, ◌⊎◌, ℕ, zero, suc, ◌+◌, ◌-◌, ◌<◌, ◌≤◌, List, [], ◌∷◌, ◌++◌, length, get_or, take, drop, reverse, Some, slice_get, refl, sym, ap, ◌∙◌, inl, inr, arith, append-nil, append_assoc}
 use Rattle.std.specs.List.{flat_map}
 use Rattle.std.proofs.lemmas.Grind.{flat_map-append}
 use Rattle.std.proofs.lemmas.List.{reverse-append, take_more, take-append-drop, drop-append-le, drop_all, length_push}
 use Rattle.std.proofs.Math.Seq.{take-append_seam}
 use Rattle.std.proofs.lemmas.Option.{slice_get_within}
-
--- a last element that is the same, after lists that are the same
-pub snoc_same : {X : Type 0} (xs ys : List X) (x y : X) → xs ++ x ∷ [] ≡ ys ++ y ∷ [] → (xs ≡ ys) × (x ≡ y)
-snoc_same [] [] x y e = (refl, cc)
-snoc_same [] (z ∷ []) x y e = absurd (cc)
-snoc_same [] (z ∷ w ∷ ys) x y e = absurd (cc)
-snoc_same (z ∷ []) [] x y e = absurd (cc)
-snoc_same (z ∷ w ∷ xs) [] x y e = absurd (cc)
-snoc_same (a ∷ xs) (b ∷ ys) x y e =
-    let tail : xs ++ x ∷ [] ≡ ys ++ y ∷ [] = cc in
-    let head : a ≡ b = cc in
-    let later = snoc_same xs ys x y tail in
-    ((λ i. head i ∷ later.0 i), later.1)
 
 pub snoc_some : {X : Type 0} (xs : List X) (x : X) → xs ++ x ∷ [] ≡ [] → ⊥
 snoc_some [] x e = absurd (cc)
@@ -72,16 +59,6 @@ pub take_found : {X : Type 0} (w : List X) (i : ℕ) (x : X) → slice_get w i �
 take_found w i x e =
     let next : i + 1 ≡ suc i = omega arith in
     ap (λ n. take n w) next ∙ take_suc w i x e
-
--- none behind the last
-pub take_past : {X : Type 0} (w : List X) (i n : ℕ) → slice_get w i ≡ None → i ≤ n → take i w ≡ take n w
-take_past [] zero zero e h = refl
-take_past [] zero (suc n) e h = refl
-take_past [] (suc i) zero e h = refl
-take_past [] (suc i) (suc n) e h = refl
-take_past (y ∷ w) zero n e h = cc
-take_past (y ∷ w) (suc i) zero e h = absurd (omega (arith, h))
-take_past (y ∷ w) (suc i) (suc n) e h = ap (λ l. y ∷ l) (take_past w i n e (omega (arith, h)))
 
 -- all but the last element
 pub take_front : {X : Type 0} (xs front : List X) (x : X) → xs ≡ front ++ x ∷ [] → take (length xs - 1) xs ≡ front

@@ -87,6 +87,19 @@ module _ {X : Type 0} (P : X → Type 0) where
   each_without [] back x h = h.1
   each_without (z ∷ front) back x h = (h.0, each_without front back x h.1)
 
+  -- of the elements of two lists in a row, and of those of either
+  pub each_append : (xs ys : List X) → AllByRecursion P xs → AllByRecursion P ys → AllByRecursion P (xs ++ ys)
+  each_append [] ys h k = k
+  each_append (x ∷ xs) ys h k = (h.0, each_append xs ys h.1 k)
+
+  pub each_left : (xs ys : List X) → AllByRecursion P (xs ++ ys) → AllByRecursion P xs
+  each_left [] ys h = tt
+  each_left (x ∷ xs) ys h = (h.0, each_left xs ys h.1)
+
+  pub each_right : (xs ys : List X) → AllByRecursion P (xs ++ ys) → AllByRecursion P ys
+  each_right [] ys h = h
+  each_right (x ∷ xs) ys h = each_right xs ys h.1
+
   pub each_last : (xs : List X) (y : X) → AllByRecursion P xs → P y → AllByRecursion P (xs ++ y ∷ [])
   each_last [] y h p = (p, tt)
   each_last (x ∷ xs) y h p = (h.0, each_last xs y h.1 p)

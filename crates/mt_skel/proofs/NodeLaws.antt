@@ -5,7 +5,7 @@ use Rattle.std.specs.Option.{option_map, unwrap_or}
 use Rattle.std.specs.Str.{bytes_eq}
 use Rattle.std.proofs.lemmas.Bool.Decides.{nat_tests}
 use Rattle.std.proofs.lemmas.Iterator.Adapters.{position_from-zero}
-use Rattle.std.proofs.lemmas.List.{length-map}
+use Rattle.std.proofs.lemmas.List.{length-map, same_from_push, get_or_push}
 use Rattle.std.proofs.lemmas.Option.{slice_get_within, slice_get-get_or}
 use Rattle.std.proofs.Math.ListN.{get_or-append}
 use Rattle.mt_skel.specs.Skeleton.{Skeleton, Directory, Filesystem, directory, is_filesystem, is_directory, fs_named, root_of, child, holds}
@@ -13,7 +13,7 @@ use Rattle.mt_skel.specs.declared.skel.Filesystem.{Filesystem as FilesystemNode}
 use Rattle.mt_skel.specs.declared.skel.Link.{Link}
 use Rattle.mt_skel.specs.declared.skel.Node.{Node}
 use Rattle.mt_skel.specs.Nodes.{names_at, names_up, dir_of, dirs_from, dirs_of, shown_fs, skeleton_of, IsUp, IsLaidOut}
-use Rattle.mt_skel.proofs.ListLaws.{snoc_same, snoc_some}
+use Rattle.mt_skel.proofs.ListLaws.{snoc_some}
 use Rattle.mt_skel.proofs.SkeletonLaws.{holds_up, holds_root, directory_within, filesystem_within, number_at, number_none, directory_at, at_directory, same_place}
 
 -- no node
@@ -66,10 +66,6 @@ dir_same a b n same = by n.up refl
     by : (o : Option Link) → n.up ≡ o → dir_of a n ≡ dir_of b n
     by o e = let s = names o e in rw e (λ i. record { fs = n.fs; path = s i })
 
-last_at : (xs : List Directory) (x d : Directory) → get_or (xs ++ x ∷ []) (length xs) d ≡ x
-last_at [] x d = refl
-last_at (y ∷ ys) x d = last_at ys x d
-
 entry : (done : List Directory) (ns : List Node) (k : ℕ) (n : Node) → slice_get ns k ≡ Some n → ((up : Link) → n.up ≡ Some up → up.dir < length done + k)
     → slice_get (dirs_from done ns) (length done + k) ≡ Some (dir_of (dirs_from done ns) n)
 entry done [] k n e low = absurd (omega (arith, slice_get_within [] k n e))
@@ -81,7 +77,7 @@ entry done (x ∷ ns) zero n e low =
     let all = dirs_from next ns in
     let d0 = dir_of done x in
     let within : length done + 0 < length all = omega (arith, length-dirs_from next ns) in
-    let at : get_or all (length done + 0) d0 ≡ d0 = ap (λ i. get_or all i d0) (add-zero (length done)) ∙ stays next ns (length done) d0 (omega arith) ∙ last_at done d0 d0 in
+    let at : get_or all (length done + 0) d0 ≡ d0 = ap (λ i. get_or all i d0) (add-zero (length done)) ∙ stays next ns (length done) d0 (omega arith) ∙ get_or_push done d0 d0 (length done) refl in
     let same : dir_of done x ≡ dir_of all x = dir_same done all x (λ up is.
     let lt : up.dir < length done = omega (arith, low up (sym (ap (λ y. y.up) w) ∙ is)) in
     ap (λ p. p.path) (sym (stays next ns up.dir (record { fs = 0; path = [] }) (omega arith) ∙ get_or-append done (dir_of done x ∷ []) (record { fs = 0; path = [] }) up.dir lt))) in
@@ -161,7 +157,7 @@ module _ (fs : List FilesystemNode) (ns : List Node) (t : IsLaidOut fs ns) where
           let q = directory s up.dir in
           let v : ◌≡◌ {A = Option Directory} (Some (record { fs = outer.fs; path = outer.path ++ name ∷ [] })) (Some (record { fs = q.fs; path = q.path ++ up.name ∷ [] })) = sym at ∙ dir_under d n up e u in
           let w : ◌≡◌ {A = Directory} (record { fs = outer.fs; path = outer.path ++ name ∷ [] }) (record { fs = q.fs; path = q.path ++ up.name ∷ [] }) = cc in
-          let names = snoc_same outer.path q.path name up.name (ap (λ p. p.path) w) in
+          let names = same_from_push outer.path q.path name up.name (ap (λ p. p.path) w) in
           let one = ap (λ p. p.fs) w in
           let same : outer ≡ q = λ i. record { fs = one i; path = names.0 i } in
           (up, u, same_place s t.skeleton dir up.dir q same (there_at up.dir (omega (arith, t.before d n up e u, slice_get_within ns d n e))), sym names.1)

@@ -6,7 +6,8 @@ use Rattle.std.proofs.lemmas.Bool.{cases_lt, and_parts, false_from_ne_true, true
 use Rattle.std.proofs.lemmas.Bool.Decides.{Decides-eqb, Decides-and, Decides-like, Decides-ltb, same_from_decides}
 use Rattle.std.proofs.lemmas.Slice.Eq.{slice_eq-Decides, bytes_eq-Decides, starts_is}
 use Rattle.std.proofs.lemmas.Option.{slice_get_within, get_or_from_slice_get, slice_get-get_or}
-use Rattle.mt_skel.proofs.ListLaws.{snoc_same, snoc_some, front_empty, last_of, pushed, kept, last_place}
+use Rattle.std.proofs.lemmas.List.{same_from_push}
+use Rattle.mt_skel.proofs.ListLaws.{snoc_some, front_empty, last_of, pushed, kept, last_place}
 use Rattle.mt_skel.specs.Skeleton.{Skeleton, Directory, Filesystem, path_eq, directory_eq, is_directory, is_filesystem, directory, fs_named, directory_number, child, holds, with_fs, with_dir, IsSkeleton}
 
 -- the first place where a test passes
@@ -196,7 +197,7 @@ holds_up s is outer here up fs path name e u ne =
               absurd (ne (same_place s is outer here (record { fs = fs; path = path ++ name ∷ [] }) (λ i. record { fs = one i; path = names i }) e))
           | inr some ↦
               let split : path ++ name ∷ [] ≡ ((directory s outer).path ++ some.0) ++ some.1 ∷ [] = joined ∙ ap (λ x. (directory s outer).path ++ x) some.2 ∙ sym (append_assoc (directory s outer).path some.0 (some.1 ∷ [])) in
-              let same = snoc_same path ((directory s outer).path ++ some.0) name some.1 split in
+              let same = same_from_push path ((directory s outer).path ++ some.0) name some.1 split in
               record {
                 there = slice_get_within s.directories up (record { fs = fs; path = path }) u;
                 one = one ∙ ap (λ x. x.fs) (sym p);
@@ -240,7 +241,7 @@ skeleton_with_dir s is up p name u absent = record {
     | inl old ↦ let h = is.parents i fs path last old in (h.0, h.1, kept s.directories new (record { fs = fs; path = path }) h.0 h.2)
     | inr end ↦
         let f : p.fs ≡ fs = ap (λ x. x.fs) end.1 in
-        let names : p.path ≡ path = (snoc_same p.path path name last (ap (λ x. x.path) end.1)).0 in
+        let names : p.path ≡ path = (same_from_push p.path path name last (ap (λ x. x.path) end.1)).0 in
         let same : p ≡ record { fs = fs; path = path } = λ k. record { fs = f k; path = names k } in
         (up, omega (arith, end.0, slice_get_within s.directories up p u), kept s.directories new (record { fs = fs; path = path }) up (u ∙ ap (λ x. Some x) same))
   ];

@@ -16,7 +16,7 @@ lower : (x y : ℕ) (ys : List ℕ) → x < y → list_all (λ z. nat_lt y z) ys
 lower x y [] l h = refl
 lower x y (z ∷ zs) l h = let ih = lower x y zs l in grind (arith, nat_tests)
 
-rises_of : (xs : List ℕ) → IsStrictlyIncreasing xs → rises (λ n. n) xs ≡ true
+pub rises_of : (xs : List ℕ) → IsStrictlyIncreasing xs → rises (λ n. n) xs ≡ true
 rises_of [] h = refl
 rises_of (x ∷ []) h = refl
 rises_of (x ∷ y ∷ ys) h =

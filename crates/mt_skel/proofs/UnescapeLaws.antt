@@ -1,6 +1,6 @@
 -- What a text of a line stands for, byte by byte.
-use Rattle.std.proofs.Common.{◌≡◌, ◌≢◌, ℕ, zero, suc, ◌≤◌, ◌==◌, ◌&&◌, ◌||◌, ◌⊎◌, inl, inr, cond, List, [], ◌∷◌, length, Bool, true, false, Option, Some, None, refl, sym, subst, ◌∙◌, arith}
-use Rattle.std.proofs.lemmas.Bool.{eqb-true, eqb-false}
+use Rattle.std.proofs.Common.{◌≡◌, ◌≢◌, ℕ, zero, suc, ◌≤◌, ◌==◌, ◌&&◌, ◌⊎◌, inl, inr, cond, List, [], ◌∷◌, length, Bool, true, false, Option, Some, None, refl, sym, subst, ◌∙◌, arith}
+use Rattle.std.proofs.lemmas.Bool.{eqb-true, eqb-false, and_parts}
 use Rattle.mt_skel.specs.Escapes.{unescaped, cons_to, byte_of_digits}
 use Rattle.mt_skel.proofs.EscapeLaws.{unescaped-plain, unescaped-short, unescaped-nil, unescaped-escape}
 
@@ -13,18 +13,10 @@ pub record IsKept (P : List ℕ → List ℕ → Type 0) : Type 0 where
   pub newline : (w b : List ℕ) → P w b → P (92 ∷ 48 ∷ 49 ∷ 50 ∷ w) (10 ∷ b)
   pub backslash : (w b : List ℕ) → P w b → P (92 ∷ 49 ∷ 51 ∷ 52 ∷ w) (92 ∷ b)
 
-pub and-parts : (p q : Bool) → (p && q) ≡ true → (p ≡ true) × (q ≡ true)
-and-parts true q h = (refl, h)
-and-parts false q h = cc
-
-pub or-parts : (p q : Bool) → (p || q) ≡ false → (p ≡ false) × (q ≡ false)
-or-parts true q h = cc
-or-parts false q h = (refl, h)
-
 three_are : (d e f a b c : ℕ) → ((d == a) && (e == b) && (f == c)) ≡ true → (d ≡ a) × (e ≡ b) × (f ≡ c)
 three_are d e f a b c h =
-    let last = and-parts ((d == a) && (e == b)) (f == c) h in
-    let first = and-parts (d == a) (e == b) last.0 in
+    let last = and_parts ((d == a) && (e == b)) (f == c) h in
+    let first = and_parts (d == a) (e == b) last.0 in
     (eqb-true d a first.0, eqb-true e b first.1, eqb-true f c last.1)
 
 -- which of four tests chose a byte

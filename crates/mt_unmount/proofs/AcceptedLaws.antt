@@ -1,12 +1,11 @@
 -- What is known of an unmount and of a detach that were accepted: the effect, and that no refusal holds.
-use Rattle.std.proofs.Common.{◌≡◌, ℕ, true, false, List, [], ◌∷◌, Option, Some, None, Ok, refl}
+use Rattle.std.proofs.Common.{◌≡◌, ℕ, true, false, List, None, Ok}
 use Rattle.std.specs.Prelude.{not}
-use Rattle.std.specs.List.{list_any, AllByRecursion}
+use Rattle.std.specs.List.{list_any}
 use Rattle.std.proofs.lemmas.Bool.{not-false}
-use Rattle.mt_skel.specs.declared.fault.Fault.{Fault}
 use Rattle.mt_skel.specs.declared.fault.Fault.TheVariants.{NotMountRoot, RootPlace, Busy}
-use Rattle.mt_skel.specs.Outcome.{fault_of, outcome}
-use Rattle.mt_skel.proofs.OutcomeLaws.{not_refused}
+use Rattle.mt_skel.specs.Outcome.{fault_of}
+use Rattle.mt_skel.proofs.OutcomeLaws.{not_refused, accepted}
 use Rattle.mt_mounts.specs.declared.mount.Place.{Place}
 use Rattle.mt_mounts.specs.Forest.{stands_on}
 use Rattle.mt_mounts.specs.Walk.{walk}
@@ -14,12 +13,6 @@ use Rattle.mt_propagate.specs.World.{WorldView}
 use Rattle.mt_propagate.specs.Named.{place_or_nowhere, is_mount_root, is_root_mount}
 use Rattle.mt_unmount.specs.Unmounting.{without_mount, unmounted_refusals, unmounted_effect, unmounted}
 use Rattle.mt_unmount.specs.Detaching.{without_tree, named_place, detached_refusals, detached_effect, detached}
-
--- an accepted call gives its effect, and each refusal of its list is absent
-accepted : {A : Type 0} (fs : List (Option Fault)) (a b : A) → outcome fs a ≡ Ok b → (a ≡ b) × AllByRecursion (λ o. o ≡ None) fs
-accepted [] a b e = (cc, tt)
-accepted (None ∷ fs) a b e = let later = accepted fs a b e in (later.0, (refl, later.1))
-accepted (Some f ∷ fs) a b e = absurd (cc)
 
 -- the place where a path ends
 abbrev pub path_end : WorldView → ℕ → List (List ℕ) → Place

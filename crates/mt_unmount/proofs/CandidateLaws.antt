@@ -19,12 +19,12 @@ use Rattle.mt_propagate.specs.WellFormed.{IsWellFormed}
 use Rattle.mt_propagate.specs.Receivers.{hits}
 use Rattle.mt_propagate.proofs.TreeLaws.{parent-from}
 use Rattle.mt_propagate.proofs.WalkLaws.{stands_at}
+use Rattle.mt_propagate.proofs.BelowGroupLaws.{in-among}
 use Rattle.mt_unmount.specs.Sliding.{place_of, is_inside, inside, stands_inside, CanGo}
 use Rattle.mt_unmount.specs.Detaching.{standing_at, received, candidates, is_candidate, is_detached}
 use Rattle.mt_unmount.specs.Holding.{AreHeld}
 use Rattle.mt_unmount.proofs.GapLaws.{place-at, inside-inside}
 use Rattle.mt_unmount.proofs.HeldLaws.{in_filter_map}
-use Rattle.mt_unmount.proofs.HoldingLaws.{among-in}
 
 -- what all of a list pass, and what does not pass
 all-passed : (t : ℕ → Bool) (xs : List ℕ) (x : ℕ) → list_all t xs ≡ true → In x xs → t x ≡ true
@@ -118,7 +118,7 @@ module _ (w : WorldView) (h : IsWellFormed w) where
         }
 
     pub candidate-cases : (j : ℕ) → is_candidate w i j ≡ true → In j (subtree w.forest i) ⊎ IsReceived j
-    candidate-cases j e = elim (in_append j (subtree w.forest i) (flat_map (received w) (subtree w.forest i)) (among-in (candidates w i) j e)) [
+    candidate-cases j e = elim (in_append j (subtree w.forest i) (flat_map (received w) (subtree w.forest i)) (in-among (candidates w i) j e)) [
       | inl tree ↦ inl tree
       | inr other ↦ let f = in_flat (received w) j (subtree w.forest i) other in inr (by f.0 f.1 (place_of w f.0) refl f.2)
     ]

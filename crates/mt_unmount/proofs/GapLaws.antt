@@ -1,7 +1,7 @@
 -- Where what stays, or is below what stays, stands on a mount that goes, it stands at the root of that one.
 use Rattle.std.proofs.Common.{◌≡◌, ℕ, zero, suc, Bool, true, false, not, ◌&&◌, ◌||◌, ◌==◌, eqb-true, eq-eqb, [], length, Option, Some, None, refl, sym, ap, ◌∙◌}
 use Rattle.std.specs.List.{list_any}
-use Rattle.std.specs.Option.{option_map, option_map_or, unwrap_or}
+use Rattle.std.specs.Option.{option_map_or, unwrap_or}
 use Rattle.std.proofs.lemmas.Bool.{true≢false}
 use Rattle.mt_skel.specs.Chain.{chain}
 use Rattle.mt_skel.proofs.ChainLaws.{chain-step}
@@ -13,6 +13,7 @@ use Rattle.mt_propagate.specs.World.{WorldView, root_dir}
 use Rattle.mt_propagate.specs.Named.{unknown}
 use Rattle.mt_propagate.specs.WellFormed.{IsWellFormed}
 use Rattle.mt_propagate.proofs.TreeLaws.{parent-is}
+use Rattle.mt_propagate.proofs.CopyRowLaws.{root_is}
 use Rattle.mt_unmount.specs.Sliding.{place_of, stands_inside, is_inside, CanGo}
 
 -- the place of a mount, and a mount with a place
@@ -26,9 +27,6 @@ module _ (w : WorldView) where
       go : (o : Option Mount) → mount_at w.forest j ≡ o → (unwrap_or o unknown).place ≡ Some p → (r : Mount) × (mount_at w.forest j ≡ Some r) × (r.place ≡ Some p)
       go None is e = absurd (let v : None ≡ Some p = e in cc)
       go (Some r) is e = (r, is, e)
-
-  pub root-at : (j : ℕ) (r : Mount) → mount_at w.forest j ≡ Some r → root_dir w j ≡ r.root
-  root-at j r e = ap (λ o. unwrap_or (option_map (λ (m : Mount). m.root) o) 0) e
 
   -- a mount that stands on another one, at its root or within it
   pub within-at : (i j : ℕ) (p : Place) → place_of w j ≡ Some p → p.mount ≡ i → stands_inside w i j ≡ not (p.dir == root_dir w i)
@@ -127,7 +125,7 @@ module _ (w : WorldView) (h : IsWellFormed w) (goes : ℕ → Bool) (can : CanGo
       let q = h.forest.placed j m p e at in
       let r = can.placed p.mount q.0 gone q.1 in
       let id : q.0.id ≡ p.mount = row_at-key id_of p.mount w.forest q.0 q.1 in
-      let dir : p.dir ≡ q.0.root = eqb-true p.dir q.0.root (ap (λ d. p.dir == d) (sym (root-at w p.mount q.0 q.1)) ∙ at_dir (p.dir == root_dir w p.mount) refl) in
+      let dir : p.dir ≡ q.0.root = eqb-true p.dir q.0.root (ap (λ d. p.dir == d) (sym (root_is w p.mount q.0 q.1)) ∙ at_dir (p.dir == root_dir w p.mount) refl) in
       let same : root_place q.0 ≡ p = λ i. record { mount = id i; dir = sym dir i } in
       record { mount = q.0; place = r.0; there = q.1; stands = r.1; at_root = same }
     where

@@ -11,10 +11,10 @@ use Rattle.mt_peers.proofs.AlikeLaws.{along}
 use Rattle.mt_peers.proofs.MemberLaws.{some-is}
 use Rattle.mt_propagate.specs.World.{WorldView, root_dir}
 use Rattle.mt_propagate.specs.WellFormed.{IsWellFormed}
+use Rattle.mt_propagate.proofs.BelowGroupLaws.{in-among, among-in}
 use Rattle.mt_unmount.specs.Sliding.{place_of, stands_inside}
 use Rattle.mt_unmount.specs.Holding.{around, AreHolding, AreHeld}
 use Rattle.mt_unmount.proofs.GapLaws.{within-at, within-place, parent-place}
-use Rattle.mt_unmount.proofs.HoldingLaws.{among-in, in-among}
 
 -- what comes of a list is what comes of one of its elements
 pub in_filter_map : {X Y : Type 0} (f : X → Option Y) (y : Y) (xs : List X) → In y (filter_map f xs) → (x : X) × In x xs × (f x ≡ Some y)
@@ -78,10 +78,10 @@ module _ (w : WorldView) (h : IsWellFormed w) (candidate : ℕ → Bool) (ids : 
         let p = within-place w i c.0 c.2 in
         let up : parent w.forest c.0 ≡ Some i = parent-place w h c.0 p.0 p.1 ∙ ap (λ k. Some k) p.2 in
         let holds = holds-up i j c.0 off (any_in (eqb c.0) c.0 (parents_up w.forest j) c.1 (eq-eqb c.0 c.0 refl)) up is in
-        in-among (filter_map (around w) ids) i (in_filter_mapped (around w) i c.0 ids (among-in ids c.0 holds) (around-is w i c.0 c.2));
+        among-in (filter_map (around w) ids) i (in_filter_mapped (around w) i c.0 ids (in-among ids c.0 holds) (around-is w i c.0 c.2));
     only = λ i e.
-        let c = in_filter_map (around w) i ids (among-in (filter_map (around w) ids) i e) in
-        let z = are.sound c.0 (in-among ids c.0 c.1) in
+        let c = in_filter_map (around w) i ids (in-among (filter_map (around w) ids) i e) in
+        let z = are.sound c.0 (among-in ids c.0 c.1) in
         let on = in_any (eqb c.0) (parents_up w.forest z.0) z.4 in
         (z.0, z.1, z.2, z.3, any_in (stands_inside w i) c.0 (parents_up w.forest z.0) (subst (λ k. In k (parents_up w.forest z.0)) (sym (eqb-true c.0 on.0 on.2)) on.1) (around-from w i c.0 c.2));
   }

@@ -14,7 +14,7 @@ use Rattle.indexmap.specs.IndexSet.{insert_key}
 use Rattle.mt_skel.specs.Chain.{chain}
 use Rattle.mt_skel.specs.Keyed.{among}
 use Rattle.mt_skel.proofs.ChainLaws.{chain-step}
-use Rattle.mt_skel.proofs.ElementLaws.{In, in_any, any_in, in_map, in_mapped, in_filter, in_filtered, in_flat, in_flatted, in_row, row_in}
+use Rattle.mt_skel.proofs.ElementLaws.{In, in_map, in_mapped, in_filter, in_filtered, in_flat, in_flatted, in_row, row_in}
 use Rattle.mt_skel.proofs.KeyedLaws.{row_at-key}
 use Rattle.mt_mounts.specs.declared.mount.Mount.{Mount}
 use Rattle.mt_mounts.specs.declared.mount.Place.{Place}
@@ -25,15 +25,10 @@ use Rattle.mt_propagate.specs.World.{WorldView}
 use Rattle.mt_propagate.specs.WellFormed.{IsWellFormed}
 use Rattle.mt_propagate.proofs.RowLaws.{length-keys, among-keys}
 use Rattle.mt_propagate.proofs.TreeLaws.{parent-from}
+use Rattle.mt_propagate.proofs.BelowGroupLaws.{in-among, among-in}
 use Rattle.mt_unmount.specs.Holding.{staying_on, candidate_under, AreHolding}
 
 -- numbers of a list
-pub among-in : (xs : List ℕ) (x : ℕ) → among xs x ≡ true → In x xs
-among-in xs x e = let y = in_any (λ k. nat_eq k x) xs e in subst (λ z. In z xs) (eqb-true y.0 x y.2) y.1
-
-pub in-among : (xs : List ℕ) (x : ℕ) → In x xs → among xs x ≡ true
-in-among xs x e = any_in (λ k. nat_eq k x) x xs e (eq-eqb x x refl)
-
 turned : (xs : List ℕ) (x : ℕ) → list_any (nat_eq x) xs ≡ among xs x
 turned [] x = refl
 turned (y ∷ ys) x = let ih = turned ys x in grind (arith, nat_tests)
@@ -195,7 +190,7 @@ module _ (w : WorldView) (h : IsWellFormed w) where
               by : (b : Bool) → among all i ≡ b → (b || nat_eq x i) ≡ true → (j : ℕ) × (m : Mount) × (mount_at w.forest j ≡ Some m) × (candidate j ≡ false) × (is_below w.forest i j ≡ true)
               by true is e = m.sound i is
               by false is e =
-                  let z = m.sound y (in-among all y (get-in all v 0 within)) in
+                  let z = m.sound y (among-in all y (get-in all v 0 within)) in
                   (z.0, z.1, z.2, z.3, below-parent y i (under-from x y under ∙ ap (λ k. Some k) (eqb-true x i e)) z.0 z.4)
 
       pub met-next : (new : List ℕ) → new ≡ option_map_or (insert_key nat_eq all) (candidate_under w candidate (get_or all v 0)) all → IsMet w candidate (take (v + 1) new) new
@@ -209,11 +204,11 @@ module _ (w : WorldView) (h : IsWellFormed w) where
           let child : In r.0 (filter (stands_on i) w.forest) =
           in_filtered (stands_on i) r.0 w.forest (row_in id_of j w.forest r.0 r.2) (ap (λ o. option_map_or (λ (p : Place). p.mount == i) o false) r.3 ∙ eq-eqb r.1.mount i r.4) in
           let named : In j (children w.forest i) = subst (λ k. In k (children w.forest i)) (row_at-key id_of j w.forest r.0 r.2) (in_mapped id_of r.0 (filter (stands_on i) w.forest) child) in
-          same j ∙ in-among (flat_map (staying_on w candidate) ids) j
-          (in_flatted (staying_on w candidate) j i ids (among-in ids i (are i ∙ c)) (in_filtered (λ k. not (candidate k)) j (children w.forest i) named (ap not off)));
+          same j ∙ among-in (flat_map (staying_on w candidate) ids) j
+          (in_flatted (staying_on w candidate) j i ids (in-among ids i (are i ∙ c)) (in_filtered (λ k. not (candidate k)) j (children w.forest i) named (ap not off)));
       closed = λ i j c up e. absurd (true≢false (sym e));
       sound = λ j e.
-          let f = in_flat (staying_on w candidate) j ids (among-in (flat_map (staying_on w candidate) ids) j (sym (same j) ∙ e)) in
+          let f = in_flat (staying_on w candidate) j ids (in-among (flat_map (staying_on w candidate) ids) j (sym (same j) ∙ e)) in
           let g = in_filter (λ k. not (candidate k)) j (children w.forest f.0) f.2 in
           let r = in_map id_of j (filter (stands_on f.0) w.forest) g.0 in
           let x = in_filter (stands_on f.0) r.0 w.forest r.1 in

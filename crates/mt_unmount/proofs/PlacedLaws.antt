@@ -27,7 +27,7 @@ never-both : {X A : Type 0} (x : X) (o : Option X) → o ≡ None → o ≡ Some
 never-both x o none some = absurd (let v : None ≡ Some x = sym none ∙ some in cc)
 
 -- the first of numbers that rise is none of the others
-not-among : (k : ℕ) (ks : List ℕ) → list_all (λ j. ltb k j) ks ≡ true → among ks k ≡ false
+pub not-among : (k : ℕ) (ks : List ℕ) → list_all (λ j. ltb k j) ks ≡ true → among ks k ≡ false
 not-among k [] h = refl
 not-among k (j ∷ js) h = let ih = not-among k js in grind (arith, nat_tests)
 

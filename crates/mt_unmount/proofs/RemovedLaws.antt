@@ -15,9 +15,10 @@ use Rattle.mt_propagate.specs.Receivers.{hits}
 use Rattle.mt_propagate.specs.WellFormed.{IsWellFormed}
 use Rattle.mt_propagate.proofs.RowLaws.{row-picked, all-row, any-row}
 use Rattle.mt_propagate.proofs.WalkLaws.{stands_at}
+use Rattle.mt_propagate.proofs.CopyRowLaws.{root_is}
 use Rattle.mt_unmount.specs.Sliding.{place_of, stands_inside, CanGo}
 use Rattle.mt_unmount.specs.Unmounting.{may_go, going_at, is_removed}
-use Rattle.mt_unmount.proofs.GapLaws.{place-at, placed-mount, root-at, within-place}
+use Rattle.mt_unmount.proofs.GapLaws.{place-at, placed-mount, within-place}
 
 -- what a list of optional results holds are results
 each-result : {X Y : Type 0} (f : X → Option Y) (xs : List X) → AllByRecursion (λ y. (x : X) × (f x ≡ Some y)) (filter_map f xs)
@@ -118,5 +119,5 @@ module _ (w : WorldView) (h : IsWellFormed w) (i : ℕ) where
               | inr too ↦
                   let id : too.mount.id ≡ k = row_at-key id_of k w.forest too.mount too.there in
                   let dir : p.dir ≡ too.mount.root = child-at-root too.mount too.may j m.0 p m.1 m.2 (on ∙ sym id) in
-                  absurd (true≢false (sym (eq-eqb p.dir (root_dir w k) (dir ∙ sym (root-at w k too.mount too.there))) ∙ off))
+                  absurd (true≢false (sym (eq-eqb p.dir (root_dir w k) (dir ∙ sym (root_is w k too.mount too.there))) ∙ off))
             ]

@@ -2,6 +2,7 @@
 use Rattle.std.proofs.Common.{◌≡◌, ℕ, Bool, true, false, cond, not, List, length, Option, Some, None, refl, sym, ap, ◌∙◌, subst}
 use Rattle.std.specs.List.{filter_map}
 use Rattle.std.specs.Option.{option_and_then}
+use Rattle.std.proofs.lemmas.Bool.{not-true}
 use Rattle.mt_skel.specs.Keyed.{without, among, rises}
 use Rattle.mt_skel.proofs.ChainLaws.{follow-stop}
 use Rattle.mt_skel.proofs.ElementLaws.{In, in_filter, in_filtered, in_row, find_in}
@@ -27,10 +28,6 @@ use Rattle.mt_unmount.proofs.PlacedLaws.{Fits, Finds, Moves, placed-each}
 abbrev unless : Bool → ℕ → Place → Option (ℕ × Place)
 unless b j q = cond b None (Some (j, q))
 
-stays-not : (b : Bool) → not b ≡ true → b ≡ false
-stays-not false e = refl
-stays-not true e = absurd (cc)
-
 module _ (w : WorldView) (h : IsWellFormed w) (goes : ℕ → Bool) (can : CanGo w goes) where
   -- the mounts that stay
   abbrev rest : List Mount
@@ -39,7 +36,7 @@ module _ (w : WorldView) (h : IsWellFormed w) (goes : ℕ → Bool) (can : CanGo
   known : (m : Mount) → In m rest → (mount_at w.forest m.id ≡ Some m) × (goes m.id ≡ false)
   known m e =
       let f = in_filter (λ m. not (leaves w goes m)) m w.forest e in
-      (in_row id_of w.forest m h.forest.rising f.0, stays-not (goes m.id) f.1)
+      (in_row id_of w.forest m h.forest.rising f.0, not-true (goes m.id) f.1)
 
   fits : Fits goes (slid w goes) rest
   fits = record {

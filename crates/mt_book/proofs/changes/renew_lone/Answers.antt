@@ -2,12 +2,12 @@ use Rattle.std.proofs.Common.{◌≡◌, ◌∙◌, ℕ, ◌++◌, ◌<◌, leng
 use Rattle.std.specs.Prelude.{slice_index_or}
 use Rattle.std.specs.Option.{option_to_list}
 use Rattle.std.specs.Arc.{arc_value}
+use Rattle.std.proofs.lemmas.List.{get_or_default}
 use Rattle.mt_skel.specs.Keyed.{row_at}
 use Rattle.mt_events.specs.Posts.{PostView}
 use Rattle.mt_book.specs.Book.{space_in, number_in, next_number, next_post, posted}
 use Rattle.mt_book.specs.Between.{AreWorlds}
 use Rattle.mt_book.proofs.LoneLaws.{absent_numbers, absent_posts, lone_numbers, lone_posts}
-use Rattle.mt_book.proofs.TouchedLaws.{in_range}
 use Rattle.mt_book.proofs.changes.renew_lone.Goals as goal
 
 same : (b : Bool) (l : List PostView) → cond b l l ≡ l
@@ -43,7 +43,7 @@ returns-clause-numbers c =
     let at = c.in-Some.at in
     let there = subst (λ (l : List (ℕ × ℕ)). row_at space_in c.args.space l ≡ Some (slice_index_or l at (0, 0))) c.deref.ensures.value c.in-Some.ensures.row in
     let within = subst (λ (l : List (ℕ × ℕ)). at < length l) c.deref.ensures.value c.in-Some.ensures.within in
-    let row = c.index-row.ensures ∙ in_range rs at c.index-row.result.now (0, 0) within in
+    let row = c.index-row.ensures ∙ get_or_default rs at c.index-row.result.now (0, 0) within in
     lone_numbers b.old b.new c.args.ids.now c.args.space worlds.old worlds.new c.requires.held c.requires.lone rs c.put_number.new.all.items
     (slice_index_or rs at (0, 0)) c.in_ok-change.change.number c.requires.numbers.rising c.put_number.ensures.rising there
     (c.in_ok-change.ensures.number ∙ ap (λ (r : ℕ × ℕ). next_number b.old b.new c.args.space (number_in r)) row) c.put_number.ensures.rows
@@ -56,7 +56,7 @@ returns-clause-posts c =
     let at = c.in-Some.at in
     let there = subst (λ (l : List (ℕ × ℕ)). row_at space_in c.args.space l ≡ Some (slice_index_or l at (0, 0))) c.deref.ensures.value c.in-Some.ensures.row in
     let within = subst (λ (l : List (ℕ × ℕ)). at < length l) c.deref.ensures.value c.in-Some.ensures.within in
-    let row = c.index-row.ensures ∙ in_range rs at c.index-row.result.now (0, 0) within in
+    let row = c.index-row.ensures ∙ get_or_default rs at c.index-row.result.now (0, 0) within in
     let told : posted b.old b.new rs ≡ option_to_list (next_post b.old b.new c.args.space (number_in (slice_index_or rs at (0, 0)))) =
     lone_posts b.old b.new c.args.ids.now c.args.space worlds.old worlds.new c.requires.held c.requires.lone rs (slice_index_or rs at (0, 0)) c.requires.numbers.rising there in
     c.new-2.ensures ∙ c.in_ok-push_post.ensures.posts ∙ ap (λ l. map (λ p. arc_value p) l ++ option_to_list c.in_ok-change.change.post) c.new-posts.ensures.items

@@ -1,6 +1,7 @@
 use Rattle.std.proofs.Common.{rules, nat_le, arith}
+use Rattle.mt_skel.proofs.PlaceLaws.{place-within}
 use Rattle.mt_events.specs.Mirrors.{MirrorView}
-use Rattle.mt_client.proofs.PlaceLaws.{place_found, place_behind, place-within}
+use Rattle.mt_client.proofs.PlaceLaws.{place_found, place_behind}
 use Rattle.mt_client.proofs.mirrors.place_for.Goals as goal
 
 pub returns-in-Some-clause-place : goal.returns-in-Some-clause-place

@@ -1,14 +1,11 @@
-use Rattle.std.proofs.Common.{◌≡◌, ◌∙◌, Bool, true, false, ◌&&◌, ◌||◌, not, is_some, refl, sym, ap}
+use Rattle.std.proofs.Common.{◌≡◌, ◌∙◌, true, false, ◌&&◌, ◌||◌, not, is_some, sym, ap}
+use Rattle.std.proofs.lemmas.Bool.{or_right}
 use Rattle.mt_skel.specs.Keyed.{has}
 use Rattle.mt_propagate.specs.World.{world_view}
 use Rattle.mt_info.specs.Table.{row_id, table_of}
 use Rattle.mt_events.specs.ByMount.{new_row}
 use Rattle.mt_events.proofs.NewsLaws.{arrived-new, other-new}
 use Rattle.mt_events.proofs.news.is_plain_news.Goals as goal
-
-second : (p q : Bool) → q ≡ true → (p || q) ≡ true
-second true q e = refl
-second false q e = e
 
 pub returns-then-not-was_there : goal.returns-then-not-was_there
 returns-then-not-was_there c =
@@ -29,6 +26,6 @@ returns c =
     let there : has row_id c.args.id b ≡ true = sym c.is_in-is_there.ensures ∙ c.if-not-is_there.false in
     record {
       news = λ e.
-          second (has row_id c.args.id a && not (has row_id c.args.id b)) (is_some (new_row a b c.args.id))
+          or_right (has row_id c.args.id a && not (has row_id c.args.id b)) (is_some (new_row a b c.args.id))
           (sym (other-new v w c.args.space c.args.id c.requires.before c.requires.after there (c.is_other.ensures e)));
     }

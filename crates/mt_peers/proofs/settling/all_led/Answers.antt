@@ -1,4 +1,4 @@
-use Rattle.std.proofs.Common.{true, ◌&&◌, sym, ap, ◌∙◌}
+use Rattle.std.proofs.Common.{true, ◌&&◌, sym, ap}
 use Rattle.std.specs.Option.{option_map_or}
 use Rattle.mt_peers.specs.Peers.{has_member}
 use Rattle.mt_peers.proofs.settling.all_led.Goals as goal

@@ -1,6 +1,7 @@
-use Rattle.std.proofs.Common.{refl, ◌∙◌, arith}
+use Rattle.std.proofs.Common.{refl, ◌∙◌, arith, None}
+use Rattle.std.proofs.lemmas.Option.{slice_get_within}
 use Rattle.mt_lists.proofs.TieLaws.{ids-set}
-use Rattle.mt_lists.proofs.TyingLaws.{free-within, rows-more, tied-more}
+use Rattle.mt_lists.proofs.TyingLaws.{rows-more, tied-more}
 use Rattle.mt_lists.proofs.SlotListLaws.{top-small}
 use Rattle.mt_lists.proofs.slot_lists.tying.tie.Goals as goal
 
@@ -11,11 +12,11 @@ grown-top-requires c =
 pub offset_bounds-ties-slot : goal.offset_bounds-ties-slot
 offset_bounds-ties-slot c =
     let few = c.requires.few in
-    let within = free-within c.args.ties.now c.args.slot c.requires.free in
+    let within = slice_get_within c.args.ties.now c.args.slot None c.requires.free in
     omega arith
 
 pub bounds-ties-slot : goal.bounds-ties-slot
-bounds-ties-slot c = free-within c.args.ties.now c.args.slot c.requires.free
+bounds-ties-slot c = slice_get_within c.args.ties.now c.args.slot None c.requires.free
 
 pub returns-clause-tied : goal.returns-clause-tied
 returns-clause-tied c =

@@ -1,4 +1,4 @@
-use Rattle.std.proofs.Common.{◌+◌, ◌<◌, ◌^◌, nat_eq, get_or, sym, ap, ◌∙◌, arith}
+use Rattle.std.proofs.Common.{nat_eq, get_or, ◌∙◌, arith}
 use Rattle.mt_peers.specs.Peers.{peering_of}
 use Rattle.mt_peers.proofs.EachLaws.{each-step, each-end, each-rises}
 use Rattle.mt_peers.proofs.peers.Peers.change_each.Goals as goal

@@ -1,4 +1,4 @@
-use Rattle.std.proofs.Common.{ℕ, List, ◌≤◌, refl, sym, ap, ◌∙◌, subst, arith, div-le_self}
+use Rattle.std.proofs.Common.{ℕ, List, refl, sym, ap, ◌∙◌, subst, arith, div-le_self}
 use Rattle.std.specs.List.Sorted.{IsNonDecreasing}
 use Rattle.mt_skel.specs.Keyed.{among}
 use Rattle.mt_peers.specs.Peers.{PeersView, peering_of}

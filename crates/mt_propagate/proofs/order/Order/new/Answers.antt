@@ -1,7 +1,7 @@
 use Rattle.std.proofs.Common.{subst}
 use Rattle.std.specs.List.Sorted.{IsNonDecreasing}
 use Rattle.std.proofs.lemmas.List.Sorted.{non_decreasing_from_is_sorted}
-use Rattle.mt_propagate.proofs.OrderLaws.{where_true}
+use Rattle.mt_peers.proofs.ChosenLaws.{where_true}
 use Rattle.mt_propagate.proofs.order.Order.new.Goals as goal
 
 pub invariant_of-result : goal.invariant_of-result

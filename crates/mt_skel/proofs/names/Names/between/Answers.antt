@@ -1,4 +1,4 @@
-use Rattle.std.proofs.Common.{◌≡◌, [], ◌∷◌, ◌++◌, List, ℕ, sym, ap, ◌∙◌, true}
+use Rattle.std.proofs.Common.{◌≡◌, [], ◌∷◌, ◌++◌, List, ℕ, sym, ap, ◌∙◌}
 use Rattle.std.specs.List.{list_all}
 use Rattle.mt_skel.specs.Names.{is_name, names_in, names_text}
 use Rattle.mt_skel.proofs.NamesLaws.{text_between}
