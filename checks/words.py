@@ -34,7 +34,7 @@ above mt_lists mt_peers
 after mt_book mt_session
 answer mt_book mt_session
 applied mt_events mt_floor
-begins mt_session mt_words
+begins mt_lines mt_session
 begun mt_desk mt_session
 change_of mt_events mt_requests
 changed mt_floor mt_peers
@@ -74,7 +74,7 @@ mount_of mt_peers mt_requests
 mounts_in mt_mounts mt_propagate
 names mt_lists mt_peers
 new_row mt_desk mt_events mt_floor
-next_number mt_book mt_words
+next_number mt_book mt_lines
 number_at mt_lists mt_propagate
 posted mt_book mt_floor
 row_follows mt_desk mt_floor

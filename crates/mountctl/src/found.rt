@@ -7,14 +7,14 @@ use crate::kept::{Kept, ask_kept};
 use crate::lines::tell_bad;
 use crate::what_if::line_of;
 use mt_client::relay::print_text;
-use mt_draw::objects::push_place;
 use mt_info::read::read_row;
 use mt_info::row::Row;
 use mt_lines::line::LineReader;
 use mt_lines::stream::{Input, Output};
+use mt_lines::words::{Pieces, number, words};
+use mt_render::objects::push_place;
 use mt_skel::escape::unescape;
 use mt_skel::fault::Fault as Refusal;
-use mt_words::words::{Pieces, number, words};
 use std::alloc::Global;
 use std::io::Eprint;
 

@@ -3,8 +3,8 @@
 use crate::fault::Fault;
 use jiff::Timestamp;
 use mt_lines::stream::{Output, StreamFault, send};
-use mt_told::stamp::{push_refusal, push_timed};
-use mt_told::telling::Telling;
+use mt_render::stamp::{push_refusal, push_timed};
+use mt_render::telling::Telling;
 use std::alloc::Global;
 use std::time::Clock;
 

@@ -6,7 +6,7 @@ use crate::fault::Fault;
 use crate::kept::{Kept, ask_kept};
 use mt_lines::line::LineReader;
 use mt_lines::stream::{Input, Output};
-use mt_words::words::words;
+use mt_lines::words::words;
 use std::alloc::{AllocError, Global};
 
 /// The refusals that may be of either path.

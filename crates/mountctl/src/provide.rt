@@ -10,7 +10,7 @@ use mt_client::fault::ClientFault;
 use mt_client::request::request_line;
 use mt_lines::line::LineReader;
 use mt_lines::stream::{Input, Output};
-use mt_words::words::{Pieces, number, words};
+use mt_lines::words::{Pieces, number, words};
 use std::alloc::{AllocError, Global};
 
 /// The text of the answer to a request of these words, or None where it is refused.

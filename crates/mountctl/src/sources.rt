@@ -1,6 +1,6 @@
 //! The files of tables that words name.
 
-use mt_words::words::number;
+use mt_lines::words::number;
 use std::alloc::{AllocError, AllocFailed, Global};
 
 /// The most tables of an import: as many as a server has namespaces.

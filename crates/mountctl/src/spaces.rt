@@ -7,7 +7,7 @@ use crate::kept::{Kept, ask_kept};
 use mt_client::relay::print_text;
 use mt_lines::line::LineReader;
 use mt_lines::stream::{Input, Output};
-use mt_words::words::{Pieces, words};
+use mt_lines::words::{Pieces, words};
 use std::alloc::{AllocError, Global};
 
 /// The number of a namespace and that of its mounts, as the heading of its rows says them. None where a line is no heading.

@@ -3,10 +3,10 @@
 use crate::marked::Marks;
 use crate::options::{Chosen, Options, chosen_in};
 use mt_client::answer::{Form, form_of};
-use mt_draw::drawing::Drawing;
 use mt_events::opening::Scope;
-use mt_told::telling::Telling;
-use mt_words::words::number;
+use mt_lines::words::number;
+use mt_render::drawing::Drawing;
+use mt_render::telling::Telling;
 
 /// The first words of lines that are about their session.
 const SESSION_WORDS: [&str; 6] = ["watch", "take", "follow", "close", "quit", "stop"];

@@ -6,7 +6,7 @@ use Rattle.mt_lines.specs.Lines.{Item, Text}
 use Rattle.mt_events.specs.Posts.{PostView, IsPost, post_text, ended}
 use Rattle.mt_events.specs.Mirrors.{MirrorView, is_next}
 use Rattle.mt_events.specs.declared.opening.Scope.TheVariants.{All}
-use Rattle.mt_told.specs.Told.{named_text}
+use Rattle.mt_render.specs.Wording.{named_text}
 use Rattle.mt_client.specs.declared.effects.SpaceName.{SpaceName}
 use Rattle.mt_client.specs.Reading.{texts, printed}
 use Rattle.mt_client.specs.Telling.{mirror_in, mirrors_with, mirrors_by, is_due, are_due}

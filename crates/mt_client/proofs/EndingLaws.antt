@@ -4,7 +4,7 @@ use Rattle.std.specs.List.{flat_map, AllByRecursion}
 use Rattle.std.specs.Str.{bytes_eq}
 use Rattle.std.proofs.lemmas.Slice.Eq.{bytes_eq-Decides}
 use Rattle.std.proofs.lemmas.Option.{same_Some}
-use Rattle.mt_words.specs.Words.{words, number_in_text}
+use Rattle.mt_lines.specs.Words.{words, number_in_text}
 use Rattle.mt_lines.specs.Lines.{Item, Text}
 use Rattle.mt_skel.proofs.MiddleLaws.{each_last}
 use Rattle.mt_client.specs.declared.block.Block.TheVariants.{Post}

@@ -5,9 +5,9 @@ use Rattle.std.proofs.lemmas.Bool.Decides.{nat_tests}
 use Rattle.std.proofs.lemmas.Bool.{false≢true}
 use Rattle.std.proofs.lemmas.Option.{same_Some}
 use Rattle.mt_skel.proofs.MiddleLaws.{and_first, and_second}
-use Rattle.mt_words.specs.Words.{words}
-use Rattle.mt_words.proofs.NumberLaws.{number_decimal}
-use Rattle.mt_words.proofs.PieceLaws.{pieces_joined}
+use Rattle.mt_lines.specs.Words.{words}
+use Rattle.mt_lines.proofs.NumberLaws.{number_decimal}
+use Rattle.mt_lines.proofs.PieceLaws.{pieces_joined}
 use Rattle.mt_lines.specs.Lines.{Item, Text}
 use Rattle.mt_info.specs.declared.row.Row.{Row}
 use Rattle.mt_events.specs.Posts.{PostView, IsPost, event_words, gone_line, row_line, post_lines, post_text, ended}

@@ -3,8 +3,8 @@ use Rattle.std.proofs.Common.{◌≡◌, ◌≢◌, ℕ, ◌+◌, ◌<◌, ◌�
 use Rattle.std.proofs.lemmas.List.{append-nil}
 use Rattle.std.proofs.lemmas.Grind.{flat_map-append}
 use Rattle.std.specs.List.{flat_map, join_with_byte, list_all}
-use Rattle.mt_words.specs.Words.{words}
-use Rattle.mt_words.proofs.PieceLaws.{pieces_joined, joined_pieces}
+use Rattle.mt_lines.specs.Words.{words}
+use Rattle.mt_lines.proofs.PieceLaws.{pieces_joined, joined_pieces}
 use Rattle.mt_info.proofs.WordLaws.{lacks, decimal-lacks}
 use Rattle.mt_client.specs.declared.opening.Heading.{Heading}
 use Rattle.mt_client.specs.declared.fault.ClientFault.{ClientFault}

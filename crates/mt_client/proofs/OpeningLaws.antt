@@ -5,8 +5,8 @@ use Rattle.std.proofs.lemmas.List.{append_cancel_left}
 use Rattle.std.proofs.lemmas.Bool.{false≢true}
 use Rattle.std.proofs.lemmas.Bool.Decides.{nat_tests}
 use Rattle.std.proofs.lemmas.Fmt.{decimal_injective}
-use Rattle.mt_words.specs.Words.{words}
-use Rattle.mt_words.proofs.PieceLaws.{pieces_joined}
+use Rattle.mt_lines.specs.Words.{words}
+use Rattle.mt_lines.proofs.PieceLaws.{pieces_joined}
 use Rattle.mt_lines.specs.Lines.{Item, Text}
 use Rattle.mt_info.specs.Laws.{IsRow}
 use Rattle.mt_info.specs.RowLine.{line}

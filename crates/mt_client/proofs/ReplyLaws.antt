@@ -5,7 +5,7 @@ use Rattle.std.proofs.lemmas.Bool.Decides.{nat_tests}
 use Rattle.std.proofs.lemmas.Grind.{flat_map-append}
 use Rattle.std.specs.List.{flat_map, join_with_byte, AllByRecursion}
 use Rattle.std.proofs.lemmas.Option.{same_Some}
-use Rattle.mt_words.specs.Words.{words}
+use Rattle.mt_lines.specs.Words.{words}
 use Rattle.mt_lines.specs.Lines.{Item, Text}
 use Rattle.mt_skel.proofs.MiddleLaws.{each_last}
 use Rattle.mt_info.specs.Laws.{IsRow}

@@ -2,7 +2,7 @@
 use Rattle.std.proofs.Common.{◌≡◌, ℕ, Bool, true, false, ◌&&◌, if◌then◌else◌, List, [], ◌∷◌, ◌++◌, Some, None, codes, refl, arith, IsTrue, Result, Ok, Err, OnOk, OnErr}
 use Rattle.std.proofs.lemmas.Slice.Eq.{bytes_eq-Decides}
 use Rattle.std.specs.Str.{bytes_eq}
-use Rattle.mt_words.specs.Words.{words}
+use Rattle.mt_lines.specs.Words.{words}
 use Rattle.mt_lines.specs.Lines.{Item}
 use Rattle.mt_lines.specs.declared.stream.Cut.{Cut}
 use Rattle.mt_lines.specs.declared.stream.Output.{Ghosts as OutputGhosts}

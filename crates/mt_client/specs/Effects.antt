@@ -6,7 +6,7 @@ use Rattle.mt_lines.specs.Lines.{Item, Text}
 use Rattle.mt_events.specs.Posts.{PostView, IsPost, post_text, ended}
 use Rattle.mt_events.specs.Mirrors.{MirrorView}
 use Rattle.mt_events.specs.declared.opening.Scope.TheVariants.{All}
-use Rattle.mt_told.specs.Told.{named_text}
+use Rattle.mt_render.specs.Wording.{named_text}
 use Rattle.mt_client.specs.declared.answer.Form.TheVariants.{Posts}
 use Rattle.mt_client.specs.declared.effects.SpaceName.{SpaceName}
 use Rattle.mt_client.specs.Requests.{form_of, lines_behind}

@@ -2,7 +2,7 @@
 -- A word with no source is this project's rule.
 use Rattle.std.specs.Prelude.{◌≡◌, ℕ, ◌+◌, ◌<◌, ◌^◌, Bool, true, false, List, [], ◌∷◌, ◌++◌, length, Some}
 use Rattle.std.specs.List.{flat_map, join_with_byte, AllByRecursion}
-use Rattle.mt_words.specs.Words.{words}
+use Rattle.mt_lines.specs.Words.{words}
 use Rattle.mt_events.specs.Posts.{PostView, IsPost, post_text}
 use Rattle.mt_client.specs.declared.answer.Form.{Form}
 use Rattle.mt_client.specs.declared.answer.Form.TheVariants.{Table, Opening, Posts, Followed}

@@ -8,7 +8,7 @@ use Rattle.mt_skel.specs.Escapes.{escaped}
 use Rattle.mt_skel.specs.Fault.{name_of}
 use Rattle.mt_skel.specs.declared.fault.Fault.{Fault}
 use Rattle.mt_skel.specs.declared.fault.Fault.TheVariants.{BadLine, TooLong, BadPath, JournalFull, NoFilesystem, FilesystemExists, NoNamespace, NoEntry, EntryExists, NotMountRoot, RootPlace, Unbindable, SharedParent, IntoItself, UnbindableInside, Busy, BadAttr, TooMany, NoWatcher, WatcherOpen, TooManyWatchers, Lagged, Stopped, NoMemory}
-use Rattle.mt_words.specs.Words.{words, number_in_text}
+use Rattle.mt_lines.specs.Words.{words, number_in_text}
 use Rattle.mt_client.specs.declared.answer.Form.{Form}
 use Rattle.mt_client.specs.declared.answer.Form.TheVariants.{Done, Number, Place, Table, Opening, Posts, Followed, Never}
 

@@ -10,8 +10,8 @@ use Rattle.mt_events.specs.Mirrors.{MirrorView, is_next, mirrored}
 use Rattle.mt_events.specs.Following.{names_space}
 use Rattle.mt_events.specs.Texts.{count_text, opening_text, followed_text}
 use Rattle.mt_events.specs.declared.opening.Scope.{Scope}
-use Rattle.mt_told.specs.declared.telling.Telling.{Telling}
-use Rattle.mt_told.specs.Events.{told_as}
+use Rattle.mt_render.specs.declared.telling.Telling.{Telling}
+use Rattle.mt_render.specs.Events.{told_as}
 use Rattle.mt_client.specs.declared.fault.ClientFault.{ClientFault}
 use Rattle.mt_client.specs.declared.fault.ClientFault.TheVariants.{Connection, Output, NoMemory}
 use Rattle.mt_client.specs.Requests.{numbered_text}

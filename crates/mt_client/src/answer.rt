@@ -3,11 +3,11 @@ ghost use Rattle.std.specs.Prelude.{◌≡◌};
 ghost use Rattle.std.specs.List.{list_any};
 ghost use Rattle.std.specs.Str.{bytes_eq};
 ghost use Rattle.mt_skel.specs.Fault.{name_of};
-ghost use Rattle.mt_words.specs.Words.{words};
+ghost use Rattle.mt_lines.specs.Words.{words};
 ghost use Rattle.mt_client.specs.Requests.{first_of, is_done_command, is_number_command, form_of, verdict, is_refusal_name, is_refusal, lone_number, placed_number, table_count, lines_said, lines_behind};
 
+use mt_lines::words::{Words, number, words};
 use mt_skel::fault::Fault;
-use mt_words::words::{Words, number, words};
 
 /// Which lines answer a request that is not refused.
 #[derive(Clone, Copy, Debug, PartialEq, Eq)]

@@ -4,7 +4,7 @@ ghost use Rattle.mt_skel.specs.Keyed.{rises};
 ghost use Rattle.mt_lines.specs.Reading.{last_faults, fault_of, limit_of};
 ghost use Rattle.mt_events.specs.Posts.{ended};
 ghost use Rattle.mt_events.specs.Mirrors.{is_next};
-ghost use Rattle.mt_told.specs.Told.{named_text};
+ghost use Rattle.mt_render.specs.Wording.{named_text};
 ghost use Rattle.mt_lines.specs.Lines.{Item};
 ghost use Rattle.mt_client.specs.Requests.{form_of};
 ghost use Rattle.mt_client.specs.Replies.{IsAnswer};

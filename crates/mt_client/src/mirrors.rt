@@ -4,8 +4,8 @@ ghost use Rattle.std.specs.List.{remove, position_from, position_or_len};
 ghost use Rattle.std.specs.Option.{option_map_or};
 ghost use Rattle.mt_skel.specs.Keyed.{rises};
 ghost use Rattle.mt_events.specs.Mirrors.{MirrorView, is_next};
-ghost use Rattle.mt_told.specs.Told.{named_text};
-ghost use Rattle.mt_told.specs.Events.{told_as};
+ghost use Rattle.mt_render.specs.Wording.{named_text};
+ghost use Rattle.mt_render.specs.Events.{told_as};
 ghost use Rattle.mt_client.specs.Finding.{mirror_space};
 ghost use Rattle.mt_client.specs.Telling.{mirror_begun, mirror_in, mirrors_with};
 
@@ -15,7 +15,7 @@ use mt_events::mirror::Mirror;
 use mt_events::post::Post;
 use mt_info::table::Table;
 use mt_mounts::mount::SpaceId;
-use mt_told::telling::{Telling, push_telling};
+use mt_render::telling::{Telling, push_telling};
 use std::alloc::Global;
 
 /// The index of the first mirror that is not of a lesser namespace.

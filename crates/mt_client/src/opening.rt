@@ -15,9 +15,9 @@ use mt_info::read::read_row;
 use mt_info::row::Row;
 use mt_lines::line::LineReader;
 use mt_lines::stream::Input;
+use mt_lines::words::{Words, number, words};
 use mt_mounts::mount::SpaceId;
 use mt_skel::fault::Fault;
-use mt_words::words::{Words, number, words};
 use std::alloc::Global;
 
 /// What the first line of a namespace says.

@@ -3,7 +3,7 @@ ghost use Rattle.std.specs.Prelude.{◌≡◌, ◌≢◌, ◌⊎◌, List, ℕ, 
 ghost use Rattle.mt_lines.specs.Reading.{last_faults, fault_of, limit_of};
 ghost use Rattle.mt_events.specs.Mirrors.{MirrorView};
 ghost use Rattle.mt_events.specs.Posts.{ended};
-ghost use Rattle.mt_draw.specs.Drawings.{drawing_text};
+ghost use Rattle.mt_render.specs.Drawings.{drawing_text};
 ghost use Rattle.mt_client.specs.Reading.{lines_left, HasBroken, IsSentPart, IsCut};
 ghost use Rattle.mt_client.specs.Calls.{IsOut};
 ghost use Rattle.mt_client.specs.Mirroring.{HasRefused};
@@ -13,11 +13,11 @@ ghost use Rattle.mt_client.specs.Finding.{watch_text, HasWatched, IsFinding};
 use crate::fault::ClientFault;
 use crate::relay::print;
 use crate::watch::watch;
-use mt_draw::drawing::{Drawing, push_drawing};
 use mt_events::mirror::Mirror;
 use mt_events::opening::Scope;
 use mt_lines::line::LineReader;
 use mt_lines::stream::{Input, Output};
+use mt_render::drawing::{Drawing, push_drawing};
 use std::alloc::Global;
 
 /// Prints a drawing of tables.

@@ -1,7 +1,7 @@
 //! Posts as they are followed.
 ghost use Rattle.std.specs.Prelude.{◌≡◌, ◌≢◌, ℕ, List, ◌++◌, length, true, false, None, Err, IfOk, IfErr, OnOk, IsTrue};
 ghost use Rattle.mt_lines.specs.Reading.{fault_of, last_line};
-ghost use Rattle.mt_words.specs.Words.{words};
+ghost use Rattle.mt_lines.specs.Words.{words};
 ghost use Rattle.mt_events.specs.Posts.{PostView, IsPost, post_text, ended};
 ghost use Rattle.mt_events.specs.Mirrors.{is_next, mirrored};
 ghost use Rattle.mt_client.specs.Reading.{lines_left, printed, AreSoMany};
@@ -16,8 +16,8 @@ use mt_events::post::Post;
 use mt_events::read::read_post;
 use mt_lines::line::LineReader;
 use mt_lines::stream::Input;
+use mt_lines::words::{number, words};
 use mt_skel::fault::Fault;
-use mt_words::words::{number, words};
 use std::alloc::{AllocError, Global};
 
 /// How many lines follow the first line of a post: the number that is its fourth word, where its first is `event`.

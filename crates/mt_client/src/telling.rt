@@ -4,7 +4,7 @@ ghost use Rattle.mt_skel.specs.Keyed.{rises};
 ghost use Rattle.mt_lines.specs.Reading.{last_faults, fault_of, last_line, limit_of};
 ghost use Rattle.mt_events.specs.Mirrors.{MirrorView};
 ghost use Rattle.mt_events.specs.Posts.{PostView, ended};
-ghost use Rattle.mt_told.specs.Events.{told_as};
+ghost use Rattle.mt_render.specs.Events.{told_as};
 ghost use Rattle.mt_client.specs.Requests.{numbered_text};
 ghost use Rattle.mt_client.specs.Reading.{lines_left, HasBroken, IsSentPart, NoneFirst, IsCut};
 ghost use Rattle.mt_client.specs.Calls.{ReadsOn, WritesOn, IsOut, IsOutInPart, IsTellFault, IsTalkFault};
@@ -28,7 +28,7 @@ use mt_events::opening::Scope;
 use mt_events::post::Post;
 use mt_lines::line::LineReader;
 use mt_lines::stream::{Input, Output};
-use mt_told::telling::Telling;
+use mt_render::telling::Telling;
 use std::alloc::Global;
 
 /// How many posts a request asks for, the most that one may.

@@ -15,8 +15,8 @@ use Rattle.mt_info.specs.Laws.{IsRow}
 use Rattle.mt_info.proofs.WordLaws.{lacks, all-append, decimal-lacks}
 use Rattle.mt_skel.proofs.MiddleLaws.{and-true}
 use Rattle.mt_info.proofs.LineEndLaws.{decimal-lacks-end, line-lacks-end, joined-lacks-end}
-use Rattle.mt_words.specs.Words.{pieces, words, begins}
-use Rattle.mt_words.proofs.PieceLaws.{pieces_joined, joined_pieces}
+use Rattle.mt_lines.specs.Words.{pieces, words, begins}
+use Rattle.mt_lines.proofs.PieceLaws.{pieces_joined, joined_pieces}
 use Rattle.mt_events.specs.Posts.{PostView, IsPost, itself, is_change, event_words, gone_line, row_line, minus, equals, post_lines, post_text, ended}
 
 -- the text of a post in three parts

@@ -2,7 +2,7 @@
 ghost use Rattle.std.specs.Prelude.{◌≡◌, ◌≢◌, ℕ, ◌+◌, ◌<◌, ◌≤◌, ◌^◌, ◌&&◌, ◌==◌, ◌↔◌, false, true, List, [], ◌∷◌, ◌++◌, map, length, IfOk, IfErr, IfSome, IsTrue, MatchOption};
 ghost use Rattle.std.specs.List.{join_with_byte, AllByRecursion};
 ghost use Rattle.mt_skel.specs.Keyed.{rises};
-ghost use Rattle.mt_words.specs.Words.{begins};
+ghost use Rattle.mt_lines.specs.Words.{begins};
 ghost use Rattle.mt_info.specs.declared.row.Row.{Row};
 ghost use Rattle.mt_info.specs.Laws.{IsRow};
 ghost use Rattle.mt_info.specs.Table.{row_id};
@@ -12,9 +12,9 @@ use crate::post::{Ids, Post, Rows};
 use mt_info::fields::read_number;
 use mt_info::read::read_row;
 use mt_info::row::Row;
+use mt_lines::words::{Pieces, Words, words};
 use mt_mounts::mount::{MountId, SpaceId};
 use mt_skel::fault::Fault;
-use mt_words::words::{Pieces, Words, words};
 use std::alloc::Global;
 
 /// What the first line of a post says.

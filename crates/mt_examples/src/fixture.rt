@@ -5,10 +5,10 @@ use mt_desk::desk::Desk;
 use mt_desk::lines::Naming;
 use mt_events::print::push_post;
 use mt_events::shared::SharedPosts;
+use mt_lines::words::Pieces;
 use mt_requests::request::{Request, read_request};
 use mt_session::text::Text;
 use mt_skel::fault::Fault;
-use mt_words::words::Pieces;
 use std::alloc::Global;
 use std::sync::Wait;
 

@@ -1,8 +1,8 @@
 //! Tables that differ by one field, and rows that make none.
 use mt_info::read::read_row;
 use mt_info::table::Table;
+use mt_lines::words::Pieces;
 use mt_skel::fault::Fault;
-use mt_words::words::Pieces;
 use std::alloc::Global;
 use std::test::Fail;
 

@@ -5,9 +5,9 @@ use Rattle.std.proofs.lemmas.Bool.{ne_eqb}
 use Rattle.std.proofs.lemmas.Fmt.{decimal_by_steps}
 use Rattle.std.proofs.lemmas.List.Folds.{list_all-append}
 use Rattle.mt_skel.specs.Escapes.{escaped}
-use Rattle.mt_words.specs.Words.{words, number_in_text}
-use Rattle.mt_words.proofs.NumberLaws.{number_decimal}
-use Rattle.mt_words.proofs.PieceLaws.{lacks_byte, pieces_joined}
+use Rattle.mt_lines.specs.Words.{words, number_in_text}
+use Rattle.mt_lines.proofs.NumberLaws.{number_decimal}
+use Rattle.mt_lines.proofs.PieceLaws.{lacks_byte, pieces_joined}
 use Rattle.mt_info.specs.declared.row.Row.{Row}
 use Rattle.mt_info.specs.Laws.{IsRow}
 use Rattle.mt_info.specs.RowLine.{line, line_words, tag, tags, word_if}

@@ -3,7 +3,7 @@
 use Rattle.std.specs.Prelude.{ℕ, Bool, ◌&&◌, ◌||◌, not, if◌then◌else◌, List, [], ◌∷◌, ◌++◌, Option, Some, None, codes}
 use Rattle.std.specs.List.{list_any, list_all}
 use Rattle.std.specs.Str.{bytes_eq}
-use Rattle.mt_words.specs.Words.{pieces}
+use Rattle.mt_lines.specs.Words.{pieces}
 
 -- the options that are set alone
 abbrev pub flags : List (List ℕ)

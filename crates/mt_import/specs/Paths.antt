@@ -5,7 +5,7 @@ use Rattle.std.specs.List.{filter, list_all, list_any, starts_with}
 use Rattle.std.specs.Option.{option_map_or}
 use Rattle.std.specs.Str.{bytes_eq}
 use Rattle.mt_skel.specs.Escapes.{unescaped}
-use Rattle.mt_words.specs.Words.{pieces}
+use Rattle.mt_lines.specs.Words.{pieces}
 
 -- a path without its slash, where that is all it is
 abbrev pub below_root : List ℕ → List ℕ

@@ -4,7 +4,7 @@ use Rattle.std.specs.Prelude.{ℕ, Bool, true, false, ◌&&◌, nat_eq, if◌the
 use Rattle.std.specs.List.{starts_with}
 use Rattle.std.specs.Option.{option_and_then, option_map}
 use Rattle.std.specs.Str.{bytes_eq}
-use Rattle.mt_words.specs.Words.{pieces, words, number_in_text}
+use Rattle.mt_lines.specs.Words.{pieces, words, number_in_text}
 use Rattle.mt_import.specs.declared.read.Fields.{Fields}
 
 -- what a line tells of a mount: the line itself, words as they stand there, and numbers

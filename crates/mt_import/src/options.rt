@@ -2,11 +2,11 @@
 ghost use Rattle.std.specs.Prelude.{◌≡◌, map, IfOk, OnOk};
 ghost use Rattle.std.specs.List.{list_all};
 ghost use Rattle.std.specs.Option.{option_map};
-ghost use Rattle.mt_words.specs.Words.{pieces};
+ghost use Rattle.mt_lines.specs.Words.{pieces};
 ghost use Rattle.mt_import.specs.Options.{has_option, is_known, has_both, are_known, times_of, before_set, with_set, with_flags, with_times, with_kind, options_text};
 
 use crate::writer::{Done, Text};
-use mt_words::words::Pieces;
+use mt_lines::words::Pieces;
 use std::alloc::Global;
 
 /// The word of `setattr` for a propagation, if it is set.

@@ -4,11 +4,11 @@ ghost use Rattle.std.specs.Prelude.{◌≡◌, nat_le, ◌&&◌, false, length};
 ghost use Rattle.std.specs.List.{list_all};
 ghost use Rattle.std.specs.Option.{option_copied, option_map_or};
 ghost use Rattle.mt_skel.specs.Escapes.{unescaped};
-ghost use Rattle.mt_words.specs.Words.{pieces};
+ghost use Rattle.mt_lines.specs.Words.{pieces};
 ghost use Rattle.mt_import.specs.Paths.{below_root, path_word, name_count, says_name, can_be_named, is_script_name, has_script_name, names_behind, path_behind};
 
+use mt_lines::words::Pieces;
 use mt_skel::escape::unescaped_len;
-use mt_words::words::Pieces;
 
 /// The directory on which the script puts what it takes away again, and its name.
 pub(crate) const STAGE: &[u8] = b"/.import";

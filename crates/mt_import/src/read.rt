@@ -3,8 +3,8 @@ ghost use Rattle.std.specs.Prelude.{◌≡◌, ◌≢◌, Some, None, IfOk, IfEr
 ghost use Rattle.mt_import.specs.Reading.{mount_in, no_fields, with_field, fields_in, is_device, end_in};
 
 use crate::told::HostMount;
+use mt_lines::words::{Pieces, Words, number, words};
 use mt_skel::fault::Fault;
-use mt_words::words::{Pieces, Words, number, words};
 use std::alloc::Global;
 
 /// The optional fields of a line, those that are known.

@@ -3,16 +3,16 @@ ghost use Rattle.std.specs.Prelude.{◌≡◌, ◌≢◌, ℕ, ◌<◌, ◌^◌,
 ghost use Rattle.std.specs.List.{list_all};
 ghost use Rattle.mt_skel.specs.Names.{is_label, is_name};
 ghost use Rattle.mt_skel.specs.Escapes.{escaped};
-ghost use Rattle.mt_words.specs.Words.{pieces};
+ghost use Rattle.mt_lines.specs.Words.{pieces};
 ghost use Rattle.mt_info.specs.RowLine.{path_text};
 ghost use Rattle.mt_info.specs.Reading.{is_bare};
 
+use mt_lines::words::{Pieces, number};
 use mt_skel::escape::unescape;
 use mt_skel::fault::Fault;
 use mt_skel::name::{Label, Name};
 use mt_skel::names::Names;
 use mt_skel::skel::FsId;
-use mt_words::words::{Pieces, number};
 use std::alloc::Global;
 
 /// The number that a word is in decimal digits.

@@ -5,7 +5,7 @@ ghost use Rattle.std.specs.Option.{ForSome};
 ghost use Rattle.mt_skel.specs.Names.{is_label};
 ghost use Rattle.mt_mounts.specs.declared.mount.Attrs.{Attrs};
 ghost use Rattle.mt_mounts.specs.declared.mount.Atime.{Atime};
-ghost use Rattle.mt_words.specs.Words.{begins};
+ghost use Rattle.mt_lines.specs.Words.{begins};
 ghost use Rattle.mt_info.specs.declared.row.Row.{Row};
 ghost use Rattle.mt_info.specs.declared.read.Tail.{Tail};
 ghost use Rattle.mt_info.specs.declared.read.Head.{Head};
@@ -16,13 +16,13 @@ ghost use Rattle.mt_info.specs.Reading.{is_first, IsTail, tail_words, end_words,
 
 use crate::fields::{read_label, read_minor, read_number, read_path};
 use crate::row::Row;
+use mt_lines::words::{Pieces, Words, words};
 use mt_mounts::mount::{Atime, Attrs, MountId};
 use mt_peers::state::GroupId;
 use mt_skel::fault::Fault;
 use mt_skel::name::Label;
 use mt_skel::names::Names;
 use mt_skel::skel::FsId;
-use mt_words::words::{Pieces, Words, words};
 use std::alloc::Global;
 
 /// Takes the next word.

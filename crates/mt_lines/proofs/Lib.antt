@@ -1,2 +1,5 @@
-pub mod LineLemmas
-pub mod StreamLemmas
+pub mod LineLaws
+pub mod StreamLaws
+pub mod WordLaws
+pub mod NumberLaws
+pub mod PieceLaws

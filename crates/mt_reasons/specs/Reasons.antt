@@ -6,7 +6,7 @@ use Rattle.std.specs.Str.{bytes_eq}
 use Rattle.mt_skel.specs.declared.fault.Fault.{Fault}
 use Rattle.mt_skel.specs.declared.fault.Fault.TheVariants.{BadLine}
 use Rattle.mt_skel.specs.Escapes.{unescaped}
-use Rattle.mt_words.specs.Words.{number_in_text}
+use Rattle.mt_lines.specs.Words.{number_in_text}
 use Rattle.mt_requests.specs.declared.request.Request.{Request}
 use Rattle.mt_reasons.specs.declared.reason.Reason.{Reason}
 use Rattle.mt_reasons.specs.declared.reason.Reason.TheVariants.{Number, Scope, Zero, Escape, Less}

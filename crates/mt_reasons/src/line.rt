@@ -8,10 +8,10 @@ use crate::nearest::nearest_to;
 use crate::options::option_reason;
 use crate::reason::Reason;
 use crate::usage::{bounds_of, count_of, is_optional, usage_of};
+use mt_lines::words::{number, words};
 use mt_requests::request::read_request;
 use mt_skel::escape::unescaped_len;
 use mt_skel::fault::Fault;
-use mt_words::words::{number, words};
 use std::alloc::{AllocError, Global};
 
 /// The most posts of one `take`, and of one `follow`.

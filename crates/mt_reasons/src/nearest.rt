@@ -1,8 +1,8 @@
 //! The command that was meant.
 
 use crate::usage::{command_of, usage_in};
+use mt_lines::words::Pieces;
 use mt_requests::help::LINES;
-use mt_words::words::Pieces;
 use std::alloc::{AllocError, Global};
 use strsim::generic_levenshtein;
 

@@ -3,7 +3,7 @@ ghost use Rattle.std.specs.Option.{ForSome};
 ghost use Rattle.mt_reasons.specs.Reasons.{IsSo};
 
 use crate::reason::Reason;
-use mt_words::words::Pieces;
+use mt_lines::words::Pieces;
 
 /// What `set=` takes.
 const SET_WORDS: &str =

@@ -1,7 +1,7 @@
 //! The usage of each line, as the help has it.
 
+use mt_lines::words::{Pieces, Words, words};
 use mt_requests::help::LINES;
-use mt_words::words::{Pieces, Words, words};
 
 /// What stands in a text in front of a piece of it, or all where it has no such piece.
 fn front_of<'a>(text: &'a [u8], piece: &[u8]) -> &'a [u8] {

@@ -11,7 +11,7 @@ use Rattle.mt_skel.specs.Outcome.{refuse_if, first_fault}
 use Rattle.mt_skel.specs.Names.{is_name}
 use Rattle.mt_skel.specs.Escapes.{unescaped, cons_to, byte_of_digits}
 use Rattle.mt_skel.proofs.EscapeLaws.{bare_unescaped, unescaped-plain, unescaped-nil, unescaped-escape, rest_of, rest_of-cons}
-use Rattle.mt_words.specs.Words.{pieces}
+use Rattle.mt_lines.specs.Words.{pieces}
 use Rattle.mt_requests.specs.Requests.{text_length, label_bytes, components, is_path, has_long_piece, path_fault, path_names}
 use Rattle.mt_skel.proofs.UnescapeLaws.{IsKept, all_kept, after_first}
 use Rattle.mt_requests.proofs.TextLaws.{IsText, is_nonzero, text, label_bytes-is, length_same}

@@ -3,7 +3,7 @@ use Rattle.std.proofs.Common.{◌≡◌, ℕ, Bool, true, List, [], cond, ◌||�
 use Rattle.std.proofs.Math.Bool.{or-true, or-false}
 use Rattle.std.specs.List.{list_all, list_any}
 use Rattle.std.specs.Str.{bytes_eq}
-use Rattle.mt_words.specs.Words.{pieces}
+use Rattle.mt_lines.specs.Words.{pieces}
 use Rattle.mt_setattr.specs.declared.change.SetWords.{SetWords}
 use Rattle.mt_setattr.specs.declared.change.ClrWords.{ClrWords}
 use Rattle.mt_requests.specs.Gathered.{set_with, cleared_with}

@@ -9,7 +9,7 @@ use Rattle.mt_peers.specs.declared.state.Kind.TheVariants.{Shared, Private, Slav
 use Rattle.mt_setattr.specs.declared.change.Change.{Change}
 use Rattle.mt_setattr.specs.declared.change.SetWords.{SetWords}
 use Rattle.mt_setattr.specs.declared.change.ClrWords.{ClrWords}
-use Rattle.mt_words.specs.Words.{pieces}
+use Rattle.mt_lines.specs.Words.{pieces}
 
 -- the keys of the options
 abbrev pub option_keys : List (List ℕ)

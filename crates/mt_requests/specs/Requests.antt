@@ -9,7 +9,7 @@ use Rattle.mt_skel.specs.declared.fault.Fault.TheVariants.{BadLine, TooLong, Bad
 use Rattle.mt_skel.specs.Escapes.{unescaped}
 use Rattle.mt_skel.specs.Names.{is_name}
 use Rattle.mt_skel.specs.Outcome.{refuse_if, first_fault}
-use Rattle.mt_words.specs.Words.{pieces, words, number_in_text}
+use Rattle.mt_lines.specs.Words.{pieces, words, number_in_text}
 use Rattle.mt_events.specs.declared.opening.Scope.TheVariants.{One, All}
 use Rattle.mt_requests.specs.Options.{change_of}
 use Rattle.mt_book.specs.declared.command.Command.TheVariants as command

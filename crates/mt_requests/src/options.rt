@@ -4,9 +4,9 @@ ghost use Rattle.std.specs.Option.{option_copied, option_map, option_map_or};
 ghost use Rattle.mt_requests.specs.Gathered.{nothing_gathered, gathered_with, options_of, set_with, cleared_with};
 ghost use Rattle.mt_requests.specs.Options.{nothing_set, nothing_cleared, set_words, clr_words, kind_of, change_of};
 
+use mt_lines::words::{Pieces, Words};
 use mt_peers::state::Kind;
 use mt_setattr::change::{Change, ClrWords, SetWords};
-use mt_words::words::{Pieces, Words};
 use std::marker::Model;
 
 /// The options that were there, with what each says behind its key.

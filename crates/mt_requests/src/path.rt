@@ -5,15 +5,15 @@ ghost use Rattle.std.specs.Option.{option_map_or};
 ghost use Rattle.std.specs.Str.{bytes_eq};
 ghost use Rattle.mt_skel.specs.Escapes.{unescaped};
 ghost use Rattle.mt_skel.specs.Names.{is_name};
-ghost use Rattle.mt_words.specs.Words.{pieces};
+ghost use Rattle.mt_lines.specs.Words.{pieces};
 ghost use Rattle.mt_requests.specs.Requests.{text_length, label_bytes, path_fault, path_names, has_long_piece, is_path};
 
 use crate::label::{has_byte, text_length};
+use mt_lines::words::Pieces;
 use mt_skel::escape::{unescape, unescaped_len};
 use mt_skel::fault::Fault;
 use mt_skel::name::Name;
 use mt_skel::names::Names;
-use mt_words::words::Pieces;
 use std::alloc::Global;
 
 /// Whether a piece stands for more than 255 bytes.

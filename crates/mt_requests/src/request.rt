@@ -8,9 +8,9 @@ use crate::path::{path_fault, path_of};
 use crate::watching::read_watching;
 use mt_book::command::Command;
 use mt_events::opening::Scope;
+use mt_lines::words::{Words, number, words};
 use mt_skel::fault::Fault;
 use mt_skel::names::Names;
-use mt_words::words::{Words, number, words};
 use std::alloc::Global;
 
 /// What a line asks for.

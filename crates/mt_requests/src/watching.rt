@@ -4,8 +4,8 @@ ghost use Rattle.mt_requests.specs.Requests.{watch_of, count_of, take_of, follow
 
 use crate::request::{Request, read_one_word};
 use mt_events::opening::Scope;
+use mt_lines::words::{Words, number};
 use mt_skel::fault::Fault;
-use mt_words::words::{Words, number};
 
 /// The most posts of one `take`.
 const MOST_TAKEN: u64 = 1_024;

@@ -6,8 +6,8 @@ use Rattle.std.proofs.lemmas.Bool.Decides.{nat_tests, Decides-like, same_from_de
 use Rattle.std.proofs.lemmas.Grind.{flat_map-append}
 use Rattle.std.proofs.lemmas.List.Folds.{list_all-append}
 use Rattle.std.proofs.lemmas.Slice.Eq.{bytes_eq-Decides}
-use Rattle.mt_words.specs.Words.{pieces}
-use Rattle.mt_words.proofs.PieceLaws.{lacks_byte, pieces_joined, joined_pieces}
+use Rattle.mt_lines.specs.Words.{pieces}
+use Rattle.mt_lines.proofs.PieceLaws.{lacks_byte, pieces_joined, joined_pieces}
 use Rattle.mt_skel.specs.Names.{is_name, names_text, names_in}
 use Rattle.mt_skel.specs.Skeleton.{path_eq}
 use Rattle.mt_skel.proofs.MiddleLaws.{and_first, and_second, and-true}

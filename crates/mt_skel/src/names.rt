@@ -1,13 +1,13 @@
 //! Paths: the names that lead from a root directory down.
 ghost use Rattle.std.specs.Prelude.{◌≡◌, [], ◌∷◌, ◌++◌, IfOk, IsTrue, IsOkUnless};
 ghost use Rattle.std.specs.List.{list_all};
-ghost use Rattle.mt_words.specs.Words.{pieces};
+ghost use Rattle.mt_lines.specs.Words.{pieces};
 ghost use Rattle.mt_skel.specs.Names.{is_name, names_text};
 ghost use Rattle.mt_skel.specs.Skeleton.{path_eq};
 
 use crate::fault::Fault;
 use crate::name::Name;
-use mt_words::words::Pieces;
+use mt_lines::words::Pieces;
 use std::alloc::{AllocError, Global};
 use std::marker::Model;
 

@@ -2,9 +2,9 @@ use Rattle.std.proofs.Common.{◌≡◌, ◌∙◌, ◌++◌, ℕ, List, ap, ref
 use Rattle.std.proofs.lemmas.Result.{on_ok_weaker}
 use Rattle.mt_events.specs.Posts.{PostView}
 use Rattle.mt_events.specs.Mirrors.{MirrorView}
-use Rattle.mt_told.specs.Told.{named_text}
-use Rattle.mt_told.specs.Events.{told_as}
-use Rattle.mt_told.specs.declared.telling.Telling.TheVariants.{Words}
+use Rattle.mt_render.specs.Wording.{named_text}
+use Rattle.mt_render.specs.Events.{told_as}
+use Rattle.mt_render.specs.declared.telling.Telling.TheVariants.{Words}
 use Rattle.mt_client.specs.Telling.{mirror_in}
 use Rattle.mt_client.proofs.mirrors.apply_named.Goals as goal
 

@@ -2,7 +2,7 @@ use Rattle.std.proofs.Common.{◌++◌, Err, sym, ap, ◌∙◌}
 use Rattle.std.proofs.lemmas.Result.{err_from_is_err_and}
 use Rattle.mt_events.specs.Posts.{PostView}
 use Rattle.mt_events.specs.Mirrors.{is_next}
-use Rattle.mt_told.specs.Events.{told_as}
+use Rattle.mt_render.specs.Events.{told_as}
 use Rattle.mt_client.proofs.RelayLaws.{same_fault}
 use Rattle.mt_client.proofs.PlaceLaws.{found_there, applied_there, rises_with}
 use Rattle.mt_client.proofs.mirrors.apply_told.Goals as goal

@@ -1,7 +1,7 @@
 use Rattle.std.proofs.Common.{rules, refl, ap, ◌∙◌, ◌++◌}
 use Rattle.std.proofs.lemmas.Result.{err_from_is_err_and}
 use Rattle.mt_lines.specs.Reading.{last_line}
-use Rattle.mt_draw.specs.Drawings.{drawing_text}
+use Rattle.mt_render.specs.Drawings.{drawing_text}
 use Rattle.mt_client.proofs.RelayLaws.{same_fault}
 use Rattle.mt_client.proofs.TellingLaws.{when_present}
 use Rattle.mt_client.proofs.FoundLaws.{watched_whole}

@@ -1,6 +1,6 @@
 use Rattle.std.proofs.Common.{◌≡◌, ◌++◌, map, length, true}
 use Rattle.std.specs.List.{list_all}
-use Rattle.mt_words.specs.Words.{pieces}
+use Rattle.mt_lines.specs.Words.{pieces}
 use Rattle.mt_requests.specs.Requests.{label_bytes}
 use Rattle.mt_requests.proofs.PathLaws.{is_name_word}
 use Rattle.mt_requests.proofs.path.names_between.Given as goal

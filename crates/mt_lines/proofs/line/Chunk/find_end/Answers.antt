@@ -1,4 +1,4 @@
-use Rattle.mt_lines.proofs.LineLemmas.{line_end_cases}
+use Rattle.mt_lines.proofs.LineLaws.{line_end_cases}
 use Rattle.mt_lines.proofs.line.Chunk.find_end.Goals as goal
 
 pub returns-clause-cases : goal.returns-clause-cases

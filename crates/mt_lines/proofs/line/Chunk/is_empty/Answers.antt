@@ -1,4 +1,4 @@
-use Rattle.mt_lines.proofs.LineLemmas.{empty_cases}
+use Rattle.mt_lines.proofs.LineLaws.{empty_cases}
 use Rattle.mt_lines.proofs.line.Chunk.is_empty.Goals as goal
 
 pub returns : goal.returns

@@ -1,6 +1,6 @@
 use Rattle.std.proofs.Common.{◌≡◌, ◌+◌, ◌∷◌, ◌++◌, length, take, drop, arith, sym, ◌∙◌, ap, length-append}
 use Rattle.std.proofs.lemmas.List.{length-take-le}
-use Rattle.mt_lines.proofs.LineLemmas.{judge_next, finish_next, Consumed-more, lines_of-endless, Unbroken-append, Unbroken-all, split_at_end, split_at_front, left-same, split-same}
+use Rattle.mt_lines.proofs.LineLaws.{judge_next, finish_next, Consumed-more, lines_of-endless, Unbroken-append, Unbroken-all, split_at_end, split_at_front, left-same, split-same}
 use Rattle.mt_lines.proofs.line.LineReader.read_line.Goals as goal
 
 pub overflow_add-seen : goal.overflow_add-seen

@@ -1,7 +1,7 @@
 use Rattle.std.proofs.Common.{◌≡◌, ◌≤◌, ◌+◌, ◌-◌, IsTrue, [], ◌++◌, vec_len}
 use Rattle.mt_lines.specs.declared.line.TheConstants.{CHUNK}
 use Rattle.mt_lines.specs.Lines.{slack}
-use Rattle.mt_lines.proofs.LineLemmas.{Consumed}
+use Rattle.mt_lines.proofs.LineLaws.{Consumed}
 use Rattle.mt_lines.proofs.line.LineReader.read_line.Given as goal
 
 abbrev pub invariant-reading : goal.invariant-reading

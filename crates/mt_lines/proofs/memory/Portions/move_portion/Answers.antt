@@ -1,6 +1,6 @@
 use Rattle.std.proofs.Common.{length, arith}
 use Rattle.std.proofs.lemmas.Grind.{common_steps}
-use Rattle.mt_lines.proofs.StreamLemmas.{Gives-portion}
+use Rattle.mt_lines.proofs.StreamLaws.{Gives-portion}
 use Rattle.mt_lines.proofs.memory.Portions.move_portion.Goals as goal
 
 pub returns-clause-given : goal.returns-clause-given

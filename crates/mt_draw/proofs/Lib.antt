@@ -1,6 +1,0 @@
-pub mod AppendLaws
-pub mod ForestLaws
-pub mod OnceLaws
-pub mod BelowLaws
-pub mod FloatLaws
-pub mod NodeLaws

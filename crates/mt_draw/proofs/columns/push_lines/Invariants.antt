@@ -1,8 +1,0 @@
-use Rattle.std.proofs.Common.{◌≡◌, ◌++◌, drop}
-use Rattle.std.specs.List.{flat_map}
-use Rattle.mt_draw.specs.Columns.{cells_line}
-use Rattle.mt_draw.proofs.columns.push_lines.Given as goal
-
--- what was appended, and what is to come
-abbrev pub invariant-loop-line : goal.invariant-loop-line
-invariant-loop-line l = l.text.items ++ flat_map (cells_line l.widths) (drop l.line-index l.lines) ≡ l.initial.text.items ++ flat_map (cells_line l.widths) l.lines

@@ -1,5 +1,0 @@
-use Rattle.std.proofs.Common.{◌≡◌, ◌++◌, replicate}
-use Rattle.mt_draw.proofs.columns.push_spaces.Given as goal
-
-abbrev pub invariant-spaces : goal.invariant-spaces
-invariant-spaces l = l.text.items ≡ l.initial.text.items ++ replicate l._step 32

@@ -1,8 +1,0 @@
-use Rattle.std.proofs.Common.{◌≡◌, ◌++◌, drop}
-use Rattle.std.specs.List.{flat_map}
-use Rattle.mt_draw.specs.Graphs.{cluster}
-use Rattle.mt_draw.proofs.graph.push_clusters.Given as goal
-
--- what was appended, and what is to come
-abbrev pub invariant-parts : goal.invariant-parts
-invariant-parts l = l.text.items ++ flat_map (cluster) (drop l.part-index l.parts) ≡ l.initial.text.items ++ flat_map (cluster) l.parts

@@ -1,5 +1,0 @@
-use Rattle.mt_draw.proofs.BelowLaws.{stands_below}
-use Rattle.mt_draw.proofs.laws.children_stand_below.Goals as goal
-
-pub returns : goal.returns
-returns c = stands_below

@@ -1,0 +1,7 @@
+pub mod AppendLaws
+pub mod ForestLaws
+pub mod OnceLaws
+pub mod BelowLaws
+pub mod FloatLaws
+pub mod NodeLaws
+pub mod EventLaws

@@ -1,0 +1,12 @@
+use Rattle.std.proofs.Common.{◌∙◌, map, ap}
+use Rattle.serde_json.specs.Data.{object}
+use Rattle.serde_json.specs.Written.{has_float}
+use Rattle.mt_render.specs.Objects.{listing, flat_node}
+use Rattle.mt_render.proofs.FloatLaws.{flat_listing_free}
+use Rattle.mt_render.proofs.objects.push_flat.Goals as goal
+
+pub push_value-requires : goal.push_value-requires
+push_value-requires c =
+    let m = c.args.part.now in
+    let rows = c.in_ok-values.ensures ∙ ap (λ rs. map flat_node rs) (c.rows.ensures.rows ∙ c.table.ensures) in
+    ap has_float (c.from-value.ensures ∙ ap object c.in_ok-listing.ensures ∙ ap (λ ds. object (listing c.space.result ds)) rows ∙ ap (λ n. object (listing n (map flat_node m.rows))) c.space.ensures) ∙ flat_listing_free m.space m.rows

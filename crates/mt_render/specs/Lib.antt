@@ -1,0 +1,15 @@
+pub mod Columns
+pub mod Forest
+pub mod Propagation
+pub mod Trees
+pub mod Labels
+pub mod Edges
+pub mod Groups
+pub mod Graphs
+pub mod Members
+pub mod Objects
+pub mod Drawings
+pub mod Laws
+pub mod Wording
+pub mod Events
+pub mod Stamps

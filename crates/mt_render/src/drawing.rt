@@ -1,0 +1,44 @@
+//! Drawings of tables.
+ghost use Rattle.std.specs.Prelude.{◌≡◌, ◌++◌, OnOk};
+ghost use Rattle.mt_render.specs.Drawings.{drawing_text};
+
+use crate::graph::push_graph;
+use crate::objects::{push_flat_lines, push_nested_lines};
+use crate::trees::{Strokes, push_trees};
+use mt_events::mirror::Mirror;
+use std::alloc::AllocError;
+
+/// How a drawing looks.
+#[derive(Clone, Copy, PartialEq, Eq, Debug)]
+pub enum Drawing {
+    /// A tree for each table, with lines of UTF-8, as findmnt(8) draws it.
+    Tree,
+    /// A tree for each table, in ASCII where names are.
+    PlainTree,
+    /// One graph of all tables for Graphviz, in ASCII.
+    Graph,
+    /// A line of JSON for each table, with its rows by rising ID.
+    FlatJson,
+    /// A line of JSON for each table, with each row within that of its parent, as findmnt(8) nests them.
+    NestedJson,
+}
+
+/// Appends a drawing of the tables of namespaces, which stand in it in their order. Each of them should be of another
+/// namespace. Fails for want of memory alone.
+#[tactic(auto, unfolding(crate::specs::Drawings::drawing_text))]
+pub fn push_drawing(
+    text: &mut Vec<u8>,
+    drawing: Drawing,
+    parts: &[Mirror],
+) -> Result<(), AllocError>
+    ensures drawn { OnOk result (text.new.items ≡ text.old.items ++ drawing_text drawing parts.now) }
+{
+    let alloc = *text.allocator();
+    match drawing {
+        Drawing::Tree => push_trees(text, alloc, Strokes::Lines, parts),
+        Drawing::PlainTree => push_trees(text, alloc, Strokes::Ascii, parts),
+        Drawing::Graph => push_graph(text, alloc, parts),
+        Drawing::FlatJson => push_flat_lines(text, alloc, parts),
+        Drawing::NestedJson => push_nested_lines(text, alloc, parts),
+    }
+}

@@ -1,0 +1,203 @@
+//! Tables and places as JSON, an object a line.
+ghost use Rattle.std.specs.Prelude.{◌≡◌, ◌++◌, false, map, length, OnOk, IfOk, IsTrue};
+ghost use Rattle.std.specs.List.{filter, flat_map};
+ghost use Rattle.serde_json.specs.View.{view, members_view};
+ghost use Rattle.serde_json.specs.Written.{has_float};
+ghost use Rattle.mt_skel.specs.Keyed.{rises};
+ghost use Rattle.mt_info.specs.Table.{row_id};
+ghost use Rattle.mt_render.specs.Forest.{is_top};
+ghost use Rattle.mt_render.specs.Objects.{value_line, with_children, node_with, flat_node, node, tree_nodes, listing, flat_line, nested_line, place_line};
+
+use crate::forest::{Branch, is_child, is_top, strays, tree};
+use crate::members::{Members, put_number, put_row, put_text};
+use mt_events::mirror::Mirror;
+use mt_info::row::Row;
+use mt_info::table::Table;
+use mt_mounts::mount::SpaceId;
+use serde_json::{Map, Value, push, put};
+use std::alloc::{AllocError, Global};
+
+/// Appends a value as a line of its own. Fails for want of memory alone.
+pub fn push_value(text: &mut Vec<u8>, value: &Value) -> Result<(), AllocError>
+    requires { has_float (view value.now) ≡ false }
+    ensures { OnOk result (text.new.items ≡ text.old.items ++ value_line (view value.now)) }
+{
+    let line = value.to_string(*text.allocator())?;
+    text.extend_from_slice(line.as_bytes())?;
+    text.extend_from_slice(b"\n")?;
+    Ok(())
+}
+
+/// Puts in the objects of the children of a row, where it has some.
+fn put_children(
+    members: &mut Members,
+    alloc: Global,
+    children: Vec<Value>,
+) -> Result<(), AllocError>
+    ensures { OnOk result (members_view members.new.entries ≡ with_children (map view children.items) (members_view members.old.entries)) }
+{
+    if children.is_empty() {
+        return Ok(());
+    }
+    put(members, alloc, "children", Value::from(children))
+}
+
+/// A row as an object, with those of its children.
+fn node_with(alloc: Global, row: &Row, children: Vec<Value>) -> Result<Value, AllocError>
+    ensures { IfOk result (λ value. view value ≡ node_with row.now (map view children.items)) }
+{
+    let mut members = Map::new(alloc);
+    put_row(&mut members, alloc, row)?;
+    put_children(&mut members, alloc, children)?;
+    Ok(Value::from(members))
+}
+
+/// A row as an object without its children. Fails for want of memory alone.
+pub fn flat_node(alloc: Global, row: &Row) -> Result<Value, AllocError>
+    ensures { IfOk result (λ value. view value ≡ flat_node row.now) }
+{
+    node_with(alloc, row, Vec::new(alloc))
+}
+
+/// A row as an object with all below it, so many generations at most.
+fn node(alloc: Global, rows: &[Row], generations: usize, row: &Row) -> Result<Value, AllocError>
+    ensures { IfOk result (λ value. view value ≡ node rows.now generations row.now) }
+{
+    let mut children = Vec::new(alloc);
+    if generations == 0 {
+        return node_with(alloc, row, children);
+    }
+    'rows: for other in rows {
+        if is_child(row.id, other) {
+            push(&mut children, node(alloc, rows, generations - 1, other)?)?;
+        }
+    }
+    node_with(alloc, row, children)
+}
+
+/// Each top row as an object with all below it.
+fn top_nodes(alloc: Global, rows: &[Row]) -> Result<Vec<Value>, AllocError>
+    requires { IsTrue (rises row_id rows.now) }
+    ensures { IfOk result (λ values. map view values.items ≡ map (node rows.now (length rows.now)) (filter (is_top rows.now) rows.now)) }
+{
+    let mut values = Vec::new(alloc);
+    'rows: for row in rows {
+        if is_top(rows, row) {
+            push(&mut values, node(alloc, rows, rows.len(), row)?)?;
+        }
+    }
+    Ok(values)
+}
+
+/// Appends the objects of rows that are in no tree.
+fn push_strays(
+    values: &mut Vec<Value>,
+    alloc: Global,
+    others: &[Branch<'_>],
+) -> Result<(), AllocError>
+    ensures { OnOk result (map view values.new.items ≡ map view values.old.items ++ map (λ b. flat_node b.row) others.now) }
+{
+    'others: for branch in others {
+        push(values, flat_node(alloc, branch.row())?)?;
+    }
+    Ok(())
+}
+
+/// The rows of a table as objects, each within its parent's.
+fn tree_nodes(table: &Table) -> Result<Vec<Value>, AllocError>
+    ensures { IfOk result (λ values. map view values.items ≡ tree_nodes table.now) }
+{
+    let drawn = tree(table)?;
+    let others = strays(table, &drawn)?;
+    let mut values = top_nodes(table.allocator(), table.rows())?;
+    push_strays(&mut values, table.allocator(), &others)?;
+    Ok(values)
+}
+
+/// The rows of a table as objects, by rising ID.
+fn flat_nodes(alloc: Global, rows: &[Row]) -> Result<Vec<Value>, AllocError>
+    ensures { IfOk result (λ values. map view values.items ≡ map flat_node rows.now) }
+{
+    let mut values = Vec::new(alloc);
+    'rows: for row in rows {
+        push(&mut values, flat_node(alloc, row)?)?;
+    }
+    Ok(values)
+}
+
+/// The members of an object of mounts of a namespace.
+fn listing(alloc: Global, space: SpaceId, values: Vec<Value>) -> Result<Members, AllocError>
+    ensures { IfOk result (λ members. members_view members.entries ≡ listing space (map view values.items)) }
+{
+    let mut members = Map::new(alloc);
+    put_number(&mut members, alloc, "namespace", space)?;
+    put(&mut members, alloc, "filesystems", Value::from(values))?;
+    Ok(members)
+}
+
+/// Appends the line of a namespace, with all its mounts by rising ID.
+#[tactic(auto, unfolding(crate::specs::Objects::flat_line))]
+fn push_flat(text: &mut Vec<u8>, alloc: Global, part: &Mirror) -> Result<(), AllocError>
+    ensures { OnOk result (text.new.items ≡ text.old.items ++ flat_line part.now) }
+{
+    let values = flat_nodes(alloc, part.table().rows())?;
+    let value = Value::from(listing(alloc, part.space(), values)?);
+    push_value(text, &value)
+}
+
+/// Appends the line of a namespace, with each of its mounts within its parent.
+#[tactic(auto, unfolding(crate::specs::Objects::nested_line))]
+fn push_nested(text: &mut Vec<u8>, alloc: Global, part: &Mirror) -> Result<(), AllocError>
+    ensures { OnOk result (text.new.items ≡ text.old.items ++ nested_line part.now) }
+{
+    let values = tree_nodes(part.table())?;
+    let value = Value::from(listing(alloc, part.space(), values)?);
+    push_value(text, &value)
+}
+
+/// Appends the lines of namespaces, each with all its mounts by rising ID. Fails for want of memory alone.
+pub(crate) fn push_flat_lines(
+    text: &mut Vec<u8>,
+    alloc: Global,
+    parts: &[Mirror],
+) -> Result<(), AllocError>
+    ensures { OnOk result (text.new.items ≡ text.old.items ++ flat_map flat_line parts.now) }
+{
+    'parts: for part in parts {
+        push_flat(text, alloc, part)?;
+    }
+    Ok(())
+}
+
+/// Appends the lines of namespaces, each with its mounts within their parents. Fails for want of memory alone.
+pub(crate) fn push_nested_lines(
+    text: &mut Vec<u8>,
+    alloc: Global,
+    parts: &[Mirror],
+) -> Result<(), AllocError>
+    ensures { OnOk result (text.new.items ≡ text.old.items ++ flat_map nested_line parts.now) }
+{
+    'parts: for part in parts {
+        push_nested(text, alloc, part)?;
+    }
+    Ok(())
+}
+
+/// Appends the line of where a path ends: a mount of a namespace, and a directory of its filesystem, as it stands in an
+/// answer without its escapes. Fails for want of memory alone.
+#[tactic(auto, unfolding(crate::specs::Objects::place_line))]
+pub fn push_place(
+    text: &mut Vec<u8>,
+    space: SpaceId,
+    directory: &[u8],
+    row: &Row,
+) -> Result<(), AllocError>
+    ensures { OnOk result (text.new.items ≡ text.old.items ++ place_line space directory.now row.now) }
+{
+    let alloc = *text.allocator();
+    let mut values = Vec::new(alloc);
+    push(&mut values, flat_node(alloc, row)?)?;
+    let mut members = listing(alloc, space, values)?;
+    put_text(&mut members, alloc, "directory", directory)?;
+    push_value(text, &Value::from(members))
+}

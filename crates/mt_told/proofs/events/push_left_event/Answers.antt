@@ -1,7 +1,0 @@
-use Rattle.std.proofs.Common.{◌∙◌, ap}
-use Rattle.serde_json.specs.Written.{members_have_float}
-use Rattle.mt_told.proofs.FloatLaws.{left_free}
-use Rattle.mt_told.proofs.events.push_left_event.Goals as goal
-
-pub push_event-requires : goal.push_event-requires
-push_event-requires c = ap members_have_float c.in_ok-members.ensures ∙ left_free c.args.rows.now c.args.id

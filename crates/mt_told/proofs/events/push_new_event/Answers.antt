@@ -1,7 +1,0 @@
-use Rattle.std.proofs.Common.{◌∙◌, ap}
-use Rattle.serde_json.specs.Written.{members_have_float}
-use Rattle.mt_told.proofs.FloatLaws.{new_free}
-use Rattle.mt_told.proofs.events.push_new_event.Goals as goal
-
-pub push_event-requires : goal.push_event-requires
-push_event-requires c = ap members_have_float c.in_ok-members.ensures ∙ new_free c.args.row.now
