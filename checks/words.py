@@ -30,66 +30,17 @@ from sources.uses import brought_for_nothing
 # The words that had a meaning in each of these crates when this was first asked. It is to get shorter: a word that gets
 # another name in one of them goes from here, and none comes.
 KNOWN = """
-above mt_lists mt_peers
-after mt_book mt_session
-answer mt_book mt_session
-applied mt_events mt_floor
-begins mt_lines mt_session
-begun mt_desk mt_session
 change_of mt_events mt_requests
 changed mt_floor mt_peers
-collected mt_events mt_peers
-copy_of mt_bind mt_propagate
-ends mt_session mt_skel
-fault_of mt_lines mt_skel
-Follows mt_client mt_session
-group_of mt_peers mt_propagate
-id_of mt_lists mt_mounts
 is_alike mt_info mt_propagate
-is_at mt_book mt_mounts
-is_below mt_mounts mt_propagate
 is_changed mt_events mt_peers
-is_first mt_info mt_peers
-IsBegun mt_desk mt_session
-IsBehind mt_book mt_client
-IsFollowed mt_client mt_session
-IsForest mt_mounts mt_propagate
-IsIndexed mt_mounts mt_skel
-IsInOrder mt_floor mt_queue
-IsKept mt_desk mt_floor mt_peers mt_skel
-IsLeft mt_client mt_queue
-IsListed mt_peers mt_propagate
-IsPopped mt_queue mt_session
-IsPost mt_desk mt_events
-IsSending mt_desk mt_queue
-IsSent mt_desk mt_session
-IsTold mt_floor mt_session
 Item mt_lines mt_queue
-key_of mt_floor mt_propagate
 left mt_peers mt_session
 Line mt_lines mt_queue
-made mt_floor mt_peers
 may_go mt_peers mt_unmount
 mount_of mt_peers mt_requests
-mounts_in mt_mounts mt_propagate
 names mt_lists mt_peers
-new_row mt_desk mt_events mt_floor
-next_number mt_book mt_lines
-number_at mt_lists mt_propagate
-posted mt_book mt_floor
-row_follows mt_desk mt_floor
-row_line mt_events mt_info
-row_of mt_info mt_lists
-rows_of mt_desk mt_lists
-space_of mt_mounts mt_propagate
-state_at mt_peers mt_session
-unless mt_floor mt_requests
 Watcher mt_desk mt_floor
-with_number mt_book mt_lists
-with_post mt_desk mt_floor
-with_posts mt_events mt_session
-with_watcher mt_desk mt_session
-without_id mt_lists mt_mounts
 """
 
 TWO_TEXTS = {

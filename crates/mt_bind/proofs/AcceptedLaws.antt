@@ -4,7 +4,7 @@ use Rattle.std.specs.Prelude.{not, is_none, is_some, unwrap_or}
 use Rattle.std.proofs.lemmas.Bool.{not-false}
 use Rattle.mt_skel.specs.declared.fault.Fault.{Fault}
 use Rattle.mt_skel.specs.declared.fault.Fault.TheVariants.{NoFilesystem, NoNamespace, RootPlace, TooMany, Unbindable, NotMountRoot, SharedParent, IntoItself, UnbindableInside}
-use Rattle.mt_skel.specs.Outcome.{fault_of}
+use Rattle.mt_skel.specs.Outcome.{refusal_of}
 use Rattle.mt_skel.proofs.OutcomeLaws.{not_refused, accepted}
 use Rattle.mt_skel.specs.Skeleton.{fs_named}
 use Rattle.mt_mounts.specs.declared.mount.Place.{Place}
@@ -24,7 +24,7 @@ use Rattle.mt_bind.specs.Pivoting.{root_id, with_pivot, pivoted_refusals, pivote
 abbrev pub path_end : WorldView → ℕ → List (List ℕ) → Place
 path_end w n path = place_or_nowhere (walk w.skel w.forest n path)
 
-has_ended : (r : Result Place Fault) → fault_of r ≡ None → r ≡ Ok (place_or_nowhere r)
+has_ended : (r : Result Place Fault) → refusal_of r ≡ None → r ≡ Ok (place_or_nowhere r)
 has_ended (Ok p) e = refl
 has_ended (Err f) e = absurd (cc)
 

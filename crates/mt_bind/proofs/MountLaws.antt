@@ -1,6 +1,6 @@
 -- What a mount, a bind and a move make of a world, and that it stays well-formed.
 use Rattle.std.proofs.Common.{◌≡◌, ℕ, Bool, true, false, List, Some, Ok, sym, ap, ◌∙◌, subst, arith}
-use Rattle.mt_skel.specs.Outcome.{fault_of}
+use Rattle.mt_skel.specs.Outcome.{refusal_of}
 use Rattle.mt_skel.specs.Skeleton.{root_of}
 use Rattle.mt_mounts.specs.declared.mount.Mount.{Mount}
 use Rattle.mt_mounts.specs.declared.mount.Place.{Place}
@@ -60,7 +60,7 @@ mount_copies w n name path v i h e =
     let p = path_end w n path in
     let d = destination w n path p h a.ended a.off_root in
     let low = holds_there w.skel d.there.0.root p.dir d.there.2 in
-    record { src = fresh w fs; dest = p; made = a.world; source = fresh_is_source w h fs p (omega (arith, low)); destination = d; near = fresh_near w h fs p; here = ended-inside w h n path (ap fault_of a.ended) }
+    record { src = fresh w fs; dest = p; made = a.world; source = fresh_is_source w h fs p (omega (arith, low)); destination = d; near = fresh_near w h fs p; here = ended-inside w h n path (ap refusal_of a.ended) }
 
 pub mount_keeps : (w : WorldView) (n : ℕ) (name : List ℕ) (path : List (List ℕ)) (v : WorldView) (i : ℕ) → IsWellFormed w → mounted w n name path ≡ Ok (v, i) → IsWellFormed v
 mount_keeps w n name path v i h e = copying_keeps n w v h (mount_copies w n name path v i h e)
@@ -84,7 +84,7 @@ bind_copies w n recursive from to v i h e =
     let a = bind_accepted w n recursive from to v i e in
     let s = path_end w n from in
     let p = path_end w n to in
-    let here = ended-inside w h n to (ap fault_of a.ended) in
+    let here = ended-inside w h n to (ap refusal_of a.ended) in
     record {
       src = source_at w recursive s;
       dest = p;
@@ -107,14 +107,14 @@ move_copies w n from to v h e =
     let to_end = (walked w n h to p a.ended).0 in
     let space : (u : Mount) → mount_at w.forest p.mount ≡ Some u → u.space ≡ from_end.0.space =
     (λ u f. (let s : Some u ≡ Some to_end.0 = sym f ∙ to_end.1 in let same : u ≡ to_end.0 = cc in ap (λ (m : Mount). m.space) same ∙ to_end.2 ∙ sym from_end.2)) in
-    let here = ended-inside w h n to (ap fault_of a.ended) in
+    let here = ended-inside w h n to (ap refusal_of a.ended) in
     record {
       src = tree_of w i;
       dest = p;
       made = a.world;
       source = tree_source w h i from_end.0 from_end.1 p a.placed space a.outside;
       destination = destination w n to p h a.ended a.off_root;
-      near = near_below w h i n (tree_of w i).mounts p (tree_below w h i from_end.0 from_end.1) (ended-inside w h n from (ap fault_of a.begun)) here;
+      near = near_below w h i n (tree_of w i).mounts p (tree_below w h i from_end.0 from_end.1) (ended-inside w h n from (ap refusal_of a.begun)) here;
       here = here;
     }
 

@@ -4,7 +4,7 @@ use Rattle.std.specs.Prelude.{unwrap_or, is_none}
 use Rattle.std.specs.Option.{option_map, option_map_or, ok_or}
 use Rattle.std.proofs.lemmas.Bool.{true≢false}
 use Rattle.mt_skel.specs.declared.fault.Fault.TheVariants.{NoNamespace, NoEntry}
-use Rattle.mt_skel.specs.Outcome.{fault_of}
+use Rattle.mt_skel.specs.Outcome.{refusal_of}
 use Rattle.mt_mounts.specs.declared.mount.Mount.{Mount}
 use Rattle.mt_mounts.specs.declared.mount.Place.{Place}
 use Rattle.mt_mounts.specs.Forest.{id_of, mount_at, is_below, is_root, root_mount, root_place}
@@ -66,7 +66,7 @@ pivots w n new old v h e =
     let a = pivot_accepted w n new old v e in
     let s = path_end w n new in
     let p = path_end w n old in
-    record { new = s.mount; old = root_id w n; dest = p; made = a.world; may = may_pivot w n new old s p h a.begun a.placed a.ended a.off_root a.inside; here = ended-inside w h n new (ap fault_of a.begun) }
+    record { new = s.mount; old = root_id w n; dest = p; made = a.world; may = may_pivot w n new old s p h a.begun a.placed a.ended a.off_root a.inside; here = ended-inside w h n new (ap refusal_of a.begun) }
 
 pub pivoted_keeps : (w : WorldView) (n : ℕ) (new old : List (List ℕ)) (v : WorldView) → IsWellFormed w → pivoted w n new old ≡ Ok v → IsWellFormed v
 pivoted_keeps w n new old v h e =

@@ -6,7 +6,7 @@ use Rattle.std.specs.List.{list_any}
 use Rattle.std.specs.Option.{unwrap_or, option_map_or}
 use Rattle.mt_skel.specs.declared.fault.Fault.{Fault}
 use Rattle.mt_skel.specs.declared.fault.Fault.TheVariants.{NoFilesystem, RootPlace, TooMany, Unbindable, NotMountRoot, SharedParent, IntoItself, UnbindableInside}
-use Rattle.mt_skel.specs.Outcome.{refuse_if, fault_of, outcome}
+use Rattle.mt_skel.specs.Outcome.{refuse_if, refusal_of, outcome}
 use Rattle.mt_skel.specs.Skeleton.{fs_named}
 use Rattle.mt_mounts.specs.declared.mount.Mount.{Mount}
 use Rattle.mt_mounts.specs.declared.mount.Place.{Place}
@@ -41,7 +41,7 @@ module _ (w : WorldView) where
   mounted_refusals fs to =
       let p = place_or_nowhere to in
       refuse_if (is_none fs) NoFilesystem
-      ∷ fault_of to
+      ∷ refusal_of to
       ∷ refuse_if (is_root_place w p) RootPlace
       ∷ too_many (fresh w (unwrap_or fs 0)) p ∷ []
 
@@ -61,8 +61,8 @@ module _ (w : WorldView) where
   bound_refusals recursive from to =
       let s = place_or_nowhere from in
       let p = place_or_nowhere to in
-      fault_of from
-      ∷ fault_of to
+      refusal_of from
+      ∷ refusal_of to
       ∷ refuse_if (is_root_place w p) RootPlace
       ∷ refuse_if (state_of w s.mount).unbindable Unbindable
       ∷ too_many (source_at w recursive s) p ∷ []
@@ -84,10 +84,10 @@ module _ (w : WorldView) where
   moved_refusals from to =
       let s = place_or_nowhere from in
       let p = place_or_nowhere to in
-      fault_of from
+      refusal_of from
       ∷ refuse_if (not (is_mount_root w s)) NotMountRoot
       ∷ refuse_if (is_root_mount w s) RootPlace
-      ∷ fault_of to
+      ∷ refusal_of to
       ∷ refuse_if (is_root_place w p) RootPlace
       ∷ refuse_if (stands_on_shared s.mount) SharedParent
       ∷ refuse_if (is_below w.forest s.mount p.mount) IntoItself

@@ -4,7 +4,7 @@ use Rattle.std.specs.Prelude.{◌≡◌, ◌≢◌, ℕ, cond, not, ◌||◌, �
 use Rattle.std.specs.Option.{option_map, unwrap_or}
 use Rattle.mt_skel.specs.declared.fault.Fault.{Fault}
 use Rattle.mt_skel.specs.declared.fault.Fault.TheVariants.{RootPlace, NotMountRoot, SharedParent, IntoItself}
-use Rattle.mt_skel.specs.Outcome.{refuse_if, fault_of, outcome}
+use Rattle.mt_skel.specs.Outcome.{refuse_if, refusal_of, outcome}
 use Rattle.mt_mounts.specs.declared.mount.Mount.{Mount}
 use Rattle.mt_mounts.specs.declared.mount.Place.{Place}
 use Rattle.mt_mounts.specs.Forest.{id_of, mount_at, is_below, root_mount}
@@ -33,10 +33,10 @@ module _ (w : WorldView) where
   pivoted_refusals new old =
       let s = place_or_nowhere new in
       let p = place_or_nowhere old in
-      fault_of new
+      refusal_of new
       ∷ refuse_if (not (is_mount_root w s)) NotMountRoot
       ∷ refuse_if (is_root_mount w s) RootPlace
-      ∷ fault_of old
+      ∷ refusal_of old
       ∷ refuse_if (is_root_place w p) RootPlace
       ∷ refuse_if (stands_on_shared w s.mount || is_some (group_of w p.mount)) SharedParent
       ∷ refuse_if (not (is_below w.forest s.mount p.mount)) IntoItself ∷ []

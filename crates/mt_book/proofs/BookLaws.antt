@@ -19,7 +19,7 @@ use Rattle.mt_book.specs.declared.prepared.Prepared.{Prepared}
 use Rattle.mt_book.specs.Step.{step, makes_space, after}
 use Rattle.mt_book.specs.Commands.{IsCommand}
 use Rattle.mt_book.specs.History.{posts_of}
-use Rattle.mt_book.specs.Book.{command_limit, space_numbers, counted, posted, with_newborn, still_there, AreNumbers, answer, reply_of}
+use Rattle.mt_book.specs.Book.{command_limit, space_numbers, counted, posts_at_change, with_newborn, still_there, AreNumbers, answer, reply_of}
 use Rattle.mt_book.specs.Kept.{IsBehind, IsSpare, IsPrepared, IsBook, shown_world, lagging_of, prepared_posts}
 use Rattle.mt_book.proofs.ValidLaws.{one_valid}
 use Rattle.mt_book.proofs.GrowthLaws.{IsReached, reached}
@@ -103,7 +103,7 @@ book_numbers w noted spare ks cs more h =
 -- a command that was done on an equal world is prepared for the book
 pub prepared_for : (shown world : WorldView) (noted : SinceView) (spare : Spare) (ks : List (ℕ × ℕ)) (cs : List Command) (c : Command) (p : Prepared) → IsBook shown noted spare ks cs → length cs < command_limit → world ≡ after cs
     → step world c ≡ Ok (world_view p.world.value, p.reply) → p.command ≡ c → p.numbers.items ≡ still_there (world_view p.world.value) (counted shown (world_view p.world.value) (with_newborn ks shown.next_space (makes_space c)))
-    → p.posts ≡ cond p.heard (posted shown (world_view p.world.value) (with_newborn ks shown.next_space (makes_space c))) [] → IsCommand c → since_view p.world.value ≡ since_of world → IsPrepared cs p
+    → p.posts ≡ cond p.heard (posts_at_change shown (world_view p.world.value) (with_newborn ks shown.next_space (makes_space c))) [] → IsCommand c → since_view p.world.value ≡ since_of world → IsPrepared cs p
 prepared_for shown world noted spare ks cs c p h few w e same numbers posts texts since =
     let v = world_view p.world.value in
     let done = ap (λ (x : WorldView). step x c) (sym w) ∙ e in
@@ -118,8 +118,8 @@ prepared_for shown world noted spare ks cs c p h few w e same numbers posts text
           ∙ ap (λ (x : Command). space_numbers (cs ++ x ∷ [])) (sym same);
       posts =
           posts
-          ∙ ap (λ (l : List PostView). cond p.heard l []) (ap (λ (x : WorldView). posted x v (with_newborn ks x.next_space (makes_space c))) h.world
-          ∙ ap (λ (l : List (ℕ × ℕ)). posted (after cs) v (with_newborn l (after cs).next_space (makes_space c))) h.counts
+          ∙ ap (λ (l : List PostView). cond p.heard l []) (ap (λ (x : WorldView). posts_at_change x v (with_newborn ks x.next_space (makes_space c))) h.world
+          ∙ ap (λ (l : List (ℕ × ℕ)). posts_at_change (after cs) v (with_newborn l (after cs).next_space (makes_space c))) h.counts
           ∙ posts-next cs c v p.reply done
           ∙ ap (posts_of cs) (sym same));
       texts = subst IsCommand (sym same) texts;

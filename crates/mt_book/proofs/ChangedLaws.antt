@@ -14,7 +14,7 @@ use Rattle.mt_unmount.proofs.PlacedLaws.{not-among}
 use Rattle.mt_info.specs.Table.{table_of}
 use Rattle.mt_events.specs.Posts.{PostView}
 use Rattle.mt_events.specs.Difference.{HoldsChanged}
-use Rattle.mt_book.specs.Book.{space_in, number_in, command_limit, next_number, next_post, counted, posted}
+use Rattle.mt_book.specs.Book.{space_in, number_in, command_limit, next_number, next_post, counted, posts_at_change}
 use Rattle.mt_book.specs.Parts.{is_part, is_touched, space_at, merged}
 use Rattle.mt_book.proofs.PlaceLaws.{above_at}
 use Rattle.mt_book.proofs.StayLaws.{untouched_number, untouched_post}
@@ -234,13 +234,13 @@ module _ (w v : WorldView) (spaces : List ℕ) (h : IsWellFormed w) (g : IsWellF
   pub all_numbers : (rs all : List (ℕ × ℕ)) → rises space_in rs ≡ true → rises space_in all ≡ true → ((n : ℕ) → row_at space_in n all ≡ merged rs (counted w v (filter (is_in spaces) rs)) n) → all ≡ counted w v rs
   all_numbers rs all up rise rows = same_rows space_in all (counted w v rs) rise (counted_rises w v rs ∙ up) (λ q. rows q ∙ one_number q rs up)
 
-  pub all_posts : (rs : List (ℕ × ℕ)) → posted w v rs ≡ posted w v (filter (is_in spaces) rs)
+  pub all_posts : (rs : List (ℕ × ℕ)) → posts_at_change w v rs ≡ posts_at_change w v (filter (is_in spaces) rs)
   all_posts [] = refl
   all_posts (r ∷ rs) = by (is_in spaces r) refl (all_posts rs)
     where
-      by : (b : Bool) → is_in spaces r ≡ b → posted w v rs ≡ posted w v (filter (is_in spaces) rs) → posted w v (r ∷ rs) ≡ posted w v (cond b (r ∷ filter (is_in spaces) rs) (filter (is_in spaces) rs))
+      by : (b : Bool) → is_in spaces r ≡ b → posts_at_change w v rs ≡ posts_at_change w v (filter (is_in spaces) rs) → posts_at_change w v (r ∷ rs) ≡ posts_at_change w v (cond b (r ∷ filter (is_in spaces) rs) (filter (is_in spaces) rs))
       by true is ih = ap (λ (l : List PostView). option_to_list (next_post w v (space_in r) (number_in r)) ++ l) ih
       by false is ih =
-          ap (λ (o : Option PostView). option_to_list o ++ posted w v rs)
+          ap (λ (o : Option PostView). option_to_list o ++ posts_at_change w v rs)
           (untouched_post w v (space_in r) [] h g (quiet (space_in r) is) refl (number_in r))
           ∙ ih

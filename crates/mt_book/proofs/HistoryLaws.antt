@@ -19,7 +19,7 @@ use Rattle.mt_skel.proofs.MiddleLaws.{and-true}
 use Rattle.mt_propagate.proofs.RowLaws.{none-picked}
 use Rattle.mt_events.specs.Posts.{PostView}
 use Rattle.mt_events.specs.declared.post.Delta.{Delta}
-use Rattle.mt_events.specs.Difference.{difference, applied, is_empty, delta_of, post_of, with_posts}
+use Rattle.mt_events.specs.Difference.{difference, with_delta, is_empty, delta_of, post_of, with_posts}
 use Rattle.mt_events.specs.Following.{space_posts}
 use Rattle.mt_events.proofs.DifferenceLaws.{applied-difference}
 use Rattle.mt_events.proofs.EmptyLaws.{empty-equal}
@@ -269,8 +269,8 @@ tables_go n number w (c ∷ cs) g = by (given n number w c) refl (λ k. tables_g
     by None e ih = ap (λ t. with_posts t (events_from n (number + 0) (next_world w c) cs)) (same_table n number w (next_world w c) g v e) ∙ ih (number + 0)
     by (Some p) e ih =
         let is = post_is n number (difference (table_of w n) (table_of (next_world w c) n)) p e in
-        let made : applied (delta_of p) (table_of w n) ≡ table_of (next_world w c) n =
-        ap (λ d. applied d (table_of w n)) is.delta_is ∙ applied-difference (table_of w n) (table_of (next_world w c) n) (table_rises w n g.formed) (table_rises (next_world w c) n v.formed) in
+        let made : with_delta (delta_of p) (table_of w n) ≡ table_of (next_world w c) n =
+        ap (λ d. with_delta d (table_of w n)) is.delta_is ∙ applied-difference (table_of w n) (table_of (next_world w c) n) (table_rises w n g.formed) (table_rises (next_world w c) n v.formed) in
         ap (λ t. with_posts t (events_from n (number + 1) (next_world w c) cs)) made ∙ ih (number + 1)
 
 -- ---- the command that gave a post

@@ -29,7 +29,7 @@ use Rattle.mt_book.specs.declared.command.Command.{Command}
 use Rattle.mt_book.specs.declared.command.Command.TheVariants.{MakeFs, MakeDir, NewSpace, CopySpace, DropSpace, Mount, Bind, Move, Pivot, Unmount, Detach, SetAttr}
 use Rattle.mt_book.specs.declared.command.Reply.{Reply}
 use Rattle.mt_book.specs.declared.command.Reply.TheVariants.{Done, Number}
-use Rattle.mt_book.specs.Step.{with_number, step, world_or, next_world, after_from, after}
+use Rattle.mt_book.specs.Step.{with_made_number, step, world_or, next_world, after_from, after}
 use Rattle.mt_book.specs.History.{events, space_number}
 use Rattle.mt_book.specs.Book.{command_limit, answer, reply_of}
 use Rattle.mt_book.specs.Inside.{is_issued_in, is_copy_of, IsNotCopied, StaysInCopy, AllStayInCopies}
@@ -142,7 +142,7 @@ stands_inside n w c s is k off = go (step w c) refl
     go (Err f) e = refl
 
 -- a less privileged copy, as it is made
-numbered_ok : (q : Result (WorldView × ℕ) Fault) (v : WorldView) (n : ℕ) → with_number q ≡ Ok (v, Number n) → q ≡ Ok (v, n)
+numbered_ok : (q : Result (WorldView × ℕ) Fault) (v : WorldView) (n : ℕ) → with_made_number q ≡ Ok (v, Number n) → q ≡ Ok (v, n)
 numbered_ok (Ok p) v n e =
     let same : ◌≡◌ {A = WorldView × Reply} (p.0, Number p.1) (v, Number n) = cc in
     let world : p.0 ≡ v = ap (λ (x : WorldView × Reply). x.0) same in

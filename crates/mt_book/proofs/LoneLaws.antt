@@ -15,7 +15,7 @@ use Rattle.mt_info.specs.Table.{row_id, table_of}
 use Rattle.mt_info.specs.MayDiffer.{has_moved, may_differ}
 use Rattle.mt_events.specs.Difference.{HoldsChanged}
 use Rattle.mt_events.proofs.TouchedLaws.{row_nowhere, row_elsewhere}
-use Rattle.mt_book.specs.Book.{space_in, number_in, next_number, next_post, counted, posted}
+use Rattle.mt_book.specs.Book.{space_in, number_in, next_number, next_post, counted, posts_at_change}
 use Rattle.mt_book.specs.Parts.{only_in, stays_in, rests_in, merged}
 use Rattle.mt_book.proofs.ChangedLaws.{is_in, next_row, all_numbers, all_posts}
 
@@ -63,8 +63,8 @@ module _ (w v : WorldView) (ids : List ℕ) (s : ℕ) (h : IsWellFormed w) (g : 
       self None = refl
       self (Some r) = refl
 
-  pub absent_posts : (rs : List (ℕ × ℕ)) → rises space_in rs ≡ true → row_at space_in s rs ≡ None → posted w v rs ≡ []
-  absent_posts rs up out = all_posts w v (s ∷ []) h g quiet rs ∙ ap (posted w v) (one_in s rs up ∙ ap option_to_list out)
+  pub absent_posts : (rs : List (ℕ × ℕ)) → rises space_in rs ≡ true → row_at space_in s rs ≡ None → posts_at_change w v rs ≡ []
+  absent_posts rs up out = all_posts w v (s ∷ []) h g quiet rs ∙ ap (posts_at_change w v) (one_in s rs up ∙ ap option_to_list out)
 
   -- it has one
   pub lone_numbers : (rs all : List (ℕ × ℕ)) (row : ℕ × ℕ) (k : ℕ) → rises space_in rs ≡ true → rises space_in all ≡ true → row_at space_in s rs ≡ Some row → k ≡ next_number w v s (number_in row)
@@ -74,9 +74,9 @@ module _ (w v : WorldView) (ids : List ℕ) (s : ℕ) (h : IsWellFormed w) (g : 
       ap (counted w v) (one_in s rs up ∙ ap option_to_list at) ∙ ap (λ (n : ℕ). (n, next_number w v n (number_in row)) ∷ []) (row_at-key space_in s rs row at) ∙ ap (λ (m : ℕ). (s, m) ∷ []) (sym is) in
       all_numbers w v (s ∷ []) h g quiet rs all up rise (λ n. rows n ∙ ap (λ (l : List (ℕ × ℕ)). merged rs l n) (sym one))
 
-  pub lone_posts : (rs : List (ℕ × ℕ)) (row : ℕ × ℕ) → rises space_in rs ≡ true → row_at space_in s rs ≡ Some row → posted w v rs ≡ option_to_list (next_post w v s (number_in row))
+  pub lone_posts : (rs : List (ℕ × ℕ)) (row : ℕ × ℕ) → rises space_in rs ≡ true → row_at space_in s rs ≡ Some row → posts_at_change w v rs ≡ option_to_list (next_post w v s (number_in row))
   lone_posts rs row up at =
-      all_posts w v (s ∷ []) h g quiet rs ∙ ap (posted w v) (one_in s rs up ∙ ap option_to_list at) ∙ append-nil (option_to_list (next_post w v (space_in row) (number_in row)))
+      all_posts w v (s ∷ []) h g quiet rs ∙ ap (posts_at_change w v) (one_in s rs up ∙ ap option_to_list at) ∙ append-nil (option_to_list (next_post w v (space_in row) (number_in row)))
       ∙ ap (λ (n : ℕ). option_to_list (next_post w v n (number_in row))) (row_at-key space_in s rs row at)
 
 -- mounts that rest stay in their namespace, and none has moved

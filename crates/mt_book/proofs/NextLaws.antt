@@ -12,7 +12,7 @@ use Rattle.mt_book.specs.declared.command.Command.{Command}
 use Rattle.mt_book.specs.declared.command.Reply.{Reply}
 use Rattle.mt_book.specs.Step.{step, makes_space, world_or, next_world, after_from, after}
 use Rattle.mt_book.specs.History.{events_from, events, space_number, posts_of}
-use Rattle.mt_book.specs.Book.{command_limit, accepts, spaces_of, space_numbers, next_number, next_post, counted, posted, with_newborn, still_there, AreNumbers}
+use Rattle.mt_book.specs.Book.{command_limit, accepts, spaces_of, space_numbers, next_number, next_post, counted, posts_at_change, with_newborn, still_there, AreNumbers}
 use Rattle.mt_book.proofs.GrowthLaws.{reached, step_spaces}
 use Rattle.mt_book.proofs.HistoryLaws.{IsGood, after_good, after-append, events-append, no_post, table_nowhere, given}
 use Rattle.mt_book.proofs.SpaceLaws.{step_gone}
@@ -96,14 +96,14 @@ gone_none cs c v r e n k low gone =
     no_post n (k + 1) w v g h (table_nowhere w n g.formed gone ∙ sym (table_nowhere v n h.formed (step_gone w c v r n g.formed g.skeleton e low gone)))
 
 pub posts-next : (cs : List Command) (c : Command) (v : WorldView) (r : Reply) → step (after cs) c ≡ Ok (v, r)
-    → posted (after cs) v (with_newborn (space_numbers cs) (after cs).next_space (makes_space c)) ≡ posts_of cs c
+    → posts_at_change (after cs) v (with_newborn (space_numbers cs) (after cs).next_space (makes_space c)) ≡ posts_of cs c
 unfolding space_numbers posts_of
 posts-next cs c v r e =
     let w = after cs in
     let h = reached cs in
     let more = makes_space c in
     let f : ℕ → ℕ = λ n. space_number n cs in
-    ap (posted w v) (newborn-rows f w more (number-newborn w.next_space cs (omega arith)))
+    ap (posts_at_change w v) (newborn-rows f w more (number-newborn w.next_space cs (omega arith)))
     ∙ posted-rows w v f (all_in w more)
     ∙ posts-all w more v.next_space (λ n. next_post w v n (f n)) h.well_formed.from_one.1 (step_spaces w c v r (length cs) h e) (λ n low gone. gone_none cs c v r e n (f n) low gone)
     ∙ ap (λ (x : WorldView). filter_map (λ n. next_post w x n (f n)) (range_with_len 1 (x.next_space - 1))) (sym (ap (world_or w) e))

@@ -14,7 +14,7 @@ use Rattle.mt_events.proofs.EmptyLaws.{empty-equal}
 use Rattle.mt_book.specs.declared.command.Command.{Command}
 use Rattle.mt_book.specs.declared.command.Reply.{Reply}
 use Rattle.mt_book.specs.Step.{step, makes_directories, world_or, next_world}
-use Rattle.mt_book.specs.Book.{counted, posted}
+use Rattle.mt_book.specs.Book.{counted, posts_at_change}
 use Rattle.mt_book.proofs.DirectoryLaws.{directories_keep}
 use Rattle.mt_book.proofs.ThereLaws.{numbered_row}
 
@@ -39,17 +39,17 @@ no_post : (b : Bool) (p : PostView) → b ≡ true → option_to_list (cond b No
 no_post true p e = refl
 no_post false p e = absurd (cc)
 
-posted_same : (w v : WorldView) (rs : List (ℕ × ℕ)) → IsWellFormed w → ((i : ℕ) → table_of v i ≡ table_of w i) → posted w v rs ≡ []
+posted_same : (w v : WorldView) (rs : List (ℕ × ℕ)) → IsWellFormed w → ((i : ℕ) → table_of v i ≡ table_of w i) → posts_at_change w v rs ≡ []
 posted_same w v [] h same = refl
 posted_same w v (r ∷ rs) h same =
     let d = difference (table_of w r.0) (table_of v r.0) in
     let p : PostView = record { space = r.0; number = r.1 + 1; gone = d.gone; rows = d.rows } in
-    ap (λ (l : List PostView). l ++ posted w v rs) (no_post (is_empty d) p (unchanged w v r.0 h (same r.0))) ∙ posted_same w v rs h same
+    ap (λ (l : List PostView). l ++ posts_at_change w v rs) (no_post (is_empty d) p (unchanged w v r.0 h (same r.0))) ∙ posted_same w v rs h same
 
 pub directories_counted : (w v : WorldView) (c : Command) (rs : List (ℕ × ℕ)) → IsWellFormed w → IsSkeleton w.skel → makes_directories c ≡ true → v ≡ next_world w c → counted w v rs ≡ rs
 directories_counted w v c rs h s d e =
     counted_same w v rs h (λ n. ap (λ (x : WorldView). table_of x n) e ∙ next_tables w c h s d n)
 
-pub directories_posted : (w v : WorldView) (c : Command) (rs : List (ℕ × ℕ)) → IsWellFormed w → IsSkeleton w.skel → makes_directories c ≡ true → v ≡ next_world w c → posted w v rs ≡ []
+pub directories_posted : (w v : WorldView) (c : Command) (rs : List (ℕ × ℕ)) → IsWellFormed w → IsSkeleton w.skel → makes_directories c ≡ true → v ≡ next_world w c → posts_at_change w v rs ≡ []
 directories_posted w v c rs h s d e =
     posted_same w v rs h (λ n. ap (λ (x : WorldView). table_of x n) e ∙ next_tables w c h s d n)

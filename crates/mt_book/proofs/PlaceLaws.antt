@@ -9,7 +9,7 @@ use Rattle.std.proofs.lemmas.Cmp.{ranked}
 use Rattle.mt_skel.specs.Keyed.{row_at, rises}
 use Rattle.mt_skel.proofs.MiddleLaws.{and_first, and_second}
 use Rattle.mt_book.specs.Book.{space_in}
-use Rattle.mt_book.specs.Parts.{space_at, is_at}
+use Rattle.mt_book.specs.Parts.{space_at, is_position}
 
 pub above_at : (n : ℕ) (rs : List (ℕ × ℕ)) (j : ℕ) → list_all (λ r. nat_lt n (space_in r)) rs ≡ true → j < length rs → n < space_at rs j
 above_at n [] j all l = absurd (omega (arith, l))
@@ -24,7 +24,7 @@ rows_apart (r ∷ rs) up (suc i) zero b l = absurd (omega (arith, b))
 rows_apart (r ∷ rs) up (suc i) (suc j) b l = rows_apart rs (and_second (list_all (λ q. nat_lt (space_in r) (space_in q)) rs) (rises space_in rs) up) i j (omega (arith, b)) (omega (arith, l))
 
 -- the one place of a namespace that is there
-pub place_found : (n : ℕ) (rs : List (ℕ × ℕ)) (at k : ℕ) → rises space_in rs ≡ true → at < length rs → HoldsAt (λ r. nat_cmp (space_in r) n ≡ Equal) rs at → k < length rs → (n == space_at rs k) ≡ is_at (Some at) k
+pub place_found : (n : ℕ) (rs : List (ℕ × ℕ)) (at k : ℕ) → rises space_in rs ≡ true → at < length rs → HoldsAt (λ r. nat_cmp (space_in r) n ≡ Equal) rs at → k < length rs → (n == space_at rs k) ≡ is_position (Some at) k
 place_found n rs at k up within equal low = by (eqb at k) refl
   where
     here : space_at rs at ≡ n
@@ -41,7 +41,7 @@ place_found n rs at k up within equal low = by (eqb at k) refl
         off ∙ sym e
 
 -- and one that is not there has none
-pub place_absent : (n : ℕ) (rs : List (ℕ × ℕ)) (k : ℕ) → row_at space_in n rs ≡ None → k < length rs → (n == space_at rs k) ≡ is_at None k
+pub place_absent : (n : ℕ) (rs : List (ℕ × ℕ)) (k : ℕ) → row_at space_in n rs ≡ None → k < length rs → (n == space_at rs k) ≡ is_position None k
 place_absent n [] k none low = absurd (omega (arith, low))
 place_absent n (r ∷ rs) zero none low = by (nat_eq n (space_in r)) refl none
   where

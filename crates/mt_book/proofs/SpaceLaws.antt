@@ -13,7 +13,7 @@ use Rattle.mt_propagate.specs.World.{WorldView, is_space}
 use Rattle.mt_propagate.specs.WellFormed.{IsWellFormed}
 use Rattle.mt_propagate.specs.Copies.{Source, targets}
 use Rattle.mt_propagate.specs.Receivers.{hits}
-use Rattle.mt_propagate.specs.Places.{relocated, new_mounts, copy_place, copy_of as copy_at}
+use Rattle.mt_propagate.specs.Places.{relocated, new_mounts, copy_place, copied_mount}
 use Rattle.mt_propagate.specs.Copied.{copied}
 use Rattle.mt_propagate.proofs.RowLaws.{mapped-row, row-second, appended-row, kept-row}
 use Rattle.mt_propagate.proofs.WalkLaws.{root_here, number_free}
@@ -101,8 +101,8 @@ made_placed : (n : ℕ) (w : WorldView) (src : Source) (p : Place) (i : ℕ) (m 
 made_placed n w src p i m e none s = elim (appended-row id_of (map (relocated w src p) w.forest) (new_mounts w src p) i m (ap (λ l. mount_at l i) (sym (copied_forest w src p)) ∙ e)) [
   | inl old ↦ was_mapped n w (relocated w src p) (relocated-id w src p) (relocated-space w src p) i m old s
   | inr new ↦
-      let at = in_flat (λ t. map (copy_at w src p t) src.mounts) m (cond src.moved (hits w p) (targets w src p)) (row_in id_of i (new_mounts w src p) m new) in
-      let x = in_map (copy_at w src p at.0) m src.mounts at.2 in
+      let at = in_flat (λ t. map (copied_mount w src p t) src.mounts) m (cond src.moved (hits w p) (targets w src p)) (row_in id_of i (new_mounts w src p) m new) in
+      let x = in_map (copied_mount w src p at.0) m src.mounts at.2 in
       absurd (placed_apart (copy_place w src p at.0 x.0) m.place (ap (λ (y : Mount). y.place) x.2) none)
 ]
   where

@@ -10,7 +10,7 @@ use Rattle.mt_skel.specs.Keyed.{rises}
 use Rattle.mt_skel.proofs.MiddleLaws.{and-true}
 use Rattle.mt_propagate.specs.World.{WorldView, is_space}
 use Rattle.mt_events.specs.Posts.{PostView}
-use Rattle.mt_book.specs.Book.{next_number, next_post, space_in, number_in, counted, posted, with_newborn, still_there, spaces_of}
+use Rattle.mt_book.specs.Book.{next_number, next_post, space_in, number_in, counted, posts_at_change, with_newborn, still_there, spaces_of}
 
 -- a namespace with its number
 abbrev pub numbered_row : ℕ → ℕ → ℕ × ℕ
@@ -40,7 +40,7 @@ counted-rows w v f g same [] = refl
 counted-rows w v f g same (x ∷ xs) =
     ap (λ k. numbered_row x k ∷ counted w v (paired f xs)) (same x) ∙ ap (λ l. numbered_row x (g x) ∷ l) (counted-rows w v f g same xs)
 
-pub posted-rows : (w v : WorldView) (f : ℕ → ℕ) (xs : List ℕ) → posted w v (paired f xs) ≡ filter_map (λ n. next_post w v n (f n)) xs
+pub posted-rows : (w v : WorldView) (f : ℕ → ℕ) (xs : List ℕ) → posts_at_change w v (paired f xs) ≡ filter_map (λ n. next_post w v n (f n)) xs
 posted-rows w v f [] = refl
 posted-rows w v f (x ∷ xs) =
     ap (λ l. option_to_list (next_post w v x (f x)) ++ l) (posted-rows w v f xs)

@@ -6,7 +6,7 @@ use Rattle.mt_propagate.specs.WellFormed.{IsWellFormed}
 use Rattle.mt_info.specs.Table.{table_of}
 use Rattle.mt_events.specs.Posts.{PostView}
 use Rattle.mt_events.specs.Difference.{HoldsChanged}
-use Rattle.mt_book.specs.Book.{counted, posted}
+use Rattle.mt_book.specs.Book.{counted, posts_at_change}
 
 -- both worlds, and whether somebody asks for posts
 pub record BetweenView : Type 0 where
@@ -29,4 +29,4 @@ numbers_after b rs = counted b.old b.new rs
 
 -- its posts, where somebody asks for them
 abbrev pub heard_posts : BetweenView → List (ℕ × ℕ) → List PostView
-heard_posts b rs = cond b.heard (posted b.old b.new rs) []
+heard_posts b rs = cond b.heard (posts_at_change b.old b.new rs) []

@@ -64,9 +64,9 @@ counted w v [] = []
 counted w v (r ∷ rs) = (space_in r, next_number w v (space_in r) (number_in r)) ∷ counted w v rs
 
 -- the posts of namespaces at a change
-abbrev pub posted : WorldView → WorldView → List (ℕ × ℕ) → List PostView
-posted w v [] = []
-posted w v (r ∷ rs) = option_to_list (next_post w v (space_in r) (number_in r)) ++ posted w v rs
+abbrev pub posts_at_change : WorldView → WorldView → List (ℕ × ℕ) → List PostView
+posts_at_change w v [] = []
+posts_at_change w v (r ∷ rs) = option_to_list (next_post w v (space_in r) (number_in r)) ++ posts_at_change w v rs
 
 -- a namespace that is made has number 0 before
 abbrev pub with_newborn : List (ℕ × ℕ) → ℕ → Bool → List (ℕ × ℕ)

@@ -39,9 +39,9 @@ abbrev pub space_at : List (ℕ × ℕ) → ℕ → ℕ
 space_at rs k = space_in (slice_index_or rs k (0, 0))
 
 -- a place in a list is this one, if it is one at all
-abbrev pub is_at : Option ℕ → ℕ → Bool
-is_at None k = false
-is_at (Some at) k = at == k
+abbrev pub is_position : Option ℕ → ℕ → Bool
+is_position None k = false
+is_position (Some at) k = at == k
 
 -- the number of a namespace once some have changed; one that had none has none
 abbrev pub merged : List (ℕ × ℕ) → List (ℕ × ℕ) → ℕ → Option (ℕ × ℕ)

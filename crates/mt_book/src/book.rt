@@ -5,7 +5,7 @@ ghost use Rattle.std.specs.Option.{option_map};
 ghost use Rattle.mt_skel.specs.Front.{IsFront};
 ghost use Rattle.mt_propagate.specs.World.{world_view, empty_world, is_space};
 ghost use Rattle.mt_propagate.specs.WellFormed.{IsWellFormed};
-ghost use Rattle.mt_info.specs.RowLine.{row_line};
+ghost use Rattle.mt_info.specs.RowLine.{whole_line};
 ghost use Rattle.mt_info.specs.Table.{table_of};
 ghost use Rattle.mt_events.specs.Posts.{IsPost};
 ghost use Rattle.mt_book.specs.Step.{after};
@@ -241,7 +241,7 @@ impl Book {
     /// Appends the lines of the table of a namespace, each with its line end. Refused as `NoNamespace` exactly where
     /// there is no such namespace, and else as `NoMemory` alone; what stood in the text stays in front then too.
     pub fn push_table(&self, text: &mut Vec<u8>, space: SpaceId) -> Result<(), Fault>
-        ensures done { OnOk result ((is_space (after self.now.journal) space ≡ true) × (text.new.items ≡ text.old.items ++ flat_map row_line (table_of (after self.now.journal) space))) }
+        ensures done { OnOk result ((is_space (after self.now.journal) space ≡ true) × (text.new.items ≡ text.old.items ++ flat_map whole_line (table_of (after self.now.journal) space))) }
         ensures absent { is_space (after self.now.journal) space ≡ false → result ≡ Err Fault.NoNamespace }
         ensures refused { IfErr result (λ fault. fault ≢ Fault.NoMemory → (fault ≡ Fault.NoNamespace) × (is_space (after self.now.journal) space ≡ false)) }
         ensures kept { IsFront text.old.items text.new.items }

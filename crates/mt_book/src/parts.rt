@@ -5,7 +5,7 @@ ghost use Rattle.std.specs.Option.{option_map};
 ghost use Rattle.mt_propagate.specs.World.{world_view};
 ghost use Rattle.mt_skel.specs.Keyed.{among, rises, row_at};
 ghost use Rattle.mt_book.specs.Book.{space_in};
-ghost use Rattle.mt_book.specs.Parts.{is_part, is_touched, part_at, space_at, is_at};
+ghost use Rattle.mt_book.specs.Parts.{is_part, is_touched, part_at, space_at, is_position};
 
 use mt_mounts::mount::{MountId, SpaceId};
 use mt_propagate::sorted::in_order;
@@ -59,7 +59,7 @@ impl Part {
 pub(crate) fn place_among(numbers: &[(SpaceId, u64)], space: SpaceId) -> Option<usize>
     requires rising { IsTrue (rises space_in numbers.now) }
     ensures within { IfSome result (λ at. at < length numbers.now) }
-    ensures place { (k : ℕ) → k < length numbers.now → (space == space_at numbers.now k) ≡ is_at result k }
+    ensures place { (k : ℕ) → k < length numbers.now → (space == space_at numbers.now k) ≡ is_position result k }
     ensures row { row_at space_in space numbers.now ≡ option_map (λ at. slice_index_or numbers.now at (0, 0)) result }
 {
     match numbers.binary_search_by_key(&space, |row| row.0) {

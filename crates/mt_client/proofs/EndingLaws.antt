@@ -13,7 +13,7 @@ use Rattle.mt_client.specs.declared.answer.Form.TheVariants.{Done, Number, Place
 use Rattle.mt_client.specs.Requests.{first_of, verdict}
 use Rattle.mt_client.specs.Reading.{texts, HasRead, NoneFirst, AreSoMany}
 use Rattle.mt_client.specs.Awaited.{event_count}
-use Rattle.mt_client.specs.Replies.{IsPostLines, IsBlockOf, most_posts, IsEnding, IsHeaded, IsFollowed, IsAnswer}
+use Rattle.mt_client.specs.Replies.{IsPostLines, IsBlockOf, most_posts, IsEnding, IsHeaded, IsFollowAnswer, IsAnswer}
 use Rattle.mt_client.proofs.OpeningLaws.{first_taken, texts_split}
 use Rattle.mt_client.proofs.FollowLaws.{lines_alike}
 use Rattle.mt_client.proofs.ReplyLaws.{posts_alike, flat_more}
@@ -31,7 +31,7 @@ posts_join taken behind ls ms a g =
     let m = a.1 in
     (a.0 ++ ms ∷ [], omega (arith, l, m), each_last IsPostLines a.0 ms a.2 g.0, flat_more ls ms a.0 a.3)
 
-pub posts_ended : (taken : ℕ) (told : Bool) (seen : List ℕ) → taken < most_posts → Some told ≡ verdict seen → IsEnding told taken seen → (ls ms : List (List ℕ)) → ArePosts taken ls → ms ≡ seen ∷ [] → IsFollowed (ls ++ ms) told
+pub posts_ended : (taken : ℕ) (told : Bool) (seen : List ℕ) → taken < most_posts → Some told ≡ verdict seen → IsEnding told taken seen → (ls ms : List (List ℕ)) → ArePosts taken ls → ms ≡ seen ∷ [] → IsFollowAnswer (ls ++ ms) told
 posts_ended taken told seen lt tells ends ls ms a one = record {
   posts = a.0;
   last = seen;
@@ -68,10 +68,10 @@ pub record IsStill (taken : ℕ) (middle later : List Item) (told : Bool) : Type
   pub bounded : taken + length posts < most_posts
 
 abbrev pub Still : ℕ → List Item → List Item → Type 0
-Still taken before middle = (lines : List (List ℕ)) (later : List Item) (told : Bool) → IsFollowed lines told → before ≡ texts lines ++ later → IsStill taken middle later told
+Still taken before middle = (lines : List (List ℕ)) (later : List Item) (told : Bool) → IsFollowAnswer lines told → before ≡ texts lines ++ later → IsStill taken middle later told
 
 abbrev pub Whole : List (List ℕ) → Type 0
-Whole lines = (told : Bool) × IsFollowed lines told
+Whole lines = (told : Bool) × IsFollowAnswer lines told
 
 pub still_at_first : (before : List Item) → Still 0 before before
 still_at_first before lines later told f e =
@@ -186,5 +186,5 @@ headed_is form told other lines h = subst (λ K. K lines told) (heads form other
 pub headed_none : (form : Form) → form ≢ Followed → (before : List Item) → NoneFirst (λ ls. (told : Bool) × IsHeaded form ls told) before → NoneFirst (λ ls. (told : Bool) × IsAnswer form ls told) before
 headed_none form other before none = subst (λ K. NoneFirst (λ ls. (told : Bool) × K ls told) before) (heads form other) none
 
-pub followed_none : (form : Form) → form ≡ Followed → (before : List Item) → NoneFirst (λ ls. (told : Bool) × IsFollowed ls told) before → NoneFirst (λ ls. (told : Bool) × IsAnswer form ls told) before
+pub followed_none : (form : Form) → form ≡ Followed → (before : List Item) → NoneFirst (λ ls. (told : Bool) × IsFollowAnswer ls told) before → NoneFirst (λ ls. (told : Bool) × IsAnswer form ls told) before
 followed_none form is before none = subst (λ k. NoneFirst (λ ls. (told : Bool) × IsAnswer k ls told) before) (sym is) none

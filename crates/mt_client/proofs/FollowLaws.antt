@@ -14,8 +14,8 @@ use Rattle.mt_events.specs.Posts.{PostView, IsPost, event_words, gone_line, row_
 use Rattle.mt_events.specs.Mirrors.{MirrorView, is_next, are_next, mirrored}
 use Rattle.mt_events.proofs.PostLaws.{text_tells, event_lacks}
 use Rattle.mt_client.specs.Reading.{texts, printed, NoneFirst, AreSoMany}
-use Rattle.mt_client.specs.Mirroring.{IsRefusal, counted_line, opening_lines, Follows, HasOpened, IsPosted, HasFollowed}
-use Rattle.mt_client.specs.Awaited.{event_count, IsOneRefusal, IsRefusedOr, IsOpening, IsNextPost, IsBehind, IsPostBehind, IsOnlyPost, TakesPost, TakesBehind, IsLast, IsFollowing, IsEnd, IsMirroring}
+use Rattle.mt_client.specs.Mirroring.{IsRefusal, counted_line, opening_lines, AreMirrored, HasOpened, IsPosted, HasFollowed}
+use Rattle.mt_client.specs.Awaited.{event_count, IsOneRefusal, IsRefusedOr, IsOpening, IsNextPost, IsNextPostBehind, IsPostBehind, IsOnlyPost, TakesPost, TakesBehind, IsLast, IsFollowing, IsEnd, IsMirroring}
 use Rattle.mt_client.specs.Requests.{is_refusal}
 use Rattle.mt_client.proofs.OpeningLaws.{first_taken, texts_split, needs_line, no_refusal, unrefused_or, opened_alike}
 
@@ -120,7 +120,7 @@ behind_posted seen before after begun text post began read said = record {
 pub taken_behind : (seen : List ℕ) (before after : List Item) (post : PostView) → IsOnlyPost seen before after post → TakesBehind seen before after
 taken_behind seen before after post only other others rest valid all e = (only other others rest valid all e).1
 
-pub behind_needs_next : (seen : List ℕ) (mirror : MirrorView) (before after : List Item) (post : PostView) → IsOnlyPost seen before after post → is_next mirror post ≡ false → NoneFirst (IsBehind seen mirror) before
+pub behind_needs_next : (seen : List ℕ) (mirror : MirrorView) (before after : List Item) (post : PostView) → IsOnlyPost seen before after post → is_next mirror post ≡ false → NoneFirst (IsNextPostBehind seen mirror) before
 behind_needs_next seen mirror before after post only other lines later k e =
     let o = only k.post lines later k.valid k.all e in
     let yes : is_next mirror post ≡ true = sym (ap (is_next mirror) o.0) ∙ k.next in
@@ -134,7 +134,7 @@ next_some mirror lines (inr k) = (event_line k.post, behind_lines k.post, k.all)
 pub next_needs_line : (mirror : MirrorView) (before : List Item) → NoneFirst (AreSoMany 1) before → NoneFirst (IsRefusedOr (IsNextPost mirror)) before
 next_needs_line mirror before none = needs_line before (next_some mirror) none
 
-pub next_needs_behind : (mirror : MirrorView) (seen : List ℕ) (before middle : List Item) → before ≡ Text seen ∷ middle → is_refusal seen ≡ false → NoneFirst (IsBehind seen mirror) middle → NoneFirst (IsRefusedOr (IsNextPost mirror)) before
+pub next_needs_behind : (mirror : MirrorView) (seen : List ℕ) (before middle : List Item) → before ≡ Text seen ∷ middle → is_refusal seen ≡ false → NoneFirst (IsNextPostBehind seen mirror) middle → NoneFirst (IsRefusedOr (IsNextPost mirror)) before
 next_needs_behind mirror seen before middle there tells none =
     unrefused_or before (no_refusal seen before middle there tells) (λ lines later k e.
     let t = first_taken seen (event_line k.post) lines (behind_lines k.post) before middle later there k.all e in
@@ -202,7 +202,7 @@ one_more end (suc less) now new middle after later rest (p ∷ posts) last all v
       takes p (texts (flat_map post_lines posts ++ last ∷ []) ++ later) valid.0 (joined_behind p posts last rest middle later all e),
     )
 
-post_makes : (now new : MirrorView) (post : PostView) → Follows (post ∷ []) now new → (new.space ≡ now.space) × (new.number ≡ now.number + 1)
+post_makes : (now new : MirrorView) (post : PostView) → AreMirrored (post ∷ []) now new → (new.space ≡ now.space) × (new.number ≡ now.number + 1)
 post_makes now new post f =
     let here : is_next now post ≡ true = and_first (is_next now post) true f.are in
     let is : post.number ≡ now.number + 1 = grind (arith, nat_tests) in

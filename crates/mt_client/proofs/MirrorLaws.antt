@@ -10,13 +10,13 @@ use Rattle.mt_client.specs.declared.opening.Heading.{Heading}
 use Rattle.mt_client.specs.declared.fault.ClientFault.{ClientFault}
 use Rattle.mt_lines.specs.Lines.{Item, Text}
 use Rattle.mt_skel.proofs.MiddleLaws.{and-true, and_first, and_second, each_last}
-use Rattle.mt_info.specs.RowLine.{line, row_line}
+use Rattle.mt_info.specs.RowLine.{line, whole_line}
 use Rattle.mt_info.specs.declared.row.Row.{Row}
 use Rattle.mt_events.specs.Posts.{PostView, IsPost, post_text, ended}
 use Rattle.mt_events.specs.Mirrors.{MirrorView, is_next, are_next, mirrored, mirrored_by}
 use Rattle.mt_events.specs.Texts.{count_text, part_text, opening_text}
 use Rattle.mt_client.specs.Reading.{texts, printed}
-use Rattle.mt_client.specs.Mirroring.{counted_line, heading_words, heading_line, part_lines, opening_lines, opening_with, Follows, HasOpened, HasPosted, HasFollowed, HasFollowedSome, HasFollowedAll, HasRefused, HasMirrored, IsLeft}
+use Rattle.mt_client.specs.Mirroring.{counted_line, heading_words, heading_line, part_lines, opening_lines, opening_with, AreMirrored, HasOpened, HasPosted, HasFollowed, HasFollowedSome, HasFollowedAll, HasRefused, HasMirrored, IsRefusedMidway}
 use Rattle.mt_client.specs.Finding.{part_found}
 use Rattle.mt_client.proofs.RelayLaws.{texts-append, printed-append}
 
@@ -36,7 +36,7 @@ mirrored_more : (posts : List PostView) (post : PostView) (old : MirrorView) →
 mirrored_more [] post old = refl
 mirrored_more (p ∷ posts) post old = mirrored_more posts post (mirrored old p)
 
-follows_more : (posts : List PostView) (post : PostView) (old between new : MirrorView) → Follows posts old between → Follows (post ∷ []) between new → Follows (posts ++ post ∷ []) old new
+follows_more : (posts : List PostView) (post : PostView) (old between new : MirrorView) → AreMirrored posts old between → AreMirrored (post ∷ []) between new → AreMirrored (posts ++ post ∷ []) old new
 follows_more posts post old between new f h = record {
   are = next_more posts post old f.are (subst (λ m. are_next m (post ∷ []) ≡ true) f.make h.are);
   make = h.make ∙ ap (λ m. mirrored m post) f.make ∙ sym (mirrored_more posts post old);
@@ -72,11 +72,11 @@ followed_all count before middle after old new f e = record {
 }
 
 -- a refusal behind some posts
-pub left_behind : (count n : ℕ) (refusal : List ℕ) (before middle after : List Item) (old new : MirrorView) → n ≤ count → HasFollowedSome n before middle old new → HasRefused refusal middle after → IsLeft count refusal before after old new
+pub left_behind : (count n : ℕ) (refusal : List ℕ) (before middle after : List Item) (old new : MirrorView) → n ≤ count → HasFollowedSome n before middle old new → HasRefused refusal middle after → IsRefusedMidway count refusal before after old new
 left_behind count n refusal before middle after old new le f r = record { taken = n; middle = middle; few = le; some = f; refused = r }
 
 -- the text of an opening
-rows_text : (rows : List Row) → printed (map line rows) ≡ flat_map row_line rows
+rows_text : (rows : List Row) → printed (map line rows) ≡ flat_map whole_line rows
 rows_text [] = refl
 rows_text (r ∷ rows) = ap (λ x. ended (line r) ++ x) (rows_text rows)
 
@@ -85,7 +85,7 @@ heading_text : (space number count rest : List ℕ)
 heading_text space number count rest = simp append_assoc refl
 
 pub part_is : (m : MirrorView) → printed (part_lines m) ≡ part_text (part_found m)
-part_is m = ap (λ x. ended (heading_line m) ++ x) (rows_text m.rows) ∙ heading_text (decimal m.space) (decimal m.number) (decimal (length m.rows)) (flat_map row_line m.rows)
+part_is m = ap (λ x. ended (heading_line m) ++ x) (rows_text m.rows) ∙ heading_text (decimal m.space) (decimal m.number) (decimal (length m.rows)) (flat_map whole_line m.rows)
 
 pub opening_is : (m : MirrorView) → printed (opening_lines m) ≡ opening_text (opening_with m)
 opening_is m =
@@ -138,7 +138,7 @@ when_some A P o x e m = subst (λ y. MatchOption y A P) e m
 -- the line behind so many posts
 pub all_followed : {T : Type 0} (r : Result Bool ClientFault) (count n : ℕ) (refusal : List ℕ) (before middle after : List Item) (old new : MirrorView) → n ≡ count → (T → HasFollowedSome n before middle old new)
     → IfOk r (λ going. T → MatchBool going (middle ≡ texts (counted_line count ∷ []) ++ after) (HasRefused refusal middle after))
-    → IfOk r (λ going. T → MatchBool going (HasFollowedAll count before after old new) (IsLeft count refusal before after old new))
+    → IfOk r (λ going. T → MatchBool going (HasFollowedAll count before after old new) (IsRefusedMidway count refusal before after old new))
 all_followed (Ok true) count n refusal before middle after old new e f h = λ t. followed_all count before middle after old new (subst (λ x. HasFollowedSome x before middle old new) e (f t)) (h t)
 all_followed (Ok false) count n refusal before middle after old new e f h = λ t. left_behind count n refusal before middle after old new (omega (arith, e)) (f t) (h t)
 all_followed (Err k) count n refusal before middle after old new e f h = tt

@@ -51,8 +51,8 @@ pub record IsNextPost (mirror : MirrorView) (lines : List (List ℕ)) : Type 0 w
   pub next : is_next mirror post ≡ true
   pub all : lines ≡ post_lines post
 
-abbrev pub IsBehind : List ℕ → MirrorView → List (List ℕ) → Type 0
-IsBehind first mirror others = IsNextPost mirror (first ∷ others)
+abbrev pub IsNextPostBehind : List ℕ → MirrorView → List (List ℕ) → Type 0
+IsNextPostBehind first mirror others = IsNextPost mirror (first ∷ others)
 
 -- the lines of a post
 abbrev pub IsAnyPost : List (List ℕ) → Type 0

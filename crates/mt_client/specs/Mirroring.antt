@@ -51,7 +51,7 @@ pub record IsShown (m : MirrorView) : Type 0 where
   pub rising : IsTrue (rises row_id m.rows)
 
 -- posts of which each is the next one of the mirror that those before it have made, and the mirror that they make
-pub record Follows (posts : List PostView) (old new : MirrorView) : Type 0 where
+pub record AreMirrored (posts : List PostView) (old new : MirrorView) : Type 0 where
   pub are : are_next old posts ≡ true
   pub make : new ≡ mirrored_by old posts
 
@@ -74,7 +74,7 @@ pub record HasPosted (first : List ℕ) (before after : List Item) (old new : Mi
   pub valid : IsPost post
   pub read : before ≡ texts others ++ after
   pub text : printed (first ∷ others) ≡ post_text post
-  pub follows : Follows (post ∷ []) old new
+  pub follows : AreMirrored (post ∷ []) old new
 
 -- lines were read that are the text of a next post
 pub record HasFollowed (before after : List Item) (old new : MirrorView) : Type 0 where
@@ -83,7 +83,7 @@ pub record HasFollowed (before after : List Item) (old new : MirrorView) : Type 
   pub valid : IsPost post
   pub read : before ≡ texts lines ++ after
   pub text : printed lines ≡ post_text post
-  pub follows : Follows (post ∷ []) old new
+  pub follows : AreMirrored (post ∷ []) old new
 
 -- lines were read that are the texts of so many next posts
 pub record HasFollowedSome (count : ℕ) (before after : List Item) (old new : MirrorView) : Type 0 where
@@ -93,7 +93,7 @@ pub record HasFollowedSome (count : ℕ) (before after : List Item) (old new : M
   pub read : before ≡ texts lines ++ after
   pub text : printed lines ≡ flat_map post_text posts
   pub many : length posts ≡ count
-  pub follows : Follows posts old new
+  pub follows : AreMirrored posts old new
 
 -- lines were read that are the texts of so many next posts, and their end
 pub record HasFollowedAll (count : ℕ) (before after : List Item) (old new : MirrorView) : Type 0 where
@@ -103,7 +103,7 @@ pub record HasFollowedAll (count : ℕ) (before after : List Item) (old new : Mi
   pub read : before ≡ texts lines ++ after
   pub text : printed lines ≡ followed_text posts (count_text count)
   pub many : length posts ≡ count
-  pub follows : Follows posts old new
+  pub follows : AreMirrored posts old new
 
 -- one line was read, which refuses
 pub record HasRefused (refusal : List ℕ) (before after : List Item) : Type 0 where
@@ -121,10 +121,10 @@ pub record HasMirrored (space count : ℕ) (before after : List Item) (made : Mi
   pub read : before ≡ texts lines ++ after
   pub text : printed lines ≡ opening_text (opening_with found) ++ followed_text posts (count_text count)
   pub many : length posts ≡ count
-  pub follows : Follows posts found made
+  pub follows : AreMirrored posts found made
 
 -- a refusal was read behind fewer posts than were to come
-pub record IsLeft (count : ℕ) (refusal : List ℕ) (before after : List Item) (old new : MirrorView) : Type 0 where
+pub record IsRefusedMidway (count : ℕ) (refusal : List ℕ) (before after : List Item) (old new : MirrorView) : Type 0 where
   pub taken : ℕ
   pub middle : List Item
   pub few : taken ≤ count
@@ -135,7 +135,7 @@ pub record IsLeft (count : ℕ) (refusal : List ℕ) (before after : List Item) 
 abbrev pub IsRefused : ℕ → ℕ → List ℕ → List Item → List Item → Type 0
 IsRefused space count refusal before after =
     HasRefused refusal before after
-    ⊎ ((found : MirrorView) × (made : MirrorView) × (middle : List Item) × HasOpened space before middle found × IsLeft count refusal middle after found made)
+    ⊎ ((found : MirrorView) × (made : MirrorView) × (middle : List Item) × HasOpened space before middle found × IsRefusedMidway count refusal middle after found made)
 
 -- the lines of the requests of a mirror
 abbrev pub requests_text : ℕ → ℕ → List ℕ

@@ -78,7 +78,7 @@ IsEnding true count last = last ≡ counted_line count
 IsEnding false count last = is_refusal last ≡ true
 
 -- posts, and the line that ends them
-pub record IsFollowed (lines : List (List ℕ)) (told : Bool) : Type 0 where
+pub record IsFollowAnswer (lines : List (List ℕ)) (told : Bool) : Type 0 where
   pub posts : List (List (List ℕ))
   pub last : List ℕ
   pub each : AllByRecursion IsPostLines posts
@@ -89,5 +89,5 @@ pub record IsFollowed (lines : List (List ℕ)) (told : Bool) : Type 0 where
 
 -- lines that are a whole answer of this form, which is `ok` or `no`
 abbrev pub IsAnswer : Form → List (List ℕ) → Bool → Type 0
-IsAnswer Followed lines told = IsFollowed lines told
+IsAnswer Followed lines told = IsFollowAnswer lines told
 IsAnswer form lines told = IsHeaded form lines told

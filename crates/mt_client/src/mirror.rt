@@ -7,7 +7,7 @@ ghost use Rattle.mt_events.specs.Posts.{ended};
 ghost use Rattle.mt_client.specs.Reading.{lines_left, texts, HasBroken, IsSentPart, NoneFirst, IsCut};
 ghost use Rattle.mt_client.specs.Calls.{ReadsOn, WritesOn, IsOut, IsReadFault, IsTalkFault, IsTurnedAway, IsAskFault};
 ghost use Rattle.mt_client.specs.Requests.{numbered_text};
-ghost use Rattle.mt_client.specs.Mirroring.{counted_line, HasOpened, HasFollowed, HasFollowedAll, HasRefused, IsLeft, HasMirrored, requests_text, IsRefused};
+ghost use Rattle.mt_client.specs.Mirroring.{counted_line, HasOpened, HasFollowed, HasFollowedAll, HasRefused, IsRefusedMidway, HasMirrored, requests_text, IsRefused};
 ghost use Rattle.mt_client.specs.Awaited.{IsOneRefusal, IsRefusedOr, IsOpening, IsNextPost, TakesPost, IsFollowing, IsEnd, IsMirroring};
 
 use crate::answer::is_refusal;
@@ -131,7 +131,7 @@ fn follow_posts<R: Input + Drop>(
     requires fresh { fault_of lines.old ≡ None }
     ensures followed { IfOk result (λ going. IsTrue R.tells → MatchBool going
         (HasFollowedAll count (lines_left lines.old) (lines_left lines.new) mirror.old mirror.new)
-        (IsLeft count (last_line lines.new) (lines_left lines.old) (lines_left lines.new) mirror.old mirror.new)) }
+        (IsRefusedMidway count (last_line lines.new) (lines_left lines.old) (lines_left lines.new) mirror.old mirror.new)) }
     ensures on { OnOk result (ReadsOn lines.old lines.new) }
     ensures fault { IfErr result (λ fault. IsReadFault fault (IsFollowing (counted_line count) count mirror.old) (lines_left lines.old) lines.old lines.new) }
 {
@@ -169,7 +169,7 @@ fn print_followed<R: Input + Drop, W: Output, O: Output>(
     ensures followed { result ≡ Ok true → IsTrue R.tells → HasFollowedAll count (lines_left lines.old) (lines_left lines.new) mirror.old mirror.new }
     ensures printed { result ≡ Ok true → IsOut O.Output (table_text mirror.new.number mirror.new.rows) out.old out.new }
     ensures left { result ≡ Ok false → IsTrue R.tells → (made : MirrorView)
-        × IsLeft count (last_line lines.new) (lines_left lines.old) (lines_left lines.new) mirror.old made }
+        × IsRefusedMidway count (last_line lines.new) (lines_left lines.old) (lines_left lines.new) mirror.old made }
     ensures refused { result ≡ Ok false → IsOut O.Output (ended (last_line lines.new)) out.old out.new }
     ensures sent { result ≡ Ok true → IsOut W.Output (ended (numbered_text (codes "follow") count)) writer.old writer.new }
     ensures unsent { result ≡ Ok false → IsTrue W.counts → (W.faults writer.old ≡ [] → W.faults writer.new ≡ [])

@@ -7,7 +7,7 @@ ghost use Rattle.mt_events.specs.Mirrors.{is_next, mirrored};
 ghost use Rattle.mt_client.specs.Reading.{lines_left, printed, AreSoMany};
 ghost use Rattle.mt_client.specs.Calls.{ReadsOn, AreRead, IsReadFault};
 ghost use Rattle.mt_client.specs.Mirroring.{HasPosted, IsPosted};
-ghost use Rattle.mt_client.specs.Awaited.{event_count, IsBehind, IsPostBehind, IsOnlyPost, TakesBehind};
+ghost use Rattle.mt_client.specs.Awaited.{event_count, IsNextPostBehind, IsPostBehind, IsOnlyPost, TakesBehind};
 
 use crate::fault::ClientFault;
 use crate::relay::next_text;
@@ -137,7 +137,7 @@ pub(crate) fn apply_post<R: Input + Drop>(
     ensures taken { OnOk result (IsTrue R.tells
         → TakesBehind (last_line lines.old) (lines_left lines.old) (lines_left lines.new)) }
     ensures on { OnOk result (ReadsOn lines.old lines.new) }
-    ensures fault { IfErr result (λ fault. IsReadFault fault (IsBehind (last_line lines.old) mirror.old) (lines_left lines.old) lines.old lines.new) }
+    ensures fault { IfErr result (λ fault. IsReadFault fault (IsNextPostBehind (last_line lines.old) mirror.old) (lines_left lines.old) lines.old lines.new) }
 {
     let post = read_posted(alloc, lines)?;
     apply_next(mirror, &post)

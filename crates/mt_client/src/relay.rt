@@ -2,7 +2,7 @@
 ghost use Rattle.std.specs.Prelude.{◌≡◌, Bool, ◌≤◌, [], ◌∷◌, ◌++◌, None, IfOk, IfErr, OnOk, OnErr, IsTrue, MatchBool};
 ghost use Rattle.mt_lines.specs.Reading.{fault_of, last_line};
 ghost use Rattle.mt_events.specs.Posts.{ended};
-ghost use Rattle.mt_client.specs.Replies.{IsHeaded, IsEnding, IsFollowed, IsAnswer};
+ghost use Rattle.mt_client.specs.Replies.{IsHeaded, IsEnding, IsFollowAnswer, IsAnswer};
 ghost use Rattle.mt_client.specs.Reading.{lines_left, IsCutOff, HasBroken, AreSoMany, reading_fault};
 ghost use Rattle.mt_client.specs.Calls.{AreRead, IsOut, IsOutInPart, IsReadFault, IsPassFault, PassesOn};
 
@@ -121,8 +121,8 @@ fn pass_followed<R: Input + Drop, O: Output>(
     out: &mut O,
 ) -> Result<bool, ClientFault>
     requires fresh { fault_of lines.old ≡ None }
-    ensures passed { IfOk result (λ told. PassesOn O.Output [] (λ all. IsFollowed all told) lines.old lines.new out.old out.new) }
-    ensures fault { IfErr result (λ fault. IsPassFault O.Output fault (λ all. (told : Bool) × IsFollowed all told) [] lines.old lines.new out.old out.new) }
+    ensures passed { IfOk result (λ told. PassesOn O.Output [] (λ all. IsFollowAnswer all told) lines.old lines.new out.old out.new) }
+    ensures fault { IfErr result (λ fault. IsPassFault O.Output fault (λ all. (told : Bool) × IsFollowAnswer all told) [] lines.old lines.new out.old out.new) }
 {
     'following: for taken in 0..MOST_POSTS {
         next_text(lines)?;

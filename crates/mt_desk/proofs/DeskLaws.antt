@@ -20,12 +20,12 @@ use Rattle.mt_floor.proofs.AllowedLaws.{opening_allowed}
 use Rattle.mt_floor.specs.WellFormed.{IsFloor}
 use Rattle.mt_floor.proofs.BeginLaws.{opens}
 use Rattle.mt_floor.proofs.StandingLaws.{begins_well}
-use Rattle.mt_desk.specs.Desk.{DeskRow, DeskView, IsDeskRow, IsDesk, row_key, late_watcher, floor_of_desk, new_row, with_watcher, halted_desk}
+use Rattle.mt_desk.specs.Desk.{DeskRow, DeskView, IsDeskRow, IsDesk, row_key, late_watcher, floor_of_desk, new_desk_row, with_watcher, halted_desk}
 use Rattle.mt_desk.specs.Calls.{WatcherView, IsHalved, IsMet, IsClosed, met_row, with_row}
-use Rattle.mt_desk.specs.Rows.{PlacedRowView, begun as begun_of, IsBegun, MeetsRow, ClosesRow}
+use Rattle.mt_desk.specs.Rows.{PlacedRowView, begun_row, IsBegunRow, MeetsRow, ClosesRow}
 use Rattle.mt_desk.specs.declared.row.Slot.{Slot}
 use Rattle.mt_desk.specs.declared.row.Slot.TheVariants.{Parked, Used, Away}
-use Rattle.mt_desk.specs.Places.{line_of, IsParked, IsParkedAt, IsLine, rows_of, desk_of, ended_slot, OpensSlot, OpensAt, ArePlaces, AreLines, IsKept, IsWatcher, IsPlace, MeetsSlot, MeetsAt, ClosesSlot, ClosesAt}
+use Rattle.mt_desk.specs.Places.{line_of, IsParked, IsParkedAt, IsLine, rows_at_places, desk_of, ended_slot, OpensSlot, OpensAt, ArePlaces, AreLines, IsKeptDesk, IsWatcher, IsPlace, MeetsSlot, MeetsAt, ClosesSlot, ClosesAt}
 use Rattle.mt_desk.proofs.PlaceLaws.{each_get, row_of_place, put_rows, put_places, left_rows, left_places, begun_rows, begun_places, new_places, ended_places, ended_rows, full}
 use Rattle.mt_desk.proofs.RunLaws.{history_of}
 use Rattle.mt_desk.proofs.ScheduleLaws.{rows_rise, met_stays, closed_stays, is_met, is_closed, stop_schedule, stopped_stays, open_schedule, opened_stays}
@@ -33,14 +33,14 @@ use Rattle.mt_desk.proofs.ScheduleLaws.{rows_rise, met_stays, closed_stays, is_m
 -- ---- A desk with nothing done
 
 pub new_kept : (lines : List LineId) (c : ℕ) (journal : List Command) (slots : List Slot) (order : List ℕ) (room : ℕ) → AreLines c slots order room → map line_of slots ≡ lines → journal ≡ []
-    → IsKept lines (desk_of c journal 0 false slots order) slots order room
+    → IsKeptDesk lines (desk_of c journal 0 false slots order) slots order room
 new_kept lines c journal slots order room h are none = record {
   places = subst (λ l. ArePlaces l c slots order) are (new_places c slots order room h);
   room_is = h.room_is;
   desk = record {
     floor = subst IsFloor (sym floor) (begins_well c);
     room = h.capacity_is;
-    rows = subst (λ (l : List ℕ). AllByRecursion (IsDeskRow c) (rows_of slots l)) (sym h.empty) tt;
+    rows = subst (λ (l : List ℕ). AllByRecursion (IsDeskRow c) (rows_at_places slots l)) (sym h.empty) tt;
     history = history_of (desk_of c journal 0 false slots order) [] floor;
   };
 }
@@ -67,22 +67,22 @@ place_is lines c slots order p key half h w =
 
 -- ---- A meeting and a close
 
-module _ (lines : List LineId) (c : ℕ) (journal : List Command) (last_key : ℕ) (stopped : Bool) (slots : List Slot) (order : List ℕ) (room : ℕ) (h : IsKept lines (desk_of c journal last_key stopped slots order) slots order room) where
+module _ (lines : List LineId) (c : ℕ) (journal : List Command) (last_key : ℕ) (stopped : Bool) (slots : List Slot) (order : List ℕ) (room : ℕ) (h : IsKeptDesk lines (desk_of c journal last_key stopped slots order) slots order room) where
   abbrev desk : DeskView
   desk = desk_of c journal last_key stopped slots order
 
-  rising : rises row_key (rows_of slots order) ≡ true
+  rising : rises row_key (rows_at_places slots order) ≡ true
   rising = rows_rise desk h.desk
 
   capacity_there : (p : ℕ) (r : PlacedRowView) → slice_get slots p ≡ Some (Used r) → r.capacity ≡ c
   capacity_there p r at = (each_get (IsLine c) slots p (Used r) h.places.each at).capacity_is
 
-  row_there : (p key : ℕ) (r : PlacedRowView) (half : ReceiverView) → slice_get slots p ≡ Some (Used r) → half.tag ≡ r.row.key → IsWatcher lines key p half → row_at row_key key (rows_of slots order) ≡ Some r.row
-  row_there p key r half at tag w = ap (λ k. row_at row_key k (rows_of slots order)) (sym w.tag ∙ tag) ∙ row_of_place lines c slots order h.places rising p r at
+  row_there : (p key : ℕ) (r : PlacedRowView) (half : ReceiverView) → slice_get slots p ≡ Some (Used r) → half.tag ≡ r.row.key → IsWatcher lines key p half → row_at row_key key (rows_at_places slots order) ≡ Some r.row
+  row_there p key r half at tag w = ap (λ k. row_at row_key k (rows_at_places slots order)) (sym w.tag ∙ tag) ∙ row_of_place lines c slots order h.places rising p r at
 
   -- the row at a watcher's place meets it
   met_row_at : (w : WatcherView) (r now : PlacedRowView) (half' : ReceiverView) (m : Meeting) → IsWatcher lines w.key w.place w.half → slice_get slots w.place ≡ Some (Used r) → MeetsRow r w.half now half' m
-      → IsKept lines (desk_of c journal last_key stopped (set slots w.place (Used now)) order) (set slots w.place (Used now)) order room
+      → IsKeptDesk lines (desk_of c journal last_key stopped (set slots w.place (Used now)) order) (set slots w.place (Used now)) order room
       × IsMet desk w m (desk_of c journal last_key stopped (set slots w.place (Used now)) order) (record w { half = half' })
   met_row_at w r now half' m is at meets =
       let p = w.place in
@@ -93,7 +93,7 @@ module _ (lines : List LineId) (c : ℕ) (journal : List Command) (last_key : �
       let capacity = ap (λ (x : PlacedRowView). x.capacity) meets.row in
       let row : now.row ≡ met_row taken r.row = ap (λ (x : PlacedRowView). x.row) meets.row in
       let key : now.row.key ≡ r.row.key = ap (λ (x : DeskRow). x.key) row in
-      let rows = put_rows lines c slots order h.places rising p r at now line capacity key ∙ ap (λ x. put row_key x (rows_of slots order)) row in
+      let rows = put_rows lines c slots order h.places rising p r at now line capacity key ∙ ap (λ x. put row_key x (rows_at_places slots order)) row in
       let now_is : desk_of c journal last_key stopped (set slots p (Used now)) order ≡ with_row desk (met_row taken r.row) = ap (λ (l : List DeskRow). record desk { rows = l }) rows in
       let half_is : record w { half = half' } ≡ record w { half = record w.half { told = length r.row.sent } } = ap (λ (x : ReceiverView). record w { half = x }) meets.half_is in (
         record {
@@ -105,11 +105,11 @@ module _ (lines : List LineId) (c : ℕ) (journal : List Command) (last_key : �
       )
 
   pub met_kept : (w : WatcherView) (slots' : List Slot) (half' : ReceiverView) (m : Meeting) → IsWatcher lines w.key w.place w.half → MeetsAt slots w.place w.half slots' half' m
-      → IsKept lines (desk_of c journal last_key stopped slots' order) slots' order room × IsMet desk w m (desk_of c journal last_key stopped slots' order) (record w { half = half' })
-  met_kept w slots' half' m is at = subst (λ (l : List Slot). IsKept lines (desk_of c journal last_key stopped l order) l order room × IsMet desk w m (desk_of c journal last_key stopped l order) (record w { half = half' })) (sym at.slots_are) (by at.slot at.slot' at.there at.meets)
+      → IsKeptDesk lines (desk_of c journal last_key stopped slots' order) slots' order room × IsMet desk w m (desk_of c journal last_key stopped slots' order) (record w { half = half' })
+  met_kept w slots' half' m is at = subst (λ (l : List Slot). IsKeptDesk lines (desk_of c journal last_key stopped l order) l order room × IsMet desk w m (desk_of c journal last_key stopped l order) (record w { half = half' })) (sym at.slots_are) (by at.slot at.slot' at.there at.meets)
     where
       by : (s s' : Slot) → slice_get slots w.place ≡ Some s → MeetsSlot s w.half s' half' m
-          → IsKept lines (desk_of c journal last_key stopped (set slots w.place s') order) (set slots w.place s') order room × IsMet desk w m (desk_of c journal last_key stopped (set slots w.place s') order) (record w { half = half' })
+          → IsKeptDesk lines (desk_of c journal last_key stopped (set slots w.place s') order) (set slots w.place s') order room × IsMet desk w m (desk_of c journal last_key stopped (set slots w.place s') order) (record w { half = half' })
       by (Used r) (Used now) there meets = met_row_at w r now half' m is there meets
       by (Used r) (Parked l) there meets = absurd meets
       by (Used r) Away there meets = absurd meets
@@ -119,7 +119,7 @@ module _ (lines : List LineId) (c : ℕ) (journal : List Command) (last_key : �
   -- and goes
   closed_row_at : (w : WatcherView) (r : PlacedRowView) (l : LineView) (posts : List PostView) (order' : List ℕ) → IsWatcher lines w.key w.place w.half → slice_get slots w.place ≡ Some (Used r) → ClosesRow r w.half l posts
       → order' ≡ filter (λ k. not (eqb k w.place)) order
-      → IsKept lines (desk_of c journal last_key stopped (set slots w.place (Parked l)) order') (set slots w.place (Parked l)) order' room
+      → IsKeptDesk lines (desk_of c journal last_key stopped (set slots w.place (Parked l)) order') (set slots w.place (Parked l)) order' room
       × IsClosed desk w posts (desk_of c journal last_key stopped (set slots w.place (Parked l)) order')
   closed_row_at w r l posts order' is at closes left =
       let p = w.place in
@@ -127,8 +127,8 @@ module _ (lines : List LineId) (c : ℕ) (journal : List Command) (last_key : �
       let halved = subst (λ n. IsHalved n r.row w.half posts) (capacity_there p r at) closes.halved in
       let line = ap (λ (x : LineView). x.line) closes.line in
       let capacity = ap (λ (x : LineView). x.capacity) closes.line in
-      let rows = left_rows lines c slots order h.places rising p r at l line capacity order' left ∙ ap (λ k. without (λ (q : DeskRow). eqb q.key k) (rows_of slots order)) (sym closes.key ∙ is.tag) in
-      let now_is : desk_of c journal last_key stopped (set slots p (Parked l)) order' ≡ record desk { rows = without (λ (q : DeskRow). eqb q.key w.key) (rows_of slots order) } = ap (λ (l : List DeskRow). record desk { rows = l }) rows in (
+      let rows = left_rows lines c slots order h.places rising p r at l line capacity order' left ∙ ap (λ k. without (λ (q : DeskRow). eqb q.key k) (rows_at_places slots order)) (sym closes.key ∙ is.tag) in
+      let now_is : desk_of c journal last_key stopped (set slots p (Parked l)) order' ≡ record desk { rows = without (λ (q : DeskRow). eqb q.key w.key) (rows_at_places slots order) } = ap (λ (l : List DeskRow). record desk { rows = l }) rows in (
         record {
           places = left_places lines c slots order h.places rising p r at l line capacity order' left;
           room_is = h.room_is;
@@ -138,11 +138,11 @@ module _ (lines : List LineId) (c : ℕ) (journal : List Command) (last_key : �
       )
 
   pub closed_kept : (w : WatcherView) (slots' : List Slot) (posts : List PostView) (order' : List ℕ) → IsWatcher lines w.key w.place w.half → ClosesAt slots w.place w.half slots' posts → order' ≡ filter (λ k. not (eqb k w.place)) order
-      → IsKept lines (desk_of c journal last_key stopped slots' order') slots' order' room × IsClosed desk w posts (desk_of c journal last_key stopped slots' order')
-  closed_kept w slots' posts order' is at left = subst (λ (l : List Slot). IsKept lines (desk_of c journal last_key stopped l order') l order' room × IsClosed desk w posts (desk_of c journal last_key stopped l order')) (sym at.slots_are) (by at.slot at.slot' at.there at.closes)
+      → IsKeptDesk lines (desk_of c journal last_key stopped slots' order') slots' order' room × IsClosed desk w posts (desk_of c journal last_key stopped slots' order')
+  closed_kept w slots' posts order' is at left = subst (λ (l : List Slot). IsKeptDesk lines (desk_of c journal last_key stopped l order') l order' room × IsClosed desk w posts (desk_of c journal last_key stopped l order')) (sym at.slots_are) (by at.slot at.slot' at.there at.closes)
     where
       by : (s s' : Slot) → slice_get slots w.place ≡ Some s → ClosesSlot s w.half s' posts
-          → IsKept lines (desk_of c journal last_key stopped (set slots w.place s') order') (set slots w.place s') order' room × IsClosed desk w posts (desk_of c journal last_key stopped (set slots w.place s') order')
+          → IsKeptDesk lines (desk_of c journal last_key stopped (set slots w.place s') order') (set slots w.place s') order' room × IsClosed desk w posts (desk_of c journal last_key stopped (set slots w.place s') order')
       by (Used r) (Parked l) there closes = closed_row_at w r l posts order' is there closes left
       by (Used r) (Used now) there closes = absurd closes
       by (Used r) Away there closes = absurd closes
@@ -154,9 +154,9 @@ module _ (lines : List LineId) (c : ℕ) (journal : List Command) (last_key : �
   stopped_is = ap (λ (l : List DeskRow). record desk { stopped = true; rows = l }) (ended_rows slots order h.places.used)
 
   pub stopped_kept : (slots' : List Slot) → slots' ≡ map ended_slot slots
-      → IsKept lines (desk_of c journal last_key true slots' order) slots' order room × (floor_step (floor_of_desk desk) Stop ≡ (floor_of_desk (desk_of c journal last_key true slots' order), Ok Halted))
+      → IsKeptDesk lines (desk_of c journal last_key true slots' order) slots' order room × (floor_step (floor_of_desk desk) Stop ≡ (floor_of_desk (desk_of c journal last_key true slots' order), Ok Halted))
       × (desk_of c journal last_key true slots' order ≡ halted_desk desk)
-  stopped_kept slots' is = subst (λ (l : List Slot). IsKept lines (desk_of c journal last_key true l order) l order room × (floor_step (floor_of_desk desk) Stop ≡ (floor_of_desk (desk_of c journal last_key true l order), Ok Halted)) × (desk_of c journal last_key true l order ≡ halted_desk desk)) (sym is) (
+  stopped_kept slots' is = subst (λ (l : List Slot). IsKeptDesk lines (desk_of c journal last_key true l order) l order room × (floor_step (floor_of_desk desk) Stop ≡ (floor_of_desk (desk_of c journal last_key true l order), Ok Halted)) × (desk_of c journal last_key true l order ≡ halted_desk desk)) (sym is) (
     record {
       places = ended_places lines c slots order h.places;
       room_is = h.room_is;
@@ -168,17 +168,17 @@ module _ (lines : List LineId) (c : ℕ) (journal : List Command) (last_key : �
 
   -- a watcher begins
   begun_row_at : (scope : Scope) (p : ℕ) (l : LineView) (now : PlacedRowView) (half : ReceiverView) (key since : ℕ) (o : Opening) (order' : List ℕ) → opening_refusal (floor_of_desk desk) scope ≡ None
-      → slice_get slots p ≡ Some (Parked l) → IsBegun key scope since o l now half → key ≡ last_key + 1 → since ≡ length journal → o ≡ opening_of journal scope → order' ≡ order ++ p ∷ []
-      → IsKept lines (desk_of c journal key stopped (set slots p (Used now)) order') (set slots p (Used now)) order' room
+      → slice_get slots p ≡ Some (Parked l) → IsBegunRow key scope since o l now half → key ≡ last_key + 1 → since ≡ length journal → o ≡ opening_of journal scope → order' ≡ order ++ p ∷ []
+      → IsKeptDesk lines (desk_of c journal key stopped (set slots p (Used now)) order') (set slots p (Used now)) order' room
       × (floor_step (floor_of_desk desk) (Open scope) ≡ (floor_of_desk (desk_of c journal key stopped (set slots p (Used now)) order'), Ok (Opened key half.opening)))
       × IsWatcher lines key p half × (half.taken ≡ [])
       × (desk_of c journal key stopped (set slots p (Used now)) order' ≡ with_watcher desk scope)
   begun_row_at scope p l now half key since o order' none at begun key_is since_is o_is more =
       let line = ap (λ (x : PlacedRowView). x.line) begun.row in
       let capacity = ap (λ (x : PlacedRowView). x.capacity) begun.row in
-      let row : now.row ≡ new_row desk scope = ap (λ (x : PlacedRowView). x.row) begun.row ∙ (λ i. begun_of (key_is i) scope (since_is i) (o_is i)) in
-      let rows : rows_of (set slots p (Used now)) order' ≡ rows_of slots order ++ new_row desk scope ∷ [] =
-      ap (rows_of (set slots p (Used now))) more ∙ begun_rows lines c slots order h.places p l at now line capacity ∙ ap (λ q. rows_of slots order ++ q ∷ []) row in
+      let row : now.row ≡ new_desk_row desk scope = ap (λ (x : PlacedRowView). x.row) begun.row ∙ (λ i. begun_row (key_is i) scope (since_is i) (o_is i)) in
+      let rows : rows_at_places (set slots p (Used now)) order' ≡ rows_at_places slots order ++ new_desk_row desk scope ∷ [] =
+      ap (rows_at_places (set slots p (Used now))) more ∙ begun_rows lines c slots order h.places p l at now line capacity ∙ ap (λ q. rows_at_places slots order ++ q ∷ []) row in
       let now_is : desk_of c journal key stopped (set slots p (Used now)) order' ≡ with_watcher desk scope = (λ i. record desk { next_key = key_is i + 1; rows = rows i }) in
       let opening : half.opening ≡ opening_of journal scope = ap (λ (x : ReceiverView). x.opening) begun.half_is ∙ o_is in
       let line_there : slice_get lines p ≡ Some half.line = ap (λ (ls : List LineId). slice_get ls p) (sym h.places.lines_are) ∙ line_at slots p (Parked l) at ∙ ap (λ (x : ReceiverView). Some x.line) (sym begun.half_is) in (
@@ -195,15 +195,15 @@ module _ (lines : List LineId) (c : ℕ) (journal : List Command) (last_key : �
 
   pub begun_kept : (scope : Scope) (p : ℕ) (slots' : List Slot) (half : ReceiverView) (key since : ℕ) (o : Opening) (order' : List ℕ) → opening_refusal (floor_of_desk desk) scope ≡ None
       → OpensAt key scope since o slots p slots' half → key ≡ last_key + 1 → since ≡ length journal → o ≡ opening_of journal scope → order' ≡ order ++ p ∷ []
-      → IsKept lines (desk_of c journal key stopped slots' order') slots' order' room
+      → IsKeptDesk lines (desk_of c journal key stopped slots' order') slots' order' room
       × (floor_step (floor_of_desk desk) (Open scope) ≡ (floor_of_desk (desk_of c journal key stopped slots' order'), Ok (Opened key half.opening)))
       × IsWatcher lines key p half × (half.taken ≡ [])
       × (desk_of c journal key stopped slots' order' ≡ with_watcher desk scope)
   begun_kept scope p slots' half key since o order' none at key_is since_is o_is more =
-      subst (λ (l : List Slot). IsKept lines (desk_of c journal key stopped l order') l order' room × (floor_step (floor_of_desk desk) (Open scope) ≡ (floor_of_desk (desk_of c journal key stopped l order'), Ok (Opened key half.opening))) × IsWatcher lines key p half × (half.taken ≡ []) × (desk_of c journal key stopped l order' ≡ with_watcher desk scope)) (sym at.slots_are) (by at.slot at.slot' at.there at.opens)
+      subst (λ (l : List Slot). IsKeptDesk lines (desk_of c journal key stopped l order') l order' room × (floor_step (floor_of_desk desk) (Open scope) ≡ (floor_of_desk (desk_of c journal key stopped l order'), Ok (Opened key half.opening))) × IsWatcher lines key p half × (half.taken ≡ []) × (desk_of c journal key stopped l order' ≡ with_watcher desk scope)) (sym at.slots_are) (by at.slot at.slot' at.there at.opens)
     where
       by : (s s' : Slot) → slice_get slots p ≡ Some s → OpensSlot key scope since o s s' half
-          → IsKept lines (desk_of c journal key stopped (set slots p s') order') (set slots p s') order' room
+          → IsKeptDesk lines (desk_of c journal key stopped (set slots p s') order') (set slots p s') order' room
           × (floor_step (floor_of_desk desk) (Open scope) ≡ (floor_of_desk (desk_of c journal key stopped (set slots p s') order'), Ok (Opened key half.opening)))
           × IsWatcher lines key p half × (half.taken ≡ [])
           × (desk_of c journal key stopped (set slots p s') order' ≡ with_watcher desk scope)

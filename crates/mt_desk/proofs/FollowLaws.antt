@@ -12,7 +12,7 @@ use Rattle.mt_floor.specs.declared.event.Event.{Event}
 use Rattle.mt_floor.specs.declared.event.Event.TheVariants as event
 use Rattle.mt_floor.specs.declared.event.Answer.{Answer}
 use Rattle.mt_floor.specs.declared.event.Answer.TheVariants.{Opened, Closed, Halted}
-use Rattle.mt_floor.specs.Watcher.{Watcher, key_of}
+use Rattle.mt_floor.specs.Watcher.{Watcher, watcher_key}
 use Rattle.mt_floor.specs.Schedule.{FloorView, empty_floor, floor_step, run}
 use Rattle.mt_floor.specs.Headline.{answers, floor_after, accepted, taken_by, taken_since, posted_since}
 use Rattle.mt_floor.proofs.RowLaws.{put_same}
@@ -60,14 +60,14 @@ led capacity d (call ∷ calls) now es from (next, first, rest) =
     led capacity next calls now (es ++ a.events) (floor_then capacity (floor_of_desk d) (floor_of_desk next) es a.events a.told from a.schedule) rest
 
 -- the watcher of a row, after a meeting
-met_there : (d : DeskView) (key n : ℕ) (row : DeskRow) → row_at row_key key d.rows ≡ Some row → row_at key_of key (floor_of_desk (with_row d (met_row n row))).watchers ≡ Some (late_watcher d.capacity (met_row n row))
+met_there : (d : DeskView) (key n : ℕ) (row : DeskRow) → row_at row_key key d.rows ≡ Some row → row_at watcher_key key (floor_of_desk (with_row d (met_row n row))).watchers ≡ Some (late_watcher d.capacity (met_row n row))
 met_there d key n row at =
     let w : Watcher = late_watcher d.capacity (met_row n row) in
-    ap (λ (s : FloorView). row_at key_of key s.watchers) (floor_with_row d (met_row n row))
-    ∙ put_same key_of key w (map (late_watcher d.capacity) d.rows) (sym (row_at-key row_key key d.rows row at))
+    ap (λ (s : FloorView). row_at watcher_key key s.watchers) (floor_with_row d (met_row n row))
+    ∙ put_same watcher_key key w (map (late_watcher d.capacity) d.rows) (sym (row_at-key row_key key d.rows row at))
 
 -- a watcher that is there has begun, and follows
-module _ (capacity : ℕ) (es : List Event) (w : WatcherView) (r : Watcher) (there : row_at key_of w.key (floor_after capacity es).watchers ≡ Some r) (opening : r.opening ≡ w.half.opening) where
+module _ (capacity : ℕ) (es : List Event) (w : WatcherView) (r : Watcher) (there : row_at watcher_key w.key (floor_after capacity es).watchers ≡ Some r) (opening : r.opening ≡ w.half.opening) where
   began_there : (at : ℕ) × (slice_get (answers capacity es) at ≡ Some (Ok (Opened w.key w.half.opening)))
   began_there =
       let b = row_began capacity es w.key r there in
@@ -89,8 +89,8 @@ met_follows : (capacity : ℕ) (d : DeskView) (w : WatcherView) (m : Meeting) (n
 met_follows capacity d w m now w' es from is =
     let n = length w.half.taken in
     let r : Watcher = late_watcher d.capacity (met_row n is.row) in
-    let there : row_at key_of w.key (floor_after capacity es).watchers ≡ Some r =
-    ap (λ (s : FloorView). row_at key_of w.key s.watchers) (sym from ∙ ap floor_of_desk is.desk) ∙ met_there d w.key n is.row is.there in
+    let there : row_at watcher_key w.key (floor_after capacity es).watchers ≡ Some r =
+    ap (λ (s : FloorView). row_at watcher_key w.key s.watchers) (sym from ∙ ap floor_of_desk is.desk) ∙ met_there d w.key n is.row is.there in
     followed_there capacity es w r there is.halved.opening (late_met d.capacity is.row.sent w.half.taken is.rest is.halved.split is.halved.held)
 
 -- a close: `es` are the events before it
@@ -104,8 +104,8 @@ module _ (capacity : ℕ) (d : DeskView) (w : WatcherView) (posts : List PostVie
   abbrev was : Watcher
   was = late_watcher d.capacity is.row
 
-  was_there : row_at key_of w.key (floor_after capacity es).watchers ≡ Some was
-  was_there = ap (λ (s : FloorView). row_at key_of w.key s.watchers) (sym from) ∙ watcher_there d.capacity w.key d.rows is.row is.there
+  was_there : row_at watcher_key w.key (floor_after capacity es).watchers ≡ Some was
+  was_there = ap (λ (s : FloorView). row_at watcher_key w.key s.watchers) (sym from) ∙ watcher_there d.capacity w.key d.rows is.row is.there
 
   began : (at : ℕ) × (slice_get (answers capacity es) at ≡ Some (Ok (Opened w.key w.half.opening)))
   began = began_there capacity es w was was_there is.halved.opening

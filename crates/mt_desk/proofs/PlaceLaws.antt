@@ -13,7 +13,7 @@ use Rattle.mt_desk.specs.Desk.{DeskRow, row_key, desk_row_after_stop}
 use Rattle.mt_desk.specs.Rows.{PlacedRowView, ended_row}
 use Rattle.mt_desk.specs.declared.row.Slot.{Slot}
 use Rattle.mt_desk.specs.declared.row.Slot.TheVariants.{Parked, Used, Away}
-use Rattle.mt_desk.specs.Places.{line_of, IsParked, no_row, slot_row, row_in, rows_of, use_of, uses, IsLine, IsUsed, IsAmong, ArePlaces, AreLines, ended_slot}
+use Rattle.mt_desk.specs.Places.{line_of, IsParked, no_row, slot_row, row_in, rows_at_places, use_of, uses, IsLine, IsUsed, IsAmong, ArePlaces, AreLines, ended_slot}
 
 -- ---- A list in which one element was set
 
@@ -106,14 +106,14 @@ dropped p front back f b =
 
 -- ---- Rows at places that rise
 
-all_among : (t : DeskRow → Bool) (slots : List Slot) (ks : List ℕ) (p : ℕ) → list_all t (rows_of slots ks) ≡ true → IsAmong p ks → t (row_in slots p) ≡ true
+all_among : (t : DeskRow → Bool) (slots : List Slot) (ks : List ℕ) (p : ℕ) → list_all t (rows_at_places slots ks) ≡ true → IsAmong p ks → t (row_in slots p) ≡ true
 all_among t slots [] p h a = absurd a
 all_among t slots (k ∷ ks) p h a = elim a [ inl here ↦ ap (λ n. t (row_in slots n)) (sym here) ∙ and_first _ _ h | inr later ↦ all_among t slots ks p (and_second _ _ h) later ]
 
 not_below : (n : ℕ) → ltb n n ≡ true → ⊥
 not_below n h = absurd (let no : ltb n n ≡ false = grind (arith, nat_tests) in let bad : true ≡ false = sym h ∙ no in cc)
 
-front_apart : (slots : List Slot) (p : ℕ) (front back : List ℕ) → rises row_key (rows_of slots (front ++ p ∷ back)) ≡ true → AreOther p front
+front_apart : (slots : List Slot) (p : ℕ) (front back : List ℕ) → rises row_key (rows_at_places slots (front ++ p ∷ back)) ≡ true → AreOther p front
 front_apart slots p [] back h = tt
 front_apart slots p (z ∷ front) back h = (
   (λ e. not_below (row_in slots p).key (
@@ -123,21 +123,21 @@ front_apart slots p (z ∷ front) back h = (
   front_apart slots p front back (and_second _ _ h),
 )
 
-above_apart : (slots : List Slot) (p : ℕ) (ks : List ℕ) → list_all (λ y. ltb (row_in slots p).key (row_key y)) (rows_of slots ks) ≡ true → AreOther p ks
+above_apart : (slots : List Slot) (p : ℕ) (ks : List ℕ) → list_all (λ y. ltb (row_in slots p).key (row_key y)) (rows_at_places slots ks) ≡ true → AreOther p ks
 above_apart slots p [] h = tt
 above_apart slots p (k ∷ ks) h = (
   (λ e. not_below (row_in slots p).key (ap (λ n. ltb (row_in slots p).key (row_in slots n).key) (sym e) ∙ and_first _ _ h)),
   above_apart slots p ks (and_second _ _ h),
 )
 
-back_apart : (slots : List Slot) (p : ℕ) (front back : List ℕ) → rises row_key (rows_of slots (front ++ p ∷ back)) ≡ true → AreOther p back
+back_apart : (slots : List Slot) (p : ℕ) (front back : List ℕ) → rises row_key (rows_at_places slots (front ++ p ∷ back)) ≡ true → AreOther p back
 back_apart slots p [] back h = above_apart slots p back (and_first _ _ h)
 back_apart slots p (z ∷ front) back h = back_apart slots p front back (and_second _ _ h)
 
 pub row_there : (slots : List Slot) (p : ℕ) (s : Slot) → slice_get slots p ≡ Some s → row_in slots p ≡ slot_row s
 row_there slots p s at = ap (λ o. option_map_or slot_row o no_row) at
 
-other_rows : (slots : List Slot) (p : ℕ) (x : Slot) (ks : List ℕ) → AreOther p ks → rows_of (set slots p x) ks ≡ rows_of slots ks
+other_rows : (slots : List Slot) (p : ℕ) (x : Slot) (ks : List ℕ) → AreOther p ks → rows_at_places (set slots p x) ks ≡ rows_at_places slots ks
 other_rows slots p x [] h = refl
 other_rows slots p x (k ∷ ks) h = (λ i. option_map_or slot_row (get_other slots p x k h.0 i) no_row ∷ other_rows slots p x ks h.1 i)
 
@@ -154,12 +154,12 @@ still_used slots p s r at k u = by (eqb k p) refl
 
 -- ---- What happens at one place
 
-module _ (lines : List LineId) (c : ℕ) (slots : List Slot) (order : List ℕ) (places : ArePlaces lines c slots order) (rising : rises row_key (rows_of slots order) ≡ true) (p : ℕ) (r : PlacedRowView) (at : slice_get slots p ≡ Some (Used r)) where
+module _ (lines : List LineId) (c : ℕ) (slots : List Slot) (order : List ℕ) (places : ArePlaces lines c slots order) (rising : rises row_key (rows_at_places slots order) ≡ true) (p : ℕ) (r : PlacedRowView) (at : slice_get slots p ≡ Some (Used r)) where
   here : Around p order
   here = around p order (places.ordered p r at)
 
-  mid_rises : rises row_key (rows_of slots (here.front ++ p ∷ here.back)) ≡ true
-  mid_rises = ap (λ l. rises row_key (rows_of slots l)) (sym here.split) ∙ rising
+  mid_rises : rises row_key (rows_at_places slots (here.front ++ p ∷ here.back)) ≡ true
+  mid_rises = ap (λ l. rises row_key (rows_at_places slots l)) (sym here.split) ∙ rising
 
   front_other : AreOther p here.front
   front_other = front_apart slots p here.front here.back mid_rises
@@ -168,24 +168,24 @@ module _ (lines : List LineId) (c : ℕ) (slots : List Slot) (order : List ℕ) 
   back_other = back_apart slots p here.front here.back mid_rises
 
   -- the rows around it
-  rows_mid : rows_of slots order ≡ rows_of slots here.front ++ r.row ∷ rows_of slots here.back
-  rows_mid = ap (rows_of slots) here.split ∙ map-append (row_in slots) here.front (p ∷ here.back) ∙ ap (λ q. rows_of slots here.front ++ q ∷ rows_of slots here.back) (row_there slots p (Used r) at)
+  rows_mid : rows_at_places slots order ≡ rows_at_places slots here.front ++ r.row ∷ rows_at_places slots here.back
+  rows_mid = ap (rows_at_places slots) here.split ∙ map-append (row_in slots) here.front (p ∷ here.back) ∙ ap (λ q. rows_at_places slots here.front ++ q ∷ rows_at_places slots here.back) (row_there slots p (Used r) at)
 
-  row_rises : rises row_key (rows_of slots here.front ++ r.row ∷ rows_of slots here.back) ≡ true
+  row_rises : rises row_key (rows_at_places slots here.front ++ r.row ∷ rows_at_places slots here.back) ≡ true
   row_rises = ap (rises row_key) (sym rows_mid) ∙ rising
 
   -- its row is that of its key
-  pub row_of_place : row_at row_key r.row.key (rows_of slots order) ≡ Some r.row
-  row_of_place = ap (row_at row_key r.row.key) rows_mid ∙ row_mid row_key (rows_of slots here.front) (rows_of slots here.back) r.row row_rises
+  pub row_of_place : row_at row_key r.row.key (rows_at_places slots order) ≡ Some r.row
+  row_of_place = ap (row_at row_key r.row.key) rows_mid ∙ row_mid row_key (rows_at_places slots here.front) (rows_at_places slots here.back) r.row row_rises
 
   -- the row changes, and keeps its line and its key
   module _ (now : PlacedRowView) (line : now.line ≡ r.line) (capacity : now.capacity ≡ r.capacity) (key : now.row.key ≡ r.row.key) where
-    pub put_rows : rows_of (set slots p (Used now)) order ≡ put row_key now.row (rows_of slots order)
+    pub put_rows : rows_at_places (set slots p (Used now)) order ≡ put row_key now.row (rows_at_places slots order)
     put_rows =
-        ap (rows_of (set slots p (Used now))) here.split
+        ap (rows_at_places (set slots p (Used now))) here.split
         ∙ map-append (row_in (set slots p (Used now))) here.front (p ∷ here.back)
         ∙ (λ i. other_rows slots p (Used now) here.front front_other i ++ row_there (set slots p (Used now)) p (Used now) (get_same slots p (Used r) (Used now) at) i ∷ other_rows slots p (Used now) here.back back_other i)
-        ∙ sym (put_mid row_key (rows_of slots here.front) (rows_of slots here.back) r.row now.row key row_rises)
+        ∙ sym (put_mid row_key (rows_at_places slots here.front) (rows_at_places slots here.back) r.row now.row key row_rises)
         ∙ ap (put row_key now.row) (sym rows_mid)
 
     pub put_places : ArePlaces lines c (set slots p (Used now)) order
@@ -203,12 +203,12 @@ module _ (lines : List LineId) (c : ℕ) (slots : List Slot) (order : List ℕ) 
     left_is : order' ≡ here.front ++ here.back
     left_is = left ∙ ap (filter (λ k. not (eqb k p))) here.split ∙ dropped p here.front here.back front_other back_other
 
-    pub left_rows : rows_of (set slots p (Parked l)) order' ≡ without (λ (q : DeskRow). q.key == r.row.key) (rows_of slots order)
+    pub left_rows : rows_at_places (set slots p (Parked l)) order' ≡ without (λ (q : DeskRow). q.key == r.row.key) (rows_at_places slots order)
     left_rows =
-        ap (rows_of (set slots p (Parked l))) left_is
+        ap (rows_at_places (set slots p (Parked l))) left_is
         ∙ map-append (row_in (set slots p (Parked l))) here.front here.back
         ∙ (λ i. other_rows slots p (Parked l) here.front front_other i ++ other_rows slots p (Parked l) here.back back_other i)
-        ∙ sym (without_mid row_key (rows_of slots here.front) (rows_of slots here.back) r.row row_rises)
+        ∙ sym (without_mid row_key (rows_at_places slots here.front) (rows_at_places slots here.back) r.row row_rises)
         ∙ ap (filter (λ (q : DeskRow). not (eqb q.key r.row.key))) (sym rows_mid)
 
     pub left_places : ArePlaces lines c (set slots p (Parked l)) order'
@@ -243,7 +243,7 @@ module _ (lines : List LineId) (c : ℕ) (slots : List Slot) (order : List ℕ) 
   not_parked [] u = tt
   not_parked (k ∷ ks) u = ((λ e. let two : ◌≡◌ {A = Option Slot} (Some (Used u.0.row)) (Some (Parked l)) = sym u.0.there ∙ ap (slice_get slots) e ∙ at in absurd cc), not_parked ks u.1)
 
-  pub begun_rows : rows_of (set slots p (Used now)) (order ++ p ∷ []) ≡ rows_of slots order ++ now.row ∷ []
+  pub begun_rows : rows_at_places (set slots p (Used now)) (order ++ p ∷ []) ≡ rows_at_places slots order ++ now.row ∷ []
   begun_rows =
       map-append (row_in (set slots p (Used now))) order (p ∷ [])
       ∙ (λ i. other_rows slots p (Used now) order (not_parked order places.used) i ++ row_there (set slots p (Used now)) p (Used now) (get_same slots p (Parked l) (Used now) at) i ∷ [])
@@ -334,7 +334,7 @@ ended_places lines c slots order h = record {
   count = h.count ∙ sym (ended_uses slots);
 }
 
-pub ended_rows : (slots : List Slot) (ks : List ℕ) → AllByRecursion (IsUsed slots) ks → rows_of (map ended_slot slots) ks ≡ map desk_row_after_stop (rows_of slots ks)
+pub ended_rows : (slots : List Slot) (ks : List ℕ) → AllByRecursion (IsUsed slots) ks → rows_at_places (map ended_slot slots) ks ≡ map desk_row_after_stop (rows_at_places slots ks)
 ended_rows slots [] u = refl
 ended_rows slots (k ∷ ks) u =
     (λ i. (row_there (map ended_slot slots) k (Used (ended_row u.0.row)) (ended_get slots k u.0.row u.0.there) ∙ ap desk_row_after_stop (sym (row_there slots k (Used u.0.row) u.0.there))) i ∷ ended_rows slots ks u.1 i)

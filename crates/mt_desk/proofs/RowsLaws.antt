@@ -5,27 +5,27 @@ use Rattle.std.specs.List.{list_all, AllByRecursion}
 use Rattle.std.specs.Option.{option_map}
 use Rattle.std.proofs.lemmas.List.{map-append}
 use Rattle.mt_skel.specs.Keyed.{row_at, put, without, rises}
-use Rattle.mt_floor.specs.Watcher.{Watcher, key_of}
+use Rattle.mt_floor.specs.Watcher.{Watcher, watcher_key}
 use Rattle.mt_desk.specs.Desk.{DeskRow, row_key, late_watcher}
 
 module _ (c : ℕ) where
   -- the watcher of a key is that of its row
-  pub watcher_at : (k : ℕ) (rs : List DeskRow) → row_at key_of k (map (late_watcher c) rs) ≡ option_map (late_watcher c) (row_at row_key k rs)
+  pub watcher_at : (k : ℕ) (rs : List DeskRow) → row_at watcher_key k (map (late_watcher c) rs) ≡ option_map (late_watcher c) (row_at row_key k rs)
   watcher_at k [] = refl
   watcher_at k (r ∷ rs) =
-      elim (eqb k r.key) as (λ b. cond b (Some (late_watcher c r)) (row_at key_of k (map (late_watcher c) rs)) ≡ option_map (late_watcher c) (cond b (Some r) (row_at row_key k rs))) [ true ↦ refl | false ↦ watcher_at k rs ]
+      elim (eqb k r.key) as (λ b. cond b (Some (late_watcher c r)) (row_at watcher_key k (map (late_watcher c) rs)) ≡ option_map (late_watcher c) (cond b (Some r) (row_at row_key k rs))) [ true ↦ refl | false ↦ watcher_at k rs ]
 
-  pub watcher_there : (k : ℕ) (rs : List DeskRow) (r : DeskRow) → row_at row_key k rs ≡ Some r → row_at key_of k (map (late_watcher c) rs) ≡ Some (late_watcher c r)
+  pub watcher_there : (k : ℕ) (rs : List DeskRow) (r : DeskRow) → row_at row_key k rs ≡ Some r → row_at watcher_key k (map (late_watcher c) rs) ≡ Some (late_watcher c r)
   watcher_there k rs r at = watcher_at k rs ∙ ap (option_map (late_watcher c)) at
 
-  pub put_watchers : (r : DeskRow) (rs : List DeskRow) → map (late_watcher c) (put row_key r rs) ≡ put key_of (late_watcher c r) (map (late_watcher c) rs)
+  pub put_watchers : (r : DeskRow) (rs : List DeskRow) → map (late_watcher c) (put row_key r rs) ≡ put watcher_key (late_watcher c r) (map (late_watcher c) rs)
   put_watchers r [] = refl
   put_watchers r (q ∷ rs) = by (ltb r.key q.key) (eqb r.key q.key) (put_watchers r rs)
     where
-      by : (low same : Bool) → map (late_watcher c) (put row_key r rs) ≡ put key_of (late_watcher c r) (map (late_watcher c) rs)
+      by : (low same : Bool) → map (late_watcher c) (put row_key r rs) ≡ put watcher_key (late_watcher c r) (map (late_watcher c) rs)
           → map (late_watcher c) (cond low (r ∷ q ∷ rs) (cond same (r ∷ rs) (q ∷ put row_key r rs)))
           ≡ cond low (late_watcher c r ∷ late_watcher c q ∷ map (late_watcher c) rs)
-          (cond same (late_watcher c r ∷ map (late_watcher c) rs) (late_watcher c q ∷ put key_of (late_watcher c r) (map (late_watcher c) rs)))
+          (cond same (late_watcher c r ∷ map (late_watcher c) rs) (late_watcher c q ∷ put watcher_key (late_watcher c r) (map (late_watcher c) rs)))
       by true same ih = refl
       by false true ih = refl
       by false false ih = ap (λ l. late_watcher c q ∷ l) ih
@@ -41,11 +41,11 @@ module _ (c : ℕ) where
       by true ih = ih
       by false ih = ap (λ l. late_watcher c r ∷ l) ih
 
-  above_watchers : (k : ℕ) (rs : List DeskRow) → list_all (λ w. ltb k (key_of w)) (map (late_watcher c) rs) ≡ list_all (λ r. ltb k (row_key r)) rs
+  above_watchers : (k : ℕ) (rs : List DeskRow) → list_all (λ w. ltb k (watcher_key w)) (map (late_watcher c) rs) ≡ list_all (λ r. ltb k (row_key r)) rs
   above_watchers k [] = refl
   above_watchers k (r ∷ rs) = rw (above_watchers k rs) refl
 
-  pub rises_watchers : (rs : List DeskRow) → rises key_of (map (late_watcher c) rs) ≡ rises row_key rs
+  pub rises_watchers : (rs : List DeskRow) → rises watcher_key (map (late_watcher c) rs) ≡ rises row_key rs
   rises_watchers [] = refl
   rises_watchers (r ∷ rs) = rw (above_watchers r.key rs, rises_watchers rs) refl
 

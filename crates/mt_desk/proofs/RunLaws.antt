@@ -13,7 +13,7 @@ use Rattle.mt_floor.specs.declared.event.Event.{Event}
 use Rattle.mt_floor.specs.declared.event.Event.TheVariants.{Take}
 use Rattle.mt_floor.specs.declared.event.Answer.{Answer}
 use Rattle.mt_floor.specs.declared.event.Answer.TheVariants.{Took}
-use Rattle.mt_floor.specs.Watcher.{Watcher, key_of}
+use Rattle.mt_floor.specs.Watcher.{Watcher, watcher_key}
 use Rattle.mt_floor.specs.Schedule.{FloorView, Stepped, empty_floor, floor_step, run, changed, took, nothing_left}
 use Rattle.mt_floor.specs.WellFormed.{IsFloor}
 use Rattle.mt_floor.specs.Headline.{floor_after}
@@ -68,7 +68,7 @@ took_next : (s : FloorView) (w : Watcher) (p : PostView) → slice_get w.sent (l
 took_next s w p next = ap (λ (o : Option PostView). option_map_or {U = Stepped} (λ q. (changed s (record w { taken = w.taken ++ q ∷ [] }), Ok (Took (Some q)))) o (s, nothing_left w.phase)) next
 
 -- one take
-pub take_step : (s : FloorView) (key k : ℕ) (w : Watcher) → row_at key_of key s.watchers ≡ Some w → w.taken ≡ take k w.sent → k < length w.sent
+pub take_step : (s : FloorView) (key k : ℕ) (w : Watcher) → row_at watcher_key key s.watchers ≡ Some w → w.taken ≡ take k w.sent → k < length w.sent
     → (p : PostView) × (floor_step s (Take key) ≡ (changed s (with_taken (k + 1) w), Ok (Took (Some p))))
 unfolding floor_step
 take_step s key k w at have low =
@@ -87,23 +87,23 @@ pub record TakesRun (s : FloorView) (key k n : ℕ) (w : Watcher) : Type 0 where
   pub done : AllByRecursion IsDone told
   pub run : run s (replicate n (Take key)) ≡ (changed s (with_taken (k + n) w), told)
 
-pub takes_run : (s : FloorView) (key k n : ℕ) (w : Watcher) → row_at key_of key s.watchers ≡ Some w → rises key_of s.watchers ≡ true → w.taken ≡ take k w.sent → k + n ≤ length w.sent → TakesRun s key k n w
+pub takes_run : (s : FloorView) (key k n : ℕ) (w : Watcher) → row_at watcher_key key s.watchers ≡ Some w → rises watcher_key s.watchers ≡ true → w.taken ≡ take k w.sent → k + n ≤ length w.sent → TakesRun s key k n w
 takes_run s key k zero w at rising have within = record {
   told = [];
   done = tt;
   run =
       let same : with_taken (k + 0) w ≡ w = ap (λ (l : List PostView). record w { taken = l }) (ap (λ n. take n w.sent) (omega arith) ∙ sym have) in
-      ap (λ (l : List Watcher). ((record s { watchers = l }), [])) (sym (ap (λ v. put key_of v s.watchers) same ∙ put_back key_of key w s.watchers rising at));
+      ap (λ (l : List Watcher). ((record s { watchers = l }), [])) (sym (ap (λ v. put watcher_key v s.watchers) same ∙ put_back watcher_key key w s.watchers rising at));
 }
 takes_run s key k (suc n) w at rising have within =
     let first = take_step s key k w at have (omega (arith, within)) in
-    let mine : w.key ≡ key = row_at-key key_of key s.watchers w at in
+    let mine : w.key ≡ key = row_at-key watcher_key key s.watchers w at in
     let w' : Watcher = with_taken (k + 1) w in
-    let more = takes_run (changed s w') key (k + 1) n w' (put_same key_of key w' s.watchers (sym mine)) (rises-put key_of w' s.watchers rising) refl (omega (arith, within)) in record {
+    let more = takes_run (changed s w') key (k + 1) n w' (put_same watcher_key key w' s.watchers (sym mine)) (rises-put watcher_key w' s.watchers rising) refl (omega (arith, within)) in record {
       told = Ok (Took (Some first.0)) ∷ more.told;
       done = (tt, more.done);
       run =
           let count : k + 1 + n ≡ k + suc n = omega arith in
           run_cons s (changed s w') (changed s (with_taken (k + suc n) w)) (Take key) (replicate n (Take key)) (Ok (Took (Some first.0))) more.told first.1
-          (more.run ∙ ap (λ (l : List Watcher). (record s { watchers = l }, more.told)) (put_twice key_of w' (with_taken (k + 1 + n) w) s.watchers refl ∙ ap (λ m. put key_of (with_taken m w) s.watchers) count));
+          (more.run ∙ ap (λ (l : List Watcher). (record s { watchers = l }, more.told)) (put_twice watcher_key w' (with_taken (k + 1 + n) w) s.watchers refl ∙ ap (λ m. put watcher_key (with_taken m w) s.watchers) count));
     }

@@ -18,14 +18,14 @@ use Rattle.mt_floor.specs.declared.watch.Meeting.{Meeting}
 use Rattle.mt_floor.specs.declared.event.Event.TheVariants.{Open, Take, Meet, Close, Stop}
 use Rattle.mt_floor.specs.declared.event.Answer.{Answer}
 use Rattle.mt_floor.specs.declared.event.Answer.TheVariants.{Opened, Met, Closed, Halted}
-use Rattle.mt_floor.specs.Watcher.{Watcher, key_of, is_open, opening_of}
+use Rattle.mt_floor.specs.Watcher.{Watcher, watcher_key, is_open, opening_of}
 use Rattle.mt_floor.specs.Schedule.{FloorView, Stepped, floor_step, run, unless, changed, met, closed, opening_refusal}
 use Rattle.mt_floor.specs.WellFormed.{IsFloor}
 use Rattle.mt_floor.proofs.RowLaws.{put_same}
 use Rattle.mt_floor.proofs.StandingLaws.{stays}
 use Rattle.mt_floor.proofs.RunningLaws.{joined}
 use Rattle.mt_desk.specs.Late.{late, late_count}
-use Rattle.mt_desk.specs.Desk.{DeskRow, DeskView, IsDeskRow, IsInTime, IsDesk, row_key, late_watcher, floor_of_desk, new_row, with_watcher, desk_row_after_stop, halted_desk}
+use Rattle.mt_desk.specs.Desk.{DeskRow, DeskView, IsDeskRow, IsInTime, IsDesk, row_key, late_watcher, floor_of_desk, new_desk_row, with_watcher, desk_row_after_stop, halted_desk}
 use Rattle.mt_desk.specs.Calls.{WatcherView, IsHalved, IsMet, IsClosed, unseen, in_time_after, met_row, with_row}
 use Rattle.mt_desk.proofs.RowsLaws.{watcher_there, put_watchers, without_watchers, rises_watchers, snoc_watchers, each_at, each_put, each_without}
 use Rattle.mt_desk.proofs.LateLaws.{late_met, late_before}
@@ -74,10 +74,10 @@ module _ (d : DeskView) (key : ℕ) (row : DeskRow) (half : ReceiverView) (rest 
         takes.run ∙ ap (λ (s : FloorView). (s, takes.told)) (ap (changed (floor_of_desk d)) same_watcher ∙ sym (floor_with_row d (met_row (length half.taken) row))),
       )
 
-  met_there : row_at key_of key (floor_of_desk met_desk).watchers ≡ Some (late_watcher d.capacity (met_row (length half.taken) row))
+  met_there : row_at watcher_key key (floor_of_desk met_desk).watchers ≡ Some (late_watcher d.capacity (met_row (length half.taken) row))
   met_there =
-      ap (row_at key_of key) (put_watchers d.capacity (met_row (length half.taken) row) d.rows)
-      ∙ put_same key_of key (late_watcher d.capacity (met_row (length half.taken) row)) (map (late_watcher d.capacity) d.rows) (sym row_key_is)
+      ap (row_at watcher_key key) (put_watchers d.capacity (met_row (length half.taken) row) d.rows)
+      ∙ put_same watcher_key key (late_watcher d.capacity (met_row (length half.taken) row)) (map (late_watcher d.capacity) d.rows) (sym row_key_is)
 
   abbrev meeting : Meeting
   meeting = record { posted = length row.sent; taken = length half.taken; state = row.phase }
@@ -196,13 +196,13 @@ open_schedule d scope none =
     ) in
     ap (λ o. unless o f (begun [])) none
     ∙ ap begun (sym (take-nil (late_count d.capacity 0 0)))
-    ∙ ap (λ (l : List Watcher). (record f { next_key = d.next_key + 1; watchers = l }, Ok (Opened d.next_key (opening_of d.journal scope)))) (sym (snoc_watchers d.capacity d.rows (new_row d scope)))
+    ∙ ap (λ (l : List Watcher). (record f { next_key = d.next_key + 1; watchers = l }, Ok (Opened d.next_key (opening_of d.journal scope)))) (sym (snoc_watchers d.capacity d.rows (new_desk_row d scope)))
 
 pub opened_stays : (d : DeskView) (scope : Scope) → IsDesk d → opening_refusal (floor_of_desk d) scope ≡ None → IsDesk (with_watcher d scope)
 opened_stays d scope h none = record {
   floor = subst IsFloor (ap (λ (x : Stepped). x.0) (open_schedule d scope none)) (stays (floor_of_desk d) (Open scope) h.floor);
   room = h.room;
-  rows = each_last (IsDeskRow d.capacity) d.rows (new_row d scope) h.rows (record { met = omega arith; in_time = refl });
+  rows = each_last (IsDeskRow d.capacity) d.rows (new_desk_row d scope) h.rows (record { met = omega arith; in_time = refl });
   history =
       let now : DeskView = with_watcher d scope in
       let answer : Result Answer Fault = Ok (Opened d.next_key (opening_of d.journal scope)) in

@@ -15,13 +15,13 @@ use Rattle.mt_floor.specs.declared.event.Event.{Event}
 use Rattle.mt_floor.specs.declared.event.Event.TheVariants.{PostNext, Take}
 use Rattle.mt_floor.specs.declared.event.Answer.{Answer}
 use Rattle.mt_floor.specs.declared.event.Answer.TheVariants.{Posted, Took, NotNow}
-use Rattle.mt_floor.specs.Watcher.{Watcher, Due, key_of}
+use Rattle.mt_floor.specs.Watcher.{Watcher, Due, watcher_key}
 use Rattle.mt_floor.specs.Schedule.{FloorView, floor_step, run, changed, sent_to, is_full, posted}
 use Rattle.mt_floor.proofs.RowLaws.{put_same}
 use Rattle.mt_desk.specs.Late.{late, late_count}
 use Rattle.mt_desk.specs.Desk.{DeskRow, IsDeskRow, IsInTime, late_watcher}
 use Rattle.mt_desk.specs.Calls.{IsSend, IsDone}
-use Rattle.mt_desk.specs.Sent.{with_post, lagging}
+use Rattle.mt_desk.specs.Sent.{with_sent_post, lagging}
 use Rattle.mt_desk.proofs.LateLaws.{HadRoom, WasFull, late_sent, watcher_full}
 use Rattle.mt_desk.proofs.PutLaws.{put_twice}
 use Rattle.mt_desk.proofs.RunLaws.{run_cons, with_taken, take_step}
@@ -32,15 +32,15 @@ room_test c have n room = grind (arith, nat_tests)
 
 -- a floor after what was due first is sent to a watcher, which is this one now
 abbrev pub sent_floor : FloorView → List Due → Watcher → FloorView
-sent_floor s ds w = record s { due = ds; watchers = put key_of w s.watchers }
+sent_floor s ds w = record s { due = ds; watchers = put watcher_key w s.watchers }
 
-post_room : (s : FloorView) (e : Due) (ds : List Due) (w : Watcher) → s.due ≡ e ∷ ds → row_at key_of e.key s.watchers ≡ Some w → is_full s.capacity w ≡ false
+post_room : (s : FloorView) (e : Due) (ds : List Due) (w : Watcher) → s.due ≡ e ∷ ds → row_at watcher_key e.key s.watchers ≡ Some w → is_full s.capacity w ≡ false
     → floor_step s PostNext ≡ (sent_floor s ds (record w { sent = w.sent ++ e.post ∷ [] }), Ok (Posted e.key false))
 unfolding floor_step
 post_room s e ds w due at room =
     ap (posted s) due ∙ ap (λ o. option_map_or (λ v. sent_to s e ds (is_full s.capacity v) v) o (s, Ok NotNow)) at ∙ ap (λ b. sent_to s e ds b w) room
 
-post_full : (s : FloorView) (e : Due) (ds : List Due) (w : Watcher) → s.due ≡ e ∷ ds → row_at key_of e.key s.watchers ≡ Some w → is_full s.capacity w ≡ true
+post_full : (s : FloorView) (e : Due) (ds : List Due) (w : Watcher) → s.due ≡ e ∷ ds → row_at watcher_key e.key s.watchers ≡ Some w → is_full s.capacity w ≡ true
     → floor_step s PostNext ≡ (sent_floor s (filter (λ (d : Due). not (d.key == e.key)) ds) (record w { phase = Lagged }), Ok (Posted e.key true))
 unfolding floor_step
 post_full s e ds w due at full =
@@ -54,10 +54,10 @@ pub record Sends (s now : FloorView) : Type 0 where
   pub done : AllByRecursion IsDone told
   pub schedule : run s events ≡ (now, told)
 
-module _ (s : FloorView) (c : ℕ) (e : Due) (ds : List Due) (r : DeskRow) (due : s.due ≡ e ∷ ds) (capacity : s.capacity ≡ c) (at : row_at key_of e.key s.watchers ≡ Some (late_watcher c r)) where
+module _ (s : FloorView) (c : ℕ) (e : Due) (ds : List Due) (r : DeskRow) (due : s.due ≡ e ∷ ds) (capacity : s.capacity ≡ c) (at : row_at watcher_key e.key s.watchers ≡ Some (late_watcher c r)) where
   -- the floor once the post was sent
   abbrev pub now : FloorView
-  now = sent_floor s ds (late_watcher c (with_post e.post r))
+  now = sent_floor s ds (late_watcher c (with_sent_post e.post r))
 
   with_room : HadRoom c r.met r.sent e.post → Sends s now
   with_room had =
@@ -76,12 +76,12 @@ module _ (s : FloorView) (c : ℕ) (e : Due) (ds : List Due) (r : DeskRow) (due 
       let k = late_count c r.met (length r.sent) in
       let w : Watcher = late_watcher c r in
       let v : Watcher = with_taken (k + 1) w in
-      let mine : w.key ≡ e.key = row_at-key key_of e.key s.watchers w at in
+      let mine : w.key ≡ e.key = row_at-key watcher_key e.key s.watchers w at in
       let takes = take_step s e.key k w at refl (omega (arith, was.within)) in
       let size : length (take (k + 1) r.sent) ≡ k + 1 = length-take-le (k + 1) r.sent was.within in
       let room : is_full s.capacity v ≡ false = ap (λ n. is_full n v) capacity ∙ room_test c (length (take (k + 1) r.sent)) (length r.sent) (omega (arith, size, was.full)) in
-      let sends = post_room (changed s v) e ds v due (put_same key_of e.key v s.watchers (sym mine)) room in
-      let once = put_twice key_of v (record v { sent = r.sent ++ e.post ∷ [] }) s.watchers refl in
+      let sends = post_room (changed s v) e ds v due (put_same watcher_key e.key v s.watchers (sym mine)) room in
+      let once = put_twice watcher_key v (record v { sent = r.sent ++ e.post ∷ [] }) s.watchers refl in
       let taken : sent_floor s ds (record v { sent = r.sent ++ e.post ∷ [] }) ≡ now = ap (λ (l : List PostView). sent_floor s ds (record w { sent = r.sent ++ e.post ∷ []; taken = l })) (sym was.next) in record {
         events = Take e.key ∷ PostNext ∷ [];
         told = Ok (Took (Some takes.0)) ∷ Ok (Posted e.key false) ∷ [];
@@ -111,7 +111,7 @@ more_in_time c n more met in_time IsOpen l t = t
 more_in_time c n more met in_time Ended l t = t
 more_in_time c n more met in_time Lagged l t = (t.0, omega (arith, t.1, l))
 
-pub post_keeps : (c : ℕ) (p : PostView) (r : DeskRow) → IsDeskRow c r → IsDeskRow c (with_post p r)
+pub post_keeps : (c : ℕ) (p : PostView) (r : DeskRow) → IsDeskRow c r → IsDeskRow c (with_sent_post p r)
 post_keeps c p r k =
     let long = length-append r.sent (p ∷ []) in
     record { met = omega (arith, k.met, long); in_time = more_in_time c (length r.sent) (length (r.sent ++ p ∷ [])) r.met r.met_in_time r.phase (omega (arith, long)) k.in_time }

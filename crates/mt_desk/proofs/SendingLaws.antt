@@ -25,11 +25,11 @@ use Rattle.mt_floor.specs.Watcher.{Due, due_for}
 use Rattle.mt_floor.specs.Schedule.{floor_step}
 use Rattle.mt_desk.specs.Desk.{DeskRow, DeskView, IsDesk, row_key, floor_of_desk}
 use Rattle.mt_desk.specs.Calls.{IsApplied}
-use Rattle.mt_desk.specs.Sent.{IsSentOne, IsSentOneIn, IsSending, sending_floor}
+use Rattle.mt_desk.specs.Sent.{IsSentOne, IsSentOneIn, IsSendingPosts, sending_floor}
 use Rattle.mt_desk.specs.Rows.{PlacedRowView, SendsRow}
 use Rattle.mt_desk.specs.declared.row.Slot.{Slot}
 use Rattle.mt_desk.specs.declared.row.Slot.TheVariants.{Parked, Used, Away}
-use Rattle.mt_desk.specs.Places.{row_in, rows_of, desk_of, slot_row, no_row, IsLine, IsUsed, IsAmong, ArePlaces, IsKept}
+use Rattle.mt_desk.specs.Places.{row_in, rows_at_places, desk_of, slot_row, no_row, IsLine, IsUsed, IsAmong, ArePlaces, IsKeptDesk}
 use Rattle.mt_desk.specs.Sending.{PlaceDue, slot_follows, slot_hears, due_at, posts_at, AreDue, MaySend, SendsSlot, SendsAt, SendsAll}
 use Rattle.mt_desk.proofs.PlaceLaws.{get_other, get_same, each_get, among_get, row_there, row_of_place, put_rows, put_places}
 use Rattle.mt_desk.proofs.ScheduleLaws.{rows_rise}
@@ -57,14 +57,14 @@ due_at_row slots p k r at =
     by true = ap (λ (q : DeskRow). due_then p q.key []) (row_there slots k (Used r) at)
     by false = refl
 
-due_of_post : (slots : List Slot) (p : PostView) (ks : List ℕ) → AllByRecursion (IsUsed slots) ks → map (keyed slots) (flat_map (due_at p slots) ks) ≡ due_rows p (rows_of slots ks)
+due_of_post : (slots : List Slot) (p : PostView) (ks : List ℕ) → AllByRecursion (IsUsed slots) ks → map (keyed slots) (flat_map (due_at p slots) ks) ≡ due_rows p (rows_at_places slots ks)
 due_of_post slots p [] u = refl
 due_of_post slots p (k ∷ ks) u =
     map-append (keyed slots) (due_at p slots k) (flat_map (due_at p slots) ks)
     ∙ (λ i. (due_at_row slots p k u.0.row u.0.there ∙ ap (λ (q : DeskRow). cond (row_is_due p q) (due_then p q.key []) []) (sym (row_there slots k (Used u.0.row) u.0.there))) i ++ due_of_post slots p ks u.1 i)
 
 due_of_posts : (slots : List Slot) (ps : List PostView) (ks : List ℕ) → AllByRecursion (IsUsed slots) ks
-    → map (keyed slots) (flat_map (λ p. flat_map (due_at p slots) ks) ps) ≡ flat_map (λ p. due_rows p (rows_of slots ks)) ps
+    → map (keyed slots) (flat_map (λ p. flat_map (due_at p slots) ks) ps) ≡ flat_map (λ p. due_rows p (rows_at_places slots ks)) ps
 due_of_posts slots [] ks u = refl
 due_of_posts slots (p ∷ ps) ks u =
     map-append (keyed slots) (flat_map (due_at p slots) ks) (flat_map (λ q. flat_map (due_at q slots) ks) ps)
@@ -91,14 +91,14 @@ due_of_order slots (p ∷ ps) order = each_append (λ (e : PlaceDue). IsAmong e.
 
 -- ---- A key tells its place
 
-key_above : (slots : List Slot) (q k : ℕ) (ks : List ℕ) → list_all (λ y. ltb q (row_key y)) (rows_of slots ks) ≡ true → IsAmong k ks → ltb q (row_in slots k).key ≡ true
+key_above : (slots : List Slot) (q k : ℕ) (ks : List ℕ) → list_all (λ y. ltb q (row_key y)) (rows_at_places slots ks) ≡ true → IsAmong k ks → ltb q (row_in slots k).key ≡ true
 key_above slots q k [] h a = absurd a
 key_above slots q k (j ∷ ks) h a = elim a [ inl here ↦ ap (λ n. ltb q (row_in slots n).key) (sym here) ∙ and_first _ _ h | inr later ↦ key_above slots q k ks (and_second _ _ h) later ]
 
 not_same : (n m : ℕ) → ltb n m ≡ true → n ≡ m → ⊥
 not_same n m low same = absurd (let no : ltb n m ≡ false = grind (arith, nat_tests) in let bad : true ≡ false = sym low ∙ no in cc)
 
-one_place : (slots : List Slot) (ks : List ℕ) → rises row_key (rows_of slots ks) ≡ true → (j k : ℕ) → IsAmong j ks → IsAmong k ks → (row_in slots j).key ≡ (row_in slots k).key → j ≡ k
+one_place : (slots : List Slot) (ks : List ℕ) → rises row_key (rows_at_places slots ks) ≡ true → (j k : ℕ) → IsAmong j ks → IsAmong k ks → (row_in slots j).key ≡ (row_in slots k).key → j ≡ k
 one_place slots [] rising j k a b same = absurd a
 one_place slots (z ∷ ks) rising j k a b same = elim a [
   | inl here ↦ elim b [
@@ -112,7 +112,7 @@ one_place slots (z ∷ ks) rising j k a b same = elim a [
 ]
 
 -- what is due to a key is due to its place
-due_here : (slots : List Slot) (order : List ℕ) (place : ℕ) (ds : List PlaceDue) → rises row_key (rows_of slots order) ≡ true → IsAmong place order → AreOf order ds
+due_here : (slots : List Slot) (order : List ℕ) (place : ℕ) (ds : List PlaceDue) → rises row_key (rows_at_places slots order) ≡ true → IsAmong place order → AreOf order ds
     → due_for (row_in slots place).key (map (keyed slots) ds) ≡ posts_at place ds
 due_here slots order place [] rising a all = refl
 due_here slots order place (e ∷ ds) rising a all = by (eqb e.place place) refl (eqb (row_in slots e.place).key (row_in slots place).key) refl (due_here slots order place ds rising a all.1)
@@ -168,7 +168,7 @@ module _ (lines : List LineId) (d : DeskView) (x : Command) (reply : Reply) (h :
   -- the places after some posts, and what was sent
   record IsPart (slots : List Slot) (ds : List PlaceDue) : Type 0 where
     pub places : ArePlaces lines d.capacity slots order
-    pub sending : IsSending d x reply (rows_of slots order) (map (keyed slots) ds)
+    pub sending : IsSendingPosts d x reply (rows_at_places slots order) (map (keyed slots) ds)
 
   sent_next : (slots : List Slot) (e : PlaceDue) (ds : List PlaceDue) (r now : PlacedRowView) → IsPart slots (e ∷ ds) → slice_get slots e.place ≡ Some (Used r) → SendsRow r e.post now → IsPart (set slots e.place (Used now)) ds
   sent_next slots e ds r now part at sends =
@@ -176,14 +176,14 @@ module _ (lines : List LineId) (d : DeskView) (x : Command) (reply : Reply) (h :
       let capacity : r.capacity ≡ d.capacity = (each_get (IsLine d.capacity) slots e.place (Used r) part.places.each at).capacity_is in
       let key : now.row.key ≡ r.row.key = key_stays r.row.phase r.capacity e.post r.row now.row sends.sent in
       let rows = put_rows lines d.capacity slots order part.places rising e.place r at now sends.line sends.capacity key in
-      let there : row_at row_key (row_in slots e.place).key (rows_of slots order) ≡ Some r.row =
-      ap (λ (q : DeskRow). row_at row_key q.key (rows_of slots order)) (row_there slots e.place (Used r) at) ∙ row_of_place lines d.capacity slots order part.places rising e.place r at in
+      let there : row_at row_key (row_in slots e.place).key (rows_at_places slots order) ≡ Some r.row =
+      ap (λ (q : DeskRow). row_at row_key q.key (rows_at_places slots order)) (row_there slots e.place (Used r) at) ∙ row_of_place lines d.capacity slots order part.places rising e.place r at in
       let sent : IsSentOne d.capacity e.post r.row now.row = subst (λ n. IsSentOne n e.post r.row now.row) capacity sends.sent in
       let left : map (keyed (set slots e.place (Used now))) ds ≡ map (keyed slots) ds = keyed_stay slots (set slots e.place (Used now)) (keys_stay slots e.place r now at key) ds in
-      let more = sent_row d x reply h (rows_of slots order) (keyed slots e) (map (keyed slots) ds) r.row part.sending there now.row sent in
+      let more = sent_row d x reply h (rows_at_places slots order) (keyed slots e) (map (keyed slots) ds) r.row part.sending there now.row sent in
       record {
         places = put_places lines d.capacity slots order part.places rising e.place r at now sends.line sends.capacity key;
-        sending = subst (λ (y : List DeskRow × List Due). IsSending d x reply y.0 y.1) (λ i. (sym rows i, sym left i)) more;
+        sending = subst (λ (y : List DeskRow × List Due). IsSendingPosts d x reply y.0 y.1) (λ i. (sym rows i, sym left i)) more;
       }
 
   sent_at : (slots next : List Slot) (e : PlaceDue) (ds : List PlaceDue) → IsPart slots (e ∷ ds) → IsAmong e.place order → SendsAt e slots next → IsPart next ds
@@ -206,7 +206,7 @@ module _ (lines : List LineId) (d : DeskView) (x : Command) (reply : Reply) (h :
 
 -- ---- A command
 
-module _ (lines : List LineId) (c : ℕ) (journal : List Command) (last_key : ℕ) (stopped : Bool) (slots : List Slot) (order : List ℕ) (room : ℕ) (h : IsKept lines (desk_of c journal last_key stopped slots order) slots order room) where
+module _ (lines : List LineId) (c : ℕ) (journal : List Command) (last_key : ℕ) (stopped : Bool) (slots : List Slot) (order : List ℕ) (room : ℕ) (h : IsKeptDesk lines (desk_of c journal last_key stopped slots order) slots order room) where
   abbrev desk : DeskView
   desk = desk_of c journal last_key stopped slots order
 
@@ -219,12 +219,12 @@ module _ (lines : List LineId) (c : ℕ) (journal : List Command) (last_key : �
     all_in_order = subst (AreOf order) (sym due_is) (due_of_order slots (posts_of journal x) order)
 
     keyed_due : map (keyed slots) due ≡ first_due desk x
-    keyed_due = ap (map (keyed slots)) due_is ∙ due_of_posts slots (posts_of journal x) order h.places.used ∙ due_of_rows c (posts_of journal x) (rows_of slots order)
+    keyed_due = ap (map (keyed slots)) due_is ∙ due_of_posts slots (posts_of journal x) order h.places.used ∙ due_of_rows c (posts_of journal x) (rows_at_places slots order)
 
-    first : IsSending desk x reply (rows_of slots order) (map (keyed slots) due)
-    first = subst (IsSending desk x reply (rows_of slots order)) (sym keyed_due) (sent_first desk x reply h.desk begun)
+    first : IsSendingPosts desk x reply (rows_at_places slots order) (map (keyed slots) due)
+    first = subst (IsSendingPosts desk x reply (rows_at_places slots order)) (sym keyed_due) (sent_first desk x reply h.desk begun)
 
-    rising : rises row_key (rows_of slots order) ≡ true
+    rising : rises row_key (rows_at_places slots order) ≡ true
     rising = rows_rise desk h.desk
 
     -- what is due may be sent
@@ -240,16 +240,16 @@ module _ (lines : List LineId) (c : ℕ) (journal : List Command) (last_key : �
         may place (Used r) at = λ is.
             let here = due_here slots order place due rising (h.places.ordered place r at) all_in_order in
             let key = ap row_key (row_there slots place (Used r) at) in
-            let run = left_is_run desk x reply h.desk (rows_of slots order) (map (keyed slots) due) first r.row.key r.row (row_of_place lines c slots order h.places rising place r at) is in
+            let run = left_is_run desk x reply h.desk (rows_at_places slots order) (map (keyed slots) due) first r.row.key r.row (row_of_place lines c slots order h.places rising place r at) is in
             subst (λ l. IsRun r.row.opening (r.row.sent ++ l)) (ap (λ k. due_for k (map (keyed slots) due)) (sym key) ∙ here) run
 
     -- and once it was
     pub applied_kept : (after : List Slot) → SendsAll due slots after
-        → IsKept lines (desk_of c (journal ++ x ∷ []) last_key stopped after order) after order room × IsApplied desk x reply (desk_of c (journal ++ x ∷ []) last_key stopped after order)
+        → IsKeptDesk lines (desk_of c (journal ++ x ∷ []) last_key stopped after order) after order room × IsApplied desk x reply (desk_of c (journal ++ x ∷ []) last_key stopped after order)
     applied_kept after through =
         let part = sent_through lines desk x reply h.desk order slots after due all_in_order (record { places = h.places; sending = first }) through in (
-          record { places = part.places; room_is = h.room_is; desk = sent_stays desk x reply h.desk (rows_of after order) part.sending },
-          sent_all desk x reply h.desk (rows_of after order) part.sending,
+          record { places = part.places; room_is = h.room_is; desk = sent_stays desk x reply h.desk (rows_at_places after order) part.sending },
+          sent_all desk x reply h.desk (rows_at_places after order) part.sending,
         )
 
   -- what a book has prepared
@@ -264,9 +264,9 @@ module _ (lines : List LineId) (c : ℕ) (journal : List Command) (last_key : �
     prepared_due = are_due x p.reply due posts_are (prepared_begins desk x p runs prepared same)
 
     pub prepared_kept : (journal' : List Command) (after : List Slot) (reply : Reply) → journal' ≡ journal ++ p.command ∷ [] → SendsAll due slots after → reply ≡ p.reply
-        → IsKept lines (desk_of c journal' last_key stopped after order) after order room × IsApplied desk x reply (desk_of c journal' last_key stopped after order)
+        → IsKeptDesk lines (desk_of c journal' last_key stopped after order) after order room × IsApplied desk x reply (desk_of c journal' last_key stopped after order)
     prepared_kept journal' after reply more through is =
-        subst (λ (y : List Command × Reply). IsKept lines (desk_of c y.0 last_key stopped after order) after order room × IsApplied desk x y.1 (desk_of c y.0 last_key stopped after order))
+        subst (λ (y : List Command × Reply). IsKeptDesk lines (desk_of c y.0 last_key stopped after order) after order room × IsApplied desk x y.1 (desk_of c y.0 last_key stopped after order))
         (λ i. (sym (more ∙ ap (λ q. journal ++ q ∷ []) same) i, sym is i))
         (applied_kept x p.reply due posts_are (prepared_begins desk x p runs prepared same) after through)
 

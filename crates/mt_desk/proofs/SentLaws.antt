@@ -17,7 +17,7 @@ use Rattle.mt_floor.specs.declared.watch.Phase.{Phase}
 use Rattle.mt_floor.specs.declared.watch.Phase.TheVariants.{Open as IsOpen, Lagged, Ended}
 use Rattle.mt_floor.specs.declared.event.Event.TheVariants.{Apply}
 use Rattle.mt_floor.specs.declared.event.Answer.TheVariants.{Replied}
-use Rattle.mt_floor.specs.Watcher.{Watcher, Due, key_of, is_open, follows, due_for, due_pairs}
+use Rattle.mt_floor.specs.Watcher.{Watcher, Due, watcher_key, is_open, follows, due_for, due_pairs}
 use Rattle.mt_floor.specs.Schedule.{FloorView, floor_step}
 use Rattle.mt_floor.specs.WellFormed.{IsFloor, IsFollower}
 use Rattle.mt_floor.proofs.RowLaws.{put_same, put_other}
@@ -26,7 +26,7 @@ use Rattle.mt_floor.proofs.FollowedLaws.{is_run}
 use Rattle.mt_floor.proofs.RunningLaws.{joined}
 use Rattle.mt_desk.specs.Desk.{DeskRow, DeskView, IsDeskRow, IsDesk, row_key, late_watcher, floor_of_desk}
 use Rattle.mt_desk.specs.Calls.{IsSentIn, IsApplied, IsSend, IsDone, due_to}
-use Rattle.mt_desk.specs.Sent.{with_post, lagging, IsSentOne, IsSentOneIn, has_open_row, still_due, IsSentSoFarIn, RowSoFar, sending_floor, IsSending}
+use Rattle.mt_desk.specs.Sent.{with_sent_post, lagging, IsSentOne, IsSentOneIn, has_open_row, still_due, IsSentSoFarIn, RowSoFar, sending_floor, IsSendingPosts}
 use Rattle.mt_desk.proofs.RowsLaws.{watcher_there, put_watchers, each_at, each_put}
 use Rattle.mt_desk.proofs.PutLaws.{put_back}
 use Rattle.mt_desk.proofs.RunLaws.{run_cons, floor_stays, history_then}
@@ -66,15 +66,15 @@ first_is_due c ps rows rising = filter_same (λ (d : Due). has_open_row rows d.k
         let passed = in_filter (follows p) w (map (late_watcher c) rows) of_watcher.1 in
         let of_row = in_map (late_watcher c) w rows passed.0 in
         let r = of_row.0 in
-        let key_is : e.key ≡ r.key = ap (λ (d : Due). d.key) (sym of_watcher.2) ∙ ap key_of (sym of_row.2) in
+        let key_is : e.key ≡ r.key = ap (λ (d : Due). d.key) (sym of_watcher.2) ∙ ap watcher_key (sym of_row.2) in
         let is : is_open r.phase ≡ true = ap (λ (v : Watcher). is_open v.phase) of_row.2 ∙ and_first (is_open w.phase) _ passed.1 in
         ap (has_open_row rows) key_is ∙ ap open_in (in_row row_key rows r rising of_row.1) ∙ is
 
 -- a post leaves the rows open that are open
-open_posted : (rows : List DeskRow) (key : ℕ) (p : PostView) (q : DeskRow) → row_at row_key key rows ≡ Some q → (k : ℕ) → has_open_row rows k ≡ has_open_row (put row_key (with_post p q) rows) k
-open_posted rows key p q at k = by (eqb k q.key) refl ∙ sym (ap open_in (row_at-put row_key k (with_post p q) rows))
+open_posted : (rows : List DeskRow) (key : ℕ) (p : PostView) (q : DeskRow) → row_at row_key key rows ≡ Some q → (k : ℕ) → has_open_row rows k ≡ has_open_row (put row_key (with_sent_post p q) rows) k
+open_posted rows key p q at k = by (eqb k q.key) refl ∙ sym (ap open_in (row_at-put row_key k (with_sent_post p q) rows))
   where
-    by : (b : Bool) → eqb k q.key ≡ b → has_open_row rows k ≡ open_in (cond b (Some (with_post p q)) (row_at row_key k rows))
+    by : (b : Bool) → eqb k q.key ≡ b → has_open_row rows k ≡ open_in (cond b (Some (with_sent_post p q)) (row_at row_key k rows))
     by true e = ap (has_open_row rows) (eqb-true k q.key e ∙ row_at-key row_key key rows q at) ∙ ap open_in at
     by false e = refl
 
@@ -109,11 +109,11 @@ one_row o x y a b = let two : ◌≡◌ {A = Option DeskRow} (Some x) (Some y) =
 is_not : IsOpen ≡ Lagged → ⊥
 is_not e = cc
 
-row_posted : (f : Phase) (c : ℕ) (all rest : List PostView) (p : PostView) (r q : DeskRow) → r.phase ≡ f → q.phase ≡ IsOpen → IsSentSoFarIn f c all (p ∷ rest) r q → IsSentSoFarIn f c all rest r (with_post p q)
+row_posted : (f : Phase) (c : ℕ) (all rest : List PostView) (p : PostView) (r q : DeskRow) → r.phase ≡ f → q.phase ≡ IsOpen → IsSentSoFarIn f c all (p ∷ rest) r q → IsSentSoFarIn f c all rest r (with_sent_post p q)
 row_posted IsOpen c all rest p r q mine is (inl way) = inl (record {
   front = way.front ++ p ∷ [];
   split = way.split ∙ sym (append_assoc way.front (p ∷ []) rest);
-  row = ap (with_post p) way.row ∙ ap (λ (l : List PostView). record r { sent = l }) (append_assoc r.sent way.front (p ∷ []));
+  row = ap (with_sent_post p) way.row ∙ ap (λ (l : List PostView). record r { sent = l }) (append_assoc r.sent way.front (p ∷ []));
 })
 row_posted IsOpen c all rest p r q mine is (inr lags) = absurd (is_not (sym is ∙ ap (λ (x : DeskRow). x.phase) lags.row))
 row_posted Lagged c all rest p r q mine is same = absurd (is_not (sym is ∙ ap (λ (x : DeskRow). x.phase) same ∙ mine))
@@ -143,7 +143,7 @@ row_skipped Ended c all left r q mine shut same rest = same
 
 module _ (d : DeskView) (c : Command) (reply : Reply) (h : IsDesk d) where
   -- a command was accepted, and nothing was sent
-  pub sent_first : floor_step (floor_of_desk d) (Apply c) ≡ (sending_floor d c d.rows (first_due d c), Ok (Replied reply)) → IsSending d c reply d.rows (first_due d c)
+  pub sent_first : floor_step (floor_of_desk d) (Apply c) ≡ (sending_floor d c d.rows (first_due d c), Ok (Replied reply)) → IsSendingPosts d c reply d.rows (first_due d c)
   sent_first step = record {
     sends = [];
     told = [];
@@ -167,11 +167,11 @@ module _ (d : DeskView) (c : Command) (reply : Reply) (h : IsDesk d) where
       begun Ended r left all is = refl
 
   -- the floor stays one while posts are sent
-  pub sent_is_floor : (rows : List DeskRow) (left : List Due) → IsSending d c reply rows left → IsFloor (sending_floor d c rows (still_due rows left))
+  pub sent_is_floor : (rows : List DeskRow) (left : List Due) → IsSendingPosts d c reply rows left → IsFloor (sending_floor d c rows (still_due rows left))
   sent_is_floor rows left k = floor_stays (floor_of_desk d) (sending_floor d c rows (still_due rows left)) (Apply c ∷ k.sends) (Ok (Replied reply) ∷ k.told) h.floor k.schedule
 
   -- what is left for an open row are the next posts that its watcher follows
-  pub left_is_run : (rows : List DeskRow) (left : List Due) → IsSending d c reply rows left
+  pub left_is_run : (rows : List DeskRow) (left : List Due) → IsSendingPosts d c reply rows left
       → (key : ℕ) (q : DeskRow) → row_at row_key key rows ≡ Some q → q.phase ≡ IsOpen → IsRun q.opening (q.sent ++ due_for key left)
   left_is_run rows left k key q at is =
       let s : FloorView = sending_floor d c rows (still_due rows left) in
@@ -184,7 +184,7 @@ module _ (d : DeskView) (c : Command) (reply : Reply) (h : IsDesk d) where
       (is_run q.scope (take q.since journal) (drop q.since journal) (q.sent ++ due_for key left) [] (f.posted ∙ ap (λ l. q.sent ++ l) next ∙ sym (append-nil (q.sent ++ due_for key left))))
 
   -- what is sent next
-  module _ (rows : List DeskRow) (e : Due) (left : List Due) (q : DeskRow) (k : IsSending d c reply rows (e ∷ left)) (at : row_at row_key e.key rows ≡ Some q) where
+  module _ (rows : List DeskRow) (e : Due) (left : List Due) (q : DeskRow) (k : IsSendingPosts d c reply rows (e ∷ left)) (at : row_at row_key e.key rows ≡ Some q) where
     abbrev before : FloorView
     before = sending_floor d c rows (still_due rows (e ∷ left))
 
@@ -193,7 +193,7 @@ module _ (d : DeskView) (c : Command) (reply : Reply) (h : IsDesk d) where
 
     -- more was sent
     go_on : (rows' : List DeskRow) → Sends before (sending_floor d c rows' (still_due rows' left)) → AllByRecursion (IsDeskRow d.capacity) rows' → rises row_key rows' ≡ true
-        → ((key : ℕ) (r : DeskRow) → row_at row_key key d.rows ≡ Some r → RowSoFar d.capacity (posts_of d.journal c) key r rows' left) → IsSending d c reply rows' left
+        → ((key : ℕ) (r : DeskRow) → row_at row_key key d.rows ≡ Some r → RowSoFar d.capacity (posts_of d.journal c) key r rows' left) → IsSendingPosts d c reply rows' left
     go_on rows' more kept rising so_far = record {
       sends = k.sends ++ more.events;
       told = k.told ++ more.told;
@@ -240,13 +240,13 @@ module _ (d : DeskView) (c : Command) (reply : Reply) (h : IsDesk d) where
       due_now : still_due rows (e ∷ left) ≡ e ∷ still_due rows left
       due_now = ap (λ b. cond b (e ∷ still_due rows left) (still_due rows left)) (ap open_in at ∙ ap is_open is)
 
-      there : row_at key_of e.key (map (late_watcher d.capacity) rows) ≡ Some (late_watcher d.capacity q)
+      there : row_at watcher_key e.key (map (late_watcher d.capacity) rows) ≡ Some (late_watcher d.capacity q)
       there = watcher_there d.capacity e.key rows q at
 
       -- a push was done
-      pub sent_more : IsSending d c reply (put row_key (with_post e.post q) rows) left
+      pub sent_more : IsSendingPosts d c reply (put row_key (with_sent_post e.post q) rows) left
       sent_more =
-          let q' = with_post e.post q in
+          let q' = with_sent_post e.post q in
           let sends = sent_step before d.capacity e (still_due rows left) q due_now refl there h.room (each_at (IsDeskRow d.capacity) e.key rows q k.kept at).met in
           let same = filter_agree (λ (x : Due). has_open_row rows x.key) (λ (x : Due). has_open_row (put row_key q' rows) x.key) (λ x. open_posted rows e.key e.post q at x.key) left in
           let now : sent_floor before (still_due rows left) (late_watcher d.capacity q') ≡ sending_floor d c (put row_key q' rows) (still_due (put row_key q' rows) left) =
@@ -255,7 +255,7 @@ module _ (d : DeskView) (c : Command) (reply : Reply) (h : IsDesk d) where
           (rises-put row_key q' rows k.rising) (so_far_put q' refl (λ f all r mine sent. row_posted f d.capacity all (due_for e.key left) e.post r q mine is sent))
 
       -- a push found the queue full
-      pub sent_lag : q.met + d.capacity ≤ length q.sent → IsSending d c reply (put row_key (lagging q) rows) left
+      pub sent_lag : q.met + d.capacity ≤ length q.sent → IsSendingPosts d c reply (put row_key (lagging q) rows) left
       sent_lag full =
           let q' = lagging q in
           let sends = full_sends before d.capacity e (still_due rows left) q due_now refl there full in
@@ -265,7 +265,7 @@ module _ (d : DeskView) (c : Command) (reply : Reply) (h : IsDesk d) where
           (rises-put row_key q' rows k.rising) (so_far_put q' refl (λ f all r mine sent. row_lagged f d.capacity all (due_for e.key left) e.post r q mine is full sent (due_for e.key left)))
 
     -- nothing is sent to a row that is not open
-    pub sent_skip : is_open q.phase ≡ false → IsSending d c reply rows left
+    pub sent_skip : is_open q.phase ≡ false → IsSendingPosts d c reply rows left
     sent_skip shut =
         let same : still_due rows (e ∷ left) ≡ still_due rows left = ap (λ b. cond b (e ∷ still_due rows left) (still_due rows left)) (ap open_in at ∙ shut) in
         let back : put row_key q rows ≡ rows = put_back row_key e.key q rows k.rising at in
@@ -275,20 +275,20 @@ module _ (d : DeskView) (c : Command) (reply : Reply) (h : IsDesk d) where
         (so_far_put q refl (λ f all r mine sent. row_skipped f d.capacity all (e.post ∷ due_for e.key left) r q mine shut sent (due_for e.key left)) key r was))
 
     -- whatever it was
-    pub sent_row : (q' : DeskRow) → IsSentOne d.capacity e.post q q' → IsSending d c reply (put row_key q' rows) left
+    pub sent_row : (q' : DeskRow) → IsSentOne d.capacity e.post q q' → IsSendingPosts d c reply (put row_key q' rows) left
     sent_row q' was = by q.phase refl was
       where
-        same_row : q' ≡ q → is_open q.phase ≡ false → IsSending d c reply (put row_key q' rows) left
-        same_row same shut = subst (λ l. IsSending d c reply l left) (sym (ap (λ x. put row_key x rows) same ∙ put_back row_key e.key q rows k.rising at)) (sent_skip shut)
+        same_row : q' ≡ q → is_open q.phase ≡ false → IsSendingPosts d c reply (put row_key q' rows) left
+        same_row same shut = subst (λ l. IsSendingPosts d c reply l left) (sym (ap (λ x. put row_key x rows) same ∙ put_back row_key e.key q rows k.rising at)) (sent_skip shut)
 
-        by : (f : Phase) → q.phase ≡ f → IsSentOneIn f d.capacity e.post q q' → IsSending d c reply (put row_key q' rows) left
-        by IsOpen is (inl same) = subst (λ x. IsSending d c reply (put row_key x rows) left) (sym same) (sent_more is)
-        by IsOpen is (inr lags) = subst (λ x. IsSending d c reply (put row_key x rows) left) (sym lags.1) (sent_lag is lags.0)
+        by : (f : Phase) → q.phase ≡ f → IsSentOneIn f d.capacity e.post q q' → IsSendingPosts d c reply (put row_key q' rows) left
+        by IsOpen is (inl same) = subst (λ x. IsSendingPosts d c reply (put row_key x rows) left) (sym same) (sent_more is)
+        by IsOpen is (inr lags) = subst (λ x. IsSendingPosts d c reply (put row_key x rows) left) (sym lags.1) (sent_lag is lags.0)
         by Lagged is same = same_row same (ap is_open is)
         by Ended is same = same_row same (ap is_open is)
 
   -- all was sent
-  module _ (rows : List DeskRow) (k : IsSending d c reply rows []) where
+  module _ (rows : List DeskRow) (k : IsSendingPosts d c reply rows []) where
     abbrev pub sent_desk : DeskView
     sent_desk = record d { journal = d.journal ++ c ∷ []; rows = rows }
 

@@ -94,8 +94,8 @@ IsSentIn IsOpen capacity due r now = (now ≡ record r { sent = r.sent ++ due })
 IsSentIn Lagged capacity due r now = now ≡ r
 IsSentIn Ended capacity due r now = now ≡ r
 
-abbrev pub IsSent : ℕ → List PostView → DeskRow → DeskRow → Type 0
-IsSent capacity posts r now = IsSentIn r.phase capacity (due_to r.scope posts) r now
+abbrev pub IsSentDue : ℕ → List PostView → DeskRow → DeskRow → Type 0
+IsSentDue capacity posts r now = IsSentIn r.phase capacity (due_to r.scope posts) r now
 
 -- what a desk does between a command and its answer: it sends posts that are due, and watchers take
 abbrev pub IsSend : Event → Type 0
@@ -104,13 +104,13 @@ IsSend (Take k) = Unit {0}
 IsSend e = ⊥
 
 -- such an event was done: a post was sent or found a queue full, or one was taken
-abbrev pub IsPost : Option PostView → Type 0
-IsPost None = ⊥
-IsPost (Some p) = Unit {0}
+abbrev pub IsPostTaken : Option PostView → Type 0
+IsPostTaken None = ⊥
+IsPostTaken (Some p) = Unit {0}
 
 abbrev pub IsDone : Result Answer Fault → Type 0
 IsDone (Ok (Posted key lagged)) = Unit {0}
-IsDone (Ok (Took post)) = IsPost post
+IsDone (Ok (Took post)) = IsPostTaken post
 IsDone a = ⊥
 
 -- A command is accepted, and its posts are sent before it is answered. On the floor this is the command, and then posts are sent, with takes as late as they
@@ -122,4 +122,4 @@ pub record IsApplied (d : DeskView) (c : Command) (reply : Reply) (now : DeskVie
   pub done : AllByRecursion IsDone told
   pub schedule : run (floor_of_desk d) (Apply c ∷ sends) ≡ (floor_of_desk now, Ok (Replied reply) ∷ told)
   -- each row by itself
-  pub rows : (key : ℕ) (r : DeskRow) → row_at row_key key d.rows ≡ Some r → (r' : DeskRow) × (row_at row_key key now.rows ≡ Some r') × IsSent d.capacity (posts_of d.journal c) r r'
+  pub rows : (key : ℕ) (r : DeskRow) → row_at row_key key d.rows ≡ Some r → (r' : DeskRow) × (row_at row_key key now.rows ≡ Some r') × IsSentDue d.capacity (posts_of d.journal c) r r'

@@ -81,12 +81,12 @@ pub record IsDesk (d : DeskView) : Type 0 where
   pub history : HasHistory d
 
 -- the row of a watcher that begins
-abbrev pub new_row : DeskView → Scope → DeskRow
-new_row d scope = record { key = d.next_key; scope = scope; since = length d.journal; opening = opening_of d.journal scope; sent = []; met = 0; met_in_time = 0; phase = IsOpen }
+abbrev pub new_desk_row : DeskView → Scope → DeskRow
+new_desk_row d scope = record { key = d.next_key; scope = scope; since = length d.journal; opening = opening_of d.journal scope; sent = []; met = 0; met_in_time = 0; phase = IsOpen }
 
 -- a desk with a watcher more
 abbrev pub with_watcher : DeskView → Scope → DeskView
-with_watcher d scope = record d { next_key = d.next_key + 1; rows = d.rows ++ new_row d scope ∷ [] }
+with_watcher d scope = record d { next_key = d.next_key + 1; rows = d.rows ++ new_desk_row d scope ∷ [] }
 
 -- a row after a stop: one that was open has ended
 abbrev pub desk_row_after_stop : DeskRow → DeskRow

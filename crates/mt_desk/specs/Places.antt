@@ -11,7 +11,7 @@ use Rattle.mt_book.specs.declared.command.Command.{Command}
 use Rattle.mt_queue.specs.Halves.{LineId, ReceiverView, no_line}
 use Rattle.mt_floor.specs.declared.watch.Meeting.{Meeting}
 use Rattle.mt_desk.specs.Desk.{DeskRow, DeskView, IsDesk}
-use Rattle.mt_desk.specs.Rows.{PlacedRowView, begun, IsBegun, MeetsRow, ClosesRow, ended_row}
+use Rattle.mt_desk.specs.Rows.{PlacedRowView, begun_row, IsBegunRow, MeetsRow, ClosesRow, ended_row}
 use Rattle.mt_desk.specs.declared.row.Slot.{Slot}
 use Rattle.mt_desk.specs.declared.row.Slot.TheVariants.{Parked, Used, Away}
 
@@ -40,7 +40,7 @@ IsParked Away = ⊥
 
 -- what stands for the row of a place that has none
 abbrev pub no_row : DeskRow
-no_row = begun 0 All 0 (record { scope = All; parts = [] })
+no_row = begun_row 0 All 0 (record { scope = All; parts = [] })
 
 -- the row at a place
 abbrev pub slot_row : Slot → DeskRow
@@ -52,13 +52,13 @@ abbrev pub row_in : List Slot → ℕ → DeskRow
 row_in slots place = option_map_or slot_row (slice_get slots place) no_row
 
 -- the rows at these places
-abbrev pub rows_of : List Slot → List ℕ → List DeskRow
-rows_of slots order = map (row_in slots) order
+abbrev pub rows_at_places : List Slot → List ℕ → List DeskRow
+rows_at_places slots order = map (row_in slots) order
 
 -- a desk, as its fields tell it
 abbrev pub desk_of : ℕ → List Command → ℕ → Bool → List Slot → List ℕ → DeskView
 desk_of capacity journal last_key stopped slots order =
-    record { capacity = capacity; journal = journal; next_key = last_key + 1; stopped = stopped; rows = rows_of slots order }
+    record { capacity = capacity; journal = journal; next_key = last_key + 1; stopped = stopped; rows = rows_at_places slots order }
 
 -- how many places are in use
 abbrev pub use_of : Slot → ℕ
@@ -99,7 +99,7 @@ pub record ArePlaces (lines : List LineId) (capacity : ℕ) (slots : List Slot) 
   pub count : length order ≡ uses slots
 
 -- what is always true of a desk
-pub record IsKept (lines : List LineId) (d : DeskView) (slots : List Slot) (order : List ℕ) (room : ℕ) : Type 0 where
+pub record IsKeptDesk (lines : List LineId) (d : DeskView) (slots : List Slot) (order : List ℕ) (room : ℕ) : Type 0 where
   pub places : ArePlaces lines d.capacity slots order
   pub room_is : line_count ≤ room
   pub desk : IsDesk d
@@ -138,7 +138,7 @@ pub record IsParkedAt (slots : List Slot) (place : ℕ) (room : ℕ) : Type 0 wh
 
 -- a parked line gets a row
 abbrev pub OpensSlot : ℕ → Scope → ℕ → Opening → Slot → Slot → ReceiverView → Type 0
-OpensSlot key scope since o (Parked l) (Used now) half = IsBegun key scope since o l now half
+OpensSlot key scope since o (Parked l) (Used now) half = IsBegunRow key scope since o l now half
 OpensSlot key scope since o s s' half = ⊥
 
 pub record OpensAt (key : ℕ) (scope : Scope) (since : ℕ) (o : Opening) (slots : List Slot) (place : ℕ) (slots' : List Slot) (half : ReceiverView) : Type 0 where

@@ -35,12 +35,12 @@ pub record HasSender (key : ℕ) (s : SenderView) (left : List Item) (room : ℕ
   pub room_is : s.capacity ≤ room
 
 -- the row of a watcher that begins
-abbrev pub begun : ℕ → Scope → ℕ → Opening → DeskRow
-begun key scope since o = record { key = key; scope = scope; since = since; opening = o; sent = []; met = 0; met_in_time = 0; phase = IsOpen }
+abbrev pub begun_row : ℕ → Scope → ℕ → Opening → DeskRow
+begun_row key scope since o = record { key = key; scope = scope; since = since; opening = o; sent = []; met = 0; met_in_time = 0; phase = IsOpen }
 
 -- a line that was not in use gets the row of a watcher that begins, and the watcher's half
-pub record IsBegun (key : ℕ) (scope : Scope) (since : ℕ) (o : Opening) (l : LineView) (now : PlacedRowView) (half : ReceiverView) : Type 0 where
-  pub row : now ≡ record { row = begun key scope since o; line = l.line; capacity = l.capacity }
+pub record IsBegunRow (key : ℕ) (scope : Scope) (since : ℕ) (o : Opening) (l : LineView) (now : PlacedRowView) (half : ReceiverView) : Type 0 where
+  pub row : now ≡ record { row = begun_row key scope since o; line = l.line; capacity = l.capacity }
   pub half_is : half ≡ record { line = l.line; opening = o; tag = key; taken = []; told = 0 }
 
 -- a row meets the half of its watcher
@@ -59,8 +59,8 @@ pub record ClosesRow (r : PlacedRowView) (half : ReceiverView) (l : LineView) (p
   pub line : l ≡ record { line = r.line; capacity = r.capacity }
 
 -- a post is due to a row
-abbrev pub row_follows : PostView → DeskRow → Bool
-row_follows p r = is_open r.phase && names_space r.scope p.space
+abbrev pub desk_row_follows : PostView → DeskRow → Bool
+desk_row_follows p r = is_open r.phase && names_space r.scope p.space
 
 -- an open row may be sent a post: that keeps the order of its watcher's posts
 abbrev pub MayBeSent : DeskRow → List PostView → Type 0

@@ -5,7 +5,7 @@ use Rattle.std.specs.List.{AllByRecursion}
 use Rattle.std.specs.Option.{option_map_or}
 use Rattle.mt_events.specs.Posts.{PostView}
 use Rattle.mt_floor.specs.Watcher.{is_open}
-use Rattle.mt_desk.specs.Rows.{SendsRow, MayBeSent, row_follows}
+use Rattle.mt_desk.specs.Rows.{SendsRow, MayBeSent, desk_row_follows}
 use Rattle.mt_desk.specs.declared.row.Slot.{Slot}
 use Rattle.mt_desk.specs.declared.row.Slot.TheVariants.{Parked, Used, Away}
 
@@ -17,7 +17,7 @@ pub record PlaceDue : Type 0 where
 -- a post is due to the row at a place
 abbrev pub slot_follows : PostView → Slot → Bool
 slot_follows p (Parked l) = false
-slot_follows p (Used r) = row_follows p r.row
+slot_follows p (Used r) = desk_row_follows p r.row
 slot_follows p Away = false
 
 -- the row at a place is open, so that somebody asks for posts

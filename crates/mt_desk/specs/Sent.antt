@@ -21,8 +21,8 @@ use Rattle.mt_desk.specs.Desk.{DeskRow, DeskView, IsDeskRow, row_key, floor_of_d
 use Rattle.mt_desk.specs.Calls.{BeginsToLag, due_to, IsSend, IsDone}
 
 -- a row with a post more
-abbrev pub with_post : PostView → DeskRow → DeskRow
-with_post p r = record r { sent = r.sent ++ p ∷ [] }
+abbrev pub with_sent_post : PostView → DeskRow → DeskRow
+with_sent_post p r = record r { sent = r.sent ++ p ∷ [] }
 
 -- a row that lags
 abbrev pub lagging : DeskRow → DeskRow
@@ -30,7 +30,7 @@ lagging r = record r { phase = Lagged }
 
 -- an open row is sent a post, or lags where its queue is full; no other row is sent anything
 abbrev pub IsSentOneIn : Phase → ℕ → PostView → DeskRow → DeskRow → Type 0
-IsSentOneIn IsOpen capacity p r now = (now ≡ with_post p r) ⊎ ((r.met + capacity ≤ length r.sent) × (now ≡ lagging r))
+IsSentOneIn IsOpen capacity p r now = (now ≡ with_sent_post p r) ⊎ ((r.met + capacity ≤ length r.sent) × (now ≡ lagging r))
 IsSentOneIn Lagged capacity p r now = now ≡ r
 IsSentOneIn Ended capacity p r now = now ≡ r
 
@@ -68,7 +68,7 @@ abbrev pub sending_floor : DeskView → Command → List DeskRow → List Due �
 sending_floor d c rows due = record (floor_of_desk (record d { journal = d.journal ++ c ∷ []; rows = rows })) { due = due }
 
 -- A desk has accepted a command, and these are its rows: of what was due at first this is left, where what is left for a row that lags is not sent.
-pub record IsSending (d : DeskView) (c : Command) (reply : Reply) (rows : List DeskRow) (left : List Due) : Type 0 where
+pub record IsSendingPosts (d : DeskView) (c : Command) (reply : Reply) (rows : List DeskRow) (left : List Due) : Type 0 where
   pub sends : List Event
   pub told : List (Result Answer Fault)
   pub each : AllByRecursion IsSend sends

@@ -40,13 +40,13 @@ pub struct Desk<J: Naming> {
 impl<J: Naming> Model for Desk<J> {
     ghost use Rattle.std.specs.Prelude.{vec_capacity};
     ghost use Rattle.mt_desk.specs.Desk.{DeskView};
-    ghost use Rattle.mt_desk.specs.Places.{desk_of, IsKept};
+    ghost use Rattle.mt_desk.specs.Places.{desk_of, IsKeptDesk};
 
     ghost Value = { DeskView };
 
     ghost view = { λ d. desk_of d.capacity d.book.journal d.last_key d.stopped d.slots.items d.order.items };
 
-    ghost invariant = { λ d. IsKept J.lines (desk_of d.capacity d.book.journal d.last_key d.stopped d.slots.items d.order.items) d.slots.items d.order.items (vec_capacity d.order) };
+    ghost invariant = { λ d. IsKeptDesk J.lines (desk_of d.capacity d.book.journal d.last_key d.stopped d.slots.items d.order.items) d.slots.items d.order.items (vec_capacity d.order) };
 }
 
 impl<J: Naming> Desk<J> {

@@ -5,7 +5,7 @@ ghost use Rattle.std.specs.Arc.{arc_value};
 ghost use Rattle.mt_events.specs.Posts.{PostView};
 ghost use Rattle.mt_queue.specs.PassViews.{Item};
 ghost use Rattle.mt_desk.specs.Calls.{in_time_after};
-ghost use Rattle.mt_desk.specs.Rows.{IsBegun, MeetsRow, ClosesRow, SendsRow, MayBeSent, row_follows, ended_row};
+ghost use Rattle.mt_desk.specs.Rows.{IsBegunRow, MeetsRow, ClosesRow, SendsRow, MayBeSent, desk_row_follows, ended_row};
 ghost use Rattle.mt_desk.specs.Places.{line_of, capacity_of, IsHere, IsParked, OpensSlot, MeetsSlot, ClosesSlot, ended_slot};
 ghost use Rattle.mt_desk.specs.Sending.{slot_follows, slot_hears, MaySend, SendsSlot};
 
@@ -106,7 +106,7 @@ impl PlacedRow {
     ) -> (PlacedRow, Receiver)
         requires empty { left.items ≡ [] }
         requires room { line.capacity ≤ vec_capacity left }
-        ensures { IsBegun key scope since opening line result.0 result.1 }
+        ensures { IsBegunRow key scope since opening line result.0 result.1 }
     {
         let (sender, half) = open_line::<Brand>(line, opening, key);
         let row = PlacedRow {
@@ -146,7 +146,7 @@ impl PlacedRow {
 
     /// Whether a post is due to it.
     fn follows(&self, post: &Post) -> bool
-        ensures { result ≡ row_follows post.now self.now.row }
+        ensures { result ≡ desk_row_follows post.now self.now.row }
     {
         self.phase.follows(self.scope, post)
     }

@@ -5,7 +5,7 @@ use Rattle.std.specs.List.{list_any, fold}
 use Rattle.std.specs.Coded.{Coded, code_by, coded×, coded_ℕ, coded_list}
 use Rattle.mt_info.specs.declared.row.Row.{Row}
 use Rattle.mt_events.specs.Posts.{PostView}
-use Rattle.mt_events.specs.Difference.{applied, delta_of}
+use Rattle.mt_events.specs.Difference.{with_delta, delta_of}
 
 -- a mirror is of a namespace, and holds the number of its last post and its table
 pub record MirrorView : Type 0 where
@@ -28,7 +28,7 @@ kept_of gone r = cond (list_any (λ i. i == r.id) gone) [] (r ∷ [])
 
 -- a mirror with what a post says
 abbrev pub mirrored : MirrorView → PostView → MirrorView
-mirrored m p = record { space = m.space; number = p.number; rows = applied (delta_of p) m.rows }
+mirrored m p = record { space = m.space; number = p.number; rows = with_delta (delta_of p) m.rows }
 
 -- a mirror with what posts say, one after another
 abbrev pub mirrored_by : MirrorView → List PostView → MirrorView

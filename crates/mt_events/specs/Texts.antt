@@ -3,7 +3,7 @@
 use Rattle.std.specs.Prelude.{ℕ, ◌+◌, List, [], ◌∷◌, ◌++◌, codes, decimal, length, fold}
 use Rattle.std.specs.List.{flat_map}
 use Rattle.mt_info.specs.declared.row.Row.{Row}
-use Rattle.mt_info.specs.RowLine.{row_line}
+use Rattle.mt_info.specs.RowLine.{whole_line}
 use Rattle.mt_events.specs.Posts.{PostView, post_lines, post_text}
 use Rattle.mt_events.specs.declared.opening.Part.{Part}
 use Rattle.mt_events.specs.declared.opening.Opening.{Opening}
@@ -14,11 +14,11 @@ count_text n = codes "ok " ++ decimal n ++ 10 ∷ []
 
 -- `ok`, how many rows the table has, and the namespace's number; then a line for each row
 abbrev pub table_text : ℕ → List Row → List ℕ
-table_text number rows = codes "ok " ++ decimal (length rows) ++ codes " " ++ decimal number ++ 10 ∷ [] ++ flat_map row_line rows
+table_text number rows = codes "ok " ++ decimal (length rows) ++ codes " " ++ decimal number ++ 10 ∷ [] ++ flat_map whole_line rows
 
 -- a namespace that a watcher found: the number of its last post, how many rows its table has, and a line for each row
 abbrev pub part_text : Part → List ℕ
-part_text p = codes "space " ++ decimal p.space ++ codes " " ++ decimal p.number ++ codes " " ++ decimal (length p.table) ++ 10 ∷ [] ++ flat_map row_line p.table
+part_text p = codes "space " ++ decimal p.space ++ codes " " ++ decimal p.number ++ codes " " ++ decimal (length p.table) ++ 10 ∷ [] ++ flat_map whole_line p.table
 
 -- how many lines come for the namespaces that a watcher found, and for posts
 abbrev pub lines_of_parts : List Part → ℕ

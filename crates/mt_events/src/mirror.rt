@@ -5,7 +5,7 @@ ghost use Rattle.std.specs.Option.{option_map_or};
 ghost use Rattle.mt_skel.specs.Keyed.{put};
 ghost use Rattle.mt_info.specs.declared.row.Row.{Row};
 ghost use Rattle.mt_info.specs.Table.{row_id};
-ghost use Rattle.mt_events.specs.Difference.{applied, delta_of};
+ghost use Rattle.mt_events.specs.Difference.{with_delta, delta_of};
 ghost use Rattle.mt_events.specs.Mirrors.{is_next, kept_of, mirrored};
 
 use crate::post::Post;
@@ -101,7 +101,7 @@ fn kept(alloc: Global, rows: &[Row], gone: &[MountId]) -> Result<Vec<Row>, Fault
 
 /// A table with what a post says.
 fn table_after(table: &Table, post: &Post) -> Result<Table, Fault>
-    ensures table { IfOk result (λ after. after ≡ applied (delta_of post.now) table.now) }
+    ensures table { IfOk result (λ after. after ≡ with_delta (delta_of post.now) table.now) }
     ensures memory { IsOkUnless result Fault.NoMemory }
 {
     let old = table.rows();

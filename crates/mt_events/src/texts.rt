@@ -1,7 +1,7 @@
 //! The lines of tables, of what a watcher found, and of posts, as they are answered.
 ghost use Rattle.std.specs.Prelude.{◌≡◌, ◌+◌, ◌++◌, ◌∷◌, [], length, flat_map, codes, decimal, OnOk, OnErr, IfOk, IsOkUnless};
 ghost use Rattle.mt_skel.specs.Front.{IsFront};
-ghost use Rattle.mt_info.specs.RowLine.{row_line};
+ghost use Rattle.mt_info.specs.RowLine.{whole_line};
 ghost use Rattle.mt_events.specs.Posts.{post_lines, post_text};
 ghost use Rattle.mt_events.specs.Texts.{count_text, table_text, part_text, opening_text};
 
@@ -161,7 +161,7 @@ pub fn push_heading(lines: &mut Vec<u8>, count: u64, number: u64) -> Result<(), 
 
 /// Appends the lines of rows.
 fn push_rows(lines: &mut Vec<u8>, rows: &[Row]) -> Result<(), AllocError>
-    ensures { OnOk result (lines.new.items ≡ lines.old.items ++ flat_map row_line rows.now) }
+    ensures { OnOk result (lines.new.items ≡ lines.old.items ++ flat_map whole_line rows.now) }
 {
     for row in rows {
         push_row(lines, row)?;

@@ -25,7 +25,7 @@ use Rattle.mt_floor.specs.declared.event.Event.TheVariants.{Apply, Open}
 use Rattle.mt_floor.specs.declared.event.Answer.TheVariants.{Replied, Opened}
 use Rattle.mt_floor.specs.Watcher.{Watcher, Due, is_open, follows, due_pairs, opening_of, followed_posts}
 use Rattle.mt_floor.specs.Schedule.{Stepped, floor_step, unless, if_idle, replied, applied, opened, opening_refusal}
-use Rattle.mt_floor.specs.Rows.{FloorRowView, new_row, row_follows, due_if, watcher_of, floor_of, IsFloorRow, IsKept}
+use Rattle.mt_floor.specs.Rows.{FloorRowView, new_floor_row, row_follows, due_if, watcher_of, floor_of, IsFloorRow, IsKeptFloor}
 use Rattle.mt_floor.proofs.HeldLaws.{followed_more}
 use Rattle.mt_floor.proofs.FloorLaws.{newcomer}
 use Rattle.mt_floor.proofs.BeginLaws.{opens}
@@ -87,7 +87,7 @@ module _ (c : ℕ) (j : List Command) (x : Command) where
 
 -- ---- Apply
 
-module _ (c : ℕ) (j : List Command) (l : ℕ) (st : Bool) (rows : List FloorRowView) (due : List Due) (h : IsKept c j l st rows due) (idle : due ≡ []) where
+module _ (c : ℕ) (j : List Command) (l : ℕ) (st : Bool) (rows : List FloorRowView) (due : List Due) (h : IsKeptFloor c j l st rows due) (idle : due ≡ []) where
   pub apply_stopped : (x : Command) → st ≡ true → floor_step (floor_of c j l st rows due) (Apply x) ≡ (floor_of c j l st rows due, Err Stopped)
   unfolding floor_step
   apply_stopped x e =
@@ -141,7 +141,7 @@ module _ (c : ℕ) (j : List Command) (l : ℕ) (st : Bool) (rows : List FloorRo
       ∙ ap (λ x. unless x (floor_of c j l st rows due) (opens (floor_of c j l st rows due) scope, Ok (Opened (l + 1) (opening_of j scope)))) (sym is ∙ some)
 
   pub open_done : (scope : Scope) (o : Option Fault) (key : ℕ) (row : FloorRowView) (rows' : List FloorRowView) (found : Opening) → o ≡ opening_refusal (floor_of c j l st rows due) scope → o ≡ None → key ≡ l + 1
-      → row ≡ new_row key scope (length j) c → rows' ≡ rows ++ row ∷ [] → found ≡ opening_of j scope
+      → row ≡ new_floor_row key scope (length j) c → rows' ≡ rows ++ row ∷ [] → found ≡ opening_of j scope
       → (floor_step (floor_of c j l st rows due) (Open scope) ≡ (floor_of c j key st rows' due, Ok (Opened key found))) × AllByRecursion (IsFloorRow c j) rows'
   unfolding floor_step
   open_done scope o key row rows' found is none next new all opening = (
@@ -151,10 +151,10 @@ module _ (c : ℕ) (j : List Command) (l : ℕ) (st : Bool) (rows : List FloorRo
     subst (AllByRecursion (IsFloorRow c j)) (sym all) (each_last (IsFloorRow c j) rows row h.each (subst (IsFloorRow c j) (sym new) first)),
   )
     where
-      first : IsFloorRow c j (new_row key scope (length j) c)
+      first : IsFloorRow c j (new_floor_row key scope (length j) c)
       first = record { since = omega arith; taken = omega arith; room = omega arith }
 
-      begins_so : watcher_of j (new_row key scope (length j) c) ≡ newcomer (floor_of c j l st rows due) scope
+      begins_so : watcher_of j (new_floor_row key scope (length j) c) ≡ newcomer (floor_of c j l st rows due) scope
       begins_so = λ k. record { key = next k; scope = scope; since = length j; opening = opening_of (take-length j k) scope; sent = []; taken = []; phase = IsOpen }
 
       watchers : map (watcher_of j) rows' ≡ map (watcher_of j) rows ++ newcomer (floor_of c j l st rows due) scope ∷ []

@@ -20,7 +20,7 @@ use Rattle.mt_floor.specs.declared.event.Event.{Event}
 use Rattle.mt_floor.specs.declared.event.Event.TheVariants.{Apply, PostNext, Open, Take, Meet, Close, Stop}
 use Rattle.mt_floor.specs.declared.event.Answer.{Answer}
 use Rattle.mt_floor.specs.declared.event.Answer.TheVariants.{Opened, Took, NotNow}
-use Rattle.mt_floor.specs.Watcher.{Watcher, Due, key_of, due_for, opening_of, is_missing}
+use Rattle.mt_floor.specs.Watcher.{Watcher, Due, watcher_key, due_for, opening_of, is_missing}
 use Rattle.mt_floor.specs.Schedule.{FloorView, Stepped, floor_step, unless, if_idle, at_row, changed, sent_to, is_full, posted, applied, replied, nothing_left, took, met, closed, halted, opened, has_open, command_refusal, opening_refusal}
 use Rattle.mt_floor.proofs.AllowedLaws.{opening_allowed}
 use Rattle.mt_floor.proofs.RowLaws.{fresh}
@@ -52,7 +52,7 @@ refused s None done go = go refl
 refused s (Some f) done go = λ key o e. absurd (cc)
 
 of_row : (s : FloorView) (q : ℕ) (f : Watcher → Stepped) → ((r : Watcher) → Begins s (f r)) → Begins s (at_row s q f)
-of_row s q f go = by (row_at key_of q s.watchers)
+of_row s q f go = by (row_at watcher_key q s.watchers)
   where
     by : (x : Option Watcher) → Begins s (option_map_or f x (s, Err NoWatcher))
     by None = λ key o e. absurd (cc)
@@ -64,7 +64,7 @@ no_apply s c (Err f) key o e = absurd (cc)
 
 no_post : (s : FloorView) (ds : List Due) → Begins s (posted s ds)
 no_post s [] key o e = absurd (cc)
-no_post s (d ∷ ds) key o e = absurd (by (row_at key_of d.key s.watchers) e)
+no_post s (d ∷ ds) key o e = absurd (by (row_at watcher_key d.key s.watchers) e)
   where
     sent : (r : Watcher) (b : Bool) → (sent_to s d ds b r).1 ≡ Ok (Opened key o) → ⊥
     sent r true e = cc
@@ -101,8 +101,8 @@ same_answer i j x y e =
 
 begun : (s : FloorView) (sc : Scope) → Kept s → Kept (opens s sc) → s.due ≡ [] → is_missing s.journal sc ≡ false → Begun s s.next_key (opening_of s.journal sc) (opens s sc)
 begun s sc k k' none there =
-    let here : row_at key_of s.next_key (s.watchers ++ newcomer s sc ∷ []) ≡ Some (newcomer s sc) =
-    row-second key_of s.watchers (newcomer s sc ∷ []) s.next_key (newcomer s sc) (fresh key_of s.next_key s.next_key s.watchers (omega arith) k.below) (ap (λ b. cond b (Some (newcomer s sc)) None) (eq-eqb s.next_key s.next_key refl)) in
+    let here : row_at watcher_key s.next_key (s.watchers ++ newcomer s sc ∷ []) ≡ Some (newcomer s sc) =
+    row-second watcher_key s.watchers (newcomer s sc ∷ []) s.next_key (newcomer s sc) (fresh watcher_key s.next_key s.next_key s.watchers (omega arith) k.below) (ap (λ b. cond b (Some (newcomer s sc)) None) (eq-eqb s.next_key s.next_key refl)) in
     let one : (x : Watcher) → ◌≡◌ {A = Option Watcher} (Some (newcomer s sc)) (Some x) → newcomer s sc ≡ x = λ x e. (let q : newcomer s sc ≡ x = cc in q) in record {
       key_is = refl;
       idle = none;
@@ -161,7 +161,7 @@ refused_counts s None done go = go
 refused_counts s (Some f) done go = inl refl
 
 row_counts : (s : FloorView) (q : ℕ) (f : Watcher → Stepped) → ((r : Watcher) → Counts s (f r)) → Counts s (at_row s q f)
-row_counts s q f go = by (row_at key_of q s.watchers)
+row_counts s q f go = by (row_at watcher_key q s.watchers)
   where
     by : (x : Option Watcher) → Counts s (option_map_or f x (s, Err NoWatcher))
     by None = inl refl
@@ -173,7 +173,7 @@ apply_counts s c (Err f) = inl refl
 
 post_counts : (s : FloorView) (ds : List Due) → Counts s (posted s ds)
 post_counts s [] = inl refl
-post_counts s (d ∷ ds) = by (row_at key_of d.key s.watchers)
+post_counts s (d ∷ ds) = by (row_at watcher_key d.key s.watchers)
   where
     sent : (r : Watcher) (b : Bool) → Counts s (sent_to s d ds b r)
     sent r true = inl refl

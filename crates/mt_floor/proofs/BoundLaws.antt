@@ -25,7 +25,7 @@ use Rattle.mt_floor.specs.declared.watch.Phase.TheVariants.{Lagged, Ended}
 use Rattle.mt_floor.specs.declared.event.Event.{Event}
 use Rattle.mt_floor.specs.declared.event.Event.TheVariants.{Apply, PostNext, Open, Take, Meet, Close, Stop}
 use Rattle.mt_floor.specs.declared.event.Answer.TheVariants.{Opened, Took, NotNow}
-use Rattle.mt_floor.specs.Watcher.{Watcher, Due, key_of, is_open, opening_of}
+use Rattle.mt_floor.specs.Watcher.{Watcher, Due, watcher_key, is_open, opening_of}
 use Rattle.mt_floor.specs.Schedule.{FloorView, Stepped, watcher_limit, floor_step, unless, if_idle, at_row, changed, sent_to, is_full, posted, applied, replied, nothing_left, took, met, closed, halted, opened, too_many_watchers, command_refusal, opening_refusal}
 use Rattle.mt_floor.proofs.AllowedLaws.{command_allowed, opening_allowed}
 use Rattle.mt_book.specs.Book.{command_limit}
@@ -50,7 +50,7 @@ module _ {X : Type 0} (key : X → ℕ) where
 room : (a b : ℕ) → nat_le a b ≡ false → b + 1 ≤ a
 room a b e = grind (arith, nat_tests)
 
-module _ (s : FloorView) (h : IsBounded s) (order : rises key_of s.watchers ≡ true) where
+module _ (s : FloorView) (h : IsBounded s) (order : rises watcher_key s.watchers ≡ true) where
   idle : (done : Stepped) → IsBounded done.0 → IsBounded (if_idle s.due s done).0
   idle done go = by s.due
     where
@@ -62,17 +62,17 @@ module _ (s : FloorView) (h : IsBounded s) (order : rises key_of s.watchers ≡ 
   refused None done go = go refl
   refused (Some f) done go = h
 
-  of_row : (q : ℕ) (f : Watcher → Stepped) → ((r : Watcher) → row_at key_of q s.watchers ≡ Some r → IsBounded (f r).0) → IsBounded (at_row s q f).0
-  of_row q f go = by (row_at key_of q s.watchers) refl
+  of_row : (q : ℕ) (f : Watcher → Stepped) → ((r : Watcher) → row_at watcher_key q s.watchers ≡ Some r → IsBounded (f r).0) → IsBounded (at_row s q f).0
+  of_row q f go = by (row_at watcher_key q s.watchers) refl
     where
-      by : (x : Option Watcher) → row_at key_of q s.watchers ≡ x → IsBounded (option_map_or f x (s, Err NoWatcher)).0
+      by : (x : Option Watcher) → row_at watcher_key q s.watchers ≡ x → IsBounded (option_map_or f x (s, Err NoWatcher)).0
       by None e = h
       by (Some r) e = go r e
 
-  put_bounded : (q : ℕ) (r r' : Watcher) (due : List Due) → row_at key_of q s.watchers ≡ Some r → r'.key ≡ r.key → IsBounded (record s { watchers = put key_of r' s.watchers; due = due })
+  put_bounded : (q : ℕ) (r r' : Watcher) (due : List Due) → row_at watcher_key q s.watchers ≡ Some r → r'.key ≡ r.key → IsBounded (record s { watchers = put watcher_key r' s.watchers; due = due })
   put_bounded q r r' due at same =
-      let key : r'.key ≡ q = same ∙ row_at-key key_of q s.watchers r at in
-      let len = length-put key_of r' s.watchers r order (ap (λ k. row_at key_of k s.watchers) key ∙ at) in
+      let key : r'.key ≡ q = same ∙ row_at-key watcher_key q s.watchers r at in
+      let len = length-put watcher_key r' s.watchers r order (ap (λ k. row_at watcher_key k s.watchers) key ∙ at) in
       record { journal = h.journal; watchers = omega (arith, len, h.watchers); keys = h.keys }
 
   apply_bounded : (c : Command) (q : Result (WorldView × Reply) Fault) → length s.journal + 1 ≤ command_limit → IsBounded (replied s c q).0
@@ -81,17 +81,17 @@ module _ (s : FloorView) (h : IsBounded s) (order : rises key_of s.watchers ≡ 
 
   post_bounded : (ds : List Due) → IsBounded (posted s ds).0
   post_bounded [] = h
-  post_bounded (d ∷ ds) = by (row_at key_of d.key s.watchers) refl
+  post_bounded (d ∷ ds) = by (row_at watcher_key d.key s.watchers) refl
     where
-      sent : (r : Watcher) (b : Bool) → row_at key_of d.key s.watchers ≡ Some r → IsBounded (sent_to s d ds b r).0
+      sent : (r : Watcher) (b : Bool) → row_at watcher_key d.key s.watchers ≡ Some r → IsBounded (sent_to s d ds b r).0
       sent r true at = put_bounded d.key r (record r { phase = Lagged }) (filter (λ (e : Due). not (eqb e.key d.key)) ds) at refl
       sent r false at = put_bounded d.key r (record r { sent = r.sent ++ d.post ∷ [] }) ds at refl
 
-      by : (x : Option Watcher) → row_at key_of d.key s.watchers ≡ x → IsBounded (option_map_or {U = Stepped} (λ r. sent_to s d ds (is_full s.capacity r) r) x (s, Ok NotNow)).0
+      by : (x : Option Watcher) → row_at watcher_key d.key s.watchers ≡ x → IsBounded (option_map_or {U = Stepped} (λ r. sent_to s d ds (is_full s.capacity r) r) x (s, Ok NotNow)).0
       by None e = h
       by (Some r) e = sent r (is_full s.capacity r) e
 
-  take_bounded : (q : ℕ) (r : Watcher) → row_at key_of q s.watchers ≡ Some r → IsBounded (took s r).0
+  take_bounded : (q : ℕ) (r : Watcher) → row_at watcher_key q s.watchers ≡ Some r → IsBounded (took s r).0
   take_bounded q r at = by (slice_get r.sent (length r.taken))
     where
       by : (x : Option PostView) → IsBounded (option_map_or {U = Stepped} (λ p. (changed s (record r { taken = r.taken ++ p ∷ [] }), Ok (Took (Some p)))) x (s, nothing_left r.phase)).0
@@ -110,7 +110,7 @@ module _ (s : FloorView) (h : IsBounded s) (order : rises key_of s.watchers ≡ 
       let keys = room (2 ^ 64) s.next_key (or_parts (nat_le watcher_limit (length s.watchers)) (nat_le (2 ^ 64) s.next_key) e).1 in
       record { journal = h.journal; watchers = omega (arith, few, length-append s.watchers (newcomer s sc ∷ [])); keys = keys }
 
-pub bounded : (s : FloorView) (e : Event) → IsBounded s → rises key_of s.watchers ≡ true → IsBounded (floor_step s e).0
+pub bounded : (s : FloorView) (e : Event) → IsBounded s → rises watcher_key s.watchers ≡ true → IsBounded (floor_step s e).0
 unfolding floor_step
 bounded s (Apply c) h order =
     idle s h order (applied s c) (refused s h order (command_refusal s) (replied s c (step (after s.journal) c)) (λ none.

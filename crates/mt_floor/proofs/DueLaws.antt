@@ -7,7 +7,7 @@ use Rattle.mt_skel.proofs.KeyedLaws.{row_at-below, row_at-filter, rises-filter, 
 use Rattle.mt_skel.proofs.MiddleLaws.{and_first, and_second}
 use Rattle.mt_events.specs.Posts.{PostView}
 use Rattle.mt_events.specs.Following.{names_space}
-use Rattle.mt_floor.specs.Watcher.{Watcher, Due, key_of, is_open, follows, due_for, due_pairs}
+use Rattle.mt_floor.specs.Watcher.{Watcher, Due, watcher_key, is_open, follows, due_for, due_pairs}
 use Rattle.mt_floor.proofs.RowLaws.{turned}
 
 due_for-append : (key : ℕ) (xs ys : List Due) → due_for key (xs ++ ys) ≡ due_for key xs ++ due_for key ys
@@ -25,16 +25,16 @@ for_each p rs = map (λ (r : Watcher). record { post = p; key = r.key }) rs
 abbrev one_if : PostView → Option Watcher → List PostView
 one_if p o = option_map_or (λ (r : Watcher). p ∷ []) o []
 
-once : (key : ℕ) (p : PostView) (rs : List Watcher) → rises key_of rs ≡ true → due_for key (for_each p rs) ≡ one_if p (row_at key_of key rs)
+once : (key : ℕ) (p : PostView) (rs : List Watcher) → rises watcher_key rs ≡ true → due_for key (for_each p rs) ≡ one_if p (row_at watcher_key key rs)
 once key p [] h = refl
 once key p (r ∷ rs) h = by (eqb r.key key) refl (once key p rs (and_second _ _ h))
   where
-    by : (b : Bool) → eqb r.key key ≡ b → due_for key (for_each p rs) ≡ one_if p (row_at key_of key rs)
-        → cond b (p ∷ due_for key (for_each p rs)) (due_for key (for_each p rs)) ≡ one_if p (cond (eqb key r.key) (Some r) (row_at key_of key rs))
+    by : (b : Bool) → eqb r.key key ≡ b → due_for key (for_each p rs) ≡ one_if p (row_at watcher_key key rs)
+        → cond b (p ∷ due_for key (for_each p rs)) (due_for key (for_each p rs)) ≡ one_if p (cond (eqb key r.key) (Some r) (row_at watcher_key key rs))
     by true e ih =
-        let none = row_at-below key_of key rs (ap (λ k. list_all (λ y. ltb k (key_of y)) rs) (sym (eqb-true r.key key e)) ∙ and_first _ _ h) in
-        ap (λ l. p ∷ l) (ih ∙ ap (one_if p) none) ∙ sym (ap (λ b. one_if p (cond b (Some r) (row_at key_of key rs))) (eq-eqb key r.key (sym (eqb-true r.key key e))))
-    by false e ih = ih ∙ sym (ap (λ b. one_if p (cond b (Some r) (row_at key_of key rs))) (turned r.key key e))
+        let none = row_at-below watcher_key key rs (ap (λ k. list_all (λ y. ltb k (watcher_key y)) rs) (sym (eqb-true r.key key e)) ∙ and_first _ _ h) in
+        ap (λ l. p ∷ l) (ih ∙ ap (one_if p) none) ∙ sym (ap (λ b. one_if p (cond b (Some r) (row_at watcher_key key rs))) (eq-eqb key r.key (sym (eqb-true r.key key e))))
+    by false e ih = ih ∙ sym (ap (λ b. one_if p (cond b (Some r) (row_at watcher_key key rs))) (turned r.key key e))
 
 -- what of some posts is due to a watcher
 abbrev pub due_row : List PostView → Option Watcher → List PostView
@@ -66,12 +66,12 @@ none_due (Some r) = by (is_open r.phase)
     by false = refl
 
 -- to an open watcher those are due that its scope names, to another none
-pub due_all : (key : ℕ) (ps : List PostView) (rs : List Watcher) → rises key_of rs ≡ true → due_for key (due_pairs ps rs) ≡ due_row ps (row_at key_of key rs)
-due_all key [] rs h = none_due (row_at key_of key rs)
+pub due_all : (key : ℕ) (ps : List PostView) (rs : List Watcher) → rises watcher_key rs ≡ true → due_for key (due_pairs ps rs) ≡ due_row ps (row_at watcher_key key rs)
+due_all key [] rs h = none_due (row_at watcher_key key rs)
 due_all key (p ∷ ps) rs h =
     due_for-append key (for_each p (filter (follows p) rs)) (due_pairs ps rs)
-    ∙ (λ i. (once key p (filter (follows p) rs) (rises-filter key_of (follows p) rs h) ∙ ap (one_if p) (row_at-filter key_of (follows p) key rs h) ∙ passed p (row_at key_of key rs)) i ++ due_all key ps rs h i)
-    ∙ both p ps (row_at key_of key rs)
+    ∙ (λ i. (once key p (filter (follows p) rs) (rises-filter watcher_key (follows p) rs h) ∙ ap (one_if p) (row_at-filter watcher_key (follows p) key rs h) ∙ passed p (row_at watcher_key key rs)) i ++ due_all key ps rs h i)
+    ∙ both p ps (row_at watcher_key key rs)
 
 abbrev pub but : ℕ → List Due → List Due
 but key ds = filter (λ (e : Due). not (eqb e.key key)) ds

@@ -14,7 +14,7 @@ use Rattle.mt_book.specs.declared.command.Command.{Command}
 use Rattle.mt_book.specs.Step.{after}
 use Rattle.mt_book.specs.Book.{spaces_of}
 use Rattle.mt_floor.specs.Watcher.{opening_of, part_of}
-use Rattle.mt_floor.specs.Finding.{part_if, made}
+use Rattle.mt_floor.specs.Finding.{part_if, opening_of_parts}
 
 parts_found : (cs : List Command) (scope : Scope) (ns : List ℕ)
     → flat_map (part_if cs scope) (filter (is_space (after cs)) ns) ≡ map (part_of cs) (filter (λ n. is_space (after cs) n && names_space scope n) ns)
@@ -30,10 +30,10 @@ parts_found cs scope (n ∷ ns) = by (is_space (after cs) n) refl (names_space s
     by true there false named ih = (λ i. cond (there i && named i) (part_of cs n ∷ []) [] ++ ih i)
 
 pub opening_found : (cs : List Command) (scope : Scope) (o : Opening) (ns : List ℕ) (ps : List Part) → ns ≡ spaces_of (after cs) → ps ≡ flat_map (part_if cs scope) ns
-    → o ≡ made scope ps → o ≡ opening_of cs scope
+    → o ≡ opening_of_parts scope ps → o ≡ opening_of cs scope
 unfolding opening_of
 opening_found cs scope o ns ps spaces parts is =
-    is ∙ ap (made scope) (parts ∙ ap (flat_map (part_if cs scope)) spaces ∙ parts_found cs scope (range_with_len 1 ((after cs).next_space - 1)))
+    is ∙ ap (opening_of_parts scope) (parts ∙ ap (flat_map (part_if cs scope)) spaces ∙ parts_found cs scope (range_with_len 1 ((after cs).next_space - 1)))
 
 -- the numbers from one on rise, and so do the namespaces that a watcher finds
 rising_range : (a n : ℕ) → rises itself (range_with_len a n) ≡ true

@@ -19,7 +19,7 @@ use Rattle.mt_floor.specs.declared.watch.Phase.TheVariants.{Open as IsOpen, Lagg
 use Rattle.mt_floor.specs.declared.event.Event.{Event}
 use Rattle.mt_floor.specs.declared.event.Event.TheVariants.{Apply, PostNext, Open, Take, Meet, Close, Stop}
 use Rattle.mt_floor.specs.declared.event.Answer.TheVariants.{Opened, Took}
-use Rattle.mt_floor.specs.Watcher.{Watcher, key_of, is_open, due_for, opening_of}
+use Rattle.mt_floor.specs.Watcher.{Watcher, watcher_key, is_open, due_for, opening_of}
 use Rattle.mt_floor.specs.Schedule.{FloorView, floor_step, at_row, changed, replied, nothing_left, took, met, closed, halted, opened, has_open, applied, command_refusal, opening_refusal}
 use Rattle.mt_floor.proofs.RowLaws.{put_same, put_other, other_last, all_filter, all_higher, all_last, rises-last}
 use Rattle.mt_floor.proofs.HeldLaws.{Kept, IsRowFor, Held, Goes, held_same, more, off, still, idle, refused, of_row, kept_put, apply_goes, post_goes}
@@ -40,8 +40,8 @@ newcomer s sc = record { key = s.next_key; scope = sc; since = length s.journal;
 
 pub newcomer_kept : (s : FloorView) (sc : Scope) → Kept s → Kept (record s { next_key = s.next_key + 1; watchers = s.watchers ++ newcomer s sc ∷ [] })
 newcomer_kept s sc k = record {
-  rising = rises-last key_of (newcomer s sc) s.watchers k.below k.rising;
-  below = all_last key_of (λ (x : Watcher). ltb x.key (s.next_key + 1)) (newcomer s sc) s.watchers (lt-ltb s.next_key (s.next_key + 1) (omega arith)) (all_higher key_of s.next_key (s.next_key + 1) s.watchers (omega arith) k.below);
+  rising = rises-last watcher_key (newcomer s sc) s.watchers k.below k.rising;
+  below = all_last watcher_key (λ (x : Watcher). ltb x.key (s.next_key + 1)) (newcomer s sc) s.watchers (lt-ltb s.next_key (s.next_key + 1) (omega arith)) (all_higher watcher_key s.next_key (s.next_key + 1) s.watchers (omega arith) k.below);
 }
 
 module _ (key : ℕ) (scope : Scope) (before since : List Command) (sent taken : List PostView) (s : FloorView) (k : Kept s) (h : Held key scope before since sent taken s) where
@@ -50,7 +50,7 @@ module _ (key : ℕ) (scope : Scope) (before since : List Command) (sent taken :
       (record s { next_key = s.next_key + 1; watchers = s.watchers ++ newcomer s sc ∷ [] }, Ok (Opened s.next_key (opening_of s.journal sc)))
   open_goes sc =
       let s' : FloorView = record s { next_key = s.next_key + 1; watchers = s.watchers ++ newcomer s sc ∷ [] } in
-      let row_is = other_last key_of key (newcomer s sc) s.watchers (ne_eqb key s.next_key (λ e. absurd (omega (arith, h.old, e)))) in
+      let row_is = other_last watcher_key key (newcomer s sc) s.watchers (ne_eqb key s.next_key (λ e. absurd (omega (arith, h.old, e)))) in
       let open_is = ap (λ o. option_map_or (λ (x : Watcher). is_open x.phase) o false) row_is in record {
         kept = newcomer_kept s sc k;
         held = held_same key scope before since (since ++ []) sent (sent ++ []) taken (taken ++ []) s'
@@ -71,11 +71,11 @@ module _ (key : ℕ) (scope : Scope) (before since : List Command) (sent taken :
       }
 
   -- Take
-  take_other : (q : ℕ) (r : Watcher) (p : PostView) → row_at key_of q s.watchers ≡ Some r → eqb q key ≡ false
+  take_other : (q : ℕ) (r : Watcher) (p : PostView) → row_at watcher_key q s.watchers ≡ Some r → eqb q key ≡ false
       → Goes key scope before since sent taken s (Take q) (changed s (record r { taken = r.taken ++ p ∷ [] }), Ok (Took (Some p)))
   take_other q r p at ne =
       let r' : Watcher = record r { taken = r.taken ++ p ∷ [] } in
-      let row_is = put_other key_of key r' s.watchers (ap (λ n. eqb n key) (row_at-key key_of q s.watchers r at) ∙ ne) in
+      let row_is = put_other watcher_key key r' s.watchers (ap (λ n. eqb n key) (row_at-key watcher_key q s.watchers r at) ∙ ne) in
       let open_is = ap (λ o. option_map_or (λ (x : Watcher). is_open x.phase) o false) row_is in
       let none : cond (eqb q key) (p ∷ []) [] ≡ [] = ap (λ b. cond b (p ∷ []) []) ne in record {
         kept = kept_put key scope before since sent taken s k h q r r' s.due at refl;
@@ -96,13 +96,13 @@ module _ (key : ℕ) (scope : Scope) (before since : List Command) (sent taken :
         next = omega arith;
       }
 
-  take_same : (q : ℕ) (r : Watcher) (p : PostView) → row_at key_of q s.watchers ≡ Some r → slice_get r.sent (length r.taken) ≡ Some p → q ≡ key
+  take_same : (q : ℕ) (r : Watcher) (p : PostView) → row_at watcher_key q s.watchers ≡ Some r → slice_get r.sent (length r.taken) ≡ Some p → q ≡ key
       → Goes key scope before since sent taken s (Take q) (changed s (record r { taken = r.taken ++ p ∷ [] }), Ok (Took (Some p)))
   take_same q r p at next same =
       let r' : Watcher = record r { taken = r.taken ++ p ∷ [] } in
-      let here : row_at key_of key s.watchers ≡ Some r = ap (λ n. row_at key_of n s.watchers) (sym same) ∙ at in
+      let here : row_at watcher_key key s.watchers ≡ Some r = ap (λ n. row_at watcher_key n s.watchers) (sym same) ∙ at in
       let was : IsRowFor scope before sent taken r = h.row r here in
-      let row_is = put_same key_of key r' s.watchers (sym same ∙ sym (row_at-key key_of q s.watchers r at)) in
+      let row_is = put_same watcher_key key r' s.watchers (sym same ∙ sym (row_at-key watcher_key q s.watchers r at)) in
       let open_is = ap (λ o. option_map_or (λ (x : Watcher). is_open x.phase) o false) row_is ∙ sym (ap (λ o. option_map_or (λ (x : Watcher). is_open x.phase) o false) here) in
       let some : cond (eqb q key) (p ∷ []) [] ≡ p ∷ [] = ap (λ b. cond b (p ∷ []) []) (eq-eqb q key same) in
       let left = next_taken taken h.not_taken p ((λ i. slice_get (sym h.taken_is i) (length taken)) ∙ sym ((λ i. slice_get (was.posted_is i) (length (was.taken_is i)))) ∙ next) in
@@ -125,7 +125,7 @@ module _ (key : ℕ) (scope : Scope) (before since : List Command) (sent taken :
         next = omega arith;
       }
 
-  take_goes : (q : ℕ) (r : Watcher) → row_at key_of q s.watchers ≡ Some r → Goes key scope before since sent taken s (Take q) (took s r)
+  take_goes : (q : ℕ) (r : Watcher) → row_at watcher_key q s.watchers ≡ Some r → Goes key scope before since sent taken s (Take q) (took s r)
   take_goes q r at = by (slice_get r.sent (length r.taken)) refl
     where
       none_left : (f : Phase) → Goes key scope before since sent taken s (Take q) (s, nothing_left f)
@@ -143,13 +143,13 @@ module _ (key : ℕ) (scope : Scope) (before since : List Command) (sent taken :
           which false y = take_other q r p at y
 
   -- Close
-  close_goes : (q : ℕ) (r : Watcher) → row_at key_of q s.watchers ≡ Some r → s.due ≡ [] → Goes key scope before since sent taken s (Close q) (closed s r)
+  close_goes : (q : ℕ) (r : Watcher) → row_at watcher_key q s.watchers ≡ Some r → s.due ≡ [] → Goes key scope before since sent taken s (Close q) (closed s r)
   close_goes q r at none =
       let gone : Watcher → Bool = λ (x : Watcher). not (eqb x.key r.key) in
       let s' : FloorView = record s { watchers = filter gone s.watchers } in
-      let row_is = row_at-filter key_of gone key s.watchers k.rising in
-      let open_is : (has_open key s' ≡ false) ⊎ (has_open key s' ≡ has_open key s) = by (row_at key_of key s.watchers) row_is refl in record {
-        kept = record { rising = rises-filter key_of gone s.watchers k.rising; below = all_filter key_of (λ (x : Watcher). ltb x.key s.next_key) gone s.watchers k.below };
+      let row_is = row_at-filter watcher_key gone key s.watchers k.rising in
+      let open_is : (has_open key s' ≡ false) ⊎ (has_open key s' ≡ has_open key s) = by (row_at watcher_key key s.watchers) row_is refl in record {
+        kept = record { rising = rises-filter watcher_key gone s.watchers k.rising; below = all_filter watcher_key (λ (x : Watcher). ltb x.key s.next_key) gone s.watchers k.below };
         held = held_same key scope before since (since ++ []) sent (sent ++ []) taken (taken ++ []) s'
             (sym (append-nil since)) (sym (append-nil sent)) (sym (append-nil taken)) (record {
               journal = h.journal;
@@ -158,7 +158,7 @@ module _ (key : ℕ) (scope : Scope) (before since : List Command) (sent taken :
               taken_is = h.taken_is;
               not_posted = h.not_posted;
               posted_is = h.posted_is;
-              row = λ x e. h.row x (was (row_at key_of key s.watchers) x (sym row_is ∙ e));
+              row = λ x e. h.row x (was (row_at watcher_key key s.watchers) x (sym row_is ∙ e));
               due = elim open_is [
                 | inl shut ↦ ap (due_for key) none ∙ ap (λ b. cond b h.not_posted []) (sym shut)
                 | inr same ↦ h.due ∙ ap (λ b. cond b h.not_posted []) (sym same)
@@ -166,19 +166,19 @@ module _ (key : ℕ) (scope : Scope) (before since : List Command) (sent taken :
             });
         shut = λ o. (elim open_is [ inl shut ↦ shut | inr same ↦ same ∙ o ], refl);
         quiet = λ o. refl;
-        ended = λ x. gone_now (row_at key_of key s.watchers) refl (key_was ∙ eqb-true q key x) row_is;
+        ended = λ x. gone_now (row_at watcher_key key s.watchers) refl (key_was ∙ eqb-true q key x) row_is;
         next = omega arith;
       }
     where
       key_was : r.key ≡ q
-      key_was = row_at-key key_of q s.watchers r at
+      key_was = row_at-key watcher_key q s.watchers r at
 
-      gone_now : (o : Option Watcher) → row_at key_of key s.watchers ≡ o → r.key ≡ key
-          → row_at key_of key (filter (λ (y : Watcher). not (eqb y.key r.key)) s.watchers) ≡ passing (λ (y : Watcher). not (eqb y.key r.key)) (row_at key_of key s.watchers)
-          → option_map_or (λ (x : Watcher). is_open x.phase) (row_at key_of key (filter (λ (y : Watcher). not (eqb y.key r.key)) s.watchers)) false ≡ false
+      gone_now : (o : Option Watcher) → row_at watcher_key key s.watchers ≡ o → r.key ≡ key
+          → row_at watcher_key key (filter (λ (y : Watcher). not (eqb y.key r.key)) s.watchers) ≡ passing (λ (y : Watcher). not (eqb y.key r.key)) (row_at watcher_key key s.watchers)
+          → option_map_or (λ (x : Watcher). is_open x.phase) (row_at watcher_key key (filter (λ (y : Watcher). not (eqb y.key r.key)) s.watchers)) false ≡ false
       gone_now None f same e = ap (λ o. option_map_or (λ (x : Watcher). is_open x.phase) o false) (e ∙ ap (passing (λ (y : Watcher). not (eqb y.key r.key))) f)
       gone_now (Some y) f same e =
-          let mine : eqb y.key r.key ≡ true = eq-eqb y.key r.key (row_at-key key_of key s.watchers y f ∙ sym same) in
+          let mine : eqb y.key r.key ≡ true = eq-eqb y.key r.key (row_at-key watcher_key key s.watchers y f ∙ sym same) in
           ap (λ o. option_map_or (λ (x : Watcher). is_open x.phase) o false) (e ∙ ap (passing (λ (y : Watcher). not (eqb y.key r.key))) f ∙ ap (λ b. cond b (Some y) None) (ap not mine))
 
       was : (o : Option Watcher) (x : Watcher) → passing (λ (y : Watcher). not (eqb y.key r.key)) o ≡ Some x → o ≡ Some x
@@ -189,15 +189,15 @@ module _ (key : ℕ) (scope : Scope) (before since : List Command) (sent taken :
           pick true q = q
           pick false q = absurd (cc)
 
-      by : (o : Option Watcher) → row_at key_of key (filter (λ (y : Watcher). not (eqb y.key r.key)) s.watchers) ≡ passing (λ (y : Watcher). not (eqb y.key r.key)) o → row_at key_of key s.watchers ≡ o
-          → (option_map_or (λ (x : Watcher). is_open x.phase) (row_at key_of key (filter (λ (y : Watcher). not (eqb y.key r.key)) s.watchers)) false ≡ false)
-          ⊎ (option_map_or (λ (x : Watcher). is_open x.phase) (row_at key_of key (filter (λ (y : Watcher). not (eqb y.key r.key)) s.watchers)) false ≡ has_open key s)
+      by : (o : Option Watcher) → row_at watcher_key key (filter (λ (y : Watcher). not (eqb y.key r.key)) s.watchers) ≡ passing (λ (y : Watcher). not (eqb y.key r.key)) o → row_at watcher_key key s.watchers ≡ o
+          → (option_map_or (λ (x : Watcher). is_open x.phase) (row_at watcher_key key (filter (λ (y : Watcher). not (eqb y.key r.key)) s.watchers)) false ≡ false)
+          ⊎ (option_map_or (λ (x : Watcher). is_open x.phase) (row_at watcher_key key (filter (λ (y : Watcher). not (eqb y.key r.key)) s.watchers)) false ≡ has_open key s)
       by None e f = inl (ap (λ o. option_map_or (λ (x : Watcher). is_open x.phase) o false) e)
       by (Some y) e f = pick (not (eqb y.key r.key)) e
         where
-          pick : (b : Bool) → row_at key_of key (filter (λ (y : Watcher). not (eqb y.key r.key)) s.watchers) ≡ cond b (Some y) None
-              → (option_map_or (λ (x : Watcher). is_open x.phase) (row_at key_of key (filter (λ (y : Watcher). not (eqb y.key r.key)) s.watchers)) false ≡ false)
-              ⊎ (option_map_or (λ (x : Watcher). is_open x.phase) (row_at key_of key (filter (λ (y : Watcher). not (eqb y.key r.key)) s.watchers)) false ≡ has_open key s)
+          pick : (b : Bool) → row_at watcher_key key (filter (λ (y : Watcher). not (eqb y.key r.key)) s.watchers) ≡ cond b (Some y) None
+              → (option_map_or (λ (x : Watcher). is_open x.phase) (row_at watcher_key key (filter (λ (y : Watcher). not (eqb y.key r.key)) s.watchers)) false ≡ false)
+              ⊎ (option_map_or (λ (x : Watcher). is_open x.phase) (row_at watcher_key key (filter (λ (y : Watcher). not (eqb y.key r.key)) s.watchers)) false ≡ has_open key s)
           pick true g = inr (ap (λ o. option_map_or (λ (x : Watcher). is_open x.phase) o false) (g ∙ sym f))
           pick false g = inl (ap (λ o. option_map_or (λ (x : Watcher). is_open x.phase) o false) g)
 
@@ -208,9 +208,9 @@ module _ (key : ℕ) (scope : Scope) (before since : List Command) (sent taken :
   stop_goes : s.due ≡ [] → Goes key scope before since sent taken s Stop (halted s)
   stop_goes none =
       let s' : FloorView = record s { stopped = true; watchers = map ends s.watchers } in
-      let row_is = row_at-map key_of ends (λ r. refl) key s.watchers in
-      let shut_is : has_open key s' ≡ false = ap (λ o. option_map_or (λ (x : Watcher). is_open x.phase) o false) row_is ∙ no_open (row_at key_of key s.watchers) in record {
-        kept = record { rising = rises-map key_of ends (λ r. refl) s.watchers ∙ k.rising; below = all_ends s.watchers k.below };
+      let row_is = row_at-map watcher_key ends (λ r. refl) key s.watchers in
+      let shut_is : has_open key s' ≡ false = ap (λ o. option_map_or (λ (x : Watcher). is_open x.phase) o false) row_is ∙ no_open (row_at watcher_key key s.watchers) in record {
+        kept = record { rising = rises-map watcher_key ends (λ r. refl) s.watchers ∙ k.rising; below = all_ends s.watchers k.below };
         held = held_same key scope before since (since ++ []) sent (sent ++ []) taken (taken ++ []) s'
             (sym (append-nil since)) (sym (append-nil sent)) (sym (append-nil taken)) (record {
               journal = h.journal;
@@ -219,7 +219,7 @@ module _ (key : ℕ) (scope : Scope) (before since : List Command) (sent taken :
               taken_is = h.taken_is;
               not_posted = h.not_posted;
               posted_is = h.posted_is;
-              row = λ x e. was (row_at key_of key s.watchers) x refl (sym row_is ∙ e);
+              row = λ x e. was (row_at watcher_key key s.watchers) x refl (sym row_is ∙ e);
               due = ap (due_for key) none ∙ ap (λ b. cond b h.not_posted []) (sym shut_is);
             });
         shut = λ o. (shut_is, refl);
@@ -241,7 +241,7 @@ module _ (key : ℕ) (scope : Scope) (before since : List Command) (sent taken :
       all_ends [] e = refl
       all_ends (r ∷ rs) e = let ih = all_ends rs in grind (arith)
 
-      was : (o : Option Watcher) (x : Watcher) → row_at key_of key s.watchers ≡ o → option_map ends o ≡ Some x → IsRowFor scope before sent taken x
+      was : (o : Option Watcher) (x : Watcher) → row_at watcher_key key s.watchers ≡ o → option_map ends o ≡ Some x → IsRowFor scope before sent taken x
       was None x f e = absurd (cc)
       was (Some r) x f e =
           let old : IsRowFor scope before sent taken r = h.row r f in

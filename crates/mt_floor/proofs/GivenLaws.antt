@@ -15,7 +15,7 @@ use Rattle.mt_floor.specs.declared.event.Event.{Event}
 use Rattle.mt_floor.specs.declared.event.Event.TheVariants.{Apply, PostNext, Open, Take, Meet, Close, Stop}
 use Rattle.mt_floor.specs.declared.event.Answer.{Answer}
 use Rattle.mt_floor.specs.declared.event.Answer.TheVariants.{Replied, Posted, Opened, Took, Met, Closed, Halted, NotNow}
-use Rattle.mt_floor.specs.Watcher.{Watcher, Due, key_of, is_open}
+use Rattle.mt_floor.specs.Watcher.{Watcher, Due, watcher_key, is_open}
 use Rattle.mt_floor.specs.Schedule.{FloorView, empty_floor, floor_step, run, if_idle, closed, has_open, waiting}
 use Rattle.mt_floor.specs.Headline.{answers, floor_after, taken_by, posted_by, posted_to, posted_since, given_by, given_posts, given_since, IsGivenInOrder}
 use Rattle.mt_floor.specs.WellFormed.{IsFloor}
@@ -30,22 +30,22 @@ use Rattle.mt_floor.proofs.FollowLaws.{told_in_order, told_tables}
 -- the watcher of a key was posted these and given those; while it has a row, these are the row's lists
 record Has (key : ℕ) (posted given : List PostView) (s : FloorView) : Type 0 where
   old : key < s.next_key
-  row : (r : Watcher) → row_at key_of key s.watchers ≡ Some r → (r.sent ≡ posted) × (r.taken ≡ given)
+  row : (r : Watcher) → row_at watcher_key key s.watchers ≡ Some r → (r.sent ≡ posted) × (r.taken ≡ given)
   not_given : List PostView
   given_is : posted ≡ given ++ not_given
 
 -- after its close it has no row
-close_gone : (s : FloorView) (key : ℕ) (ps : List PostView) → rises key_of s.watchers ≡ true → (floor_step s (Close key)).1 ≡ Ok (Closed ps) → (r : Watcher) → row_at key_of key (floor_step s (Close key)).0.watchers ≡ Some r → ⊥
+close_gone : (s : FloorView) (key : ℕ) (ps : List PostView) → rises watcher_key s.watchers ≡ true → (floor_step s (Close key)).1 ≡ Ok (Closed ps) → (r : Watcher) → row_at watcher_key key (floor_step s (Close key)).0.watchers ≡ Some r → ⊥
 unfolding floor_step
-close_gone s key ps order e = by s.due (row_at key_of key s.watchers) refl e
+close_gone s key ps order e = by s.due (row_at watcher_key key s.watchers) refl e
   where
-    by : (ds : List Due) (o : Option Watcher) → row_at key_of key s.watchers ≡ o → (if_idle ds s (option_map_or (closed s) o (s, Err NoWatcher))).1 ≡ Ok (Closed ps)
-        → (r : Watcher) → row_at key_of key (if_idle ds s (option_map_or (closed s) o (s, Err NoWatcher))).0.watchers ≡ Some r → ⊥
+    by : (ds : List Due) (o : Option Watcher) → row_at watcher_key key s.watchers ≡ o → (if_idle ds s (option_map_or (closed s) o (s, Err NoWatcher))).1 ≡ Ok (Closed ps)
+        → (r : Watcher) → row_at watcher_key key (if_idle ds s (option_map_or (closed s) o (s, Err NoWatcher))).0.watchers ≡ Some r → ⊥
     by (d ∷ ds) o at e r there = absurd (cc)
     by [] None at e r there = absurd (cc)
     by [] (Some x) at e r there =
-        let left = kept-row key_of (λ (q : Watcher). eqb q.key x.key) s.watchers order key r there in
-        off (sym (eq-eqb r.key x.key (row_at-key key_of key s.watchers r left.0 ∙ sym (row_at-key key_of key s.watchers x at))) ∙ left.1)
+        let left = kept-row watcher_key (λ (q : Watcher). eqb q.key x.key) s.watchers order key r there in
+        off (sym (eq-eqb r.key x.key (row_at-key watcher_key key s.watchers r left.0 ∙ sym (row_at-key watcher_key key s.watchers x at))) ∙ left.1)
 
 -- an answer gives what it says was taken, or what a close answers
 abbrev Gives : ℕ → Event → Result Answer Fault → Type 0
@@ -80,7 +80,7 @@ nothing_taken : (posted taken rest : List PostView) → posted ≡ taken ++ rest
 nothing_taken posted [] rest e none = refl
 nothing_taken posted (p ∷ ps) rest e none = absurd (let bad : ◌≡◌ {A = List PostView} [] (p ∷ (ps ++ rest)) = sym none ∙ e in cc)
 
-shut_key : (s : FloorView) (key : ℕ) → row_at key_of key s.watchers ≡ None → has_open key s ≡ false
+shut_key : (s : FloorView) (key : ℕ) → row_at watcher_key key s.watchers ≡ None → has_open key s ≡ false
 shut_key s key none = ap (λ o. option_map_or (λ (x : Watcher). is_open x.phase) o false) none
 
 module _ (key : ℕ) (posted given : List PostView) (s : FloorView) (h : IsFloor s) (has : Has key posted given s) (e : Event) where
@@ -88,7 +88,7 @@ module _ (key : ℕ) (posted given : List PostView) (s : FloorView) (h : IsFloor
   After = Has key (posted ++ posted_by key s.due (floor_step s e).1) (given ++ given_by key e (floor_step s e).1) (floor_step s e).0
 
   -- the watcher has its row
-  there : (r : Watcher) → row_at key_of key s.watchers ≡ Some r → After
+  there : (r : Watcher) → row_at watcher_key key s.watchers ≡ Some r → After
   there r at =
       let a = floor_step s e in
       let g = goes key r.scope (take r.since s.journal) (drop r.since s.journal) r.sent r.taken s (kept_of s h) (follower_held s h key r at) e in
@@ -110,21 +110,21 @@ module _ (key : ℕ) (posted given : List PostView) (s : FloorView) (h : IsFloor
             let answer : a.1 ≡ Ok (Closed ps) = closes_it.2 in
             let told : (floor_step s (Close key)).1 ≡ Ok (Closed ps) = ap (λ (x : Event). (floor_step s x).1) (sym event) ∙ answer in
             let c = close_answer s key ps told in
-            let same : c.row ≡ r = one_row (row_at key_of key s.watchers) c.row r c.at at in
+            let same : c.row ≡ r = one_row (row_at watcher_key key s.watchers) c.row r c.at at in
             let f = h.rows key r at in
             let left : ps ≡ f.not_taken = c.told ∙ ap (λ (x : Watcher). drop (length x.taken) x.sent) same ∙ ap (drop (length r.taken)) f.taken ∙ drop_at r.taken f.not_taken (length r.taken) refl in
             let gave : given_by key e a.1 ≡ ps = (λ i. given_by key (event i) (answer i)) ∙ ap (λ b. cond b ps []) (eq-eqb key key refl) in
             let posts : posted_by key s.due a.1 ≡ [] = ap (posted_by key s.due) answer in
             let all : posted ≡ given ++ ps = sym sent ∙ f.taken ∙ (λ i. taken i ++ sym left i) in record {
               old = omega (arith, has.old, g.next);
-              row = λ x there. absurd (close_gone s key ps h.rising told x (ap (λ (v : Event). row_at key_of key (floor_step s v).0.watchers) (sym event) ∙ there));
+              row = λ x there. absurd (close_gone s key ps h.rising told x (ap (λ (v : Event). row_at watcher_key key (floor_step s v).0.watchers) (sym event) ∙ there));
               not_given = [];
               given_is = ap (λ l. posted ++ l) posts ∙ append-nil posted ∙ all ∙ ap (λ l. given ++ l) (sym gave) ∙ sym (append-nil (given ++ given_by key e a.1));
             }
       ]
 
   -- it has none any more
-  gone : row_at key_of key s.watchers ≡ None → After
+  gone : row_at watcher_key key s.watchers ≡ None → After
   gone none =
       let a = floor_step s e in
       let g = goes key All s.journal [] [] [] s (kept_of s h) (gone_held s h key All has.old none) e in
@@ -144,9 +144,9 @@ module _ (key : ℕ) (posted given : List PostView) (s : FloorView) (h : IsFloor
       }
 
   after_event : After
-  after_event = by (row_at key_of key s.watchers) refl
+  after_event = by (row_at watcher_key key s.watchers) refl
     where
-      by : (o : Option Watcher) → row_at key_of key s.watchers ≡ o → After
+      by : (o : Option Watcher) → row_at watcher_key key s.watchers ≡ o → After
       by None none = gone none
       by (Some r) at = there r at
 
@@ -195,7 +195,7 @@ given_in_order capacity es at key o is =
 pub begun_waits : (s : FloorView) (e : Event) → IsFloor s → (key : ℕ) (o : Opening) → (floor_step s e).1 ≡ Ok (Opened key o) → waiting (floor_step s e).0 key ≡ []
 begun_waits s e h key o opened =
     let b = begins s e (kept_of s h) key o opened in
-    by (row_at key_of key (floor_step s e).0.watchers) (λ r at. (b.held.row r at).posted_is)
+    by (row_at watcher_key key (floor_step s e).0.watchers) (λ r at. (b.held.row r at).posted_is)
   where
     none : (n : ℕ) → ◌≡◌ {A = List PostView} (drop n []) []
     none zero = refl

@@ -14,12 +14,12 @@ use Rattle.mt_book.specs.History.{posts_of}
 use Rattle.mt_floor.specs.declared.event.Event.{Event}
 use Rattle.mt_floor.specs.declared.event.Event.TheVariants.{Apply, PostNext, Open, Take, Meet, Close, Stop}
 use Rattle.mt_floor.specs.declared.event.Answer.TheVariants.{Opened, Took, NotNow}
-use Rattle.mt_floor.specs.Watcher.{Watcher, Due, key_of, due_for, opening_of}
+use Rattle.mt_floor.specs.Watcher.{Watcher, Due, watcher_key, due_for, opening_of}
 use Rattle.mt_floor.specs.Schedule.{FloorView, Stepped, floor_step, unless, if_idle, at_row, changed, sent_to, is_full, posted, replied, nothing_left, took, met, closed, halted, opened, applied, command_refusal, opening_refusal}
 use Rattle.mt_floor.proofs.DueLaws.{due_row, due_all, but_other}
 use Rattle.mt_floor.proofs.BeginLaws.{opens}
 
-module _ (s : FloorView) (key : ℕ) (order : rises key_of s.watchers ≡ true) (none : row_at key_of key s.watchers ≡ None) (h : due_for key s.due ≡ []) where
+module _ (s : FloorView) (key : ℕ) (order : rises watcher_key s.watchers ≡ true) (none : row_at watcher_key key s.watchers ≡ None) (h : due_for key s.due ≡ []) where
   abbrev Still : Stepped → Type 0
   Still a = due_for key a.0.due ≡ []
 
@@ -35,7 +35,7 @@ module _ (s : FloorView) (key : ℕ) (order : rises key_of s.watchers ≡ true) 
   refused (Some f) done go = h
 
   of_row : (q : ℕ) (f : Watcher → Stepped) → ((r : Watcher) → Still (f r)) → Still (at_row s q f)
-  of_row q f go = by (row_at key_of q s.watchers)
+  of_row q f go = by (row_at watcher_key q s.watchers)
     where
       by : (o : Option Watcher) → Still (option_map_or f o (s, Err NoWatcher))
       by None = h
@@ -66,7 +66,7 @@ module _ (s : FloorView) (key : ℕ) (order : rises key_of s.watchers ≡ true) 
 
       by : (b : Bool) → eqb d.key key ≡ b → cond b (d.post ∷ due_for key ds) (due_for key ds) ≡ [] → Still (posted s (d ∷ ds))
       by true is f = absurd (cc)
-      by false is f = to is f (row_at key_of d.key s.watchers)
+      by false is f = to is f (row_at watcher_key d.key s.watchers)
 
   pub none_stays : (e : Event) → Still (floor_step s e)
   unfolding floor_step

@@ -23,7 +23,7 @@ use Rattle.mt_floor.specs.declared.event.Event.{Event}
 use Rattle.mt_floor.specs.declared.event.Event.TheVariants.{Apply, PostNext}
 use Rattle.mt_floor.specs.declared.event.Answer.{Answer}
 use Rattle.mt_floor.specs.declared.event.Answer.TheVariants.{NotNow}
-use Rattle.mt_floor.specs.Watcher.{Watcher, Due, key_of, is_open, due_for, due_pairs, opening_of, followed_posts}
+use Rattle.mt_floor.specs.Watcher.{Watcher, Due, watcher_key, is_open, due_for, due_pairs, opening_of, followed_posts}
 use Rattle.mt_floor.specs.Schedule.{FloorView, Stepped, unless, if_idle, at_row, sent_to, is_full, posted, replied, has_open}
 use Rattle.mt_floor.specs.Headline.{accepted_by, taken_by, first_due, posted_by, posts_to, ends_watcher}
 use Rattle.mt_floor.proofs.RowLaws.{put_same, put_other, all_put}
@@ -31,7 +31,7 @@ use Rattle.mt_floor.proofs.DueLaws.{due_row, due_all, but, but_same, but_other}
 
 -- watchers stand by rising key, each below the next one
 pub record Kept (s : FloorView) : Type 0 where
-  pub rising : rises key_of s.watchers ≡ true
+  pub rising : rises watcher_key s.watchers ≡ true
   pub below : list_all (λ (r : Watcher). ltb r.key s.next_key) s.watchers ≡ true
 
 -- a row is that of the watcher with this scope that began after these commands, to which these were posted and which took these
@@ -50,7 +50,7 @@ pub record Held (key : ℕ) (scope : Scope) (before since : List Command) (poste
   pub taken_is : posted ≡ taken ++ not_taken
   pub not_posted : List PostView
   pub posted_is : followed_posts scope before since ≡ posted ++ not_posted
-  pub row : (r : Watcher) → row_at key_of key s.watchers ≡ Some r → IsRowFor scope before posted taken r
+  pub row : (r : Watcher) → row_at watcher_key key s.watchers ≡ Some r → IsRowFor scope before posted taken r
   pub due : due_for key s.due ≡ cond (has_open key s) not_posted []
 
 -- what an event does to it
@@ -113,10 +113,10 @@ module _ (key : ℕ) (scope : Scope) (before since : List Command) (sent taken :
   refused e (Some f) done go = still e (Err f) refl refl refl refl refl
 
   -- one of the watcher of a key
-  pub of_row : (e : Event) (q : ℕ) (f : Watcher → Stepped) → ((r : Watcher) → row_at key_of q s.watchers ≡ Some r → Goes key scope before since sent taken s e (f r)) → Goes key scope before since sent taken s e (at_row s q f)
-  of_row e q f go = by (row_at key_of q s.watchers) refl
+  pub of_row : (e : Event) (q : ℕ) (f : Watcher → Stepped) → ((r : Watcher) → row_at watcher_key q s.watchers ≡ Some r → Goes key scope before since sent taken s e (f r)) → Goes key scope before since sent taken s e (at_row s q f)
+  of_row e q f go = by (row_at watcher_key q s.watchers) refl
     where
-      by : (o : Option Watcher) → row_at key_of q s.watchers ≡ o → Goes key scope before since sent taken s e (option_map_or f o (s, Err NoWatcher))
+      by : (o : Option Watcher) → row_at watcher_key q s.watchers ≡ o → Goes key scope before since sent taken s e (option_map_or f o (s, Err NoWatcher))
       by None none = still e (Err NoWatcher) refl refl refl refl refl
       by (Some r) some = go r some
 
@@ -128,10 +128,10 @@ module _ (key : ℕ) (scope : Scope) (before since : List Command) (sent taken :
   due_shut o = h.due ∙ ap (λ b. cond b h.not_posted []) o
 
   -- a watcher of another key, or of this one, has changed
-  pub kept_put : (q : ℕ) (r r' : Watcher) (due : List Due) → row_at key_of q s.watchers ≡ Some r → r'.key ≡ r.key → Kept (record s { watchers = put key_of r' s.watchers; due = due })
+  pub kept_put : (q : ℕ) (r r' : Watcher) (due : List Due) → row_at watcher_key q s.watchers ≡ Some r → r'.key ≡ r.key → Kept (record s { watchers = put watcher_key r' s.watchers; due = due })
   kept_put q r r' due at same = record {
-    rising = rises-put key_of r' s.watchers k.rising;
-    below = all_put key_of (λ (x : Watcher). ltb x.key s.next_key) r' s.watchers (ap (λ n. ltb n s.next_key) same ∙ all-row key_of (λ (x : Watcher). ltb x.key s.next_key) s.watchers q r k.below at) k.below;
+    rising = rises-put watcher_key r' s.watchers k.rising;
+    below = all_put watcher_key (λ (x : Watcher). ltb x.key s.next_key) r' s.watchers (ap (λ n. ltb n s.next_key) same ∙ all-row watcher_key (λ (x : Watcher). ltb x.key s.next_key) s.watchers q r k.below at) k.below;
   }
 
   -- Apply
@@ -140,9 +140,9 @@ module _ (key : ℕ) (scope : Scope) (before since : List Command) (sent taken :
 
   new_due : (c : Command) → s.due ≡ [] → due_for key (due_pairs (posts_of s.journal c) s.watchers) ≡ cond (has_open key s) (h.not_posted ++ filter (λ (p : PostView). names_space scope p.space) (posts_of (before ++ since) c)) []
   new_due c none =
-      due_all key (posts_of s.journal c) s.watchers k.rising ∙ ap (λ l. due_row (posts_of l c) (row_at key_of key s.watchers)) h.journal ∙ by (row_at key_of key s.watchers) refl
+      due_all key (posts_of s.journal c) s.watchers k.rising ∙ ap (λ l. due_row (posts_of l c) (row_at watcher_key key s.watchers)) h.journal ∙ by (row_at watcher_key key s.watchers) refl
     where
-      by : (o : Option Watcher) → row_at key_of key s.watchers ≡ o
+      by : (o : Option Watcher) → row_at watcher_key key s.watchers ≡ o
           → due_row (posts_of (before ++ since) c) o ≡ cond (option_map_or (λ (r : Watcher). is_open r.phase) o false) (h.not_posted ++ filter (λ (p : PostView). names_space scope p.space) (posts_of (before ++ since) c)) []
       by None e = refl
       by (Some r) e = is (is_open r.phase) (ap (λ o. option_map_or (λ (r : Watcher). is_open r.phase) o false) e)
@@ -175,23 +175,23 @@ module _ (key : ℕ) (scope : Scope) (before since : List Command) (sent taken :
   }
 
   -- PostNext
-  post_other : (d : Due) (ds : List Due) (r : Watcher) (full : Bool) → s.due ≡ d ∷ ds → row_at key_of d.key s.watchers ≡ Some r → eqb d.key key ≡ false → Goes key scope before since sent taken s PostNext (sent_to s d ds full r)
+  post_other : (d : Due) (ds : List Due) (r : Watcher) (full : Bool) → s.due ≡ d ∷ ds → row_at watcher_key d.key s.watchers ≡ Some r → eqb d.key key ≡ false → Goes key scope before since sent taken s PostNext (sent_to s d ds full r)
   post_other d ds r full is at ne = by full
     where
       rest : due_for key s.due ≡ due_for key ds
       rest = ap (due_for key) is ∙ ap (λ b. cond b (d.post ∷ due_for key ds) (due_for key ds)) ne
 
       apart : eqb r.key key ≡ false
-      apart = ap (λ n. eqb n key) (row_at-key key_of d.key s.watchers r at) ∙ ne
+      apart = ap (λ n. eqb n key) (row_at-key watcher_key d.key s.watchers r at) ∙ ne
 
-      row_is : (r' : Watcher) → r'.key ≡ r.key → row_at key_of key (put key_of r' s.watchers) ≡ row_at key_of key s.watchers
-      row_is r' same = put_other key_of key r' s.watchers (ap (λ n. eqb n key) same ∙ apart)
+      row_is : (r' : Watcher) → r'.key ≡ r.key → row_at watcher_key key (put watcher_key r' s.watchers) ≡ row_at watcher_key key s.watchers
+      row_is r' same = put_other watcher_key key r' s.watchers (ap (λ n. eqb n key) same ∙ apart)
 
-      open_is : (r' : Watcher) → r'.key ≡ r.key → option_map_or (λ (x : Watcher). is_open x.phase) (row_at key_of key (put key_of r' s.watchers)) false ≡ has_open key s
+      open_is : (r' : Watcher) → r'.key ≡ r.key → option_map_or (λ (x : Watcher). is_open x.phase) (row_at watcher_key key (put watcher_key r' s.watchers)) false ≡ has_open key s
       open_is r' same = ap (λ o. option_map_or (λ (x : Watcher). is_open x.phase) o false) (row_is r' same)
 
-      held : (r' : Watcher) (due : List Due) → r'.key ≡ r.key → due_for key due ≡ due_for key ds → Held key scope before (since ++ []) (sent ++ []) (taken ++ []) (record s { watchers = put key_of r' s.watchers; due = due })
-      held r' due same e = held_same key scope before since (since ++ []) sent (sent ++ []) taken (taken ++ []) (record s { watchers = put key_of r' s.watchers; due = due })
+      held : (r' : Watcher) (due : List Due) → r'.key ≡ r.key → due_for key due ≡ due_for key ds → Held key scope before (since ++ []) (sent ++ []) (taken ++ []) (record s { watchers = put watcher_key r' s.watchers; due = due })
+      held r' due same e = held_same key scope before since (since ++ []) sent (sent ++ []) taken (taken ++ []) (record s { watchers = put watcher_key r' s.watchers; due = due })
           (sym (append-nil since)) (sym (append-nil sent)) (sym (append-nil taken)) (record {
             journal = h.journal;
             old = h.old;
@@ -217,7 +217,7 @@ module _ (key : ℕ) (scope : Scope) (before since : List Command) (sent taken :
       }
       by false = record {
         kept = kept_put d.key r (record r { sent = r.sent ++ d.post ∷ [] }) ds at refl;
-        held = held_same key scope before (since ++ []) (since ++ []) (sent ++ []) (sent ++ cond (eqb d.key key) (first_due s.due) []) (taken ++ []) (taken ++ []) (record s { watchers = put key_of (record r { sent = r.sent ++ d.post ∷ [] }) s.watchers; due = ds })
+        held = held_same key scope before (since ++ []) (since ++ []) (sent ++ []) (sent ++ cond (eqb d.key key) (first_due s.due) []) (taken ++ []) (taken ++ []) (record s { watchers = put watcher_key (record r { sent = r.sent ++ d.post ∷ [] }) s.watchers; due = ds })
             refl (ap (λ l. sent ++ l) (sym no_post)) refl (held (record r { sent = r.sent ++ d.post ∷ [] }) ds refl refl);
         shut = λ o. (open_is (record r { sent = r.sent ++ d.post ∷ [] }) refl ∙ o, no_post);
         quiet = λ o. ne;
@@ -225,11 +225,11 @@ module _ (key : ℕ) (scope : Scope) (before since : List Command) (sent taken :
         next = omega arith;
       }
 
-  post_same : (d : Due) (ds : List Due) (r : Watcher) (full : Bool) → s.due ≡ d ∷ ds → row_at key_of d.key s.watchers ≡ Some r → d.key ≡ key → Goes key scope before since sent taken s PostNext (sent_to s d ds full r)
+  post_same : (d : Due) (ds : List Due) (r : Watcher) (full : Bool) → s.due ≡ d ∷ ds → row_at watcher_key d.key s.watchers ≡ Some r → d.key ≡ key → Goes key scope before since sent taken s PostNext (sent_to s d ds full r)
   post_same d ds r full is at same = by full
     where
-      here : row_at key_of key s.watchers ≡ Some r
-      here = ap (λ q. row_at key_of q s.watchers) (sym same) ∙ at
+      here : row_at watcher_key key s.watchers ≡ Some r
+      here = ap (λ q. row_at watcher_key q s.watchers) (sym same) ∙ at
 
       mine : due_for key s.due ≡ d.post ∷ due_for key ds
       mine = ap (due_for key) is ∙ ap (λ b. cond b (d.post ∷ due_for key ds) (due_for key ds)) (eq-eqb d.key key same)
@@ -251,12 +251,12 @@ module _ (key : ℕ) (scope : Scope) (before since : List Command) (sent taken :
       phase_open = ap (λ o. option_map_or (λ (x : Watcher). is_open x.phase) o false) (sym here) ∙ opened
 
       key_is : key ≡ r.key
-      key_is = sym same ∙ sym (row_at-key key_of d.key s.watchers r at)
+      key_is = sym same ∙ sym (row_at-key watcher_key d.key s.watchers r at)
 
-      row_is : (r' : Watcher) → r'.key ≡ r.key → row_at key_of key (put key_of r' s.watchers) ≡ Some r'
-      row_is r' e = put_same key_of key r' s.watchers (key_is ∙ sym e)
+      row_is : (r' : Watcher) → r'.key ≡ r.key → row_at watcher_key key (put watcher_key r' s.watchers) ≡ Some r'
+      row_is r' e = put_same watcher_key key r' s.watchers (key_is ∙ sym e)
 
-      open_is : (r' : Watcher) → r'.key ≡ r.key → option_map_or (λ (x : Watcher). is_open x.phase) (row_at key_of key (put key_of r' s.watchers)) false ≡ is_open r'.phase
+      open_is : (r' : Watcher) → r'.key ≡ r.key → option_map_or (λ (x : Watcher). is_open x.phase) (row_at watcher_key key (put watcher_key r' s.watchers)) false ≡ is_open r'.phase
       open_is r' e = ap (λ o. option_map_or (λ (x : Watcher). is_open x.phase) o false) (row_is r' e)
 
       a_post : cond (eqb d.key key) (first_due s.due) [] ≡ d.post ∷ []
@@ -269,7 +269,7 @@ module _ (key : ℕ) (scope : Scope) (before since : List Command) (sent taken :
       by true =
           let r' : Watcher = record r { phase = Lagged } in record {
             kept = kept_put d.key r r' (but d.key ds) at refl;
-            held = held_same key scope before since (since ++ []) sent (sent ++ []) taken (taken ++ []) (record s { watchers = put key_of r' s.watchers; due = but d.key ds })
+            held = held_same key scope before since (since ++ []) sent (sent ++ []) taken (taken ++ []) (record s { watchers = put watcher_key r' s.watchers; due = but d.key ds })
                 (sym (append-nil since)) (sym (append-nil sent)) (sym (append-nil taken)) (record {
                   journal = h.journal;
                   old = h.old;
@@ -288,7 +288,7 @@ module _ (key : ℕ) (scope : Scope) (before since : List Command) (sent taken :
       by false =
           let r' : Watcher = record r { sent = r.sent ++ d.post ∷ [] } in record {
             kept = kept_put d.key r r' ds at refl;
-            held = held_same key scope before since (since ++ []) (sent ++ d.post ∷ []) (sent ++ cond (eqb d.key key) (first_due s.due) []) taken (taken ++ []) (record s { watchers = put key_of r' s.watchers; due = ds })
+            held = held_same key scope before since (since ++ []) (sent ++ d.post ∷ []) (sent ++ cond (eqb d.key key) (first_due s.due) []) taken (taken ++ []) (record s { watchers = put watcher_key r' s.watchers; due = ds })
                 (sym (append-nil since)) (ap (λ l. sent ++ l) (sym a_post)) (sym (append-nil taken)) (record {
                   journal = h.journal;
                   old = h.old;
@@ -310,9 +310,9 @@ module _ (key : ℕ) (scope : Scope) (before since : List Command) (sent taken :
     where
       by : (ds : List Due) → s.due ≡ ds → Goes key scope before since sent taken s PostNext (posted s ds)
       by [] is = still PostNext (Ok NotNow) refl refl refl refl refl
-      by (d ∷ ds) is = at (row_at key_of d.key s.watchers) refl
+      by (d ∷ ds) is = at (row_at watcher_key d.key s.watchers) refl
         where
-          at : (o : Option Watcher) → row_at key_of d.key s.watchers ≡ o → Goes key scope before since sent taken s PostNext (option_map_or (λ r. sent_to s d ds (is_full s.capacity r) r) o (s, Ok NotNow))
+          at : (o : Option Watcher) → row_at watcher_key d.key s.watchers ≡ o → Goes key scope before since sent taken s PostNext (option_map_or (λ r. sent_to s d ds (is_full s.capacity r) r) o (s, Ok NotNow))
           at None e = still PostNext (Ok NotNow) refl refl refl refl refl
           at (Some r) e = which (eqb d.key key) refl
             where

@@ -16,17 +16,17 @@ use Rattle.mt_floor.specs.declared.event.Event.{Event}
 use Rattle.mt_floor.specs.declared.event.Event.TheVariants.{Take, Meet, Close, Stop}
 use Rattle.mt_floor.specs.declared.event.Answer.{Answer}
 use Rattle.mt_floor.specs.declared.event.Answer.TheVariants.{Took, Met, Closed, Halted}
-use Rattle.mt_floor.specs.Watcher.{Watcher, Due, key_of, is_open, followed_posts}
+use Rattle.mt_floor.specs.Watcher.{Watcher, Due, watcher_key, is_open, followed_posts}
 use Rattle.mt_floor.specs.Schedule.{FloorView, Stepped, floor_step, if_idle, at_row, changed, is_full, nothing_left, took, met, closed, halted}
 use Rattle.mt_floor.specs.WellFormed.{IsFloor}
-use Rattle.mt_floor.specs.Rows.{FloorRowView, row_after_stop, next_taken, watcher_of, floor_of, IsFloorRow, IsKept}
+use Rattle.mt_floor.specs.Rows.{FloorRowView, row_after_stop, next_taken, watcher_of, floor_of, IsFloorRow, IsKeptFloor}
 use Rattle.mt_floor.proofs.StandingLaws.{stays, lists_short}
 use Rattle.mt_floor.proofs.PlaceLaws.{IsAt, is_of, found_at, got_at, within_at, row_read, watcher_at, changed_at, without_at, no_watcher}
 use Rattle.mt_skel.proofs.MiddleLaws.{each_mid, each_with, each_without, each_map, set_mid, remove_mid}
 
 -- a floor after an event is kept, if its rows are
-pub kept_after : (c c' : ℕ) (j j' : List Command) (l l' : ℕ) (st st' : Bool) (rows rows' : List FloorRowView) (due due' : List Due) (e : Event) (a : Result Answer Fault) → IsKept c j l st rows due
-    → floor_step (floor_of c j l st rows due) e ≡ (floor_of c' j' l' st' rows' due', a) → AllByRecursion (IsFloorRow c' j') rows' → IsKept c' j' l' st' rows' due'
+pub kept_after : (c c' : ℕ) (j j' : List Command) (l l' : ℕ) (st st' : Bool) (rows rows' : List FloorRowView) (due due' : List Due) (e : Event) (a : Result Answer Fault) → IsKeptFloor c j l st rows due
+    → floor_step (floor_of c j l st rows due) e ≡ (floor_of c' j' l' st' rows' due', a) → AllByRecursion (IsFloorRow c' j') rows' → IsKeptFloor c' j' l' st' rows' due'
 kept_after c c' j j' l l' st st' rows rows' due due' e a h is each = record { floor = subst IsFloor (ap (λ (x : Stepped). x.0) is) (stays (floor_of c j l st rows due) e h.floor); each = each }
 
 -- what a watcher follows
@@ -64,7 +64,7 @@ none_of : {X : Type 0} (xs : List X) → slice_get xs 0 ≡ None → xs ≡ []
 none_of [] e = refl
 none_of (y ∷ ys) e = absurd (let bad : ◌≡◌ {A = Option _} (Some y) None = e in cc)
 
-module _ (c : ℕ) (j : List Command) (l : ℕ) (st : Bool) (rows : List FloorRowView) (due : List Due) (h : IsKept c j l st rows due) where
+module _ (c : ℕ) (j : List Command) (l : ℕ) (st : Bool) (rows : List FloorRowView) (due : List Due) (h : IsKeptFloor c j l st rows due) where
   -- no watcher of this key
   pub take_none : (q : ℕ) → position_from (is_of q) 0 rows ≡ None → floor_step (floor_of c j l st rows due) (Take q) ≡ (floor_of c j l st rows due, Err NoWatcher)
   unfolding floor_step
@@ -86,7 +86,7 @@ module _ (c : ℕ) (j : List Command) (l : ℕ) (st : Bool) (rows : List FloorRo
     pub row_is : IsFloorRow c j row
     row_is = each_mid (IsFloorRow c j) at.front at.back row (subst (AllByRecursion (IsFloorRow c j)) at.split h.each)
 
-    pub found : row_at key_of q (map (watcher_of j) rows) ≡ Some (watcher_of j row)
+    pub found : row_at watcher_key q (map (watcher_of j) rows) ≡ Some (watcher_of j row)
     found = watcher_at j q i rows row at h.floor.rising
 
     pub few : row.taken + length row.waiting ≤ 2 ^ 40
@@ -167,7 +167,7 @@ module _ (c : ℕ) (j : List Command) (l : ℕ) (st : Bool) (rows : List FloorRo
       subst (AllByRecursion (IsFloorRow c j)) (sym is) (each_set (next_taken row.waiting row) (subst (λ w. IsFloorRow c j (next_taken w row)) (sym (first_of row.waiting p e)) is_row)),
     )
       where
-        answered : put key_of (record (watcher_of j row) { taken = take row.taken (follows_all j row) ++ p ∷ [] }) (map (watcher_of j) rows) ≡ map (watcher_of j) rows'
+        answered : put watcher_key (record (watcher_of j row) { taken = take row.taken (follows_all j row) ++ p ∷ [] }) (map (watcher_of j) rows) ≡ map (watcher_of j) rows'
             → ◌≡◌ {A = Stepped} (changed (floor_of c j l st rows due) (record (watcher_of j row) { taken = take row.taken (follows_all j row) ++ p ∷ [] }), Ok (Took (Some p))) (floor_of c j l st rows' due, Ok (Took (Some p)))
         answered e = λ k. (record { capacity = c; journal = j; next_key = l + 1; stopped = st; watchers = e k; due = due }, Ok (Took (Some p)))
 
@@ -217,7 +217,7 @@ with_answer s x a b e f = e ∙ ap (λ r. (s, r)) f
 
 -- ---- Stop
 
-pub stop_done : (c : ℕ) (j : List Command) (l : ℕ) (st : Bool) (rows rows' : List FloorRowView) (due : List Due) → IsKept c j l st rows due → due ≡ [] → rows' ≡ map row_after_stop rows
+pub stop_done : (c : ℕ) (j : List Command) (l : ℕ) (st : Bool) (rows rows' : List FloorRowView) (due : List Due) → IsKeptFloor c j l st rows due → due ≡ [] → rows' ≡ map row_after_stop rows
     → (floor_step (floor_of c j l st rows due) Stop ≡ (floor_of c j l true rows' due, Ok Halted)) × AllByRecursion (IsFloorRow c j) rows'
 unfolding floor_step
 stop_done c j l st rows rows' due h idle is = (

@@ -13,7 +13,7 @@ use Rattle.mt_floor.specs.declared.event.Event.{Event}
 use Rattle.mt_floor.specs.declared.event.Event.TheVariants.{Meet, Close}
 use Rattle.mt_floor.specs.declared.event.Answer.{Answer}
 use Rattle.mt_floor.specs.declared.event.Answer.TheVariants.{Opened, Met, Closed}
-use Rattle.mt_floor.specs.Watcher.{Watcher, Due, key_of}
+use Rattle.mt_floor.specs.Watcher.{Watcher, Due, watcher_key}
 use Rattle.mt_floor.specs.Schedule.{FloorView, empty_floor, floor_step, run, if_idle, met, closed}
 use Rattle.mt_floor.specs.Headline.{answers, floor_after, accepted_before, accepted_since, taken_since, posted_since}
 use Rattle.mt_floor.specs.Laws.{IsTold}
@@ -24,23 +24,23 @@ use Rattle.mt_floor.proofs.HeadLaws.{held_at}
 -- the row behind an answer
 pub record Answers (key : ℕ) (s : FloorView) (says : Watcher → Type 0) : Type 0 where
   pub row : Watcher
-  pub at : row_at key_of key s.watchers ≡ Some row
+  pub at : row_at watcher_key key s.watchers ≡ Some row
   pub told : says row
 
 pub close_answer : (s : FloorView) (key : ℕ) (ps : List PostView) → (floor_step s (Close key)).1 ≡ Ok (Closed ps) → Answers key s (λ r. ps ≡ drop (length r.taken) r.sent)
 unfolding floor_step
-close_answer s key ps e = by s.due (row_at key_of key s.watchers) refl e
+close_answer s key ps e = by s.due (row_at watcher_key key s.watchers) refl e
   where
-    by : (ds : List Due) (o : Option Watcher) → row_at key_of key s.watchers ≡ o → (if_idle ds s (option_map_or (closed s) o (s, Err NoWatcher))).1 ≡ Ok (Closed ps) → Answers key s (λ r. ps ≡ drop (length r.taken) r.sent)
+    by : (ds : List Due) (o : Option Watcher) → row_at watcher_key key s.watchers ≡ o → (if_idle ds s (option_map_or (closed s) o (s, Err NoWatcher))).1 ≡ Ok (Closed ps) → Answers key s (λ r. ps ≡ drop (length r.taken) r.sent)
     by (d ∷ ds) o at e = absurd (cc)
     by [] None at e = absurd (cc)
     by [] (Some r) at e = let same : drop (length r.taken) r.sent ≡ ps = cc in record { row = r; at = at; told = sym same }
 
 meet_answer : (s : FloorView) (key : ℕ) (m : Meeting) → (floor_step s (Meet key)).1 ≡ Ok (Met m) → Answers key s (λ r. m ≡ record { posted = length r.sent; taken = length r.taken; state = r.phase })
 unfolding floor_step
-meet_answer s key m e = by s.due (row_at key_of key s.watchers) refl e
+meet_answer s key m e = by s.due (row_at watcher_key key s.watchers) refl e
   where
-    by : (ds : List Due) (o : Option Watcher) → row_at key_of key s.watchers ≡ o → (if_idle ds s (option_map_or (met s) o (s, Err NoWatcher))).1 ≡ Ok (Met m)
+    by : (ds : List Due) (o : Option Watcher) → row_at watcher_key key s.watchers ≡ o → (if_idle ds s (option_map_or (met s) o (s, Err NoWatcher))).1 ≡ Ok (Met m)
         → Answers key s (λ r. m ≡ record { posted = length r.sent; taken = length r.taken; state = r.phase })
     by (d ∷ ds) o at e = absurd (cc)
     by [] None at e = absurd (cc)

@@ -12,7 +12,7 @@ use Rattle.mt_events.specs.declared.opening.Opening.{Opening}
 use Rattle.mt_floor.specs.declared.event.Event.{Event}
 use Rattle.mt_floor.specs.declared.event.Answer.{Answer}
 use Rattle.mt_floor.specs.declared.event.Answer.TheVariants.{Opened}
-use Rattle.mt_floor.specs.Watcher.{Watcher, key_of}
+use Rattle.mt_floor.specs.Watcher.{Watcher, watcher_key}
 use Rattle.mt_floor.specs.Schedule.{FloorView, empty_floor, floor_step, run}
 use Rattle.mt_floor.specs.Headline.{answers, floor_after}
 use Rattle.mt_floor.proofs.BeginLaws.{counts}
@@ -42,22 +42,22 @@ given s (e ∷ es) key low high =
     by false q o answer next more = later (floor_step s e).1 (run (floor_step s e).0 es).1 key (more (let above : s.next_key + 1 ≤ key = grind (arith, nat_tests) in omega (arith, above, next)))
 
 -- keys count from 1
-no_key : (capacity : ℕ) (es : List Event) (r : Watcher) → row_at key_of 0 (floor_after capacity es).watchers ≡ Some r → ⊥
+no_key : (capacity : ℕ) (es : List Event) (r : Watcher) → row_at watcher_key 0 (floor_after capacity es).watchers ≡ Some r → ⊥
 no_key capacity es r at =
     let a = (ran 0 All [] [] [] [] (empty_floor capacity) (after_kept capacity []) (start_held capacity All) es).held.row r at in
     let b = (ran 0 (One 0) [] [] [] [] (empty_floor capacity) (after_kept capacity []) (start_held capacity (One 0)) es).held.row r at in
     let bad : ◌≡◌ {A = Scope} All (One 0) = sym a.scope_is ∙ b.scope_is in cc
 
 -- so the watcher of a row has begun, with the row's opening
-pub row_began : (capacity : ℕ) (es : List Event) (key : ℕ) (r : Watcher) → row_at key_of key (floor_after capacity es).watchers ≡ Some r
+pub row_began : (capacity : ℕ) (es : List Event) (key : ℕ) (r : Watcher) → row_at watcher_key key (floor_after capacity es).watchers ≡ Some r
     → (at : ℕ) × (slice_get (answers capacity es) at ≡ Some (Ok (Opened key r.opening)))
 row_began capacity es zero r at = absurd (no_key capacity es r at)
 row_began capacity es (suc k) r at =
     let key = suc k in
     let s = floor_after capacity es in
     let kept = after_kept capacity es in
-    let low : ltb r.key s.next_key ≡ true = all-row key_of (λ (x : Watcher). ltb x.key s.next_key) s.watchers key r kept.below at in
-    let below : key < s.next_key = subst (λ n. n < s.next_key) (row_at-key key_of key s.watchers r at) (ltb-true r.key s.next_key low) in
+    let low : ltb r.key s.next_key ≡ true = all-row watcher_key (λ (x : Watcher). ltb x.key s.next_key) s.watchers key r kept.below at in
+    let below : key < s.next_key = subst (λ n. n < s.next_key) (row_at-key watcher_key key s.watchers r at) (ltb-true r.key s.next_key low) in
     let g = given (empty_floor capacity) es key (omega arith) below in
     let opening : g.1 ≡ r.opening = opening_told capacity es g.0 key g.1 g.2 ∙ sym ((held_at capacity es g.0 key g.1 g.2).row r at).opening_is in
     (g.0, g.2 ∙ ap (λ (o : Opening). Some (Ok (Opened key o))) opening)

@@ -6,7 +6,7 @@ use Rattle.std.proofs.lemmas.Option.{slice_get_read}
 use Rattle.mt_skel.specs.Keyed.{row_at, put, rises}
 use Rattle.mt_skel.proofs.MiddleLaws.{row_mid, put_mid, without_mid, set_mid, remove_mid, get_mid}
 use Rattle.mt_book.specs.declared.command.Command.{Command}
-use Rattle.mt_floor.specs.Watcher.{Watcher, key_of}
+use Rattle.mt_floor.specs.Watcher.{Watcher, watcher_key}
 use Rattle.mt_floor.specs.Rows.{FloorRowView, watcher_of}
 use Rattle.mt_floor.proofs.RowLaws.{turned}
 
@@ -63,35 +63,35 @@ row_read q i rows row e is =
     row_there q i rows row e (slice_get_read rows (length rows) i row refl (within_at q i rows f.0 f.1) is)
 
 -- a key without a row has no watcher
-pub no_watcher : (journal : List Command) (q n : ℕ) (rows : List FloorRowView) → position_from (is_of q) n rows ≡ None → row_at key_of q (map (watcher_of journal) rows) ≡ None
+pub no_watcher : (journal : List Command) (q n : ℕ) (rows : List FloorRowView) → position_from (is_of q) n rows ≡ None → row_at watcher_key q (map (watcher_of journal) rows) ≡ None
 no_watcher journal q n [] e = refl
 no_watcher journal q n (r ∷ rows) e = by (eqb r.key q) refl e (no_watcher journal q (n + 1) rows)
   where
     by : (b : Bool) → eqb r.key q ≡ b → cond b (Some n) (position_from (is_of q) (n + 1) rows) ≡ None
-        → (position_from (is_of q) (n + 1) rows ≡ None → row_at key_of q (map (watcher_of journal) rows) ≡ None)
-        → cond (eqb q r.key) (Some (watcher_of journal r)) (row_at key_of q (map (watcher_of journal) rows)) ≡ None
+        → (position_from (is_of q) (n + 1) rows ≡ None → row_at watcher_key q (map (watcher_of journal) rows) ≡ None)
+        → cond (eqb q r.key) (Some (watcher_of journal r)) (row_at watcher_key q (map (watcher_of journal) rows)) ≡ None
     by true is e ih = absurd (cc)
-    by false is e ih = ap (λ b. cond b (Some (watcher_of journal r)) (row_at key_of q (map (watcher_of journal) rows))) (turned r.key q is) ∙ ih e
+    by false is e ih = ap (λ b. cond b (Some (watcher_of journal r)) (row_at watcher_key q (map (watcher_of journal) rows))) (turned r.key q is) ∙ ih e
 
 -- the watchers of rows, around one
 pub watchers_mid : (journal : List Command) (front back : List FloorRowView) (row : FloorRowView)
     → map (watcher_of journal) (front ++ row ∷ back) ≡ map (watcher_of journal) front ++ watcher_of journal row ∷ map (watcher_of journal) back
 watchers_mid journal front back row = map-append (watcher_of journal) front (row ∷ back)
 
-module _ (journal : List Command) (q i : ℕ) (rows : List FloorRowView) (row : FloorRowView) (at : IsAt q i rows row) (rising : rises key_of (map (watcher_of journal) rows) ≡ true) where
-  mid_rises : rises key_of (map (watcher_of journal) at.front ++ watcher_of journal row ∷ map (watcher_of journal) at.back) ≡ true
-  mid_rises = ap (rises key_of) (sym (ap (map (watcher_of journal)) at.split ∙ watchers_mid journal at.front at.back row)) ∙ rising
+module _ (journal : List Command) (q i : ℕ) (rows : List FloorRowView) (row : FloorRowView) (at : IsAt q i rows row) (rising : rises watcher_key (map (watcher_of journal) rows) ≡ true) where
+  mid_rises : rises watcher_key (map (watcher_of journal) at.front ++ watcher_of journal row ∷ map (watcher_of journal) at.back) ≡ true
+  mid_rises = ap (rises watcher_key) (sym (ap (map (watcher_of journal)) at.split ∙ watchers_mid journal at.front at.back row)) ∙ rising
 
-  pub watcher_at : row_at key_of q (map (watcher_of journal) rows) ≡ Some (watcher_of journal row)
+  pub watcher_at : row_at watcher_key q (map (watcher_of journal) rows) ≡ Some (watcher_of journal row)
   watcher_at =
-      (λ j. row_at key_of (sym at.is j) ((ap (map (watcher_of journal)) at.split ∙ watchers_mid journal at.front at.back row) j))
-      ∙ row_mid key_of (map (watcher_of journal) at.front) (map (watcher_of journal) at.back) (watcher_of journal row) mid_rises
+      (λ j. row_at watcher_key (sym at.is j) ((ap (map (watcher_of journal)) at.split ∙ watchers_mid journal at.front at.back row) j))
+      ∙ row_mid watcher_key (map (watcher_of journal) at.front) (map (watcher_of journal) at.back) (watcher_of journal row) mid_rises
 
   -- a row that changes is put in its place
-  pub changed_at : (new : FloorRowView) (w : Watcher) → watcher_of journal new ≡ w → w.key ≡ row.key → put key_of w (map (watcher_of journal) rows) ≡ map (watcher_of journal) (set rows i new)
+  pub changed_at : (new : FloorRowView) (w : Watcher) → watcher_of journal new ≡ w → w.key ≡ row.key → put watcher_key w (map (watcher_of journal) rows) ≡ map (watcher_of journal) (set rows i new)
   changed_at new w is same =
-      ap (put key_of w) (ap (map (watcher_of journal)) at.split ∙ watchers_mid journal at.front at.back row)
-      ∙ put_mid key_of (map (watcher_of journal) at.front) (map (watcher_of journal) at.back) (watcher_of journal row) w same mid_rises
+      ap (put watcher_key w) (ap (map (watcher_of journal)) at.split ∙ watchers_mid journal at.front at.back row)
+      ∙ put_mid watcher_key (map (watcher_of journal) at.front) (map (watcher_of journal) at.back) (watcher_of journal row) w same mid_rises
       ∙ ap (λ x. map (watcher_of journal) at.front ++ x ∷ map (watcher_of journal) at.back) (sym is)
       ∙ sym (watchers_mid journal at.front at.back new)
       ∙ ap (map (watcher_of journal)) (sym (set_mid at.front at.back row new) ∙ (λ j. set (sym at.split j) (sym at.place j) new))
@@ -100,7 +100,7 @@ module _ (journal : List Command) (q i : ℕ) (rows : List FloorRowView) (row : 
   pub without_at : filter (λ (x : Watcher). not (eqb x.key row.key)) (map (watcher_of journal) rows) ≡ map (watcher_of journal) (remove rows i)
   without_at =
       ap (filter (λ (x : Watcher). not (eqb x.key row.key))) (ap (map (watcher_of journal)) at.split ∙ watchers_mid journal at.front at.back row)
-      ∙ without_mid key_of (map (watcher_of journal) at.front) (map (watcher_of journal) at.back) (watcher_of journal row) mid_rises
+      ∙ without_mid watcher_key (map (watcher_of journal) at.front) (map (watcher_of journal) at.back) (watcher_of journal row) mid_rises
       ∙ sym (map-append (watcher_of journal) at.front at.back)
       ∙ ap (map (watcher_of journal)) (sym (remove_mid at.front at.back row) ∙ (λ j. remove (sym at.split j) (sym at.place j)))
 

@@ -10,16 +10,16 @@ use Rattle.mt_book.specs.declared.command.Command.{Command}
 use Rattle.mt_floor.specs.declared.watch.Phase.TheVariants.{Lagged}
 use Rattle.mt_floor.specs.declared.event.Event.TheVariants.{PostNext}
 use Rattle.mt_floor.specs.declared.event.Answer.TheVariants.{Posted, NotNow}
-use Rattle.mt_floor.specs.Watcher.{Due, key_of}
+use Rattle.mt_floor.specs.Watcher.{Due, watcher_key}
 use Rattle.mt_floor.specs.Schedule.{floor_step, sent_to, is_full, posted}
-use Rattle.mt_floor.specs.Rows.{FloorRowView, with_post, lagged, watcher_of, floor_of, IsFloorRow, IsKept}
+use Rattle.mt_floor.specs.Rows.{FloorRowView, with_post, lagged, watcher_of, floor_of, IsFloorRow, IsKeptFloor}
 use Rattle.mt_floor.proofs.PlaceLaws.{IsAt, is_of, found_at, got_at, changed_at, no_watcher}
 use Rattle.mt_floor.proofs.KeptLaws.{full_is, row_is, each_set, found}
 
 abbrev first_for : List Due → Option ℕ
 first_for due = option_map (λ (d : Due). d.key) (slice_get due 0)
 
-module _ (c : ℕ) (j : List Command) (l : ℕ) (st : Bool) (rows : List FloorRowView) (due : List Due) (h : IsKept c j l st rows due) where
+module _ (c : ℕ) (j : List Command) (l : ℕ) (st : Bool) (rows : List FloorRowView) (due : List Due) (h : IsKeptFloor c j l st rows due) where
   pub post_none : first_for due ≡ None → floor_step (floor_of c j l st rows due) PostNext ≡ (floor_of c j l st rows due, Ok NotNow)
   unfolding floor_step
   post_none e = by due e
@@ -37,7 +37,7 @@ module _ (c : ℕ) (j : List Command) (l : ℕ) (st : Bool) (rows : List FloorRo
       by (d ∷ ds) f =
           let same : d.key ≡ q = cc in
           ap (λ o. option_map_or (λ r. sent_to (floor_of c j l st rows due) d ds (is_full c r) r) o (floor_of c j l st rows due, Ok NotNow))
-          (ap (λ k. row_at key_of k (map (watcher_of j) rows)) same ∙ no_watcher j q 0 rows none)
+          (ap (λ k. row_at watcher_key k (map (watcher_of j) rows)) same ∙ no_watcher j q 0 rows none)
 
   pub room_at : (q i : ℕ) → position_from (is_of q) 0 rows ≡ Some i → IfSome (slice_get rows i) (λ row. c ≤ length row.waiting + row.room)
   room_at q i e =
@@ -61,7 +61,7 @@ module _ (c : ℕ) (j : List Command) (l : ℕ) (st : Bool) (rows : List FloorRo
         ≡ (floor_of c j l st (set rows i (cond b (lagged row) (with_post row d.post))) (cond b (filter (λ (e : Due). not (eqb e.key q)) (d ∷ ds)) ds), Ok (Posted q b))
     sent true = both (changed_at j q i rows row at h.floor.rising (lagged row) (record (watcher_of j row) { phase = Lagged }) refl refl) but_first
       where
-        both : put key_of (record (watcher_of j row) { phase = Lagged }) (map (watcher_of j) rows) ≡ map (watcher_of j) (set rows i (lagged row))
+        both : put watcher_key (record (watcher_of j row) { phase = Lagged }) (map (watcher_of j) rows) ≡ map (watcher_of j) (set rows i (lagged row))
             → filter (λ (e : Due). not (eqb e.key d.key)) ds ≡ filter (λ (e : Due). not (eqb e.key q)) (d ∷ ds)
             → sent_to (floor_of c j l st rows due) d ds true (watcher_of j row) ≡ (floor_of c j l st (set rows i (lagged row)) (filter (λ (e : Due). not (eqb e.key q)) (d ∷ ds)), Ok (Posted q true))
         both a b = λ k. (record { capacity = c; journal = j; next_key = l + 1; stopped = st; watchers = a k; due = b k }, Ok (Posted (same k) true))
@@ -70,7 +70,7 @@ module _ (c : ℕ) (j : List Command) (l : ℕ) (st : Bool) (rows : List FloorRo
         longer : watcher_of j (with_post row d.post) ≡ record (watcher_of j row) { sent = (watcher_of j row).sent ++ d.post ∷ [] }
         longer = ap (λ (s : List PostView). record (watcher_of j row) { sent = s }) (sym (append_assoc (watcher_of j row).taken row.waiting (d.post ∷ [])))
 
-        both : put key_of (record (watcher_of j row) { sent = (watcher_of j row).sent ++ d.post ∷ [] }) (map (watcher_of j) rows) ≡ map (watcher_of j) (set rows i (with_post row d.post))
+        both : put watcher_key (record (watcher_of j row) { sent = (watcher_of j row).sent ++ d.post ∷ [] }) (map (watcher_of j) rows) ≡ map (watcher_of j) (set rows i (with_post row d.post))
             → sent_to (floor_of c j l st rows due) d ds false (watcher_of j row) ≡ (floor_of c j l st (set rows i (with_post row d.post)) ds, Ok (Posted q false))
         both a = λ k. (record { capacity = c; journal = j; next_key = l + 1; stopped = st; watchers = a k; due = ds }, Ok (Posted (same k) false))
 
@@ -93,7 +93,7 @@ module _ (c : ℕ) (j : List Command) (l : ℕ) (st : Bool) (rows : List FloorRo
           let now = sets row d got (ap (λ x. slice_get x 0) is) in
           let filled : is_full c (watcher_of j row) ≡ b = full_is c j row (row_is c j l st rows due h q i row at.1) ∙ sym (full row got) in (
             ap (λ o. option_map_or (λ r. sent_to (floor_of c j l st rows due) d ds (is_full c r) r) o (floor_of c j l st rows due, Ok NotNow))
-                (ap (λ k. row_at key_of k (map (watcher_of j) rows)) same ∙ found c j l st rows due h q i row at.1)
+                (ap (λ k. row_at watcher_key k (map (watcher_of j) rows)) same ∙ found c j l st rows due h q i row at.1)
                 ∙ ap (λ x. sent_to (floor_of c j l st rows due) d ds x (watcher_of j row)) filled
                 ∙ sent q i row at.1 d ds same b
                 ∙ (λ k. (floor_of c j l st (sym now k) (sym g k), Ok (Posted q b))),

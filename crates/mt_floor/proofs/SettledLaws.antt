@@ -11,7 +11,7 @@ use Rattle.mt_events.specs.declared.opening.Scope.{Scope}
 use Rattle.mt_floor.specs.declared.event.Event.TheVariants.{PostNext, Open, Take, Meet, Close, Stop}
 use Rattle.mt_floor.specs.declared.event.Answer.{Answer}
 use Rattle.mt_floor.specs.declared.event.Answer.TheVariants.{Opened, Took, NotNow}
-use Rattle.mt_floor.specs.Watcher.{Watcher, Due, key_of, is_open, due_for, opening_of}
+use Rattle.mt_floor.specs.Watcher.{Watcher, Due, watcher_key, is_open, due_for, opening_of}
 use Rattle.mt_floor.specs.Schedule.{FloorView, Stepped, floor_step, run, settled, unless, if_idle, at_row, changed, sent_to, is_full, posted, nothing_left, took, met, closed, halted, opened, opening_refusal}
 use Rattle.mt_floor.specs.WellFormed.{IsFloor}
 use Rattle.mt_floor.proofs.BeginLaws.{opens}
@@ -34,7 +34,7 @@ idle_so s done none go = by s.due
     by (d ∷ ds) = none
 
 row_so : (s : FloorView) (key : ℕ) (f : Watcher → Stepped) → s.due ≡ [] → ((r : Watcher) → (f r).0.due ≡ []) → (at_row s key f).0.due ≡ []
-row_so s key f none go = by (row_at key_of key s.watchers)
+row_so s key f none go = by (row_at watcher_key key s.watchers)
   where
     by : (o : Option Watcher) → (option_map_or f o (s, Err NoWatcher)).0.due ≡ []
     by None = none
@@ -66,7 +66,7 @@ open_idle s scope none = idle_so s (opened s scope) none (by (opening_refusal s 
 
 pub meet_same : (s : FloorView) (key : ℕ) → (floor_step s (Meet key)).0 ≡ s
 unfolding floor_step
-meet_same s key = by s.due (row_at key_of key s.watchers)
+meet_same s key = by s.due (row_at watcher_key key s.watchers)
   where
     by : (ds : List Due) (o : Option Watcher) → (if_idle ds s (option_map_or (met s) o (s, Err NoWatcher))).0 ≡ s
     by (d ∷ ds) o = refl
@@ -84,7 +84,7 @@ post_fewer s h = by s.due refl
     sent d ds r true = few_pass (λ (e : Due). not (eqb e.key d.key)) ds
     sent d ds r false = omega arith
 
-    to : (d : Due) (ds : List Due) → s.due ≡ d ∷ ds → (o : Option Watcher) → row_at key_of d.key s.watchers ≡ o
+    to : (d : Due) (ds : List Due) → s.due ≡ d ∷ ds → (o : Option Watcher) → row_at watcher_key d.key s.watchers ≡ o
         → length (option_map_or (λ r. sent_to s d ds (is_full s.capacity r) r) o (s, Ok NotNow)).0.due ≤ length ds
     to d ds is None none =
         let shut = h.idle d.key (ap (λ o. option_map_or (λ (x : Watcher). is_open x.phase) o false) none) in
@@ -95,7 +95,7 @@ post_fewer s h = by s.due refl
 
     by : (ds : List Due) → s.due ≡ ds → length (posted s ds).0.due ≤ length ds - 1
     by [] none = omega (arith, ap (λ (l : List Due). length l) none)
-    by (d ∷ ds) is = let more = to d ds is (row_at key_of d.key s.watchers) refl in omega (arith, more)
+    by (d ∷ ds) is = let more = to d ds is (row_at watcher_key d.key s.watchers) refl in omega (arith, more)
 
 abbrev posts : ℕ → FloorView → FloorView
 posts n s = (run s (replicate n PostNext)).0

@@ -13,7 +13,7 @@ use Rattle.mt_floor.specs.declared.event.Event.{Event}
 use Rattle.mt_floor.specs.declared.event.Event.TheVariants.{Take, Close}
 use Rattle.mt_floor.specs.declared.event.Answer.{Answer}
 use Rattle.mt_floor.specs.declared.event.Answer.TheVariants.{Took}
-use Rattle.mt_floor.specs.Watcher.{Watcher, Due, key_of}
+use Rattle.mt_floor.specs.Watcher.{Watcher, Due, watcher_key}
 use Rattle.mt_floor.specs.Schedule.{FloorView, Stepped, empty_floor, floor_step, run, if_idle, changed, took, closed, nothing_left}
 use Rattle.mt_floor.specs.Headline.{answers, floor_after, taken_by, taken_posts, posted_by, posted_to, taken_since, posted_since, given_by, given_posts, given_since}
 use Rattle.mt_floor.proofs.RunLaws.{run_told, run_end}
@@ -97,7 +97,7 @@ at_seam capacity xs e ys =
 -- takes and closes post nothing
 take_quiet : (s : FloorView) (k key : ℕ) (due : List Due) → posted_by key due (floor_step s (Take k)).1 ≡ []
 unfolding floor_step
-take_quiet s k key due = by (row_at key_of k s.watchers)
+take_quiet s k key due = by (row_at watcher_key k s.watchers)
   where
     left : (f : Phase) → posted_by key due (nothing_left f) ≡ []
     left IsOpen = refl
@@ -114,7 +114,7 @@ take_quiet s k key due = by (row_at key_of k s.watchers)
 
 close_quiet : (s : FloorView) (k key : ℕ) (due : List Due) → posted_by key due (floor_step s (Close k)).1 ≡ []
 unfolding floor_step
-close_quiet s k key due = by s.due (row_at key_of k s.watchers)
+close_quiet s k key due = by s.due (row_at watcher_key k s.watchers)
   where
     by : (ds : List Due) (o : Option Watcher) → posted_by key due (if_idle ds s (option_map_or (closed s) o (s, Err NoWatcher))).1 ≡ []
     by (d ∷ ds) o = refl

@@ -11,7 +11,7 @@ use Rattle.mt_events.specs.declared.opening.Scope.{Scope}
 use Rattle.mt_events.specs.declared.opening.Scope.TheVariants.{One, All}
 use Rattle.mt_book.specs.declared.command.Command.{Command}
 use Rattle.mt_floor.specs.declared.event.Event.{Event}
-use Rattle.mt_floor.specs.Watcher.{Watcher, key_of, is_open, due_for, opening_of, followed_posts}
+use Rattle.mt_floor.specs.Watcher.{Watcher, watcher_key, is_open, due_for, opening_of, followed_posts}
 use Rattle.mt_floor.specs.Schedule.{FloorView, empty_floor, floor_step, has_open}
 use Rattle.mt_floor.specs.Headline.{accepted_by, taken_by, posted_by}
 use Rattle.mt_floor.specs.WellFormed.{IsFollower, IsFloor}
@@ -25,29 +25,29 @@ use Rattle.mt_floor.proofs.BeginLaws.{begins, counts}
 pub one_row : (o : Option Watcher) (x y : Watcher) → o ≡ Some x → o ≡ Some y → x ≡ y
 one_row o x y a b = let two : ◌≡◌ {A = Option Watcher} (Some x) (Some y) = sym a ∙ b in let same : x ≡ y = cc in same
 
-open_row : (s : FloorView) (key : ℕ) (r : Watcher) → row_at key_of key s.watchers ≡ Some r → has_open key s ≡ is_open r.phase
+open_row : (s : FloorView) (key : ℕ) (r : Watcher) → row_at watcher_key key s.watchers ≡ Some r → has_open key s ≡ is_open r.phase
 open_row s key r at = ap (λ o. option_map_or (λ (x : Watcher). is_open x.phase) o false) at
 
 -- a watcher on a floor, as the events see it
-pub follower_held : (s : FloorView) (h : IsFloor s) (key : ℕ) (r : Watcher) → row_at key_of key s.watchers ≡ Some r → Held key r.scope (take r.since s.journal) (drop r.since s.journal) r.sent r.taken s
+pub follower_held : (s : FloorView) (h : IsFloor s) (key : ℕ) (r : Watcher) → row_at watcher_key key s.watchers ≡ Some r → Held key r.scope (take r.since s.journal) (drop r.since s.journal) r.sent r.taken s
 follower_held s h key r at =
     let f = h.rows key r at in
-    let key_is : r.key ≡ key = row_at-key key_of key s.watchers r at in
-    let low : ltb r.key s.next_key ≡ true = all-row key_of (λ (x : Watcher). ltb x.key s.next_key) s.watchers key r h.below at in record {
+    let key_is : r.key ≡ key = row_at-key watcher_key key s.watchers r at in
+    let low : ltb r.key s.next_key ≡ true = all-row watcher_key (λ (x : Watcher). ltb x.key s.next_key) s.watchers key r h.below at in record {
       journal = sym (take-append-drop r.since s.journal);
       old = subst (λ n. n < s.next_key) key_is (ltb-true r.key s.next_key low);
       not_taken = f.not_taken;
       taken_is = f.taken;
       not_posted = f.not_posted;
       posted_is = f.posted;
-      row = λ x e. subst (IsRowFor r.scope (take r.since s.journal) r.sent r.taken) (one_row (row_at key_of key s.watchers) r x at e)
+      row = λ x e. subst (IsRowFor r.scope (take r.since s.journal) r.sent r.taken) (one_row (row_at watcher_key key s.watchers) r x at e)
           (record { scope_is = refl; since_is = sym (length-take-le r.since s.journal f.since); opening_is = f.opening; posted_is = refl; taken_is = refl });
       due = ap (λ k. due_for k s.due) (sym key_is) ∙ f.due ∙ ap (λ b. cond b f.not_posted []) (sym (open_row s key r at));
     }
 
 -- and back
 held_follower : (s : FloorView) (key : ℕ) (scope : Scope) (before since : List Command) (sent taken : List PostView) → Held key scope before since sent taken s
-    → (r : Watcher) → row_at key_of key s.watchers ≡ Some r → IsFollower s r
+    → (r : Watcher) → row_at watcher_key key s.watchers ≡ Some r → IsFollower s r
 held_follower s key scope before since sent taken h r at =
     let w = h.row r at in
     let split : take r.since s.journal ≡ before = (λ i. take (w.since_is i) (h.journal i)) ∙ take_at before since (length before) refl in
@@ -58,11 +58,11 @@ held_follower s key scope before since sent taken h r at =
       taken = w.posted_is ∙ h.taken_is ∙ ap (λ l. l ++ h.not_taken) (sym w.taken_is);
       not_posted = h.not_posted;
       posted = (λ i. followed_posts (w.scope_is i) (split i) (rest i)) ∙ h.posted_is ∙ ap (λ l. l ++ h.not_posted) (sym w.posted_is);
-      due = ap (λ k. due_for k s.due) (row_at-key key_of key s.watchers r at) ∙ h.due ∙ ap (λ b. cond b h.not_posted []) (open_row s key r at);
+      due = ap (λ k. due_for k s.due) (row_at-key watcher_key key s.watchers r at) ∙ h.due ∙ ap (λ b. cond b h.not_posted []) (open_row s key r at);
     }
 
 -- a key that is gone, as the events see it
-pub gone_held : (s : FloorView) (h : IsFloor s) (key : ℕ) (scope : Scope) → key < s.next_key → row_at key_of key s.watchers ≡ None → Held key scope s.journal [] [] [] s
+pub gone_held : (s : FloorView) (h : IsFloor s) (key : ℕ) (scope : Scope) → key < s.next_key → row_at watcher_key key s.watchers ≡ None → Held key scope s.journal [] [] [] s
 gone_held s h key scope low none =
     let shut : has_open key s ≡ false = ap (λ o. option_map_or (λ (x : Watcher). is_open x.phase) o false) none in record {
       journal = sym (append-nil s.journal);
@@ -90,15 +90,15 @@ shut_due s key scope before since sent taken h o = h.due ∙ ap (λ b. cond b h.
 
 module _ (s : FloorView) (e : Event) (h : IsFloor s) where
   record Stands (key : ℕ) : Type 0 where
-    row : (r : Watcher) → row_at key_of key (floor_step s e).0.watchers ≡ Some r → IsFollower (floor_step s e).0 r
+    row : (r : Watcher) → row_at watcher_key key (floor_step s e).0.watchers ≡ Some r → IsFollower (floor_step s e).0 r
     idle : has_open key (floor_step s e).0 ≡ false → due_for key (floor_step s e).0.due ≡ []
     kept : Kept (floor_step s e).0
 
   -- a key that was given out
   old_stands : (key : ℕ) → key < s.next_key → Stands key
-  old_stands key low = by (row_at key_of key s.watchers) refl
+  old_stands key low = by (row_at watcher_key key s.watchers) refl
     where
-      by : (o : Option Watcher) → row_at key_of key s.watchers ≡ o → Stands key
+      by : (o : Option Watcher) → row_at watcher_key key s.watchers ≡ o → Stands key
       by (Some r) at =
           let a = floor_step s e in
           let g = goes key r.scope (take r.since s.journal) (drop r.since s.journal) r.sent r.taken s (kept_of s h) (follower_held s h key r at) e in record {
@@ -144,7 +144,7 @@ module _ (s : FloorView) (e : Event) (h : IsFloor s) where
     where
       not_yet : s.next_key ≤ key → due_for key (floor_step s e).0.due ≡ []
       not_yet high =
-          let none = fresh key_of key s.next_key s.watchers high h.below in
+          let none = fresh watcher_key key s.next_key s.watchers high h.below in
           none_stays s key h.rising none (h.idle key (ap (λ o. option_map_or (λ (x : Watcher). is_open x.phase) o false) none)) e
 
       counted : s.next_key ≤ (floor_step s e).0.next_key
@@ -162,8 +162,8 @@ module _ (s : FloorView) (e : Event) (h : IsFloor s) where
       | inl same ↦ omega (arith, same, h.from_one)
       | inr gives ↦ omega (arith, gives.next)
     ];
-    rows = λ key r at. (stands key (subst (λ n. n < (floor_step s e).0.next_key) (row_at-key key_of key (floor_step s e).0.watchers r at)
-        (ltb-true r.key (floor_step s e).0.next_key (all-row key_of (λ (x : Watcher). ltb x.key (floor_step s e).0.next_key) (floor_step s e).0.watchers key r kept_next.below at)))).row r at;
+    rows = λ key r at. (stands key (subst (λ n. n < (floor_step s e).0.next_key) (row_at-key watcher_key key (floor_step s e).0.watchers r at)
+        (ltb-true r.key (floor_step s e).0.next_key (all-row watcher_key (λ (x : Watcher). ltb x.key (floor_step s e).0.next_key) (floor_step s e).0.watchers key r kept_next.below at)))).row r at;
     bounds = bounded s e h.bounds h.rising;
     idle = idle_next;
   }
@@ -178,5 +178,5 @@ begins_well capacity = record {
   idle = λ key o. refl;
 }
 
-pub lists_short : (s : FloorView) (key : ℕ) (r : Watcher) → IsFloor s → row_at key_of key s.watchers ≡ Some r → (length r.taken ≤ length r.sent) × (length r.sent ≤ 2 ^ 40)
+pub lists_short : (s : FloorView) (key : ℕ) (r : Watcher) → IsFloor s → row_at watcher_key key s.watchers ≡ Some r → (length r.taken ≤ length r.sent) × (length r.sent ≤ 2 ^ 40)
 lists_short s key r h at = short_lists s r (h.rows key r at) h.bounds

@@ -13,7 +13,7 @@ use Rattle.mt_floor.specs.declared.event.Event.TheVariants.{Apply, PostNext, Ope
 use Rattle.mt_floor.specs.declared.event.Answer.{Answer}
 use Rattle.mt_book.specs.declared.command.Command.{Command}
 use Rattle.mt_floor.specs.declared.event.Answer.TheVariants.{Took, NotNow}
-use Rattle.mt_floor.specs.Watcher.{Watcher, Due, key_of}
+use Rattle.mt_floor.specs.Watcher.{Watcher, Due, watcher_key}
 use Rattle.mt_floor.specs.Schedule.{FloorView, Stepped, floor_step, is_put_off, if_idle, at_row, applied, opened, changed, met, closed, halted, took, nothing_left}
 
 late : (s : FloorView) (done : Stepped) (ds : List Due) (off : List Due → Bool) → off [] ≡ false → off ds ≡ true → if_idle ds s done ≡ (s, Ok NotNow)
@@ -50,7 +50,7 @@ stays_left s Ended = refl
 
 take_stays : (s : FloorView) (k : ℕ) → Stays s (floor_step s (Take k))
 unfolding floor_step
-take_stays s k = by (row_at key_of k s.watchers)
+take_stays s k = by (row_at watcher_key k s.watchers)
   where
     next : (r : Watcher) (o : Option PostView) → Stays s (option_map_or {U = Stepped} (λ p. (changed s (record r { taken = r.taken ++ p ∷ [] }), Ok (Took (Some p)))) o (s, nothing_left r.phase))
     next r None = stays_left s r.phase
@@ -62,7 +62,7 @@ take_stays s k = by (row_at key_of k s.watchers)
 
 close_stays : (s : FloorView) (k : ℕ) → Stays s (floor_step s (Close k))
 unfolding floor_step
-close_stays s k = by s.due (row_at key_of k s.watchers)
+close_stays s k = by s.due (row_at watcher_key k s.watchers)
   where
     by : (ds : List Due) (o : Option Watcher) → Stays s (if_idle ds s (option_map_or (closed s) o (s, Err NoWatcher)))
     by (d ∷ ds) o = tt

@@ -6,7 +6,7 @@ use Rattle.mt_events.specs.Posts.{PostView}
 use Rattle.mt_book.specs.declared.command.Command.{Command}
 use Rattle.mt_floor.specs.Watcher.{Watcher, Due}
 use Rattle.mt_floor.specs.Schedule.{waiting}
-use Rattle.mt_floor.specs.Rows.{FloorRowView, floor_of, IsKept}
+use Rattle.mt_floor.specs.Rows.{FloorRowView, floor_of, IsKeptFloor}
 use Rattle.mt_floor.proofs.PlaceLaws.{IsAt, is_of, no_watcher}
 use Rattle.mt_floor.proofs.KeptLaws.{follows_all, found}
 
@@ -18,7 +18,7 @@ pub none_there : (i : ℕ) → ◌≡◌ {A = Option PostView} (slice_get [] i) 
 none_there zero = refl
 none_there (suc i) = refl
 
-module _ (c : ℕ) (j : List Command) (l : ℕ) (st : Bool) (rows : List FloorRowView) (due : List Due) (h : IsKept c j l st rows due) (q : ℕ) where
+module _ (c : ℕ) (j : List Command) (l : ℕ) (st : Bool) (rows : List FloorRowView) (due : List Due) (h : IsKeptFloor c j l st rows due) (q : ℕ) where
   -- nothing waits for a key without a row
   pub waiting_none : position_from (is_of q) 0 rows ≡ None → waiting (floor_of c j l st rows due) q ≡ []
   waiting_none e = ap (λ o. option_map_or (λ (r : Watcher). drop (length r.taken) r.sent) o []) (no_watcher j q 0 rows e)

@@ -15,5 +15,5 @@ abbrev pub part_if : List Command → Scope → ℕ → List Part
 part_if cs scope n = cond (is_space (after cs) n && names_space scope n) (part_of cs n ∷ []) []
 
 -- what a watcher of this scope finds, where it finds these
-abbrev pub made : Scope → List Part → Opening
-made scope parts = record { scope = scope; parts = parts }
+abbrev pub opening_of_parts : Scope → List Part → Opening
+opening_of_parts scope parts = record { scope = scope; parts = parts }

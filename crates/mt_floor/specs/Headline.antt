@@ -20,7 +20,7 @@ use Rattle.mt_floor.specs.declared.event.Event.{Event}
 use Rattle.mt_floor.specs.declared.event.Event.TheVariants.{Apply, Take, Close}
 use Rattle.mt_floor.specs.declared.event.Answer.{Answer}
 use Rattle.mt_floor.specs.declared.event.Answer.TheVariants.{Replied, Posted, Opened, Took, Closed, Halted}
-use Rattle.mt_floor.specs.Watcher.{Watcher, Due, key_of, followed_posts}
+use Rattle.mt_floor.specs.Watcher.{Watcher, Due, watcher_key, followed_posts}
 use Rattle.mt_floor.specs.Schedule.{FloorView, empty_floor, floor_step, run, has_open}
 
 -- a schedule is a list of events, each with its answer; and this is the floor after them
@@ -111,7 +111,7 @@ pub record IsInOrder (capacity : ℕ) (es : List Event) (at key : ℕ) (o : Open
   pub not_posted : List PostView
   pub posted : followed_since capacity es at o.scope ≡ posted_since capacity es at key ++ not_posted
   -- these are the lists of its row, as long as it has one
-  pub row : (r : Watcher) → row_at key_of key (floor_after capacity es).watchers ≡ Some r
+  pub row : (r : Watcher) → row_at watcher_key key (floor_after capacity es).watchers ≡ Some r
       → (r.sent ≡ posted_since capacity es at key) × (r.taken ≡ taken_since capacity es at key)
   -- each post is of a namespace that it follows, and has the number after that of the one before it, beginning at its opening
   pub run : IsRun o (posted_since capacity es at key)

@@ -23,8 +23,8 @@ pub record FloorRowView : Type 0 where
   pub phase : Phase
 
 -- the row of a watcher that begins
-abbrev pub new_row : ℕ → Scope → ℕ → ℕ → FloorRowView
-new_row key scope since capacity = record { key = key; scope = scope; since = since; taken = 0; waiting = []; room = capacity; phase = IsOpen }
+abbrev pub new_floor_row : ℕ → Scope → ℕ → ℕ → FloorRowView
+new_floor_row key scope since capacity = record { key = key; scope = scope; since = since; taken = 0; waiting = []; room = capacity; phase = IsOpen }
 
 -- a row with a post more
 abbrev pub with_post : FloorRowView → PostView → FloorRowView
@@ -76,6 +76,6 @@ pub record IsFloorRow (capacity : ℕ) (journal : List Command) (r : FloorRowVie
   pub room : capacity ≤ length r.waiting + r.room
 
 -- what is always true of a floor
-pub record IsKept (capacity : ℕ) (journal : List Command) (last_key : ℕ) (stopped : Bool) (rows : List FloorRowView) (due : List Due) : Type 0 where
+pub record IsKeptFloor (capacity : ℕ) (journal : List Command) (last_key : ℕ) (stopped : Bool) (rows : List FloorRowView) (due : List Due) : Type 0 where
   pub floor : IsFloor (floor_of capacity journal last_key stopped rows due)
   pub each : AllByRecursion (IsFloorRow capacity journal) rows

@@ -21,7 +21,7 @@ use Rattle.mt_floor.specs.declared.event.Event.{Event}
 use Rattle.mt_floor.specs.declared.event.Event.TheVariants.{Apply, PostNext, Open, Take, Meet, Close, Stop}
 use Rattle.mt_floor.specs.declared.event.Answer.{Answer}
 use Rattle.mt_floor.specs.declared.event.Answer.TheVariants.{Replied, Posted, Opened, Took, Met, Closed, Halted, NotNow}
-use Rattle.mt_floor.specs.Watcher.{Watcher, Due, key_of, is_open, due_pairs, opening_of, is_missing}
+use Rattle.mt_floor.specs.Watcher.{Watcher, Due, watcher_key, is_open, due_pairs, opening_of, is_missing}
 
 -- the state of a floor: the accepted commands, the watchers by rising key, and the posts that are due
 pub record FloorView : Type 0 where
@@ -63,15 +63,15 @@ is_put_off (d ∷ ds) e = true
 
 -- an event of the watcher of a key
 abbrev pub at_row : FloorView → ℕ → (Watcher → Stepped) → Stepped
-at_row s k f = option_map_or f (row_at key_of k s.watchers) (s, Err NoWatcher)
+at_row s k f = option_map_or f (row_at watcher_key k s.watchers) (s, Err NoWatcher)
 
 -- the posts that were sent to the watcher of a key and not taken, the next one first
 abbrev pub waiting : FloorView → ℕ → List PostView
-waiting s key = option_map_or (λ (r : Watcher). drop (length r.taken) r.sent) (row_at key_of key s.watchers) []
+waiting s key = option_map_or (λ (r : Watcher). drop (length r.taken) r.sent) (row_at watcher_key key s.watchers) []
 
 -- a watcher has changed
 abbrev pub changed : FloorView → Watcher → FloorView
-changed s r = record s { watchers = put key_of r s.watchers }
+changed s r = record s { watchers = put watcher_key r s.watchers }
 
 -- a post is sent to a watcher; one whose queue is full lags, and nothing is due to it any more
 abbrev pub sent_to : FloorView → Due → List Due → Bool → Watcher → Stepped
@@ -80,7 +80,7 @@ sent_to s d ds false r = (changed (record s { due = ds }) (record r { sent = r.s
 
 -- the watcher of a key is there and open
 abbrev pub has_open : ℕ → FloorView → Bool
-has_open key s = option_map_or (λ (r : Watcher). is_open r.phase) (row_at key_of key s.watchers) false
+has_open key s = option_map_or (λ (r : Watcher). is_open r.phase) (row_at watcher_key key s.watchers) false
 
 -- a queue is full where so many more posts were sent than taken
 abbrev pub is_full : ℕ → Watcher → Bool
@@ -89,7 +89,7 @@ is_full capacity r = nat_le (length r.taken + capacity) (length r.sent)
 -- the first due post is sent
 abbrev pub posted : FloorView → List Due → Stepped
 posted s [] = (s, Ok NotNow)
-posted s (d ∷ ds) = option_map_or (λ r. sent_to s d ds (is_full s.capacity r) r) (row_at key_of d.key s.watchers) (s, Ok NotNow)
+posted s (d ∷ ds) = option_map_or (λ r. sent_to s d ds (is_full s.capacity r) r) (row_at watcher_key d.key s.watchers) (s, Ok NotNow)
 
 -- an accepted command goes into the journal, and its posts are due
 abbrev pub replied : FloorView → Command → Result (WorldView × Reply) Fault → Stepped

@@ -5,7 +5,7 @@ use Rattle.std.specs.List.{list_all}
 use Rattle.mt_skel.specs.Keyed.{row_at, rises}
 use Rattle.mt_events.specs.Posts.{PostView}
 use Rattle.mt_floor.specs.declared.event.Event.{Event}
-use Rattle.mt_floor.specs.Watcher.{Watcher, key_of, is_open, due_for, opening_of, followed}
+use Rattle.mt_floor.specs.Watcher.{Watcher, watcher_key, is_open, due_for, opening_of, followed}
 use Rattle.mt_floor.specs.Schedule.{FloorView, watcher_limit, empty_floor, has_open, floor_step}
 use Rattle.mt_book.specs.Book.{command_limit}
 
@@ -31,10 +31,10 @@ pub record IsBounded (s : FloorView) : Type 0 where
 -- what is always true of a floor
 pub record IsFloor (s : FloorView) : Type 0 where
   -- watchers stand by rising key, and keys count from 1
-  pub rising : IsTrue (rises key_of s.watchers)
+  pub rising : IsTrue (rises watcher_key s.watchers)
   pub below : IsTrue (list_all (λ (r : Watcher). nat_lt r.key s.next_key) s.watchers)
   pub from_one : 1 ≤ s.next_key
-  pub rows : (key : ℕ) (r : Watcher) → row_at key_of key s.watchers ≡ Some r → IsFollower s r
+  pub rows : (key : ℕ) (r : Watcher) → row_at watcher_key key s.watchers ≡ Some r → IsFollower s r
   pub bounds : IsBounded s
   -- nothing is due to a key without an open watcher
   pub idle : (key : ℕ) → has_open key s ≡ false → due_for key s.due ≡ []
@@ -46,4 +46,4 @@ pub record FloorsStay : Type 0 where
 
 -- no list of a watcher is longer than a number of 64 bits tells
 abbrev pub ListsAreShort : Type 0
-ListsAreShort = (s : FloorView) (key : ℕ) (r : Watcher) → IsFloor s → row_at key_of key s.watchers ≡ Some r → (length r.taken ≤ length r.sent) × (length r.sent ≤ 2 ^ 40)
+ListsAreShort = (s : FloorView) (key : ℕ) (r : Watcher) → IsFloor s → row_at watcher_key key s.watchers ≡ Some r → (length r.taken ≤ length r.sent) × (length r.sent ≤ 2 ^ 40)

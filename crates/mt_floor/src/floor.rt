@@ -37,13 +37,13 @@ pub struct Floor {
 
 impl Model for Floor {
     ghost use Rattle.mt_floor.specs.Schedule.{FloorView};
-    ghost use Rattle.mt_floor.specs.Rows.{floor_of, IsKept};
+    ghost use Rattle.mt_floor.specs.Rows.{floor_of, IsKeptFloor};
 
     ghost Value = { FloorView };
 
     ghost view = { λ f. floor_of f.capacity f.book.journal f.last_key f.stopped f.rows.items f.due.items };
 
-    ghost invariant = { λ f. IsKept f.capacity f.book.journal f.last_key f.stopped f.rows.items f.due.items };
+    ghost invariant = { λ f. IsKeptFloor f.capacity f.book.journal f.last_key f.stopped f.rows.items f.due.items };
 }
 
 /// The answer where nothing is left to be taken: `Took(None)` of an open watcher, or why there will be no more.

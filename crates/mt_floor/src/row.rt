@@ -4,7 +4,7 @@ ghost use Rattle.std.specs.List.{list_any};
 ghost use Rattle.std.specs.Option.{option_map};
 ghost use Rattle.std.specs.Arc.{arc_value};
 ghost use Rattle.mt_floor.specs.Watcher.{is_open};
-ghost use Rattle.mt_floor.specs.Rows.{FloorRowView, new_row, with_post, lagged, row_after_stop, next_taken, row_follows};
+ghost use Rattle.mt_floor.specs.Rows.{FloorRowView, new_floor_row, with_post, lagged, row_after_stop, next_taken, row_follows};
 
 use crate::watch::{Meeting, Phase, WatchKey};
 use mt_events::opening::Scope;
@@ -48,7 +48,7 @@ impl FloorRow {
         since: usize,
         capacity: usize,
     ) -> Result<FloorRow, Fault>
-        ensures row { IfOk result (λ row. row ≡ new_row key scope since capacity) }
+        ensures row { IfOk result (λ row. row ≡ new_floor_row key scope since capacity) }
         ensures memory { IsOkUnless result Fault.NoMemory }
     {
         let queue = VecDeque::with_capacity(alloc, capacity)?;

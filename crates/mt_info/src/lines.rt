@@ -8,7 +8,7 @@ ghost use Rattle.mt_skel.specs.Skeleton.{is_directory, directory};
 ghost use Rattle.mt_mounts.specs.Forest.{mount_at};
 ghost use Rattle.mt_propagate.specs.World.{world_view};
 ghost use Rattle.mt_propagate.specs.WellFormed.{IsWellFormed};
-ghost use Rattle.mt_info.specs.RowLine.{line, row_line, path_text};
+ghost use Rattle.mt_info.specs.RowLine.{line, whole_line, path_text};
 ghost use Rattle.mt_info.specs.Table.{table_of, row_of};
 
 use crate::findings::Findings;
@@ -28,7 +28,7 @@ const LINE_ROOM: usize = 64;
 /// Refused as `NoMemory` alone.
 pub fn push_table(text: &mut Vec<u8>, world: &World, space: SpaceId) -> Result<(), Fault>
     requires well_formed { IsWellFormed (world_view world.now) }
-    ensures lines { OnOk result (text.new.items ≡ text.old.items ++ flat_map row_line (table_of (world_view world.now) space)) }
+    ensures lines { OnOk result (text.new.items ≡ text.old.items ++ flat_map whole_line (table_of (world_view world.now) space)) }
     ensures kept { IsFront text.old.items text.new.items }
     ensures memory { IsOkUnless result Fault.NoMemory }
 {

@@ -12,7 +12,7 @@ ghost use Rattle.mt_info.specs.declared.read.Head.{Head};
 ghost use Rattle.mt_info.specs.Beside.{fits_master};
 ghost use Rattle.mt_info.specs.RowLine.{line, tag, word_if, option_words, is_noatime, is_relatime};
 ghost use Rattle.mt_info.specs.Laws.{IsRow};
-ghost use Rattle.mt_info.specs.Reading.{is_first, IsTail, tail_words, end_words, IsHead, head_words};
+ghost use Rattle.mt_info.specs.Reading.{is_first_word, IsTail, tail_words, end_words, IsHead, head_words};
 
 use crate::fields::{read_label, read_minor, read_number, read_path};
 use crate::row::Row;
@@ -34,7 +34,7 @@ fn skip(words: &mut Words<'_>)
 
 /// Takes the next word if it is this one, and answers whether it was.
 fn take_word(words: &mut Words<'_>, word: &[u8]) -> bool
-    ensures here { result ≡ is_first word.now words.old }
+    ensures here { result ≡ is_first_word word.now words.old }
     ensures taken { words.old ≡ word_if result word.now ++ words.new }
 {
     let Some(first) = words.peek() else {

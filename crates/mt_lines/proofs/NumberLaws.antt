@@ -8,14 +8,14 @@ use Rattle.std.proofs.lemmas.Bool.Decides.{nat_tests}
 use Rattle.std.proofs.lemmas.Str.{digit_value_digit}
 use Rattle.std.proofs.lemmas.Str.Parse.{digit_from_value, numerals_by_value, tells_digits}
 use Rattle.std.proofs.lemmas.Fmt.{decimal_is_IsNumeral, decimal-digits_value, first_decimal, decimal_digit}
-use Rattle.mt_lines.specs.Words.{number_in_text, number_from, next_number}
+use Rattle.mt_lines.specs.Words.{number_in_text, number_from, with_digit}
 use Rattle.mt_lines.proofs.WordLaws.{number_from_none}
 
 given : (b : Bool) (x k : ℕ) → cond b (Some x) None ≡ Some k → (b ≡ true) × (x ≡ k)
 given true x k h = (refl, cc)
 given false x k h = cc
 
-next_is : (m d k : ℕ) → next_number m d ≡ Some k → IsInRange 48 57 d × (k ≡ m * 10 + digit_value d) × (k < 2 ^ 64)
+next_is : (m d k : ℕ) → with_digit m d ≡ Some k → IsInRange 48 57 d × (k ≡ m * 10 + digit_value d) × (k < 2 ^ 64)
 next_is m d k h =
     let r = given (nat_le 48 d && nat_le d 57 && nat_lt (10 * m + (d - 48)) (2 ^ 64)) (10 * m + (d - 48)) k h in
     let all = r.0 in
@@ -28,9 +28,9 @@ next_is m d k h =
 -- digits that were read behind a number
 digits_read : (m n : ℕ) (ds : List ℕ) → m < 2 ^ 64 → number_from (Some m) ds ≡ Some n → AllDigits 10 ds × (digits_value_after 10 m ds ≡ n) × (n < 2 ^ 64)
 digits_read m n [] lt h = let e : m ≡ n = cc in (tt, e, subst (λ x. x < 2 ^ 64) e lt)
-digits_read m n (d ∷ ds) lt h = go (next_number m d) refl h (digits_read (m * 10 + digit_value d) n ds)
+digits_read m n (d ∷ ds) lt h = go (with_digit m d) refl h (digits_read (m * 10 + digit_value d) n ds)
   where
-    go : (o : Option ℕ) → next_number m d ≡ o → number_from o ds ≡ Some n
+    go : (o : Option ℕ) → with_digit m d ≡ o → number_from o ds ≡ Some n
         → (m * 10 + digit_value d < 2 ^ 64 → number_from (Some (m * 10 + digit_value d)) ds ≡ Some n → AllDigits 10 ds × (digits_value_after 10 (m * 10 + digit_value d) ds ≡ n) × (n < 2 ^ 64))
         → AllDigits 10 (d ∷ ds) × (digits_value_after 10 m (d ∷ ds) ≡ n) × (n < 2 ^ 64)
     go None is h ih = let e : None ≡ Some n = sym (number_from_none ds) ∙ h in cc
@@ -44,7 +44,7 @@ le_value_after : (n : ℕ) (ds : List ℕ) → n ≤ digits_value_after 10 n ds
 le_value_after n [] = omega arith
 le_value_after n (c ∷ cs) = omega (arith, le_value_after (n * 10 + digit_value c) cs)
 
-next_digit : (m d : ℕ) → digit_value d < 10 → m * 10 + digit_value d < 2 ^ 64 → next_number m d ≡ Some (m * 10 + digit_value d)
+next_digit : (m d : ℕ) → digit_value d < 10 → m * 10 + digit_value d < 2 ^ 64 → with_digit m d ≡ Some (m * 10 + digit_value d)
 next_digit m d small lt =
     let r = digit_from_value d small in
     let v = digit_value_digit d r in

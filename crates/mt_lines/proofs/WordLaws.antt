@@ -4,7 +4,7 @@ use Rattle.std.proofs.Common.{get_or, ◌≡◌, ◌≢◌, ℕ, zero, suc, ◌+
 use Rattle.std.proofs.lemmas.Bool.{ne_eqb, eqb-true}
 use Rattle.std.proofs.Math.Seq.{take-length, drop-cons}
 use Rattle.std.proofs.lemmas.List.{take-append-drop}
-use Rattle.mt_lines.specs.Words.{pieces, number_from, next_number}
+use Rattle.mt_lines.specs.Words.{pieces, number_from, with_digit}
 
 abbrev IsUnbroken : ℕ → List ℕ → Type 0
 IsUnbroken separator [] = Unit {0}
@@ -45,6 +45,6 @@ pub number_from_none : (ds : List ℕ) → number_from None ds ≡ None
 number_from_none [] = refl
 number_from_none (d ∷ ds) = refl
 
-pub digits_none : (n i : ℕ) (ds : List ℕ) → number_from (Some n) (drop i ds) ≡ number_from (Some 0) ds → i < length ds → next_number n (get_or ds i 0) ≡ None → number_from (Some 0) ds ≡ None
+pub digits_none : (n i : ℕ) (ds : List ℕ) → number_from (Some n) (drop i ds) ≡ number_from (Some 0) ds → i < length ds → with_digit n (get_or ds i 0) ≡ None → number_from (Some 0) ds ≡ None
 digits_none n i ds h lt none =
     sym h ∙ ap (number_from (Some n)) (drop-cons ds i 0 lt) ∙ ap (λ m. number_from m (drop (suc i) ds)) none ∙ number_from_none (drop (suc i) ds)

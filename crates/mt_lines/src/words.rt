@@ -1,6 +1,6 @@
 //! The words of a line, the pieces of its paths, and numbers.
 ghost use Rattle.std.specs.Prelude.{◌≡◌, ◌≢◌, ℕ, ◌+◌, ◌<◌, ◌^◌, false, true, List, [], ◌∷◌, length, take, drop, Some, MatchOption, decimal};
-ghost use Rattle.mt_lines.specs.Words.{begins, pieces, words, number_in_text, number_from, next_number};
+ghost use Rattle.mt_lines.specs.Words.{begins, pieces, words, number_in_text, number_from, with_digit};
 
 use memchr::memchr;
 use std::marker::Model;
@@ -115,7 +115,7 @@ impl<'a> Iterator for Pieces<'a> {
 
 /// The number with one more digit.
 fn next_digit(n: u64, digit: u8) -> Option<u64>
-    ensures { result ≡ next_number n digit }
+    ensures { result ≡ with_digit n digit }
 {
     if digit < b'0' || digit > b'9' {
         return None;

@@ -6,7 +6,7 @@ use Rattle.std.proofs.lemmas.Bool.Decides.{nat_tests}
 use Rattle.mt_skel.specs.Keyed.{row_at, put, rises, among}
 use Rattle.mt_skel.proofs.KeyedLaws.{row_at-put, row_at-key}
 use Rattle.mt_lists.specs.declared.entries.Entry.{Entry}
-use Rattle.mt_lists.specs.Lists.{ListRow, id_of, ids, above, next_of, without_id, names}
+use Rattle.mt_lists.specs.Lists.{ListRow, listed_id, ids, above, next_of, without_row, names}
 use Rattle.mt_lists.specs.Links.{below, ends_of, entry_of, entry_at, given_before, given_after, grown, shrunk}
 use Rattle.mt_lists.proofs.NeighbourLaws.{itself, above-put, below-put, above-put-itself, below-put-itself, ends-put, above-among, below-among, less, above-less, below-less, ends-less}
 use Rattle.mt_lists.proofs.IdLaws.{rising-ids, among-ids, ids-put, ids-without, row-without}
@@ -37,14 +37,14 @@ written-some pb b pa a k e x is = go (names pb k) (names pa k) (e k) is
     go false false (Some y) is = let v : y ≡ x = cc in ap (λ (z : Entry). Some z) v
 
 -- the row's ID is in the list of its number, and in no other
-module _ (rows : List ListRow) (h : rises id_of rows ≡ true) where
-  pub in-own : (q : ℕ) (s : ListRow) → row_at id_of q rows ≡ Some s → among (ids rows s.number) q ≡ true
+module _ (rows : List ListRow) (h : rises listed_id rows ≡ true) where
+  pub in-own : (q : ℕ) (s : ListRow) → row_at listed_id q rows ≡ Some s → among (ids rows s.number) q ≡ true
   in-own q s e = among-ids q rows s.number h ∙ ap (λ o. option_map_or (λ (r : ListRow). eqb s.number r.number) o false) e ∙ eq-eqb s.number s.number refl
 
-  pub in-other : (q n : ℕ) (s : ListRow) → row_at id_of q rows ≡ Some s → n ≢ s.number → among (ids rows n) q ≡ false
+  pub in-other : (q n : ℕ) (s : ListRow) → row_at listed_id q rows ≡ Some s → n ≢ s.number → among (ids rows n) q ≡ false
   in-other q n s e ne = among-ids q rows n h ∙ ap (λ o. option_map_or (λ (r : ListRow). eqb n r.number) o false) e ∙ ne_eqb n s.number ne
 
-  pub in-none : (q n : ℕ) → row_at id_of q rows ≡ None → among (ids rows n) q ≡ false
+  pub in-none : (q n : ℕ) → row_at listed_id q rows ≡ None → among (ids rows n) q ≡ false
   in-none q n e = among-ids q rows n h ∙ ap (λ o. option_map_or (λ (r : ListRow). eqb n r.number) o false) e
 
 names-not : (o : Option ℕ) (k : ℕ) (xs : List ℕ) → among xs k ≡ false → ((a : ℕ) → o ≡ Some a → among xs a ≡ true) → names o k ≡ false
@@ -55,7 +55,7 @@ same-entry : (n : ℕ) (b b' a a' : Option ℕ) → b ≡ b' → a ≡ a' → �
 same-entry n b b' a a' p q = λ i. Some (record { number = n; before = p i; after = q i })
 
 -- a row that stays has the neighbours that were written
-stays : (rows new : List ListRow) (q : ℕ) (s : ListRow) (pb b pa a : Option ℕ) (e : ℕ → Option Entry) → row_at id_of q new ≡ Some s → s.id ≡ q → e q ≡ Some (entry_of rows s)
+stays : (rows new : List ListRow) (q : ℕ) (s : ListRow) (pb b pa a : Option ℕ) (e : ℕ → Option Entry) → row_at listed_id q new ≡ Some s → s.id ≡ q → e q ≡ Some (entry_of rows s)
     → below q (ids new s.number) ≡ cond (names pb q) b (below q (ids rows s.number)) → above q (ids new s.number) ≡ cond (names pa q) a (above q (ids rows s.number))
     → entry_at new q ≡ written pb b pa a q e
 stays rows new q s pb b pa a e there key was low high =
@@ -66,36 +66,36 @@ stays rows new q s pb b pa a e there key was low high =
     ∙ sym (written-some pb b pa a q e (entry_of rows s) was)
 
 -- a row that is not there has no entry
-lacks : (new : List ListRow) (q : ℕ) (pb b pa a : Option ℕ) (e : ℕ → Option Entry) → row_at id_of q new ≡ None → e q ≡ None → entry_at new q ≡ written pb b pa a q e
+lacks : (new : List ListRow) (q : ℕ) (pb b pa a : Option ℕ) (e : ℕ → Option Entry) → row_at listed_id q new ≡ None → e q ≡ None → entry_at new q ≡ written pb b pa a q e
 lacks new q pb b pa a e none was = ap (option_map (entry_of new)) none ∙ sym (written-none pb b pa a q e was)
 
 -- what the entry of an ID tells
 pub after-entry : (rows : List ListRow) (i : ℕ) → option_and_then (λ (e : Entry). e.after) (entry_at rows i) ≡ next_of rows i
-after-entry rows i = go (row_at id_of i rows) (row_at-key id_of i rows)
+after-entry rows i = go (row_at listed_id i rows) (row_at-key listed_id i rows)
   where
-    go : (o : Option ListRow) → ((s : ListRow) → o ≡ Some s → id_of s ≡ i) → option_and_then (λ (e : Entry). e.after) (option_map (entry_of rows) o) ≡ option_and_then (λ n. above i (ids rows n)) (option_map (λ (r : ListRow). r.number) o)
+    go : (o : Option ListRow) → ((s : ListRow) → o ≡ Some s → listed_id s ≡ i) → option_and_then (λ (e : Entry). e.after) (option_map (entry_of rows) o) ≡ option_and_then (λ n. above i (ids rows n)) (option_map (λ (r : ListRow). r.number) o)
     go None k = refl
     go (Some s) k = ap (λ j. above j (ids rows s.number)) (k s refl)
 
-row-among : (rows : List ListRow) (n q : ℕ) → rises id_of rows ≡ true → among (ids rows n) q ≡ true → (s : ListRow) × (row_at id_of q rows ≡ Some s) × (s.id ≡ q) × (s.number ≡ n)
-row-among rows n q h m = go (row_at id_of q rows) refl (sym (among-ids q rows n h) ∙ m)
+row-among : (rows : List ListRow) (n q : ℕ) → rises listed_id rows ≡ true → among (ids rows n) q ≡ true → (s : ListRow) × (row_at listed_id q rows ≡ Some s) × (s.id ≡ q) × (s.number ≡ n)
+row-among rows n q h m = go (row_at listed_id q rows) refl (sym (among-ids q rows n h) ∙ m)
   where
-    go : (o : Option ListRow) → row_at id_of q rows ≡ o → option_map_or (λ (r : ListRow). eqb n r.number) o false ≡ true → (s : ListRow) × (row_at id_of q rows ≡ Some s) × (s.id ≡ q) × (s.number ≡ n)
+    go : (o : Option ListRow) → row_at listed_id q rows ≡ o → option_map_or (λ (r : ListRow). eqb n r.number) o false ≡ true → (s : ListRow) × (row_at listed_id q rows ≡ Some s) × (s.id ≡ q) × (s.number ≡ n)
     go None e t = absurd (true≢false (sym t))
-    go (Some s) e t = (s, e, row_at-key id_of q rows s e, sym (eqb-true n s.number t))
+    go (Some s) e t = (s, e, row_at-key listed_id q rows s e, sym (eqb-true n s.number t))
 
-pub after-among : (rows : List ListRow) (n q : ℕ) → rises id_of rows ≡ true → among (ids rows n) q ≡ true → option_and_then (λ (e : Entry). e.after) (entry_at rows q) ≡ above q (ids rows n)
+pub after-among : (rows : List ListRow) (n q : ℕ) → rises listed_id rows ≡ true → among (ids rows n) q ≡ true → option_and_then (λ (e : Entry). e.after) (entry_at rows q) ≡ above q (ids rows n)
 after-among rows n q h m =
     let s = row-among rows n q h m in
     ap (λ o. option_and_then (λ (e : Entry). e.after) (option_map (entry_of rows) o)) s.1 ∙ ap (λ j. above j (ids rows s.0.number)) s.2 ∙ ap (λ k. above q (ids rows k)) s.3
 
-pub before-among : (rows : List ListRow) (n q : ℕ) → rises id_of rows ≡ true → among (ids rows n) q ≡ true → option_and_then (λ (e : Entry). e.before) (entry_at rows q) ≡ below q (ids rows n)
+pub before-among : (rows : List ListRow) (n q : ℕ) → rises listed_id rows ≡ true → among (ids rows n) q ≡ true → option_and_then (λ (e : Entry). e.before) (entry_at rows q) ≡ below q (ids rows n)
 before-among rows n q h m =
     let s = row-among rows n q h m in
     ap (λ o. option_and_then (λ (e : Entry). e.before) (option_map (entry_of rows) o)) s.1 ∙ ap (λ j. below j (ids rows s.0.number)) s.2 ∙ ap (λ k. below q (ids rows k)) s.3
 
 -- a row more
-module _ (rows : List ListRow) (h : rises id_of rows ≡ true) (r : ListRow) (absent : row_at id_of r.id rows ≡ None) where
+module _ (rows : List ListRow) (h : rises listed_id rows ≡ true) (r : ListRow) (absent : row_at listed_id r.id rows ≡ None) where
   abbrev pub entry_more : Entry
   entry_more = record { number = r.number; before = below r.id (ids rows r.number); after = above r.id (ids rows r.number) }
 
@@ -108,60 +108,60 @@ module _ (rows : List ListRow) (h : rises id_of rows ≡ true) (r : ListRow) (ab
   apart-below : (q : ℕ) → among (ids rows r.number) q ≡ false → names (below r.id (ids rows r.number)) q ≡ false
   apart-below q n = names-not (below r.id (ids rows r.number)) q (ids rows r.number) n (λ a e. (below-among r.id a (ids rows r.number) e).0)
 
-  pub ids-same : ids (put id_of r rows) r.number ≡ put itself r.id (ids rows r.number)
+  pub ids-same : ids (put listed_id r rows) r.number ≡ put itself r.id (ids rows r.number)
   ids-same = ids-put r rows r.number h absent ∙ ap (λ b. cond b (put itself r.id (ids rows r.number)) (ids rows r.number)) (eq-eqb r.number r.number refl)
 
-  ids-other : (n : ℕ) → n ≢ r.number → ids (put id_of r rows) n ≡ ids rows n
+  ids-other : (n : ℕ) → n ≢ r.number → ids (put listed_id r rows) n ≡ ids rows n
   ids-other n ne = ids-put r rows n h absent ∙ ap (λ b. cond b (put itself r.id (ids rows n)) (ids rows n)) (ne_eqb n r.number ne)
 
   pub low-put : (q n : ℕ) → among (ids rows n) q ≡ true → (n ≢ r.number → among (ids rows r.number) q ≡ false)
-      → below q (ids (put id_of r rows) n) ≡ cond (names (above r.id (ids rows r.number)) q) (Some r.id) (below q (ids rows n))
+      → below q (ids (put listed_id r rows) n) ≡ cond (names (above r.id (ids rows r.number)) q) (Some r.id) (below q (ids rows n))
   low-put q n m off = elim (cases_eq n r.number) [
     | inl same ↦ rw same (ap (below q) ids-same ∙ below-put r.id q (ids rows r.number) (rising-ids rows r.number h) (in-none rows h r.id r.number absent) (ap (λ k. among (ids rows k) q) (sym same) ∙ m))
     | inr other ↦ ap (below q) (ids-other n other) ∙ sym (ap (λ b. cond b (Some r.id) (below q (ids rows n))) (apart-above q (off other)))
   ]
 
   pub high-put : (q n : ℕ) → among (ids rows n) q ≡ true → (n ≢ r.number → among (ids rows r.number) q ≡ false)
-      → above q (ids (put id_of r rows) n) ≡ cond (names (below r.id (ids rows r.number)) q) (Some r.id) (above q (ids rows n))
+      → above q (ids (put listed_id r rows) n) ≡ cond (names (below r.id (ids rows r.number)) q) (Some r.id) (above q (ids rows n))
   high-put q n m off = elim (cases_eq n r.number) [
     | inl same ↦ rw same (ap (above q) ids-same ∙ above-put r.id q (ids rows r.number) (rising-ids rows r.number h) (in-none rows h r.id r.number absent) (ap (λ k. among (ids rows k) q) (sym same) ∙ m))
     | inr other ↦ ap (above q) (ids-other n other) ∙ sym (ap (λ b. cond b (Some r.id) (above q (ids rows n))) (apart-below q (off other)))
   ]
 
-  put-here : entry_at (put id_of r rows) r.id ≡ written (above r.id (ids rows r.number)) (Some r.id) (below r.id (ids rows r.number)) (Some r.id) r.id entries_more
+  put-here : entry_at (put listed_id r rows) r.id ≡ written (above r.id (ids rows r.number)) (Some r.id) (below r.id (ids rows r.number)) (Some r.id) r.id entries_more
   put-here =
       let n = in-none rows h r.id r.number absent in
       let up = rising-ids rows r.number h in
-      ap (option_map (entry_of (put id_of r rows))) (row_at-put id_of r.id r rows ∙ ap (λ b. cond b (Some r) (row_at id_of r.id rows)) (eq-eqb r.id r.id refl))
+      ap (option_map (entry_of (put listed_id r rows))) (row_at-put listed_id r.id r rows ∙ ap (λ b. cond b (Some r) (row_at listed_id r.id rows)) (eq-eqb r.id r.id refl))
       ∙ same-entry r.number _ _ _ _
       (ap (below r.id) ids-same ∙ below-put-itself r.id (ids rows r.number) up n ∙ sym (ap (λ b. cond b (Some r.id) (below r.id (ids rows r.number))) (apart-above r.id n)))
       (ap (above r.id) ids-same ∙ above-put-itself r.id (ids rows r.number) up n ∙ sym (ap (λ b. cond b (Some r.id) (above r.id (ids rows r.number))) (apart-below r.id n)))
       ∙ sym (written-some (above r.id (ids rows r.number)) (Some r.id) (below r.id (ids rows r.number)) (Some r.id) r.id entries_more entry_more
       (ap (λ b. cond b (Some entry_more) (entry_at rows r.id)) (eq-eqb r.id r.id refl)))
 
-  row-other : (q : ℕ) → r.id ≢ q → row_at id_of q (put id_of r rows) ≡ row_at id_of q rows
-  row-other q other = row_at-put id_of q r rows ∙ ap (λ b. cond b (Some r) (row_at id_of q rows)) (ne_eqb q r.id (λ s. other (sym s)))
+  row-other : (q : ℕ) → r.id ≢ q → row_at listed_id q (put listed_id r rows) ≡ row_at listed_id q rows
+  row-other q other = row_at-put listed_id q r rows ∙ ap (λ b. cond b (Some r) (row_at listed_id q rows)) (ne_eqb q r.id (λ s. other (sym s)))
 
   entry-other : (q : ℕ) → r.id ≢ q → entries_more q ≡ entry_at rows q
   entry-other q other = ap (λ b. cond b (Some entry_more) (entry_at rows q)) (ne_eqb r.id q other)
 
-  put-there : (q : ℕ) → r.id ≢ q → (o : Option ListRow) → row_at id_of q rows ≡ o
-      → entry_at (put id_of r rows) q ≡ written (above r.id (ids rows r.number)) (Some r.id) (below r.id (ids rows r.number)) (Some r.id) q entries_more
-  put-there q other None e = lacks (put id_of r rows) q _ _ _ _ entries_more (row-other q other ∙ e) (entry-other q other ∙ ap (option_map (entry_of rows)) e)
+  put-there : (q : ℕ) → r.id ≢ q → (o : Option ListRow) → row_at listed_id q rows ≡ o
+      → entry_at (put listed_id r rows) q ≡ written (above r.id (ids rows r.number)) (Some r.id) (below r.id (ids rows r.number)) (Some r.id) q entries_more
+  put-there q other None e = lacks (put listed_id r rows) q _ _ _ _ entries_more (row-other q other ∙ e) (entry-other q other ∙ ap (option_map (entry_of rows)) e)
   put-there q other (Some s) e =
       let m = in-own rows h q s e in
       let off : s.number ≢ r.number → among (ids rows r.number) q ≡ false = λ ne. in-other rows h q r.number s e (λ x. ne (sym x)) in
-      stays rows (put id_of r rows) q s _ _ _ _ entries_more (row-other q other ∙ e) (row_at-key id_of q rows s e) (entry-other q other ∙ ap (option_map (entry_of rows)) e)
+      stays rows (put listed_id r rows) q s _ _ _ _ entries_more (row-other q other ∙ e) (row_at-key listed_id q rows s e) (entry-other q other ∙ ap (option_map (entry_of rows)) e)
       (low-put q s.number m off) (high-put q s.number m off)
 
-  pub entry-put : (q : ℕ) → entry_at (put id_of r rows) q
+  pub entry-put : (q : ℕ) → entry_at (put listed_id r rows) q
       ≡ written (above r.id (ids rows r.number)) (Some r.id) (below r.id (ids rows r.number)) (Some r.id) q entries_more
   entry-put q = elim (cases_eq r.id q) [
     | inl same ↦ rw (← same) put-here
-    | inr other ↦ put-there q other (row_at id_of q rows) refl
+    | inr other ↦ put-there q other (row_at listed_id q rows) refl
   ]
 
-  pub ends-put-in : (g : ℕ) → ends_of (ids (put id_of r rows) g) ≡ cond (nat_eq r.number g) (Some (grown r.id (ends_of (ids rows r.number)))) (ends_of (ids rows g))
+  pub ends-put-in : (g : ℕ) → ends_of (ids (put listed_id r rows) g) ≡ cond (nat_eq r.number g) (Some (grown r.id (ends_of (ids rows r.number)))) (ends_of (ids rows g))
   ends-put-in g = elim (cases_eq r.number g) [
     | inl same ↦
         rw (← same) (ap ends_of ids-same ∙ ends-put r.id (ids rows r.number) (rising-ids rows r.number h) (in-none rows h r.id r.number absent)
@@ -171,7 +171,7 @@ module _ (rows : List ListRow) (h : rises id_of rows ≡ true) (r : ListRow) (ab
   ]
 
 -- a row less
-module _ (rows : List ListRow) (h : rises id_of rows ≡ true) (i : ℕ) (r : ListRow) (there : row_at id_of i rows ≡ Some r) where
+module _ (rows : List ListRow) (h : rises listed_id rows ≡ true) (i : ℕ) (r : ListRow) (there : row_at listed_id i rows ≡ Some r) where
   abbrev pub entries_less : ℕ → Option Entry
   entries_less k = cond (nat_eq i k) None (entry_at rows k)
 
@@ -190,48 +190,48 @@ module _ (rows : List ListRow) (h : rises id_of rows ≡ true) (i : ℕ) (r : Li
       let ih = less-not xs in
       grind (arith, nat_tests)
 
-  ids-off : (n : ℕ) → n ≢ r.number → ids (without_id i rows) n ≡ ids rows n
+  ids-off : (n : ℕ) → n ≢ r.number → ids (without_row i rows) n ≡ ids rows n
   ids-off n ne = ids-without i rows n ∙ less-not (ids rows n) (in-other rows h i n r there ne)
 
   pub low-less : (q n : ℕ) → q ≢ i → among (ids rows n) q ≡ true → (n ≢ r.number → among (ids rows r.number) q ≡ false)
-      → below q (ids (without_id i rows) n) ≡ cond (names (above i (ids rows r.number)) q) (below i (ids rows r.number)) (below q (ids rows n))
+      → below q (ids (without_row i rows) n) ≡ cond (names (above i (ids rows r.number)) q) (below i (ids rows r.number)) (below q (ids rows n))
   low-less q n apart m off = elim (cases_eq n r.number) [
     | inl same ↦ rw same (ap (below q) (ids-without i rows r.number) ∙ below-less i q (ids rows r.number) (rising-ids rows r.number h) here (ap (λ k. among (ids rows k) q) (sym same) ∙ m) apart)
     | inr other ↦ ap (below q) (ids-off n other) ∙ sym (ap (λ b. cond b (below i (ids rows r.number)) (below q (ids rows n))) (less-apart-above q (off other)))
   ]
 
   pub high-less : (q n : ℕ) → q ≢ i → among (ids rows n) q ≡ true → (n ≢ r.number → among (ids rows r.number) q ≡ false)
-      → above q (ids (without_id i rows) n) ≡ cond (names (below i (ids rows r.number)) q) (above i (ids rows r.number)) (above q (ids rows n))
+      → above q (ids (without_row i rows) n) ≡ cond (names (below i (ids rows r.number)) q) (above i (ids rows r.number)) (above q (ids rows n))
   high-less q n apart m off = elim (cases_eq n r.number) [
     | inl same ↦ rw same (ap (above q) (ids-without i rows r.number) ∙ above-less i q (ids rows r.number) (rising-ids rows r.number h) here (ap (λ k. among (ids rows k) q) (sym same) ∙ m) apart)
     | inr other ↦ ap (above q) (ids-off n other) ∙ sym (ap (λ b. cond b (above i (ids rows r.number)) (above q (ids rows n))) (less-apart-below q (off other)))
   ]
 
-  less-there : (q : ℕ) → i ≢ q → (o : Option ListRow) → row_at id_of q rows ≡ o
-      → entry_at (without_id i rows) q ≡ written (above i (ids rows r.number)) (below i (ids rows r.number)) (below i (ids rows r.number)) (above i (ids rows r.number)) q entries_less
+  less-there : (q : ℕ) → i ≢ q → (o : Option ListRow) → row_at listed_id q rows ≡ o
+      → entry_at (without_row i rows) q ≡ written (above i (ids rows r.number)) (below i (ids rows r.number)) (below i (ids rows r.number)) (above i (ids rows r.number)) q entries_less
   less-there q other o e = go o e
-      (row-without i q rows h ∙ ap (λ b. cond b None (row_at id_of q rows)) (ne_eqb i q other))
+      (row-without i q rows h ∙ ap (λ b. cond b None (row_at listed_id q rows)) (ne_eqb i q other))
       (ap (λ b. cond b None (entry_at rows q)) (ne_eqb i q other))
     where
-      go : (o : Option ListRow) → row_at id_of q rows ≡ o → row_at id_of q (without_id i rows) ≡ row_at id_of q rows → entries_less q ≡ entry_at rows q
-          → entry_at (without_id i rows) q ≡ written (above i (ids rows r.number)) (below i (ids rows r.number)) (below i (ids rows r.number)) (above i (ids rows r.number)) q entries_less
-      go None e row was = lacks (without_id i rows) q _ _ _ _ entries_less (row ∙ e) (was ∙ ap (option_map (entry_of rows)) e)
+      go : (o : Option ListRow) → row_at listed_id q rows ≡ o → row_at listed_id q (without_row i rows) ≡ row_at listed_id q rows → entries_less q ≡ entry_at rows q
+          → entry_at (without_row i rows) q ≡ written (above i (ids rows r.number)) (below i (ids rows r.number)) (below i (ids rows r.number)) (above i (ids rows r.number)) q entries_less
+      go None e row was = lacks (without_row i rows) q _ _ _ _ entries_less (row ∙ e) (was ∙ ap (option_map (entry_of rows)) e)
       go (Some s) e row was =
           let m = in-own rows h q s e in
           let off : s.number ≢ r.number → among (ids rows r.number) q ≡ false = λ ne. in-other rows h q r.number s e (λ x. ne (sym x)) in
-          stays rows (without_id i rows) q s _ _ _ _ entries_less (row ∙ e) (row_at-key id_of q rows s e) (was ∙ ap (option_map (entry_of rows)) e)
+          stays rows (without_row i rows) q s _ _ _ _ entries_less (row ∙ e) (row_at-key listed_id q rows s e) (was ∙ ap (option_map (entry_of rows)) e)
           (low-less q s.number (λ x. other (sym x)) m off) (high-less q s.number (λ x. other (sym x)) m off)
 
-  pub entry-less : (q : ℕ) → entry_at (without_id i rows) q
+  pub entry-less : (q : ℕ) → entry_at (without_row i rows) q
       ≡ written (above i (ids rows r.number)) (below i (ids rows r.number)) (below i (ids rows r.number)) (above i (ids rows r.number)) q entries_less
   entry-less q = elim (cases_eq i q) [
     | inl same ↦
         let e = eq-eqb i q same in
-        lacks (without_id i rows) q _ _ _ _ entries_less (row-without i q rows h ∙ ap (λ b. cond b None (row_at id_of q rows)) e) (ap (λ b. cond b None (entry_at rows q)) e)
-    | inr other ↦ less-there q other (row_at id_of q rows) refl
+        lacks (without_row i rows) q _ _ _ _ entries_less (row-without i q rows h ∙ ap (λ b. cond b None (row_at listed_id q rows)) e) (ap (λ b. cond b None (entry_at rows q)) e)
+    | inr other ↦ less-there q other (row_at listed_id q rows) refl
   ]
 
-  pub ends-less-in : (g : ℕ) → ends_of (ids (without_id i rows) g)
+  pub ends-less-in : (g : ℕ) → ends_of (ids (without_row i rows) g)
       ≡ cond (nat_eq r.number g) (option_and_then (shrunk i (below i (ids rows r.number)) (above i (ids rows r.number))) (ends_of (ids rows r.number))) (ends_of (ids rows g))
   ends-less-in g = elim (cases_eq r.number g) [
     | inl same ↦

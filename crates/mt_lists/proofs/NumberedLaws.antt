@@ -6,7 +6,7 @@ use Rattle.std.proofs.lemmas.Bool.{cases_eq, ne_eqb}
 use Rattle.std.proofs.lemmas.Bool.Decides.{nat_tests}
 use Rattle.mt_skel.specs.Keyed.{row_at, put, rises, without}
 use Rattle.mt_skel.proofs.KeyedLaws.{row_at-put, row_at-key, row_at-below, row_at-map, rises-put, rises-map, same_rows}
-use Rattle.mt_lists.specs.Lists.{ListRow, id_of, number_at, ids, without_id, with_number}
+use Rattle.mt_lists.specs.Lists.{ListRow, listed_id, listed_number, ids, without_row, with_number}
 use Rattle.mt_lists.specs.Numbered.{rows_by, has_number}
 use Rattle.mt_lists.proofs.RowLaws.{row-with, rises-with}
 
@@ -30,33 +30,33 @@ module _ {X : Type 0} (key : X → ℕ) (number : X → Option ℕ) where
       go None ih = grind (arith, nat_tests)
       go (Some m) ih = grind (arith, nat_tests)
 
-  pub rises-by : (xs : List X) → rises key xs ≡ true → rises id_of (rows_by key number xs) ≡ true
+  pub rises-by : (xs : List X) → rises key xs ≡ true → rises listed_id (rows_by key number xs) ≡ true
   rises-by [] h = refl
   rises-by (x ∷ xs) h = go (number x) (rises-by xs) (over-by (key x) xs)
     where
-      go : (o : Option ℕ) → (rises key xs ≡ true → rises id_of (rows_by key number xs) ≡ true)
+      go : (o : Option ℕ) → (rises key xs ≡ true → rises listed_id (rows_by key number xs) ≡ true)
           → (list_all (λ y. ltb (key x) (key y)) xs ≡ true → list_all (λ (r : ListRow). ltb (key x) r.id) (rows_by key number xs) ≡ true)
-          → rises id_of (option_map_or (λ m. record { id = key x; number = m } ∷ rows_by key number xs) o (rows_by key number xs)) ≡ true
+          → rises listed_id (option_map_or (λ m. record { id = key x; number = m } ∷ rows_by key number xs) o (rows_by key number xs)) ≡ true
       go None ih l = grind (arith, nat_tests)
       go (Some m) ih l = grind (arith, nat_tests)
 
   abbrev pub row_by : ℕ → X → Option ListRow
   row_by q x = option_map (λ n. record { id = q; number = n }) (number x)
 
-  pub row-by : (q : ℕ) (xs : List X) → rises key xs ≡ true → row_at id_of q (rows_by key number xs) ≡ option_and_then (row_by q) (row_at key q xs)
+  pub row-by : (q : ℕ) (xs : List X) → rises key xs ≡ true → row_at listed_id q (rows_by key number xs) ≡ option_and_then (row_by q) (row_at key q xs)
   row-by q [] h = refl
-  row-by q (x ∷ xs) h = go (number x) refl (eqb q (key x)) refl (row-by q xs (grind (arith, nat_tests))) (λ e. row_at-below id_of q (rows_by key number xs) (over-by q xs e)) (grind (arith, nat_tests))
+  row-by q (x ∷ xs) h = go (number x) refl (eqb q (key x)) refl (row-by q xs (grind (arith, nat_tests))) (λ e. row_at-below listed_id q (rows_by key number xs) (over-by q xs e)) (grind (arith, nat_tests))
     where
-      go : (o : Option ℕ) → number x ≡ o → (b : Bool) → eqb q (key x) ≡ b → row_at id_of q (rows_by key number xs) ≡ option_and_then (row_by q) (row_at key q xs)
-          → (list_all (λ y. ltb q (key y)) xs ≡ true → row_at id_of q (rows_by key number xs) ≡ None) → list_all (λ y. ltb (key x) (key y)) xs ≡ true
-          → row_at id_of q (option_map_or (λ m. record { id = key x; number = m } ∷ rows_by key number xs) o (rows_by key number xs)) ≡ option_and_then (row_by q) (cond b (Some x) (row_at key q xs))
+      go : (o : Option ℕ) → number x ≡ o → (b : Bool) → eqb q (key x) ≡ b → row_at listed_id q (rows_by key number xs) ≡ option_and_then (row_by q) (row_at key q xs)
+          → (list_all (λ y. ltb q (key y)) xs ≡ true → row_at listed_id q (rows_by key number xs) ≡ None) → list_all (λ y. ltb (key x) (key y)) xs ≡ true
+          → row_at listed_id q (option_map_or (λ m. record { id = key x; number = m } ∷ rows_by key number xs) o (rows_by key number xs)) ≡ option_and_then (row_by q) (cond b (Some x) (row_at key q xs))
       go None e true is ih low h = let at : q ≡ key x = grind (arith, nat_tests) in low (rw at h) ∙ sym (ap (option_map (λ n. record { id = q; number = n })) e)
       go None e false is ih low h = ih
       go (Some m) e true is ih low h =
           let at : key x ≡ q = grind (arith, nat_tests) in
-          ap (λ b. cond b (Some (record { id = key x; number = m })) (row_at id_of q (rows_by key number xs))) is ∙ ap (λ i. Some (record { id = i; number = m })) at
+          ap (λ b. cond b (Some (record { id = key x; number = m })) (row_at listed_id q (rows_by key number xs))) is ∙ ap (λ i. Some (record { id = i; number = m })) at
           ∙ sym (ap (option_map (λ n. record { id = q; number = n })) e)
-      go (Some m) e false is ih low h = ap (λ b. cond b (Some (record { id = key x; number = m })) (row_at id_of q (rows_by key number xs))) is ∙ ih
+      go (Some m) e false is ih low h = ap (λ b. cond b (Some (record { id = key x; number = m })) (row_at listed_id q (rows_by key number xs))) is ∙ ih
 
 module _ {X : Type 0} (key : X → ℕ) (number : X → Option ℕ) where
   rowed : (q : ℕ) (a : Option X) → option_and_then (row_by key number q) a ≡ option_map (λ n. record { id = q; number = n }) (option_and_then number a)
@@ -64,7 +64,7 @@ module _ {X : Type 0} (key : X → ℕ) (number : X → Option ℕ) where
   rowed q (Some x) = refl
 
   -- the number that an ID has among the rows of a table
-  pub number-by : (q : ℕ) (xs : List X) → rises key xs ≡ true → number_at (rows_by key number xs) q ≡ option_and_then number (row_at key q xs)
+  pub number-by : (q : ℕ) (xs : List X) → rises key xs ≡ true → listed_number (rows_by key number xs) q ≡ option_and_then number (row_at key q xs)
   number-by q xs h = ap (option_map (λ (r : ListRow). r.number)) (row-by key number q xs h ∙ rowed q (row_at key q xs)) ∙ go (option_and_then number (row_at key q xs))
     where
       go : (o : Option ℕ) → option_map (λ (r : ListRow). r.number) (option_map (λ n. record { id = q; number = n }) o) ≡ o
@@ -75,17 +75,17 @@ module _ {X : Type 0} (key : X → ℕ) (number : X → Option ℕ) where
   pub changed-by : (xs ys : List X) (i : ℕ) (o : Option ℕ) → rises key xs ≡ true → rises key ys ≡ true → option_and_then number (row_at key i ys) ≡ o
       → ((q : ℕ) → q ≢ i → option_and_then number (row_at key q ys) ≡ option_and_then number (row_at key q xs)) → rows_by key number ys ≡ with_number i o (rows_by key number xs)
   changed-by xs ys i o g h here others =
-      same_rows id_of (rows_by key number ys) (with_number i o (rows_by key number xs)) (rises-by key number ys h) (rises-with i o (rows_by key number xs) (rises-by key number xs g))
+      same_rows listed_id (rows_by key number ys) (with_number i o (rows_by key number xs)) (rises-by key number ys h) (rises-with i o (rows_by key number xs) (rises-by key number xs g))
       (λ q. row-by key number q ys h ∙ rowed q (row_at key q ys) ∙ go q ∙ sym (row-with i q o (rows_by key number xs) (rises-by key number xs g)))
     where
-      go : (q : ℕ) → option_map (λ n. record { id = q; number = n }) (option_and_then number (row_at key q ys)) ≡ cond (eqb q i) (option_map (λ n. record { id = i; number = n }) o) (row_at id_of q (rows_by key number xs))
+      go : (q : ℕ) → option_map (λ n. record { id = q; number = n }) (option_and_then number (row_at key q ys)) ≡ cond (eqb q i) (option_map (λ n. record { id = i; number = n }) o) (row_at listed_id q (rows_by key number xs))
       go q = elim (cases_eq q i) [
         | inl same ↦
             ap (λ k. option_map (λ n. record { id = k; number = n }) (option_and_then number (row_at key k ys))) same ∙ ap (option_map (λ n. record { id = i; number = n })) here
-            ∙ sym (ap (λ b. cond b (option_map (λ n. record { id = i; number = n }) o) (row_at id_of q (rows_by key number xs))) (eq-eqb q i same))
+            ∙ sym (ap (λ b. cond b (option_map (λ n. record { id = i; number = n }) o) (row_at listed_id q (rows_by key number xs))) (eq-eqb q i same))
         | inr ne ↦
             ap (option_map (λ n. record { id = q; number = n })) (others q ne) ∙ sym (rowed q (row_at key q xs)) ∙ sym (row-by key number q xs g)
-            ∙ sym (ap (λ b. cond b (option_map (λ n. record { id = i; number = n }) o) (row_at id_of q (rows_by key number xs))) (ne_eqb q i ne))
+            ∙ sym (ap (λ b. cond b (option_map (λ n. record { id = i; number = n }) o) (row_at listed_id q (rows_by key number xs))) (ne_eqb q i ne))
       ]
 
   -- an item is put into the table
@@ -95,18 +95,18 @@ module _ {X : Type 0} (key : X → ℕ) (number : X → Option ℕ) where
       (λ q ne. ap (option_and_then number) (row_at-put key q x xs ∙ ap (λ b. cond b (Some x) (row_at key q xs)) (ne_eqb q (key x) ne)))
 
   -- items are taken out of it by their key
-  pub without-by : (i : ℕ) (p : X → Bool) (xs : List X) → ((x : X) → p x ≡ eqb i (key x)) → rows_by key number (without p xs) ≡ without_id i (rows_by key number xs)
+  pub without-by : (i : ℕ) (p : X → Bool) (xs : List X) → ((x : X) → p x ≡ eqb i (key x)) → rows_by key number (without p xs) ≡ without_row i (rows_by key number xs)
   without-by i p [] s = refl
   without-by i p (x ∷ xs) s = ap (λ b. rows_by key number (cond (not b) (x ∷ without p xs) (without p xs))) (s x) ∙ go (number x) refl (eqb i (key x)) refl (without-by i p xs s)
     where
-      go : (o : Option ℕ) → number x ≡ o → (b : Bool) → eqb i (key x) ≡ b → rows_by key number (without p xs) ≡ without_id i (rows_by key number xs)
-          → rows_by key number (cond (not b) (x ∷ without p xs) (without p xs)) ≡ without_id i (option_map_or (λ m. record { id = key x; number = m } ∷ rows_by key number xs) o (rows_by key number xs))
+      go : (o : Option ℕ) → number x ≡ o → (b : Bool) → eqb i (key x) ≡ b → rows_by key number (without p xs) ≡ without_row i (rows_by key number xs)
+          → rows_by key number (cond (not b) (x ∷ without p xs) (without p xs)) ≡ without_row i (option_map_or (λ m. record { id = key x; number = m } ∷ rows_by key number xs) o (rows_by key number xs))
       go None e true is ih = ih
       go None e false is ih = ap (λ z. option_map_or (λ m. record { id = key x; number = m } ∷ rows_by key number (without p xs)) z (rows_by key number (without p xs))) e ∙ ih
-      go (Some m) e true is ih = ih ∙ sym (ap (λ b. cond (not b) (record { id = key x; number = m } ∷ without_id i (rows_by key number xs)) (without_id i (rows_by key number xs))) is)
+      go (Some m) e true is ih = ih ∙ sym (ap (λ b. cond (not b) (record { id = key x; number = m } ∷ without_row i (rows_by key number xs)) (without_row i (rows_by key number xs))) is)
       go (Some m) e false is ih =
           ap (λ z. option_map_or (λ m. record { id = key x; number = m } ∷ rows_by key number (without p xs)) z (rows_by key number (without p xs))) e ∙ ap (λ z. record { id = key x; number = m } ∷ z) ih
-          ∙ sym (ap (λ b. cond (not b) (record { id = key x; number = m } ∷ without_id i (rows_by key number xs)) (without_id i (rows_by key number xs))) is)
+          ∙ sym (ap (λ b. cond (not b) (record { id = key x; number = m } ∷ without_row i (rows_by key number xs)) (without_row i (rows_by key number xs))) is)
 
   -- a change of one item by its key
   pub change-by : (i : ℕ) (f : X → X) (x : X) (xs : List X) → ((y : X) → key (f y) ≡ key y) → ((y : X) → key y ≢ i → number (f y) ≡ number y) → rises key xs ≡ true → row_at key i xs ≡ Some x

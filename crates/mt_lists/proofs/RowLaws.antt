@@ -5,68 +5,68 @@ use Rattle.std.proofs.lemmas.Bool.{cases_eq, ne_eqb, false≢true}
 use Rattle.std.proofs.lemmas.Bool.Decides.{nat_tests}
 use Rattle.mt_skel.specs.Keyed.{row_at, put, rises}
 use Rattle.mt_skel.proofs.KeyedLaws.{row_at-put, row_at-key, rises-put, rises-filter, same_rows}
-use Rattle.mt_lists.specs.Lists.{ListRow, id_of, number_at, without_id, with_number}
+use Rattle.mt_lists.specs.Lists.{ListRow, listed_id, listed_number, without_row, with_number}
 use Rattle.mt_lists.proofs.IdLaws.{row-without}
 use Rattle.mt_lists.proofs.LinkLaws.{without-absent}
 
 -- the row of an ID once it has this number, or none
-pub row-with : (i q : ℕ) (o : Option ℕ) (rows : List ListRow) → rises id_of rows ≡ true → row_at id_of q (with_number i o rows) ≡ cond (eqb q i) (option_map (λ n. record { id = i; number = n }) o) (row_at id_of q rows)
-row-with i q None rows h = row-without i q rows h ∙ ap (λ b. cond b None (row_at id_of q rows)) (turned i q)
+pub row-with : (i q : ℕ) (o : Option ℕ) (rows : List ListRow) → rises listed_id rows ≡ true → row_at listed_id q (with_number i o rows) ≡ cond (eqb q i) (option_map (λ n. record { id = i; number = n }) o) (row_at listed_id q rows)
+row-with i q None rows h = row-without i q rows h ∙ ap (λ b. cond b None (row_at listed_id q rows)) (turned i q)
   where
     turned : (a b : ℕ) → eqb a b ≡ eqb b a
     turned a b = grind (arith, nat_tests)
-row-with i q (Some n) rows h = row_at-put id_of q (record { id = i; number = n }) rows
+row-with i q (Some n) rows h = row_at-put listed_id q (record { id = i; number = n }) rows
 
-pub rises-with : (i : ℕ) (o : Option ℕ) (rows : List ListRow) → rises id_of rows ≡ true → rises id_of (with_number i o rows) ≡ true
-rises-with i None rows h = rises-filter id_of (λ (r : ListRow). not (eqb i r.id)) rows h
-rises-with i (Some n) rows h = rises-put id_of (record { id = i; number = n }) rows h
+pub rises-with : (i : ℕ) (o : Option ℕ) (rows : List ListRow) → rises listed_id rows ≡ true → rises listed_id (with_number i o rows) ≡ true
+rises-with i None rows h = rises-filter listed_id (λ (r : ListRow). not (eqb i r.id)) rows h
+rises-with i (Some n) rows h = rises-put listed_id (record { id = i; number = n }) rows h
 
 -- an ID without a number has no row
-pub row-unnumbered : (i : ℕ) (rows : List ListRow) → number_at rows i ≡ None → row_at id_of i rows ≡ None
-row-unnumbered i rows e = go (row_at id_of i rows) e
+pub row-unnumbered : (i : ℕ) (rows : List ListRow) → listed_number rows i ≡ None → row_at listed_id i rows ≡ None
+row-unnumbered i rows e = go (row_at listed_id i rows) e
   where
     go : (o : Option ListRow) → option_map (λ (r : ListRow). r.number) o ≡ None → o ≡ None
     go None e = refl
     go (Some r) e = absurd (cc)
 
 -- a row that was taken away
-pub number-taken : (i : ℕ) (rows : List ListRow) → rises id_of rows ≡ true → number_at (without_id i rows) i ≡ None
-number-taken i rows h = ap (option_map (λ (r : ListRow). r.number)) (row-without i i rows h ∙ ap (λ b. cond b None (row_at id_of i rows)) (eq-eqb i i refl))
+pub number-taken : (i : ℕ) (rows : List ListRow) → rises listed_id rows ≡ true → listed_number (without_row i rows) i ≡ None
+number-taken i rows h = ap (option_map (λ (r : ListRow). r.number)) (row-without i i rows h ∙ ap (λ b. cond b None (row_at listed_id i rows)) (eq-eqb i i refl))
 
 -- a row that is taken away before it is put
-pub put-taken : (i n : ℕ) (rows : List ListRow) → rises id_of rows ≡ true → put id_of (record { id = i; number = n }) (without_id i rows) ≡ with_number i (Some n) rows
+pub put-taken : (i n : ℕ) (rows : List ListRow) → rises listed_id rows ≡ true → put listed_id (record { id = i; number = n }) (without_row i rows) ≡ with_number i (Some n) rows
 put-taken i n rows h =
-    same_rows id_of (put id_of (record { id = i; number = n }) (without_id i rows)) (with_number i (Some n) rows)
-    (rises-put id_of (record { id = i; number = n }) (without_id i rows) (rises-filter id_of (λ (r : ListRow). not (eqb i r.id)) rows h))
+    same_rows listed_id (put listed_id (record { id = i; number = n }) (without_row i rows)) (with_number i (Some n) rows)
+    (rises-put listed_id (record { id = i; number = n }) (without_row i rows) (rises-filter listed_id (λ (r : ListRow). not (eqb i r.id)) rows h))
     (rises-with i (Some n) rows h)
-    (λ q. row_at-put id_of q (record { id = i; number = n }) (without_id i rows)
+    (λ q. row_at-put listed_id q (record { id = i; number = n }) (without_row i rows)
     ∙ ap (cond (eqb q i) (Some (record { id = i; number = n }))) (row-without i q rows h)
-    ∙ go q (row_at id_of q rows) ∙ sym (row-with i q (Some n) rows h))
+    ∙ go q (row_at listed_id q rows) ∙ sym (row-with i q (Some n) rows h))
   where
     go : (q : ℕ) (o : Option ListRow) → cond (eqb q i) (Some (record { id = i; number = n })) (cond (eqb i q) None o) ≡ cond (eqb q i) (Some (record { id = i; number = n })) o
     go q o = grind (arith, nat_tests)
 
 -- a number that an ID has already
-pub with-same : (i : ℕ) (o : Option ℕ) (rows : List ListRow) → rises id_of rows ≡ true → number_at rows i ≡ o → rows ≡ with_number i o rows
+pub with-same : (i : ℕ) (o : Option ℕ) (rows : List ListRow) → rises listed_id rows ≡ true → listed_number rows i ≡ o → rows ≡ with_number i o rows
 with-same i o rows h e =
-    same_rows id_of rows (with_number i o rows) h (rises-with i o rows h) (λ q. go q (row_at id_of q rows) refl (row_at-key id_of q rows) ∙ sym (row-with i q o rows h))
+    same_rows listed_id rows (with_number i o rows) h (rises-with i o rows h) (λ q. go q (row_at listed_id q rows) refl (row_at-key listed_id q rows) ∙ sym (row-with i q o rows h))
   where
-    go : (q : ℕ) (p : Option ListRow) → row_at id_of q rows ≡ p → ((s : ListRow) → p ≡ Some s → id_of s ≡ q) → p ≡ cond (eqb q i) (option_map (λ n. record { id = i; number = n }) o) p
+    go : (q : ℕ) (p : Option ListRow) → row_at listed_id q rows ≡ p → ((s : ListRow) → p ≡ Some s → listed_id s ≡ q) → p ≡ cond (eqb q i) (option_map (λ n. record { id = i; number = n }) o) p
     go q p is k = elim (cases_eq q i) [
       | inl same ↦
           here p (λ s f. k s f ∙ same)
-          ∙ ap (option_map (λ n. record { id = i; number = n })) (ap (option_map (λ (r : ListRow). r.number)) (sym is ∙ ap (λ j. row_at id_of j rows) same) ∙ e)
+          ∙ ap (option_map (λ n. record { id = i; number = n })) (ap (option_map (λ (r : ListRow). r.number)) (sym is ∙ ap (λ j. row_at listed_id j rows) same) ∙ e)
           ∙ sym (ap (λ b. cond b (option_map (λ n. record { id = i; number = n }) o) p) (eq-eqb q i same))
       | inr other ↦ sym (ap (λ b. cond b (option_map (λ n. record { id = i; number = n }) o) p) (ne_eqb q i other))
     ]
       where
-        here : (p : Option ListRow) → ((s : ListRow) → p ≡ Some s → id_of s ≡ i) → p ≡ option_map (λ n. record { id = i; number = n }) (option_map (λ (r : ListRow). r.number) p)
+        here : (p : Option ListRow) → ((s : ListRow) → p ≡ Some s → listed_id s ≡ i) → p ≡ option_map (λ n. record { id = i; number = n }) (option_map (λ (r : ListRow). r.number) p)
         here None k = refl
         here (Some s) k = ap (λ j. Some (record { id = j; number = s.number })) (k s refl)
 
 -- and so it is before it is given another number, or none
-pub with-taken : (i : ℕ) (o : Option ℕ) (rows : List ListRow) → rises id_of rows ≡ true → with_number i o (without_id i rows) ≡ with_number i o rows
-with-taken i None rows h = without-absent i (without_id i rows) (row-unnumbered i (without_id i rows) (number-taken i rows h))
+pub with-taken : (i : ℕ) (o : Option ℕ) (rows : List ListRow) → rises listed_id rows ≡ true → with_number i o (without_row i rows) ≡ with_number i o rows
+with-taken i None rows h = without-absent i (without_row i rows) (row-unnumbered i (without_row i rows) (number-taken i rows h))
 with-taken i (Some n) rows h = put-taken i n rows h
 
 -- options that test as equal are

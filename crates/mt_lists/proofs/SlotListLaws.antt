@@ -9,7 +9,7 @@ use Rattle.mt_lists.specs.declared.slot_lists.ties.Tie.{Tie}
 use Rattle.mt_lists.specs.declared.slot_lists.tops.Top.{Top}
 use Rattle.mt_lists.specs.declared.slot_lists.tops.FoundTop.{FoundTop}
 use Rattle.mt_lists.specs.declared.heads.Ends.{Ends}
-use Rattle.mt_lists.specs.Lists.{ListRow, id_of, number_at, ids, above, next_of}
+use Rattle.mt_lists.specs.Lists.{ListRow, listed_id, listed_number, ids, above, next_of}
 use Rattle.mt_lists.specs.Links.{Index, below, last_from, ends_of}
 use Rattle.mt_lists.specs.SlotLists.{id_in, lengthened, LeadsTo}
 use Rattle.mt_lists.specs.Ties.{tie_at, id_of_tie, id_at, ids_in, tied_row, rows_in, ends_in, IsTied}
@@ -45,9 +45,9 @@ top-small ties tops x n few (Some f) is =
 pub lead-in : (ties : List (Option Tie)) (o i : Option ℕ) → LeadsTo (id_at ties) o i → LeadsTo (id_in (ids_in ties)) o i
 lead-in ties o i e = lead-more (id_at ties) (id_in (ids_in ties)) o i (λ s q f. id-in ties s ∙ f) e
 
-pub number-tie : (ties : List (Option Tie)) (tops : Index Top) → IsTied ties tops → (slot : ℕ) (t : Tie) → tie_at ties slot ≡ Some t → Some t.number ≡ option_and_then (number_at (rows_in ties)) (id_in (ids_in ties) slot)
+pub number-tie : (ties : List (Option Tie)) (tops : Index Top) → IsTied ties tops → (slot : ℕ) (t : Tie) → tie_at ties slot ≡ Some t → Some t.number ≡ option_and_then (listed_number (rows_in ties)) (id_in (ids_in ties) slot)
 number-tie ties tops x slot t there =
-    sym (ap (option_and_then (number_at (rows_in ties))) (id-in ties slot ∙ ap id_of_tie there) ∙ ap (option_map (λ (r : ListRow). r.number)) (row-tie ties x.apart slot t there))
+    sym (ap (option_and_then (listed_number (rows_in ties))) (id-in ties slot ∙ ap id_of_tie there) ∙ ap (option_map (λ (r : ListRow). r.number)) (row-tie ties x.apart slot t there))
 
 pub after-in : (ties : List (Option Tie)) (tops : Index Top) → IsTied ties tops → (slot : ℕ) → LeadsTo (id_in (ids_in ties)) (option_and_then (λ (t : Tie). t.after) (tie_at ties slot)) (option_and_then (next_of (rows_in ties)) (id_in (ids_in ties) slot))
 after-in ties tops x slot = go (tie_at ties slot) refl
@@ -103,7 +103,7 @@ pub rows-wider : (ties : List (Option Tie)) (n : ℕ) → rows_in (ties ++ repli
 unfolding rows_in
 rows-wider [] n = rows-none n
 rows-wider (None ∷ ties) n = rows-wider ties n
-rows-wider (Some t ∷ ties) n = ap (put id_of (tied_row t)) (rows-wider ties n)
+rows-wider (Some t ∷ ties) n = ap (put listed_id (tied_row t)) (rows-wider ties n)
 
 tie-none : (n k : ℕ) → tie_at (replicate n None) k ≡ None
 tie-none zero k = refl
@@ -142,7 +142,7 @@ lengthened-in ties new width e = ap ids_in e ∙ ids-wider ties (width - length 
     length-ids_in (x ∷ ties) = ap suc (length-ids_in ties)
 
 -- a walk along the slots of a list: the ID in this one is in the list, and the next slot has the next ID
-pub walk-slot : (slots : List (Option ℕ)) (rows : List ListRow) (n slot id : ℕ) (here after : Option ℕ) → rises id_of rows ≡ true → here ≡ Some slot → id_in slots slot ≡ Some id
+pub walk-slot : (slots : List (Option ℕ)) (rows : List ListRow) (n slot id : ℕ) (here after : Option ℕ) → rises listed_id rows ≡ true → here ≡ Some slot → id_in slots slot ≡ Some id
     → LeadsTo (id_in slots) after (option_and_then (next_of rows) (id_in slots slot)) → IfSome (option_and_then (id_in slots) here) (λ k. among (ids rows n) k ≡ true)
     → (among (ids rows n) id ≡ true) × (option_and_then (id_in slots) after ≡ above id (ids rows n)) × (option_and_then (id_in slots) here ≡ Some id)
 walk-slot slots rows n slot id here after h is at lead inside =

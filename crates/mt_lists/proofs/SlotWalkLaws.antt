@@ -9,7 +9,7 @@ use Rattle.mt_lists.specs.declared.entries.Entry.{Entry}
 use Rattle.mt_lists.specs.declared.slot_lists.ties.Tie.{Tie}
 use Rattle.mt_lists.specs.declared.slot_lists.tops.Top.{Top}
 use Rattle.mt_lists.specs.declared.heads.Ends.{Ends}
-use Rattle.mt_lists.specs.Lists.{id_of, ids, above}
+use Rattle.mt_lists.specs.Lists.{listed_id, ids, above}
 use Rattle.mt_lists.specs.Links.{Index, below, ends_of, entry_of, IsSought}
 use Rattle.mt_lists.specs.SlotLists.{LeadsTo}
 use Rattle.mt_lists.specs.Ties.{tie_at, id_of_tie, id_at, tied_row, rows_in, ends_in, IsTied, IsBelow}
@@ -231,14 +231,14 @@ module _ (ties : List (Option Tie)) (tops : Index Top) (x : IsTied ties tops) (i
         ap (λ o. Some o) at
         ∙ ap (option_map (λ i. Some i)) (sought-end-last id e.0.last (ids (rows_in ties) n) (rising-ids (rows_in ties) n (rises-in ties)) (ap (option_map (λ (y : Ends). y.last)) e.1) (below-of ties id top.last low e.0.last at))
 
-    pub follow-first : row_at id_of id (rows_in ties) ≡ None → LeadsTo (id_at ties) None (below id (ids (rows_in ties) n)) → LeadsTo (id_at ties) (Some top.first) (above id (ids (rows_in ties) n))
+    pub follow-first : row_at listed_id id (rows_in ties) ≡ None → LeadsTo (id_at ties) None (below id (ids (rows_in ties) n)) → LeadsTo (id_at ties) (Some top.first) (above id (ids (rows_in ties) n))
     follow-first absent before =
         let e = top-ends in
         let xs = ids (rows_in ties) n in
         ap (λ o. Some o) (ends-parts ties top e.0 e.2).0
         ∙ ap (option_map (λ i. Some i)) (sym (above-first id xs (in-none (rows_in ties) (rises-in ties) id n absent) (lead-no (id_at ties) _ before) ∙ sym (ends-first xs) ∙ ap (option_map (λ (y : Ends). y.first)) e.1))
 
-  pub follow-some : row_at id_of id (rows_in ties) ≡ None → (other : ℕ) → LeadsTo (id_at ties) (Some other) (below id (ids (rows_in ties) n))
+  pub follow-some : row_at listed_id id (rows_in ties) ≡ None → (other : ℕ) → LeadsTo (id_at ties) (Some other) (below id (ids (rows_in ties) n))
       → LeadsTo (id_at ties) (option_and_then (λ (t : Tie). t.after) (tie_at ties other)) (above id (ids (rows_in ties) n))
   follow-some absent other before =
       let xs = ids (rows_in ties) n in

@@ -10,26 +10,26 @@ use Rattle.mt_skel.proofs.KeyedLaws.{row_at-put, row_at-key, rises-put, same_row
 use Rattle.mt_lists.specs.declared.entries.Entry.{Entry}
 use Rattle.mt_lists.specs.declared.heads.Ends.{Ends}
 use Rattle.mt_lists.specs.declared.heads.Head.{Head}
-use Rattle.mt_lists.specs.Lists.{ListRow, id_of, ids}
-use Rattle.mt_lists.specs.Links.{Index, row_of, rows_from, rows_of, ends_of, entry_of, entry_at, ends_at, IsLinked}
+use Rattle.mt_lists.specs.Lists.{ListRow, listed_id, ids}
+use Rattle.mt_lists.specs.Links.{Index, row_of_entry, rows_from, rows_of, ends_of, entry_of, entry_at, ends_at, IsLinked}
 
-row-from : (es : List (ℕ × Entry)) (q : ℕ) → row_at id_of q (rows_from es) ≡ option_map (row_of q) (lookup (nat_eq q) es)
+row-from : (es : List (ℕ × Entry)) (q : ℕ) → row_at listed_id q (rows_from es) ≡ option_map (row_of_entry q) (lookup (nat_eq q) es)
 row-from [] q = refl
-row-from (e ∷ es) q = row_at-put id_of q (row_of e.0 e.1) (rows_from es) ∙ ap (cond (eqb q e.0) (Some (row_of e.0 e.1))) (row-from es q) ∙ go (eqb q e.0) refl
+row-from (e ∷ es) q = row_at-put listed_id q (row_of_entry e.0 e.1) (rows_from es) ∙ ap (cond (eqb q e.0) (Some (row_of_entry e.0 e.1))) (row-from es q) ∙ go (eqb q e.0) refl
   where
-    go : (b : Bool) → eqb q e.0 ≡ b → cond b (Some (row_of e.0 e.1)) (option_map (row_of q) (lookup (nat_eq q) es)) ≡ option_map (row_of q) (cond b (Some e.1) (lookup (nat_eq q) es))
-    go true is = let same : e.0 ≡ q = grind (arith, nat_tests) in ap (λ i. Some (row_of i e.1)) same
+    go : (b : Bool) → eqb q e.0 ≡ b → cond b (Some (row_of_entry e.0 e.1)) (option_map (row_of_entry q) (lookup (nat_eq q) es)) ≡ option_map (row_of_entry q) (cond b (Some e.1) (lookup (nat_eq q) es))
+    go true is = let same : e.0 ≡ q = grind (arith, nat_tests) in ap (λ i. Some (row_of_entry i e.1)) same
     go false is = refl
 
-rises-from : (es : List (ℕ × Entry)) → rises id_of (rows_from es) ≡ true
+rises-from : (es : List (ℕ × Entry)) → rises listed_id (rows_from es) ≡ true
 rises-from [] = refl
-rises-from (e ∷ es) = rises-put id_of (row_of e.0 e.1) (rows_from es) (rises-from es)
+rises-from (e ∷ es) = rises-put listed_id (row_of_entry e.0 e.1) (rows_from es) (rises-from es)
 
-pub rises-rows : (m : Index Entry) → rises id_of (rows_of m) ≡ true
+pub rises-rows : (m : Index Entry) → rises listed_id (rows_of m) ≡ true
 unfolding rows_of
 rises-rows m = rises-from m.entries
 
-pub row-rows : (m : Index Entry) (q : ℕ) → row_at id_of q (rows_of m) ≡ option_map (row_of q) (get nat_eq m q)
+pub row-rows : (m : Index Entry) (q : ℕ) → row_at listed_id q (rows_of m) ≡ option_map (row_of_entry q) (get nat_eq m q)
 unfolding rows_of
 row-rows m q = row-from m.entries q
 
@@ -42,13 +42,13 @@ unfolding rows_of
 rows-same m n e = ap rows_from e
 
 -- a table that has the entries of these rows
-module _ (m : Index Entry) (rows : List ListRow) (h : rises id_of rows ≡ true) (told : (q : ℕ) → get nat_eq m q ≡ entry_at rows q) where
-  kept : (q : ℕ) (o : Option ListRow) → ((s : ListRow) → o ≡ Some s → id_of s ≡ q) → option_map (row_of q) (option_map (entry_of rows) o) ≡ o
+module _ (m : Index Entry) (rows : List ListRow) (h : rises listed_id rows ≡ true) (told : (q : ℕ) → get nat_eq m q ≡ entry_at rows q) where
+  kept : (q : ℕ) (o : Option ListRow) → ((s : ListRow) → o ≡ Some s → listed_id s ≡ q) → option_map (row_of_entry q) (option_map (entry_of rows) o) ≡ o
   kept q None k = refl
   kept q (Some s) k = ap (λ i. Some (record { id = i; number = s.number })) (sym (k s refl))
 
   pub rows-told : rows_of m ≡ rows
-  rows-told = same_rows id_of (rows_of m) rows (rises-rows m) h (λ q. row-rows m q ∙ ap (option_map (row_of q)) (told q) ∙ kept q (row_at id_of q rows) (row_at-key id_of q rows))
+  rows-told = same_rows listed_id (rows_of m) rows (rises-rows m) h (λ q. row-rows m q ∙ ap (option_map (row_of_entry q)) (told q) ∙ kept q (row_at listed_id q rows) (row_at-key listed_id q rows))
 
   pub linked-told : (heads : Index Head) → ((n : ℕ) → ends_at heads n ≡ ends_of (ids rows n)) → IsLinked m heads
   linked-told heads ends = record {
@@ -65,13 +65,13 @@ pub linked-none : (m : Index Entry) (heads : Index Head) → m.entries ≡ [] �
 linked-none m heads e f = linked-told m [] refl (λ q. ap (lookup (nat_eq q)) e) heads (λ k. ap (λ es. option_map (λ (h : Head). h.ends) (lookup (nat_eq k) es)) f)
 
 -- how many rows there are
-pub length-put-most : (r : ListRow) (rows : List ListRow) → length (put id_of r rows) ≤ suc (length rows)
+pub length-put-most : (r : ListRow) (rows : List ListRow) → length (put listed_id r rows) ≤ suc (length rows)
 length-put-most r [] = omega arith
 length-put-most r (y ∷ ys) =
     let ih = length-put-most r ys in
     grind (arith, nat_tests)
 
-length-put-new : (r : ListRow) (rows : List ListRow) → row_at id_of r.id rows ≡ None → length (put id_of r rows) ≡ suc (length rows)
+length-put-new : (r : ListRow) (rows : List ListRow) → row_at listed_id r.id rows ≡ None → length (put listed_id r rows) ≡ suc (length rows)
 length-put-new r [] n = refl
 length-put-new r (y ∷ ys) n =
     let ih = length-put-new r ys in
@@ -81,7 +81,7 @@ length-from-most : (es : List (ℕ × Entry)) → length (rows_from es) ≤ leng
 length-from-most [] = omega arith
 length-from-most (e ∷ es) =
     let ih = length-from-most es in
-    let p = length-put-most (row_of e.0 e.1) (rows_from es) in
+    let p = length-put-most (row_of_entry e.0 e.1) (rows_from es) in
     omega arith
 
 lookup-apart : (k : ℕ) (es : List (ℕ × Entry)) → AllByRecursion (λ y. nat_eq k y ≡ false) (keys_of es) → lookup (nat_eq k) es ≡ None
@@ -92,7 +92,7 @@ length-from : (es : List (ℕ × Entry)) → IsDistinct nat_eq (keys_of es) → 
 unfolding IsDistinct
 length-from [] h = refl
 length-from (e ∷ es) h =
-    length-put-new (row_of e.0 e.1) (rows_from es) (row-from es e.0 ∙ ap (option_map (row_of e.0)) (lookup-apart e.0 es h.0)) ∙ ap suc (length-from es h.1)
+    length-put-new (row_of_entry e.0 e.1) (rows_from es) (row-from es e.0 ∙ ap (option_map (row_of_entry e.0)) (lookup-apart e.0 es h.0)) ∙ ap suc (length-from es h.1)
 
 pub length-rows : (m : Index Entry) → IsUnique nat_eq m → length (rows_of m) ≡ length m.entries
 unfolding rows_of

@@ -9,7 +9,7 @@ use Rattle.indexmap.specs.IndexMap.{get}
 use Rattle.mt_skel.specs.Keyed.{row_at, put, among}
 use Rattle.mt_lists.specs.declared.slot_lists.ties.Tie.{Tie}
 use Rattle.mt_lists.specs.declared.slot_lists.tops.Top.{Top}
-use Rattle.mt_lists.specs.Lists.{ListRow, id_of, ids, above, names}
+use Rattle.mt_lists.specs.Lists.{ListRow, listed_id, ids, above, names}
 use Rattle.mt_lists.specs.Links.{Index, below, last_from, ends_of, grown}
 use Rattle.mt_lists.specs.SlotLists.{LeadsTo}
 use Rattle.mt_lists.specs.Ties.{tie_at, id_of_tie, id_at, ids_in, tied_row, rows_in, HasNeighbours, ends_in, IsTied, with_before, with_after, given_tie, grown_top}
@@ -37,7 +37,7 @@ free-none (x ∷ ties) zero e = let v : Some x ≡ Some None = e in let w : x �
 free-none (x ∷ ties) (suc k) e = free-none ties k e
 
 -- an ID is put into a slot and into the list of a number
-module _ (ties : List (Option Tie)) (tops : Index Top) (x : IsTied ties tops) (slot id n : ℕ) (free : slice_get ties slot ≡ Some None) (absent : row_at id_of id (rows_in ties) ≡ None)
+module _ (ties : List (Option Tie)) (tops : Index Top) (x : IsTied ties tops) (slot id n : ℕ) (free : slice_get ties slot ≡ Some None) (absent : row_at listed_id id (rows_in ties) ≡ None)
     (b a : Option ℕ) (low : LeadsTo (id_at ties) b (below id (ids (rows_in ties) n))) (high : LeadsTo (id_at ties) a (above id (ids (rows_in ties) n)))
     (set_t after_t before_t : List (Option Tie)) (sets : set_t ≡ slice_set ties slot (Some (record { id = id; number = n; before = b; after = a })))
     (afters : (k : ℕ) → tie_at after_t k ≡ given_tie b (with_after (Some slot)) (tie_at set_t) k)
@@ -49,7 +49,7 @@ module _ (ties : List (Option Tie)) (tops : Index Top) (x : IsTied ties tops) (s
   abbrev new_row : ListRow
   new_row = record { id = id; number = n }
 
-  pub rows-more : rows_in before_t ≡ put id_of new_row (rows_in ties)
+  pub rows-more : rows_in before_t ≡ put listed_id new_row (rows_in ties)
   rows-more = rows_b ∙ ap rows_in sets ∙ rows-put ties slot new_tie free absent
 
   set-here : tie_at set_t slot ≡ Some new_tie

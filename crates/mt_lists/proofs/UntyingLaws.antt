@@ -9,7 +9,7 @@ use Rattle.mt_skel.specs.Keyed.{row_at, among}
 use Rattle.mt_lists.specs.declared.heads.Ends.{Ends}
 use Rattle.mt_lists.specs.declared.slot_lists.ties.Tie.{Tie}
 use Rattle.mt_lists.specs.declared.slot_lists.tops.Top.{Top}
-use Rattle.mt_lists.specs.Lists.{id_of, ids, above, without_id, names}
+use Rattle.mt_lists.specs.Lists.{listed_id, ids, above, without_row, names}
 use Rattle.mt_lists.specs.Links.{Index, below, last_from, ends_of, shrunk}
 use Rattle.mt_lists.specs.SlotLists.{LeadsTo}
 use Rattle.mt_lists.specs.Ties.{tie_at, id_of_tie, id_at, ids_in, tied_row, rows_in, HasNeighbours, ends_in, IsTied, with_before, with_after, given_tie, shrunk_top}
@@ -59,7 +59,7 @@ module _ (ties : List (Option Tie)) (tops : Index Top) (x : IsTied ties tops) (s
   abbrev low_ids : List ℕ
   low_ids = ids (rows_in ties) t.number
 
-  row-there : row_at id_of t.id (rows_in ties) ≡ Some (tied_row t)
+  row-there : row_at listed_id t.id (rows_in ties) ≡ Some (tied_row t)
   row-there = row-tie ties x.apart slot t there
 
   apart-both : AreApart before_t
@@ -76,8 +76,8 @@ module _ (ties : List (Option Tie)) (tops : Index Top) (x : IsTied ties tops) (s
   cut-other : (k : ℕ) → k ≢ slot → tie_at cut_t k ≡ tie_at before_t k
   cut-other k ne = ap (λ s. tie_at s k) cuts ∙ get_or-set_other before_t slot k None None ne
 
-  pub rows-less : rows_in cut_t ≡ without_id t.id (rows_in ties)
-  rows-less = ap rows_in cuts ∙ rows-without before_t apart-both slot _ (given-both t.after t.before t.before t.after (tie_at ties) (tie_at after_t) (tie_at before_t) afters befores slot t there) ∙ ap (without_id t.id) rows_b
+  pub rows-less : rows_in cut_t ≡ without_row t.id (rows_in ties)
+  rows-less = ap rows_in cuts ∙ rows-without before_t apart-both slot _ (given-both t.after t.before t.before t.after (tie_at ties) (tie_at after_t) (tie_at before_t) afters befores slot t there) ∙ ap (without_row t.id) rows_b
 
   id-less : (s q : ℕ) → id_at ties s ≡ Some q → q ≢ t.id → id_at cut_t s ≡ Some q
   id-less s q e ne = ap id_of_tie (cut-other s (λ u. (let v : Some t.id ≡ Some q = sym (ap id_of_tie there) ∙ ap (id_at ties) (sym u) ∙ e in ne (let w : q ≡ t.id = cc in w)))) ∙ same-ids before_t ties ids_b s ∙ e
@@ -95,10 +95,10 @@ module _ (ties : List (Option Tie)) (tops : Index Top) (x : IsTied ties tops) (s
   told-t = x.ties_told slot t there
 
   -- the gone ID is no neighbour
-  gone-below : (q n : ℕ) → below q (ids (without_id t.id (rows_in ties)) n) ≡ Some t.id → ⊥
+  gone-below : (q n : ℕ) → below q (ids (without_row t.id (rows_in ties)) n) ≡ Some t.id → ⊥
   gone-below q n e = true≢false (sym (below-among q t.id _ e).0 ∙ ap (λ xs. among xs t.id) (ids-without t.id (rows_in ties) n) ∙ not-among t.id (ids (rows_in ties) n))
 
-  gone-above : (q n : ℕ) → above q (ids (without_id t.id (rows_in ties)) n) ≡ Some t.id → ⊥
+  gone-above : (q n : ℕ) → above q (ids (without_row t.id (rows_in ties)) n) ≡ Some t.id → ⊥
   gone-above q n e = true≢false (sym (above-among q t.id _ e).0 ∙ ap (λ xs. among xs t.id) (ids-without t.id (rows_in ties) n) ∙ not-among t.id (ids (rows_in ties) n))
 
   told-left : (k : ℕ) (u : Tie) → k ≢ slot → tie_at ties k ≡ Some u

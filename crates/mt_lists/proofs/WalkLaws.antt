@@ -4,7 +4,7 @@ use Rattle.std.specs.List.{filter}
 use Rattle.std.specs.Option.{IfSome, option_and_then}
 use Rattle.std.proofs.lemmas.Bool.Decides.{nat_tests}
 use Rattle.mt_skel.specs.Keyed.{rises, among}
-use Rattle.mt_lists.specs.Lists.{ListRow, id_of, ids, number_at, first, above, next_of}
+use Rattle.mt_lists.specs.Lists.{ListRow, listed_id, ids, listed_number, first, above, next_of}
 use Rattle.mt_lists.proofs.NeighbourLaws.{rising, over, above-among, above-over, over-among}
 use Rattle.mt_lists.proofs.EntryLaws.{after-entry, after-among}
 
@@ -64,12 +64,12 @@ pub walk-falls : (k : ℕ) (xs : List ℕ) (here o : Option ℕ) → rising xs �
 walk-falls k xs here o r m is e = rw (is, e, rest-next k xs r m) (omega arith)
 
 -- the next ID of the same number
-pub next-among : (rows : List ListRow) (n k : ℕ) → rises id_of rows ≡ true → among (ids rows n) k ≡ true → next_of rows k ≡ above k (ids rows n)
+pub next-among : (rows : List ListRow) (n k : ℕ) → rises listed_id rows ≡ true → among (ids rows n) k ≡ true → next_of rows k ≡ above k (ids rows n)
 next-among rows n k h m = sym (after-entry rows k) ∙ after-among rows n k h m
 
 -- which is higher
 pub next-higher : (rows : List ListRow) (k a : ℕ) → next_of rows k ≡ Some a → k < a
-next-higher rows k a e = go (number_at rows k) e
+next-higher rows k a e = go (listed_number rows k) e
   where
     go : (o : Option ℕ) → option_and_then (λ n. above k (ids rows n)) o ≡ Some a → k < a
     go None e = absurd (cc)

@@ -9,7 +9,7 @@ use Rattle.mt_skel.specs.Keyed.{row_at, put}
 use Rattle.mt_lists.specs.declared.entries.Entry.{Entry}
 use Rattle.mt_lists.specs.declared.heads.Ends.{Ends}
 use Rattle.mt_lists.specs.declared.heads.Head.{Head}
-use Rattle.mt_lists.specs.Lists.{ListRow, id_of, ids, above, names}
+use Rattle.mt_lists.specs.Lists.{ListRow, listed_id, ids, above, names}
 
 -- the last below k of a rising list
 abbrev pub below : ℕ → List ℕ → Option ℕ
@@ -32,7 +32,7 @@ entry_of rows r = record { number = r.number; before = below r.id (ids rows r.nu
 
 -- the entry of an ID, if it is there
 abbrev pub entry_at : List ListRow → ℕ → Option Entry
-entry_at rows i = option_map (entry_of rows) (row_at id_of i rows)
+entry_at rows i = option_map (entry_of rows) (row_at listed_id i rows)
 
 -- a table by numbers
 abbrev pub Index : Type 0 → Type 0
@@ -43,13 +43,13 @@ abbrev pub ends_at : Index Head → ℕ → Option Ends
 ends_at heads n = option_map (λ (h : Head). h.ends) (get nat_eq heads n)
 
 -- an entry's row
-abbrev pub row_of : ℕ → Entry → ListRow
-row_of i e = record { id = i; number = e.number }
+abbrev pub row_of_entry : ℕ → Entry → ListRow
+row_of_entry i e = record { id = i; number = e.number }
 
 -- the rows of these entries, by rising ID
 abbrev pub rows_from : List (ℕ × Entry) → List ListRow
 rows_from [] = []
-rows_from (e ∷ es) = put id_of (row_of e.0 e.1) (rows_from es)
+rows_from (e ∷ es) = put listed_id (row_of_entry e.0 e.1) (rows_from es)
 
 -- the rows of a table of entries, by rising ID
 unfoldable pub rows_of : Index Entry → List ListRow

@@ -16,25 +16,25 @@ pub record ListsView : Type 0 where
   pub room : ℕ
 
 -- rows are listed by rising ID
-abbrev pub id_of : ListRow → ℕ
-id_of r = r.id
+abbrev pub listed_id : ListRow → ℕ
+listed_id r = r.id
 
 -- the number that an ID has
-abbrev pub number_at : List ListRow → ℕ → Option ℕ
-number_at rows i = option_map (λ (r : ListRow). r.number) (row_at id_of i rows)
+abbrev pub listed_number : List ListRow → ℕ → Option ℕ
+listed_number rows i = option_map (λ (r : ListRow). r.number) (row_at listed_id i rows)
 
 -- the IDs that have this number, rising
 abbrev pub ids : List ListRow → ℕ → List ℕ
-ids rows n = map id_of (filter (λ (r : ListRow). n == r.number) rows)
+ids rows n = map listed_id (filter (λ (r : ListRow). n == r.number) rows)
 
 -- the row of one ID is taken away
-abbrev pub without_id : ℕ → List ListRow → List ListRow
-without_id i rows = without (λ (r : ListRow). i == r.id) rows
+abbrev pub without_row : ℕ → List ListRow → List ListRow
+without_row i rows = without (λ (r : ListRow). i == r.id) rows
 
 -- an ID has this number from now on, or none
 abbrev pub with_number : ℕ → Option ℕ → List ListRow → List ListRow
-with_number i None rows = without_id i rows
-with_number i (Some n) rows = put id_of (record { id = i; number = n }) rows
+with_number i None rows = without_row i rows
+with_number i (Some n) rows = put listed_id (record { id = i; number = n }) rows
 
 -- the first of a list
 abbrev pub first : List ℕ → Option ℕ
@@ -47,7 +47,7 @@ above k xs = find (λ x. nat_lt k x) xs
 
 -- the ID after this one in the list of its number
 abbrev pub next_of : List ListRow → ℕ → Option ℕ
-next_of rows i = option_and_then (λ n. above i (ids rows n)) (number_at rows i)
+next_of rows i = option_and_then (λ n. above i (ids rows n)) (listed_number rows i)
 
 -- an optional number is this one
 abbrev pub names : Option ℕ → ℕ → Bool

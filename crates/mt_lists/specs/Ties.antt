@@ -7,7 +7,7 @@ use Rattle.mt_skel.specs.Keyed.{put}
 use Rattle.mt_lists.specs.declared.heads.Ends.{Ends}
 use Rattle.mt_lists.specs.declared.slot_lists.ties.Tie.{Tie}
 use Rattle.mt_lists.specs.declared.slot_lists.tops.Top.{Top}
-use Rattle.mt_lists.specs.Lists.{ListRow, id_of, ids, above}
+use Rattle.mt_lists.specs.Lists.{ListRow, listed_id, ids, above}
 use Rattle.mt_lists.specs.Links.{Index, below, ends_of}
 use Rattle.mt_lists.specs.SlotLists.{LeadsTo}
 
@@ -35,7 +35,7 @@ tied_row t = record { id = t.id; number = t.number }
 unfoldable pub rows_in : List (Option Tie) → List ListRow
 rows_in [] = []
 rows_in (None ∷ ties) = rows_in ties
-rows_in (Some t ∷ ties) = put id_of (tied_row t) (rows_in ties)
+rows_in (Some t ∷ ties) = put listed_id (tied_row t) (rows_in ties)
 
 -- a tie leads to the slots of its neighbours in the list of its number
 pub record HasNeighbours (ties : List (Option Tie)) (rows : List ListRow) (t : Tie) : Type 0 where

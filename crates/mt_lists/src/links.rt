@@ -3,7 +3,7 @@ ghost use Rattle.std.specs.Prelude.{◌≡◌, ℕ, ◌+◌, ◌<◌, ◌≤◌,
 ghost use Rattle.std.specs.Option.{option_map};
 ghost use Rattle.indexmap.specs.IndexMap.{spare};
 ghost use Rattle.mt_skel.specs.Keyed.{row_at, put, among};
-ghost use Rattle.mt_lists.specs.Lists.{id_of, ids, above, without_id};
+ghost use Rattle.mt_lists.specs.Lists.{listed_id, ids, above, without_row};
 ghost use Rattle.mt_lists.specs.Links.{below, rows_of, ends_at, IsLinked};
 
 use crate::entries::{Entry, after_of, before_of, set_after, set_before};
@@ -103,7 +103,7 @@ fn follower(
 ) -> Option<u64>
     requires linked { IsLinked entries.now heads.now }
     requires ends { option_map (λ f. f.head.ends) found ≡ ends_at heads.now number }
-    requires absent { row_at id_of id (rows_of entries.now) ≡ None }
+    requires absent { row_at listed_id id (rows_of entries.now) ≡ None }
     requires before { before ≡ below id (ids (rows_of entries.now) number) }
     ensures { result ≡ above id (ids (rows_of entries.now) number) }
 {
@@ -125,11 +125,11 @@ pub(crate) fn link(
     number: u64,
 )
     requires linked { IsLinked entries.old heads.old }
-    requires absent { row_at id_of id (rows_of entries.old) ≡ None }
+    requires absent { row_at listed_id id (rows_of entries.old) ≡ None }
     requires entries_room { 0 < spare entries.old }
     requires heads_room { 0 < spare heads.old }
     ensures linked { IsLinked entries.new heads.new }
-    ensures rows { rows_of entries.new ≡ put id_of (record { id = id; number = number }) (rows_of entries.old) }
+    ensures rows { rows_of entries.new ≡ put listed_id (record { id = id; number = number }) (rows_of entries.old) }
     ensures entries_room { spare entries.old ≤ spare entries.new + 1 }
     ensures heads_room { spare heads.old ≤ spare heads.new + 1 }
 {
@@ -153,7 +153,7 @@ pub(crate) fn link(
 pub(crate) fn unlink(entries: &mut IndexMap<u64, Entry>, heads: &mut IndexMap<u64, Head>, id: u64)
     requires linked { IsLinked entries.old heads.old }
     ensures linked { IsLinked entries.new heads.new }
-    ensures rows { rows_of entries.new ≡ without_id id (rows_of entries.old) }
+    ensures rows { rows_of entries.new ≡ without_row id (rows_of entries.old) }
     ensures entries_room { spare entries.old ≤ spare entries.new }
     ensures heads_room { spare heads.old ≤ spare heads.new }
 {

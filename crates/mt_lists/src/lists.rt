@@ -1,7 +1,7 @@
 //! Lists of IDs, one for each number.
 ghost use Rattle.std.specs.Prelude.{◌≡◌, ◌+◌, ◌<◌, ◌≤◌, [], length, None, OnOk, IfOk, IsTrue, IsOkUnless};
 ghost use Rattle.mt_skel.specs.Keyed.{put, rises};
-ghost use Rattle.mt_lists.specs.Lists.{id_of, number_at, ids, without_id, with_number, first, next_of};
+ghost use Rattle.mt_lists.specs.Lists.{listed_id, listed_number, ids, without_row, with_number, first, next_of};
 
 use crate::entries::{Entry, after_of};
 use crate::heads::{Head, ends_of, first_of};
@@ -94,15 +94,15 @@ impl Lists {
     /// How many rows there are.
     pub fn len(&self) -> usize
         ensures len { result ≡ length self.now.rows }
-        ensures rising { IsTrue (rises id_of self.now.rows) }
+        ensures rising { IsTrue (rises listed_id self.now.rows) }
     {
         self.entries.len()
     }
 
     /// The number of this ID, or `None` where it is not there.
     pub fn number(&self, id: u64) -> Option<u64>
-        ensures number { result ≡ number_at self.now.rows id }
-        ensures rising { IsTrue (rises id_of self.now.rows) }
+        ensures number { result ≡ listed_number self.now.rows id }
+        ensures rising { IsTrue (rises listed_id self.now.rows) }
     {
         let entry = self.entries.get(&id)?;
         Some(entry.number)
@@ -111,7 +111,7 @@ impl Lists {
     /// The lowest ID of this number, or `None` where no ID has it.
     pub fn first(&self, number: u64) -> Option<u64>
         ensures first { result ≡ first (ids self.now.rows number) }
-        ensures rising { IsTrue (rises id_of self.now.rows) }
+        ensures rising { IsTrue (rises listed_id self.now.rows) }
     {
         first_of(&self.heads, number)
     }
@@ -150,8 +150,8 @@ impl Lists {
     /// Gives a number to an ID that is not there. [`reserve`](Lists::reserve) has made room for it.
     pub fn insert(&mut self, id: u64, number: u64)
         requires room { 0 < self.old.room }
-        requires absent { number_at self.old.rows id ≡ None }
-        ensures rows { self.new.rows ≡ put id_of (record { id = id; number = number }) self.old.rows }
+        requires absent { listed_number self.old.rows id ≡ None }
+        ensures rows { self.new.rows ≡ put listed_id (record { id = id; number = number }) self.old.rows }
         ensures room { self.old.room ≤ self.new.room + 1 }
     {
         link(&mut self.entries, &mut self.heads, id, number);
@@ -159,7 +159,7 @@ impl Lists {
 
     /// Takes this ID away, if it is there.
     pub fn remove(&mut self, id: u64)
-        ensures rows { self.new.rows ≡ without_id id self.old.rows }
+        ensures rows { self.new.rows ≡ without_row id self.old.rows }
         ensures room { self.old.room ≤ self.new.room }
     {
         unlink(&mut self.entries, &mut self.heads, id);
@@ -168,7 +168,7 @@ impl Lists {
     /// Gives a number, or none, to an ID that is not there. Room for one row is needed for none too.
     pub fn enter(&mut self, id: u64, number: Option<u64>)
         requires room { 0 < self.old.room }
-        requires absent { number_at self.old.rows id ≡ None }
+        requires absent { listed_number self.old.rows id ≡ None }
         ensures rows { self.new.rows ≡ with_number id number self.old.rows }
         ensures room { self.old.room ≤ self.new.room + 1 }
     {

@@ -2,7 +2,7 @@
 ghost use Rattle.std.specs.Prelude.{◌≡◌, ◌+◌, ◌<◌, ◌≤◌, [], length, slice_get, slice_set, None, Some, OnOk, OnErr, IfOk, IsOkUnless, IsTrue};
 ghost use Rattle.std.specs.Option.{option_and_then, option_map_or};
 ghost use Rattle.mt_skel.specs.Keyed.{put, rises};
-ghost use Rattle.mt_lists.specs.Lists.{id_of, number_at, ids, without_id, first, next_of};
+ghost use Rattle.mt_lists.specs.Lists.{listed_id, listed_number, ids, without_row, first, next_of};
 ghost use Rattle.mt_lists.specs.SlotLists.{id_in, lengthened, LeadsTo};
 
 use indexmap::IndexMap;
@@ -106,7 +106,7 @@ impl SlotLists {
 
     /// The number of the ID in a slot, or `None` where it has none.
     pub fn number(&self, slot: usize) -> Option<u64>
-        ensures { result ≡ option_and_then (number_at self.now.rows) (id_in self.now.slots slot) }
+        ensures { result ≡ option_and_then (listed_number self.now.rows) (id_in self.now.slots slot) }
     {
         Some(tie_at(&self.ties, slot)?.number)
     }
@@ -114,7 +114,7 @@ impl SlotLists {
     /// The slot of the lowest ID of this number, or `None` where no ID has it.
     pub fn first(&self, number: u64) -> Option<usize>
         ensures first { LeadsTo (id_in self.now.slots) result (first (ids self.now.rows number)) }
-        ensures rising { IsTrue (rises id_of self.now.rows) }
+        ensures rising { IsTrue (rises listed_id self.now.rows) }
     {
         Some(top_of(&self.tops, number)?.top.first)
     }
@@ -159,8 +159,8 @@ impl SlotLists {
     pub fn insert(&mut self, slot: usize, id: u64, number: u64)
         requires room { 0 < self.old.room }
         requires free { slice_get self.old.slots slot ≡ Some None }
-        requires absent { number_at self.old.rows id ≡ None }
-        ensures rows { self.new.rows ≡ put id_of (record { id = id; number = number }) self.old.rows }
+        requires absent { listed_number self.old.rows id ≡ None }
+        ensures rows { self.new.rows ≡ put listed_id (record { id = id; number = number }) self.old.rows }
         ensures slots { self.new.slots ≡ slice_set self.old.slots slot (Some id) }
         ensures room { self.old.room ≤ self.new.room + 1 }
     {
@@ -169,7 +169,7 @@ impl SlotLists {
 
     /// Takes the ID in a slot, if there is one, away.
     pub fn remove(&mut self, slot: usize)
-        ensures rows { self.new.rows ≡ option_map_or (λ i. without_id i self.old.rows) (id_in self.old.slots slot) self.old.rows }
+        ensures rows { self.new.rows ≡ option_map_or (λ i. without_row i self.old.rows) (id_in self.old.slots slot) self.old.rows }
         ensures slots { self.new.slots ≡ slice_set self.old.slots slot None }
         ensures room { self.old.room ≤ self.new.room }
     {

@@ -11,7 +11,7 @@ use Rattle.mt_lists.proofs.NumberedLaws.{ids-by}
 use Rattle.mt_mounts.specs.declared.mount.Place.{Place}
 use Rattle.mt_mounts.specs.declared.mount.Mount.{Mount}
 use Rattle.mt_mounts.specs.Forest.{id_of, mount_at, stands_on, children, in_space, mounts_in, is_root, root_mount, roots}
-use Rattle.mt_mounts.specs.Seats.{parent_of, space_of}
+use Rattle.mt_mounts.specs.Seats.{parent_of, own_space}
 use Rattle.mt_mounts.specs.Indexes.{rooted_in}
 use Rattle.mt_mounts.specs.Slots.{mounts_of}
 use Rattle.mt_mounts.proofs.ForestLaws.{find_row}
@@ -52,8 +52,8 @@ root_test n m = go (is_none m.place)
 pub child_ids : (ms : List Mount) (rows : List ListRow) → rows ≡ rows_by id_of parent_of ms → (i : ℕ) → ids rows i ≡ children ms i
 child_ids ms rows e i = numbered_as parent_of stands_on child_test ms rows e i
 
-pub space_ids : (ms : List Mount) (rows : List ListRow) → rows ≡ rows_by id_of space_of ms → (n : ℕ) → ids rows n ≡ map id_of (mounts_in ms n)
-space_ids ms rows e n = numbered_as space_of in_space (λ k m. refl) ms rows e n
+pub space_ids : (ms : List Mount) (rows : List ListRow) → rows ≡ rows_by id_of own_space ms → (n : ℕ) → ids rows n ≡ map id_of (mounts_in ms n)
+space_ids ms rows e n = numbered_as own_space in_space (λ k m. refl) ms rows e n
 
 pub root_first : (ms : List Mount) (rows : List ListRow) → rows ≡ rows_by id_of rooted_in ms → (n : ℕ) → first (ids rows n) ≡ option_map id_of (root_mount ms n)
 root_first ms rows e n = ap first (numbered_as rooted_in is_root root_test ms rows e n) ∙ first_found (is_root n) ms

@@ -19,7 +19,7 @@ use Rattle.mt_mounts.proofs.SlotLaws.{none_found, row_kept, row_put_here, row_pu
 use Rattle.mt_mounts.proofs.ForestLaws.{find_row, find_passes}
 use Rattle.mt_mounts.proofs.ChangeLaws.{attrs_of}
 use Rattle.mt_mounts.specs.declared.indexes.Indexes.{Indexes}
-use Rattle.mt_mounts.specs.Indexes.{IsForest}
+use Rattle.mt_mounts.specs.Indexes.{IsKeptForest}
 use Rattle.mt_mounts.proofs.SinceLaws.{but_attrs}
 use Rattle.mt_mounts.proofs.KeptLaws.{mount_fits, forest_attrs, forest_begun}
 
@@ -35,8 +35,8 @@ gone_here ms i r = none_found _ (λ y e. let k = row_kept ms i i y r e in k.1 (r
 
 -- a mount that was made another one that differs in attributes alone, or was left
 module _ (ms after : List Mount) (m : Mount) where
-  pub forest_renewed : (x : Indexes) (since : List Mount) (noted : List ℕ) (then : List Mount) (none : List ℕ) (b : Bool) → after ≡ cond b (with_attrs m.id m.attrs ms) ms → then ≡ after → IsForest ms x since noted
-      → IsForest after x then none
+  pub forest_renewed : (x : Indexes) (since : List Mount) (noted : List ℕ) (then : List Mount) (none : List ℕ) (b : Bool) → after ≡ cond b (with_attrs m.id m.attrs ms) ms → then ≡ after → IsKeptForest ms x since noted
+      → IsKeptForest after x then none
   forest_renewed x since noted then none true e t f =
       let all = noted ++ m.id ∷ [] in
       let g = forest_attrs ms x since noted (with_attrs m.id m.attrs ms) all m.id m.attrs refl refl f in

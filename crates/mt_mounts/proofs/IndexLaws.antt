@@ -7,7 +7,7 @@ use Rattle.std.proofs.lemmas.Bool.Decides.{nat_tests}
 use Rattle.indexmap.specs.IndexMap.{get}
 use Rattle.mt_skel.specs.Keyed.{row_at, put, rises}
 use Rattle.mt_skel.proofs.KeyedLaws.{row_at-key}
-use Rattle.mt_lists.specs.Lists.{number_at, with_number, without_id as without_row}
+use Rattle.mt_lists.specs.Lists.{listed_number, with_number, without_row}
 use Rattle.mt_lists.specs.Numbered.{rows_by}
 use Rattle.mt_lists.proofs.NumberedLaws.{number-by, put-by, without-by, change-by, same-by}
 use Rattle.mt_mounts.specs.declared.mount.Place.{Place}
@@ -74,12 +74,12 @@ module _ (ms : List Mount) (r : rises id_of ms ≡ true) (m : Mount) where
 -- what the lists have of a mount
 module _ (ms : List Mount) (x : Indexes) (r : rises id_of ms ≡ true) (h : IsIndexed ms x) where
   -- of one that is not there
-  pub unrooted : (i : ℕ) → mount_at ms i ≡ None → number_at x.roots.rows i ≡ None
-  unrooted i absent = ap (λ l. number_at l i) h.roots ∙ number-by id_of rooted_in i ms r ∙ ap (option_and_then rooted_in) absent
+  pub unrooted : (i : ℕ) → mount_at ms i ≡ None → listed_number x.roots.rows i ≡ None
+  unrooted i absent = ap (λ l. listed_number l i) h.roots ∙ number-by id_of rooted_in i ms r ∙ ap (option_and_then rooted_in) absent
 
   -- and of which namespace one is the root mount
-  pub rooted : (m : Mount) → mount_at ms m.id ≡ Some m → number_at x.roots.rows m.id ≡ rooted_in m
-  rooted m there = ap (λ l. number_at l m.id) h.roots ∙ number-by id_of rooted_in m.id ms r ∙ ap (option_and_then rooted_in) there
+  pub rooted : (m : Mount) → mount_at ms m.id ≡ Some m → listed_number x.roots.rows m.id ≡ rooted_in m
+  rooted m there = ap (λ l. listed_number l m.id) h.roots ∙ number-by id_of rooted_in m.id ms r ∙ ap (option_and_then rooted_in) there
 
 module _ (ms : List Mount) (old new : Indexes) (r : rises id_of ms ≡ true) (x : IsIndexed ms old) where
   -- a mount has come

@@ -11,7 +11,7 @@ use Rattle.mt_mounts.specs.declared.indexes.Indexes.{Indexes}
 use Rattle.mt_mounts.specs.Forest.{id_of, mount_at, on, is_at, is_root, root_mount}
 use Rattle.mt_mounts.specs.Tree.{AtMostOne, IsSingle}
 use Rattle.mt_mounts.specs.ForestView.{with_attrs, with_place, without_id}
-use Rattle.mt_mounts.specs.Indexes.{IsIndexed, IsForest}
+use Rattle.mt_mounts.specs.Indexes.{IsIndexed, IsKeptForest}
 use Rattle.mt_mounts.proofs.ForestLaws.{single_put, single_without, map_one}
 use Rattle.mt_mounts.proofs.ChangeLaws.{attrs_of, place_of, place_other}
 use Rattle.mt_mounts.proofs.IndexLaws.{indexed_attrs}
@@ -46,11 +46,11 @@ single_place ms p m r there free s =
     (λ e. absurd (let v : Some p ≡ None = sym stands ∙ e in cc)))
 
 -- the IDs noted, and those that were
-module _ (ms : List Mount) (old new : Indexes) (since : List Mount) (noted : List ℕ) (f : IsForest ms old since noted) (after : List Mount) (all : List ℕ) where
+module _ (ms : List Mount) (old new : Indexes) (since : List Mount) (noted : List ℕ) (f : IsKeptForest ms old since noted) (after : List Mount) (all : List ℕ) where
   pub forest_put : (m : Mount) → after ≡ put id_of m ms → all ≡ noted ++ m.id ∷ [] → ForSome m.place (λ p. on ms p ≡ None) → (m.place ≡ None → root_mount ms m.space ≡ None)
-      → IsIndexed (put id_of m ms) new → IsForest after new since all
+      → IsIndexed (put id_of m ms) new → IsKeptForest after new since all
   forest_put m e n free rootless x =
-      subst (λ l. IsForest l new since all) (sym e)
+      subst (λ l. IsKeptForest l new since all) (sym e)
       (record {
         rising = rises-put id_of m ms f.rising;
         single = single_put ms m f.single free rootless;
@@ -58,9 +58,9 @@ module _ (ms : List Mount) (old new : Indexes) (since : List Mount) (noted : Lis
         known = alike-noted noted (m.id ∷ []) all (mount_at since) (mount_at ms) (mount_at (put id_of m ms)) n f.known (but_put ms m);
       })
 
-  pub forest_without : (i : ℕ) → after ≡ without_id i ms → all ≡ noted ++ i ∷ [] → IsIndexed (without_id i ms) new → IsForest after new since all
+  pub forest_without : (i : ℕ) → after ≡ without_id i ms → all ≡ noted ++ i ∷ [] → IsIndexed (without_id i ms) new → IsKeptForest after new since all
   forest_without i e n x =
-      subst (λ l. IsForest l new since all) (sym e)
+      subst (λ l. IsKeptForest l new since all) (sym e)
       (record {
         rising = rises-filter id_of (λ y. not (eqb y.id i)) ms f.rising;
         single = single_without ms i f.rising f.single;
@@ -68,9 +68,9 @@ module _ (ms : List Mount) (old new : Indexes) (since : List Mount) (noted : Lis
         known = alike-noted noted (i ∷ []) all (mount_at since) (mount_at ms) (mount_at (without_id i ms)) n f.known (but_without ms i);
       })
 
-  pub forest_moved : (m : Mount) (p : Place) → mount_at ms m.id ≡ Some m → on ms p ≡ None → after ≡ with_place m.id p ms → all ≡ noted ++ m.id ∷ [] → IsIndexed (with_place m.id p ms) new → IsForest after new since all
+  pub forest_moved : (m : Mount) (p : Place) → mount_at ms m.id ≡ Some m → on ms p ≡ None → after ≡ with_place m.id p ms → all ≡ noted ++ m.id ∷ [] → IsIndexed (with_place m.id p ms) new → IsKeptForest after new since all
   forest_moved m p there free e n x =
-      subst (λ l. IsForest l new since all) (sym e)
+      subst (λ l. IsKeptForest l new since all) (sym e)
       (record {
         rising = rises-map id_of (place_of m.id p) (λ y. refl) ms ∙ f.rising;
         single = single_place ms p m f.rising there free f.single;
@@ -79,9 +79,9 @@ module _ (ms : List Mount) (old new : Indexes) (since : List Mount) (noted : Lis
       })
 
 pub forest_attrs : (ms : List Mount) (x : Indexes) (since : List Mount) (noted : List ℕ) (after : List Mount) (all : List ℕ) (i : ℕ) (a : Attrs) → after ≡ with_attrs i a ms → all ≡ noted ++ i ∷ []
-    → IsForest ms x since noted → IsForest after x since all
+    → IsKeptForest ms x since noted → IsKeptForest after x since all
 forest_attrs ms x since noted after all i a e n f =
-    subst (λ l. IsForest l x since all) (sym e)
+    subst (λ l. IsKeptForest l x since all) (sym e)
     (record {
       rising = rises-map id_of (attrs_of i a) (λ y. refl) ms ∙ f.rising;
       single = single_attrs ms i a f.single;
@@ -90,18 +90,18 @@ forest_attrs ms x since noted after all i a e n f =
     })
 
 -- nothing of these mounts has changed yet
-pub forest_begun : (ms : List Mount) (old new : Indexes) (since : List Mount) (noted : List ℕ) (after then : List Mount) (none : List ℕ) → after ≡ ms → then ≡ after → IsIndexed ms new → IsForest ms old since noted
-    → IsForest after new then none
+pub forest_begun : (ms : List Mount) (old new : Indexes) (since : List Mount) (noted : List ℕ) (after then : List Mount) (none : List ℕ) → after ≡ ms → then ≡ after → IsIndexed ms new → IsKeptForest ms old since noted
+    → IsKeptForest after new then none
 forest_begun ms old new since noted after then none e t x f =
-    subst (λ l. IsForest after new l none) (sym t)
-    (subst (λ l. IsForest l new l none) (sym e) (record { rising = f.rising; single = f.single; indexed = x; known = λ i n. refl }))
+    subst (λ l. IsKeptForest after new l none) (sym t)
+    (subst (λ l. IsKeptForest l new l none) (sym e) (record { rising = f.rising; single = f.single; indexed = x; known = λ i n. refl }))
 
 -- the same mounts, with the same noted
-pub forest_kept : (ms : List Mount) (old new : Indexes) (since : List Mount) (noted : List ℕ) (after : List Mount) (all : List ℕ) → after ≡ ms → all ≡ noted → IsIndexed ms new → IsForest ms old since noted
-    → IsForest after new since all
+pub forest_kept : (ms : List Mount) (old new : Indexes) (since : List Mount) (noted : List ℕ) (after : List Mount) (all : List ℕ) → after ≡ ms → all ≡ noted → IsIndexed ms new → IsKeptForest ms old since noted
+    → IsKeptForest after new since all
 forest_kept ms old new since noted after all e n x f =
-    subst (λ l. IsForest after new since l) (sym n)
-    (subst (λ l. IsForest l new since noted) (sym e) (record { rising = f.rising; single = f.single; indexed = x; known = f.known }))
+    subst (λ l. IsKeptForest after new since l) (sym n)
+    (subst (λ l. IsKeptForest l new since noted) (sym e) (record { rising = f.rising; single = f.single; indexed = x; known = f.known }))
 
 -- the mount of an ID has that ID
 pub mount_fits : (ms : List Mount) (i : ℕ) (m : Mount) → mount_at ms i ≡ Some m → m.id ≡ i

@@ -6,7 +6,7 @@ use Rattle.std.proofs.lemmas.List.{get_or-set_same, get_or-set_other, set-set, l
 use Rattle.std.proofs.lemmas.Option.{slice_get-get_or}
 use Rattle.slab.specs.Slab.{Slab, get, Updates}
 use Rattle.mt_skel.specs.Keyed.{row_at, put, rises}
-use Rattle.mt_lists.specs.Lists.{id_of as row_id, number_at, without_id as without_row, with_number}
+use Rattle.mt_lists.specs.Lists.{listed_id, listed_number, without_row, with_number}
 use Rattle.mt_lists.specs.Numbered.{rows_by}
 use Rattle.mt_lists.specs.SlotLists.{SlotListsView, id_in, lengthened}
 use Rattle.mt_lists.proofs.NumberedLaws.{rises-by, number-by, put-by, without-by}
@@ -54,16 +54,16 @@ module _ (number : Mount → Option ℕ) where
   }
 
   module _ (s : Slab Mount) (lists : SlotListsView) (h : IsBeside number s lists) where
-    pub rises_beside : rises row_id lists.rows ≡ true
-    rises_beside = ap (rises row_id) h.rows ∙ rises-by id_of number (slab_mounts s) (rises_table s)
+    pub rises_beside : rises listed_id lists.rows ≡ true
+    rises_beside = ap (rises listed_id) h.rows ∙ rises-by id_of number (slab_mounts s) (rises_table s)
 
     -- the number of a mount in a slot, and of one that is in none
-    pub number_beside : (slot : ℕ) (m : Mount) → HasDistinctIds s → get s slot ≡ Some m → number_at lists.rows m.id ≡ number m
+    pub number_beside : (slot : ℕ) (m : Mount) → HasDistinctIds s → get s slot ≡ Some m → listed_number lists.rows m.id ≡ number m
     number_beside slot m apart there =
-        ap (λ r. number_at r m.id) h.rows ∙ number-by id_of number m.id (slab_mounts s) (rises_table s) ∙ ap (option_and_then number) (row_of_slot s slot m apart there)
+        ap (λ r. listed_number r m.id) h.rows ∙ number-by id_of number m.id (slab_mounts s) (rises_table s) ∙ ap (option_and_then number) (row_of_slot s slot m apart there)
 
-    pub unlisted : (i : ℕ) → row_at id_of i (slab_mounts s) ≡ None → number_at lists.rows i ≡ None
-    unlisted i absent = ap (λ r. number_at r i) h.rows ∙ number-by id_of number i (slab_mounts s) (rises_table s) ∙ ap (option_and_then number) absent
+    pub unlisted : (i : ℕ) → row_at id_of i (slab_mounts s) ≡ None → listed_number lists.rows i ≡ None
+    unlisted i absent = ap (λ r. listed_number r i) h.rows ∙ number-by id_of number i (slab_mounts s) (rises_table s) ∙ ap (option_and_then number) absent
 
     -- a key that fits has a slot, which is free where the key has no mount
     pub within : (slot : ℕ) → slot < s.capacity → slot < length lists.slots
@@ -160,8 +160,8 @@ module _ (number : Mount → Option ℕ) where
             ∙ slice_get-get_or (slice_set lists.slots slot None) slot None (omega (arith, h.held slot was there, length-set lists.slots slot None))
             ∙ ap (λ o. Some o) (emptied lists.slots slot)
 
-        pub taken_absent : number_at mid.rows was.id ≡ None
-        taken_absent = ap (λ r. number_at r was.id) taken ∙ number-taken was.id lists.rows rises_beside
+        pub taken_absent : listed_number mid.rows was.id ≡ None
+        taken_absent = ap (λ r. listed_number r was.id) taken ∙ number-taken was.id lists.rows rises_beside
 
         -- a mount has gone from its slot
         pub beside_gone : Updates s new slot None → slab_mounts new ≡ without_id was.id (slab_mounts s) → IsBeside number new mid
@@ -187,7 +187,7 @@ module _ (number : Mount → Option ℕ) where
         -- a mount has another number, in its slot
         pub beside_moved : (m : Mount) (n : ℕ) (after : SlotListsView) → Updates s new slot (Some m) → seat number m ≡ Some was.id
             → rows_by id_of number (slab_mounts new) ≡ with_number was.id (Some n) (rows_by id_of number (slab_mounts s))
-            → after.rows ≡ put row_id (record { id = was.id; number = n }) mid.rows → after.slots ≡ slice_set mid.slots slot (Some was.id) → IsBeside number new after
+            → after.rows ≡ put listed_id (record { id = was.id; number = n }) mid.rows → after.slots ≡ slice_set mid.slots slot (Some was.id) → IsBeside number new after
         beside_moved m n after u same rows r l =
             let whole : after.slots ≡ slice_set lists.slots slot (seat number m) =
             l ∙ ap (λ xs. slice_set xs slot (Some was.id)) slots_less ∙ set-set lists.slots slot None (Some was.id) ∙ ap (slice_set lists.slots slot) (sym same) in

@@ -37,7 +37,7 @@ IsCounted count room x = count ≤ min room (room_of x)
 
 -- The mounts of a forest rise by their IDs, no two stand at one place and no two are roots of one namespace, the
 -- indexes answer of them, and each mount that is not as it was is noted.
-pub record IsForest (ms : List Mount) (x : Indexes) (since : List Mount) (noted : List ℕ) : Type 0 where
+pub record IsKeptForest (ms : List Mount) (x : Indexes) (since : List Mount) (noted : List ℕ) : Type 0 where
   pub rising : IsTrue (rises id_of ms)
   pub single : IsSingle ms
   pub indexed : IsIndexed ms x

@@ -16,8 +16,8 @@ abbrev pub parent_of : Mount → Option ℕ
 parent_of m = option_map (λ (p : Place). p.mount) m.place
 
 -- The namespace that a mount is in.
-abbrev pub space_of : Mount → Option ℕ
-space_of m = Some m.space
+abbrev pub own_space : Mount → Option ℕ
+own_space m = Some m.space
 
 -- The ID of a mount that has a number.
 abbrev pub seat : (Mount → Option ℕ) → Mount → Option ℕ
@@ -35,7 +35,7 @@ pub record IsBeside (number : Mount → Option ℕ) (s : Slab Mount) (lists : Sl
 pub record IsTable (s : Slab Mount) (keys : Keys) (of_parents of_spaces : SlotListsView) : Type 0 where
   pub keyed : IsKeyed s keys
   pub children : IsBeside parent_of s of_parents
-  pub spaces : IsBeside space_of s of_spaces
+  pub spaces : IsBeside own_space s of_spaces
 
 -- How many mounts a table has room for.
 abbrev pub table_room : Slab Mount → Keys → SlotListsView → SlotListsView → ℕ

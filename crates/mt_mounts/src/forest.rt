@@ -60,11 +60,11 @@ impl Model for Forest {
 
     ghost coded = { forest_code mount.the_row.coded };
 
-    ghost use Rattle.mt_mounts.specs.Indexes.{IsForest, IsCounted};
+    ghost use Rattle.mt_mounts.specs.Indexes.{IsKeptForest, IsCounted};
 
     ghost view = { λ f. record { mounts = f.table.mounts; since = earlier f.since.seen.items (λ t. t.mounts); room = min f.room f.log.room } };
 
-    ghost invariant = { λ f. IsForest f.table.mounts f.indexes (earlier f.since.seen.items (λ t. t.mounts)) f.log.ids × IsCounted f.room f.table.room f.indexes };
+    ghost invariant = { λ f. IsKeptForest f.table.mounts f.indexes (earlier f.since.seen.items (λ t. t.mounts)) f.log.ids × IsCounted f.room f.table.room f.indexes };
 }
 
 // Written out, so that whoever owns a forest lets it go as one thing.

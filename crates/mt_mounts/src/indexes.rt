@@ -8,7 +8,7 @@ ghost use Rattle.mt_mounts.specs.declared.mount.Place.{Place};
 ghost use Rattle.mt_mounts.specs.Forest.{id_of, mount_at, on, is_at, place_eq};
 ghost use Rattle.mt_mounts.specs.Tree.{IsSingle};
 ghost use Rattle.mt_mounts.specs.ForestView.{with_place, without_id};
-ghost use Rattle.mt_lists.specs.Lists.{number_at, without_id as without_row};
+ghost use Rattle.mt_lists.specs.Lists.{listed_number, without_row};
 ghost use Rattle.mt_mounts.specs.Indexes.{rooted_in, IsIndexed, room_of};
 
 use crate::mount::{Mount, MountId, Place, SpaceId};
@@ -87,7 +87,7 @@ fn leave(places: &mut IndexMap<Place, MountId>, mount: Mount)
 
 /// Takes a mount, if it is a root mount, out of the list of those.
 fn uproot(roots: &mut Lists, mount: Mount)
-    ensures rows { number_at roots.old.rows mount.id ≡ rooted_in mount → roots.new.rows ≡ without_row mount.id roots.old.rows }
+    ensures rows { listed_number roots.old.rows mount.id ≡ rooted_in mount → roots.new.rows ≡ without_row mount.id roots.old.rows }
     ensures room { roots.old.room ≤ roots.new.room }
 {
     match mount.place {
@@ -151,7 +151,7 @@ impl Indexes {
     /// A mount with a new ID has come, for which there is room, to the root of another or not.
     pub(crate) fn insert(&mut self, mount: Mount, on_root: bool)
         requires room { 0 < room_of self.old }
-        requires absent { number_at self.old.roots.rows mount.id ≡ None }
+        requires absent { listed_number self.old.roots.rows mount.id ≡ None }
         ensures indexed { (ms : List Mount) → IsTrue (rises id_of ms) → IsSingle ms → mount_at ms mount.id ≡ None → ForSome mount.place (λ p. on ms p ≡ None) → IsIndexed ms self.old → IsIndexed (put id_of mount ms) self.new }
         ensures room { room_of self.old ≤ room_of self.new + 1 }
     {

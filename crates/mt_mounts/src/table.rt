@@ -3,7 +3,7 @@ ghost use Rattle.std.specs.Prelude.{◌≡◌, ◌+◌, ◌<◌, ◌≤◌, [], 
 ghost use Rattle.std.specs.Option.{option_map};
 ghost use Rattle.slab.specs.Slab.{HasRoomFor};
 ghost use Rattle.mt_skel.specs.Keyed.{put};
-ghost use Rattle.mt_lists.specs.Lists.{number_at, with_number};
+ghost use Rattle.mt_lists.specs.Lists.{listed_number, with_number};
 ghost use Rattle.mt_lists.specs.SlotLists.{lengthened};
 ghost use Rattle.mt_mounts.specs.Seats.{parent_of};
 ghost use Rattle.mt_mounts.specs.Forest.{id_of, mount_at, children, mounts_in};
@@ -98,7 +98,7 @@ fn parent_of(mount: Mount) -> Option<MountId>
 fn seat(lists: &mut SlotLists, slot: usize, id: MountId, number: Option<u64>)
     requires room { 0 < lists.old.room }
     requires free { slice_get lists.old.slots slot ≡ Some None }
-    requires absent { number_at lists.old.rows id ≡ None }
+    requires absent { listed_number lists.old.rows id ≡ None }
     ensures rows { lists.new.rows ≡ with_number id number lists.old.rows }
     ensures slots { lists.new.slots ≡ slice_set lists.old.slots slot (option_map (λ _. id) number) }
     ensures room { lists.old.room ≤ lists.new.room + 1 }

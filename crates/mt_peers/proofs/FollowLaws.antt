@@ -6,7 +6,7 @@ use Rattle.std.specs.Option.{option_map, option_and_then}
 use Rattle.std.proofs.lemmas.Bool.{ne_eqb, true≢false}
 use Rattle.mt_skel.specs.Keyed.{row_at, put, rises}
 use Rattle.mt_skel.proofs.KeyedLaws.{row_at-key, row_at-put, row_at-map, row_at-filter, passing, rises-filter, same_rows}
-use Rattle.mt_lists.specs.Lists.{ListRow, id_of, number_at, with_number}
+use Rattle.mt_lists.specs.Lists.{ListRow, listed_id, listed_number, with_number}
 use Rattle.mt_lists.specs.Log.{AreAlikeBut}
 use Rattle.mt_lists.proofs.LogLaws.{not-only}
 use Rattle.mt_lists.proofs.RowLaws.{row-with}
@@ -14,7 +14,7 @@ use Rattle.mt_lists.proofs.NumberedLaws.{rises-by}
 use Rattle.mt_peers.specs.declared.state.State.{State}
 use Rattle.mt_peers.specs.Peers.{Peer, mount_of, state_at, with_state}
 use Rattle.mt_peers.specs.Members.{group_at, master_at}
-use Rattle.mt_peers.specs.Listed.{group_of, leader_of, IsListed}
+use Rattle.mt_peers.specs.Listed.{peer_group, leader_of, IsListed}
 use Rattle.mt_peers.proofs.ListedLaws.{group-listed, master-listed}
 
 -- the states that are found make the list
@@ -28,46 +28,46 @@ same_states es fs r s e =
     row_of_state es i (row_at mount_of i es) refl ∙ ap (option_map (λ (t : State). record { mount = i; state = t })) (e i) ∙ sym (row_of_state fs i (row_at mount_of i fs) refl))
 
 -- and the numbers that are found the rows
-row_of_number : (rows : List ListRow) (i : ℕ) (x : Option ListRow) → row_at id_of i rows ≡ x → x ≡ option_map (λ n. record { id = i; number = n }) (option_map (λ (r : ListRow). r.number) x)
+row_of_number : (rows : List ListRow) (i : ℕ) (x : Option ListRow) → row_at listed_id i rows ≡ x → x ≡ option_map (λ n. record { id = i; number = n }) (option_map (λ (r : ListRow). r.number) x)
 row_of_number rows i None e = refl
-row_of_number rows i (Some x) e = let k : x.id ≡ i = row_at-key id_of i rows x e in λ j. Some (record { id = k j; number = x.number })
+row_of_number rows i (Some x) e = let k : x.id ≡ i = row_at-key listed_id i rows x e in λ j. Some (record { id = k j; number = x.number })
 
-same_numbers : (rows others : List ListRow) → rises id_of rows ≡ true → rises id_of others ≡ true → ((i : ℕ) → number_at rows i ≡ number_at others i) → rows ≡ others
+same_numbers : (rows others : List ListRow) → rises listed_id rows ≡ true → rises listed_id others ≡ true → ((i : ℕ) → listed_number rows i ≡ listed_number others i) → rows ≡ others
 same_numbers rows others r s e =
-    same_rows id_of rows others r s (λ i.
-    row_of_number rows i (row_at id_of i rows) refl ∙ ap (option_map (λ n. record { id = i; number = n })) (e i) ∙ sym (row_of_number others i (row_at id_of i others) refl))
+    same_rows listed_id rows others r s (λ i.
+    row_of_number rows i (row_at listed_id i rows) refl ∙ ap (option_map (λ n. record { id = i; number = n })) (e i) ∙ sym (row_of_number others i (row_at listed_id i others) refl))
 
 -- lists that answer as those of the states do are those
 pub listed_as : (es fs : List Peer) (old_members old_slaves members slaves : List ListRow) → IsListed es old_members old_slaves → fs ≡ es
-    → rises id_of members ≡ true × ((i : ℕ) → number_at members i ≡ group_at es i) → rises id_of slaves ≡ true × ((i : ℕ) → number_at slaves i ≡ master_at es i) → IsListed fs members slaves
+    → rises listed_id members ≡ true × ((i : ℕ) → listed_number members i ≡ group_at es i) → rises listed_id slaves ≡ true × ((i : ℕ) → listed_number slaves i ≡ master_at es i) → IsListed fs members slaves
 listed_as es fs old_members old_slaves members slaves h e m s =
     subst (λ l. IsListed l members slaves) (sym e)
     (record {
       rising = h.rising;
       members_told =
-          same_numbers members old_members m.0 (ap (rises id_of) h.members_told ∙ rises-by mount_of group_of es h.rising) (λ i. m.1 i ∙ sym (group-listed es old_members old_slaves h i)) ∙ h.members_told;
+          same_numbers members old_members m.0 (ap (rises listed_id) h.members_told ∙ rises-by mount_of peer_group es h.rising) (λ i. m.1 i ∙ sym (group-listed es old_members old_slaves h i)) ∙ h.members_told;
       slaves_told =
-          same_numbers slaves old_slaves s.0 (ap (rises id_of) h.slaves_told ∙ rises-by mount_of leader_of es h.rising) (λ i. s.1 i ∙ sym (master-listed es old_members old_slaves h i)) ∙ h.slaves_told;
+          same_numbers slaves old_slaves s.0 (ap (rises listed_id) h.slaves_told ∙ rises-by mount_of leader_of es h.rising) (λ i. s.1 i ∙ sym (master-listed es old_members old_slaves h i)) ∙ h.slaves_told;
     })
 
 -- what lists of states have that are alike but for some
-pub groups_alike : (es os : List Peer) (ids : List ℕ) (ms ss : List ListRow) → IsListed es ms ss → AreAlikeBut ids (state_at es) (state_at os) → AreAlikeBut ids (number_at ms) (group_at os)
+pub groups_alike : (es os : List Peer) (ids : List ℕ) (ms ss : List ListRow) → IsListed es ms ss → AreAlikeBut ids (state_at es) (state_at os) → AreAlikeBut ids (listed_number ms) (group_at os)
 groups_alike es os ids ms ss h a i e = group-listed es ms ss h i ∙ ap (option_and_then (λ (s : State). s.group)) (a i e)
 
-pub masters_alike : (es os : List Peer) (ids : List ℕ) (ms ss : List ListRow) → IsListed es ms ss → AreAlikeBut ids (state_at es) (state_at os) → AreAlikeBut ids (number_at ss) (master_at os)
+pub masters_alike : (es os : List Peer) (ids : List ℕ) (ms ss : List ListRow) → IsListed es ms ss → AreAlikeBut ids (state_at es) (state_at os) → AreAlikeBut ids (listed_number ss) (master_at os)
 masters_alike es os ids ms ss h a i e = master-listed es ms ss h i ∙ ap (option_and_then (λ (s : State). s.master)) (a i e)
 
 -- the number of an ID that was given one, or none, and those of others
-pub number_here : (i : ℕ) (o : Option ℕ) (rows : List ListRow) → rises id_of rows ≡ true → number_at (with_number i o rows) i ≡ o
-number_here i o rows r = ap (option_map (λ (x : ListRow). x.number)) (row-with i i o rows r ∙ ap (λ b. cond b (option_map (λ n. record { id = i; number = n }) o) (row_at id_of i rows)) (eq-eqb i i refl)) ∙ go o
+pub number_here : (i : ℕ) (o : Option ℕ) (rows : List ListRow) → rises listed_id rows ≡ true → listed_number (with_number i o rows) i ≡ o
+number_here i o rows r = ap (option_map (λ (x : ListRow). x.number)) (row-with i i o rows r ∙ ap (λ b. cond b (option_map (λ n. record { id = i; number = n }) o) (row_at listed_id i rows)) (eq-eqb i i refl)) ∙ go o
   where
     go : (o : Option ℕ) → option_map (λ (x : ListRow). x.number) (option_map (λ n. record { id = i; number = n }) o) ≡ o
     go None = refl
     go (Some n) = refl
 
-pub number_others : (i : ℕ) (o : Option ℕ) (rows : List ListRow) → rises id_of rows ≡ true → AreAlikeBut (i ∷ []) (number_at rows) (number_at (with_number i o rows))
+pub number_others : (i : ℕ) (o : Option ℕ) (rows : List ListRow) → rises listed_id rows ≡ true → AreAlikeBut (i ∷ []) (listed_number rows) (listed_number (with_number i o rows))
 number_others i o rows r q e =
-    ap (option_map (λ (x : ListRow). x.number)) (sym (row-with i q o rows r ∙ ap (λ b. cond b (option_map (λ n. record { id = i; number = n }) o) (row_at id_of q rows)) (ne_eqb q i (not-only i q e))))
+    ap (option_map (λ (x : ListRow). x.number)) (sym (row-with i q o rows r ∙ ap (λ b. cond b (option_map (λ n. record { id = i; number = n }) o) (row_at listed_id q rows)) (ne_eqb q i (not-only i q e))))
 
 -- what a mount has once it is given a state
 pub put_state : (es : List Peer) (i : ℕ) (s : State) → state_at (put mount_of (record { mount = i; state = s }) es) i ≡ Some s

@@ -7,7 +7,7 @@ use Rattle.std.proofs.lemmas.List.{drop_more, drop_all}
 use Rattle.mt_skel.specs.Chain.{chain}
 use Rattle.mt_skel.specs.Keyed.{without, among}
 use Rattle.mt_skel.proofs.ElementLaws.{In, in_filter, in_row, any_in}
-use Rattle.mt_lists.specs.Lists.{ListRow, number_at, ids, first, above, names, without_id}
+use Rattle.mt_lists.specs.Lists.{ListRow, listed_number, ids, first, above, names, without_row}
 use Rattle.mt_lists.proofs.NeighbourLaws.{rising}
 use Rattle.mt_lists.proofs.WalkLaws.{rest_from, rest-next}
 use Rattle.mt_peers.specs.Peers.{Peer, Peering, mount_of, state_at, in_group, has_master, has_member, members, slaves}
@@ -31,18 +31,18 @@ module _ (gone : ℕ → Bool) (xs : List ℕ) (up : rising xs ≡ true) (k : �
   stays-later next e f = ap (λ o. stays gone (rest_from o xs)) f ∙ sym (cut ∙ ap (λ b. not b || stays gone (rest_from (above k xs) xs)) e)
 
 -- rows are taken out one after the other
-forget-one : (x : ℕ) (rest : List ℕ) (rows : List ListRow) → without (λ (r : ListRow). among rest r.id) (without_id x rows) ≡ without (λ (r : ListRow). among (x ∷ rest) r.id) rows
+forget-one : (x : ℕ) (rest : List ℕ) (rows : List ListRow) → without (λ (r : ListRow). among rest r.id) (without_row x rows) ≡ without (λ (r : ListRow). among (x ∷ rest) r.id) rows
 forget-one x rest [] = refl
 forget-one x rest (r ∷ rows) = go (eqb x r.id) (among rest r.id) refl (forget-one x rest rows)
   where
-    go : (a b : Bool) → among rest r.id ≡ b → without (λ (r : ListRow). among rest r.id) (without_id x rows) ≡ without (λ (r : ListRow). among (x ∷ rest) r.id) rows
-        → without (λ (r : ListRow). among rest r.id) (cond (not a) (r ∷ without_id x rows) (without_id x rows))
+    go : (a b : Bool) → among rest r.id ≡ b → without (λ (r : ListRow). among rest r.id) (without_row x rows) ≡ without (λ (r : ListRow). among (x ∷ rest) r.id) rows
+        → without (λ (r : ListRow). among rest r.id) (cond (not a) (r ∷ without_row x rows) (without_row x rows))
         ≡ cond (not (a || b)) (r ∷ without (λ (r : ListRow). among (x ∷ rest) r.id) rows) (without (λ (r : ListRow). among (x ∷ rest) r.id) rows)
     go true b is ih = ih
-    go false true is ih = ap (λ c. cond (not c) (r ∷ without (λ (r : ListRow). among rest r.id) (without_id x rows)) (without (λ (r : ListRow). among rest r.id) (without_id x rows))) is ∙ ih
-    go false false is ih = ap (λ c. cond (not c) (r ∷ without (λ (r : ListRow). among rest r.id) (without_id x rows)) (without (λ (r : ListRow). among rest r.id) (without_id x rows))) is ∙ ap (λ t. r ∷ t) ih
+    go false true is ih = ap (λ c. cond (not c) (r ∷ without (λ (r : ListRow). among rest r.id) (without_row x rows)) (without (λ (r : ListRow). among rest r.id) (without_row x rows))) is ∙ ih
+    go false false is ih = ap (λ c. cond (not c) (r ∷ without (λ (r : ListRow). among rest r.id) (without_row x rows)) (without (λ (r : ListRow). among rest r.id) (without_row x rows))) is ∙ ap (λ t. r ∷ t) ih
 
-pub forget-step : (ids : List ℕ) (i d : ℕ) (old new : List ListRow) → i < length ids → new ≡ without_id (get_or ids i d) old → without (λ (r : ListRow). among (drop (i + 1) ids) r.id) new ≡ without (λ (r : ListRow). among (drop i ids) r.id) old
+pub forget-step : (ids : List ℕ) (i d : ℕ) (old new : List ListRow) → i < length ids → new ≡ without_row (get_or ids i d) old → without (λ (r : ListRow). among (drop (i + 1) ids) r.id) new ≡ without (λ (r : ListRow). among (drop i ids) r.id) old
 forget-step ids i d old new l e =
     ap (without (λ (r : ListRow). among (drop (i + 1) ids) r.id)) e
     ∙ forget-one (get_or ids i d) (drop (i + 1) ids) old
@@ -106,7 +106,7 @@ module _ (p : Peering) (live : MastersLive p.peers) (them : List ℕ) (ms ss : L
   same j = grind (arith, nat_tests)
 
   -- what was asked of a first member is asked of its group
-  listed-first : (g j : ℕ) (rest : List ℕ) → members p.peers g ≡ j ∷ rest → (number_at ms j ≡ Some g) × (names (first (ids ms g)) j ≡ true)
+  listed-first : (g j : ℕ) (rest : List ℕ) → members p.peers g ≡ j ∷ rest → (listed_number ms j ≡ Some g) × (names (first (ids ms g)) j ≡ true)
   listed-first g j rest is =
       let listed : among (members p.peers g) j ≡ true = ap (λ xs. among xs j) is ∙ ap (λ b. b || among rest j) (same j) in (
         group-listed p.peers ms ss l j ∙ member-group p.peers g j l.rising listed,

@@ -8,7 +8,7 @@ use Rattle.std.proofs.lemmas.Bool.Decides.{nat_tests}
 use Rattle.std.proofs.lemmas.List.{drop_more, map_more}
 use Rattle.mt_skel.specs.Keyed.{row_at, put, rises, without}
 use Rattle.mt_skel.proofs.KeyedLaws.{row_at-key, rises-put, rises-filter}
-use Rattle.mt_lists.specs.Lists.{ListRow, number_at, ids, first, above, next_of, with_number}
+use Rattle.mt_lists.specs.Lists.{ListRow, listed_number, ids, first, above, next_of, with_number}
 use Rattle.mt_lists.specs.Numbered.{rows_by}
 use Rattle.mt_lists.proofs.NumberedLaws.{ids-by, number-by, put-by, change-by}
 use Rattle.mt_peers.specs.declared.state.State.{State}
@@ -17,7 +17,7 @@ use Rattle.mt_peers.specs.Peers.{Peer, mount_of, state_at, with_state, in_group,
 use Rattle.mt_peers.specs.Masters.{master_of}
 use Rattle.mt_peers.specs.Members.{group_at, master_at, member_after, slave_after}
 use Rattle.mt_peers.specs.Entries.{now_peer, was_peer, now_peers, was_peers}
-use Rattle.mt_peers.specs.Listed.{group_of, leader_of, IsListed}
+use Rattle.mt_peers.specs.Listed.{peer_group, leader_of, IsListed}
 use Rattle.mt_peers.proofs.MemberLaws.{find_row}
 use Rattle.mt_peers.proofs.GivenLaws.{rises-given}
 
@@ -26,22 +26,22 @@ module _ (number : Peer → Option ℕ) (es : List Peer) (rows : List ListRow) (
   pub ids-listed : (g : ℕ) → ids rows g ≡ map mount_of (filter (λ e. names (number e) g) es)
   ids-listed g = ap (λ r. ids r g) told ∙ ids-by mount_of number es g
 
-  pub number-listed : (i : ℕ) → rises mount_of es ≡ true → number_at rows i ≡ option_and_then number (row_at mount_of i es)
-  number-listed i up = ap (λ r. number_at r i) told ∙ number-by mount_of number i es up
+  pub number-listed : (i : ℕ) → rises mount_of es ≡ true → listed_number rows i ≡ option_and_then number (row_at mount_of i es)
+  number-listed i up = ap (λ r. listed_number r i) told ∙ number-by mount_of number i es up
 
 stated : (number : State → Option ℕ) (o : Option Peer) → option_and_then (λ (e : Peer). number e.state) o ≡ option_and_then number (option_map (λ (e : Peer). e.state) o)
 stated number None = refl
 stated number (Some e) = refl
 
 module _ (es : List Peer) (ms ss : List ListRow) (h : IsListed es ms ss) where
-  pub group-listed : (i : ℕ) → number_at ms i ≡ group_at es i
-  group-listed i = number-listed group_of es ms h.members_told i h.rising ∙ stated (λ s. s.group) (row_at mount_of i es)
+  pub group-listed : (i : ℕ) → listed_number ms i ≡ group_at es i
+  group-listed i = number-listed peer_group es ms h.members_told i h.rising ∙ stated (λ s. s.group) (row_at mount_of i es)
 
-  pub master-listed : (i : ℕ) → number_at ss i ≡ master_at es i
+  pub master-listed : (i : ℕ) → listed_number ss i ≡ master_at es i
   master-listed i = number-listed leader_of es ss h.slaves_told i h.rising ∙ stated (λ s. s.master) (row_at mount_of i es)
 
   pub members-listed : (g : ℕ) → ids ms g ≡ members es g
-  members-listed g = ids-listed group_of es ms h.members_told g
+  members-listed g = ids-listed peer_group es ms h.members_told g
 
   pub slaves-listed : (g : ℕ) → ids ss g ≡ slaves es g
   slaves-listed g = ids-listed leader_of es ss h.slaves_told g
@@ -57,7 +57,7 @@ module _ (es : List Peer) (ms ss : List ListRow) (h : IsListed es ms ss) where
       ∙ (λ k. option_and_then (λ n. above i (slaves-listed n k)) (master_at es i))
 
   -- the master of a group is that of its first member
-  pub master-of-listed : (g i : ℕ) → first (ids ms g) ≡ Some i → number_at ss i ≡ master_of es g
+  pub master-of-listed : (g i : ℕ) → first (ids ms g) ≡ Some i → listed_number ss i ≡ master_of es g
   master-of-listed g i e = master-listed i ∙ go (find (in_group g) es) refl (sym (first-found es) ∙ ap first (sym (members-listed g)) ∙ e)
     where
       first-found : (es : List Peer) → first (members es g) ≡ option_map mount_of (find (in_group g) es)
@@ -84,8 +84,8 @@ positive : (n : ℕ) → nat_lt 0 (suc n) ≡ true
 positive n = grind (arith, nat_tests)
 
 -- a group lives where its list has a member
-pub lives-listed : (es : List Peer) (rows : List ListRow) (g : ℕ) → rows ≡ rows_by mount_of group_of es → nat_lt 0 (length (ids rows g)) ≡ has_member es g
-lives-listed es rows g told = ap (λ xs. nat_lt 0 (length xs)) (ids-listed group_of es rows told g) ∙ go es
+pub lives-listed : (es : List Peer) (rows : List ListRow) (g : ℕ) → rows ≡ rows_by mount_of peer_group es → nat_lt 0 (length (ids rows g)) ≡ has_member es g
+lives-listed es rows g told = ap (λ xs. nat_lt 0 (length xs)) (ids-listed peer_group es rows told g) ∙ go es
   where
     go : (es : List Peer) → nat_lt 0 (length (members es g)) ≡ has_member es g
     go [] = refl
@@ -96,7 +96,7 @@ pub listed-put : (x : Peer) (es : List Peer) (ms ss : List ListRow) → IsListed
     → IsListed (put mount_of x es) (with_number x.mount x.state.group ms) (with_number x.mount x.state.master ss)
 listed-put x es ms ss h = record {
   rising = rises-put mount_of x es h.rising;
-  members_told = ap (with_number x.mount x.state.group) h.members_told ∙ sym (put-by mount_of group_of x es h.rising);
+  members_told = ap (with_number x.mount x.state.group) h.members_told ∙ sym (put-by mount_of peer_group x es h.rising);
   slaves_told = ap (with_number x.mount x.state.master) h.slaves_told ∙ sym (put-by mount_of leader_of x es h.rising);
 }
 
@@ -221,13 +221,13 @@ pub listed-without : (gone : ℕ → Bool) (es : List Peer) (ms ss : List ListRo
     → IsListed (without (λ e. gone e.mount) es) (without (λ (r : ListRow). gone r.id) ms) (without (λ (r : ListRow). gone r.id) ss)
 listed-without gone es ms ss h = record {
   rising = rises-filter mount_of (λ (e : Peer). not (gone e.mount)) es h.rising;
-  members_told = ap (without (λ (r : ListRow). gone r.id)) h.members_told ∙ sym (rows-without group_of gone es);
+  members_told = ap (without (λ (r : ListRow). gone r.id)) h.members_told ∙ sym (rows-without peer_group gone es);
   slaves_told = ap (without (λ (r : ListRow). gone r.id)) h.slaves_told ∙ sym (rows-without leader_of gone es);
 }
 
 pub listed-is : (es fs : List Peer) (ms ns ss ts : List ListRow) → es ≡ fs → ms ≡ ns → ss ≡ ts → IsListed fs ns ts → IsListed es ms ss
 listed-is es fs ms ns ss ts e f g h = record {
   rising = ap (rises mount_of) e ∙ h.rising;
-  members_told = f ∙ h.members_told ∙ ap (rows_by mount_of group_of) (sym e);
+  members_told = f ∙ h.members_told ∙ ap (rows_by mount_of peer_group) (sym e);
   slaves_told = g ∙ h.slaves_told ∙ ap (rows_by mount_of leader_of) (sym e);
 }

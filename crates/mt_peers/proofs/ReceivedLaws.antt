@@ -9,7 +9,7 @@ use Rattle.mt_peers.specs.Peers.{Peer, Peering, mount_of, names, in_group, has_m
 use Rattle.mt_peers.specs.Masters.{master_of, groups_up, reaches}
 use Rattle.mt_skel.specs.Counted.{count, occ}
 use Rattle.mt_peers.specs.Members.{group_at}
-use Rattle.mt_peers.specs.Entered.{entered, entered_by, gets_above, collected, other_at}
+use Rattle.mt_peers.specs.Entered.{entered, entered_by, gets_above, collected_slave, other_at}
 use Rattle.mt_peers.specs.WellFormed.{IsPeering}
 use Rattle.mt_peers.proofs.MemberLaws.{master_of-is, named}
 use Rattle.mt_peers.proofs.SettleLaws.{chain-rank}
@@ -61,12 +61,12 @@ pub entered-rows : (es : List Peer) (g m : ℕ) → rises mount_of es ≡ true �
 entered-rows es g m up = picked-rows es (entered es g) (has_master m) es (rows-there es up)
 
 pub collected-rows : (es : List Peer) (t : ℕ → Bool) (g m q : ℕ) → rises mount_of es ≡ true
-    → occ q (filter_map (λ i. collected t g i (group_at es i)) (slaves es m)) ≡ count (λ e. has_master m e && other_at t g q e) es
+    → occ q (filter_map (λ i. collected_slave t g i (group_at es i)) (slaves es m)) ≡ count (λ e. has_master m e && other_at t g q e) es
 collected-rows es t g m q up =
-    ap (occ q) (picked-rows es (collected t g) (has_master m) es (rows-there es up))
-    ∙ occ-filter_map q (λ (e : Peer). collected t g e.mount e.state.group) (filter (has_master m) es)
-    ∙ count-filter (λ (e : Peer). names (collected t g e.mount e.state.group) q) (has_master m) es
-    ∙ count-same (λ (e : Peer). has_master m e && names (collected t g e.mount e.state.group) q) (λ e. has_master m e && other_at t g q e) (λ e. ap (λ b. has_master m e && b) (at (t e.mount && not (in_group g e)) e.mount)) es
+    ap (occ q) (picked-rows es (collected_slave t g) (has_master m) es (rows-there es up))
+    ∙ occ-filter_map q (λ (e : Peer). collected_slave t g e.mount e.state.group) (filter (has_master m) es)
+    ∙ count-filter (λ (e : Peer). names (collected_slave t g e.mount e.state.group) q) (has_master m) es
+    ∙ count-same (λ (e : Peer). has_master m e && names (collected_slave t g e.mount e.state.group) q) (λ e. has_master m e && other_at t g q e) (λ e. ap (λ b. has_master m e && b) (at (t e.mount && not (in_group g e)) e.mount)) es
   where
     at : (b : Bool) (i : ℕ) → names (cond b (Some i) None) q ≡ (b && (i == q))
     at true i = refl

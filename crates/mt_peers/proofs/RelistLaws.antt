@@ -9,7 +9,7 @@ use Rattle.mt_peers.specs.declared.entries.Entry.{Entry}
 use Rattle.mt_peers.specs.Peers.{Peering, mount_of}
 use Rattle.mt_peers.specs.Making.{changed_peer}
 use Rattle.mt_peers.specs.Entries.{was_peer, now_peers, was_peers, changed_entry, settled_entry}
-use Rattle.mt_peers.specs.Listed.{group_of}
+use Rattle.mt_peers.specs.Listed.{peer_group}
 use Rattle.mt_peers.proofs.ChangeLaws.{settled, now-settled, was-changed, now-changed}
 
 -- the states before are those of the entries before
@@ -26,7 +26,7 @@ was-settled : (rs xs : List Entry) → was_peers (map (settled_entry rs) xs) ≡
 was-settled rs [] = refl
 was-settled rs (x ∷ xs) = ap (λ t. was_peer x ∷ t) (was-settled rs xs)
 
-groups-settled : (rs xs : List Entry) → rows_by mount_of group_of (now_peers (map (settled_entry rs) xs)) ≡ rows_by mount_of group_of (now_peers xs)
+groups-settled : (rs xs : List Entry) → rows_by mount_of peer_group (now_peers (map (settled_entry rs) xs)) ≡ rows_by mount_of peer_group (now_peers xs)
 groups-settled rs [] = refl
 groups-settled rs (x ∷ xs) = ap (λ t. option_map_or (λ n. record { id = x.mount; number = n } ∷ t) x.state.group t) (groups-settled rs xs)
 
@@ -38,5 +38,5 @@ module _ (rs ts : List Entry) (e : ts ≡ map (settled_entry rs) rs) where
   pub rises-kept : rises mount_of (now_peers ts) ≡ rises mount_of (now_peers rs)
   rises-kept = ap (λ t. rises mount_of (now_peers t)) e ∙ ap (rises mount_of) (now-settled rs rs) ∙ rises-map mount_of (settled (was_peers rs) (now_peers rs)) (λ x. refl) (now_peers rs)
 
-  pub groups-kept : rows_by mount_of group_of (now_peers ts) ≡ rows_by mount_of group_of (now_peers rs)
-  groups-kept = ap (λ t. rows_by mount_of group_of (now_peers t)) e ∙ groups-settled rs rs
+  pub groups-kept : rows_by mount_of peer_group (now_peers ts) ≡ rows_by mount_of peer_group (now_peers rs)
+  groups-kept = ap (λ t. rows_by mount_of peer_group (now_peers t)) e ∙ groups-settled rs rs

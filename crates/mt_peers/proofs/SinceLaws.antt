@@ -14,7 +14,7 @@ use Rattle.mt_peers.specs.declared.state.State.{State}
 use Rattle.mt_peers.specs.declared.entries.Entry.{Entry}
 use Rattle.mt_peers.specs.Peers.{Peer, mount_of, state_at, with_state}
 use Rattle.mt_peers.specs.Entries.{now_peer, was_peer, now_peers, was_peers, differs, is_changed, noted_of}
-use Rattle.mt_peers.specs.Listed.{IsListed, IsKept, MastersLive}
+use Rattle.mt_peers.specs.Listed.{IsListed, IsKeptPeers, MastersLive}
 use Rattle.mt_peers.proofs.ListedLaws.{listed-is}
 
 same_mark : (a b : Bool) → differs a b ≡ false → a ≡ b
@@ -111,7 +111,7 @@ but_left (e ∷ es) ids i h =
 
 -- what is kept where the rows and the IDs noted are as they are said to be
 pub kept-is : (es fs : List Peer) (members ms slaves ss : List ListRow) (since : List Peer) (noted : List ℕ) (live : Bool) → es ≡ fs → members ≡ ms → slaves ≡ ss → IsListed fs ms ss → AreAlikeBut noted (state_at since) (state_at fs)
-    → (live ≡ true → MastersLive fs) → IsKept es members slaves since noted live
+    → (live ≡ true → MastersLive fs) → IsKeptPeers es members slaves since noted live
 kept-is es fs members ms slaves ss since noted live e m s l k led = record {
   listed = listed-is es fs members ms slaves ss e m s l;
   known = alike-as noted (state_at since) (state_at fs) (state_at es) k (λ i. ap (λ l. state_at l i) (sym e));

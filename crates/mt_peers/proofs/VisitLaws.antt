@@ -8,7 +8,7 @@ use Rattle.mt_skel.specs.Keyed.{rises, among}
 use Rattle.mt_peers.specs.Peers.{Peer, mount_of, in_group, has_master, members, slaves}
 use Rattle.mt_skel.specs.Counted.{count, occ}
 use Rattle.mt_peers.specs.Members.{group_at}
-use Rattle.mt_peers.specs.Entered.{entered, entered_by, gets_above, collected, other_at}
+use Rattle.mt_peers.specs.Entered.{entered, entered_by, gets_above, collected_slave, other_at}
 use Rattle.mt_skel.proofs.CountLaws.{count-same, count-le, count-length, length-filter, length-of-map}
 use Rattle.mt_skel.proofs.WorklistLaws.{is_found, next-new}
 use Rattle.mt_peers.specs.Masters.{master_of}
@@ -51,7 +51,7 @@ module _ (es : List Peer) (g i d m : ℕ) (all more : List ℕ) (up : rises moun
   -- the targets
   pub visit-occ : (t : ℕ → Bool) (q : ℕ)
       → count (λ e. led_by (take (i + 1) more) e && other_at t g q e) es
-      ≡ count (λ e. led_by (take i all) e && other_at t g q e) es + occ q (filter_map (λ j. collected t g j (group_at es j)) (slaves es m))
+      ≡ count (λ e. led_by (take i all) e && other_at t g q e) es + occ q (filter_map (λ j. collected_slave t g j (group_at es j)) (slaves es m))
   visit-occ t q =
       ap (λ l. count (λ e. led_by l e && other_at t g q e) es) cut
       ∙ other-more es (take i all) m (other_at t g q) new

@@ -21,8 +21,8 @@ abbrev pub gets_above : List Peer → ℕ → Peer → Bool
 gets_above es g e = option_map_or (λ m. reaches es m g) e.state.master false
 
 -- a slave that is collected, where its own group is this: one that passes the test and is not of the group where all began
-abbrev pub collected : (ℕ → Bool) → ℕ → ℕ → Option ℕ → Option ℕ
-collected t g i own = cond (t i && not (names own g)) (Some i) None
+abbrev pub collected_slave : (ℕ → Bool) → ℕ → ℕ → Option ℕ → Option ℕ
+collected_slave t g i own = cond (t i && not (names own g)) (Some i) None
 
 -- a mount that is collected as a slave, if it is this one
 abbrev pub other_at : (ℕ → Bool) → ℕ → ℕ → Peer → Bool

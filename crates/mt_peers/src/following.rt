@@ -2,7 +2,7 @@
 ghost use Rattle.std.specs.Prelude.{◌≡◌, ℕ, ◌+◌, ◌<◌, ◌≤◌, ◌∷◌, [], length, IsTrue, vec_capacity, vec_len};
 ghost use Rattle.std.specs.Option.{option_and_then};
 ghost use Rattle.mt_skel.specs.Keyed.{rises};
-ghost use Rattle.mt_lists.specs.Lists.{id_of, number_at};
+ghost use Rattle.mt_lists.specs.Lists.{listed_id, listed_number};
 ghost use Rattle.mt_lists.specs.Log.{AreAlikeBut};
 ghost use Rattle.mt_peers.specs.Peers.{mount_of, state_at};
 ghost use Rattle.mt_peers.specs.Members.{group_at, master_at};
@@ -20,10 +20,10 @@ const SWEEP: usize = 32;
 fn list_state(members: &mut Lists, slaves: &mut Lists, id: MountId, state: Option<State>)
     requires members_room { 0 < members.old.room }
     requires slaves_room { 0 < slaves.old.room }
-    ensures group { number_at members.new.rows id ≡ option_and_then (λ s. s.group) state }
-    ensures other_groups { AreAlikeBut (id ∷ []) (number_at members.old.rows) (number_at members.new.rows) }
-    ensures master { number_at slaves.new.rows id ≡ option_and_then (λ s. s.master) state }
-    ensures other_masters { AreAlikeBut (id ∷ []) (number_at slaves.old.rows) (number_at slaves.new.rows) }
+    ensures group { listed_number members.new.rows id ≡ option_and_then (λ s. s.group) state }
+    ensures other_groups { AreAlikeBut (id ∷ []) (listed_number members.old.rows) (listed_number members.new.rows) }
+    ensures master { listed_number slaves.new.rows id ≡ option_and_then (λ s. s.master) state }
+    ensures other_masters { AreAlikeBut (id ∷ []) (listed_number slaves.old.rows) (listed_number slaves.new.rows) }
     ensures members_left { members.old.room ≤ members.new.room + 1 }
     ensures slaves_left { slaves.old.room ≤ slaves.new.room + 1 }
 {
@@ -50,10 +50,10 @@ pub(crate) fn follow_lists(
     requires rising { IsTrue (rises mount_of (now_peers others.now)) }
     requires members_room { length ids.now ≤ members.old.room }
     requires slaves_room { length ids.now ≤ slaves.old.room }
-    requires groups { AreAlikeBut ids.now (number_at members.old.rows) (group_at (now_peers others.now)) }
-    requires masters { AreAlikeBut ids.now (number_at slaves.old.rows) (master_at (now_peers others.now)) }
-    ensures members { IsTrue (rises id_of members.new.rows) × ((i : ℕ) → number_at members.new.rows i ≡ group_at (now_peers others.now) i) }
-    ensures slaves { IsTrue (rises id_of slaves.new.rows) × ((i : ℕ) → number_at slaves.new.rows i ≡ master_at (now_peers others.now) i) }
+    requires groups { AreAlikeBut ids.now (listed_number members.old.rows) (group_at (now_peers others.now)) }
+    requires masters { AreAlikeBut ids.now (listed_number slaves.old.rows) (master_at (now_peers others.now)) }
+    ensures members { IsTrue (rises listed_id members.new.rows) × ((i : ℕ) → listed_number members.new.rows i ≡ group_at (now_peers others.now) i) }
+    ensures slaves { IsTrue (rises listed_id slaves.new.rows) × ((i : ℕ) → listed_number slaves.new.rows i ≡ master_at (now_peers others.now) i) }
 {
     for id in ids {
         let state = find_state(others, *id);

@@ -15,13 +15,13 @@ pub struct MastersUp<'a> {
 
 impl<'a> Iterator for MastersUp<'a> {
     ghost use Rattle.std.specs.Iterator.{YieldsFirst, item_count};
-    ghost use Rattle.mt_peers.specs.Above.{above};
+    ghost use Rattle.mt_peers.specs.Above.{masters_to_come};
 
     type Item = GroupId;
 
-    ghost next_gives = { YieldsFirst above };
+    ghost next_gives = { YieldsFirst masters_to_come };
 
-    ghost remaining = { item_count above };
+    ghost remaining = { item_count masters_to_come };
 
     fn next(&mut self) -> Option<GroupId> {
         let group = self.next?;

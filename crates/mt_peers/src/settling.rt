@@ -8,7 +8,7 @@ ghost use Rattle.mt_peers.specs.Peers.{Peer, mount_of, has_member};
 ghost use Rattle.mt_peers.specs.Loss.{heir};
 ghost use Rattle.mt_peers.specs.Making.{made, is_shared};
 ghost use Rattle.mt_peers.specs.Entries.{now_peers, was_peers, settled_entry};
-ghost use Rattle.mt_peers.specs.Listed.{group_of, leader_of, IsListed};
+ghost use Rattle.mt_peers.specs.Listed.{peer_group, leader_of, IsListed};
 ghost use Rattle.mt_peers.specs.Vanished.{IsVanished, AreNear};
 
 use crate::chosen::Chosen;
@@ -20,14 +20,14 @@ use mt_lists::lists::Lists;
 
 /// Whether a group has a member, where the members of each group are listed.
 pub(crate) fn lives(members: &Lists, group: GroupId) -> bool
-    ensures { (es : List Peer) → members.now.rows ≡ rows_by mount_of group_of es → result ≡ has_member es group }
+    ensures { (es : List Peer) → members.now.rows ≡ rows_by mount_of peer_group es → result ≡ has_member es group }
 {
     members.count(group) > 0
 }
 
 /// Whether it is known that each master has a member, once a mount has this one.
 pub(crate) fn all_led(live: bool, members: &Lists, master: Option<GroupId>) -> bool
-    ensures { (es : List Peer) → members.now.rows ≡ rows_by mount_of group_of es → result ≡ (live && option_map_or (has_member es) master true) }
+    ensures { (es : List Peer) → members.now.rows ≡ rows_by mount_of peer_group es → result ≡ (live && option_map_or (has_member es) master true) }
 {
     if !live {
         return false;
@@ -56,8 +56,8 @@ fn heir_of(
 ) -> Option<GroupId>
     requires few { most < 2 ^ 63 }
     requires near { AreNear most vanished.old }
-    ensures heir { (old new : List Peer) → members.now.rows ≡ rows_by mount_of group_of new → IsVanished old new vanished.old → length old ≡ most → known.now.heir ≡ heir old new known.now.master → result ≡ heir old new master }
-    ensures kept { (old new : List Peer) → members.now.rows ≡ rows_by mount_of group_of new → IsVanished old new vanished.old → IsVanished old new vanished.new }
+    ensures heir { (old new : List Peer) → members.now.rows ≡ rows_by mount_of peer_group new → IsVanished old new vanished.old → length old ≡ most → known.now.heir ≡ heir old new known.now.master → result ≡ heir old new master }
+    ensures kept { (old new : List Peer) → members.now.rows ≡ rows_by mount_of peer_group new → IsVanished old new vanished.old → IsVanished old new vanished.new }
     ensures near { AreNear most vanished.new }
     ensures room { spare vanished.old ≤ spare vanished.new }
 {
@@ -72,7 +72,7 @@ fn heir_of(
 /// serves those of the same master that follow it, and what was found above a group that has vanished serves all
 /// searches that come to it.
 fn settle_all(entries: &mut [Entry], members: &Lists, vanished: &mut IndexMap<GroupId, Above>)
-    requires listed { members.now.rows ≡ rows_by mount_of group_of (now_peers entries.old) }
+    requires listed { members.now.rows ≡ rows_by mount_of peer_group (now_peers entries.old) }
     requires vanished { IsVanished (was_peers entries.old) (now_peers entries.old) vanished.old }
     requires near { AreNear (length entries.old) vanished.old }
     ensures settled { entries.new ≡ map (settled_entry entries.old) entries.old }
@@ -95,8 +95,8 @@ fn settle_all(entries: &mut [Entry], members: &Lists, vanished: &mut IndexMap<Gr
 fn list_members(entries: &[Entry], members: &mut Lists)
     requires rising { IsTrue (rises mount_of (now_peers entries.now)) }
     requires room { length entries.now ≤ members.old.room }
-    requires listed { members.old.rows ≡ rows_by mount_of group_of (was_peers entries.now) }
-    ensures listed { members.new.rows ≡ rows_by mount_of group_of (now_peers entries.now) }
+    requires listed { members.old.rows ≡ rows_by mount_of peer_group (was_peers entries.now) }
+    ensures listed { members.new.rows ≡ rows_by mount_of peer_group (now_peers entries.now) }
     ensures room { members.old.room ≤ members.new.room + length entries.now }
 {
     for entry in entries {

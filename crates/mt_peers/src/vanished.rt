@@ -7,7 +7,7 @@ ghost use Rattle.mt_peers.specs.Peers.{Peer, mount_of, has_member, names};
 ghost use Rattle.mt_peers.specs.Masters.{master_of};
 ghost use Rattle.mt_peers.specs.Loss.{heir};
 ghost use Rattle.mt_peers.specs.Entries.{now_peers, was_peers};
-ghost use Rattle.mt_peers.specs.Listed.{group_of};
+ghost use Rattle.mt_peers.specs.Listed.{peer_group};
 ghost use Rattle.mt_peers.specs.Ways.{IsAbove, if_passes};
 ghost use Rattle.mt_peers.specs.Vanished.{above_was, IsVanished, AreNear, IsReached};
 
@@ -44,7 +44,7 @@ fn enter_group(vanished: &mut IndexMap<GroupId, Above>, group: GroupId, master: 
 /// Enters the group that a mount has left, unless it is there or still lives.
 fn enter(entry: &Entry, members: &Lists, vanished: &mut IndexMap<GroupId, Above>)
     requires room { 0 < spare vanished.old }
-    ensures entered { (es : List Peer) (g : ℕ) → members.now.rows ≡ rows_by mount_of group_of es → has_member es g ≡ false → names entry.now.state.group g ≡ false → get nat_eq vanished.new g ≡ option_or (get nat_eq vanished.old g) (above_was g entry.now) }
+    ensures entered { (es : List Peer) (g : ℕ) → members.now.rows ≡ rows_by mount_of peer_group es → has_member es g ≡ false → names entry.now.state.group g ≡ false → get nat_eq vanished.new g ≡ option_or (get nat_eq vanished.old g) (above_was g entry.now) }
     ensures near { (most : ℕ) → AreNear most vanished.old → AreNear most vanished.new }
     ensures room { spare vanished.old ≤ spare vanished.new + 1 }
 {
@@ -61,7 +61,7 @@ fn enter(entry: &Entry, members: &Lists, vanished: &mut IndexMap<GroupId, Above>
 /// Enters each group that has no member any more, with the master that it had when the change began. What was entered
 /// before is gone.
 pub(crate) fn enter_all(entries: &[Entry], members: &Lists, vanished: &mut IndexMap<GroupId, Above>)
-    requires listed { members.now.rows ≡ rows_by mount_of group_of (now_peers entries.now) }
+    requires listed { members.now.rows ≡ rows_by mount_of peer_group (now_peers entries.now) }
     requires room { length entries.now ≤ spare vanished.old }
     ensures vanished { IsVanished (was_peers entries.now) (now_peers entries.now) vanished.new }
     ensures near { (most : ℕ) → AreNear most vanished.new }
@@ -79,7 +79,7 @@ fn known_above(
     vanished: &IndexMap<GroupId, Above>,
     group: GroupId,
 ) -> Option<Above>
-    ensures known { (es : List Peer) → members.now.rows ≡ rows_by mount_of group_of es → result ≡ cond (has_member es group) None (get nat_eq vanished.now group) }
+    ensures known { (es : List Peer) → members.now.rows ≡ rows_by mount_of peer_group es → result ≡ cond (has_member es group) None (get nat_eq vanished.now group) }
     ensures entered { IfSome result (λ above. get nat_eq vanished.now group ≡ Some above) }
 {
     if lives(members, group) {
@@ -98,7 +98,7 @@ fn reached(
 ) -> Above
     requires few { most < 2 ^ 63 }
     requires near { AreNear most vanished.now }
-    ensures { (old new : List Peer) → members.now.rows ≡ rows_by mount_of group_of new → IsVanished old new vanished.now → IsReached old new most group result }
+    ensures { (old new : List Peer) → members.now.rows ≡ rows_by mount_of peer_group new → IsVanished old new vanished.now → IsReached old new most group result }
 {
     let mut here = Above {
         up: Some(group),
@@ -159,7 +159,7 @@ fn shorten(vanished: &mut IndexMap<GroupId, Above>, most: usize, group: GroupId,
 
 /// The group, if it lives.
 fn living(members: &Lists, group: Option<GroupId>) -> Option<GroupId>
-    ensures { (es : List Peer) → members.now.rows ≡ rows_by mount_of group_of es → result ≡ if_passes (has_member es) group }
+    ensures { (es : List Peer) → members.now.rows ≡ rows_by mount_of peer_group es → result ≡ if_passes (has_member es) group }
 {
     let group = group?;
     if lives(members, group) {
@@ -179,8 +179,8 @@ pub(crate) fn heir_from(
 ) -> Option<GroupId>
     requires few { most < 2 ^ 63 }
     requires near { AreNear most vanished.old }
-    ensures heir { (old new : List Peer) → members.now.rows ≡ rows_by mount_of group_of new → IsVanished old new vanished.old → length old ≡ most → result ≡ heir old new (Some group) }
-    ensures kept { (old new : List Peer) → members.now.rows ≡ rows_by mount_of group_of new → IsVanished old new vanished.old → IsVanished old new vanished.new }
+    ensures heir { (old new : List Peer) → members.now.rows ≡ rows_by mount_of peer_group new → IsVanished old new vanished.old → length old ≡ most → result ≡ heir old new (Some group) }
+    ensures kept { (old new : List Peer) → members.now.rows ≡ rows_by mount_of peer_group new → IsVanished old new vanished.old → IsVanished old new vanished.new }
     ensures near { AreNear most vanished.new }
     ensures room { spare vanished.old ≤ spare vanished.new }
 {

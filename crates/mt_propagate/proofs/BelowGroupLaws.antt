@@ -14,7 +14,7 @@ use Rattle.mt_peers.specs.Masters.{master_of, groups_up, masters_up, reaches}
 use Rattle.mt_peers.specs.Members.{master_at}
 use Rattle.mt_peers.specs.WellFormed.{IsPeering}
 use Rattle.mt_peers.proofs.ReachLaws.{reaches-self, reaches-step}
-use Rattle.mt_propagate.specs.Turned.{is_below}
+use Rattle.mt_propagate.specs.Turned.{is_below_group}
 
 -- a number of a list is among it
 pub in-among : (xs : List ℕ) (x : ℕ) → among xs x ≡ true → In x xs
@@ -34,7 +34,7 @@ slave-in es i m e = go (row_at mount_of i es) refl e
         subst (λ k. In k (slaves es m)) (row_at-key mount_of i es p is) (in_mapped mount_of p (filter (has_master m) es) (in_filtered (has_master m) p es (row_in mount_of i es p is) led))
 
 -- a mount is below a group if its master is reached from there
-pub below-slaves : (es : List Peer) (g : ℕ) (found : List ℕ) → ((h : ℕ) → among found h ≡ reaches es h g) → (i : ℕ) → is_below es g i ≡ true → among (flat_map (slaves es) found) i ≡ true
+pub below-slaves : (es : List Peer) (g : ℕ) (found : List ℕ) → ((h : ℕ) → among found h ≡ reaches es h g) → (i : ℕ) → is_below_group es g i ≡ true → among (flat_map (slaves es) found) i ≡ true
 below-slaves es g found all i e = go (master_at es i) refl e
   where
     go : (o : Option ℕ) → master_at es i ≡ o → option_map_or (λ m. reaches es m g) o false ≡ true → among (flat_map (slaves es) found) i ≡ true
@@ -88,8 +88,8 @@ module _ (p : Peering) (k : IsPeering p) where
           (r.0, r.1, r.2, reaches-on g q.0 r.0 a.0 r.3)
 
   -- so whoever is below one of them is below one that has none of them above it
-  pub below-top : (gs : List ℕ) (found : ℕ → Bool) → ((g i : ℕ) → among gs g ≡ true → has_above p.peers gs g ≡ false → is_below p.peers g i ≡ true → found i ≡ true)
-      → (g i : ℕ) → among gs g ≡ true → is_below p.peers g i ≡ true → found i ≡ true
+  pub below-top : (gs : List ℕ) (found : ℕ → Bool) → ((g i : ℕ) → among gs g ≡ true → has_above p.peers gs g ≡ false → is_below_group p.peers g i ≡ true → found i ≡ true)
+      → (g i : ℕ) → among gs g ≡ true → is_below_group p.peers g i ≡ true → found i ≡ true
   below-top gs found all g i e b = go (master_at p.peers i) refl b
     where
       t : (h : ℕ) × (among gs h ≡ true) × (has_above p.peers gs h ≡ false) × (reaches p.peers g h ≡ true)

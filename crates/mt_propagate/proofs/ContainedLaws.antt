@@ -3,7 +3,7 @@ use Rattle.std.proofs.Common.{◌≡◌, ◌≢◌, ℕ, Bool, true, List, Some,
 use Rattle.std.specs.Prelude.{unwrap_or}
 use Rattle.mt_skel.specs.Keyed.{rises}
 use Rattle.mt_skel.specs.declared.fault.Fault.{Fault}
-use Rattle.mt_skel.specs.Outcome.{fault_of}
+use Rattle.mt_skel.specs.Outcome.{refusal_of}
 use Rattle.mt_mounts.specs.declared.mount.Mount.{Mount}
 use Rattle.mt_mounts.specs.declared.mount.Place.{Place}
 use Rattle.mt_mounts.specs.Walk.{walk}
@@ -81,9 +81,9 @@ below-space w h i j m e b =
     (length w.forest) j i (space_is w j m e) b
 
 -- a path ends on a mount of its namespace
-pub ended-inside : (w : WorldView) → IsWellFormed w → (n : ℕ) (path : List (List ℕ)) → fault_of (walk w.skel w.forest n path) ≡ None → space_of w (place_or_nowhere (walk w.skel w.forest n path)).mount ≡ n
+pub ended-inside : (w : WorldView) → IsWellFormed w → (n : ℕ) (path : List (List ℕ)) → refusal_of (walk w.skel w.forest n path) ≡ None → space_of w (place_or_nowhere (walk w.skel w.forest n path)).mount ≡ n
 ended-inside w h n path none = go (walk w.skel w.forest n path) refl none
   where
-    go : (r : Result Place Fault) → walk w.skel w.forest n path ≡ r → fault_of r ≡ None → space_of w (place_or_nowhere r).mount ≡ n
+    go : (r : Result Place Fault) → walk w.skel w.forest n path ≡ r → refusal_of r ≡ None → space_of w (place_or_nowhere r).mount ≡ n
     go (Ok p) is none = let q = (walked w n h path p is).0 in space_is w p.mount q.0 q.1 ∙ q.2
     go (Err f) is none = absurd (cc)

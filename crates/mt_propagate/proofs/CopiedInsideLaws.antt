@@ -23,7 +23,7 @@ use Rattle.mt_propagate.specs.WellFormed.{IsWellFormed}
 use Rattle.mt_propagate.specs.Receivers.{gets_from, propagates_to, hits}
 use Rattle.mt_propagate.specs.Copies.{Source, MountCopy, targets, all_copies, new_copies, copy_id}
 use Rattle.mt_propagate.specs.Groups.{GroupKey, key_of, home, key_group, is_new_key, master_key, copy_state}
-use Rattle.mt_propagate.specs.Places.{copy_of, new_mounts, relocated, stack_end}
+use Rattle.mt_propagate.specs.Places.{copied_mount, new_mounts, relocated, stack_end}
 use Rattle.mt_propagate.specs.Copied.{copied, regrouped, is_moved}
 use Rattle.mt_propagate.specs.Sound.{IsSource, IsDestination}
 use Rattle.mt_propagate.specs.Contained.{IsContained, IsSameOutside, IsLocal}
@@ -68,9 +68,9 @@ module _ (w : WorldView) (h : IsWellFormed w) (src : Source) (dest : Place) (s :
   -- a copy is in the namespace of its target
   new-space : (t : ℕ) (m : Mount) → In t (cond src.moved (hits w dest) (targets w src dest)) → In m src.mounts → space (copy_id w src dest t m.id) ≡ space_of w t
   new-space t m e f =
-      let here : In (copy_of w src dest t m) (new_mounts w src dest) =
-      in_flatted (λ t. map (copy_of w src dest t) src.mounts) (copy_of w src dest t m) t (cond src.moved (hits w dest) (targets w src dest)) e (in_mapped (copy_of w src dest t) m src.mounts f) in
-      ap (λ o. unwrap_or (option_map (λ (m : Mount). m.space) o) 0) (in_row id_of mounts (copy_of w src dest t m) mounts_rise (in_right (copy_of w src dest t m) (map (relocated w src dest) w.forest) (new_mounts w src dest) here))
+      let here : In (copied_mount w src dest t m) (new_mounts w src dest) =
+      in_flatted (λ t. map (copied_mount w src dest t) src.mounts) (copied_mount w src dest t m) t (cond src.moved (hits w dest) (targets w src dest)) e (in_mapped (copied_mount w src dest t) m src.mounts f) in
+      ap (λ o. unwrap_or (option_map (λ (m : Mount). m.space) o) 0) (in_row id_of mounts (copied_mount w src dest t m) mounts_rise (in_right (copied_mount w src dest t m) (map (relocated w src dest) w.forest) (new_mounts w src dest) here))
 
   -- a source mount that is there is in the namespace of the place
   near-mount : (m q : Mount) (i : ℕ) → In m src.mounts → m.id ≡ i → mount_at w.forest i ≡ Some q → q.space ≡ space_of w dest.mount
@@ -309,8 +309,8 @@ module _ (w : WorldView) (h : IsWellFormed w) (src : Source) (dest : Place) (s :
 
           new : filter (in_space k) (new_mounts w src dest) ≡ []
           new = none-picked (in_space k) (new_mounts w src dest) (λ a e.
-              let t = in_flat (λ t. map (copy_of w src dest t) src.mounts) a (cond src.moved (hits w dest) (targets w src dest)) e in
-              let m = in_map (copy_of w src dest t.0) a src.mounts t.2 in
+              let t = in_flat (λ t. map (copied_mount w src dest t) src.mounts) a (cond src.moved (hits w dest) (targets w src dest)) e in
+              let m = in_map (copied_mount w src dest t.0) a src.mounts t.2 in
               let there : a.space ≡ n = ap (λ (m : Mount). m.space) (sym m.2) ∙ new-inside t.0 src.moved t.1 in
               ne_eqb a.space k (λ same. off (sym same ∙ there)))
 

@@ -17,7 +17,7 @@ use Rattle.mt_propagate.specs.World.{WorldView, private, state_of, group_of, spa
 use Rattle.mt_propagate.specs.WellFormed.{IsWellFormed}
 use Rattle.mt_propagate.specs.FromGroup.{from_group, is_seen}
 use Rattle.mt_propagate.specs.Touched.{AreNoted, IsTouched}
-use Rattle.mt_propagate.specs.Turned.{IsSteady, IsQuiet, is_alike, is_below, groups_of_changed}
+use Rattle.mt_propagate.specs.Turned.{IsSteady, IsQuiet, is_alike, is_below_group, groups_of_changed}
 use Rattle.mt_propagate.proofs.OutsideTagLaws.{same-bool, no-tag, tag_of, member-seen}
 use Rattle.mt_propagate.proofs.UpwardLaws.{find-chain}
 use Rattle.mt_propagate.proofs.BelowGroupLaws.{in-among, among-in, slave-in}
@@ -135,7 +135,7 @@ module _ (v w : WorldView) (h : IsWellFormed v) (k : IsWellFormed w) (ids all gs
     (kept : (i : ℕ) → among ids i ≡ true → among all i ≡ true)
     (changed : (g : ℕ) → among gs g ≡ among (flat_map (groups_of_changed v w) ids) g)
     (quiet : (g : ℕ) → among gs g ≡ true → among turned g ≡ false → IsQuiet v w g)
-    (below : (g i : ℕ) → among turned g ≡ true → is_below w.peering.peers g i ≡ true → among all i ≡ true) where
+    (below : (g i : ℕ) → among turned g ≡ true → is_below_group w.peering.peers g i ≡ true → among all i ≡ true) where
   all-quiet : (g : ℕ) → among turned g ≡ false → IsQuiet v w g
   all-quiet g out = go (among gs g) refl
     where

@@ -27,5 +27,5 @@ abbrev pub groups_of_changed : WorldView → WorldView → ℕ → List ℕ
 groups_of_changed v w i = cond (is_alike v w i) [] (cons_option (group_of v i) (cons_option (group_of w i) []))
 
 -- a mount is below a group: it is a slave of the group, or of one that has it above itself (`sharedsubtree`, mount states)
-abbrev pub is_below : List Peer → ℕ → ℕ → Bool
-is_below es g i = option_map_or (λ m. reaches es m g) (master_at es i) false
+abbrev pub is_below_group : List Peer → ℕ → ℕ → Bool
+is_below_group es g i = option_map_or (λ m. reaches es m g) (master_at es i) false

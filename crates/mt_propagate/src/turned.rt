@@ -13,7 +13,7 @@ ghost use Rattle.mt_propagate.specs.World.{world_view, space_of};
 ghost use Rattle.mt_propagate.specs.FromGroup.{is_seen};
 ghost use Rattle.mt_propagate.specs.WellFormed.{IsWellFormed};
 ghost use Rattle.mt_propagate.specs.Touched.{AreNoted, IsTouched};
-ghost use Rattle.mt_propagate.specs.Turned.{IsSteady, IsQuiet, is_alike, is_below, groups_of_changed};
+ghost use Rattle.mt_propagate.specs.Turned.{IsSteady, IsQuiet, is_alike, is_below_group, groups_of_changed};
 
 use crate::order::Order;
 use crate::receivers::{entered, group_of, push_some};
@@ -210,7 +210,7 @@ fn push_below(
     group: GroupId,
 ) -> Result<(), Fault>
     ensures kept { OnOk result ((i : ℕ) → IsTrue (among ids.old.items i) → IsTrue (among ids.new.items i)) }
-    ensures below { OnOk result (list_any (λ h. list_any (nat_eq h) groups.now) (masters_up world.now.peers.peers group) ≡ false → (i : ℕ) → IsTrue (is_below world.now.peers.peers group i) → IsTrue (among ids.new.items i)) }
+    ensures below { OnOk result (list_any (λ h. list_any (nat_eq h) groups.now) (masters_up world.now.peers.peers group) ≡ false → (i : ℕ) → IsTrue (is_below_group world.now.peers.peers group i) → IsTrue (among ids.new.items i)) }
     ensures memory { IsOkUnless result Fault.NoMemory }
 {
     if has_one_above(world, groups, group) {
@@ -225,7 +225,7 @@ fn push_below(
 fn push_all_below(ids: &mut Vec<MountId>, world: &World, groups: &[GroupId]) -> Result<(), Fault>
     requires order { IsPeering (world_view world.now).peering }
     ensures kept { OnOk result ((i : ℕ) → IsTrue (among ids.old.items i) → IsTrue (among ids.new.items i)) }
-    ensures below { OnOk result ((g i : ℕ) → IsTrue (among groups.now g) → IsTrue (is_below world.now.peers.peers g i) → IsTrue (among ids.new.items i)) }
+    ensures below { OnOk result ((g i : ℕ) → IsTrue (among groups.now g) → IsTrue (is_below_group world.now.peers.peers g i) → IsTrue (among ids.new.items i)) }
     ensures memory { IsOkUnless result Fault.NoMemory }
 {
     let order = Order::new(Vec::from_slice(world.peers.allocator(), groups)?);

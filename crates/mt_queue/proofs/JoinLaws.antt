@@ -6,11 +6,11 @@ use Rattle.crossbeam_queue.proofs.Lists.{at_set}
 use Rattle.crossbeam_queue.specs.Fifo.{Merges, Learns}
 use Rattle.mt_queue.specs.declared.rule.PassView.{PassView}
 use Rattle.mt_queue.specs.PassViews.{spent, joined, impossible}
-use Rattle.mt_queue.specs.Rule.{Fits, IsInOrder}
+use Rattle.mt_queue.specs.Rule.{Fits, KeepsRule}
 use Rattle.mt_queue.proofs.ViewLaws.{off, Each, each_set}
 
 -- the sender's pass takes the receiver's in
-pub joins : (pass : ℕ) (v : PassView) (other : ℕ) (u : PassView) → v.pushes ≡ true → u.pops ≡ true → Merges IsInOrder pass v other u (joined v u) spent
+pub joins : (pass : ℕ) (v : PassView) (other : ℕ) (u : PassView) → v.pushes ≡ true → u.pops ≡ true → Merges KeepsRule pass v other u (joined v u) spent
 joins pass v other u may may' items views h at two at' =
     let both : PassView = joined v u in
     let s = (h.each pass v at).0 may in
@@ -34,14 +34,14 @@ joins pass v other u may may' items views h at two at' =
     }
 
 -- two passes that may take are not of one line
-pub clashes : (pass : ℕ) (v : PassView) (other : ℕ) (u : PassView) → v.pops ≡ true → u.pops ≡ true → Merges IsInOrder pass v other u impossible spent
+pub clashes : (pass : ℕ) (v : PassView) (other : ℕ) (u : PassView) → v.pops ≡ true → u.pops ≡ true → Merges KeepsRule pass v other u impossible spent
 clashes pass v other u may may' items views h at two at' =
     let t = (h.each pass v at).1 may in
     let was : get_elem? views other ≡ some u = ⊎_elim (λ x. absurd (two x.0)) (λ x. x.1) (at_set views pass other impossible u at') in
     let t' = (h.each other u was).1 may' in
     absurd (two (t'.0 ∙ sym t.0))
 
-pub never : (pass : ℕ) → Learns IsInOrder pass impossible (λ items. ⊥)
+pub never : (pass : ℕ) → Learns KeepsRule pass impossible (λ items. ⊥)
 never pass items views h at =
     let s = (h.each pass impossible at).0 refl in
     let t = (h.each pass impossible at).1 refl in

@@ -4,13 +4,13 @@ use Rattle.crossbeam_queue.specs.Fifo.{Forks}
 use Rattle.mt_queue.specs.declared.rule.PassView.{PassView}
 use Rattle.mt_queue.specs.declared.rule.TaggedOpening.{TaggedOpening}
 use Rattle.mt_queue.specs.PassViews.{values, whole, sending, taking, spent}
-use Rattle.mt_queue.specs.Rule.{IsInOrder}
+use Rattle.mt_queue.specs.Rule.{KeepsRule}
 use Rattle.mt_queue.proofs.ViewLaws.{off, Each, each_set, PushesOnly, with_reader}
 use Rattle.mt_queue.proofs.ValueLaws.{nothing_held}
 use Rattle.mt_queue.proofs.RunLaws.{run_none}
 
 -- the pass is cut in two: the first keeps the right to push, and a new one has the right to pop
-pub parts : (pass : ℕ) (v : PassView) → v.pushes ≡ true → v.pops ≡ true → Forks IsInOrder pass v (sending v) (taking v)
+pub parts : (pass : ℕ) (v : PassView) → v.pushes ≡ true → v.pops ≡ true → Forks KeepsRule pass v (sending v) (taking v)
 parts pass v may may' items views h at =
     let s = (h.each pass v at).0 may in
     let t = (h.each pass v at).1 may' in
@@ -33,7 +33,7 @@ parts pass v may may' items views h at =
 
 -- where all is taken, both lists begin anew
 pub reopens : (o : TaggedOpening) (capacity pass : ℕ) (v : PassView) → v.pushes ≡ true → v.pops ≡ true → v.sent ≡ v.taken
-    → Forks IsInOrder pass v (sending (whole o capacity)) (taking (whole o capacity))
+    → Forks KeepsRule pass v (sending (whole o capacity)) (taking (whole o capacity))
 reopens o capacity pass v may may' all items views h at =
     let s = (h.each pass v at).0 may in
     let t = (h.each pass v at).1 may' in
@@ -57,7 +57,7 @@ reopens o capacity pass v may may' all items views h at =
     }
 
 -- what the receiver's pass knows goes to a new pass
-pub hands_over : (pass : ℕ) (v : PassView) → v.pops ≡ true → v.pushes ≡ false → Forks IsInOrder pass v spent v
+pub hands_over : (pass : ℕ) (v : PassView) → v.pops ≡ true → v.pushes ≡ false → Forks KeepsRule pass v spent v
 hands_over pass v may not_both items views h at =
     let t = (h.each pass v at).1 may in
     let vs : List PassView = set views pass spent in

@@ -9,14 +9,14 @@ use Rattle.mt_queue.specs.declared.rule.PassView.{PassView}
 use Rattle.mt_queue.specs.declared.rule.TaggedOpening.{TaggedOpening}
 use Rattle.mt_queue.specs.Openings.{no_opening}
 use Rattle.mt_queue.specs.PassViews.{Item, values, whole}
-use Rattle.mt_queue.specs.Rule.{Fits, IsInOrder}
+use Rattle.mt_queue.specs.Rule.{Fits, KeepsRule}
 use Rattle.mt_queue.specs.Steps.{IsPushed, IsFilled, IsPopped, IsPoppedLeft, IsDrained, IsBalanced}
 use Rattle.mt_queue.proofs.ViewLaws.{Each, each_set}
 use Rattle.mt_queue.proofs.ValueLaws.{values-append, held_length}
 use Rattle.mt_queue.proofs.RunLaws.{run_none, run_front}
 
 -- the first pass of a new queue
-pub begins : IsInOrder [] (whole no_opening 0 ∷ [])
+pub begins : KeepsRule [] (whole no_opening 0 ∷ [])
 begins = record {
   writer = 0;
   reader = 0;
@@ -35,7 +35,7 @@ begins = record {
     one (suc j) v e = absurd (some-ne-none v (sym e))
 
 pub pushes : (n pass : ℕ) (v : PassView) (x : Item) → v.pushes ≡ true → v.capacity ≡ n → IsRun v.opening.opening (v.sent ++ arc_value x ∷ [])
-    → Pushes IsInOrder n pass v x (IsPushed v x)
+    → Pushes KeepsRule n pass v x (IsPushed v x)
 pushes n pass v x may cap run items views room h at =
     let p : PostView = arc_value x in
     let w : PassView = record v { sent = v.sent ++ p ∷ [] } in
@@ -62,12 +62,12 @@ pushes n pass v x may cap run items views room h at =
       refl,
     )
 
-pub fills : (pass : ℕ) (v : PassView) → v.pushes ≡ true → Learns IsInOrder pass v (IsFilled v)
+pub fills : (pass : ℕ) (v : PassView) → v.pushes ≡ true → Learns KeepsRule pass v (IsFilled v)
 fills pass v may items views h at =
     let mine = (h.each pass v at).0 may in
     omega (arith, mine.4, ap length mine.3, held_length h.sent h.taken items h.split)
 
-pub pops : (pass : ℕ) (v : PassView) → v.pops ≡ true → Pops IsInOrder pass v (IsPopped v)
+pub pops : (pass : ℕ) (v : PassView) → v.pops ≡ true → Pops KeepsRule pass v (IsPopped v)
 pops pass v may x items views h at =
     let p : PostView = arc_value x in
     let w : PassView = record v { taken = v.taken ++ p ∷ [] } in
@@ -98,12 +98,12 @@ pops pass v may x items views h at =
       ),
     )
 
-pub drains : (pass : ℕ) (v : PassView) → v.pops ≡ true → Learns IsInOrder pass v (IsDrained v)
+pub drains : (pass : ℕ) (v : PassView) → v.pops ≡ true → Learns KeepsRule pass v (IsDrained v)
 drains pass v may items views h at =
     let mine = (h.each pass v at).1 may in
     omega (arith, mine.3, ap length mine.2, held_length h.sent h.taken items h.split)
 
-pub balances : (pass : ℕ) (v : PassView) → v.pushes ≡ true → v.pops ≡ true → Learns IsInOrder pass v (IsBalanced v)
+pub balances : (pass : ℕ) (v : PassView) → v.pushes ≡ true → v.pops ≡ true → Learns KeepsRule pass v (IsBalanced v)
 balances pass v may may' items views h at =
     let s = (h.each pass v at).0 may in
     let t = (h.each pass v at).1 may' in
@@ -116,7 +116,7 @@ balances pass v may may' items views h at =
       run = subst (λ (y : TaggedOpening × List PostView). IsRun y.0.opening y.1) (λ i. (sym s.1 i, sym s.3 i)) h.run;
     }
 
-pub pops_left : (pass : ℕ) (v : PassView) → v.pushes ≡ true → v.pops ≡ true → Pops IsInOrder pass v (IsPoppedLeft v)
+pub pops_left : (pass : ℕ) (v : PassView) → v.pushes ≡ true → v.pops ≡ true → Pops KeepsRule pass v (IsPoppedLeft v)
 pops_left pass v may may' x items views h at =
     let r = pops pass v may' x items views h at in
     let s = (h.each pass v at).0 may in

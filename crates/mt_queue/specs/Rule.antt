@@ -24,7 +24,7 @@ Fits writer reader o capacity sent taken pass v =
     (v.pushes ≡ true → KnowsSent writer o capacity sent taken pass v) × (v.pops ≡ true → KnowsTaken reader o sent taken pass v)
 
 -- The rule: of the items that a queue holds, oldest first, and of what its passes know, each in its place
-pub record IsInOrder (items : List Item) (views : List PassView) : Type 0 where
+pub record KeepsRule (items : List Item) (views : List PassView) : Type 0 where
   -- the pass that may push, and the one that may pop
   pub writer : ℕ
   pub reader : ℕ

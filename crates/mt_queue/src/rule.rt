@@ -90,9 +90,9 @@ pub(crate) struct InOrder;
 impl Protocol<Item, PassView> for InOrder {
     ghost use Rattle.mt_queue.specs.Openings.{no_opening};
     ghost use Rattle.mt_queue.specs.PassViews.{whole};
-    ghost use Rattle.mt_queue.specs.Rule.{IsInOrder};
+    ghost use Rattle.mt_queue.specs.Rule.{KeepsRule};
 
-    ghost holds = { IsInOrder };
+    ghost holds = { KeepsRule };
 
     ghost first = { whole no_opening 0 };
 }

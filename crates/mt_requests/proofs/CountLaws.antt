@@ -10,14 +10,14 @@ use Rattle.mt_events.specs.declared.opening.Scope.TheVariants.{One, All}
 use Rattle.mt_requests.specs.Options.{change_of}
 use Rattle.mt_requests.specs.declared.request.Request.{Request}
 use Rattle.mt_requests.specs.declared.request.Request.TheVariants.{Watch, Take, Follow, Close, Quit, Stop}
-use Rattle.mt_requests.specs.Requests.{unless, request_from, mkfs_of, mkdir_of, newns_of, copy_said, copyns_of, dropns_of, space_and_two, mount_of, two_paths_of, bind_of, move_of, pivot_of, one_path_of, umount_of, detach_of, setattr_of, show_of, find_of, one_word, watch_of, most_taken, most_followed, count_of, take_of, follow_of, HasRightCount, Reader, watching_lines, lines, read_by, by_words, request_of, ReadsAs}
+use Rattle.mt_requests.specs.Requests.{said_unless, request_from, mkfs_of, mkdir_of, newns_of, copy_said, copyns_of, dropns_of, space_and_two, mount_of, two_paths_of, bind_of, move_of, pivot_of, one_path_of, umount_of, detach_of, setattr_of, show_of, find_of, one_word, watch_of, most_taken, most_followed, count_of, take_of, follow_of, HasRightCount, Reader, watching_lines, lines, read_by, by_words, request_of, ReadsAs}
 
 -- what is said
 of_said : (said r : Request) → ◌≡◌ {A = Result Request Fault} (Ok said) (Ok r) → HasRightCount said → HasRightCount r
 of_said said r e right = let same : said ≡ r = cc in subst HasRightCount same right
 
 -- what is said unless there is a fault
-of_unless : (fault : Option Fault) (said r : Request) → unless fault said ≡ Ok r → HasRightCount said → HasRightCount r
+of_unless : (fault : Option Fault) (said r : Request) → said_unless fault said ≡ Ok r → HasRightCount said → HasRightCount r
 of_unless None said r e right = of_said said r e right
 of_unless (Some f) said r e right = cc
 

@@ -75,8 +75,8 @@ HasNoFault [] = Unit {0}
 HasNoFault (f ∷ fs) = (f ≡ None) × HasNoFault fs
 
 -- what a line says, unless there is a fault
-abbrev pub unless : {A : Type 0} → Option Fault → A → Result A Fault
-unless fault said = option_map_or (λ f. Err f) fault (Ok said)
+abbrev pub said_unless : {A : Type 0} → Option Fault → A → Result A Fault
+said_unless fault said = option_map_or (λ f. Err f) fault (Ok said)
 
 -- the request that is made of what a line says, unless that is refused
 abbrev pub request_from : {A : Type 0} → (A → Request) → Result A Fault → Result Request Fault
@@ -90,19 +90,19 @@ Reads said read = (read ≡ said) ⊎ ((read ≡ Err NoMemory) × (is_ok said �
 -- `mkfs NAME TYPE SOURCE` makes a filesystem
 abbrev pub mkfs_of : List (List ℕ) → Result Request Fault
 mkfs_of (name ∷ kind ∷ source ∷ []) =
-    unless (prior_fault (label_fault name ∷ label_fault kind ∷ label_fault source ∷ []))
+    said_unless (prior_fault (label_fault name ∷ label_fault kind ∷ label_fault source ∷ []))
     (request.Run (command.MakeFs (label_bytes name) (label_bytes kind) (label_bytes source)))
 mkfs_of _ = Err BadLine
 
 -- `mkdir FS DIR` makes a directory of a filesystem
 abbrev pub mkdir_of : List (List ℕ) → Result Request Fault
 mkdir_of (fs ∷ dir ∷ []) =
-    unless (prior_fault (label_fault fs ∷ path_fault dir ∷ [])) (request.Run (command.MakeDir (label_bytes fs) (path_names dir)))
+    said_unless (prior_fault (label_fault fs ∷ path_fault dir ∷ [])) (request.Run (command.MakeDir (label_bytes fs) (path_names dir)))
 mkdir_of _ = Err BadLine
 
 -- `newns FS` makes a namespace
 abbrev pub newns_of : List (List ℕ) → Result Request Fault
-newns_of (fs ∷ []) = unless (label_fault fs) (request.Run (command.NewSpace (label_bytes fs)))
+newns_of (fs ∷ []) = said_unless (label_fault fs) (request.Run (command.NewSpace (label_bytes fs)))
 newns_of _ = Err BadLine
 
 -- a copy of the namespace that a word names, less privileged or not
@@ -129,14 +129,14 @@ space_and_two _ = None
 -- `mount NS FS PATH` mounts a filesystem in a namespace
 abbrev pub mount_of : List (List ℕ) → Result Request Fault
 mount_of words =
-    option_map_or (λ (space, fs, path). unless (prior_fault (label_fault fs ∷ path_fault path ∷ []))
+    option_map_or (λ (space, fs, path). said_unless (prior_fault (label_fault fs ∷ path_fault path ∷ []))
     (request.Run (command.Mount space (label_bytes fs) (path_names path))))
     (space_and_two words) (Err BadLine)
 
 -- the namespace and the two paths that a line says
 abbrev pub two_paths_of : List (List ℕ) → Result (ℕ × List (List ℕ) × List (List ℕ)) Fault
 two_paths_of words =
-    option_map_or (λ (space, src, dst). unless (prior_fault (path_fault src ∷ path_fault dst ∷ [])) (space, path_names src, path_names dst))
+    option_map_or (λ (space, src, dst). said_unless (prior_fault (path_fault src ∷ path_fault dst ∷ [])) (space, path_names src, path_names dst))
     (space_and_two words) (Err BadLine)
 
 -- `bind NS SRC DST` binds a mount, and `rbind NS SRC DST` a tree of mounts
@@ -153,7 +153,7 @@ pivot_of words = request_from (λ (space, new, old). request.Run (command.Pivot 
 
 -- the namespace and the path that a line says
 abbrev pub one_path_of : List (List ℕ) → Result (ℕ × List (List ℕ)) Fault
-one_path_of (space ∷ path ∷ []) = option_map_or (λ n. unless (path_fault path) (n, path_names path)) (number_in_text space) (Err BadLine)
+one_path_of (space ∷ path ∷ []) = option_map_or (λ n. said_unless (path_fault path) (n, path_names path)) (number_in_text space) (Err BadLine)
 one_path_of _ = Err BadLine
 
 -- `umount NS PATH` unmounts
@@ -167,7 +167,7 @@ detach_of words = request_from (λ (space, path). request.Run (command.Detach sp
 -- `setattr NS PATH [rec] [set=W,..] [clr=W,..] [prop=K]` changes a mount, or all below it too; the options come in any order
 abbrev pub setattr_of : List (List ℕ) → Result Request Fault
 setattr_of (space ∷ path ∷ options) =
-    option_map_or (λ n. option_map_or (λ change. unless (path_fault path) (request.Run (command.SetAttr n (path_names path) change))) (change_of options) (Err BadLine))
+    option_map_or (λ n. option_map_or (λ change. said_unless (path_fault path) (request.Run (command.SetAttr n (path_names path) change))) (change_of options) (Err BadLine))
     (number_in_text space) (Err BadLine)
 setattr_of _ = Err BadLine
 

@@ -28,8 +28,8 @@ use Rattle.mt_floor.proofs.FloorLaws.{nothing}
 use Rattle.mt_requests.specs.declared.request.Request.{Request}
 use Rattle.mt_requests.specs.declared.request.Request.TheVariants.{Run, Show, Find, Watch, Take, Follow, Close, Quit, Stop}
 use Rattle.mt_session.specs.Answers.{refusal}
-use Rattle.mt_session.specs.Requests.{SessionState, state_at, session_at, answer_to, state_to, next_posts, begins, begun, left}
-use Rattle.mt_session.specs.Session.{Turn, Growth, Granted, Refused, Unshown, request_of_line, may_fail, may_be_unshown, granted_state, answer_of, answer_with, state_with, answer, after, state_after, Served}
+use Rattle.mt_session.specs.Requests.{SessionState, session_state, session_at, answer_to, state_to, next_posts, begins_watcher, begun, left}
+use Rattle.mt_session.specs.Session.{Turn, Growth, Granted, Refused, Unshown, request_of_line, may_fail, may_be_unshown, granted_state, answer_of, answer_with, state_with, answer_to_turn, state_after_turn, state_after, Served}
 use Rattle.mt_session.specs.Headline.{sends, leaves, events_to, granted_events, events_with, events_of, session_events, of_key, told_to, granted_told, told_with, told_by, session_told, HasHeard, IsTranscript, SessionsFollow}
 use Rattle.mt_session.specs.declared.serving.End.{End}
 use Rattle.mt_session.proofs.SessionLaws.{state_after-append}
@@ -63,7 +63,7 @@ takes_turn key s k idle (Some own) = record {
 }
 
 leaves_turn : (key : ℕ) (s : SessionState) → s.floor.due ≡ [] → (w : Option ℕ)
-    → Turns key s (option_map_or (λ own. state_at (floor_step s.floor (CloseWatcher own)).0 None) w s) (option_map_or (λ own. CloseWatcher own ∷ []) w []) (option_map_or (λ own. cond (own == key) (waiting s.floor own) []) w [])
+    → Turns key s (option_map_or (λ own. session_state (floor_step s.floor (CloseWatcher own)).0 None) w s) (option_map_or (λ own. CloseWatcher own ∷ []) w []) (option_map_or (λ own. cond (own == key) (waiting s.floor own) []) w [])
 leaves_turn key s idle None = still key s idle
 leaves_turn key s idle (Some own) = record {
   floor = refl;
@@ -134,8 +134,8 @@ unshown_watch key f scope h idle None none =
     ap (λ l. cond (f.next_key == key) l []) (begun_waits f (Open scope) h f.next_key (opening_of f.journal scope) (open_told f scope idle none)) ∙ nothing (f.next_key == key)
 unshown_watch key f scope h idle (Some x) some = refl
 
-unshown_none : (key : ℕ) (f : FloorView) (w : Option ℕ) (r : Request) → IsFloor f → f.due ≡ [] → begins (state_at f w) r ≡ true
-    → (told_to key (state_at f w) r ≡ []) × (of_key key (state_to (state_at f w) r) (λ own. waiting (state_to (state_at f w) r).floor own) ≡ [])
+unshown_none : (key : ℕ) (f : FloorView) (w : Option ℕ) (r : Request) → IsFloor f → f.due ≡ [] → begins_watcher (session_state f w) r ≡ true
+    → (told_to key (session_state f w) r ≡ []) × (of_key key (state_to (session_state f w) r) (λ own. waiting (state_to (session_state f w) r).floor own) ≡ [])
 unfolding state_to told_to
 unshown_none key f (Some own) r h idle is = absurd (cc)
 unshown_none key f None (Run c) h idle is = absurd (cc)
@@ -172,15 +172,15 @@ line_with key s Unshown q h = by (may_be_unshown s q) refl
     by true is = unshown_turn key s q h is
     by false is = granted_turn key s q h
 
-line_turn : (key : ℕ) (s : SessionState) (turn : Turn) → Rests s → Turns key s (after s turn) (events_of s turn) (told_by key s turn)
-unfolding after events_of told_by
+line_turn : (key : ℕ) (s : SessionState) (turn : Turn) → Rests s → Turns key s (state_after_turn s turn) (events_of s turn) (told_by key s turn)
+unfolding state_after_turn events_of told_by
 line_turn key s turn h = line_with key s turn.growth (request_of_line turn.line) h
 
 lines_turn : (key : ℕ) (turns : List Turn) (s : SessionState) → Rests s → Turns key s (state_after turns s) (session_events turns s) (session_told key turns s)
 lines_turn key [] s h = still key s h.idle
 lines_turn key (turn ∷ turns) s h =
     let first = line_turn key s turn h in
-    let next = after s turn in
+    let next = state_after_turn s turn in
     both key s next (state_after turns next) (events_of s turn) (session_events turns next) (told_by key s turn) (session_told key turns next) first
     (lines_turn key turns next (turn_rests key s next (events_of s turn) (told_by key s turn) h first))
 
@@ -194,7 +194,7 @@ record Began (s : SessionState) (key : ℕ) (es : List Event) (text : List ℕ) 
   told : text ≡ opening_text opening
 
 watch_began : (f : FloorView) (scope : Scope) (key : ℕ) → f.due ≡ [] → (o : Option Fault) → opening_refusal f scope ≡ o → option_map_or (λ x. None) o (Some f.next_key) ≡ Some key
-    → Began (state_at f None) key (Open scope ∷ []) (option_map_or (λ x. refusal x) o (opening_text (opening_of f.journal scope)))
+    → Began (session_state f None) key (Open scope ∷ []) (option_map_or (λ x. refusal x) o (opening_text (opening_of f.journal scope)))
 watch_began f scope key idle None none is =
     let same : f.next_key ≡ key = cc in record {
       event = Open scope;
@@ -208,8 +208,8 @@ watch_began f scope key idle (Some x) some is = absurd (let no : ◌≡◌ {A = 
 no_watcher : {A : Type 0} (key : ℕ) → ◌≡◌ {A = Option ℕ} None (Some key) → A
 no_watcher key is = absurd (cc)
 
-granted_began : (f : FloorView) (q : Result Request Fault) (key : ℕ) → f.due ≡ [] → (granted_state (state_at f None) q).watcher ≡ Some key
-    → Began (state_at f None) key (granted_events (state_at f None) q) (answer_of (state_at f None) q)
+granted_began : (f : FloorView) (q : Result Request Fault) (key : ℕ) → f.due ≡ [] → (granted_state (session_state f None) q).watcher ≡ Some key
+    → Began (session_state f None) key (granted_events (session_state f None) q) (answer_of (session_state f None) q)
 unfolding state_to events_to answer_to
 granted_began f (Err x) key idle is = no_watcher key is
 granted_began f (Ok (Run c)) key idle is = no_watcher key is
@@ -225,33 +225,33 @@ granted_began f (Ok Stop) key idle is = no_watcher key is
 left_none : (s : SessionState) → (left s).watcher ≡ None
 left_none s = by s.watcher refl
   where
-    by : (w : Option ℕ) → s.watcher ≡ w → (option_map_or (λ own. state_at (floor_step s.floor (CloseWatcher own)).0 None) w s).watcher ≡ None
+    by : (w : Option ℕ) → s.watcher ≡ w → (option_map_or (λ own. session_state (floor_step s.floor (CloseWatcher own)).0 None) w s).watcher ≡ None
     by None is = is
     by (Some own) is = refl
 
-began_with : (f : FloorView) (g : Growth) (q : Result Request Fault) (key : ℕ) → f.due ≡ [] → (state_with (state_at f None) g q).watcher ≡ Some key
-    → Began (state_at f None) key (events_with (state_at f None) g q) (answer_with (state_at f None) g q)
+began_with : (f : FloorView) (g : Growth) (q : Result Request Fault) (key : ℕ) → f.due ≡ [] → (state_with (session_state f None) g q).watcher ≡ Some key
+    → Began (session_state f None) key (events_with (session_state f None) g q) (answer_with (session_state f None) g q)
 began_with f Granted q key idle is = granted_began f q key idle is
-began_with f Refused q key idle is = by (may_fail (state_at f None) q) is (granted_began f q key idle)
+began_with f Refused q key idle is = by (may_fail (session_state f None) q) is (granted_began f q key idle)
   where
-    by : (b : Bool) → (if b then state_at f None else granted_state (state_at f None) q).watcher ≡ Some key
-        → ((granted_state (state_at f None) q).watcher ≡ Some key → Began (state_at f None) key (granted_events (state_at f None) q) (answer_of (state_at f None) q))
-        → Began (state_at f None) key (if b then [] else granted_events (state_at f None) q) (if b then refusal WantsMemory else answer_of (state_at f None) q)
+    by : (b : Bool) → (if b then session_state f None else granted_state (session_state f None) q).watcher ≡ Some key
+        → ((granted_state (session_state f None) q).watcher ≡ Some key → Began (session_state f None) key (granted_events (session_state f None) q) (answer_of (session_state f None) q))
+        → Began (session_state f None) key (if b then [] else granted_events (session_state f None) q) (if b then refusal WantsMemory else answer_of (session_state f None) q)
     by true is go = no_watcher key is
     by false is go = go is
-began_with f Unshown q key idle is = by (may_be_unshown (state_at f None) q) is (granted_began f q key idle)
+began_with f Unshown q key idle is = by (may_be_unshown (session_state f None) q) is (granted_began f q key idle)
   where
-    by : (b : Bool) → (if b then left (granted_state (state_at f None) q) else granted_state (state_at f None) q).watcher ≡ Some key
-        → ((granted_state (state_at f None) q).watcher ≡ Some key → Began (state_at f None) key (granted_events (state_at f None) q) (answer_of (state_at f None) q))
-        → Began (state_at f None) key (if b then granted_events (state_at f None) q ++ leaves (granted_state (state_at f None) q) else granted_events (state_at f None) q) (if b then refusal WantsMemory else answer_of (state_at f None) q)
-    by true is go = no_watcher key (sym (left_none (granted_state (state_at f None) q)) ∙ is)
+    by : (b : Bool) → (if b then left (granted_state (session_state f None) q) else granted_state (session_state f None) q).watcher ≡ Some key
+        → ((granted_state (session_state f None) q).watcher ≡ Some key → Began (session_state f None) key (granted_events (session_state f None) q) (answer_of (session_state f None) q))
+        → Began (session_state f None) key (if b then granted_events (session_state f None) q ++ leaves (granted_state (session_state f None) q) else granted_events (session_state f None) q) (if b then refusal WantsMemory else answer_of (session_state f None) q)
+    by true is go = no_watcher key (sym (left_none (granted_state (session_state f None) q)) ∙ is)
     by false is go = go is
 
-began_line : (s : SessionState) (turn : Turn) (key : ℕ) → s.floor.due ≡ [] → s.watcher ≡ None → (after s turn).watcher ≡ Some key → Began s key (events_of s turn) (answer s turn)
-unfolding after events_of answer
+began_line : (s : SessionState) (turn : Turn) (key : ℕ) → s.floor.due ≡ [] → s.watcher ≡ None → (state_after_turn s turn).watcher ≡ Some key → Began s key (events_of s turn) (answer_to_turn s turn)
+unfolding state_after_turn events_of answer_to_turn
 began_line s turn key idle none is =
     let q = request_of_line turn.line in
-    let P : Option ℕ → Type 0 = λ w. (state_with (state_at s.floor w) turn.growth q).watcher ≡ Some key → Began (state_at s.floor w) key (events_with (state_at s.floor w) turn.growth q) (answer_with (state_at s.floor w) turn.growth q) in
+    let P : Option ℕ → Type 0 = λ w. (state_with (session_state s.floor w) turn.growth q).watcher ≡ Some key → Began (session_state s.floor w) key (events_with (session_state s.floor w) turn.growth q) (answer_with (session_state s.floor w) turn.growth q) in
     subst P (sym none) (began_with s.floor turn.growth q key idle) is
 
 -- ---- the schedule
@@ -259,8 +259,8 @@ began_line s turn key idle none is =
 events-append : (front behind : List Turn) (s : SessionState) → session_events (front ++ behind) s ≡ session_events front s ++ session_events behind (state_after front s)
 events-append [] behind s = refl
 events-append (turn ∷ front) behind s =
-    ap (λ l. events_of s turn ++ l) (events-append front behind (after s turn))
-    ∙ sym (append_assoc (events_of s turn) (session_events front (after s turn)) (session_events behind (state_after front (after s turn))))
+    ap (λ l. events_of s turn ++ l) (events-append front behind (state_after_turn s turn))
+    ∙ sym (append_assoc (events_of s turn) (session_events front (state_after_turn s turn)) (session_events behind (state_after front (state_after_turn s turn))))
 
 -- the floor behind events, and then lines
 leads : (capacity : ℕ) (before : List Event) (turns : List Turn) (s : SessionState) → s.floor ≡ floor_after capacity before → Rests s → (state_after turns s).floor ≡ floor_after capacity (before ++ session_events turns s)
@@ -272,7 +272,7 @@ module _ (capacity : ℕ) (before : List Event) (front : List Turn) (turn : Turn
   here = state_after front s
 
   abbrev next : SessionState
-  next = after here turn
+  next = state_after_turn here turn
 
   abbrev earlier : List Event
   earlier = before ++ session_events front s
@@ -284,7 +284,7 @@ module _ (capacity : ℕ) (before : List Event) (front : List Turn) (turn : Turn
   rests_next = turn_rests 0 here next (events_of here turn) (told_by 0 here turn) rests_here (line_turn 0 here turn rests_here)
 
   module _ (none : here.watcher ≡ None) (is : next.watcher ≡ Some key) where
-    began : Began here key (events_of here turn) (answer here turn)
+    began : Began here key (events_of here turn) (answer_to_turn here turn)
     began = began_line here turn key rests_here.idle none is
 
     abbrev rest : List Event
@@ -314,11 +314,11 @@ module _ (capacity : ℕ) (before : List Event) (front : List Turn) (turn : Turn
         ∙ (λ i. given_by key began.event (began.answer i) ++ given_posts key rest (run (next_is i) rest).1)
         ∙ (lines_turn key behind next rests_next).given
 
-    heard : HasHeard capacity (before ++ session_events (front ++ turn ∷ behind) s) key (answer here turn) (session_told key behind next)
+    heard : HasHeard capacity (before ++ session_events (front ++ turn ∷ behind) s) key (answer_to_turn here turn) (session_told key behind next)
     heard =
         let es = earlier ++ began.event ∷ rest in
         let g = given_in_order capacity es (length earlier) key began.opening opened_at in
-        let has : HasHeard capacity es key (answer here turn) (given_since capacity es (length earlier) key) = record {
+        let has : HasHeard capacity es key (answer_to_turn here turn) (given_since capacity es (length earlier) key) = record {
           at = length earlier;
           opening = began.opening;
           began = opened_at;
@@ -330,21 +330,21 @@ module _ (capacity : ℕ) (before : List Event) (front : List Turn) (turn : Turn
           in_order = in_order capacity es (length earlier) key began.opening opened_at;
           rebuilt = rebuild capacity es (length earlier) key began.opening opened_at;
         } in
-        subst (λ (l : List Event). HasHeard capacity l key (answer here turn) (session_told key behind next)) (sym events_are)
-        (subst (HasHeard capacity es key (answer here turn)) told_is has)
+        subst (λ (l : List Event). HasHeard capacity l key (answer_to_turn here turn) (session_told key behind next)) (sym events_are)
+        (subst (HasHeard capacity es key (answer_to_turn here turn)) told_is has)
 
 pub sessions_follow : SessionsFollow
 sessions_follow capacity before turns s from idle =
     let h : Rests s = record { floor = subst IsFloor (sym from) (after_well capacity before); idle = idle } in record {
       floor = leads capacity before turns s from h;
       watchers = λ front turn behind key split none is.
-          subst (λ (l : List Turn). HasHeard capacity (before ++ session_events l s) key (answer (state_after front s) turn) (session_told key behind (after (state_after front s) turn))) (sym split)
+          subst (λ (l : List Turn). HasHeard capacity (before ++ session_events l s) key (answer_to_turn (state_after front s) turn) (session_told key behind (state_after_turn (state_after front s) turn))) (sym split)
           (heard capacity before front turn behind s key from h none is);
     }
 
 -- ---- a whole session
 
-module _ (capacity : ℕ) (before : List Event) (bytes : List ℕ) (old new : FloorView) (sent written : List ℕ) (by : End) (from : old ≡ floor_after capacity before) (ran : Served bytes (session_at old None) (state_at new None) sent written by) where
+module _ (capacity : ℕ) (before : List Event) (bytes : List ℕ) (old new : FloorView) (sent written : List ℕ) (by : End) (from : old ≡ floor_after capacity before) (ran : Served bytes (session_at old None) (session_state new None) sent written by) where
   abbrev begin : SessionState
   begin = session_at old None
 
@@ -366,7 +366,7 @@ module _ (capacity : ℕ) (before : List Event) (bytes : List ℕ) (old new : Fl
       let last = state_after lines begin in
       let h : Rests begin = record { floor = subst IsFloor (sym begins_at) (after_well capacity (before ++ sends old)); idle = begins_idle } in
       let idle = (lines_turn 0 lines begin h).idle in
-      let state : state_at new None ≡ left last = ran.state ∙ ap left (sym (state_after-append ran.turns ran.last begin)) in
+      let state : session_state new None ≡ left last = ran.state ∙ ap left (sym (state_after-append ran.turns ran.last begin)) in
       ap (λ (x : SessionState). x.floor) state
       ∙ sym (leaves_turn 0 last idle last.watcher).floor
       ∙ ap (λ (f : FloorView). (run f (leaves last)).0) (leads capacity (before ++ sends old) lines begin begins_at h)

@@ -12,7 +12,7 @@ use Rattle.mt_floor.specs.declared.event.Event.{Event}
 use Rattle.mt_floor.specs.declared.event.Event.TheVariants.{PostNext, Take, Close}
 use Rattle.mt_floor.specs.declared.event.Answer.{Answer}
 use Rattle.mt_floor.specs.declared.event.Answer.TheVariants.{Replied, Posted, Opened, Took, Met, Closed, Halted, NotNow}
-use Rattle.mt_floor.specs.Watcher.{Watcher, key_of}
+use Rattle.mt_floor.specs.Watcher.{Watcher, watcher_key}
 use Rattle.mt_floor.specs.Schedule.{FloorView, Stepped, floor_step, run, settled, if_idle, changed, took, closed, nothing_left, waiting}
 use Rattle.mt_floor.specs.WellFormed.{IsFloor}
 use Rattle.mt_floor.specs.Headline.{takes_from, closes, given_by, given_posts}
@@ -61,7 +61,7 @@ behind [] (suc i) l = absurd (omega (arith, l))
 behind (p ∷ ps) zero l = (p, refl, refl)
 behind (p ∷ ps) (suc i) l = behind ps i l
 
-one_taken : (s : FloorView) (own : ℕ) (r : Watcher) (p : PostView) → row_at key_of own s.watchers ≡ Some r → slice_get r.sent (length r.taken) ≡ Some p
+one_taken : (s : FloorView) (own : ℕ) (r : Watcher) (p : PostView) → row_at watcher_key own s.watchers ≡ Some r → slice_get r.sent (length r.taken) ≡ Some p
     → floor_step s (Take own) ≡ (changed s (record r { taken = r.taken ++ p ∷ [] }), Ok (Took (Some p)))
 unfolding floor_step
 one_taken s own r p at next =
@@ -73,7 +73,7 @@ joined true p ps = refl
 joined false p ps = refl
 
 -- takes in a row give the next posts
-takes_give : (n : ℕ) (s : FloorView) (key own : ℕ) (r : Watcher) → row_at key_of own s.watchers ≡ Some r → n ≤ length (drop (length r.taken) r.sent)
+takes_give : (n : ℕ) (s : FloorView) (key own : ℕ) (r : Watcher) → row_at watcher_key own s.watchers ≡ Some r → n ≤ length (drop (length r.taken) r.sent)
     → given_posts key (replicate n (Take own)) (run s (replicate n (Take own))).1 ≡ cond (own == key) (take n (drop (length r.taken) r.sent)) []
 takes_give zero s key own r at l = sym (nothing (own == key))
 takes_give (suc n) s key own r at l =
@@ -84,7 +84,7 @@ takes_give (suc n) s key own r at l =
     let step = one_taken s own r p at next.1 in
     let count : length r'.taken ≡ suc (length r.taken) = omega (arith, length-append r.taken (p ∷ [])) in
     let rest : drop (length r.taken) r.sent ≡ p ∷ drop (length r'.taken) r'.sent = next.2 ∙ ap (λ k. p ∷ drop k r.sent) (sym count) in
-    let there : row_at key_of own s'.watchers ≡ Some r' = put_same key_of own r' s.watchers (sym (row_at-key key_of own s.watchers r at)) in
+    let there : row_at watcher_key own s'.watchers ≡ Some r' = put_same watcher_key own r' s.watchers (sym (row_at-key watcher_key own s.watchers r at)) in
     let more = takes_give n s' key own r' there (omega (arith, l, ap (λ (x : List PostView). length x) rest)) in
     ap (λ (a : Stepped). given_by key (Take own) a.1 ++ given_posts key (replicate n (Take own)) (run a.0 (replicate n (Take own))).1) step
     ∙ ap (λ l. cond (own == key) (p ∷ []) [] ++ l) more
@@ -99,13 +99,13 @@ few (suc k) (p ∷ ps) = let more = few k ps in (omega (arith, more.0), ap (λ l
 -- as many as a request asks for
 pub takes_given : (s : FloorView) (key own k : ℕ)
     → given_posts key (replicate (length (next_posts s own k)) (Take own)) (run s (replicate (length (next_posts s own k)) (Take own))).1 ≡ cond (own == key) (next_posts s own k) []
-takes_given s key own k = by (row_at key_of own s.watchers) refl
+takes_given s key own k = by (row_at watcher_key own s.watchers) refl
   where
     none_waits : (j : ℕ) → ◌≡◌ {A = List PostView} (take j []) []
     none_waits zero = refl
     none_waits (suc j) = refl
 
-    by : (o : Option Watcher) → row_at key_of own s.watchers ≡ o
+    by : (o : Option Watcher) → row_at watcher_key own s.watchers ≡ o
         → given_posts key (replicate (length (next_posts s own k)) (Take own)) (run s (replicate (length (next_posts s own k)) (Take own))).1 ≡ cond (own == key) (next_posts s own k) []
     by None at =
         let none : next_posts s own k ≡ [] = ap (λ o. take k (option_map_or (λ (r : Watcher). drop (length r.taken) r.sent) o [])) at ∙ none_waits k in
@@ -119,14 +119,14 @@ takes_given s key own k = by (row_at key_of own s.watchers) refl
 
 -- ---- a close
 
-close_step : (s : FloorView) (own : ℕ) (o : Option Watcher) → s.due ≡ [] → row_at key_of own s.watchers ≡ o → floor_step s (Close own) ≡ option_map_or (closed s) o (s, Err NoWatcher)
+close_step : (s : FloorView) (own : ℕ) (o : Option Watcher) → s.due ≡ [] → row_at watcher_key own s.watchers ≡ o → floor_step s (Close own) ≡ option_map_or (closed s) o (s, Err NoWatcher)
 unfolding floor_step
-close_step s own o idle at = ap (λ ds. if_idle ds s (option_map_or (closed s) (row_at key_of own s.watchers) (s, Err NoWatcher))) idle ∙ ap (λ o. option_map_or (closed s) o (s, Err NoWatcher)) at
+close_step s own o idle at = ap (λ ds. if_idle ds s (option_map_or (closed s) (row_at watcher_key own s.watchers) (s, Err NoWatcher))) idle ∙ ap (λ o. option_map_or (closed s) o (s, Err NoWatcher)) at
 
 pub close_given : (s : FloorView) (key own : ℕ) → s.due ≡ [] → given_posts key (Close own ∷ []) (run s (Close own ∷ [])).1 ≡ cond (own == key) (waiting s own) []
-close_given s key own idle = ap (λ l. l ++ []) (by (row_at key_of own s.watchers) refl) ∙ append-nil (cond (own == key) (waiting s own) [])
+close_given s key own idle = ap (λ l. l ++ []) (by (row_at watcher_key own s.watchers) refl) ∙ append-nil (cond (own == key) (waiting s own) [])
   where
-    by : (o : Option Watcher) → row_at key_of own s.watchers ≡ o → given_by key (Close own) (floor_step s (Close own)).1 ≡ cond (own == key) (waiting s own) []
+    by : (o : Option Watcher) → row_at watcher_key own s.watchers ≡ o → given_by key (Close own) (floor_step s (Close own)).1 ≡ cond (own == key) (waiting s own) []
     by None at =
         ap (λ (a : Stepped). given_by key (Close own) a.1) (close_step s own None idle at)
         ∙ sym (ap (λ o. cond (own == key) (option_map_or (λ (r : Watcher). drop (length r.taken) r.sent) o []) []) at ∙ nothing (own == key))

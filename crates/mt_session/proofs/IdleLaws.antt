@@ -16,11 +16,11 @@ use Rattle.mt_floor.specs.declared.watch.Meeting.{Meeting}
 use Rattle.mt_floor.specs.declared.event.Event.TheVariants.{Apply, Open, Meet, Close}
 use Rattle.mt_floor.specs.declared.event.Answer.{Answer}
 use Rattle.mt_floor.specs.declared.event.Answer.TheVariants.{Opened, Met, Closed}
-use Rattle.mt_floor.specs.Watcher.{Watcher, key_of, opening_of}
+use Rattle.mt_floor.specs.Watcher.{Watcher, watcher_key, opening_of}
 use Rattle.mt_floor.specs.Schedule.{FloorView, Stepped, if_idle, unless, at_row, applied, replied, opened, met, closed, command_refusal, opening_refusal, waiting, floor_step}
 use Rattle.mt_events.specs.Texts.{opening_text, posts_text}
 use Rattle.mt_session.specs.Answers.{refusal, reply_text}
-use Rattle.mt_session.specs.Requests.{state_at, stepped_text, replied_text, opened_text, by_phase, rest_text, closed_text, begun}
+use Rattle.mt_session.specs.Requests.{session_state, stepped_text, replied_text, opened_text, by_phase, rest_text, closed_text, begun}
 use Rattle.mt_session.specs.Serving.{reply_in, begun_in, phase_in}
 
 module _ (s n : FloorView) (idle : s.due ≡ []) where
@@ -73,22 +73,22 @@ module _ (s n : FloorView) (idle : s.due ≡ []) where
   open_found scope key found e = let begins = begins_as scope (Opened key found) e in let is = begins.1 in (begins.0, cc)
 
   begun_as : (scope : Scope) (r : Result Answer Fault) (o : Option Fault) → floor_step s (Open scope) ≡ (n, r) → opening_refusal s scope ≡ o
-      → begun s scope ≡ state_at n (option_map_or (λ f. None) o (Some s.next_key))
+      → begun s scope ≡ session_state n (option_map_or (λ f. None) o (Some s.next_key))
   begun_as scope r o e is =
-      ap (λ (p : Stepped). state_at p.0 (option_map_or (λ f. None) (opening_refusal s scope) (Some s.next_key))) e
-      ∙ ap (λ o. state_at n (option_map_or (λ f. None) o (Some s.next_key))) is
+      ap (λ (p : Stepped). session_state p.0 (option_map_or (λ f. None) (opening_refusal s scope) (Some s.next_key))) e
+      ∙ ap (λ o. session_state n (option_map_or (λ f. None) o (Some s.next_key))) is
 
   pub open_told : (scope : Scope) (a : Answer) (key : ℕ) (found : Opening) → floor_step s (Open scope) ≡ (n, Ok a) → begun_in a ≡ Some (key, found)
-      → (opened_text s scope ≡ opening_text found) × (begun s scope ≡ state_at n (Some key))
+      → (opened_text s scope ≡ opening_text found) × (begun s scope ≡ session_state n (Some key))
   open_told scope a key found e by =
       let begins = begins_as scope a e in
       let same : begun_in (Opened s.next_key (opening_of s.journal scope)) ≡ Some (key, found) = sym (ap begun_in begins.1) ∙ by in (
         ap (λ o. option_map_or (λ f. refusal f) o (opening_text (opening_of s.journal scope))) begins.0
             ∙ ap (λ (b : Option (ℕ × Opening)). option_map_or (λ p. opening_text p.1) b []) same,
-        begun_as scope (Ok a) None e begins.0 ∙ ap (λ (b : Option (ℕ × Opening)). state_at n (option_map_or (λ p. Some p.0) b None)) same,
+        begun_as scope (Ok a) None e begins.0 ∙ ap (λ (b : Option (ℕ × Opening)). session_state n (option_map_or (λ p. Some p.0) b None)) same,
       )
 
-  pub open_refused : (scope : Scope) (f : Fault) → floor_step s (Open scope) ≡ (n, Err f) → (opened_text s scope ≡ refusal f) × (begun s scope ≡ state_at n None)
+  pub open_refused : (scope : Scope) (f : Fault) → floor_step s (Open scope) ≡ (n, Err f) → (opened_text s scope ≡ refusal f) × (begun s scope ≡ session_state n None)
   open_refused scope f e =
       let none : opening_refusal s scope ≡ Some f = begins_not (opening_refusal s scope) _ (Opened s.next_key (opening_of s.journal scope)) f (sym (open_step scope) ∙ e) in
       (ap (λ o. option_map_or (λ f. refusal f) o (opening_text (opening_of s.journal scope))) none, begun_as scope (Err f) (Some f) e none)
@@ -103,7 +103,7 @@ module _ (s n : FloorView) (idle : s.due ≡ []) where
   close_step key = now (at_row s key (closed s))
 
   pub meet_told : (text : List ℕ) (key : ℕ) (a : Answer) → floor_step s (Meet key) ≡ (n, Ok a) → (p : Phase) × (phase_in a ≡ Some p) × (rest_text text s key ≡ by_phase text p)
-  meet_told text key a e = go (row_at key_of key s.watchers) (sym (meet_step key) ∙ e)
+  meet_told text key a e = go (row_at watcher_key key s.watchers) (sym (meet_step key) ∙ e)
     where
       go : (o : Option Watcher) → option_map_or (met s) o (s, Err NoWatcher) ≡ (n, Ok a)
           → (p : Phase) × (phase_in a ≡ Some p) × (option_map_or (λ (r : Watcher). by_phase text r.phase) o (refusal NoWatcher) ≡ by_phase text p)
@@ -115,14 +115,14 @@ module _ (s n : FloorView) (idle : s.due ≡ []) where
           (r.phase, sym (ap phase_in is), refl)
 
   pub meet_refused : (text : List ℕ) (key : ℕ) (f : Fault) → floor_step s (Meet key) ≡ (n, Err f) → rest_text text s key ≡ refusal f
-  meet_refused text key f e = go (row_at key_of key s.watchers) (sym (meet_step key) ∙ e)
+  meet_refused text key f e = go (row_at watcher_key key s.watchers) (sym (meet_step key) ∙ e)
     where
       go : (o : Option Watcher) → option_map_or (met s) o (s, Err NoWatcher) ≡ (n, Err f) → option_map_or (λ (r : Watcher). by_phase text r.phase) o (refusal NoWatcher) ≡ refusal f
       go None e = let v = ap (λ (q : Stepped). q.1) e in let is : NoWatcher ≡ f = cc in ap refusal is
       go (Some r) e = let v = ap (λ (q : Stepped). q.1) e in absurd (cc)
 
   pub close_told : (key : ℕ) (a : Answer) → floor_step s (Close key) ≡ (n, Ok a) → closed_text s key ≡ posts_text (waiting s key)
-  close_told key a e = go (row_at key_of key s.watchers) (sym (close_step key) ∙ e)
+  close_told key a e = go (row_at watcher_key key s.watchers) (sym (close_step key) ∙ e)
     where
       go : (o : Option Watcher) → option_map_or (closed s) o (s, Err NoWatcher) ≡ (n, Ok a)
           → option_map_or (λ (r : Watcher). posts_text (waiting s key)) o (refusal NoWatcher) ≡ posts_text (waiting s key)
@@ -130,7 +130,7 @@ module _ (s n : FloorView) (idle : s.due ≡ []) where
       go (Some r) e = refl
 
   pub close_posts : (key : ℕ) (posts : List PostView) → floor_step s (Close key) ≡ (n, Ok (Closed posts)) → closed_text s key ≡ posts_text posts
-  close_posts key posts e = go (row_at key_of key s.watchers) (sym (close_step key) ∙ e)
+  close_posts key posts e = go (row_at watcher_key key s.watchers) (sym (close_step key) ∙ e)
     where
       go : (o : Option Watcher) → option_map_or (closed s) o (s, Err NoWatcher) ≡ (n, Ok (Closed posts))
           → option_map_or (λ (r : Watcher). posts_text (option_map_or (λ (r : Watcher). drop (length r.taken) r.sent) o [])) o (refusal NoWatcher) ≡ posts_text posts
@@ -141,7 +141,7 @@ module _ (s n : FloorView) (idle : s.due ≡ []) where
           ap posts_text is
 
   pub close_refused : (key : ℕ) (f : Fault) → floor_step s (Close key) ≡ (n, Err f) → closed_text s key ≡ refusal f
-  close_refused key f e = go (row_at key_of key s.watchers) (sym (close_step key) ∙ e)
+  close_refused key f e = go (row_at watcher_key key s.watchers) (sym (close_step key) ∙ e)
     where
       go : (o : Option Watcher) → option_map_or (closed s) o (s, Err NoWatcher) ≡ (n, Err f)
           → option_map_or (λ (r : Watcher). posts_text (waiting s key)) o (refusal NoWatcher) ≡ refusal f

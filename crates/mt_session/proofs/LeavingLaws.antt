@@ -6,7 +6,7 @@ use Rattle.mt_desk.specs.Desk.{DeskView, IsDesk}
 use Rattle.mt_desk.specs.Calls.{WatcherView}
 use Rattle.mt_requests.specs.declared.request.Request.{Request}
 use Rattle.mt_requests.specs.declared.request.Request.TheVariants.{Run, Show, Find, Watch, Take, Follow, Close, Quit, Stop}
-use Rattle.mt_session.specs.SharedTurns.{with_posts, HasTaken, GoesOn, KeepsWatcher, IsDoneBy}
+use Rattle.mt_session.specs.SharedTurns.{with_taken_posts, HasTaken, GoesOn, KeepsWatcher, IsDoneBy}
 use Rattle.mt_session.specs.SharedSession.{IsAnsweredAt, HasLeft, WasLeft}
 use Rattle.mt_session.specs.SharedServing.{IsUndoneAt, IsKeptOrLeft}
 
@@ -31,7 +31,7 @@ pub onward : (w after : WatcherView) (w' : Option WatcherView) → w' ≡ Some a
 onward w after w' is goes = subst (λ (x : Option WatcherView). IsKeptOrLeft (Some w) x) (sym is) goes
 
 -- posts were taken
-pub taken_keeps : (own own' : Option WatcherView) (w w' : WatcherView) (posts : List PostView) → own ≡ Some w → own' ≡ Some w' → w' ≡ with_posts w posts → KeepsWatcher own own'
+pub taken_keeps : (own own' : Option WatcherView) (w w' : WatcherView) (posts : List PostView) → own ≡ Some w → own' ≡ Some w' → w' ≡ with_taken_posts w posts → KeepsWatcher own own'
 taken_keeps own own' w w' posts is is' taken = subst (λ (x : Option WatcherView). KeepsWatcher x own') (sym is) (w', is', (posts, w.half.told, taken))
 
 pub kept_same : (w : Option WatcherView) → IsKeptOrLeft w w

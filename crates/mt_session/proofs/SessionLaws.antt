@@ -20,8 +20,8 @@ use Rattle.mt_session.specs.declared.serving.End.TheVariants.{Quit, Stop, Input,
 use Rattle.mt_floor.specs.Schedule.{FloorView, settled}
 use Rattle.mt_floor.proofs.SettledLaws.{settled_idle}
 use Rattle.mt_session.specs.Answers.{refusal}
-use Rattle.mt_session.specs.Requests.{SessionState, state_at, session_at, answer_to, state_to, begins, left, IsUndone}
-use Rattle.mt_session.specs.Session.{Granted, Refused, Unshown, Asking, Whole, Overlong, Broken, item_of, items_of, has_end, Turn, request_of_line, may_fail, may_be_unshown, answer, after, ends, ends_by, text_of, state_after, AllGoOn, Going, Served, IsCause, sent_by, line_limit, IsReadEnd, IsReadEndRun, IsCutCause, IsCutRun}
+use Rattle.mt_session.specs.Requests.{SessionState, session_state, session_at, answer_to, state_to, begins_watcher, left, IsUndone}
+use Rattle.mt_session.specs.Session.{Granted, Refused, Unshown, Asking, Whole, Overlong, Broken, item_of, items_of, has_end, Turn, request_of_line, may_fail, may_be_unshown, answer_to_turn, state_after_turn, end_of_turn, ends_by, text_of, state_after, AllGoOn, Going, Served, IsCause, sent_by, line_limit, IsReadEnd, IsReadEndRun, IsCutCause, IsCutRun}
 use Rattle.mt_session.specs.Serving.{the_turn, Answered, AnswersLine, Ran, IsSent, ends_by_line, ServedLine, ends_whole, ends_by_answer}
 
 -- a line that may want memory to be read wants it to be done, and ends no session
@@ -66,7 +66,7 @@ none_begins : (w : Option ℕ) → (not (is_some w) && is_some w) ≡ false
 none_begins None = refl
 none_begins (Some k) = refl
 
-beginning_goes_on : (s : SessionState) (r : Request) → begins s r ≡ true → ends_by (Ok r) ≡ None
+beginning_goes_on : (s : SessionState) (r : Request) → begins_watcher s r ≡ true → ends_by (Ok r) ≡ None
 unfolding state_to
 beginning_goes_on s r m =
     goes_on (λ y. may_be_unshown s y ≡ true) (Ok r) (λ e. let none = none_begins s.watcher in cc) (λ e. let none = none_begins s.watcher in cc) m
@@ -81,18 +81,18 @@ ends_two x by e = go (ends_cases x)
 
 -- a request that was read and done, one that found no memory, and a line that is none
 pub answered_ok : (old new : SessionState) (bytes text : List ℕ) (r : Request) (end : Option End) → ReadsAs (request_of bytes) (Ok r) → text ≡ answer_to old r → new ≡ state_to old r → end ≡ ends_by (Ok r) → Answered old new (Whole bytes) text end
-unfolding answer after ends
+unfolding answer_to_turn state_after_turn end_of_turn
 answered_ok old new bytes text r end (inl e) t n k = (Granted, rw (← e) t, rw (← e) n, rw (← e) k)
 answered_ok old new bytes text r end (inr e) t n k = cc
 
 pub answered_none : (old new : SessionState) (bytes text : List ℕ) (r : Request) (end : Option End) → ReadsAs (request_of bytes) (Ok r) → text ≡ refusal WantsMemory → end ≡ None → IsUndone old r new → Answered old new (Whole bytes) text end
-unfolding answer after ends
+unfolding answer_to_turn state_after_turn end_of_turn
 answered_none old new bytes text r end (inl e) t k (inl (n, m)) = (Refused, rw (← e, m) t, rw (← e, m) n, k ∙ rw (← e) (sym (failing_goes_on old (Ok r) m)))
 answered_none old new bytes text r end (inl e) t k (inr (n, m)) = (Unshown, rw (← e, m) t, rw (← e, m) n, k ∙ rw (← e) (sym (beginning_goes_on old r m)))
 answered_none old new bytes text r end (inr e) t k u = cc
 
 pub answered_err : (old : SessionState) (bytes text : List ℕ) (f : Fault) (end : Option End) → ReadsAs (request_of bytes) (Err f) → text ≡ refusal f → end ≡ None → Answered old old (Whole bytes) text end
-unfolding answer after ends
+unfolding answer_to_turn state_after_turn end_of_turn
 answered_err old bytes text f end (inl e) t k = (Granted, rw (← e) t, rw (← e) refl, rw (← e) k)
 answered_err old bytes text f end (inr (e, m)) t k =
     let same : f ≡ WantsMemory = cc in
@@ -101,12 +101,12 @@ answered_err old bytes text f end (inr (e, m)) t k =
 
 -- a line that is too long, or has no end
 answered_fixed : (old : SessionState) (line : Asking) (f : Fault) → request_of_line line ≡ Err f → Answered old old line (refusal f) None
-unfolding answer after ends
+unfolding answer_to_turn state_after_turn end_of_turn
 answered_fixed old line f e = (Granted, rw e refl, rw e refl, rw e refl)
 
 -- how a line that ends a session ends it
-cause_of : (turn : Turn) (text : List ℕ) (later : List Item) (by : End) → Some by ≡ ends turn → IsCause by [] (turn ∷ []) text later
-unfolding ends
+cause_of : (turn : Turn) (text : List ℕ) (later : List Item) (by : End) → Some by ≡ end_of_turn turn → IsCause by [] (turn ∷ []) text later
+unfolding end_of_turn
 cause_of turn text later by e = elim (ends_two (request_of_line turn.line) by e) [
   | inl q ↦ rw q (turn, refl, sym (rw q at e))
   | inr q ↦ rw q (turn, refl, sym (rw q at e))
@@ -126,7 +126,7 @@ abbrev ServedOne : List ℕ → SessionState → SessionState → List ℕ → L
 ServedOne before old new sent written by = (ran : Ran before old new sent written by) × (length ran.turns + length ran.last ≤ 1)
 
 -- the last answer stands alone
-served_last : (before later : List ℕ) (turn : Turn) (old new : SessionState) (sent written : List ℕ) (by : End) → lines_of line_limit before ≡ item_of turn.line ∷ lines_of line_limit later → new ≡ after old turn → written ≡ sent ++ sent_by by (answer old turn) → IsCause by [] (turn ∷ []) (answer old turn) (lines_of line_limit later) → ServedOne before old new sent written by
+served_last : (before later : List ℕ) (turn : Turn) (old new : SessionState) (sent written : List ℕ) (by : End) → lines_of line_limit before ≡ item_of turn.line ∷ lines_of line_limit later → new ≡ state_after_turn old turn → written ≡ sent ++ sent_by by (answer_to_turn old turn) → IsCause by [] (turn ∷ []) (answer_to_turn old turn) (lines_of line_limit later) → ServedOne before old new sent written by
 served_last before later turn old new sent written by lines state out cause = (
   record {
     turns = [];
@@ -134,9 +134,9 @@ served_last before later turn old new sent written by lines state out cause = (
     later = lines_of line_limit later;
     lines = lines;
     state = state;
-    out = out ∙ ap (λ x. sent ++ sent_by by x) (sym (append-nil (answer old turn)));
+    out = out ∙ ap (λ x. sent ++ sent_by by x) (sym (append-nil (answer_to_turn old turn)));
     goes = tt;
-    cause = subst (λ x. IsCause by [] (turn ∷ []) x (lines_of line_limit later)) (sym (append-nil (answer old turn))) cause;
+    cause = subst (λ x. IsCause by [] (turn ∷ []) x (lines_of line_limit later)) (sym (append-nil (answer_to_turn old turn))) cause;
     count = omega arith;
   },
   omega arith,
@@ -151,7 +151,7 @@ served_cut before later line old new sent written text end result lines a cut is
 -- a line with its line end
 after_text : (tells : Bool) (before later : List ℕ) (line : Asking) (old new : SessionState) (sent written text : List ℕ) (end : Option End) (result : Option End) → IsTrue tells → lines_of line_limit before ≡ item_of line ∷ lines_of line_limit later → has_end line ≡ true → Answered old new line text end → ForSome end (λ e. ends_whole e ≡ true) → IsSent tells sent written text end result → ServedLine before later old new sent written result
 after_text tells before later line old new sent written text (Some by) result t lines ends a h (inl s) =
-    let whole = whole_sent by (answer old (the_turn line a.0)) (h by refl) in
+    let whole = whole_sent by (answer_to_turn old (the_turn line a.0)) (h by refl) in
     let one = served_last before later (the_turn line a.0) old new sent written by lines a.2 (s.1 t ∙ ap (λ x. sent ++ x) (a.1 ∙ sym whole)) (cause_of (the_turn line a.0) _ _ by a.3) in
     rw s.0 one
 after_text tells before later line old new sent written text None result t lines ends a h (inl s) =
@@ -160,7 +160,7 @@ after_text tells before later line old new sent written text None result t lines
       record {
         lines = lines;
         state = a.2;
-        out = s.1 t ∙ ap (λ x. sent ++ x) (a.1 ∙ sym (append-nil (answer old (the_turn line a.0))));
+        out = s.1 t ∙ ap (λ x. sent ++ x) (a.1 ∙ sym (append-nil (answer_to_turn old (the_turn line a.0))));
         goes = (ends, sym a.3, tt);
       },
     )
@@ -263,17 +263,17 @@ served_left before old ran new sent written by r e = record {
 }
 
 -- where nothing is due, nothing has to be sent first
-pub at_rest : (floor : FloorView) (watcher : Option ℕ) → floor.due ≡ [] → session_at floor watcher ≡ state_at floor watcher
-at_rest floor watcher idle = ap (λ (f : FloorView). state_at f watcher) (settled_idle floor idle)
+pub at_rest : (floor : FloorView) (watcher : Option ℕ) → floor.due ≡ [] → session_at floor watcher ≡ session_state floor watcher
+at_rest floor watcher idle = ap (λ (f : FloorView). session_state f watcher) (settled_idle floor idle)
 
 -- a session from what was due before it to its watcher's close
 pub session_served : (before : List ℕ) (floor rested ran new : FloorView) (none mine left_over : Option ℕ) (sent written : List ℕ) (by : End)
-    → rested ≡ settled floor → none ≡ None → Ran before (state_at rested none) (state_at ran mine) sent written by → ran.due ≡ []
-    → state_at new left_over ≡ left (session_at ran mine) → left_over ≡ None → Served before (session_at floor None) (state_at new None) sent written by
+    → rested ≡ settled floor → none ≡ None → Ran before (session_state rested none) (session_state ran mine) sent written by → ran.due ≡ []
+    → session_state new left_over ≡ left (session_at ran mine) → left_over ≡ None → Served before (session_at floor None) (session_state new None) sent written by
 session_served before floor rested ran new none mine left_over sent written by rests begins served idle leaves gone =
-    let old : state_at rested none ≡ session_at floor None = (λ i. state_at (rests i) (begins i)) in
-    let after_leave : state_at new None ≡ left (state_at ran mine) = sym (ap (state_at new) gone) ∙ leaves ∙ ap left (at_rest ran mine idle) in
-    served_left before (session_at floor None) (state_at ran mine) (state_at new None) sent written by (subst (λ (o : SessionState). Ran before o (state_at ran mine) sent written by) old served) after_leave
+    let old : session_state rested none ≡ session_at floor None = (λ i. session_state (rests i) (begins i)) in
+    let after_leave : session_state new None ≡ left (session_state ran mine) = sym (ap (session_state new) gone) ∙ leaves ∙ ap left (at_rest ran mine idle) in
+    served_left before (session_at floor None) (session_state ran mine) (session_state new None) sent written by (subst (λ (o : SessionState). Ran before o (session_state ran mine) sent written by) old served) after_leave
 
 items_of-append : (xs ys : List Turn) → items_of (xs ++ ys) ≡ items_of xs ++ items_of ys
 items_of-append [] ys = refl
@@ -281,11 +281,11 @@ items_of-append (x ∷ xs) ys = ap (λ z. item_of x.line ∷ z) (items_of-append
 
 pub state_after-append : (xs ys : List Turn) (w : SessionState) → state_after (xs ++ ys) w ≡ state_after ys (state_after xs w)
 state_after-append [] ys w = refl
-state_after-append (x ∷ xs) ys w = state_after-append xs ys (after w x)
+state_after-append (x ∷ xs) ys w = state_after-append xs ys (state_after_turn w x)
 
 text_of-append : (xs ys : List Turn) (w : SessionState) → text_of (xs ++ ys) w ≡ text_of xs w ++ text_of ys (state_after xs w)
 text_of-append [] ys w = refl
-text_of-append (x ∷ xs) ys w = ap (λ z. answer w x ++ z) (text_of-append xs ys (after w x)) ∙ sym (append_assoc (answer w x) (text_of xs (after w x)) (text_of ys (state_after xs (after w x))))
+text_of-append (x ∷ xs) ys w = ap (λ z. answer_to_turn w x ++ z) (text_of-append xs ys (state_after_turn w x)) ∙ sym (append_assoc (answer_to_turn w x) (text_of xs (state_after_turn w x)) (text_of ys (state_after xs (state_after_turn w x))))
 
 AllGoOn-append : (xs ys : List Turn) → AllGoOn xs → AllGoOn ys → AllGoOn (xs ++ ys)
 AllGoOn-append [] ys h k = k

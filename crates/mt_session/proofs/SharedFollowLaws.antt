@@ -13,7 +13,7 @@ use Rattle.mt_requests.specs.declared.request.Request.TheVariants.{Run, Show, Fi
 use Rattle.mt_requests.specs.Requests.{may_want_memory}
 use Rattle.mt_session.specs.Session.{request_of_line}
 use Rattle.mt_session.specs.SharedTurns.{GoesOn}
-use Rattle.mt_session.specs.SharedSession.{IsSpent, IsTaken, IsFollowed, IsTold, IsTurn, IsNotDone, SharedTurn, AreTurns, WasLeft}
+use Rattle.mt_session.specs.SharedSession.{IsSpent, IsTaken, IsFollowed, IsAnswered, IsTurn, IsNotDone, SharedTurn, AreTurns, WasLeft}
 use Rattle.mt_session.specs.SharedServing.{IsKeptOrLeft}
 use Rattle.mt_session.specs.SharedHeadline.{FollowsInOrder, SharedSessionsFollow}
 use Rattle.mt_session.proofs.SharedTakeLaws.{met_moved}
@@ -32,7 +32,7 @@ follow_keeps : (w : WatcherView) (most : ℕ) (text : List ℕ) (w' : Option Wat
 follow_keeps w most text w' (inl f) = onward w f.after w' f.watcher (taken_goes w f.after f.posts f.taken)
 follow_keeps w most text w' (inr f) = onward w f.after w' f.watcher (goes_then w f.before f.after (taken_goes w f.before f.posts f.taken) (spent_goes f.before f.after f.phase f.spent))
 
-told_keeps : (w : WatcherView) (asked : Result Request Fault) (text : List ℕ) (w' : Option WatcherView) → IsTold (Some w) asked text w' → IsKeptOrLeft (Some w) w'
+told_keeps : (w : WatcherView) (asked : Result Request Fault) (text : List ℕ) (w' : Option WatcherView) → IsAnswered (Some w) asked text w' → IsKeptOrLeft (Some w) w'
 told_keeps w (Err f) text w' t = still w w' t.1
 told_keeps w (Ok (Take k)) text w' t = take_keeps w k text w' t
 told_keeps w (Ok (Follow k)) text w' t = follow_keeps w k text w' t

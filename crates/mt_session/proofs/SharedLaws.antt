@@ -19,16 +19,16 @@ use Rattle.mt_floor.specs.declared.event.Event.{Event}
 use Rattle.mt_floor.specs.declared.event.Event.TheVariants.{Apply, Open, Take, Close}
 use Rattle.mt_floor.specs.declared.event.Answer.{Answer}
 use Rattle.mt_floor.specs.declared.event.Answer.TheVariants.{Replied, Opened, Took, Closed}
-use Rattle.mt_floor.specs.Watcher.{Watcher, key_of}
+use Rattle.mt_floor.specs.Watcher.{Watcher, watcher_key}
 use Rattle.mt_floor.specs.Schedule.{FloorView, Stepped, floor_step, run, changed, took, nothing_left, opening_refusal}
 use Rattle.mt_floor.proofs.RunLaws.{run_told}
-use Rattle.mt_desk.specs.Desk.{DeskRow, DeskView, IsDesk, row_key, floor_of_desk, new_row, with_watcher}
+use Rattle.mt_desk.specs.Desk.{DeskRow, DeskView, IsDesk, row_key, floor_of_desk, new_desk_row, with_watcher}
 use Rattle.mt_desk.specs.Calls.{WatcherView, IsApplied, IsClosed, unseen}
 use Rattle.mt_desk.proofs.ScheduleLaws.{rows_rise, opened_stays}
 use Rattle.mt_events.specs.Texts.{opening_text, posts_text}
 use Rattle.mt_session.specs.Answers.{refusal, reply_text, shown_text, found_text}
 use Rattle.mt_session.specs.Requests.{replied_text, opened_text, closed_text, answer_to}
-use Rattle.mt_session.specs.SharedTurns.{floor_seen, found_state, with_posts, IsBegun, IsUndoneBy, HasTaken}
+use Rattle.mt_session.specs.SharedTurns.{floor_seen, found_state, with_taken_posts, IsBegun, IsUndoneBy, HasTaken}
 use Rattle.mt_session.proofs.IdleLaws.{apply_told, apply_refused, open_told, open_found, open_refused, close_posts}
 
 -- ---- A floor that only takes
@@ -36,11 +36,11 @@ use Rattle.mt_session.proofs.IdleLaws.{apply_told, apply_refused, open_told, ope
 took_watchers : (s : FloorView) (r : Watcher) (o : Option PostView)
     → (ws : List Watcher) × ((option_map_or {U = Stepped} (λ p. (changed s (record r { taken = r.taken ++ p ∷ [] }), Ok (Took (Some p)))) o (s, nothing_left r.phase)).0 ≡ record s { watchers = ws })
 took_watchers s r None = (s.watchers, refl)
-took_watchers s r (Some p) = (put key_of (record r { taken = r.taken ++ p ∷ [] }) s.watchers, refl)
+took_watchers s r (Some p) = (put watcher_key (record r { taken = r.taken ++ p ∷ [] }) s.watchers, refl)
 
 take_watchers : (s : FloorView) (key : ℕ) → (ws : List Watcher) × ((floor_step s (Take key)).0 ≡ record s { watchers = ws })
 unfolding floor_step
-take_watchers s key = by (row_at key_of key s.watchers)
+take_watchers s key = by (row_at watcher_key key s.watchers)
   where
     by : (o : Option Watcher) → (ws : List Watcher) × ((option_map_or (took s) o (s, Err NoWatcher)).0 ≡ record s { watchers = ws })
     by None = (s.watchers, refl)
@@ -109,10 +109,10 @@ begun_closed : (d held now : DeskView) (scope : Scope) (w : WatcherView) (posts 
     → IsClosed held w [] now
 begun_closed d held now scope w posts h accepts b c =
     let after : DeskView = with_watcher d scope in
-    let last : row_at row_key d.next_key after.rows ≡ Some (new_row d scope) = row_mid row_key d.rows [] (new_row d scope) (rows_rise after (opened_stays d scope h accepts)) in
+    let last : row_at row_key d.next_key after.rows ≡ Some (new_desk_row d scope) = row_mid row_key d.rows [] (new_desk_row d scope) (rows_rise after (opened_stays d scope h accepts)) in
     let there : row_at row_key d.next_key after.rows ≡ Some c.row = ap (λ k. row_at row_key k after.rows) (sym b.1) ∙ ap (λ (t : DeskView). row_at row_key w.key t.rows) (sym b.0) ∙ c.there in
-    let both : ◌≡◌ {A = Option DeskRow} (Some (new_row d scope)) (Some c.row) = sym last ∙ there in
-    let same : new_row d scope ≡ c.row = cc in
+    let both : ◌≡◌ {A = Option DeskRow} (Some (new_desk_row d scope)) (Some c.row) = sym last ∙ there in
+    let same : new_desk_row d scope ≡ c.row = cc in
     let none : [] ≡ posts = ap (λ (r : DeskRow). r.sent) same ∙ c.halved.split ∙ ap (λ (l : List PostView). l ++ posts) b.3 in
     subst (λ (ps : List PostView). IsClosed held w ps now) (sym none) c
 
@@ -174,7 +174,7 @@ find_answered d own q journal n path r is same told =
 
 -- ---- Posts that were taken and could not be printed
 
-pub lost_posts : (own own' : Option WatcherView) (w w' : WatcherView) (posts : List PostView) (most : ℕ) → own ≡ Some w → own' ≡ Some w' → w' ≡ with_posts w posts → length posts ≤ most → IsRun w'.half.opening w'.half.taken
+pub lost_posts : (own own' : Option WatcherView) (w w' : WatcherView) (posts : List PostView) (most : ℕ) → own ≡ Some w → own' ≡ Some w' → w' ≡ with_taken_posts w posts → length posts ≤ most → IsRun w'.half.opening w'.half.taken
     → ForSome own (λ (v : WatcherView). (lost : List PostView) × (v' : WatcherView) × HasTaken v lost v' × (own' ≡ Some v') × (length lost ≤ most))
 lost_posts own own' w w' posts most is is' taken within run = λ v at.
     let stays : IsRun w.half.opening (w.half.taken ++ posts) = subst (λ (x : WatcherView). IsRun x.half.opening x.half.taken) taken run in

@@ -10,7 +10,7 @@ use Rattle.mt_desk.specs.Calls.{WatcherView, IsMet}
 use Rattle.mt_desk.specs.Headline.{Meet as Meets, IsScheduledBy}
 use Rattle.mt_events.specs.declared.texts.PrintedPosts.{PrintedPosts}
 use Rattle.mt_session.specs.declared.shared_answer.Portion.TheVariants.{Posts}
-use Rattle.mt_session.specs.SharedTurns.{HasTaken, IsPopped, with_posts}
+use Rattle.mt_session.specs.SharedTurns.{HasTaken, HasPopped, with_taken_posts}
 use Rattle.mt_session.specs.SharedServing.{HasMet, HasPortion, IsPortion}
 
 -- a watcher that has taken posts more, and was told so many at its last meeting
@@ -18,7 +18,7 @@ abbrev taken_told : WatcherView → List PostView → ℕ → WatcherView
 taken_told w posts told = record w { half = record w.half { taken = w.half.taken ++ posts; told = told } }
 
 -- nothing was taken
-with_none : (w : WatcherView) → with_posts w [] ≡ w
+with_none : (w : WatcherView) → with_taken_posts w [] ≡ w
 with_none w = ap (λ (posts : List PostView). record w { half = record w.half { taken = posts } }) (append-nil w.half.taken)
 
 -- a watcher has taken posts, and may have met the desk
@@ -42,14 +42,14 @@ takes_more w mid after a b h k =
     (k.0, omega (arith, h.1, k.1, held), k.2 ∙ twice ∙ once, subst (λ (posts : List PostView). IsRun w.half.opening posts) (append_assoc w.half.taken a b) run)
 
 -- what was printed was taken
-popped_taken : (w : WatcherView) (most : ℕ) (printed : PrintedPosts) (w' : Option WatcherView) → (p : IsPopped w most printed w') → HasTaken w p.posts (with_posts w p.posts)
+popped_taken : (w : WatcherView) (most : ℕ) (printed : PrintedPosts) (w' : Option WatcherView) → (p : HasPopped w most printed w') → HasTaken w p.posts (with_taken_posts w p.posts)
 popped_taken w most printed w' p = (w.half.told, omega arith, refl, p.run)
 
 -- none was there
-popped_none : (w : WatcherView) (most : ℕ) (printed : PrintedPosts) (w' : Option WatcherView) → IsPopped w most printed w' → printed.posts ≡ 0 → w' ≡ Some w
+popped_none : (w : WatcherView) (most : ℕ) (printed : PrintedPosts) (w' : Option WatcherView) → HasPopped w most printed w' → printed.posts ≡ 0 → w' ≡ Some w
 popped_none w most printed w' p none =
     let empty : p.posts ≡ [] = nil_from_length p.posts (sym p.count ∙ none) in
-    p.watcher ∙ ap (λ (posts : List PostView). Some (with_posts w posts)) empty ∙ ap (λ (v : WatcherView). Some v) (with_none w)
+    p.watcher ∙ ap (λ (posts : List PostView). Some (with_taken_posts w posts)) empty ∙ ap (λ (v : WatcherView). Some v) (with_none w)
 
 -- a meeting while the desk is held
 pub has_met : (d now : DeskView) (w : Option WatcherView) (m : Option Meeting) (w' : Option WatcherView) → (w ≡ None → (m ≡ None) × (w' ≡ None) × (now ≡ d))
@@ -70,7 +70,7 @@ taken_is d w m now after i = ap (λ (x : Meeting). x.taken) i.meeting ∙ sym (a
 
 -- some have come by a meeting, so that some are taken after it
 met_some : (d : DeskView) (w : WatcherView) (m : Meeting) (now : DeskView) (after : WatcherView) (most : ℕ) (printed : PrintedPosts) (w' : Option WatcherView)
-    → IsMet d w m now after → m.taken < m.posted → (p : IsPopped after most printed w') → 0 < most → p.posts ≢ []
+    → IsMet d w m now after → m.taken < m.posted → (p : HasPopped after most printed w') → 0 < most → p.posts ≢ []
 met_some d w m now after most printed w' i more p some empty =
     let none : length p.posts ≡ 0 = ap (λ (posts : List PostView). length posts) empty in
     let fewer = p.fewer (omega (arith, none, some)) in
@@ -79,30 +79,30 @@ met_some d w m now after most printed w' i more p some empty =
 -- ---- What a session finds that takes posts
 
 -- what a session's watcher took, if it has one
-popped_at : (w w' : Option WatcherView) (most : ℕ) (printed : PrintedPosts) → ForSome w (λ (v : WatcherView). IsPopped v most printed w') → IsSome w → (v : WatcherView) × (w ≡ Some v) × IsPopped v most printed w'
+popped_at : (w w' : Option WatcherView) (most : ℕ) (printed : PrintedPosts) → ForSome w (λ (v : WatcherView). HasPopped v most printed w') → IsSome w → (v : WatcherView) × (w ≡ Some v) × HasPopped v most printed w'
 popped_at None w' most printed p some = cc
 popped_at (Some v) w' most printed p some = (v, refl, p v refl)
 
 -- none was there, so that nothing has changed
-pub popped_same : (w w' : Option WatcherView) (most : ℕ) (printed : PrintedPosts) → ForSome w (λ (v : WatcherView). IsPopped v most printed w') → IsSome w → printed.posts ≡ 0 → w' ≡ w
+pub popped_same : (w w' : Option WatcherView) (most : ℕ) (printed : PrintedPosts) → ForSome w (λ (v : WatcherView). HasPopped v most printed w') → IsSome w → printed.posts ≡ 0 → w' ≡ w
 popped_same w w' most printed p some none =
     let at = popped_at w w' most printed p some in
     popped_none at.0 most printed w' at.2 none ∙ sym at.1
 
 -- its watcher's posts stay a run
-pub popped_runs : (w w' : Option WatcherView) (most : ℕ) (printed : PrintedPosts) → ForSome w (λ (v : WatcherView). IsPopped v most printed w') → IsSome w
+pub popped_runs : (w w' : Option WatcherView) (most : ℕ) (printed : PrintedPosts) → ForSome w (λ (v : WatcherView). HasPopped v most printed w') → IsSome w
     → ForSome w' (λ (v : WatcherView). IsRun v.half.opening v.half.taken)
 popped_runs w w' most printed p some v is =
     let at = popped_at w w' most printed p some in
-    let same : with_posts at.0 at.2.posts ≡ v = let both = sym at.2.watcher ∙ is in cc in
+    let same : with_taken_posts at.0 at.2.posts ≡ v = let both = sym at.2.watcher ∙ is in cc in
     subst (λ (x : WatcherView). IsRun x.half.opening x.half.taken) same at.2.run
 
 -- some were taken, at once or behind a meeting
-has_portion : (w mid : WatcherView) (most : ℕ) (printed : PrintedPosts) (w' : Option WatcherView) → HasMoved w [] mid → (p : IsPopped mid most printed w') → p.posts ≢ [] → HasPortion w most printed w'
+has_portion : (w mid : WatcherView) (most : ℕ) (printed : PrintedPosts) (w' : Option WatcherView) → HasMoved w [] mid → (p : HasPopped mid most printed w') → p.posts ≢ [] → HasPortion w most printed w'
 has_portion w mid most printed w' h p some = record {
   posts = p.posts;
-  after = with_posts mid p.posts;
-  taken = takes_more w mid (with_posts mid p.posts) [] p.posts h (popped_taken mid most printed w' p);
+  after = with_taken_posts mid p.posts;
+  taken = takes_more w mid (with_taken_posts mid p.posts) [] p.posts h (popped_taken mid most printed w' p);
   watcher = p.watcher;
   some = some;
   most_is = p.most_is;
@@ -116,17 +116,17 @@ has_portion w mid most printed w' h p some = record {
 }
 
 pub portion_at_once : (w w' : Option WatcherView) (most : ℕ) (printed : PrintedPosts)
-    → ForSome w (λ (v : WatcherView). IsPopped v most printed w') → IsSome w → printed.posts ≢ 0 → IsPortion w most (Ok (Posts printed)) w'
+    → ForSome w (λ (v : WatcherView). HasPopped v most printed w') → IsSome w → printed.posts ≢ 0 → IsPortion w most (Ok (Posts printed)) w'
 portion_at_once w w' most printed p some more =
     let at = popped_at w w' most printed p some in
     let there : at.2.posts ≢ [] = λ empty. more (at.2.count ∙ ap (λ (posts : List PostView). length posts) empty) in
     subst (λ (x : Option WatcherView). IsPortion x most (Ok (Posts printed)) w') (sym at.1) (has_portion at.0 at.0 most printed w' (moved_none at.0) at.2 there)
 
 pub portion_met : (w mid w' : Option WatcherView) (m : Meeting) (most : ℕ) (printed : PrintedPosts)
-    → 0 < most → HasMet w (Some m) mid → m.taken < m.posted → ForSome mid (λ (v : WatcherView). IsPopped v most printed w') → IsPortion w most (Ok (Posts printed)) w'
+    → 0 < most → HasMet w (Some m) mid → m.taken < m.posted → ForSome mid (λ (v : WatcherView). HasPopped v most printed w') → IsPortion w most (Ok (Posts printed)) w'
 portion_met None mid w' m most printed any h more p = cc
 portion_met (Some w) mid w' m most printed any h more p =
-    let pop : IsPopped h.3 most printed w' = p h.3 h.7 in
+    let pop : HasPopped h.3 most printed w' = p h.3 h.7 in
     let same : h.2 ≡ m = cc in
     let more_then : h.2.taken < h.2.posted = rw same more in
     has_portion w h.3 most printed w' (met_moved h.0 w h.2 h.1 h.3 h.5) pop (met_some h.0 w h.2 h.1 h.3 most printed w' h.5 more_then pop any)

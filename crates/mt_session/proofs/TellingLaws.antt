@@ -7,13 +7,13 @@ use Rattle.mt_skel.specs.declared.fault.Fault.TheVariants.{NoWatcher, NoMemory a
 use Rattle.mt_skel.specs.Keyed.{row_at}
 use Rattle.mt_events.specs.Posts.{PostView}
 use Rattle.mt_events.specs.Texts.{posts_text, followed_text}
-use Rattle.mt_floor.specs.Watcher.{Watcher, key_of}
+use Rattle.mt_floor.specs.Watcher.{Watcher, watcher_key}
 use Rattle.mt_floor.specs.Schedule.{FloorView}
 use Rattle.mt_requests.specs.declared.request.Request.{Request}
 use Rattle.mt_requests.specs.declared.request.Request.TheVariants.{Run, Show, Find, Watch, Take, Follow, Close, Quit, Stop}
 use Rattle.mt_session.specs.Answers.{refusal}
 use Rattle.mt_session.specs.Requests.{SessionState, next_posts, taken_text, end_of_followed, closed_text, answer_to}
-use Rattle.mt_session.specs.Session.{Growth, Granted, Refused, Unshown, request_of_line, may_fail, may_be_unshown, answer_of, answer_with, answer}
+use Rattle.mt_session.specs.Session.{Growth, Granted, Refused, Unshown, request_of_line, may_fail, may_be_unshown, answer_of, answer_with, answer_to_turn}
 use Rattle.mt_session.specs.Headline.{told_to, granted_told, told_with, told_by, TellsPosts, AnswersTell}
 
 no_posts : {A : Type 0} (p : PostView) (ps : List PostView) → ◌≡◌ {A = List PostView} [] (p ∷ ps) → A
@@ -42,11 +42,11 @@ waiting_tells p ps None e = no_posts p ps e
 waiting_tells p ps (Some r) e = ap posts_text e
 
 close_tells : (f : FloorView) (key : ℕ) (p : PostView) (ps : List PostView) (w : Option ℕ)
-    → option_map_or (λ own. cond (own == key) (option_map_or (λ (r : Watcher). drop (length r.taken) r.sent) (row_at key_of own f.watchers) []) []) w [] ≡ p ∷ ps
+    → option_map_or (λ own. cond (own == key) (option_map_or (λ (r : Watcher). drop (length r.taken) r.sent) (row_at watcher_key own f.watchers) []) []) w [] ≡ p ∷ ps
     → TellsPosts (option_map_or (λ own. closed_text f own) w (refusal NoWatcher)) (p ∷ ps)
 close_tells f key p ps None e = no_posts p ps e
 close_tells f key p ps (Some own) e =
-    let row = row_at key_of own f.watchers in
+    let row = row_at watcher_key own f.watchers in
     inl (waiting_tells p ps row (own_told (own == key) (option_map_or (λ (r : Watcher). drop (length r.taken) r.sent) row []) p ps e))
 
 request_tells : (key : ℕ) (s : SessionState) (r : Request) (p : PostView) (ps : List PostView) → told_to key s r ≡ p ∷ ps → TellsPosts (answer_to s r) (p ∷ ps)
@@ -77,5 +77,5 @@ line_tells key s Refused q p ps e = unless_tells key s q p ps (may_fail s q) e
 line_tells key s Unshown q p ps e = unless_tells key s q p ps (may_be_unshown s q) e
 
 pub answers_tell : AnswersTell
-unfolding told_by answer
+unfolding told_by answer_to_turn
 answers_tell key s turn p ps e = line_tells key s turn.growth (request_of_line turn.line) p ps e

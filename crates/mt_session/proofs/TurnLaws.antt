@@ -18,7 +18,7 @@ use Rattle.mt_floor.specs.declared.event.Answer.{Answer}
 use Rattle.mt_floor.specs.Schedule.{FloorView, Stepped, floor_step, takes_memory}
 use Rattle.mt_events.specs.Texts.{count_text, lines_of_posts, posts_text}
 use Rattle.mt_session.specs.Answers.{refusal}
-use Rattle.mt_session.specs.Requests.{SessionState, state_at, state_to, opened_text, taken, begun, left, IsUndone}
+use Rattle.mt_session.specs.Requests.{SessionState, session_state, state_to, opened_text, taken, begun, left, IsUndone}
 use Rattle.mt_session.specs.Serving.{begun_in}
 use Rattle.mt_session.proofs.IdleLaws.{open_told, open_refused}
 
@@ -65,20 +65,20 @@ all_told w count lines rows text is counted printed told =
 -- no watcher began, and why is told
 pub refused_watch : (s n : FloorView) (idle : s.due ≡ []) (scope : Scope) (f : Fault) (own : Option ℕ) (r : Result (List ℕ) Fault) → own ≡ None
     → (f ≢ NoMemory → floor_step s (Open scope) ≡ (n, Err f)) → IfOk r (λ text. (text ≡ refusal f) × (f ≢ NoMemory))
-    → IfOk r (λ text. (text ≡ opened_text s scope) × (state_at n own ≡ begun s scope))
+    → IfOk r (λ text. (text ≡ opened_text s scope) × (session_state n own ≡ begun s scope))
 refused_watch s n idle scope f own (Ok text) none step told =
     let is = open_refused s n idle scope f (step told.1) in
-    (told.0 ∙ sym is.0, ap (state_at n) none ∙ sym is.1)
+    (told.0 ∙ sym is.0, ap (session_state n) none ∙ sym is.1)
 refused_watch s n idle scope f own (Err g) none step told = told
 
 -- a watcher that began and was closed again
 module _ (s begun_floor closed : FloorView) (scope : Scope) (a : Answer) (key : ℕ) (o : Opening) (idle : s.due ≡ []) (is : floor_step s (Open scope) ≡ (begun_floor, Ok a)) (by : begun_in a ≡ Some (key, o)) where
-  begun_is : begun s scope ≡ state_at begun_floor (Some key)
+  begun_is : begun s scope ≡ session_state begun_floor (Some key)
   begun_is = (open_told s begun_floor idle scope a key o is by).1
 
-  undone_none : closed ≡ (floor_step begun_floor (Close key)).0 → IsUndone (state_at s None) (Watch scope) (state_at closed None)
+  undone_none : closed ≡ (floor_step begun_floor (Close key)).0 → IsUndone (session_state s None) (Watch scope) (session_state closed None)
   unfolding state_to
-  undone_none e = inr (ap (λ (t : FloorView). state_at t None) e ∙ sym (ap left begun_is), ap (λ (t : SessionState). is_some t.watcher) begun_is)
+  undone_none e = inr (ap (λ (t : FloorView). session_state t None) e ∙ sym (ap left begun_is), ap (λ (t : SessionState). is_some t.watcher) begun_is)
 
-  pub undone_watch : (own : Option ℕ) → own ≡ None → closed ≡ (floor_step begun_floor (Close key)).0 → IsUndone (state_at s own) (Watch scope) (state_at closed own)
-  undone_watch own none e = subst (λ w. IsUndone (state_at s w) (Watch scope) (state_at closed w)) (sym none) (undone_none e)
+  pub undone_watch : (own : Option ℕ) → own ≡ None → closed ≡ (floor_step begun_floor (Close key)).0 → IsUndone (session_state s own) (Watch scope) (session_state closed own)
+  undone_watch own none e = subst (λ w. IsUndone (session_state s w) (Watch scope) (session_state closed w)) (sym none) (undone_none e)

@@ -17,8 +17,8 @@ use Rattle.mt_floor.specs.Headline.{answers, floor_after, posted_since, IsInOrde
 use Rattle.mt_requests.specs.declared.request.Request.{Request}
 use Rattle.mt_requests.specs.declared.request.Request.TheVariants.{Run, Watch, Take, Follow, Close, Stop}
 use Rattle.mt_session.specs.declared.serving.End.{End}
-use Rattle.mt_session.specs.Requests.{SessionState, state_at, session_at, with_watcher, next_posts}
-use Rattle.mt_session.specs.Session.{Turn, Growth, Granted, Refused, Unshown, request_of_line, may_fail, may_be_unshown, granted_state, answer, after, state_after, Served}
+use Rattle.mt_session.specs.Requests.{SessionState, session_state, session_at, by_watcher, next_posts}
+use Rattle.mt_session.specs.Session.{Turn, Growth, Granted, Refused, Unshown, request_of_line, may_fail, may_be_unshown, granted_state, answer_to_turn, state_after_turn, state_after, Served}
 
 -- ---- the events of a session
 
@@ -28,16 +28,16 @@ sends s = replicate (length s.due) PostNext
 
 -- so many posts of the session's watcher are taken
 abbrev pub takes : SessionState → ℕ → List Event
-takes s k = with_watcher s (λ key. replicate (length (next_posts s.floor key k)) (TakePost key)) []
+takes s k = by_watcher s (λ key. replicate (length (next_posts s.floor key k)) (TakePost key)) []
 
 -- the session's watcher, if it has one, is closed
 abbrev pub leaves : SessionState → List Event
-leaves s = with_watcher s (λ key. CloseWatcher key ∷ []) []
+leaves s = by_watcher s (λ key. CloseWatcher key ∷ []) []
 
 -- the events of a request
 unfoldable pub events_to : SessionState → Request → List Event
 events_to s (Run c) = Apply c ∷ sends (floor_step s.floor (Apply c)).0
-events_to s (Watch scope) = with_watcher s (λ key. []) (Open scope ∷ [])
+events_to s (Watch scope) = by_watcher s (λ key. []) (Open scope ∷ [])
 events_to s (Take k) = takes s k
 events_to s (Follow k) = takes s k
 events_to s Close = leaves s
@@ -60,13 +60,13 @@ events_of state turn = events_with state turn.growth (request_of_line turn.line)
 -- the events of lines, one after another
 abbrev pub session_events : List Turn → SessionState → List Event
 session_events [] state = []
-session_events (turn ∷ turns) state = events_of state turn ++ session_events turns (after state turn)
+session_events (turn ∷ turns) state = events_of state turn ++ session_events turns (state_after_turn state turn)
 
 -- ---- the posts that a session tells
 
 -- what is told of the session's watcher, where it is the one of this key
 abbrev pub of_key : ℕ → SessionState → (ℕ → List PostView) → List PostView
-of_key key s posts = with_watcher s (λ own. cond (own == key) (posts own) []) []
+of_key key s posts = by_watcher s (λ own. cond (own == key) (posts own) []) []
 
 -- the posts that the answer to a request tells of the watcher of a key: those that it takes, or that wait at its close
 unfoldable pub told_to : ℕ → SessionState → Request → List PostView
@@ -91,7 +91,7 @@ told_by key state turn = told_with key state turn.growth (request_of_line turn.l
 -- and those to lines, one after another
 abbrev pub session_told : ℕ → List Turn → SessionState → List PostView
 session_told key [] state = []
-session_told key (turn ∷ turns) state = told_by key state turn ++ session_told key turns (after state turn)
+session_told key (turn ∷ turns) state = told_by key state turn ++ session_told key turns (state_after_turn state turn)
 
 -- the text of posts: by `take` and `close`, or by `follow`, which says behind them how they ended
 abbrev pub TellsPosts : List ℕ → List PostView → Type 0
@@ -99,7 +99,7 @@ TellsPosts text ps = (text ≡ posts_text ps) ⊎ ((end : List ℕ) × (text ≡
 
 -- where a line tells posts of a watcher, its answer is their text
 abbrev pub AnswersTell : Type 0
-AnswersTell = (key : ℕ) (state : SessionState) (turn : Turn) (p : PostView) (ps : List PostView) → told_by key state turn ≡ p ∷ ps → TellsPosts (answer state turn) (p ∷ ps)
+AnswersTell = (key : ℕ) (state : SessionState) (turn : Turn) (p : PostView) (ps : List PostView) → told_by key state turn ≡ p ∷ ps → TellsPosts (answer_to_turn state turn) (p ∷ ps)
 
 -- ---- the headline
 
@@ -124,12 +124,12 @@ pub record HasHeard (capacity : ℕ) (es : List Event) (key : ℕ) (found : List
 pub record IsSession (capacity : ℕ) (before : List Event) (turns : List Turn) (state : SessionState) : Type 0 where
   pub floor : (state_after turns state).floor ≡ floor_after capacity (before ++ session_events turns state)
   pub watchers : (front : List Turn) (turn : Turn) (behind : List Turn) (key : ℕ) → turns ≡ front ++ turn ∷ behind
-      → (state_after front state).watcher ≡ None → (after (state_after front state) turn).watcher ≡ Some key
-      → HasHeard capacity (before ++ session_events turns state) key (answer (state_after front state) turn) (session_told key behind (after (state_after front state) turn))
+      → (state_after front state).watcher ≡ None → (state_after_turn (state_after front state) turn).watcher ≡ Some key
+      → HasHeard capacity (before ++ session_events turns state) key (answer_to_turn (state_after front state) turn) (session_told key behind (state_after_turn (state_after front state) turn))
 
 -- a session was served on a floor that these events had led to: what was due was sent, then its lines were served, and then its watcher was closed
 pub record IsTranscript (capacity : ℕ) (before : List Event) (bytes : List ℕ) (old new : FloorView) (sent written : List ℕ) (by : End) : Type 0 where
-  pub served : Served bytes (session_at old None) (state_at new None) sent written by
+  pub served : Served bytes (session_at old None) (session_state new None) sent written by
   pub session : IsSession capacity (before ++ sends old) (served.turns ++ served.last) (session_at old None)
   pub floor : new ≡ floor_after capacity ((before ++ sends old) ++ (session_events (served.turns ++ served.last) (session_at old None) ++ leaves (state_after (served.turns ++ served.last) (session_at old None))))
 

@@ -15,7 +15,7 @@ use Rattle.mt_book.specs.Book.{found_at}
 use Rattle.mt_floor.specs.declared.watch.Phase.{Phase}
 use Rattle.mt_floor.specs.declared.watch.Phase.TheVariants.{Open as IsOpen, Lagged, Ended}
 use Rattle.mt_floor.specs.declared.event.Event.TheVariants.{Apply, Open, Take as TakePost, Close as CloseWatcher, Stop as StopFloor}
-use Rattle.mt_floor.specs.Watcher.{Watcher, key_of, opening_of}
+use Rattle.mt_floor.specs.Watcher.{Watcher, watcher_key, opening_of}
 use Rattle.mt_floor.specs.Schedule.{FloorView, command_refusal, opening_refusal, floor_step, run, settled, waiting}
 use Rattle.mt_requests.specs.declared.request.Request.{Request}
 use Rattle.mt_requests.specs.declared.request.Request.TheVariants.{Run, Show, Find, Watch, Take, Follow, Close, Quit, Stop}
@@ -27,12 +27,12 @@ pub record SessionState : Type 0 where
   pub floor : FloorView
   pub watcher : Option ℕ
 
-abbrev pub state_at : FloorView → Option ℕ → SessionState
-state_at floor watcher = record { floor = floor; watcher = watcher }
+abbrev pub session_state : FloorView → Option ℕ → SessionState
+session_state floor watcher = record { floor = floor; watcher = watcher }
 
 -- the posts that are due are sent before the next request is done
 abbrev pub session_at : FloorView → Option ℕ → SessionState
-session_at floor watcher = state_at (settled floor) watcher
+session_at floor watcher = session_state (settled floor) watcher
 
 -- what a command answers
 abbrev pub stepped_text : Result (WorldView × Reply) Fault → List ℕ
@@ -54,7 +54,7 @@ by_phase text Lagged = refusal WasLagged
 by_phase text Ended = refusal Stopped
 
 abbrev pub rest_text : List ℕ → FloorView → ℕ → List ℕ
-rest_text text s key = option_map_or (λ (r : Watcher). by_phase text r.phase) (row_at key_of key s.watchers) (refusal NoWatcher)
+rest_text text s key = option_map_or (λ (r : Watcher). by_phase text r.phase) (row_at watcher_key key s.watchers) (refusal NoWatcher)
 
 -- `take`: the posts, or where there are none `ok 0` or why
 abbrev pub taken_text : FloorView → ℕ → List PostView → List ℕ
@@ -67,7 +67,7 @@ end_of_followed s key k n = cond (n == k) (count_text n) (rest_text (count_text 
 
 -- `close`: the posts that were not taken
 abbrev pub closed_text : FloorView → ℕ → List ℕ
-closed_text s key = option_map_or (λ (r : Watcher). posts_text (waiting s key)) (row_at key_of key s.watchers) (refusal NoWatcher)
+closed_text s key = option_map_or (λ (r : Watcher). posts_text (waiting s key)) (row_at watcher_key key s.watchers) (refusal NoWatcher)
 
 -- the floor once so many posts of a watcher were taken
 abbrev pub taken : FloorView → ℕ → ℕ → FloorView
@@ -78,20 +78,20 @@ abbrev pub next_posts : FloorView → ℕ → ℕ → List PostView
 next_posts s key k = take k (waiting s key)
 
 -- what is done with the session's watcher, or else, where it has none
-abbrev pub with_watcher : {A : Type 0} → SessionState → (ℕ → A) → A → A
-with_watcher s f a = option_map_or f s.watcher a
+abbrev pub by_watcher : {A : Type 0} → SessionState → (ℕ → A) → A → A
+by_watcher s f a = option_map_or f s.watcher a
 
 -- the text that a request is answered with
 unfoldable pub answer_to : SessionState → Request → List ℕ
 answer_to s (Run c) = replied_text s.floor c
 answer_to s (Show n) = shown_text s.floor.journal n
 answer_to s (Find n path) = found_text (found_at (after s.floor.journal) n path)
-answer_to s (Watch scope) = with_watcher s (λ key. refusal WatcherOpen) (opened_text s.floor scope)
-answer_to s (Take k) = with_watcher s (λ key. taken_text s.floor key (next_posts s.floor key k)) (refusal NoWatcher)
+answer_to s (Watch scope) = by_watcher s (λ key. refusal WatcherOpen) (opened_text s.floor scope)
+answer_to s (Take k) = by_watcher s (λ key. taken_text s.floor key (next_posts s.floor key k)) (refusal NoWatcher)
 answer_to s (Follow k) =
-    with_watcher s (λ key. let posts : List PostView = next_posts s.floor key k in followed_text posts (end_of_followed s.floor key k (length posts)))
+    by_watcher s (λ key. let posts : List PostView = next_posts s.floor key k in followed_text posts (end_of_followed s.floor key k (length posts)))
     (refusal NoWatcher)
-answer_to s Close = with_watcher s (λ key. closed_text s.floor key) (refusal NoWatcher)
+answer_to s Close = by_watcher s (λ key. closed_text s.floor key) (refusal NoWatcher)
 answer_to s Quit = done_text
 answer_to s Stop = done_text
 
@@ -101,16 +101,16 @@ begun s scope = record { floor = (floor_step s (Open scope)).0; watcher = option
 
 -- the session's watcher has taken so many posts
 abbrev pub with_taken : SessionState → ℕ → SessionState
-with_taken s k = with_watcher s (λ key. record s { floor = taken s.floor key (length (next_posts s.floor key k)) }) s
+with_taken s k = by_watcher s (λ key. record s { floor = taken s.floor key (length (next_posts s.floor key k)) }) s
 
 -- the session's watcher, if it has one, was closed
 abbrev pub left : SessionState → SessionState
-left s = with_watcher s (λ key. record { floor = (floor_step s.floor (CloseWatcher key)).0; watcher = None }) s
+left s = by_watcher s (λ key. record { floor = (floor_step s.floor (CloseWatcher key)).0; watcher = None }) s
 
 -- the state after a request
 unfoldable pub state_to : SessionState → Request → SessionState
 state_to s (Run c) = session_at (floor_step s.floor (Apply c)).0 s.watcher
-state_to s (Watch scope) = with_watcher s (λ key. s) (begun s.floor scope)
+state_to s (Watch scope) = by_watcher s (λ key. s) (begun s.floor scope)
 state_to s (Take k) = with_taken s k
 state_to s (Follow k) = with_taken s k
 state_to s Close = left s
@@ -129,9 +129,9 @@ wants_memory s Close = is_some s.watcher
 wants_memory s r = false
 
 -- the request begins a watcher
-abbrev pub begins : SessionState → Request → Bool
-begins s r = not (is_some s.watcher) && is_some (state_to s r).watcher
+abbrev pub begins_watcher : SessionState → Request → Bool
+begins_watcher s r = not (is_some s.watcher) && is_some (state_to s r).watcher
 
 -- want of memory left the state of a request as it was, or closed a watcher again that had begun
 abbrev pub IsUndone : SessionState → Request → SessionState → Type 0
-IsUndone old r new = ((new ≡ old) × (wants_memory old r ≡ true)) ⊎ ((new ≡ left (state_to old r)) × (begins old r ≡ true))
+IsUndone old r new = ((new ≡ old) × (wants_memory old r ≡ true)) ⊎ ((new ≡ left (state_to old r)) × (begins_watcher old r ≡ true))

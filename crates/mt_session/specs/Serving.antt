@@ -15,7 +15,7 @@ use Rattle.mt_session.specs.declared.serving.End.{End}
 use Rattle.mt_session.specs.declared.serving.End.TheVariants.{Quit, Stop, Input, Cut as CutOff, Memory, Spent}
 use Rattle.mt_session.specs.Requests.{SessionState}
 use Rattle.mt_session.specs.Answers.{refusal}
-use Rattle.mt_session.specs.Session.{Growth, Asking, Whole, Turn, answer, after, ends, Going, ServedThen}
+use Rattle.mt_session.specs.Session.{Growth, Asking, Whole, Turn, answer_to_turn, state_after_turn, end_of_turn, Going, ServedThen}
 
 -- an end that a line brings once its answer is out whole
 abbrev pub ends_whole : End → Bool
@@ -44,7 +44,7 @@ the_turn line growth = record { line = line; growth = growth }
 -- a line was answered with this text, which ends the session so, or does not
 abbrev pub Answered : SessionState → SessionState → Asking → List ℕ → Option End → Type 0
 Answered old new line text end =
-    (growth : Growth) × (text ≡ answer old (the_turn line growth)) × (new ≡ after old (the_turn line growth)) × (end ≡ ends (the_turn line growth))
+    (growth : Growth) × (text ≡ answer_to_turn old (the_turn line growth)) × (new ≡ state_after_turn old (the_turn line growth)) × (end ≡ end_of_turn (the_turn line growth))
 
 -- a session's lines, with its watcher as they left it
 abbrev pub Ran : List ℕ → SessionState → SessionState → List ℕ → List ℕ → End → Type 0

@@ -14,7 +14,7 @@ use Rattle.mt_lines.specs.Lines.{Item, Text, TooLong, Unended, Endless, lines_of
 use Rattle.mt_lines.specs.Stream.{HasFailed, IsInterrupted}
 use Rattle.mt_lines.specs.Reading.{IsFaultCause, IsFaultRun}
 use Rattle.mt_session.specs.Answers.{refusal}
-use Rattle.mt_session.specs.Requests.{SessionState, answer_to, state_to, wants_memory, begins, left}
+use Rattle.mt_session.specs.Requests.{SessionState, answer_to, state_to, wants_memory, begins_watcher, left}
 
 -- whether every growth that a line asked for was granted, or one was refused: for its request or its answer, or for what a
 -- watcher found that had begun and was then closed again
@@ -59,7 +59,7 @@ may_fail state (Ok r) = wants_memory state r
 may_fail state (Err f) = false
 
 abbrev pub may_be_unshown : SessionState → Result Request Fault → Bool
-may_be_unshown state (Ok r) = begins state r
+may_be_unshown state (Ok r) = begins_watcher state r
 may_be_unshown state (Err f) = false
 
 -- the answer where every growth was granted, and the state after it
@@ -83,11 +83,11 @@ state_with state Refused r = if may_fail state r then state else granted_state s
 state_with state Unshown r = if may_be_unshown state r then left (granted_state state r) else granted_state state r
 
 -- the text that answers a line, and the state after it
-unfoldable pub answer : SessionState → Turn → List ℕ
-answer state turn = answer_with state turn.growth (request_of_line turn.line)
+unfoldable pub answer_to_turn : SessionState → Turn → List ℕ
+answer_to_turn state turn = answer_with state turn.growth (request_of_line turn.line)
 
-unfoldable pub after : SessionState → Turn → SessionState
-after state turn = state_with state turn.growth (request_of_line turn.line)
+unfoldable pub state_after_turn : SessionState → Turn → SessionState
+state_after_turn state turn = state_with state turn.growth (request_of_line turn.line)
 
 -- how the line ends the session, if it does
 abbrev pub ends_by : Result Request Fault → Option End
@@ -95,17 +95,17 @@ ends_by (Ok AsksQuit) = Some Quit
 ends_by (Ok AsksStop) = Some Stop
 ends_by r = None
 
-unfoldable pub ends : Turn → Option End
-ends turn = ends_by (request_of_line turn.line)
+unfoldable pub end_of_turn : Turn → Option End
+end_of_turn turn = ends_by (request_of_line turn.line)
 
 -- the stated text: the answers of the lines, one after another
 abbrev pub text_of : List Turn → SessionState → List ℕ
 text_of [] state = []
-text_of (turn ∷ turns) state = answer state turn ++ text_of turns (after state turn)
+text_of (turn ∷ turns) state = answer_to_turn state turn ++ text_of turns (state_after_turn state turn)
 
 abbrev pub state_after : List Turn → SessionState → SessionState
 state_after [] state = state
-state_after (turn ∷ turns) state = state_after turns (after state turn)
+state_after (turn ∷ turns) state = state_after turns (state_after_turn state turn)
 
 -- the input goes on behind the line
 abbrev pub has_end : Asking → Bool
@@ -116,7 +116,7 @@ has_end Broken = false
 -- none of the lines ends the session
 abbrev pub AllGoOn : List Turn → Type 0
 AllGoOn [] = Unit {0}
-AllGoOn (turn ∷ turns) = (has_end turn.line ≡ true) × (ends turn ≡ None) × AllGoOn turns
+AllGoOn (turn ∷ turns) = (has_end turn.line ≡ true) × (end_of_turn turn ≡ None) × AllGoOn turns
 
 -- the longest line, in bytes before its line end, and the most lines of a session
 abbrev pub line_limit : ℕ
@@ -140,8 +140,8 @@ sent_by _ text = text
 -- why the session ended, by the lines served whole, the last line and its answer's text, and the lines not
 -- read: a cut within the last answer, and no want of memory; a line of this limit never wants any
 abbrev pub IsCause : End → List Turn → List Turn → List ℕ → List Item → Type 0
-IsCause Quit turns last text later = (turn : Turn) × (last ≡ turn ∷ []) × (ends turn ≡ Some Quit)
-IsCause Stop turns last text later = (turn : Turn) × (last ≡ turn ∷ []) × (ends turn ≡ Some Stop)
+IsCause Quit turns last text later = (turn : Turn) × (last ≡ turn ∷ []) × (end_of_turn turn ≡ Some Quit)
+IsCause Stop turns last text later = (turn : Turn) × (last ≡ turn ∷ []) × (end_of_turn turn ≡ Some Stop)
 IsCause Input turns last text later = (later ≡ []) × ((last ≡ []) ⊎ ((turn : Turn) × (last ≡ turn ∷ []) × (turn.line ≡ Broken)))
 IsCause (Read NeverEnds) turns last text later = (last ≡ []) × (more : List Item) × (later ≡ Endless ∷ more)
 IsCause (Read Device) turns last text later = last ≡ []

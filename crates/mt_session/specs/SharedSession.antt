@@ -92,11 +92,11 @@ IsFollowed None most text w' = (text ≡ refusal NoWatcher) × (w' ≡ None)
 IsFollowed (Some w) most text w' = FollowsAll w most text w' ⊎ FollowsFewer w most text w'
 
 -- what a line is answered, and what becomes of the session's watcher
-abbrev pub IsTold : Option WatcherView → Result Request Fault → List ℕ → Option WatcherView → Type 0
-IsTold w (Err f) text w' = (text ≡ refusal f) × (w' ≡ w)
-IsTold w (Ok (Take most)) text w' = IsTaken w most text w'
-IsTold w (Ok (Follow most)) text w' = IsFollowed w most text w'
-IsTold w (Ok r) text w' = IsAnsweredAt w r text w'
+abbrev pub IsAnswered : Option WatcherView → Result Request Fault → List ℕ → Option WatcherView → Type 0
+IsAnswered w (Err f) text w' = (text ≡ refusal f) × (w' ≡ w)
+IsAnswered w (Ok (Take most)) text w' = IsTaken w most text w'
+IsAnswered w (Ok (Follow most)) text w' = IsFollowed w most text w'
+IsAnswered w (Ok r) text w' = IsAnsweredAt w r text w'
 
 -- a request that finds no memory only once posts were taken
 abbrev pub takes_posts : Request → Bool
@@ -116,7 +116,7 @@ WantsRoom w asked text w' = (text ≡ refusal WantsMemory) × (((may_want_memory
 
 -- what is asked, and its answer
 abbrev pub IsTurn : Option WatcherView → Result Request Fault → List ℕ → Option WatcherView → Type 0
-IsTurn w asked text w' = IsTold w asked text w' ⊎ WantsRoom w asked text w'
+IsTurn w asked text w' = IsAnswered w asked text w' ⊎ WantsRoom w asked text w'
 
 -- posts were taken, and there was no memory to tell them
 abbrev pub IsLost : Option WatcherView → Result Request Fault → List ℕ → Type 0

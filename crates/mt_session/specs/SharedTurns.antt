@@ -19,7 +19,7 @@ use Rattle.mt_desk.specs.Headline.{Close as Closes, IsScheduledBy}
 use Rattle.mt_requests.specs.declared.request.Request.{Request}
 use Rattle.mt_requests.specs.declared.request.Request.TheVariants.{Run, Show, Find, Watch, Take, Follow, Close, Stop}
 use Rattle.mt_events.specs.Texts.{lines_of_posts}
-use Rattle.mt_session.specs.Requests.{SessionState, state_at}
+use Rattle.mt_session.specs.Requests.{SessionState, session_state}
 use Rattle.mt_events.specs.declared.texts.PrintedPosts.{PrintedPosts}
 
 -- the floor of a desk once it has seen what the session's watcher took
@@ -29,7 +29,7 @@ floor_seen d (Some w) = option_map_or (λ (r : DeskRow). (run (floor_of_desk d) 
 
 -- what a request finds at a desk
 abbrev pub found_state : DeskView → Option WatcherView → SessionState
-found_state d w = state_at (floor_seen d w) (option_map (λ (v : WatcherView). v.key) w)
+found_state d w = session_state (floor_seen d w) (option_map (λ (v : WatcherView). v.key) w)
 
 -- a request is done while the desk is held; the others take posts, and hold it for a meeting alone
 abbrev pub is_under_lock : Request → Bool
@@ -75,8 +75,8 @@ HasTaken w posts w' =
     × IsRun w.half.opening (w.half.taken ++ posts)
 
 -- a watcher has taken posts, and has not met the desk
-abbrev pub with_posts : WatcherView → List PostView → WatcherView
-with_posts w posts = record w { half = record w.half { taken = w.half.taken ++ posts } }
+abbrev pub with_taken_posts : WatcherView → List PostView → WatcherView
+with_taken_posts w posts = record w { half = record w.half { taken = w.half.taken ++ posts } }
 
 -- a watcher goes on: it has taken posts more, or none, and may have met the desk
 abbrev pub GoesOn : WatcherView → WatcherView → Type 0
@@ -88,9 +88,9 @@ KeepsWatcher None w' = w' ≡ None
 KeepsWatcher (Some w) w' = (after : WatcherView) × (w' ≡ Some after) × GoesOn w after
 
 -- Up to so many posts were taken and printed, fewer only where none waited at one moment, and so not before as many were taken as the last meeting told.
-pub record IsPopped (w : WatcherView) (most : ℕ) (printed : PrintedPosts) (w' : Option WatcherView) : Type 0 where
+pub record HasPopped (w : WatcherView) (most : ℕ) (printed : PrintedPosts) (w' : Option WatcherView) : Type 0 where
   pub posts : List PostView
-  pub watcher : w' ≡ Some (with_posts w posts)
+  pub watcher : w' ≡ Some (with_taken_posts w posts)
   pub text : printed.text.items ≡ flat_map post_text posts
   pub lines : printed.lines ≡ lines_of_posts posts
   pub count : printed.posts ≡ length posts

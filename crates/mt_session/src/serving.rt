@@ -2,7 +2,7 @@
 ghost use Rattle.std.specs.Prelude.{◌≡◌, ◌≢◌, ◌+◌, ◌<◌, true, IsTrue, None, Some, Ok, []};
 ghost use Rattle.std.specs.Option.{ForSome};
 ghost use Rattle.mt_session.specs.Answers.{refusal};
-ghost use Rattle.mt_session.specs.Requests.{state_at, session_at};
+ghost use Rattle.mt_session.specs.Requests.{session_state, session_at};
 ghost use Rattle.mt_lines.specs.Reading.{bytes_left, failed_calls, last_faults, limit_of, fault_of};
 ghost use Rattle.mt_session.specs.Session.{Whole, ends_by, Served, line_limit, IsReadEnd, IsReadEndRun, IsCutCause, IsCutRun};
 ghost use Rattle.mt_session.specs.Headline.{TranscriptHolds};
@@ -79,7 +79,7 @@ fn refused(fault: Fault) -> LineAnswer
 /// Answers a line that was read whole.
 fn answer_text(alloc: Global, session: &mut Session, floor: &mut Floor, line: &[u8]) -> LineAnswer
     requires idle { floor.old.due ≡ [] }
-    ensures answered { Answered (state_at floor.old session.old) (state_at floor.new session.new) (Whole line.now) result.text result.end }
+    ensures answered { Answered (session_state floor.old session.old) (session_state floor.new session.new) (Whole line.now) result.text result.end }
     ensures whole { ForSome result.end (λ e. ends_whole e ≡ true) }
     ensures idle { floor.new.due ≡ [] }
 {
@@ -119,7 +119,7 @@ fn serve_line<W: Output>(
     bytes: &[u8],
 ) -> Option<End>
     requires idle { floor.old.due ≡ [] }
-    ensures answered { AnswersLine W.tells line bytes.now (state_at floor.old session.old) (state_at floor.new session.new) (W.written writer.old) (W.written writer.new) result }
+    ensures answered { AnswersLine W.tells line bytes.now (session_state floor.old session.old) (session_state floor.new session.new) (W.written writer.old) (W.written writer.new) result }
     ensures idle { floor.new.due ≡ [] }
     ensures cut { IsTrue W.counts → IsCutCause result (W.failed writer.old) (W.failed writer.new) }
     ensures cut_run { IsTrue W.counts → W.faults writer.old ≡ [] → IsCutRun result (W.faults writer.new) }
@@ -147,7 +147,7 @@ fn serve_session<R: Input + Drop, W: Output>(
     requires fresh { fault_of lines.old ≡ None }
     requires limit { limit_of lines.old ≡ line_limit }
     ensures idle { floor.new.due ≡ [] }
-    ensures ran { IsTrue R.tells → IsTrue W.tells → Ran (bytes_left lines.old) (state_at floor.old session.old) (state_at floor.new session.new) (W.written writer.old) (W.written writer.new) result }
+    ensures ran { IsTrue R.tells → IsTrue W.tells → Ran (bytes_left lines.old) (session_state floor.old session.old) (session_state floor.new session.new) (W.written writer.old) (W.written writer.new) result }
     ensures memory { result ≢ End.Memory }
     ensures read { IsTrue R.counts → IsReadEnd (Some result) (failed_calls lines.old) (failed_calls lines.new) }
     ensures read_run { IsTrue R.counts → last_faults lines.old ≡ [] → IsReadEndRun (Some result) (last_faults lines.new) }
@@ -186,7 +186,7 @@ pub fn serve_plain<R: Input + Drop, W: Output>(
 ) -> End
     requires fresh { fault_of lines.old ≡ None }
     requires limit { limit_of lines.old ≡ line_limit }
-    ensures served { IsTrue R.tells → IsTrue W.tells → Served (bytes_left lines.old) (session_at floor.old None) (state_at floor.new None) (W.written writer.old) (W.written writer.new) result }
+    ensures served { IsTrue R.tells → IsTrue W.tells → Served (bytes_left lines.old) (session_at floor.old None) (session_state floor.new None) (W.written writer.old) (W.written writer.new) result }
     ensures headline { IsTrue R.tells → IsTrue W.tells → TranscriptHolds (bytes_left lines.old) floor.old floor.new (W.written writer.old) (W.written writer.new) result }
     ensures idle { floor.new.due ≡ [] }
     ensures memory { result ≢ End.Memory }

@@ -7,7 +7,7 @@ ghost use Rattle.mt_floor.specs.Schedule.{floor_step, settled};
 ghost use Rattle.mt_events.specs.Texts.{count_text, lines_of_posts, followed_text};
 ghost use Rattle.mt_session.specs.Answers.{reply_text};
 ghost use Rattle.mt_session.specs.Serving.{reply_in, begun_in, phase_in};
-ghost use Rattle.mt_session.specs.Requests.{state_at, session_at, answer_to, state_to, left, begun, replied_text, opened_text, by_phase, rest_text, taken_text, end_of_followed, closed_text, taken, next_posts, IsUndone};
+ghost use Rattle.mt_session.specs.Requests.{session_state, session_at, answer_to, state_to, left, begun, replied_text, opened_text, by_phase, rest_text, taken_text, end_of_followed, closed_text, taken, next_posts, IsUndone};
 
 use crate::shown::{find, show, told_refusal};
 use crate::text::Text;
@@ -225,8 +225,8 @@ impl Session {
     fn watch(&mut self, floor: &mut Floor, scope: Scope) -> Result<Text, Fault>
         requires none { self.old ≡ None }
         requires idle { floor.old.due ≡ [] }
-        ensures ok { IfOk result (λ text. (text ≡ opened_text floor.old scope) × (state_at floor.new self.new ≡ begun floor.old scope)) }
-        ensures memory { IfErr result (λ fault. (fault ≡ Fault.NoMemory) × IsUndone (state_at floor.old self.old) (Request.Watch scope) (state_at floor.new self.new)) }
+        ensures ok { IfOk result (λ text. (text ≡ opened_text floor.old scope) × (session_state floor.new self.new ≡ begun floor.old scope)) }
+        ensures memory { IfErr result (λ fault. (fault ≡ Fault.NoMemory) × IsUndone (session_state floor.old self.old) (Request.Watch scope) (session_state floor.new self.new)) }
         ensures idle { floor.new.due ≡ [] }
     {
         let answer = match floor.step(Event::Open(scope)) {
@@ -259,9 +259,9 @@ impl Session {
     #[tactic(auto, unfolding(crate::specs::Requests::answer_to, crate::specs::Requests::state_to))]
     pub fn turn(&mut self, floor: &mut Floor, request: &Request) -> Result<Text, Fault>
         ensures text { IfOk result (λ text. text ≡ answer_to (session_at floor.old self.old) request.now) }
-        ensures state { OnOk result (state_at floor.new self.new ≡ state_to (session_at floor.old self.old) request.now) }
+        ensures state { OnOk result (session_state floor.new self.new ≡ state_to (session_at floor.old self.old) request.now) }
         ensures memory { IsOkUnless result Fault.NoMemory }
-        ensures undone { OnErr result (IsUndone (session_at floor.old self.old) request.now (state_at floor.new self.new)) }
+        ensures undone { OnErr result (IsUndone (session_at floor.old self.old) request.now (session_state floor.new self.new)) }
         ensures idle { floor.new.due ≡ [] }
     {
         floor.settle();
@@ -291,7 +291,7 @@ impl Session {
 
     /// Closes the session's watcher, if it has one, and sends the posts that are due. Takes no memory.
     pub fn leave(&mut self, floor: &mut Floor)
-        ensures state { state_at floor.new self.new ≡ left (session_at floor.old self.old) }
+        ensures state { session_state floor.new self.new ≡ left (session_at floor.old self.old) }
         ensures none { self.new ≡ None }
         ensures idle { floor.new.due ≡ [] }
     {

@@ -9,7 +9,7 @@ ghost use Rattle.mt_desk.specs.Desk.{IsDesk, floor_of_desk};
 ghost use Rattle.mt_desk.specs.Headline.{Meet, Close, IsScheduledBy};
 ghost use Rattle.mt_events.specs.Texts.{posts_text};
 ghost use Rattle.mt_session.specs.Requests.{answer_to, replied_text, opened_text, closed_text};
-ghost use Rattle.mt_session.specs.SharedTurns.{floor_seen, found_state, is_under_lock, with_posts, IsCommanded, IsBegun, IsDoneBy, IsUndoneBy, HasTaken, KeepsWatcher, IsPopped};
+ghost use Rattle.mt_session.specs.SharedTurns.{floor_seen, found_state, is_under_lock, with_taken_posts, IsCommanded, IsBegun, IsDoneBy, IsUndoneBy, HasTaken, KeepsWatcher, HasPopped};
 
 use crate::shown::{find, show, told_refusal};
 use crate::text::Text;
@@ -119,8 +119,8 @@ fn taken<J: Naming, R: Wait>(
     most: u64,
 ) -> Result<PrintedPosts, Fault>
     requires { IsRun watcher.old.half.opening watcher.old.half.taken }
-    ensures popped { IfOk result (λ printed. IsPopped watcher.old most printed (Some watcher.new)) }
-    ensures taken { (posts : List PostView) × (watcher.new ≡ with_posts watcher.old posts) × (length posts ≤ most) }
+    ensures popped { IfOk result (λ printed. HasPopped watcher.old most printed (Some watcher.new)) }
+    ensures taken { (posts : List PostView) × (watcher.new ≡ with_taken_posts watcher.old posts) × (length posts ≤ most) }
     ensures memory { IsOkUnless result Fault.NoMemory }
     ensures run { IsRun watcher.new.half.opening watcher.new.half.taken }
 {
@@ -245,7 +245,7 @@ impl<J: Naming> SharedSession<J> {
     /// Refused as `NoWatcher` where the session has none, with nothing changed, and as `NoMemory`, where the posts that
     /// were taken are lost. It may wait for a step of the thread that sends.
     pub fn pops<R: Wait>(&mut self, rt: &R, most: u64) -> Result<PrintedPosts, Fault>
-        ensures popped { IfOk result (λ printed. ForSome self.old (λ (w : WatcherView). IsPopped w most printed self.new)) }
+        ensures popped { IfOk result (λ printed. ForSome self.old (λ (w : WatcherView). HasPopped w most printed self.new)) }
         ensures watched { OnOk result (IsSome self.old) }
         ensures refused { IfErr result (λ fault. fault ≢ Fault.NoMemory → (fault ≡ Fault.NoWatcher) × (self.old ≡ None) × (self.new ≡ None)) }
         ensures lost { result ≡ Err Fault.NoMemory → ForSome self.old (λ (w : WatcherView). (posts : List PostView) × (w' : WatcherView) × HasTaken w posts w' × (self.new ≡ Some w') × (length posts ≤ most)) }

@@ -3,7 +3,7 @@ use Rattle.std.proofs.Common.{◌≡◌, ℕ, true, false, List, None, Ok}
 use Rattle.std.specs.Prelude.{not}
 use Rattle.std.proofs.lemmas.Bool.{not-false}
 use Rattle.mt_skel.specs.declared.fault.Fault.TheVariants.{NotMountRoot, BadAttr}
-use Rattle.mt_skel.specs.Outcome.{fault_of}
+use Rattle.mt_skel.specs.Outcome.{refusal_of}
 use Rattle.mt_skel.proofs.OutcomeLaws.{not_refused, accepted}
 use Rattle.mt_mounts.specs.declared.mount.Place.{Place}
 use Rattle.mt_mounts.specs.Walk.{walk}
@@ -18,7 +18,7 @@ path_end w n path = place_or_nowhere (walk w.skel w.forest n path)
 
 -- a change of mounts
 pub record IsAcceptedChange (w : WorldView) (n : ℕ) (path : List (List ℕ)) (c : Change) (v : WorldView) : Type 0 where
-  pub ended : fault_of (walk w.skel w.forest n path) ≡ None
+  pub ended : refusal_of (walk w.skel w.forest n path) ≡ None
   pub named : is_mount_root w (path_end w n path) ≡ true
   pub agrees : clashes c ≡ false
   pub world : with_change w c (path_end w n path).mount ≡ v

@@ -4,7 +4,7 @@ use Rattle.std.specs.Prelude.{ℕ, Bool, cond, not, ◌&&◌, ◌||◌, ◌==◌
 use Rattle.std.specs.Option.{option_map_or}
 use Rattle.mt_skel.specs.declared.fault.Fault.{Fault}
 use Rattle.mt_skel.specs.declared.fault.Fault.TheVariants.{NotMountRoot, BadAttr}
-use Rattle.mt_skel.specs.Outcome.{refuse_if, fault_of, outcome}
+use Rattle.mt_skel.specs.Outcome.{refuse_if, refusal_of, outcome}
 use Rattle.mt_mounts.specs.declared.mount.Mount.{Mount}
 use Rattle.mt_mounts.specs.declared.mount.Place.{Place}
 use Rattle.mt_mounts.specs.declared.mount.Attrs.{Attrs}
@@ -59,7 +59,7 @@ with_change w c i = record w {
 -- the refusals of a change, where its path was found to lead there (mount_setattr(2); their order: this project's rule)
 abbrev pub attributed_refusals : WorldView → Change → Result Place Fault → List (Option Fault)
 attributed_refusals w c at =
-    fault_of at
+    refusal_of at
     ∷ refuse_if (not (is_mount_root w (place_or_nowhere at))) NotMountRoot
     ∷ refuse_if (clashes c) BadAttr ∷ []
 

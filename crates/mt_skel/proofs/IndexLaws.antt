@@ -11,16 +11,16 @@ use Rattle.mt_skel.specs.Skeleton.{Skeleton, directory, fs_named, child, is_dire
 use Rattle.mt_skel.specs.declared.skel.Filesystem.{Filesystem as FilesystemNode}
 use Rattle.mt_skel.specs.declared.skel.Link.{Link}
 use Rattle.mt_skel.specs.declared.skel.Node.{Node}
-use Rattle.mt_skel.specs.Nodes.{skeleton_of, IsIndexed, IsKept}
+use Rattle.mt_skel.specs.Nodes.{skeleton_of, AreFoundByName, IsKeptSkeleton}
 use Rattle.mt_skel.proofs.ListLaws.{pushed, kept, last_place}
 use Rattle.mt_skel.proofs.GrowthLaws.{dir_laid_out, fs_laid_out}
 use Rattle.mt_skel.proofs.NodeLaws.{length-dirs_of, laid_out_empty, child_found, child_none}
 
 -- no node
-pub kept_empty : (fs : List FilesystemNode) (ns : List Node) (children : List (List (List ℕ × ℕ))) → fs ≡ [] → ns ≡ [] → children ≡ [] → IsKept fs ns children
+pub kept_empty : (fs : List FilesystemNode) (ns : List Node) (children : List (List (List ℕ × ℕ))) → fs ≡ [] → ns ≡ [] → children ≡ [] → IsKeptSkeleton fs ns children
 kept_empty fs ns children ef en ec = record { laid_out = laid_out_empty fs ns ef en; indexed = rw (en, ec) empty }
   where
-    empty : IsIndexed [] []
+    empty : AreFoundByName [] []
     empty = record {
       sized = refl;
       found = λ dir d name e. absurd (let v : None ≡ Some d = e in cc);
@@ -28,7 +28,7 @@ kept_empty fs ns children ef en ec = record { laid_out = laid_out_empty fs ns ef
     }
 
 -- what is found is the child
-pub child_is : (fs : List FilesystemNode) (ns : List Node) (children : List (List (List ℕ × ℕ))) → IsKept fs ns children → (dir : ℕ) (name : List ℕ) → child_in children dir name ≡ child (skeleton_of fs ns) dir name
+pub child_is : (fs : List FilesystemNode) (ns : List Node) (children : List (List (List ℕ × ℕ))) → IsKeptSkeleton fs ns children → (dir : ℕ) (name : List ℕ) → child_in children dir name ≡ child (skeleton_of fs ns) dir name
 child_is fs ns children t dir name = by (child_in children dir name) refl
   where
     by : (o : Option ℕ) → child_in children dir name ≡ o → child_in children dir name ≡ child (skeleton_of fs ns) dir name
@@ -39,8 +39,8 @@ child_is fs ns children t dir name = by (child_in children dir name) refl
         e ∙ sym (child_found fs ns t.laid_out d dir h.0 name h.1 h.2)
 
 -- one root more
-pub indexed_root : (ns : List Node) (children more : List (List (List ℕ × ℕ))) (n : Node) → IsIndexed ns children → length more ≡ length children + 1 → ((dir : ℕ) (name : List ℕ) → child_in more dir name ≡ child_in children dir name) → n.up ≡ None
-    → IsIndexed (ns ++ n ∷ []) more
+pub indexed_root : (ns : List Node) (children more : List (List (List ℕ × ℕ))) (n : Node) → AreFoundByName ns children → length more ≡ length children + 1 → ((dir : ℕ) (name : List ℕ) → child_in more dir name ≡ child_in children dir name) → n.up ≡ None
+    → AreFoundByName (ns ++ n ∷ []) more
 indexed_root ns children more n t size same none = record {
   sized = omega (arith, size, t.sized, length_push ns n);
   found = λ dir d name e. let h = t.found dir d name (sym (same dir name) ∙ e) in (h.0, kept ns n h.0 d h.1, h.2);
@@ -51,13 +51,13 @@ indexed_root ns children more n t size same none = record {
 }
 
 -- one directory more in another
-module _ (ns : List Node) (children more : List (List (List ℕ × ℕ))) (t : IsIndexed ns children) (parent f : ℕ) (called : List ℕ) where
+module _ (ns : List Node) (children more : List (List (List ℕ × ℕ))) (t : AreFoundByName ns children) (parent f : ℕ) (called : List ℕ) where
   abbrev node : Node
   node = record { fs = f; up = Some (record { dir = parent; name = called }) }
 
   pub indexed_child : child_in children parent called ≡ None → length more ≡ length children + 1
       → ((dir : ℕ) (name : List ℕ) → child_in more dir name ≡ cond ((parent == dir) && bytes_eq called name) (Some (length ns)) (child_in children dir name))
-      → IsIndexed (ns ++ node ∷ []) more
+      → AreFoundByName (ns ++ node ∷ []) more
   indexed_child absent size grown = record {
     sized = omega (arith, size, t.sized, length_push ns node);
     found = λ dir d name e. elim (new_or dir name) [
@@ -98,25 +98,25 @@ module _ (ns : List Node) (children more : List (List (List ℕ × ℕ))) (t : I
               inr (λ same called_same. true≢false (sym (d.1 (same, called_same)) ∙ e), g ∙ ap (λ b. cond b (Some (length ns)) (child_in children dir name)) e)
 
 -- what the type keeps, where a directory or a filesystem is added
-pub kept_child : (fs : List FilesystemNode) (ns : List Node) (children more : List (List (List ℕ × ℕ))) → IsKept fs ns children → (parent f number : ℕ) (name copy : List ℕ) → parent < length ns → f ≡ (directory (skeleton_of fs ns) parent).fs
+pub kept_child : (fs : List FilesystemNode) (ns : List Node) (children more : List (List (List ℕ × ℕ))) → IsKeptSkeleton fs ns children → (parent f number : ℕ) (name copy : List ℕ) → parent < length ns → f ≡ (directory (skeleton_of fs ns) parent).fs
     → child (skeleton_of fs ns) parent name ≡ None → copy ≡ name → number ≡ length ns → length more ≡ length children + 1
     → ((dir : ℕ) (other : List ℕ) → child_in more dir other ≡ cond ((parent == dir) && bytes_eq copy other) (Some number) (child_in children dir other))
-    → IsKept fs (ns ++ record { fs = f; up = Some (record { dir = parent; name = name }) } ∷ []) more
+    → IsKeptSkeleton fs (ns ++ record { fs = f; up = Some (record { dir = parent; name = name }) } ∷ []) more
 kept_child fs ns children more t parent f number name copy there same absent copied place size grown = record {
   laid_out = dir_laid_out fs ns t.laid_out parent f name there same absent;
   indexed = indexed_child ns children more t.indexed parent f name (child_is fs ns children t parent name ∙ absent) size
       (λ dir other. grown dir other ∙ (λ i. cond ((parent == dir) && bytes_eq (copied i) other) (Some (place i)) (child_in children dir other)));
 }
 
-pub kept_fs : (fs : List FilesystemNode) (ns : List Node) (children more : List (List (List ℕ × ℕ))) → IsKept fs ns children → (f : FilesystemNode) (number : ℕ) → f.root ≡ length ns → number ≡ length fs + 1 → fs_named (skeleton_of fs ns) f.name ≡ None
-    → length more ≡ length children + 1 → ((dir : ℕ) (other : List ℕ) → child_in more dir other ≡ child_in children dir other) → IsKept (fs ++ f ∷ []) (ns ++ record { fs = number; up = None } ∷ []) more
+pub kept_fs : (fs : List FilesystemNode) (ns : List Node) (children more : List (List (List ℕ × ℕ))) → IsKeptSkeleton fs ns children → (f : FilesystemNode) (number : ℕ) → f.root ≡ length ns → number ≡ length fs + 1 → fs_named (skeleton_of fs ns) f.name ≡ None
+    → length more ≡ length children + 1 → ((dir : ℕ) (other : List ℕ) → child_in more dir other ≡ child_in children dir other) → IsKeptSkeleton (fs ++ f ∷ []) (ns ++ record { fs = number; up = None } ∷ []) more
 kept_fs fs ns children more t f number root next free size same = record {
   laid_out = fs_laid_out fs ns t.laid_out f number root next free;
   indexed = indexed_root ns children more (record { fs = number; up = None }) t.indexed size same refl;
 }
 
 -- the child that is found is there
-pub child_there : (fs : List FilesystemNode) (ns : List Node) (children : List (List (List ℕ × ℕ))) (v : Skeleton) → IsKept fs ns children → skeleton_of fs ns ≡ v → (o : Option ℕ) (dir : ℕ) (name : List ℕ) → o ≡ child_in children dir name → IfSome o (λ d. is_directory v d ≡ true)
+pub child_there : (fs : List FilesystemNode) (ns : List Node) (children : List (List (List ℕ × ℕ))) (v : Skeleton) → IsKeptSkeleton fs ns children → skeleton_of fs ns ≡ v → (o : Option ℕ) (dir : ℕ) (name : List ℕ) → o ≡ child_in children dir name → IfSome o (λ d. is_directory v d ≡ true)
 child_there fs ns children v t view None dir name e = tt
 child_there fs ns children v t view (Some d) dir name e =
     let h = t.indexed.found dir d name (sym e) in

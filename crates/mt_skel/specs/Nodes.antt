@@ -46,12 +46,12 @@ pub record IsLaidOut (fs : List FilesystemNode) (ns : List Node) : Type 0 where
   pub roots : (i : ℕ) (f : FilesystemNode) → slice_get fs i ≡ Some f → slice_get (dirs_of ns) f.root ≡ Some (record { fs = i + 1; path = [] })
 
 -- the directories that are found by their names are those of the nodes
-pub record IsIndexed (ns : List Node) (children : List (List (List ℕ × ℕ))) : Type 0 where
+pub record AreFoundByName (ns : List Node) (children : List (List (List ℕ × ℕ))) : Type 0 where
   pub sized : length children ≡ length ns
   pub found : (dir d : ℕ) (name : List ℕ) → child_in children dir name ≡ Some d → (n : Node) × (slice_get ns d ≡ Some n) × IsUp n dir name
   pub all : (dir d : ℕ) (name : List ℕ) (n : Node) → slice_get ns d ≡ Some n → IsUp n dir name → child_in children dir name ≡ Some d
 
 -- what the type keeps
-pub record IsKept (fs : List FilesystemNode) (ns : List Node) (children : List (List (List ℕ × ℕ))) : Type 0 where
+pub record IsKeptSkeleton (fs : List FilesystemNode) (ns : List Node) (children : List (List (List ℕ × ℕ))) : Type 0 where
   pub laid_out : IsLaidOut fs ns
-  pub indexed : IsIndexed ns children
+  pub indexed : AreFoundByName ns children

@@ -7,9 +7,9 @@ use Rattle.mt_skel.specs.declared.fault.Fault.{Fault}
 abbrev pub refuse_if : Bool → Fault → Option Fault
 refuse_if b f = cond b (Some f) None
 
-abbrev pub fault_of : {A : Type 0} → Result A Fault → Option Fault
-fault_of (Ok _) = None
-fault_of (Err f) = Some f
+abbrev pub refusal_of : {A : Type 0} → Result A Fault → Option Fault
+refusal_of (Ok _) = None
+refusal_of (Err f) = Some f
 
 abbrev pub first_fault : List (Option Fault) → Option Fault
 first_fault [] = None

@@ -70,13 +70,13 @@ impl Drop for Skel {
 
 impl Model for Skel {
     ghost use Rattle.mt_skel.specs.Skeleton.{Skeleton};
-    ghost use Rattle.mt_skel.specs.Nodes.{skeleton_of, IsKept};
+    ghost use Rattle.mt_skel.specs.Nodes.{skeleton_of, IsKeptSkeleton};
 
     ghost Value = { Skeleton };
 
     ghost view = { λ s. skeleton_of s.filesystems.items s.nodes.items };
 
-    ghost invariant = { λ s. IsKept s.filesystems.items s.nodes.items s.children };
+    ghost invariant = { λ s. IsKeptSkeleton s.filesystems.items s.nodes.items s.children };
 }
 
 impl Skel {

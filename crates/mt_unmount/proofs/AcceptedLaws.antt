@@ -4,7 +4,7 @@ use Rattle.std.specs.Prelude.{not}
 use Rattle.std.specs.List.{list_any}
 use Rattle.std.proofs.lemmas.Bool.{not-false}
 use Rattle.mt_skel.specs.declared.fault.Fault.TheVariants.{NotMountRoot, RootPlace, Busy}
-use Rattle.mt_skel.specs.Outcome.{fault_of}
+use Rattle.mt_skel.specs.Outcome.{refusal_of}
 use Rattle.mt_skel.proofs.OutcomeLaws.{not_refused, accepted}
 use Rattle.mt_mounts.specs.declared.mount.Place.{Place}
 use Rattle.mt_mounts.specs.Forest.{stands_on}
@@ -20,7 +20,7 @@ path_end w n path = place_or_nowhere (walk w.skel w.forest n path)
 
 -- an unmount
 pub record IsAcceptedUnmount (w : WorldView) (n : ℕ) (path : List (List ℕ)) (v : WorldView) : Type 0 where
-  pub ended : fault_of (walk w.skel w.forest n path) ≡ None
+  pub ended : refusal_of (walk w.skel w.forest n path) ≡ None
   pub named : is_mount_root w (path_end w n path) ≡ true
   pub placed : is_root_mount w (path_end w n path) ≡ false
   pub bare : list_any (stands_on (path_end w n path).mount) w.forest ≡ false
@@ -41,7 +41,7 @@ unmount_accepted w n path v e =
 
 -- a detach
 pub record IsAcceptedDetach (w : WorldView) (n : ℕ) (path : List (List ℕ)) (v : WorldView) : Type 0 where
-  pub ended : fault_of (walk w.skel w.forest n path) ≡ None
+  pub ended : refusal_of (walk w.skel w.forest n path) ≡ None
   pub named : is_mount_root w (named_place w n path) ≡ true
   pub placed : is_root_mount w (named_place w n path) ≡ false
   pub world : without_tree w (named_place w n path).mount ≡ v

@@ -3,7 +3,7 @@ use Rattle.std.proofs.Common.{◌≡◌, ℕ, Bool, true, false, ◌&&◌, List,
 use Rattle.std.specs.List.{list_all}
 use Rattle.std.specs.Option.{option_map}
 use Rattle.mt_skel.specs.declared.fault.Fault.{Fault}
-use Rattle.mt_skel.specs.Outcome.{fault_of}
+use Rattle.mt_skel.specs.Outcome.{refusal_of}
 use Rattle.mt_skel.proofs.ChainLaws.{follow-holds}
 use Rattle.mt_skel.proofs.ElementLaws.{In, in_filter, in_map, in_row}
 use Rattle.mt_mounts.specs.declared.mount.Mount.{Mount}
@@ -85,10 +85,10 @@ module _ (w : WorldView) (h : IsWellFormed w) (n : ℕ) where
   top-there : (p : Place) → IsThere p → IsThere (top w.forest p)
   top-there p t = (follow-holds (λ q. option_map root_place (on w.forest q)) IsThere stacked-there (length w.forest) p t (stack_ends w.forest h.forest.rising h.forest.no_cycle p)).0
 
-  named-inside : (path : List (List ℕ)) → fault_of (walk w.skel w.forest n path) ≡ None → space_of w (named_place w n path).mount ≡ n
+  named-inside : (path : List (List ℕ)) → refusal_of (walk w.skel w.forest n path) ≡ None → space_of w (named_place w n path).mount ≡ n
   named-inside path none = go (walk w.skel w.forest n path) refl none
     where
-      go : (r : Result Place Fault) → walk w.skel w.forest n path ≡ r → fault_of r ≡ None → space_of w (top w.forest (place_or_nowhere r)).mount ≡ n
+      go : (r : Result Place Fault) → walk w.skel w.forest n path ≡ r → refusal_of r ≡ None → space_of w (top w.forest (place_or_nowhere r)).mount ≡ n
       go (Ok p) is none =
           let q = (walked w n h path p is).0 in
           let t = top-there p (q.0, q.1, q.2) in

@@ -6,7 +6,7 @@ use Rattle.std.specs.Option.{option_map, option_map_or}
 use Rattle.mt_skel.specs.declared.fault.Fault.{Fault}
 use Rattle.mt_skel.specs.declared.fault.Fault.TheVariants.{NotMountRoot, RootPlace}
 use Rattle.mt_skel.specs.Keyed.{among}
-use Rattle.mt_skel.specs.Outcome.{refuse_if, fault_of, outcome}
+use Rattle.mt_skel.specs.Outcome.{refuse_if, refusal_of, outcome}
 use Rattle.mt_mounts.specs.declared.mount.Place.{Place}
 use Rattle.mt_mounts.specs.Forest.{id_of, on, subtree, top}
 use Rattle.mt_mounts.specs.Walk.{walk}
@@ -53,7 +53,7 @@ named_place w n path = topmost w (walk w.skel w.forest n path)
 abbrev pub detached_refusals : WorldView → Result Place Fault → List (Option Fault)
 detached_refusals w at =
     let p = topmost w at in
-    fault_of at
+    refusal_of at
     ∷ refuse_if (not (is_mount_root w p)) NotMountRoot
     ∷ refuse_if (is_root_mount w p) RootPlace ∷ []
 

@@ -5,7 +5,7 @@ use Rattle.std.specs.List.{filter, filter_map, list_any, list_all}
 use Rattle.std.specs.Option.{option_map_or}
 use Rattle.mt_skel.specs.declared.fault.Fault.{Fault}
 use Rattle.mt_skel.specs.declared.fault.Fault.TheVariants.{NotMountRoot, RootPlace, Busy}
-use Rattle.mt_skel.specs.Outcome.{refuse_if, fault_of, outcome}
+use Rattle.mt_skel.specs.Outcome.{refuse_if, refusal_of, outcome}
 use Rattle.mt_mounts.specs.declared.mount.Mount.{Mount}
 use Rattle.mt_mounts.specs.declared.mount.Place.{Place}
 use Rattle.mt_mounts.specs.Forest.{on, id_of, stands_on}
@@ -43,7 +43,7 @@ without_mount w i = once_gone w (is_removed w i)
 abbrev pub unmounted_refusals : WorldView → Result Place Fault → List (Option Fault)
 unmounted_refusals w at =
     let p = place_or_nowhere at in
-    fault_of at
+    refusal_of at
     ∷ refuse_if (not (is_mount_root w p)) NotMountRoot
     ∷ refuse_if (is_root_mount w p) RootPlace
     ∷ refuse_if (list_any (stands_on p.mount) w.forest) Busy ∷ []

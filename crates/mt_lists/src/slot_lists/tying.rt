@@ -3,7 +3,7 @@ ghost use Rattle.std.specs.Prelude.{◌≡◌, ℕ, ◌+◌, ◌<◌, ◌≤◌,
 ghost use Rattle.std.specs.Option.{option_map, option_map_or};
 ghost use Rattle.indexmap.specs.IndexMap.{get, spare};
 ghost use Rattle.mt_skel.specs.Keyed.{row_at, put, among};
-ghost use Rattle.mt_lists.specs.Lists.{id_of, ids, above, without_id};
+ghost use Rattle.mt_lists.specs.Lists.{listed_id, ids, above, without_row};
 ghost use Rattle.mt_lists.specs.Links.{below};
 ghost use Rattle.mt_lists.specs.SlotLists.{LeadsTo};
 ghost use Rattle.mt_lists.specs.Ties.{id_at, ids_in, rows_in, last_of, IsTied, IsBelow};
@@ -102,7 +102,7 @@ fn follower(
 ) -> Option<usize>
     requires tied { IsTied ties.now tops.now }
     requires found { option_map (λ f. f.top) found ≡ get nat_eq tops.now number }
-    requires absent { row_at id_of id (rows_in ties.now) ≡ None }
+    requires absent { row_at listed_id id (rows_in ties.now) ≡ None }
     requires before { LeadsTo (id_at ties.now) before (below id (ids (rows_in ties.now) number)) }
     ensures { LeadsTo (id_at ties.now) result (above id (ids (rows_in ties.now) number)) }
 {
@@ -123,11 +123,11 @@ pub(crate) fn tie(
 )
     requires tied { IsTied ties.old tops.old }
     requires free { slice_get ties.old slot ≡ Some None }
-    requires absent { row_at id_of id (rows_in ties.old) ≡ None }
+    requires absent { row_at listed_id id (rows_in ties.old) ≡ None }
     requires room { 0 < spare tops.old }
     requires few { length ties.old < 2 ^ 58 }
     ensures tied { IsTied ties.new tops.new }
-    ensures rows { rows_in ties.new ≡ put id_of (record { id = id; number = number }) (rows_in ties.old) }
+    ensures rows { rows_in ties.new ≡ put listed_id (record { id = id; number = number }) (rows_in ties.old) }
     ensures ids { ids_in ties.new ≡ slice_set (ids_in ties.old) slot (Some id) }
     ensures room { spare tops.old ≤ spare tops.new + 1 }
 {
@@ -150,7 +150,7 @@ pub(crate) fn tie(
 pub(crate) fn untie(ties: &mut [Option<Tie>], tops: &mut IndexMap<u64, Top>, slot: usize)
     requires tied { IsTied ties.old tops.old }
     ensures tied { IsTied ties.new tops.new }
-    ensures rows { rows_in ties.new ≡ option_map_or (λ i. without_id i (rows_in ties.old)) (id_at ties.old slot) (rows_in ties.old) }
+    ensures rows { rows_in ties.new ≡ option_map_or (λ i. without_row i (rows_in ties.old)) (id_at ties.old slot) (rows_in ties.old) }
     ensures ids { ids_in ties.new ≡ slice_set (ids_in ties.old) slot None }
     ensures room { spare tops.old ≤ spare tops.new }
 {

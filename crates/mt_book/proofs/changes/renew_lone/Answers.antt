@@ -5,7 +5,7 @@ use Rattle.std.specs.Arc.{arc_value}
 use Rattle.std.proofs.lemmas.List.{get_or_default}
 use Rattle.mt_skel.specs.Keyed.{row_at}
 use Rattle.mt_events.specs.Posts.{PostView}
-use Rattle.mt_book.specs.Book.{space_in, number_in, next_number, next_post, posted}
+use Rattle.mt_book.specs.Book.{space_in, number_in, next_number, next_post, posts_at_change}
 use Rattle.mt_book.specs.Between.{AreWorlds}
 use Rattle.mt_book.proofs.LoneLaws.{absent_numbers, absent_posts, lone_numbers, lone_posts}
 use Rattle.mt_book.proofs.changes.renew_lone.Goals as goal
@@ -32,7 +32,7 @@ returns-in_default-clause-posts c =
     let worlds = subst AreWorlds c.between.view_is c.between.invariant in
     let rs = c.args.numbers.now.items in
     let out = subst (λ (l : List (ℕ × ℕ)). row_at space_in c.args.space l ≡ None) c.deref.ensures.value c.in_default.ensures.row in
-    let none : posted b.old b.new rs ≡ [] = absent_posts b.old b.new c.args.ids.now c.args.space worlds.old worlds.new c.requires.held c.requires.lone rs c.requires.numbers.rising out in
+    let none : posts_at_change b.old b.new rs ≡ [] = absent_posts b.old b.new c.args.ids.now c.args.space worlds.old worlds.new c.requires.held c.requires.lone rs c.requires.numbers.rising out in
     c.new.ensures ∙ ap (map (λ p. arc_value p)) c.new-posts.ensures.items ∙ sym (ap (λ (l : List PostView). cond b.heard l []) none ∙ same b.heard [])
 
 pub returns-clause-numbers : goal.returns-clause-numbers
@@ -57,7 +57,7 @@ returns-clause-posts c =
     let there = subst (λ (l : List (ℕ × ℕ)). row_at space_in c.args.space l ≡ Some (slice_index_or l at (0, 0))) c.deref.ensures.value c.in-Some.ensures.row in
     let within = subst (λ (l : List (ℕ × ℕ)). at < length l) c.deref.ensures.value c.in-Some.ensures.within in
     let row = c.index-row.ensures ∙ get_or_default rs at c.index-row.result.now (0, 0) within in
-    let told : posted b.old b.new rs ≡ option_to_list (next_post b.old b.new c.args.space (number_in (slice_index_or rs at (0, 0)))) =
+    let told : posts_at_change b.old b.new rs ≡ option_to_list (next_post b.old b.new c.args.space (number_in (slice_index_or rs at (0, 0)))) =
     lone_posts b.old b.new c.args.ids.now c.args.space worlds.old worlds.new c.requires.held c.requires.lone rs (slice_index_or rs at (0, 0)) c.requires.numbers.rising there in
     c.new-2.ensures ∙ c.in_ok-push_post.ensures.posts ∙ ap (λ l. map (λ p. arc_value p) l ++ option_to_list c.in_ok-change.change.post) c.new-posts.ensures.items
     ∙ ap option_to_list c.in_ok-change.ensures.post ∙ ap (λ (r : ℕ × ℕ). option_to_list (cond b.heard (next_post b.old b.new c.args.space (number_in r)) None)) row

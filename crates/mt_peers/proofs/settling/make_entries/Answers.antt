@@ -4,7 +4,7 @@ use Rattle.mt_lists.specs.Numbered.{rows_by}
 use Rattle.mt_peers.specs.Peers.{Peer, Peering, mount_of}
 use Rattle.mt_peers.specs.Making.{made}
 use Rattle.mt_peers.specs.Entries.{now_peers}
-use Rattle.mt_peers.specs.Listed.{group_of, leader_of}
+use Rattle.mt_peers.specs.Listed.{peer_group, leader_of}
 use Rattle.mt_peers.proofs.ChangeLaws.{made-entries}
 use Rattle.mt_peers.proofs.RelistLaws.{was-made, rises-changed, was-kept, rises-kept, groups-kept}
 use Rattle.mt_peers.proofs.settling.make_entries.Goals as goal
@@ -16,7 +16,7 @@ list_members-requires-clause-rising c =
 pub list_members-requires-clause-listed : goal.list_members-requires-clause-listed
 list_members-requires-clause-listed c =
     c.requires.listed.members_told
-    ∙ ap (rows_by mount_of group_of) (sym (was-made c.args.kind c.args.ids.now c.args.next c.args.entries.now c.change_all-after.new.entries c.change_all-after.ensures.entries))
+    ∙ ap (rows_by mount_of peer_group) (sym (was-made c.args.kind c.args.ids.now c.args.next c.args.entries.now c.change_all-after.new.entries c.change_all-after.ensures.entries))
 
 pub settle_all-requires-clause-near : goal.settle_all-requires-clause-near
 settle_all-requires-clause-near c = c.enter_all.ensures.near (length c.change_all-after.new.entries)

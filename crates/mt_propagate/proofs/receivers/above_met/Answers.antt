@@ -3,7 +3,7 @@ use Rattle.std.specs.List.{filter_map}
 use Rattle.mt_peers.specs.Peers.{slaves}
 use Rattle.mt_peers.specs.Members.{group_at}
 use Rattle.mt_skel.specs.Counted.{occ}
-use Rattle.mt_peers.specs.Entered.{collected, other_at}
+use Rattle.mt_peers.specs.Entered.{collected_slave, other_at}
 use Rattle.mt_skel.proofs.CountLaws.{count-append}
 use Rattle.mt_peers.proofs.WorklistLaws.{IsWorklist, worklist-start}
 use Rattle.mt_peers.proofs.VisitLaws.{start-led, start-occ, visit-bound, visit-next, visit-occ, visit-room, visit-led, visited-led, visited-occ}
@@ -69,7 +69,7 @@ groups-preserved c =
       work = visit-next es g i m m all more c.requires.rising c.groups.invariant.work in_all (sym c.index-master.ensures) grown;
       ids = λ q.
           sum _ _ _ _ _ _
-          (ap (occ q) c.in_ok-slaves_met.ensures.ids ∙ count-append (λ j. j == q) c.groups.ids.items (filter_map (λ j. collected t g j (group_at es j)) (slaves es m)))
+          (ap (occ q) c.in_ok-slaves_met.ensures.ids ∙ count-append (λ j. j == q) c.groups.ids.items (filter_map (λ j. collected_slave t g j (group_at es j)) (slaves es m)))
           (c.groups.invariant.ids q) (visit-occ es g i m m all more c.requires.rising c.groups.invariant.work in_all (sym c.index-master.ensures) grown t q);
       looks = omega (arith, led, looks, counted);
     }

@@ -3,7 +3,7 @@ use Rattle.std.specs.List.{filter_map, cons_option}
 use Rattle.std.specs.Option.{is_some}
 use Rattle.mt_peers.specs.Peers.{slaves, has_master}
 use Rattle.mt_peers.specs.Members.{group_at}
-use Rattle.mt_peers.specs.Entered.{entered, collected}
+use Rattle.mt_peers.specs.Entered.{entered, collected_slave}
 use Rattle.mt_peers.proofs.SortedLaws.{rises-picked}
 use Rattle.mt_peers.proofs.ListLaws.{slave-master, slave-next, walk-some, walk-shorter, walk-picks}
 use Rattle.mt_lists.proofs.WalkLaws.{rest_from, rest-first, walk-start, walk-member}
@@ -18,7 +18,7 @@ slaves-init c =
     let whole = ap (λ o. rest_from o xs) c.first_slave-next.ensures.first ∙ rest-first xs (rises-picked es (has_master c.args.master) c.requires.rising) in
     record {
       inside = walk-start xs c.first_slave-next.result c.first_slave-next.ensures.first;
-      ids = ap (λ l. c.args.ids.now.items ++ filter_map (λ i. collected (is_target (world_view c.args.world.now) c.args.place) c.args.group i (group_at es i)) l) whole;
+      ids = ap (λ l. c.args.ids.now.items ++ filter_map (λ i. collected_slave (is_target (world_view c.args.world.now) c.args.place) c.args.group i (group_at es i)) l) whole;
       groups = ap (λ l. c.args.groups.now.items ++ filter_map (λ i. entered es c.args.group i (group_at es i)) l) whole;
       looks = ap (λ l. c.args.looks.now + length l) whole;
     }
@@ -73,11 +73,11 @@ slaves-preserved c =
     let next = c.slave_after-own.ensures.next ∙ slave-next es c.args.master id c.requires.rising at in
     let less = walk-shorter xs id c.slave_after-own.result.1 up at next in
     let same = ap (λ o. length (rest_from o xs)) c.in-Some.is in
-    let f : ℕ → Option ℕ = λ i. collected (is_target (world_view c.args.world.now) c.args.place) c.args.group i (group_at es i) in
+    let f : ℕ → Option ℕ = λ i. collected_slave (is_target (world_view c.args.world.now) c.args.place) c.args.group i (group_at es i) in
     let e : ℕ → Option ℕ = λ i. entered es c.args.group i (group_at es i) in
     let looks = c.slaves.invariant.looks in
     let more = c.slave_after-own.ensures.looks in
-    let got : c.collected.result ≡ f id = c.collected.ensures ∙ ap (λ o. collected (is_target (world_view c.args.world.now) c.args.place) c.args.group id o) c.slave_after-own.ensures.own in
+    let got : c.collected.result ≡ f id = c.collected.ensures ∙ ap (λ o. collected_slave (is_target (world_view c.args.world.now) c.args.place) c.args.group id o) c.slave_after-own.ensures.own in
     let new : c.entered.result ≡ e id = c.entered.ensures ∙ ap (λ o. entered es c.args.group id o) c.slave_after-own.ensures.own in
     record {
       inside = walk-member id xs c.slave_after-own.result.1 next;

@@ -1,7 +1,7 @@
 use Rattle.std.proofs.Common.{◌≡◌, ℕ, false, take}
 use Rattle.std.specs.Prelude.{IsTrue}
 use Rattle.mt_skel.specs.Keyed.{among}
-use Rattle.mt_propagate.specs.Turned.{is_below}
+use Rattle.mt_propagate.specs.Turned.{is_below_group}
 use Rattle.mt_propagate.proofs.BelowGroupLaws.{has_above}
 use Rattle.mt_propagate.proofs.turned.push_all_below.Given as goal
 
@@ -9,5 +9,5 @@ use Rattle.mt_propagate.proofs.turned.push_all_below.Given as goal
 abbrev pub invariant-groups : goal.invariant-groups
 invariant-groups l = record {
   kept : (i : ℕ) → IsTrue (among l.initial.ids.items i) → IsTrue (among l.ids.items i);
-  below : (g i : ℕ) → IsTrue (among (take l.group-index l.groups) g) → has_above l.world.peers.peers l.groups g ≡ false → IsTrue (is_below l.world.peers.peers g i) → IsTrue (among l.ids.items i);
+  below : (g i : ℕ) → IsTrue (among (take l.group-index l.groups) g) → has_above l.world.peers.peers l.groups g ≡ false → IsTrue (is_below_group l.world.peers.peers g i) → IsTrue (among l.ids.items i);
 }

@@ -2,7 +2,7 @@ use Rattle.std.proofs.Common.{List, ap, sym, ◌∙◌, subst}
 use Rattle.crossbeam_queue.specs.Fifo.{Learns}
 use Rattle.mt_queue.specs.declared.rule.PassView.{PassView}
 use Rattle.mt_queue.specs.PassViews.{Item}
-use Rattle.mt_queue.specs.Rule.{IsInOrder}
+use Rattle.mt_queue.specs.Rule.{KeepsRule}
 use Rattle.mt_queue.proofs.SplitLaws.{hands_over}
 use Rattle.mt_queue.proofs.JoinLaws.{clashes, never}
 use Rattle.mt_queue.proofs.line.clash.Goals as goal
@@ -14,4 +14,4 @@ pub absorb-requires-clause-rule : goal.absorb-requires-clause-rule
 absorb-requires-clause-rule c = clashes _ _ _ _ c.requires.line.1 (ap (λ (v : PassView). v.pops) c.another-moved.ensures.rule.1 ∙ c.requires.receiver.may_pop)
 
 pub learn_as-requires-clause-rule : goal.learn_as-requires-clause-rule
-learn_as-requires-clause-rule c = subst (λ (v : PassView). Learns IsInOrder c.absorb.new.pass.id v (λ (items : List Item). ⊥)) (sym c.absorb.ensures.rule) (never c.absorb.new.pass.id)
+learn_as-requires-clause-rule c = subst (λ (v : PassView). Learns KeepsRule c.absorb.new.pass.id v (λ (items : List Item). ⊥)) (sym c.absorb.ensures.rule) (never c.absorb.new.pass.id)

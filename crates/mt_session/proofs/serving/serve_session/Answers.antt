@@ -1,26 +1,26 @@
 use Rattle.std.proofs.Common.{[], ◌∷◌, ◌++◌, ◌∙◌, None, Some, arith, length-append, refl}
 use Rattle.mt_lines.specs.Reading.{limit_of}
-use Rattle.mt_session.specs.Requests.{state_at}
+use Rattle.mt_session.specs.Requests.{session_state}
 use Rattle.mt_session.proofs.SessionLaws.{Going-more, Served-more, after_fault_at, line_served, line_ends, line_answered, read_answered, run_answered, not_memory}
 use Rattle.mt_session.proofs.serving.serve_session.Goals as goal
 
 pub returns-in-Err-clause-ran : goal.returns-in-Err-clause-ran
 returns-in-Err-clause-ran g c t u =
     let i = c.lines.invariant.going t u in
-    let now = state_at c.lines.floor c.lines.session in
+    let now = session_state c.lines.floor c.lines.session in
     let b = after_fault_at (limit_of c.lines.lines) _ _ _ c.in-Err.fault now (g.W.Output.written c.lines.writer) c.lines.invariant.limit
     (λ e. c.in-Err.ensures.memory (rw c.lines.invariant.fresh refl) (rw e refl)) (c.in-Err.ensures.next (rw c.lines.invariant.fresh refl) t) in
-    Served-more i.0 _ _ (state_at c.args.floor.now c.args.session.now) now now _ _ _ _ i.2 b.0 refl (simp length-append (omega (arith, i.1, b.1, c.lines-test.true)))
+    Served-more i.0 _ _ (session_state c.args.floor.now c.args.session.now) now now _ _ _ _ i.2 b.0 refl (simp length-append (omega (arith, i.1, b.1, c.lines-test.true)))
 
 pub returns-in-Some-clause-ran : goal.returns-in-Some-clause-ran
 returns-in-Some-clause-ran g c t u =
     let i = c.lines.invariant.going t u in
-    let now = state_at c.lines.floor c.lines.session in
-    let new = state_at c.serve_line.new.floor c.serve_line.new.session in
+    let now = session_state c.lines.floor c.lines.session in
+    let new = session_state c.serve_line.new.floor c.serve_line.new.session in
     let b = line_served g.W.Output.tells (limit_of c.lines.lines) _ _ _ c.in-Ok.line now new _ _ (Some c.in-Some.end) u c.lines.invariant.limit
     (c.in-Ok.ensures.next (rw c.lines.invariant.fresh refl) t) (rw c.line.ensures at c.in-Some.ensures.answered) in
     let ended = line_answered c.in-Some.end (line_ends g.W.Output.tells c.in-Ok.line _ now new _ _ (Some c.in-Some.end) c.in-Some.ensures.answered c.in-Some.end refl) in
-    Served-more i.0 _ _ (state_at c.args.floor.now c.args.session.now) now new _ _ _ _ i.2 b.0 ended (simp length-append (omega (arith, i.1, b.1, c.lines-test.true)))
+    Served-more i.0 _ _ (session_state c.args.floor.now c.args.session.now) now new _ _ _ _ i.2 b.0 ended (simp length-append (omega (arith, i.1, b.1, c.lines-test.true)))
 
 pub returns-in-Some-clause-memory : goal.returns-in-Some-clause-memory
 returns-in-Some-clause-memory g c =
@@ -47,9 +47,9 @@ lines-preserved g c = record {
   limit = c.in-Ok.ensures.same ∙ c.lines.invariant.limit;
   going = λ t u.
       let i = c.lines.invariant.going t u in
-      let now = state_at c.lines.floor c.lines.session in
-      let new = state_at c.serve_line.new.floor c.serve_line.new.session in
+      let now = session_state c.lines.floor c.lines.session in
+      let new = session_state c.serve_line.new.floor c.serve_line.new.session in
       let n = line_served g.W.Output.tells (limit_of c.lines.lines) _ _ _ c.in-Ok.line now new _ _ None u c.lines.invariant.limit
       (c.in-Ok.ensures.next (rw c.lines.invariant.fresh refl) t) (rw c.line.ensures at c.in_default.ensures.answered) in
-      (i.0 ++ n.0 ∷ [], simp length-append (omega (arith, i.1)), Going-more i.0 (n.0 ∷ []) _ _ _ (state_at c.args.floor.now c.args.session.now) now new _ _ _ i.2 n.1);
+      (i.0 ++ n.0 ∷ [], simp length-append (omega (arith, i.1)), Going-more i.0 (n.0 ∷ []) _ _ _ (session_state c.args.floor.now c.args.session.now) now new _ _ _ i.2 n.1);
 }

@@ -2,7 +2,7 @@ use Rattle.std.proofs.Common.{ℕ, sym, ap, subst}
 use Rattle.std.specs.Prelude.{vec_capacity}
 use Rattle.mt_desk.specs.Desk.{DeskView, HasHistory}
 use Rattle.mt_desk.specs.Calls.{WatcherView, IsClosed}
-use Rattle.mt_desk.specs.Places.{IsKept, desk_of}
+use Rattle.mt_desk.specs.Places.{IsKeptDesk, desk_of}
 use Rattle.mt_desk.specs.Headline.{Close}
 use Rattle.mt_desk.proofs.DeskLaws.{place_is, closed_kept}
 use Rattle.mt_desk.proofs.FollowLaws.{scheduled_by}
@@ -21,7 +21,7 @@ invariant_of-self g c =
     let v : WatcherView = record { key = w.key; place = w.place; half = w.half } in
     let now : DeskView = desk_of i.capacity i.book.journal i.last_key i.stopped c.close_at-posts.new.slots.items c.drop_place.new.order.items in
     let kept = closed_kept g.J.Naming.lines i.capacity i.book.journal i.last_key i.stopped i.slots.items i.order.items (vec_capacity i.order) c.self.invariant v c.close_at-posts.new.slots.items c.close_at-posts.result c.drop_place.new.order.items c.watcher.invariant c.close_at-posts.ensures c.drop_place.ensures.items in
-    subst (λ (n : ℕ). IsKept g.J.Naming.lines now c.close_at-posts.new.slots.items c.drop_place.new.order.items n) (sym c.drop_place.ensures.room) kept.0
+    subst (λ (n : ℕ). IsKeptDesk g.J.Naming.lines now c.close_at-posts.new.slots.items c.drop_place.new.order.items n) (sym c.drop_place.ensures.room) kept.0
 
 pub returns-clause-closed : goal.returns-clause-closed
 returns-clause-closed g c =

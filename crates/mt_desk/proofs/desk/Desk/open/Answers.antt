@@ -6,7 +6,7 @@ use Rattle.mt_floor.specs.declared.event.Event.TheVariants.{Open}
 use Rattle.mt_floor.specs.Schedule.{floor_step, opening_refusal}
 use Rattle.mt_desk.specs.declared.row.Slot.{Slot}
 use Rattle.mt_desk.specs.Desk.{DeskView, floor_of_desk, with_watcher}
-use Rattle.mt_desk.specs.Places.{IsParked, IsKept, desk_of, row_in}
+use Rattle.mt_desk.specs.Places.{IsParked, IsKeptDesk, desk_of, row_in}
 use Rattle.std.proofs.lemmas.List.{length-map}
 use Rattle.mt_desk.proofs.DeskLaws.{opening_refused, room_for_one, not_all_used, parked_at, begun_kept}
 use Rattle.mt_desk.proofs.desk.Desk.open.Goals as goal
@@ -41,7 +41,7 @@ invariant_of-self g c =
     let i = c.self.inside in
     let none = ap (λ (x : DeskView). opening_refusal (floor_of_desk x) c.args.scope) c.self.view_is ∙ sym c.refuses.ensures ∙ c.in_default.is in
     let kept = (begun_kept g.J.Naming.lines i.capacity i.book.journal i.last_key i.stopped i.slots.items i.order.items (vec_capacity i.order) c.self.invariant c.args.scope c.in-Some-parked_place.place c.open_at-half.new.slots.items c.open_at-half.result (i.last_key + 1) (length c.journal-since.result.now) c.in_ok-opening.opening c.push_reserved.new.self.items none c.open_at-half.ensures refl (ap (λ (l : List Command). length l) c.journal-since.ensures.journal) c.in_ok-opening.ensures.opening c.push_reserved.ensures.items).0 in
-    subst (λ (n : ℕ). IsKept g.J.Naming.lines (desk_of i.capacity i.book.journal (i.last_key + 1) i.stopped c.open_at-half.new.slots.items c.push_reserved.new.self.items) c.open_at-half.new.slots.items c.push_reserved.new.self.items n) (sym c.push_reserved.ensures.capacity) kept
+    subst (λ (n : ℕ). IsKeptDesk g.J.Naming.lines (desk_of i.capacity i.book.journal (i.last_key + 1) i.stopped c.open_at-half.new.slots.items c.push_reserved.new.self.items) c.open_at-half.new.slots.items c.push_reserved.new.self.items n) (sym c.push_reserved.ensures.capacity) kept
 
 pub returns-clause-done : goal.returns-clause-done
 returns-clause-done g c =

@@ -3,7 +3,7 @@ use Rattle.mt_book.specs.declared.command.Command.{Command}
 use Rattle.mt_floor.specs.declared.event.Event.TheVariants.{Open}
 use Rattle.mt_floor.specs.declared.event.Answer.TheVariants.{Opened}
 use Rattle.mt_floor.specs.Schedule.{FloorView, floor_step, opening_refusal}
-use Rattle.mt_floor.specs.Rows.{new_row}
+use Rattle.mt_floor.specs.Rows.{new_floor_row}
 use Rattle.mt_floor.proofs.KeptLaws.{kept_after}
 use Rattle.mt_floor.proofs.ApplyLaws.{open_refused, open_done}
 use Rattle.mt_floor.proofs.floor.Floor.open.Goals as goal
@@ -23,7 +23,7 @@ invariant_of-self-2 c =
     let key = f.last_key + 1 in
     let since = ap (λ (l : List Command). length l) c.journal-since.ensures.journal in
     let pushed : c.push.new.self.items ≡ f.rows.items ++ row.row ∷ [] = grind arith in
-    let new = row.ensures.row ∙ ap (λ n. new_row key c.args.scope n f.capacity) since in
+    let new = row.ensures.row ∙ ap (λ n. new_floor_row key c.args.scope n f.capacity) since in
     let done = open_done f.capacity f.book.journal f.last_key f.stopped f.rows.items f.due.items c.self.invariant idle c.args.scope c.refuses.result key row.row c.push.new.self.items c.in_ok-opening.opening (c.refuses.ensures ∙ ap (λ (s : FloorView). opening_refusal s c.args.scope) (sym c.self.view_is)) c.in_default.is refl new pushed c.in_ok-opening.ensures.opening in
     kept_after f.capacity f.capacity f.book.journal f.book.journal f.last_key key f.stopped f.stopped f.rows.items c.push.new.self.items f.due.items f.due.items (Open c.args.scope) (Ok (Opened key c.in_ok-opening.opening)) c.self.invariant done.0 done.1
 
@@ -35,6 +35,6 @@ returns-clause-done c =
     let key = f.last_key + 1 in
     let since = ap (λ (l : List Command). length l) c.journal-since.ensures.journal in
     let pushed : c.push.new.self.items ≡ f.rows.items ++ row.row ∷ [] = grind arith in
-    let new = row.ensures.row ∙ ap (λ n. new_row key c.args.scope n f.capacity) since in
+    let new = row.ensures.row ∙ ap (λ n. new_floor_row key c.args.scope n f.capacity) since in
     let done = open_done f.capacity f.book.journal f.last_key f.stopped f.rows.items f.due.items c.self.invariant idle c.args.scope c.refuses.result key row.row c.push.new.self.items c.in_ok-opening.opening (c.refuses.ensures ∙ ap (λ (s : FloorView). opening_refusal s c.args.scope) (sym c.self.view_is)) c.in_default.is refl new pushed c.in_ok-opening.ensures.opening in
     ap (λ (s : FloorView). floor_step s (Open c.args.scope)) (sym c.self.view_is) ∙ done.0

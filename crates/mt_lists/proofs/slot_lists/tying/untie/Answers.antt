@@ -1,6 +1,6 @@
 use Rattle.std.proofs.Common.{None, refl, sym, ap, ◌∙◌, slice_set}
 use Rattle.std.specs.Option.{option_map, option_map_or}
-use Rattle.mt_lists.specs.Lists.{without_id}
+use Rattle.mt_lists.specs.Lists.{without_row}
 use Rattle.mt_lists.specs.declared.slot_lists.tops.FoundTop.{FoundTop}
 use Rattle.mt_lists.specs.Ties.{id_of_tie, rows_in}
 use Rattle.mt_lists.proofs.TieLaws.{ids-set, ids-vacant}
@@ -18,7 +18,7 @@ returns-in-Some-top_of-clause-rows c =
     let there = sym c.tie_at.ensures ∙ c.in-Some.is in
     rows-less c.args.ties.now c.args.tops.now c.requires.tied c.args.slot c.in-Some.tie there c.set_after.new.ties c.set_before.new.ties _ c.set_after.ensures.ties c.set_before.ensures.ties
     (c.set_before.ensures.rows ∙ c.set_after.ensures.rows) (c.set_before.ensures.ids ∙ c.set_after.ensures.ids) refl
-    ∙ sym (ap (λ o. option_map_or (λ i. without_id i (rows_in c.args.ties.now)) (id_of_tie o) (rows_in c.args.ties.now)) there)
+    ∙ sym (ap (λ o. option_map_or (λ i. without_row i (rows_in c.args.ties.now)) (id_of_tie o) (rows_in c.args.ties.now)) there)
 
 pub returns-in-Some-top_of-clause-ids : goal.returns-in-Some-top_of-clause-ids
 returns-in-Some-top_of-clause-ids c = ids-set c.set_before.new.ties c.args.slot None ∙ ap (λ xs. slice_set xs c.args.slot None) (c.set_before.ensures.ids ∙ c.set_after.ensures.ids)

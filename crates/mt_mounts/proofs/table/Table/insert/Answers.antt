@@ -5,7 +5,7 @@ use Rattle.mt_lists.specs.SlotLists.{SlotListsView}
 use Rattle.std.specs.Option.{option_map}
 use Rattle.std.proofs.Common.{slice_set}
 use Rattle.mt_mounts.specs.Forest.{id_of}
-use Rattle.mt_mounts.specs.Seats.{parent_of, space_of}
+use Rattle.mt_mounts.specs.Seats.{parent_of, own_space}
 use Rattle.mt_mounts.proofs.SeatLaws.{unlisted, vacant_free}
 use Rattle.mt_mounts.proofs.TableLaws.{table_inserted}
 use Rattle.mt_mounts.proofs.TableStepLaws.{table_filled}
@@ -19,12 +19,12 @@ seat-requires-clause-absent c =
 pub insert-requires-2-clause-free : goal.insert-requires-2-clause-free
 insert-requires-2-clause-free c =
     let fits = subst (λ n. c.insert_reserved-slot.result < n) c.insert_reserved-slot.ensures.capacity c.insert_reserved-slot.ensures.key_in_range in
-    vacant_free space_of c.self.inside.slots c.self.inside.spaces c.self.invariant.spaces c.insert_reserved-slot.result fits c.insert_reserved-slot.ensures.was_vacant
+    vacant_free own_space c.self.inside.slots c.self.inside.spaces c.self.invariant.spaces c.insert_reserved-slot.result fits c.insert_reserved-slot.ensures.was_vacant
 
 pub insert-requires-2-clause-absent : goal.insert-requires-2-clause-absent
 insert-requires-2-clause-absent c =
     let e = ap (λ t. t.mounts) c.self.view_is in
-    unlisted space_of c.self.inside.slots c.self.inside.spaces c.self.invariant.spaces c.args.mount.id (rw e c.requires.absent)
+    unlisted own_space c.self.inside.slots c.self.inside.spaces c.self.invariant.spaces c.args.mount.id (rw e c.requires.absent)
 
 pub invariant_of-self : goal.invariant_of-self
 invariant_of-self c =
