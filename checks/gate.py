@@ -24,8 +24,9 @@ PROGRAM = os.path.join(TOP, "crates", "mountd", "out", "mountd")
 CLIENT = os.path.join(TOP, "crates", "mountctl", "out", "mountctl")
 
 # How many checks rt ci runs at once, each with one job. Where it is not told, it gives a check the processors that are
-# idle, and each further job of a check reads the libraries again: a third more of processor time (docs/GATE.md).
-LANES = min(4, len(os.sched_getaffinity(0)))
+# idle, and each further job of a check reads the libraries again: a third more of processor time (docs/GATE.md). Four at
+# once take half as much again each, where two processors share a core.
+LANES = min(2, len(os.sched_getaffinity(0)))
 
 # What is run before anything is proved, and on the programs that are built then: what it is called, and its words.
 TEXT_CHECKS = (

@@ -4,13 +4,12 @@ use Rattle.std.specs.Prelude.{nat_eq, nat_lt}
 use Rattle.std.specs.List.{filter, list_all, list_any}
 use Rattle.std.specs.Option.{option_map, option_to_list, unwrap_or}
 use Rattle.std.proofs.lemmas.Bool.Decides.{nat_tests}
-use Rattle.std.proofs.lemmas.List.{drop_more}
+use Rattle.std.proofs.lemmas.List.{drop_more, drop_all}
 use Rattle.mt_skel.specs.Keyed.{row_at, rises, among}
 use Rattle.mt_skel.proofs.KeyedLaws.{row_at-below, row_at-filter, row_at-map, rises-map, same_rows, passing}
 use Rattle.mt_skel.proofs.MiddleLaws.{and_first, and_second, and-true}
 use Rattle.mt_propagate.specs.World.{WorldView}
 use Rattle.mt_propagate.specs.WellFormed.{IsWellFormed}
-use Rattle.mt_unmount.proofs.PlacedLaws.{not-among}
 use Rattle.mt_info.specs.Table.{table_of}
 use Rattle.mt_events.specs.Posts.{PostView}
 use Rattle.mt_events.specs.Difference.{HoldsChanged}
@@ -34,6 +33,12 @@ module _ {X : Type 0} (key : X → ℕ) where
       let ih = all_lower j k ys l in
       grind (arith, nat_tests)
 
+below : (k : ℕ) (ys : List ℕ) → list_all (λ y. nat_lt k y) ys ≡ true → among ys k ≡ false
+below k [] h = refl
+below k (y ∷ ys) h =
+    let ih = below k ys in
+    grind (arith, nat_tests)
+
 apart : (s : ℕ) (rest : List ℕ) (rs : List (ℕ × ℕ)) → list_all (λ r. nat_lt s (space_in r)) rs ≡ true → filter (is_in (s ∷ rest)) rs ≡ filter (is_in rest) rs
 apart s rest [] h = refl
 apart s rest (r ∷ rs) h =
@@ -56,12 +61,12 @@ next_row s rest (r ∷ rs) a up =
         → cond (b || c) (r ∷ filter (is_in (s ∷ rest)) rs) (filter (is_in (s ∷ rest)) rs) ≡ option_to_list (cond b (Some r) (row_at space_in s rs)) ++ cond c (r ∷ filter (is_in rest) rs) (filter (is_in rest) rs)
     by true e true f ih =
         let same : s ≡ space_in r = grind (arith, nat_tests) in
-        absurd (true≢false (sym f ∙ ap (among rest) (sym same) ∙ not-among s rest a))
+        absurd (true≢false (sym f ∙ ap (among rest) (sym same) ∙ below s rest a))
     by true e false f ih =
         let same : s ≡ space_in r = grind (arith, nat_tests) in
         ap (λ l. r ∷ l) (apart s rest rs (subst (λ k. list_all (λ q. nat_lt k (space_in q)) rs ≡ true) (sym same) over))
     by false e true f ih =
-        let off : space_in r ≤ s → among rest (space_in r) ≡ false = λ l. not-among (space_in r) rest (all_lower (λ k. k) (space_in r) s rest l a) in
+        let off : space_in r ≤ s → among rest (space_in r) ≡ false = λ l. below (space_in r) rest (all_lower (λ k. k) (space_in r) s rest l a) in
         let low : s ≤ space_in r = grind (arith, nat_tests) in
         let none : row_at space_in s rs ≡ None = row_at-below space_in s rs (all_lower space_in s (space_in r) rs low over) in
         ap (λ l. r ∷ l) (ih ∙ ap (λ o. option_to_list o ++ filter (is_in rest) rs) none) ∙ sym (ap (λ o. option_to_list o ++ r ∷ filter (is_in rest) rs) none)
@@ -85,14 +90,8 @@ next_found spaces rs found new all i d l rise up before e =
 
 pub last_found : (spaces : List ℕ) (rs found all : List (ℕ × ℕ)) (i : ℕ) → length spaces ≤ i → found ++ filter (is_in (drop i spaces)) rs ≡ all → found ≡ all
 last_found spaces rs found all i l before =
-    sym (append-nil found) ∙ ap (λ t. found ++ t) (sym (ap (λ (t : List ℕ). filter (is_in t) rs) (ended spaces i l) ∙ nothing rs)) ∙ before
+    sym (append-nil found) ∙ ap (λ t. found ++ t) (sym (ap (λ (t : List ℕ). filter (is_in t) rs) (drop_all i spaces l) ∙ nothing rs)) ∙ before
   where
-    ended : (xs : List ℕ) (k : ℕ) → length xs ≤ k → drop k xs ≡ []
-    ended [] zero low = refl
-    ended [] (suc k) low = refl
-    ended (x ∷ xs) zero low = absurd (omega (arith, low))
-    ended (x ∷ xs) (suc k) low = ended xs k (omega (arith, low))
-
     nothing : (rows : List (ℕ × ℕ)) → filter (is_in []) rows ≡ []
     nothing [] = refl
     nothing (r ∷ rows) = nothing rows

@@ -3,7 +3,6 @@ use Rattle.std.proofs.Common.{◌≡◌, ℕ, zero, suc, ◌+◌, ◌<◌, ◌�
 use Rattle.std.specs.List.{filter, filter_map, cons_option, range_with_len, AllByRecursion}
 
 module _ {X : Type 0} (P : X → Type 0) where
-
   -- of those that pass a test
   pub each_kept : (t : X → Bool) (xs : List X) → AllByRecursion P xs → AllByRecursion P (filter t xs)
   each_kept t [] h = tt

@@ -3,6 +3,7 @@ use Rattle.std.proofs.Common.{◌≡◌, ◌==◌, ◌||◌, ◌&&◌, not, ℕ,
 use Rattle.std.specs.List.{filter, list_all, list_any}
 use Rattle.std.specs.Option.{option_map, option_map_or, option_to_list, unwrap_or}
 use Rattle.std.proofs.lemmas.Bool.{or_parts}
+use Rattle.std.proofs.Math.Bool.{or-false}
 use Rattle.mt_skel.specs.Keyed.{row_at, rises, among}
 use Rattle.mt_skel.proofs.KeyedLaws.{row_at-key}
 use Rattle.mt_mounts.specs.declared.mount.Mount.{Mount}
@@ -98,10 +99,6 @@ module _ (w v : WorldView) (s : ℕ) where
       go true rests ih = absurd (true≢false (sym rests))
       go false rests ih = ih
 
-  or_none : (b : Bool) → (b || false) ≡ b
-  or_none true = refl
-  or_none false = refl
-
   -- so no row but theirs may differ
   pub may_differ_alone : (ids : List ℕ) (j : ℕ) → list_all (rests_in w v s) ids ≡ true → among ids j ≡ may_differ w v ids j
-  may_differ_alone ids j all = sym (or_none (among ids j)) ∙ ap (λ b. among ids j || b) (sym (none_moves j ids all))
+  may_differ_alone ids j all = sym (or-false (among ids j)) ∙ ap (λ b. among ids j || b) (sym (none_moves j ids all))

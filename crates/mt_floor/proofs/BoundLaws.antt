@@ -33,7 +33,6 @@ use Rattle.mt_floor.specs.WellFormed.{IsFollower, IsBounded}
 use Rattle.mt_floor.proofs.FloorLaws.{newcomer}
 
 module _ {X : Type 0} (key : X → ℕ) where
-
   -- a row that is put in the place of another
   pub length-put : (x : X) (xs : List X) (y : X) → rises key xs ≡ true → row_at key (key x) xs ≡ Some y → length (put key x xs) ≡ length xs
   length-put x [] y h e = absurd (let no_row : ◌≡◌ {A = Option X} None (Some y) = e in cc)

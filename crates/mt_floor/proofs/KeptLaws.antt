@@ -4,7 +4,7 @@ use Rattle.std.specs.Prelude.{Result, nat_le}
 use Rattle.std.specs.List.{filter, position_from, remove, AllByRecursion}
 use Rattle.std.specs.Option.{option_map_or}
 use Rattle.std.proofs.lemmas.Bool.Decides.{nat_tests}
-use Rattle.std.proofs.lemmas.List.{take_at, length-take-le}
+use Rattle.std.proofs.lemmas.List.{take_at, length-take-le, drop_at}
 use Rattle.mt_skel.specs.declared.fault.Fault.{Fault}
 use Rattle.mt_skel.specs.declared.fault.Fault.TheVariants.{NoWatcher}
 use Rattle.mt_skel.specs.Keyed.{row_at, put}
@@ -118,15 +118,11 @@ module _ (c : ℕ) (j : List Command) (l : ℕ) (st : Bool) (rows : List FloorRo
     close_some idle rows' ps gone is = (
       ap (λ ds. if_idle ds (floor_of c j l st rows due) (at_row (floor_of c j l st rows due) q (closed (floor_of c j l st rows due)))) idle
           ∙ ap (λ o. option_map_or (closed (floor_of c j l st rows due)) o (floor_of c j l st rows due, Err NoWatcher)) found
-          ∙ answered (without_at j q i rows row at h.floor.rising ∙ ap (map (watcher_of j)) (sym gone)) (behind (take row.taken (follows_all j row)) row.waiting ∙ sym is),
+          ∙ answered (without_at j q i rows row at h.floor.rising ∙ ap (map (watcher_of j)) (sym gone)) (drop_at (take row.taken (follows_all j row)) row.waiting (length (take row.taken (follows_all j row))) refl ∙ sym is),
       subst (AllByRecursion (IsFloorRow c j)) ((sym (remove_mid at.front at.back row) ∙ (λ k. remove (sym at.split k) (sym at.place k))) ∙ sym gone)
           (each_without (IsFloorRow c j) at.front at.back row (subst (AllByRecursion (IsFloorRow c j)) at.split h.each)),
     )
       where
-        behind : {X : Type 0} (xs ys : List X) → drop (length xs) (xs ++ ys) ≡ ys
-        behind [] ys = refl
-        behind (x ∷ xs) ys = behind xs ys
-
         answered : filter (λ (x : Watcher). not (eqb x.key row.key)) (map (watcher_of j) rows) ≡ map (watcher_of j) rows' → drop (length (watcher_of j row).taken) (watcher_of j row).sent ≡ ps
             → closed (floor_of c j l st rows due) (watcher_of j row) ≡ (floor_of c j l st rows' due, Ok (Closed ps))
         answered e f = λ k. (record { capacity = c; journal = j; next_key = l + 1; stopped = st; watchers = e k; due = due }, Ok (Closed (f k)))

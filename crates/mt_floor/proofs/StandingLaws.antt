@@ -17,7 +17,7 @@ use Rattle.mt_floor.specs.Headline.{accepted_by, taken_by, posted_by}
 use Rattle.mt_floor.specs.WellFormed.{IsFollower, IsFloor}
 use Rattle.mt_floor.proofs.RowLaws.{fresh}
 use Rattle.mt_floor.proofs.HeldLaws.{Kept, IsRowFor, Held}
-use Rattle.mt_floor.proofs.FloorLaws.{goes}
+use Rattle.mt_floor.proofs.FloorLaws.{goes, nothing}
 use Rattle.mt_floor.proofs.GoneLaws.{none_stays}
 use Rattle.mt_floor.proofs.BoundLaws.{bounded, short_lists}
 use Rattle.mt_floor.proofs.BeginLaws.{begins, counts}
@@ -74,10 +74,6 @@ gone_held s h key scope low none =
       row = λ x e. absurd (let bad : ◌≡◌ {A = Option Watcher} None (Some x) = sym none ∙ e in cc);
       due = h.idle key shut ∙ sym (nothing (has_open key s));
     }
-  where
-    nothing : (b : Bool) → ◌≡◌ {A = List PostView} (cond b [] []) []
-    nothing true = refl
-    nothing false = refl
 
 pub all_is_one : ◌≡◌ {A = Scope} All (One 0) → ⊥
 all_is_one e = cc

@@ -2,7 +2,8 @@
 use Rattle.std.proofs.Common.{◌≡◌, ℕ, zero, suc, ◌+◌, ◌-◌, ◌<◌, Bool, true, false, cond, not, ◌&&◌, ◌||◌, eqb, eqb-true, eq-eqb, List, [], ◌∷◌, map, length, drop, Option, Some, None, refl, sym, ap, subst, ◌∙◌, inl, inr}
 use Rattle.std.specs.List.{filter, list_any}
 use Rattle.std.specs.Option.{is_none, option_map_or}
-use Rattle.std.proofs.lemmas.Bool.{true≢false}
+use Rattle.std.proofs.lemmas.Bool.{true≢false, or_right}
+use Rattle.std.proofs.Math.Bool.{or-false}
 use Rattle.mt_skel.specs.Chain.{chain, ends}
 use Rattle.mt_skel.specs.Keyed.{among}
 use Rattle.mt_skel.proofs.ChainLaws.{chain-step, chain-last}
@@ -48,11 +49,7 @@ module _ (next : ℕ → Option ℕ) (t : ℕ → Bool) where
     alone : (x : ℕ) → next x ≡ None → list_any t (chain next m x) ≡ true → IsLast x
     alone x e some =
         let one = chain-last next m x e in
-        (x, subst (In x) (sym one) (inl refl), first (t x) (ap (list_any t) (sym one) ∙ some), above-none m x e)
-      where
-        first : (b : Bool) → (b || false) ≡ true → b ≡ true
-        first true e = refl
-        first false e = absurd (cc)
+        (x, subst (In x) (sym one) (inl refl), sym (or-false (t x)) ∙ (ap (list_any t) (sym one) ∙ some), above-none m x e)
 
     stepped : (x y : ℕ) → next x ≡ Some y → list_any t (chain next m x) ≡ true → (list_any t (chain next m y) ≡ true → IsLast y) → IsLast x
     stepped x y e some later = go (list_any t (chain next m y)) refl later
@@ -85,10 +82,6 @@ among-filtered : (p : ℕ → Bool) (xs : List ℕ) (j : ℕ) → among (filter 
 among-filtered p [] j e = absurd (cc)
 among-filtered p (x ∷ xs) j e = go (p x) refl (eqb x j) refl e (among-filtered p xs j)
   where
-    right : (a b : Bool) → b ≡ true → (a || b) ≡ true
-    right true b e = refl
-    right false b e = e
-
     later : (a b : Bool) → a ≡ false → (a || b) ≡ true → b ≡ true
     later true b f e = absurd (true≢false f)
     later false b f e = e
@@ -96,8 +89,8 @@ among-filtered p (x ∷ xs) j e = go (p x) refl (eqb x j) refl e (among-filtered
     go : (b : Bool) → p x ≡ b → (c : Bool) → eqb x j ≡ c → among (cond b (x ∷ filter p xs) (filter p xs)) j ≡ true → (among (filter p xs) j ≡ true → (p j ≡ true) × (among xs j ≡ true))
         → (p j ≡ true) × ((eqb x j || among xs j) ≡ true)
     go true is true at e ih = (ap p (sym (eqb-true x j at)) ∙ is, ap (λ b. b || among xs j) at)
-    go true is false at e ih = let r = ih (later (eqb x j) _ at e) in (r.0, right (eqb x j) _ r.1)
-    go false is c at e ih = let r = ih e in (r.0, right (eqb x j) _ r.1)
+    go true is false at e ih = let r = ih (later (eqb x j) _ at e) in (r.0, or_right (eqb x j) _ r.1)
+    go false is c at e ih = let r = ih e in (r.0, or_right (eqb x j) _ r.1)
 
 module _ (w v : WorldView) (ids : List ℕ) (h : IsWellFormed v) (t : IsTouched w v ids) (j : ℕ) where
   found : list_any (λ i. has_moved w v i && among (subtree v.forest i) j) ids ≡ true → list_any (λ i. moves_first w v i && among (subtree v.forest i) j) ids ≡ true

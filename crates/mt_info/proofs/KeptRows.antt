@@ -2,7 +2,7 @@
 use Rattle.std.proofs.Common.{◌≡◌, ℕ, zero, suc, ◌+◌, Bool, true, false, cond, not, ◌&&◌, ◌||◌, ◌==◌, eqb, eqb-true, eq-eqb, List, [], ◌∷◌, map, length, drop, reverse, Option, Some, None, refl, sym, ap, subst, ◌∙◌, arith, add-zero, add-suc}
 use Rattle.std.specs.List.{filter, flat_map, list_any, AllByRecursion}
 use Rattle.std.specs.Option.{is_none, option_map, option_map_or, option_and_then, unwrap_or}
-use Rattle.std.proofs.lemmas.Bool.{true≢false, not-false, or_parts}
+use Rattle.std.proofs.lemmas.Bool.{true≢false, not-false, or_parts, or_right}
 use Rattle.std.proofs.lemmas.Bool.Decides.{nat_tests}
 use Rattle.mt_skel.specs.Chain.{chain, ends}
 use Rattle.mt_skel.specs.Keyed.{among}
@@ -59,13 +59,9 @@ pub any-at : (p : ℕ → Bool) (xs : List ℕ) (i : ℕ) → among xs i ≡ tru
 any-at p [] i e t = absurd (cc)
 any-at p (x ∷ xs) i e t = go (eqb x i) refl e (λ f. any-at p xs i f t)
   where
-    right : (a b : Bool) → b ≡ true → (a || b) ≡ true
-    right true b e = refl
-    right false b e = e
-
     go : (b : Bool) → eqb x i ≡ b → (b || among xs i) ≡ true → (among xs i ≡ true → list_any p xs ≡ true) → (p x || list_any p xs) ≡ true
     go true at e ih = ap (λ b. b || list_any p xs) (ap p (eqb-true x i at) ∙ t)
-    go false at e ih = right (p x) (list_any p xs) (ih e)
+    go false at e ih = or_right (p x) (list_any p xs) (ih e)
 
 -- a mount is there before and after, at one place and with one root directory
 abbrev pub IsAlike : WorldView → WorldView → ℕ → Type 0

@@ -1,5 +1,6 @@
 -- Rows of mounts that have other attributes or another state differ.
 use Rattle.std.proofs.Common.{◌≡◌, ◌∙◌, ◌&&◌, Bool, true, false, not, Option, Some, refl, sym, ap}
+use Rattle.std.proofs.lemmas.Bool.{not-true}
 use Rattle.mt_skel.proofs.MiddleLaws.{and_first, and_second, and-true}
 use Rattle.mt_mounts.specs.declared.mount.Mount.{Mount}
 use Rattle.mt_propagate.specs.World.{WorldView, state_of}
@@ -30,8 +31,4 @@ pub other-found : (v w : WorldView) (p q : Option Mount) (old new m n : Mount) (
 other-found v w p q old new m n b was is e told at to =
     let first : old ≡ m = let f : Some old ≡ Some m = sym was ∙ at in cc in
     let second : new ≡ n = let f : Some new ≡ Some n = sym is ∙ to in cc in
-    other-rows v w m n (ap (λ x. is_alike v w x n) (sym first) ∙ ap (is_alike v w old) (sym second) ∙ sym e ∙ no b told)
-  where
-    no : (b : Bool) → not b ≡ true → b ≡ false
-    no true t = absurd (cc)
-    no false t = refl
+    other-rows v w m n (ap (λ x. is_alike v w x n) (sym first) ∙ ap (is_alike v w old) (sym second) ∙ sym e ∙ not-true b told)

@@ -45,10 +45,6 @@ top-small ties tops x n few (Some f) is =
 pub lead-in : (ties : List (Option Tie)) (o i : Option ℕ) → LeadsTo (id_at ties) o i → LeadsTo (id_in (ids_in ties)) o i
 lead-in ties o i e = lead-more (id_at ties) (id_in (ids_in ties)) o i (λ s q f. id-in ties s ∙ f) e
 
-pub number-tie : (ties : List (Option Tie)) (tops : Index Top) → IsTied ties tops → (slot : ℕ) (t : Tie) → tie_at ties slot ≡ Some t → Some t.number ≡ option_and_then (listed_number (rows_in ties)) (id_in (ids_in ties) slot)
-number-tie ties tops x slot t there =
-    sym (ap (option_and_then (listed_number (rows_in ties))) (id-in ties slot ∙ ap id_of_tie there) ∙ ap (option_map (λ (r : ListRow). r.number)) (row-tie ties x.apart slot t there))
-
 pub after-in : (ties : List (Option Tie)) (tops : Index Top) → IsTied ties tops → (slot : ℕ) → LeadsTo (id_in (ids_in ties)) (option_and_then (λ (t : Tie). t.after) (tie_at ties slot)) (option_and_then (next_of (rows_in ties)) (id_in (ids_in ties) slot))
 after-in ties tops x slot = go (tie_at ties slot) refl
   where

@@ -104,13 +104,6 @@ impl SlotLists {
         Some(tie_at(&self.ties, slot)?.id)
     }
 
-    /// The number of the ID in a slot, or `None` where it has none.
-    pub fn number(&self, slot: usize) -> Option<u64>
-        ensures { result ≡ option_and_then (listed_number self.now.rows) (id_in self.now.slots slot) }
-    {
-        Some(tie_at(&self.ties, slot)?.number)
-    }
-
     /// The slot of the lowest ID of this number, or `None` where no ID has it.
     pub fn first(&self, number: u64) -> Option<usize>
         ensures first { LeadsTo (id_in self.now.slots) result (first (ids self.now.rows number)) }

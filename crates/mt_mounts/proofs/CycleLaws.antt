@@ -1,8 +1,6 @@
 -- What keeps the parents free of cycles, for callers that change a forest.
 --     no_cycle_new       one mount more, with a new ID, on a mount that is there, where every parent is there
 --     no_cycle_leaf      one mount more, on which none stands
---     no_cycle_without   one mount less
---     no_cycle_attrs     other attributes
 --     no_cycle_moved     a mount moved to a place that is not below it
 --     top_is_free        the place that `top` answers is free
 use Rattle.std.proofs.Common.{◌≡◌, ◌≢◌, ℕ, zero, suc, ◌+◌, ◌-◌, ◌<◌, ◌≤◌, Bool, true, false, cond, ◌||◌, eqb, eqb-true, eq-eqb, List, [], ◌∷◌, map, length, Option, Some, None, refl, sym, ap, ◌∙◌, ◌⊎◌, inl, inr, arith}
@@ -51,28 +49,6 @@ rank_of ms x = length (chain (parent ms) (length ms) x)
 
 pub rank_falls : (ms : List Mount) → HasNoCycle ms → (x y : ℕ) → parent ms x ≡ Some y → rank_of ms y < rank_of ms x
 rank_falls ms h x y e = length-chain (parent ms) (length ms) x y e (h x)
-
--- one mount less: the parents that are left are those that were
-above_kept : (ms : List Mount) (i : ℕ) → rises id_of ms ≡ true → (x y : ℕ) → parent (without_id i ms) x ≡ Some y → parent ms x ≡ Some y
-above_kept ms i r x y e = go (row_at id_of x (without_id i ms)) (λ m g. (row_kept ms i x m r g).0) e
-  where
-    go : (o : Option Mount) → ((m : Mount) → o ≡ Some m → row_at id_of x ms ≡ Some m) → above_of o ≡ Some y → parent ms x ≡ Some y
-    go None f e = absurd (cc)
-    go (Some m) f e = ap above_of (f m refl) ∙ e
-
-pub no_cycle_without : (ms : List Mount) (i : ℕ) → rises id_of ms ≡ true → HasNoCycle ms → HasNoCycle (without_id i ms)
-no_cycle_without ms i r h = no_cycle (without_id i ms) (rank_of ms) (λ x y e. rank_falls ms h x y (above_kept ms i r x y e))
-
--- other attributes
-pub no_cycle_attrs : (ms : List Mount) (i : ℕ) (a : Attrs) → HasNoCycle ms → HasNoCycle (with_attrs i a ms)
-no_cycle_attrs ms i a h = no_cycle (with_attrs i a ms) (rank_of ms) (λ x y e. rank_falls ms h x y (sym (same x) ∙ e))
-  where
-    by : (o : Option Mount) → above_of (option_map (λ (m : Mount). record m { attrs = cond (eqb m.id i) a m.attrs }) o) ≡ above_of o
-    by None = refl
-    by (Some m) = refl
-
-    same : (x : ℕ) → parent (with_attrs i a ms) x ≡ parent ms x
-    same x = ap above_of (row_at-map id_of (λ (m : Mount). record m { attrs = cond (eqb m.id i) a m.attrs }) (λ m. refl) x ms) ∙ by (row_at id_of x ms)
 
 -- one mount more, on which none stands: it gets the number of its parent plus one
 module _ (ms : List Mount) (m : Mount) (h : HasNoCycle ms) (leaf : (x : ℕ) → parent ms x ≢ Some m.id) (off_itself : (p : Place) → m.place ≡ Some p → p.mount ≢ m.id) where

@@ -145,7 +145,7 @@ module _ (number : Mount → Option ℕ) where
       }
 
       module _ (was : Mount) (apart : HasDistinctIds s) (there : get s slot ≡ Some was) (mid : SlotListsView)
-        (rows_less : mid.rows ≡ option_map_or (λ i. without_row i lists.rows) (id_in lists.slots slot) lists.rows) (slots_less : mid.slots ≡ slice_set lists.slots slot None) where
+          (rows_less : mid.rows ≡ option_map_or (λ i. without_row i lists.rows) (id_in lists.slots slot) lists.rows) (slots_less : mid.slots ≡ slice_set lists.slots slot None) where
         taken : mid.rows ≡ without_row was.id lists.rows
         taken = rows_less ∙ ap (λ o. option_map_or (λ i. without_row i lists.rows) o lists.rows) (h.seats slot ∙ ap (option_and_then (seat number)) there) ∙ go (number was) refl
           where
@@ -153,13 +153,7 @@ module _ (number : Mount → Option ℕ) where
             go None e = sym (without-absent was.id lists.rows (row-unnumbered was.id lists.rows (number_beside slot was apart there ∙ e)))
             go (Some n) e = refl
 
-        -- its slot is free, and its ID is in no other
-        pub taken_free : slice_get mid.slots slot ≡ Some None
-        taken_free =
-            ap (λ xs. slice_get xs slot) slots_less
-            ∙ slice_get-get_or (slice_set lists.slots slot None) slot None (omega (arith, h.held slot was there, length-set lists.slots slot None))
-            ∙ ap (λ o. Some o) (emptied lists.slots slot)
-
+        -- its ID is in no other slot
         pub taken_absent : listed_number mid.rows was.id ≡ None
         taken_absent = ap (λ r. listed_number r was.id) taken ∙ number-taken was.id lists.rows rises_beside
 
@@ -197,4 +191,3 @@ module _ (number : Mount → Option ℕ) where
               held = set_held m after.slots u (h.held slot was there) whole;
               wide = set_wide (seat number m) after.slots whole;
             }
-

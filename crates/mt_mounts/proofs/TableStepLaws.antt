@@ -18,7 +18,7 @@ use Rattle.mt_mounts.specs.Seats.{parent_of, own_space, seat, IsBeside, IsTable}
 use Rattle.mt_mounts.proofs.SlotLaws.{rises_table, row_at_slot}
 use Rattle.mt_mounts.proofs.TableLaws.{distinct_ids, keyed_same, keyed_none, key_fits, table_inserted, keyed_inserted, table_removed, keyed_removed, keyed_written}
 use Rattle.mt_mounts.proofs.ChangeLaws.{attrs_of, place_of, moved_place, stays_place, attrs_written, place_written}
-use Rattle.mt_mounts.proofs.SeatLaws.{beside_none, beside_longer, beside_put, beside_kept, beside_gone, beside_moved, taken_free, taken_absent}
+use Rattle.mt_mounts.proofs.SeatLaws.{beside_none, beside_longer, beside_put, beside_kept, beside_gone, beside_moved, taken_absent}
 
 -- no mounts
 pub table_empty : (s : Slab Mount) (keys : Keys) (children spaces : SlotListsView) → s.slots ≡ [] → s.capacity ≡ 0 → keys.entries ≡ [] → children.rows ≡ [] → children.slots ≡ [] → spaces.rows ≡ [] → spaces.slots ≡ []
@@ -88,9 +88,6 @@ module _ (s : Slab Mount) (keys : Keys) (children spaces : SlotListsView) (t : I
     module _ (mid : SlotListsView) (rows_less : mid.rows ≡ option_map_or (λ j. without_row j children.rows) (id_in children.slots slot) children.rows) (slots_less : mid.slots ≡ slice_set children.slots slot None) where
       fits : m.id ≡ i
       fits = key_fits s keys t.keyed i slot m at_i was
-
-      pub left_free : slice_get mid.slots slot ≡ Some None
-      left_free = taken_free parent_of s children t.children s slot refl m (distinct_ids s keys t.keyed) was mid rows_less slots_less
 
       pub left_absent : listed_number mid.rows i ≡ None
       left_absent = ap (listed_number mid.rows) (sym fits) ∙ taken_absent parent_of s children t.children s slot refl m (distinct_ids s keys t.keyed) was mid rows_less slots_less

@@ -4,6 +4,7 @@ use Rattle.std.specs.List.{filter, find, list_any, list_all}
 use Rattle.std.specs.Option.{option_map, option_map_or}
 use Rattle.std.proofs.lemmas.Bool.Decides.{nat_tests}
 use Rattle.std.proofs.lemmas.List.{drop_more, drop_all}
+use Rattle.std.proofs.Math.Bool.{or-false}
 use Rattle.mt_skel.specs.Chain.{chain}
 use Rattle.mt_skel.specs.Keyed.{without, among}
 use Rattle.mt_skel.proofs.ElementLaws.{In, in_filter, in_row, any_in}
@@ -147,14 +148,10 @@ module _ (p : Peering) (live : MastersLive p.peers) (them : List ℕ) (ms ss : L
         let old = in_filter (λ (e : Peer). not (among them e.mount)) e p.peers at in
         let state : state_at p.peers e.mount ≡ Some e.state = ap (option_map (λ (e : Peer). e.state)) (in_row mount_of p.peers e l.rising old.0) in
         let slave : stays (among them) (slaves p.peers g) ≡ true = stays-picked (among them) (has_master g) p.peers ∙ any_in (has_master g) e staying at (led g is) in
-        some-stays g (live.lives e.mount e.state g state is) (λ j rest is on. either (stays (among them) (members p.peers g)) (ap (λ b. stays (among them) (members p.peers g) || not b) (sym slave) ∙ asked g j rest is (all-among (may_go ms ss (among them)) them j ok on)))
+        some-stays g (live.lives e.mount e.state g state is) (λ j rest is on. sym (or-false (stays (among them) (members p.peers g))) ∙ (ap (λ b. stays (among them) (members p.peers g) || not b) (sym slave) ∙ asked g j rest is (all-among (may_go ms ss (among them)) them j ok on)))
       where
         led : (g : ℕ) → e.state.master ≡ Some g → has_master g e ≡ true
         led g is = ap (λ o. option_map_or (λ h. eqb h g) o false) is ∙ same g
-
-        either : (b : Bool) → (b || false) ≡ true → b ≡ true
-        either true e = refl
-        either false e = e
 
     pub going : left (among them) p ≡ record { peers = staying; next = p.next }
     unfolding left settle

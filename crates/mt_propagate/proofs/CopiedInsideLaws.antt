@@ -319,7 +319,7 @@ module _ (w : WorldView) (h : IsWellFormed w) (src : Source) (dest : Place) (s :
           let t = mount-state w.forest w.peering.peers i q h.same_mounts e in
           let r = state_row w.peering.peers i t.0 t.1 in
           let key = row_at-key mount_of i w.peering.peers r.0 r.2 in
-          let row = row-first mount_of (map (regrouped w src dest) w.peering.peers) (map new_peer (new_copies w src dest)) i (regrouped w src dest r.0) (row-mapped mount_of (regrouped w src dest) regrouped-mount w src dest w.peering.peers i r.0 r.2) in
+          let row = row-first mount_of (map (regrouped w src dest) w.peering.peers) (map new_peer (new_copies w src dest)) i (regrouped w src dest r.0) (row-mapped mount_of (regrouped w src dest) (regrouped-mount w src dest) w.peering.peers i r.0 r.2) in
           ap (λ o. unwrap_or (option_map (λ (e : Peer). e.state) o) private) (row ∙ ap (λ v. Some v) (unmoved r.0 key (is_moved w src dest r.0.mount) refl))
           ∙ sym (ap (λ o. unwrap_or (option_map (λ (e : Peer). e.state) o) private) r.2)
         where

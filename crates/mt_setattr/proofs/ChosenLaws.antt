@@ -3,6 +3,7 @@ use Rattle.std.proofs.Common.{◌≡◌, ℕ, zero, suc, Bool, true, false, ◌|
 use Rattle.std.specs.List.{list_any, filter}
 use Rattle.std.specs.Option.{is_some, option_map, option_map_or, option_and_then}
 use Rattle.std.proofs.lemmas.Bool.Decides.{nat_tests}
+use Rattle.std.proofs.lemmas.Bool.{and_right}
 use Rattle.mt_skel.specs.Keyed.{has, among}
 use Rattle.mt_skel.specs.Chain.{chain}
 use Rattle.mt_mounts.specs.declared.mount.Mount.{Mount}
@@ -21,10 +22,7 @@ among-filter p (i ∷ ids) j = go (eqb i j) refl (p i) refl (among-filter p ids 
   where
     go : (b : Bool) → eqb i j ≡ b → (d : Bool) → p i ≡ d → among (filter p ids) j ≡ (among ids j && p j) → among (cond d (i ∷ filter p ids) (filter p ids)) j ≡ ((b || among ids j) && p j)
     go true same true f ih = ap (λ b. b || among (filter p ids) j) same ∙ sym f ∙ ap p (eqb-true i j same)
-    go true same false f ih = let q : p j ≡ false = ap p (sym (eqb-true i j same)) ∙ f in ih ∙ none (among ids j) (p j) q ∙ sym q
-      where
-        none : (a b : Bool) → b ≡ false → (a && b) ≡ false
-        none a b e = grind (arith, nat_tests)
+    go true same false f ih = let q : p j ≡ false = ap p (sym (eqb-true i j same)) ∙ f in ih ∙ and_right (among ids j) (p j) q ∙ sym q
     go false off true f ih = ap (λ b. b || among (filter p ids) j) off ∙ ih
     go false off false f ih = ih
 

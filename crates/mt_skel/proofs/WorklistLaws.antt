@@ -7,6 +7,7 @@ use Rattle.std.proofs.lemmas.Bool.Decides.{nat_tests}
 use Rattle.std.proofs.lemmas.List.Folds.{list_any-append}
 use Rattle.std.proofs.lemmas.List.{length-append, take-append-drop, take-append-le, take_all}
 use Rattle.std.proofs.Math.Seq.{take-suc}
+use Rattle.std.proofs.Math.Bool.{and-false, or-false, or-true}
 use Rattle.mt_skel.specs.Chain.{chain}
 use Rattle.mt_skel.specs.Keyed.{among}
 use Rattle.mt_skel.specs.Counted.{occ}
@@ -29,12 +30,8 @@ pub apart-new : (done : List ℕ) (m : ℕ) → occ m done ≡ 0 → (o : Option
 apart-new done m new None = refl
 apart-new done m new (Some k) = go (k == m) refl
   where
-    both : (a : Bool) → (a && false) ≡ false
-    both true = refl
-    both false = refl
-
     go : (b : Bool) → (k == m) ≡ b → (among done k && b) ≡ false
-    go false e = both (among done k)
+    go false e = and-false (among done k)
     go true e = ap (λ j. among done j && true) (eqb-true k m e) ∙ ap (λ b. b && true) (any-zero (λ j. eqb j m) done new)
 
 is_next-some : (o : Option ℕ) (m : ℕ) → is_next o m ≡ true → o ≡ Some m
@@ -101,10 +98,6 @@ module _ (next : ℕ → Option ℕ) (g : ℕ) where
       same : (h : ℕ) → (g == h) ≡ (h == g)
       same h = grind (arith, nat_tests)
 
-      or-false : (a : Bool) → (a || false) ≡ a
-      or-false true = refl
-      or-false false = refl
-
   module _ (done all : List ℕ) (w : IsGathered done all) where
     -- what was entered is g, or has a number that was gone over as its next
     pub there : (h : ℕ) → among all h ≡ ((h == g) || is_found done (next h))
@@ -166,12 +159,8 @@ module _ (next : ℕ → Option ℕ) (g : ℕ) where
       start : among all g ≡ true
       start = there all all w g ∙ grind (arith, nat_tests)
 
-      right : (a : Bool) → (a || true) ≡ true
-      right true = refl
-      right false = refl
-
       closed : (h m : ℕ) → next h ≡ Some m → among all m ≡ true → among all h ≡ true
-      closed h m e f = there all all w h ∙ ap (λ o. (h == g) || is_found all o) e ∙ ap (λ b. (h == g) || b) f ∙ right (h == g)
+      closed h m e f = there all all w h ∙ ap (λ o. (h == g) || is_found all o) e ∙ ap (λ b. (h == g) || b) f ∙ or-true (h == g)
 
       both : (a b : Bool) → (a ≡ true → b ≡ true) → (b ≡ true → a ≡ true) → a ≡ b
       both true true p q = refl

@@ -2,8 +2,9 @@
 use Rattle.std.proofs.Common.{◌≡◌, ◌⊎◌, ℕ, Bool, true, false, not, ◌&&◌, ◌||◌, ◌==◌, eqb, eqb-true, List, [], ◌∷◌, map, length, Option, Some, None, refl, sym, ap, subst, ◌∙◌, inl, inr, arith}
 use Rattle.std.specs.List.{flat_map, list_all, list_any}
 use Rattle.std.specs.Option.{option_map, option_map_or, is_none, unwrap_or}
-use Rattle.std.proofs.lemmas.Bool.{true≢false}
+use Rattle.std.proofs.lemmas.Bool.{true≢false, and_parts}
 use Rattle.std.proofs.lemmas.Bool.Decides.{nat_tests}
+use Rattle.std.proofs.Math.Bool.{or-false}
 use Rattle.mt_skel.proofs.ChainLaws.{chain-last}
 use Rattle.mt_skel.proofs.ElementLaws.{In, in_append, in_filter, in_filtered, in_flat, in_map, in_mapped, in_row, row_in}
 use Rattle.mt_skel.proofs.KeyedLaws.{row_at-key}
@@ -137,11 +138,7 @@ module _ (w : WorldView) (h : IsWellFormed w) where
       tree-placed j m e at = go m.place refl
         where
           alone : parent w.forest j ≡ None → (i ≡ j)
-          alone none = let b : (eqb i j || false) ≡ true = ap (list_any (eqb i)) (sym (chain-last (parent w.forest) (length w.forest) j none)) ∙ tree-below j e in eqb-true i j (or-false (eqb i j) b)
-            where
-              or-false : (b : Bool) → (b || false) ≡ true → b ≡ true
-              or-false true e = refl
-              or-false false e = absurd (cc)
+          alone none = let b : (eqb i j || false) ≡ true = ap (list_any (eqb i)) (sym (chain-last (parent w.forest) (length w.forest) j none)) ∙ tree-below j e in eqb-true i j (sym (or-false (eqb i j)) ∙ b)
 
           no-parent : m.place ≡ None → (o : Option ℕ) → parent w.forest j ≡ o → o ≡ None
           no-parent none None up = refl
@@ -165,9 +162,9 @@ module _ (w : WorldView) (h : IsWellFormed w) where
       -- what is inside one that goes is a candidate, and so is all inside that
       pub detached-can-go : CanGo w (is_detached w i)
       detached-can-go = record {
-        placed = λ j m e at. candidate-placed j m (both (is_candidate w i j) (list_all (is_candidate w i) (inside w j)) e).0 at;
+        placed = λ j m e at. candidate-placed j m (and_parts (is_candidate w i j) (list_all (is_candidate w i) (inside w j)) e).0 at;
         inside = λ k j e is.
-            let all = (both (is_candidate w i k) (list_all (is_candidate w i) (inside w k)) e).1 in
+            let all = (and_parts (is_candidate w i k) (list_all (is_candidate w i) (inside w k)) e).1 in
             let there = inside-there k j is in
             let on : is_candidate w i j ≡ true = all-passed (is_candidate w i) (inside w k) j all (inside-in k j there.0 there.1 is) in
             let rest : list_all (is_candidate w i) (inside w j) ≡ true =
@@ -177,11 +174,6 @@ module _ (w : WorldView) (h : IsWellFormed w) where
             ap (λ b. b && list_all (is_candidate w i) (inside w j)) on ∙ rest;
       }
         where
-          both : (a b : Bool) → (a && b) ≡ true → (a ≡ true) × (b ≡ true)
-          both true true e = (refl, refl)
-          both true false e = absurd (cc)
-          both false b e = absurd (cc)
-
           -- what is inside a mount is a mount
           inside-there : (k j : ℕ) → is_inside w k j ≡ true → (m : Mount) × (mount_at w.forest j ≡ Some m)
           inside-there k j e = go (mount_at w.forest j) refl

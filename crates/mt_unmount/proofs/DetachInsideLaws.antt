@@ -1,11 +1,12 @@
 -- Where a tree is detached, a contained namespace stays contained, and a detach in it changes nothing outside.
-use Rattle.std.proofs.Common.{◌≡◌, ℕ, Bool, true, false, ◌&&◌, List, map, length, Option, Some, None, Result, Ok, Err, refl, sym, ap, subst, ◌∙◌, inl, inr}
+use Rattle.std.proofs.Common.{◌≡◌, ℕ, true, List, map, length, Option, Some, None, Result, Ok, Err, refl, sym, ap, subst, ◌∙◌, inl, inr}
 use Rattle.std.specs.List.{list_all}
 use Rattle.std.specs.Option.{option_map}
 use Rattle.mt_skel.specs.declared.fault.Fault.{Fault}
 use Rattle.mt_skel.specs.Outcome.{refusal_of}
 use Rattle.mt_skel.proofs.ChainLaws.{follow-holds}
 use Rattle.mt_skel.proofs.ElementLaws.{In, in_filter, in_map, in_row}
+use Rattle.mt_skel.proofs.MiddleLaws.{and_first}
 use Rattle.mt_mounts.specs.declared.mount.Mount.{Mount}
 use Rattle.mt_mounts.specs.declared.mount.Place.{Place}
 use Rattle.mt_mounts.specs.Forest.{id_of, mount_at, on, is_at, root_place, is_below, subtree, top}
@@ -48,14 +49,10 @@ module _ (w : WorldView) (h : IsWellFormed w) (i : ℕ) (n : ℕ) (c : IsContain
 
   -- so all that goes is
   detached-inside : (j : ℕ) → is_detached w i j ≡ true → space_of w j ≡ n
-  detached-inside j e = elim (candidate-cases w h i j (first (is_candidate w i j) (list_all (is_candidate w i) (inside w j)) e)) [
+  detached-inside j e = elim (candidate-cases w h i j (and_first (is_candidate w i j) (list_all (is_candidate w i) (inside w j)) e)) [
     | inl tree ↦ tree-inside j tree
     | inr other ↦ received-inside j other
   ]
-    where
-      first : (a b : Bool) → (a && b) ≡ true → a ≡ true
-      first true b e = refl
-      first false b e = absurd (cc)
 
 -- a contained namespace stays so where a tree is detached, and where that is in it nothing changes outside
 detach-contained : (w : WorldView) → IsWellFormed w → (i n : ℕ) → IsContained n w → IsWellFormed (without_tree w i) → IsContained n (without_tree w i)

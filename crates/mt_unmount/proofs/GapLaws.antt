@@ -3,6 +3,7 @@ use Rattle.std.proofs.Common.{◌≡◌, ℕ, zero, suc, Bool, true, false, not,
 use Rattle.std.specs.List.{list_any}
 use Rattle.std.specs.Option.{option_map_or, unwrap_or}
 use Rattle.std.proofs.lemmas.Bool.{true≢false}
+use Rattle.std.proofs.Math.Bool.{or-true, or-false}
 use Rattle.mt_skel.specs.Chain.{chain}
 use Rattle.mt_skel.proofs.ChainLaws.{chain-step}
 use Rattle.mt_skel.proofs.KeyedLaws.{row_at-key}
@@ -58,10 +59,6 @@ module _ (w : WorldView) (h : IsWellFormed w) where
 
   pub inside-child : (i j k : ℕ) → parent w.forest j ≡ Some k → is_inside w i k ≡ true → is_inside w i j ≡ true
   inside-child i j k e is = inside-step i j k e ∙ ap (λ b. stands_inside w i j || b) is ∙ or-true (stands_inside w i j)
-    where
-      or-true : (b : Bool) → (b || true) ≡ true
-      or-true true = refl
-      or-true false = refl
 
   pub inside-here : (i j : ℕ) → stands_inside w i j ≡ true → is_inside w i j ≡ true
   inside-here i j e =
@@ -74,11 +71,7 @@ module _ (w : WorldView) (h : IsWellFormed w) where
     inside-both j e = let p = within-place w k j e in inside-child i j p.0.mount (parent-place j p.0 p.1) (ap (is_inside w i) p.2 ∙ out)
 
     inside-along : (n j : ℕ) → list_any (stands_inside w k) (chain (parent w.forest) n j) ≡ true → is_inside w i j ≡ true
-    inside-along zero j e = inside-both j (or-false (stands_inside w k j) e)
-      where
-        or-false : (b : Bool) → (b || false) ≡ true → b ≡ true
-        or-false true e = refl
-        or-false false e = absurd (cc)
+    inside-along zero j e = inside-both j (sym (or-false (stands_inside w k j)) ∙ e)
     inside-along (suc n) j e = go (parent w.forest j) refl (stands_inside w k j) refl e (λ y. inside-along n y)
       where
         go : (o : Option ℕ) → parent w.forest j ≡ o → (b : Bool) → stands_inside w k j ≡ b

@@ -10,6 +10,7 @@ use Rattle.std.proofs.lemmas.Bool.Decides.{nat_tests}
 use Rattle.std.proofs.lemmas.List.Folds.{list_any_at}
 use Rattle.std.proofs.lemmas.List.Kept.{AllPairs-from_increasing}
 use Rattle.std.proofs.lemmas.List.Sorted.{searched}
+use Rattle.std.proofs.Math.Bool.{and-false}
 use Rattle.mt_skel.specs.Keyed.{among}
 
 -- what is found by halving
@@ -41,13 +42,9 @@ pub among-without : (xs : List ℕ) (off : ℕ → Bool) (j : ℕ) → among (fi
 among-without [] off j = refl
 among-without (x ∷ xs) off j = go (off x) refl (nat_eq x j) refl (among-without xs off j)
   where
-    none : (b : Bool) → (b && false) ≡ false
-    none true = refl
-    none false = refl
-
     go : (b : Bool) → off x ≡ b → (c : Bool) → nat_eq x j ≡ c → among (filter (λ k. not (off k)) xs) j ≡ (among xs j && not (off j))
         → among (cond (not b) (x ∷ filter (λ k. not (off k)) xs) (filter (λ k. not (off k)) xs)) j ≡ ((c || among xs j) && not (off j))
-    go true is true same ih = (let e : off j ≡ true = ap off (sym (eqb-true x j same)) ∙ is in ih ∙ ap (λ b. among xs j && not b) e ∙ none (among xs j) ∙ sym (ap not e))
+    go true is true same ih = (let e : off j ≡ true = ap off (sym (eqb-true x j same)) ∙ is in ih ∙ ap (λ b. among xs j && not b) e ∙ and-false (among xs j) ∙ sym (ap not e))
     go true is false same ih = ih
     go false is true same ih = ap (λ b. b || among (filter (λ k. not (off k)) xs) j) same ∙ sym (ap not (ap off (sym (eqb-true x j same)) ∙ is))
     go false is false same ih = ap (λ b. b || among (filter (λ k. not (off k)) xs) j) same ∙ ih

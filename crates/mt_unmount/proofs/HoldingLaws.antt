@@ -3,13 +3,14 @@ use Rattle.std.proofs.Common.{◌≡◌, ℕ, zero, suc, ◌+◌, ◌<◌, ◌�
 use Rattle.std.specs.Prelude.{nat_eq}
 use Rattle.std.specs.List.{filter, flat_map, list_any, IsDistinct}
 use Rattle.std.specs.Option.{option_map_or, option_and_then}
-use Rattle.std.proofs.lemmas.Bool.{true≢false}
+use Rattle.std.proofs.lemmas.Bool.{true≢false, not-true}
 use Rattle.std.proofs.lemmas.Bool.Decides.{nat_tests}
 use Rattle.std.proofs.lemmas.Cmp.{nat_eq_equiv}
 use Rattle.std.proofs.lemmas.List.{take-append-le, take_all}
 use Rattle.std.proofs.lemmas.List.Folds.{list_any-append}
 use Rattle.std.proofs.lemmas.Map.Made.{length-le_from_is_member}
 use Rattle.std.proofs.Math.Seq.{take-suc, drop-cons}
+use Rattle.std.proofs.Math.Bool.{or-true, or-false}
 use Rattle.indexmap.specs.IndexSet.{insert_key}
 use Rattle.mt_skel.specs.Chain.{chain}
 use Rattle.mt_skel.specs.Keyed.{among}
@@ -32,14 +33,6 @@ use Rattle.mt_unmount.specs.Holding.{staying_on, candidate_under, AreHolding}
 turned : (xs : List ℕ) (x : ℕ) → list_any (nat_eq x) xs ≡ among xs x
 turned [] x = refl
 turned (y ∷ ys) x = let ih = turned ys x in grind (arith, nat_tests)
-
-or-true : (b : Bool) → (b || true) ≡ true
-or-true true = refl
-or-true false = refl
-
-or-false : (b : Bool) → (b || false) ≡ b
-or-false true = refl
-or-false false = refl
 
 -- one number more, if it is none of them
 pub among-inserted : (ks : List ℕ) (k j : ℕ) → among (insert_key nat_eq ks k) j ≡ (among ks j || nat_eq k j)
@@ -212,9 +205,5 @@ module _ (w : WorldView) (h : IsWellFormed w) where
           let g = in_filter (λ k. not (candidate k)) j (children w.forest f.0) f.2 in
           let r = in_map id_of j (filter (stands_on f.0) w.forest) g.0 in
           let x = in_filter (stands_on f.0) r.0 w.forest r.1 in
-          (j, r.0, subst (λ k. mount_at w.forest k ≡ Some r.0) r.2 (in_row id_of w.forest r.0 h.forest.rising x.0), is-not (candidate j) g.1, below_here w.forest j (length w.forest) j refl);
+          (j, r.0, subst (λ k. mount_at w.forest k ≡ Some r.0) r.2 (in_row id_of w.forest r.0 h.forest.rising x.0), not-true (candidate j) g.1, below_here w.forest j (length w.forest) j refl);
     }
-      where
-        is-not : (b : Bool) → not b ≡ true → b ≡ false
-        is-not false e = refl
-        is-not true e = absurd (cc)

@@ -4,6 +4,7 @@ use Rattle.std.specs.List.{cons_option, filter_map, list_all}
 use Rattle.std.specs.Option.{option_map}
 use Rattle.std.proofs.lemmas.Bool.{true≢false}
 use Rattle.std.proofs.lemmas.Bool.Decides.{nat_tests}
+use Rattle.std.proofs.Math.Bool.{or-false, or-true}
 use Rattle.mt_skel.specs.Keyed.{among, rises}
 use Rattle.mt_skel.proofs.ElementLaws.{In, in_row, in_map, find_in}
 use Rattle.mt_mounts.specs.declared.mount.Mount.{Mount}
@@ -163,11 +164,7 @@ module _ (gone : ℕ → Bool) (to : Place → Place) where
     Arrives ws l = IsFree ws l × (placed ws l ≡ map sent ms)
 
     placed-rest : (done ks : List ℕ) → rises (λ j. j) ks ≡ true → ((j : ℕ) → (among done j || among ks j) ≡ gone j) → ((j : ℕ) → among ks j ≡ true → among done j ≡ false) → Arrives (filter_map f ks) (map (partly done) ms)
-    placed-rest done [] up all apart = (tt, sent-all done (λ j. or-false (among done j) ∙ all j))
-      where
-        or-false : (b : Bool) → b ≡ (b || false)
-        or-false true = refl
-        or-false false = refl
+    placed-rest done [] up all apart = (tt, sent-all done (λ j. sym (or-false (among done j)) ∙ all j))
     placed-rest done (k ∷ ks) up all apart =
         go (f k) refl (placed-rest (k ∷ done) ks (grind (arith, nat_tests)) (λ j. swap (eqb k j) (among done j) (among ks j) ∙ all j) later)
       where
@@ -178,10 +175,6 @@ module _ (gone : ℕ → Bool) (to : Place → Place) where
 
         here : among (k ∷ ks) k ≡ true
         here = ap (λ b. b || among ks k) (eq-eqb k k refl)
-
-        or-true : (b : Bool) → (b || true) ≡ true
-        or-true true = refl
-        or-true false = refl
 
         goes : gone k ≡ true
         goes = sym (all k) ∙ ap (λ b. among done k || b) here ∙ or-true (among done k)
