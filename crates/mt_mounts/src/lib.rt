@@ -1,7 +1,7 @@
 //! The mount trees of all namespaces, as one finite map from mount IDs to mounts.
 //!
-//! A [`Forest`](forest::Forest) keeps its mounts in a table by ID, with indexes by place, by parent and
-//! by namespace, and answers in the order of rising IDs.
+//! A [`Forest`](forest::Forest) keeps its mounts in a table by ID, which lists the children of each mount and the
+//! mounts of each namespace, with indexes by place and of root mounts, and answers in the order of rising IDs.
 //! It knows no propagation and no limit: the callers above it decide what is mounted where.
 //!
 //! [`mount`] has what one mount is, and [`forest`] all of them, over [`table`], [`indexes`] and [`stacks`]. [`walk`] goes along
