@@ -22,6 +22,9 @@ LATEST = 10
 # How long a stop may take, in seconds: sessions that do not end by themselves are cut off after ten.
 STOP = LATEST + 5
 
+# What a client reads that gets no session, since there are too many, or since no descriptor is free yet.
+NO_SESSION = [b"no TooMany"], [b"no NoMemory"]
+
 # A user that is not root.
 NOBODY = 65_534
 
@@ -206,7 +209,7 @@ class Server:
         end = time.monotonic() + MOST_SECONDS
         while time.monotonic() < end:
             client = self.client()
-            if client.ask(b"show 64") != [b"no TooMany"]:
+            if client.ask(b"show 64") not in NO_SESSION:
                 return client
             client.socket.close()
             time.sleep(0.001)
