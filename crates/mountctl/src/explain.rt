@@ -3,36 +3,9 @@
 use crate::PROGRAM;
 use crate::fault::Fault;
 use crate::task::WordFault;
+use mt_protocol::refusal::refusal_named;
 use mt_skel::fault::Fault as Refusal;
 use std::process::ExitCode;
-
-/// Every refusal, in the order of the page.
-const REFUSALS: [Refusal; 24] = [
-    Refusal::BadLine,
-    Refusal::TooLong,
-    Refusal::BadPath,
-    Refusal::JournalFull,
-    Refusal::NoFilesystem,
-    Refusal::FilesystemExists,
-    Refusal::NoNamespace,
-    Refusal::NoEntry,
-    Refusal::EntryExists,
-    Refusal::NotMountRoot,
-    Refusal::RootPlace,
-    Refusal::Unbindable,
-    Refusal::SharedParent,
-    Refusal::IntoItself,
-    Refusal::UnbindableInside,
-    Refusal::Busy,
-    Refusal::BadAttr,
-    Refusal::TooMany,
-    Refusal::NoWatcher,
-    Refusal::WatcherOpen,
-    Refusal::TooManyWatchers,
-    Refusal::Lagged,
-    Refusal::Stopped,
-    Refusal::NoMemory,
-];
 
 /// The sentence of mountd-lines(7) on a refusal.
 fn sentence_of(refusal: Refusal) -> &'static str {
@@ -108,22 +81,12 @@ fn linux_of(refusal: Refusal) -> &'static str {
     }
 }
 
-/// The refusal of a name.
-fn refusal_named(name: &str) -> Option<Refusal> {
-    for refusal in REFUSALS.as_slice() {
-        if refusal.name() == name.as_bytes() {
-            return Some(*refusal);
-        }
-    }
-    None
-}
-
 /// Prints what a refusal says, and what Linux says in its place.
 pub(crate) fn explain(rt: &HostRuntime, words: &[&str]) -> ExitCode {
     let [name] = words else {
         return PROGRAM.refuse(rt, WordFault::Explain.message());
     };
-    let Some(refusal) = refusal_named(name) else {
+    let Some(refusal) = refusal_named(name.as_bytes()) else {
         return PROGRAM.refuse(rt, WordFault::Explain.message());
     };
     let (sentence, linux) = (sentence_of(refusal), linux_of(refusal));

@@ -2,9 +2,9 @@
 
 use crate::marked::Marks;
 use crate::options::{Chosen, Options, chosen_in};
-use mt_client::answer::{Form, form_of};
 use mt_events::opening::Scope;
 use mt_lines::words::number;
+use mt_protocol::form::{Form, form_of};
 use mt_render::drawing::Drawing;
 use mt_render::telling::Telling;
 

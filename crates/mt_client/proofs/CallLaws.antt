@@ -13,7 +13,7 @@ use Rattle.mt_client.specs.declared.fault.ClientFault.{ClientFault}
 use Rattle.mt_client.specs.declared.fault.ClientFault.TheVariants.{Connection, Output, NoMemory}
 use Rattle.mt_client.specs.Reading.{lines_left, texts, printed, Passed, HasRead, HasPassed, IsBroken, IsCutOff, HasBroken, NoneFirst, AreSoMany, reading_fault}
 use Rattle.mt_client.specs.Mirroring.{HasRefused}
-use Rattle.mt_client.specs.declared.answer.Form.{Form}
+use Rattle.mt_protocol.specs.declared.form.Form.{Form}
 use Rattle.mt_client.specs.Replies.{IsAnswer}
 use Rattle.mt_client.specs.Calls.{ReadsOn, WritesOn, AreRead, IsOut, IsOutInPart, IsReadFault, IsTellFault, IsPassFault, IsTalkFault, IsPrintFault, PassesOn, PassesRefusal}
 use Rattle.mt_client.proofs.RelayLaws.{printed-append, broken_later, cut_within, broken_more, unprinted, cut_by_fault, never_output}

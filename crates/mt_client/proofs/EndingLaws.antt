@@ -8,9 +8,10 @@ use Rattle.mt_lines.specs.Words.{words, number_in_text}
 use Rattle.mt_lines.specs.Lines.{Item, Text}
 use Rattle.mt_skel.proofs.MiddleLaws.{each_last}
 use Rattle.mt_client.specs.declared.block.Block.TheVariants.{Post}
-use Rattle.mt_client.specs.declared.answer.Form.{Form}
-use Rattle.mt_client.specs.declared.answer.Form.TheVariants.{Done, Number, Place, Table, Opening, Posts, Followed, Never}
-use Rattle.mt_client.specs.Requests.{first_of, verdict}
+use Rattle.mt_protocol.specs.declared.form.Form.{Form}
+use Rattle.mt_protocol.specs.declared.form.Form.TheVariants.{Done, Number, Place, Table, Opening, Posts, Followed, Never}
+use Rattle.mt_protocol.specs.Verbs.{first_of}
+use Rattle.mt_client.specs.Requests.{verdict}
 use Rattle.mt_client.specs.Reading.{texts, HasRead, NoneFirst, AreSoMany}
 use Rattle.mt_client.specs.Awaited.{event_count}
 use Rattle.mt_client.specs.Replies.{IsPostLines, IsBlockOf, most_posts, IsEnding, IsHeaded, IsFollowAnswer, IsAnswer}

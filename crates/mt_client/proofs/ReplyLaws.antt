@@ -11,7 +11,7 @@ use Rattle.mt_skel.proofs.MiddleLaws.{each_last}
 use Rattle.mt_info.specs.Laws.{IsRow}
 use Rattle.mt_info.specs.RowLine.{line}
 use Rattle.mt_events.specs.Posts.{PostView, IsPost, post_text, ended}
-use Rattle.mt_client.specs.declared.answer.Form.{Form}
+use Rattle.mt_protocol.specs.declared.form.Form.{Form}
 use Rattle.mt_client.specs.declared.block.Block.{Block}
 use Rattle.mt_client.specs.declared.block.Block.TheVariants.{Namespace, Post}
 use Rattle.mt_client.specs.declared.opening.Heading.{Heading}

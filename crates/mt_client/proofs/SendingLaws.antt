@@ -1,15 +1,17 @@
 -- A refusal that is read in the place of an answer, over a connection that has ended.
-use Rattle.std.proofs.Common.{◌≡◌, ℕ, Bool, true, false, ◌&&◌, if◌then◌else◌, List, [], ◌∷◌, ◌++◌, Some, None, codes, refl, arith, IsTrue, Result, Ok, Err, OnOk, OnErr}
+use Rattle.std.proofs.Common.{◌≡◌, ℕ, Bool, true, false, ◌&&◌, if◌then◌else◌, List, [], ◌∷◌, ◌++◌, Some, None, is_some, codes, refl, arith, IsTrue, Result, Ok, Err, OnOk, OnErr}
 use Rattle.std.proofs.lemmas.Slice.Eq.{bytes_eq-Decides}
 use Rattle.std.specs.Str.{bytes_eq}
 use Rattle.mt_lines.specs.Words.{words}
+use Rattle.mt_protocol.specs.Refusals.{refusal_named}
 use Rattle.mt_lines.specs.Lines.{Item}
 use Rattle.mt_lines.specs.declared.stream.Cut.{Cut}
 use Rattle.mt_lines.specs.declared.stream.Output.{Ghosts as OutputGhosts}
 use Rattle.mt_events.specs.Posts.{ended}
-use Rattle.mt_client.specs.declared.answer.Form.{Form}
-use Rattle.mt_client.specs.declared.answer.Form.TheVariants.{Done, Number, Place, Table, Opening, Posts, Followed, Never}
-use Rattle.mt_client.specs.Requests.{first_of, refuses, is_refusal, is_refusal_name, verdict}
+use Rattle.mt_protocol.specs.declared.form.Form.{Form}
+use Rattle.mt_protocol.specs.declared.form.Form.TheVariants.{Done, Number, Place, Table, Opening, Posts, Followed, Never}
+use Rattle.mt_protocol.specs.Verbs.{first_of}
+use Rattle.mt_client.specs.Requests.{refuses, is_refusal, verdict}
 use Rattle.mt_client.specs.Reading.{HasPassed, IsSentPart, NoneFirst, AreSoMany}
 use Rattle.mt_client.specs.Calls.{IsOut, IsOutInPart}
 use Rattle.mt_client.specs.Awaited.{IsOneRefusal}
@@ -29,7 +31,7 @@ no_tells first false named is e = cc
 words_tell : (ws : List (List ℕ)) → refuses ws ≡ true → (if bytes_eq (first_of ws) (codes "ok") then Some true else (if bytes_eq (first_of ws) (codes "no") then Some false else None)) ≡ Some false
 words_tell [] e = cc
 words_tell (a ∷ []) e = cc
-words_tell (a ∷ b ∷ []) e = no_tells a (bytes_eq a (codes "no")) (is_refusal_name b) refl e
+words_tell (a ∷ b ∷ []) e = no_tells a (bytes_eq a (codes "no")) (is_some (refusal_named b)) refl e
 words_tell (a ∷ b ∷ d ∷ rest) e = cc
 
 refusal_tells : (line : List ℕ) → is_refusal line ≡ true → verdict line ≡ Some false

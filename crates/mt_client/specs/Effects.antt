@@ -7,9 +7,10 @@ use Rattle.mt_events.specs.Posts.{PostView, IsPost, post_text, ended}
 use Rattle.mt_events.specs.Mirrors.{MirrorView}
 use Rattle.mt_events.specs.declared.opening.Scope.TheVariants.{All}
 use Rattle.mt_render.specs.Wording.{named_text}
-use Rattle.mt_client.specs.declared.answer.Form.TheVariants.{Posts}
+use Rattle.mt_protocol.specs.declared.form.Form.TheVariants.{Posts}
 use Rattle.mt_client.specs.declared.effects.SpaceName.{SpaceName}
-use Rattle.mt_client.specs.Requests.{form_of, lines_behind}
+use Rattle.mt_protocol.specs.Verbs.{form_of}
+use Rattle.mt_client.specs.Requests.{lines_behind}
 use Rattle.mt_client.specs.Reading.{texts, printed, HasPassed}
 use Rattle.mt_client.specs.Replies.{IsAnswer}
 use Rattle.mt_client.specs.Mirroring.{HasRefused}

@@ -4,8 +4,8 @@ use Rattle.std.specs.Prelude.{◌≡◌, ℕ, ◌+◌, ◌<◌, ◌^◌, Bool, t
 use Rattle.std.specs.List.{flat_map, join_with_byte, AllByRecursion}
 use Rattle.mt_lines.specs.Words.{words}
 use Rattle.mt_events.specs.Posts.{PostView, IsPost, post_text}
-use Rattle.mt_client.specs.declared.answer.Form.{Form}
-use Rattle.mt_client.specs.declared.answer.Form.TheVariants.{Table, Opening, Posts, Followed}
+use Rattle.mt_protocol.specs.declared.form.Form.{Form}
+use Rattle.mt_protocol.specs.declared.form.Form.TheVariants.{Table, Opening, Posts, Followed}
 use Rattle.mt_client.specs.declared.block.Block.{Block}
 use Rattle.mt_client.specs.declared.block.Block.TheVariants.{Namespace, Post}
 use Rattle.mt_client.specs.Requests.{verdict, is_refusal, lines_behind}

@@ -1,16 +1,15 @@
 -- The lines of requests, and which lines answer them.
 -- A word with no source is this project's rule.
-use Rattle.std.specs.Prelude.{ℕ, Bool, true, false, ◌||◌, ◌&&◌, nat_eq, if◌then◌else◌, List, [], ◌∷◌, ◌++◌, map, Option, Some, None, codes, decimal}
-use Rattle.std.specs.List.{join_with_byte, list_any, starts_with}
+use Rattle.std.specs.Prelude.{ℕ, Bool, true, false, ◌&&◌, nat_eq, if◌then◌else◌, List, [], ◌∷◌, ◌++◌, map, is_some, Option, Some, None, codes, decimal}
+use Rattle.std.specs.List.{join_with_byte, starts_with}
 use Rattle.std.specs.Option.{option_and_then}
 use Rattle.std.specs.Str.{bytes_eq}
 use Rattle.mt_skel.specs.Escapes.{escaped}
-use Rattle.mt_skel.specs.Fault.{name_of}
-use Rattle.mt_skel.specs.declared.fault.Fault.{Fault}
-use Rattle.mt_skel.specs.declared.fault.Fault.TheVariants.{BadLine, TooLong, BadPath, JournalFull, NoFilesystem, FilesystemExists, NoNamespace, NoEntry, EntryExists, NotMountRoot, RootPlace, Unbindable, SharedParent, IntoItself, UnbindableInside, Busy, BadAttr, TooMany, NoWatcher, WatcherOpen, TooManyWatchers, Lagged, Stopped, NoMemory}
 use Rattle.mt_lines.specs.Words.{words, number_in_text}
-use Rattle.mt_client.specs.declared.answer.Form.{Form}
-use Rattle.mt_client.specs.declared.answer.Form.TheVariants.{Done, Number, Place, Table, Opening, Posts, Followed, Never}
+use Rattle.mt_protocol.specs.Refusals.{refusal_named}
+use Rattle.mt_protocol.specs.Verbs.{first_of}
+use Rattle.mt_protocol.specs.declared.form.Form.{Form}
+use Rattle.mt_protocol.specs.declared.form.Form.TheVariants.{Done, Number, Place, Table, Opening, Posts, Followed, Never}
 
 -- the line of a request: its words with their escapes, between single spaces
 abbrev pub request_text : List (List ℕ) → List ℕ
@@ -20,57 +19,17 @@ request_text words = join_with_byte 32 (map escaped words)
 abbrev pub numbered_text : List ℕ → ℕ → List ℕ
 numbered_text command number = command ++ 32 ∷ decimal number
 
--- the first of the words, or the empty one
-abbrev pub first_of : List (List ℕ) → List ℕ
-first_of [] = []
-first_of (word ∷ words) = word
-
 -- a line begins with this word
 abbrev pub has_first : List ℕ → List ℕ → Bool
 has_first line word = bytes_eq (first_of (words line)) word
-
--- the commands that are answered by `ok` alone
-abbrev pub is_done_command : List ℕ → Bool
-is_done_command word =
-    bytes_eq word (codes "mkdir") || bytes_eq word (codes "dropns") || bytes_eq word (codes "move") || bytes_eq word (codes "pivot") || bytes_eq word (codes "umount") || bytes_eq word (codes "detach") || bytes_eq word (codes "setattr") || bytes_eq word (codes "quit") || bytes_eq word (codes "stop")
-
--- the commands that are answered by `ok` and a number
-abbrev pub is_number_command : List ℕ → Bool
-is_number_command word =
-    bytes_eq word (codes "mkfs") || bytes_eq word (codes "newns") || bytes_eq word (codes "copyns") || bytes_eq word (codes "mount") || bytes_eq word (codes "bind") || bytes_eq word (codes "rbind")
-
--- which lines answer a command
-abbrev pub form_of_command : List ℕ → Form
-form_of_command word =
-    if is_done_command word then Done
-    else (if is_number_command word then Number
-    else (if bytes_eq word (codes "find") then Place
-    else (if bytes_eq word (codes "show") then Table
-    else (if bytes_eq word (codes "watch") then Opening
-    else (if bytes_eq word (codes "take") || bytes_eq word (codes "close") then Posts
-    else (if bytes_eq word (codes "follow") then Followed
-    else Never))))))
-
--- which lines answer the request that a line says
-abbrev pub form_of : List ℕ → Form
-form_of line = form_of_command (first_of (words line))
 
 -- what a line of an answer tells, if its first word is `ok` or `no`
 abbrev pub verdict : List ℕ → Option Bool
 verdict line = if has_first line (codes "ok") then Some true else (if has_first line (codes "no") then Some false else None)
 
--- every refusal of a server
-abbrev pub refusals : List Fault
-refusals =
-    BadLine ∷ TooLong ∷ BadPath ∷ JournalFull ∷ NoFilesystem ∷ FilesystemExists ∷ NoNamespace ∷ NoEntry ∷ EntryExists ∷ NotMountRoot ∷ RootPlace ∷ Unbindable ∷ SharedParent ∷ IntoItself ∷ UnbindableInside ∷ Busy ∷ BadAttr ∷ TooMany
-    ∷ NoWatcher ∷ WatcherOpen ∷ TooManyWatchers ∷ Lagged ∷ Stopped ∷ NoMemory ∷ []
-
-abbrev pub is_refusal_name : List ℕ → Bool
-is_refusal_name word = list_any (λ fault. bytes_eq (name_of fault) word) refusals
-
 -- the words of a line that refuses: `no` and the name of a refusal
 abbrev pub refuses : List (List ℕ) → Bool
-refuses (first ∷ name ∷ []) = bytes_eq first (codes "no") && is_refusal_name name
+refuses (first ∷ name ∷ []) = bytes_eq first (codes "no") && is_some (refusal_named name)
 refuses words = false
 
 abbrev pub is_refusal : List ℕ → Bool

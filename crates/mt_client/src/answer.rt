@@ -1,123 +1,10 @@
-//! Which lines answer a request, and what the first of them tells.
+//! What the first line of an answer tells.
 ghost use Rattle.std.specs.Prelude.{◌≡◌};
-ghost use Rattle.std.specs.List.{list_any};
-ghost use Rattle.std.specs.Str.{bytes_eq};
-ghost use Rattle.mt_skel.specs.Fault.{name_of};
-ghost use Rattle.mt_lines.specs.Words.{words};
-ghost use Rattle.mt_client.specs.Requests.{first_of, is_done_command, is_number_command, form_of, verdict, is_refusal_name, is_refusal, lone_number, placed_number, table_count, lines_said, lines_behind};
+ghost use Rattle.mt_client.specs.Requests.{verdict, is_refusal, lone_number, placed_number, table_count, lines_said, lines_behind};
 
 use mt_lines::words::{Words, number, words};
-use mt_skel::fault::Fault;
-
-/// Which lines answer a request that is not refused.
-#[derive(Clone, Copy, Debug, PartialEq, Eq)]
-pub enum Form {
-    /// `ok`.
-    Done,
-    /// `ok` and a number.
-    Number,
-    /// `ok`, the number of a mount, and a path.
-    Place,
-    /// `ok`, a count and a number, and as many rows as the count says.
-    Table,
-    /// `ok` and a count, and as many lines as it says, of namespaces with their rows.
-    Opening,
-    /// `ok` and a count, and as many lines as it says, of posts.
-    Posts,
-    /// Posts, and behind them `ok` and how many they are, or a refusal.
-    Followed,
-    /// None: what is no request is refused.
-    Never,
-}
-
-/// Every refusal of a server.
-const REFUSALS: [Fault; 24] = [
-    Fault::BadLine,
-    Fault::TooLong,
-    Fault::BadPath,
-    Fault::JournalFull,
-    Fault::NoFilesystem,
-    Fault::FilesystemExists,
-    Fault::NoNamespace,
-    Fault::NoEntry,
-    Fault::EntryExists,
-    Fault::NotMountRoot,
-    Fault::RootPlace,
-    Fault::Unbindable,
-    Fault::SharedParent,
-    Fault::IntoItself,
-    Fault::UnbindableInside,
-    Fault::Busy,
-    Fault::BadAttr,
-    Fault::TooMany,
-    Fault::NoWatcher,
-    Fault::WatcherOpen,
-    Fault::TooManyWatchers,
-    Fault::Lagged,
-    Fault::Stopped,
-    Fault::NoMemory,
-];
-
-/// The first word of a line.
-fn first_word(line: &[u8]) -> &[u8]
-    ensures { result.now ≡ first_of (words line.now) }
-{
-    match words(line).next() {
-        Some(word) => word,
-        None => &[],
-    }
-}
-
-/// Whether a command is answered by `ok` alone.
-fn is_done_command(command: &[u8]) -> bool
-    ensures { result ≡ is_done_command command.now }
-{
-    command == b"mkdir".as_slice()
-        || command == b"dropns".as_slice()
-        || command == b"move".as_slice()
-        || command == b"pivot".as_slice()
-        || command == b"umount".as_slice()
-        || command == b"detach".as_slice()
-        || command == b"setattr".as_slice()
-        || command == b"quit".as_slice()
-        || command == b"stop".as_slice()
-}
-
-/// Whether a command is answered by `ok` and a number.
-fn is_number_command(command: &[u8]) -> bool
-    ensures { result ≡ is_number_command command.now }
-{
-    command == b"mkfs".as_slice()
-        || command == b"newns".as_slice()
-        || command == b"copyns".as_slice()
-        || command == b"mount".as_slice()
-        || command == b"bind".as_slice()
-        || command == b"rbind".as_slice()
-}
-
-/// Which lines answer the request that a line says, by its first word.
-pub fn form_of(line: &[u8]) -> Form
-    ensures { result ≡ form_of line.now }
-{
-    let command = first_word(line);
-    if is_done_command(command) {
-        Form::Done
-    } else if is_number_command(command) {
-        Form::Number
-    } else if command == b"find".as_slice() {
-        Form::Place
-    } else if command == b"show".as_slice() {
-        Form::Table
-    } else if command == b"watch".as_slice() {
-        Form::Opening
-    } else if command == b"take".as_slice() || command == b"close".as_slice() {
-        Form::Posts
-    } else if command == b"follow".as_slice() {
-        Form::Followed
-    } else {
-        Form::Never
-    }
-}
+use mt_protocol::form::{Form, first_word};
+use mt_protocol::refusal::refusal_named;
 
 /// What a line of an answer tells: whether its first word is `ok`, where it is `ok` or `no`.
 pub fn verdict(line: &[u8]) -> Option<bool>
@@ -133,25 +20,6 @@ pub fn verdict(line: &[u8]) -> Option<bool>
     }
 }
 
-/// Whether a word is the name of one of these refusals.
-fn is_name_of(word: &[u8], faults: &[Fault]) -> bool
-    ensures { result ≡ list_any (λ fault. bytes_eq (name_of fault) word.now) faults.now }
-{
-    'faults: for fault in faults {
-        if fault.name() == word {
-            return true;
-        }
-    }
-    false
-}
-
-/// Whether a word is the name of a refusal.
-fn is_refusal_name(word: &[u8]) -> bool
-    ensures { result ≡ is_refusal_name word.now }
-{
-    is_name_of(word, &REFUSALS)
-}
-
 /// Whether a line refuses: `no` and the name of a refusal.
 pub fn is_refusal(line: &[u8]) -> bool
     ensures { result ≡ is_refusal line.now }
@@ -160,7 +28,7 @@ pub fn is_refusal(line: &[u8]) -> bool
     let (Some(first), Some(name), None) = (words.next(), words.next(), words.next()) else {
         return false;
     };
-    first == b"no".as_slice() && is_refusal_name(name)
+    first == b"no".as_slice() && refusal_named(name).is_some()
 }
 
 /// The number that is all the words that are left.

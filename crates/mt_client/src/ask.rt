@@ -2,18 +2,19 @@
 ghost use Rattle.std.specs.Prelude.{◌≡◌, Bool, true, false, [], ◌++◌, ◌⊎◌, map, None, Ok, Err, IfOk, IfErr, OnOk, IsTrue};
 ghost use Rattle.mt_lines.specs.Reading.{last_faults, fault_of, limit_of};
 ghost use Rattle.mt_events.specs.Posts.{ended};
-ghost use Rattle.mt_client.specs.Requests.{request_text, form_of};
+ghost use Rattle.mt_protocol.specs.Verbs.{form_of};
+ghost use Rattle.mt_client.specs.Requests.{request_text};
 ghost use Rattle.mt_client.specs.Awaited.{IsOneRefusal};
 ghost use Rattle.mt_client.specs.Replies.{IsAnswer};
 ghost use Rattle.mt_client.specs.Reading.{lines_left, HasPassed, HasBroken, IsBroken, IsSentPart, IsCut};
 
-use crate::answer::form_of;
 use crate::fault::ClientFault;
 use crate::relay::pass_answer;
 use crate::request::request_line;
 use crate::sending::send_request;
 use mt_lines::line::LineReader;
 use mt_lines::stream::{Input, Output};
+use mt_protocol::form::form_of;
 use std::alloc::Global;
 
 /// Sends a line as it stands, with the line end that it is given without, and prints the lines that answer it.

@@ -6,7 +6,6 @@ ghost use Rattle.mt_client.specs.Calls.{IsPassFault, PassesOn};
 ghost use Rattle.mt_client.specs.Awaited.{IsRowLine, AreRowLines};
 ghost use Rattle.mt_client.specs.Replies.{IsPartLines, IsPostLines, IsBlock, IsBlockOf, AreBlockLines, AreBehind};
 
-use crate::answer::Form;
 use crate::fault::ClientFault;
 use crate::opening::read_heading;
 use crate::posts::{lines_of_event, push_line, push_lines};
@@ -15,6 +14,7 @@ use mt_events::read::read_post;
 use mt_info::read::read_row;
 use mt_lines::line::LineReader;
 use mt_lines::stream::{Input, Output};
+use mt_protocol::form::Form;
 use mt_skel::fault::Fault;
 use std::alloc::Global;
 

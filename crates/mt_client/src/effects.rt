@@ -6,7 +6,7 @@ ghost use Rattle.mt_events.specs.Posts.{ended};
 ghost use Rattle.mt_events.specs.Mirrors.{is_next};
 ghost use Rattle.mt_render.specs.Wording.{named_text};
 ghost use Rattle.mt_lines.specs.Lines.{Item};
-ghost use Rattle.mt_client.specs.Requests.{form_of};
+ghost use Rattle.mt_protocol.specs.Verbs.{form_of};
 ghost use Rattle.mt_client.specs.Replies.{IsAnswer};
 ghost use Rattle.mt_client.specs.Reading.{lines_left, HasBroken, IsSentPart, HasPassed};
 ghost use Rattle.mt_client.specs.Calls.{ReadsOn, WritesOn, IsOut, IsPrintFault};
@@ -14,7 +14,7 @@ ghost use Rattle.mt_client.specs.Finding.{mirror_space};
 ghost use Rattle.mt_client.specs.Telling.{mirror_in, mirrors_with};
 ghost use Rattle.mt_client.specs.Effects.{name_in, effects_text, HasNamed, HasNamedAll, HasEffects, IsRefusedOut, IsRefusedLine, IsRefusedEffect};
 
-use crate::answer::{Form, form_of, is_refusal, lines_behind};
+use crate::answer::{is_refusal, lines_behind};
 use crate::fault::ClientFault;
 use crate::mirrors::apply_named;
 use crate::posts::{lines_of_event, push_line, push_lines, read_text};
@@ -27,6 +27,7 @@ use mt_events::post::Post;
 use mt_lines::line::LineReader;
 use mt_lines::stream::{Input, Output};
 use mt_mounts::mount::SpaceId;
+use mt_protocol::form::{Form, form_of};
 use std::alloc::Global;
 
 /// A name that a namespace goes by.

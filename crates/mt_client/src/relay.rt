@@ -6,13 +6,14 @@ ghost use Rattle.mt_client.specs.Replies.{IsHeaded, IsEnding, IsFollowAnswer, Is
 ghost use Rattle.mt_client.specs.Reading.{lines_left, IsCutOff, HasBroken, AreSoMany, reading_fault};
 ghost use Rattle.mt_client.specs.Calls.{AreRead, IsOut, IsOutInPart, IsReadFault, IsPassFault, PassesOn};
 
-use crate::answer::{Form, is_refusal, lines_behind, verdict};
+use crate::answer::{is_refusal, lines_behind, verdict};
 use crate::block::{pass_behind, pass_post};
 use crate::fault::ClientFault;
 use crate::mirror::is_end;
 use crate::request::send_line;
 use mt_lines::line::{Line, LineReader, ReadFault};
 use mt_lines::stream::{Input, Output, send};
+use mt_protocol::form::Form;
 use std::alloc::Global;
 
 /// The most posts of an answer that is followed, this project's rule.

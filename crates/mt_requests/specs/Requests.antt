@@ -10,8 +10,12 @@ use Rattle.mt_skel.specs.Escapes.{unescaped}
 use Rattle.mt_skel.specs.Names.{is_name}
 use Rattle.mt_skel.specs.Outcome.{refuse_if, first_fault}
 use Rattle.mt_lines.specs.Words.{pieces, words, number_in_text}
+use Rattle.mt_protocol.specs.Verbs.{verb_of, first_of}
+use Rattle.mt_protocol.specs.declared.verb.Verb.{Verb}
+use Rattle.mt_protocol.specs.declared.verb.Verb.TheVariants as verb
 use Rattle.mt_events.specs.declared.opening.Scope.TheVariants.{One, All}
 use Rattle.mt_requests.specs.Options.{change_of}
+use Rattle.mt_book.specs.declared.command.Command.{Command}
 use Rattle.mt_book.specs.declared.command.Command.TheVariants as command
 use Rattle.mt_requests.specs.declared.request.Request.{Request}
 use Rattle.mt_requests.specs.declared.request.Request.TheVariants as request
@@ -219,44 +223,34 @@ HasRightCount (request.Take k) = (0 < k) × (k ≤ most_taken)
 HasRightCount (request.Follow k) = (0 < k) × (k ≤ most_followed)
 HasRightCount r = Unit {0}
 
--- how the words behind the first are read
-abbrev pub Reader : Type 0
-Reader = List (List ℕ) → Result Request Fault
+-- how the words behind a verb are read; `close` ends the watcher, `quit` the session, and `stop` the server
+abbrev pub read_by : Verb → List (List ℕ) → Result Request Fault
+read_by verb.Mkfs = mkfs_of
+read_by verb.Mkdir = mkdir_of
+read_by verb.Newns = newns_of
+read_by verb.Copyns = copyns_of
+read_by verb.Dropns = dropns_of
+read_by verb.Mount = mount_of
+read_by verb.Bind = bind_of false
+read_by verb.Rbind = bind_of true
+read_by verb.Move = move_of
+read_by verb.Pivot = pivot_of
+read_by verb.Umount = umount_of
+read_by verb.Detach = detach_of
+read_by verb.Setattr = setattr_of
+read_by verb.Show = show_of
+read_by verb.Find = find_of
+read_by verb.Watch = watch_of
+read_by verb.Take = take_of
+read_by verb.Follow = follow_of
+read_by verb.Close = one_word request.Close
+read_by verb.Quit = one_word request.Quit
+read_by verb.Stop = one_word request.Stop
 
--- the first words of the lines, each with its reader: those of watchers, and all; `close` ends the watcher, `quit` the session, and `stop` the server
-abbrev pub watching_lines : List (List ℕ × Reader)
-watching_lines = (codes "watch", watch_of) ∷ (codes "take", take_of) ∷ (codes "follow", follow_of) ∷ (codes "close", one_word request.Close) ∷ []
-
-abbrev pub lines : List (List ℕ × Reader)
-lines =
-    (codes "mkfs", mkfs_of)
-    ∷ (codes "mkdir", mkdir_of)
-    ∷ (codes "newns", newns_of)
-    ∷ (codes "copyns", copyns_of)
-    ∷ (codes "dropns", dropns_of)
-    ∷ (codes "mount", mount_of)
-    ∷ (codes "bind", bind_of false)
-    ∷ (codes "rbind", bind_of true)
-    ∷ (codes "move", move_of)
-    ∷ (codes "pivot", pivot_of)
-    ∷ (codes "umount", umount_of)
-    ∷ (codes "detach", detach_of)
-    ∷ (codes "setattr", setattr_of)
-    ∷ (codes "show", show_of)
-    ∷ (codes "find", find_of)
-    ∷ (codes "quit", one_word request.Quit)
-    ∷ (codes "stop", one_word request.Stop)
-    ∷ watching_lines
-
--- the reader of a first word reads the others; no other first word has one
-abbrev pub read_by : List (List ℕ × Reader) → List ℕ → List (List ℕ) → Result Request Fault
-read_by [] word rest = Err BadLine
-read_by (l ∷ ls) word rest = if bytes_eq word l.0 then l.1 rest else read_by ls word rest
-
--- the first word of a line chooses how the others are read
+-- the verb of a line chooses how the words behind it are read; without one it is a bad line
 abbrev pub by_words : List (List ℕ) → Result Request Fault
 by_words [] = Err BadLine
-by_words (word ∷ rest) = read_by lines word rest
+by_words (word ∷ rest) = option_map_or (λ v. read_by v rest) (verb_of word) (Err BadLine)
 
 -- what a line asks for, or why it is refused
 unfoldable pub request_of : List ℕ → Result Request Fault
@@ -268,6 +262,36 @@ may_want_memory (Ok (request.Run c)) = true
 may_want_memory (Ok (request.Show n)) = true
 may_want_memory (Ok (request.Find n path)) = true
 may_want_memory asked = false
+
+-- the verb of a command, and of a request
+abbrev pub command_verb : Command → Verb
+command_verb (command.MakeFs name kind source) = verb.Mkfs
+command_verb (command.MakeDir fs path) = verb.Mkdir
+command_verb (command.NewSpace fs) = verb.Newns
+command_verb (command.CopySpace n less) = verb.Copyns
+command_verb (command.DropSpace n) = verb.Dropns
+command_verb (command.Mount n fs path) = verb.Mount
+command_verb (command.Bind n src dst recursive) = if recursive then verb.Rbind else verb.Bind
+command_verb (command.Move n src dst) = verb.Move
+command_verb (command.Pivot n new old) = verb.Pivot
+command_verb (command.Unmount n path) = verb.Umount
+command_verb (command.Detach n path) = verb.Detach
+command_verb (command.SetAttr n path change) = verb.Setattr
+
+abbrev pub request_verb : Request → Verb
+request_verb (request.Run c) = command_verb c
+request_verb (request.Show n) = verb.Show
+request_verb (request.Find n path) = verb.Find
+request_verb (request.Watch scope) = verb.Watch
+request_verb (request.Take k) = verb.Take
+request_verb (request.Follow k) = verb.Follow
+request_verb request.Close = verb.Close
+request_verb request.Quit = verb.Quit
+request_verb request.Stop = verb.Stop
+
+-- the verb of a line is that of its request
+abbrev pub LinesTellVerbs : Type 0
+LinesTellVerbs = (line : List ℕ) (r : Request) → request_of line ≡ Ok r → verb_of (first_of (words line)) ≡ Some (request_verb r)
 
 -- what was read is what the line asks for, or want of memory where that may be
 abbrev pub ReadsAs : Result Request Fault → Result Request Fault → Type 0

@@ -4,11 +4,12 @@
 //! them, or says why there is none.
 //!
 //! Its words are read by [`label`] and [`path`], and those of a `setattr` line by [`options`]; [`watching`] reads the
-//! lines of watchers. [`help`] says all lines in words.
+//! lines of watchers. [`help`] says all lines in words, and [`laws`] has what is true of them.
 #![tactic(auto)]
 
 pub mod help;
 mod label;
+pub mod laws;
 mod options;
 mod path;
 pub mod request;

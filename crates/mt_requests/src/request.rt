@@ -1,14 +1,15 @@
 //! Requests, as lines say them.
 ghost use Rattle.std.specs.Prelude.{◌≡◌, IfOk, None, Some, MatchOption};
-ghost use Rattle.mt_requests.specs.Requests.{ReadsAs, request_of, HasNoFault, prior_of_two, prior_fault, Reads, two_paths_of, mkfs_of, mkdir_of, newns_of, copy_said, copyns_of, dropns_of, space_and_two, mount_of, bind_of, move_of, pivot_of, one_path_of, umount_of, detach_of, setattr_of, show_of, find_of, one_word, HasRightCount};
+ghost use Rattle.mt_requests.specs.Requests.{ReadsAs, request_of, HasNoFault, prior_of_two, prior_fault, Reads, two_paths_of, mkfs_of, mkdir_of, newns_of, copy_said, copyns_of, dropns_of, space_and_two, mount_of, bind_of, move_of, pivot_of, one_path_of, umount_of, detach_of, setattr_of, show_of, find_of, one_word, read_by, HasRightCount};
 
 use crate::label::{label_fault, label_of};
 use crate::options::change_of;
 use crate::path::{path_fault, path_of};
-use crate::watching::read_watching;
+use crate::watching::{read_follow, read_take, read_watch};
 use mt_book::command::Command;
 use mt_events::opening::Scope;
 use mt_lines::words::{Words, number, words};
+use mt_protocol::verb::Verb;
 use mt_skel::fault::Fault;
 use mt_skel::names::Names;
 use std::alloc::Global;
@@ -300,52 +301,48 @@ pub(crate) fn read_one_word(words: &mut Words<'_>, request: Request) -> Result<R
     }
 }
 
+/// The request of a line with a verb, behind its first word.
+fn read_by(alloc: Global, verb: Verb, words: &mut Words<'_>) -> Result<Request, Fault>
+    ensures { ReadsAs (read_by verb words.old) result }
+{
+    match verb {
+        Verb::Mkfs => read_mkfs(alloc, words),
+        Verb::Mkdir => read_mkdir(alloc, words),
+        Verb::Newns => read_newns(alloc, words),
+        Verb::Copyns => read_copyns(words),
+        Verb::Dropns => read_dropns(words),
+        Verb::Mount => read_mount(alloc, words),
+        Verb::Bind => read_bind(alloc, words, false),
+        Verb::Rbind => read_bind(alloc, words, true),
+        Verb::Move => read_move(alloc, words),
+        Verb::Pivot => read_pivot(alloc, words),
+        Verb::Umount => read_umount(alloc, words),
+        Verb::Detach => read_detach(alloc, words),
+        Verb::Setattr => read_setattr(alloc, words),
+        Verb::Show => read_show(words),
+        Verb::Find => read_find(alloc, words),
+        Verb::Watch => read_watch(words),
+        Verb::Take => read_take(words),
+        Verb::Follow => read_follow(words),
+        Verb::Close => read_one_word(words, Request::Close),
+        Verb::Quit => read_one_word(words, Request::Quit),
+        Verb::Stop => read_one_word(words, Request::Stop),
+    }
+}
+
 /// The request that a line says.
 #[tactic(auto, unfolding(crate::specs::Requests::request_of))]
 fn read_line(alloc: Global, line: &[u8]) -> Result<Request, Fault>
     ensures { ReadsAs (request_of line.now) result }
 {
     let mut words = words(line);
-    let Some(command) = words.next() else {
+    let Some(word) = words.next() else {
         return Err(Fault::BadLine);
     };
-    if command == b"mkfs".as_slice() {
-        read_mkfs(alloc, &mut words)
-    } else if command == b"mkdir".as_slice() {
-        read_mkdir(alloc, &mut words)
-    } else if command == b"newns".as_slice() {
-        read_newns(alloc, &mut words)
-    } else if command == b"copyns".as_slice() {
-        read_copyns(&mut words)
-    } else if command == b"dropns".as_slice() {
-        read_dropns(&mut words)
-    } else if command == b"mount".as_slice() {
-        read_mount(alloc, &mut words)
-    } else if command == b"bind".as_slice() {
-        read_bind(alloc, &mut words, false)
-    } else if command == b"rbind".as_slice() {
-        read_bind(alloc, &mut words, true)
-    } else if command == b"move".as_slice() {
-        read_move(alloc, &mut words)
-    } else if command == b"pivot".as_slice() {
-        read_pivot(alloc, &mut words)
-    } else if command == b"umount".as_slice() {
-        read_umount(alloc, &mut words)
-    } else if command == b"detach".as_slice() {
-        read_detach(alloc, &mut words)
-    } else if command == b"setattr".as_slice() {
-        read_setattr(alloc, &mut words)
-    } else if command == b"show".as_slice() {
-        read_show(&mut words)
-    } else if command == b"find".as_slice() {
-        read_find(alloc, &mut words)
-    } else if command == b"quit".as_slice() {
-        read_one_word(&mut words, Request::Quit)
-    } else if command == b"stop".as_slice() {
-        read_one_word(&mut words, Request::Stop)
-    } else {
-        read_watching(command, &mut words)
-    }
+    let Some(verb) = Verb::of(word) else {
+        return Err(Fault::BadLine);
+    };
+    read_by(alloc, verb, &mut words)
 }
 
 /// The request that a line says. The line is without its end.

@@ -1,8 +1,8 @@
 //! The lines of watchers.
 ghost use Rattle.std.specs.Prelude.{◌≡◌};
-ghost use Rattle.mt_requests.specs.Requests.{watch_of, count_of, take_of, follow_of, watching_lines, read_by};
+ghost use Rattle.mt_requests.specs.Requests.{watch_of, count_of, take_of, follow_of};
 
-use crate::request::{Request, read_one_word};
+use crate::request::Request;
 use mt_events::opening::Scope;
 use mt_lines::words::{Words, number};
 use mt_skel::fault::Fault;
@@ -14,7 +14,7 @@ const MOST_TAKEN: u64 = 1_024;
 const MOST_FOLLOWED: u64 = 1_048_576;
 
 /// The request of a line `watch NS` or `watch all`, behind the first word.
-fn read_watch(words: &mut Words<'_>) -> Result<Request, Fault>
+pub(crate) fn read_watch(words: &mut Words<'_>) -> Result<Request, Fault>
     ensures { result ≡ watch_of words.old }
 {
     let (Some(space), None) = (words.next(), words.next()) else {
@@ -40,7 +40,7 @@ fn count_of(word: &[u8], most: u64) -> Option<u64>
 }
 
 /// The request of a line `take K`, behind the first word.
-fn read_take(words: &mut Words<'_>) -> Result<Request, Fault>
+pub(crate) fn read_take(words: &mut Words<'_>) -> Result<Request, Fault>
     ensures { result ≡ take_of words.old }
 {
     let (Some(count), None) = (words.next(), words.next()) else {
@@ -51,7 +51,7 @@ fn read_take(words: &mut Words<'_>) -> Result<Request, Fault>
 }
 
 /// The request of a line `follow K`, behind the first word.
-fn read_follow(words: &mut Words<'_>) -> Result<Request, Fault>
+pub(crate) fn read_follow(words: &mut Words<'_>) -> Result<Request, Fault>
     ensures { result ≡ follow_of words.old }
 {
     let (Some(count), None) = (words.next(), words.next()) else {
@@ -59,21 +59,4 @@ fn read_follow(words: &mut Words<'_>) -> Result<Request, Fault>
     };
     let count = count_of(count, MOST_FOLLOWED).ok_or(Fault::BadLine)?;
     Ok(Request::Follow(count))
-}
-
-/// The request of a line of a watcher, of which this is the first word.
-pub(crate) fn read_watching(command: &[u8], words: &mut Words<'_>) -> Result<Request, Fault>
-    ensures { result ≡ read_by watching_lines command.now words.old }
-{
-    if command == b"watch".as_slice() {
-        read_watch(words)
-    } else if command == b"take".as_slice() {
-        read_take(words)
-    } else if command == b"follow".as_slice() {
-        read_follow(words)
-    } else if command == b"close".as_slice() {
-        read_one_word(words, Request::Close)
-    } else {
-        Err(Fault::BadLine)
-    }
 }

@@ -10,3 +10,4 @@ pub mod TurnLaws
 pub mod GivingLaws
 pub mod FollowLaws
 pub mod TellingLaws
+mod FormLaws

@@ -1,4 +1,5 @@
 pub mod Answers
+pub mod Forms
 pub mod Headline
 pub mod Requests
 pub mod Serving

@@ -1,4 +1,5 @@
 //! What is true of every list of lines. The functions do nothing: their contracts are the laws.
+ghost use Rattle.mt_session.specs.Forms.{AnswersHaveForms};
 ghost use Rattle.mt_session.specs.Headline.{SessionsFollow, AnswersTell};
 ghost use Rattle.mt_session.specs.SharedHeadline.{SharedSessionsFollow};
 
@@ -17,4 +18,10 @@ pub fn sessions_follow()
 /// namespace's table as of its last taken number. That is so by the history of the desk at which the watcher was closed.
 pub fn shared_sessions_follow()
     ensures { SharedSessionsFollow }
+{}
+
+/// Each answer refuses, or has the form of the verb that its line begins with: that form by which a client knows how many
+/// lines answer it.
+pub fn answers_have_forms()
+    ensures { AnswersHaveForms }
 {}

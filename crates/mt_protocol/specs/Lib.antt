@@ -1,0 +1,3 @@
+pub mod Verbs
+pub mod Refusals
+pub mod Laws

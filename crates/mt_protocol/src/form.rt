@@ -1,0 +1,74 @@
+//! The forms of answers.
+ghost use Rattle.std.specs.Prelude.{◌≡◌};
+ghost use Rattle.mt_lines.specs.Words.{words};
+ghost use Rattle.mt_protocol.specs.Verbs.{verb_form, first_of, form_of};
+
+use crate::verb::Verb;
+use mt_lines::words::words;
+
+/// Which lines answer a line that is not refused.
+#[derive(Clone, Copy, Debug, PartialEq, Eq)]
+pub enum Form {
+    /// `ok`.
+    Done,
+    /// `ok` and a number.
+    Number,
+    /// `ok`, the number of a mount, and a path.
+    Place,
+    /// `ok`, a count and a number, and as many rows as the count says.
+    Table,
+    /// `ok` and a count, and as many lines as it says, of namespaces with their rows.
+    Opening,
+    /// `ok` and a count, and as many lines as it says, of posts.
+    Posts,
+    /// Posts, and behind them `ok` and how many they are, or a refusal.
+    Followed,
+    /// None: what has no verb is refused.
+    Never,
+}
+
+impl Verb {
+    /// Which lines answer a line with the verb, where it is not refused.
+    pub fn form(self) -> Form
+        ensures { result ≡ verb_form self }
+    {
+        match self {
+            Verb::Mkdir
+            | Verb::Dropns
+            | Verb::Move
+            | Verb::Pivot
+            | Verb::Umount
+            | Verb::Detach
+            | Verb::Setattr
+            | Verb::Quit
+            | Verb::Stop => Form::Done,
+            Verb::Mkfs | Verb::Newns | Verb::Copyns | Verb::Mount | Verb::Bind | Verb::Rbind =>
+                Form::Number,
+            Verb::Find => Form::Place,
+            Verb::Show => Form::Table,
+            Verb::Watch => Form::Opening,
+            Verb::Take | Verb::Close => Form::Posts,
+            Verb::Follow => Form::Followed,
+        }
+    }
+}
+
+/// The first word of a line, or an empty one.
+pub fn first_word(line: &[u8]) -> &[u8]
+    ensures { result.now ≡ first_of (words line.now) }
+{
+    match words(line).next() {
+        Some(word) => word,
+        None => &[],
+    }
+}
+
+/// Which lines answer a line that is not refused, by its first word.
+pub fn form_of(line: &[u8]) -> Form
+    ensures { result ≡ form_of line.now }
+{
+    match Verb::of(first_word(line)) {
+        Some(verb) => verb.form(),
+        None => Form::Never,
+    }
+}

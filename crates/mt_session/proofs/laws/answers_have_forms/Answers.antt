@@ -1,0 +1,5 @@
+use Rattle.mt_session.proofs.FormLaws.{answers_have_forms}
+use Rattle.mt_session.proofs.laws.answers_have_forms.Goals as goal
+
+pub returns : goal.returns
+returns c = answers_have_forms
