@@ -5,7 +5,7 @@ use Rattle.std.specs.List.{flat_map, AllByRecursion}
 use Rattle.mt_import.specs.declared.groups.Group.{Group}
 use Rattle.mt_import.specs.declared.space.Space.{Space}
 use Rattle.mt_import.specs.Import.{IsImport}
-use Rattle.mt_import.specs.Spaces.{shown, spaces_text, AreMade}
+use Rattle.mt_import.specs.Spaces.{spaces_text, AreMade}
 use Rattle.mt_import.specs.Telling.{tree_rows, space_comments, HasMakingOrder}
 
 -- a script of its parts, one behind the other
@@ -19,5 +19,5 @@ imported groups spaces s0 s1 s2 s3 s4 front e0 e1 e2 trees e3 made = record {
   trees = trees;
   front = front;
   between = made.0;
-  text = made.1 ∙ ap (λ s. s ++ spaces_text groups spaces (shown spaces) made.0) (e3 ∙ ap (λ s. s ++ front) (e2 ∙ ap (λ s. s ++ flat_map space_comments spaces) (e1 ∙ ap (λ s. s ++ flat_map tree_rows spaces) e0)));
+  text = made.1 ∙ ap (λ s. s ++ spaces_text groups spaces made.0) (e3 ∙ ap (λ s. s ++ front) (e2 ∙ ap (λ s. s ++ flat_map space_comments spaces) (e1 ∙ ap (λ s. s ++ flat_map tree_rows spaces) e0)));
 }

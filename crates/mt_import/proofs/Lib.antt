@@ -3,6 +3,6 @@ pub mod RowLaws
 pub mod ScriptLaws
 pub mod WriterLaws
 pub mod CommandLaws
-pub mod GrowthLaws
+pub mod TreeLaws
 pub mod ForwardLaws
-pub mod MakingLaws
+pub mod CoverLaws

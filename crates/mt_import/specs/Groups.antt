@@ -1,6 +1,6 @@
 -- What the rows of all tables tell of peer groups.
 -- A word with no source is this project's rule.
-use Rattle.std.specs.Prelude.{ℕ, Bool, ◌&&◌, ◌||◌, not, nat_lt, if◌then◌else◌, Option, Some, None, is_some}
+use Rattle.std.specs.Prelude.{ℕ, Bool, ◌||◌, nat_lt, if◌then◌else◌, Option, Some, None, is_some}
 use Rattle.std.specs.BTreeMap.{BTreeMap, get}
 use Rattle.std.specs.Option.{option_map_or, option_or}
 use Rattle.std.specs.Ordering.{nat_cmp}
@@ -24,9 +24,9 @@ receiving groups (Some number) = receiving_in (get nat_cmp groups number) (Some 
 abbrev pub source_group : BTreeMap ℕ Group → Option ℕ → Option ℕ → Option ℕ
 source_group groups shared master = option_or (receiving groups shared) master
 
--- whether a mount is in a group, and no other gets what is mounted on it
-unfoldable pub is_alone : BTreeMap ℕ Group → Option ℕ → Bool
-is_alone groups shared = is_some shared && not (is_some (receiving groups shared))
+-- the group of a mount that is alone in it, so that no other gets what is mounted on it
+unfoldable pub lone_group : BTreeMap ℕ Group → Option ℕ → Option ℕ
+lone_group groups shared = if is_some (receiving groups shared) then None else shared
 
 -- the number that the server gives a group, if it is known
 abbrev pub number_here : BTreeMap ℕ Group → ℕ → ℕ

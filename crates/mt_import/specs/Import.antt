@@ -6,10 +6,10 @@ use Rattle.std.specs.BTreeMap.{BTreeMap}
 use Rattle.mt_import.specs.declared.groups.Group.{Group}
 use Rattle.mt_import.specs.declared.space.Space.{Space}
 use Rattle.mt_import.specs.Reading.{ToldMount}
-use Rattle.mt_import.specs.Spaces.{shown, spaces_text}
+use Rattle.mt_import.specs.Spaces.{spaces_text}
 use Rattle.mt_import.specs.Telling.{tree_rows, space_comments, HasMakingOrder}
 
--- Each row of each table has a mount in the tree of its table, where it stands as the row says, or is told, with a reason. Each mount of a tree is told, with a reason, or made at its turns. In
+-- Each row of each table has a mount in the tree of its table, where it stands as the row says, or is told, with a reason. Each mount of a tree is told, with a reason, or made at its turn. In
 -- front of the turns the filesystems are made and what is staged, and between them the namespace that keeps masters.
 pub record IsImport (tables : List (List ToldMount)) (script : List ℕ) : Type 0 where
   pub groups : BTreeMap ℕ Group
@@ -18,4 +18,4 @@ pub record IsImport (tables : List (List ToldMount)) (script : List ℕ) : Type 
   pub trees : AllByRecursion HasMakingOrder spaces
   pub front : List ℕ
   pub between : List ℕ
-  pub text : script ≡ ((flat_map tree_rows spaces ++ flat_map space_comments spaces) ++ front) ++ spaces_text groups spaces (shown spaces) between
+  pub text : script ≡ ((flat_map tree_rows spaces ++ flat_map space_comments spaces) ++ front) ++ spaces_text groups spaces between

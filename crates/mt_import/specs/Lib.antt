@@ -9,7 +9,6 @@ pub mod Slots
 pub mod Hook
 pub mod Making
 pub mod Tree
-pub mod Growth
 pub mod Placing
 pub mod Turns
 pub mod Covers

@@ -6,7 +6,7 @@ use Rattle.mt_import.specs.declared.groups.Group.{Group}
 use Rattle.mt_import.specs.declared.mount.Mount.{Mount}
 use Rattle.mt_import.specs.Reading.{ToldMount}
 use Rattle.mt_import.specs.Commands.{mount_text, bind_text}
-use Rattle.mt_import.specs.Groups.{receiving, source_group, is_alone, number_here}
+use Rattle.mt_import.specs.Groups.{receiving, lone_group, source_group, number_here}
 use Rattle.mt_import.specs.Options.{options_text}
 use Rattle.mt_import.specs.Paths.{path_word}
 use Rattle.mt_import.specs.Script.{line_or_comment, group_comment}
@@ -42,7 +42,7 @@ first_kind groups row = kind_made (receiving groups row.shared) row.master row.u
 
 -- the options of a mount that is alone in its group and no slave wait until it is made shared
 unfoldable pub waits : BTreeMap ℕ Group → ToldMount → Bool
-waits groups row = is_alone groups row.shared && not (is_some row.master)
+waits groups row = is_some (lone_group groups row.shared) && not (is_some row.master)
 
 -- a mount is made at a path, with its options
 unfoldable pub bare_text : BTreeMap ℕ Group → List ℕ → List ℕ → Mount → List ℕ → List ℕ
@@ -55,10 +55,10 @@ abbrev pub late_options : Bool → List ℕ → List ℕ
 late_options true options = options
 late_options false options = codes "relatime"
 
-abbrev pub alone_comment : BTreeMap ℕ Group → Option ℕ → List ℕ
-alone_comment groups None = []
-alone_comment groups (Some group) = group_comment group (number_here groups group)
+abbrev pub shared_text : Option ℕ → BTreeMap ℕ Group → List ℕ → ToldMount → List ℕ → List ℕ
+shared_text None groups space row path = []
+shared_text (Some group) groups space row path =
+    group_comment group (number_here groups group) ++ attributes_text space (late_options (waits groups row) row.options) path (Some (codes "prop=shared"))
 
 unfoldable pub share_text : BTreeMap ℕ Group → List ℕ → ToldMount → List ℕ → List ℕ
-share_text groups space row path =
-    if is_alone groups row.shared then alone_comment groups row.shared ++ attributes_text space (late_options (waits groups row) row.options) path (Some (codes "prop=shared")) else []
+share_text groups space row path = shared_text (lone_group groups row.shared) groups space row path

@@ -2,8 +2,6 @@
 -- A word with no source is this project's rule.
 use Rattle.std.specs.Prelude.{◌≡◌, ℕ, false, ◌||◌, not, if◌then◌else◌, List, ◌++◌, Option, Some, None}
 use Rattle.mt_import.specs.declared.mount.Mount.{Mount}
-use Rattle.mt_import.specs.declared.placing.Placed.{Placed}
-use Rattle.mt_import.specs.declared.placing.Placed.TheVariants.{There, Left}
 use Rattle.mt_import.specs.declared.reason.Reason.{Reason}
 use Rattle.mt_import.specs.declared.reason.Reason.TheVariants.{NoDirectory, ScriptName, TooDeep}
 use Rattle.mt_import.specs.Paths.{below_root, can_be_named, has_script_name, is_too_deep, path_behind}
@@ -25,7 +23,3 @@ pub record IsPlacedOn (parent : Mount) (row : ToldMount) (mount : Mount) : Type 
   pub below : path_behind (below_root row.point) (below_root parent.row.now.point) ≡ Some names
   pub place : mount.place.items ≡ parent.root.now ++ names
   pub depth : is_too_deep mount.place.items ≡ false
-
-abbrev pub IsPlacedBy : Mount → ToldMount → Placed → Type 0
-IsPlacedBy parent row (There mount) = IsPlacedOn parent row mount
-IsPlacedBy parent row (Left why) = Unit {0}

@@ -40,10 +40,13 @@ line_or_comment line = line_text line ++ cond (is_script_line line) [] (line_tex
 unfoldable pub command_text : List (List ℕ) → List ℕ
 command_text words = line_or_comment (join_with_byte 32 words)
 
+-- a comment on a table, of two texts
+unfoldable pub table_comment : ℕ → List ℕ → List ℕ → List ℕ
+table_comment table text last = line_text (flat_map (λ x. x) (codes "# table " ∷ decimal table ∷ text ∷ last ∷ []))
+
 -- a comment on a mount of a table, with its row: the first 8,000 bytes, since a line that is sent is no longer than 8,192
 unfoldable pub comment_text : ℕ → ToldMount → List ℕ → List ℕ
-comment_text table row text =
-    line_text (flat_map (λ x. x) (codes "# table " ∷ decimal table ∷ codes ": mount " ∷ decimal row.id ∷ codes " " ∷ text ∷ codes ": " ∷ take 8000 row.line ∷ []))
+comment_text table row text = table_comment table (codes ": mount ") (decimal row.id ++ (codes " " ++ (text ++ (codes ": " ++ take 8000 row.line))))
 
 -- the comment on a mount that does not have all options of its row here, if it is one
 unfoldable pub options_comment : ℕ → ToldMount → List ℕ
@@ -83,11 +86,3 @@ mount_comment table row (Some why) = left_out_text table row why
 -- which group of the tables is which one of the server
 unfoldable pub group_comment : ℕ → ℕ → List ℕ
 group_comment there here = line_text (flat_map (λ x. x) (codes "# shared:" ∷ decimal there ∷ codes " of the tables is shared:" ∷ decimal here ∷ []))
-
--- of which table none is made
-unfoldable pub rootless_comment : ℕ → List ℕ
-rootless_comment table = line_text (flat_map (λ x. x) (codes "# table " ∷ decimal table ∷ codes " has no root mount" ∷ []))
-
--- of which table a namespace is made
-unfoldable pub space_comment : ℕ → List ℕ → List ℕ
-space_comment table space = line_text (flat_map (λ x. x) (codes "# table " ∷ decimal table ∷ codes " is namespace " ∷ space ∷ []))

@@ -1,6 +1,6 @@
 -- The paths of what a script stages.
 -- A word with no source is this project's rule.
-use Rattle.std.specs.Prelude.{ℕ, zero, suc, List, [], ◌++◌, codes, decimal}
+use Rattle.std.specs.Prelude.{ℕ, ◌-◌, nat_lt, if◌then◌else◌, List, [], ◌++◌, codes, decimal}
 
 -- where the script puts what it takes away again
 abbrev pub stage : List ℕ
@@ -9,21 +9,26 @@ stage = codes "/.import"
 abbrev pub second : List ℕ
 second = codes "/.import2"
 
--- where one is staged that has so many above it at the root of the namespace
-abbrev pub stage_below : ℕ → List ℕ
-stage_below zero = []
-stage_below (suc depth) = stage_below depth ++ stage
+-- the slot of a number, and what is below it
+abbrev pub slot : List ℕ → List ℕ → ℕ → List ℕ → List ℕ
+slot at name number below = at ++ (name ++ (decimal number ++ below))
 
--- a directory below what is staged under a name, and below the staged member of a group
+-- a directory below a staged filesystem, and below the staged member of a group
 abbrev pub staged_path : List ℕ → List ℕ → List ℕ → List ℕ
 staged_path at name below = at ++ (codes "/" ++ (name ++ below))
 
 abbrev pub group_path : List ℕ → ℕ → List ℕ → List ℕ
-group_path at group below = staged_path at (decimal group) below
+group_path at group below = slot at (codes "/") group below
 
 -- where a mount of a level is made with all that stands on it, and one that comes to the root of its namespace
-abbrev pub apart_slot : ℕ → List ℕ
-apart_slot level = codes "/apart-" ++ decimal level
+abbrev pub apart_path : List ℕ → ℕ → List ℕ
+apart_path at level = slot at (codes "/apart-") (level - 1) []
 
-abbrev pub cover_slot : ℕ → List ℕ
-cover_slot base = codes "/cover-" ++ decimal base
+abbrev pub cover_path : List ℕ → ℕ → List ℕ
+cover_path at base = slot at (codes "/cover-") base []
+
+-- names behind the path of what the lowest mount of a stack stands on: one of the level below, or at the root of the namespace
+abbrev pub path_from : List ℕ → ℕ → ℕ → List ℕ → List ℕ
+path_from at level base names =
+    if nat_lt 1 level then slot at (codes "/apart-") (level - 2) names
+    else (if nat_lt 0 base then slot at (codes "/cover-") base names else names)

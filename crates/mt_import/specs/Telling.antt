@@ -1,49 +1,46 @@
 -- What a script tells of the rows of which it makes no mount, or another one than they tell.
 -- A word with no source is this project's rule.
-use Rattle.std.specs.Prelude.{ℕ, Bool, true, false, List, [], ◌∷◌, ◌++◌, Option, Some, None}
+use Rattle.std.specs.Prelude.{ℕ, Bool, true, false, not, List, [], ◌∷◌, ◌++◌, Option, Some, is_some, slice_get, codes}
+use Rattle.std.specs.Option.{option_map_or}
 use Rattle.mt_import.specs.declared.mount.Mount.{Mount}
 use Rattle.mt_import.specs.declared.reason.Reason.{Reason}
 use Rattle.mt_import.specs.declared.reason.Reason.TheVariants.{Ring, NoRoom}
 use Rattle.mt_import.specs.declared.space.Space.{Space}
-use Rattle.mt_import.specs.declared.mount.Verdict.{Verdict}
-use Rattle.mt_import.specs.declared.mount.Verdict.TheVariants.{Waits, Made, Left}
+use Rattle.mt_import.specs.declared.space.Way.{Way}
 use Rattle.mt_import.specs.Reading.{ToldMount}
-use Rattle.mt_import.specs.Script.{left_row_text, mount_comment, rootless_comment}
-use Rattle.mt_import.specs.Tree.{is_made, IsMakingOrder}
-
--- why a row has no mount, if it has none: one of which the turn never came is in a ring
-abbrev pub why_of : Verdict → Option Reason
-why_of Made = None
-why_of (Left why) = Some why
-why_of Waits = Some Ring
+use Rattle.mt_import.specs.Script.{left_row_text, mount_comment, table_comment}
+use Rattle.mt_import.specs.Tree.{IsMakingOrder}
 
 -- the rows of a table that have no mount are told
-abbrev pub rows_text : ℕ → List ToldMount → List Verdict → List ℕ
-rows_text table [] verdicts = []
+abbrev pub rows_text : ℕ → List ToldMount → List (Option Reason) → List ℕ
+rows_text table [] left = []
 rows_text table (row ∷ rows) [] = left_row_text table row (Some Ring) ++ rows_text table rows []
-rows_text table (row ∷ rows) (verdict ∷ verdicts) = left_row_text table row (why_of verdict) ++ rows_text table rows verdicts
+rows_text table (row ∷ rows) (why ∷ left) = left_row_text table row why ++ rows_text table rows left
 
 abbrev pub tree_rows : Space → List ℕ
-tree_rows space = rows_text space.tree.table space.tree.rows space.tree.verdicts
+tree_rows space = rows_text space.tree.table space.tree.rows space.tree.left
 
 -- the mounts of a table that are left out are told, and those with options that no mount has here
-abbrev pub mounts_text : ℕ → List Mount → List (Option Reason) → List ℕ
-mounts_text table [] left = []
+abbrev pub mounts_text : ℕ → List Mount → List Way → List ℕ
+mounts_text table [] ways = []
 mounts_text table (mount ∷ mounts) [] = mount_comment table mount.row.now (Some NoRoom) ++ mounts_text table mounts []
-mounts_text table (mount ∷ mounts) (why ∷ left) = mount_comment table mount.row.now why ++ mounts_text table mounts left
+mounts_text table (mount ∷ mounts) (way ∷ ways) = mount_comment table mount.row.now way.left ++ mounts_text table mounts ways
 
 -- a table of which no namespace is made is told
 abbrev pub rootless_text : Bool → ℕ → List ℕ
 rootless_text true table = []
-rootless_text false table = rootless_comment table
+rootless_text false table = table_comment table (codes " has no root mount") []
 
--- whether one is made: its root mount is
+-- whether the mount of a number is made, and a namespace: its root mount is
+abbrev pub is_made : List Way → ℕ → Bool
+is_made ways number = option_map_or (λ (way : Way). not (is_some way.left)) (slice_get ways number) false
+
 abbrev pub is_shown : Space → Bool
-is_shown space = is_made space.left.items 0
+is_shown space = is_made space.ways.items 0
 
 abbrev pub space_comments : Space → List ℕ
-space_comments space = mounts_text space.tree.table space.tree.mounts space.left.items ++ rootless_text (is_shown space) space.tree.table
+space_comments space = mounts_text space.tree.table space.tree.mounts space.ways.items ++ rootless_text (is_shown space) space.tree.table
 
--- a table has a tree, in which the turns make each mount once
+-- a table has a tree, each mount behind the one that it stands on
 abbrev pub HasMakingOrder : Space → Type 0
-HasMakingOrder space = IsMakingOrder space.tree.rows space.tree.mounts space.tree.turns space.tree.verdicts []
+HasMakingOrder space = IsMakingOrder space.tree.rows space.tree.mounts space.tree.left

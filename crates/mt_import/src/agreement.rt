@@ -1,8 +1,11 @@
-//! Whether rows tell the same of peer groups.
+//! What the rows of all tables tell of peer groups, brought together; and whether they tell the same.
 
-use crate::groups::{Groups, MOST_CHAIN};
+use crate::groups::{Group, Groups, MOST_CHAIN};
 use crate::reason::{Reason, Why};
 use crate::told::HostMount;
+use crate::writer::Done;
+use std::alloc::Global;
+use std::collections::BTreeSet;
 
 /// Whether a mount can be in peer groups as its row tells: only one in none is unbindable, and only a slave gets from a group
 /// above its master, which is another one (proc_pid_mountinfo(5), optional fields).
@@ -11,73 +14,142 @@ fn is_possible(row: &HostMount) -> bool {
     (is_alone || !row.unbindable) && (row.via.is_none() || row.via != row.master)
 }
 
-/// Whether a group is new, or is of a device.
-fn may_be_of(groups: &Groups<'_>, number: Option<u64>, device: &[u8]) -> bool {
-    number
-        .and_then(|number| groups.get(number))
-        .is_none_or(|group| group.device == device)
-}
-
-/// Whether a mount may be a member of a group: the others have its master, and the group does not come to have itself above
-/// it.
-fn may_join(groups: &Groups<'_>, row: &HostMount, number: u64) -> bool {
-    let has_master = groups
-        .get(number)
-        .is_none_or(|group| group.members == 0 || group.master == row.master);
-    has_master && !groups.leads_to(row.master, number) && !groups.leads_to(row.via, number)
-}
-
-/// Whether all groups that a row names are of its device, as far as others told of them.
-fn are_of_device(groups: &Groups<'_>, row: &HostMount) -> bool {
-    let device = row.device.as_slice();
-    may_be_of(groups, row.shared, device)
-        && may_be_of(groups, row.master, device)
-        && may_be_of(groups, row.via, device)
-}
-
-/// Whether what a row tells of groups can be beside what others before it told.
-pub(crate) fn may_add(groups: &Groups<'_>, row: &HostMount) -> bool {
-    is_possible(row)
-        && are_of_device(groups, row)
-        && row
-            .shared
-            .is_none_or(|number| may_join(groups, row, number))
-        && row
-            .master
-            .is_none_or(|number| !groups.leads_to(row.via, number))
-}
-
-/// Whether a mount is one of the members of a group that others tell.
-fn is_member(groups: &Groups<'_>, row: &HostMount, number: u64) -> bool {
-    groups
-        .get(number)
-        .is_some_and(|group| group.members > 0 && group.master == row.master)
-}
-
-/// The group that slaves of a master get from by way of it, in the table of a number: the nearest above it with a member there
-/// (proc_pid_mountinfo(5), `propagate_from`).
-fn via_of(groups: &Groups<'_>, master: Option<u64>, table: usize) -> Option<u64> {
-    let nearest = groups.seen_from(master, table);
-    if nearest == master { None } else { nearest }
-}
-
-/// Whether the groups are as the row of a table tells them.
-fn agrees(groups: &Groups<'_>, row: &HostMount, table: usize) -> bool {
-    is_possible(row)
-        && are_of_device(groups, row)
-        && row
-            .shared
-            .is_none_or(|number| is_member(groups, row, number))
-        && via_of(groups, row.master, table) == row.via
-}
-
-/// Why a mount cannot be made by its peer groups, if it cannot.
-pub(crate) fn why_groupless(groups: &Groups<'_>, row: &HostMount, table: usize) -> Why {
-    if groups.height(row.shared.or(row.master)) > MOST_CHAIN {
-        return Some(Reason::TooLow);
+impl<'a> Groups<'a> {
+    /// Whether a group is new, or is of a device.
+    fn may_be_of(&self, number: Option<u64>, device: &[u8]) -> bool {
+        number
+            .and_then(|number| self.get(number))
+            .is_none_or(|group| group.device == device)
     }
-    if !agrees(groups, row, table) {
-        return Some(Reason::NoSuchGroups);
+
+    /// Whether a mount may be a member of a group: the others have its master, and the group does not come to have itself above
+    /// it.
+    fn may_join(&self, row: &HostMount, number: u64) -> bool {
+        let has_master = self
+            .get(number)
+            .is_none_or(|group| group.members == 0 || group.master == row.master);
+        has_master && !self.leads_to(row.master, number) && !self.leads_to(row.via, number)
     }
-    None
+
+    /// Whether what a row tells of groups can be beside what others told.
+    fn may_add(&self, row: &HostMount) -> bool {
+        let device = row.device.as_slice();
+        is_possible(row)
+            && self.may_be_of(row.shared, device)
+            && self.may_be_of(row.master, device)
+            && self.may_be_of(row.via, device)
+            && row.shared.is_none_or(|number| self.may_join(row, number))
+            && row
+                .master
+                .is_none_or(|number| !self.leads_to(row.via, number))
+    }
+
+    /// Whether the groups are as the row of a table tells them. A slave gets from the nearest group at or above its master that
+    /// has a member in the table, which is told unless it is the master (proc_pid_mountinfo(5), `propagate_from`).
+    fn agrees(&self, row: &HostMount, table: usize) -> bool {
+        let nearest = self
+            .upwards(row.master)
+            .find(|number| self.inside.contains(&(*number, table)));
+        let told = if nearest == row.master { None } else { nearest };
+        told == row.via && self.may_add(row) && row.shared.is_none_or(|number| self.is_seen(number))
+    }
+
+    /// Why the mount of a row of a table cannot be made by its peer groups, if it cannot.
+    pub(crate) fn why_groupless(&self, row: &HostMount, table: usize) -> Why {
+        if self.height(row.shared.or(row.master)) > MOST_CHAIN {
+            return Some(Reason::TooLow);
+        }
+        if !self.agrees(row, table) {
+            return Some(Reason::NoSuchGroups);
+        }
+        None
+    }
+
+    /// Adds a group that a row names: as the one of its mount, or as one that others come from, which has a member staged.
+    fn add_group(&mut self, number: u64, row: &'a HostMount, is_member: bool) -> Done {
+        let new = Group {
+            master: None,
+            device: row.device.as_slice(),
+            members: 0,
+            is_needed: false,
+            here: 0,
+        };
+        let group = self.all.entry(number)?.or_insert(new);
+        if is_member {
+            group.members = group.members.saturating_add(1);
+            group.master = row.master;
+        } else {
+            group.is_needed = true;
+        }
+        Ok(())
+    }
+
+    /// Adds what the row of a table tells, unless that cannot be beside what others before it told.
+    pub(crate) fn add(&mut self, row: &'a HostMount, table: usize) -> Done {
+        if !self.may_add(row) {
+            return Ok(());
+        }
+        if let Some(number) = row.shared {
+            self.add_group(number, row, true)?;
+            self.inside.insert((number, table))?;
+        }
+        let Some(number) = row.master else {
+            return Ok(());
+        };
+        self.add_group(number, row, false)?;
+        if let Some(above) = row.via {
+            self.add_group(above, row, false)?;
+            self.beyond.insert((number, above))?;
+        }
+        Ok(())
+    }
+
+    /// Gives a group another master, or none.
+    fn set_master(&mut self, number: u64, master: Option<u64>) {
+        if let Some(group) = self.all.get_mut(&number) {
+            group.master = master;
+        }
+    }
+
+    /// Brings a group above another one: at the end of those above it, if no row is a member of that end. Whether it is above
+    /// then.
+    fn join(&mut self, low: u64, high: u64) -> bool {
+        if self.leads_to(Some(low), high) {
+            return true;
+        }
+        let top = self.upwards(Some(low)).last().unwrap_or(low);
+        if self.is_seen(top) || self.leads_to(Some(high), low) || self.leads_to(Some(high), top) {
+            return false;
+        }
+        self.set_master(top, Some(high));
+        true
+    }
+
+    /// Brings a group above one of which no row is a member: above all that is above that one, or else between both.
+    fn bring_above(&mut self, low: u64, high: u64) {
+        if self.is_seen(low) || self.join(low, high) {
+            return;
+        }
+        let Some(first) = self.above(low) else {
+            return;
+        };
+        self.set_master(low, None);
+        let is_between = !self.leads_to(Some(high), low) && self.join(high, first);
+        self.set_master(low, Some(if is_between { high } else { first }));
+    }
+
+    /// Finds out what is above the groups of which no row is a member, by what their slaves tell, the lowest groups first.
+    pub(crate) fn settle(&mut self, alloc: Global) -> Done {
+        let mut pairs = BTreeSet::new(alloc);
+        for pair in self.beyond.iter() {
+            let (low, high) = *pair;
+            let below_top = MOST_CHAIN.saturating_sub(self.height(Some(high)));
+            pairs.insert((low, below_top, high))?;
+        }
+        for pair in pairs.iter() {
+            let (low, _, high) = *pair;
+            self.bring_above(low, high);
+        }
+        Ok(())
+    }
 }

@@ -3,9 +3,8 @@ ghost use Rattle.std.specs.Prelude.{◌≡◌};
 ghost use Rattle.std.specs.BTreeMap.{get};
 ghost use Rattle.std.specs.Iterator.{at_most};
 ghost use Rattle.std.specs.Ordering.{nat_cmp};
-ghost use Rattle.mt_import.specs.Groups.{is_staged, receiving, source_group, is_alone, number_here};
+ghost use Rattle.mt_import.specs.Groups.{is_staged, receiving, lone_group, source_group, number_here};
 
-use crate::agreement::may_add;
 use crate::told::HostMount;
 use crate::writer::{Allocated, Done};
 use std::alloc::Global;
@@ -25,7 +24,7 @@ pub(crate) struct Group<'a> {
     pub(crate) members: u64,
     /// Whether one is staged in any case: a row has it as its master, or as the group that it gets from, or a member has
     /// another mount on its root.
-    is_needed: bool,
+    pub(crate) is_needed: bool,
     /// The number that the server gives it, once that is found out.
     pub(crate) here: u64,
 }
@@ -50,9 +49,9 @@ pub(crate) type Counts = BTreeMap<u64, usize>;
 pub(crate) struct Groups<'a> {
     pub(crate) all: BTreeMap<u64, Group<'a>>,
     /// In which tables a group has a member.
-    inside: BTreeSet<(u64, usize)>,
+    pub(crate) inside: BTreeSet<(u64, usize)>,
     /// Which group slaves of a group get from by way of it.
-    beyond: BTreeSet<(u64, u64)>,
+    pub(crate) beyond: BTreeSet<(u64, u64)>,
 }
 
 /// A group and those above it, one after another, as far as they are followed.
@@ -129,12 +128,6 @@ impl<'a> Groups<'a> {
         self.upwards(first).count()
     }
 
-    /// The nearest group that is this one or above it and has a member in a table.
-    pub(crate) fn seen_from(&self, first: Option<u64>, table: usize) -> Option<u64> {
-        self.upwards(first)
-            .find(|number| self.inside.contains(&(*number, table)))
-    }
-
     /// The group of a mount, if it is in one and others get what is mounted on it.
     #[tactic(auto, unfolding(crate::specs::Groups::receiving))]
     pub(crate) fn receiving(&self, shared: Option<u64>) -> Option<u64>
@@ -144,19 +137,23 @@ impl<'a> Groups<'a> {
         if group.is_staged() { shared } else { None }
     }
 
+    /// The group of a mount that is alone in it, so that no other gets what is mounted on it.
+    #[tactic(auto, unfolding(crate::specs::Groups::lone_group))]
+    pub(crate) fn lone_group(&self, shared: Option<u64>) -> Option<u64>
+        ensures { result ≡ lone_group self.now.all shared }
+    {
+        if self.receiving(shared).is_some() {
+            None
+        } else {
+            shared
+        }
+    }
+
     /// The group from whose staged member a mount is bound, if from one: its own, or its master.
     pub(crate) fn source_of(&self, shared: Option<u64>, master: Option<u64>) -> Option<u64>
         ensures { result ≡ source_group self.now.all shared master }
     {
         self.receiving(shared).or(master)
-    }
-
-    /// Whether a mount is alone in its group, so that no other gets what is mounted on it.
-    #[tactic(auto, unfolding(crate::specs::Groups::is_alone))]
-    pub(crate) fn is_alone(&self, shared: Option<u64>) -> bool
-        ensures { result ≡ is_alone self.now.all shared }
-    {
-        shared.is_some() && self.receiving(shared).is_none()
     }
 
     /// The number that the server gives a group, or 0.
@@ -166,10 +163,12 @@ impl<'a> Groups<'a> {
         self.get(number).map_or(0, |group| group.here)
     }
 
-    /// Notes the number that the server gives a group.
-    pub(crate) fn set_here(&mut self, number: u64, here: u64) {
-        if let Some(group) = self.all.get_mut(&number) {
-            group.here = here;
+    /// Notes the numbers that the server gives groups.
+    pub(crate) fn number(&mut self, named: &[(u64, u64)]) {
+        for (number, here) in named {
+            if let Some(group) = self.all.get_mut(number) {
+                group.here = *here;
+            }
         }
     }
 
@@ -178,9 +177,9 @@ impl<'a> Groups<'a> {
         self.leads_to(row.shared.or(row.master), group)
     }
 
-    /// Whether rows name a group of which none is a member.
-    pub(crate) fn is_unseen(&self, number: u64) -> bool {
-        self.get(number).is_some_and(|group| group.members == 0)
+    /// Whether a row is a member of a group.
+    pub(crate) fn is_seen(&self, number: u64) -> bool {
+        self.get(number).is_some_and(|group| group.members > 0)
     }
 
     /// Has a member of a group staged, if rows name it.
@@ -188,110 +187,6 @@ impl<'a> Groups<'a> {
         if let Some(group) = self.all.get_mut(&number) {
             group.is_needed = true;
         }
-    }
-
-    /// Adds what the row of a table tells, unless that cannot be beside what others before it told.
-    pub(crate) fn add(&mut self, row: &'a HostMount, table: usize) -> Done {
-        if !may_add(self, row) {
-            return Ok(());
-        }
-        if let Some(number) = row.shared {
-            self.add_member(number, row)?;
-            self.inside.insert((number, table))?;
-        }
-        let Some(number) = row.master else {
-            return Ok(());
-        };
-        self.add_master(number, row)?;
-        if let Some(above) = row.via {
-            self.add_master(above, row)?;
-            self.beyond.insert((number, above))?;
-        }
-        Ok(())
-    }
-
-    /// Adds a group of the device of a row, if none named it before.
-    fn add_group(&mut self, number: u64, row: &'a HostMount) -> Done {
-        if self.get(number).is_none() {
-            let new = Group {
-                master: None,
-                device: row.device.as_slice(),
-                members: 0,
-                is_needed: false,
-                here: 0,
-            };
-            self.all.insert(number, new)?;
-        }
-        Ok(())
-    }
-
-    /// Adds a member of a group.
-    fn add_member(&mut self, number: u64, row: &'a HostMount) -> Done {
-        self.add_group(number, row)?;
-        if let Some(group) = self.all.get_mut(&number) {
-            group.members = group.members.saturating_add(1);
-            group.master = row.master;
-        }
-        Ok(())
-    }
-
-    /// Adds a group that others come from: so each group above another one has a member staged.
-    fn add_master(&mut self, number: u64, row: &'a HostMount) -> Done {
-        self.add_group(number, row)?;
-        self.stage(number);
-        Ok(())
-    }
-
-    /// Gives a group another master, or none.
-    fn set_master(&mut self, number: u64, master: Option<u64>) {
-        if let Some(group) = self.all.get_mut(&number) {
-            group.master = master;
-        }
-    }
-
-    /// Brings a group above another one: at the end of those above it, if no row is a member of that end. Whether it is above
-    /// then.
-    fn join(&mut self, low: u64, high: u64) -> bool {
-        if self.leads_to(Some(low), high) {
-            return true;
-        }
-        let top = self.upwards(Some(low)).last().unwrap_or(low);
-        if !self.is_unseen(top)
-            || self.leads_to(Some(high), low)
-            || self.leads_to(Some(high), top)
-        {
-            return false;
-        }
-        self.set_master(top, Some(high));
-        true
-    }
-
-    /// Brings a group above one of which no row is a member: above all that is above that one, or else between both.
-    fn bring_above(&mut self, low: u64, high: u64) {
-        if !self.is_unseen(low) || self.join(low, high) {
-            return;
-        }
-        let Some(first) = self.above(low) else {
-            return;
-        };
-        self.set_master(low, None);
-        let is_between = !self.leads_to(Some(high), low) && self.join(high, first);
-        self.set_master(low, Some(if is_between { high } else { first }));
-    }
-
-    /// Finds out what is above the groups of which no row is a member, by what their slaves tell, the lowest groups first.
-    pub(crate) fn settle(&mut self, alloc: Global) -> Done {
-        let mut pairs = BTreeSet::new(alloc);
-        for pair in self.beyond.iter() {
-            let (low, high) = *pair;
-            let below_top = MOST_CHAIN.saturating_sub(self.height(Some(high)));
-            pairs.insert((low, below_top, high))?;
-        }
-        for pair in pairs.iter() {
-            let (low, _, high) = *pair;
-            self.bring_above(low, high);
-        }
-        Ok(())
     }
 
     /// The groups of which a member is staged, those above others first.

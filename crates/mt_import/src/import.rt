@@ -2,17 +2,14 @@
 ghost use Rattle.std.specs.Prelude.{◌≡◌, map, IfOk, IsOkUnless};
 ghost use Rattle.mt_import.specs.Import.{IsImport};
 
-use crate::numbers::number_groups;
-use crate::room::{Plan, plan_with_room};
+use crate::plan::{Plan, plan_with_room};
 use crate::script::Script;
-use crate::site::STAGE_FS;
 use crate::space::{Space, spaces_of};
 use crate::spaces::make_spaces;
-use crate::staging::stage;
 use crate::telling::{tell_spaces, tell_tables};
 use crate::told::HostMount;
 use crate::tree::{Tree, tree_of};
-use crate::writer::{Allocated, command};
+use crate::writer::Allocated;
 use mt_skel::fault::Fault;
 use std::alloc::Global;
 
@@ -40,13 +37,9 @@ fn trees_of(alloc: Global, tables: &[Vec<HostMount>]) -> Allocated<Vec<Tree<'_>>
 /// What makes the filesystems and their directories, and what is staged, if there is a namespace to make.
 fn front_of(alloc: Global, plan: &Plan<'_>, spaces: &[Space<'_>]) -> Allocated<Script> {
     let mut script = Script::new(alloc);
-    if !spaces.iter().any(|space| space.is_shown()) {
-        return Ok(script);
+    if spaces.iter().any(|space| space.is_shown()) {
+        plan.make_front(&mut script)?;
     }
-    plan.filesystems.make(&mut script)?;
-    command(&mut script, &[b"mkfs", STAGE_FS, b"import", b"none"])?;
-    plan.directories.make(&mut script)?;
-    stage(&mut script, plan)?;
     Ok(script)
 }
 
@@ -63,6 +56,13 @@ fn script_with(alloc: Global, plan: &Plan<'_>, spaces: &[Space<'_>]) -> Allocate
     Ok(script)
 }
 
+/// The script without what it tells of rows: the numbers that the server gives groups are known from it, and not told in it.
+fn counting(alloc: Global, plan: &Plan<'_>, spaces: &[Space<'_>]) -> Allocated<Script> {
+    let mut counted = front_of(alloc, plan, spaces)?;
+    make_spaces(&mut counted, plan, spaces)?;
+    Ok(counted)
+}
+
 /// The script that makes the namespaces of which these are the tables, each with its rows. Refused as `NoMemory` alone.
 ///
 /// A server that was just started makes a namespace of each table, numbered as they are, with a table that tells what the rows
@@ -74,9 +74,10 @@ pub fn script_of(alloc: Global, tables: &[Vec<HostMount>]) -> Result<Script, Fau
     ensures memory { IsOkUnless result Fault.NoMemory }
 {
     let trees = trees_of(alloc, tables)?;
-    let (mut plan, left) = plan_with_room(alloc, trees.as_slice())?;
-    let spaces = spaces_of(alloc, trees, left.as_slice(), &plan.groups)?;
-    number_groups(alloc, &mut plan, spaces.as_slice())?;
+    let mut plan = plan_with_room(alloc, trees.as_slice())?;
+    let spaces = spaces_of(alloc, trees, &plan)?;
+    let counted = counting(alloc, &plan, spaces.as_slice())?;
+    plan.groups.number(counted.numbers.named.as_slice());
     let script = script_with(alloc, &plan, spaces.as_slice())?;
     Ok(script)
 }

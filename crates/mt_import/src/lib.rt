@@ -2,25 +2,22 @@
 //!
 //! [`read`] reads the lines of a mountinfo, each as a [`told::HostMount`]. [`import`] makes the script in three steps.
 //!
-//! - Each table becomes a [`tree`] of mounts, which [`growth`] builds of its rows: [`placing`] finds where each one stands, and
-//!   the turns of a tree are the order in which its mounts are made. A row that has no mount in it is left out for a [`reason`].
-//! - [`choice`] leaves out the mounts that do not agree on their peer groups ([`groups`], [`agreement`]), and [`room`] those for
-//!   which a server has no room; [`filesystems`] and [`directories`] are what the others need, and [`numbers`] are those that
-//!   the server will give their groups.
-//! - The script tells what is left out ([`telling`]), stages what others are bound from ([`staging`]), and makes the namespaces
-//!   one after another ([`spaces`]): each mount at its [`turns`], at a place that a hook isolates where others would get it,
-//!   and those at the root of the namespace by pivots ([`covers`]).
+//! - Each table becomes a [`tree`] of mounts, in the order in which they are made: [`mount`] finds where each one stands. A row
+//!   that has no mount in it is left out for a [`reason`].
+//! - [`plan`] leaves out the mounts that do not agree on their peer groups ([`groups`], [`agreement`]), and those for which a
+//!   server has no room. [`space`] says how the others come to their places.
+//! - The script tells what is left out ([`telling`]), makes filesystems and directories and stages what others are bound from
+//!   ([`front`]), and makes the namespaces one after another ([`spaces`]): each mount at its [`turns`], at a place that a hook
+//!   isolates where others would get it, and those at the root of the namespace by pivots ([`covers`]). It is made twice: the
+//!   first time the groups are counted to which the server gives [`numbers`].
 //!
 //! A [`script::Script`] has only comments and lines that the server reads as commands.
 #![tactic(auto)]
 
 mod agreement;
-mod choice;
 mod covers;
-mod directories;
-mod filesystems;
+mod front;
 mod groups;
-mod growth;
 pub mod import;
 pub mod laws;
 mod making;
@@ -28,15 +25,13 @@ mod mount;
 mod numbers;
 mod options;
 mod path;
-mod placing;
+mod plan;
 pub mod read;
 mod reason;
-mod room;
 pub mod script;
 mod site;
 mod space;
 mod spaces;
-mod staging;
 mod telling;
 pub mod told;
 mod tree;

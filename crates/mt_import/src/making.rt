@@ -1,14 +1,14 @@
 //! How a mount is made, where nothing propagates.
 ghost use Rattle.std.specs.Prelude.{◌≡◌, ◌++◌, OnOk};
 ghost use Rattle.std.specs.Option.{option_map};
-ghost use Rattle.mt_import.specs.Making.{attributes_text, made_text, first_kind, waits, bare_text, late_options, alone_comment, share_text};
+ghost use Rattle.mt_import.specs.Making.{attributes_text, made_text, first_kind, waits, bare_text, late_options, share_text};
 
 use crate::groups::Groups;
 use crate::mount::Mount;
 use crate::options::{Kind, options_of};
 use crate::path::path_word;
 use crate::script::Script;
-use crate::site::{SHARED, SLAVE, Site, UNBINDABLE};
+use crate::site::{GROUP, SHARED, SLAVE, Site, UNBINDABLE};
 use crate::told::HostMount;
 use crate::writer::{Done, group_comment, joined, push_command};
 
@@ -37,7 +37,7 @@ fn first_kind(groups: &Groups<'_>, row: &HostMount) -> Kind
 fn waits(groups: &Groups<'_>, row: &HostMount) -> bool
     ensures { result ≡ waits groups.now.all row.now }
 {
-    groups.is_alone(row.shared) && row.master.is_none()
+    groups.lone_group(row.shared).is_some() && row.master.is_none()
 }
 
 /// The options of a mount that are set when it is made shared.
@@ -45,18 +45,6 @@ fn late_options(waits: bool, options: &[u8]) -> &[u8]
     ensures { result.now ≡ late_options waits options.now }
 {
     if waits { options } else { UNCHANGED }
-}
-
-/// Tells the number of the group that the next line makes, if it makes one.
-fn alone_comment(script: &mut Script, groups: &Groups<'_>, group: Option<u64>) -> Done
-    ensures { OnOk result (script.new ≡ script.old ++ alone_comment groups.now.all group) }
-{
-    let Some(group) = group else {
-        return Ok(());
-    };
-    let here = groups.here(group);
-    group_comment(script, group, here)?;
-    Ok(())
 }
 
 impl<'s, 'a> Site<'s, 'a> {
@@ -81,7 +69,7 @@ impl<'s, 'a> Site<'s, 'a> {
         ensures { OnOk result (script.new ≡ script.old ++ made_text self.entry.space.now self.entry.stage.now source mount.now.row.now.device mount.now.root.now path.now) }
     {
         if let Some(group) = source {
-            let from = self.group_path(group, mount.root)?;
+            let from = self.slot(GROUP, group, mount.root)?;
             return self.run(script, b"bind", from.as_slice(), path);
         }
         let row = mount.row;
@@ -89,7 +77,7 @@ impl<'s, 'a> Site<'s, 'a> {
         if mount.root.is_empty() {
             return self.run(script, b"mount", device, path);
         }
-        let from = self.staged_path(device, mount.root)?;
+        let from = self.staged(b"/", device, mount.root)?;
         self.run(script, b"bind", from.as_slice(), path)
     }
 
@@ -111,13 +99,15 @@ impl<'s, 'a> Site<'s, 'a> {
 
     /// Makes a mount at a path a member of its group, if it is alone in that, with the options that wait for it.
     #[tactic(auto, unfolding(crate::specs::Making::share_text))]
-    pub(crate) fn share_alone(self, script: &mut Script, row: &HostMount, path: &[u8]) -> Done
-        ensures { OnOk result (script.new ≡ script.old ++ share_text self.entry.groups.now.all self.entry.space.now row.now path.now) }
+    pub(crate) fn share_alone(self, script: &mut Script, mount: &Mount<'_>, path: &[u8]) -> Done
+        ensures { OnOk result (script.new ≡ script.old ++ share_text self.entry.groups.now.all self.entry.space.now mount.now.row.now path.now) }
     {
-        if !self.groups.is_alone(row.shared) {
+        let row = mount.row;
+        let Some(group) = self.groups.lone_group(row.shared) else {
             return Ok(());
-        }
-        alone_comment(script, self.groups, row.shared)?;
+        };
+        script.count_group(self.groups, group, mount.root)?;
+        group_comment(script, group, self.groups.here(group))?;
         let options = late_options(waits(self.groups, row), row.options.as_slice());
         self.set_attributes(script, options, path, Some(SHARED))?;
         Ok(())

@@ -1,10 +1,19 @@
-//! A mount of a table, where it stands among the others, and the turns of its making.
+//! A mount of a table: where it stands among the others, or why it cannot be made there.
 
-ghost use Rattle.std.specs.Prelude.{◌≡◌};
-ghost use Rattle.mt_import.specs.Tree.{turn_mount};
+ghost use Rattle.std.specs.Prelude.{◌≡◌, IfOk};
+ghost use Rattle.mt_import.specs.Paths.{is_too_deep};
+ghost use Rattle.mt_import.specs.Placing.{why_pathless, IsPlacedOn};
 
-use crate::reason::Reason;
+use crate::path::{
+    MOST_BYTES, MOST_NAMES, below_root, can_be_named, has_script_name, names, path_behind,
+};
+use crate::reason::{Reason, Why};
 use crate::told::HostMount;
+use crate::writer::{Allocated, one_behind};
+use std::alloc::Global;
+
+/// The most mounts that stand on the root of a root mount, one on the other.
+const MOST_AT_ROOT: usize = 32;
 
 /// A mount that a script makes, unless it is left out.
 #[derive(Drop)]
@@ -23,50 +32,115 @@ pub(crate) struct Mount<'a> {
     pub(crate) lowest: usize,
     /// The names from the mount point of what the lowest of its stack stands on down to its own.
     pub(crate) names: &'a [u8],
-    /// How many mounts below the root place are between it and that place, those that it is stacked on not counted.
+    /// How many stacks it stands on, one on the other; none if it is the root mount, or in the stack of that.
     pub(crate) level: usize,
-    /// Which one at the root place of the namespace it stands below, or is: the root mount is 0.
+    /// Which one at the root place of the namespace it stands on, or is: the root mount is 0.
     pub(crate) base: usize,
-    /// Whether it is the root mount, or stands at the root place of the namespace.
-    pub(crate) is_base: bool,
 }
 
 impl<'a> Mount<'a> {
     /// Whether it stands on the root of what it stands on, elsewhere than at the root of the namespace.
     pub(crate) fn stands_on_root(&self, lower: &Mount<'_>) -> bool {
-        !self.is_base && self.place.as_slice() == lower.root
+        self.level > 0 && self.place.as_slice() == lower.root
     }
 }
 
-/// A step of the making of a tree, with the mount that it is about, counted in the order.
-#[derive(Clone, Copy)]
-pub(crate) enum Turn {
-    /// One at the root place of the namespace is made, before all that stands on it.
-    Base(usize),
-    /// One below is begun, before all that stands on it.
-    Begin(usize),
-    /// One below has all that stands on it, but for what is stacked on it, and comes to its place.
-    End(usize),
+/// The mount that a row tells, or why it is left out.
+pub(crate) type Placed<'a> = Result<Mount<'a>, Reason>;
+
+/// Whether a directory of a filesystem is too deep, or its path too long.
+fn is_too_deep(path: &[u8]) -> bool
+    ensures { result ≡ is_too_deep path.now }
+{
+    names(path) > MOST_NAMES || path.len() > MOST_BYTES
 }
 
-impl Turn {
-    /// The mount of a turn.
-    pub(crate) fn mount(self) -> usize
-        ensures { result ≡ turn_mount self }
-    {
-        match self {
-            Turn::Base(number) | Turn::Begin(number) | Turn::End(number) => number,
-        }
+/// Why the paths that a row tells cannot be those of a mount, if they cannot.
+fn why_pathless(root: &[u8], point: &[u8]) -> Why
+    ensures { result ≡ why_pathless root.now point.now }
+{
+    if !can_be_named(root) || !can_be_named(point) {
+        return Some(Reason::NoDirectory);
     }
+    if has_script_name(root) || has_script_name(point) {
+        return Some(Reason::ScriptName);
+    }
+    if is_too_deep(root) {
+        return Some(Reason::TooDeep);
+    }
+    None
 }
 
-/// What becomes of a row.
-#[derive(Clone, Copy)]
-pub(crate) enum Verdict {
-    /// Its turn has not come.
-    Waits,
-    /// It has a mount in the tree of its table.
-    Made,
-    /// It is left out, for this reason.
-    Left(Reason),
+/// The root mount that a row tells.
+pub(crate) fn root_mount<'a>(alloc: Global, row: &'a HostMount, number: usize) -> Placed<'a>
+    ensures { IfOk result (λ mount. (mount.row.now ≡ row.now) × (mount.number ≡ number) × (mount.above ≡ 0)) }
+{
+    let (root, point) = (row.root.as_slice(), row.point.as_slice());
+    let (root, point) = (below_root(root), below_root(point));
+    if let Some(why) = why_pathless(root, point) {
+        return Err(why);
+    }
+    Ok(Mount {
+        row,
+        number,
+        above: 0,
+        root,
+        place: Vec::new(alloc),
+        lowest: 0,
+        names: b"",
+        level: 0,
+        base: 0,
+    })
+}
+
+/// Of a mount at these names on another one, as the next of a number in the order: the lowest of its stack, the names from what
+/// that stands on to its place, and its level.
+fn stack_on<'a>(parent: &Mount<'a>, names: &'a [u8], here: usize) -> (usize, &'a [u8], usize) {
+    if names.is_empty() {
+        return (parent.lowest, parent.names, parent.level);
+    }
+    (here, names, parent.level.saturating_add(1))
+}
+
+/// The mount that a row tells on another one, which is the one of a number in the order, as the next one of these numbers in
+/// the order and among the rows.
+pub(crate) fn mount_on<'a>(
+    alloc: Global,
+    row: &'a HostMount,
+    number: usize,
+    here: usize,
+    parent: &Mount<'a>,
+    above: usize,
+) -> Allocated<Placed<'a>>
+    ensures place { IfOk result (λ placed. IfOk placed (λ mount. IsPlacedOn parent.now row.now mount)) }
+    ensures on { IfOk result (λ placed. IfOk placed (λ mount. (mount.row.now ≡ row.now) × (mount.number ≡ number) × (mount.above ≡ above))) }
+{
+    let (root, point) = (row.root.as_slice(), row.point.as_slice());
+    let (root, point) = (below_root(root), below_root(point));
+    if let Some(why) = why_pathless(root, point) {
+        return Ok(Err(why));
+    }
+    let lower = parent.row;
+    let Some(names) = path_behind(point, below_root(lower.point.as_slice())) else {
+        return Ok(Err(Reason::Elsewhere));
+    };
+    let place = one_behind(alloc, parent.root, names)?;
+    if is_too_deep(place.as_slice()) {
+        return Ok(Err(Reason::TooDeep));
+    }
+    let (lowest, names, level) = stack_on(parent, names, here);
+    if level == 0 && parent.base >= MOST_AT_ROOT {
+        return Ok(Err(Reason::AtRoot));
+    }
+    Ok(Ok(Mount {
+        row,
+        number,
+        above,
+        root,
+        place,
+        lowest,
+        names,
+        level,
+        base: parent.base.saturating_add(usize::from(level == 0)),
+    }))
 }

@@ -10,15 +10,11 @@ ghost use Rattle.mt_import.specs.Paths.{below_root, path_word, name_count, says_
 use mt_lines::words::Pieces;
 use mt_skel::escape::unescaped_len;
 
-/// The directory on which the script puts what it takes away again, and its name.
+/// The directory on which the script puts what it takes away again.
 pub(crate) const STAGE: &[u8] = b"/.import";
 
-const STAGE_NAME: &[u8] = b".import";
-
-/// A second one, and its name.
+/// A second one.
 pub(crate) const SECOND: &[u8] = b"/.import2";
-
-const SECOND_NAME: &[u8] = b".import2";
 
 /// The most names of a directory, so that one may stand below them.
 pub(crate) const MOST_NAMES: usize = 31;
@@ -91,7 +87,7 @@ pub(crate) fn has_script_name(path: &[u8]) -> bool
 fn is_script_name(piece: &[u8]) -> bool
     ensures { result ≡ is_script_name piece.now }
 {
-    piece == STAGE_NAME || piece == SECOND_NAME
+    piece == b".import".as_slice() || piece == b".import2".as_slice()
 }
 
 /// What stands behind a path in one below it, or None where it is not below.

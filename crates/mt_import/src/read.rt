@@ -17,18 +17,6 @@ struct Fields {
 }
 
 impl Fields {
-    /// No field.
-    fn new() -> Fields
-        ensures { result ≡ no_fields }
-    {
-        Fields {
-            shared: None,
-            master: None,
-            via: None,
-            unbindable: false,
-        }
-    }
-
     /// These fields with one more, or `None` where it has a name that is known and no number behind it. A field that
     /// is not known changes nothing.
     fn with(self, field: &[u8]) -> Option<Fields>
@@ -61,7 +49,12 @@ impl Fields {
 fn read_fields(words: &mut Words<'_>) -> Option<Fields>
     ensures { MatchOption result (fields_in no_fields words.old ≡ None) (λ fields. fields_in no_fields words.old ≡ Some (fields, words.new)) }
 {
-    let mut fields = Fields::new();
+    let mut fields = Fields {
+        shared: None,
+        master: None,
+        via: None,
+        unbindable: false,
+    };
     'fields: while let Some(word) = words.next() {
         if word == b"-".as_slice() {
             return Some(fields);

@@ -1,10 +1,11 @@
 //! The script: comments and commands.
-ghost use Rattle.std.specs.Prelude.{◌≡◌, not, ◌==◌, [], ◌∷◌, ◌++◌, IfOk, OnOk};
+ghost use Rattle.std.specs.Prelude.{◌≡◌, not, ◌==◌, [], ◌++◌, IfOk, OnOk};
 ghost use Rattle.std.specs.List.{list_all};
 ghost use Rattle.mt_requests.specs.Requests.{request_of};
 ghost use Rattle.mt_import.specs.Script.{is_run, is_script_line, IsScript, line_text};
 
-use crate::writer::{Allocated, Done, Text};
+use crate::numbers::Numbers;
+use crate::writer::{Allocated, Done, one_behind};
 use mt_requests::request::{Request, read_request};
 use mt_skel::fault::Fault;
 use std::alloc::{AllocError, Global};
@@ -15,6 +16,8 @@ use std::marker::Model;
 #[derive(Drop)]
 pub struct Script {
     text: Vec<u8>,
+    /// The peer groups that it makes.
+    pub(crate) numbers: Numbers,
 }
 
 impl Model for Script {
@@ -59,15 +62,6 @@ fn is_script_line(alloc: Global, line: &[u8]) -> Allocated<bool>
     is_command(alloc, line)
 }
 
-/// A line with its line end.
-fn ended(alloc: Global, line: &[u8]) -> Text
-    ensures { IfOk result (λ text. text.items ≡ line.now ++ 10 ∷ []) }
-{
-    let mut text = Vec::from_slice(alloc, line)?;
-    text.push(b'\n')?;
-    Ok(text)
-}
-
 impl Script {
     /// A script without lines.
     pub fn new(alloc: Global) -> Script
@@ -75,6 +69,11 @@ impl Script {
     {
         Script {
             text: Vec::new(alloc),
+            numbers: Numbers {
+                count: 0,
+                named: Vec::new(alloc),
+                masters: Vec::new(alloc),
+            },
         }
     }
 
@@ -96,7 +95,7 @@ impl Script {
         if !is_script_line(alloc, line)? {
             return Ok(false);
         }
-        let text = ended(alloc, line)?;
+        let text = one_behind(alloc, line, b"\n")?;
         self.text.extend_from_slice(text.as_slice())?;
         Ok(true)
     }

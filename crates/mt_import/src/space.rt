@@ -1,29 +1,38 @@
 //! A table with what a script makes of it, and how its mounts come to their places: which are made apart, and where hooks would
 //! be in their way.
 ghost use Rattle.std.specs.Prelude.{◌≡◌, map, IfOk};
-ghost use Rattle.mt_import.specs.Telling.{is_shown};
+ghost use Rattle.mt_import.specs.Telling.{is_made, is_shown};
 ghost use Rattle.mt_import.specs.Turns.{hooked_by};
 
-use crate::choice::{Left, is_made};
 use crate::groups::Groups;
 use crate::mount::Mount;
 use crate::path::{STAGE, path_behind};
+use crate::plan::Plan;
 use crate::reason::Why;
 use crate::site::Site;
 use crate::tree::Tree;
-use crate::writer::{Allocated, one_behind};
+use crate::writer::Allocated;
 use std::alloc::Global;
 
-/// Paths of a namespace.
-pub(crate) type Paths = Vec<Vec<u8>>;
-
-/// How a mount comes to its place.
+/// How a mount comes to its place, if it is made.
 #[derive(Drop)]
 pub(crate) struct Way {
+    /// Why it is left out, if it is.
+    pub(crate) left: Why,
     /// Whether it is made apart, with all that stands on it, and moved.
     pub(crate) apart: bool,
     /// The paths at which the hook that isolates its place is taken away first.
-    pub(crate) others: Paths,
+    pub(crate) others: Vec<Vec<u8>>,
+}
+
+/// Whether the mount of a number is made.
+pub(crate) fn is_made(ways: &[Way], number: usize) -> bool
+    ensures { result ≡ is_made ways.now number }
+{
+    match ways.get(number) {
+        Some(way) => way.left.is_none(),
+        None => false,
+    }
 }
 
 /// The group of what a mount stands on, if others get what is mounted there.
@@ -36,14 +45,6 @@ pub(crate) fn hooked_by(groups: &Groups<'_>, mounts: &[Mount<'_>], mount: &Mount
     };
     let row = parent.row;
     groups.receiving(row.shared)
-}
-
-/// Whether others stand on a mount, not at its root: the next one in the order is the first of them.
-fn has_others(mounts: &[Mount<'_>], number: usize) -> bool {
-    let next = number.saturating_add(1);
-    mounts
-        .get(next)
-        .is_some_and(|other| other.above == number && other.lowest == next)
 }
 
 /// Where a hook would hide the place of a mount that is stacked on another: the names from the mount below the stack to there.
@@ -63,54 +64,54 @@ fn names_to_hiding<'m, 'a>(
         return None;
     }
     let names = path_behind(hook, below.root)?;
-    let is_root = below.is_base && below.base == 0 && names.is_empty();
+    let is_root = below.level == 0 && below.base == 0 && names.is_empty();
     if is_root { None } else { Some(names) }
 }
 
-/// Whether the hook on a group, if there is one, would come to what a mount is bound from.
-fn is_hooked(groups: &Groups<'_>, mount: &Mount<'_>, hooked: Option<u64>) -> bool {
-    let Some(group) = hooked else {
-        return false;
-    };
-    groups.gets_from(mount.row, group) && path_behind(mount.root, mount.place.as_slice()).is_some()
-}
-
 impl<'s, 'a> Site<'s, 'a> {
-    /// The paths at which the hook for a mount is taken away, if there is one: where it would hide the place, and where it covers
-    /// the mount itself.
-    fn others_of(
+    /// How the mount of a number comes to its place, if it is not left out: apart if another one stands on it, not at its root,
+    /// as the next one in the order does then, or if the hook for it would come to what it is bound from. The hook is taken
+    /// away where it would hide the place, and where it covers the mount itself.
+    fn way_of(
         self,
         mounts: &[Mount<'_>],
+        number: usize,
         mount: &Mount<'_>,
-        hooked: Option<u64>,
-    ) -> Allocated<Paths> {
-        let mut paths = Vec::new(self.alloc);
-        let Some(group) = hooked else {
-            return Ok(paths);
+        left: Why,
+    ) -> Allocated<Way> {
+        let next = mounts.get(number.saturating_add(1));
+        let has_others = next.is_some_and(|other| other.level > mount.level);
+        let mut way = Way {
+            left,
+            apart: has_others,
+            others: Vec::new(self.alloc),
+        };
+        let Some(group) = hooked_by(self.groups, mounts, mount) else {
+            return Ok(way);
         };
         if let Some(names) = names_to_hiding(self.groups, mounts, mount, group) {
-            let below = self.path_at(mount.base, mount.level)?;
-            paths.push(one_behind(self.alloc, below.as_slice(), names)?)?;
+            way.others.push(self.path_from(mount, names)?)?;
         }
-        if mount.root == mount.place.as_slice() && self.groups.gets_from(mount.row, group) {
-            paths.push(self.apart_path(mount.level)?)?;
+        let Some(above) = path_behind(mount.root, mount.place.as_slice()) else {
+            return Ok(way);
+        };
+        if self.groups.gets_from(mount.row, group) {
+            way.apart = true;
+            if above.is_empty() {
+                way.others.push(self.apart_path(mount)?)?;
+            }
         }
-        Ok(paths)
+        Ok(way)
     }
 
-    /// How the mount of a number comes to its place.
-    fn way_of(self, mounts: &[Mount<'_>], number: usize, mount: &Mount<'_>) -> Allocated<Way> {
-        let hooked = hooked_by(self.groups, mounts, mount);
-        let apart = has_others(mounts, number) || is_hooked(self.groups, mount, hooked);
-        let others = self.others_of(mounts, mount, hooked)?;
-        Ok(Way { apart, others })
-    }
-
-    /// How the mounts of a tree come to their places.
-    fn ways_of(self, mounts: &[Mount<'_>]) -> Allocated<Vec<Way>> {
-        let mut ways = Vec::new(self.alloc);
+    /// How the mounts of a tree come to their places, or why they are left out.
+    fn ways_of(self, mounts: &[Mount<'_>], left: &[Why]) -> Allocated<Vec<Way>> {
+        let (mut ways, mut others) = (Vec::new(self.alloc), left.iter());
         for (number, mount) in mounts.iter().enumerate() {
-            ways.push(self.way_of(mounts, number, mount)?)?;
+            let Some(left) = others.next() else {
+                break;
+            };
+            ways.push(self.way_of(mounts, number, mount, *left)?)?;
         }
         Ok(ways)
     }
@@ -123,9 +124,7 @@ pub(crate) struct Space<'a> {
     pub(crate) number: usize,
     /// The mounts of the table.
     pub(crate) tree: Tree<'a>,
-    /// Why mounts are left out.
-    pub(crate) left: Left,
-    /// How mounts come to their places.
+    /// How they come to their places.
     pub(crate) ways: Vec<Way>,
 }
 
@@ -134,55 +133,34 @@ impl<'a> Space<'a> {
     pub(crate) fn is_shown(&self) -> bool
         ensures { result ≡ is_shown self.now }
     {
-        is_made(self.left.as_slice(), 0)
+        is_made(self.ways.as_slice(), 0)
     }
 }
 
-/// What is made of a table, of which these mounts are left out.
-fn space_of<'a>(
-    site: Site<'_, '_>,
-    number: usize,
-    tree: Tree<'a>,
-    left: &[Why],
-) -> Allocated<Space<'a>>
-    ensures { IfOk result (λ space. space.tree.rows ≡ tree.entry.rows) }
-{
-    let left = Vec::from_slice(site.alloc, left)?;
-    let ways = site.ways_of(tree.mounts())?;
-    Ok(Space {
-        number,
-        tree,
-        left,
-        ways,
-    })
-}
-
-/// The tables with what is made of them: why mounts are left out is told for all trees, one after another.
+/// The tables with what is planned to be made of them.
 pub(crate) fn spaces_of<'a>(
     alloc: Global,
     trees: Vec<Tree<'a>>,
-    left: &[Why],
-    groups: &Groups<'a>,
+    plan: &Plan<'a>,
 ) -> Allocated<Vec<Space<'a>>>
     ensures rows { IfOk result (λ spaces. map (λ space. space.tree.rows) spaces.items ≡ map (λ tree. tree.rows) trees.entry.items) }
 {
     let site = Site {
         alloc,
-        groups,
+        groups: &plan.groups,
         space: b"",
         stage: STAGE,
     };
     let mut spaces: Vec<Space<'a>> = Vec::new(alloc);
-    let mut rest = left;
+    let mut rest = plan.left.as_slice();
     let mut number = 1_usize;
     'trees: for tree in trees {
         let (here, others) = rest.split_at(tree.mounts().len().min(rest.len()));
         rest = others;
-        let space = space_of(site, number, tree, here)?;
-        if space.is_shown() {
-            number = number.saturating_add(1);
-        }
-        spaces.push(space)?;
+        let ways = site.ways_of(tree.mounts(), here)?;
+        let is_shown = is_made(ways.as_slice(), 0);
+        spaces.push(Space { number, tree, ways })?;
+        number = number.saturating_add(usize::from(is_shown));
     }
     Ok(spaces)
 }

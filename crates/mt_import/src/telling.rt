@@ -2,26 +2,15 @@
 ghost use Rattle.std.specs.Prelude.{◌≡◌, ◌++◌, OnOk};
 ghost use Rattle.std.specs.List.{flat_map, AllByRecursion};
 ghost use Rattle.mt_import.specs.Script.{left_row_text, mount_comment};
-ghost use Rattle.mt_import.specs.Telling.{why_of, rows_text, tree_rows, mounts_text, rootless_text, space_comments, HasMakingOrder};
+ghost use Rattle.mt_import.specs.Telling.{rows_text, tree_rows, mounts_text, rootless_text, space_comments, HasMakingOrder};
 
-use crate::mount::{Mount, Verdict};
+use crate::mount::Mount;
 use crate::options::are_known;
 use crate::reason::{Reason, Why};
 use crate::script::Script;
-use crate::space::Space;
+use crate::space::{Space, Way};
 use crate::told::HostMount;
-use crate::writer::{Done, comment, digits_of, note, one_behind};
-
-/// Why a row has no mount in the tree of its table, if it has none: one of which the turn never came is in a ring.
-fn why_of(verdict: Verdict) -> Why
-    ensures { result ≡ why_of verdict }
-{
-    match verdict {
-        Verdict::Made => None,
-        Verdict::Left(why) => Some(why),
-        Verdict::Waits => Some(Reason::Ring),
-    }
-}
+use crate::writer::{Done, note, one_behind, table_comment};
 
 /// Tells a row that is left out, and why, if it is.
 #[tactic(auto, unfolding(crate::specs::Script::left_out_text))]
@@ -36,13 +25,13 @@ fn tell_row(script: &mut Script, table: usize, row: &HostMount, left: Why) -> Do
 }
 
 /// Tells the rows of a table that have no mount in its tree.
-fn tell_rows(script: &mut Script, table: usize, rows: &[HostMount], verdicts: &[Verdict]) -> Done
-    ensures { OnOk result (script.new ≡ script.old ++ rows_text table rows.now verdicts.now) }
+fn tell_rows(script: &mut Script, table: usize, rows: &[HostMount], left: &[Why]) -> Done
+    ensures { OnOk result (script.new ≡ script.old ++ rows_text table rows.now left.now) }
 {
-    let mut others = verdicts.iter();
+    let mut others = left.iter();
     'rows: for row in rows {
         let left = match others.next() {
-            Some(verdict) => why_of(*verdict),
+            Some(why) => *why,
             None => Some(Reason::Ring),
         };
         tell_row(script, table, row, left)?;
@@ -56,7 +45,7 @@ pub(crate) fn tell_tables(script: &mut Script, spaces: &[Space<'_>]) -> Done
 {
     'spaces: for space in spaces {
         let tree = &space.tree;
-        tell_rows(script, tree.table, tree.rows, tree.verdicts.as_slice())?;
+        tell_rows(script, tree.table, tree.rows, tree.left.as_slice())?;
     }
     Ok(())
 }
@@ -76,33 +65,28 @@ fn tell_mount(script: &mut Script, table: usize, row: &HostMount, left: Why) -> 
 }
 
 /// Tells the mounts of a table that are left out, and those with options that no mount has here.
-fn tell_mounts(script: &mut Script, table: usize, mounts: &[Mount<'_>], left: &[Why]) -> Done
-    ensures { OnOk result (script.new ≡ script.old ++ mounts_text table mounts.now left.now) }
+fn tell_mounts(script: &mut Script, table: usize, mounts: &[Mount<'_>], ways: &[Way]) -> Done
+    ensures { OnOk result (script.new ≡ script.old ++ mounts_text table mounts.now ways.now) }
 {
-    let mut others = left.iter();
+    let mut others = ways.iter();
     'mounts: for mount in mounts {
-        let why = match others.next() {
-            Some(why) => *why,
+        let left = match others.next() {
+            Some(way) => way.left,
             None => Some(Reason::NoRoom),
         };
-        tell_mount(script, table, mount.row, why)?;
+        tell_mount(script, table, mount.row, left)?;
     }
     Ok(())
 }
 
 /// Tells that no namespace is made of a table, if none is.
-#[tactic(auto, unfolding(crate::specs::Script::rootless_comment))]
 fn tell_rootless(script: &mut Script, is_shown: bool, table: usize) -> Done
     ensures { OnOk result (script.new ≡ script.old ++ rootless_text is_shown table) }
 {
     if is_shown {
         return Ok(());
     }
-    let table = digits_of(script.alloc(), table as u64)?;
-    comment(
-        script,
-        &[b"# table ", table.as_slice(), b" has no root mount"],
-    )
+    table_comment(script, table, b" has no root mount", b"")
 }
 
 /// Tells what is not made of a table.
@@ -111,8 +95,8 @@ fn tell_space(script: &mut Script, space: &Space<'_>) -> Done
     ensures pushed { OnOk result (script.new ≡ script.old ++ space_comments space.now) }
 {
     let tree = &space.tree;
-    let (table, left) = (tree.table, space.left.as_slice());
-    tell_mounts(script, table, tree.mounts(), left)?;
+    let table = tree.table;
+    tell_mounts(script, table, tree.mounts(), space.ways.as_slice())?;
     tell_rootless(script, space.is_shown(), table)?;
     Ok(())
 }

@@ -1,20 +1,18 @@
-//! The mounts of a table in the order in which they are made: what one stands on is begun before it, and what another one
-//! hides is made before that.
-ghost use Rattle.std.specs.Prelude.{◌≡◌, [], IfOk, OnOk};
-ghost use Rattle.mt_import.specs.Tree.{IsMakingOrder};
-ghost use Rattle.mt_import.specs.Growth.{GrowsOn};
+//! The mounts of a table in the order in which they are made: what one stands on comes before it, and what another one hides is
+//! made before that.
+ghost use Rattle.std.specs.Prelude.{◌≡◌, IfOk, OnOk};
+ghost use Rattle.mt_import.specs.Tree.{is_waiting, IsNextMount, IsMakingOrder};
 
-use crate::growth::Growth;
-use crate::mount::{Mount, Turn, Verdict};
+use crate::mount::{Mount, Placed, mount_on, root_mount};
 use crate::path::{below_root, names};
-use crate::reason::Reason;
+use crate::reason::{Reason, Why};
 use crate::told::HostMount;
 use crate::writer::{Allocated, Done};
 use std::alloc::Global;
 use std::collections::BTreeSet;
 use std::marker::Model;
 
-/// The mounts of a table, and the turns of their making.
+/// The mounts of a table.
 #[derive(Drop)]
 pub(crate) struct Tree<'a> {
     /// The number of the table, from 1.
@@ -22,81 +20,200 @@ pub(crate) struct Tree<'a> {
     /// Its rows.
     pub(crate) rows: &'a [HostMount],
     /// The mounts, each behind the one that it stands on.
-    pub(crate) mounts: Vec<Mount<'a>>,
-    /// What is done, in order.
-    pub(crate) turns: Vec<Turn>,
-    /// What becomes of each row.
-    pub(crate) verdicts: Vec<Verdict>,
+    mounts: Vec<Mount<'a>>,
+    /// Why rows have no mount: those of which this is None have one.
+    pub(crate) left: Vec<Why>,
+    /// Where mounts stand: on which mount, and at which path.
+    places: BTreeSet<(usize, &'a [u8])>,
 }
 
 impl<'a> Model for Tree<'a> {
-    ghost use Rattle.std.specs.Prelude.{[]};
     ghost use Rattle.mt_import.specs.Tree.{TreeView, IsMakingOrder};
 
     ghost Value = { TreeView };
 
-    ghost view = { λ t. record { table = t.table; rows = t.rows.now; mounts = t.mounts.items; turns = t.turns.items; verdicts = t.verdicts.items } };
+    ghost view = { λ t. record { table = t.table; rows = t.rows.now; mounts = t.mounts.items; left = t.left.items } };
 
-    ghost invariant = { λ t. IsMakingOrder t.rows.now t.mounts.items t.turns.items t.verdicts.items [] };
+    ghost invariant = { λ t. IsMakingOrder t.rows.now t.mounts.items t.left.items };
+}
+
+/// Whether the turn of a row has not come: it is in a ring, if it never does.
+fn is_waiting(left: &[Why], number: usize) -> bool
+    ensures { result ≡ is_waiting left.now number }
+{
+    matches!(left.get(number), Some(Some(Reason::Ring)))
+}
+
+/// Whether the place of a row on the mount of a number is free, which is the next one's then. That of the first mount is.
+fn is_free<'a>(
+    places: &mut BTreeSet<(usize, &'a [u8])>,
+    here: usize,
+    above: usize,
+    row: &'a HostMount,
+) -> Allocated<bool> {
+    Ok(here == 0 || places.insert((above, row.point.as_slice()))?)
 }
 
 impl<'a> Tree<'a> {
+    /// No mounts yet, for the rows of the table of a number, which are left out for a reason if their turn never comes.
+    fn new(alloc: Global, table: usize, rows: &'a [HostMount], why: Reason) -> Allocated<Tree<'a>>
+        ensures { IfOk result (λ tree. tree.rows ≡ rows.now) }
+    {
+        let left = vec![in alloc; Some(why); rows.len()]?;
+        Ok(Tree {
+            table,
+            rows,
+            mounts: Vec::new(alloc),
+            left,
+            places: BTreeSet::new(alloc),
+        })
+    }
+
     /// The mounts, each behind the one that it stands on.
     pub(crate) fn mounts(&self) -> &[Mount<'a>]
         ensures mounts { result.now ≡ self.now.mounts }
-        ensures kept { IsMakingOrder self.now.rows self.now.mounts self.now.turns self.now.verdicts [] }
+        ensures kept { IsMakingOrder self.now.rows self.now.mounts self.now.left }
     {
         self.mounts.as_slice()
     }
+
+    /// Leaves a row out of which the turn has not come; nothing where it has.
+    fn leave_out(&mut self, number: usize, why: Reason)
+        ensures { self.new.rows ≡ self.old.rows }
+    {
+        if is_waiting(self.left.as_slice(), number) {
+            self.left[number] = Some(why);
+        }
+    }
+
+    /// The mount of the row of a number, on the mount of a number, or as the root mount if it is the first; or why it is left
+    /// out.
+    fn placed(&self, number: usize, above: usize) -> Allocated<Placed<'a>>
+        ensures { IfOk result (λ placed. IfOk placed (λ mount. IsNextMount self.now.rows self.now.mounts number mount)) }
+    {
+        let (alloc, here) = (*self.mounts.allocator(), self.mounts.len());
+        let Some(row) = self.rows.get(number) else {
+            return Ok(Err(Reason::Ring));
+        };
+        if here == 0 {
+            let placed = root_mount(alloc, row, number);
+            return Ok(placed);
+        }
+        let Some(parent) = self.mounts.get(above) else {
+            return Ok(Err(Reason::NoParent));
+        };
+        let placed = mount_on(alloc, row, number, here, parent, above)?;
+        Ok(placed)
+    }
+
+    /// Adds the mount of the row of a number, on the mount of a number, or as the root mount if it is the first; or says why it is
+    /// left out.
+    fn place(&mut self, number: usize, on: On) -> Allocated<Why>
+        ensures { OnOk result (self.new.rows ≡ self.old.rows) }
+    {
+        let above = match on {
+            Ok(above) => above,
+            Err(why) => return Ok(Some(why)),
+        };
+        let mount = match self.placed(number, above)? {
+            Ok(mount) => mount,
+            Err(why) => return Ok(Some(why)),
+        };
+        let row = mount.row;
+        if !is_waiting(self.left.as_slice(), number) {
+            return Ok(Some(Reason::SecondLine));
+        }
+        let here = self.mounts.len();
+        if !is_free(&mut self.places, here, above, row)? {
+            return Ok(Some(Reason::SamePlace));
+        }
+        self.mounts.push(mount)?;
+        self.left[number] = None;
+        Ok(None)
+    }
+
+    /// Takes the turn of a row, unless it has come before: its mount is added, or it is left out. Those that stand on it wait for
+    /// theirs then, the last one first.
+    fn take(&mut self, next: Waiting, below: &[Below], waiting: &mut Vec<Waiting>) -> Done
+        ensures { OnOk result (self.new.rows ≡ self.old.rows) }
+    {
+        let (here, rows, number) = (self.mounts.len(), self.rows, next.number);
+        let Some(row) = rows.get(number) else {
+            return Ok(());
+        };
+        if !is_waiting(self.left.as_slice(), number) {
+            return Ok(());
+        }
+        let Some(why) = self.place(number, next.on)? else {
+            return wait_for(waiting, below_of(below, row), Ok(here));
+        };
+        self.leave_out(number, why);
+        wait_for(waiting, below_of(below, row), Err(Reason::ParentLeftOut))
+    }
+
+    /// Takes the turns of the rows that wait, the last one first, and of those that stand on these.
+    fn grow(&mut self, below: &[Below], waiting: &mut Vec<Waiting>) -> Done
+        ensures { OnOk result (self.new.rows ≡ self.old.rows) }
+    {
+        'turns: for _step in 0..=self.rows.len() {
+            let Some(next) = waiting.pop() else {
+                return Ok(());
+            };
+            self.take(next, below, waiting)?;
+        }
+        Ok(())
+    }
+}
+
+/// The mount of the tree that a row stands on, of any number if it is the root mount's; or why the row is left out.
+type On = Result<usize, Reason>;
+
+/// A row that waits for its turn.
+#[derive(Clone, Copy)]
+struct Waiting {
+    /// Which row it is.
+    number: usize,
+    /// What it stands on.
+    on: On,
 }
 
 /// A row that stands on another.
 #[derive(Clone, Copy)]
-pub(crate) struct Below {
+struct Below {
     /// The number of the mount that it stands on.
-    pub(crate) parent: u64,
+    parent: u64,
     /// How many names lead to its mount point.
-    pub(crate) names: usize,
+    names: usize,
     /// Which row it is.
-    pub(crate) number: usize,
+    number: usize,
 }
 
-impl Below {
-    /// A row, which is the one of a number.
-    pub(crate) fn of(row: &HostMount, number: usize) -> Below {
-        Below {
-            parent: row.parent,
-            names: names_to(row),
-            number,
-        }
-    }
-}
-
-/// How many names lead to the mount point of a row.
-fn names_to(row: &HostMount) -> usize {
-    names(below_root(row.point.as_slice()))
-}
-
-/// Of the rows that stand on others, those that stand on this one: those that have no more names than it, and those that
-/// have more, each by the count of names.
-pub(crate) fn below_of<'b>(below: &'b [Below], row: &HostMount) -> (&'b [Below], &'b [Below]) {
-    let (id, names) = (row.id, names_to(row));
+/// Of the rows that stand on others, those that stand on this one.
+fn below_of<'b>(below: &'b [Below], row: &HostMount) -> &'b [Below] {
+    let id = row.id;
     let start = below.partition_point(|other| other.parent < id);
     let behind = &below[start..];
     let end = behind.partition_point(|other| other.parent <= id);
-    let here = &behind[..end];
-    let split = here.partition_point(|other| other.names <= names);
-    (&here[..split], &here[split..])
+    &behind[..end]
+}
+
+/// Has these rows wait for their turns, the last one first.
+fn wait_for(waiting: &mut Vec<Waiting>, rows: &[Below], on: On) -> Done {
+    for row in rows {
+        let number = row.number;
+        waiting.push(Waiting { number, on })?;
+    }
+    Ok(())
 }
 
 /// The numbers of the mounts that rows tell. Rows of which the mount is told before are left out.
-fn ids_of(growth: &mut Growth<'_>) -> Allocated<BTreeSet<u64>>
-    ensures { OnOk result (GrowsOn growth.old growth.new) }
+fn ids_of(tree: &mut Tree<'_>) -> Allocated<BTreeSet<u64>>
+    ensures { OnOk result (tree.new.rows ≡ tree.old.rows) }
 {
-    let (mut ids, rows) = (BTreeSet::new(growth.alloc), growth.rows);
+    let (mut ids, rows) = (BTreeSet::new(*tree.mounts.allocator()), tree.rows);
     'rows: for (number, row) in rows.iter().enumerate() {
         if !ids.insert(row.id)? {
-            growth.leave_out(number, Reason::SecondLine);
+            tree.leave_out(number, Reason::SecondLine);
         }
     }
     Ok(ids)
@@ -113,51 +230,42 @@ fn root_of(ids: &BTreeSet<u64>, rows: &[HostMount]) -> Option<usize> {
 }
 
 /// The rows that stand on others, by the numbers of these, and by how many names lead to where they stand. Those that stand on
-/// none wait to be left out, but for that of the root mount.
-fn sorted(growth: &mut Growth<'_>, ids: &BTreeSet<u64>, root: usize) -> Allocated<Vec<Below>>
-    ensures { OnOk result (GrowsOn growth.old growth.new) }
-{
-    let (mut below, rows) = (Vec::new(growth.alloc), growth.rows);
-    'rows: for (number, row) in rows.iter().enumerate() {
-        if number == root || !growth.is_waiting(number) {
+/// none wait to be left out, but for that of the root mount; and all do where there is none.
+fn sorted(
+    tree: &Tree<'_>,
+    ids: &BTreeSet<u64>,
+    root: Option<usize>,
+    waiting: &mut Vec<Waiting>,
+) -> Allocated<Vec<Below>> {
+    let mut below = Vec::new(*tree.mounts.allocator());
+    let why = if root.is_some() {
+        Reason::NoParent
+    } else {
+        Reason::NoRootMount
+    };
+    for (number, row) in tree.rows.iter().enumerate() {
+        if root == Some(number) || !is_waiting(tree.left.as_slice(), number) {
             continue;
         }
-        if is_top(ids, row) {
-            growth.wait_for_row(number, Err(Reason::NoParent))?;
-        } else {
-            below.push(Below::of(row, number))?;
+        if root.is_none() || is_top(ids, row) {
+            waiting.push(Waiting {
+                number,
+                on: Err(why),
+            })?;
+            continue;
         }
+        let names = names(below_root(row.point.as_slice()));
+        below.push(Below {
+            parent: row.parent,
+            names,
+            number,
+        })?;
     }
     below.sort_unstable_by_key(|row| (row.parent, row.names, row.number));
     Ok(below)
 }
 
-/// Leaves all rows out, for a reason, of which the turn has not come.
-fn leave_all_out(growth: &mut Growth<'_>, why: Reason)
-    ensures { GrowsOn growth.old growth.new }
-{
-    let rows = growth.rows;
-    'rows: for number in 0..rows.len() {
-        growth.leave_out(number, why);
-    }
-}
-
-/// Places the mounts that rows tell.
-fn grow(growth: &mut Growth<'_>) -> Done
-    ensures { OnOk result (GrowsOn growth.old growth.new) }
-{
-    let ids = ids_of(growth)?;
-    let Some(root) = root_of(&ids, growth.rows) else {
-        leave_all_out(growth, Reason::NoRootMount);
-        return Ok(());
-    };
-    let below = sorted(growth, &ids, root)?;
-    growth.wait_for_row(root, Ok(0))?;
-    growth.take_all(below.as_slice())?;
-    Ok(())
-}
-
-/// The mounts that the rows of the table of a number tell, each with its place, and what becomes of each row: all are left out
+/// The mounts that the rows of the table of a number tell, each with its place, and why the others have none: all are left out
 /// where a table before it tells the same.
 pub(crate) fn tree_of<'a>(
     alloc: Global,
@@ -165,13 +273,18 @@ pub(crate) fn tree_of<'a>(
     rows: &'a [HostMount],
     is_told: bool,
 ) -> Allocated<Tree<'a>>
-    ensures table { IfOk result (λ tree. tree.table ≡ table) }
-    ensures rows { IfOk result (λ tree. tree.rows ≡ rows.now) }
+    ensures { IfOk result (λ tree. tree.rows ≡ rows.now) }
 {
-    let mut growth = Growth::new(alloc, rows)?;
     if is_told {
-        leave_all_out(&mut growth, Reason::SameTable);
+        return Tree::new(alloc, table, rows, Reason::SameTable);
     }
-    grow(&mut growth)?;
-    growth.grown(table)
+    let mut tree = Tree::new(alloc, table, rows, Reason::Ring)?;
+    let ids = ids_of(&mut tree)?;
+    let (root, mut waiting) = (root_of(&ids, rows), Vec::new(alloc));
+    let below = sorted(&tree, &ids, root, &mut waiting)?;
+    if let Some(number) = root {
+        waiting.push(Waiting { number, on: Ok(0) })?;
+    }
+    tree.grow(below.as_slice(), &mut waiting)?;
+    Ok(tree)
 }

@@ -1,7 +1,7 @@
 //! The lines of the script, made of their words.
 ghost use Rattle.std.specs.Prelude.{◌≡◌, ◌∷◌, ◌++◌, map, take, decimal, IfOk, OnOk};
 ghost use Rattle.std.specs.List.{flat_map, join_with_byte};
-ghost use Rattle.mt_import.specs.Script.{line_text, line_or_comment, command_text, comment_text, group_comment};
+ghost use Rattle.mt_import.specs.Script.{line_text, line_or_comment, command_text, comment_text, table_comment, group_comment};
 
 use crate::script::Script;
 use crate::told::HostMount;
@@ -112,6 +112,15 @@ pub(crate) fn comment(script: &mut Script, texts: &[&[u8]]) -> Done
     Ok(())
 }
 
+/// Appends a comment on a table, of two texts.
+#[tactic(auto, unfolding(crate::specs::Script::table_comment))]
+pub(crate) fn table_comment(script: &mut Script, table: usize, text: &[u8], last: &[u8]) -> Done
+    ensures { OnOk result (script.new ≡ script.old ++ table_comment table text.now last.now) }
+{
+    let table = digits_of(script.alloc(), table as u64)?;
+    comment(script, &[b"# table ", table.as_slice(), text, last])
+}
+
 /// Tells which group of the tables is which one of the server.
 #[tactic(auto, unfolding(crate::specs::Script::group_comment))]
 pub(crate) fn group_comment(script: &mut Script, there: u64, here: u64) -> Done
@@ -132,19 +141,11 @@ pub(crate) fn group_comment(script: &mut Script, there: u64, here: u64) -> Done
 pub(crate) fn note(script: &mut Script, table: usize, row: &HostMount, text: &[u8]) -> Done
     ensures { OnOk result (script.new ≡ script.old ++ comment_text table row.now text.now) }
 {
-    let table = digits_of(script.alloc(), table as u64)?;
     let number = digits_of(script.alloc(), row.id)?;
     let told = first_bytes(row.line.as_slice(), MOST_TOLD);
-    let (table, number) = (table.as_slice(), number.as_slice());
-    let texts: [&[u8]; 8] = [
-        b"# table ",
-        table,
-        b": mount ",
-        number,
-        b" ",
-        text,
-        b": ",
-        told,
-    ];
-    comment(script, texts.as_slice())
+    let last = joined(
+        script.alloc(),
+        &[number.as_slice(), b" ", text, b": ", told],
+    )?;
+    table_comment(script, table, b": mount ", last.as_slice())
 }

@@ -1,6 +1,5 @@
-use Rattle.mt_import.specs.Growth.{GrowsOn}
+use Rattle.std.proofs.Common.{◌≡◌}
 use Rattle.mt_import.proofs.tree.ids_of.Given as goal
 
--- a tree that grows stays one, of the same rows
 abbrev pub invariant-rows : goal.invariant-rows
-invariant-rows l = GrowsOn l.initial.growth l.growth
+invariant-rows l = l.tree.rows ≡ l.initial.tree.rows

@@ -1,0 +1,289 @@
+//! What a script makes in front of the namespaces: filesystems, one for each device, their directories, and what is staged: a
+//! mount of each filesystem of which directories are bound, and a member of each peer group from which mounts are bound.
+
+use crate::groups::{Group, Staged};
+use crate::path::{SECOND, STAGE};
+use crate::plan::{Candidate, Plan};
+use crate::script::Script;
+use crate::site::{APART, COVER, GROUP, NEW, PEER, SHARED, SLAVE, SPARED, STAGE_FS};
+use crate::space::Space;
+use crate::told::HostMount;
+use crate::writer::{
+    Allocated, Done, Text, command, comment, digits_of, group_comment, joined, note, one_behind,
+    spaced,
+};
+use std::alloc::Global;
+use std::collections::BTreeSet;
+
+/// The directories of what is staged, each behind its filesystem: the slots of root mounts, of what hooks spare, and of groups.
+pub(crate) fn slots_of(alloc: Global, staged: &Staged) -> Allocated<BTreeSet<Vec<u8>>> {
+    let mut slots = BTreeSet::new(alloc);
+    slots.insert(one_behind(alloc, STAGE_FS, NEW)?)?;
+    slots.insert(one_behind(alloc, STAGE_FS, SPARED)?)?;
+    for group in staged.iter() {
+        let digits = digits_of(alloc, group.1)?;
+        slots.insert(joined(alloc, &[STAGE_FS, GROUP, digits.as_slice()])?)?;
+    }
+    Ok(slots)
+}
+
+impl<'a> Plan<'a> {
+    /// Adds the filesystem of a row of a table.
+    fn add_filesystem(&mut self, table: usize, row: &'a HostMount) -> Done {
+        let device = row.device.as_slice();
+        let Some((_, first)) = self.filesystems.get(&device) else {
+            self.filesystems.insert(device, (table, row))?;
+            return Ok(());
+        };
+        if first.kind.as_slice() != row.kind.as_slice()
+            || first.source.as_slice() != row.source.as_slice()
+        {
+            self.others.push((table, row))?;
+        }
+        Ok(())
+    }
+
+    /// Adds the directory of a filesystem of which these texts are the path, and those above it.
+    fn add_directory(&mut self, filesystem: &[u8], texts: &[&[u8]]) -> Done {
+        let path = joined(self.alloc, texts)?;
+        for end in 1..=path.len() {
+            if end == path.len() || path[end] == b'/' {
+                let directory = joined(self.alloc, &[filesystem, &path[..end]])?;
+                self.directories.insert(directory)?;
+            }
+        }
+        Ok(())
+    }
+
+    /// Adds a slot of a number.
+    fn add_slot(&mut self, name: &[u8], number: u64) -> Done {
+        let digits = digits_of(self.alloc, number)?;
+        self.add_directory(STAGE_FS, &[name, digits.as_slice()])
+    }
+
+    /// Adds the filesystem of a mount to those that are staged, if a directory of it is bound without a group.
+    fn add_plain(&mut self, row: &'a HostMount, root: &[u8]) -> Done {
+        if root.is_empty() || self.groups.source_of(row.shared, row.master).is_some() {
+            return Ok(());
+        }
+        let device = row.device.as_slice();
+        self.plains.insert(device)?;
+        self.add_directory(STAGE_FS, &[b"/", device])
+    }
+
+    /// Adds what the root mount needs, or one that comes to the root of the namespace: where the old root stands meanwhile.
+    fn add_base(&mut self, device: &[u8], root: &[u8], base: usize) -> Done {
+        self.add_directory(device, &[root, STAGE])?;
+        if base == 0 {
+            return Ok(());
+        }
+        self.add_directory(device, &[root, SECOND])?;
+        self.add_directory(STAGE_FS, &[PEER])?;
+        self.add_slot(COVER, base as u64)
+    }
+
+    /// Adds what a mount needs: what it shows, where it stands, and a slot for it.
+    pub(crate) fn add(&mut self, candidate: &Candidate<'_, 'a>) -> Done {
+        let (row, mount, below) = (candidate.row, candidate.mount, candidate.below);
+        let (device, lower) = (row.device.as_slice(), below.row);
+        self.add_filesystem(candidate.table, row)?;
+        self.add_plain(row, mount.root)?;
+        self.add_directory(device, &[mount.root])?;
+        self.add_directory(lower.device.as_slice(), &[mount.place.as_slice()])?;
+        if mount.level > 0 {
+            return self.add_slot(APART, (mount.level - 1) as u64);
+        }
+        self.add_base(device, mount.root, mount.base)
+    }
+
+    /// Makes the filesystems of the mounts.
+    fn make_filesystems(&self, script: &mut Script) -> Done {
+        for (before, first) in self.filesystems.values().enumerate() {
+            let (table, row) = *first;
+            make_filesystem(script, table, row, before.saturating_add(1))?;
+        }
+        Ok(())
+    }
+
+    /// Tells the rows that tell another type or source than the first one of their device.
+    fn tell_others(&self, script: &mut Script) -> Done {
+        for other in self.others.iter() {
+            let (table, row) = *other;
+            note(
+                script,
+                table,
+                row,
+                b"tells another type or source of its device",
+            )?;
+        }
+        Ok(())
+    }
+
+    /// Makes the directories, each behind those above it.
+    fn make_directories(&self, script: &mut Script) -> Done {
+        for directory in self.directories.iter() {
+            let text = directory.as_slice();
+            if let Some(end) = text.iter().position(|byte| *byte == b'/') {
+                command(script, &[b"mkdir", &text[..end], &text[end..]])?;
+            }
+        }
+        Ok(())
+    }
+
+    /// Stages the filesystems of which directories are bound.
+    fn stage_plains(&self, script: &mut Script) -> Done {
+        for device in self.plains.iter() {
+            let path = one_behind(self.alloc, b"/", device)?;
+            command(script, &[b"mount", b"1", device, path.as_slice()])?;
+        }
+        Ok(())
+    }
+
+    /// Stages members of groups, of those above others first.
+    fn stage_groups(&self, script: &mut Script) -> Done {
+        for staged in self.staged.iter() {
+            if let Some(group) = self.groups.get(staged.1) {
+                self.stage_group(script, staged.1, &group)?;
+            }
+        }
+        Ok(())
+    }
+
+    /// Stages a member of a group of the tables.
+    fn stage_group(&self, script: &mut Script, number: u64, group: &Group<'_>) -> Done {
+        let path = numbered(self.alloc, number)?;
+        let path = path.as_slice();
+        script.count_group(&self.groups, number, b"")?;
+        group_comment(script, number, group.here)?;
+        self.stage_below(script, group, path)?;
+        command(script, &[b"setattr", b"1", path, SHARED])
+    }
+
+    /// Has a member of a group come from that of its master, as a slave, or else from its filesystem.
+    fn stage_below(&self, script: &mut Script, group: &Group<'_>, path: &[u8]) -> Done {
+        let Some(master) = group.master else {
+            return command(script, &[b"mount", b"1", group.device, path]);
+        };
+        let source = numbered(self.alloc, master)?;
+        command(script, &[b"bind", b"1", source.as_slice(), path])?;
+        command(script, &[b"setattr", b"1", path, SLAVE])
+    }
+
+    /// Makes all that stands in front of the namespaces.
+    pub(crate) fn make_front(&self, script: &mut Script) -> Done {
+        self.make_filesystems(script)?;
+        self.tell_others(script)?;
+        command(script, &[b"mkfs", STAGE_FS, b"import", b"none"])?;
+        self.make_directories(script)?;
+        command(script, &[b"newns", STAGE_FS])?;
+        self.stage_plains(script)?;
+        self.stage_groups(script)
+    }
+
+    /// Unmounts the staged members of groups in a namespace, but of those of which no table has one.
+    fn unstage_groups(&self, script: &mut Script, space: &[u8]) -> Done {
+        for staged in self.staged.iter() {
+            if self.groups.is_seen(staged.1) {
+                let path = numbered(self.alloc, staged.1)?;
+                command(script, &[b"umount", space, path.as_slice()])?;
+            }
+        }
+        Ok(())
+    }
+
+    /// Unmounts the staged filesystems there.
+    fn unstage_plains(&self, script: &mut Script, space: &[u8]) -> Done {
+        for device in self.plains.iter() {
+            let path = one_behind(self.alloc, b"/", device)?;
+            command(script, &[b"umount", space, path.as_slice()])?;
+        }
+        Ok(())
+    }
+
+    /// What makes one more namespace than those of the first table and these, which keeps members of groups of which no table has
+    /// one, if there are any.
+    pub(crate) fn keeper_of(&self, others: &[Space<'_>]) -> Allocated<Script> {
+        let mut script = Script::new(self.alloc);
+        if !self.has_unseen() {
+            return Ok(script);
+        }
+        let shown = others.iter().filter(|space| space.is_shown()).count();
+        let space = digits_of(self.alloc, (shown as u64).saturating_add(2))?;
+        let space = space.as_slice();
+        comment(
+            &mut script,
+            &[
+                b"# namespace ",
+                space,
+                b" keeps masters of which no table has a mount",
+            ],
+        )?;
+        command(&mut script, &[b"copyns", b"1"])?;
+        self.unstage_groups(&mut script, space)?;
+        self.unstage_plains(&mut script, space)?;
+        Ok(script)
+    }
+}
+
+/// The slot of a group.
+fn numbered(alloc: Global, group: u64) -> Text {
+    let digits = digits_of(alloc, group)?;
+    one_behind(alloc, GROUP, digits.as_slice())
+}
+
+/// A source as a word of a command: the kernel escapes `#` in a source, and a command does not.
+fn source_word(alloc: Global, source: &[u8]) -> Text {
+    let mut word = Vec::new(alloc);
+    let mut passed = 0_usize;
+    for (place, byte) in source.iter().enumerate() {
+        if passed > 0 {
+            passed -= 1;
+        } else if source[place..].starts_with(b"\\043") {
+            word.push(b'#')?;
+            passed = 3;
+        } else {
+            word.push(*byte)?;
+        }
+    }
+    Ok(word)
+}
+
+/// Appends the command that makes a filesystem, if the server would read it: whether it would.
+fn push_mkfs(script: &mut Script, device: &[u8], kind: &[u8], source: &[u8]) -> Allocated<bool> {
+    let line = spaced(script.alloc(), &[b"mkfs", device, kind, source])?;
+    script.push(line.as_slice())
+}
+
+/// Makes the filesystem of a device. A type or source that no filesystem can have is told in a comment, and `none` in its
+/// place.
+fn make_device(script: &mut Script, table: usize, row: &HostMount) -> Done {
+    let (device, kind) = (row.device.as_slice(), row.kind.as_slice());
+    let source = source_word(script.alloc(), row.source.as_slice())?;
+    if push_mkfs(script, device, kind, source.as_slice())? {
+        return Ok(());
+    }
+    let text = b"has a type or source that no filesystem can have";
+    note(script, table, row, text)?;
+    let _is_read = push_mkfs(script, device, kind, b"none")?
+        || push_mkfs(script, device, b"none", source.as_slice())?
+        || push_mkfs(script, device, b"none", b"none")?;
+    Ok(())
+}
+
+/// Makes the filesystem of a row, the one of a number here. Its super options are told with its first mount, if they are
+/// others than `rw`: they are the last word of a line.
+fn make_filesystem(script: &mut Script, table: usize, row: &HostMount, here: usize) -> Done {
+    let (device, here) = (
+        row.device.as_slice(),
+        digits_of(script.alloc(), here as u64)?,
+    );
+    comment(
+        script,
+        &[b"# ", device, b" is filesystem ", here.as_slice()],
+    )?;
+    make_device(script, table, row)?;
+    if row.line.as_slice().ends_with(b" rw") {
+        return Ok(());
+    }
+    note(script, table, row, b"has super options that are left out")
+}
