@@ -42,6 +42,7 @@ use crate::told::NAME;
 use crate::what_if::{line_of, run_what_if};
 use clap::{ArgMatches, Error};
 use mt_arguments::program::{Program, read_arguments};
+use mt_client::manner::Manner;
 use mt_client::mirror::mirror;
 use mt_client::picture::draw;
 use mt_client::telling::tell;
@@ -100,7 +101,11 @@ fn run_on<R: Input + Drop, W: Output, O: Output>(
         Task::Mirror { space, count } => Ok(mirror(alloc, lines, writer, space, count, out)?),
         Task::Draw { scope, drawing } => Ok(draw(alloc, lines, writer, scope, drawing, out)?),
         Task::Tell { scope, marks } => {
-            tell(alloc, lines, writer, scope, marks.telling, out)?;
+            let manner = Manner {
+                telling: marks.telling,
+                names: &[],
+            };
+            tell(alloc, lines, writer, scope, &manner, out)?;
             Ok(false)
         }
         Task::Find => match found_words(words) {

@@ -37,14 +37,14 @@ first_line p = join_with_byte 32 (event_words p.space p.number (length p.gone + 
 abbrev later_lines : PostView → List (List ℕ)
 later_lines p = map gone_line p.gone ++ map row_line p.rows
 
-due_some : (scope : Scope) (mirrors : List MirrorView) (lines : List (List ℕ)) → IsDuePost scope mirrors lines → (first : List ℕ) × (others : List (List ℕ)) × (lines ≡ first ∷ others)
+pub due_some : (scope : Scope) (mirrors : List MirrorView) (lines : List (List ℕ)) → IsDuePost scope mirrors lines → (first : List ℕ) × (others : List (List ℕ)) × (lines ≡ first ∷ others)
 due_some scope mirrors lines k = (first_line k.post, later_lines k.post, k.all)
 
 pub due_needs_line : (scope : Scope) (mirrors : List MirrorView) (before : List Item) → NoneFirst (AreSoMany 1) before → NoneFirst (IsRefusedOr (IsDuePost scope mirrors)) before
 due_needs_line scope mirrors before none = needs_line before (refused_some (due_some scope mirrors)) none
 
 -- the first line of a post that comes first was read, and the others come first then
-post_taken : (seen : List ℕ) (before middle later : List Item) (lines : List (List ℕ)) (p : PostView) → before ≡ Text seen ∷ middle → lines ≡ post_lines p → before ≡ texts lines ++ later
+pub post_taken : (seen : List ℕ) (before middle later : List Item) (lines : List (List ℕ)) (p : PostView) → before ≡ Text seen ∷ middle → lines ≡ post_lines p → before ≡ texts lines ++ later
     → (others : List (List ℕ)) × (seen ∷ others ≡ post_lines p) × (middle ≡ texts others ++ later)
 post_taken seen before middle later lines p there is e =
     let t = first_taken seen (first_line p) lines (later_lines p) before middle later there is e in

@@ -11,7 +11,7 @@ use Rattle.mt_client.specs.declared.fault.ClientFault.TheVariants.{Output, NoMem
 use Rattle.mt_client.specs.Reading.{lines_left, HasBroken, IsBroken, NoneFirst}
 use Rattle.mt_client.specs.Awaited.{IsOneRefusal}
 use Rattle.mt_client.specs.Mirroring.{HasRefused}
-use Rattle.mt_client.specs.Calls.{ReadsOn, WritesOn, IsOut, IsOutInPart, IsReadFault, IsPassFault, IsPrintFault, IsTurnedAway, IsAskFault, PassesRefusal}
+use Rattle.mt_client.specs.Calls.{ReadsOn, WritesOn, IsOut, IsOutInPart, IsReadFault, IsPassFault, IsTurnedAway, IsAskFault, PassesRefusal}
 use Rattle.mt_client.proofs.RelayLaws.{broken_later, broken_cut, unprinted}
 use Rattle.mt_client.proofs.CallLaws.{either, writes_still, out_as, refused_of, no_memory≢output, no_memory≢connection, output≢connection}
 
@@ -68,9 +68,6 @@ ask_fault_printing w h f kind shown a m b k l x y z same still lent on refused p
       kept = λ other u. absurd (other part.0);
       broken = λ t u. broken_cut f (last_line b) (lines_left a) (lines_left b) (h.written x) (h.written z) (subst (λ r. lines_left r ≡ Text (last_line b) ∷ lines_left b) same (refused t).read) part.0 (p.cut u);
     }
-
-pub print_fault_passing : {R O : Type 0} {g : Ghosts R} {h : OutputGhosts O} {f : ClientFault} {kind : List (List ℕ) → Type 0} {seen : List (List ℕ)} {a b : LineReader R g} {x y : O} → IsPassFault h f kind seen a b x y → IsPrintFault h f a b x y
-print_fault_passing q = record { limit = q.limit; cause = q.cause }
 
 pub ask_fault_of : {R W O : Type 0} {g : Ghosts R} {w : OutputGhosts W} {h : OutputGhosts O} {f : ClientFault} {inner kind : List (List ℕ) → Type 0} {a b : LineReader R g} {k l : W} {x y : O} → (NoneFirst inner (lines_left a) → NoneFirst kind (lines_left a)) → IsAskFault w h f inner a b k l x y
     → IsAskFault w h f kind a b k l x y

@@ -15,11 +15,11 @@ use Rattle.mt_client.specs.Reading.{lines_left, texts, printed, Passed, HasRead,
 use Rattle.mt_client.specs.Mirroring.{HasRefused}
 use Rattle.mt_protocol.specs.declared.form.Form.{Form}
 use Rattle.mt_client.specs.Replies.{IsAnswer}
-use Rattle.mt_client.specs.Calls.{ReadsOn, WritesOn, AreRead, IsOut, IsOutInPart, IsReadFault, IsTellFault, IsPassFault, IsTalkFault, IsPrintFault, PassesOn, PassesRefusal}
+use Rattle.mt_client.specs.Calls.{ReadsOn, WritesOn, AreRead, IsOut, IsOutInPart, IsReadFault, IsTellFault, IsPassFault, IsTalkFault, PassesOn, PassesRefusal}
 use Rattle.mt_client.proofs.RelayLaws.{printed-append, broken_later, cut_within, broken_more, unprinted, cut_by_fault, never_output}
 use Rattle.mt_client.proofs.MirrorLaws.{runs_read}
 
-connection≢output : Connection ≢ Output
+pub connection≢output : Connection ≢ Output
 connection≢output e = let both : ◌≡◌ {A = ClientFault} Connection Output = e in cc
 
 pub no_memory≢output : NoMemory ≢ Output
@@ -266,15 +266,8 @@ pub tell_checked : {R O : Type 0} {g : Ghosts R} {h : OutputGhosts O} {f : Clien
     → (f ≡ Output → IsTrue h.counts → HasBroken (h.failed x) (h.failed y) (h.faults x) (h.faults y)) → IsTellFault h f kind a b x y
 tell_checked limit none cause = record { limit = limit; cut = λ e t u. inr (none e t); cause = cause }
 
--- a fault of calls that print
-pub print_fault_printing : {R O : Type 0} {g : Ghosts R} {h : OutputGhosts O} {f : ClientFault} {text : List ℕ} {a b : LineReader R g} {x y : O} → ReadsOn a b → (f ≡ Output) × IsOutInPart h text x y → IsPrintFault h f a b x y
-print_fault_printing p part = record { limit = p.limit; cause = λ e u. part.1.cause u }
-
-pub print_fault_behind : {R O : Type 0} {g : Ghosts R} {h : OutputGhosts O} {f : ClientFault} {a b c : LineReader R g} {x y z : O} → ReadsOn a b → WritesOn h x y → IsPrintFault h f b c y z → IsPrintFault h f a c x z
-print_fault_behind {R} {O} {g} {h} {f} {a} {b} {c} {x} {y} {z} p o q = record {
-  limit = q.limit ∙ p.limit;
-  cause = λ e u. broken_later (h.failed x) (h.failed y) (h.failed z) (h.faults x) (h.faults y) (h.faults z) (o.counted u) (o.serves u) (q.cause e u);
-}
+pub tell_fault_printing : {R O : Type 0} {g : Ghosts R} {h : OutputGhosts O} {f : ClientFault} {kind : List (List ℕ) → Type 0} {text : List ℕ} {a b : LineReader R g} {x y : O} → ReadsOn a b → (f ≡ Output) × IsOutInPart h text x y → IsTellFault h f kind a b x y
+tell_fault_printing p part = record { limit = p.limit; cut = λ e t u. absurd (output≢connection (sym part.0 ∙ e)); cause = λ e u. part.1.cause u }
 
 -- a fault of calls that read, print and ask
 pub talk_fault_behind : {R W O : Type 0} {g : Ghosts R} {w : OutputGhosts W} {h : OutputGhosts O} {f : ClientFault} {inner kind : List (List ℕ) → Type 0} {a b c : LineReader R g} {k l m : W} {x y z : O}

@@ -11,9 +11,8 @@ use Rattle.mt_client.specs.declared.block.Block.TheVariants.{Post}
 use Rattle.mt_protocol.specs.declared.form.Form.{Form}
 use Rattle.mt_protocol.specs.declared.form.Form.TheVariants.{Done, Number, Place, Table, Opening, Posts, Followed, Never}
 use Rattle.mt_protocol.specs.Verbs.{first_of}
-use Rattle.mt_client.specs.Requests.{verdict}
+use Rattle.mt_client.specs.Requests.{verdict, event_count}
 use Rattle.mt_client.specs.Reading.{texts, HasRead, NoneFirst, AreSoMany}
-use Rattle.mt_client.specs.Awaited.{event_count}
 use Rattle.mt_client.specs.Replies.{IsPostLines, IsBlockOf, most_posts, IsEnding, IsHeaded, IsFollowAnswer, IsAnswer}
 use Rattle.mt_client.proofs.OpeningLaws.{first_taken, texts_split}
 use Rattle.mt_client.proofs.FollowLaws.{lines_alike}

@@ -15,8 +15,8 @@ use Rattle.mt_events.specs.Mirrors.{MirrorView, is_next, are_next, mirrored}
 use Rattle.mt_events.proofs.PostLaws.{text_tells, event_lacks}
 use Rattle.mt_client.specs.Reading.{texts, printed, NoneFirst, AreSoMany}
 use Rattle.mt_client.specs.Mirroring.{IsRefusal, counted_line, opening_lines, AreMirrored, HasOpened, IsPosted, HasFollowed}
-use Rattle.mt_client.specs.Awaited.{event_count, IsOneRefusal, IsRefusedOr, IsOpening, IsNextPost, IsNextPostBehind, IsPostBehind, IsOnlyPost, TakesPost, TakesBehind, IsLast, IsFollowing, IsEnd, IsMirroring}
-use Rattle.mt_client.specs.Requests.{is_refusal}
+use Rattle.mt_client.specs.Awaited.{IsOneRefusal, IsRefusedOr, IsOpening, IsNextPost, IsNextPostBehind, IsPostBehind, IsOnlyPost, TakesPost, TakesBehind, IsLast, IsFollowing, IsEnd, IsMirroring}
+use Rattle.mt_client.specs.Requests.{is_refusal, event_count}
 use Rattle.mt_client.proofs.OpeningLaws.{first_taken, texts_split, needs_line, no_refusal, unrefused_or, opened_alike}
 
 pub on_ok : {A E : Type 0} {P : Type 0} (r : Result A E) → P → OnOk r P
@@ -110,9 +110,12 @@ behind_only r n seen before after begun text post is counts began read valid sai
     let whole : text ≡ printed (seen ∷ others) = read.3 ∙ (λ i. began i ++ printed (a.0 i)) in
     (text_tells other post valid_other valid (sym (printed_post (seen ∷ others) other all) ∙ sym whole ∙ said), a.1)
 
-pub behind_posted : {n : ℕ} (seen : List ℕ) (before after : List Item) (begun text : List ℕ) (post : PostView) → begun ≡ ended seen → HasReadMore n before after begun text → text ≡ post_text post → IsPosted seen before after post
-behind_posted seen before after begun text post began read said = record {
+pub behind_posted : (r : Option ℕ) (n : ℕ) (seen : List ℕ) (before after : List Item) (begun text : List ℕ) (post : PostView) → r ≡ Some n
+    → r ≡ event_count (words seen)
+    → begun ≡ ended seen → HasReadMore n before after begun text → text ≡ post_text post → IsPosted seen before after post
+behind_posted r n seen before after begun text post is counts began read said = record {
   others = read.0;
+  counted = sym counts ∙ is ∙ ap Some (sym read.1);
   read = read.2;
   text = ap (λ b. b ++ printed read.0) (sym began) ∙ sym read.3 ∙ said;
 }

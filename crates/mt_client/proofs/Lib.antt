@@ -13,3 +13,4 @@ pub mod PlaceLaws
 pub mod TellingLaws
 pub mod AheadLaws
 pub mod EffectLaws
+pub mod MissingLaws

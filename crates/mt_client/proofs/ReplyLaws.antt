@@ -15,10 +15,10 @@ use Rattle.mt_protocol.specs.declared.form.Form.{Form}
 use Rattle.mt_client.specs.declared.block.Block.{Block}
 use Rattle.mt_client.specs.declared.block.Block.TheVariants.{Namespace, Post}
 use Rattle.mt_client.specs.declared.opening.Heading.{Heading}
-use Rattle.mt_client.specs.Requests.{verdict, lines_behind}
+use Rattle.mt_client.specs.Requests.{verdict, lines_behind, event_count}
 use Rattle.mt_client.specs.Reading.{texts, printed, HasRead, NoneFirst, AreSoMany}
 use Rattle.mt_client.specs.Mirroring.{heading_words}
-use Rattle.mt_client.specs.Awaited.{event_count, IsRowLine, AreRowLines}
+use Rattle.mt_client.specs.Awaited.{IsRowLine, AreRowLines}
 use Rattle.mt_client.specs.Replies.{IsPartLines, IsPostLines, IsBlock, IsBlockOf, AreBlocks, AreBlockLines, AreBehind, IsHeaded}
 use Rattle.mt_client.proofs.OpeningLaws.{first_taken, texts_split, needs_line, heading_tells, rows_cut}
 use Rattle.mt_client.proofs.FollowLaws.{lines_alike}

@@ -1,9 +1,7 @@
 -- Which lines a mirror waits for: an opening of one namespace, posts that follow it, and their end; or a refusal in the place of a line.
 -- A word with no source is this project's rule.
-use Rattle.std.specs.Prelude.{◌≡◌, ℕ, ◌≤◌, true, List, [], ◌∷◌, ◌++◌, map, length, ◌⊎◌, Option, None, if◌then◌else◌, codes}
+use Rattle.std.specs.Prelude.{◌≡◌, ℕ, ◌≤◌, true, List, [], ◌∷◌, ◌++◌, map, length, ◌⊎◌}
 use Rattle.std.specs.List.{flat_map, AllByRecursion}
-use Rattle.std.specs.Str.{bytes_eq}
-use Rattle.mt_lines.specs.Words.{number_in_text}
 use Rattle.mt_lines.specs.Lines.{Item}
 use Rattle.mt_info.specs.Laws.{IsRow}
 use Rattle.mt_info.specs.RowLine.{line}
@@ -12,11 +10,6 @@ use Rattle.mt_events.specs.Posts.{PostView, IsPost, post_lines}
 use Rattle.mt_events.specs.Mirrors.{MirrorView, is_next, are_next}
 use Rattle.mt_client.specs.Reading.{texts}
 use Rattle.mt_client.specs.Mirroring.{IsRefusal, IsShown, counted_line, opening_lines}
-
--- how many lines stand behind the first line of a post: the fourth of its words, of which the first is `event`
-abbrev pub event_count : List (List ℕ) → Option ℕ
-event_count (first ∷ second ∷ third ∷ fourth ∷ words) = if bytes_eq first (codes "event") then number_in_text fourth else None
-event_count words = None
 
 -- one line, which refuses
 abbrev pub IsOneRefusal : List (List ℕ) → Type 0

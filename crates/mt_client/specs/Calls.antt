@@ -67,11 +67,6 @@ pub record IsTalkFault {R W O : Type 0} {g : Ghosts R} (w : OutputGhosts W) (h :
       → HasBroken (w.failed asked) (w.failed sent) (w.faults asked) (w.faults sent) ⊎ (HasBroken (failed_calls old) (failed_calls new) (last_faults old) (last_faults new) ⊎ NoneFirst kind (lines_left old))
   pub cause : fault ≡ Output → IsTrue h.counts → HasBroken (h.failed begun) (h.failed done) (h.faults begun) (h.faults done)
 
--- a fault of calls that print: Output only where calls of the output failed
-pub record IsPrintFault {R O : Type 0} {g : Ghosts R} (h : OutputGhosts O) (fault : ClientFault) (old new : LineReader R g) (begun done : O) : Type 0 where
-  pub limit : limit_of new ≡ limit_of old
-  pub cause : fault ≡ Output → IsTrue h.counts → HasBroken (h.failed begun) (h.failed done) (h.faults begun) (h.faults done)
-
 -- lines were read that are, behind some that were read before, of this kind, and all of them were printed
 pub record PassesOn {R O : Type 0} {g : Ghosts R} (h : OutputGhosts O) (seen : List (List ℕ)) (kind : List (List ℕ) → Type 0) (old new : LineReader R g) (begun done : O) : Type 0 where
   pub others : List (List ℕ)

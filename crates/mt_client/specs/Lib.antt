@@ -8,3 +8,4 @@ pub mod Telling
 pub mod Due
 pub mod Replies
 pub mod Effects
+pub mod Missing

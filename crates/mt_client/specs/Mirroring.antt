@@ -1,9 +1,10 @@
 -- What a mirror reads: the opening of a watcher of one namespace, posts that follow it, and their end.
 -- A word with no source is this project's rule.
-use Rattle.std.specs.Prelude.{◌≡◌, ℕ, ◌+◌, ◌≤◌, ◌<◌, ◌^◌, true, List, [], ◌∷◌, ◌++◌, map, length, IsTrue, codes, decimal, ◌⊎◌}
+use Rattle.std.specs.Prelude.{◌≡◌, ℕ, ◌+◌, ◌≤◌, ◌<◌, ◌^◌, true, List, [], ◌∷◌, ◌++◌, map, length, IsTrue, Some, codes, decimal, ◌⊎◌}
 use Rattle.std.specs.List.{flat_map, join_with_byte, AllByRecursion}
 use Rattle.mt_skel.specs.Keyed.{rises}
 use Rattle.mt_lines.specs.Lines.{Item, Text}
+use Rattle.mt_lines.specs.Words.{words}
 use Rattle.mt_info.specs.Table.{row_id}
 use Rattle.mt_info.specs.Laws.{IsRow}
 use Rattle.mt_info.specs.RowLine.{line}
@@ -12,7 +13,7 @@ use Rattle.mt_events.specs.Mirrors.{MirrorView, are_next, mirrored_by}
 use Rattle.mt_events.specs.declared.opening.Opening.{Opening}
 use Rattle.mt_events.specs.declared.opening.Scope.TheVariants.{One}
 use Rattle.mt_events.specs.Texts.{count_text, opening_text, followed_text}
-use Rattle.mt_client.specs.Requests.{is_refusal, numbered_text}
+use Rattle.mt_client.specs.Requests.{is_refusal, numbered_text, event_count}
 use Rattle.mt_client.specs.Reading.{texts, printed}
 
 -- the line of an answer `ok` with a number
@@ -61,9 +62,10 @@ pub record HasOpened (space : ℕ) (before after : List Item) (found : MirrorVie
   pub of : found.space ≡ space
   pub read : before ≡ texts (opening_lines found) ++ after
 
--- lines were read that are, behind a first line, the text of this post
+-- lines were read that are, behind a first line that tells how many they are, the text of this post
 pub record IsPosted (first : List ℕ) (before after : List Item) (post : PostView) : Type 0 where
   pub others : List (List ℕ)
+  pub counted : event_count (words first) ≡ Some (length others)
   pub read : before ≡ texts others ++ after
   pub text : printed (first ∷ others) ≡ post_text post
 

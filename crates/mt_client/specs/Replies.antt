@@ -8,10 +8,10 @@ use Rattle.mt_protocol.specs.declared.form.Form.{Form}
 use Rattle.mt_protocol.specs.declared.form.Form.TheVariants.{Table, Opening, Posts, Followed}
 use Rattle.mt_client.specs.declared.block.Block.{Block}
 use Rattle.mt_client.specs.declared.block.Block.TheVariants.{Namespace, Post}
-use Rattle.mt_client.specs.Requests.{verdict, is_refusal, lines_behind}
+use Rattle.mt_client.specs.Requests.{verdict, is_refusal, lines_behind, event_count}
 use Rattle.mt_client.specs.Reading.{printed}
 use Rattle.mt_client.specs.Mirroring.{counted_line, heading_words}
-use Rattle.mt_client.specs.Awaited.{event_count, AreRowLines}
+use Rattle.mt_client.specs.Awaited.{AreRowLines}
 
 -- the lines of a namespace: its number, that of its last post and how many rows it has, and then so many rows
 pub record IsPartLines (lines : List (List ℕ)) : Type 0 where

@@ -78,3 +78,8 @@ behind_first (word ∷ words) = words
 -- how many lines come behind the first line of an answer that tells this, if an answer of this form has such a line
 abbrev pub lines_behind : Form → Bool → List ℕ → Option ℕ
 lines_behind form told line = if told then lines_said form (behind_first (words line)) else (if is_refusal line then Some 0 else None)
+
+-- how many lines stand behind the first line of a post: the fourth of its words, of which the first is `event`
+abbrev pub event_count : List (List ℕ) → Option ℕ
+event_count (first ∷ second ∷ third ∷ fourth ∷ words) = if bytes_eq first (codes "event") then number_in_text fourth else None
+event_count words = None

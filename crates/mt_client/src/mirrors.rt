@@ -4,7 +4,6 @@ ghost use Rattle.std.specs.List.{remove, position_from, position_or_len};
 ghost use Rattle.std.specs.Option.{option_map_or};
 ghost use Rattle.mt_skel.specs.Keyed.{rises};
 ghost use Rattle.mt_events.specs.Mirrors.{MirrorView, is_next};
-ghost use Rattle.mt_render.specs.Wording.{named_text};
 ghost use Rattle.mt_render.specs.Events.{told_as};
 ghost use Rattle.mt_client.specs.Finding.{mirror_space};
 ghost use Rattle.mt_client.specs.Telling.{mirror_begun, mirror_in, mirrors_with};
@@ -92,23 +91,4 @@ pub(crate) fn apply_told(
     apply_next(&mut mirror, post)?;
     mirrors.insert(place, mirror)?;
     Ok(())
-}
-
-/// Tells a post in words, with the name of its namespace, and applies it as [`apply_told`] does.
-pub(crate) fn apply_named(
-    alloc: Global,
-    text: &mut Vec<u8>,
-    mirrors: &mut Vec<Mirror>,
-    post: &Post,
-    name: &[u8],
-) -> Result<(), ClientFault>
-    requires rising { IsTrue (rises mirror_space mirrors.old.items) }
-    ensures told { OnOk result (text.new.items ≡ text.old.items ++ named_text name.now (mirror_in mirrors.old.items post.now.space) post.now) }
-    ensures applied { OnOk result (mirrors.new.items ≡ mirrors_with mirrors.old.items post.now) }
-    ensures next { OnOk result (is_next (mirror_in mirrors.old.items post.now.space) post.now ≡ true) }
-    ensures refused { result ≡ Err ClientFault.Connection → is_next (mirror_in mirrors.old.items post.now.space) post.now ≡ false }
-    ensures rising { OnOk result (IsTrue (rises mirror_space mirrors.new.items)) }
-    ensures kind { result ≢ Err ClientFault.Output }
-{
-    apply_told(alloc, text, Telling::Words, mirrors, post, name)
 }

@@ -4,10 +4,11 @@ ghost use Rattle.mt_lines.specs.Reading.{fault_of, last_line};
 ghost use Rattle.mt_lines.specs.Words.{words};
 ghost use Rattle.mt_events.specs.Posts.{PostView, IsPost, post_text, ended};
 ghost use Rattle.mt_events.specs.Mirrors.{is_next, mirrored};
+ghost use Rattle.mt_client.specs.Requests.{event_count};
 ghost use Rattle.mt_client.specs.Reading.{lines_left, printed, AreSoMany};
 ghost use Rattle.mt_client.specs.Calls.{ReadsOn, AreRead, IsReadFault};
 ghost use Rattle.mt_client.specs.Mirroring.{HasPosted, IsPosted};
-ghost use Rattle.mt_client.specs.Awaited.{event_count, IsNextPostBehind, IsPostBehind, IsOnlyPost, TakesBehind};
+ghost use Rattle.mt_client.specs.Awaited.{IsNextPostBehind, IsPostBehind, IsOnlyPost, TakesBehind};
 
 use crate::fault::ClientFault;
 use crate::relay::next_text;

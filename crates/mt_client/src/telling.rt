@@ -4,18 +4,18 @@ ghost use Rattle.mt_skel.specs.Keyed.{rises};
 ghost use Rattle.mt_lines.specs.Reading.{last_faults, fault_of, last_line, limit_of};
 ghost use Rattle.mt_events.specs.Mirrors.{MirrorView};
 ghost use Rattle.mt_events.specs.Posts.{PostView, ended};
-ghost use Rattle.mt_render.specs.Events.{told_as};
 ghost use Rattle.mt_client.specs.Requests.{numbered_text};
 ghost use Rattle.mt_client.specs.Reading.{lines_left, HasBroken, IsSentPart, NoneFirst, IsCut};
 ghost use Rattle.mt_client.specs.Calls.{ReadsOn, WritesOn, IsOut, IsOutInPart, IsTellFault, IsTalkFault};
 ghost use Rattle.mt_client.specs.Mirroring.{HasRefused};
 ghost use Rattle.mt_client.specs.Awaited.{IsOneRefusal, IsRefusedOr};
 ghost use Rattle.mt_client.specs.Finding.{mirror_space};
-ghost use Rattle.mt_client.specs.Telling.{mirror_in, mirrors_with, is_due, posts_told, follows_text, telling_text, all_posts, HasTold, IsStopped, IsBrokenOff, HasToldPost, HasToldPortion, HasToldAll, HasToldAllOut, IsToldUpTo};
+ghost use Rattle.mt_client.specs.Telling.{told_in, mirrors_with, is_due, posts_told, follows_text, telling_text, all_posts, HasTold, IsStopped, IsBrokenOff, HasToldPost, HasToldPortion, HasToldAll, HasToldAllOut, IsToldUpTo};
 ghost use Rattle.mt_client.specs.Due.{IsDuePost, AreDuePosts, AreDuePortions, IsTelling, IsOnlyApplied, AreOnlyApplied};
 
 use crate::answer::is_refusal;
 use crate::fault::ClientFault;
+use crate::manner::{Manner, name_of};
 use crate::mirror::read_end;
 use crate::mirrors::apply_told;
 use crate::posts::read_posted;
@@ -28,7 +28,6 @@ use mt_events::opening::Scope;
 use mt_events::post::Post;
 use mt_lines::line::LineReader;
 use mt_lines::stream::{Input, Output};
-use mt_render::telling::Telling;
 use std::alloc::Global;
 
 /// How many posts a request asks for, the most that one may.
@@ -38,10 +37,10 @@ const PORTION: u64 = 1_048_576;
 const MOST_PORTIONS: u64 = u64::MAX;
 
 /// Tells a post and applies it, where it is of a namespace of the scope and the next one.
-fn tell_due<O: Output>(
+pub(crate) fn tell_due<O: Output>(
     alloc: Global,
     scope: Scope,
-    telling: Telling,
+    manner: &Manner<'_>,
     mirrors: &mut Vec<Mirror>,
     post: &Post,
     out: &mut O,
@@ -53,15 +52,16 @@ fn tell_due<O: Output>(
     ensures refused { result ≡ Err ClientFault.Connection → is_due scope mirrors.old.items post.now ≡ false }
     ensures kept { OnErr result (result ≢ Err ClientFault.Output → IsTrue O.tells
         → O.written out.new ≡ O.written out.old) }
-    ensures out { OnOk result (IsOut O.Output (told_as telling [] (mirror_in mirrors.old.items post.now.space) post.now) out.old out.new) }
+    ensures out { OnOk result (IsOut O.Output (told_in manner.now mirrors.old.items post.now) out.old out.new) }
     ensures part { result ≡ Err ClientFault.Output → (is_due scope mirrors.old.items post.now ≡ true)
-        × IsOutInPart O.Output (told_as telling [] (mirror_in mirrors.old.items post.now.space) post.now) out.old out.new }
+        × IsOutInPart O.Output (told_in manner.now mirrors.old.items post.now) out.old out.new }
 {
     if !scope.names(post.space) {
         return Err(ClientFault::Connection);
     }
     let mut text = Vec::new(alloc);
-    apply_told(alloc, &mut text, telling, mirrors, post, &[])?;
+    let name = name_of(manner.names, post.space);
+    apply_told(alloc, &mut text, manner.telling, mirrors, post, name)?;
     print(out, text.as_slice())
 }
 
@@ -70,18 +70,18 @@ fn tell_post<R: Input + Drop, O: Output>(
     alloc: Global,
     lines: &mut LineReader<R>,
     scope: Scope,
-    telling: Telling,
+    manner: &Manner<'_>,
     mirrors: &mut Vec<Mirror>,
     out: &mut O,
 ) -> Result<bool, ClientFault>
     requires fresh { fault_of lines.old ≡ None }
     requires rising { IsTrue (rises mirror_space mirrors.old.items) }
     ensures told { IfOk result (λ going. IsTrue R.tells → IsTrue O.tells → MatchBool going
-        (HasToldPost telling scope mirrors.old.items mirrors.new.items (lines_left lines.old) (lines_left lines.new) (O.written out.old) (O.written out.new))
+        (HasToldPost manner.now scope mirrors.old.items mirrors.new.items (lines_left lines.old) (lines_left lines.new) (O.written out.old) (O.written out.new))
         ((O.written out.new ≡ O.written out.old) × HasRefused (last_line lines.new) (lines_left lines.old) (lines_left lines.new))) }
     ensures rising { OnOk result (IsTrue (rises mirror_space mirrors.new.items)) }
     ensures broken { IsTrue R.tells → IsTrue O.tells → IfErr result
-        (λ fault. IsStopped telling fault scope mirrors.old.items (lines_left lines.old) (O.written out.old) (O.written out.new)) }
+        (λ fault. IsStopped manner.now fault scope mirrors.old.items (lines_left lines.old) (O.written out.old) (O.written out.new)) }
     ensures applied { result ≡ Ok true → IsTrue R.tells
         → IsOnlyApplied mirrors.old.items mirrors.new.items (lines_left lines.old) (lines_left lines.new) }
     ensures unrefused { result ≡ Ok true → IsTrue R.tells → NoneFirst IsOneRefusal (lines_left lines.old) }
@@ -94,7 +94,7 @@ fn tell_post<R: Input + Drop, O: Output>(
         return Ok(false);
     }
     let post = read_posted(alloc, lines)?;
-    tell_due(alloc, scope, telling, mirrors, &post, out)?;
+    tell_due(alloc, scope, manner, mirrors, &post, out)?;
     Ok(true)
 }
 
@@ -104,7 +104,7 @@ fn tell_posts<R: Input + Drop, O: Output>(
     alloc: Global,
     lines: &mut LineReader<R>,
     scope: Scope,
-    telling: Telling,
+    manner: &Manner<'_>,
     count: u64,
     mirrors: &mut Vec<Mirror>,
     out: &mut O,
@@ -112,11 +112,11 @@ fn tell_posts<R: Input + Drop, O: Output>(
     requires fresh { fault_of lines.old ≡ None }
     requires rising { IsTrue (rises mirror_space mirrors.old.items) }
     ensures told { IfOk result (λ going. IsTrue R.tells → IsTrue O.tells → MatchBool going
-        (HasToldPortion telling count scope mirrors.old.items mirrors.new.items (lines_left lines.old) (lines_left lines.new) (O.written out.old) (O.written out.new))
-        (HasToldAll telling count scope (last_line lines.new) mirrors.old.items (lines_left lines.old) (lines_left lines.new) (O.written out.old) (O.written out.new))) }
+        (HasToldPortion manner.now count scope mirrors.old.items mirrors.new.items (lines_left lines.old) (lines_left lines.new) (O.written out.old) (O.written out.new))
+        (HasToldAll manner.now count scope (last_line lines.new) mirrors.old.items (lines_left lines.old) (lines_left lines.new) (O.written out.old) (O.written out.new))) }
     ensures rising { OnOk result (IsTrue (rises mirror_space mirrors.new.items)) }
     ensures broken { IsTrue R.tells → IsTrue O.tells → IfErr result
-        (λ fault. IsToldUpTo telling fault count scope mirrors.old.items (lines_left lines.old) (O.written out.old) (O.written out.new)) }
+        (λ fault. IsToldUpTo manner.now fault count scope mirrors.old.items (lines_left lines.old) (O.written out.old) (O.written out.new)) }
     ensures applied { result ≡ Ok true → IsTrue R.tells
         → AreOnlyApplied count scope mirrors.old.items mirrors.new.items (lines_left lines.old) (lines_left lines.new) }
     ensures on { OnOk result (ReadsOn lines.old lines.new) }
@@ -124,7 +124,7 @@ fn tell_posts<R: Input + Drop, O: Output>(
     ensures fault { IfErr result (λ fault. IsTellFault O.Output fault (AreDuePosts count scope mirrors.old.items) lines.old lines.new out.old out.new) }
 {
     'posts: for _post in 0..count {
-        if !tell_post(alloc, lines, scope, telling, mirrors, out)? {
+        if !tell_post(alloc, lines, scope, manner, mirrors, out)? {
             return Ok(false);
         }
     }
@@ -137,7 +137,7 @@ fn tell_portion<R: Input + Drop, W: Output, O: Output>(
     lines: &mut LineReader<R>,
     writer: &mut W,
     scope: Scope,
-    telling: Telling,
+    manner: &Manner<'_>,
     count: u64,
     mirrors: &mut Vec<Mirror>,
     out: &mut O,
@@ -145,11 +145,11 @@ fn tell_portion<R: Input + Drop, W: Output, O: Output>(
     requires fresh { fault_of lines.old ≡ None }
     requires rising { IsTrue (rises mirror_space mirrors.old.items) }
     ensures told { IfOk result (λ going. IsTrue R.tells → IsTrue O.tells → MatchBool going
-        (HasToldPortion telling count scope mirrors.old.items mirrors.new.items (lines_left lines.old) (lines_left lines.new) (O.written out.old) (O.written out.new))
-        (HasToldAllOut telling count scope mirrors.old.items (lines_left lines.old) (lines_left lines.new) (O.written out.old) (O.written out.new))) }
+        (HasToldPortion manner.now count scope mirrors.old.items mirrors.new.items (lines_left lines.old) (lines_left lines.new) (O.written out.old) (O.written out.new))
+        (HasToldAllOut manner.now count scope mirrors.old.items (lines_left lines.old) (lines_left lines.new) (O.written out.old) (O.written out.new))) }
     ensures rising { OnOk result (IsTrue (rises mirror_space mirrors.new.items)) }
     ensures broken { IsTrue R.tells → IsTrue O.tells → IfErr result
-        (λ fault. IsToldUpTo telling fault count scope mirrors.old.items (lines_left lines.old) (O.written out.old) (O.written out.new)) }
+        (λ fault. IsToldUpTo manner.now fault count scope mirrors.old.items (lines_left lines.old) (O.written out.old) (O.written out.new)) }
     ensures part { IsTrue W.tells
         → IsSentPart (ended (numbered_text (codes "follow") count)) (W.written writer.old) (W.written writer.new) }
     ensures applied { result ≡ Ok true → IsTrue R.tells
@@ -163,7 +163,7 @@ fn tell_portion<R: Input + Drop, W: Output, O: Output>(
     if !send_request(lines, writer, follow.as_slice(), out)? {
         return Ok(false);
     }
-    if tell_posts(alloc, lines, scope, telling, count, mirrors, out)? {
+    if tell_posts(alloc, lines, scope, manner, count, mirrors, out)? {
         return Ok(true);
     }
     print_line(out, lines.line())?;
@@ -176,7 +176,7 @@ fn tell_portions<R: Input + Drop, W: Output, O: Output>(
     lines: &mut LineReader<R>,
     writer: &mut W,
     scope: Scope,
-    telling: Telling,
+    manner: &Manner<'_>,
     count: u64,
     mirrors: &mut Vec<Mirror>,
     out: &mut O,
@@ -184,9 +184,9 @@ fn tell_portions<R: Input + Drop, W: Output, O: Output>(
     requires fresh { fault_of lines.old ≡ None }
     requires rising { IsTrue (rises mirror_space mirrors.old.items) }
     ensures told { OnOk result (IsTrue R.tells → IsTrue O.tells
-        → HasToldAllOut telling count scope mirrors.old.items (lines_left lines.old) (lines_left lines.new) (O.written out.old) (O.written out.new)) }
+        → HasToldAllOut manner.now count scope mirrors.old.items (lines_left lines.old) (lines_left lines.new) (O.written out.old) (O.written out.new)) }
     ensures broken { IsTrue R.tells → IsTrue O.tells → IfErr result
-        (λ fault. IsToldUpTo telling fault count scope mirrors.old.items (lines_left lines.old) (O.written out.old) (O.written out.new)) }
+        (λ fault. IsToldUpTo manner.now fault count scope mirrors.old.items (lines_left lines.old) (O.written out.old) (O.written out.new)) }
     ensures part { IsTrue W.tells
         → (times : ℕ) × IsSentPart (follows_text count times) (W.written writer.old) (W.written writer.new) }
     ensures on { OnOk result (ReadsOn lines.old lines.new) }
@@ -194,14 +194,14 @@ fn tell_portions<R: Input + Drop, W: Output, O: Output>(
     ensures fault { IfErr result (λ fault. IsTalkFault W.Output O.Output fault (AreDuePortions count scope mirrors.old.items) lines.old lines.new writer.old writer.new out.old out.new) }
 {
     'portions: for _portion in 0..MOST_PORTIONS {
-        if !tell_portion(alloc, lines, writer, scope, telling, count, mirrors, out)? {
+        if !tell_portion(alloc, lines, writer, scope, manner, count, mirrors, out)? {
             return Ok(());
         }
     }
     Err(ClientFault::Connection)
 }
 
-/// Watches a scope and tells each post that comes, in words or as JSON, until a refusal comes in the place of a line, which is
+/// Watches a scope and tells each post that comes, in this manner, until a refusal comes in the place of a line, which is
 /// printed.
 ///
 /// The reader has met no fault, and serves what comes over the connection. What the watcher found is read and not
@@ -220,7 +220,7 @@ pub fn tell<R: Input + Drop, W: Output, O: Output>(
     lines: &mut LineReader<R>,
     writer: &mut W,
     scope: Scope,
-    telling: Telling,
+    manner: &Manner<'_>,
     out: &mut O,
 ) -> Result<(), ClientFault>
     requires fresh { fault_of lines.old ≡ None }
@@ -233,12 +233,12 @@ pub fn tell<R: Input + Drop, W: Output, O: Output>(
         → ((refusal : List ℕ) × HasRefused refusal (lines_left lines.old) (lines_left lines.new) × (O.written out.new ≡ O.written out.old ++ ended refusal))
         ⊎ ((found : List MirrorView) × (portions : List (List PostView)) × (rest : List PostView) × (refusal : List ℕ)
         × HasTold scope portions rest refusal (lines_left lines.old) (lines_left lines.new) found
-        × (O.written out.new ≡ O.written out.old ++ posts_told telling found (all_posts portions rest) ++ ended refusal))) }
+        × (O.written out.new ≡ O.written out.old ++ posts_told manner.now found (all_posts portions rest) ++ ended refusal))) }
 
     // Up to a fault nothing was printed, or what is told of posts that had come, from the first one on, each whole. Where
     // the output failed, a part of one more text was printed, that of a post that is due, or of lines that had come.
     ensures broken { IsTrue R.tells → IsTrue O.tells → IfErr result
-        (λ fault. IsBrokenOff telling fault scope (lines_left lines.old) (O.written out.old) (O.written out.new)) }
+        (λ fault. IsBrokenOff manner.now fault scope (lines_left lines.old) (O.written out.old) (O.written out.new)) }
 
     // A part of the requests went out, that of the watcher and some for posts, and nothing else.
     ensures part { IsTrue W.tells
@@ -269,7 +269,7 @@ pub fn tell<R: Input + Drop, W: Output, O: Output>(
         lines,
         writer,
         scope,
-        telling,
+        manner,
         PORTION,
         &mut mirrors,
         out,

@@ -1,17 +1,26 @@
 use Rattle.std.proofs.Common.{rules, inl, inr}
-use Rattle.std.proofs.lemmas.Result.{IfErr-weaker, on_ok_weaker}
+use Rattle.std.proofs.lemmas.Result.{err_from_is_err_and, IfErr-weaker, on_ok_weaker}
 use Rattle.mt_lines.specs.Reading.{last_line}
 use Rattle.mt_client.specs.Reading.{lines_left}
 use Rattle.mt_client.proofs.RequestLaws.{part_first, part_second, part_one}
-use Rattle.mt_client.proofs.CallLaws.{reads_both, writes_both, out_both, handed_on, passes_passed, refused_of, print_fault_behind}
-use Rattle.mt_client.proofs.AskLaws.{print_fault_passing}
+use Rattle.mt_client.specs.Missing.{IsClosing, IsMissing, IsMissingAnswer}
+use Rattle.mt_client.specs.Awaited.{IsRefusedOr}
+use Rattle.mt_client.proofs.CallLaws.{reads_both, writes_both, out_both, handed_on, passes_passed, passes_read, refused_of}
+use Rattle.mt_client.proofs.MissingLaws.{missing_later, effect_unsent, effect_passing, effect_behind}
 use Rattle.mt_client.proofs.effects.tell_answered.Goals as goal
 
 pub returns-in_err-send_request-clause-part : goal.returns-in_err-send_request-clause-part
 returns-in_err-send_request-clause-part g c u = part_first _ _ _ _ (c.send_request.ensures.part u)
 
 pub returns-in_err-send_request-clause-fault : goal.returns-in_err-send_request-clause-fault
-returns-in_err-send_request-clause-fault g c = handed_on _ _ _ c.from_residual.ensures.1 (print_fault_passing c.in_err-send_request.ensures.fault)
+returns-in_err-send_request-clause-fault g c =
+    handed_on _ _ _ c.from_residual.ensures.1
+    (effect_unsent (λ unsent. IsMissingAnswer unsent c.args.line.now c.args.mirrors.now.items (lines_left c.args.lines.now)) (λ unsent s none. inl (inr (s, none))) (c.send_request.ensures.cause (search rules)) c.in_err-send_request.ensures.fault)
+
+pub returns-in_err-send_request-clause-broken : goal.returns-in_err-send_request-clause-broken
+returns-in_err-send_request-clause-broken g c t u =
+    let p = err_from_is_err_and c.from_residual.result c.from_residual.ensures.1 in
+    rw (p.1, p.2) (inl (c.in_err-send_request.ensures.fault.broken t u))
 
 pub returns-then-not-branch-clause-part : goal.returns-then-not-branch-clause-part
 returns-then-not-branch-clause-part g c u = part_first _ _ _ _ (c.send_request.ensures.part u)
@@ -25,7 +34,13 @@ returns-in_err-pass_answer-clause-part g c u = part_one _ _ _ _ ((c.send_request
 pub returns-in_err-pass_answer-clause-fault : goal.returns-in_err-pass_answer-clause-fault
 returns-in_err-pass_answer-clause-fault g c =
     handed_on _ _ _ c.from_residual-in_err-pass_answer.ensures.1
-    (print_fault_passing (rw (c.send_request.ensures.unread (search rules), c.send_request.ensures.unprinted (search rules)) at c.in_err-pass_answer.ensures.fault))
+    (effect_passing (λ unsent. IsMissingAnswer unsent c.args.line.now c.args.mirrors.now.items (lines_left c.args.lines.now)) (λ unsent none. inl (inl none))
+    (rw (c.form_of.ensures, c.send_request.ensures.unread (search rules), c.send_request.ensures.unprinted (search rules)) at c.in_err-pass_answer.ensures.fault))
+
+pub returns-in_err-pass_answer-clause-broken : goal.returns-in_err-pass_answer-clause-broken
+returns-in_err-pass_answer-clause-broken g c t u =
+    let p = err_from_is_err_and c.from_residual-in_err-pass_answer.result c.from_residual-in_err-pass_answer.ensures.1 in
+    rw (p.1, p.2) (inl (rw (c.send_request.ensures.unread (search rules), c.send_request.ensures.unprinted (search rules)) at (c.in_err-pass_answer.ensures.fault.broken t u)))
 
 pub returns-then-not-branch-2-clause-part : goal.returns-then-not-branch-2-clause-part
 returns-then-not-branch-2-clause-part g c u = part_one _ _ _ _ ((c.send_request.ensures.sent (search rules)).went u)
@@ -63,8 +78,17 @@ returns-clause-prints g c =
     let on = rw (c.send_request.ensures.unprinted (search rules)) at c.in_ok-pass_answer.ensures.passed.out.on in
     on_ok_weaker c.tell_changes.result (λ q. writes_both on q) c.tell_changes.ensures.prints
 
+pub returns-clause-broken : goal.returns-clause-broken
+returns-clause-broken g c t u =
+    let passed = rw (c.if-not-branch-2.false, c.form_of.ensures, c.send_request.ensures.unread (search rules), c.send_request.ensures.unprinted (search rules)) at (passes_passed c.in_ok-pass_answer.ensures.passed t u) in
+    IfErr-weaker c.tell_changes.result _ _ (λ f q. inr (lines_left c.pass_answer.new.lines, g.O.Output.written c.pass_answer.new.out, passed, q)) (c.tell_changes.ensures.broken t u)
+
 pub returns-clause-fault : goal.returns-clause-fault
 returns-clause-fault g c =
-    let on = rw (c.send_request.ensures.unread (search rules)) at c.in_ok-pass_answer.ensures.passed.read.on in
-    let prints = rw (c.send_request.ensures.unprinted (search rules)) at c.in_ok-pass_answer.ensures.passed.out.on in
-    IfErr-weaker c.tell_changes.result _ _ (λ f q. print_fault_behind on prints q) c.tell_changes.ensures.fault
+    let passed = rw (c.if-not-branch-2.false, c.form_of.ensures, c.send_request.ensures.unread (search rules), c.send_request.ensures.unprinted (search rules)) at c.in_ok-pass_answer.ensures.passed in
+    let sent = c.send_request.ensures.sent (search rules) in
+    IfErr-weaker c.tell_changes.result _ _
+    (λ f q.
+    effect_behind (λ unsent. IsMissing unsent (IsRefusedOr (IsClosing c.args.mirrors.now.items)) (lines_left c.pass_answer.new.lines)) (λ unsent. IsMissingAnswer unsent c.args.line.now c.args.mirrors.now.items (lines_left c.args.lines.now))
+    passed.read.on sent.on passed.out.on (λ t less more later m. inr (lines_left c.pass_answer.new.lines, passes_read passed t, missing_later later m)) q)
+    c.tell_changes.ensures.fault

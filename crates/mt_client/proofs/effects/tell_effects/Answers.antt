@@ -1,18 +1,30 @@
 use Rattle.std.proofs.Common.{rules, refl, ◌++◌, codes, inl, inr}
-use Rattle.std.proofs.lemmas.Result.{err_from_is_err_and, IfErr-at_err}
+use Rattle.std.proofs.lemmas.Result.{err_from_is_err_and, IfErr-at_err, IfErr-weaker}
 use Rattle.mt_lines.specs.Reading.{last_line}
 use Rattle.mt_events.specs.Posts.{ended}
 use Rattle.mt_events.specs.declared.opening.Scope.TheVariants.{All}
 use Rattle.mt_client.specs.Reading.{lines_left}
 use Rattle.mt_client.specs.Finding.{watch_text}
 use Rattle.mt_client.proofs.RequestLaws.{part_first, part_second}
-use Rattle.mt_client.proofs.RelayLaws.{same_fault}
-use Rattle.mt_client.proofs.TellingLaws.{when_present}
-use Rattle.mt_client.proofs.CallLaws.{out_both}
+use Rattle.mt_client.proofs.RelayLaws.{same_fault, broken_later}
+use Rattle.mt_client.proofs.TellingLaws.{when_present, unsaid_of}
+use Rattle.mt_client.proofs.CallLaws.{either, out_both}
+use Rattle.mt_client.proofs.MissingLaws.{answer_later, ask_missing}
 use Rattle.mt_client.proofs.effects.tell_effects.Goals as goal
 
 pub returns-in_err-mirrors-clause-part : goal.returns-in_err-mirrors-clause-part
 returns-in_err-mirrors-clause-part g c u = part_first (ended (watch_text All)) (ended c.args.line.now ++ ended (codes "close")) _ _ (c.watch.ensures.part u)
+
+pub returns-in_err-mirrors-clause-broken : goal.returns-in_err-mirrors-clause-broken
+returns-in_err-mirrors-clause-broken g c t u =
+    let p = err_from_is_err_and c.from_residual.result c.from_residual.ensures.1 in
+    let fault = c.in_err-mirrors.ensures.fault in
+    rw (p.1, p.2) (inl (unsaid_of c.in_err-mirrors.field-0.0 _ _ _ (fault.broken t u) (λ other. fault.kept other u)))
+
+pub returns-in_err-mirrors-clause-connection : goal.returns-in_err-mirrors-clause-connection
+returns-in_err-mirrors-clause-connection g c is t u v =
+    let p = err_from_is_err_and c.from_residual.result c.from_residual.ensures.1 in
+    either (λ broken. broken) inl (ask_missing c.in_err-mirrors.ensures.fault (same_fault _ _ _ _ p.1 p.2 is) t u v)
 
 pub returns-in_err-mirrors-clause-output : goal.returns-in_err-mirrors-clause-output
 returns-in_err-mirrors-clause-output g c is u =
@@ -48,6 +60,20 @@ returns-clause-refused g c is t u =
     let found = when_present _ c.in_ok-mirrors.field-0 c.in-Some.mirrors (search rules) c.in_ok-mirrors.ensures.found in
     let same = when_present _ c.in_ok-mirrors.field-0 c.in-Some.mirrors (search rules) c.in_ok-mirrors.ensures.unprinted in
     inr (c.in-Some.mirrors.items, lines_left c.watch.new.lines, found t, rw same at (c.tell_answered.ensures.refused is t u))
+
+pub returns-clause-broken : goal.returns-clause-broken
+returns-clause-broken g c t u =
+    let found = when_present _ c.in_ok-mirrors.field-0 c.in-Some.mirrors (search rules) c.in_ok-mirrors.ensures.found in
+    let same = when_present _ c.in_ok-mirrors.field-0 c.in-Some.mirrors (search rules) c.in_ok-mirrors.ensures.unprinted in
+    IfErr-weaker c.tell_answered.result _ _ (λ f q. inr (c.in-Some.mirrors.items, lines_left c.watch.new.lines, found t, q)) (rw same at (c.tell_answered.ensures.broken t u))
+
+pub returns-clause-connection : goal.returns-clause-connection
+returns-clause-connection g c is t u v =
+    let found = when_present _ c.in_ok-mirrors.field-0 c.in-Some.mirrors (search rules) c.in_ok-mirrors.ensures.found in
+    let sent = when_present _ c.in_ok-mirrors.field-0 c.in-Some.mirrors (search rules) c.in_ok-mirrors.ensures.sent in
+    let on = c.in_ok-mirrors.ensures.on in
+    let fault = IfErr-at_err _ is c.tell_answered.ensures.fault in
+    either (broken_later _ _ _ _ _ _ (on.counted u) (on.reads u)) (λ m. inr (c.in-Some.mirrors.items, lines_left c.watch.new.lines, found t, answer_later c.args.line.now c.in-Some.mirrors.items (lines_left c.watch.new.lines) (broken_later _ _ _ _ _ _ (sent.on.counted v) (sent.on.serves v)) m)) (fault.cut refl t u v)
 
 pub returns-clause-output : goal.returns-clause-output
 returns-clause-output g c is u =

@@ -1,8 +1,10 @@
-use Rattle.std.proofs.Common.{◌≡◌, ◌+◌, arith, subst}
-use Rattle.mt_client.proofs.CallLaws.{read_still, reads_both, writes_still, writes_both, handed_on, print_fault_behind}
+use Rattle.std.proofs.Common.{◌≡◌, ◌+◌, ◌∙◌, arith, subst}
+use Rattle.std.proofs.lemmas.Result.{err_from_is_err_and}
+use Rattle.mt_client.proofs.CallLaws.{connection≢output, read_still, reads_both, writes_still, writes_both, handed_on, tell_fault_behind, tell_checked}
 use Rattle.mt_client.specs.Reading.{lines_left}
-use Rattle.mt_client.specs.Effects.{HasNamed}
-use Rattle.mt_client.proofs.EffectLaws.{none_named, more_named}
+use Rattle.mt_client.specs.Effects.{HasToldLines}
+use Rattle.mt_client.proofs.EffectLaws.{all_left, more_lines, both_lines, short_behind, short_of_lines}
+use Rattle.mt_client.proofs.MissingLaws.{all_coming, more_coming, coming_cut, coming_over}
 use Rattle.mt_client.proofs.effects.tell_lines.Goals as goal
 
 pub telling-init : goal.telling-init
@@ -10,7 +12,8 @@ telling-init g c = record {
   on = read_still _ c.requires.fresh;
   prints = writes_still g.O.Output _;
   rising = c.requires.rising;
-  told = λ t u. (0, omega arith, none_named c.args.names.now c.args.mirrors.now.items _ _);
+  coming = λ t. all_coming c.args.count c.args.mirrors.now.items _;
+  told = λ t u. all_left c.args.manner.now c.args.count c.args.mirrors.now.items _ _;
 }
 
 pub telling-preserved : goal.telling-preserved
@@ -23,14 +26,36 @@ telling-preserved g c =
       on = reads_both c.telling.invariant.on c.in_ok-behind.ensures.on;
       prints = writes_both c.telling.invariant.prints c.in_ok-behind.ensures.prints;
       rising = c.in_ok-behind.ensures.rising;
-      told = λ t u. more_named c.args.count c.telling.left (1 + c.in_ok-behind.behind) c.in-Some.rest c.args.names.now c.args.mirrors.now.items c.telling.mirrors.items _ _ _ _ _ _ _ less (c.telling.invariant.told t u) (c.in_ok-behind.ensures.told t u);
+      coming = λ t. more_coming c.args.count c.in_ok-behind.behind c.telling.left c.in-Some.rest c.args.mirrors.now.items c.telling.mirrors.items _ _ _ _ less (c.telling.invariant.coming t) (c.in_ok-behind.ensures.only t);
+      told = λ t u. more_lines c.args.manner.now c.args.count c.telling.left (1 + c.in_ok-behind.behind) c.in-Some.rest c.args.mirrors.now.items c.telling.mirrors.items _ _ _ _ _ _ _ less (c.telling.invariant.told t u) (c.in_ok-behind.ensures.told t u);
     }
 
 pub returns-clause-told : goal.returns-clause-told
 returns-clause-told g c t u =
     let h = c.telling.invariant.told t u in
     let all : h.0 ≡ c.args.count = omega (arith, c.telling-test.false, h.1) in
-    subst (λ n. HasNamed n c.args.names.now c.args.mirrors.now.items c.telling.mirrors.items (lines_left c.args.lines.now) (lines_left c.telling.lines) (g.O.Output.written c.args.out.now) (g.O.Output.written c.telling.out)) all h.2
+    subst (λ n. HasToldLines c.args.manner.now n c.args.mirrors.now.items c.telling.mirrors.items (lines_left c.args.lines.now) (lines_left c.telling.lines) (g.O.Output.written c.args.out.now) (g.O.Output.written c.telling.out)) all h.2
+
+pub returns-in_err-behind-clause-broken : goal.returns-in_err-behind-clause-broken
+returns-in_err-behind-clause-broken g c t u =
+    let p = err_from_is_err_and c.from_residual.result c.from_residual.ensures.1 in
+    let h = c.telling.invariant.told t u in
+    rw (p.1, p.2) (short_behind c.args.manner.now c.in_err-behind.field-0.0 h.0 c.args.mirrors.now.items c.telling.mirrors.items _ _ _ _ _ h.2 (c.in_err-behind.ensures.broken t u))
+
+pub returns-in_default-clause-broken : goal.returns-in_default-clause-broken
+returns-in_default-clause-broken g c t u =
+    let h = c.telling.invariant.told t u in
+    short_of_lines c.args.manner.now (h.0 + (1 + c.in_ok-behind.behind)) c.args.mirrors.now.items _ _ _ _ _ (both_lines c.args.manner.now h.0 (1 + c.in_ok-behind.behind) c.args.mirrors.now.items c.telling.mirrors.items _ _ _ _ _ _ _ h.2 (c.in_ok-behind.ensures.told t u))
 
 pub returns-in_err-behind-clause-fault : goal.returns-in_err-behind-clause-fault
-returns-in_err-behind-clause-fault g c = handed_on _ _ _ c.from_residual.ensures.1 (print_fault_behind c.telling.invariant.on c.telling.invariant.prints c.in_err-behind.ensures.fault)
+returns-in_err-behind-clause-fault g c =
+    handed_on _ _ _ c.from_residual.ensures.1
+    (tell_fault_behind c.telling.invariant.on c.telling.invariant.prints (λ t. coming_cut c.args.count c.telling.left c.args.mirrors.now.items c.telling.mirrors.items _ _ c.telling-test.true (c.telling.invariant.coming t)) c.in_err-behind.ensures.fault)
+
+pub returns-in_default-clause-fault : goal.returns-in_default-clause-fault
+returns-in_default-clause-fault g c =
+    tell_checked (c.in_ok-behind.ensures.on.limit ∙ c.telling.invariant.on.limit)
+    (λ e t.
+    coming_over c.args.count c.in_ok-behind.behind c.telling.left c.args.mirrors.now.items c.telling.mirrors.items _ _ _ _ c.telling-test.true (omega (arith, c.in_default.ensures, c.telling-test.true)) (c.telling.invariant.coming t)
+    (c.in_ok-behind.ensures.only t))
+    (λ e. absurd (connection≢output e))

@@ -1,12 +1,54 @@
-use Rattle.std.proofs.Common.{◌++◌, sym, ◌∙◌}
-use Rattle.mt_events.specs.Posts.{ended}
+use Rattle.std.proofs.Common.{None, Err, refl, ap, ◌∙◌}
+use Rattle.std.proofs.lemmas.Result.{err_from_is_err_and}
 use Rattle.mt_lines.specs.Reading.{last_line}
-use Rattle.mt_client.proofs.CallLaws.{appended_of}
-use Rattle.mt_client.proofs.EffectLaws.{one_named}
+use Rattle.mt_events.specs.declared.opening.Scope.TheVariants.{All}
+use Rattle.mt_client.specs.Reading.{lines_left}
+use Rattle.mt_client.specs.declared.fault.ClientFault.TheVariants.{Output}
+use Rattle.mt_client.proofs.RelayLaws.{same_fault}
+use Rattle.mt_client.proofs.CallLaws.{connection≢output, read_still, handed_on, tell_fault_reading, tell_checked}
+use Rattle.mt_client.proofs.FollowLaws.{behind_needs_event}
+use Rattle.mt_client.proofs.TellingLaws.{stopped_post}
+use Rattle.mt_client.proofs.EffectLaws.{one_told}
+use Rattle.mt_client.proofs.MissingLaws.{post_needs_line, post_needs_lines, post_needs_due, only_counted}
 use Rattle.mt_client.proofs.effects.tell_next.Goals as goal
+
+pub returns-in_err-tell_due-clause-broken : goal.returns-in_err-tell_due-clause-broken
+returns-in_err-tell_due-clause-broken g c t u =
+    let p = err_from_is_err_and c.from_residual-in_err-tell_due.result c.from_residual-in_err-tell_due.ensures.1 in
+    let f = c.in_err-tell_due.field-0.0 in
+    rw (p.1, p.2) (stopped_post f All (last_line c.next_text.new.lines) c.in_ok-post.post c.args.mirrors.now.items _ _ _ _ _ (c.in_ok-next_text.ensures.read.came t) (c.in_ok-post.ensures.posted t) c.in_ok-post.ensures.valid
+    (λ other. c.in_err-tell_due.ensures.kept (λ e. other (same_fault _ f f Output refl refl e)) u)
+    (λ e. let k = c.in_err-tell_due.ensures.part (ap Err e) in (k.0, k.1.cut u)))
 
 pub returns-clause-told : goal.returns-clause-told
 returns-clause-told g c t u =
-    let begun = c.in_ok-push_line.ensures ∙ (λ i. c.new-text.ensures.items i ++ ended (c.line-2.ensures i)) in
-    one_named c.in-Some.behind (last_line c.next_text.new.lines) c.push_line.new.text.items c.push_lines.new.text.items c.args.names.now c.in_ok-post.post c.args.mirrors.now.items c.tell_named.new.mirrors.items _ _ _ _ _ (c.in_ok-next_text.ensures.read.came t) begun
-    (appended_of _ _ _ _ _ c.in_ok-push_lines.ensures.text t) (sym c.deref.ensures.value ∙ c.in_ok-post.ensures.post) c.in_ok-post.ensures.valid c.in_ok-tell_named.ensures.next c.in_ok-tell_named.ensures.applied (c.in_ok-tell_named.ensures.out.went u)
+    one_told c.args.manner.now c.in-Some.behind (last_line c.next_text.new.lines) c.in_ok-post.post c.args.mirrors.now.items _ _ _ _ _ _ (c.in_ok-next_text.ensures.read.came t) (rw c.line.ensures at c.in-Some.ensures) (c.in_ok-post.ensures.posted t) c.in_ok-post.ensures.valid
+    c.in_ok-tell_due.ensures.due c.in_ok-tell_due.ensures.applied (c.in_ok-tell_due.ensures.out.went u)
+
+pub returns-clause-only : goal.returns-clause-only
+returns-clause-only g c t =
+    only_counted c.in-Some.behind (last_line c.next_text.new.lines) (lines_left c.args.lines.now) (lines_left c.next_text.new.lines) (lines_left c.read_posted.new.lines) c.in_ok-post.post c.args.mirrors.now.items c.tell_due.new.mirrors.items
+    (c.in_ok-next_text.ensures.read.came t) (rw c.line.ensures at c.in-Some.ensures) (c.in_ok-post.ensures.only t) c.in_ok-tell_due.ensures.applied
+
+pub returns-in_err-next_text-clause-fault : goal.returns-in_err-next_text-clause-fault
+returns-in_err-next_text-clause-fault g c = handed_on _ _ _ c.from_residual.ensures.1 (tell_fault_reading (read_still _ c.requires.fresh) (λ t. post_needs_line c.args.mirrors.now.items _) c.in_err-next_text.ensures.fault)
+
+pub returns-in_default-clause-fault : goal.returns-in_default-clause-fault
+returns-in_default-clause-fault g c =
+    tell_checked c.in_ok-next_text.ensures.read.on.limit
+    (λ e t.
+    post_needs_lines c.args.mirrors.now.items (last_line c.next_text.new.lines) _ (lines_left c.next_text.new.lines) (c.in_ok-next_text.ensures.read.came t)
+    (behind_needs_event None (last_line c.next_text.new.lines) (lines_left c.next_text.new.lines) refl (rw c.line.ensures at c.in_default.ensures)))
+    (λ e. absurd (connection≢output e))
+
+pub returns-in_err-post-clause-fault : goal.returns-in_err-post-clause-fault
+returns-in_err-post-clause-fault g c =
+    handed_on _ _ _ c.from_residual-in_err-post.ensures.1
+    (tell_fault_reading c.in_ok-next_text.ensures.read.on (λ t. post_needs_lines c.args.mirrors.now.items (last_line c.next_text.new.lines) _ _ (c.in_ok-next_text.ensures.read.came t)) c.in_err-post.ensures.fault)
+
+pub returns-in_err-tell_due-clause-fault : goal.returns-in_err-tell_due-clause-fault
+returns-in_err-tell_due-clause-fault g c =
+    handed_on _ _ _ c.from_residual-in_err-tell_due.ensures.1
+    (tell_checked (c.in_ok-post.ensures.on.limit ∙ c.in_ok-next_text.ensures.read.on.limit)
+    (λ e t. post_needs_due c.args.mirrors.now.items (last_line c.next_text.new.lines) _ _ _ c.in_ok-post.post (c.in_ok-next_text.ensures.read.came t) (c.in_ok-post.ensures.only t) (c.in_err-tell_due.ensures.refused (ap Err e)))
+    (λ e. (c.in_err-tell_due.ensures.part (ap Err e)).1.cause))

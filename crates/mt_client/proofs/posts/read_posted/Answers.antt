@@ -37,6 +37,7 @@ returns-clause-posted g c =
     let begun = c.in_ok-push_line.ensures ∙ (λ i. c.new-text.ensures.items i ++ ended (c.line-2.ensures i)) in
     IfOk-weaker c.read_text.result _ _
     (λ post said t.
-    behind_posted (last_line c.args.lines.now) (lines_left c.args.lines.now) (lines_left c.push_lines.new.lines) c.push_line.new.text.items c.push_lines.new.text.items post begun (appended_of _ _ _ _ _ c.in_ok-push_lines.ensures.text t)
+    behind_posted (Some c.in-Some.count) c.in-Some.count (last_line c.args.lines.now) (lines_left c.args.lines.now) (lines_left c.push_lines.new.lines) c.push_line.new.text.items c.push_lines.new.text.items post refl
+    (rw c.line.ensures at c.in-Some.ensures) begun (appended_of _ _ _ _ _ c.in_ok-push_lines.ensures.text t)
     (sym c.deref.ensures.value ∙ said))
     c.read_text.ensures.post

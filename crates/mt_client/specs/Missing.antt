@@ -1,0 +1,67 @@
+-- Which lines are missing where the effects of a line are not told: what a watcher finds, an answer, or the posts of a watcher that is closed.
+-- A word with no source is this project's rule.
+use Rattle.std.specs.Prelude.{◌≡◌, ℕ, ◌+◌, Bool, true, List, ◌∷◌, ◌++◌, length, Some, IsTrue, ◌⊎◌}
+use Rattle.std.specs.List.{flat_map, AllByRecursion}
+use Rattle.mt_lines.specs.Lines.{Item}
+use Rattle.mt_lines.specs.Reading.{failed_calls, last_faults, limit_of}
+use Rattle.mt_lines.specs.declared.line.LineReader.{LineReader}
+use Rattle.mt_lines.specs.declared.stream.Input.{Ghosts}
+use Rattle.mt_lines.specs.declared.stream.Output.{Ghosts as OutputGhosts}
+use Rattle.mt_events.specs.Posts.{PostView, IsPost, post_lines}
+use Rattle.mt_events.specs.Mirrors.{MirrorView}
+use Rattle.mt_events.specs.declared.opening.Scope.TheVariants.{All}
+use Rattle.mt_protocol.specs.declared.form.Form.TheVariants.{Posts}
+use Rattle.mt_protocol.specs.Verbs.{form_of}
+use Rattle.mt_client.specs.declared.fault.ClientFault.{ClientFault}
+use Rattle.mt_client.specs.declared.fault.ClientFault.TheVariants.{Connection, Output}
+use Rattle.mt_client.specs.Requests.{lines_behind}
+use Rattle.mt_client.specs.Reading.{texts, HasRead, HasBroken, NoneFirst}
+use Rattle.mt_client.specs.Replies.{IsAnswer}
+use Rattle.mt_client.specs.Awaited.{IsOneRefusal, IsRefusedOr}
+use Rattle.mt_client.specs.Finding.{HasFound, IsFinding}
+use Rattle.mt_client.specs.Telling.{mirrors_with, are_due}
+
+-- so many lines, which are those of posts that are due
+pub record AreDueLines (count : ℕ) (mirrors : List MirrorView) (lines : List (List ℕ)) : Type 0 where
+  pub posts : List PostView
+  pub valid : AllByRecursion IsPost posts
+  pub due : are_due All mirrors posts ≡ true
+  pub many : length lines ≡ count
+  pub all : lines ≡ flat_map post_lines posts
+
+-- the lines of what a watcher has when it is closed: how many they are, and then those of posts
+pub record IsClosing (mirrors : List MirrorView) (lines : List (List ℕ)) : Type 0 where
+  pub first : List ℕ
+  pub others : List (List ℕ)
+  pub count : ℕ
+  pub all : lines ≡ first ∷ others
+  pub counted : lines_behind Posts true first ≡ Some count
+  pub posts : AreDueLines count mirrors others
+
+-- no lines of this kind come first, or a request did not go out and no refusal comes first
+abbrev pub IsMissing : Type 0 → (List (List ℕ) → Type 0) → List Item → Type 0
+IsMissing unsent kind before = NoneFirst kind before ⊎ (unsent × NoneFirst IsOneRefusal before)
+
+-- no answer to a line comes first, or nothing of a closed watcher behind it
+abbrev pub IsMissingAnswer : Type 0 → List ℕ → List MirrorView → List Item → Type 0
+IsMissingAnswer unsent line mirrors opened =
+    IsMissing unsent (λ lines. (told : Bool) × IsAnswer (form_of line) lines told) opened
+    ⊎ ((answered : List Item) × HasRead (λ lines. IsAnswer (form_of line) lines true) opened answered × IsMissing unsent (IsRefusedOr (IsClosing mirrors)) answered)
+
+-- the same, or nothing that a watcher of all namespaces finds comes first
+abbrev pub IsMissingEffect : Type 0 → List ℕ → List Item → Type 0
+IsMissingEffect unsent line before =
+    IsMissing unsent (IsRefusedOr (IsFinding All)) before
+    ⊎ ((found : List MirrorView) × (opened : List Item) × HasFound All before opened found × IsMissingAnswer unsent line found opened)
+
+-- a fault of calls that read, print and ask: Connection only where calls that read failed, or lines are missing, and Output only where calls of the output failed
+pub record IsEffectFault {R W O : Type 0} {g : Ghosts R} (w : OutputGhosts W) (h : OutputGhosts O) (fault : ClientFault) (missing : Type 0 → Type 0) (old new : LineReader R g) (asked sent : W) (begun done : O) : Type 0 where
+  pub limit : limit_of new ≡ limit_of old
+  pub cut : fault ≡ Connection → IsTrue g.tells → IsTrue g.counts → IsTrue w.counts
+      → HasBroken (failed_calls old) (failed_calls new) (last_faults old) (last_faults new) ⊎ missing (HasBroken (w.failed asked) (w.failed sent) (w.faults asked) (w.faults sent))
+  pub cause : fault ≡ Output → IsTrue h.counts → HasBroken (h.failed begun) (h.failed done) (h.faults begun) (h.faults done)
+
+-- where the lines of a post come first, so many stand behind its first one, it was applied, and all of them are read, and no others
+abbrev pub IsOnlyCounted : ℕ → List MirrorView → List MirrorView → List Item → List Item → Type 0
+IsOnlyCounted behind old new before after =
+    (post : PostView) (rest : List Item) → IsPost post → before ≡ texts (post_lines post) ++ rest → (length (post_lines post) ≡ 1 + behind) × (new ≡ mirrors_with old post) × (after ≡ rest)
