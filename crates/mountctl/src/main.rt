@@ -42,8 +42,8 @@ use crate::told::NAME;
 use crate::what_if::{line_of, run_what_if};
 use clap::{ArgMatches, Error};
 use mt_arguments::program::{Program, read_arguments};
-use mt_client::manner::Manner;
 use mt_client::mirror::mirror;
+use mt_client::named::NamedTelling;
 use mt_client::picture::draw;
 use mt_client::telling::tell;
 use mt_lines::line::LineReader;
@@ -101,11 +101,11 @@ fn run_on<R: Input + Drop, W: Output, O: Output>(
         Task::Mirror { space, count } => Ok(mirror(alloc, lines, writer, space, count, out)?),
         Task::Draw { scope, drawing } => Ok(draw(alloc, lines, writer, scope, drawing, out)?),
         Task::Tell { scope, marks } => {
-            let manner = Manner {
+            let named = NamedTelling {
                 telling: marks.telling,
                 names: &[],
             };
-            tell(alloc, lines, writer, scope, &manner, out)?;
+            tell(alloc, lines, writer, scope, &named, out)?;
             Ok(false)
         }
         Task::Find => match found_words(words) {

@@ -14,7 +14,7 @@ use crate::told::{NAME, tell_left_out};
 use crate::{LINE_LIMIT, PROGRAM};
 use mt_client::ask::ask_line;
 use mt_client::effects::tell_effects;
-use mt_client::manner::{Manner, SpaceName};
+use mt_client::named::{NamedTelling, SpaceName};
 use mt_client::request::request_line;
 use mt_import::script::Script;
 use mt_lines::line::LineReader;
@@ -192,11 +192,11 @@ pub(crate) fn tell_what_if<E: Eprint, R: Input + Drop, W: Output, O: Output>(
     provide(alloc, script, words.as_slice(), lines, writer)?;
     let line = line_of(alloc, words.as_slice())?;
     tell_bad(rt, alloc, None, line.as_slice())?;
-    let manner = Manner {
+    let named = NamedTelling {
         telling: Telling::Words,
         names: names.as_slice(),
     };
-    let told = tell_effects(alloc, lines, writer, line.as_slice(), &manner, out)?;
+    let told = tell_effects(alloc, lines, writer, line.as_slice(), &named, out)?;
     Ok(Effects::Told(told))
 }
 

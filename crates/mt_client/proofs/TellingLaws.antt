@@ -9,7 +9,7 @@ use Rattle.mt_events.specs.Posts.{PostView, IsPost, post_text, ended}
 use Rattle.mt_events.specs.Mirrors.{MirrorView}
 use Rattle.mt_events.specs.Texts.{count_text, followed_text}
 use Rattle.mt_events.specs.declared.opening.Scope.{Scope}
-use Rattle.mt_client.specs.declared.manner.Manner.{Manner}
+use Rattle.mt_client.specs.declared.named.NamedTelling.{NamedTelling}
 use Rattle.mt_client.specs.declared.fault.ClientFault.{ClientFault}
 use Rattle.mt_client.specs.declared.fault.ClientFault.TheVariants.{Connection, Output, NoMemory}
 use Rattle.mt_client.specs.Requests.{numbered_text}
@@ -32,15 +32,15 @@ pub by_both : (ps qs : List PostView) (old : List MirrorView) → mirrors_by old
 by_both [] qs old = refl
 by_both (p ∷ ps) qs old = by_both ps qs (mirrors_with old p)
 
-pub told_both : (manner : Manner) (ps qs : List PostView) (old : List MirrorView) → posts_told manner old (ps ++ qs) ≡ posts_told manner old ps ++ posts_told manner (mirrors_by old ps) qs
-told_both manner [] qs old = refl
-told_both manner (p ∷ ps) qs old =
-    ap (λ t. told_in manner old p ++ t) (told_both manner ps qs (mirrors_with old p))
-    ∙ sym (append_assoc (told_in manner old p) (posts_told manner (mirrors_with old p) ps) (posts_told manner (mirrors_by (mirrors_with old p) ps) qs))
+pub told_both : (named : NamedTelling) (ps qs : List PostView) (old : List MirrorView) → posts_told named old (ps ++ qs) ≡ posts_told named old ps ++ posts_told named (mirrors_by old ps) qs
+told_both named [] qs old = refl
+told_both named (p ∷ ps) qs old =
+    ap (λ t. told_in named old p ++ t) (told_both named ps qs (mirrors_with old p))
+    ∙ sym (append_assoc (told_in named old p) (posts_told named (mirrors_with old p) ps) (posts_told named (mirrors_by (mirrors_with old p) ps) qs))
 
-pub both_told : {manner : Manner} (scope : Scope) (ps qs : List PostView) (s t : List ℕ) (old mid new : List MirrorView) (before middle after : List Item) (begun between done : List ℕ)
-    → AreTold manner scope ps s old mid before middle begun between → AreTold manner scope qs t mid new middle after between done → AreTold manner scope (ps ++ qs) (s ++ t) old new before after begun done
-both_told {manner} scope ps qs s t old mid new before middle after begun between done f h = record {
+pub both_told : {named : NamedTelling} (scope : Scope) (ps qs : List PostView) (s t : List ℕ) (old mid new : List MirrorView) (before middle after : List Item) (begun between done : List ℕ)
+    → AreTold named scope ps s old mid before middle begun between → AreTold named scope qs t mid new middle after between done → AreTold named scope (ps ++ qs) (s ++ t) old new before after begun done
+both_told {named} scope ps qs s t old mid new before middle after begun between done f h = record {
   lines = f.lines ++ h.lines;
   valid = each_append IsPost ps qs f.valid h.valid;
   due = due_both scope ps qs old f.due (subst (λ ms. are_due scope ms qs ≡ true) f.make h.due);
@@ -48,21 +48,21 @@ both_told {manner} scope ps qs s t old mid new before middle after begun between
   read = runs_read f.lines h.lines before middle after f.read h.read;
   text = printed-append f.lines h.lines ∙ (λ k. f.text k ++ h.text k);
   out =
-      h.out ∙ (λ k. f.out k ++ posts_told manner (f.make k) qs)
-      ∙ append_assoc begun (posts_told manner old ps) (posts_told manner (mirrors_by old ps) qs)
-      ∙ ap (λ x. begun ++ x) (sym (told_both manner ps qs old));
+      h.out ∙ (λ k. f.out k ++ posts_told named (f.make k) qs)
+      ∙ append_assoc begun (posts_told named old ps) (posts_told named (mirrors_by old ps) qs)
+      ∙ ap (λ x. begun ++ x) (sym (told_both named ps qs old));
 }
 
-none_told : {manner : Manner} (scope : Scope) (old : List MirrorView) (before : List Item) (begun : List ℕ) → AreTold manner scope [] [] old old before before begun begun
-none_told {manner} scope old before begun = record { lines = []; valid = tt; due = refl; make = refl; read = refl; text = refl; out = sym (append-nil begun) }
+none_told : {named : NamedTelling} (scope : Scope) (old : List MirrorView) (before : List Item) (begun : List ℕ) → AreTold named scope [] [] old old before before begun begun
+none_told {named} scope old before begun = record { lines = []; valid = tt; due = refl; make = refl; read = refl; text = refl; out = sym (append-nil begun) }
 
-said_so : {manner : Manner} (scope : Scope) (ps : List PostView) (s t : List ℕ) (old new : List MirrorView) (before after : List Item) (begun done : List ℕ) → s ≡ t → AreTold manner scope ps s old new before after begun done → AreTold manner scope ps t old new before after begun done
-said_so {manner} scope ps s t old new before after begun done e f = subst (λ x. AreTold manner scope ps x old new before after begun done) e f
+said_so : {named : NamedTelling} (scope : Scope) (ps : List PostView) (s t : List ℕ) (old new : List MirrorView) (before after : List Item) (begun done : List ℕ) → s ≡ t → AreTold named scope ps s old new before after begun done → AreTold named scope ps t old new before after begun done
+said_so {named} scope ps s t old new before after begun done e f = subst (λ x. AreTold named scope ps x old new before after begun done) e f
 
 -- one post
-pub post_told : {manner : Manner} (scope : Scope) (first : List ℕ) (post : PostView) (old new : List MirrorView) (before middle after : List Item) (begun done : List ℕ) → before ≡ Text first ∷ middle → IsPosted first middle after post → IsPost post
-    → is_due scope old post ≡ true → new ≡ mirrors_with old post → done ≡ begun ++ told_in manner old post → HasToldPost manner scope old new before after begun done
-post_told {manner} scope first post old new before middle after begun done there p valid due make out = (
+pub post_told : {named : NamedTelling} (scope : Scope) (first : List ℕ) (post : PostView) (old new : List MirrorView) (before middle after : List Item) (begun done : List ℕ) → before ≡ Text first ∷ middle → IsPosted first middle after post → IsPost post
+    → is_due scope old post ≡ true → new ≡ mirrors_with old post → done ≡ begun ++ told_in named old post → HasToldPost named scope old new before after begun done
+post_told {named} scope first post old new before middle after begun done there p valid due make out = (
   post,
   record {
     lines = first ∷ p.others;
@@ -71,13 +71,13 @@ post_told {manner} scope first post old new before middle after begun done there
     make = make;
     read = there ∙ ap (λ x. Text first ∷ x) p.read;
     text = p.text;
-    out = out ∙ ap (λ x. begun ++ x) (sym (append-nil (told_in manner old post)));
+    out = out ∙ ap (λ x. begun ++ x) (sym (append-nil (told_in named old post)));
   },
 )
 
-pub half_told : {manner : Manner} (scope : Scope) (first : List ℕ) (post : PostView) (old : List MirrorView) (before middle after : List Item) (begun done : List ℕ) → before ≡ Text first ∷ middle → IsPosted first middle after post → IsPost post → is_due scope old post ≡ true
-    → IsCutOff (told_in manner old post) begun done → IsHalfTold manner scope old before begun done
-half_told {manner} scope first post old before middle after begun done there p valid due out = record {
+pub half_told : {named : NamedTelling} (scope : Scope) (first : List ℕ) (post : PostView) (old : List MirrorView) (before middle after : List Item) (begun done : List ℕ) → before ≡ Text first ∷ middle → IsPosted first middle after post → IsPost post → is_due scope old post ≡ true
+    → IsCutOff (told_in named old post) begun done → IsHalfTold named scope old before begun done
+half_told {named} scope first post old before middle after begun done there p valid due out = record {
   post = post;
   lines = first ∷ p.others;
   later = after;
@@ -99,11 +99,11 @@ unsaid_of Connection before old new b kept = kept (λ e. let no : ◌≡◌ {A =
 unsaid_of NoMemory before old new b kept = kept (λ e. let no : ◌≡◌ {A = ClientFault} NoMemory Output = e in cc)
 unsaid_of Output before old new b kept = b
 
-pub stopped_post : {manner : Manner} (f : ClientFault) (scope : Scope) (first : List ℕ) (post : PostView) (old : List MirrorView) (before middle after : List Item) (begun done : List ℕ) → before ≡ Text first ∷ middle → IsPosted first middle after post → IsPost post
-    → (f ≢ Output → done ≡ begun) → (f ≡ Output → (is_due scope old post ≡ true) × IsCutOff (told_in manner old post) begun done) → IsStopped manner f scope old before begun done
-stopped_post {manner} f scope first post old before middle after begun done there p valid kept cut = go f kept cut
+pub stopped_post : {named : NamedTelling} (f : ClientFault) (scope : Scope) (first : List ℕ) (post : PostView) (old : List MirrorView) (before middle after : List Item) (begun done : List ℕ) → before ≡ Text first ∷ middle → IsPosted first middle after post → IsPost post
+    → (f ≢ Output → done ≡ begun) → (f ≡ Output → (is_due scope old post ≡ true) × IsCutOff (told_in named old post) begun done) → IsStopped named f scope old before begun done
+stopped_post {named} f scope first post old before middle after begun done there p valid kept cut = go f kept cut
   where
-    go : (f : ClientFault) → (f ≢ Output → done ≡ begun) → (f ≡ Output → (is_due scope old post ≡ true) × IsCutOff (told_in manner old post) begun done) → IsStopped manner f scope old before begun done
+    go : (f : ClientFault) → (f ≢ Output → done ≡ begun) → (f ≡ Output → (is_due scope old post ≡ true) × IsCutOff (told_in named old post) begun done) → IsStopped named f scope old before begun done
     go Connection same half = inl (same (λ e. let no : ◌≡◌ {A = ClientFault} Connection Output = e in cc))
     go NoMemory same half = inl (same (λ e. let no : ◌≡◌ {A = ClientFault} NoMemory Output = e in cc))
     go Output same half = let h = half refl in inr (refl, half_told scope first post old before middle after begun done there p valid h.0 h.1)
@@ -119,12 +119,12 @@ pub when_none : {X : Type 0} (A : Type 0) (P : X → Type 0) (o : Option X) → 
 when_none A P o e m = subst (λ y. MatchOption y A P) e m
 
 -- so many posts
-pub none_yet : {manner : Manner} (scope : Scope) (old : List MirrorView) (before : List Item) (begun : List ℕ) → HasToldSome manner 0 scope old old before before begun begun
-none_yet {manner} scope old before begun = record { posts = []; many = refl; told = none_told scope old before begun }
+pub none_yet : {named : NamedTelling} (scope : Scope) (old : List MirrorView) (before : List Item) (begun : List ℕ) → HasToldSome named 0 scope old old before before begun begun
+none_yet {named} scope old before begun = record { posts = []; many = refl; told = none_told scope old before begun }
 
-pub some_more : {manner : Manner} (n : ℕ) (scope : Scope) (old mid new : List MirrorView) (before middle after : List Item) (begun between done : List ℕ) → HasToldSome manner n scope old mid before middle begun between → HasToldPost manner scope mid new middle after between done
-    → HasToldSome manner (n + 1) scope old new before after begun done
-some_more {manner} n scope old mid new before middle after begun between done f h =
+pub some_more : {named : NamedTelling} (n : ℕ) (scope : Scope) (old mid new : List MirrorView) (before middle after : List Item) (begun between done : List ℕ) → HasToldSome named n scope old mid before middle begun between → HasToldPost named scope mid new middle after between done
+    → HasToldSome named (n + 1) scope old new before after begun done
+some_more {named} n scope old mid new before middle after begun between done f h =
     let p : PostView = h.0 in
     let l = length-append f.posts (p ∷ []) in
     let m = f.many in
@@ -137,9 +137,9 @@ some_more {manner} n scope old mid new before middle after begun between done f 
     }
 
 -- their end
-pub portion_whole : {manner : Manner} (count n : ℕ) (scope : Scope) (old new : List MirrorView) (before middle after : List Item) (begun done : List ℕ) → n ≡ count → HasToldSome manner n scope old new before middle begun done → middle ≡ texts (counted_line count ∷ []) ++ after
-    → HasToldPortion manner count scope old new before after begun done
-portion_whole {manner} count n scope old new before middle after begun done all f e =
+pub portion_whole : {named : NamedTelling} (count n : ℕ) (scope : Scope) (old new : List MirrorView) (before middle after : List Item) (begun done : List ℕ) → n ≡ count → HasToldSome named n scope old new before middle begun done → middle ≡ texts (counted_line count ∷ []) ++ after
+    → HasToldPortion named count scope old new before after begun done
+portion_whole {named} count n scope old new before middle after begun done all f e =
     let t = f.told in
     record {
       posts = f.posts;
@@ -156,24 +156,24 @@ portion_whole {manner} count n scope old new before middle after begun done all 
     }
 
 -- at most so many posts, and no whole portion before them
-pub so_few : {manner : Manner} (count n : ℕ) (scope : Scope) (old new : List MirrorView) (before after : List Item) (begun done : List ℕ) → n ≤ count → HasToldSome manner n scope old new before after begun done → HasToldSo manner count scope old new before after begun done
-so_few {manner} count n scope old new before after begun done le f = record { portions = []; rest = f.posts; whole = tt; within = let m = f.many in omega (arith, m, le); told = f.told }
+pub so_few : {named : NamedTelling} (count n : ℕ) (scope : Scope) (old new : List MirrorView) (before after : List Item) (begun done : List ℕ) → n ≤ count → HasToldSome named n scope old new before after begun done → HasToldSo named count scope old new before after begun done
+so_few {named} count n scope old new before after begun done le f = record { portions = []; rest = f.posts; whole = tt; within = let m = f.many in omega (arith, m, le); told = f.told }
 
-pub so_none : {manner : Manner} (count : ℕ) (scope : Scope) (old : List MirrorView) (before : List Item) (begun : List ℕ) → HasToldSo manner count scope old old before before begun begun
-so_none {manner} count scope old before begun = so_few count 0 scope old old before before begun begun (omega arith) (none_yet scope old before begun)
+pub so_none : {named : NamedTelling} (count : ℕ) (scope : Scope) (old : List MirrorView) (before : List Item) (begun : List ℕ) → HasToldSo named count scope old old before before begun begun
+so_none {named} count scope old before begun = so_few count 0 scope old old before before begun begun (omega arith) (none_yet scope old before begun)
 
 -- whole portions
-pub record HasToldWhole (manner : Manner) (count : ℕ) (scope : Scope) (old new : List MirrorView) (before after : List Item) (begun done : List ℕ) : Type 0 where
+pub record HasToldWhole (named : NamedTelling) (count : ℕ) (scope : Scope) (old new : List MirrorView) (before after : List Item) (begun done : List ℕ) : Type 0 where
   pub portions : List (List PostView)
   pub whole : AllByRecursion (λ posts. length posts ≡ count) portions
-  pub told : AreTold manner scope (flat_map (λ posts. posts) portions) (flat_map (λ posts. followed_text posts (count_text count)) portions) old new before after begun done
+  pub told : AreTold named scope (flat_map (λ posts. posts) portions) (flat_map (λ posts. followed_text posts (count_text count)) portions) old new before after begun done
 
-pub none_whole : {manner : Manner} (count : ℕ) (scope : Scope) (old : List MirrorView) (before : List Item) (begun : List ℕ) → HasToldWhole manner count scope old old before before begun begun
-none_whole {manner} count scope old before begun = record { portions = []; whole = tt; told = none_told scope old before begun }
+pub none_whole : {named : NamedTelling} (count : ℕ) (scope : Scope) (old : List MirrorView) (before : List Item) (begun : List ℕ) → HasToldWhole named count scope old old before before begun begun
+none_whole {named} count scope old before begun = record { portions = []; whole = tt; told = none_told scope old before begun }
 
-pub whole_more : {manner : Manner} (count : ℕ) (scope : Scope) (old mid new : List MirrorView) (before middle after : List Item) (begun between done : List ℕ) → HasToldWhole manner count scope old mid before middle begun between → HasToldPortion manner count scope mid new middle after between done
-    → HasToldWhole manner count scope old new before after begun done
-whole_more {manner} count scope old mid new before middle after begun between done f h =
+pub whole_more : {named : NamedTelling} (count : ℕ) (scope : Scope) (old mid new : List MirrorView) (before middle after : List Item) (begun between done : List ℕ) → HasToldWhole named count scope old mid before middle begun between → HasToldPortion named count scope mid new middle after between done
+    → HasToldWhole named count scope old new before after begun done
+whole_more {named} count scope old mid new before middle after begun between done f h =
     let said : List (List PostView) → List ℕ = λ portions. flat_map (λ posts. followed_text posts (count_text count)) portions in
     let posts : flat_map (λ posts. posts) f.portions ++ h.posts ≡ flat_map (λ posts. posts) (f.portions ++ h.posts ∷ []) =
     ap (λ x. flat_map (λ posts. posts) f.portions ++ x) (sym (append-nil h.posts)) ∙ sym (flat_map-append (λ posts. posts) f.portions (h.posts ∷ [])) in
@@ -182,14 +182,14 @@ whole_more {manner} count scope old mid new before middle after begun between do
     record {
       portions = f.portions ++ h.posts ∷ [];
       whole = each_append (λ (posts : List PostView). length posts ≡ count) f.portions (h.posts ∷ []) f.whole (h.many, tt);
-      told = subst (λ x. AreTold manner scope x (said (f.portions ++ h.posts ∷ [])) old new before after begun done) posts
-          (subst (λ x. AreTold manner scope (flat_map (λ posts. posts) f.portions ++ h.posts) x old new before after begun done) text
+      told = subst (λ x. AreTold named scope x (said (f.portions ++ h.posts ∷ [])) old new before after begun done) posts
+          (subst (λ x. AreTold named scope (flat_map (λ posts. posts) f.portions ++ h.posts) x old new before after begun done) text
           (both_told scope (flat_map (λ posts. posts) f.portions) h.posts (said f.portions) (followed_text h.posts (count_text count)) old mid new before middle after begun between done f.told h.told));
     }
 
-pub so_behind : {manner : Manner} (count : ℕ) (scope : Scope) (old mid new : List MirrorView) (before middle after : List Item) (begun between done : List ℕ) → HasToldWhole manner count scope old mid before middle begun between → HasToldSo manner count scope mid new middle after between done
-    → HasToldSo manner count scope old new before after begun done
-so_behind {manner} count scope old mid new before middle after begun between done f h =
+pub so_behind : {named : NamedTelling} (count : ℕ) (scope : Scope) (old mid new : List MirrorView) (before middle after : List Item) (begun between done : List ℕ) → HasToldWhole named count scope old mid before middle begun between → HasToldSo named count scope mid new middle after between done
+    → HasToldSo named count scope old new before after begun done
+so_behind {named} count scope old mid new before middle after begun between done f h =
     let all : List (List PostView) → List PostView = λ portions. flat_map (λ posts. posts) portions in
     let said : List (List PostView) → List ℕ = λ portions. flat_map (λ posts. followed_text posts (count_text count)) portions in
     let posts : all f.portions ++ all_posts h.portions h.rest ≡ all_posts (f.portions ++ h.portions) h.rest =
@@ -201,66 +201,66 @@ so_behind {manner} count scope old mid new before middle after begun between don
       rest = h.rest;
       whole = each_append (λ (posts : List PostView). length posts ≡ count) f.portions h.portions f.whole h.whole;
       within = h.within;
-      told = subst (λ x. AreTold manner scope x (portions_text count (f.portions ++ h.portions) h.rest) old new before after begun done) posts
-          (subst (λ x. AreTold manner scope (all f.portions ++ all_posts h.portions h.rest) x old new before after begun done) text
+      told = subst (λ x. AreTold named scope x (portions_text count (f.portions ++ h.portions) h.rest) old new before after begun done) posts
+          (subst (λ x. AreTold named scope (all f.portions ++ all_posts h.portions h.rest) x old new before after begun done) text
           (both_told scope (all f.portions) (all_posts h.portions h.rest) (said f.portions) (portions_text count h.portions h.rest) old mid new before middle after begun between done f.told h.told));
     }
 
-pub so_whole : {manner : Manner} (count : ℕ) (scope : Scope) (old new : List MirrorView) (before after : List Item) (begun done : List ℕ) → HasToldWhole manner count scope old new before after begun done → HasToldSo manner count scope old new before after begun done
-so_whole {manner} count scope old new before after begun done f = so_behind count scope old new new before after after begun done done f (so_none count scope new after done)
+pub so_whole : {named : NamedTelling} (count : ℕ) (scope : Scope) (old new : List MirrorView) (before after : List Item) (begun done : List ℕ) → HasToldWhole named count scope old new before after begun done → HasToldSo named count scope old new before after begun done
+so_whole {named} count scope old new before after begun done f = so_behind count scope old new new before after after begun done done f (so_none count scope new after done)
 
 -- a refusal behind them, and a fault
-pub all_behind : {manner : Manner} (count : ℕ) (scope : Scope) (old mid : List MirrorView) (before middle after : List Item) (begun between done : List ℕ) → HasToldWhole manner count scope old mid before middle begun between → HasToldAllOut manner count scope mid middle after between done
-    → HasToldAllOut manner count scope old before after begun done
-all_behind {manner} count scope old mid before middle after begun between done f h =
-    let a : HasToldAll manner count scope h.0 mid middle after between h.1 = h.2 in
+pub all_behind : {named : NamedTelling} (count : ℕ) (scope : Scope) (old mid : List MirrorView) (before middle after : List Item) (begun between done : List ℕ) → HasToldWhole named count scope old mid before middle begun between → HasToldAllOut named count scope mid middle after between done
+    → HasToldAllOut named count scope old before after begun done
+all_behind {named} count scope old mid before middle after begun between done f h =
+    let a : HasToldAll named count scope h.0 mid middle after between h.1 = h.2 in
     (h.0, h.1, record { made = a.made; middle = a.middle; so = so_behind count scope old mid a.made before middle a.middle begun between h.1 f a.so; refused = a.refused }, h.3)
 
-pub up_to_behind : {manner : Manner} (fault : ClientFault) (count : ℕ) (scope : Scope) (old mid : List MirrorView) (before middle : List Item) (begun between done : List ℕ) → HasToldWhole manner count scope old mid before middle begun between → IsToldUpTo manner fault count scope mid middle between done
-    → IsToldUpTo manner fault count scope old before begun done
-up_to_behind {manner} fault count scope old mid before middle begun between done f h =
+pub up_to_behind : {named : NamedTelling} (fault : ClientFault) (count : ℕ) (scope : Scope) (old mid : List MirrorView) (before middle : List Item) (begun between done : List ℕ) → HasToldWhole named count scope old mid before middle begun between → IsToldUpTo named fault count scope mid middle between done
+    → IsToldUpTo named fault count scope old before begun done
+up_to_behind {named} fault count scope old mid before middle begun between done f h =
     record { made = h.made; middle = h.middle; between = h.between; so = so_behind count scope old mid h.made before middle h.middle begun between h.between f h.so; stopped = h.stopped }
 
-pub up_to_whole : {manner : Manner} (count : ℕ) (scope : Scope) (old new : List MirrorView) (before middle : List Item) (begun done : List ℕ) → HasToldWhole manner count scope old new before middle begun done → IsToldUpTo manner Connection count scope old before begun done
-up_to_whole {manner} count scope old new before middle begun done f = record { made = new; middle = middle; between = done; so = so_whole count scope old new before middle begun done f; stopped = inl refl }
+pub up_to_whole : {named : NamedTelling} (count : ℕ) (scope : Scope) (old new : List MirrorView) (before middle : List Item) (begun done : List ℕ) → HasToldWhole named count scope old new before middle begun done → IsToldUpTo named Connection count scope old before begun done
+up_to_whole {named} count scope old new before middle begun done f = record { made = new; middle = middle; between = done; so = so_whole count scope old new before middle begun done f; stopped = inl refl }
 
 -- the line behind so many posts
-pub all_told : {manner : Manner} {T O : Type 0} (r : Result Bool ClientFault) (count n : ℕ) (scope : Scope) (refusal : List ℕ) (old new : List MirrorView) (before middle after : List Item) (begun done : List ℕ) → n ≡ count → (T → O → HasToldSome manner n scope old new before middle begun done)
+pub all_told : {named : NamedTelling} {T O : Type 0} (r : Result Bool ClientFault) (count n : ℕ) (scope : Scope) (refusal : List ℕ) (old new : List MirrorView) (before middle after : List Item) (begun done : List ℕ) → n ≡ count → (T → O → HasToldSome named n scope old new before middle begun done)
     → IfOk r (λ going. T → MatchBool going (middle ≡ texts (counted_line count ∷ []) ++ after) (HasRefused refusal middle after))
-    → IfOk r (λ going. T → O → MatchBool going (HasToldPortion manner count scope old new before after begun done) (HasToldAll manner count scope refusal old before after begun done))
-all_told {manner} (Ok true) count n scope refusal old new before middle after begun done e f h = λ t u. portion_whole count n scope old new before middle after begun done e (f t u) (h t)
-all_told {manner} (Ok false) count n scope refusal old new before middle after begun done e f h =
+    → IfOk r (λ going. T → O → MatchBool going (HasToldPortion named count scope old new before after begun done) (HasToldAll named count scope refusal old before after begun done))
+all_told {named} (Ok true) count n scope refusal old new before middle after begun done e f h = λ t u. portion_whole count n scope old new before middle after begun done e (f t u) (h t)
+all_told {named} (Ok false) count n scope refusal old new before middle after begun done e f h =
     λ t u. record { made = new; middle = middle; so = so_few count n scope old new before middle begun done (omega (arith, e)) (f t u); refused = h t }
-all_told {manner} (Err k) count n scope refusal old new before middle after begun done e f h = tt
+all_told {named} (Err k) count n scope refusal old new before middle after begun done e f h = tt
 
-pub all_few : {manner : Manner} (count n : ℕ) (scope : Scope) (refusal : List ℕ) (old new : List MirrorView) (before middle after : List Item) (begun between done : List ℕ) → n ≤ count → HasToldSome manner n scope old new before middle begun between → (done ≡ between) × HasRefused refusal middle after
-    → HasToldAll manner count scope refusal old before after begun done
-all_few {manner} count n scope refusal old new before middle after begun between done le f r = record {
+pub all_few : {named : NamedTelling} (count n : ℕ) (scope : Scope) (refusal : List ℕ) (old new : List MirrorView) (before middle after : List Item) (begun between done : List ℕ) → n ≤ count → HasToldSome named n scope old new before middle begun between → (done ≡ between) × HasRefused refusal middle after
+    → HasToldAll named count scope refusal old before after begun done
+all_few {named} count n scope refusal old new before middle after begun between done le f r = record {
   made = new;
   middle = middle;
-  so = subst (λ x. HasToldSo manner count scope old new before middle begun x) (sym r.0) (so_few count n scope old new before middle begun between le f);
+  so = subst (λ x. HasToldSo named count scope old new before middle begun x) (sym r.0) (so_few count n scope old new before middle begun between le f);
   refused = r.1;
 }
 
-pub up_to_some : {manner : Manner} (fault : ClientFault) (count n : ℕ) (scope : Scope) (old new : List MirrorView) (before middle : List Item) (begun between done : List ℕ) → n ≤ count → HasToldSome manner n scope old new before middle begun between → IsStopped manner fault scope new middle between done
-    → IsToldUpTo manner fault count scope old before begun done
-up_to_some {manner} fault count n scope old new before middle begun between done le f s =
+pub up_to_some : {named : NamedTelling} (fault : ClientFault) (count n : ℕ) (scope : Scope) (old new : List MirrorView) (before middle : List Item) (begun between done : List ℕ) → n ≤ count → HasToldSome named n scope old new before middle begun between → IsStopped named fault scope new middle between done
+    → IsToldUpTo named fault count scope old before begun done
+up_to_some {named} fault count n scope old new before middle begun between done le f s =
     record { made = new; middle = middle; between = between; so = so_few count n scope old new before middle begun between le f; stopped = s }
 
-pub end_broken : {manner : Manner} (r : Result Bool ClientFault) (count n : ℕ) (scope : Scope) (old new : List MirrorView) (before middle : List Item) (begun done : List ℕ) → IfErr r (λ f. f ≢ Output) → n ≤ count → HasToldSome manner n scope old new before middle begun done
-    → IfErr r (λ fault. IsToldUpTo manner fault count scope old before begun done)
-end_broken {manner} (Ok b) count n scope old new before middle begun done kind le f = tt
-end_broken {manner} (Err k) count n scope old new before middle begun done kind le f = up_to_some k count n scope old new before middle begun done done le f (inl (unsaid k middle done done kind refl))
+pub end_broken : {named : NamedTelling} (r : Result Bool ClientFault) (count n : ℕ) (scope : Scope) (old new : List MirrorView) (before middle : List Item) (begun done : List ℕ) → IfErr r (λ f. f ≢ Output) → n ≤ count → HasToldSome named n scope old new before middle begun done
+    → IfErr r (λ fault. IsToldUpTo named fault count scope old before begun done)
+end_broken {named} (Ok b) count n scope old new before middle begun done kind le f = tt
+end_broken {named} (Err k) count n scope old new before middle begun done kind le f = up_to_some k count n scope old new before middle begun done done le f (inl (unsaid k middle done done kind refl))
 
-pub up_to_none : {manner : Manner} (fault : ClientFault) (count : ℕ) (scope : Scope) (old : List MirrorView) (before : List Item) (begun done : List ℕ) → IsUnsaid fault before begun done → IsToldUpTo manner fault count scope old before begun done
-up_to_none {manner} fault count scope old before begun done u = record { made = old; middle = before; between = begun; so = so_none count scope old before begun; stopped = inl u }
+pub up_to_none : {named : NamedTelling} (fault : ClientFault) (count : ℕ) (scope : Scope) (old : List MirrorView) (before : List Item) (begun done : List ℕ) → IsUnsaid fault before begun done → IsToldUpTo named fault count scope old before begun done
+up_to_none {named} fault count scope old before begun done u = record { made = old; middle = before; between = begun; so = so_none count scope old before begun; stopped = inl u }
 
-pub no_memory_told : {manner : Manner} (fault : ClientFault) (count : ℕ) (scope : Scope) (old : List MirrorView) (before : List Item) (begun : List ℕ) → fault ≡ NoMemory → IsToldUpTo manner fault count scope old before begun begun
-no_memory_told {manner} fault count scope old before begun kind = up_to_none fault count scope old before begun begun (subst (λ f. IsUnsaid f before begun begun) (sym kind) refl)
+pub no_memory_told : {named : NamedTelling} (fault : ClientFault) (count : ℕ) (scope : Scope) (old : List MirrorView) (before : List Item) (begun : List ℕ) → fault ≡ NoMemory → IsToldUpTo named fault count scope old before begun begun
+no_memory_told {named} fault count scope old before begun kind = up_to_none fault count scope old before begun begun (subst (λ f. IsUnsaid f before begun begun) (sym kind) refl)
 
 -- a refusal that is printed, in part or whole
-pub refused_at_once : {manner : Manner} (count : ℕ) (scope : Scope) (refusal : List ℕ) (old : List MirrorView) (before after : List Item) (begun done : List ℕ) → HasRefused refusal before after → done ≡ begun ++ ended refusal → HasToldAllOut manner count scope old before after begun done
-refused_at_once {manner} count scope refusal old before after begun done r e = (refusal, begun, record { made = old; middle = before; so = so_none count scope old before begun; refused = r }, e)
+pub refused_at_once : {named : NamedTelling} (count : ℕ) (scope : Scope) (refusal : List ℕ) (old : List MirrorView) (before after : List Item) (begun done : List ℕ) → HasRefused refusal before after → done ≡ begun ++ ended refusal → HasToldAllOut named count scope old before after begun done
+refused_at_once {named} count scope refusal old before after begun done r e = (refusal, begun, record { made = old; middle = before; so = so_none count scope old before begun; refused = r }, e)
 
 -- of a line that was read a part was printed, not all
 pub unsaid_cut : (fault : ClientFault) (line : List ℕ) (before after : List Item) (begun done : List ℕ) → fault ≡ Output → before ≡ Text line ∷ after → IsCutOff (ended line) begun done → IsUnsaid fault before begun done
@@ -268,9 +268,9 @@ unsaid_cut fault line before after begun done kind there cut =
     let part : IsUnsaid Output before begun done = broken_cut Output line before after begun done there refl cut in
     subst (λ f. IsUnsaid f before begun done) (sym kind) part
 
-pub refusal_cut : {manner : Manner} (fault : ClientFault) (count : ℕ) (scope : Scope) (refusal : List ℕ) (old : List MirrorView) (before after : List Item) (begun between done : List ℕ) → fault ≡ Output → HasToldAll manner count scope refusal old before after begun between → IsCutOff (ended refusal) between done
-    → IsToldUpTo manner fault count scope old before begun done
-refusal_cut {manner} fault count scope refusal old before after begun between done kind a cut =
+pub refusal_cut : {named : NamedTelling} (fault : ClientFault) (count : ℕ) (scope : Scope) (refusal : List ℕ) (old : List MirrorView) (before after : List Item) (begun between done : List ℕ) → fault ≡ Output → HasToldAll named count scope refusal old before after begun between → IsCutOff (ended refusal) between done
+    → IsToldUpTo named fault count scope old before begun done
+refusal_cut {named} fault count scope refusal old before after begun between done kind a cut =
     let r = a.refused in
     record { made = a.made; middle = a.middle; between = between; so = a.so; stopped = inl (unsaid_cut fault refusal a.middle after between done kind r.read cut) }
 
@@ -302,8 +302,8 @@ pub telling_second : (scope : Scope) (old mid new : List ℕ) → mid ≡ old ++
 telling_second scope old mid new e p = (p.0, part_second (ended (watch_text scope)) (follows_text portion p.0) old mid new e p.1)
 
 -- a whole telling
-come_whole : {manner : Manner} (scope : Scope) (found made : List MirrorView) (before opened after : List Item) (begun done : List ℕ) → HasFound scope before opened found → (s : HasToldSo manner portion scope found made opened after begun done) → HasCome scope s.portions s.rest before after found
-come_whole {manner} scope found made before opened after begun done f s =
+come_whole : {named : NamedTelling} (scope : Scope) (found made : List MirrorView) (before opened after : List Item) (begun done : List ℕ) → HasFound scope before opened found → (s : HasToldSo named portion scope found made opened after begun done) → HasCome scope s.portions s.rest before after found
+come_whole {named} scope found made before opened after begun done f s =
     let w = watched_whole scope found before opened f in
     let t = s.told in
     record {
@@ -317,10 +317,10 @@ come_whole {manner} scope found made before opened after begun done f s =
       text = printed-append w.lines t.lines ∙ (λ k. w.text k ++ t.text k);
     }
 
-pub told_whole : {manner : Manner} (scope : Scope) (found : List MirrorView) (before opened after : List Item) (begun done : List ℕ) → HasFound scope before opened found → HasToldAllOut manner portion scope found opened after begun done
-    → (mirrors : List MirrorView) × (portions : List (List PostView)) × (rest : List PostView) × (refusal : List ℕ) × HasTold scope portions rest refusal before after mirrors × (done ≡ begun ++ posts_told manner mirrors (all_posts portions rest) ++ ended refusal)
-told_whole {manner} scope found before opened after begun done f h =
-    let a : HasToldAll manner portion scope h.0 found opened after begun h.1 = h.2 in
+pub told_whole : {named : NamedTelling} (scope : Scope) (found : List MirrorView) (before opened after : List Item) (begun done : List ℕ) → HasFound scope before opened found → HasToldAllOut named portion scope found opened after begun done
+    → (mirrors : List MirrorView) × (portions : List (List PostView)) × (rest : List PostView) × (refusal : List ℕ) × HasTold scope portions rest refusal before after mirrors × (done ≡ begun ++ posts_told named mirrors (all_posts portions rest) ++ ended refusal)
+told_whole {named} scope found before opened after begun done f h =
+    let a : HasToldAll named portion scope h.0 found opened after begun h.1 = h.2 in
     let s = a.so in
     let t = s.told in (
       found,
@@ -331,8 +331,8 @@ told_whole {manner} scope found before opened after begun done f h =
       h.3 ∙ ap (λ x. x ++ ended h.0) t.out,
     )
 
-pub telling_stopped : {manner : Manner} (fault : ClientFault) (scope : Scope) (found : List MirrorView) (before opened : List Item) (begun done : List ℕ) → HasFound scope before opened found → IsToldUpTo manner fault portion scope found opened begun done → IsBrokenOff manner fault scope before begun done
-telling_stopped {manner} fault scope found before opened begun done f h =
+pub telling_stopped : {named : NamedTelling} (fault : ClientFault) (scope : Scope) (found : List MirrorView) (before opened : List Item) (begun done : List ℕ) → HasFound scope before opened found → IsToldUpTo named fault portion scope found opened begun done → IsBrokenOff named fault scope before begun done
+telling_stopped {named} fault scope found before opened begun done f h =
     let s = h.so in
     let t = s.told in
     inr (
@@ -341,18 +341,18 @@ telling_stopped {manner} fault scope found before opened begun done f h =
       s.rest,
       h.middle,
       come_whole scope found h.made before opened h.middle begun h.between f s,
-      subst (λ x. IsStopped manner fault scope (mirrors_by found (all_posts s.portions s.rest)) h.middle x done) t.out
-          (subst (λ ms. IsStopped manner fault scope ms h.middle h.between done) t.make h.stopped),
+      subst (λ x. IsStopped named fault scope (mirrors_by found (all_posts s.portions s.rest)) h.middle x done) t.out
+          (subst (λ ms. IsStopped named fault scope ms h.middle h.between done) t.make h.stopped),
     )
 
-pub stopped_behind : (manner : Manner) (r : Result (Unit {0}) ClientFault) (scope : Scope) (found : List MirrorView) (before opened : List Item) (begun done : List ℕ) → HasFound scope before opened found → IfErr r (λ fault. IsToldUpTo manner fault portion scope found opened begun done)
-    → IfErr r (λ fault. IsBrokenOff manner fault scope before begun done)
-stopped_behind manner (Ok u) scope found before opened begun done f h = tt
-stopped_behind manner (Err k) scope found before opened begun done f h = telling_stopped k scope found before opened begun done f h
+pub stopped_behind : (named : NamedTelling) (r : Result (Unit {0}) ClientFault) (scope : Scope) (found : List MirrorView) (before opened : List Item) (begun done : List ℕ) → HasFound scope before opened found → IfErr r (λ fault. IsToldUpTo named fault portion scope found opened begun done)
+    → IfErr r (λ fault. IsBrokenOff named fault scope before begun done)
+stopped_behind named (Ok u) scope found before opened begun done f h = tt
+stopped_behind named (Err k) scope found before opened begun done f h = telling_stopped k scope found before opened begun done f h
 
-pub told_behind : (manner : Manner) (T U Y : Type 0) (r : Result (Unit {0}) ClientFault) (scope : Scope) (found : List MirrorView) (before opened after : List Item) (begun done : List ℕ) → (T → HasFound scope before opened found) → OnOk r (T → U → HasToldAllOut manner portion scope found opened after begun done)
-    → OnOk r (T → U → Y ⊎ ((mirrors : List MirrorView) × (portions : List (List PostView)) × (rest : List PostView) × (refusal : List ℕ) × HasTold scope portions rest refusal before after mirrors × (done ≡ begun ++ posts_told manner mirrors (all_posts portions rest) ++ ended refusal)))
-told_behind manner T U Y (Ok x) scope found before opened after begun done f h = λ t u. inr (told_whole scope found before opened after begun done (f t) (h t u))
-told_behind manner T U Y (Err k) scope found before opened after begun done f h = tt
+pub told_behind : (named : NamedTelling) (T U Y : Type 0) (r : Result (Unit {0}) ClientFault) (scope : Scope) (found : List MirrorView) (before opened after : List Item) (begun done : List ℕ) → (T → HasFound scope before opened found) → OnOk r (T → U → HasToldAllOut named portion scope found opened after begun done)
+    → OnOk r (T → U → Y ⊎ ((mirrors : List MirrorView) × (portions : List (List PostView)) × (rest : List PostView) × (refusal : List ℕ) × HasTold scope portions rest refusal before after mirrors × (done ≡ begun ++ posts_told named mirrors (all_posts portions rest) ++ ended refusal)))
+told_behind named T U Y (Ok x) scope found before opened after begun done f h = λ t u. inr (told_whole scope found before opened after begun done (f t) (h t u))
+told_behind named T U Y (Err k) scope found before opened after begun done f h = tt
 
 -- a refusal in the place of an opening

@@ -7,7 +7,7 @@ use Rattle.mt_events.specs.Posts.{PostView, post_text, ended}
 use Rattle.mt_events.specs.Mirrors.{MirrorView}
 use Rattle.mt_events.specs.declared.opening.Scope.TheVariants.{All}
 use Rattle.mt_protocol.specs.declared.form.Form.TheVariants.{Posts}
-use Rattle.mt_client.specs.declared.manner.Manner.{Manner}
+use Rattle.mt_client.specs.declared.named.NamedTelling.{NamedTelling}
 use Rattle.mt_client.specs.declared.fault.ClientFault.{ClientFault}
 use Rattle.mt_protocol.specs.Verbs.{form_of}
 use Rattle.mt_client.specs.Requests.{lines_behind}
@@ -18,34 +18,34 @@ use Rattle.mt_client.specs.Finding.{watch_text, HasFound}
 use Rattle.mt_client.specs.Telling.{AreTold, IsUnsaid, IsStopped}
 
 -- so many lines were read that are the text of posts, each the next one of its namespace, which were told
-pub record HasToldLines (manner : Manner) (count : ℕ) (old new : List MirrorView) (before after : List Item) (begun done : List ℕ) : Type 0 where
+pub record HasToldLines (named : NamedTelling) (count : ℕ) (old new : List MirrorView) (before after : List Item) (begun done : List ℕ) : Type 0 where
   pub posts : List PostView
-  pub told : AreTold manner All posts (flat_map post_text posts) old new before after begun done
+  pub told : AreTold named All posts (flat_map post_text posts) old new before after begun done
   pub many : length told.lines ≡ count
 
 -- a line was read that says how many lines posts are, and then these posts, which were told
-pub record HasToldClosed (manner : Manner) (old : List MirrorView) (before after : List Item) (begun done : List ℕ) : Type 0 where
+pub record HasToldClosed (named : NamedTelling) (old : List MirrorView) (before after : List Item) (begun done : List ℕ) : Type 0 where
   pub first : List ℕ
   pub middle : List Item
   pub count : ℕ
   pub new : List MirrorView
   pub read : before ≡ Text first ∷ middle
   pub counted : lines_behind Posts true first ≡ Some count
-  pub told : HasToldLines manner count old new middle after begun done
+  pub told : HasToldLines named count old new middle after begun done
 
 -- the requests: of a watcher, the line, and the end of the watcher
 abbrev pub effects_text : List ℕ → List ℕ
 effects_text line = ended (watch_text All) ++ ended line ++ ended (codes "close")
 
 -- what a watcher of all namespaces finds was read, and an answer to a line that is `ok`, which was printed, and then what had changed since, which was told
-pub record HasEffects (manner : Manner) (line : List ℕ) (before after : List Item) (begun done : List ℕ) : Type 0 where
+pub record HasEffects (named : NamedTelling) (line : List ℕ) (before after : List Item) (begun done : List ℕ) : Type 0 where
   pub found : List MirrorView
   pub opened : List Item
   pub answered : List Item
   pub between : List ℕ
   pub watched : HasFound All before opened found
   pub answer : HasPassed (λ lines. IsAnswer (form_of line) lines true) opened answered begun between
-  pub changes : HasToldClosed manner found answered after between done
+  pub changes : HasToldClosed named found answered after between done
 
 -- a refusal was read, and printed
 abbrev pub IsRefusedOut : List Item → List Item → List ℕ → List ℕ → Type 0
@@ -65,28 +65,28 @@ IsRefusedEffect line before after begun done =
     ⊎ ((found : List MirrorView) × (opened : List Item) × HasFound All before opened found × IsRefusedLine line opened after begun done)
 
 -- posts were told up to a fault
-pub record IsToldShort (manner : Manner) (fault : ClientFault) (old : List MirrorView) (before : List Item) (begun done : List ℕ) : Type 0 where
+pub record IsToldShort (named : NamedTelling) (fault : ClientFault) (old : List MirrorView) (before : List Item) (begun done : List ℕ) : Type 0 where
   pub count : ℕ
   pub made : List MirrorView
   pub middle : List Item
   pub between : List ℕ
-  pub so : HasToldLines manner count old made before middle begun between
-  pub stopped : IsStopped manner fault All made middle between done
+  pub so : HasToldLines named count old made before middle begun between
+  pub stopped : IsStopped named fault All made middle between done
 
 -- up to a fault nothing was told, or posts behind a first line
-abbrev pub IsClosedShort : Manner → ClientFault → List MirrorView → List Item → List ℕ → List ℕ → Type 0
-IsClosedShort manner fault old before begun done =
+abbrev pub IsClosedShort : NamedTelling → ClientFault → List MirrorView → List Item → List ℕ → List ℕ → Type 0
+IsClosedShort named fault old before begun done =
     IsUnsaid fault before begun done
-    ⊎ ((first : List ℕ) × (middle : List Item) × (before ≡ Text first ∷ middle) × IsToldShort manner fault old middle begun done)
+    ⊎ ((first : List ℕ) × (middle : List Item) × (before ≡ Text first ∷ middle) × IsToldShort named fault old middle begun done)
 
 -- up to a fault whole lines of an answer were printed, or all of it, and then posts
-abbrev pub IsAnsweredShort : Manner → ClientFault → List ℕ → List MirrorView → List Item → List ℕ → List ℕ → Type 0
-IsAnsweredShort manner fault line found opened begun done =
+abbrev pub IsAnsweredShort : NamedTelling → ClientFault → List ℕ → List MirrorView → List Item → List ℕ → List ℕ → Type 0
+IsAnsweredShort named fault line found opened begun done =
     IsBroken fault opened begun done
-    ⊎ ((answered : List Item) × (between : List ℕ) × HasPassed (λ lines. IsAnswer (form_of line) lines true) opened answered begun between × IsClosedShort manner fault found answered between done)
+    ⊎ ((answered : List Item) × (between : List ℕ) × HasPassed (λ lines. IsAnswer (form_of line) lines true) opened answered begun between × IsClosedShort named fault found answered between done)
 
 -- the same, or nothing was printed, since what a watcher finds did not come
-abbrev pub IsEffectShort : Manner → ClientFault → List ℕ → List Item → List ℕ → List ℕ → Type 0
-IsEffectShort manner fault line before begun done =
+abbrev pub IsEffectShort : NamedTelling → ClientFault → List ℕ → List Item → List ℕ → List ℕ → Type 0
+IsEffectShort named fault line before begun done =
     IsUnsaid fault before begun done
-    ⊎ ((found : List MirrorView) × (opened : List Item) × HasFound All before opened found × IsAnsweredShort manner fault line found opened begun done)
+    ⊎ ((found : List MirrorView) × (opened : List Item) × HasFound All before opened found × IsAnsweredShort named fault line found opened begun done)

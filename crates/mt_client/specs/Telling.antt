@@ -11,8 +11,8 @@ use Rattle.mt_events.specs.Following.{names_space}
 use Rattle.mt_events.specs.Texts.{count_text, opening_text, followed_text}
 use Rattle.mt_events.specs.declared.opening.Scope.{Scope}
 use Rattle.mt_render.specs.Events.{told_as}
-use Rattle.mt_client.specs.declared.manner.Manner.{Manner}
-use Rattle.mt_client.specs.declared.manner.SpaceName.{SpaceName}
+use Rattle.mt_client.specs.declared.named.NamedTelling.{NamedTelling}
+use Rattle.mt_client.specs.declared.named.SpaceName.{SpaceName}
 use Rattle.mt_client.specs.declared.fault.ClientFault.{ClientFault}
 use Rattle.mt_client.specs.declared.fault.ClientFault.TheVariants.{Connection, Output, NoMemory}
 use Rattle.mt_client.specs.Requests.{numbered_text}
@@ -51,13 +51,13 @@ name_in [] n = []
 name_in (x ∷ xs) n = cond (x.space == n) x.name.now (name_in xs n)
 
 -- a post as it is told, with the name of its namespace, and against the mirror of that among these
-abbrev pub told_in : Manner → List MirrorView → PostView → List ℕ
-told_in manner mirrors p = told_as manner.telling (name_in manner.names.now p.space) (mirror_in mirrors p.space) p
+abbrev pub told_in : NamedTelling → List MirrorView → PostView → List ℕ
+told_in named mirrors p = told_as named.telling (name_in named.names.now p.space) (mirror_in mirrors p.space) p
 
 -- posts as they are told, each against the mirror that those before it have made
-abbrev pub posts_told : Manner → List MirrorView → List PostView → List ℕ
-posts_told manner mirrors [] = []
-posts_told manner mirrors (p ∷ ps) = told_in manner mirrors p ++ posts_told manner (mirrors_with mirrors p) ps
+abbrev pub posts_told : NamedTelling → List MirrorView → List PostView → List ℕ
+posts_told named mirrors [] = []
+posts_told named mirrors (p ∷ ps) = told_in named mirrors p ++ posts_told named (mirrors_with mirrors p) ps
 
 -- how many posts a request asks for
 abbrev pub portion : ℕ
@@ -103,7 +103,7 @@ IsUnsaid Connection before old new = new ≡ old
 IsUnsaid NoMemory before old new = new ≡ old
 
 -- a post was read that is due, and a part of its words was printed, not all
-pub record IsHalfTold (manner : Manner) (scope : Scope) (mirrors : List MirrorView) (before : List Item) (old new : List ℕ) : Type 0 where
+pub record IsHalfTold (named : NamedTelling) (scope : Scope) (mirrors : List MirrorView) (before : List Item) (old new : List ℕ) : Type 0 where
   pub post : PostView
   pub lines : List (List ℕ)
   pub later : List Item
@@ -111,69 +111,69 @@ pub record IsHalfTold (manner : Manner) (scope : Scope) (mirrors : List MirrorVi
   pub due : is_due scope mirrors post ≡ true
   pub read : before ≡ texts lines ++ later
   pub text : printed lines ≡ post_text post
-  pub out : IsCutOff (told_in manner mirrors post) old new
+  pub out : IsCutOff (told_in named mirrors post) old new
 
 -- what was printed up to a fault, where these mirrors have followed
-abbrev pub IsStopped : Manner → ClientFault → Scope → List MirrorView → List Item → List ℕ → List ℕ → Type 0
-IsStopped manner fault scope mirrors before old new = IsUnsaid fault before old new ⊎ ((fault ≡ Output) × IsHalfTold manner scope mirrors before old new)
+abbrev pub IsStopped : NamedTelling → ClientFault → Scope → List MirrorView → List Item → List ℕ → List ℕ → Type 0
+IsStopped named fault scope mirrors before old new = IsUnsaid fault before old new ⊎ ((fault ≡ Output) × IsHalfTold named scope mirrors before old new)
 
 -- the same of a whole telling: nothing was told, or posts that had come behind the opening
-abbrev pub IsBrokenOff : Manner → ClientFault → Scope → List Item → List ℕ → List ℕ → Type 0
-IsBrokenOff manner fault scope before old new =
+abbrev pub IsBrokenOff : NamedTelling → ClientFault → Scope → List Item → List ℕ → List ℕ → Type 0
+IsBrokenOff named fault scope before old new =
     IsUnsaid fault before old new
     ⊎ ((found : List MirrorView) × (portions : List (List PostView)) × (rest : List PostView) × (middle : List Item) × HasCome scope portions rest before middle found
-    × IsStopped manner fault scope (mirrors_by found (all_posts portions rest)) middle (old ++ posts_told manner found (all_posts portions rest)) new)
+    × IsStopped named fault scope (mirrors_by found (all_posts portions rest)) middle (old ++ posts_told named found (all_posts portions rest)) new)
 
 -- lines were read that are this text, of these posts, which are due; they were told, and the mirrors have followed
-pub record AreTold (manner : Manner) (scope : Scope) (posts : List PostView) (said : List ℕ) (old new : List MirrorView) (before after : List Item) (begun done : List ℕ) : Type 0 where
+pub record AreTold (named : NamedTelling) (scope : Scope) (posts : List PostView) (said : List ℕ) (old new : List MirrorView) (before after : List Item) (begun done : List ℕ) : Type 0 where
   pub lines : List (List ℕ)
   pub valid : AllByRecursion IsPost posts
   pub due : are_due scope old posts ≡ true
   pub make : new ≡ mirrors_by old posts
   pub read : before ≡ texts lines ++ after
   pub text : printed lines ≡ said
-  pub out : done ≡ begun ++ posts_told manner old posts
+  pub out : done ≡ begun ++ posts_told named old posts
 
 -- one post was told
-abbrev pub HasToldPost : Manner → Scope → List MirrorView → List MirrorView → List Item → List Item → List ℕ → List ℕ → Type 0
-HasToldPost manner scope old new before after begun done = (post : PostView) × AreTold manner scope (post ∷ []) (post_text post) old new before after begun done
+abbrev pub HasToldPost : NamedTelling → Scope → List MirrorView → List MirrorView → List Item → List Item → List ℕ → List ℕ → Type 0
+HasToldPost named scope old new before after begun done = (post : PostView) × AreTold named scope (post ∷ []) (post_text post) old new before after begun done
 
 -- so many posts were told
-pub record HasToldSome (manner : Manner) (count : ℕ) (scope : Scope) (old new : List MirrorView) (before after : List Item) (begun done : List ℕ) : Type 0 where
+pub record HasToldSome (named : NamedTelling) (count : ℕ) (scope : Scope) (old new : List MirrorView) (before after : List Item) (begun done : List ℕ) : Type 0 where
   pub posts : List PostView
   pub many : length posts ≡ count
-  pub told : AreTold manner scope posts (flat_map post_text posts) old new before after begun done
+  pub told : AreTold named scope posts (flat_map post_text posts) old new before after begun done
 
 -- so many posts were told, and their end was read
-pub record HasToldPortion (manner : Manner) (count : ℕ) (scope : Scope) (old new : List MirrorView) (before after : List Item) (begun done : List ℕ) : Type 0 where
+pub record HasToldPortion (named : NamedTelling) (count : ℕ) (scope : Scope) (old new : List MirrorView) (before after : List Item) (begun done : List ℕ) : Type 0 where
   pub posts : List PostView
   pub many : length posts ≡ count
-  pub told : AreTold manner scope posts (followed_text posts (count_text count)) old new before after begun done
+  pub told : AreTold named scope posts (followed_text posts (count_text count)) old new before after begun done
 
 -- portions of so many posts were told, and at most so many posts more
-pub record HasToldSo (manner : Manner) (count : ℕ) (scope : Scope) (old new : List MirrorView) (before after : List Item) (begun done : List ℕ) : Type 0 where
+pub record HasToldSo (named : NamedTelling) (count : ℕ) (scope : Scope) (old new : List MirrorView) (before after : List Item) (begun done : List ℕ) : Type 0 where
   pub portions : List (List PostView)
   pub rest : List PostView
   pub whole : AllByRecursion (λ posts. length posts ≡ count) portions
   pub within : length rest ≤ count
-  pub told : AreTold manner scope (all_posts portions rest) (portions_text count portions rest) old new before after begun done
+  pub told : AreTold named scope (all_posts portions rest) (portions_text count portions rest) old new before after begun done
 
 -- and behind them a refusal was read
-pub record HasToldAll (manner : Manner) (count : ℕ) (scope : Scope) (refusal : List ℕ) (old : List MirrorView) (before after : List Item) (begun done : List ℕ) : Type 0 where
+pub record HasToldAll (named : NamedTelling) (count : ℕ) (scope : Scope) (refusal : List ℕ) (old : List MirrorView) (before after : List Item) (begun done : List ℕ) : Type 0 where
   pub made : List MirrorView
   pub middle : List Item
-  pub so : HasToldSo manner count scope old made before middle begun done
+  pub so : HasToldSo named count scope old made before middle begun done
   pub refused : HasRefused refusal middle after
 
 -- and it was printed
-abbrev pub HasToldAllOut : Manner → ℕ → Scope → List MirrorView → List Item → List Item → List ℕ → List ℕ → Type 0
-HasToldAllOut manner count scope old before after begun done =
-    (refusal : List ℕ) × (between : List ℕ) × HasToldAll manner count scope refusal old before after begun between × (done ≡ between ++ ended refusal)
+abbrev pub HasToldAllOut : NamedTelling → ℕ → Scope → List MirrorView → List Item → List Item → List ℕ → List ℕ → Type 0
+HasToldAllOut named count scope old before after begun done =
+    (refusal : List ℕ) × (between : List ℕ) × HasToldAll named count scope refusal old before after begun between × (done ≡ between ++ ended refusal)
 
 -- posts were told up to a fault
-pub record IsToldUpTo (manner : Manner) (fault : ClientFault) (count : ℕ) (scope : Scope) (old : List MirrorView) (before : List Item) (begun done : List ℕ) : Type 0 where
+pub record IsToldUpTo (named : NamedTelling) (fault : ClientFault) (count : ℕ) (scope : Scope) (old : List MirrorView) (before : List Item) (begun done : List ℕ) : Type 0 where
   pub made : List MirrorView
   pub middle : List Item
   pub between : List ℕ
-  pub so : HasToldSo manner count scope old made before middle begun between
-  pub stopped : IsStopped manner fault scope made middle between done
+  pub so : HasToldSo named count scope old made before middle begun between
+  pub stopped : IsStopped named fault scope made middle between done

@@ -18,7 +18,7 @@ ghost use Rattle.mt_events.specs.declared.opening.Scope.TheVariants.{All};
 
 use crate::answer::{is_refusal, lines_behind};
 use crate::fault::ClientFault;
-use crate::manner::Manner;
+use crate::named::NamedTelling;
 use crate::posts::{lines_of_event, read_posted};
 use crate::relay::{next_text, pass_answer, print_line};
 use crate::sending::send_request;
@@ -35,17 +35,17 @@ use std::alloc::Global;
 fn tell_next<R: Input + Drop, O: Output>(
     alloc: Global,
     lines: &mut LineReader<R>,
-    manner: &Manner<'_>,
+    named: &NamedTelling<'_>,
     mirrors: &mut Vec<Mirror>,
     out: &mut O,
 ) -> Result<u64, ClientFault>
     requires fresh { fault_of lines.old ≡ None }
     requires rising { IsTrue (rises mirror_space mirrors.old.items) }
     ensures told { IfOk result (λ behind. IsTrue R.tells → IsTrue O.tells
-        → HasToldLines manner.now (1 + behind) mirrors.old.items mirrors.new.items (lines_left lines.old) (lines_left lines.new) (O.written out.old) (O.written out.new)) }
+        → HasToldLines named.now (1 + behind) mirrors.old.items mirrors.new.items (lines_left lines.old) (lines_left lines.new) (O.written out.old) (O.written out.new)) }
     ensures rising { OnOk result (IsTrue (rises mirror_space mirrors.new.items)) }
     ensures broken { IsTrue R.tells → IsTrue O.tells → IfErr result
-        (λ fault. IsStopped manner.now fault All mirrors.old.items (lines_left lines.old) (O.written out.old) (O.written out.new)) }
+        (λ fault. IsStopped named.now fault All mirrors.old.items (lines_left lines.old) (O.written out.old) (O.written out.new)) }
     ensures only { IfOk result (λ behind. IsTrue R.tells
         → IsOnlyCounted behind mirrors.old.items mirrors.new.items (lines_left lines.old) (lines_left lines.new)) }
     ensures on { OnOk result (ReadsOn lines.old lines.new) }
@@ -57,7 +57,7 @@ fn tell_next<R: Input + Drop, O: Output>(
         return Err(ClientFault::Connection);
     };
     let post = read_posted(alloc, lines)?;
-    tell_due(alloc, Scope::All, manner, mirrors, &post, out)?;
+    tell_due(alloc, Scope::All, named, mirrors, &post, out)?;
     Ok(behind)
 }
 
@@ -66,23 +66,23 @@ fn tell_lines<R: Input + Drop, O: Output>(
     alloc: Global,
     lines: &mut LineReader<R>,
     count: u64,
-    manner: &Manner<'_>,
+    named: &NamedTelling<'_>,
     mirrors: &mut Vec<Mirror>,
     out: &mut O,
 ) -> Result<(), ClientFault>
     requires fresh { fault_of lines.old ≡ None }
     requires rising { IsTrue (rises mirror_space mirrors.old.items) }
     ensures told { OnOk result (IsTrue R.tells → IsTrue O.tells
-        → HasToldLines manner.now count mirrors.old.items mirrors.new.items (lines_left lines.old) (lines_left lines.new) (O.written out.old) (O.written out.new)) }
+        → HasToldLines named.now count mirrors.old.items mirrors.new.items (lines_left lines.old) (lines_left lines.new) (O.written out.old) (O.written out.new)) }
     ensures broken { IsTrue R.tells → IsTrue O.tells → IfErr result
-        (λ fault. IsToldShort manner.now fault mirrors.old.items (lines_left lines.old) (O.written out.old) (O.written out.new)) }
+        (λ fault. IsToldShort named.now fault mirrors.old.items (lines_left lines.old) (O.written out.old) (O.written out.new)) }
     ensures on { OnOk result (ReadsOn lines.old lines.new) }
     ensures prints { OnOk result (WritesOn O.Output out.old out.new) }
     ensures fault { IfErr result (λ fault. IsTellFault O.Output fault (AreDueLines count mirrors.old.items) lines.old lines.new out.old out.new) }
 {
     let mut left = count;
     'telling: while left > 0 {
-        let behind = tell_next(alloc, lines, manner, mirrors, out)?;
+        let behind = tell_next(alloc, lines, named, mirrors, out)?;
         let Some(rest) = (left - 1).checked_sub(behind) else {
             return Err(ClientFault::Connection);
         };
@@ -95,18 +95,18 @@ fn tell_lines<R: Input + Drop, O: Output>(
 fn tell_closed<R: Input + Drop, O: Output>(
     alloc: Global,
     lines: &mut LineReader<R>,
-    manner: &Manner<'_>,
+    named: &NamedTelling<'_>,
     mirrors: &mut Vec<Mirror>,
     out: &mut O,
 ) -> Result<bool, ClientFault>
     requires fresh { fault_of lines.old ≡ None }
     requires rising { IsTrue (rises mirror_space mirrors.old.items) }
     ensures told { result ≡ Ok true → IsTrue R.tells → IsTrue O.tells
-        → HasToldClosed manner.now mirrors.old.items (lines_left lines.old) (lines_left lines.new) (O.written out.old) (O.written out.new) }
+        → HasToldClosed named.now mirrors.old.items (lines_left lines.old) (lines_left lines.new) (O.written out.old) (O.written out.new) }
     ensures refused { result ≡ Ok false → IsTrue R.tells → IsTrue O.tells
         → IsRefusedOut (lines_left lines.old) (lines_left lines.new) (O.written out.old) (O.written out.new) }
     ensures broken { IsTrue R.tells → IsTrue O.tells → IfErr result
-        (λ fault. IsClosedShort manner.now fault mirrors.old.items (lines_left lines.old) (O.written out.old) (O.written out.new)) }
+        (λ fault. IsClosedShort named.now fault mirrors.old.items (lines_left lines.old) (O.written out.old) (O.written out.new)) }
     ensures on { OnOk result (ReadsOn lines.old lines.new) }
     ensures prints { OnOk result (WritesOn O.Output out.old out.new) }
     ensures fault { IfErr result (λ fault. IsTellFault O.Output fault (IsRefusedOr (IsClosing mirrors.old.items)) lines.old lines.new out.old out.new) }
@@ -119,7 +119,7 @@ fn tell_closed<R: Input + Drop, O: Output>(
     let Some(count) = lines_behind(Form::Posts, true, lines.line()) else {
         return Err(ClientFault::Connection);
     };
-    tell_lines(alloc, lines, count, manner, mirrors, out)?;
+    tell_lines(alloc, lines, count, named, mirrors, out)?;
     Ok(true)
 }
 
@@ -128,20 +128,20 @@ fn tell_changes<R: Input + Drop, W: Output, O: Output>(
     alloc: Global,
     lines: &mut LineReader<R>,
     writer: &mut W,
-    manner: &Manner<'_>,
+    named: &NamedTelling<'_>,
     mirrors: &mut Vec<Mirror>,
     out: &mut O,
 ) -> Result<bool, ClientFault>
     requires fresh { fault_of lines.old ≡ None }
     requires rising { IsTrue (rises mirror_space mirrors.old.items) }
     ensures told { result ≡ Ok true → IsTrue R.tells → IsTrue O.tells
-        → HasToldClosed manner.now mirrors.old.items (lines_left lines.old) (lines_left lines.new) (O.written out.old) (O.written out.new) }
+        → HasToldClosed named.now mirrors.old.items (lines_left lines.old) (lines_left lines.new) (O.written out.old) (O.written out.new) }
     ensures part { IsTrue W.tells
         → IsSentPart (ended (codes "close")) (W.written writer.old) (W.written writer.new) }
     ensures refused { result ≡ Ok false → IsTrue R.tells → IsTrue O.tells
         → IsRefusedOut (lines_left lines.old) (lines_left lines.new) (O.written out.old) (O.written out.new) }
     ensures broken { IsTrue R.tells → IsTrue O.tells → IfErr result
-        (λ fault. IsClosedShort manner.now fault mirrors.old.items (lines_left lines.old) (O.written out.old) (O.written out.new)) }
+        (λ fault. IsClosedShort named.now fault mirrors.old.items (lines_left lines.old) (O.written out.old) (O.written out.new)) }
     ensures sent { result ≡ Ok true → IsOut W.Output (ended (codes "close")) writer.old writer.new }
     ensures on { OnOk result (ReadsOn lines.old lines.new) }
     ensures prints { OnOk result (WritesOn O.Output out.old out.new) }
@@ -150,7 +150,7 @@ fn tell_changes<R: Input + Drop, W: Output, O: Output>(
     if !send_request(lines, writer, b"close", out)? {
         return Ok(false);
     }
-    tell_closed(alloc, lines, manner, mirrors, out)
+    tell_closed(alloc, lines, named, mirrors, out)
 }
 
 /// Sends a line and prints its answer, closes the watcher, and tells the posts that it had: false where a refusal was
@@ -160,7 +160,7 @@ fn tell_answered<R: Input + Drop, W: Output, O: Output>(
     lines: &mut LineReader<R>,
     writer: &mut W,
     line: &[u8],
-    manner: &Manner<'_>,
+    named: &NamedTelling<'_>,
     mirrors: &mut Vec<Mirror>,
     out: &mut O,
 ) -> Result<bool, ClientFault>
@@ -168,11 +168,11 @@ fn tell_answered<R: Input + Drop, W: Output, O: Output>(
     requires rising { IsTrue (rises mirror_space mirrors.old.items) }
     ensures told { result ≡ Ok true → IsTrue R.tells → IsTrue O.tells → (answered : List Item) × (between : List ℕ)
         × HasPassed (λ all. IsAnswer (form_of line.now) all true) (lines_left lines.old) answered (O.written out.old) between
-        × HasToldClosed manner.now mirrors.old.items answered (lines_left lines.new) between (O.written out.new) }
+        × HasToldClosed named.now mirrors.old.items answered (lines_left lines.new) between (O.written out.new) }
     ensures refused { result ≡ Ok false → IsTrue R.tells → IsTrue O.tells
         → IsRefusedLine line.now (lines_left lines.old) (lines_left lines.new) (O.written out.old) (O.written out.new) }
     ensures broken { IsTrue R.tells → IsTrue O.tells → IfErr result
-        (λ fault. IsAnsweredShort manner.now fault line.now mirrors.old.items (lines_left lines.old) (O.written out.old) (O.written out.new)) }
+        (λ fault. IsAnsweredShort named.now fault line.now mirrors.old.items (lines_left lines.old) (O.written out.old) (O.written out.new)) }
     ensures sent { result ≡ Ok true → IsOut W.Output (ended line.now ++ ended (codes "close")) writer.old writer.new }
     ensures part { IsTrue W.tells
         → IsSentPart (ended line.now ++ ended (codes "close")) (W.written writer.old) (W.written writer.new) }
@@ -186,7 +186,7 @@ fn tell_answered<R: Input + Drop, W: Output, O: Output>(
     if !pass_answer(alloc, lines, form_of(line), out)? {
         return Ok(false);
     }
-    tell_changes(alloc, lines, writer, manner, mirrors, out)
+    tell_changes(alloc, lines, writer, named, mirrors, out)
 }
 
 /// Watches all namespaces, sends a line and prints its answer, and then tells what has changed since, in this manner: each
@@ -206,7 +206,7 @@ pub fn tell_effects<R: Input + Drop, W: Output, O: Output>(
     lines: &mut LineReader<R>,
     writer: &mut W,
     line: &[u8],
-    manner: &Manner<'_>,
+    named: &NamedTelling<'_>,
     out: &mut O,
 ) -> Result<bool, ClientFault>
     requires fresh { fault_of lines.old ≡ None }
@@ -214,7 +214,7 @@ pub fn tell_effects<R: Input + Drop, W: Output, O: Output>(
     // The lines that were read are what a watcher of all namespaces finds, a whole answer to the line, which was printed,
     // and the posts that the watcher had, which were told.
     ensures told { result ≡ Ok true → IsTrue R.tells → IsTrue O.tells
-        → HasEffects manner.now line.now (lines_left lines.old) (lines_left lines.new) (O.written out.old) (O.written out.new) }
+        → HasEffects named.now line.now (lines_left lines.old) (lines_left lines.new) (O.written out.old) (O.written out.new) }
 
     // Else a refusal was printed, and nothing behind it: that in the place of what the watcher finds, that of the line or
     // in the place of its answer, or one in the place of the posts.
@@ -225,7 +225,7 @@ pub fn tell_effects<R: Input + Drop, W: Output, O: Output>(
     // come, from the first one on, each whole. Where the output failed, a part of one more text was printed, of lines
     // that had come or of a post that is the next one of its namespace.
     ensures broken { IsTrue R.tells → IsTrue O.tells → IfErr result
-        (λ fault. IsEffectShort manner.now fault line.now (lines_left lines.old) (O.written out.old) (O.written out.new)) }
+        (λ fault. IsEffectShort named.now fault line.now (lines_left lines.old) (O.written out.old) (O.written out.new)) }
 
     // The request of the watcher went out, then the line, and then the end of the watcher; or a part of these, and
     // nothing else.
@@ -255,5 +255,5 @@ pub fn tell_effects<R: Input + Drop, W: Output, O: Output>(
     let Some(mut mirrors) = watch(alloc, lines, writer, Scope::All, out)? else {
         return Ok(false);
     };
-    tell_answered(alloc, lines, writer, line, manner, &mut mirrors, out)
+    tell_answered(alloc, lines, writer, line, named, &mut mirrors, out)
 }

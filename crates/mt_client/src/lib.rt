@@ -1,5 +1,5 @@
 //! What a client of the mount server does over a connection: it asks, passes answers on, follows the table of a
-//! namespace, draws tables, and tells posts in words or as JSON ([`manner`]).
+//! namespace, draws tables, and tells posts in words or as JSON ([`named`]).
 //!
 //! A request is a line ([`request`]). How many lines answer it is known by its form and by the first line of the answer
 //! ([`answer`]). [`ask`] sends a request and prints its answer, [`mirror`] applies posts to the table
@@ -12,9 +12,9 @@ pub mod ask;
 mod block;
 pub mod effects;
 pub mod fault;
-pub mod manner;
 pub mod mirror;
 mod mirrors;
+pub mod named;
 mod opening;
 mod parts;
 pub mod picture;

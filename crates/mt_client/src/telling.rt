@@ -15,9 +15,9 @@ ghost use Rattle.mt_client.specs.Due.{IsDuePost, AreDuePosts, AreDuePortions, Is
 
 use crate::answer::is_refusal;
 use crate::fault::ClientFault;
-use crate::manner::{Manner, name_of};
 use crate::mirror::read_end;
 use crate::mirrors::apply_told;
+use crate::named::{NamedTelling, name_of};
 use crate::posts::read_posted;
 use crate::relay::{next_text, print, print_line};
 use crate::request::numbered_line;
@@ -40,7 +40,7 @@ const MOST_PORTIONS: u64 = u64::MAX;
 pub(crate) fn tell_due<O: Output>(
     alloc: Global,
     scope: Scope,
-    manner: &Manner<'_>,
+    named: &NamedTelling<'_>,
     mirrors: &mut Vec<Mirror>,
     post: &Post,
     out: &mut O,
@@ -52,16 +52,16 @@ pub(crate) fn tell_due<O: Output>(
     ensures refused { result ≡ Err ClientFault.Connection → is_due scope mirrors.old.items post.now ≡ false }
     ensures kept { OnErr result (result ≢ Err ClientFault.Output → IsTrue O.tells
         → O.written out.new ≡ O.written out.old) }
-    ensures out { OnOk result (IsOut O.Output (told_in manner.now mirrors.old.items post.now) out.old out.new) }
+    ensures out { OnOk result (IsOut O.Output (told_in named.now mirrors.old.items post.now) out.old out.new) }
     ensures part { result ≡ Err ClientFault.Output → (is_due scope mirrors.old.items post.now ≡ true)
-        × IsOutInPart O.Output (told_in manner.now mirrors.old.items post.now) out.old out.new }
+        × IsOutInPart O.Output (told_in named.now mirrors.old.items post.now) out.old out.new }
 {
     if !scope.names(post.space) {
         return Err(ClientFault::Connection);
     }
     let mut text = Vec::new(alloc);
-    let name = name_of(manner.names, post.space);
-    apply_told(alloc, &mut text, manner.telling, mirrors, post, name)?;
+    let name = name_of(named.names, post.space);
+    apply_told(alloc, &mut text, named.telling, mirrors, post, name)?;
     print(out, text.as_slice())
 }
 
@@ -70,18 +70,18 @@ fn tell_post<R: Input + Drop, O: Output>(
     alloc: Global,
     lines: &mut LineReader<R>,
     scope: Scope,
-    manner: &Manner<'_>,
+    named: &NamedTelling<'_>,
     mirrors: &mut Vec<Mirror>,
     out: &mut O,
 ) -> Result<bool, ClientFault>
     requires fresh { fault_of lines.old ≡ None }
     requires rising { IsTrue (rises mirror_space mirrors.old.items) }
     ensures told { IfOk result (λ going. IsTrue R.tells → IsTrue O.tells → MatchBool going
-        (HasToldPost manner.now scope mirrors.old.items mirrors.new.items (lines_left lines.old) (lines_left lines.new) (O.written out.old) (O.written out.new))
+        (HasToldPost named.now scope mirrors.old.items mirrors.new.items (lines_left lines.old) (lines_left lines.new) (O.written out.old) (O.written out.new))
         ((O.written out.new ≡ O.written out.old) × HasRefused (last_line lines.new) (lines_left lines.old) (lines_left lines.new))) }
     ensures rising { OnOk result (IsTrue (rises mirror_space mirrors.new.items)) }
     ensures broken { IsTrue R.tells → IsTrue O.tells → IfErr result
-        (λ fault. IsStopped manner.now fault scope mirrors.old.items (lines_left lines.old) (O.written out.old) (O.written out.new)) }
+        (λ fault. IsStopped named.now fault scope mirrors.old.items (lines_left lines.old) (O.written out.old) (O.written out.new)) }
     ensures applied { result ≡ Ok true → IsTrue R.tells
         → IsOnlyApplied mirrors.old.items mirrors.new.items (lines_left lines.old) (lines_left lines.new) }
     ensures unrefused { result ≡ Ok true → IsTrue R.tells → NoneFirst IsOneRefusal (lines_left lines.old) }
@@ -94,7 +94,7 @@ fn tell_post<R: Input + Drop, O: Output>(
         return Ok(false);
     }
     let post = read_posted(alloc, lines)?;
-    tell_due(alloc, scope, manner, mirrors, &post, out)?;
+    tell_due(alloc, scope, named, mirrors, &post, out)?;
     Ok(true)
 }
 
@@ -104,7 +104,7 @@ fn tell_posts<R: Input + Drop, O: Output>(
     alloc: Global,
     lines: &mut LineReader<R>,
     scope: Scope,
-    manner: &Manner<'_>,
+    named: &NamedTelling<'_>,
     count: u64,
     mirrors: &mut Vec<Mirror>,
     out: &mut O,
@@ -112,11 +112,11 @@ fn tell_posts<R: Input + Drop, O: Output>(
     requires fresh { fault_of lines.old ≡ None }
     requires rising { IsTrue (rises mirror_space mirrors.old.items) }
     ensures told { IfOk result (λ going. IsTrue R.tells → IsTrue O.tells → MatchBool going
-        (HasToldPortion manner.now count scope mirrors.old.items mirrors.new.items (lines_left lines.old) (lines_left lines.new) (O.written out.old) (O.written out.new))
-        (HasToldAll manner.now count scope (last_line lines.new) mirrors.old.items (lines_left lines.old) (lines_left lines.new) (O.written out.old) (O.written out.new))) }
+        (HasToldPortion named.now count scope mirrors.old.items mirrors.new.items (lines_left lines.old) (lines_left lines.new) (O.written out.old) (O.written out.new))
+        (HasToldAll named.now count scope (last_line lines.new) mirrors.old.items (lines_left lines.old) (lines_left lines.new) (O.written out.old) (O.written out.new))) }
     ensures rising { OnOk result (IsTrue (rises mirror_space mirrors.new.items)) }
     ensures broken { IsTrue R.tells → IsTrue O.tells → IfErr result
-        (λ fault. IsToldUpTo manner.now fault count scope mirrors.old.items (lines_left lines.old) (O.written out.old) (O.written out.new)) }
+        (λ fault. IsToldUpTo named.now fault count scope mirrors.old.items (lines_left lines.old) (O.written out.old) (O.written out.new)) }
     ensures applied { result ≡ Ok true → IsTrue R.tells
         → AreOnlyApplied count scope mirrors.old.items mirrors.new.items (lines_left lines.old) (lines_left lines.new) }
     ensures on { OnOk result (ReadsOn lines.old lines.new) }
@@ -124,7 +124,7 @@ fn tell_posts<R: Input + Drop, O: Output>(
     ensures fault { IfErr result (λ fault. IsTellFault O.Output fault (AreDuePosts count scope mirrors.old.items) lines.old lines.new out.old out.new) }
 {
     'posts: for _post in 0..count {
-        if !tell_post(alloc, lines, scope, manner, mirrors, out)? {
+        if !tell_post(alloc, lines, scope, named, mirrors, out)? {
             return Ok(false);
         }
     }
@@ -137,7 +137,7 @@ fn tell_portion<R: Input + Drop, W: Output, O: Output>(
     lines: &mut LineReader<R>,
     writer: &mut W,
     scope: Scope,
-    manner: &Manner<'_>,
+    named: &NamedTelling<'_>,
     count: u64,
     mirrors: &mut Vec<Mirror>,
     out: &mut O,
@@ -145,11 +145,11 @@ fn tell_portion<R: Input + Drop, W: Output, O: Output>(
     requires fresh { fault_of lines.old ≡ None }
     requires rising { IsTrue (rises mirror_space mirrors.old.items) }
     ensures told { IfOk result (λ going. IsTrue R.tells → IsTrue O.tells → MatchBool going
-        (HasToldPortion manner.now count scope mirrors.old.items mirrors.new.items (lines_left lines.old) (lines_left lines.new) (O.written out.old) (O.written out.new))
-        (HasToldAllOut manner.now count scope mirrors.old.items (lines_left lines.old) (lines_left lines.new) (O.written out.old) (O.written out.new))) }
+        (HasToldPortion named.now count scope mirrors.old.items mirrors.new.items (lines_left lines.old) (lines_left lines.new) (O.written out.old) (O.written out.new))
+        (HasToldAllOut named.now count scope mirrors.old.items (lines_left lines.old) (lines_left lines.new) (O.written out.old) (O.written out.new))) }
     ensures rising { OnOk result (IsTrue (rises mirror_space mirrors.new.items)) }
     ensures broken { IsTrue R.tells → IsTrue O.tells → IfErr result
-        (λ fault. IsToldUpTo manner.now fault count scope mirrors.old.items (lines_left lines.old) (O.written out.old) (O.written out.new)) }
+        (λ fault. IsToldUpTo named.now fault count scope mirrors.old.items (lines_left lines.old) (O.written out.old) (O.written out.new)) }
     ensures part { IsTrue W.tells
         → IsSentPart (ended (numbered_text (codes "follow") count)) (W.written writer.old) (W.written writer.new) }
     ensures applied { result ≡ Ok true → IsTrue R.tells
@@ -163,7 +163,7 @@ fn tell_portion<R: Input + Drop, W: Output, O: Output>(
     if !send_request(lines, writer, follow.as_slice(), out)? {
         return Ok(false);
     }
-    if tell_posts(alloc, lines, scope, manner, count, mirrors, out)? {
+    if tell_posts(alloc, lines, scope, named, count, mirrors, out)? {
         return Ok(true);
     }
     print_line(out, lines.line())?;
@@ -176,7 +176,7 @@ fn tell_portions<R: Input + Drop, W: Output, O: Output>(
     lines: &mut LineReader<R>,
     writer: &mut W,
     scope: Scope,
-    manner: &Manner<'_>,
+    named: &NamedTelling<'_>,
     count: u64,
     mirrors: &mut Vec<Mirror>,
     out: &mut O,
@@ -184,9 +184,9 @@ fn tell_portions<R: Input + Drop, W: Output, O: Output>(
     requires fresh { fault_of lines.old ≡ None }
     requires rising { IsTrue (rises mirror_space mirrors.old.items) }
     ensures told { OnOk result (IsTrue R.tells → IsTrue O.tells
-        → HasToldAllOut manner.now count scope mirrors.old.items (lines_left lines.old) (lines_left lines.new) (O.written out.old) (O.written out.new)) }
+        → HasToldAllOut named.now count scope mirrors.old.items (lines_left lines.old) (lines_left lines.new) (O.written out.old) (O.written out.new)) }
     ensures broken { IsTrue R.tells → IsTrue O.tells → IfErr result
-        (λ fault. IsToldUpTo manner.now fault count scope mirrors.old.items (lines_left lines.old) (O.written out.old) (O.written out.new)) }
+        (λ fault. IsToldUpTo named.now fault count scope mirrors.old.items (lines_left lines.old) (O.written out.old) (O.written out.new)) }
     ensures part { IsTrue W.tells
         → (times : ℕ) × IsSentPart (follows_text count times) (W.written writer.old) (W.written writer.new) }
     ensures on { OnOk result (ReadsOn lines.old lines.new) }
@@ -194,7 +194,7 @@ fn tell_portions<R: Input + Drop, W: Output, O: Output>(
     ensures fault { IfErr result (λ fault. IsTalkFault W.Output O.Output fault (AreDuePortions count scope mirrors.old.items) lines.old lines.new writer.old writer.new out.old out.new) }
 {
     'portions: for _portion in 0..MOST_PORTIONS {
-        if !tell_portion(alloc, lines, writer, scope, manner, count, mirrors, out)? {
+        if !tell_portion(alloc, lines, writer, scope, named, count, mirrors, out)? {
             return Ok(());
         }
     }
@@ -220,7 +220,7 @@ pub fn tell<R: Input + Drop, W: Output, O: Output>(
     lines: &mut LineReader<R>,
     writer: &mut W,
     scope: Scope,
-    manner: &Manner<'_>,
+    named: &NamedTelling<'_>,
     out: &mut O,
 ) -> Result<(), ClientFault>
     requires fresh { fault_of lines.old ≡ None }
@@ -233,12 +233,12 @@ pub fn tell<R: Input + Drop, W: Output, O: Output>(
         → ((refusal : List ℕ) × HasRefused refusal (lines_left lines.old) (lines_left lines.new) × (O.written out.new ≡ O.written out.old ++ ended refusal))
         ⊎ ((found : List MirrorView) × (portions : List (List PostView)) × (rest : List PostView) × (refusal : List ℕ)
         × HasTold scope portions rest refusal (lines_left lines.old) (lines_left lines.new) found
-        × (O.written out.new ≡ O.written out.old ++ posts_told manner.now found (all_posts portions rest) ++ ended refusal))) }
+        × (O.written out.new ≡ O.written out.old ++ posts_told named.now found (all_posts portions rest) ++ ended refusal))) }
 
     // Up to a fault nothing was printed, or what is told of posts that had come, from the first one on, each whole. Where
     // the output failed, a part of one more text was printed, that of a post that is due, or of lines that had come.
     ensures broken { IsTrue R.tells → IsTrue O.tells → IfErr result
-        (λ fault. IsBrokenOff manner.now fault scope (lines_left lines.old) (O.written out.old) (O.written out.new)) }
+        (λ fault. IsBrokenOff named.now fault scope (lines_left lines.old) (O.written out.old) (O.written out.new)) }
 
     // A part of the requests went out, that of the watcher and some for posts, and nothing else.
     ensures part { IsTrue W.tells
@@ -269,7 +269,7 @@ pub fn tell<R: Input + Drop, W: Output, O: Output>(
         lines,
         writer,
         scope,
-        manner,
+        named,
         PORTION,
         &mut mirrors,
         out,

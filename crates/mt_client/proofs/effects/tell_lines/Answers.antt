@@ -13,7 +13,7 @@ telling-init g c = record {
   prints = writes_still g.O.Output _;
   rising = c.requires.rising;
   coming = λ t. all_coming c.args.count c.args.mirrors.now.items _;
-  told = λ t u. all_left c.args.manner.now c.args.count c.args.mirrors.now.items _ _;
+  told = λ t u. all_left c.args.named.now c.args.count c.args.mirrors.now.items _ _;
 }
 
 pub telling-preserved : goal.telling-preserved
@@ -27,25 +27,25 @@ telling-preserved g c =
       prints = writes_both c.telling.invariant.prints c.in_ok-behind.ensures.prints;
       rising = c.in_ok-behind.ensures.rising;
       coming = λ t. more_coming c.args.count c.in_ok-behind.behind c.telling.left c.in-Some.rest c.args.mirrors.now.items c.telling.mirrors.items _ _ _ _ less (c.telling.invariant.coming t) (c.in_ok-behind.ensures.only t);
-      told = λ t u. more_lines c.args.manner.now c.args.count c.telling.left (1 + c.in_ok-behind.behind) c.in-Some.rest c.args.mirrors.now.items c.telling.mirrors.items _ _ _ _ _ _ _ less (c.telling.invariant.told t u) (c.in_ok-behind.ensures.told t u);
+      told = λ t u. more_lines c.args.named.now c.args.count c.telling.left (1 + c.in_ok-behind.behind) c.in-Some.rest c.args.mirrors.now.items c.telling.mirrors.items _ _ _ _ _ _ _ less (c.telling.invariant.told t u) (c.in_ok-behind.ensures.told t u);
     }
 
 pub returns-clause-told : goal.returns-clause-told
 returns-clause-told g c t u =
     let h = c.telling.invariant.told t u in
     let all : h.0 ≡ c.args.count = omega (arith, c.telling-test.false, h.1) in
-    subst (λ n. HasToldLines c.args.manner.now n c.args.mirrors.now.items c.telling.mirrors.items (lines_left c.args.lines.now) (lines_left c.telling.lines) (g.O.Output.written c.args.out.now) (g.O.Output.written c.telling.out)) all h.2
+    subst (λ n. HasToldLines c.args.named.now n c.args.mirrors.now.items c.telling.mirrors.items (lines_left c.args.lines.now) (lines_left c.telling.lines) (g.O.Output.written c.args.out.now) (g.O.Output.written c.telling.out)) all h.2
 
 pub returns-in_err-behind-clause-broken : goal.returns-in_err-behind-clause-broken
 returns-in_err-behind-clause-broken g c t u =
     let p = err_from_is_err_and c.from_residual.result c.from_residual.ensures.1 in
     let h = c.telling.invariant.told t u in
-    rw (p.1, p.2) (short_behind c.args.manner.now c.in_err-behind.field-0.0 h.0 c.args.mirrors.now.items c.telling.mirrors.items _ _ _ _ _ h.2 (c.in_err-behind.ensures.broken t u))
+    rw (p.1, p.2) (short_behind c.args.named.now c.in_err-behind.field-0.0 h.0 c.args.mirrors.now.items c.telling.mirrors.items _ _ _ _ _ h.2 (c.in_err-behind.ensures.broken t u))
 
 pub returns-in_default-clause-broken : goal.returns-in_default-clause-broken
 returns-in_default-clause-broken g c t u =
     let h = c.telling.invariant.told t u in
-    short_of_lines c.args.manner.now (h.0 + (1 + c.in_ok-behind.behind)) c.args.mirrors.now.items _ _ _ _ _ (both_lines c.args.manner.now h.0 (1 + c.in_ok-behind.behind) c.args.mirrors.now.items c.telling.mirrors.items _ _ _ _ _ _ _ h.2 (c.in_ok-behind.ensures.told t u))
+    short_of_lines c.args.named.now (h.0 + (1 + c.in_ok-behind.behind)) c.args.mirrors.now.items _ _ _ _ _ (both_lines c.args.named.now h.0 (1 + c.in_ok-behind.behind) c.args.mirrors.now.items c.telling.mirrors.items _ _ _ _ _ _ _ h.2 (c.in_ok-behind.ensures.told t u))
 
 pub returns-in_err-behind-clause-fault : goal.returns-in_err-behind-clause-fault
 returns-in_err-behind-clause-fault g c =

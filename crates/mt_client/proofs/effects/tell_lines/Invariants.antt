@@ -14,7 +14,7 @@ invariant-telling g l = record {
   prints : WritesOn g.O.Output l.initial.out l.out;
   rising : IsTrue (rises mirror_space l.mirrors.items);
   coming : IsTrue g.R.Input.tells → LinesComing l.initial.count l.left l.initial.mirrors.items l.mirrors.items (lines_left l.initial.lines) (lines_left l.lines);
-  told : IsTrue g.R.Input.tells → IsTrue g.O.Output.tells → HasToldBut l.initial.manner l.initial.count l.left l.initial.mirrors.items l.mirrors.items (lines_left l.initial.lines) (lines_left l.lines) (g.O.Output.written l.initial.out) (g.O.Output.written l.out);
+  told : IsTrue g.R.Input.tells → IsTrue g.O.Output.tells → HasToldBut l.initial.named l.initial.count l.left l.initial.mirrors.items l.mirrors.items (lines_left l.initial.lines) (lines_left l.lines) (g.O.Output.written l.initial.out) (g.O.Output.written l.out);
 }
 
 abbrev pub decreases-telling : goal.decreases-telling

@@ -22,7 +22,7 @@ returns-in_err-tell_due-clause-broken g c t u =
 
 pub returns-clause-told : goal.returns-clause-told
 returns-clause-told g c t u =
-    one_told c.args.manner.now c.in-Some.behind (last_line c.next_text.new.lines) c.in_ok-post.post c.args.mirrors.now.items _ _ _ _ _ _ (c.in_ok-next_text.ensures.read.came t) (rw c.line.ensures at c.in-Some.ensures) (c.in_ok-post.ensures.posted t) c.in_ok-post.ensures.valid
+    one_told c.args.named.now c.in-Some.behind (last_line c.next_text.new.lines) c.in_ok-post.post c.args.mirrors.now.items _ _ _ _ _ _ (c.in_ok-next_text.ensures.read.came t) (rw c.line.ensures at c.in-Some.ensures) (c.in_ok-post.ensures.posted t) c.in_ok-post.ensures.valid
     c.in_ok-tell_due.ensures.due c.in_ok-tell_due.ensures.applied (c.in_ok-tell_due.ensures.out.went u)
 
 pub returns-clause-only : goal.returns-clause-only

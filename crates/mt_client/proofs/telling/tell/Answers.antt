@@ -41,14 +41,14 @@ returns-clause-part g c u =
 pub returns-clause-told : goal.returns-clause-told
 returns-clause-told g c =
     let same = when_present _ c.in_ok-mirrors.field-0 c.in-Some.mirrors (search rules) c.in_ok-mirrors.ensures.unprinted in
-    told_behind c.args.manner.now (IsTrue g.R.Input.tells) (IsTrue g.O.Output.tells) _ c.tell_portions.result c.args.scope c.in-Some.mirrors.items (lines_left c.args.lines.now) (lines_left c.watch.new.lines) (lines_left c.tell_portions.new.lines) (g.O.Output.written c.args.out.now) (g.O.Output.written c.tell_portions.new.out)
+    told_behind c.args.named.now (IsTrue g.R.Input.tells) (IsTrue g.O.Output.tells) _ c.tell_portions.result c.args.scope c.in-Some.mirrors.items (lines_left c.args.lines.now) (lines_left c.watch.new.lines) (lines_left c.tell_portions.new.lines) (g.O.Output.written c.args.out.now) (g.O.Output.written c.tell_portions.new.out)
     (when_present _ c.in_ok-mirrors.field-0 c.in-Some.mirrors (search rules) c.in_ok-mirrors.ensures.found) (rw same at c.tell_portions.ensures.told)
 
 pub returns-clause-broken : goal.returns-clause-broken
 returns-clause-broken g c t u =
     let found = when_present _ c.in_ok-mirrors.field-0 c.in-Some.mirrors (search rules) c.in_ok-mirrors.ensures.found in
     let same = when_present _ c.in_ok-mirrors.field-0 c.in-Some.mirrors (search rules) c.in_ok-mirrors.ensures.unprinted in
-    stopped_behind c.args.manner.now c.tell_portions.result c.args.scope c.in-Some.mirrors.items (lines_left c.args.lines.now) (lines_left c.watch.new.lines) _ _ (found t) (rw same at (c.tell_portions.ensures.broken t u))
+    stopped_behind c.args.named.now c.tell_portions.result c.args.scope c.in-Some.mirrors.items (lines_left c.args.lines.now) (lines_left c.watch.new.lines) _ _ (found t) (rw same at (c.tell_portions.ensures.broken t u))
 
 pub returns-clause-connection : goal.returns-clause-connection
 returns-clause-connection g c is t u v =

@@ -17,5 +17,5 @@ invariant-portions g l = record {
   rising : IsTrue (rises mirror_space l.mirrors.items);
   goes : IsTrue g.R.Input.tells → HaveCome l.initial.count l._portion l.initial.scope l.initial.mirrors.items l.mirrors.items (lines_left l.initial.lines) (lines_left l.lines);
   sent : IsTrue g.W.Output.tells → g.W.Output.written l.writer ≡ g.W.Output.written l.initial.writer ++ follows_text l.initial.count l._portion;
-  told : IsTrue g.R.Input.tells → IsTrue g.O.Output.tells → HasToldWhole l.initial.manner l.initial.count l.initial.scope l.initial.mirrors.items l.mirrors.items (lines_left l.initial.lines) (lines_left l.lines) (g.O.Output.written l.initial.out) (g.O.Output.written l.out);
+  told : IsTrue g.R.Input.tells → IsTrue g.O.Output.tells → HasToldWhole l.initial.named l.initial.count l.initial.scope l.initial.mirrors.items l.mirrors.items (lines_left l.initial.lines) (lines_left l.lines) (g.O.Output.written l.initial.out) (g.O.Output.written l.out);
 }

@@ -14,5 +14,5 @@ invariant-posts g l = record {
   prints : WritesOn g.O.Output l.initial.out l.out;
   rising : IsTrue (rises mirror_space l.mirrors.items);
   goes : IsTrue g.R.Input.tells → Came l.initial.count l._post l.initial.scope l.initial.mirrors.items l.mirrors.items (lines_left l.initial.lines) (lines_left l.lines);
-  told : IsTrue g.R.Input.tells → IsTrue g.O.Output.tells → HasToldSome l.initial.manner l._post l.initial.scope l.initial.mirrors.items l.mirrors.items (lines_left l.initial.lines) (lines_left l.lines) (g.O.Output.written l.initial.out) (g.O.Output.written l.out);
+  told : IsTrue g.R.Input.tells → IsTrue g.O.Output.tells → HasToldSome l.initial.named l._post l.initial.scope l.initial.mirrors.items l.mirrors.items (lines_left l.initial.lines) (lines_left l.lines) (g.O.Output.written l.initial.out) (g.O.Output.written l.out);
 }

@@ -16,7 +16,7 @@ pub struct SpaceName<'a> {
 
 /// How posts are told.
 #[derive(Clone, Copy)]
-pub struct Manner<'a> {
+pub struct NamedTelling<'a> {
     /// In words or as JSON.
     pub telling: Telling,
     /// The names that stand beside the numbers of namespaces. Of two of one namespace the first one counts.
