@@ -3,6 +3,7 @@ use Rattle.std.proofs.Common.{◌≡◌, ℕ, ◌<◌, ◌≤◌, ◌^◌, List,
 use Rattle.std.specs.List.{AllByRecursion}
 use Rattle.std.specs.Prelude.{if◌then◌else◌, Bool, true, false, cond}
 use Rattle.std.proofs.lemmas.Bool.{lt-leb}
+use Rattle.mt_skel.specs.declared.fault.Fault.{Fault}
 use Rattle.mt_skel.specs.declared.fault.Fault.TheVariants.{JournalFull}
 use Rattle.mt_skel.proofs.MiddleLaws.{each_append}
 use Rattle.mt_propagate.specs.World.{WorldView, world_view, empty_world}
@@ -133,6 +134,12 @@ prepared_valid cs p texts q = subst (AllByRecursion IsPost) (sym q.posts) (asked
     asked : (b : Bool) → AllByRecursion IsPost (cond b (posts_of cs p.command) [])
     asked true = one_valid cs p.command q.few texts q.texts
     asked false = tt
+
+-- what is refused is answered so
+pub refused_answer : (cs : List Command) (c : Command) (w : WorldView) (f : Fault) → length cs < command_limit → w ≡ after cs → step w c ≡ Err f → answer cs c ≡ Err f
+unfolding answer
+refused_answer cs c w f few level is =
+    ap (λ (full : Bool). if full then Err JournalFull else reply_of (step (after cs) c)) (lt-leb command_limit (length cs) few) ∙ ap (λ (v : WorldView). reply_of (step v c)) (sym level) ∙ ap reply_of is
 
 -- what was prepared is answered
 pub prepared_answer : (cs : List Command) (p : Prepared) (c : Command) (r : Reply) → IsPrepared cs p → p.command ≡ c → r ≡ p.reply → answer cs c ≡ Ok r

@@ -17,6 +17,7 @@ pub mod ChangedLaws
 pub mod LoneLaws
 pub mod NextLaws
 pub mod NumberLaws
+pub mod HeardLaws
 pub mod BookLaws
 pub mod ReadingLaws
 pub mod TouchedLaws

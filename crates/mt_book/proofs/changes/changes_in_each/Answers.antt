@@ -1,12 +1,16 @@
-use Rattle.std.proofs.Common.{◌≡◌, ◌∙◌, ℕ, List, true, sym, subst, ap, arith}
+use Rattle.std.proofs.Common.{◌≡◌, ◌∙◌, ◌++◌, ◌+◌, ℕ, List, true, map, drop, sym, subst, ap, arith, append_assoc}
+use Rattle.std.proofs.lemmas.Grind.{common_steps}
+use Rattle.std.specs.Arc.{arc_value}
+use Rattle.std.specs.Option.{option_to_list}
 use Rattle.std.specs.List.{filter}
 use Rattle.mt_skel.specs.Keyed.{rises}
 use Rattle.mt_skel.proofs.KeyedLaws.{rises-filter}
 use Rattle.mt_info.specs.Table.{table_of}
 use Rattle.mt_events.specs.Difference.{HoldsChanged}
-use Rattle.mt_book.specs.Between.{BetweenView, AreWorlds}
+use Rattle.mt_book.specs.Between.{BetweenView, AreWorlds, heard_posts}
 use Rattle.mt_book.specs.Parts.{is_part, space_at}
 use Rattle.mt_book.proofs.TouchedLaws.{part_holds, part_is}
+use Rattle.mt_book.proofs.HeardLaws.{heard_next}
 use Rattle.mt_book.proofs.changes.changes_in_each.Goals as goal
 
 pub change-requires-clause-rising : goal.change-requires-clause-rising
@@ -28,3 +32,16 @@ change-requires-clause-held c =
     let part : c.as_slice-part.result.now ≡ filter t ids =
     c.as_slice-part.ensures ∙ part_is c.in_ok-parts.parts.items c.index.result.now ids c.spaces.i _ t c.index.ensures c.in_ok-parts.ensures.len (omega (arith, c.spaces-test.true)) (λ l. c.in_ok-parts.ensures.parts c.spaces.i l ∙ ap (λ (b : BetweenView). filter (is_part b.old b.new (space_at c.args.numbers.now c.spaces.i)) ids) c.between.view_is) in
     subst (HoldsChanged (table_of b.old n) (table_of b.new n)) (sym part) (part_holds b.old b.new n ids worlds.old worlds.new (c.requires.held n))
+
+pub spaces-preserved : goal.spaces-preserved
+spaces-preserved c =
+    let b = c.args.between.now in
+    let rs = c.args.numbers.now in
+    let before = map (λ p. arc_value p) c.spaces.posts.items in
+    record {
+      numbers = grind (arith, common_steps);
+      posts =
+          ap (λ l. l ++ heard_posts b (drop (c.spaces.i + 1) rs)) c.in_ok-push_post.ensures.posts
+          ∙ append_assoc before (option_to_list c.in_ok-change.change.post) (heard_posts b (drop (c.spaces.i + 1) rs))
+          ∙ ap (λ l. before ++ l) (sym (heard_next b rs c.spaces.i c.in_ok-change.change.post c.spaces-test.true c.in_ok-change.ensures.post)) ∙ c.spaces.invariant.posts;
+    }

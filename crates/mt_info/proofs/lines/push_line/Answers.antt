@@ -51,3 +51,13 @@ pub returns-in_err-push_end-clause-kept : goal.returns-in_err-push_end-clause-ke
 returns-in_err-push_end-clause-kept c =
     front_through _ _ _ (front_of_four _ _ _ _ _ c.push_numbers.ensures.kept c.push_dir.ensures.kept (_, c.in_ok-push.ensures.items) c.push_point.ensures.kept)
     (front_of_four _ _ _ _ _ (_, c.in_ok-push-2.ensures.items) c.push_options.ensures.kept c.push_tags.ensures.kept c.push_end.ensures.kept)
+
+pub returns-in_err-push_dir-clause-kept : goal.returns-in_err-push_dir-clause-kept
+returns-in_err-push_dir-clause-kept c = front_through _ _ _ c.push_numbers.ensures.kept c.push_dir.ensures.kept
+
+pub returns-in_err-push_point-clause-kept : goal.returns-in_err-push_point-clause-kept
+returns-in_err-push_point-clause-kept c = front_of_four _ _ _ _ _ c.push_numbers.ensures.kept c.push_dir.ensures.kept (_, c.in_ok-push.ensures.items) c.push_point.ensures.kept
+
+pub returns-in_err-push_options-clause-kept : goal.returns-in_err-push_options-clause-kept
+returns-in_err-push_options-clause-kept c =
+    front_through _ _ _ (front_of_four _ _ _ _ _ c.push_numbers.ensures.kept c.push_dir.ensures.kept (_, c.in_ok-push.ensures.items) c.push_point.ensures.kept) (front_through _ _ _ (_, c.in_ok-push-2.ensures.items) c.push_options.ensures.kept)

@@ -1,4 +1,4 @@
-use Rattle.std.proofs.Common.{◌∙◌, ap, sym, rules, arith}
+use Rattle.std.proofs.Common.{◌∙◌, ap, sym, arith}
 use Rattle.std.proofs.lemmas.Grind.{common_steps}
 use Rattle.mt_skel.specs.Keyed.{rises}
 use Rattle.mt_mounts.specs.Forest.{id_of, mounts_in}
@@ -18,5 +18,8 @@ pub mounts-preserved : goal.mounts-preserved
 mounts-preserved c = record {
   lines = grind (arith, common_steps);
   kept = front_through _ _ _ c.mounts.invariant.kept (front_through _ _ _ c.push_line.ensures.kept (_, c.in_ok-push.ensures.items));
-  same = search rules;
+  same = c.push_line.ensures.seen ∙ c.mounts.invariant.same;
 }
+
+pub returns-in_err-push_line-clause-kept : goal.returns-in_err-push_line-clause-kept
+returns-in_err-push_line-clause-kept c = front_through _ _ _ c.mounts.invariant.kept c.push_line.ensures.kept

@@ -1,0 +1,8 @@
+use Rattle.mt_info.proofs.FrontLaws.{front_through}
+use Rattle.mt_info.proofs.points.Points.push_made.Goals as goal
+
+pub returns-in_err-push_steps-clause-kept : goal.returns-in_err-push_steps-clause-kept
+returns-in_err-push_steps-clause-kept c = front_through _ _ _ c.push_above.ensures.kept c.push_steps.ensures.kept
+
+pub returns-clause-kept : goal.returns-clause-kept
+returns-clause-kept c = front_through _ _ _ (front_through _ _ _ c.push_above.ensures.kept c.push_steps.ensures.kept) c.push_root.ensures.kept
