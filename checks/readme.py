@@ -10,9 +10,9 @@ commands stands a line that says whether it is run, and a block marked `sh` has 
     <!-- run: NAME -->    it is run, and has to print the answers of the case NAME
     <!-- not run -->      it is not run
 
-With --built the program that is built already, crates/NAME/out/NAME, takes the place of `rt run --` in
-crates/NAME, which would prove everything to build it: this is for .ci/run, where `rt ci` has just
-proved and built it from nothing.
+With --built the program that is built already, crates/NAME/out/NAME, takes the place of `rt run --` and of
+`rt try --` in crates/NAME: one would prove everything to build it, the other build it once more. This is for
+.ci/run, where `rt ci` has just proved and built it from nothing.
 
 The block behind `<!-- what-if -->` is what a terminal shows: commands behind `$ `, and what each prints. The first one
 starts the server and the last one stops it. With --built it is run too.
@@ -29,7 +29,7 @@ from harness.runs import TOP, check, difference, failures, read, shown
 from sessions import cases
 
 BLOCK = re.compile(rb"(?m)^(?:<!-- (.*) -->\n)?```(.*)\n((?:(?!```).*\n)*?)```$")
-PROVED_RUN = re.compile(rb"cd crates/(\w+) && rt run -- ")
+BUILDING_RUN = re.compile(rb"cd crates/(\w+) && rt (?:run|try) -- ")
 QUESTION = re.compile(rb"(?m)^<!-- what-if -->\n```.*\n((?:(?!```).*\n)*?)```$")
 
 
@@ -48,7 +48,7 @@ def check_commands(is_built):
         word, _, name = mark.partition(b": ")
         if word == b"run":
             if is_built:
-                command = PROVED_RUN.sub(rb"cd crates/\1 && out/\1 ", command)
+                command = BUILDING_RUN.sub(rb"cd crates/\1 && out/\1 ", command)
             check_command(command, shown(name) or EXAMPLE)
             ran += 1
         elif language == b"sh" and mark != b"not run":

@@ -7,19 +7,18 @@ ends with status 1 and `mountd: out of memory` on standard error, before any ans
 refused for its form, and `quit`, are never answered so. A session of which no allocation was refused
 fails.
 """
+import concurrent.futures
+import os
 import tempfile
 
 from harness import commands
-from harness.allocations import OUT_OF_MEMORY, Refusing, Words
+from harness.allocations import OUT_OF_MEMORY, Forking, Words
 from harness.protocol import word_of
 from harness.runs import answer_groups, check, run, shown
 from sessions import cases
 
 # The lines that may want memory; each is accepted in one of the sessions.
 WORDS = [word for word in commands.LINES if word not in commands.ENDING]
-
-# Sessions of more allocations are left out, and named: they have the lines of others many times over.
-MOST_ALLOCATIONS = 5_000
 
 # Runs with other arguments, which serve no session.
 OTHER_WORDS = ["--help"], ["a", "b"], ["--frobnicate"], ["/"]
@@ -39,7 +38,7 @@ class Session:
         self.arguments = case.plain_arguments()
         self.plain = run(program, self.input, *self.arguments)
         self.groups = answer_groups(self.plain[1], self.requests)
-        self.known = {}
+        self.known, self.looked = {}, {}
 
     def without(self, left_out):
         """The answers where one request is answered NoMemory."""
@@ -55,8 +54,13 @@ class Session:
         not to quit or to stop."""
         return self.groups[at] not in FOUND_WITHOUT_MEMORY and self.requests[at] not in commands.ENDING
 
-    def allows(self, status, answers, complaint):
-        """Whether the session may go so where one allocation was refused."""
+    def allows(self, *told):
+        """Whether the session may go so where one allocation was refused: several of a request lead to the same."""
+        if told not in self.looked:
+            self.looked[told] = self.may_go(*told)
+        return self.looked[told]
+
+    def may_go(self, status, answers, complaint):
         if (status, answers, complaint) == OUT_OF_MEMORY:
             return True
         groups = answer_groups(answers, self.requests)
@@ -68,13 +72,7 @@ class Session:
 
 def refuse_arguments(program, refusing):
     """Refuses each allocation of runs with other arguments, and answers how many there were."""
-    total = 0
-    for words in OTHER_WORDS:
-        asked = Words(program, words)
-        count = refusing.count(asked)
-        refusing.each(asked, f"a run with {' '.join(words)}", count)
-        total += count
-    return total
+    return sum(refusing.each(Words(program, words), f"a run with {' '.join(words)}") for words in OTHER_WORDS)
 
 
 def check_words(sessions):
@@ -89,22 +87,11 @@ def check_words(sessions):
 
 
 def check_memory(program):
-    sessions, left_out = {}, {}
+    sessions = {name: Session(program, cases.load(name)) for name in cases.names()}
     with tempfile.TemporaryDirectory() as folder:
-        refusing = Refusing(folder)
-        for name in cases.names():
-            asked = Session(program, cases.load(name))
-            count = refusing.count(asked)
-            if count <= MOST_ALLOCATIONS:
-                sessions[name] = (asked, count)
-            else:
-                left_out[name] = count
-        for name, (asked, count) in sessions.items():
-            refusing.each(asked, name, count)
+        refusing = Forking(folder)
+        with concurrent.futures.ThreadPoolExecutor(os.cpu_count()) as pool:
+            total = sum(pool.map(refusing.each, sessions.values(), sessions))
         others = refuse_arguments(program, refusing)
-    check_words([asked for asked, _ in sessions.values()])
-    total = sum(count for _, count in sessions.values())
-    check("allocations of sessions are refused", total > 0)
+    check_words(sessions.values())
     print(f"{total} allocations of {len(sessions)} sessions refused in turn, and {others} with other arguments")
-    longer = ", ".join(f"{name} ({count})" for name, count in left_out.items())
-    print(f"left out for more than {MOST_ALLOCATIONS} allocations: {longer or 'no session'}")
