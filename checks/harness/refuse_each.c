@@ -78,16 +78,4 @@ static int is_refused(void) {
     return 0;
 }
 
-void *malloc(size_t size) {
-    static void *(*real)(size_t);
-    if (!real)
-        real = (void *(*)(size_t))dlsym(RTLD_NEXT, "malloc");
-    return is_refused() ? NULL : real(size);
-}
-
-void *realloc(void *old, size_t size) {
-    static void *(*real)(void *, size_t);
-    if (!real)
-        real = (void *(*)(void *, size_t))dlsym(RTLD_NEXT, "realloc");
-    return is_refused() ? NULL : real(old, size);
-}
+#include "refusing.h"
