@@ -28,16 +28,18 @@ CLIENT = os.path.join(TOP, "crates", "mountctl", "out", "mountctl")
 # once take half as much again each, where two processors share a core.
 LANES = min(2, len(os.sched_getaffinity(0)))
 
-# What is run before anything is proved, and on the programs that are built then: what it is called, and its words.
+# What is run before anything is proved, and on the libraries and programs that are built then: what it is called, and
+# its words.
 TEXT_CHECKS = (
     ("self-test of words.py", "checks/words.py", "--self-test"),
     ("one word, one meaning; each thing once", "checks/words.py"),
     ("self-test of names.py", "checks/names.py", "--self-test"),
     ("names in the documents", "checks/names.py"),
     ("where definitions stand", "checks/definitions.py"),
-    ("wrong bodies that are tried by hand", "checks/wrong.py", "--look"),
+    ("wrong bodies can be applied", "checks/wrong.py", "--look"),
 )
 PROGRAM_CHECKS = (
+    ("wrong bodies", "checks/wrong.py", "--built"),
     ("README's commands", "checks/readme.py", "--built"),
     ("pages", "checks/pages.py", PROGRAM, CLIENT),
     ("checks of the program", "checks/program.py", PROGRAM),
