@@ -1,7 +1,7 @@
 //! What the arguments of a request to a server say.
 
+use crate::messages::NAME;
 use crate::task::begins_words;
-use crate::told::NAME;
 use clap::{Arg, ArgAction, ArgMatches, Command, Error, value_parser};
 use mt_arguments::program::{OUT_OF_MEMORY, VERSION};
 use mt_requests::help::LINES;

@@ -12,7 +12,7 @@ use mt_info::row::Row;
 use mt_lines::line::LineReader;
 use mt_lines::stream::{Input, Output};
 use mt_lines::words::{Pieces, number, words};
-use mt_render::objects::push_place;
+use mt_render::objects::place_line;
 use mt_skel::escape::unescape;
 use mt_skel::fault::Fault as Refusal;
 use std::alloc::Global;
@@ -77,9 +77,8 @@ fn print_place<O: Output>(
         Ok(directory) => directory,
         Err(fault) => return Err(fault_of_line(fault)),
     };
-    let mut text = Vec::new(alloc);
-    push_place(&mut text, space, directory.as_slice(), row)?;
-    print_text(out, text.as_slice())?;
+    let line = place_line(alloc, space, directory.as_slice(), row)?;
+    print_text(out, line.as_slice())?;
     Ok(())
 }
 

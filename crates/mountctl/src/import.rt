@@ -2,9 +2,9 @@
 
 use crate::fault::Fault;
 use mt_import::fault::Fault as Refusal;
+use mt_import::host_mount::HostMount;
 use mt_import::import::script_of;
 use mt_import::read::read_mount;
-use mt_import::told::HostMount;
 use mt_lines::line::{Line, LineReader};
 use mt_lines::stream::{Input, Output, send};
 use std::alloc::{AllocError, AllocFailed, Global};

@@ -3,8 +3,8 @@ ghost use Rattle.std.specs.Prelude.{◌≡◌, None, OnOk};
 ghost use Rattle.mt_lines.specs.Reading.{fault_of};
 
 use crate::fault::Fault;
+use crate::messages::{tell_path, tell_reason, tell_refused};
 use crate::places::{Refused, refused_path};
-use crate::told::{tell_path, tell_reason, tell_refused};
 use mt_client::ask::ask_line;
 use mt_lines::line::LineReader;
 use mt_lines::stream::{Input, Output};

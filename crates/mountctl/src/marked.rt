@@ -3,7 +3,7 @@
 use crate::fault::Fault;
 use jiff::Timestamp;
 use mt_lines::stream::{Output, StreamFault, send};
-use mt_render::stamp::{push_refusal, push_timed};
+use mt_render::stamp::{refusal_line, timed_line};
 use mt_render::telling::Telling;
 use std::alloc::Global;
 use std::time::Clock;
@@ -61,34 +61,30 @@ impl<'a, C: Clock, O: Output + Drop> Marked<'a, C, O> {
 
     /// The line that was taken, or the object of a refusal beside JSON.
     fn told_line(&self) -> Result<Vec<u8>, Fault> {
-        let mut text = Vec::new(self.alloc);
         let line = self.begun.as_slice();
-        match line.strip_prefix(b"no ") {
+        let told = match line.strip_prefix(b"no ") {
             Some(name) if self.marks.telling == Telling::Json => {
-                push_refusal(&mut text, name.strip_suffix(b"\n").unwrap_or(name))?;
+                refusal_line(self.alloc, name.strip_suffix(b"\n").unwrap_or(name))?
             }
-            _ => text.extend_from_slice(line)?,
-        }
-        Ok(text)
+            _ => Vec::from_slice(self.alloc, line)?,
+        };
+        Ok(told)
     }
 
     /// Hands on the line that was taken, with its time where it has one.
     fn pass_line(&mut self) -> Result<(), Fault> {
-        let line = self.told_line()?;
-        let mut text = Vec::new(self.alloc);
+        let mut line = self.told_line()?;
         if self.marks.time {
             let time = self.time()?;
-            push_timed(
-                &mut text,
+            line = timed_line(
+                self.alloc,
                 self.marks.telling,
                 time.as_bytes(),
                 line.as_slice(),
             )?;
-        } else {
-            text.extend_from_slice(line.as_slice())?;
         }
         self.begun.clear();
-        match send(&mut self.out, text.as_slice()) {
+        match send(&mut self.out, line.as_slice()) {
             Ok(()) => Ok(()),
             Err(_) => Err(Fault::Output),
         }

@@ -4,7 +4,7 @@ ghost use Rattle.mt_lines.specs.Reading.{fault_of};
 
 use crate::fault::Fault;
 use crate::lines::tell_refused_line;
-use crate::told::tell_refused;
+use crate::messages::tell_refused;
 use mt_client::ask::ask_line;
 use mt_client::relay::print_text;
 use mt_lines::line::{Line, LineReader};

@@ -3,7 +3,7 @@ ghost use Rattle.std.specs.Prelude.{◌≡◌, ◌∷◌, map, drop, string_byte
 
 use clap::Error;
 use clap::error::ErrorKind;
-use mt_terminal::shown::Shown;
+use mt_terminal::message::Shown;
 use std::alloc::{AllocError, AllocGlobal, Global};
 use std::env::Env;
 use std::fmt::Display;

@@ -14,8 +14,8 @@ use Rattle.mt_book.specs.declared.command.Command.{Command}
 use Rattle.mt_book.specs.declared.command.Reply.{Reply}
 use Rattle.mt_book.specs.declared.spare.Spare.{Spare}
 use Rattle.mt_book.specs.declared.spare.Spare.TheVariants.{Gone}
-use Rattle.mt_book.specs.declared.shown.Shown.{Shown}
-use Rattle.mt_book.specs.declared.shown.Shown.TheVariants.{First, Later}
+use Rattle.mt_book.specs.declared.shown_world.Shown.{Shown}
+use Rattle.mt_book.specs.declared.shown_world.Shown.TheVariants.{First, Later}
 use Rattle.mt_book.specs.declared.prepared.Prepared.{Prepared}
 use Rattle.mt_book.specs.Step.{step, makes_space, after}
 use Rattle.mt_book.specs.Commands.{IsCommand}

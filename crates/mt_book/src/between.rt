@@ -6,7 +6,7 @@ ghost use Rattle.mt_propagate.specs.WellFormed.{IsWellFormed};
 ghost use Rattle.mt_book.specs.Book.{next_number, next_post, command_limit};
 ghost use Rattle.mt_book.specs.Between.{BetweenView, HoldsAll};
 
-use mt_events::news::is_changed;
+use mt_events::comparison::is_changed;
 use mt_events::post::Post;
 use mt_events::touched::change_of;
 use mt_mounts::mount::{MountId, SpaceId};

@@ -19,7 +19,7 @@ use crate::between::Between;
 use crate::changes::changes_after;
 use crate::command::{Command, Reply};
 use crate::prepared::Prepared;
-use crate::shown::Shown;
+use crate::shown_world::Shown;
 use crate::spare::{Spare, Tried, keep_level, level, show, try_on};
 use mt_events::shared::SharedPosts;
 use mt_info::lines::push_table;

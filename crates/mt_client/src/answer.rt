@@ -7,7 +7,7 @@ use mt_protocol::form::{Form, first_word};
 use mt_protocol::refusal::refusal_named;
 
 /// What a line of an answer tells: whether its first word is `ok`, where it is `ok` or `no`.
-pub fn verdict(line: &[u8]) -> Option<bool>
+pub(crate) fn verdict(line: &[u8]) -> Option<bool>
     ensures { result ≡ verdict line.now }
 {
     let word = first_word(line);
@@ -21,7 +21,7 @@ pub fn verdict(line: &[u8]) -> Option<bool>
 }
 
 /// Whether a line refuses: `no` and the name of a refusal.
-pub fn is_refusal(line: &[u8]) -> bool
+pub(crate) fn is_refusal(line: &[u8]) -> bool
     ensures { result ≡ is_refusal line.now }
 {
     let mut words = words(line);
@@ -91,7 +91,7 @@ fn lines_said(form: Form, words: &mut Words<'_>) -> Option<u64>
 
 /// How many lines come behind the first line of an answer that tells this: None where it is no first line of an answer
 /// of this form, or no refusal.
-pub fn lines_behind(form: Form, told: bool, line: &[u8]) -> Option<u64>
+pub(crate) fn lines_behind(form: Form, told: bool, line: &[u8]) -> Option<u64>
     ensures { result ≡ lines_behind form told line.now }
 {
     if told {

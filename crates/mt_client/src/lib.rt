@@ -7,7 +7,7 @@
 //! it is sent. [`effects`] prints what a line changes.
 #![tactic(auto)]
 
-pub mod answer;
+mod answer;
 pub mod ask;
 mod block;
 pub mod effects;

@@ -14,7 +14,7 @@ use mt_events::mirror::Mirror;
 use mt_events::post::Post;
 use mt_info::table::Table;
 use mt_mounts::mount::SpaceId;
-use mt_render::telling::{Telling, push_telling};
+use mt_render::telling::{Telling, told_as};
 use std::alloc::Global;
 
 /// The index of the first mirror that is not of a lesser namespace.
@@ -87,7 +87,8 @@ pub(crate) fn apply_told(
 {
     let place = place_for(mirrors.as_slice(), post.space);
     let mut mirror = take_at(alloc, mirrors, place, post.space);
-    push_telling(text, telling, &mirror, post, name)?;
+    let told = told_as(alloc, telling, &mirror, post, name)?;
+    text.extend_from_slice(told.as_slice())?;
     apply_next(&mut mirror, post)?;
     mirrors.insert(place, mirror)?;
     Ok(())

@@ -17,7 +17,7 @@ use mt_events::mirror::Mirror;
 use mt_events::opening::Scope;
 use mt_lines::line::LineReader;
 use mt_lines::stream::{Input, Output};
-use mt_render::drawing::{Drawing, push_drawing};
+use mt_render::drawing::{Drawing, drawing_text};
 use std::alloc::Global;
 
 /// Prints a drawing of tables.
@@ -34,8 +34,7 @@ fn print_drawing<O: Output>(
         → HasBroken (O.failed out.old) (O.failed out.new) (O.faults out.old) (O.faults out.new) }
     ensures out { OnOk result (IsOut O.Output (drawing_text drawing parts.now) out.old out.new) }
 {
-    let mut text = Vec::new(alloc);
-    push_drawing(&mut text, drawing, parts)?;
+    let text = drawing_text(alloc, drawing, parts)?;
     print(out, text.as_slice())
 }
 

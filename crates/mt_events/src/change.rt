@@ -6,7 +6,7 @@ ghost use Rattle.mt_info.specs.Table.{row_id};
 ghost use Rattle.mt_events.specs.Difference.{difference, is_empty, is_row_of, some_change};
 ghost use Rattle.mt_events.specs.Posts.{is_change};
 
-use crate::post::{Delta, Ids, Rows};
+use crate::post::{Delta, Ids};
 use mt_info::row::Row;
 use mt_info::table::{Table, find_row};
 use mt_mounts::mount::MountId;
@@ -74,7 +74,7 @@ fn delta(alloc: Global, before: &Table, after: &Table) -> Result<Delta, Fault>
     let rows = new_rows(alloc, before, after)?;
     Ok(Delta {
         gone: Ids::new(ids),
-        rows: Rows::new(rows),
+        rows: Table::new(rows),
     })
 }
 
@@ -83,7 +83,7 @@ pub(crate) fn some_change(delta: Delta) -> Option<Delta>
     ensures change { result ≡ some_change delta }
     ensures same { IfSome result (λ some. (is_empty delta ≡ false) × (some ≡ delta)) }
 {
-    if delta.gone.as_slice().is_empty() && delta.rows.as_slice().is_empty() {
+    if delta.gone.as_slice().is_empty() && delta.rows.rows().is_empty() {
         return None;
     }
     Some(delta)

@@ -106,7 +106,7 @@ fn table_after(table: &Table, post: &Post) -> Result<Table, Fault>
 {
     let old = table.rows();
     let gone = post.gone.as_slice();
-    let news = post.rows.as_slice();
+    let news = post.rows.rows();
     let mut rows = kept(table.allocator(), old, gone)?;
     put_rows(&mut rows, news)?;
     Ok(Table::new(rows))

@@ -28,7 +28,7 @@ pub fn push_post(text: &mut Vec<u8>, post: &Post) -> Result<(), AllocError>
     ensures kept { IsFront text.old.items text.new.items }
 {
     let gone = post.gone.as_slice();
-    let rows = post.rows.as_slice();
+    let rows = post.rows.rows();
     push_event(text, post.space, post.number, gone.len() + rows.len())?;
     push_gone(text, gone)?;
     push_rows(text, rows)?;

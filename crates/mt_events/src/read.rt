@@ -8,10 +8,11 @@ ghost use Rattle.mt_info.specs.Laws.{IsRow};
 ghost use Rattle.mt_info.specs.Table.{row_id};
 ghost use Rattle.mt_events.specs.Posts.{PostView, IsPost, itself, is_change, event_words, gone_line, row_line, post_text, minus, equals};
 
-use crate::post::{Ids, Post, Rows};
+use crate::post::{Ids, Post};
 use mt_info::fields::read_number;
 use mt_info::read::read_row;
 use mt_info::row::Row;
+use mt_info::table::Table;
 use mt_lines::words::{Pieces, Words, words};
 use mt_mounts::mount::{MountId, SpaceId};
 use mt_skel::fault::Fault;
@@ -135,7 +136,7 @@ fn post_of(event: Event, gone: Vec<MountId>, rows: Vec<Row>) -> Option<Post>
 {
     let count = gone.len() + rows.len();
     let gone = Ids::from_vec(gone)?;
-    let rows = Rows::from_vec(rows)?;
+    let rows = Table::from_rows(rows)?;
     if event.count != count as u64 {
         return None;
     }

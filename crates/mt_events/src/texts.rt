@@ -69,7 +69,7 @@ fn lines_with_post(lines: u64, post: &Post) -> Result<u64, Fault>
     ensures memory { IsOkUnless result Fault.NoMemory }
 {
     let gone = post.gone.as_slice().len() as u64;
-    let rows = post.rows.as_slice().len() as u64;
+    let rows = post.rows.rows().len() as u64;
     let below = gone.checked_add(rows).ok_or(Fault::NoMemory)?;
     lines_with(lines, below)
 }

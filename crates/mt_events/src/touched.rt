@@ -11,11 +11,11 @@ ghost use Rattle.mt_events.specs.Posts.{itself, is_change};
 ghost use Rattle.mt_events.specs.ByMount.{collected, new_row};
 
 use crate::change::some_change;
-use crate::post::{Delta, Ids, Rows};
+use crate::post::{Delta, Ids};
 use mt_info::differ::is_other;
 use mt_info::findings::Findings;
 use mt_info::row::Row;
-use mt_info::table::row_seen;
+use mt_info::table::{Table, row_seen};
 use mt_mounts::mount::{MountId, SpaceId};
 use mt_propagate::world::World;
 use mt_skel::fault::Fault;
@@ -160,7 +160,7 @@ fn delta_of(
     let rows = new_rows(before, after, space, touched)?;
     Ok(Delta {
         gone: Ids::new(ids),
-        rows: Rows::new(rows),
+        rows: Table::new(rows),
     })
 }
 

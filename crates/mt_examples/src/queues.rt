@@ -5,7 +5,8 @@ ghost use Rattle.mt_queue.specs.Halves.{AreOneLine};
 ghost use Rattle.mt_examples.specs.Sending.{IsFromFirst, IsNext};
 
 use mt_events::opening::{Opening, Parts, Scope};
-use mt_events::post::{Ids, Post, Rows};
+use mt_events::post::{Ids, Post};
+use mt_info::table::Table;
 use mt_queue::Item;
 use mt_queue::line::{Line, make_line};
 use mt_queue::meeting::{finish, meet};
@@ -51,7 +52,7 @@ fn post(alloc: Global, number: u64) -> Result<Item, Fault>
     let Some(gone) = Ids::from_vec(gone) else {
         return Err(Fault::BadLine);
     };
-    let Some(post) = Post::new(1, number, gone, Rows::new(Vec::new(alloc))) else {
+    let Some(post) = Post::new(1, number, gone, Table::new(Vec::new(alloc))) else {
         return Err(Fault::BadLine);
     };
     Ok(Arc::new(alloc, post)?)

@@ -1,8 +1,8 @@
 //! What the rows of all tables tell of peer groups, brought together; and whether they tell the same.
 
 use crate::groups::{Group, Groups, MOST_CHAIN};
+use crate::host_mount::HostMount;
 use crate::reason::{Reason, Why};
-use crate::told::HostMount;
 use crate::writer::Done;
 use std::alloc::Global;
 use std::collections::BTreeSet;

@@ -2,12 +2,12 @@
 //! mount of each filesystem of which directories are bound, and a member of each peer group from which mounts are bound.
 
 use crate::groups::{Group, Staged};
+use crate::host_mount::HostMount;
 use crate::path::{SECOND, STAGE};
 use crate::plan::{Candidate, Plan};
 use crate::script::Script;
 use crate::site::{APART, COVER, GROUP, NEW, PEER, SHARED, SLAVE, SPARED, STAGE_FS};
 use crate::space::Space;
-use crate::told::HostMount;
 use crate::writer::{
     Allocated, Done, Text, command, comment, digits_of, group_comment, joined, note, one_behind,
     spaced,

@@ -5,7 +5,7 @@ ghost use Rattle.std.specs.Iterator.{at_most};
 ghost use Rattle.std.specs.Ordering.{nat_cmp};
 ghost use Rattle.mt_import.specs.Groups.{is_staged, receiving, lone_group, source_group, number_here};
 
-use crate::told::HostMount;
+use crate::host_mount::HostMount;
 use crate::writer::{Allocated, Done};
 use std::alloc::Global;
 use std::collections::{BTreeMap, BTreeSet};

@@ -2,12 +2,12 @@
 ghost use Rattle.std.specs.Prelude.{◌≡◌, map, IfOk, IsOkUnless};
 ghost use Rattle.mt_import.specs.Import.{IsImport};
 
+use crate::host_mount::HostMount;
 use crate::plan::{Plan, plan_with_room};
 use crate::script::Script;
 use crate::space::{Space, spaces_of};
 use crate::spaces::make_spaces;
 use crate::telling::{tell_spaces, tell_tables};
-use crate::told::HostMount;
 use crate::tree::{Tree, tree_of};
 use crate::writer::Allocated;
 use mt_skel::fault::Fault;

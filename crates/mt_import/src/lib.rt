@@ -1,6 +1,6 @@
 //! The script of commands that makes the namespaces of which tables of mounts tell.
 //!
-//! [`read`] reads the lines of a mountinfo, each as a [`told::HostMount`]. [`import`] makes the script in three steps.
+//! [`read`] reads the lines of a mountinfo, each as a [`host_mount::HostMount`]. [`import`] makes the script in three steps.
 //!
 //! - Each table becomes a [`tree`] of mounts, in the order in which they are made: [`mount`] finds where each one stands. A row
 //!   that has no mount in it is left out for a [`reason`].
@@ -18,6 +18,7 @@ mod agreement;
 mod covers;
 mod front;
 mod groups;
+pub mod host_mount;
 pub mod import;
 pub mod laws;
 mod making;
@@ -33,7 +34,6 @@ mod site;
 mod space;
 mod spaces;
 mod telling;
-pub mod told;
 mod tree;
 mod turns;
 mod writer;

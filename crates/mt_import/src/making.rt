@@ -4,12 +4,12 @@ ghost use Rattle.std.specs.Option.{option_map};
 ghost use Rattle.mt_import.specs.Making.{attributes_text, made_text, first_kind, waits, bare_text, late_options, share_text};
 
 use crate::groups::Groups;
+use crate::host_mount::HostMount;
 use crate::mount::Mount;
 use crate::options::{Kind, options_of};
 use crate::path::path_word;
 use crate::script::Script;
 use crate::site::{GROUP, SHARED, SLAVE, Site, UNBINDABLE};
-use crate::told::HostMount;
 use crate::writer::{Done, group_comment, joined, push_command};
 
 /// The options that are those of a new mount.

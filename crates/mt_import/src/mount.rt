@@ -4,11 +4,11 @@ ghost use Rattle.std.specs.Prelude.{◌≡◌, IfOk};
 ghost use Rattle.mt_import.specs.Paths.{is_too_deep};
 ghost use Rattle.mt_import.specs.Placing.{why_pathless, IsPlacedOn};
 
+use crate::host_mount::HostMount;
 use crate::path::{
     MOST_BYTES, MOST_NAMES, below_root, can_be_named, has_script_name, names, path_behind,
 };
 use crate::reason::{Reason, Why};
-use crate::told::HostMount;
 use crate::writer::{Allocated, one_behind};
 use std::alloc::Global;
 

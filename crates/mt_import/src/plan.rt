@@ -2,9 +2,9 @@
 
 use crate::front::slots_of;
 use crate::groups::{Groups, Staged};
+use crate::host_mount::HostMount;
 use crate::mount::Mount;
 use crate::reason::{Reason, Why};
-use crate::told::HostMount;
 use crate::tree::Tree;
 use crate::writer::{Allocated, Done};
 use std::alloc::Global;

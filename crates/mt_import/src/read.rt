@@ -2,7 +2,7 @@
 ghost use Rattle.std.specs.Prelude.{◌≡◌, ◌≢◌, Some, None, IfOk, IfErr, MatchOption};
 ghost use Rattle.mt_import.specs.Reading.{mount_in, no_fields, with_field, fields_in, is_device, end_in};
 
-use crate::told::HostMount;
+use crate::host_mount::HostMount;
 use mt_lines::words::{Pieces, Words, number, words};
 use mt_skel::fault::Fault;
 use std::alloc::Global;

@@ -4,12 +4,12 @@ ghost use Rattle.std.specs.List.{flat_map, AllByRecursion};
 ghost use Rattle.mt_import.specs.Script.{left_row_text, mount_comment};
 ghost use Rattle.mt_import.specs.Telling.{rows_text, tree_rows, mounts_text, rootless_text, space_comments, HasMakingOrder};
 
+use crate::host_mount::HostMount;
 use crate::mount::Mount;
 use crate::options::are_known;
 use crate::reason::{Reason, Why};
 use crate::script::Script;
 use crate::space::{Space, Way};
-use crate::told::HostMount;
 use crate::writer::{Done, note, one_behind, table_comment};
 
 /// Tells a row that is left out, and why, if it is.

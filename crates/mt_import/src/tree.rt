@@ -3,10 +3,10 @@
 ghost use Rattle.std.specs.Prelude.{◌≡◌, IfOk, OnOk};
 ghost use Rattle.mt_import.specs.Tree.{is_waiting, IsNextMount, IsMakingOrder};
 
+use crate::host_mount::HostMount;
 use crate::mount::{Mount, Placed, mount_on, root_mount};
 use crate::path::{below_root, names};
 use crate::reason::{Reason, Why};
-use crate::told::HostMount;
 use crate::writer::{Allocated, Done};
 use std::alloc::Global;
 use std::collections::BTreeSet;

@@ -3,8 +3,8 @@ ghost use Rattle.std.specs.Prelude.{◌≡◌, ◌∷◌, ◌++◌, map, take, d
 ghost use Rattle.std.specs.List.{flat_map, join_with_byte};
 ghost use Rattle.mt_import.specs.Script.{line_text, line_or_comment, command_text, comment_text, table_comment, group_comment};
 
+use crate::host_mount::HostMount;
 use crate::script::Script;
-use crate::told::HostMount;
 use itoa::Buffer;
 use std::alloc::{AllocError, Global};
 

@@ -11,7 +11,7 @@ ghost use Rattle.mt_info.specs.Table.{mount_point};
 use crate::points::{Points, Step};
 use mt_mounts::mount::{Mount, MountId};
 use mt_peers::state::{GroupId, State};
-use mt_propagate::seen::SeenGroups;
+use mt_propagate::seen_groups::SeenGroups;
 use mt_propagate::world::World;
 use mt_skel::fault::Fault;
 use mt_skel::names::Names;

@@ -83,8 +83,8 @@ impl Table {
     }
 }
 
-/// Whether the IDs of rows strictly rise. Takes no memory.
-pub fn is_rising(rows: &[Row]) -> bool
+/// Whether the IDs of rows strictly rise.
+fn is_rising(rows: &[Row]) -> bool
     ensures { result ≡ rises row_id rows.now }
 {
     let mut last = None;
@@ -140,8 +140,8 @@ pub fn table_of(world: &World, space: SpaceId) -> Result<Table, Fault>
     table_or_empty(world, space)
 }
 
-/// The table of a namespace, which is empty where there is no such namespace. Refused as `NoMemory` alone.
-pub fn table_or_empty(world: &World, space: SpaceId) -> Result<Table, Fault>
+/// The table of a namespace, which is empty where there is no such namespace.
+fn table_or_empty(world: &World, space: SpaceId) -> Result<Table, Fault>
     requires well_formed { IsWellFormed (world_view world.now) }
     ensures table { IfOk result (λ table. table ≡ table_of (world_view world.now) space) }
     ensures memory { IsOkUnless result Fault.NoMemory }

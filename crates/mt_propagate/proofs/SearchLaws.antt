@@ -7,7 +7,7 @@ use Rattle.indexmap.specs.IndexMap.{IndexMap, get}
 use Rattle.mt_skel.proofs.MiddleLaws.{and_first, and_second}
 use Rattle.mt_propagate.specs.World.{WorldView}
 use Rattle.mt_propagate.specs.FromGroup.{nearest_seen}
-use Rattle.mt_propagate.specs.declared.seen.Search.{Search}
+use Rattle.mt_propagate.specs.declared.seen_groups.Search.{Search}
 use Rattle.mt_propagate.specs.Searches.{search_eq, AreNearest}
 
 -- an answer is the one that the world has

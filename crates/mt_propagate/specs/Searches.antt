@@ -6,7 +6,7 @@ use Rattle.std.specs.declared.hash.BuildHasherDefault.{BuildHasherDefault}
 use Rattle.indexmap.specs.IndexMap.{IndexMap, get}
 use Rattle.mt_propagate.specs.World.{WorldView}
 use Rattle.mt_propagate.specs.FromGroup.{nearest_seen}
-use Rattle.mt_propagate.specs.declared.seen.Search.{Search}
+use Rattle.mt_propagate.specs.declared.seen_groups.Search.{Search}
 
 -- the same namespace and group
 abbrev pub search_eq : Search → Search → Bool

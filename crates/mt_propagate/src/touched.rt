@@ -6,7 +6,7 @@ ghost use Rattle.mt_propagate.specs.WellFormed.{IsWellFormed};
 ghost use Rattle.mt_propagate.specs.Touched.{AreNoted, IsTouched, since_of, since_view};
 
 use crate::sorted::in_order;
-use crate::turned::push_turned_below;
+use crate::turned_groups::push_turned_below;
 use crate::world::World;
 use mt_mounts::mount::MountId;
 use mt_skel::fault::Fault;

@@ -1,6 +1,6 @@
 //! What is wrong with a line that is refused as `BadLine`.
 
-use mt_terminal::shown::Shown;
+use mt_terminal::message::Shown;
 use std::fmt;
 use std::fmt::{Display, Formatter};
 

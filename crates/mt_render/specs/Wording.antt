@@ -129,7 +129,3 @@ row_text rows name n s = option_map_or (λ r. changed_text name n r s) (row_at r
 -- a post in words, given the table before it: the mounts that left, and then the rows
 unfoldable pub named_text : List ℕ → MirrorView → PostView → List ℕ
 named_text name m p = flat_map (left_text m.rows name p.space) p.gone ++ flat_map (row_text m.rows name p.space) p.rows
-
--- the same without a name
-abbrev pub told_text : MirrorView → PostView → List ℕ
-told_text m p = named_text [] m p

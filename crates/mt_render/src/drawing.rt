@@ -1,12 +1,12 @@
 //! Drawings of tables.
-ghost use Rattle.std.specs.Prelude.{◌≡◌, ◌++◌, OnOk};
+ghost use Rattle.std.specs.Prelude.{◌≡◌, IfOk};
 ghost use Rattle.mt_render.specs.Drawings.{drawing_text};
 
 use crate::graph::push_graph;
 use crate::objects::{push_flat_lines, push_nested_lines};
 use crate::trees::{Strokes, push_trees};
 use mt_events::mirror::Mirror;
-use std::alloc::AllocError;
+use std::alloc::{AllocError, Global};
 
 /// How a drawing looks.
 #[derive(Clone, Copy, PartialEq, Eq, Debug)]
@@ -23,22 +23,23 @@ pub enum Drawing {
     NestedJson,
 }
 
-/// Appends a drawing of the tables of namespaces, which stand in it in their order. Each of them should be of another
-/// namespace. Fails for want of memory alone.
+/// A drawing of the tables of namespaces, which stand in it in their order. Each of them should be of another namespace.
+/// Fails for want of memory alone.
 #[tactic(auto, unfolding(crate::specs::Drawings::drawing_text))]
-pub fn push_drawing(
-    text: &mut Vec<u8>,
+pub fn drawing_text(
+    alloc: Global,
     drawing: Drawing,
     parts: &[Mirror],
-) -> Result<(), AllocError>
-    ensures drawn { OnOk result (text.new.items ≡ text.old.items ++ drawing_text drawing parts.now) }
+) -> Result<Vec<u8>, AllocError>
+    ensures drawn { IfOk result (λ text. text.items ≡ drawing_text drawing parts.now) }
 {
-    let alloc = *text.allocator();
+    let mut text = Vec::new(alloc);
     match drawing {
-        Drawing::Tree => push_trees(text, alloc, Strokes::Lines, parts),
-        Drawing::PlainTree => push_trees(text, alloc, Strokes::Ascii, parts),
-        Drawing::Graph => push_graph(text, alloc, parts),
-        Drawing::FlatJson => push_flat_lines(text, alloc, parts),
-        Drawing::NestedJson => push_nested_lines(text, alloc, parts),
+        Drawing::Tree => push_trees(&mut text, alloc, Strokes::Lines, parts)?,
+        Drawing::PlainTree => push_trees(&mut text, alloc, Strokes::Ascii, parts)?,
+        Drawing::Graph => push_graph(&mut text, alloc, parts)?,
+        Drawing::FlatJson => push_flat_lines(&mut text, alloc, parts)?,
+        Drawing::NestedJson => push_nested_lines(&mut text, alloc, parts)?,
     }
+    Ok(text)
 }

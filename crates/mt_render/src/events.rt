@@ -236,6 +236,6 @@ pub(crate) fn push_events(
 {
     let rows = mirror.table().rows();
     push_left_events(text, rows, name, post.space, post.gone.as_slice())?;
-    push_row_events(text, rows, name, post.space, post.rows.as_slice())?;
+    push_row_events(text, rows, name, post.space, post.rows.rows())?;
     Ok(())
 }

@@ -1,30 +1,31 @@
 //! What a client shows, as text: pictures of tables of mounts, and what posts tell.
 //!
-//! [`drawing`] draws tables as trees or as a graph, or writes them as JSON. [`forest`] puts the rows of a table in the order of a tree, and
-//! [`trees`] writes them so, in the columns of [`columns`]. [`graph`] writes a text for Graphviz: the mounts, with
-//! their [`labels`], and [`edges`], of which those of peer groups are in [`groups`]. [`objects`] writes tables as JSON, of the [`members`]
-//! of each mount. [`laws`] has what is true of all trees.
+//! [`drawing`] draws tables as trees or as a graph, or writes them as JSON. [`forest`] puts the rows of a table in
+//! the order of a tree, and [`trees`] writes them so, in the columns of [`columns`]. [`graph`] writes a text for
+//! Graphviz: the mounts, with their [`labels`], and [`edges`], of which those of peer groups are in [`groups`].
+//! [`objects`] writes tables as JSON, of the [`members`] of each mount. [`laws`] has what is true of all trees.
 //!
-//! [`telling`] tells posts: [`wording`] in words, a line for each mount, for people who watch a namespace, and [`events`] as JSON, for
-//! their programs. [`field`] has what of a mount is not as it was. [`stamp`] adds a time, and writes a refusal as JSON.
+//! [`telling`] tells posts: [`wording`] in words, a line for each mount, for people who watch a namespace, and
+//! [`events`] as JSON, for their programs. [`field`] has what of a mount is not as it was. [`stamp`] adds a time, and
+//! writes a refusal as JSON.
 //!
 //! [`propagation`] is the word of pictures and posts for how a mount propagates.
 #![tactic(auto)]
 
-pub mod columns;
+mod columns;
 pub mod drawing;
-pub mod edges;
-pub mod events;
-pub mod field;
-pub mod forest;
-pub mod graph;
-pub mod groups;
-pub mod labels;
+mod edges;
+mod events;
+mod field;
+mod forest;
+mod graph;
+mod groups;
+mod labels;
 pub mod laws;
-pub mod members;
+mod members;
 pub mod objects;
-pub mod propagation;
+mod propagation;
 pub mod stamp;
 pub mod telling;
-pub mod trees;
-pub mod wording;
+mod trees;
+mod wording;

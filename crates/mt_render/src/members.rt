@@ -14,8 +14,8 @@ use std::alloc::{AllocError, Global};
 /// The members of an object, by their keys.
 pub type Members = Map<String, Value>;
 
-/// Puts a text in, with U+FFFD in the place of each sequence of bytes that is no UTF-8. Fails for want of memory alone.
-pub fn put_text(
+/// Puts a text in, with U+FFFD in the place of each sequence of bytes that is no UTF-8.
+pub(crate) fn put_text(
     members: &mut Members,
     alloc: Global,
     key: &str,
@@ -27,8 +27,8 @@ pub fn put_text(
     put(members, alloc, key, Value::from(text))
 }
 
-/// Puts a number in. Fails for want of memory alone.
-pub fn put_number(
+/// Puts a number in.
+pub(crate) fn put_number(
     members: &mut Members,
     alloc: Global,
     key: &str,
@@ -163,9 +163,9 @@ fn put_groups(members: &mut Members, alloc: Global, row: &Row) -> Result<(), All
     Ok(())
 }
 
-/// Puts a mount in. Fails for want of memory alone.
+/// Puts a mount in.
 #[tactic(auto, unfolding(crate::specs::Members::with_mount))]
-pub fn put_row(members: &mut Members, alloc: Global, row: &Row) -> Result<(), AllocError>
+pub(crate) fn put_row(members: &mut Members, alloc: Global, row: &Row) -> Result<(), AllocError>
     ensures { OnOk result (members_view members.new.entries ≡ with_mount row.now (members_view members.old.entries)) }
 {
     put_place(members, alloc, row)?;

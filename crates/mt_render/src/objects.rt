@@ -17,15 +17,22 @@ use mt_mounts::mount::SpaceId;
 use serde_json::{Map, Value, push, put};
 use std::alloc::{AllocError, Global};
 
-/// Appends a value as a line of its own. Fails for want of memory alone.
-pub fn push_value(text: &mut Vec<u8>, value: &Value) -> Result<(), AllocError>
+/// A value as a line of its own.
+pub(crate) fn value_line(alloc: Global, value: &Value) -> Result<Vec<u8>, AllocError>
+    requires { has_float (view value.now) ≡ false }
+    ensures { IfOk result (λ line. line.items ≡ value_line (view value.now)) }
+{
+    let mut line = value.to_vec(alloc)?;
+    line.push(b'\n')?;
+    Ok(line)
+}
+
+/// Appends a value as a line of its own.
+pub(crate) fn push_value(text: &mut Vec<u8>, value: &Value) -> Result<(), AllocError>
     requires { has_float (view value.now) ≡ false }
     ensures { OnOk result (text.new.items ≡ text.old.items ++ value_line (view value.now)) }
 {
-    let line = value.to_string(*text.allocator())?;
-    text.extend_from_slice(line.as_bytes())?;
-    text.extend_from_slice(b"\n")?;
-    Ok(())
+    text.extend_from_slice(&value_line(*text.allocator(), value)?)
 }
 
 /// Puts in the objects of the children of a row, where it has some.
@@ -52,8 +59,8 @@ fn node_with(alloc: Global, row: &Row, children: Vec<Value>) -> Result<Value, Al
     Ok(Value::from(members))
 }
 
-/// A row as an object without its children. Fails for want of memory alone.
-pub fn flat_node(alloc: Global, row: &Row) -> Result<Value, AllocError>
+/// A row as an object without its children.
+pub(crate) fn flat_node(alloc: Global, row: &Row) -> Result<Value, AllocError>
     ensures { IfOk result (λ value. view value ≡ flat_node row.now) }
 {
     node_with(alloc, row, Vec::new(alloc))
@@ -183,21 +190,20 @@ pub(crate) fn push_nested_lines(
     Ok(())
 }
 
-/// Appends the line of where a path ends: a mount of a namespace, and a directory of its filesystem, as it stands in an
-/// answer without its escapes. Fails for want of memory alone.
+/// The line of where a path ends: a mount of a namespace, and a directory of its filesystem, as it stands in an answer
+/// without its escapes. Fails for want of memory alone.
 #[tactic(auto, unfolding(crate::specs::Objects::place_line))]
-pub fn push_place(
-    text: &mut Vec<u8>,
+pub fn place_line(
+    alloc: Global,
     space: SpaceId,
     directory: &[u8],
     row: &Row,
-) -> Result<(), AllocError>
-    ensures { OnOk result (text.new.items ≡ text.old.items ++ place_line space directory.now row.now) }
+) -> Result<Vec<u8>, AllocError>
+    ensures { IfOk result (λ line. line.items ≡ place_line space directory.now row.now) }
 {
-    let alloc = *text.allocator();
     let mut values = Vec::new(alloc);
     push(&mut values, flat_node(alloc, row)?)?;
     let mut members = listing(alloc, space, values)?;
     put_text(&mut members, alloc, "directory", directory)?;
-    push_value(text, &Value::from(members))
+    value_line(alloc, &Value::from(members))
 }

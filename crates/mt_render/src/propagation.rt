@@ -6,9 +6,8 @@ use mt_info::print::push_tag_list;
 use mt_info::row::Row;
 use std::alloc::AllocError;
 
-/// Appends how a mount propagates: its optional fields, joined by commas, or `private` where it has none. Fails for
-/// want of memory alone.
-pub fn push_propagation(text: &mut Vec<u8>, row: &Row) -> Result<(), AllocError>
+/// Appends how a mount propagates: its optional fields, joined by commas, or `private` where it has none.
+pub(crate) fn push_propagation(text: &mut Vec<u8>, row: &Row) -> Result<(), AllocError>
     ensures { OnOk result (text.new.items ≡ text.old.items ++ propagation row.now) }
 {
     let start = text.len();

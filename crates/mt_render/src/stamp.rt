@@ -1,12 +1,12 @@
 //! What mountctl(1) adds to told lines: the time of a line, and a refusal as JSON.
-ghost use Rattle.std.specs.Prelude.{◌≡◌, ◌++◌, OnOk};
+ghost use Rattle.std.specs.Prelude.{◌≡◌, IfOk};
 ghost use Rattle.mt_render.specs.Stamps.{behind_brace, timed_line, refusal_line};
 
 use crate::members::put_text;
-use crate::objects::push_value;
+use crate::objects::value_line;
 use crate::telling::Telling;
 use serde_json::{Map, Value};
-use std::alloc::AllocError;
+use std::alloc::{AllocError, Global};
 
 /// A line behind the brace that it begins with, if it does.
 fn behind_brace(line: &[u8]) -> &[u8]
@@ -18,38 +18,38 @@ fn behind_brace(line: &[u8]) -> &[u8]
     }
 }
 
-/// Appends a told line with a time: in front of words, and as the first member of an object. Fails for want of memory
-/// alone.
-pub fn push_timed(
-    text: &mut Vec<u8>,
+/// A told line with a time: in front of words, and as the first member of an object. Fails for want of memory alone.
+pub fn timed_line(
+    alloc: Global,
     telling: Telling,
     time: &[u8],
     line: &[u8],
-) -> Result<(), AllocError>
-    ensures { OnOk result (text.new.items ≡ text.old.items ++ timed_line telling time.now line.now) }
+) -> Result<Vec<u8>, AllocError>
+    ensures { IfOk result (λ text. text.items ≡ timed_line telling time.now line.now) }
 {
+    let mut text = Vec::new(alloc);
     match telling {
         Telling::Words => {
             text.extend_from_slice(time)?;
             text.extend_from_slice(b" ")?;
-            text.extend_from_slice(line)
+            text.extend_from_slice(line)?;
         }
         Telling::Json => {
             text.extend_from_slice(b"{\"time\":\"")?;
             text.extend_from_slice(time)?;
             text.extend_from_slice(b"\",")?;
-            text.extend_from_slice(behind_brace(line))
+            text.extend_from_slice(behind_brace(line))?;
         }
     }
+    Ok(text)
 }
 
-/// Appends a refusal as an object, a line of its own. Fails for want of memory alone.
+/// A refusal as an object, a line of its own. Fails for want of memory alone.
 #[tactic(auto, unfolding(crate::specs::Stamps::refusal_line))]
-pub fn push_refusal(text: &mut Vec<u8>, name: &[u8]) -> Result<(), AllocError>
-    ensures { OnOk result (text.new.items ≡ text.old.items ++ refusal_line name.now) }
+pub fn refusal_line(alloc: Global, name: &[u8]) -> Result<Vec<u8>, AllocError>
+    ensures { IfOk result (λ line. line.items ≡ refusal_line name.now) }
 {
-    let alloc = *text.allocator();
     let mut members = Map::new(alloc);
     put_text(&mut members, alloc, "refusal", name)?;
-    push_value(text, &Value::from(members))
+    value_line(alloc, &Value::from(members))
 }

@@ -1,12 +1,12 @@
 //! A post as it is told: in words, or as JSON.
-ghost use Rattle.std.specs.Prelude.{◌≡◌, ◌++◌, OnOk};
+ghost use Rattle.std.specs.Prelude.{◌≡◌, IfOk};
 ghost use Rattle.mt_render.specs.Events.{told_as};
 
 use crate::events::push_events;
 use crate::wording::push_named;
 use mt_events::mirror::Mirror;
 use mt_events::post::Post;
-use std::alloc::AllocError;
+use std::alloc::{AllocError, Global};
 
 /// How a post is told.
 #[derive(Clone, Copy, PartialEq, Eq, Debug)]
@@ -17,21 +17,23 @@ pub enum Telling {
     Json,
 }
 
-/// Appends what a post says of its namespace: first a line for each mount that left, by rising ID, and then one for each
-/// row, by rising ID. The mirror has the table before the post: from it is what of a mount was. A name that is not empty
-/// stands beside the number of the namespace. Fails for want of memory alone.
+/// What a post says of its namespace: first a line for each mount that left, by rising ID, and then one for each row, by
+/// rising ID. The mirror has the table before the post: from it is what of a mount was. A name that is not empty stands
+/// beside the number of the namespace. Fails for want of memory alone.
 #[tactic(auto, unfolding(crate::specs::Events::told_as))]
-pub fn push_telling(
-    text: &mut Vec<u8>,
+pub fn told_as(
+    alloc: Global,
     telling: Telling,
     mirror: &Mirror,
     post: &Post,
     name: &[u8],
-) -> Result<(), AllocError>
-    ensures told { OnOk result (text.new.items ≡ text.old.items ++ told_as telling name.now mirror.now post.now) }
+) -> Result<Vec<u8>, AllocError>
+    ensures told { IfOk result (λ text. text.items ≡ told_as telling name.now mirror.now post.now) }
 {
+    let mut text = Vec::new(alloc);
     match telling {
-        Telling::Words => push_named(text, mirror, post, name),
-        Telling::Json => push_events(text, mirror, post, name),
+        Telling::Words => push_named(&mut text, mirror, post, name)?,
+        Telling::Json => push_events(&mut text, mirror, post, name)?,
     }
+    Ok(text)
 }

@@ -11,7 +11,7 @@ use crate::propagation::push_propagation;
 use mt_events::mirror::Mirror;
 use mt_info::print::{push_label, push_number, push_options, push_path};
 use mt_info::row::Row;
-use mt_terminal::terminal::push_terminal_text;
+use mt_terminal::terminal::terminal_text;
 use std::alloc::{AllocError, Global};
 
 /// What the lines of a tree are made of.
@@ -107,7 +107,7 @@ fn target_of(alloc: Global, strokes: Strokes, branch: &Branch<'_>) -> Result<Vec
     push_path(&mut point, &branch.row().point)?;
     let mut cell = Vec::new(alloc);
     push_lead(&mut cell, strokes, branch.lasts())?;
-    push_terminal_text(&mut cell, &point)?;
+    cell.extend_from_slice(&terminal_text(alloc, &point)?)?;
     Ok(cell)
 }
 
@@ -118,9 +118,7 @@ fn source_of(alloc: Global, row: &Row) -> Result<Vec<u8>, AllocError>
     let mut source = Vec::new(alloc);
     push_label(&mut source, &row.source)?;
     push_shown_root(&mut source, row)?;
-    let mut cell = Vec::new(alloc);
-    push_terminal_text(&mut cell, &source)?;
-    Ok(cell)
+    terminal_text(alloc, &source)
 }
 
 /// The cell of a type.
@@ -129,9 +127,7 @@ fn kind_of(alloc: Global, row: &Row) -> Result<Vec<u8>, AllocError>
 {
     let mut kind = Vec::new(alloc);
     push_label(&mut kind, &row.kind)?;
-    let mut cell = Vec::new(alloc);
-    push_terminal_text(&mut cell, &kind)?;
-    Ok(cell)
+    terminal_text(alloc, &kind)
 }
 
 /// The cells of a row.

@@ -3,7 +3,7 @@ ghost use Rattle.std.specs.Prelude.{◌≡◌, ◌++◌, OnOk, IsTrue};
 ghost use Rattle.std.specs.List.{flat_map};
 ghost use Rattle.mt_skel.specs.Keyed.{rises};
 ghost use Rattle.mt_info.specs.Table.{row_id};
-ghost use Rattle.mt_render.specs.Wording.{mount_words, name_words, space_words, left_words, shown_line, left_text, kind_words, new_text, standing, changed_text, row_text, named_text, told_text};
+ghost use Rattle.mt_render.specs.Wording.{mount_words, name_words, space_words, left_words, shown_line, left_text, kind_words, new_text, standing, changed_text, row_text, named_text};
 
 use crate::field::push_changes;
 use crate::propagation::push_propagation;
@@ -14,7 +14,7 @@ use mt_info::row::Row;
 use mt_info::table::find_row;
 use mt_mounts::mount::{MountId, SpaceId};
 use mt_skel::escape::push_escaped;
-use mt_terminal::terminal::push_terminal_text;
+use mt_terminal::terminal::terminal_text;
 use std::alloc::AllocError;
 
 /// A namespace by its number, and its name.
@@ -27,17 +27,10 @@ struct Named<'a> {
 /// Appends what a post says of its namespace, in words: first a line for each mount that left, by rising ID, and then
 /// one for each row, by rising ID. The mirror has the table before the post: from it are the mount points of the mounts
 /// that left, and what of a mount is not as it was, with what it was. Each name is written with its escapes, so that each
-/// line is that of one mount, and as a terminal is given it. Fails for want of memory alone.
-pub fn push_told(text: &mut Vec<u8>, mirror: &Mirror, post: &Post) -> Result<(), AllocError>
-    ensures told { OnOk result (text.new.items ≡ text.old.items ++ told_text mirror.now post.now) }
-{
-    push_named(text, mirror, post, &[])
-}
-
-/// Appends the same, with the name of the namespace in parentheses behind its number on each line, but for a name that
-/// is empty. Fails for want of memory alone.
+/// line is that of one mount, and as a terminal is given it. A name of the namespace that is not empty stands in
+/// parentheses behind its number on each line.
 #[tactic(auto, unfolding(crate::specs::Wording::named_text))]
-pub fn push_named(
+pub(crate) fn push_named(
     text: &mut Vec<u8>,
     mirror: &Mirror,
     post: &Post,
@@ -51,7 +44,7 @@ pub fn push_named(
         name,
     };
     push_left(text, rows, space, post.gone.as_slice())?;
-    push_rows(text, rows, space, post.rows.as_slice())?;
+    push_rows(text, rows, space, post.rows.rows())?;
     Ok(())
 }
 
@@ -136,7 +129,7 @@ fn push_left_mount(text: &mut Vec<u8>, rows: &[Row], id: MountId) -> Result<(), 
 fn push_shown(text: &mut Vec<u8>, line: &[u8]) -> Result<(), AllocError>
     ensures { OnOk result (text.new.items ≡ text.old.items ++ shown_line line.now) }
 {
-    push_terminal_text(text, line)?;
+    text.extend_from_slice(&terminal_text(*text.allocator(), line)?)?;
     text.extend_from_slice(b"\n")?;
     Ok(())
 }

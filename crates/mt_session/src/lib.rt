@@ -10,13 +10,13 @@
 pub mod bell;
 pub mod gate;
 pub mod laws;
+mod queries;
 pub mod serving;
 pub mod session;
 pub mod shared_answer;
 mod shared_follow;
 pub mod shared_serving;
 pub mod shared_session;
-mod shown;
 pub mod text;
 
 pub use mt_floor::{event, floor, watch};

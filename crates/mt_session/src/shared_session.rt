@@ -11,7 +11,7 @@ ghost use Rattle.mt_events.specs.Texts.{posts_text};
 ghost use Rattle.mt_session.specs.Requests.{answer_to, replied_text, opened_text, closed_text};
 ghost use Rattle.mt_session.specs.SharedTurns.{floor_seen, found_state, is_under_lock, with_taken_posts, IsCommanded, IsBegun, IsDoneBy, IsUndoneBy, HasTaken, KeepsWatcher, HasPopped};
 
-use crate::shown::{find, show, told_refusal};
+use crate::queries::{find, show, told_refusal};
 use crate::text::Text;
 use mt_book::command::{Command, Reply};
 use mt_desk::desk::Desk;

@@ -1,10 +1,10 @@
 //! Text for a terminal: strangers' bytes as it is given them, and how many cells they take.
-ghost use Rattle.std.specs.Prelude.{◌≡◌, ◌<◌, ◌≤◌, ◌++◌, OnOk};
+ghost use Rattle.std.specs.Prelude.{◌≡◌, ◌<◌, ◌≤◌, ◌++◌, OnOk, IfOk};
 ghost use Rattle.std.specs.List.{flat_map};
 ghost use Rattle.mt_terminal.specs.Terminal.{hex_digit, hex_byte, is_obeyed, piece_text, terminal_text, character_cells, cells_of_text};
 
 use bstr::decode_utf8;
-use std::alloc::AllocError;
+use std::alloc::{AllocError, Global};
 use unicode_width::UnicodeWidthChar;
 
 /// A hexadecimal digit.
@@ -53,21 +53,22 @@ fn push_piece(text: &mut Vec<u8>, character: Option<char>, bytes: &[u8]) -> Resu
     }
 }
 
-/// Appends bytes as a terminal is given them: characters of UTF-8 stand as they are, but for those that a terminal obeys,
-/// which are written as `\x` and two hexadecimal digits for each byte, and so is each byte that is of no character. Fails for
-/// want of memory alone.
+/// Bytes as a terminal is given them: characters of UTF-8 stand as they are, but for those that a terminal obeys, which are
+/// written as `\x` and two hexadecimal digits for each byte, and so is each byte that is of no character. Fails for want of
+/// memory alone.
 #[tactic(auto, using(crate::proofs::SizeLaws::size_within), unfolding(crate::specs::Terminal::terminal_text))]
-pub fn push_terminal_text(text: &mut Vec<u8>, bytes: &[u8]) -> Result<(), AllocError>
-    ensures { OnOk result (text.new.items ≡ text.old.items ++ terminal_text bytes.now) }
+pub fn terminal_text(alloc: Global, bytes: &[u8]) -> Result<Vec<u8>, AllocError>
+    ensures { IfOk result (λ text. text.items ≡ terminal_text bytes.now) }
 {
+    let mut text = Vec::new(alloc);
     let mut rest = bytes;
     'bytes: for _byte in bytes {
         let (character, size) = decode_utf8(rest);
         let (piece, behind) = rest.split_at(size);
-        push_piece(text, character, piece)?;
+        push_piece(&mut text, character, piece)?;
         rest = behind;
     }
-    Ok(())
+    Ok(text)
 }
 
 /// How many cells of a line a character takes.

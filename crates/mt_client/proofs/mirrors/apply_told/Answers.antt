@@ -21,7 +21,7 @@ returns-clause-told c =
     let is =
     found_there c.args.post.now.space c.post.inside.space c.place_for-place.result c.as_slice.result.now c.args.mirrors.now.items c.take_at-mirror.result (ap (λ (p : PostView). p.space) c.post.view_is) c.as_slice.ensures.value
     c.requires.rising c.place_for-place.ensures.place c.take_at-mirror.ensures.there c.take_at-mirror.ensures.begun in
-    c.in_ok-push_telling.ensures.told ∙ ap (λ m. c.args.text.now.items ++ told_as c.args.telling c.args.name.now m c.args.post.now) is
+    c.in_ok-extend_from_slice.ensures.items ∙ ap (λ t. c.args.text.now.items ++ t) (c.as_slice-2.ensures.value ∙ c.in_ok-told.ensures.told ∙ ap (λ m. told_as c.args.telling c.args.name.now m c.args.post.now) is)
 
 pub returns-clause-applied : goal.returns-clause-applied
 returns-clause-applied c =

@@ -19,7 +19,9 @@ new-requires-2 c =
     let a = table_of (world_view c.args.before.now) c.args.space in
     let b = table_of (world_view c.args.after.now) c.args.space in
     let rising = table_rises (world_view c.args.after.now) c.args.space c.requires.after in
-    news_rise a b a b refl refl c.in_ok-rows.rows.items (c.in_ok-rows.ensures.rows ∙ new_rows_are a b c.args.touched.now c.requires.rising c.requires.touched rising) rising
+    record {
+      rising = news_rise a b a b refl refl c.in_ok-rows.rows.items (c.in_ok-rows.ensures.rows ∙ new_rows_are a b c.args.touched.now c.requires.rising c.requires.touched rising) rising;
+    }
 
 pub returns-clause-delta : goal.returns-clause-delta
 returns-clause-delta c =
@@ -29,7 +31,7 @@ returns-clause-delta c =
     let to = table_rises (world_view c.args.after.now) c.args.space c.requires.after in
     difference_is a b a b refl refl c.in_ok-ids.ids.items c.new.result c.in_ok-rows.rows.items c.new-2.result
     (c.in_ok-ids.ensures.gone ∙ gone_are a b c.args.touched.now c.requires.rising c.requires.touched from)
-    (c.in_ok-rows.ensures.rows ∙ new_rows_are a b c.args.touched.now c.requires.rising c.requires.touched to) c.new.ensures c.new-2.ensures
+    (c.in_ok-rows.ensures.rows ∙ new_rows_are a b c.args.touched.now c.requires.rising c.requires.touched to) c.new.ensures c.new-2.ensures.table
 
 pub returns-clause-told : goal.returns-clause-told
 returns-clause-told c =
