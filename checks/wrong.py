@@ -19,6 +19,7 @@ import argparse
 import concurrent.futures
 import contextlib
 import dataclasses
+import functools
 import os
 import re
 import shutil
@@ -85,9 +86,16 @@ def bodies_of(crates):
     return [body_of(crate, name) for crate in crates for name in sorted(os.listdir(os.path.join(WRONG, crate)))]
 
 
+@functools.cache
+def kit_folder():
+    """The folder of the toolchain: its first page lies there."""
+    said = subprocess.run(["rt", "doc"], stdout=subprocess.PIPE, text=True, check=True)
+    return os.path.dirname(said.stdout.split()[-1])
+
+
 def check_words(crate):
     """The words of a check of a library, over the libraries of the toolchain and those of `rt ci`."""
-    kit = os.path.dirname(os.path.dirname(os.path.realpath(shutil.which("rt"))))
+    kit = kit_folder()
     rlibs = os.path.join(kit, "rlibs")
     own = {name: os.path.join(CRATES, name, "out", "rlib") for name in os.listdir(CRATES)}
     lines = [line.partition(": ") for line in shown(read("crates.txt")).splitlines()]
