@@ -7,14 +7,16 @@ with all that it prints. Then how long each took, and why one was skipped; then 
 of them passed.
 
 `rt ci` keeps no library that `rt run` would take, so that README's `rt run` would prove everything a
-second time. It does leave the program that it has proved, built and run, and --built takes that one.
+second time. It does leave the libraries and programs that it has proved, built and run, and --built takes those.
 
 A program: .ci/run is this one.
 """
 import contextlib
+import glob
 import os
 import re
 import resource
+import shutil
 import subprocess
 import sys
 import time
@@ -80,10 +82,12 @@ def last_line(verdict, is_proved, others_failed):
 
 
 def main():
-    # What is there afterwards is what rt ci has built.
+    # What is there afterwards is what rt ci has built: libraries that stood there before, it puts back at its end.
     for program in (PROGRAM, CLIENT):
         with contextlib.suppress(FileNotFoundError):
             os.remove(program)
+    for library in glob.glob(os.path.join(TOP, "crates", "*", "out", "rlib")):
+        shutil.rmtree(library)
     others = [run(*words) for words in TEXT_CHECKS]
     is_proved, verdict, proving_took = run("rt ci", "rt", "ci")
     all_took = [*(took for _, _, took in others), proving_took]
