@@ -94,7 +94,10 @@ def kit_folder():
 
 
 def check_words(crate):
-    """The words of a check of a library, over the libraries of the toolchain and those of `rt ci`."""
+    """The words of a check of a library, over the libraries of the toolchain and those of `rt ci`.
+
+    Not those of `rt check`: it would prove all libraries below again, since `rt ci` leaves them without its stamps.
+    """
     kit = kit_folder()
     rlibs = os.path.join(kit, "rlibs")
     own = {name: os.path.join(CRATES, name, "out", "rlib") for name in os.listdir(CRATES)}
