@@ -23,9 +23,9 @@ use Rattle.mt_floor.proofs.StandingLaws.{begins_well}
 use Rattle.mt_desk.specs.Desk.{DeskRow, DeskView, IsDeskRow, IsDesk, row_key, late_watcher, floor_of_desk, new_desk_row, with_watcher, halted_desk}
 use Rattle.mt_desk.specs.Calls.{WatcherView, IsHalved, IsMet, IsClosed, met_row, with_row}
 use Rattle.mt_desk.specs.Rows.{PlacedRowView, begun_row, IsBegunRow, MeetsRow, ClosesRow}
-use Rattle.mt_desk.specs.declared.row.Slot.{Slot}
-use Rattle.mt_desk.specs.declared.row.Slot.TheVariants.{Parked, Used, Away}
-use Rattle.mt_desk.specs.Places.{line_of, IsParked, IsParkedAt, IsLine, rows_at_places, desk_of, ended_slot, OpensSlot, OpensAt, ArePlaces, AreLines, IsKeptDesk, IsWatcher, IsPlace, MeetsSlot, MeetsAt, ClosesSlot, ClosesAt}
+use Rattle.mt_desk.specs.declared.places.Slot.{Slot}
+use Rattle.mt_desk.specs.declared.places.Slot.TheVariants.{Parked, Used, Away}
+use Rattle.mt_desk.specs.Places.{line_of, IsParked, IsParkedAt, IsLine, rows_at_places, desk_of, ended_slot, OpensAt, ArePlaces, AreLines, IsKeptDesk, IsWatcher, IsPlace, MeetsAt, ClosesAt}
 use Rattle.mt_desk.proofs.PlaceLaws.{each_get, row_of_place, put_rows, put_places, left_rows, left_places, begun_rows, begun_places, new_places, ended_places, ended_rows, full}
 use Rattle.mt_desk.proofs.RunLaws.{history_of}
 use Rattle.mt_desk.proofs.ScheduleLaws.{rows_rise, met_stays, closed_stays, is_met, is_closed, stop_schedule, stopped_stays, open_schedule, opened_stays}
@@ -106,15 +106,7 @@ module _ (lines : List LineId) (c : ℕ) (journal : List Command) (last_key : �
 
   pub met_kept : (w : WatcherView) (slots' : List Slot) (half' : ReceiverView) (m : Meeting) → IsWatcher lines w.key w.place w.half → MeetsAt slots w.place w.half slots' half' m
       → IsKeptDesk lines (desk_of c journal last_key stopped slots' order) slots' order room × IsMet desk w m (desk_of c journal last_key stopped slots' order) (record w { half = half' })
-  met_kept w slots' half' m is at = subst (λ (l : List Slot). IsKeptDesk lines (desk_of c journal last_key stopped l order) l order room × IsMet desk w m (desk_of c journal last_key stopped l order) (record w { half = half' })) (sym at.slots_are) (by at.slot at.slot' at.there at.meets)
-    where
-      by : (s s' : Slot) → slice_get slots w.place ≡ Some s → MeetsSlot s w.half s' half' m
-          → IsKeptDesk lines (desk_of c journal last_key stopped (set slots w.place s') order) (set slots w.place s') order room × IsMet desk w m (desk_of c journal last_key stopped (set slots w.place s') order) (record w { half = half' })
-      by (Used r) (Used now) there meets = met_row_at w r now half' m is there meets
-      by (Used r) (Parked l) there meets = absurd meets
-      by (Used r) Away there meets = absurd meets
-      by (Parked l) s' there meets = absurd meets
-      by Away s' there meets = absurd meets
+  met_kept w slots' half' m is at = subst (λ (l : List Slot). IsKeptDesk lines (desk_of c journal last_key stopped l order) l order room × IsMet desk w m (desk_of c journal last_key stopped l order) (record w { half = half' })) (sym at.slots_are) (met_row_at w at.row at.now half' m is at.there at.meets)
 
   -- and goes
   closed_row_at : (w : WatcherView) (r : PlacedRowView) (l : LineView) (posts : List PostView) (order' : List ℕ) → IsWatcher lines w.key w.place w.half → slice_get slots w.place ≡ Some (Used r) → ClosesRow r w.half l posts
@@ -139,15 +131,7 @@ module _ (lines : List LineId) (c : ℕ) (journal : List Command) (last_key : �
 
   pub closed_kept : (w : WatcherView) (slots' : List Slot) (posts : List PostView) (order' : List ℕ) → IsWatcher lines w.key w.place w.half → ClosesAt slots w.place w.half slots' posts → order' ≡ filter (λ k. not (eqb k w.place)) order
       → IsKeptDesk lines (desk_of c journal last_key stopped slots' order') slots' order' room × IsClosed desk w posts (desk_of c journal last_key stopped slots' order')
-  closed_kept w slots' posts order' is at left = subst (λ (l : List Slot). IsKeptDesk lines (desk_of c journal last_key stopped l order') l order' room × IsClosed desk w posts (desk_of c journal last_key stopped l order')) (sym at.slots_are) (by at.slot at.slot' at.there at.closes)
-    where
-      by : (s s' : Slot) → slice_get slots w.place ≡ Some s → ClosesSlot s w.half s' posts
-          → IsKeptDesk lines (desk_of c journal last_key stopped (set slots w.place s') order') (set slots w.place s') order' room × IsClosed desk w posts (desk_of c journal last_key stopped (set slots w.place s') order')
-      by (Used r) (Parked l) there closes = closed_row_at w r l posts order' is there closes left
-      by (Used r) (Used now) there closes = absurd closes
-      by (Used r) Away there closes = absurd closes
-      by (Parked l) s' there closes = absurd closes
-      by Away s' there closes = absurd closes
+  closed_kept w slots' posts order' is at left = subst (λ (l : List Slot). IsKeptDesk lines (desk_of c journal last_key stopped l order') l order' room × IsClosed desk w posts (desk_of c journal last_key stopped l order')) (sym at.slots_are) (closed_row_at w at.row at.line posts order' is at.there at.closes left)
 
   -- a stop
   stopped_is : desk_of c journal last_key true (map ended_slot slots) order ≡ halted_desk desk
@@ -200,25 +184,16 @@ module _ (lines : List LineId) (c : ℕ) (journal : List Command) (last_key : �
       × IsWatcher lines key p half × (half.taken ≡ [])
       × (desk_of c journal key stopped slots' order' ≡ with_watcher desk scope)
   begun_kept scope p slots' half key since o order' none at key_is since_is o_is more =
-      subst (λ (l : List Slot). IsKeptDesk lines (desk_of c journal key stopped l order') l order' room × (floor_step (floor_of_desk desk) (Open scope) ≡ (floor_of_desk (desk_of c journal key stopped l order'), Ok (Opened key half.opening))) × IsWatcher lines key p half × (half.taken ≡ []) × (desk_of c journal key stopped l order' ≡ with_watcher desk scope)) (sym at.slots_are) (by at.slot at.slot' at.there at.opens)
-    where
-      by : (s s' : Slot) → slice_get slots p ≡ Some s → OpensSlot key scope since o s s' half
-          → IsKeptDesk lines (desk_of c journal key stopped (set slots p s') order') (set slots p s') order' room
-          × (floor_step (floor_of_desk desk) (Open scope) ≡ (floor_of_desk (desk_of c journal key stopped (set slots p s') order'), Ok (Opened key half.opening)))
-          × IsWatcher lines key p half × (half.taken ≡ [])
-          × (desk_of c journal key stopped (set slots p s') order' ≡ with_watcher desk scope)
-      by (Parked l) (Used now) there opens = begun_row_at scope p l now half key since o order' none there opens key_is since_is o_is more
-      by (Parked l) (Parked k) there opens = absurd opens
-      by (Parked l) Away there opens = absurd opens
-      by (Used r) s' there opens = absurd opens
-      by Away s' there opens = absurd opens
+      subst (λ (l : List Slot). IsKeptDesk lines (desk_of c journal key stopped l order') l order' room × (floor_step (floor_of_desk desk) (Open scope) ≡ (floor_of_desk (desk_of c journal key stopped l order'), Ok (Opened key half.opening))) × IsWatcher lines key p half × (half.taken ≡ []) × (desk_of c journal key stopped l order' ≡ with_watcher desk scope)) (sym at.slots_are) (begun_row_at scope p at.line at.row half key since o order' none at.there at.begun key_is since_is o_is more)
 
   -- where a watcher may begin, a line is not in use
   pub not_all_used : AllByRecursion (λ s. IsParked s → ⊥) slots → length order ≡ 64
   not_all_used none = h.places.count ∙ full c slots none h.places.each ∙ h.places.number
 
   pub parked_at : (p room' : ℕ) (s : Slot) → slice_get slots p ≡ Some s → IsParked s → c ≤ room' → IsParkedAt slots p room'
-  parked_at p room' s at is fits = record { slot = s; there = at; parked = is; room_is = omega (arith, fits, (each_get (IsLine c) slots p s h.places.each at).capacity_is) }
+  parked_at p room' (Parked l) at is fits = record { line = l; there = at; room_is = omega (arith, fits, (each_get (IsLine c) slots p (Parked l) h.places.each at).capacity_is) }
+  parked_at p room' (Used r) at is fits = absurd is
+  parked_at p room' Away at is fits = absurd is
 
 -- ---- Whether a watcher may begin
 

@@ -3,9 +3,9 @@ use Rattle.std.proofs.Common.{◌≡◌, ◌≢◌, ℕ, ◌+◌, ◌<◌, ◌�
 use Rattle.std.specs.Option.{option_map_or}
 use Rattle.std.specs.Arc.{arc_value}
 use Rattle.std.proofs.lemmas.Bool.Decides.{nat_tests}
-use Rattle.std.proofs.lemmas.List.{append-nil, length-set}
+use Rattle.std.proofs.lemmas.List.{append-nil}
 use Rattle.std.proofs.lemmas.List.Edits.{map_over_more}
-use Rattle.std.proofs.lemmas.Option.{slice_get_read}
+use Rattle.std.proofs.lemmas.Option.{slice_get_read, slice_get_within}
 use Rattle.mt_skel.proofs.MiddleLaws.{each_still}
 use Rattle.mt_events.specs.Posts.{PostView}
 use Rattle.mt_events.specs.Following.{IsRun}
@@ -16,12 +16,12 @@ use Rattle.mt_floor.specs.declared.watch.Phase.{Phase}
 use Rattle.mt_floor.specs.declared.watch.Phase.TheVariants.{Open as IsOpen, Lagged, Ended}
 use Rattle.mt_desk.specs.Desk.{DeskRow}
 use Rattle.mt_desk.specs.Sent.{IsSentOneIn}
-use Rattle.mt_desk.specs.Rows.{MayBeSent}
-use Rattle.mt_desk.specs.declared.row.Slot.{Slot}
-use Rattle.mt_desk.specs.declared.row.Slot.TheVariants.{Parked, Used, Away}
-use Rattle.mt_desk.specs.Places.{ended_slot}
-use Rattle.mt_desk.specs.Sending.{PlaceDue, slot_follows, due_at, posts_at, AreDue, MaySend, SendsSlot, SendsAt}
-use Rattle.mt_desk.proofs.PlaceLaws.{get_set}
+use Rattle.mt_desk.specs.Rows.{PlacedRowView, SendsRow, MayBeSent}
+use Rattle.mt_desk.specs.declared.places.Slot.{Slot}
+use Rattle.mt_desk.specs.declared.places.Slot.TheVariants.{Used}
+use Rattle.mt_desk.specs.Places.{IsUsed, ended_slot}
+use Rattle.mt_desk.specs.Sending.{PlaceDue, slot_follows, due_at, posts_at, AreDue, SendsAt}
+use Rattle.mt_desk.proofs.PlaceLaws.{get_set, still_used}
 
 -- nothing is due to a row that does not follow the post
 pub nothing_due : (due : List PlaceDue) (p : PostView) (slots : List Slot) (place : ℕ) (s : Slot) → place < length slots → s ≡ get_or slots place s → slot_follows p s ≡ false
@@ -47,10 +47,8 @@ room_left sent taken taken' rest rest' xs xs' x room before after got put fits =
 
 -- ---- What is due may be sent
 
-may_front : (s : Slot) (ps qs : List PostView) → MaySend s (ps ++ qs) → MaySend s ps
-may_front (Parked l) ps qs h = tt
-may_front (Used r) ps qs h = λ is. run_front r.row.opening (r.row.sent ++ ps) qs (subst (IsRun r.row.opening) (sym (append_assoc r.row.sent ps qs)) (h is))
-may_front Away ps qs h = tt
+may_front : (r : DeskRow) (ps qs : List PostView) → MayBeSent r (ps ++ qs) → MayBeSent r ps
+may_front r ps qs h = λ is. run_front r.opening (r.sent ++ ps) qs (subst (IsRun r.opening) (sym (append_assoc r.sent ps qs)) (h is))
 
 posts_front : (place : ℕ) (d : PlaceDue) (ds : List PlaceDue) → (rest : List PostView) × (posts_at place (d ∷ ds) ≡ posts_at place (d ∷ []) ++ rest)
 posts_front place d ds = by (eqb d.place place)
@@ -61,30 +59,26 @@ posts_front place d ds = by (eqb d.place place)
 
 pub first_is_due : (slots : List Slot) (d : PlaceDue) (ds : List PlaceDue) → AreDue slots (d ∷ ds) → AreDue slots (d ∷ [])
 first_is_due slots d ds h = record {
-  places = (h.places.0, tt);
-  runs = λ place s at. let f = posts_front place d ds in may_front s (posts_at place (d ∷ [])) f.0 (subst (MaySend s) f.1 (h.runs place s at));
+  used = (h.used.0, tt);
+  runs = λ place r at. let f = posts_front place d ds in may_front r.row (posts_at place (d ∷ [])) f.0 (subst (MayBeSent r.row) f.1 (h.runs place r at));
 }
 
-pub may_be_sent : (slots : List Slot) (d : PlaceDue) (place : ℕ) (p : PostView) (s : Slot) → AreDue slots (d ∷ []) → place ≡ d.place → p ≡ d.post → s ≡ get_or slots place s → MaySend s (p ∷ [])
-may_be_sent slots d place p s h here post is =
-    let within : place < length slots = omega (arith, h.places.0, here) in
-    let at = slice_get_read slots (length slots) place s refl within is in
-    let same : eqb d.place place ≡ true = grind (arith, nat_tests) in
-    subst (MaySend s) (ap (λ b. cond b (d.post ∷ []) []) same ∙ ap (λ q. q ∷ []) (sym post)) (h.runs place s at)
+-- at its place there is a row
+due_within : (slots : List Slot) (d : PlaceDue) (place : ℕ) → AreDue slots (d ∷ []) → place ≡ d.place → place < length slots
+due_within slots d place h here = subst (λ k. k < length slots) (sym here) (slice_get_within slots d.place (Used h.used.0.row) h.used.0.there)
 
-pub sends_one : (slots : List Slot) (d : PlaceDue) (place : ℕ) (p : PostView) (s s' : Slot) → AreDue slots (d ∷ []) → place ≡ d.place → p ≡ d.post → s ≡ get_or slots place s → SendsSlot s p s' → SendsAt d slots (set slots place s')
-sends_one slots d place p s s' h here post is sends =
-    let within : place < length slots = omega (arith, h.places.0, here) in
-    let at = slice_get_read slots (length slots) place s refl within is in
-    record { slot = s; there = ap (slice_get slots) (sym here) ∙ at; slot' = s'; sends = subst (λ q. SendsSlot s q s') post sends; slots_are = ap (λ k. set slots k s') here }
+pub due_there : (slots : List Slot) (d : PlaceDue) (place : ℕ) (s : Slot) (r : PlacedRowView) → AreDue slots (d ∷ []) → place ≡ d.place → s ≡ get_or slots place s → s ≡ Used r → slice_get slots d.place ≡ Some (Used r)
+due_there slots d place s r h here is row =
+    ap (slice_get slots) (sym here) ∙ slice_get_read slots (length slots) place s refl (due_within slots d place h here) is ∙ ap (λ x. Some x) row
+
+pub may_be_sent : (slots : List Slot) (d : PlaceDue) (p : PostView) (r : PlacedRowView) → AreDue slots (d ∷ []) → p ≡ d.post → slice_get slots d.place ≡ Some (Used r) → MayBeSent r.row (p ∷ [])
+may_be_sent slots d p r h post at =
+    let same : eqb d.place d.place ≡ true = grind (arith, nat_tests) in
+    subst (MayBeSent r.row) (ap (λ b. cond b (d.post ∷ []) []) same ∙ ap (λ q. q ∷ []) (sym post)) (h.runs d.place r at)
 
 -- a post to the row at its place leaves the posts behind it due
-sent_may : (s s' : Slot) (p : PostView) (ps : List PostView) → SendsSlot s p s' → MaySend s (p ∷ ps) → MaySend s' ps
-sent_may (Parked l) s' p ps same may = subst (λ x. MaySend x ps) (sym same) tt
-sent_may Away s' p ps same may = subst (λ x. MaySend x ps) (sym same) tt
-sent_may (Used r) (Parked l) p ps sends may = tt
-sent_may (Used r) Away p ps sends may = tt
-sent_may (Used r) (Used now) p ps sends may = by r.row.phase refl sends.sent
+sent_may : (r now : PlacedRowView) (p : PostView) (ps : List PostView) → SendsRow r p now → MayBeSent r.row (p ∷ ps) → MayBeSent now.row ps
+sent_may r now p ps sends may = by r.row.phase refl sends.sent
   where
     by : (f : Phase) → r.row.phase ≡ f → IsSentOneIn f r.capacity p r.row now.row → MayBeSent now.row ps
     by IsOpen is (inl same) = λ still. subst (λ (q : DeskRow). IsRun q.opening (q.sent ++ ps)) (sym same) (subst (IsRun r.row.opening) (sym (append_assoc r.row.sent (p ∷ []) ps)) (may is))
@@ -93,18 +87,22 @@ sent_may (Used r) (Used now) p ps sends may = by r.row.phase refl sends.sent
     by Ended is same = λ still. absurd (let bad : Ended ≡ IsOpen = sym is ∙ sym (ap (λ (q : DeskRow). q.phase) same) ∙ still in cc)
 
 pub others_due : (slots slots' : List Slot) (d : PlaceDue) (ds : List PlaceDue) → AreDue slots (d ∷ ds) → SendsAt d slots slots' → AreDue slots' ds
-others_due slots slots' d ds h at = subst (λ l. AreDue l ds) (sym at.slots_are) (record { places = each_still (λ (e : PlaceDue). e.place < length slots) (λ (e : PlaceDue). e.place < length (set slots d.place at.slot')) (λ e low. omega (arith, low, length-set slots d.place at.slot')) ds h.places.1; runs = runs })
+others_due slots slots' d ds h at = subst (λ l. AreDue l ds) (sym at.slots_are) (record {
+  used = each_still (λ (e : PlaceDue). IsUsed slots e.place) (λ (e : PlaceDue). IsUsed (set slots d.place (Used at.now)) e.place) (λ e u. still_used slots d.place (Used at.row) at.now at.there e.place u) ds h.used.1;
+  runs = runs;
+})
   where
-    runs : (place : ℕ) (s : Slot) → slice_get (set slots d.place at.slot') place ≡ Some s → MaySend s (posts_at place ds)
-    runs place s e = elim (get_set slots d.place at.slot' place s e) [
+    runs : (place : ℕ) (r : PlacedRowView) → slice_get (set slots d.place (Used at.now)) place ≡ Some (Used r) → MayBeSent r.row (posts_at place ds)
+    runs place r e = elim (get_set slots d.place (Used at.now) place (Used r) e) [
       | inl q ↦
           let same : eqb d.place place ≡ true = (let k = q.0 in grind (arith, nat_tests)) in
-          let may : MaySend at.slot (d.post ∷ posts_at place ds) = subst (MaySend at.slot) (ap (λ b. cond b (d.post ∷ posts_at place ds) (posts_at place ds)) same) (h.runs place at.slot (ap (slice_get slots) q.0 ∙ at.there)) in
-          subst (λ x. MaySend x (posts_at place ds)) q.1 (sent_may at.slot at.slot' d.post (posts_at place ds) at.sends may)
+          let may : MayBeSent at.row.row (d.post ∷ posts_at place ds) = subst (MayBeSent at.row.row) (ap (λ b. cond b (d.post ∷ posts_at place ds) (posts_at place ds)) same) (h.runs place at.row (ap (slice_get slots) q.0 ∙ at.there)) in
+          let one : at.now ≡ r = (let two : ◌≡◌ {A = Slot} (Used at.now) (Used r) = q.1 in cc) in
+          subst (λ (x : PlacedRowView). MayBeSent x.row (posts_at place ds)) one (sent_may at.row at.now d.post (posts_at place ds) at.sends may)
       | inr q ↦
           let ne = q.0 in
           let other : eqb d.place place ≡ false = by_test (eqb d.place place) refl ne in
-          subst (MaySend s) (ap (λ b. cond b (d.post ∷ posts_at place ds) (posts_at place ds)) other) (h.runs place s q.1)
+          subst (MayBeSent r.row) (ap (λ b. cond b (d.post ∷ posts_at place ds) (posts_at place ds)) other) (h.runs place r q.1)
     ]
       where
         by_test : (b : Bool) → eqb d.place place ≡ b → place ≢ d.place → eqb d.place place ≡ false

@@ -5,8 +5,8 @@ use Rattle.std.specs.List.{flat_map, list_any}
 use Rattle.std.specs.Option.{option_map_or}
 use Rattle.std.proofs.lemmas.Bool.{or_parts}
 use Rattle.mt_events.specs.Posts.{PostView}
-use Rattle.mt_desk.specs.declared.row.Slot.{Slot}
-use Rattle.mt_desk.specs.declared.row.Slot.TheVariants.{Parked, Used, Away}
+use Rattle.mt_desk.specs.declared.places.Slot.{Slot}
+use Rattle.mt_desk.specs.declared.places.Slot.TheVariants.{Parked, Used, Away}
 use Rattle.mt_desk.specs.Sending.{slot_follows, slot_hears, due_at}
 
 deaf_slot : (p : PostView) (s : Slot) → slot_hears s ≡ false → slot_follows p s ≡ false

@@ -11,8 +11,8 @@ use Rattle.mt_queue.specs.Halves.{LineId, LineView}
 use Rattle.mt_skel.proofs.MiddleLaws.{and_first, and_second, row_mid, put_mid, without_mid, each_still, each_append, each_left, each_right}
 use Rattle.mt_desk.specs.Desk.{DeskRow, row_key, desk_row_after_stop}
 use Rattle.mt_desk.specs.Rows.{PlacedRowView, ended_row}
-use Rattle.mt_desk.specs.declared.row.Slot.{Slot}
-use Rattle.mt_desk.specs.declared.row.Slot.TheVariants.{Parked, Used, Away}
+use Rattle.mt_desk.specs.declared.places.Slot.{Slot}
+use Rattle.mt_desk.specs.declared.places.Slot.TheVariants.{Parked, Used, Away}
 use Rattle.mt_desk.specs.Places.{line_of, IsParked, no_row, slot_row, row_in, rows_at_places, use_of, uses, IsLine, IsUsed, IsAmong, ArePlaces, AreLines, ended_slot}
 
 -- ---- A list in which one element was set
@@ -145,7 +145,7 @@ other_used : (slots : List Slot) (p : ℕ) (x : Slot) (ks : List ℕ) → AreOth
 other_used slots p x [] h u = tt
 other_used slots p x (k ∷ ks) h u = (record { row = u.0.row; there = get_other slots p x k h.0 ∙ u.0.there }, other_used slots p x ks h.1 u.1)
 
-still_used : (slots : List Slot) (p : ℕ) (s : Slot) (r : PlacedRowView) → slice_get slots p ≡ Some s → (k : ℕ) → IsUsed slots k → IsUsed (set slots p (Used r)) k
+pub still_used : (slots : List Slot) (p : ℕ) (s : Slot) (r : PlacedRowView) → slice_get slots p ≡ Some s → (k : ℕ) → IsUsed slots k → IsUsed (set slots p (Used r)) k
 still_used slots p s r at k u = by (eqb k p) refl
   where
     by : (b : Bool) → eqb k p ≡ b → IsUsed (set slots p (Used r)) k

@@ -1,5 +1,5 @@
 -- The posts of a command, from what is due at the places of a desk to what its floor does.
-use Rattle.std.proofs.Common.{◌≡◌, ◌≢◌, ℕ, ◌<◌, Bool, true, false, cond, eqb, ltb, List, [], ◌∷◌, ◌++◌, length, map, set, Option, Some, slice_get, Ok, inl, inr, refl, sym, ap, ◌∙◌, subst, arith}
+use Rattle.std.proofs.Common.{◌≡◌, ◌≢◌, ℕ, ◌<◌, Bool, true, false, cond, eqb, ltb, List, [], ◌∷◌, ◌++◌, length, map, set, Some, slice_get, Ok, inl, inr, refl, sym, ap, ◌∙◌, subst, arith}
 use Rattle.std.specs.List.{flat_map, list_all, list_any, AllByRecursion}
 use Rattle.std.specs.Option.{option_map_or}
 use Rattle.std.specs.Arc.{arc_value}
@@ -27,10 +27,10 @@ use Rattle.mt_desk.specs.Desk.{DeskRow, DeskView, IsDesk, row_key, floor_of_desk
 use Rattle.mt_desk.specs.Calls.{IsApplied}
 use Rattle.mt_desk.specs.Sent.{IsSentOne, IsSentOneIn, IsSendingPosts, sending_floor}
 use Rattle.mt_desk.specs.Rows.{PlacedRowView, SendsRow}
-use Rattle.mt_desk.specs.declared.row.Slot.{Slot}
-use Rattle.mt_desk.specs.declared.row.Slot.TheVariants.{Parked, Used, Away}
+use Rattle.mt_desk.specs.declared.places.Slot.{Slot}
+use Rattle.mt_desk.specs.declared.places.Slot.TheVariants.{Used}
 use Rattle.mt_desk.specs.Places.{row_in, rows_at_places, desk_of, slot_row, no_row, IsLine, IsUsed, IsAmong, ArePlaces, IsKeptDesk}
-use Rattle.mt_desk.specs.Sending.{PlaceDue, slot_follows, slot_hears, due_at, posts_at, AreDue, MaySend, SendsSlot, SendsAt, SendsAll}
+use Rattle.mt_desk.specs.Sending.{PlaceDue, slot_follows, slot_hears, due_at, posts_at, AreDue, SendsAt, SendsAll}
 use Rattle.mt_desk.proofs.PlaceLaws.{get_other, get_same, each_get, among_get, row_there, row_of_place, put_rows, put_places}
 use Rattle.mt_desk.proofs.ScheduleLaws.{rows_rise}
 use Rattle.mt_desk.proofs.ApplyLaws.{first_due, prepared_begins, row_is_due, due_rows, due_of_rows}
@@ -161,9 +161,6 @@ keyed_stay : (slots slots' : List Slot) → ((k : ℕ) → (row_in slots' k).key
 keyed_stay slots slots' same [] = refl
 keyed_stay slots slots' same (e ∷ ds) = (λ i. due_then e.post (same e.place i) (keyed_stay slots slots' same ds i))
 
-used_there : (slots : List Slot) (order : List ℕ) (k : ℕ) → AllByRecursion (IsUsed slots) order → IsAmong k order → IsUsed slots k
-used_there slots order k used a = among_get (IsUsed slots) k order a used
-
 module _ (lines : List LineId) (d : DeskView) (x : Command) (reply : Reply) (h : IsDesk d) (order : List ℕ) where
   -- the places after some posts, and what was sent
   record IsPart (slots : List Slot) (ds : List PlaceDue) : Type 0 where
@@ -186,23 +183,12 @@ module _ (lines : List LineId) (d : DeskView) (x : Command) (reply : Reply) (h :
         sending = subst (λ (y : List DeskRow × List Due). IsSendingPosts d x reply y.0 y.1) (λ i. (sym rows i, sym left i)) more;
       }
 
-  sent_at : (slots next : List Slot) (e : PlaceDue) (ds : List PlaceDue) → IsPart slots (e ∷ ds) → IsAmong e.place order → SendsAt e slots next → IsPart next ds
-  sent_at slots next e ds part a at = subst (λ l. IsPart l ds) (sym at.slots_are) (by at.slot' (subst (λ s. SendsSlot s e.post at.slot') same at.sends))
-    where
-      u : IsUsed slots e.place
-      u = used_there slots order e.place part.places.used a
+  sent_at : (slots next : List Slot) (e : PlaceDue) (ds : List PlaceDue) → IsPart slots (e ∷ ds) → SendsAt e slots next → IsPart next ds
+  sent_at slots next e ds part at = subst (λ l. IsPart l ds) (sym at.slots_are) (sent_next slots e ds at.row at.now part at.there at.sends)
 
-      same : at.slot ≡ Used u.row
-      same = let two : ◌≡◌ {A = Option Slot} (Some at.slot) (Some (Used u.row)) = sym at.there ∙ u.there in let one : at.slot ≡ Used u.row = cc in one
-
-      by : (s' : Slot) → SendsSlot (Used u.row) e.post s' → IsPart (set slots e.place s') ds
-      by (Used now) sends = sent_next slots e ds u.row now part u.there sends
-      by (Parked l) sends = absurd sends
-      by Away sends = absurd sends
-
-  sent_through : (slots after : List Slot) (ds : List PlaceDue) → AreOf order ds → IsPart slots ds → SendsAll ds slots after → IsPart after []
-  sent_through slots after [] all part same = subst (λ l. IsPart l []) (sym same) part
-  sent_through slots after (e ∷ ds) all part through = sent_through through.0 after ds all.1 (sent_at slots through.0 e ds part all.0 through.1) through.2
+  sent_through : (slots after : List Slot) (ds : List PlaceDue) → IsPart slots ds → SendsAll ds slots after → IsPart after []
+  sent_through slots after [] part same = subst (λ l. IsPart l []) (sym same) part
+  sent_through slots after (e ∷ ds) part through = sent_through through.0 after ds (sent_at slots through.0 e ds part through.1) through.2
 
 -- ---- A command
 
@@ -230,24 +216,19 @@ module _ (lines : List LineId) (c : ℕ) (journal : List Command) (last_key : �
     -- what is due may be sent
     pub are_due : AreDue slots due
     are_due = record {
-      places = each_still (λ (e : PlaceDue). IsAmong e.place order) (λ (e : PlaceDue). e.place < length slots) (λ e a. among_get (λ place. place < length slots) e.place order a low_places) due all_in_order;
-      runs = may;
+      used = each_still (λ (e : PlaceDue). IsAmong e.place order) (λ (e : PlaceDue). IsUsed slots e.place) (λ e a. among_get (IsUsed slots) e.place order a h.places.used) due all_in_order;
+      runs = λ place r at is.
+          let here = due_here slots order place due rising (h.places.ordered place r at) all_in_order in
+          let key = ap row_key (row_there slots place (Used r) at) in
+          let run = left_is_run desk x reply h.desk (rows_at_places slots order) (map (keyed slots) due) first r.row.key r.row (row_of_place lines c slots order h.places rising place r at) is in
+          subst (λ l. IsRun r.row.opening (r.row.sent ++ l)) (ap (λ k. due_for k (map (keyed slots) due)) (sym key) ∙ here) run;
     }
-      where
-        may : (place : ℕ) (s : Slot) → slice_get slots place ≡ Some s → MaySend s (posts_at place due)
-        may place (Parked l) at = tt
-        may place Away at = tt
-        may place (Used r) at = λ is.
-            let here = due_here slots order place due rising (h.places.ordered place r at) all_in_order in
-            let key = ap row_key (row_there slots place (Used r) at) in
-            let run = left_is_run desk x reply h.desk (rows_at_places slots order) (map (keyed slots) due) first r.row.key r.row (row_of_place lines c slots order h.places rising place r at) is in
-            subst (λ l. IsRun r.row.opening (r.row.sent ++ l)) (ap (λ k. due_for k (map (keyed slots) due)) (sym key) ∙ here) run
 
     -- and once it was
     pub applied_kept : (after : List Slot) → SendsAll due slots after
         → IsKeptDesk lines (desk_of c (journal ++ x ∷ []) last_key stopped after order) after order room × IsApplied desk x reply (desk_of c (journal ++ x ∷ []) last_key stopped after order)
     applied_kept after through =
-        let part = sent_through lines desk x reply h.desk order slots after due all_in_order (record { places = h.places; sending = first }) through in (
+        let part = sent_through lines desk x reply h.desk order slots after due (record { places = h.places; sending = first }) through in (
           record { places = part.places; room_is = h.room_is; desk = sent_stays desk x reply h.desk (rows_at_places after order) part.sending },
           sent_all desk x reply h.desk (rows_at_places after order) part.sending,
         )

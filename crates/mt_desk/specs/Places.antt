@@ -8,12 +8,12 @@ use Rattle.mt_events.specs.declared.opening.Scope.{Scope}
 use Rattle.mt_events.specs.declared.opening.Scope.TheVariants.{All}
 use Rattle.mt_events.specs.declared.opening.Opening.{Opening}
 use Rattle.mt_book.specs.declared.command.Command.{Command}
-use Rattle.mt_queue.specs.Halves.{LineId, ReceiverView, no_line}
+use Rattle.mt_queue.specs.Halves.{LineId, LineView, ReceiverView, no_line}
 use Rattle.mt_floor.specs.declared.watch.Meeting.{Meeting}
 use Rattle.mt_desk.specs.Desk.{DeskRow, DeskView, IsDesk}
 use Rattle.mt_desk.specs.Rows.{PlacedRowView, begun_row, IsBegunRow, MeetsRow, ClosesRow, ended_row}
-use Rattle.mt_desk.specs.declared.row.Slot.{Slot}
-use Rattle.mt_desk.specs.declared.row.Slot.TheVariants.{Parked, Used, Away}
+use Rattle.mt_desk.specs.declared.places.Slot.{Slot}
+use Rattle.mt_desk.specs.declared.places.Slot.TheVariants.{Parked, Used, Away}
 
 -- the line at a place, whether it is in use or not, and how many posts it holds
 abbrev pub line_of : Slot → LineId
@@ -131,46 +131,33 @@ pub record IsPlace (slots : List Slot) (place : ℕ) (line : LineId) : Type 0 wh
 
 -- a line that is not in use, and for whose posts there is room
 pub record IsParkedAt (slots : List Slot) (place : ℕ) (room : ℕ) : Type 0 where
-  pub slot : Slot
-  pub there : slice_get slots place ≡ Some slot
-  pub parked : IsParked slot
-  pub room_is : capacity_of slot ≤ room
+  pub line : LineView
+  pub there : slice_get slots place ≡ Some (Parked line)
+  pub room_is : line.capacity ≤ room
 
--- a parked line gets a row
-abbrev pub OpensSlot : ℕ → Scope → ℕ → Opening → Slot → Slot → ReceiverView → Type 0
-OpensSlot key scope since o (Parked l) (Used now) half = IsBegunRow key scope since o l now half
-OpensSlot key scope since o s s' half = ⊥
-
+-- a parked line gets the row of a watcher that begins
 pub record OpensAt (key : ℕ) (scope : Scope) (since : ℕ) (o : Opening) (slots : List Slot) (place : ℕ) (slots' : List Slot) (half : ReceiverView) : Type 0 where
-  pub slot : Slot
-  pub there : slice_get slots place ≡ Some slot
-  pub slot' : Slot
-  pub opens : OpensSlot key scope since o slot slot' half
-  pub slots_are : slots' ≡ set slots place slot'
+  pub line : LineView
+  pub there : slice_get slots place ≡ Some (Parked line)
+  pub row : PlacedRowView
+  pub begun : IsBegunRow key scope since o line row half
+  pub slots_are : slots' ≡ set slots place (Used row)
 
 -- the row at a place meets its watcher
-abbrev pub MeetsSlot : Slot → ReceiverView → Slot → ReceiverView → Meeting → Type 0
-MeetsSlot (Used r) half (Used now) half' m = MeetsRow r half now half' m
-MeetsSlot s half s' half' m = ⊥
-
 pub record MeetsAt (slots : List Slot) (place : ℕ) (half : ReceiverView) (slots' : List Slot) (half' : ReceiverView) (m : Meeting) : Type 0 where
-  pub slot : Slot
-  pub there : slice_get slots place ≡ Some slot
-  pub slot' : Slot
-  pub meets : MeetsSlot slot half slot' half' m
-  pub slots_are : slots' ≡ set slots place slot'
+  pub row : PlacedRowView
+  pub there : slice_get slots place ≡ Some (Used row)
+  pub now : PlacedRowView
+  pub meets : MeetsRow row half now half' m
+  pub slots_are : slots' ≡ set slots place (Used now)
 
 -- the row at a place goes, and its line is parked
-abbrev pub ClosesSlot : Slot → ReceiverView → Slot → List PostView → Type 0
-ClosesSlot (Used r) half (Parked l) posts = ClosesRow r half l posts
-ClosesSlot s half s' posts = ⊥
-
 pub record ClosesAt (slots : List Slot) (place : ℕ) (half : ReceiverView) (slots' : List Slot) (posts : List PostView) : Type 0 where
-  pub slot : Slot
-  pub there : slice_get slots place ≡ Some slot
-  pub slot' : Slot
-  pub closes : ClosesSlot slot half slot' posts
-  pub slots_are : slots' ≡ set slots place slot'
+  pub row : PlacedRowView
+  pub there : slice_get slots place ≡ Some (Used row)
+  pub line : LineView
+  pub closes : ClosesRow row half line posts
+  pub slots_are : slots' ≡ set slots place (Parked line)
 
 -- what stands at a place after a stop
 abbrev pub ended_slot : Slot → Slot

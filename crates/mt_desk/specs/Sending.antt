@@ -1,13 +1,14 @@
 -- The posts of one command on their way to the rows of a desk. No public clause cites this module.
 -- A word with no source is this project's rule.
-use Rattle.std.specs.Prelude.{◌≡◌, ℕ, ◌<◌, Bool, false, cond, ◌==◌, List, [], ◌∷◌, length, set, Some, slice_get}
+use Rattle.std.specs.Prelude.{◌≡◌, ℕ, Bool, false, cond, ◌==◌, List, [], ◌∷◌, set, Some, slice_get}
 use Rattle.std.specs.List.{AllByRecursion}
 use Rattle.std.specs.Option.{option_map_or}
 use Rattle.mt_events.specs.Posts.{PostView}
 use Rattle.mt_floor.specs.Watcher.{is_open}
-use Rattle.mt_desk.specs.Rows.{SendsRow, MayBeSent, desk_row_follows}
-use Rattle.mt_desk.specs.declared.row.Slot.{Slot}
-use Rattle.mt_desk.specs.declared.row.Slot.TheVariants.{Parked, Used, Away}
+use Rattle.mt_desk.specs.Rows.{PlacedRowView, SendsRow, MayBeSent, desk_row_follows}
+use Rattle.mt_desk.specs.Places.{IsUsed}
+use Rattle.mt_desk.specs.declared.places.Slot.{Slot}
+use Rattle.mt_desk.specs.declared.places.Slot.TheVariants.{Parked, Used, Away}
 
 -- a post that is due to the row at a place
 pub record PlaceDue : Type 0 where
@@ -35,29 +36,18 @@ abbrev pub posts_at : ℕ → List PlaceDue → List PostView
 posts_at place [] = []
 posts_at place (d ∷ ds) = cond (d.place == place) (d.post ∷ posts_at place ds) (posts_at place ds)
 
--- a row at a place may be sent posts
-abbrev pub MaySend : Slot → List PostView → Type 0
-MaySend (Parked l) ps = Unit {0}
-MaySend (Used r) ps = MayBeSent r.row ps
-MaySend Away ps = Unit {0}
-
--- what is due is due to places of the desk, and keeps the order of their watchers' posts
+-- what is due is due to rows of the desk, and keeps the order of their watchers' posts
 pub record AreDue (slots : List Slot) (ds : List PlaceDue) : Type 0 where
-  pub places : AllByRecursion (λ (d : PlaceDue). d.place < length slots) ds
-  pub runs : (place : ℕ) (s : Slot) → slice_get slots place ≡ Some s → MaySend s (posts_at place ds)
+  pub used : AllByRecursion (λ (d : PlaceDue). IsUsed slots d.place) ds
+  pub runs : (place : ℕ) (r : PlacedRowView) → slice_get slots place ≡ Some (Used r) → MayBeSent r.row (posts_at place ds)
 
--- a post is sent to what stands at a place
-abbrev pub SendsSlot : Slot → PostView → Slot → Type 0
-SendsSlot (Used r) p (Used now) = SendsRow r p now
-SendsSlot (Used r) p s = ⊥
-SendsSlot s p s' = s' ≡ s
-
+-- a post is sent to the row at its place
 pub record SendsAt (d : PlaceDue) (slots slots' : List Slot) : Type 0 where
-  pub slot : Slot
-  pub there : slice_get slots d.place ≡ Some slot
-  pub slot' : Slot
-  pub sends : SendsSlot slot d.post slot'
-  pub slots_are : slots' ≡ set slots d.place slot'
+  pub row : PlacedRowView
+  pub there : slice_get slots d.place ≡ Some (Used row)
+  pub now : PlacedRowView
+  pub sends : SendsRow row d.post now
+  pub slots_are : slots' ≡ set slots d.place (Used now)
 
 -- and all that is due, one after another
 abbrev pub SendsAll : List PlaceDue → List Slot → List Slot → Type 0

@@ -10,8 +10,7 @@ ghost use Rattle.mt_desk.specs.Headline.{Meet, Close, IsScheduledBy};
 
 use crate::due::due_of;
 use crate::lines::{Lines, Naming};
-use crate::places::{close_at, end_all, meet_at, open_at, parked_place, send_all};
-use crate::row::{Slot, is_heard};
+use crate::places::{Slot, close_at, end_all, is_heard, meet_at, open_at, parked_place, send_all};
 use crate::watcher::Watcher;
 use mt_book::book::Book;
 use mt_book::command::{Command, Reply};

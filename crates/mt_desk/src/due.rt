@@ -4,7 +4,7 @@ ghost use Rattle.std.specs.List.{flat_map, AllByRecursion};
 ghost use Rattle.std.specs.Arc.{arc_value};
 ghost use Rattle.mt_desk.specs.Sending.{due_at};
 
-use crate::row::{Slot, follows};
+use crate::places::Slot;
 use mt_events::post::Post;
 use mt_queue::Item;
 use mt_skel::fault::Fault;
@@ -49,7 +49,7 @@ fn push_due(
     ensures due { OnOk result (due.new.items ≡ due.old.items ++ due_at (arc_value post.now) slots.now place) }
     ensures memory { IsOkUnless result Fault.NoMemory }
 {
-    if follows(&slots[place], post) {
+    if slots[place].follows(post) {
         let post = post.clone()?;
         due.push(DuePost { place, post })?;
     }

@@ -1,7 +1,7 @@
 use Rattle.std.proofs.Common.{◌≡◌, List}
 use Rattle.std.specs.Vec.Iter.{into_iter_items, into_iter_len}
 use Rattle.std.specs.Prelude.{length}
-use Rattle.mt_desk.specs.declared.row.Slot.{Slot}
+use Rattle.mt_desk.specs.declared.places.Slot.{Slot}
 use Rattle.mt_desk.specs.Sending.{AreDue, SendsAll}
 use Rattle.mt_desk.proofs.places.send_all.Given as goal
 

@@ -8,7 +8,7 @@ use Rattle.mt_book.specs.declared.command.Command.{Command}
 use Rattle.mt_book.specs.Kept.{IsPrepared}
 use Rattle.mt_floor.specs.declared.event.Event.TheVariants.{Apply}
 use Rattle.mt_floor.specs.Schedule.{floor_step}
-use Rattle.mt_desk.specs.declared.row.Slot.{Slot}
+use Rattle.mt_desk.specs.declared.places.Slot.{Slot}
 use Rattle.mt_desk.specs.Desk.{DeskView, floor_of_desk}
 use Rattle.mt_desk.specs.Calls.{IsApplied}
 use Rattle.mt_desk.specs.Places.{desk_of}

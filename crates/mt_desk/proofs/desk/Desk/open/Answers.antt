@@ -4,7 +4,7 @@ use Rattle.std.specs.List.{AllByRecursion}
 use Rattle.mt_book.specs.declared.command.Command.{Command}
 use Rattle.mt_floor.specs.declared.event.Event.TheVariants.{Open}
 use Rattle.mt_floor.specs.Schedule.{floor_step, opening_refusal}
-use Rattle.mt_desk.specs.declared.row.Slot.{Slot}
+use Rattle.mt_desk.specs.declared.places.Slot.{Slot}
 use Rattle.mt_desk.specs.Desk.{DeskView, floor_of_desk, with_watcher}
 use Rattle.mt_desk.specs.Places.{IsParked, IsKeptDesk, desk_of, row_in}
 use Rattle.std.proofs.lemmas.List.{length-map}

@@ -1,7 +1,7 @@
 use Rattle.std.proofs.Common.{◌≡◌, drop}
 use Rattle.std.specs.List.{list_any}
 use Rattle.mt_desk.specs.Sending.{slot_hears}
-use Rattle.mt_desk.proofs.row.is_heard.Given as goal
+use Rattle.mt_desk.proofs.places.is_heard.Given as goal
 
 -- none of the rows passed is open
 abbrev pub invariant-slots : goal.invariant-slots
