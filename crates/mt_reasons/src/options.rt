@@ -4,72 +4,27 @@ ghost use Rattle.mt_reasons.specs.Reasons.{IsSo};
 
 use crate::reason::Reason;
 use mt_lines::words::Pieces;
+use mt_requests::options::{clr_words, kind_of, set_words};
 
-/// What `set=` takes.
-const SET_WORDS: &str =
-    "ro, nosuid, nodev, noexec, nosymfollow, nodiratime, relatime, noatime and strictatime";
-
-/// What `clr=` takes.
-const CLR_WORDS: &str = "ro, nosuid, nodev, noexec, nosymfollow, nodiratime and atime";
-
-/// Whether a word is a flag, which can be set and cleared.
-fn is_flag(word: &[u8]) -> bool {
-    word == b"ro".as_slice()
-        || word == b"nosuid".as_slice()
-        || word == b"nodev".as_slice()
-        || word == b"noexec".as_slice()
-        || word == b"nosymfollow".as_slice()
-        || word == b"nodiratime".as_slice()
-}
-
-/// Whether `set=` takes a word.
-fn is_set_word(word: &[u8]) -> bool {
-    is_flag(word)
-        || word == b"relatime".as_slice()
-        || word == b"noatime".as_slice()
-        || word == b"strictatime".as_slice()
-}
-
-/// Whether `clr=` takes a word.
-fn is_clr_word(word: &[u8]) -> bool {
-    is_flag(word) || word == b"atime".as_slice()
-}
-
-/// Whether a word is a kind of propagation.
-fn is_kind(word: &[u8]) -> bool {
-    word == b"shared".as_slice()
-        || word == b"private".as_slice()
-        || word == b"slave".as_slice()
-        || word == b"unbindable".as_slice()
-}
-
-/// What is wrong with the list of `set=`.
+/// What is wrong with the list of `set=`: its first word that cannot be set.
 fn set_reason(list: &[u8]) -> Option<Reason<'_>>
     ensures { ForSome result IsSo }
 {
     for word in Pieces::new(b',', list) {
-        if !is_set_word(word) {
-            return Some(Reason::Attribute {
-                word,
-                of: "set=",
-                words: SET_WORDS,
-            });
+        if set_words(word).is_none() {
+            return Some(Reason::SetWord { word });
         }
     }
     None
 }
 
-/// What is wrong with the list of `clr=`.
+/// What is wrong with the list of `clr=`: its first word that cannot be cleared.
 fn clr_reason(list: &[u8]) -> Option<Reason<'_>>
     ensures { ForSome result IsSo }
 {
     for word in Pieces::new(b',', list) {
-        if !is_clr_word(word) {
-            return Some(Reason::Attribute {
-                word,
-                of: "clr=",
-                words: CLR_WORDS,
-            });
+        if clr_words(word).is_none() {
+            return Some(Reason::ClrWord { word });
         }
     }
     None
@@ -86,7 +41,9 @@ pub(crate) fn option_reason(word: &[u8]) -> Option<Reason<'_>>
     } else if let Some(list) = word.strip_prefix(b"clr=") {
         clr_reason(list)
     } else if let Some(kind) = word.strip_prefix(b"prop=") {
-        (!is_kind(kind)).then_some(Reason::Propagation { word: kind })
+        kind_of(kind)
+            .is_none()
+            .then_some(Reason::Propagation { word: kind })
     } else {
         Some(Reason::NoOption { word })
     }

@@ -4,6 +4,13 @@ use mt_terminal::message::Shown;
 use std::fmt;
 use std::fmt::{Display, Formatter};
 
+/// What `set=` takes.
+const SET_WORDS: &str =
+    "ro, nosuid, nodev, noexec, nosymfollow, nodiratime, relatime, noatime and strictatime";
+
+/// What `clr=` takes.
+const CLR_WORDS: &str = "ro, nosuid, nodev, noexec, nosymfollow, nodiratime and atime";
+
 /// What is wrong with a line that is refused as `BadLine`. Words are as the line has them, with their escapes.
 #[derive(Clone, Copy)]
 pub enum Reason<'a> {
@@ -51,11 +58,13 @@ pub enum Reason<'a> {
     NoOption {
         word: &'a [u8],
     },
-    /// A list of `setattr` has a word that is not its own, or is empty.
-    Attribute {
+    /// A word in the list of `set=`, or the whole list where it is empty, is no attribute that can be set.
+    SetWord {
         word: &'a [u8],
-        of: &'static str,
-        words: &'static str,
+    },
+    /// A word in the list of `clr=`, or the whole list where it is empty, is no attribute that can be cleared.
+    ClrWord {
+        word: &'a [u8],
     },
     /// The word of `prop=` is no kind of propagation.
     Propagation {
@@ -77,13 +86,25 @@ impl<'a> Reason<'a> {
                     Shown(*word)
                 )
             }
-            Reason::Attribute {
-                word: [],
-                of,
-                words,
-            } => { write!(f, "an empty word: {of} takes {words}, joined by commas") }
-            Reason::Attribute { word, of, words } => {
-                write!(f, "{}: {of} takes {words}, joined by commas", Shown(*word))
+            Reason::SetWord { word: [] } => {
+                write!(f, "an empty word: set= takes {SET_WORDS}, joined by commas")
+            }
+            Reason::SetWord { word } => {
+                write!(
+                    f,
+                    "{}: set= takes {SET_WORDS}, joined by commas",
+                    Shown(*word)
+                )
+            }
+            Reason::ClrWord { word: [] } => {
+                write!(f, "an empty word: clr= takes {CLR_WORDS}, joined by commas")
+            }
+            Reason::ClrWord { word } => {
+                write!(
+                    f,
+                    "{}: clr= takes {CLR_WORDS}, joined by commas",
+                    Shown(*word)
+                )
             }
             Reason::Propagation { word } => write!(
                 f,

@@ -10,7 +10,7 @@
 pub mod help;
 mod label;
 pub mod laws;
-mod options;
+pub mod options;
 mod path;
 pub mod request;
 mod watching;

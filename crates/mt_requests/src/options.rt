@@ -180,9 +180,9 @@ fn cleared_with(clr: ClrWords, word: &[u8]) -> Option<ClrWords>
     Some(clr)
 }
 
-/// The attributes that a list of words sets, if it has no other words.
+/// The attributes that a list of words sets, words joined by commas, or `None` where one of them is none that can be set.
 #[tactic(auto, using(crate::proofs::SetLaws::set_folded))]
-fn set_words(list: &[u8]) -> Option<SetWords>
+pub fn set_words(list: &[u8]) -> Option<SetWords>
     ensures { result ≡ set_words list.now }
 {
     let mut words = Pieces::new(b',', list);
@@ -193,9 +193,10 @@ fn set_words(list: &[u8]) -> Option<SetWords>
     Some(set)
 }
 
-/// The attributes that a list of words clears, if it has no other words.
+/// The attributes that a list of words clears, words joined by commas, or `None` where one of them is none that can be
+/// cleared.
 #[tactic(auto, using(crate::proofs::SetLaws::cleared_folded))]
-fn clr_words(list: &[u8]) -> Option<ClrWords>
+pub fn clr_words(list: &[u8]) -> Option<ClrWords>
     ensures { result ≡ clr_words list.now }
 {
     let mut words = Pieces::new(b',', list);
@@ -206,8 +207,8 @@ fn clr_words(list: &[u8]) -> Option<ClrWords>
     Some(clr)
 }
 
-/// What mounts are made by a word.
-fn kind_of(word: &[u8]) -> Option<Kind>
+/// What mounts are made by a word, or `None` where it is no kind of propagation.
+pub fn kind_of(word: &[u8]) -> Option<Kind>
     ensures { result ≡ kind_of word.now }
 {
     if word == b"shared".as_slice() {
