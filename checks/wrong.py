@@ -7,7 +7,8 @@ They are written as the edits of crates/*/must-fail/, which `rt ci` tries. Here 
 too, with the path below the crate of the function whose contract refuses it.
 
 --built is a program of the gate: it tries the bodies with such a line, over the libraries that `rt ci` has just built.
-The prover is asked for that function and what it calls alone, and not for the rest of the crate, which `rt ci` proved.
+The prover is asked for that function and what it calls alone, and not for the rest of the crate, which `rt ci` proved. The
+bodies of a crate are tried at once, where each is in a function of its own that calls none of the others.
 
 --look is a program of the gate as well, and proves nothing: it asks whether each body can still be applied, so that each
 text that it replaces stands once in its file, as the code is now.
@@ -36,11 +37,13 @@ CRATES = os.path.join(TOP, "crates")
 PARTS = ("src", "specs", "proofs")
 
 # What a check of some functions ends with: how many were asked for, and how many of them are proved.
-ASKED = re.compile(r"only=(\d+) proved=(\d+)")
+ASKED = re.compile(r"only=\d+ proved=\d+")
+# What is said of a function: it is refused by its own contract, unless it calls another that is refused.
+VERDICT = re.compile(r"fn (\w+)::([\w:+]+): (.*)")
+REFUSED = re.compile(r"not proved|no proof: expected answers")
+CALLS = re.compile(r"it calls `")
 # The prover could not read what was to be refused.
 UNREAD = re.compile(r"(?:\./)?(?:src|specs)/\S+: error")
-# Why it refuses: a clause, or an answer that was written by hand.
-WHY = re.compile(r"note: src/\S+: it is not proved|(?:\./)?proofs/\S+: error")
 
 
 @dataclasses.dataclass(frozen=True)
@@ -57,13 +60,18 @@ class Body:
     def label(self):
         return f"checks/wrong/{self.crate}/{self.name}"
 
-    def texts(self):
-        """The texts of the files that it changes, by their paths; a text that does not stand once is a failure."""
-        texts = {}
+    def lay_into(self, texts):
+        """Lays it into the texts of files, by their paths, where it is known what they are; a text that does not stand once
+        is a failure."""
         for path, old, new in self.pieces:
             text = texts.setdefault(path, shown(read("crates", self.crate, path)))
             check(f"{self.label} can be applied", text.count(old) == 1, f"{text.count(old)} times in {path}: {old}")
             texts[path] = text.replace(old, new)
+
+    def texts(self):
+        """The texts of the files that it changes, by their paths."""
+        texts = {}
+        self.lay_into(texts)
         return texts
 
 
@@ -112,41 +120,67 @@ def check_words(crate):
     return [*words, "--logic-built", os.path.join(kit, "logic_built")]
 
 
-def tried(body):
-    """Asks the prover for the function of a wrong body: the status of the check, and its lines."""
+def checked(bodies):
+    """Asks the prover for the functions of wrong bodies of one crate, all laid into one copy of it: its lines."""
+    crate, texts = bodies[0].crate, {}
+    for body in bodies:
+        body.lay_into(texts)
     with tempfile.TemporaryDirectory() as folder:
         for part in PARTS:
-            if os.path.isdir(os.path.join(CRATES, body.crate, part)):
-                shutil.copytree(os.path.join(CRATES, body.crate, part), os.path.join(folder, part))
-        for path, text in body.texts().items():
+            if os.path.isdir(os.path.join(CRATES, crate, part)):
+                shutil.copytree(os.path.join(CRATES, crate, part), os.path.join(folder, part))
+        for path, text in texts.items():
             with open(os.path.join(folder, path), "w", encoding="utf-8") as file:
                 file.write(text)
-        words = [*check_words(body.crate), "--only", body.only]
+        words = check_words(crate)
+        for body in bodies:
+            words += ["--only", body.only]
         ran = subprocess.run(words, cwd=folder, stdout=subprocess.PIPE, stderr=subprocess.STDOUT, errors="replace", check=False)
-    return ran.returncode, ran.stdout.rstrip().splitlines()
+    return ran.stdout.rstrip().splitlines()
 
 
-def look_for_refusal(body):
-    """Tries a wrong body: it is refused where the prover reads it and does not prove its function."""
+def verdicts_in(lines):
+    """What the lines of a check say of each function; nothing where the prover did not come to them."""
+    if not lines or not ASKED.fullmatch(lines[-1]) or any(map(UNREAD.match, lines)):
+        return {}
+    return {found[2]: found[3] for found in map(VERDICT.fullmatch, lines) if found}
+
+
+def left_of(bodies):
+    """Tries wrong bodies of one crate at once, each in a function of its own: those that this does not decide, since their
+    function calls another one's, or since one of them cannot be read."""
     start = time.monotonic()
-    status, lines = tried(body)
-    counts = ASKED.fullmatch(lines[-1]) if lines else None
-    unproved = re.compile(rf"fn {body.crate}::{re.escape(body.only)}: (?:not proved|no proof)")
-    is_refused = status == 1 and counts and int(counts[2]) < int(counts[1]) and any(map(unproved.match, lines))
-    is_read = not any(map(UNREAD.match, lines))
-    check(f"{body.label} is refused", is_refused and is_read, "\n".join(lines[-20:]))
-    why = next(filter(WHY.match, lines), "")
-    print(f"{body.crate} {body.name}, {time.monotonic() - start:.0f} seconds: {why[:160]}", flush=True)
+    lines = checked(bodies)
+    verdicts = verdicts_in(lines)
+    left = []
+    for body in bodies:
+        verdict = verdicts.get(body.only, "")
+        is_decided = verdict and not CALLS.search(verdict)
+        if len(bodies) > 1 and not is_decided:
+            left.append(body)
+            continue
+        check(f"{body.label} is refused", is_decided and REFUSED.match(verdict), "\n".join(lines[-20:]))
+        print(f"{body.crate} {body.name}: {verdict[:120]}", flush=True)
+    print(f"{bodies[0].crate}: {time.monotonic() - start:.0f} seconds", flush=True)
+    return left
+
+
+def try_crate(bodies):
+    """Tries the wrong bodies of one crate: all at once that change functions of their own, and alone what that leaves."""
+    first = list({body.only: body for body in bodies}.values())
+    alone = [body for body in bodies if body not in first]
+    for body in [*left_of(first), *alone]:
+        left_of([body])
 
 
 def try_built(crates):
     """Tries the wrong bodies that say which function refuses them."""
-    asked = [body for body in bodies_of(crates) if body.only]
+    asked = [[body for body in bodies_of([crate]) if body.only] for crate in crates]
     with concurrent.futures.ThreadPoolExecutor(int(os.environ.get("RT_JOBS", "1"))) as pool:
-        list(pool.map(look_for_refusal, asked))
+        list(pool.map(try_crate, filter(None, asked)))
     if failures:
         raise SystemExit(f"wrong bodies that are not refused: {len(failures)}")
-    print(f"{len(asked)} wrong bodies are refused")
+    print(f"{sum(map(len, asked))} wrong bodies are refused")
 
 
 def look_at(crates):
