@@ -6,9 +6,10 @@ Usage: checks/wrong.py [--look | --built] [CRATE..]
 They are written as the edits of crates/*/must-fail/, which `rt ci` tries. Here a line `only: FUNCTION` may stand in one
 too, with the path below the crate of the function whose contract refuses it.
 
---built is a program of the gate: it tries the bodies with such a line, over the libraries that `rt ci` has just built.
-The prover is asked for that function and what it calls alone, and not for the rest of the crate, which `rt ci` proved. The
-bodies of a crate are tried at once, where each is in a function of its own that calls none of the others.
+--built is a program of the gate: it tries the bodies with such a line, over the libraries that `rt ci` has just built, of
+the crates that are named, or else of GATED. The prover is asked for that function and what it calls alone, and not for the
+rest of the crate, which `rt ci` proved. The bodies of a crate are tried at once, where each is in a function of its own that
+calls none of the others.
 
 --look is a program of the gate as well, and proves nothing: it asks whether each body can still be applied, so that each
 text that it replaces stands once in its file, as the code is now.
@@ -32,6 +33,13 @@ from harness.runs import TOP, check, failures, read, shown
 
 WRONG = os.path.join(TOP, "checks", "wrong")
 CRATES = os.path.join(TOP, "crates")
+
+# The crates of which the gate tries the bodies: those of propagation, and of posts up to a watcher and a client. Another one
+# costs the gate 15 to 30 seconds, most of them for reading its libraries.
+GATED = (
+    *("mt_lines", "mt_peers", "mt_propagate", "mt_bind", "mt_unmount", "mt_setattr"),
+    *("mt_events", "mt_queue", "mt_book", "mt_floor", "mt_desk", "mt_session", "mt_client"),
+)
 
 # The folders of a crate that a check reads.
 PARTS = ("src", "specs", "proofs")
@@ -239,7 +247,7 @@ def main():
     how.add_argument("--built", action="store_const", dest="do", const=try_built, help="try those of the gate, over what rt ci built")
     parser.add_argument("crates", metavar="CRATE", nargs="*")
     words = parser.parse_args()
-    asked = words.crates or there
+    asked = words.crates or (GATED if words.do is try_built else there)
     if not set(asked) <= set(there):
         parser.error(f"the crates with wrong bodies are {' '.join(there)}")
     (words.do or try_all)(asked)
