@@ -37,8 +37,8 @@ CRATES = os.path.join(TOP, "crates")
 # The crates of which the gate tries the bodies: those of propagation, and of posts up to a watcher and a client. Another one
 # costs the gate 15 to 30 seconds, most of them for reading its libraries.
 GATED = (
-    *("mt_lines", "mt_peers", "mt_propagate", "mt_bind", "mt_unmount", "mt_setattr"),
-    *("mt_events", "mt_queue", "mt_book", "mt_floor", "mt_desk", "mt_session", "mt_client"),
+    "mt_lines", "mt_peers", "mt_propagate", "mt_bind", "mt_unmount", "mt_setattr",
+    "mt_events", "mt_queue", "mt_book", "mt_floor", "mt_desk", "mt_session", "mt_client",
 )
 
 # The folders of a crate that a check reads.
