@@ -1,0 +1,2 @@
+pub mod OptionLaws
+pub mod ReadLaws

@@ -1,34 +1,88 @@
--- Of which lines it is said what is wrong with them, and what is so of the word that is told.
+-- What is told of a line that is refused as bad, and that it is so.
 -- A word with no source is this project's rule.
-use Rattle.std.specs.Prelude.{◌≡◌, Bool, true, false, ◌&&◌, ◌==◌, None, Result, Err, codes, nat_le, nat_lt}
+use Rattle.std.specs.Prelude.{◌≡◌, ◌⊎◌, ℕ, Bool, true, false, ◌==◌, nat_eq, List, [], ◌∷◌, length, drop, Option, None, Some, Result, Ok, Err, codes, MatchOption}
 use Rattle.std.specs.List.{list_any}
-use Rattle.std.specs.Option.{option_map_or}
 use Rattle.std.specs.Str.{bytes_eq}
 use Rattle.mt_skel.specs.declared.fault.Fault.{Fault}
-use Rattle.mt_skel.specs.declared.fault.Fault.TheVariants.{BadLine}
 use Rattle.mt_skel.specs.Escapes.{unescaped}
-use Rattle.mt_lines.specs.Words.{number_in_text}
+use Rattle.mt_lines.specs.Words.{words, number_in_text}
+use Rattle.mt_protocol.specs.Verbs.{verb_of, first_of}
+use Rattle.mt_protocol.specs.declared.verb.Verb.{Verb}
+use Rattle.mt_protocol.specs.declared.verb.Verb.TheVariants.{Setattr}
 use Rattle.mt_requests.specs.declared.request.Request.{Request}
-use Rattle.mt_requests.specs.Options.{is_option, set_words, clr_words, kind_of}
+use Rattle.mt_requests.specs.Requests.{is_bad_line, count_of}
+use Rattle.mt_requests.specs.Options.{option_keys, has_key, is_option, is_repeated, lists, set_words, clr_words, kind_of}
+use Rattle.mt_reasons.specs.declared.argument.Argument.{Argument}
+use Rattle.mt_reasons.specs.declared.argument.Argument.TheVariants.{Space, Scope, Count, Text, Less, Setting}
 use Rattle.mt_reasons.specs.declared.reason.Reason.{Reason}
-use Rattle.mt_reasons.specs.declared.reason.Reason.TheVariants.{Number, Scope, Range, Zero, Escape, Less, NoOption, SetWord, ClrWord, Propagation}
+use Rattle.mt_reasons.specs.declared.reason.Reason.TheVariants as reason
+use Rattle.mt_reasons.specs.Arguments.{arguments_of, is_right, are_counted}
 
 -- a line is refused as bad
 abbrev pub is_refused_as_bad : Result Request Fault → Bool
-is_refused_as_bad (Err BadLine) = true
-is_refused_as_bad asked = false
+is_refused_as_bad (Ok asked) = false
+is_refused_as_bad (Err fault) = is_bad_line (Some fault)
 
--- What is told of a word is so: it is no number, neither one nor `all`, or none from 1 to `most`; it has a zero byte, or a backslash that begins no escape;
--- or it is not `less`, no option, none that can be set or cleared, or no kind of propagation.
-abbrev pub IsSo : Reason → Type 0
-IsSo (Number place word) = number_in_text word.now ≡ None
-IsSo (Scope place word) = (number_in_text word.now ≡ None) × (bytes_eq word.now (codes "all") ≡ false)
-IsSo (Range word most) = option_map_or (λ n. nat_lt 0 n && nat_le n most) (number_in_text word.now) false ≡ false
-IsSo (Zero word) = list_any (λ b. b == 0) word.now ≡ true
-IsSo (Escape word) = unescaped word.now ≡ None
-IsSo (Less word) = bytes_eq word.now (codes "less") ≡ false
-IsSo (NoOption word) = is_option word.now ≡ false
-IsSo (SetWord word) = set_words word.now ≡ None
-IsSo (ClrWord word) = clr_words word.now ≡ None
-IsSo (Propagation word) = kind_of word.now ≡ None
-IsSo reason = Unit {0}
+-- a word with no byte
+abbrev pub is_empty_word : List ℕ → Bool
+is_empty_word word = nat_eq (length word) 0
+
+-- one of the words of a list, or the whole list
+abbrev pub IsWordOf : List ℕ → List ℕ → Type 0
+IsWordOf list word = (lists list word ≡ true) ⊎ (word ≡ list)
+
+-- what is told of the list of `set=`, and of that of `clr=`, is so: a part of it is no attribute that can be set, or cleared
+abbrev pub IsWrongSet : List ℕ → Reason → Type 0
+IsWrongSet list (reason.SetWord told) = IsWordOf list told.now × (set_words told.now ≡ None)
+IsWrongSet list reason = ⊥
+
+abbrev pub IsWrongClr : List ℕ → Reason → Type 0
+IsWrongClr list (reason.ClrWord told) = IsWordOf list told.now × (clr_words told.now ≡ None)
+IsWrongClr list reason = ⊥
+
+-- What is told of an option is so: it is none of the four, or what stands behind its key is wrong.
+abbrev pub IsWrongOption : List ℕ → Reason → Type 0
+IsWrongOption option (reason.NoOption told) = (told.now ≡ option) × (is_option option ≡ false)
+IsWrongOption option (reason.SetWord told) = (has_key (codes "set=") option ≡ true) × IsWrongSet (drop 4 option) (reason.SetWord told)
+IsWrongOption option (reason.ClrWord told) = (has_key (codes "clr=") option ≡ true) × IsWrongClr (drop 4 option) (reason.ClrWord told)
+IsWrongOption option (reason.Propagation told) = (has_key (codes "prop=") option ≡ true) × (told.now ≡ drop 5 option) × (kind_of told.now ≡ None)
+IsWrongOption option reason = ⊥
+
+-- What is told of a word as an argument is so: it is no number, neither one nor `all`, or none from 1 to `most`; it has a zero byte, or a
+-- backslash that begins no escape; it is not `less`; or it is a wrong option.
+abbrev pub IsWrong : Argument → List ℕ → Reason → Type 0
+IsWrong Space word (reason.Number told) = (told.now ≡ word) × (number_in_text word ≡ None)
+IsWrong Scope word (reason.Scope told) = (told.now ≡ word) × (number_in_text word ≡ None) × (bytes_eq word (codes "all") ≡ false)
+IsWrong (Count most) word (reason.Range told bound) = (told.now ≡ word) × (bound ≡ most) × (count_of most word ≡ None)
+IsWrong Text word (reason.Zero told) = (told.now ≡ word) × (list_any (λ b. b == 0) word ≡ true)
+IsWrong Text word (reason.Escape told) = (told.now ≡ word) × (unescaped word ≡ None)
+IsWrong Less word (reason.Less told) = (told.now ≡ word) × (bytes_eq word (codes "less") ≡ false)
+IsWrong Setting word reason = IsWrongOption word reason
+IsWrong argument word reason = ⊥
+
+-- nothing is told of a word that is right as an argument, and of any other what is so
+abbrev pub Judges : Argument → List ℕ → Option Reason → Type 0
+Judges argument word told = MatchOption told (is_right argument word ≡ true) (λ reason. IsWrong argument word reason)
+
+-- what is told is so of one of these words, as its argument
+abbrev pub IsToldOf : Reason → List Argument → List (List ℕ) → Type 0
+IsToldOf reason (argument ∷ arguments) (word ∷ words) = IsWrong argument word reason ⊎ IsToldOf reason arguments words
+IsToldOf reason arguments words = ⊥
+
+-- a line has this verb
+abbrev pub HasVerb : List ℕ → Verb → Type 0
+HasVerb line verb = verb_of (first_of (words line)) ≡ Some verb
+
+-- What is told of a line as a whole is so: it is empty, or one of its words is; its first word is no verb; it has too few words, or too
+-- many; or an option of `setattr` is there twice.
+abbrev pub IsSoOfAll : List ℕ → Reason → Type 0
+IsSoOfAll line reason.Empty = line ≡ []
+IsSoOfAll line reason.EmptyWord = list_any is_empty_word (words line) ≡ true
+IsSoOfAll line (reason.Unknown word nearest) = (word.now ≡ first_of (words line)) × (verb_of word.now ≡ None)
+IsSoOfAll line (reason.Count usage) = (verb : Verb) × HasVerb line verb × (are_counted (arguments_of verb) (drop 1 (words line)) ≡ false)
+IsSoOfAll line reason.Twice = HasVerb line Setattr × (list_any (is_repeated (drop 3 (words line))) option_keys ≡ true)
+IsSoOfAll line reason = ⊥
+
+-- what is told is so of the line, or of one of the words behind its verb
+abbrev pub IsSo : List ℕ → Reason → Type 0
+IsSo line reason = IsSoOfAll line reason ⊎ ((verb : Verb) × HasVerb line verb × IsToldOf reason (arguments_of verb) (drop 1 (words line)))

@@ -1,9 +1,10 @@
 //! Why a line of a session is bad, in words.
 //!
-//! [`line`] finds the [`reason`], by the usage of the line ([`usage`]), which is that of the help; [`options`] looks at those of a
-//! `setattr` line, and [`nearest`] finds the command that was meant.
+//! [`line`] finds the [`reason`], by the arguments of the line ([`argument`]); [`options`] looks at those of a `setattr` line,
+//! [`nearest`] finds the command that was meant, and [`usage`] is that of the help.
 #![tactic(auto)]
 
+pub mod argument;
 pub mod line;
 pub mod nearest;
 pub mod options;

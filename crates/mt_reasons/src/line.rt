@@ -1,39 +1,52 @@
 //! Why a line is bad.
-ghost use Rattle.std.specs.Prelude.{◌≡◌, is_some, IfOk};
+ghost use Rattle.std.specs.Prelude.{◌≡◌, true, false, drop, is_some, IfOk, MatchOption};
+ghost use Rattle.std.specs.List.{list_any};
 ghost use Rattle.std.specs.Option.{ForSome};
+ghost use Rattle.mt_lines.specs.Words.{words};
 ghost use Rattle.mt_requests.specs.Requests.{request_of};
-ghost use Rattle.mt_reasons.specs.Reasons.{is_refused_as_bad, IsSo};
+ghost use Rattle.mt_reasons.specs.Arguments.{are_right};
+ghost use Rattle.mt_reasons.specs.Reasons.{is_refused_as_bad, is_empty_word, Judges, IsToldOf, IsSo};
+ghost use Rattle.mt_reasons.specs.declared.argument.Argument.TheVariants as arguments;
 
+use crate::argument::{Argument, are_counted, arguments_of};
 use crate::nearest::nearest_to;
 use crate::options::option_reason;
 use crate::reason::Reason;
-use crate::usage::{bounds_of, count_of, is_optional, usage_of};
-use mt_lines::words::{number, words};
+use crate::usage::usage_of;
+use mt_lines::words::{Words, number, words};
+use mt_protocol::form::first_word;
+use mt_protocol::verb::Verb;
 use mt_requests::request::read_request;
 use mt_skel::escape::unescaped_len;
 use mt_skel::fault::Fault;
 use std::alloc::{AllocError, Global};
 
-/// The most posts of one `take`, and of one `follow`.
-const MOST_TAKEN: u64 = 1_024;
-
-const MOST_FOLLOWED: u64 = 1_048_576;
-
 /// Whether a word of a line is empty.
-fn has_empty_word(line: &[u8]) -> bool {
-    words(line).any(|word| word.is_empty())
+fn has_empty_word(line: &[u8]) -> bool
+    ensures { result ≡ list_any is_empty_word (words line.now) }
+{
+    let mut words = words(line);
+    'words: while let Some(word) = words.next() {
+        if word.is_empty() {
+            return true;
+        }
+    }
+    false
 }
 
-/// Whether a line has as many words as its usage.
-fn is_counted(line: &[u8], usage: &'static [u8]) -> bool {
-    let (least, most) = bounds_of(usage);
-    let count = count_of(words(line));
-    least <= count && count <= most
+/// The words of a line behind its first one.
+fn behind_first(line: &[u8]) -> Words<'_>
+    ensures { result ≡ drop 1 (words line.entry.now) }
+{
+    let mut words = words(line);
+    let _first = words.next();
+    words
 }
 
 /// What is wrong with a text: a zero byte, or a backslash that begins no escape.
 fn text_reason(word: &[u8]) -> Option<Reason<'_>>
-    ensures { ForSome result IsSo }
+    requires full { is_empty_word word.now ≡ false }
+    ensures { Judges arguments.Text word.now result }
 {
     if word.contains(&0) {
         Some(Reason::Zero { word })
@@ -44,30 +57,30 @@ fn text_reason(word: &[u8]) -> Option<Reason<'_>>
     }
 }
 
-/// What is wrong with a number.
-fn number_reason<'a>(place: &'static [u8], word: &'a [u8]) -> Option<Reason<'a>>
-    ensures { ForSome result IsSo }
+/// What is wrong with the number of a namespace.
+fn number_reason(word: &[u8]) -> Option<Reason<'_>>
+    ensures { Judges arguments.Space word.now result }
 {
     match number(word) {
         Some(_) => None,
-        None => Some(Reason::Number { place, word }),
+        None => Some(Reason::Number { word }),
     }
 }
 
-/// What is wrong with a number that `all` may stand for.
-fn scope_reason<'a>(place: &'static [u8], word: &'a [u8]) -> Option<Reason<'a>>
-    ensures { ForSome result IsSo }
+/// What is wrong with the number of a namespace, for which `all` may stand.
+fn scope_reason(word: &[u8]) -> Option<Reason<'_>>
+    ensures { Judges arguments.Scope word.now result }
 {
     match number(word) {
         Some(_) => None,
         None if word == b"all".as_slice() => None,
-        None => Some(Reason::Scope { place, word }),
+        None => Some(Reason::Scope { word }),
     }
 }
 
 /// What is wrong with a count of posts, of at most so many.
 fn count_reason(word: &[u8], most: u64) -> Option<Reason<'_>>
-    ensures { ForSome result IsSo }
+    ensures { Judges (arguments.Count most) word.now result }
 {
     match number(word) {
         Some(count) if 0 < count && count <= most => None,
@@ -75,50 +88,56 @@ fn count_reason(word: &[u8], most: u64) -> Option<Reason<'_>>
     }
 }
 
-/// What is wrong with a word that stands in the place of one of a usage.
-fn word_reason<'a>(command: &[u8], place: &'static [u8], word: &'a [u8]) -> Option<Reason<'a>>
-    ensures { ForSome result IsSo }
+/// What is wrong with a word that stands for `less`.
+fn less_reason(word: &[u8]) -> Option<Reason<'_>>
+    ensures { Judges arguments.Less word.now result }
 {
-    if place == b"NS".as_slice() && command == b"watch".as_slice() {
-        scope_reason(place, word)
-    } else if place == b"NS".as_slice() {
-        number_reason(place, word)
-    } else if place == b"K".as_slice() && command == b"take".as_slice() {
-        count_reason(word, MOST_TAKEN)
-    } else if place == b"K".as_slice() {
-        count_reason(word, MOST_FOLLOWED)
-    } else if place == b"[less]".as_slice() {
-        (word != b"less".as_slice()).then_some(Reason::Less { word })
-    } else if is_optional(place) {
-        option_reason(word)
+    if word == b"less".as_slice() {
+        None
     } else {
-        text_reason(word)
+        Some(Reason::Less { word })
     }
 }
 
-/// What is wrong with the words of a line that are as many as those of its usage.
-fn words_reason<'a>(line: &'a [u8], usage: &'static [u8]) -> Reason<'a>
-    ensures { IsSo result }
+/// What is wrong with a word as an argument.
+fn word_reason(argument: Argument, word: &[u8]) -> Option<Reason<'_>>
+    requires full { is_empty_word word.now ≡ false }
+    ensures { Judges argument word.now result }
 {
-    let mut left = words(line);
-    let mut places = words(usage);
-    let (Some(command), Some(_)) = (left.next(), places.next()) else {
-        return Reason::Empty;
-    };
-    for word in left {
-        let Some(place) = places.next() else {
-            return Reason::Count { usage };
+    match argument {
+        Argument::Space => number_reason(word),
+        Argument::Scope => scope_reason(word),
+        Argument::Count(most) => count_reason(word, most),
+        Argument::Text => text_reason(word),
+        Argument::Less => less_reason(word),
+        Argument::Setting => option_reason(word),
+    }
+}
+
+/// What is wrong with the first word that is not right as its argument.
+fn words_reason<'a>(arguments: &'static [Argument], words: Words<'a>) -> Option<Reason<'a>>
+    requires full { list_any is_empty_word words ≡ false }
+    ensures { MatchOption result (are_right arguments.now words.entry ≡ true) (λ reason. IsToldOf reason arguments.now words.entry) }
+{
+    let mut arguments = arguments;
+    let mut words = words;
+    'words: while let Some(word) = words.next() {
+        let Some((argument, later)) = arguments.split_first() else {
+            return None;
         };
-        if let Some(reason) = word_reason(command, place, word) {
+        let reason = word_reason(*argument, word);
+        if reason.is_some() {
             return reason;
         }
+        arguments = later;
     }
-    Reason::Twice
+    None
 }
 
 /// What is wrong with a line that is bad.
 fn reason_in(alloc: Global, line: &[u8]) -> Result<Reason<'_>, AllocError>
-    ensures { IfOk result IsSo }
+    requires bad { is_refused_as_bad (request_of line.now) ≡ true }
+    ensures { IfOk result (λ reason. IsSo line.now reason) }
 {
     if line.is_empty() {
         return Ok(Reason::Empty);
@@ -126,23 +145,29 @@ fn reason_in(alloc: Global, line: &[u8]) -> Result<Reason<'_>, AllocError>
     if has_empty_word(line) {
         return Ok(Reason::EmptyWord);
     }
-    let Some(word) = words(line).next() else {
-        return Ok(Reason::Empty);
-    };
-    let Some(usage) = usage_of(word) else {
+    let word = first_word(line);
+    let Some(verb) = Verb::of(word) else {
         let nearest = nearest_to(alloc, word)?;
         return Ok(Reason::Unknown { word, nearest });
     };
-    if !is_counted(line, usage) {
+    let arguments = arguments_of(verb);
+    if !are_counted(arguments, behind_first(line)) {
+        let usage = usage_of(word).unwrap_or(b"");
         return Ok(Reason::Count { usage });
     }
-    Ok(words_reason(line, usage))
+    match words_reason(arguments, behind_first(line)) {
+        Some(reason) => Ok(reason),
+        None => Ok(Reason::Twice),
+    }
 }
 
 /// What is wrong with a line, where it is refused as `BadLine`. Fails for want of memory alone.
+///
+/// Where several things are wrong, an empty word is told first, then a first word that no line begins with, then how many
+/// words there are, and then the first word that is not right as its argument.
 pub fn reason_of(alloc: Global, line: &[u8]) -> Result<Option<Reason<'_>>, AllocError>
     ensures told { IfOk result (λ reason. is_some reason ≡ is_refused_as_bad (request_of line.now)) }
-    ensures so { IfOk result (λ reason. ForSome reason IsSo) }
+    ensures so { IfOk result (λ reason. ForSome reason (IsSo line.now)) }
 {
     match read_request(alloc, line) {
         Err(Fault::BadLine) => Ok(Some(reason_in(alloc, line)?)),

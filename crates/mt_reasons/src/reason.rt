@@ -27,14 +27,12 @@ pub enum Reason<'a> {
     Count {
         usage: &'static [u8],
     },
-    /// A word should be a number.
+    /// A word should be the number of a namespace.
     Number {
-        place: &'static [u8],
         word: &'a [u8],
     },
-    /// A word should be a number, or `all`.
+    /// A word should be the number of a namespace, or `all`.
     Scope {
-        place: &'static [u8],
         word: &'a [u8],
     },
     /// A count is not within its bounds.
@@ -118,17 +116,15 @@ impl<'a> Reason<'a> {
     /// Writes what is wrong with a word.
     fn write_word<W: fmt::Write>(&self, f: &mut Formatter<W>) -> fmt::Result {
         match self {
-            Reason::Number { place, word } => write!(
+            Reason::Number { word } => write!(
                 f,
-                "{}: {} is a number, digits without a leading zero, below 18446744073709551616",
-                Shown(*word),
-                Shown(*place)
+                "{}: NS is a number, digits without a leading zero, below 18446744073709551616",
+                Shown(*word)
             ),
-            Reason::Scope { place, word } => write!(
+            Reason::Scope { word } => write!(
                 f,
-                "{}: {} is all, or a number, digits without a leading zero, below 18446744073709551616",
-                Shown(*word),
-                Shown(*place)
+                "{}: NS is all, or a number, digits without a leading zero, below 18446744073709551616",
+                Shown(*word)
             ),
             Reason::Range { word, most } => {
                 write!(f, "{}: K is a number from 1 to {most}", Shown(*word))

@@ -1,6 +1,6 @@
 //! The usage of each line, as the help has it.
 
-use mt_lines::words::{Pieces, Words, words};
+use mt_lines::words::{Pieces, words};
 use mt_requests::help::LINES;
 
 /// What stands in a text in front of a piece of it, or all where it has no such piece.
@@ -39,35 +39,4 @@ pub(crate) fn usage_of(command: &[u8]) -> Option<&'static [u8]> {
         }
     }
     None
-}
-
-/// Whether a word of a usage need not be there.
-pub(crate) fn is_optional(word: &[u8]) -> bool {
-    word.starts_with(b"[")
-}
-
-/// How many words are left.
-pub(crate) fn count_of(words: Words<'_>) -> usize {
-    let mut count = 0usize;
-    for _word in words {
-        count = count.saturating_add(1);
-    }
-    count
-}
-
-/// How many words of a usage need not be there.
-fn optional_count(usage: &'static [u8]) -> usize {
-    let mut count = 0usize;
-    for word in words(usage) {
-        if is_optional(word) {
-            count = count.saturating_add(1);
-        }
-    }
-    count
-}
-
-/// How many words a usage has at least, and at most.
-pub(crate) fn bounds_of(usage: &'static [u8]) -> (usize, usize) {
-    let most = count_of(words(usage));
-    (most.saturating_sub(optional_count(usage)), most)
 }
