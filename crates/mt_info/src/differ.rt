@@ -4,7 +4,7 @@ ghost use Rattle.mt_mounts.specs.declared.mount.Mount.{Mount as AnyMount};
 ghost use Rattle.mt_mounts.specs.Forest.{mount_at};
 ghost use Rattle.mt_propagate.specs.World.{world_view};
 ghost use Rattle.mt_info.specs.Table.{row_of};
-ghost use Rattle.mt_info.specs.SameRow.{row_eq, state_eq, is_alike};
+ghost use Rattle.mt_info.specs.SameRow.{row_eq, state_eq, is_alike, is_other};
 
 use crate::same::{same_attrs, same_flag, same_group};
 use mt_mounts::mount::{Mount, MountId};
@@ -28,10 +28,11 @@ fn is_alike(before: &World, after: &World, old: &Mount, new: &Mount) -> bool
         && same_state(state_of(before, old.id), state_of(after, new.id))
 }
 
-/// Whether a mount has other attributes or another state in one world than in the other, so that its rows differ, which
-/// need not be made to see that. Where this is false they may differ too. Takes no memory.
+/// Whether a mount that is in both worlds has other attributes or another state in one than in the other, so that its rows
+/// differ, which need not be made to see that. Where this is false they may differ too. Takes no memory.
 pub fn is_other(before: &World, after: &World, id: MountId) -> bool
-    ensures { IsTrue result → (m n : AnyMount) → mount_at before.now.forest.mounts id ≡ Some m → mount_at after.now.forest.mounts id ≡ Some n → row_eq (row_of (world_view before.now) m) (row_of (world_view after.now) n) ≡ false }
+    ensures other { result ≡ is_other (world_view before.now) (world_view after.now) id }
+    ensures rows { IsTrue result → (m n : AnyMount) → mount_at before.now.forest.mounts id ≡ Some m → mount_at after.now.forest.mounts id ≡ Some n → row_eq (row_of (world_view before.now) m) (row_of (world_view after.now) n) ≡ false }
 {
     let Some(old) = before.forest.get(id) else {
         return false;

@@ -18,7 +18,7 @@ pub(crate) fn has_byte(bytes: &[u8], byte: u8) -> bool
 /// How many bytes a word stands for. Takes no memory.
 ///
 /// None where it is empty, has a zero byte, or has a backslash that begins no escape.
-pub fn text_length(word: &[u8]) -> Option<usize>
+pub(crate) fn text_length(word: &[u8]) -> Option<usize>
     ensures { result ≡ text_length word.now }
 {
     if word.is_empty() || has_byte(word, 0) {
@@ -28,7 +28,7 @@ pub fn text_length(word: &[u8]) -> Option<usize>
 }
 
 /// Why a word is no label, if it is none. Takes no memory.
-pub fn label_fault(word: &[u8]) -> Option<Fault>
+pub(crate) fn label_fault(word: &[u8]) -> Option<Fault>
     ensures { result ≡ label_fault word.now }
 {
     match text_length(word) {
@@ -39,7 +39,7 @@ pub fn label_fault(word: &[u8]) -> Option<Fault>
 }
 
 /// The label that a word without a fault says: the word itself, where it has no escape. Refused as `NoMemory` alone.
-pub fn label_of(alloc: Global, word: &[u8]) -> Result<Label, Fault>
+pub(crate) fn label_of(alloc: Global, word: &[u8]) -> Result<Label, Fault>
     requires { label_fault word.now ≡ None }
     ensures label { IfOk result (λ label. label ≡ label_bytes word.now) }
     ensures memory { IsOkUnless result Fault.NoMemory }

@@ -261,7 +261,7 @@ fn prop_of(word: Option<&[u8]>) -> Option<Option<Kind>>
 /// The change that the options of a `setattr` line say, or `None` where a word is none of them, one
 /// is there twice, or a list is empty or has a word that is not its own.
 #[tactic(auto, using(crate::proofs::OptionLaws::change_by_options))]
-pub fn change_of(words: &Words<'_>) -> Option<Change>
+pub(crate) fn change_of(words: &Words<'_>) -> Option<Change>
     ensures { result ≡ change_of words.now }
 {
     let options = options_of(words.again())?;

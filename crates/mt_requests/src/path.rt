@@ -55,7 +55,7 @@ fn has_only_components(text: &[u8]) -> bool
 
 /// Why a word is no path, if it is none. Takes no memory.
 #[tactic(auto, using(crate::proofs::PathLaws::long_pieces))]
-pub fn path_fault(word: &[u8]) -> Option<Fault>
+pub(crate) fn path_fault(word: &[u8]) -> Option<Fault>
     ensures { result ≡ path_fault word.now }
 {
     let Some(length) = text_length(word) else {
@@ -118,7 +118,7 @@ fn names_between(alloc: Global, text: &[u8]) -> Result<Names, Fault>
 }
 
 /// The names of the path that a word without a fault says. Refused as `NoMemory` alone.
-pub fn path_of(alloc: Global, word: &[u8]) -> Result<Names, Fault>
+pub(crate) fn path_of(alloc: Global, word: &[u8]) -> Result<Names, Fault>
     requires { path_fault word.now ≡ None }
     ensures names { IfOk result (λ names. names ≡ path_names word.now) }
     ensures memory { IsOkUnless result Fault.NoMemory }

@@ -27,5 +27,5 @@ returns c =
     record {
       news = λ e.
           or_right (has row_id c.args.id a && not (has row_id c.args.id b)) (is_some (new_row a b c.args.id))
-          (sym (other-new v w c.args.space c.args.id c.requires.before c.requires.after there (c.is_other.ensures e)));
+          (sym (other-new v w c.args.space c.args.id c.requires.before c.requires.after there (c.is_other.ensures.rows e)));
     }

@@ -37,5 +37,5 @@ returns-then-is_other-clause-row c =
     let at : row_at row_id c.args.id (table_of (world_view w) c.args.space) ≡ Some c.in-Some.row = sym c.in_ok-row.ensures.row ∙ c.in-Some.is in
     let Differ : World → World → Type 0 =
     λ p q. (x y : Mount) → mount_at p.forest.mounts c.args.id ≡ Some x → mount_at q.forest.mounts c.args.id ≡ Some y → row_eq (row_of (world_view p) x) (row_of (world_view q) y) ≡ false in
-    let other : Differ v w = subst (λ p. Differ p w) c.world.ensures (subst (Differ c.world.result.now) (c.world-2.ensures ∙ c.in_ok-row.ensures.kept) (c.is_other.ensures c.if-is_other.true)) in
+    let other : Differ v w = subst (λ p. Differ p w) c.world.ensures (subst (Differ c.world.result.now) (c.world-2.ensures ∙ c.in_ok-row.ensures.kept) (c.is_other.ensures.rows c.if-is_other.true)) in
     new_other (world_view v) (world_view w) c.args.space c.args.id c.requires.before c.requires.after c.in-Some.row at other
