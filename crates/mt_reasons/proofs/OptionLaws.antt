@@ -5,6 +5,7 @@ use Rattle.std.proofs.lemmas.Slice.Eq.{starts_is}
 use Rattle.std.specs.List.{find, list_all, list_any}
 use Rattle.std.specs.Option.{option_map, option_map_or}
 use Rattle.std.specs.Str.{bytes_eq}
+use Rattle.mt_skel.proofs.MiddleLaws.{and_first, and_second}
 use Rattle.mt_peers.specs.declared.state.Kind.{Kind}
 use Rattle.mt_setattr.specs.declared.change.SetWords.{SetWords}
 use Rattle.mt_setattr.specs.declared.change.ClrWords.{ClrWords}
@@ -13,9 +14,7 @@ use Rattle.mt_reasons.specs.Arguments.{is_right_option}
 
 -- both tests pass
 pub both : (a b : Bool) → a && b ≡ true → (a ≡ true) × (b ≡ true)
-both true true e = (refl, refl)
-both true false e = cc
-both false b e = cc
+both a b e = (and_first a b e, and_second a b e)
 
 -- a word that begins with a key has no other one
 apart : (key word : List ℕ) (test : List ℕ → Bool) → has_key key word ≡ true → ((rest : List ℕ) → test (key ++ rest) ≡ false) → test word ≡ false
