@@ -1,19 +1,17 @@
--- Slots that lead to IDs, ties that are written, and the ends of a list by the IDs in their slots.
-use Rattle.std.proofs.Common.{◌≡◌, ◌≢◌, ℕ, ◌<◌, Bool, true, false, cond, eqb, eq-eqb, is_none, List, [], ◌∷◌, slice_index_or, Option, Some, None, refl, sym, ap, ◌∙◌, inl, inr, arith}
+-- Places that lead to IDs, ties that are written, and the ends of a list by the IDs at its places.
+use Rattle.std.proofs.Common.{◌≡◌, ◌≢◌, ℕ, ◌<◌, Bool, true, false, cond, eqb, eq-eqb, is_none, List, [], ◌∷◌, Option, Some, None, refl, sym, ap, ◌∙◌, inl, inr, arith}
 use Rattle.std.specs.Option.{option_map, option_and_then}
 use Rattle.std.proofs.lemmas.Bool.{cases_eq, ne_eqb}
 use Rattle.std.proofs.lemmas.Bool.Decides.{nat_tests}
-use Rattle.mt_lists.specs.declared.heads.Ends.{Ends}
-use Rattle.mt_lists.specs.declared.slot_lists.ties.Tie.{Tie}
-use Rattle.mt_lists.specs.declared.slot_lists.tops.Top.{Top}
+use Rattle.mt_lists.specs.declared.ties.Tie.{Tie}
+use Rattle.mt_lists.specs.declared.tops.Top.{Top}
 use Rattle.mt_lists.specs.Lists.{names}
-use Rattle.mt_lists.specs.Links.{last_from}
+use Rattle.mt_lists.specs.Neighbours.{Ends, last_from}
 use Rattle.mt_lists.specs.SlotLists.{LeadsTo}
-use Rattle.mt_lists.specs.Ties.{id_at, ids_in, ends_in, with_before, with_after, given_tie}
+use Rattle.mt_lists.specs.Ties.{id_of_tie, id_at, AreApart, ends_in, with_before, with_after, given_tie}
 use Rattle.mt_lists.proofs.NeighbourLaws.{rising}
-use Rattle.mt_lists.proofs.TieLaws.{AreApart, id-in}
 
--- where more slots have IDs
+-- where more places have IDs
 pub lead-more : (f g : ℕ → Option ℕ) (o i : Option ℕ) → ((s q : ℕ) → f s ≡ Some q → g s ≡ Some q) → LeadsTo f o i → LeadsTo g o i
 lead-more f g None None h e = refl
 lead-more f g None (Some i) h e = absurd (cc)
@@ -25,8 +23,8 @@ pub lead-cond : (f : ℕ → Option ℕ) (c : Bool) (o p i j : Option ℕ) → L
 lead-cond f true o p i j d e = d
 lead-cond f false o p i j d e = e
 
--- a slot leads to this one where the ID is the one in this
-pub lead-names : (ties : List (Option Tie)) → AreApart ties → (j q : ℕ) → id_at ties j ≡ Some q → (o i : Option ℕ) → LeadsTo (id_at ties) o i → names i q ≡ names o j
+-- a place leads to this one where the ID is the one at this
+pub lead-names : (ties : ℕ → Option Tie) → AreApart ties → (j q : ℕ) → id_at ties j ≡ Some q → (o i : Option ℕ) → LeadsTo (id_at ties) o i → names i q ≡ names o j
 lead-names ties apart j q at None None e = refl
 lead-names ties apart j q at None (Some i) e = absurd (cc)
 lead-names ties apart j q at (Some s) None e = absurd (cc)
@@ -46,13 +44,13 @@ lead-none f None (Some i) e = absurd (cc)
 lead-none f (Some s) None e = absurd (cc)
 lead-none f (Some s) (Some i) e = refl
 
--- a slot without an ID is led to by none
+-- a place without an ID is led to by none
 pub lead-apart : (f : ℕ → Option ℕ) (s : ℕ) (o i : Option ℕ) → f s ≡ None → LeadsTo f o i → names o s ≡ false
 lead-apart f s None i n e = refl
 lead-apart f s (Some t) None n e = absurd (cc)
 lead-apart f s (Some t) (Some i) n e = ne_eqb t s (λ u. (let v : f t ≡ Some i = cc in let w : None ≡ Some i = sym n ∙ ap f (sym u) ∙ v in absurd (cc)))
 
--- where the ID of one slot is gone
+-- where the ID of one place is gone
 pub lead-less : (f g : ℕ → Option ℕ) (gone : ℕ) (o i : Option ℕ) → ((s q : ℕ) → f s ≡ Some q → q ≢ gone → g s ≡ Some q) → (i ≡ Some gone → ⊥) → LeadsTo f o i → LeadsTo g o i
 lead-less f g gone None None h ne e = refl
 lead-less f g gone None (Some i) h ne e = absurd (cc)
@@ -100,7 +98,7 @@ over-last x y (z ∷ zs) r =
     grind (arith, nat_tests)
 
 -- what the ends of a top are
-pub ends-parts : (ties : List (Option Tie)) (top : Top) (e : Ends) → ends_in ties top ≡ Some e → (id_at ties top.first ≡ Some e.first) × (id_at ties top.last ≡ Some e.last) × (top.count ≡ e.count)
+pub ends-parts : (ties : ℕ → Option Tie) (top : Top) (e : Ends) → ends_in ties top ≡ Some e → (id_at ties top.first ≡ Some e.first) × (id_at ties top.last ≡ Some e.last) × (top.count ≡ e.count)
 ends-parts ties top e is = go (id_at ties top.first) (id_at ties top.last) is
   where
     go : (f l : Option ℕ) → option_and_then (λ x. option_map (λ y. record { first = x; last = y; count = top.count }) l) f ≡ Some e → (f ≡ Some e.first) × (l ≡ Some e.last) × (top.count ≡ e.count)
@@ -110,23 +108,34 @@ ends-parts ties top e is = go (id_at ties top.first) (id_at ties top.last) is
         let v : record { first = x; last = y; count = top.count } ≡ e = cc in
         (ap (λ (z : Ends). Some z.first) v, ap (λ (z : Ends). Some z.last) v, ap (λ (z : Ends). z.count) v)
 
-pub ends-whole : (ties : List (Option Tie)) (top : Top) (f l : ℕ) → id_at ties top.first ≡ Some f → id_at ties top.last ≡ Some l → ends_in ties top ≡ Some (record { first = f; last = l; count = top.count })
+pub ends-whole : (ties : ℕ → Option Tie) (top : Top) (f l : ℕ) → id_at ties top.first ≡ Some f → id_at ties top.last ≡ Some l → ends_in ties top ≡ Some (record { first = f; last = l; count = top.count })
 ends-whole ties top f l a b =
     ap (option_and_then (λ x. option_map (λ y. record { first = x; last = y; count = top.count }) (id_at ties top.last))) a
     ∙ ap (option_map (λ y. record { first = f; last = y; count = top.count })) b
 
--- where more slots have IDs
-pub ends-more : (ties new : List (Option Tie)) (top : Top) (e : Ends) → ((s q : ℕ) → id_at ties s ≡ Some q → id_at new s ≡ Some q) → ends_in ties top ≡ Some e → ends_in new top ≡ Some e
+-- where more places have IDs
+pub ends-more : (ties new : ℕ → Option Tie) (top : Top) (e : Ends) → ((s q : ℕ) → id_at ties s ≡ Some q → id_at new s ≡ Some q) → ends_in ties top ≡ Some e → ends_in new top ≡ Some e
 ends-more ties new top e h is =
     let p = ends-parts ties top e is in
     ends-whole new top e.first e.last (h top.first e.first p.0) (h top.last e.last p.1) ∙ ap (λ c. Some (record { first = e.first; last = e.last; count = c })) p.2
 
--- the same IDs in the slots
-pub same-ids : (new old : List (Option Tie)) → ids_in new ≡ ids_in old → (k : ℕ) → id_at new k ≡ id_at old k
-same-ids new old e k = sym (id-in new k) ∙ ap (λ xs. slice_index_or xs k None) e ∙ id-in old k
+-- which leave each ID where it is
+given-id : (o : Option ℕ) (f : Tie → Tie) (ties : ℕ → Option Tie) → ((t : Tie) → (f t).id ≡ t.id) → (k : ℕ) → id_of_tie (given_tie o f ties k) ≡ id_at ties k
+given-id None f ties same k = refl
+given-id (Some s) f ties same k = go (eqb s k) (ties k)
+  where
+    go : (b : Bool) (x : Option Tie) → id_of_tie (cond b (option_map f x) x) ≡ id_of_tie x
+    go true None = refl
+    go true (Some t) = ap (λ i. Some i) (same t)
+    go false x = refl
 
--- the ends of a list, where more slots have IDs
-pub ends-kept : (ties new : List (Option Tie)) → ((s q : ℕ) → id_at ties s ≡ Some q → id_at new s ≡ Some q) → (top : Option Top) (e : Option Ends)
+pub given-ids : (pb b pa a : Option ℕ) (ties after_t before_t : ℕ → Option Tie) → ((k : ℕ) → after_t k ≡ given_tie pa (with_after a) ties k) → ((k : ℕ) → before_t k ≡ given_tie pb (with_before b) after_t k)
+    → (k : ℕ) → id_at before_t k ≡ id_at ties k
+given-ids pb b pa a ties after_t before_t w_a w_b k =
+    ap id_of_tie (w_b k) ∙ given-id pb (with_before b) after_t (λ t. refl) k ∙ ap id_of_tie (w_a k) ∙ given-id pa (with_after a) ties (λ t. refl) k
+
+-- the ends of a list, where more places have IDs
+pub ends-kept : (ties new : ℕ → Option Tie) → ((s q : ℕ) → id_at ties s ≡ Some q → id_at new s ≡ Some q) → (top : Option Top) (e : Option Ends)
     → option_map (ends_in ties) top ≡ option_map (λ e. Some e) e → option_map (ends_in new) top ≡ option_map (λ e. Some e) e
 ends-kept ties new h None e is = is
 ends-kept ties new h (Some t) None is = absurd (cc)

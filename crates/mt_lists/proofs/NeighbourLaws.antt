@@ -1,13 +1,12 @@
 -- The neighbours of a number in a rising list, and what one number more makes of them.
 use Rattle.std.proofs.Common.{◌≡◌, ◌≢◌, ℕ, suc, ◌+◌, ◌<◌, ◌≤◌, length, Bool, true, false, cond, ◌||◌, eqb, ltb, List, [], ◌∷◌, Option, Some, None, is_none, refl, sym, ◌∙◌, arith, inl, inr}
 use Rattle.std.specs.List.{list_all}
-use Rattle.std.specs.Option.{option_map, option_map_or, option_and_then, unwrap_or}
+use Rattle.std.specs.Option.{option_map, option_and_then, unwrap_or}
 use Rattle.std.proofs.lemmas.Bool.{cases_eq}
 use Rattle.std.proofs.lemmas.Bool.Decides.{nat_tests}
 use Rattle.mt_skel.specs.Keyed.{put, rises, without, among}
-use Rattle.mt_lists.specs.declared.heads.Ends.{Ends}
 use Rattle.mt_lists.specs.Lists.{first, above, names}
-use Rattle.mt_lists.specs.Links.{below, last_from, ends_of, grown, shrunk, IsSought}
+use Rattle.mt_lists.specs.Neighbours.{Ends, below, last_from, ends_of, grown, shrunk, IsSought}
 
 -- a number is its own key
 abbrev pub itself : ℕ → ℕ
@@ -305,7 +304,7 @@ pub ends-first : (xs : List ℕ) → option_map (λ (e : Ends). e.first) (ends_o
 ends-first [] = refl
 ends-first (x ∷ xs) = refl
 
--- the search for the place of a number: its start, its steps and its ends
+-- the search for the place of a number: its start, its steps and its end
 pub sought-last : (id : ℕ) (xs : List ℕ) → rising xs ≡ true → IsSought id xs (option_map (λ (e : Ends). e.last) (ends_of xs))
 sought-last id [] r = record { bound = id; high = omega arith; is = refl }
 sought-last id (x ∷ xs) r = record { bound = suc (id + last_from x xs); high = omega arith; is = sym (below-last (suc (id + last_from x xs)) x xs r (omega arith)) }
@@ -318,14 +317,6 @@ sought-next id other xs o l e = record { bound = other; high = l; is = e }
 
 pub sought-end : (id : ℕ) (xs : List ℕ) (o : Option ℕ) → rising xs ≡ true → IsSought id xs o → ((x : ℕ) → o ≡ Some x → x < id) → o ≡ below id xs
 sought-end id xs o r s f = sym (below-lower id s.bound xs o r s.high (sym s.is) f)
-
--- and that it ends
-pub below-falls : (other : ℕ) (xs : List ℕ) (here o : Option ℕ) → here ≡ Some other → o ≡ below other xs → option_map_or (λ x. suc x) o 0 < option_map_or (λ x. suc x) here 0
-below-falls other xs here o is e = rw is (go o e)
-  where
-    go : (o : Option ℕ) → o ≡ below other xs → option_map_or (λ x. suc x) o 0 < suc other
-    go None e = omega arith
-    go (Some b) e = let l = (below-among other b xs (sym e)).1 in omega arith
 
 -- the search upwards: it goes on to a number below the new one, and ends before one that is not
 sought-over : (h id : ℕ) (xs : List ℕ) → h < id → over h xs ≡ true → ((a : ℕ) → first xs ≡ Some a → id ≤ a) → below id xs ≡ None

@@ -1,5 +1,5 @@
 -- Rows of which one gets another number, or none.
-use Rattle.std.proofs.Common.{◌≡◌, ℕ, Bool, true, false, cond, not, eqb, eq-eqb, List, Option, Some, None, refl, sym, ap, ◌∙◌, inl, inr, arith}
+use Rattle.std.proofs.Common.{◌≡◌, ℕ, Bool, true, false, cond, not, eqb, eq-eqb, List, [], ◌∷◌, Option, Some, None, refl, sym, ap, ◌∙◌, inl, inr, arith}
 use Rattle.std.specs.Option.{option_map, option_eq}
 use Rattle.std.proofs.lemmas.Bool.{cases_eq, ne_eqb, false≢true}
 use Rattle.std.proofs.lemmas.Bool.Decides.{nat_tests}
@@ -7,7 +7,13 @@ use Rattle.mt_skel.specs.Keyed.{row_at, put, rises}
 use Rattle.mt_skel.proofs.KeyedLaws.{row_at-put, row_at-key, rises-put, rises-filter, same_rows}
 use Rattle.mt_lists.specs.Lists.{ListRow, listed_id, listed_number, without_row, with_number}
 use Rattle.mt_lists.proofs.IdLaws.{row-without}
-use Rattle.mt_lists.proofs.LinkLaws.{without-absent}
+
+-- an ID that is not there is not taken away
+pub without-absent : (id : ℕ) (rows : List ListRow) → row_at listed_id id rows ≡ None → without_row id rows ≡ rows
+without-absent id [] n = refl
+without-absent id (r ∷ rs) n =
+    let ih = without-absent id rs in
+    grind (arith, nat_tests)
 
 -- the row of an ID once it has this number, or none
 pub row-with : (i q : ℕ) (o : Option ℕ) (rows : List ListRow) → rises listed_id rows ≡ true → row_at listed_id q (with_number i o rows) ≡ cond (eqb q i) (option_map (λ n. record { id = i; number = n }) o) (row_at listed_id q rows)

@@ -1,17 +1,21 @@
--- The rows of a table of entries.
-use Rattle.std.proofs.Common.{◌≡◌, ℕ, suc, ◌^◌, ◌<◌, ◌≤◌, length, Bool, true, false, cond, eqb, nat_eq, List, [], ◌∷◌, Option, Some, None, refl, sym, ap, ◌∙◌, arith}
-use Rattle.std.specs.Option.{option_map, IfSome}
+-- The rows and the ties of a table of entries.
+use Rattle.std.proofs.Common.{◌≡◌, ◌≢◌, ◌⊎◌, ℕ, suc, ◌≤◌, length, Bool, true, false, cond, not, eqb, eq-eqb, nat_eq, List, [], ◌∷◌, Option, Some, None, refl, sym, ap, ◌∙◌, inl, inr, arith}
+use Rattle.std.specs.Option.{option_map, option_map_or}
 use Rattle.std.specs.List.{AllByRecursion, IsDistinct}
 use Rattle.std.specs.Map.{lookup, keys_of}
+use Rattle.std.proofs.lemmas.Bool.{cases_eq, ne_eqb}
 use Rattle.std.proofs.lemmas.Bool.Decides.{nat_tests}
 use Rattle.indexmap.specs.IndexMap.{get, IsUnique}
 use Rattle.mt_skel.specs.Keyed.{row_at, put, rises}
-use Rattle.mt_skel.proofs.KeyedLaws.{row_at-put, row_at-key, rises-put, same_rows}
+use Rattle.mt_skel.proofs.KeyedLaws.{row_at-put, rises-put, rises-filter, same_rows}
 use Rattle.mt_lists.specs.declared.entries.Entry.{Entry}
-use Rattle.mt_lists.specs.declared.heads.Ends.{Ends}
-use Rattle.mt_lists.specs.declared.heads.Head.{Head}
-use Rattle.mt_lists.specs.Lists.{ListRow, listed_id, ids}
-use Rattle.mt_lists.specs.Links.{Index, row_of_entry, rows_from, rows_of, ends_of, entry_of, entry_at, ends_at, IsLinked}
+use Rattle.mt_lists.specs.declared.ties.Tie.{Tie}
+use Rattle.mt_lists.specs.Lists.{ListRow, listed_id, listed_number, ids, without_row}
+use Rattle.mt_lists.specs.SlotLists.{LeadsTo}
+use Rattle.mt_lists.specs.Tables.{Index, tie_of_entry, row_of_entry, ties_of, rows_from, rows_of}
+use Rattle.mt_lists.specs.Ties.{id_of_tie, id_at}
+use Rattle.mt_lists.proofs.IdLaws.{row-without}
+use Rattle.mt_lists.proofs.RowLaws.{without-absent}
 
 row-from : (es : List (ℕ × Entry)) (q : ℕ) → row_at listed_id q (rows_from es) ≡ option_map (row_of_entry q) (lookup (nat_eq q) es)
 row-from [] q = refl
@@ -41,28 +45,74 @@ pub rows-same : (m n : Index Entry) → n.entries ≡ m.entries → rows_of n �
 unfolding rows_of
 rows-same m n e = ap rows_from e
 
--- a table that has the entries of these rows
-module _ (m : Index Entry) (rows : List ListRow) (h : rises listed_id rows ≡ true) (told : (q : ℕ) → get nat_eq m q ≡ entry_at rows q) where
-  kept : (q : ℕ) (o : Option ListRow) → ((s : ListRow) → o ≡ Some s → listed_id s ≡ q) → option_map (row_of_entry q) (option_map (entry_of rows) o) ≡ o
-  kept q None k = refl
-  kept q (Some s) k = ap (λ i. Some (record { id = i; number = s.number })) (sym (k s refl))
+-- an ID without a row has no tie
+pub tie-none : (m : Index Entry) (i : ℕ) → row_at listed_id i (rows_of m) ≡ None → ties_of m i ≡ None
+tie-none m i e = go (get nat_eq m i) (sym (row-rows m i) ∙ e)
+  where
+    go : (o : Option Entry) → option_map (row_of_entry i) o ≡ None → option_map (tie_of_entry i) o ≡ None
+    go None e = refl
+    go (Some y) e = absurd (cc)
 
-  pub rows-told : rows_of m ≡ rows
-  rows-told = same_rows listed_id (rows_of m) rows (rises-rows m) h (λ q. row-rows m q ∙ ap (option_map (row_of_entry q)) (told q) ∙ kept q (row_at listed_id q rows) (row_at-key listed_id q rows))
+-- the number of an ID
+pub number-of : (m : Index Entry) (i : ℕ) → option_map (λ (t : Tie). t.number) (ties_of m i) ≡ listed_number (rows_of m) i
+number-of m i = go (get nat_eq m i) ∙ sym (ap (option_map (λ (r : ListRow). r.number)) (row-rows m i))
+  where
+    go : (o : Option Entry) → option_map (λ (t : Tie). t.number) (option_map (tie_of_entry i) o) ≡ option_map (λ (r : ListRow). r.number) (option_map (row_of_entry i) o)
+    go None = refl
+    go (Some y) = refl
 
-  pub linked-told : (heads : Index Head) → ((n : ℕ) → ends_at heads n ≡ ends_of (ids rows n)) → IsLinked m heads
-  linked-told heads ends = record {
-    entries_told = λ q. told q ∙ ap (λ r. entry_at r q) (sym rows-told);
-    ends_told = λ n. ends n ∙ ap (λ r. ends_of (ids r n)) (sym rows-told);
-  }
+-- an ID stands at itself
+pub own-place : (m : Index Entry) (k i : ℕ) → id_at (ties_of m) k ≡ Some i → i ≡ k
+own-place m k i e = go (get nat_eq m k) e
+  where
+    go : (o : Option Entry) → id_of_tie (option_map (tie_of_entry k) o) ≡ Some i → i ≡ k
+    go None e = absurd (cc)
+    go (Some y) e = let v : Some k ≡ Some i = e in cc
 
--- other tables with the same entries
-pub linked-same : (m n : Index Entry) (heads ends : Index Head) → n.entries ≡ m.entries → ends.entries ≡ heads.entries → IsLinked m heads → IsLinked n ends
-linked-same m n heads ends e f x =
-    linked-told n (rows_of m) (rises-rows m) (λ q. ap (lookup (nat_eq q)) e ∙ x.entries_told q) ends (λ k. ap (λ es. option_map (λ (h : Head). h.ends) (lookup (nat_eq k) es)) f ∙ x.ends_told k)
+pub lead-own : (m : Index Entry) (o i : Option ℕ) → LeadsTo (id_at (ties_of m)) o i → o ≡ i
+lead-own m None None e = refl
+lead-own m None (Some i) e = absurd (cc)
+lead-own m (Some s) None e = absurd (cc)
+lead-own m (Some s) (Some i) e = let v : id_at (ties_of m) s ≡ Some i = cc in ap (λ j. Some j) (sym (own-place m s i v))
 
-pub linked-none : (m : Index Entry) (heads : Index Head) → m.entries ≡ [] → heads.entries ≡ [] → IsLinked m heads
-linked-none m heads e f = linked-told m [] refl (λ q. ap (lookup (nat_eq q)) e) heads (λ k. ap (λ es. option_map (λ (h : Head). h.ends) (lookup (nat_eq k) es)) f)
+-- what the writes of an entry make of the rows
+module _ (m new : Index Entry) where
+  -- an entry comes
+  pub rows-put : (id : ℕ) (y : Entry) → ((k : ℕ) → get nat_eq new k ≡ cond (nat_eq id k) (Some y) (get nat_eq m k)) → rows_of new ≡ put listed_id (row_of_entry id y) (rows_of m)
+  rows-put id y puts =
+      same_rows listed_id (rows_of new) (put listed_id (row_of_entry id y) (rows_of m)) (rises-rows new) (rises-put listed_id (row_of_entry id y) (rows_of m) (rises-rows m))
+      (λ q. row-rows new q ∙ ap (option_map (row_of_entry q)) (puts q) ∙ go q (cases_eq id q) ∙ sym (row_at-put listed_id q (row_of_entry id y) (rows_of m)))
+    where
+      go : (q : ℕ) → (id ≡ q) ⊎ (id ≢ q) → option_map (row_of_entry q) (cond (nat_eq id q) (Some y) (get nat_eq m q)) ≡ cond (nat_eq q id) (Some (row_of_entry id y)) (row_at listed_id q (rows_of m))
+      go q (inl same) = rw (eq-eqb id q same, eq-eqb q id (sym same)) (ap (λ i. Some (row_of_entry i y)) (sym same))
+      go q (inr ne) = rw (ne_eqb id q ne, ne_eqb q id (λ e. ne (sym e))) (sym (row-rows m q))
+
+  -- an entry goes
+  pub rows-taken : (id : ℕ) → ((k : ℕ) → get nat_eq new k ≡ cond (nat_eq id k) None (get nat_eq m k)) → rows_of new ≡ without_row id (rows_of m)
+  rows-taken id takes =
+      same_rows listed_id (rows_of new) (without_row id (rows_of m)) (rises-rows new) (rises-filter listed_id (λ (r : ListRow). not (eqb id r.id)) (rows_of m) (rises-rows m))
+      (λ q. row-rows new q ∙ ap (option_map (row_of_entry q)) (takes q) ∙ go q (nat_eq id q) ∙ sym (row-without id q (rows_of m) (rises-rows m)))
+    where
+      go : (q : ℕ) (b : Bool) → option_map (row_of_entry q) (cond b None (get nat_eq m q)) ≡ cond b None (row_at listed_id q (rows_of m))
+      go q true = refl
+      go q false = sym (row-rows m q)
+
+  -- an entry gets another neighbour
+  pub rows-given : (id : ℕ) (y : Entry) (f : Entry → Entry) → ((z : Entry) → (f z).number ≡ z.number) → get nat_eq m id ≡ Some y → ((k : ℕ) → get nat_eq new k ≡ cond (nat_eq id k) (Some (f y)) (get nat_eq m k)) → rows_of new ≡ rows_of m
+  rows-given id y f alike there gives =
+      same_rows listed_id (rows_of new) (rows_of m) (rises-rows new) (rises-rows m) (λ q. row-rows new q ∙ ap (option_map (row_of_entry q)) (gives q) ∙ go q (cases_eq id q) ∙ sym (row-rows m q))
+    where
+      go : (q : ℕ) → (id ≡ q) ⊎ (id ≢ q) → option_map (row_of_entry q) (cond (nat_eq id q) (Some (f y)) (get nat_eq m q)) ≡ option_map (row_of_entry q) (get nat_eq m q)
+      go q (inl same) = rw (eq-eqb id q same) (ap (λ n. Some (record { id = q; number = n })) (alike y) ∙ sym (ap (option_map (row_of_entry q)) (ap (get nat_eq m) (sym same) ∙ there)))
+      go q (inr ne) = rw (ne_eqb id q ne) refl
+
+-- an ID goes, whether it is there or not
+pub rows-gone : (m : Index Entry) (id : ℕ) → option_map_or (λ i. without_row i (rows_of m)) (id_at (ties_of m) id) (rows_of m) ≡ without_row id (rows_of m)
+rows-gone m id = go (get nat_eq m id) (row-rows m id)
+  where
+    go : (o : Option Entry) → row_at listed_id id (rows_of m) ≡ option_map (row_of_entry id) o → option_map_or (λ i. without_row i (rows_of m)) (id_of_tie (option_map (tie_of_entry id) o)) (rows_of m) ≡ without_row id (rows_of m)
+    go None e = sym (without-absent id (rows_of m) e)
+    go (Some y) e = refl
 
 -- how many rows there are
 pub length-put-most : (r : ListRow) (rows : List ListRow) → length (put listed_id r rows) ≤ suc (length rows)
@@ -76,13 +126,6 @@ length-put-new r [] n = refl
 length-put-new r (y ∷ ys) n =
     let ih = length-put-new r ys in
     grind (arith, nat_tests)
-
-length-from-most : (es : List (ℕ × Entry)) → length (rows_from es) ≤ length es
-length-from-most [] = omega arith
-length-from-most (e ∷ es) =
-    let ih = length-from-most es in
-    let p = length-put-most (row_of_entry e.0 e.1) (rows_from es) in
-    omega arith
 
 lookup-apart : (k : ℕ) (es : List (ℕ × Entry)) → AllByRecursion (λ y. nat_eq k y ≡ false) (keys_of es) → lookup (nat_eq k) es ≡ None
 lookup-apart k [] h = refl
@@ -98,23 +141,8 @@ pub length-rows : (m : Index Entry) → IsUnique nat_eq m → length (rows_of m)
 unfolding rows_of
 length-rows m h = length-from m.entries h
 
-length-rows-most : (m : Index Entry) → length (rows_of m) ≤ length m.entries
-unfolding rows_of
-length-rows-most m = length-from-most m.entries
-
 pub length-ids : (rows : List ListRow) (n : ℕ) → length (ids rows n) ≤ length rows
 length-ids [] n = omega arith
 length-ids (r ∷ rs) n =
     let ih = length-ids rs n in
     grind (arith, nat_tests)
-
--- no list has so many IDs that they cannot be counted
-pub count-small : (m : Index Entry) (n : ℕ) → length m.entries < 2 ^ 63 → IfSome (ends_of (ids (rows_of m) n)) (λ (e : Ends). e.count < 2 ^ 63)
-count-small m n l =
-    let a = length-rows-most m in
-    let b = length-ids (rows_of m) n in
-    go (ids (rows_of m) n) (omega arith)
-  where
-    go : (xs : List ℕ) → length xs < 2 ^ 63 → IfSome (ends_of xs) (λ (e : Ends). e.count < 2 ^ 63)
-    go [] l = tt
-    go (x ∷ xs) l = l

@@ -1,12 +1,12 @@
 -- A walk along a list, from its first ID to the next of each.
 use Rattle.std.proofs.Common.{◌≡◌, ℕ, ◌<◌, ◌++◌, length, true, false, not, ltb, List, [], ◌∷◌, Option, Some, None, refl, sym, ap, ◌∙◌, arith, append_assoc}
 use Rattle.std.specs.List.{filter}
-use Rattle.std.specs.Option.{IfSome, option_and_then}
+use Rattle.std.specs.Option.{IfSome, option_map, option_and_then}
 use Rattle.std.proofs.lemmas.Bool.Decides.{nat_tests}
 use Rattle.mt_skel.specs.Keyed.{rises, among}
-use Rattle.mt_lists.specs.Lists.{ListRow, listed_id, ids, listed_number, first, above, next_of}
+use Rattle.mt_lists.specs.Lists.{ListRow, listed_id, ids, first, above, next_of}
 use Rattle.mt_lists.proofs.NeighbourLaws.{rising, over, above-among, above-over, over-among}
-use Rattle.mt_lists.proofs.EntryLaws.{after-entry, after-among}
+use Rattle.mt_lists.proofs.ListLaws.{row-among}
 
 -- the part of a rising list from one of its IDs on
 abbrev pub rest_from : Option ℕ → List ℕ → List ℕ
@@ -65,12 +65,6 @@ walk-falls k xs here o r m is e = rw (is, e, rest-next k xs r m) (omega arith)
 
 -- the next ID of the same number
 pub next-among : (rows : List ListRow) (n k : ℕ) → rises listed_id rows ≡ true → among (ids rows n) k ≡ true → next_of rows k ≡ above k (ids rows n)
-next-among rows n k h m = sym (after-entry rows k) ∙ after-among rows n k h m
-
--- which is higher
-pub next-higher : (rows : List ListRow) (k a : ℕ) → next_of rows k ≡ Some a → k < a
-next-higher rows k a e = go (listed_number rows k) e
-  where
-    go : (o : Option ℕ) → option_and_then (λ n. above k (ids rows n)) o ≡ Some a → k < a
-    go None e = absurd (cc)
-    go (Some n) e = (above-among k a (ids rows n) e).1
+next-among rows n k h m =
+    let s = row-among rows n k h m in
+    ap (λ o. option_and_then (λ g. above k (ids rows g)) (option_map (λ (r : ListRow). r.number) o)) s.1 ∙ ap (λ g. above k (ids rows g)) s.3

@@ -1,55 +1,77 @@
-//! The table of IDs: the number of each, and its neighbours in the list of that number.
-ghost use Rattle.std.specs.Prelude.{◌≡◌, ℕ, ◌≤◌, nat_eq};
-ghost use Rattle.std.specs.Option.{option_and_then};
-ghost use Rattle.indexmap.specs.IndexMap.{get, spare};
-ghost use Rattle.mt_lists.specs.Links.{given_before, given_after};
+//! Ties in a table by ID: the place of an ID is the ID itself.
 
+use crate::ties::{Tie, Ties};
 use indexmap::IndexMap;
 
 /// The number of an ID, and the IDs before and after it in the list of that number.
 #[derive(Clone, Copy)]
 pub(crate) struct Entry {
     pub(crate) number: u64,
-    pub(crate) before: Option<u64>,
-    pub(crate) after: Option<u64>,
+    pub(crate) before: Option<usize>,
+    pub(crate) after: Option<usize>,
 }
 
-/// The ID before this one in the list of its number.
-pub(crate) fn before_of(entries: &IndexMap<u64, Entry>, id: u64) -> Option<u64>
-    ensures { result ≡ option_and_then (λ e. e.before) (get nat_eq entries.now id) }
-{
-    let entry = entries.get(&id)?;
-    entry.before
-}
+impl Ties for IndexMap<usize, Entry> {
+    ghost use Rattle.std.specs.Prelude.{◌≡◌, []};
+    ghost use Rattle.indexmap.specs.IndexMap.{spare};
+    ghost use Rattle.mt_lists.specs.Tables.{ties_of, rows_of};
 
-/// The ID after this one in the list of its number.
-pub(crate) fn after_of(entries: &IndexMap<u64, Entry>, id: u64) -> Option<u64>
-    ensures { result ≡ option_and_then (λ e. e.after) (get nat_eq entries.now id) }
-{
-    let entry = entries.get(&id)?;
-    entry.after
-}
+    ghost ties = { ties_of };
 
-/// Writes which ID stands before this one, where this one is some ID that is there.
-pub(crate) fn set_before(entries: &mut IndexMap<u64, Entry>, id: Option<u64>, before: Option<u64>)
-    ensures entries { (k : ℕ) → get nat_eq entries.new k ≡ given_before id before (get nat_eq entries.old) k }
-    ensures room { spare entries.old ≤ spare entries.new }
-{
-    if let Some(id) = id {
-        if let Some(entry) = entries.get_mut(&id) {
-            entry.before = before;
+    ghost rows = { rows_of };
+
+    ghost slots = { λ m. [] };
+
+    ghost can_have = { λ m place id. place ≡ id };
+
+    ghost room = { spare };
+
+    fn tie(&self, place: usize) -> Option<Tie> {
+        let entry = self.get(&place)?;
+        Some(Tie {
+            id: place as u64,
+            number: entry.number,
+            before: entry.before,
+            after: entry.after,
+        })
+    }
+
+    fn id(&self, place: usize) -> u64 {
+        place as u64
+    }
+
+    fn set_before(&mut self, place: Option<usize>, before: Option<usize>) {
+        if let Some(place) = place {
+            if let Some(entry) = self.get_mut(&place) {
+                entry.before = before;
+            }
         }
     }
-}
 
-/// Writes which ID stands after this one, where this one is some ID that is there.
-pub(crate) fn set_after(entries: &mut IndexMap<u64, Entry>, id: Option<u64>, after: Option<u64>)
-    ensures entries { (k : ℕ) → get nat_eq entries.new k ≡ given_after id after (get nat_eq entries.old) k }
-    ensures room { spare entries.old ≤ spare entries.new }
-{
-    if let Some(id) = id {
-        if let Some(entry) = entries.get_mut(&id) {
-            entry.after = after;
+    fn set_after(&mut self, place: Option<usize>, after: Option<usize>) {
+        if let Some(place) = place {
+            if let Some(entry) = self.get_mut(&place) {
+                entry.after = after;
+            }
         }
+    }
+
+    fn put(&mut self, place: usize, tie: Tie) {
+        let entry = Entry {
+            number: tie.number,
+            before: tie.before,
+            after: tie.after,
+        };
+        self.insert(place, entry).unwrap();
+    }
+
+    fn take(&mut self, place: usize) -> Option<Tie> {
+        let entry = self.swap_remove(&place)?;
+        Some(Tie {
+            id: place as u64,
+            number: entry.number,
+            before: entry.before,
+            after: entry.after,
+        })
     }
 }

@@ -5,18 +5,21 @@
 //! and may have a number, such as mounts with their parents, and to answer what a scan of that table
 //! would find (`specs/Numbered.antt`).
 //!
-//! [`lists`] keeps them in two tables, [`entries`] by ID and [`heads`] by number; [`links`] has what is written in
-//! both when an ID comes or goes. A [`log`] has the IDs that were changed, and [`earlier`] a value as it was, which
-//! proofs alone read.
+//! Each ID stands at a place, with the places of the IDs before and after it in its list: a *tie* ([`ties`]). In a
+//! [`Lists`](lists::Lists) these are [`entries`] of a table, found by ID. A [`slot_lists`] has such lists for a table whose
+//! items lie in slots, as those of a slab do: each ID stands in the slot of its item ([`slots`]), and what comes before and
+//! after it is found there, without a look-up. Both have the ends of each list in a table by number ([`tops`]), and one way
+//! for an ID to come and go ([`tying`]).
 //!
-//! [`slot_lists`] has such lists for a table whose items lie in slots, as those of a slab do: each ID stands in the slot
-//! of its item, and what comes before and after it in its list is found there, without a look-up.
+//! A [`log`] has the IDs that were changed, and [`earlier`] a value as it was, which proofs alone read.
 #![tactic(auto)]
 
 pub mod earlier;
 mod entries;
-mod heads;
-mod links;
 pub mod lists;
 pub mod log;
 pub mod slot_lists;
+mod slots;
+mod ties;
+mod tops;
+mod tying;

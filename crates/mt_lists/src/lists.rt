@@ -3,9 +3,10 @@ ghost use Rattle.std.specs.Prelude.{◌≡◌, ◌+◌, ◌<◌, ◌≤◌, [], 
 ghost use Rattle.mt_skel.specs.Keyed.{put, rises};
 ghost use Rattle.mt_lists.specs.Lists.{listed_id, listed_number, ids, without_row, with_number, first, next_of};
 
-use crate::entries::{Entry, after_of};
-use crate::heads::{Head, ends_of, first_of};
-use crate::links::{link, unlink};
+use crate::entries::Entry;
+use crate::ties::{Ties, after_of};
+use crate::tops::{Top, top_of};
+use crate::tying::{tie, untie};
 use indexmap::IndexMap;
 use mt_skel::fault::Fault;
 use std::alloc::Global;
@@ -19,8 +20,8 @@ use std::marker::Model;
 /// list, if that is still there and below, and else from the end. So IDs that come by rising ID pass each of those that
 /// are there once.
 pub struct Lists {
-    entries: IndexMap<u64, Entry>,
-    heads: IndexMap<u64, Head>,
+    entries: IndexMap<usize, Entry>,
+    tops: IndexMap<u64, Top>,
 }
 
 impl Model for Lists {
@@ -30,11 +31,12 @@ impl Model for Lists {
 
     ghost Value = { ListsView };
 
-    ghost use Rattle.mt_lists.specs.Links.{rows_of, IsLinked};
+    ghost use Rattle.mt_lists.specs.Tables.{ties_of, rows_of};
+    ghost use Rattle.mt_lists.specs.Ties.{IsTied};
 
-    ghost view = { λ s. record { rows = rows_of s.entries; room = min (spare s.entries) (spare s.heads) } };
+    ghost view = { λ s. record { rows = rows_of s.entries; room = min (spare s.entries) (spare s.tops) } };
 
-    ghost invariant = { λ s. IsLinked s.entries s.heads };
+    ghost invariant = { λ s. IsTied (ties_of s.entries) (rows_of s.entries) s.tops };
 }
 
 // Written out, so that whoever owns lists lets each of them go as one thing: with the derived one each function that
@@ -43,7 +45,7 @@ impl Drop for Lists {
     fn drop(self) {
         let Lists {
             entries: _entries,
-            heads: _heads,
+            tops: _tops,
         } = self;
     }
 }
@@ -55,7 +57,7 @@ impl Lists {
     {
         Lists {
             entries: IndexMap::new(alloc),
-            heads: IndexMap::new(alloc),
+            tops: IndexMap::new(alloc),
         }
     }
 
@@ -66,7 +68,7 @@ impl Lists {
     {
         Ok(Lists {
             entries: self.entries.clone()?,
-            heads: self.heads.clone()?,
+            tops: self.tops.clone()?,
         })
     }
 
@@ -78,7 +80,7 @@ impl Lists {
         ensures rows { self.new.rows ≡ self.old.rows }
     {
         self.entries.reserve(additional)?;
-        self.heads.reserve(additional)?;
+        self.tops.reserve(additional)?;
         Ok(())
     }
 
@@ -87,8 +89,8 @@ impl Lists {
         ensures { result ≡ self.now.room }
     {
         let entries = self.entries.capacity() - self.entries.len();
-        let heads = self.heads.capacity() - self.heads.len();
-        entries.min(heads)
+        let tops = self.tops.capacity() - self.tops.len();
+        entries.min(tops)
     }
 
     /// How many rows there are.
@@ -104,8 +106,8 @@ impl Lists {
         ensures number { result ≡ listed_number self.now.rows id }
         ensures rising { IsTrue (rises listed_id self.now.rows) }
     {
-        let entry = self.entries.get(&id)?;
-        Some(entry.number)
+        let tie = self.entries.tie(id as usize)?;
+        Some(tie.number)
     }
 
     /// The lowest ID of this number, or `None` where no ID has it.
@@ -113,22 +115,22 @@ impl Lists {
         ensures first { result ≡ first (ids self.now.rows number) }
         ensures rising { IsTrue (rises listed_id self.now.rows) }
     {
-        first_of(&self.heads, number)
+        Some(top_of(&self.tops, number)?.top.first as u64)
     }
 
     /// The next higher ID of the same number, or `None` where this ID is not there or is the last.
     pub fn after(&self, id: u64) -> Option<u64>
         ensures { result ≡ next_of self.now.rows id }
     {
-        after_of(&self.entries, id)
+        Some(after_of(&self.entries, id as usize)? as u64)
     }
 
     /// How many IDs have this number.
     pub fn count(&self, number: u64) -> usize
         ensures { result ≡ length (ids self.now.rows number) }
     {
-        match ends_of(&self.heads, number) {
-            Some(ends) => ends.count,
+        match top_of(&self.tops, number) {
+            Some(found) => found.top.count,
             None => 0,
         }
     }
@@ -154,7 +156,9 @@ impl Lists {
         ensures rows { self.new.rows ≡ put listed_id (record { id = id; number = number }) self.old.rows }
         ensures room { self.old.room ≤ self.new.room + 1 }
     {
-        link(&mut self.entries, &mut self.heads, id, number);
+        // The proof needs that the IDs can be counted.
+        let _len = self.entries.len();
+        tie(&mut self.entries, &mut self.tops, id as usize, id, number);
     }
 
     /// Takes this ID away, if it is there.
@@ -162,7 +166,7 @@ impl Lists {
         ensures rows { self.new.rows ≡ without_row id self.old.rows }
         ensures room { self.old.room ≤ self.new.room }
     {
-        unlink(&mut self.entries, &mut self.heads, id);
+        untie(&mut self.entries, &mut self.tops, id as usize);
     }
 
     /// Gives a number, or none, to an ID that is not there. Room for one row is needed for none too.

@@ -5,17 +5,13 @@ ghost use Rattle.mt_skel.specs.Keyed.{put, rises};
 ghost use Rattle.mt_lists.specs.Lists.{listed_id, listed_number, ids, without_row, first, next_of};
 ghost use Rattle.mt_lists.specs.SlotLists.{id_in, lengthened, LeadsTo};
 
+use crate::ties::{Tie, Ties, after_of};
+use crate::tops::{Top, top_of};
+use crate::tying::{tie, untie};
 use indexmap::IndexMap;
 use mt_skel::fault::Fault;
 use std::alloc::Global;
 use std::marker::Model;
-use ties::{Tie, after_of, tie_at};
-use tops::{Top, top_of};
-use tying::{tie, untie};
-
-mod ties;
-mod tops;
-mod tying;
 
 /// IDs that have a number each, in slots that the caller chooses. The IDs of one number form a list, by rising ID.
 ///
@@ -34,11 +30,12 @@ impl Model for SlotLists {
 
     ghost Value = { SlotListsView };
 
-    ghost use Rattle.mt_lists.specs.Ties.{ids_in, rows_in, IsTied};
+    ghost use Rattle.mt_lists.specs.Slots.{tie_in, ids_in, rows_in};
+    ghost use Rattle.mt_lists.specs.Ties.{IsTied};
 
     ghost view = { λ s. record { rows = rows_in s.ties.items; slots = ids_in s.ties.items; room = spare s.tops } };
 
-    ghost invariant = { λ s. IsTied s.ties.items s.tops };
+    ghost invariant = { λ s. IsTied (tie_in s.ties.items) (rows_in s.ties.items) s.tops };
 }
 
 // Written out, so that whoever owns lists lets each of them go as one thing.
@@ -101,7 +98,7 @@ impl SlotLists {
     pub fn id(&self, slot: usize) -> Option<u64>
         ensures { result ≡ id_in self.now.slots slot }
     {
-        Some(tie_at(&self.ties, slot)?.id)
+        Some(self.ties.tie(slot)?.id)
     }
 
     /// The slot of the lowest ID of this number, or `None` where no ID has it.
@@ -157,6 +154,8 @@ impl SlotLists {
         ensures slots { self.new.slots ≡ slice_set self.old.slots slot (Some id) }
         ensures room { self.old.room ≤ self.new.room + 1 }
     {
+        // The proof needs that the slots can be counted.
+        let _ties = self.ties.as_slice();
         tie(&mut self.ties, &mut self.tops, slot, id, number);
     }
 

@@ -10,8 +10,7 @@ use Rattle.mt_lists.specs.Lists.{listed_id, listed_number, without_row, with_num
 use Rattle.mt_lists.specs.Numbered.{rows_by}
 use Rattle.mt_lists.specs.SlotLists.{SlotListsView, id_in, lengthened}
 use Rattle.mt_lists.proofs.NumberedLaws.{rises-by, number-by, put-by, without-by}
-use Rattle.mt_lists.proofs.RowLaws.{row-unnumbered, number-taken, with-taken}
-use Rattle.mt_lists.proofs.LinkLaws.{without-absent}
+use Rattle.mt_lists.proofs.RowLaws.{row-unnumbered, without-absent, number-taken, with-taken}
 use Rattle.mt_mounts.specs.declared.mount.Mount.{Mount}
 use Rattle.mt_mounts.specs.Forest.{id_of}
 use Rattle.mt_mounts.specs.ForestView.{without_id}

@@ -5,7 +5,7 @@ use Rattle.std.specs.Option.{option_map, option_or}
 use Rattle.std.proofs.lemmas.Bool.Decides.{nat_tests}
 use Rattle.std.proofs.lemmas.List.{drop_more}
 use Rattle.indexmap.specs.IndexMap.{get}
-use Rattle.mt_lists.specs.Links.{Index}
+use Rattle.mt_lists.specs.Tables.{Index}
 use Rattle.mt_peers.specs.declared.entries.Entry.{Entry}
 use Rattle.mt_peers.specs.declared.vanished.Above.{Above}
 use Rattle.mt_peers.specs.Peers.{Peer, in_group, has_member, names}

@@ -5,7 +5,7 @@ use Rattle.std.specs.List.{find}
 use Rattle.std.specs.Option.{unwrap_or}
 use Rattle.std.proofs.lemmas.Bool.Decides.{nat_tests}
 use Rattle.indexmap.specs.IndexMap.{get}
-use Rattle.mt_lists.specs.Links.{Index}
+use Rattle.mt_lists.specs.Tables.{Index}
 use Rattle.mt_peers.specs.Peers.{Peer}
 use Rattle.mt_peers.specs.Masters.{master_of, groups_up}
 use Rattle.mt_peers.specs.Ways.{IsAbove, if_passes}

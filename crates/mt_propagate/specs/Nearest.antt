@@ -4,7 +4,7 @@
 use Rattle.std.specs.Prelude.{◌≡◌, ℕ, ◌+◌, ◌<◌, ◌≤◌, Bool, true, false, List, length, Option, Some, None, nat_eq, IfSome}
 use Rattle.std.specs.Option.{unwrap_or}
 use Rattle.indexmap.specs.IndexMap.{get}
-use Rattle.mt_lists.specs.Links.{Index}
+use Rattle.mt_lists.specs.Tables.{Index}
 use Rattle.mt_peers.specs.Peers.{Peer}
 use Rattle.mt_peers.specs.Masters.{master_of}
 use Rattle.mt_peers.specs.Ways.{IsAbove}

@@ -1,6 +1,5 @@
 use Rattle.std.proofs.Common.{cond, Some, None, is_none, ap, sym, ◌∙◌}
-use Rattle.mt_lists.proofs.LinkLaws.{without-absent}
-use Rattle.mt_lists.proofs.RowLaws.{row-unnumbered}
+use Rattle.mt_lists.proofs.RowLaws.{row-unnumbered, without-absent}
 use Rattle.mt_mounts.proofs.indexes.uproot.Goals as goal
 
 pub returns-in-Some-clause-rows : goal.returns-in-Some-clause-rows

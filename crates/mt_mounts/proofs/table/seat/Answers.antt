@@ -1,8 +1,7 @@
 use Rattle.std.proofs.Common.{slice_set, sym, ◌∙◌, ap}
 use Rattle.std.specs.Option.{option_map}
 use Rattle.mt_lists.specs.Lists.{with_number}
-use Rattle.mt_lists.proofs.LinkLaws.{without-absent}
-use Rattle.mt_lists.proofs.RowLaws.{row-unnumbered}
+use Rattle.mt_lists.proofs.RowLaws.{row-unnumbered, without-absent}
 use Rattle.mt_mounts.proofs.SeatLaws.{set_vacant}
 use Rattle.mt_mounts.proofs.table.seat.Goals as goal
 

@@ -1,7 +1,6 @@
 use Rattle.std.proofs.Common.{sym, ◌∙◌, ap}
 use Rattle.mt_lists.specs.Lists.{with_number}
-use Rattle.mt_lists.proofs.LinkLaws.{without-absent}
-use Rattle.mt_lists.proofs.RowLaws.{row-unnumbered}
+use Rattle.mt_lists.proofs.RowLaws.{row-unnumbered, without-absent}
 use Rattle.mt_lists.proofs.lists.Lists.enter.Goals as goal
 
 pub returns-in_default-clause-rows : goal.returns-in_default-clause-rows

@@ -4,8 +4,8 @@ use Rattle.mt_lists.specs.Lists.{ids}
 use Rattle.mt_lists.specs.SlotLists.{id_in}
 use Rattle.mt_lists.proofs.IdLaws.{rising-ids}
 use Rattle.mt_lists.proofs.WalkLaws.{rest_from, rest-first, walk-start, walked, walk-member, walk-falls}
-use Rattle.mt_lists.proofs.SlotWalkLaws.{lead-there, of-lead}
-use Rattle.mt_lists.proofs.SlotListLaws.{walk-slot}
+use Rattle.mt_lists.proofs.PlaceLaws.{lead-there, of-lead}
+use Rattle.mt_lists.proofs.TiedLaws.{walk-slot}
 use Rattle.mt_lists.proofs.slot_lists.SlotLists.ids.Goals as goal
 
 pub list-init : goal.list-init

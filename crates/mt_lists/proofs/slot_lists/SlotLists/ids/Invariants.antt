@@ -4,7 +4,7 @@ use Rattle.mt_skel.specs.Keyed.{among}
 use Rattle.mt_lists.specs.Lists.{ids}
 use Rattle.mt_lists.specs.SlotLists.{id_in}
 use Rattle.mt_lists.proofs.WalkLaws.{rest_from}
-use Rattle.mt_lists.proofs.SlotWalkLaws.{IsThere}
+use Rattle.mt_lists.proofs.PlaceLaws.{IsThere}
 use Rattle.mt_lists.proofs.slot_lists.SlotLists.ids.Given as goal
 
 -- the slot has an ID, and what was passed and what is left are the list
