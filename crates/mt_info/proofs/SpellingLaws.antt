@@ -3,6 +3,7 @@ use Rattle.std.proofs.Common.{◌≡◌, ◌≢◌, ℕ, ◌==◌, ◌&&◌, not
 use Rattle.std.specs.List.{list_all}
 use Rattle.std.proofs.lemmas.Bool.{ne_eqb, and_parts}
 use Rattle.mt_skel.specs.Escapes.{unescaped, escaped, escaped_byte}
+use Rattle.mt_skel.proofs.EscapeLaws.{each_escape}
 use Rattle.mt_skel.proofs.UnescapeLaws.{IsKept, all_kept}
 use Rattle.mt_info.specs.Reading.{is_bare}
 use Rattle.mt_info.proofs.WordLaws.{all-append}
@@ -41,23 +42,7 @@ pub spelling : (w b : List ℕ) → list_all is_bare w ≡ true → unescaped w 
 spelling w b bare h = all_kept IsSpelling spelling_kept w b h bare
 
 bare_byte : (b : ℕ) → list_all is_bare (escaped_byte b) ≡ true
-bare_byte b = by_space (b == 32) refl
-  where
-    by_backslash : (k : Bool) → (b == 92) ≡ k → (b == 32) ≡ false → (b == 9) ≡ false → (b == 10) ≡ false → list_all is_bare (escaped_byte b) ≡ true
-    by_backslash true is space tab newline = rw (space, tab, newline, is) refl
-    by_backslash false is space tab newline = rw (space, tab, newline, is, space, tab, newline) refl
-
-    by_newline : (k : Bool) → (b == 10) ≡ k → (b == 32) ≡ false → (b == 9) ≡ false → list_all is_bare (escaped_byte b) ≡ true
-    by_newline true is space tab = rw (space, tab, is) refl
-    by_newline false is space tab = by_backslash (b == 92) refl space tab is
-
-    by_tab : (k : Bool) → (b == 9) ≡ k → (b == 32) ≡ false → list_all is_bare (escaped_byte b) ≡ true
-    by_tab true is space = rw (space, is) refl
-    by_tab false is space = by_newline (b == 10) refl space is
-
-    by_space : (k : Bool) → (b == 32) ≡ k → list_all is_bare (escaped_byte b) ≡ true
-    by_space true is = rw is refl
-    by_space false is = by_tab (b == 9) refl is
+bare_byte = each_escape (λ x text. list_all is_bare text ≡ true) refl refl refl refl (λ x space tab newline _. rw (space, tab, newline) refl)
 
 pub bare_escaped : (b : List ℕ) → list_all is_bare (escaped b) ≡ true
 bare_escaped [] = refl

@@ -69,25 +69,32 @@ pub unescaped-escape : (d e f : ℕ) (rest : List ℕ) → unescaped (92 ∷ d �
 unfolding unescaped
 unescaped-escape d e f rest = refl
 
--- the text of a byte stands for that byte
-unescaped-escaped_byte : (b : ℕ) (rest : List ℕ) → unescaped (escaped_byte b ++ rest) ≡ cons_to (Some b) (unescaped rest)
-unescaped-escaped_byte b rest = by_space (b == 32) refl
+-- what holds of the four escapes, and of each other byte, holds of the text of any byte
+pub each_escape : (P : ℕ → List ℕ → Type 0) → P 32 (92 ∷ 48 ∷ 52 ∷ 48 ∷ []) → P 9 (92 ∷ 48 ∷ 49 ∷ 49 ∷ []) → P 10 (92 ∷ 48 ∷ 49 ∷ 50 ∷ []) → P 92 (92 ∷ 49 ∷ 51 ∷ 52 ∷ [])
+    → ((b : ℕ) → (b == 32) ≡ false → (b == 9) ≡ false → (b == 10) ≡ false → (b == 92) ≡ false → P b (b ∷ [])) → (b : ℕ) → P b (escaped_byte b)
+each_escape P of_space of_tab of_newline of_backslash plain b = by_space (b == 32) refl
   where
-    by_backslash : (k : Bool) → (b == 92) ≡ k → (b == 32) ≡ false → (b == 9) ≡ false → (b == 10) ≡ false → unescaped (escaped_byte b ++ rest) ≡ cons_to (Some b) (unescaped rest)
-    by_backslash true is space tab newline = let e : b ≡ 92 = eqb-true b 92 is in rw e (unescaped-escape 49 51 52 rest)
-    by_backslash false is space tab newline = rw (space, tab, newline, is) (unescaped-plain b rest (eqb-false b 92 is))
+    by_backslash : (k : Bool) → (b == 92) ≡ k → (b == 32) ≡ false → (b == 9) ≡ false → (b == 10) ≡ false → P b (escaped_byte b)
+    by_backslash true is space tab newline = rw (eqb-true b 92 is) of_backslash
+    by_backslash false is space tab newline = rw (space, tab, newline, is) (plain b space tab newline is)
 
-    by_newline : (k : Bool) → (b == 10) ≡ k → (b == 32) ≡ false → (b == 9) ≡ false → unescaped (escaped_byte b ++ rest) ≡ cons_to (Some b) (unescaped rest)
-    by_newline true is space tab = let e : b ≡ 10 = eqb-true b 10 is in rw e (unescaped-escape 48 49 50 rest)
+    by_newline : (k : Bool) → (b == 10) ≡ k → (b == 32) ≡ false → (b == 9) ≡ false → P b (escaped_byte b)
+    by_newline true is space tab = rw (eqb-true b 10 is) of_newline
     by_newline false is space tab = by_backslash (b == 92) refl space tab is
 
-    by_tab : (k : Bool) → (b == 9) ≡ k → (b == 32) ≡ false → unescaped (escaped_byte b ++ rest) ≡ cons_to (Some b) (unescaped rest)
-    by_tab true is space = let e : b ≡ 9 = eqb-true b 9 is in rw e (unescaped-escape 48 49 49 rest)
+    by_tab : (k : Bool) → (b == 9) ≡ k → (b == 32) ≡ false → P b (escaped_byte b)
+    by_tab true is space = rw (eqb-true b 9 is) of_tab
     by_tab false is space = by_newline (b == 10) refl space is
 
-    by_space : (k : Bool) → (b == 32) ≡ k → unescaped (escaped_byte b ++ rest) ≡ cons_to (Some b) (unescaped rest)
-    by_space true is = let e : b ≡ 32 = eqb-true b 32 is in rw e (unescaped-escape 48 52 48 rest)
+    by_space : (k : Bool) → (b == 32) ≡ k → P b (escaped_byte b)
+    by_space true is = rw (eqb-true b 32 is) of_space
     by_space false is = by_tab (b == 9) refl is
+
+-- the text of a byte stands for that byte
+unescaped-escaped_byte : (b : ℕ) (rest : List ℕ) → unescaped (escaped_byte b ++ rest) ≡ cons_to (Some b) (unescaped rest)
+unescaped-escaped_byte b rest =
+    each_escape (λ x text. unescaped (text ++ rest) ≡ cons_to (Some x) (unescaped rest)) (unescaped-escape 48 52 48 rest) (unescaped-escape 48 49 49 rest) (unescaped-escape 48 49 50 rest) (unescaped-escape 49 51 52 rest)
+    (λ x _ _ _ other. unescaped-plain x rest (eqb-false x 92 other)) b
 
 -- the text of bytes stands for those bytes
 pub unescaped-escaped : (bytes : List ℕ) → unescaped (escaped bytes) ≡ Some bytes
@@ -108,23 +115,7 @@ count_from-zero (Some r) = ap Some (zero-add (length r))
 
 -- a byte that has no escape is its own text
 bare_byte : (b : ℕ) → has_escape b ≡ false → escaped_byte b ≡ b ∷ []
-bare_byte b h = by_space (b == 32) refl
-  where
-    by_backslash : (k : Bool) → (b == 92) ≡ k → (b == 32) ≡ false → (b == 9) ≡ false → (b == 10) ≡ false → escaped_byte b ≡ b ∷ []
-    by_backslash true is space tab newline = absurd (cc)
-    by_backslash false is space tab newline = rw (space, tab, newline, is) refl
-
-    by_newline : (k : Bool) → (b == 10) ≡ k → (b == 32) ≡ false → (b == 9) ≡ false → escaped_byte b ≡ b ∷ []
-    by_newline true is space tab = absurd (cc)
-    by_newline false is space tab = by_backslash (b == 92) refl space tab is
-
-    by_tab : (k : Bool) → (b == 9) ≡ k → (b == 32) ≡ false → escaped_byte b ≡ b ∷ []
-    by_tab true is space = absurd (cc)
-    by_tab false is space = by_newline (b == 10) refl space is
-
-    by_space : (k : Bool) → (b == 32) ≡ k → escaped_byte b ≡ b ∷ []
-    by_space true is = absurd (cc)
-    by_space false is = by_tab (b == 9) refl is
+bare_byte b h = each_escape (λ x text. has_escape x ≡ false → text ≡ x ∷ []) (λ e. absurd (cc)) (λ e. absurd (cc)) (λ e. absurd (cc)) (λ e. absurd (cc)) (λ x _ _ _ _ e. refl) b h
 
 -- bytes of which none has an escape are their own text
 pub bare_escaped : (bytes : List ℕ) → list_any has_escape bytes ≡ false → escaped bytes ≡ bytes
