@@ -1,8 +1,9 @@
 -- Posts that were told, counted by their lines.
-use Rattle.std.proofs.Common.{◌≡◌, ℕ, ◌+◌, true, Some, List, [], ◌∷◌, ◌++◌, length, refl, sym, ap, subst, ◌∙◌, arith, append_assoc, length-append, inl}
+use Rattle.std.proofs.Common.{◌≡◌, ℕ, ◌+◌, true, Some, List, [], ◌∷◌, ◌++◌, length, refl, sym, ◌∙◌, arith, length-append, inl}
 use Rattle.std.proofs.lemmas.List.{append-nil}
 use Rattle.std.proofs.lemmas.Grind.{flat_map-append}
 use Rattle.std.proofs.lemmas.Option.{same_Some}
+use Rattle.std.specs.List.{flat_map}
 use Rattle.mt_lines.specs.Lines.{Item, Text}
 use Rattle.mt_lines.specs.Words.{words}
 use Rattle.mt_events.specs.Posts.{PostView, IsPost, post_text}
@@ -13,16 +14,13 @@ use Rattle.mt_client.specs.declared.fault.ClientFault.{ClientFault}
 use Rattle.mt_client.specs.declared.fault.ClientFault.TheVariants.{Connection}
 use Rattle.mt_client.specs.Requests.{event_count}
 use Rattle.mt_client.specs.Mirroring.{IsPosted}
-use Rattle.mt_client.specs.Telling.{told_in, mirrors_with, mirrors_by, is_due, are_due, posts_told, IsStopped}
+use Rattle.mt_client.specs.Telling.{told_in, mirrors_with, is_due, IsStopped}
 use Rattle.mt_client.specs.Effects.{HasToldLines, IsToldShort}
-use Rattle.mt_client.proofs.RelayLaws.{printed-append}
-use Rattle.mt_client.proofs.MirrorLaws.{runs_read}
-use Rattle.mt_client.proofs.TellingLaws.{due_both, by_both, told_both}
-use Rattle.mt_skel.proofs.MiddleLaws.{and-true, each_append}
+use Rattle.mt_client.proofs.TellingLaws.{said_so, post_told, both_told, none_told}
 
 -- none yet
 pub no_lines : (named : NamedTelling) (old : List MirrorView) (before : List Item) (begun : List ℕ) → HasToldLines named 0 old old before before begun begun
-no_lines named old before begun = record { posts = []; told = record { lines = []; valid = tt; due = refl; make = refl; read = refl; text = refl; out = sym (append-nil begun) }; many = refl }
+no_lines named old before begun = record { posts = []; told = none_told All old before begun; many = refl }
 
 -- some, and then others
 pub both_lines : (named : NamedTelling) (k n : ℕ) (old mid new : List MirrorView) (before middle after : List Item) (begun between done : List ℕ)
@@ -30,23 +28,11 @@ pub both_lines : (named : NamedTelling) (k n : ℕ) (old mid new : List MirrorVi
 both_lines named k n old mid new before middle after begun between done f h =
     let ps = f.posts in
     let qs = h.posts in
-    let t = f.told in
-    let u = h.told in
     record {
       posts = ps ++ qs;
-      told = record {
-        lines = t.lines ++ u.lines;
-        valid = each_append IsPost ps qs t.valid u.valid;
-        due = due_both All ps qs old t.due (subst (λ ms. are_due All ms qs ≡ true) t.make u.due);
-        make = u.make ∙ ap (λ ms. mirrors_by ms qs) t.make ∙ sym (by_both ps qs old);
-        read = runs_read t.lines u.lines before middle after t.read u.read;
-        text = printed-append t.lines u.lines ∙ (λ i. t.text i ++ u.text i) ∙ sym (flat_map-append post_text ps qs);
-        out =
-            u.out ∙ (λ i. t.out i ++ posts_told named (t.make i) qs)
-            ∙ append_assoc begun (posts_told named old ps) (posts_told named (mirrors_by old ps) qs)
-            ∙ ap (λ x. begun ++ x) (sym (told_both named ps qs old));
-      };
-      many = length-append t.lines u.lines ∙ (λ i. f.many i + h.many i);
+      told = said_so All (ps ++ qs) (flat_map post_text ps ++ flat_map post_text qs) (flat_map post_text (ps ++ qs)) old new before after begun done (sym (flat_map-append post_text ps qs))
+          (both_told All ps qs (flat_map post_text ps) (flat_map post_text qs) old mid new before middle after begun between done f.told h.told);
+      many = length-append f.told.lines h.told.lines ∙ (λ i. f.many i + h.many i);
     }
 
 -- one post, of its first line and so many behind it
@@ -57,15 +43,7 @@ one_told named behind first post old new before middle after begun done there co
     let same = same_Some behind (length p.others) (counts ∙ p.counted) in
     record {
       posts = post ∷ [];
-      told = record {
-        lines = first ∷ p.others;
-        valid = (valid, tt);
-        due = and-true (is_due All old post) true due refl;
-        make = make;
-        read = there ∙ ap (λ x. Text first ∷ x) p.read;
-        text = p.text ∙ sym (append-nil (post_text post));
-        out = out ∙ ap (λ x. begun ++ x) (sym (append-nil (told_in named old post)));
-      };
+      told = said_so All (post ∷ []) (post_text post) (post_text post ++ []) old new before after begun done (sym (append-nil (post_text post))) (post_told All first post old new before middle after begun done there p valid due make out).1;
       many = omega (arith, same);
     }
 

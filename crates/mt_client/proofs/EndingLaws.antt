@@ -1,5 +1,5 @@
 -- Posts that were passed on up to the line that ends them, and what cannot come first where one is refused.
-use Rattle.std.proofs.Common.{◌≡◌, ◌≢◌, ℕ, ◌+◌, ◌<◌, ◌≤◌, Bool, true, false, List, [], ◌∷◌, ◌++◌, length, refl, sym, ap, subst, ◌∙◌, arith, append_assoc, length-append, codes, Some, None, if◌then◌else◌, inl, inr, ◌⊎◌}
+use Rattle.std.proofs.Common.{◌≡◌, ◌≢◌, ℕ, ◌+◌, ◌<◌, ◌≤◌, Bool, true, false, List, [], ◌∷◌, ◌++◌, length, refl, sym, ap, subst, ◌∙◌, arith, length-append, codes, Some, None, if◌then◌else◌, inl, inr, ◌⊎◌}
 use Rattle.std.specs.List.{flat_map, AllByRecursion}
 use Rattle.std.specs.Str.{bytes_eq}
 use Rattle.std.proofs.lemmas.Slice.Eq.{bytes_eq-Decides}
@@ -12,11 +12,11 @@ use Rattle.mt_protocol.specs.declared.form.Form.{Form}
 use Rattle.mt_protocol.specs.declared.form.Form.TheVariants.{Done, Number, Place, Table, Opening, Posts, Followed, Never}
 use Rattle.mt_protocol.specs.Verbs.{first_of}
 use Rattle.mt_client.specs.Requests.{verdict, event_count}
-use Rattle.mt_client.specs.Reading.{texts, HasRead, NoneFirst, AreSoMany}
+use Rattle.mt_client.specs.Reading.{HasRead, NoneFirst, AreSoMany}
 use Rattle.mt_client.specs.Replies.{IsPostLines, IsBlockOf, most_posts, IsEnding, IsHeaded, IsFollowAnswer, IsAnswer}
-use Rattle.mt_client.proofs.OpeningLaws.{first_taken, texts_split}
-use Rattle.mt_client.proofs.FollowLaws.{lines_alike}
-use Rattle.mt_client.proofs.ReplyLaws.{posts_alike, flat_more}
+use Rattle.mt_client.proofs.SeriesLaws.{Series, IsSeries, Came, came_more, came_cut, groups}
+use Rattle.mt_client.proofs.OpeningLaws.{first_taken, needs_line}
+use Rattle.mt_client.proofs.ReplyLaws.{posts_alike, post_some, group_only, flat_more}
 
 -- so many posts
 abbrev pub ArePosts : ℕ → List (List ℕ) → Type 0
@@ -57,108 +57,53 @@ silent_words (a ∷ b ∷ d ∷ f ∷ rest) n e = go (bytes_eq a (codes "event")
 silent : (post : List (List ℕ)) (k : IsPostLines post) → verdict k.first ≡ None
 silent post k = silent_words (words k.first) (length k.others) k.counted
 
--- what comes first behind so many posts, where an answer did at the start
-pub record IsStill (taken : ℕ) (middle later : List Item) (told : Bool) : Type 0 where
-  pub posts : List (List (List ℕ))
-  pub last : List ℕ
-  pub each : AllByRecursion IsPostLines posts
-  pub here : middle ≡ texts (flat_map (λ post. post) posts ++ last ∷ []) ++ later
-  pub tells : verdict last ≡ Some told
-  pub ends : IsEnding told (taken + length posts) last
-  pub bounded : taken + length posts < most_posts
-
-abbrev pub Still : ℕ → List Item → List Item → Type 0
-Still taken before middle = (lines : List (List ℕ)) (later : List Item) (told : Bool) → IsFollowAnswer lines told → before ≡ texts lines ++ later → IsStill taken middle later told
+-- posts up to the line that ends so many of them
+abbrev pub answer_posts : Series
+answer_posts = groups IsPostLines (λ n ls. (last : List ℕ) × (ls ≡ last ∷ []) × (told : Bool) × (verdict last ≡ Some told) × IsEnding told n last × (n < most_posts))
 
 abbrev pub Whole : List (List ℕ) → Type 0
 Whole lines = (told : Bool) × IsFollowAnswer lines told
 
-pub still_at_first : (before : List Item) → Still 0 before before
-still_at_first before lines later told f e =
-    let n : length f.posts ≡ 0 + length f.posts = omega arith in
-    record {
-      posts = f.posts;
-      last = f.last;
-      each = f.each;
-      here = e ∙ ap (λ ls. texts ls ++ later) f.all;
-      tells = f.tells;
-      ends = subst (λ k. IsEnding told k f.last) n f.ends;
-      bounded = subst (λ k. k < most_posts) n f.bounded;
-    }
+whole_posts : (lines : List (List ℕ)) → Whole lines → IsSeries answer_posts tt lines
+whole_posts lines f = record { items = f.1.posts; last = f.1.last ∷ []; due = f.1.each; ends = (f.1.last, refl, f.0, f.1.tells, f.1.ends, f.1.bounded); all = f.1.all }
 
--- behind all posts stands the line that ends them, and else a post
-split_post : (g : List (List ℕ)) (posts : List (List (List ℕ))) (last : List ℕ) (middle later : List Item) → middle ≡ texts (flat_map (λ post. post) (g ∷ posts) ++ last ∷ []) ++ later → middle ≡ texts g ++ (texts (flat_map (λ post. post) posts ++ last ∷ []) ++ later)
-split_post g posts last middle later e =
-    e ∙ ap (λ ls. texts ls ++ later) (append_assoc g (flat_map (λ post. post) posts) (last ∷ [])) ∙ texts_split g (flat_map (λ post. post) posts ++ last ∷ []) later
-
-last_seen : (seen last : List ℕ) (middle rest later : List Item) → middle ≡ Text seen ∷ rest → middle ≡ texts (last ∷ []) ++ later → last ≡ seen
-last_seen seen last middle rest later there e = (first_taken seen last (last ∷ []) [] middle rest later there refl e).0
-
-post_seen : (seen : List ℕ) (g : List (List ℕ)) (k : IsPostLines g) (middle rest later : List Item) → middle ≡ Text seen ∷ rest → middle ≡ texts g ++ later → k.first ≡ seen
-post_seen seen g k middle rest later there e = (first_taken seen k.first g k.others middle rest later there k.all e).0
-
-tells_both : (seen last : List ℕ) (told : Bool) → last ≡ seen → verdict last ≡ Some told → None ≡ verdict seen → ⊥
-tells_both seen last told same tells none =
-    let not : None ≡ Some told = none ∙ ap verdict (sym same) ∙ tells in
+-- a line that tells something begins no post, and one that tells nothing ends none
+no_post_begins : (told : Bool) (seen : List ℕ) (middle rest : List Item) → middle ≡ Text seen ∷ rest → Some told ≡ verdict seen → NoneFirst IsPostLines middle
+no_post_begins told seen middle rest there tells lines later k e =
+    let t = first_taken seen k.first lines k.others middle rest later there k.all e in
+    let not : Some told ≡ None = tells ∙ ap verdict (sym t.0) ∙ silent lines k in
     cc
 
-tells_silent : (seen first : List ℕ) (told : Bool) → first ≡ seen → verdict first ≡ None → Some told ≡ verdict seen → ⊥
-tells_silent seen first told same none tells =
-    let not : Some told ≡ None = tells ∙ ap verdict (sym same) ∙ none in
+no_end_comes : (taken : ℕ) (seen : List ℕ) (middle rest : List Item) → middle ≡ Text seen ∷ rest → None ≡ verdict seen → NoneFirst (λ ls. answer_posts.AreDue tt [] × answer_posts.Ends taken tt ls) middle
+no_end_comes taken seen middle rest there tells lines later h e =
+    let t = first_taken seen h.1.0 lines [] middle rest later there h.1.1 e in
+    let not : None ≡ Some h.1.2 = tells ∙ ap verdict (sym t.0) ∙ h.1.3 in
     cc
 
-pub still_cut : (taken : ℕ) (before middle : List Item) → Still taken before middle → NoneFirst (AreSoMany 1) middle → NoneFirst Whole before
-still_cut taken before middle still none lines later f e = let s = still lines later f.0 f.1 e in go s.last s.posts s.each s.here
-  where
-    go : (last : List ℕ) (posts : List (List (List ℕ))) → AllByRecursion IsPostLines posts → middle ≡ texts (flat_map (λ post. post) posts ++ last ∷ []) ++ later → ⊥
-    go last [] each here = none (last ∷ []) later refl here
-    go last (g ∷ posts) each here =
-        let rest : List Item = texts (flat_map (λ post. post) posts ++ last ∷ []) ++ later in
-        none (each.0.first ∷ []) (texts each.0.others ++ rest) refl (split_post g posts last middle later here ∙ ap (λ ls. texts ls ++ rest) each.0.all)
+-- no answer came first where no line comes, where a line is no end of so many posts, or no post comes, and where too many did
+pub answer_cut : (taken : ℕ) (before middle : List Item) → Came answer_posts taken tt tt before middle → NoneFirst (AreSoMany 1) middle → NoneFirst Whole before
+answer_cut taken before middle came none = came_cut answer_posts taken tt tt before middle whole_posts came (λ ls later h. none ls later (ap length h.1.1)) (λ g rest n made last is more ends. needs_line middle post_some none g rest is)
 
-pub still_ending : (taken : ℕ) (told : Bool) (seen : List ℕ) (before middle rest : List Item) → Still taken before middle → middle ≡ Text seen ∷ rest → Some told ≡ verdict seen → (IsEnding told taken seen → ⊥) → NoneFirst Whole before
-still_ending taken told seen before middle rest still there tells not lines later f e = let s = still lines later f.0 f.1 e in go s.last s.posts s.each s.here s.tells s.ends
-  where
-    go : (last : List ℕ) (posts : List (List (List ℕ))) → AllByRecursion IsPostLines posts → middle ≡ texts (flat_map (λ post. post) posts ++ last ∷ []) ++ later → verdict last ≡ Some f.0 → IsEnding f.0 (taken + length posts) last → ⊥
-    go last [] each here says ends =
-        let same = last_seen seen last middle rest later there here in
-        let alike : told ≡ f.0 = same_Some told f.0 (tells ∙ ap verdict (sym same) ∙ says) in
-        let n : taken + length {A = List (List ℕ)} [] ≡ taken = omega arith in
-        not (subst (λ b. IsEnding b taken seen) (sym alike) (subst (λ l. IsEnding f.0 taken l) same (subst (λ k. IsEnding f.0 k last) n ends)))
-    go last (g ∷ posts) each here says ends =
-        let same = post_seen seen g each.0 middle rest (texts (flat_map (λ post. post) posts ++ last ∷ []) ++ later) there (split_post g posts last middle later here) in
-        tells_silent seen each.0.first told same (silent g each.0) tells
+pub answer_ending : (taken : ℕ) (told : Bool) (seen : List ℕ) (before middle rest : List Item) → Came answer_posts taken tt tt before middle → middle ≡ Text seen ∷ rest → Some told ≡ verdict seen → (IsEnding told taken seen → ⊥) → NoneFirst Whole before
+answer_ending taken told seen before middle rest came there tells not =
+    came_cut answer_posts taken tt tt before middle whole_posts came
+    (λ ls later h e.
+    let t = first_taken seen h.1.0 ls [] middle rest later there h.1.1 e in
+    let alike : told ≡ h.1.2 = same_Some told h.1.2 (tells ∙ ap verdict (sym t.0) ∙ h.1.3) in
+    not (subst (λ b. IsEnding b taken seen) (sym alike) (subst (λ l. IsEnding h.1.2 taken l) t.0 h.1.4)))
+    (λ g later n made last is more ends. no_post_begins told seen middle rest there tells g later is)
 
-pub still_post : (taken : ℕ) (seen : List ℕ) (before middle rest : List Item) → Still taken before middle → middle ≡ Text seen ∷ rest → None ≡ verdict seen → NoneFirst IsPostLines (Text seen ∷ rest) → NoneFirst Whole before
-still_post taken seen before middle rest still there tells none lines later f e = let s = still lines later f.0 f.1 e in go s.last s.posts s.each s.here s.tells
-  where
-    go : (last : List ℕ) (posts : List (List (List ℕ))) → AllByRecursion IsPostLines posts → middle ≡ texts (flat_map (λ post. post) posts ++ last ∷ []) ++ later → verdict last ≡ Some f.0 → ⊥
-    go last [] each here says = tells_both seen last f.0 (last_seen seen last middle rest later there here) says tells
-    go last (g ∷ posts) each here says = none g (texts (flat_map (λ post. post) posts ++ last ∷ []) ++ later) each.0 (sym there ∙ split_post g posts last middle later here)
+pub answer_post : (taken : ℕ) (seen : List ℕ) (before middle rest : List Item) → Came answer_posts taken tt tt before middle → middle ≡ Text seen ∷ rest → None ≡ verdict seen → NoneFirst IsPostLines middle → NoneFirst Whole before
+answer_post taken seen before middle rest came there tells none = came_cut answer_posts taken tt tt before middle whole_posts came (no_end_comes taken seen middle rest there tells) (λ g later n made last is more ends. none g later is)
 
-pub still_on : (taken behind : ℕ) (seen : List ℕ) (before middle rest after : List Item) → Still taken before middle → middle ≡ Text seen ∷ rest → None ≡ verdict seen → HasRead (IsBlockOf Post behind) (Text seen ∷ rest) after → Still (taken + 1) before after
-still_on taken behind seen before middle rest after still there tells h lines later told f e = let s = still lines later told f e in go s.last s.posts s.each s.here s.tells s.ends s.bounded
-  where
-    go : (last : List ℕ) (posts : List (List (List ℕ))) → AllByRecursion IsPostLines posts → middle ≡ texts (flat_map (λ post. post) posts ++ last ∷ []) ++ later → verdict last ≡ Some told → IsEnding told (taken + length posts) last → taken + length posts < most_posts
-        → IsStill (taken + 1) after later told
-    go last [] each here says ends bounded = absurd (tells_both seen last told (last_seen seen last middle rest later there here) says tells)
-    go last (g ∷ posts) each here says ends bounded =
-        let beyond : List Item = texts (flat_map (λ post. post) posts ++ last ∷ []) ++ later in
-        let both : texts h.0 ++ after ≡ texts g ++ beyond = sym h.2 ∙ sym there ∙ split_post g posts last middle later here in
-        let a = lines_alike h.0 g after beyond (posts_alike h.0 g after beyond h.1.0 each.0 both) both in
-        let n : taken + length (g ∷ posts) ≡ (taken + 1) + length posts = omega arith in
-        record {
-          posts = posts;
-          last = last;
-          each = each.1;
-          here = a.1;
-          tells = says;
-          ends = subst (λ k. IsEnding told k last) n ends;
-          bounded = subst (λ k. k < most_posts) n bounded;
-        }
+pub answer_over : (taken : ℕ) (before middle : List Item) → Came answer_posts taken tt tt before middle → most_posts ≤ taken → NoneFirst Whole before
+answer_over taken before middle came over =
+    came_cut answer_posts taken tt tt before middle whole_posts came (λ ls later h e. let few = h.1.5 in omega (arith, few, over)) (λ g rest n made last is more ends e. let few = ends.5 in omega (arith, few, more, over))
 
-pub still_over : (taken : ℕ) (before middle : List Item) → Still taken before middle → most_posts ≤ taken → NoneFirst Whole before
-still_over taken before middle still over lines later f e = let b = (still lines later f.0 f.1 e).bounded in omega (arith, b, over)
+-- one more post was read
+pub answer_more : (taken behind : ℕ) (seen : List ℕ) (before middle rest after : List Item) → Came answer_posts taken tt tt before middle → middle ≡ Text seen ∷ rest → None ≡ verdict seen → HasRead (IsBlockOf Post behind) middle after → Came answer_posts (taken + 1) tt tt before after
+answer_more taken behind seen before middle rest after came there tells h =
+    came_more answer_posts taken tt tt tt before middle after came (no_end_comes taken seen middle rest there tells) (λ g later is e. (refl, (group_only posts_alike h.0 middle after h.1.0 h.2 g later is e).1))
 
 -- every answer but that of posts that are followed is known by its first line
 pub heads : (form : Form) → form ≢ Followed → ◌≡◌ {A = List (List ℕ) → Bool → Type 0} (IsHeaded form) (IsAnswer form)

@@ -1,27 +1,24 @@
 -- What cannot come first where a post or the end of posts is refused, and what was read of posts.
-use Rattle.std.proofs.Common.{◌≡◌, ◌≢◌, ℕ, zero, suc, ◌+◌, ◌<◌, ◌≤◌, true, false, ◌&&◌, ◌==◌, List, [], ◌∷◌, ◌++◌, map, length, refl, sym, ap, subst, ◌∙◌, arith, append_assoc, codes, decimal, Some, None, Option, inl, inr, Result, Ok, Err, IfOk, OnOk}
-use Rattle.std.specs.List.{flat_map, join_with_byte, AllByRecursion}
-use Rattle.std.proofs.lemmas.Bool.Decides.{nat_tests}
+use Rattle.std.proofs.Common.{◌≡◌, ◌≢◌, ℕ, ◌+◌, Bool, false, List, [], ◌∷◌, ◌++◌, map, length, refl, sym, ap, subst, ◌∙◌, arith, codes, decimal, Some, None, Option, inl, inr, Result, Ok, Err, IfOk}
+use Rattle.std.specs.List.{join_with_byte}
 use Rattle.std.proofs.lemmas.Bool.{false≢true}
 use Rattle.std.proofs.lemmas.Option.{same_Some}
-use Rattle.mt_skel.proofs.MiddleLaws.{and_first, and_second}
 use Rattle.mt_lines.specs.Words.{words}
 use Rattle.mt_lines.proofs.NumberLaws.{number_decimal}
 use Rattle.mt_lines.proofs.PieceLaws.{pieces_joined}
 use Rattle.mt_lines.specs.Lines.{Item, Text}
 use Rattle.mt_info.specs.declared.row.Row.{Row}
 use Rattle.mt_events.specs.Posts.{PostView, IsPost, event_words, gone_line, row_line, post_lines, post_text, ended}
-use Rattle.mt_events.specs.Mirrors.{MirrorView, is_next, are_next, mirrored}
+use Rattle.mt_events.specs.Mirrors.{MirrorView}
 use Rattle.mt_events.proofs.PostLaws.{text_tells, event_lacks}
 use Rattle.mt_client.specs.Reading.{texts, printed, NoneFirst, AreSoMany}
-use Rattle.mt_client.specs.Mirroring.{IsRefusal, counted_line, opening_lines, AreMirrored, HasOpened, IsPosted, HasFollowed}
-use Rattle.mt_client.specs.Awaited.{IsOneRefusal, IsRefusedOr, IsOpening, IsNextPost, IsNextPostBehind, IsPostBehind, IsOnlyPost, TakesPost, TakesBehind, IsLast, IsFollowing, IsEnd, IsMirroring}
-use Rattle.mt_client.specs.Requests.{is_refusal, event_count}
-use Rattle.mt_client.proofs.OpeningLaws.{first_taken, texts_split, needs_line, no_refusal, unrefused_or, opened_alike}
-
-pub on_ok : {A E : Type 0} {P : Type 0} (r : Result A E) → P → OnOk r P
-on_ok (Ok a) p = p
-on_ok (Err e) p = tt
+use Rattle.mt_client.specs.Mirroring.{counted_line, opening_lines, HasOpened, IsPosted}
+use Rattle.mt_client.specs.Awaited.{IsOneRefusal, IsRefusedOr, IsOpening, IsSuchPost, IsPostBehind, IsOnlyPost, IsOnlyApplied, IsFollowing, IsMirroring}
+use Rattle.mt_client.specs.Requests.{event_count}
+use Rattle.mt_client.proofs.SeriesLaws.{IsSeries, following, up_to}
+use Rattle.mt_client.proofs.RelayLaws.{texts_split}
+use Rattle.mt_client.proofs.OpeningLaws.{first_taken, unrefused_or}
+use Rattle.mt_client.proofs.FoundLaws.{opened_alike}
 
 pub ok_both : {A E : Type 0} {P Q R : A → Type 0} (r : Result A E) → ((a : A) → P a → Q a → R a) → IfOk r P → IfOk r Q → IfOk r R
 ok_both (Ok a) go p q = go a p q
@@ -87,7 +84,7 @@ unfolding post_text
 printed_post lines p e = ap printed e
 
 -- lines that were read behind the first one of a post
-abbrev HasReadMore : ℕ → List Item → List Item → List ℕ → List ℕ → Type 0
+abbrev pub HasReadMore : ℕ → List Item → List Item → List ℕ → List ℕ → Type 0
 HasReadMore n before after begun text = (all : List (List ℕ)) × (length all ≡ n) × (before ≡ texts all ++ after) × (text ≡ begun ++ printed all)
 
 pub behind_needs_post : (r : Option ℕ) (n : ℕ) (seen : List ℕ) (before after : List Item) (begun text : List ℕ) → r ≡ Some n
@@ -120,146 +117,38 @@ behind_posted r n seen before after begun text post is counts began read said = 
   text = ap (λ b. b ++ printed read.0) (sym began) ∙ sym read.3 ∙ said;
 }
 
-pub taken_behind : (seen : List ℕ) (before after : List Item) (post : PostView) → IsOnlyPost seen before after post → TakesBehind seen before after
-taken_behind seen before after post only other others rest valid all e = (only other others rest valid all e).1
+-- the first line of a post that comes first was read, and the others come first then
+pub post_taken : (seen : List ℕ) (before middle later : List Item) (lines : List (List ℕ)) (p : PostView) → before ≡ Text seen ∷ middle → lines ≡ post_lines p → before ≡ texts lines ++ later
+    → (others : List (List ℕ)) × (seen ∷ others ≡ post_lines p) × (middle ≡ texts others ++ later)
+post_taken seen before middle later lines p there is e =
+    let t = first_taken seen (event_line p) lines (behind_lines p) before middle later there is e in
+    (behind_lines p, ap (λ l. l ∷ behind_lines p) (sym t.0), t.1)
 
-pub behind_needs_next : (seen : List ℕ) (mirror : MirrorView) (before after : List Item) (post : PostView) → IsOnlyPost seen before after post → is_next mirror post ≡ false → NoneFirst (IsNextPostBehind seen mirror) before
-behind_needs_next seen mirror before after post only other lines later k e =
-    let o = only k.post lines later k.valid k.all e in
-    let yes : is_next mirror post ≡ true = sym (ap (is_next mirror) o.0) ∙ k.next in
-    false≢true (sym other ∙ yes)
+-- a post that a test accepts
+pub such_some : (test : PostView → Bool) (lines : List (List ℕ)) → IsSuchPost test lines → (first : List ℕ) × (others : List (List ℕ)) × (lines ≡ first ∷ others)
+such_some test lines k = (event_line k.post, behind_lines k.post, k.all)
 
--- a post, or a refusal in its place
-next_some : (mirror : MirrorView) (lines : List (List ℕ)) → IsRefusedOr (IsNextPost mirror) lines → (first : List ℕ) × (others : List (List ℕ)) × (lines ≡ first ∷ others)
-next_some mirror lines (inl r) = (r.0, [], r.2)
-next_some mirror lines (inr k) = (event_line k.post, behind_lines k.post, k.all)
+pub such_needs_post : (test : PostView → Bool) (seen : List ℕ) (before middle : List Item) → before ≡ Text seen ∷ middle → NoneFirst (IsPostBehind seen) middle → NoneFirst (IsSuchPost test) before
+such_needs_post test seen before middle there none lines later k e =
+    let t = post_taken seen before middle later lines k.post there k.all e in
+    none t.0 later (k.post, k.valid, t.1) t.2
 
-pub next_needs_line : (mirror : MirrorView) (before : List Item) → NoneFirst (AreSoMany 1) before → NoneFirst (IsRefusedOr (IsNextPost mirror)) before
-next_needs_line mirror before none = needs_line before (next_some mirror) none
+pub such_needs_such : (test : PostView → Bool) (seen : List ℕ) (before middle after : List Item) (post : PostView) → before ≡ Text seen ∷ middle → IsOnlyPost seen middle after post → test post ≡ false → NoneFirst (IsSuchPost test) before
+such_needs_such test seen before middle after post there only other lines later k e =
+    let t = post_taken seen before middle later lines k.post there k.all e in
+    let o = only k.post t.0 later k.valid t.1 t.2 in
+    false≢true (sym other ∙ sym (ap test o.0) ∙ k.such)
 
-pub next_needs_behind : (mirror : MirrorView) (seen : List ℕ) (before middle : List Item) → before ≡ Text seen ∷ middle → is_refusal seen ≡ false → NoneFirst (IsNextPostBehind seen mirror) middle → NoneFirst (IsRefusedOr (IsNextPost mirror)) before
-next_needs_behind mirror seen before middle there tells none =
-    unrefused_or before (no_refusal seen before middle there tells) (λ lines later k e.
-    let t = first_taken seen (event_line k.post) lines (behind_lines k.post) before middle later there k.all e in
-    none (behind_lines k.post) later (record { post = k.post; valid = k.valid; next = k.next; all = ap (λ l. l ∷ behind_lines k.post) (sym t.0) }) t.1)
+-- the one that was read was applied
+pub only_applied : {S : Type 0} (apply : S → PostView → S) (seen : List ℕ) (before middle after : List Item) (post : PostView) (old new : S) → before ≡ Text seen ∷ middle → IsOnlyPost seen middle after post → new ≡ apply old post → IsOnlyApplied apply old new before after
+only_applied apply seen before middle after post old new there only make other rest valid e =
+    let t = post_taken seen before middle rest (post_lines other) other there refl e in
+    let o = only other t.0 rest valid t.1 t.2 in
+    (make ∙ ap (apply old) (sym o.0), o.1)
 
--- mirrors of one namespace and one number have the same posts next
-pub are_alike : (m n : MirrorView) (posts : List PostView) → m.space ≡ n.space → m.number ≡ n.number → are_next m posts ≡ are_next n posts
-are_alike m n [] space number = refl
-are_alike m n (p ∷ posts) space number =
-    let rest = are_alike (mirrored m p) (mirrored n p) posts space refl in
-    λ i. ((p.space == space i) && (p.number == number i + 1)) && rest i
-
-following_alike : (end : List ℕ) (count : ℕ) (m n : MirrorView) (lines : List (List ℕ)) → m.space ≡ n.space → m.number ≡ n.number → IsFollowing end count m lines → IsFollowing end count n lines
-following_alike end count m n lines space number f = record {
-  posts = f.posts;
-  last = f.last;
-  all = f.all;
-  valid = f.valid;
-  next = sym (are_alike m n f.posts space number) ∙ f.next;
-  ends = f.ends;
-}
-
--- what comes first behind so many posts, where these lines did at the start
-abbrev pub Goes : List ℕ → ℕ → ℕ → MirrorView → MirrorView → List Item → List Item → Type 0
-Goes end count taken old now before middle =
-    (lines : List (List ℕ)) (later : List Item) → IsFollowing end count old lines → before ≡ texts lines ++ later
-    → (left : ℕ) × (rest : List (List ℕ)) × (taken + left ≡ count) × IsFollowing end left now rest × (middle ≡ texts rest ++ later)
-
-pub goes_at_first : (end : List ℕ) (count : ℕ) (mirror : MirrorView) (before : List Item) → Goes end count 0 mirror mirror before before
-goes_at_first end count mirror before lines later f e = (count, lines, omega arith, f, e)
-
-last_less : (end : List ℕ) (less : ℕ) (p : PostView) (posts : List PostView) (last : List ℕ) → IsLast end (suc less) (length (p ∷ posts)) last → IsLast end less (length posts) last
-last_less end less p posts last (inl s) = inl (omega (arith, s.0), s.1)
-last_less end less p posts last (inr s) = inr (omega (arith, s.0), s.1)
-
-last_refuses : (end : List ℕ) (count : ℕ) (last : List ℕ) → IsLast end (suc count) 0 last → IsRefusal last
-last_refuses end count last (inl s) = let no = s.0 in absurd (omega (arith, no))
-last_refuses end count last (inr s) = s.1
-
-joined_behind : (p : PostView) (posts : List PostView) (last : List ℕ) (rest : List (List ℕ)) (middle later : List Item) → rest ≡ flat_map post_lines (p ∷ posts) ++ last ∷ [] → middle ≡ texts rest ++ later
-    → middle ≡ texts (post_lines p) ++ (texts (flat_map post_lines posts ++ last ∷ []) ++ later)
-joined_behind p posts last rest middle later all e =
-    e ∙ ap (λ ls. texts ls ++ later) (all ∙ append_assoc (post_lines p) (flat_map post_lines posts) (last ∷ [])) ∙ texts_split (post_lines p) (flat_map post_lines posts ++ last ∷ []) later
-
-one_more : (end : List ℕ) (left : ℕ) (now new : MirrorView) (middle after later : List Item) (rest : List (List ℕ)) (posts : List PostView) (last : List ℕ) → rest ≡ flat_map post_lines posts ++ last ∷ [] → AllByRecursion IsPost posts
-    → are_next now posts ≡ true → IsLast end left (length posts) last → middle ≡ texts rest ++ later → 0 < left → NoneFirst IsOneRefusal middle → TakesPost middle after → new.space ≡ now.space → new.number ≡ now.number + 1
-    → (less : ℕ) × (more : List (List ℕ)) × (1 + less ≡ left) × IsFollowing end less new more × (after ≡ texts more ++ later)
-one_more end zero now new middle after later rest posts last all valid next ends e some none takes space number = absurd (omega (arith, some))
-one_more end (suc less) now new middle after later rest [] last all valid next ends e some none takes space number = absurd (none rest later (last, last_refuses end less last ends, all) e)
-one_more end (suc less) now new middle after later rest (p ∷ posts) last all valid next ends e some none takes space number =
-    let here : is_next now p ≡ true = and_first (is_next now p) (are_next (mirrored now p) posts) next in
-    let beyond : are_next (mirrored now p) posts ≡ true = and_second (is_next now p) (are_next (mirrored now p) posts) next in
-    let is : p.number ≡ now.number + 1 = grind (arith, nat_tests) in (
-      less,
-      flat_map post_lines posts ++ last ∷ [],
-      omega arith,
-      record {
-        posts = posts;
-        last = last;
-        all = refl;
-        valid = valid.1;
-        next = are_alike new (mirrored now p) posts space (number ∙ sym is) ∙ beyond;
-        ends = last_less end less p posts last ends;
-      },
-      takes p (texts (flat_map post_lines posts ++ last ∷ []) ++ later) valid.0 (joined_behind p posts last rest middle later all e),
-    )
-
-post_makes : (now new : MirrorView) (post : PostView) → AreMirrored (post ∷ []) now new → (new.space ≡ now.space) × (new.number ≡ now.number + 1)
-post_makes now new post f =
-    let here : is_next now post ≡ true = and_first (is_next now post) true f.are in
-    let is : post.number ≡ now.number + 1 = grind (arith, nat_tests) in
-    (ap (λ m. m.space) f.make, ap (λ m. m.number) f.make ∙ is)
-
-pub goes_on : (end : List ℕ) (count taken : ℕ) (old now new : MirrorView) (before middle after : List Item) → taken < count → Goes end count taken old now before middle → NoneFirst IsOneRefusal middle → TakesPost middle after
-    → HasFollowed middle after now new → Goes end count (taken + 1) old new before after
-goes_on end count taken old now new before middle after lt goes none takes h lines later f e =
-    let g = goes lines later f e in
-    let m = post_makes now new h.post h.follows in
-    let k = g.3 in
-    let sum = g.2 in
-    let o = one_more end g.0 now new middle after later g.1 k.posts k.last k.all k.valid k.next k.ends g.4 (omega (arith, sum, lt)) none takes m.0 m.1 in
-    (o.0, o.1, (let more = o.2 in omega (arith, sum, more)), o.3, o.4)
-
--- a post that does not come, or an end
-next_left : (end : List ℕ) (left : ℕ) (now : MirrorView) (middle later : List Item) (rest : List (List ℕ)) (posts : List PostView) (last : List ℕ) → rest ≡ flat_map post_lines posts ++ last ∷ [] → AllByRecursion IsPost posts
-    → are_next now posts ≡ true → IsLast end left (length posts) last → middle ≡ texts rest ++ later → 0 < left → NoneFirst (IsRefusedOr (IsNextPost now)) middle → ⊥
-next_left end zero now middle later rest posts last all valid next ends e some none = omega (arith, some)
-next_left end (suc less) now middle later rest [] last all valid next ends e some none = none rest later (inl (last, last_refuses end less last ends, all)) e
-next_left end (suc less) now middle later rest (p ∷ posts) last all valid next ends e some none =
-    none (post_lines p) (texts (flat_map post_lines posts ++ last ∷ []) ++ later)
-    (inr (record { post = p; valid = valid.0; next = and_first (is_next now p) (are_next (mirrored now p) posts) next; all = refl }))
-    (joined_behind p posts last rest middle later all e)
-
-pub goes_cut : (end : List ℕ) (count taken : ℕ) (old now : MirrorView) (before middle : List Item) → taken < count → Goes end count taken old now before middle → NoneFirst (IsRefusedOr (IsNextPost now)) middle
-    → NoneFirst (IsFollowing end count old) before
-goes_cut end count taken old now before middle lt goes none lines later f e =
-    let g = goes lines later f e in
-    let k = g.3 in
-    let sum = g.2 in
-    next_left end g.0 now middle later g.1 k.posts k.last k.all k.valid k.next k.ends g.4 (omega (arith, sum, lt)) none
-
-last_is : (count left : ℕ) (last : List ℕ) (lines : List (List ℕ)) → IsLast (counted_line count) left 0 last → lines ≡ last ∷ [] → IsRefusedOr (IsEnd count) lines
-last_is count left last lines (inl s) all = inr (all ∙ ap (λ l. l ∷ []) s.1)
-last_is count left last lines (inr s) all = inl (last, s.1, all)
-
-never_more : (end : List ℕ) (p : PostView) (posts : List PostView) (last : List ℕ) → IsLast end 0 (length (p ∷ posts)) last → ⊥
-never_more end p posts last (inl s) = let no = s.0 in omega (arith, no)
-never_more end p posts last (inr s) = let no = s.0 in omega (arith, no)
-
-end_left : (count left : ℕ) (middle later : List Item) (rest : List (List ℕ)) (posts : List PostView) (last : List ℕ) → left ≡ 0 → rest ≡ flat_map post_lines posts ++ last ∷ [] → IsLast (counted_line count) left (length posts) last
-    → middle ≡ texts rest ++ later → NoneFirst (IsRefusedOr (IsEnd count)) middle → ⊥
-end_left count left middle later rest [] last is all ends e none = none rest later (last_is count left last rest ends all) e
-end_left count left middle later rest (p ∷ posts) last is all ends e none =
-    never_more (counted_line count) p posts last (subst (λ n. IsLast (counted_line count) n (length (p ∷ posts)) last) is ends)
-
-pub goes_to_end : (count taken : ℕ) (old now : MirrorView) (before middle : List Item) → count ≤ taken → Goes (counted_line count) count taken old now before middle → NoneFirst (IsRefusedOr (IsEnd count)) middle
-    → NoneFirst (IsFollowing (counted_line count) count old) before
-goes_to_end count taken old now before middle all goes none lines later f e =
-    let g = goes lines later f e in
-    let k = g.3 in
-    let sum = g.2 in
-    end_left count g.0 middle later g.1 k.posts k.last (omega (arith, sum, all)) k.all k.ends g.4 none
+-- posts that follow a mirror, up to their end
+pub follows : (end : List ℕ) (count : ℕ) (mirror : MirrorView) (lines : List (List ℕ)) → IsFollowing end count mirror lines → IsSeries (up_to following end count) mirror lines
+follows end count mirror lines f = record { items = f.posts; last = f.last ∷ []; due = (f.valid, f.next); ends = (f.last, refl, f.ends); all = f.all }
 
 -- a whole mirroring
 pub mirroring_needs_opening : (space count : ℕ) (before : List Item) → NoneFirst (IsRefusedOr (IsOpening space)) before → NoneFirst (IsRefusedOr (IsMirroring space count)) before
@@ -273,4 +162,4 @@ pub mirroring_needs_posts : (space count : ℕ) (mirror : MirrorView) (before mi
 mirroring_needs_posts space count mirror before middle o refusal none =
     unrefused_or before refusal (λ lines later k e.
     let a = opened_alike space before middle (texts k.others ++ later) mirror k.found o k.shown (e ∙ ap (λ ls. texts ls ++ later) k.all ∙ texts_split (opening_lines k.found) k.others later) in
-    none k.others later (following_alike (counted_line count) count k.found mirror k.others (k.of ∙ sym o.of) (sym a.0) k.following) a.1)
+    none k.others later (subst (λ m. IsFollowing (counted_line count) count m k.others) (sym a.0) k.following) a.1)

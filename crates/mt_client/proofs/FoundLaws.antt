@@ -19,12 +19,12 @@ use Rattle.mt_events.specs.Texts.{count_text, part_text, lines_of_parts, opening
 use Rattle.mt_client.specs.declared.opening.Heading.{Heading}
 use Rattle.mt_client.specs.Requests.{is_refusal}
 use Rattle.mt_client.specs.Reading.{texts, printed, NoneFirst, AreSoMany}
-use Rattle.mt_client.specs.Mirroring.{IsShown, counted_line, heading_words, heading_line, part_lines, opening_lines}
+use Rattle.mt_client.specs.Mirroring.{IsShown, counted_line, heading_words, heading_line, part_lines, opening_lines, HasOpened}
 use Rattle.mt_client.specs.Awaited.{IsRefusedOr, AreRowLines, IsOpening}
 use Rattle.mt_client.specs.Finding.{mirror_space, parts_lines, found_lines, AreOf, AreShown, part_found, opening_found, HasFound, HasWatched, IsFinding, IsPartWithin, ArePartLines}
-use Rattle.mt_client.proofs.RelayLaws.{printed-append}
+use Rattle.mt_client.proofs.RelayLaws.{texts_split, printed-append}
 use Rattle.mt_client.proofs.MirrorLaws.{part_is}
-use Rattle.mt_client.proofs.OpeningLaws.{first_taken, texts_split, needs_line, refused_some, no_refusal, unrefused_or, counted_tells, heading_tells, few, rows_alike, behind_rows}
+use Rattle.mt_client.proofs.OpeningLaws.{first_taken, needs_line, refused_some, no_refusal, unrefused_or, counted_tells, heading_tells, few, rows_alike, behind_rows}
 
 abbrev AllShown : List MirrorView → Type 0
 AllShown parts = AllByRecursion IsShown parts
@@ -47,6 +47,12 @@ shown_alike m n middle later s t e =
     let rest : texts (map line m.rows) ++ middle ≡ texts (map line n.rows) ++ later = cc in
     let w = heading_tells m.space m.number (length m.rows) n.space n.number (length n.rows) s.space s.number (few (length m.rows) s.counted) t.space t.number (few (length n.rows) t.counted) here in
     (view_is m n w.0 w.1 (rows_alike m.rows n.rows middle later w.2 rest s.rows t.rows), behind_rows m.rows n.rows middle later w.2 rest)
+
+-- two openings of one namespace that come first are one, and end in one place
+pub opened_alike : (space : ℕ) (before middle later : List Item) (mirror found : MirrorView) → HasOpened space before middle mirror → IsShown found → before ≡ texts (opening_lines found) ++ later → (mirror ≡ found) × (middle ≡ later)
+opened_alike space before middle later mirror found o s e =
+    let t = first_taken (counted_line (1 + length mirror.rows)) (counted_line (1 + length found.rows)) (opening_lines found) (part_lines found) before (texts (part_lines mirror) ++ middle) later o.read refl e in
+    shown_alike mirror found middle later o.shown s t.1
 
 -- the first of two lists of namespaces that come first are one
 firsts_alike : (m n : MirrorView) (parts news : List MirrorView) (middle later : List Item) → IsShown m → IsShown n → texts (parts_lines (m ∷ parts)) ++ middle ≡ texts (parts_lines (n ∷ news)) ++ later

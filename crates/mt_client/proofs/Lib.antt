@@ -4,6 +4,7 @@ pub mod CallLaws
 pub mod AskLaws
 pub mod MirrorLaws
 pub mod OpeningLaws
+pub mod SeriesLaws
 pub mod FollowLaws
 pub mod ReplyLaws
 pub mod EndingLaws

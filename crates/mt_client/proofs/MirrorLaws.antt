@@ -1,7 +1,7 @@
 -- What a mirror has read, line by line, and the texts that the lines are.
 use Rattle.std.proofs.Common.{◌≡◌, ◌≢◌, ℕ, ◌+◌, ◌<◌, ◌≤◌, ◌^◌, MatchOption, MatchBool, IfOk, Result, Ok, Err, Bool, true, false, List, [], ◌∷◌, ◌++◌, map, length, refl, sym, ap, subst, ◌∙◌, arith, append_assoc, length-append, codes, decimal, Some, None, Option}
 use Rattle.std.proofs.lemmas.List.{append-nil}
-use Rattle.std.proofs.lemmas.Grind.{flat_map-append}
+use Rattle.std.proofs.lemmas.Grind.{flat_map-append, fold-append}
 use Rattle.std.specs.List.{flat_map, join_with_byte, list_all}
 use Rattle.mt_lines.specs.Words.{words}
 use Rattle.mt_lines.proofs.PieceLaws.{pieces_joined, joined_pieces}
@@ -9,16 +9,17 @@ use Rattle.mt_info.proofs.WordLaws.{lacks, decimal-lacks}
 use Rattle.mt_client.specs.declared.opening.Heading.{Heading}
 use Rattle.mt_client.specs.declared.fault.ClientFault.{ClientFault}
 use Rattle.mt_lines.specs.Lines.{Item, Text}
-use Rattle.mt_skel.proofs.MiddleLaws.{and-true, and_first, and_second, each_last}
+use Rattle.mt_skel.proofs.MiddleLaws.{and-true, each_last}
 use Rattle.mt_info.specs.RowLine.{line, whole_line}
 use Rattle.mt_info.specs.declared.row.Row.{Row}
 use Rattle.mt_events.specs.Posts.{PostView, IsPost, post_text, ended}
-use Rattle.mt_events.specs.Mirrors.{MirrorView, is_next, are_next, mirrored, mirrored_by}
+use Rattle.mt_events.specs.Mirrors.{MirrorView, is_next, are_next, mirrored}
 use Rattle.mt_events.specs.Texts.{count_text, part_text, opening_text}
 use Rattle.mt_client.specs.Reading.{texts, printed}
-use Rattle.mt_client.specs.Mirroring.{counted_line, heading_words, heading_line, part_lines, opening_lines, opening_with, AreMirrored, HasOpened, HasPosted, HasFollowed, HasFollowedSome, HasFollowedAll, HasRefused, HasMirrored, IsRefusedMidway}
+use Rattle.mt_client.specs.Mirroring.{counted_line, heading_words, heading_line, part_lines, opening_lines, opening_with, AreMirrored, HasOpened, IsPosted, HasFollowed, HasFollowedSome, HasFollowedAll, HasRefused, HasMirrored, IsRefusedMidway}
 use Rattle.mt_client.specs.Finding.{part_found}
 use Rattle.mt_client.proofs.RelayLaws.{texts-append, printed-append}
+use Rattle.mt_client.proofs.SeriesLaws.{following, are_both}
 
 -- lines read in two runs
 pub runs_read : (ls ms : List (List ℕ)) (before middle after : List Item) → before ≡ texts ls ++ middle → middle ≡ texts ms ++ after → before ≡ texts (ls ++ ms) ++ after
@@ -26,20 +27,10 @@ runs_read ls ms before middle after e f =
     e ∙ ap (λ x. texts ls ++ x) f ∙ sym (append_assoc (texts ls) (texts ms) after) ∙ ap (λ x. x ++ after) (sym (texts-append ls ms))
 
 -- posts one after another
-next_more : (posts : List PostView) (post : PostView) (old : MirrorView) → are_next old posts ≡ true → are_next (mirrored_by old posts) (post ∷ []) ≡ true → are_next old (posts ++ post ∷ []) ≡ true
-next_more [] post old h k = k
-next_more (p ∷ posts) post old h k =
-    and-true (is_next old p) (are_next (mirrored old p) (posts ++ post ∷ [])) (and_first (is_next old p) (are_next (mirrored old p) posts) h)
-    (next_more posts post (mirrored old p) (and_second (is_next old p) (are_next (mirrored old p) posts) h) k)
-
-mirrored_more : (posts : List PostView) (post : PostView) (old : MirrorView) → mirrored_by old (posts ++ post ∷ []) ≡ mirrored (mirrored_by old posts) post
-mirrored_more [] post old = refl
-mirrored_more (p ∷ posts) post old = mirrored_more posts post (mirrored old p)
-
 follows_more : (posts : List PostView) (post : PostView) (old between new : MirrorView) → AreMirrored posts old between → AreMirrored (post ∷ []) between new → AreMirrored (posts ++ post ∷ []) old new
 follows_more posts post old between new f h = record {
-  are = next_more posts post old f.are (subst (λ m. are_next m (post ∷ []) ≡ true) f.make h.are);
-  make = h.make ∙ ap (λ m. mirrored m post) f.make ∙ sym (mirrored_more posts post old);
+  are = are_both following posts (post ∷ []) old f.are (subst (λ m. are_next m (post ∷ []) ≡ true) f.make h.are);
+  make = h.make ∙ ap (λ m. mirrored m post) f.make ∙ sym (fold-append mirrored old posts (post ∷ []));
 }
 
 pub none_followed : (before : List Item) (mirror : MirrorView) → HasFollowedSome 0 before before mirror mirror
@@ -118,14 +109,14 @@ heading_is (Some h) line ws is e = sym (joined_pieces 32 line) ∙ ap (join_with
 heading_is None line ws is none = λ space number count a b d e. none space number count a b d (is ∙ ap words e ∙ pieces_joined 32 _ _ (heading_lacks space number count a b d))
 
 -- a post behind its first line
-pub followed_by_post : (first : List ℕ) (before middle after : List Item) (old new : MirrorView) → before ≡ Text first ∷ middle → HasPosted first middle after old new → HasFollowed before after old new
-followed_by_post first before middle after old new e p = record {
+pub followed_by_post : (first : List ℕ) (post : PostView) (before middle after : List Item) (old new : MirrorView) → before ≡ Text first ∷ middle → IsPosted first middle after post → IsPost post → (is_next old post ≡ true) × (new ≡ mirrored old post) → HasFollowed before after old new
+followed_by_post first post before middle after old new e p valid applied = record {
   lines = first ∷ p.others;
-  post = p.post;
-  valid = p.valid;
+  post = post;
+  valid = valid;
   read = e ∙ ap (λ x. Text first ∷ x) p.read;
   text = p.text;
-  follows = p.follows;
+  follows = record { are = and-true (is_next old post) true applied.0 refl; make = applied.1 };
 }
 
 pub when_true : (A B : Type 0) (b : Bool) → b ≡ true → MatchBool b A B → A

@@ -1,50 +1,31 @@
 -- What cannot come first where the posts of a watcher that is closed are refused, and what of their lines has come.
-use Rattle.std.proofs.Common.{◌≡◌, ℕ, ◌+◌, ◌<◌, true, false, Some, None, List, [], ◌∷◌, ◌++◌, length, refl, sym, ap, subst, ◌∙◌, arith, length-append, IsTrue, inl, inr, ◌⊎◌}
-use Rattle.std.proofs.lemmas.Bool.{false≢true}
+use Rattle.std.proofs.Common.{◌≡◌, ℕ, true, false, Some, None, List, [], ◌∷◌, length, refl, sym, ap, subst, ◌∙◌, arith, IsTrue, inl, inr, ◌⊎◌}
 use Rattle.std.proofs.lemmas.Option.{same_Some}
-use Rattle.std.specs.List.{flat_map, AllByRecursion}
-use Rattle.mt_skel.proofs.MiddleLaws.{and_first, and_second}
 use Rattle.mt_lines.specs.Lines.{Item, Text}
 use Rattle.mt_lines.specs.Words.{words}
 use Rattle.mt_lines.specs.Reading.{failed_calls, last_faults}
 use Rattle.mt_lines.specs.declared.line.LineReader.{LineReader}
 use Rattle.mt_lines.specs.declared.stream.Input.{Ghosts}
 use Rattle.mt_lines.specs.declared.stream.Output.{Ghosts as OutputGhosts}
-use Rattle.mt_events.specs.Posts.{PostView, IsPost, post_lines}
+use Rattle.mt_events.specs.Posts.{PostView, post_lines}
 use Rattle.mt_events.specs.Mirrors.{MirrorView}
 use Rattle.mt_events.specs.declared.opening.Scope.TheVariants.{All}
 use Rattle.mt_protocol.specs.declared.form.Form.TheVariants.{Posts}
 use Rattle.mt_client.specs.declared.fault.ClientFault.{ClientFault}
 use Rattle.mt_client.specs.declared.fault.ClientFault.TheVariants.{Connection}
 use Rattle.mt_client.specs.Requests.{is_refusal, lines_behind, event_count}
-use Rattle.mt_client.specs.Reading.{lines_left, texts, HasBroken, NoneFirst, AreSoMany}
+use Rattle.mt_client.specs.Reading.{lines_left, HasBroken, NoneFirst, AreSoMany}
 use Rattle.mt_client.specs.Calls.{ReadsOn, WritesOn, IsTellFault, IsPassFault, IsAskFault}
-use Rattle.mt_client.specs.Awaited.{IsOneRefusal, IsRefusedOr, IsPostBehind, IsOnlyPost}
-use Rattle.mt_client.specs.Telling.{mirrors_with, is_due, are_due}
-use Rattle.mt_client.specs.Due.{IsDuePost}
+use Rattle.mt_client.specs.Awaited.{IsOneRefusal, IsRefusedOr, IsOnlyPost}
+use Rattle.mt_client.specs.Telling.{mirrors_with}
 use Rattle.mt_client.specs.Missing.{AreDueLines, IsClosing, IsMissing, IsMissingAnswer, IsEffectFault, IsOnlyCounted}
 use Rattle.mt_client.proofs.RelayLaws.{broken_later}
 use Rattle.mt_client.proofs.CallLaws.{either}
-use Rattle.mt_client.proofs.OpeningLaws.{first_taken, texts_split, needs_line, refused_some, no_refusal, unrefused_or}
-use Rattle.mt_client.proofs.FollowLaws.{event_many}
-use Rattle.mt_client.proofs.AheadLaws.{due_some, post_taken}
+use Rattle.mt_client.proofs.OpeningLaws.{first_taken, needs_line, refused_some, no_refusal, unrefused_or}
+use Rattle.mt_client.proofs.SeriesLaws.{Series, IsSeries, in_lines, are_in_lines, due_to, post_series}
+use Rattle.mt_client.proofs.FollowLaws.{event_many, post_taken}
 
--- a post that is due
-pub post_needs_line : (mirrors : List MirrorView) (before : List Item) → NoneFirst (AreSoMany 1) before → NoneFirst (IsDuePost All mirrors) before
-post_needs_line mirrors before none = needs_line before (due_some All mirrors) none
-
-pub post_needs_lines : (mirrors : List MirrorView) (seen : List ℕ) (before middle : List Item) → before ≡ Text seen ∷ middle → NoneFirst (IsPostBehind seen) middle → NoneFirst (IsDuePost All mirrors) before
-post_needs_lines mirrors seen before middle there none lines later k e =
-    let t = post_taken seen before middle later lines k.post there k.all e in
-    none t.0 later (k.post, k.valid, t.1) t.2
-
-pub post_needs_due : (mirrors : List MirrorView) (seen : List ℕ) (before middle after : List Item) (post : PostView) → before ≡ Text seen ∷ middle → IsOnlyPost seen middle after post → is_due All mirrors post ≡ false → NoneFirst (IsDuePost All mirrors) before
-post_needs_due mirrors seen before middle after post there only other lines later k e =
-    let t = post_taken seen before middle later lines k.post there k.all e in
-    let o = only k.post t.0 later k.valid t.1 t.2 in
-    let yes : is_due All mirrors post ≡ true = sym (ap (is_due All mirrors) o.0) ∙ k.due in
-    false≢true (sym other ∙ yes)
-
+-- a post that was read, with so many lines behind its first one, was applied
 pub only_counted : (behind : ℕ) (seen : List ℕ) (before middle after : List Item) (post : PostView) (old new : List MirrorView) → before ≡ Text seen ∷ middle → Some behind ≡ event_count (words seen) → IsOnlyPost seen middle after post → new ≡ mirrors_with old post
     → IsOnlyCounted behind old new before after
 only_counted behind seen before middle after post old new there counts only make other rest valid e =
@@ -54,75 +35,12 @@ only_counted behind seen before middle after post old new there counts only make
     let all : length (seen ∷ t.0) ≡ length (post_lines other) = ap length t.1 in
     (omega (arith, many, all), make ∙ ap (mirrors_with old) (sym o.0), o.1)
 
--- what is left of the lines of posts, where they came first at the start
-abbrev pub LinesComing : ℕ → ℕ → List MirrorView → List MirrorView → List Item → List Item → Type 0
-LinesComing count left old now before middle =
-    (lines : List (List ℕ)) (later : List Item) → AreDueLines count old lines → before ≡ texts lines ++ later → (rest : List (List ℕ)) × AreDueLines left now rest × (middle ≡ texts rest ++ later)
+-- posts that are due, counted by their lines
+abbrev pub posts_due : Series
+posts_due = post_series (due_to All) (λ n ls. ls ≡ [])
 
-pub all_coming : (count : ℕ) (mirrors : List MirrorView) (before : List Item) → LinesComing count count mirrors mirrors before before
-all_coming count mirrors before lines later d e = (lines, d, e)
-
-no_post : (left : ℕ) (rest : List (List ℕ)) → rest ≡ [] → length rest ≡ left → 0 < left → ⊥
-no_post left rest none many some =
-    let empty : length rest ≡ 0 = ap length none in
-    omega (arith, empty, many, some)
-
-split_lines : (p : PostView) (posts : List PostView) (rest : List (List ℕ)) (middle later : List Item) → rest ≡ flat_map post_lines (p ∷ posts) → middle ≡ texts rest ++ later → middle ≡ texts (post_lines p) ++ (texts (flat_map post_lines posts) ++ later)
-split_lines p posts rest middle later all e = e ∙ ap (λ ls. texts ls ++ later) all ∙ texts_split (post_lines p) (flat_map post_lines posts) later
-
-lines_both : (p : PostView) (posts : List PostView) (rest : List (List ℕ)) → rest ≡ flat_map post_lines (p ∷ posts) → length rest ≡ length (post_lines p) + length (flat_map post_lines posts)
-lines_both p posts rest all = ap length all ∙ length-append (post_lines p) (flat_map post_lines posts)
-
-one_less : (behind left less : ℕ) (now new : List MirrorView) (middle after later : List Item) (rest : List (List ℕ)) (posts : List PostView) → left ≡ (1 + behind) + less → IsOnlyCounted behind now new middle after → AllByRecursion IsPost posts → are_due All now posts ≡ true
-    → length rest ≡ left → rest ≡ flat_map post_lines posts → middle ≡ texts rest ++ later → (more : List (List ℕ)) × AreDueLines less new more × (after ≡ texts more ++ later)
-one_less behind left less now new middle after later rest [] sum only valid due many all e = absurd (no_post left rest all many (omega (arith, sum)))
-one_less behind left less now new middle after later rest (p ∷ posts) sum only valid due many all e =
-    let k = only p (texts (flat_map post_lines posts) ++ later) valid.0 (split_lines p posts rest middle later all e) in
-    let both = lines_both p posts rest all in
-    let first = k.0 in (
-      flat_map post_lines posts,
-      record {
-        posts = posts;
-        valid = valid.1;
-        due = subst (λ ms. are_due All ms posts ≡ true) (sym k.1) (and_second (is_due All now p) (are_due All (mirrors_with now p) posts) due);
-        many = omega (arith, sum, many, both, first);
-        all = refl;
-      },
-      k.2,
-    )
-
-pub more_coming : (count behind left less : ℕ) (old now new : List MirrorView) (before middle after : List Item) → left ≡ (1 + behind) + less → LinesComing count left old now before middle → IsOnlyCounted behind now new middle after → LinesComing count less old new before after
-more_coming count behind left less old now new before middle after sum coming only lines later d e =
-    let c = coming lines later d e in
-    let k = c.1 in
-    one_less behind left less now new middle after later c.0 k.posts sum only k.valid k.due k.many k.all c.2
-
-cut_lines : (left : ℕ) (now : List MirrorView) (middle later : List Item) (rest : List (List ℕ)) (posts : List PostView) → 0 < left → NoneFirst (IsDuePost All now) middle → AllByRecursion IsPost posts → are_due All now posts ≡ true → length rest ≡ left
-    → rest ≡ flat_map post_lines posts → middle ≡ texts rest ++ later → ⊥
-cut_lines left now middle later rest [] some none valid due many all e = no_post left rest all many some
-cut_lines left now middle later rest (p ∷ posts) some none valid due many all e =
-    none (post_lines p) (texts (flat_map post_lines posts) ++ later) (record { post = p; valid = valid.0; due = and_first (is_due All now p) (are_due All (mirrors_with now p) posts) due; all = refl }) (split_lines p posts rest middle later all e)
-
-pub coming_cut : (count left : ℕ) (old now : List MirrorView) (before middle : List Item) → 0 < left → LinesComing count left old now before middle → NoneFirst (IsDuePost All now) middle → NoneFirst (AreDueLines count old) before
-coming_cut count left old now before middle some coming none lines later d e =
-    let c = coming lines later d e in
-    let k = c.1 in
-    cut_lines left now middle later c.0 k.posts some none k.valid k.due k.many k.all c.2
-
-too_many : (behind left : ℕ) (now new : List MirrorView) (middle after later : List Item) (rest : List (List ℕ)) (posts : List PostView) → 0 < left → left < 1 + behind → IsOnlyCounted behind now new middle after → AllByRecursion IsPost posts → length rest ≡ left
-    → rest ≡ flat_map post_lines posts → middle ≡ texts rest ++ later → ⊥
-too_many behind left now new middle after later rest [] some over only valid many all e = no_post left rest all many some
-too_many behind left now new middle after later rest (p ∷ posts) some over only valid many all e =
-    let k = only p (texts (flat_map post_lines posts) ++ later) valid.0 (split_lines p posts rest middle later all e) in
-    let both = lines_both p posts rest all in
-    let first = k.0 in
-    omega (arith, over, many, both, first)
-
-pub coming_over : (count behind left : ℕ) (old now new : List MirrorView) (before middle after : List Item) → 0 < left → left < 1 + behind → LinesComing count left old now before middle → IsOnlyCounted behind now new middle after → NoneFirst (AreDueLines count old) before
-coming_over count behind left old now new before middle after some over coming only lines later d e =
-    let c = coming lines later d e in
-    let k = c.1 in
-    too_many behind left now new middle after later c.0 k.posts some over only k.valid k.many k.all c.2
+pub due_lines : (count : ℕ) (mirrors : List MirrorView) (lines : List (List ℕ)) → AreDueLines count mirrors lines → IsSeries (in_lines posts_due) (count, mirrors) lines
+due_lines count mirrors lines d = are_in_lines posts_due count mirrors d.posts lines (d.valid, d.due) d.many d.all
 
 -- the answer of a watcher that is closed
 closing_some : (mirrors : List MirrorView) (lines : List (List ℕ)) → IsClosing mirrors lines → (first : List ℕ) × (others : List (List ℕ)) × (lines ≡ first ∷ others)

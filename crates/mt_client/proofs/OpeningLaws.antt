@@ -1,5 +1,5 @@
 -- What cannot come first where a line, a row or a heading is refused, and what was read of an opening.
-use Rattle.std.proofs.Common.{◌≡◌, ◌≢◌, ◌==◌, Bool, MatchBool, ℕ, ◌+◌, ◌<◌, ◌^◌, true, false, List, [], ◌∷◌, ◌++◌, map, length, refl, sym, ap, ◌∙◌, arith, append_assoc, codes, decimal, inl, inr}
+use Rattle.std.proofs.Common.{◌≡◌, ◌≢◌, ◌==◌, Bool, MatchBool, ℕ, ◌+◌, ◌<◌, ◌^◌, true, false, List, [], ◌∷◌, ◌++◌, map, length, refl, sym, ap, ◌∙◌, arith, codes, decimal, inl, inr}
 use Rattle.std.specs.List.{join_with_byte, AllByRecursion}
 use Rattle.std.proofs.lemmas.List.{append_cancel_left}
 use Rattle.std.proofs.lemmas.Bool.{false≢true}
@@ -12,14 +12,12 @@ use Rattle.mt_info.specs.Laws.{IsRow}
 use Rattle.mt_info.specs.RowLine.{line}
 use Rattle.mt_info.specs.declared.row.Row.{Row}
 use Rattle.mt_info.proofs.RowLineLaws.{line-injective}
-use Rattle.mt_events.specs.Mirrors.{MirrorView}
 use Rattle.mt_events.proofs.PostLaws.{second, third, fourth}
 use Rattle.mt_client.specs.Requests.{is_refusal}
 use Rattle.mt_client.specs.Reading.{texts, NoneFirst, AreSoMany}
-use Rattle.mt_client.specs.Mirroring.{IsShown, counted_line, heading_words, heading_line, part_lines, opening_lines, HasOpened}
+use Rattle.mt_client.specs.Mirroring.{counted_line, heading_words}
 use Rattle.mt_client.specs.Awaited.{IsOneRefusal, IsRefusedOr, IsRowLine, AreRowLines}
 use Rattle.mt_client.proofs.MirrorLaws.{heading_lacks}
-use Rattle.mt_client.proofs.RelayLaws.{texts-append}
 
 -- the first of the lines that come first
 first_read : (seen first : List ℕ) (others : List (List ℕ)) (middle later : List Item) → Text seen ∷ middle ≡ Text first ∷ (texts others ++ later) → (first ≡ seen) × (middle ≡ texts others ++ later)
@@ -27,9 +25,6 @@ first_read seen first others middle later e = (cc, cc)
 
 pub first_taken : (seen first : List ℕ) (lines others : List (List ℕ)) (before middle later : List Item) → before ≡ Text seen ∷ middle → lines ≡ first ∷ others → before ≡ texts lines ++ later → (first ≡ seen) × (middle ≡ texts others ++ later)
 first_taken seen first lines others before middle later there is e = first_read seen first others middle later (sym there ∙ e ∙ ap (λ ls. texts ls ++ later) is)
-
-pub texts_split : (xs ys : List (List ℕ)) (later : List Item) → texts (xs ++ ys) ++ later ≡ texts xs ++ (texts ys ++ later)
-texts_split xs ys later = ap (λ x. x ++ later) (texts-append xs ys) ∙ append_assoc (texts xs) (texts ys) later
 
 -- what cannot come first where no line does
 pub needs_line : {kind : List (List ℕ) → Type 0} (before : List Item) → ((lines : List (List ℕ)) → kind lines → (first : List ℕ) × (others : List (List ℕ)) × (lines ≡ first ∷ others)) → NoneFirst (AreSoMany 1) before → NoneFirst kind before
@@ -107,12 +102,3 @@ behind_rows (r ∷ rows) (n ∷ news) middle later many e =
 
 pub few : (n : ℕ) → 1 + n < 2 ^ 64 → n < 2 ^ 64
 few n lt = omega (arith, lt)
-
--- two openings that come first are of one number, and end in one place
-pub opened_alike : (space : ℕ) (before middle later : List Item) (mirror found : MirrorView) → HasOpened space before middle mirror → IsShown found → before ≡ texts (opening_lines found) ++ later
-    → (mirror.number ≡ found.number) × (middle ≡ later)
-opened_alike space before middle later mirror found o s e =
-    let t = first_taken (counted_line (1 + length mirror.rows)) (counted_line (1 + length found.rows)) (opening_lines found) (part_lines found) before (texts (part_lines mirror) ++ middle) later o.read refl e in
-    let u = first_taken (heading_line mirror) (heading_line found) (part_lines found) (map line found.rows) (texts (part_lines mirror) ++ middle) (texts (map line mirror.rows) ++ middle) later refl refl t.1 in
-    let w = heading_tells mirror.space mirror.number (length mirror.rows) found.space found.number (length found.rows) o.shown.space o.shown.number (few (length mirror.rows) o.shown.counted) s.space s.number (few (length found.rows) s.counted) (sym u.0) in
-    (w.1, behind_rows mirror.rows found.rows middle later w.2 u.1)

@@ -16,6 +16,9 @@ use Rattle.mt_client.proofs.RequestLaws.{cut_second}
 pub texts-append : (xs ys : List (List ℕ)) → texts (xs ++ ys) ≡ texts xs ++ texts ys
 texts-append xs ys = map-append Text xs ys
 
+pub texts_split : (xs ys : List (List ℕ)) (later : List Item) → texts (xs ++ ys) ++ later ≡ texts xs ++ (texts ys ++ later)
+texts_split xs ys later = ap (λ x. x ++ later) (texts-append xs ys) ∙ append_assoc (texts xs) (texts ys) later
+
 pub printed-append : (xs ys : List (List ℕ)) → printed (xs ++ ys) ≡ printed xs ++ printed ys
 printed-append xs ys = flat_map-append ended xs ys
 

@@ -3,7 +3,7 @@ use Rattle.std.proofs.Common.{◌≡◌, ◌≢◌, ℕ, ◌+◌, ◌-◌, ◌<�
 use Rattle.std.proofs.lemmas.List.{map-append, length-map}
 use Rattle.std.proofs.lemmas.Bool.Decides.{nat_tests}
 use Rattle.std.proofs.lemmas.Grind.{flat_map-append}
-use Rattle.std.specs.List.{flat_map, join_with_byte, AllByRecursion}
+use Rattle.std.specs.List.{flat_map, join_with_byte}
 use Rattle.std.proofs.lemmas.Option.{same_Some}
 use Rattle.mt_lines.specs.Words.{words}
 use Rattle.mt_lines.specs.Lines.{Item, Text}
@@ -20,8 +20,9 @@ use Rattle.mt_client.specs.Reading.{texts, printed, HasRead, NoneFirst, AreSoMan
 use Rattle.mt_client.specs.Mirroring.{heading_words}
 use Rattle.mt_client.specs.Awaited.{IsRowLine, AreRowLines}
 use Rattle.mt_client.specs.Replies.{IsPartLines, IsPostLines, IsBlock, IsBlockOf, AreBlocks, AreBlockLines, AreBehind, IsHeaded}
-use Rattle.mt_client.proofs.OpeningLaws.{first_taken, texts_split, needs_line, heading_tells, rows_cut}
-use Rattle.mt_client.proofs.FollowLaws.{lines_alike}
+use Rattle.mt_client.proofs.SeriesLaws.{Series, IsSeries, in_lines, are_in_lines, groups}
+use Rattle.mt_client.proofs.OpeningLaws.{first_taken, needs_line, heading_tells, rows_cut}
+use Rattle.mt_client.proofs.FollowLaws.{HasReadMore, lines_alike}
 
 -- rows
 pub no_rows : AreRowLines 0 []
@@ -86,9 +87,6 @@ post_made n seen others text begun counts many began is post =
       whole,
     )
 
-abbrev pub HasAppended : ℕ → List Item → List Item → List ℕ → List ℕ → Type 0
-HasAppended n middle after begun text = (all : List (List ℕ)) × (length all ≡ n) × (middle ≡ texts all ++ after) × (text ≡ begun ++ printed all)
-
 post_first : (seen : List ℕ) (middle later : List Item) (lines : List (List ℕ)) (k : IsPostLines lines) → Text seen ∷ middle ≡ texts lines ++ later → (k.first ≡ seen) × (middle ≡ texts k.others ++ later)
 post_first seen middle later lines k e = first_taken seen k.first lines k.others (Text seen ∷ middle) middle later refl k.all e
 
@@ -107,7 +105,7 @@ pub post_needs_lines : (n : ℕ) (seen : List ℕ) (middle : List Item) → Some
 post_needs_lines n seen middle counts none lines later k e = none k.others later (post_many n seen middle later lines counts k e) (post_first seen middle later lines k e).1
 
 pub post_needs_text : (n : ℕ) (seen : List ℕ) (middle after : List Item) (text begun : List ℕ) → Some n ≡ event_count (words seen) → begun ≡ [] ++ ended seen
-    → HasAppended n middle after begun text → ((post : PostView) → IsPost post → text ≢ post_text post) → NoneFirst IsPostLines (Text seen ∷ middle)
+    → HasReadMore n middle after begun text → ((post : PostView) → IsPost post → text ≢ post_text post) → NoneFirst IsPostLines (Text seen ∷ middle)
 post_needs_text n seen middle after text begun counts began read none lines later k e =
     let t = post_first seen middle later lines k e in
     let a = lines_alike read.0 k.others after later (read.1 ∙ sym (post_many n seen middle later lines counts k e)) (sym read.2 ∙ t.1) in
@@ -117,6 +115,13 @@ post_needs_text n seen middle after text begun counts began read none lines late
 -- two blocks that come first have as many lines
 abbrev pub Alike : (List (List ℕ) → Type 0) → Type 0
 Alike kind = (g h : List (List ℕ)) (middle later : List Item) → kind g → kind h → texts g ++ middle ≡ texts h ++ later → length g ≡ length h
+
+-- the group of lines that comes first is the one that was read
+pub group_only : {kind : List (List ℕ) → Type 0} → Alike kind → (xs : List (List ℕ)) (middle after : List Item) → kind xs → middle ≡ texts xs ++ after → (g : List (List ℕ)) (later : List Item) → kind g → middle ≡ texts g ++ later → (length g ≡ length xs) × (after ≡ later)
+group_only alike xs middle after is read g later other e =
+    let both : texts xs ++ after ≡ texts g ++ later = sym read ∙ e in
+    let many = alike xs g after later is other both in
+    (sym many, (lines_alike xs g after later many both).1)
 
 parts_alike : Alike IsPartLines
 parts_alike g h middle later p q e =
@@ -177,56 +182,18 @@ too_many behind left some over = go (nat_le behind (left - 1)) refl
     go true is = absurd (over (grind (arith, nat_tests)))
     go false is = let more : left - 1 < behind = grind (arith, nat_tests) in omega (arith, more, some)
 
--- what comes first behind some of the blocks, where so many lines of blocks did at the start
-abbrev pub Left : (List (List ℕ) → Type 0) → ℕ → ℕ → List Item → List Item → Type 0
-Left kind count left before middle =
-    (lines : List (List ℕ)) (later : List Item) → AreBlocks kind lines → length lines ≡ count → before ≡ texts lines ++ later → (rest : List (List ℕ)) × AreBlocks kind rest × (length rest ≡ left) × (middle ≡ texts rest ++ later)
+-- blocks, counted by their lines
+abbrev pub blocks_of : Block → Series
+blocks_of block = groups (IsBlock block) (λ n ls. ls ≡ [])
 
-pub left_at_first : {kind : List (List ℕ) → Type 0} (count : ℕ) (before : List Item) → Left kind count count before before
-left_at_first count before lines later a many e = (lines, a, many, e)
+pub are_blocks : (block : Block) (count : ℕ) (lines : List (List ℕ)) → AreBlockLines block count lines → IsSeries (in_lines (blocks_of block)) (count, tt) lines
+are_blocks block count lines a = are_in_lines (blocks_of block) count tt a.0.blocks lines a.0.each a.1 a.0.all
 
-pub flat_split : (g : List (List ℕ)) (blocks : List (List (List ℕ))) (rest : List (List ℕ)) (middle later : List Item) → rest ≡ flat_map (λ block. block) (g ∷ blocks) → middle ≡ texts rest ++ later → middle ≡ texts g ++ (texts (flat_map (λ block. block) blocks) ++ later)
-flat_split g blocks rest middle later all e = e ∙ ap (λ ls. texts ls ++ later) all ∙ texts_split g (flat_map (λ block. block) blocks) later
-
--- what is left behind a block that was read: the block is the first of those that came
-left_behind_one : (block : Block) (left behind : ℕ) (middle after later : List Item) (rest : List (List ℕ)) (blocks : List (List (List ℕ))) → AllByRecursion (IsBlock block) blocks → rest ≡ flat_map (λ block. block) blocks → length rest ≡ left → 0 < left → middle ≡ texts rest ++ later
-    → HasRead (IsBlockOf block behind) middle after → (more : List (List ℕ)) × AreBlocks (IsBlock block) more × (left ≡ 1 + (behind + length more)) × (after ≡ texts more ++ later)
-left_behind_one block left behind middle after later rest [] each all many some e h = let l = ap length all in absurd (omega (arith, l, many, some))
-left_behind_one block left behind middle after later rest (g ∷ blocks) each all many some e h =
-    let s = flat_split g blocks rest middle later all e in
-    let n = blocks_alike block h.0 g after (texts (flat_map (λ block. block) blocks) ++ later) h.1.0 each.0 (sym h.2 ∙ s) in
-    let a = lines_alike h.0 g after (texts (flat_map (λ block. block) blocks) ++ later) n (sym h.2 ∙ s) in
-    let l = ap length all ∙ length-append g (flat_map (λ block. block) blocks) in
-    let m = h.1.1 in (
-      flat_map (λ block. block) blocks,
-      record { blocks = blocks; each = each.1; all = refl },
-      omega (arith, l, m, n, many),
-      a.1,
-    )
-
-pub left_on : (block : Block) (count left rest behind : ℕ) (before middle after : List Item) → left ≡ 1 + (behind + rest) → Left (IsBlock block) count left before middle → HasRead (IsBlockOf block behind) middle after → Left (IsBlock block) count rest before after
-left_on block count left rest behind before middle after is goes h lines later a many e =
-    let g = goes lines later a many e in
-    let o = left_behind_one block left behind middle after later g.0 g.1.blocks g.1.each g.1.all g.2 (omega (arith, is)) g.3 h in
-    let sum = o.2 in
-    (o.0, o.1, omega (arith, sum, is), o.3)
-
-pub left_over : (block : Block) (count left behind : ℕ) (before middle after : List Item) → 0 < left → left < 1 + behind → Left (IsBlock block) count left before middle → HasRead (IsBlockOf block behind) middle after → NoneFirst (AreBlockLines block count) before
-left_over block count left behind before middle after some over goes h lines later a e =
-    let g = goes lines later a.0 a.1 e in
-    let o = left_behind_one block left behind middle after later g.0 g.1.blocks g.1.each g.1.all g.2 some g.3 h in
-    let sum = o.2 in
-    omega (arith, sum, over)
-
-one_left : (block : Block) (left : ℕ) (middle later : List Item) (rest : List (List ℕ)) (blocks : List (List (List ℕ))) → AllByRecursion (IsBlock block) blocks → rest ≡ flat_map (λ block. block) blocks → length rest ≡ left → 0 < left → middle ≡ texts rest ++ later
-    → NoneFirst (IsBlock block) middle → ⊥
-one_left block left middle later rest [] each all many some e none = let l = ap length all in omega (arith, l, many, some)
-one_left block left middle later rest (g ∷ blocks) each all many some e none = none g (texts (flat_map (λ block. block) blocks) ++ later) each.0 (flat_split g blocks rest middle later all e)
-
-pub left_cut : (block : Block) (count left : ℕ) (before middle : List Item) → 0 < left → Left (IsBlock block) count left before middle → NoneFirst (IsBlock block) middle → NoneFirst (AreBlockLines block count) before
-left_cut block count left before middle some goes none lines later a e =
-    let g = goes lines later a.0 a.1 e in
-    one_left block left middle later g.0 g.1.blocks g.1.each g.1.all g.2 some g.3 none
+-- the block that comes first is the one that was read
+pub one_block : (block : Block) (behind : ℕ) (middle after : List Item) → HasRead (IsBlockOf block behind) middle after → (g : List (List ℕ)) (later : List Item) → IsBlock block g → middle ≡ texts g ++ later → (length g ≡ 1 + behind) × ◌≡◌ {A = Unit {0}} tt tt × (after ≡ later)
+one_block block behind middle after h g later is e =
+    let o = group_only (blocks_alike block) h.0 middle after h.1.0 h.2 g later is e in
+    (o.0 ∙ h.1.1, refl, o.1)
 
 -- the lines of an answer that is known by its first line
 pub headed_whole : (form : Form) (told : Bool) (count : ℕ) (seen : List ℕ) → Some told ≡ verdict seen → Some count ≡ lines_behind form told seen → (ls ms : List (List ℕ)) → ls ≡ seen ∷ [] → AreBehind form count ms → IsHeaded form (ls ++ ms) told

@@ -1,9 +1,9 @@
 -- Posts that were told, one after another, and what stands behind them.
 use Rattle.std.proofs.Common.{◌≡◌, ◌≢◌, ℕ, zero, suc, ◌+◌, ◌≤◌, MatchBool, MatchOption, Option, Some, None, IfSome, IfOk, IfErr, Result, Ok, Err, OnOk, Bool, true, false, List, [], ◌∷◌, ◌++◌, length, replicate, refl, sym, ap, subst, ◌∙◌, arith, append_assoc, length-append, codes, ◌⊎◌, inl, inr}
 use Rattle.std.proofs.lemmas.List.{append-nil}
-use Rattle.std.proofs.lemmas.Grind.{flat_map-append}
+use Rattle.std.proofs.lemmas.Grind.{flat_map-append, fold-append}
 use Rattle.std.specs.List.{flat_map, AllByRecursion}
-use Rattle.mt_skel.proofs.MiddleLaws.{and-true, and_first, and_second, each_append}
+use Rattle.mt_skel.proofs.MiddleLaws.{and-true, each_append}
 use Rattle.mt_lines.specs.Lines.{Item, Text}
 use Rattle.mt_events.specs.Posts.{PostView, IsPost, post_text, ended}
 use Rattle.mt_events.specs.Mirrors.{MirrorView}
@@ -19,18 +19,9 @@ use Rattle.mt_client.specs.Finding.{watch_text, HasFound}
 use Rattle.mt_client.specs.Telling.{told_in, mirrors_with, mirrors_by, is_due, are_due, posts_told, portion, follows_text, telling_text, all_posts, portions_text, HasCome, HasTold, IsUnsaid, IsHalfTold, IsStopped, IsBrokenOff, AreTold, HasToldPost, HasToldSome, HasToldPortion, HasToldSo, HasToldAll, HasToldAllOut, IsToldUpTo}
 use Rattle.mt_client.proofs.RequestLaws.{sent_whole, part_first, part_second}
 use Rattle.mt_client.proofs.RelayLaws.{printed-append, broken_cut}
+use Rattle.mt_client.proofs.SeriesLaws.{due_to, are_both}
 use Rattle.mt_client.proofs.MirrorLaws.{runs_read}
 use Rattle.mt_client.proofs.FoundLaws.{watched_whole}
-
-pub due_both : (scope : Scope) (ps qs : List PostView) (old : List MirrorView) → are_due scope old ps ≡ true → are_due scope (mirrors_by old ps) qs ≡ true → are_due scope old (ps ++ qs) ≡ true
-due_both scope [] qs old h k = k
-due_both scope (p ∷ ps) qs old h k =
-    and-true (is_due scope old p) (are_due scope (mirrors_with old p) (ps ++ qs)) (and_first (is_due scope old p) (are_due scope (mirrors_with old p) ps) h)
-    (due_both scope ps qs (mirrors_with old p) (and_second (is_due scope old p) (are_due scope (mirrors_with old p) ps) h) k)
-
-pub by_both : (ps qs : List PostView) (old : List MirrorView) → mirrors_by old (ps ++ qs) ≡ mirrors_by (mirrors_by old ps) qs
-by_both [] qs old = refl
-by_both (p ∷ ps) qs old = by_both ps qs (mirrors_with old p)
 
 pub told_both : (named : NamedTelling) (ps qs : List PostView) (old : List MirrorView) → posts_told named old (ps ++ qs) ≡ posts_told named old ps ++ posts_told named (mirrors_by old ps) qs
 told_both named [] qs old = refl
@@ -38,13 +29,13 @@ told_both named (p ∷ ps) qs old =
     ap (λ t. told_in named old p ++ t) (told_both named ps qs (mirrors_with old p))
     ∙ sym (append_assoc (told_in named old p) (posts_told named (mirrors_with old p) ps) (posts_told named (mirrors_by (mirrors_with old p) ps) qs))
 
-pub both_told : {named : NamedTelling} (scope : Scope) (ps qs : List PostView) (s t : List ℕ) (old mid new : List MirrorView) (before middle after : List Item) (begun between done : List ℕ)
+abbrev pub both_told : {named : NamedTelling} (scope : Scope) (ps qs : List PostView) (s t : List ℕ) (old mid new : List MirrorView) (before middle after : List Item) (begun between done : List ℕ)
     → AreTold named scope ps s old mid before middle begun between → AreTold named scope qs t mid new middle after between done → AreTold named scope (ps ++ qs) (s ++ t) old new before after begun done
 both_told {named} scope ps qs s t old mid new before middle after begun between done f h = record {
   lines = f.lines ++ h.lines;
   valid = each_append IsPost ps qs f.valid h.valid;
-  due = due_both scope ps qs old f.due (subst (λ ms. are_due scope ms qs ≡ true) f.make h.due);
-  make = h.make ∙ ap (λ ms. mirrors_by ms qs) f.make ∙ sym (by_both ps qs old);
+  due = are_both (due_to scope) ps qs old f.due (subst (λ ms. are_due scope ms qs ≡ true) f.make h.due);
+  make = h.make ∙ ap (λ ms. mirrors_by ms qs) f.make ∙ sym (fold-append mirrors_with old ps qs);
   read = runs_read f.lines h.lines before middle after f.read h.read;
   text = printed-append f.lines h.lines ∙ (λ k. f.text k ++ h.text k);
   out =
@@ -53,14 +44,14 @@ both_told {named} scope ps qs s t old mid new before middle after begun between 
       ∙ ap (λ x. begun ++ x) (sym (told_both named ps qs old));
 }
 
-none_told : {named : NamedTelling} (scope : Scope) (old : List MirrorView) (before : List Item) (begun : List ℕ) → AreTold named scope [] [] old old before before begun begun
+abbrev pub none_told : {named : NamedTelling} (scope : Scope) (old : List MirrorView) (before : List Item) (begun : List ℕ) → AreTold named scope [] [] old old before before begun begun
 none_told {named} scope old before begun = record { lines = []; valid = tt; due = refl; make = refl; read = refl; text = refl; out = sym (append-nil begun) }
 
-said_so : {named : NamedTelling} (scope : Scope) (ps : List PostView) (s t : List ℕ) (old new : List MirrorView) (before after : List Item) (begun done : List ℕ) → s ≡ t → AreTold named scope ps s old new before after begun done → AreTold named scope ps t old new before after begun done
-said_so {named} scope ps s t old new before after begun done e f = subst (λ x. AreTold named scope ps x old new before after begun done) e f
+abbrev pub said_so : {named : NamedTelling} (scope : Scope) (ps : List PostView) (s t : List ℕ) (old new : List MirrorView) (before after : List Item) (begun done : List ℕ) → s ≡ t → AreTold named scope ps s old new before after begun done → AreTold named scope ps t old new before after begun done
+said_so {named} scope ps s t old new before after begun done e f = record { lines = f.lines; valid = f.valid; due = f.due; make = f.make; read = f.read; text = f.text ∙ e; out = f.out }
 
 -- one post
-pub post_told : {named : NamedTelling} (scope : Scope) (first : List ℕ) (post : PostView) (old new : List MirrorView) (before middle after : List Item) (begun done : List ℕ) → before ≡ Text first ∷ middle → IsPosted first middle after post → IsPost post
+abbrev pub post_told : {named : NamedTelling} (scope : Scope) (first : List ℕ) (post : PostView) (old new : List MirrorView) (before middle after : List Item) (begun done : List ℕ) → before ≡ Text first ∷ middle → IsPosted first middle after post → IsPost post
     → is_due scope old post ≡ true → new ≡ mirrors_with old post → done ≡ begun ++ told_in named old post → HasToldPost named scope old new before after begun done
 post_told {named} scope first post old new before middle after begun done there p valid due make out = (
   post,

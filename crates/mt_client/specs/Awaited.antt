@@ -1,13 +1,13 @@
 -- Which lines a mirror waits for: an opening of one namespace, posts that follow it, and their end; or a refusal in the place of a line.
 -- A word with no source is this project's rule.
-use Rattle.std.specs.Prelude.{◌≡◌, ℕ, ◌≤◌, true, List, [], ◌∷◌, ◌++◌, map, length, ◌⊎◌}
+use Rattle.std.specs.Prelude.{◌≡◌, ℕ, ◌≤◌, Bool, true, List, [], ◌∷◌, ◌++◌, map, length, ◌⊎◌}
 use Rattle.std.specs.List.{flat_map, AllByRecursion}
 use Rattle.mt_lines.specs.Lines.{Item}
 use Rattle.mt_info.specs.Laws.{IsRow}
 use Rattle.mt_info.specs.RowLine.{line}
 use Rattle.mt_info.specs.declared.row.Row.{Row}
 use Rattle.mt_events.specs.Posts.{PostView, IsPost, post_lines}
-use Rattle.mt_events.specs.Mirrors.{MirrorView, is_next, are_next}
+use Rattle.mt_events.specs.Mirrors.{MirrorView, are_next}
 use Rattle.mt_client.specs.Reading.{texts}
 use Rattle.mt_client.specs.Mirroring.{IsRefusal, IsShown, counted_line, opening_lines}
 
@@ -37,35 +37,24 @@ pub record IsOpening (space : ℕ) (lines : List (List ℕ)) : Type 0 where
   pub of : found.space ≡ space
   pub all : lines ≡ opening_lines found
 
--- the lines of a next post, and those that stand behind its first line
-pub record IsNextPost (mirror : MirrorView) (lines : List (List ℕ)) : Type 0 where
+-- the lines of a post that a test accepts
+pub record IsSuchPost (test : PostView → Bool) (lines : List (List ℕ)) : Type 0 where
   pub post : PostView
   pub valid : IsPost post
-  pub next : is_next mirror post ≡ true
+  pub such : test post ≡ true
   pub all : lines ≡ post_lines post
 
-abbrev pub IsNextPostBehind : List ℕ → MirrorView → List (List ℕ) → Type 0
-IsNextPostBehind first mirror others = IsNextPost mirror (first ∷ others)
-
--- the lines of a post
-abbrev pub IsAnyPost : List (List ℕ) → Type 0
-IsAnyPost lines = (post : PostView) × IsPost post × (lines ≡ post_lines post)
-
--- the same behind a first line
+-- the lines of a post behind its first one
 abbrev pub IsPostBehind : List ℕ → List (List ℕ) → Type 0
-IsPostBehind first others = IsAnyPost (first ∷ others)
+IsPostBehind first others = (post : PostView) × IsPost post × (first ∷ others ≡ post_lines post)
 
 -- where the lines of a post come behind a first line, it is this one, and all of them are read, and no others
 abbrev pub IsOnlyPost : List ℕ → List Item → List Item → PostView → Type 0
 IsOnlyPost first before after post = (other : PostView) (others : List (List ℕ)) (rest : List Item) → IsPost other → first ∷ others ≡ post_lines other → before ≡ texts others ++ rest → (other ≡ post) × (after ≡ rest)
 
--- where the lines of a post come first, all of them are read, and no others
-abbrev pub TakesPost : List Item → List Item → Type 0
-TakesPost before after = (post : PostView) (rest : List Item) → IsPost post → before ≡ texts (post_lines post) ++ rest → after ≡ rest
-
--- the same behind a first line
-abbrev pub TakesBehind : List ℕ → List Item → List Item → Type 0
-TakesBehind first before after = (post : PostView) (others : List (List ℕ)) (rest : List Item) → IsPost post → first ∷ others ≡ post_lines post → before ≡ texts others ++ rest → after ≡ rest
+-- where the lines of a post come first, it was applied, and all of them are read, and no others
+abbrev pub IsOnlyApplied : {S : Type 0} → (S → PostView → S) → S → S → List Item → List Item → Type 0
+IsOnlyApplied apply old new before after = (post : PostView) (rest : List Item) → IsPost post → before ≡ texts (post_lines post) ++ rest → (new ≡ apply old post) × (after ≡ rest)
 
 -- the line behind so many posts: this end where all have come, or a refusal
 abbrev pub IsLast : List ℕ → ℕ → ℕ → List ℕ → Type 0

@@ -10,14 +10,7 @@ use Rattle.mt_client.specs.Reading.{texts}
 use Rattle.mt_client.specs.Mirroring.{IsRefusal, counted_line}
 use Rattle.mt_client.specs.Awaited.{IsLast}
 use Rattle.mt_client.specs.Finding.{AreShown, found_lines}
-use Rattle.mt_client.specs.Telling.{mirrors_with, mirrors_by, is_due, are_due, portion, all_posts}
-
--- the lines of a post that is due
-pub record IsDuePost (scope : Scope) (mirrors : List MirrorView) (lines : List (List ℕ)) : Type 0 where
-  pub post : PostView
-  pub valid : IsPost post
-  pub due : is_due scope mirrors post ≡ true
-  pub all : lines ≡ post_lines post
+use Rattle.mt_client.specs.Telling.{mirrors_by, are_due, portion, all_posts}
 
 -- the lines of so many posts that are due, and their end; or of fewer, and a refusal
 pub record AreDuePosts (count : ℕ) (scope : Scope) (mirrors : List MirrorView) (lines : List (List ℕ)) : Type 0 where
@@ -56,10 +49,6 @@ pub record IsTelling (scope : Scope) (lines : List (List ℕ)) : Type 0 where
   pub shown : AreShown scope found
   pub all : lines ≡ found_lines found ++ others
   pub behind : AreDuePortions portion scope found others
-
--- where the lines of a post come first, it was applied, and all of them are read, and no others
-abbrev pub IsOnlyApplied : List MirrorView → List MirrorView → List Item → List Item → Type 0
-IsOnlyApplied old new before after = (post : PostView) (rest : List Item) → IsPost post → before ≡ texts (post_lines post) ++ rest → (new ≡ mirrors_with old post) × (after ≡ rest)
 
 -- where such posts come first, and their end or a refusal, they were so many, and applied, and all of these lines are read, and no others
 abbrev pub AreOnlyApplied : ℕ → Scope → List MirrorView → List MirrorView → List Item → List Item → Type 0

@@ -69,15 +69,6 @@ pub record IsPosted (first : List ℕ) (before after : List Item) (post : PostVi
   pub read : before ≡ texts others ++ after
   pub text : printed (first ∷ others) ≡ post_text post
 
--- lines were read that are, behind a first line, the text of a next post
-pub record HasPosted (first : List ℕ) (before after : List Item) (old new : MirrorView) : Type 0 where
-  pub others : List (List ℕ)
-  pub post : PostView
-  pub valid : IsPost post
-  pub read : before ≡ texts others ++ after
-  pub text : printed (first ∷ others) ≡ post_text post
-  pub follows : AreMirrored (post ∷ []) old new
-
 -- lines were read that are the text of a next post
 pub record HasFollowed (before after : List Item) (old new : MirrorView) : Type 0 where
   pub lines : List (List ℕ)

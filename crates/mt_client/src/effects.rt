@@ -8,10 +8,9 @@ ghost use Rattle.mt_protocol.specs.Verbs.{form_of};
 ghost use Rattle.mt_client.specs.Replies.{IsAnswer};
 ghost use Rattle.mt_client.specs.Reading.{lines_left, HasBroken, IsSentPart, HasPassed};
 ghost use Rattle.mt_client.specs.Calls.{ReadsOn, WritesOn, IsOut, IsTellFault};
-ghost use Rattle.mt_client.specs.Awaited.{IsRefusedOr};
+ghost use Rattle.mt_client.specs.Awaited.{IsRefusedOr, IsSuchPost};
 ghost use Rattle.mt_client.specs.Finding.{mirror_space};
-ghost use Rattle.mt_client.specs.Telling.{IsStopped};
-ghost use Rattle.mt_client.specs.Due.{IsDuePost};
+ghost use Rattle.mt_client.specs.Telling.{is_due, IsStopped};
 ghost use Rattle.mt_client.specs.Effects.{effects_text, HasToldLines, HasToldClosed, HasEffects, IsRefusedOut, IsRefusedLine, IsRefusedEffect, IsToldShort, IsClosedShort, IsAnsweredShort, IsEffectShort};
 ghost use Rattle.mt_client.specs.Missing.{AreDueLines, IsClosing, IsMissing, IsMissingAnswer, IsMissingEffect, IsEffectFault, IsOnlyCounted};
 ghost use Rattle.mt_events.specs.declared.opening.Scope.TheVariants.{All};
@@ -50,7 +49,7 @@ fn tell_next<R: Input + Drop, O: Output>(
         → IsOnlyCounted behind mirrors.old.items mirrors.new.items (lines_left lines.old) (lines_left lines.new)) }
     ensures on { OnOk result (ReadsOn lines.old lines.new) }
     ensures prints { OnOk result (WritesOn O.Output out.old out.new) }
-    ensures fault { IfErr result (λ fault. IsTellFault O.Output fault (IsDuePost All mirrors.old.items) lines.old lines.new out.old out.new) }
+    ensures fault { IfErr result (λ fault. IsTellFault O.Output fault (IsSuchPost (is_due All mirrors.old.items)) lines.old lines.new out.old out.new) }
 {
     next_text(lines)?;
     let Some(behind) = lines_of_event(lines.line()) else {

@@ -2,18 +2,18 @@
 ghost use Rattle.std.specs.Prelude.{◌≡◌, ◌≢◌, ◌⊎◌, ℕ, List, [], ◌∷◌, ◌++◌, true, false, None, Ok, Err, IfOk, IfErr, IfSome, OnOk, OnErr, IsTrue, MatchBool, MatchOption, codes};
 ghost use Rattle.mt_lines.specs.Reading.{last_faults, fault_of, last_line, limit_of};
 ghost use Rattle.mt_events.specs.Texts.{table_text};
-ghost use Rattle.mt_events.specs.Mirrors.{MirrorView};
+ghost use Rattle.mt_events.specs.Mirrors.{MirrorView, is_next, mirrored};
 ghost use Rattle.mt_events.specs.Posts.{ended};
 ghost use Rattle.mt_client.specs.Reading.{lines_left, texts, HasBroken, IsSentPart, NoneFirst, IsCut};
 ghost use Rattle.mt_client.specs.Calls.{ReadsOn, WritesOn, IsOut, IsReadFault, IsTalkFault, IsTurnedAway, IsAskFault};
 ghost use Rattle.mt_client.specs.Requests.{numbered_text};
 ghost use Rattle.mt_client.specs.Mirroring.{counted_line, HasOpened, HasFollowed, HasFollowedAll, HasRefused, IsRefusedMidway, HasMirrored, requests_text, IsRefused};
-ghost use Rattle.mt_client.specs.Awaited.{IsOneRefusal, IsRefusedOr, IsOpening, IsNextPost, TakesPost, IsFollowing, IsEnd, IsMirroring};
+ghost use Rattle.mt_client.specs.Awaited.{IsOneRefusal, IsRefusedOr, IsOpening, IsSuchPost, IsOnlyApplied, IsFollowing, IsEnd, IsMirroring};
 
 use crate::answer::is_refusal;
 use crate::fault::ClientFault;
 use crate::opening::read_count;
-use crate::posts::apply_post;
+use crate::posts::{apply_next, read_posted};
 use crate::relay::{next_text, print, print_line};
 use crate::request::numbered_line;
 use crate::sending::send_request;
@@ -73,16 +73,17 @@ fn follow_post<R: Input + Drop>(
         (HasFollowed (lines_left lines.old) (lines_left lines.new) mirror.old mirror.new)
         (HasRefused (last_line lines.new) (lines_left lines.old) (lines_left lines.new))) }
     ensures unchanged { result ≡ Ok false → mirror.new ≡ mirror.old }
-    ensures taken { result ≡ Ok true → IsTrue R.tells → TakesPost (lines_left lines.old) (lines_left lines.new) }
+    ensures applied { result ≡ Ok true → IsTrue R.tells → IsOnlyApplied mirrored mirror.old mirror.new (lines_left lines.old) (lines_left lines.new) }
     ensures unrefused { result ≡ Ok true → IsTrue R.tells → NoneFirst IsOneRefusal (lines_left lines.old) }
     ensures on { OnOk result (ReadsOn lines.old lines.new) }
-    ensures fault { IfErr result (λ fault. IsReadFault fault (IsRefusedOr (IsNextPost mirror.old)) (lines_left lines.old) lines.old lines.new) }
+    ensures fault { IfErr result (λ fault. IsReadFault fault (IsRefusedOr (IsSuchPost (is_next mirror.old))) (lines_left lines.old) lines.old lines.new) }
 {
     next_text(lines)?;
     if is_refusal(lines.line()) {
         return Ok(false);
     }
-    apply_post(alloc, lines, mirror)?;
+    let post = read_posted(alloc, lines)?;
+    apply_next(mirror, &post)?;
     Ok(true)
 }
 

@@ -7,8 +7,8 @@ ghost use Rattle.mt_events.specs.Mirrors.{is_next, mirrored};
 ghost use Rattle.mt_client.specs.Requests.{event_count};
 ghost use Rattle.mt_client.specs.Reading.{lines_left, printed, AreSoMany};
 ghost use Rattle.mt_client.specs.Calls.{ReadsOn, AreRead, IsReadFault};
-ghost use Rattle.mt_client.specs.Mirroring.{HasPosted, IsPosted};
-ghost use Rattle.mt_client.specs.Awaited.{IsNextPostBehind, IsPostBehind, IsOnlyPost, TakesBehind};
+ghost use Rattle.mt_client.specs.Mirroring.{IsPosted};
+ghost use Rattle.mt_client.specs.Awaited.{IsPostBehind, IsOnlyPost};
 
 use crate::fault::ClientFault;
 use crate::relay::next_text;
@@ -124,22 +124,4 @@ pub(crate) fn apply_next(mirror: &mut Mirror, post: &Post) -> Result<(), ClientF
         Ok(()) => Ok(()),
         Err(fault) => Err(client_fault(fault)),
     }
-}
-
-/// Applies the post of which the reader lends the first line.
-pub(crate) fn apply_post<R: Input + Drop>(
-    alloc: Global,
-    lines: &mut LineReader<R>,
-    mirror: &mut Mirror,
-) -> Result<(), ClientFault>
-    requires fresh { fault_of lines.old ≡ None }
-    ensures posted { OnOk result (IsTrue R.tells
-        → HasPosted (last_line lines.old) (lines_left lines.old) (lines_left lines.new) mirror.old mirror.new) }
-    ensures taken { OnOk result (IsTrue R.tells
-        → TakesBehind (last_line lines.old) (lines_left lines.old) (lines_left lines.new)) }
-    ensures on { OnOk result (ReadsOn lines.old lines.new) }
-    ensures fault { IfErr result (λ fault. IsReadFault fault (IsNextPostBehind (last_line lines.old) mirror.old) (lines_left lines.old) lines.old lines.new) }
-{
-    let post = read_posted(alloc, lines)?;
-    apply_next(mirror, &post)
 }

@@ -8,10 +8,10 @@ ghost use Rattle.mt_client.specs.Requests.{numbered_text};
 ghost use Rattle.mt_client.specs.Reading.{lines_left, HasBroken, IsSentPart, NoneFirst, IsCut};
 ghost use Rattle.mt_client.specs.Calls.{ReadsOn, WritesOn, IsOut, IsOutInPart, IsTellFault, IsTalkFault};
 ghost use Rattle.mt_client.specs.Mirroring.{HasRefused};
-ghost use Rattle.mt_client.specs.Awaited.{IsOneRefusal, IsRefusedOr};
+ghost use Rattle.mt_client.specs.Awaited.{IsOneRefusal, IsRefusedOr, IsSuchPost, IsOnlyApplied};
 ghost use Rattle.mt_client.specs.Finding.{mirror_space};
 ghost use Rattle.mt_client.specs.Telling.{told_in, mirrors_with, is_due, posts_told, follows_text, telling_text, all_posts, HasTold, IsStopped, IsBrokenOff, HasToldPost, HasToldPortion, HasToldAll, HasToldAllOut, IsToldUpTo};
-ghost use Rattle.mt_client.specs.Due.{IsDuePost, AreDuePosts, AreDuePortions, IsTelling, IsOnlyApplied, AreOnlyApplied};
+ghost use Rattle.mt_client.specs.Due.{AreDuePosts, AreDuePortions, IsTelling, AreOnlyApplied};
 
 use crate::answer::is_refusal;
 use crate::fault::ClientFault;
@@ -83,11 +83,11 @@ fn tell_post<R: Input + Drop, O: Output>(
     ensures broken { IsTrue R.tells → IsTrue O.tells → IfErr result
         (λ fault. IsStopped named.now fault scope mirrors.old.items (lines_left lines.old) (O.written out.old) (O.written out.new)) }
     ensures applied { result ≡ Ok true → IsTrue R.tells
-        → IsOnlyApplied mirrors.old.items mirrors.new.items (lines_left lines.old) (lines_left lines.new) }
+        → IsOnlyApplied mirrors_with mirrors.old.items mirrors.new.items (lines_left lines.old) (lines_left lines.new) }
     ensures unrefused { result ≡ Ok true → IsTrue R.tells → NoneFirst IsOneRefusal (lines_left lines.old) }
     ensures on { OnOk result (ReadsOn lines.old lines.new) }
     ensures prints { OnOk result (WritesOn O.Output out.old out.new) }
-    ensures fault { IfErr result (λ fault. IsTellFault O.Output fault (IsRefusedOr (IsDuePost scope mirrors.old.items)) lines.old lines.new out.old out.new) }
+    ensures fault { IfErr result (λ fault. IsTellFault O.Output fault (IsRefusedOr (IsSuchPost (is_due scope mirrors.old.items))) lines.old lines.new out.old out.new) }
 {
     next_text(lines)?;
     if is_refusal(lines.line()) {

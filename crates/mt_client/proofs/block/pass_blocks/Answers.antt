@@ -1,23 +1,30 @@
 use Rattle.std.proofs.Common.{◌≡◌, ◌+◌, arith, refl, sym}
 use Rattle.mt_client.proofs.RelayLaws.{printed-append}
 use Rattle.mt_client.proofs.CallLaws.{read_both, out_both, out_as, handed_on, passes_read, passes_nothing, passes_both, pass_fault_behind, pass_refused_behind}
-use Rattle.mt_client.proofs.ReplyLaws.{none_so_far, blocks_join, left_at_first, left_on, left_over, left_cut, too_many}
+use Rattle.mt_client.proofs.SeriesLaws.{lines_at_first, lines_more, lines_cut}
+use Rattle.mt_client.proofs.ReplyLaws.{none_so_far, blocks_join, blocks_of, are_blocks, one_block, too_many}
 use Rattle.mt_client.proofs.block.pass_blocks.Goals as goal
 
 pub passing-init : goal.passing-init
-passing-init g c = record { goes = λ t. left_at_first c.args.count _; passed = passes_nothing g.O.Output _ _ _ c.requires.fresh (none_so_far c.args.block c.args.count) }
+passing-init g c = record { goes = λ t. lines_at_first (blocks_of c.args.block) c.args.count tt _; passed = passes_nothing g.O.Output _ _ _ c.requires.fresh (none_so_far c.args.block c.args.count) }
 
 pub returns-in_err-behind-clause-fault : goal.returns-in_err-behind-clause-fault
 returns-in_err-behind-clause-fault g c =
     let p = c.passing.invariant.passed in
-    handed_on _ _ _ c.from_residual.ensures.1 (pass_fault_behind p.read p.out (λ t. left_cut c.args.block c.args.count c.passing.left _ _ c.passing-test.true (c.passing.invariant.goes t)) c.in_err-behind.ensures.fault)
+    handed_on _ _ _ c.from_residual.ensures.1 (pass_fault_behind p.read p.out
+    (λ t none. lines_cut (blocks_of c.args.block) c.args.count c.passing.left tt tt _ _ (are_blocks c.args.block c.args.count) c.passing-test.true (c.passing.invariant.goes t) (λ g rest is within. none g rest is)) c.in_err-behind.ensures.fault)
 
 pub returns-in_default-clause-fault : goal.returns-in_default-clause-fault
 returns-in_default-clause-fault g c =
     let p = c.passing.invariant.passed in
     let q = c.in_ok-behind.ensures.passed in
     pass_refused_behind (read_both p.read q.read) (out_as (sym (printed-append p.others q.others)) (out_both p.out q.out)) refl
-    (λ t. left_over c.args.block c.args.count c.passing.left c.in_ok-behind.behind _ _ _ c.passing-test.true (too_many c.in_ok-behind.behind c.passing.left c.passing-test.true c.in_default.ensures) (c.passing.invariant.goes t) (passes_read q t))
+    (λ t.
+    lines_cut (blocks_of c.args.block) c.args.count c.passing.left tt tt _ _ (are_blocks c.args.block c.args.count) c.passing-test.true (c.passing.invariant.goes t)
+    (λ g rest is within there.
+    let size = (one_block c.args.block c.in_ok-behind.behind _ _ (passes_read q t) g rest is there).0 in
+    let over = too_many c.in_ok-behind.behind c.passing.left c.passing-test.true c.in_default.ensures in
+    omega (arith, size, within, over)))
 
 pub passing-preserved : goal.passing-preserved
 passing-preserved g c =
@@ -26,6 +33,6 @@ passing-preserved g c =
     let rest = c.in-Some.ensures.1 in
     omega (arith, within, rest, c.passing-test.true) in
     record {
-      goes = λ t. left_on c.args.block c.args.count c.passing.left c.in-Some.rest c.in_ok-behind.behind _ _ _ less (c.passing.invariant.goes t) (passes_read c.in_ok-behind.ensures.passed t);
+      goes = λ t. lines_more (blocks_of c.args.block) c.args.count c.passing.left (1 + c.in_ok-behind.behind) c.in-Some.rest tt tt tt _ _ _ (omega (arith, less)) c.passing-test.true (c.passing.invariant.goes t) (one_block c.args.block c.in_ok-behind.behind _ _ (passes_read c.in_ok-behind.ensures.passed t));
       passed = passes_both (blocks_join c.args.block c.args.count c.passing.left c.in-Some.rest c.in_ok-behind.behind less) c.passing.invariant.passed c.in_ok-behind.ensures.passed;
     }

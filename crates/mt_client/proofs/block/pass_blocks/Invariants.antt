@@ -1,14 +1,14 @@
 use Rattle.std.proofs.Common.{[], IsTrue}
 use Rattle.mt_client.specs.Reading.{lines_left}
-use Rattle.mt_client.specs.Replies.{IsBlock}
 use Rattle.mt_client.specs.Calls.{PassesOn}
-use Rattle.mt_client.proofs.ReplyLaws.{AreSoFar, Left}
+use Rattle.mt_client.proofs.SeriesLaws.{CameInLines}
+use Rattle.mt_client.proofs.ReplyLaws.{AreSoFar, blocks_of}
 use Rattle.mt_client.proofs.block.pass_blocks.Given as goal
 
 -- blocks of all but the lines that are left were passed on
 abbrev pub invariant-passing : goal.invariant-passing
 invariant-passing g l = record {
-  goes : IsTrue g.R.Input.tells → Left (IsBlock l.initial.block) l.initial.count l.left (lines_left l.initial.lines) (lines_left l.lines);
+  goes : IsTrue g.R.Input.tells → CameInLines (blocks_of l.initial.block) l.initial.count l.left tt tt (lines_left l.initial.lines) (lines_left l.lines);
   passed : PassesOn g.O.Output [] (AreSoFar l.initial.block l.initial.count l.left) l.initial.lines l.lines l.initial.out l.out;
 }
 

@@ -4,7 +4,8 @@ use Rattle.mt_client.specs.Reading.{lines_left}
 use Rattle.mt_client.specs.Calls.{ReadsOn, WritesOn}
 use Rattle.mt_client.specs.Finding.{mirror_space}
 use Rattle.mt_client.proofs.EffectLaws.{HasToldBut}
-use Rattle.mt_client.proofs.MissingLaws.{LinesComing}
+use Rattle.mt_client.proofs.SeriesLaws.{CameInLines}
+use Rattle.mt_client.proofs.MissingLaws.{posts_due}
 use Rattle.mt_client.proofs.effects.tell_lines.Given as goal
 
 -- the posts of all but the lines that are left were told
@@ -13,7 +14,7 @@ invariant-telling g l = record {
   on : ReadsOn l.initial.lines l.lines;
   prints : WritesOn g.O.Output l.initial.out l.out;
   rising : IsTrue (rises mirror_space l.mirrors.items);
-  coming : IsTrue g.R.Input.tells → LinesComing l.initial.count l.left l.initial.mirrors.items l.mirrors.items (lines_left l.initial.lines) (lines_left l.lines);
+  coming : IsTrue g.R.Input.tells → CameInLines posts_due l.initial.count l.left l.initial.mirrors.items l.mirrors.items (lines_left l.initial.lines) (lines_left l.lines);
   told : IsTrue g.R.Input.tells → IsTrue g.O.Output.tells → HasToldBut l.initial.named l.initial.count l.left l.initial.mirrors.items l.mirrors.items (lines_left l.initial.lines) (lines_left l.lines) (g.O.Output.written l.initial.out) (g.O.Output.written l.out);
 }
 

@@ -6,10 +6,12 @@ use Rattle.mt_client.specs.Reading.{lines_left}
 use Rattle.mt_client.specs.declared.fault.ClientFault.TheVariants.{Output}
 use Rattle.mt_client.proofs.RelayLaws.{same_fault}
 use Rattle.mt_client.proofs.CallLaws.{connection≢output, read_still, handed_on, tell_fault_reading, tell_checked}
-use Rattle.mt_client.proofs.FollowLaws.{behind_needs_event}
+use Rattle.mt_client.specs.Telling.{is_due}
+use Rattle.mt_client.proofs.OpeningLaws.{needs_line}
+use Rattle.mt_client.proofs.FollowLaws.{behind_needs_event, such_some, such_needs_post, such_needs_such}
 use Rattle.mt_client.proofs.TellingLaws.{stopped_post}
 use Rattle.mt_client.proofs.EffectLaws.{one_told}
-use Rattle.mt_client.proofs.MissingLaws.{post_needs_line, post_needs_lines, post_needs_due, only_counted}
+use Rattle.mt_client.proofs.MissingLaws.{only_counted}
 use Rattle.mt_client.proofs.effects.tell_next.Goals as goal
 
 pub returns-in_err-tell_due-clause-broken : goal.returns-in_err-tell_due-clause-broken
@@ -31,24 +33,24 @@ returns-clause-only g c t =
     (c.in_ok-next_text.ensures.read.came t) (rw c.line.ensures at c.in-Some.ensures) (c.in_ok-post.ensures.only t) c.in_ok-tell_due.ensures.applied
 
 pub returns-in_err-next_text-clause-fault : goal.returns-in_err-next_text-clause-fault
-returns-in_err-next_text-clause-fault g c = handed_on _ _ _ c.from_residual.ensures.1 (tell_fault_reading (read_still _ c.requires.fresh) (λ t. post_needs_line c.args.mirrors.now.items _) c.in_err-next_text.ensures.fault)
+returns-in_err-next_text-clause-fault g c = handed_on _ _ _ c.from_residual.ensures.1 (tell_fault_reading (read_still _ c.requires.fresh) (λ t. needs_line _ (such_some (is_due All c.args.mirrors.now.items))) c.in_err-next_text.ensures.fault)
 
 pub returns-in_default-clause-fault : goal.returns-in_default-clause-fault
 returns-in_default-clause-fault g c =
     tell_checked c.in_ok-next_text.ensures.read.on.limit
     (λ e t.
-    post_needs_lines c.args.mirrors.now.items (last_line c.next_text.new.lines) _ (lines_left c.next_text.new.lines) (c.in_ok-next_text.ensures.read.came t)
+    such_needs_post (is_due All c.args.mirrors.now.items) (last_line c.next_text.new.lines) _ (lines_left c.next_text.new.lines) (c.in_ok-next_text.ensures.read.came t)
     (behind_needs_event None (last_line c.next_text.new.lines) (lines_left c.next_text.new.lines) refl (rw c.line.ensures at c.in_default.ensures)))
     (λ e. absurd (connection≢output e))
 
 pub returns-in_err-post-clause-fault : goal.returns-in_err-post-clause-fault
 returns-in_err-post-clause-fault g c =
     handed_on _ _ _ c.from_residual-in_err-post.ensures.1
-    (tell_fault_reading c.in_ok-next_text.ensures.read.on (λ t. post_needs_lines c.args.mirrors.now.items (last_line c.next_text.new.lines) _ _ (c.in_ok-next_text.ensures.read.came t)) c.in_err-post.ensures.fault)
+    (tell_fault_reading c.in_ok-next_text.ensures.read.on (λ t. such_needs_post (is_due All c.args.mirrors.now.items) (last_line c.next_text.new.lines) _ _ (c.in_ok-next_text.ensures.read.came t)) c.in_err-post.ensures.fault)
 
 pub returns-in_err-tell_due-clause-fault : goal.returns-in_err-tell_due-clause-fault
 returns-in_err-tell_due-clause-fault g c =
     handed_on _ _ _ c.from_residual-in_err-tell_due.ensures.1
     (tell_checked (c.in_ok-post.ensures.on.limit ∙ c.in_ok-next_text.ensures.read.on.limit)
-    (λ e t. post_needs_due c.args.mirrors.now.items (last_line c.next_text.new.lines) _ _ _ c.in_ok-post.post (c.in_ok-next_text.ensures.read.came t) (c.in_ok-post.ensures.only t) (c.in_err-tell_due.ensures.refused (ap Err e)))
+    (λ e t. such_needs_such (is_due All c.args.mirrors.now.items) (last_line c.next_text.new.lines) _ _ _ c.in_ok-post.post (c.in_ok-next_text.ensures.read.came t) (c.in_ok-post.ensures.only t) (c.in_err-tell_due.ensures.refused (ap Err e)))
     (λ e. (c.in_err-tell_due.ensures.part (ap Err e)).1.cause))

@@ -2,7 +2,8 @@ use Rattle.std.proofs.Common.{Ok, ap, append-nil, sym}
 use Rattle.std.proofs.lemmas.Result.{err_from_is_err_and}
 use Rattle.mt_client.proofs.MirrorLaws.{when_true}
 use Rattle.mt_client.proofs.CallLaws.{read_still, reads_both, writes_still, writes_both, handed_on, talk_fault_behind, talk_refused}
-use Rattle.mt_client.proofs.AheadLaws.{come_at_first, come_more, come_cut, come_over}
+use Rattle.mt_client.proofs.SeriesLaws.{came_at_first}
+use Rattle.mt_client.proofs.AheadLaws.{portions_of, portions_more, portions_cut, portions_over}
 use Rattle.mt_client.proofs.TellingLaws.{when_false, none_whole, whole_more, all_behind, up_to_behind, up_to_whole, follows_sent, follows_part, follows_whole}
 use Rattle.mt_client.proofs.telling.tell_portions.Goals as goal
 
@@ -12,7 +13,7 @@ portions-init g c = record {
   prints = writes_still g.O.Output _;
   writes = writes_still g.W.Output _;
   rising = c.requires.rising;
-  goes = λ t. come_at_first c.args.count c.args.scope c.args.mirrors.now.items _;
+  goes = λ t. came_at_first (portions_of c.args.count c.args.scope) c.args.mirrors.now.items _;
   sent = λ u. sym (append-nil _);
   told = λ t u. none_whole c.args.count c.args.scope c.args.mirrors.now.items _ _;
 }
@@ -39,7 +40,7 @@ portions-preserved g c =
       prints = writes_both c.portions.invariant.prints c.in_ok-tell_portion.ensures.prints;
       writes = writes_both c.portions.invariant.writes (c.in_ok-tell_portion.ensures.sent going).on;
       rising = c.in_ok-tell_portion.ensures.rising;
-      goes = λ t. come_more c.args.count c.portions._portion c.args.scope _ _ _ _ _ _ (c.portions.invariant.goes t) (c.in_ok-tell_portion.ensures.applied going t);
+      goes = λ t. portions_more c.args.count c.portions._portion c.args.scope _ _ _ _ _ _ (c.portions.invariant.goes t) (c.in_ok-tell_portion.ensures.applied going t);
       sent = λ u. follows_sent c.args.count c.portions._portion _ _ _ (c.portions.invariant.sent u) ((c.in_ok-tell_portion.ensures.sent going).went u);
       told = λ t u. whole_more c.args.count c.args.scope _ _ _ _ _ _ _ _ _ (c.portions.invariant.told t u) (when_true _ _ _ c.if-not-branch.false (c.in_ok-tell_portion.ensures.told t u));
     }
@@ -53,7 +54,7 @@ returns-clause-part g c u = follows_whole c.args.count c.portions._portion _ _ (
 pub returns-in_err-tell_portion-clause-fault : goal.returns-in_err-tell_portion-clause-fault
 returns-in_err-tell_portion-clause-fault g c =
     let h = c.portions.invariant in
-    handed_on _ _ _ c.from_residual.ensures.1 (talk_fault_behind h.on h.writes h.prints (λ t. come_cut c.args.count c.portions._portion c.args.scope _ _ _ _ (h.goes t)) c.in_err-tell_portion.ensures.fault)
+    handed_on _ _ _ c.from_residual.ensures.1 (talk_fault_behind h.on h.writes h.prints (λ t. portions_cut c.args.count c.portions._portion c.args.scope _ _ _ _ (h.goes t)) c.in_err-tell_portion.ensures.fault)
 
 pub returns-clause-fault : goal.returns-clause-fault
-returns-clause-fault g c = talk_refused c.portions.invariant.on.limit (λ t. come_over c.args.count c.portions._portion c.args.scope _ _ _ _ c.portions-test.false (c.portions.invariant.goes t))
+returns-clause-fault g c = talk_refused c.portions.invariant.on.limit (λ t. portions_over c.args.count c.portions._portion c.args.scope _ _ _ _ c.portions-test.false (c.portions.invariant.goes t))

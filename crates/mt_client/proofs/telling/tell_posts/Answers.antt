@@ -4,7 +4,9 @@ use Rattle.mt_lines.specs.Reading.{last_line}
 use Rattle.mt_client.specs.Reading.{lines_left}
 use Rattle.mt_client.proofs.MirrorLaws.{when_true}
 use Rattle.mt_client.proofs.CallLaws.{read_still, reads_both, writes_still, writes_both, handed_on, tell_fault_reading, tell_fault_behind}
-use Rattle.mt_client.proofs.AheadLaws.{when_ok_true, came_at_first, came_more, came_cut, came_whole, came_to_end}
+use Rattle.mt_client.specs.Mirroring.{counted_line}
+use Rattle.mt_client.proofs.SeriesLaws.{came_at_first, due_to, up_to, posts_more, posts_cut, posts_to_end}
+use Rattle.mt_client.proofs.AheadLaws.{when_ok_true, due_posts, posts_whole}
 use Rattle.mt_client.proofs.TellingLaws.{when_false, none_yet, some_more, all_told, all_few, up_to_some, end_broken}
 use Rattle.mt_client.proofs.telling.tell_posts.Goals as goal
 
@@ -13,13 +15,13 @@ posts-init g c = record {
   on = read_still _ c.requires.fresh;
   prints = writes_still g.O.Output _;
   rising = c.requires.rising;
-  goes = λ t. came_at_first c.args.count c.args.scope c.args.mirrors.now.items _;
+  goes = λ t. came_at_first (up_to (due_to c.args.scope) (counted_line c.args.count) c.args.count) c.args.mirrors.now.items _;
   told = λ t u. none_yet c.args.scope c.args.mirrors.now.items _ _;
 }
 
 pub returns-clause-applied : goal.returns-clause-applied
 returns-clause-applied g c is t =
-    came_whole c.args.count c.posts._post c.args.scope _ _ _ _ _ c.posts-test.false (c.posts.invariant.goes t) (c.read_end.ensures.unrefused is t) (when_ok_true _ _ _ c.read_end.result is c.read_end.ensures.ended t)
+    posts_whole c.args.count c.posts._post c.args.scope _ _ _ _ _ c.posts-test.false (c.posts.invariant.goes t) (c.read_end.ensures.unrefused is t) (when_ok_true _ _ _ c.read_end.result is c.read_end.ensures.ended t)
 
 pub returns-in_err-tell_post-clause-broken : goal.returns-in_err-tell_post-clause-broken
 returns-in_err-tell_post-clause-broken g c t u =
@@ -32,7 +34,7 @@ returns-then-not-branch-clause-told g c t u =
 
 pub posts-preserved : goal.posts-preserved
 posts-preserved g c = record {
-  goes = λ t. came_more c.args.count c.posts._post c.args.scope _ _ _ _ _ _ c.posts-test.true (c.posts.invariant.goes t) (c.in_ok-tell_post.ensures.unrefused (ap Ok c.if-not-branch.false) t) (c.in_ok-tell_post.ensures.applied (ap Ok c.if-not-branch.false) t);
+  goes = λ t. posts_more (due_to c.args.scope) (counted_line c.args.count) c.args.count c.posts._post _ _ _ _ _ _ c.posts-test.true (c.posts.invariant.goes t) (c.in_ok-tell_post.ensures.unrefused (ap Ok c.if-not-branch.false) t) (c.in_ok-tell_post.ensures.applied (ap Ok c.if-not-branch.false) t);
   on = reads_both c.posts.invariant.on c.in_ok-tell_post.ensures.on;
   prints = writes_both c.posts.invariant.prints c.in_ok-tell_post.ensures.prints;
   rising = c.in_ok-tell_post.ensures.rising;
@@ -54,8 +56,8 @@ returns-clause-on g c = on_ok_weaker c.read_end.result (λ q. reads_both c.posts
 pub returns-in_err-tell_post-clause-fault : goal.returns-in_err-tell_post-clause-fault
 returns-in_err-tell_post-clause-fault g c =
     handed_on _ _ _ c.from_residual.ensures.1
-    (tell_fault_behind c.posts.invariant.on c.posts.invariant.prints (λ t. came_cut c.args.count c.posts._post c.args.scope _ _ _ _ c.posts-test.true (c.posts.invariant.goes t)) c.in_err-tell_post.ensures.fault)
+    (tell_fault_behind c.posts.invariant.on c.posts.invariant.prints (λ t. posts_cut (due_to c.args.scope) (counted_line c.args.count) c.args.count c.posts._post _ _ _ _ (due_posts c.args.count c.args.scope _) c.posts-test.true (c.posts.invariant.goes t)) c.in_err-tell_post.ensures.fault)
 
 pub returns-clause-fault : goal.returns-clause-fault
 returns-clause-fault g c =
-    IfErr-weaker c.read_end.result _ _ (λ f q. tell_fault_reading c.posts.invariant.on (λ t. came_to_end c.args.count c.posts._post c.args.scope _ _ _ _ c.posts-test.false (c.posts.invariant.goes t)) q) c.read_end.ensures.fault
+    IfErr-weaker c.read_end.result _ _ (λ f q. tell_fault_reading c.posts.invariant.on (λ t. posts_to_end (due_to c.args.scope) c.args.count c.posts._post _ _ _ _ (due_posts c.args.count c.args.scope _) c.posts-test.false (c.posts.invariant.goes t)) q) c.read_end.ensures.fault
