@@ -1,17 +1,17 @@
 -- What cannot come first where a post or the end of posts is refused, and what was read of posts.
-use Rattle.std.proofs.Common.{◌≡◌, ◌≢◌, ℕ, ◌+◌, Bool, false, List, [], ◌∷◌, ◌++◌, map, length, refl, sym, ap, subst, ◌∙◌, arith, codes, decimal, Some, None, Option, inl, inr, Result, Ok, Err, IfOk}
+use Rattle.std.proofs.Common.{◌≡◌, ℕ, ◌+◌, Bool, false, List, [], ◌∷◌, ◌++◌, map, length, refl, sym, ap, subst, ◌∙◌, arith, length-append, codes, decimal, Some, inl, inr, Result, Ok, Err, IfOk}
 use Rattle.std.specs.List.{join_with_byte}
+use Rattle.std.proofs.lemmas.List.{length-map}
 use Rattle.std.proofs.lemmas.Bool.{false≢true}
 use Rattle.std.proofs.lemmas.Option.{same_Some}
 use Rattle.mt_lines.specs.Words.{words}
 use Rattle.mt_lines.proofs.NumberLaws.{number_decimal}
 use Rattle.mt_lines.proofs.PieceLaws.{pieces_joined}
 use Rattle.mt_lines.specs.Lines.{Item, Text}
-use Rattle.mt_info.specs.declared.row.Row.{Row}
 use Rattle.mt_events.specs.Posts.{PostView, IsPost, event_words, gone_line, row_line, post_lines, post_text, ended}
 use Rattle.mt_events.specs.Mirrors.{MirrorView}
 use Rattle.mt_events.proofs.PostLaws.{text_tells, event_lacks}
-use Rattle.mt_client.specs.Reading.{texts, printed, NoneFirst, AreSoMany}
+use Rattle.mt_client.specs.Reading.{texts, printed, NoneFirst}
 use Rattle.mt_client.specs.Mirroring.{counted_line, opening_lines, HasOpened, IsPosted}
 use Rattle.mt_client.specs.Awaited.{IsOneRefusal, IsRefusedOr, IsOpening, IsSuchPost, IsPostBehind, IsOnlyPost, IsOnlyApplied, IsFollowing, IsMirroring}
 use Rattle.mt_client.specs.Requests.{event_count}
@@ -36,12 +36,6 @@ lines_alike (x ∷ xs) (y ∷ ys) middle later many e =
     let r = lines_alike xs ys middle later (omega (arith, many)) rest in
     ((λ i. here i ∷ r.0 i), r.1)
 
--- the lines behind the first of a post are as many as it says
-lengths : (gone : List ℕ) (rows : List Row) → length (map gone_line gone ++ map row_line rows) ≡ length gone + length rows
-lengths [] [] = refl
-lengths [] (r ∷ rows) = let ih = lengths [] rows in omega (arith, ih)
-lengths (g ∷ gone) rows = let ih = lengths gone rows in omega (arith, ih)
-
 abbrev behind_lines : PostView → List (List ℕ)
 behind_lines p = map gone_line p.gone ++ map row_line p.rows
 
@@ -51,35 +45,23 @@ event_line p = join_with_byte 32 (event_words p.space p.number (length p.gone + 
 first_is : (seen : List ℕ) (others : List (List ℕ)) (p : PostView) → seen ∷ others ≡ post_lines p → (seen ≡ event_line p) × (others ≡ behind_lines p)
 first_is seen others p all = let both : seen ∷ others ≡ event_line p ∷ behind_lines p = all in (cc, cc)
 
--- the number of lines in the first line of a post
-event_counts : (seen : List ℕ) (p : PostView) → IsPost p → seen ≡ event_line p → event_count (words seen) ≡ Some (length p.gone + length p.rows)
-event_counts seen p valid e =
-    ap (λ l. event_count (words l)) e ∙ ap event_count (pieces_joined 32 (codes "event") (decimal p.space ∷ decimal p.number ∷ decimal (length p.gone + length p.rows) ∷ []) (event_lacks p.space p.number (length p.gone + length p.rows) valid.space valid.number valid.counted))
-    ∙ number_decimal (length p.gone + length p.rows) valid.counted
-
-pub event_many : (r : Option ℕ) (n : ℕ) (seen : List ℕ) (others : List (List ℕ)) (p : PostView) → r ≡ Some n
-    → r ≡ event_count (words seen)
-    → IsPost p → seen ∷ others ≡ post_lines p → length others ≡ n
-event_many r n seen others p is counts valid all =
+-- the first line of a post tells how many lines stand behind it
+pub post_counted : (seen : List ℕ) (others : List (List ℕ)) (p : PostView) → IsPost p → seen ∷ others ≡ post_lines p → event_count (words seen) ≡ Some (length others)
+post_counted seen others p valid all =
     let f = first_is seen others p all in
-    let m = counts ∙ event_counts seen p valid f.0 in
-    ap length f.1 ∙ lengths p.gone p.rows ∙ same_Some (length p.gone + length p.rows) n (sym m ∙ is)
+    let n : ℕ = length p.gone + length p.rows in
+    let e = ap length f.1 in
+    let l = length-append (map gone_line p.gone) (map row_line p.rows) in
+    let gone = length-map p.gone gone_line in
+    let rows = length-map p.rows row_line in
+    let many : n ≡ length others = omega (arith, e, l, gone, rows) in
+    ap (λ l. event_count (words l)) f.0 ∙ ap event_count (pieces_joined 32 (codes "event") (decimal p.space ∷ decimal p.number ∷ decimal n ∷ []) (event_lacks p.space p.number n valid.space valid.number valid.counted))
+    ∙ number_decimal n valid.counted ∙ ap Some many
 
-pub behind_needs_event : (r : Option ℕ) (seen : List ℕ) (before : List Item) → r ≡ None
-    → r ≡ event_count (words seen)
-    → NoneFirst (IsPostBehind seen) before
-behind_needs_event r seen before is counts lines later k e =
-    let p : PostView = k.0 in
-    let f = first_is seen lines p k.2 in
-    let m = counts ∙ event_counts seen p k.1 f.0 in
-    let no : None ≡ Some (length p.gone + length p.rows) = sym is ∙ m in cc
+pub event_many : (n : ℕ) (seen : List ℕ) (others : List (List ℕ)) (p : PostView) → Some n ≡ event_count (words seen) → IsPost p → seen ∷ others ≡ post_lines p → length others ≡ n
+event_many n seen others p counts valid all = sym (same_Some n (length others) (counts ∙ post_counted seen others p valid all))
 
-pub behind_needs_lines : (r : Option ℕ) (n : ℕ) (seen : List ℕ) (before : List Item) → r ≡ Some n
-    → r ≡ event_count (words seen)
-    → NoneFirst (AreSoMany n) before → NoneFirst (IsPostBehind seen) before
-behind_needs_lines r n seen before is counts none lines later k e = none lines later (event_many r n seen lines k.0 is counts k.1 k.2) e
-
-printed_post : (lines : List (List ℕ)) (p : PostView) → lines ≡ post_lines p → printed lines ≡ post_text p
+pub printed_post : (lines : List (List ℕ)) (p : PostView) → lines ≡ post_lines p → printed lines ≡ post_text p
 unfolding post_text
 printed_post lines p e = ap printed e
 
@@ -87,32 +69,18 @@ printed_post lines p e = ap printed e
 abbrev pub HasReadMore : ℕ → List Item → List Item → List ℕ → List ℕ → Type 0
 HasReadMore n before after begun text = (all : List (List ℕ)) × (length all ≡ n) × (before ≡ texts all ++ after) × (text ≡ begun ++ printed all)
 
-pub behind_needs_post : (r : Option ℕ) (n : ℕ) (seen : List ℕ) (before after : List Item) (begun text : List ℕ) → r ≡ Some n
-    → r ≡ event_count (words seen)
-    → begun ≡ ended seen → HasReadMore n before after begun text
-    → ((post : PostView) → IsPost post → text ≢ post_text post) → NoneFirst (IsPostBehind seen) before
-behind_needs_post r n seen before after begun text is counts began read refused lines later k e =
-    let many = event_many r n seen lines k.0 is counts k.1 k.2 in
-    let a = lines_alike read.0 lines after later (read.1 ∙ sym many) (sym read.2 ∙ e) in
-    let whole : text ≡ printed (seen ∷ lines) = read.3 ∙ (λ i. began i ++ printed (a.0 i)) in
-    refused k.0 k.1 (whole ∙ printed_post (seen ∷ lines) k.0 k.2)
-
-pub behind_only : (r : Option ℕ) (n : ℕ) (seen : List ℕ) (before after : List Item) (begun text : List ℕ) (post : PostView) → r ≡ Some n
-    → r ≡ event_count (words seen)
-    → begun ≡ ended seen → HasReadMore n before after begun text
+pub behind_only : (n : ℕ) (seen : List ℕ) (before after : List Item) (begun text : List ℕ) (post : PostView) → Some n ≡ event_count (words seen) → begun ≡ ended seen → HasReadMore n before after begun text
     → IsPost post → text ≡ post_text post → IsOnlyPost seen before after post
-behind_only r n seen before after begun text post is counts began read valid said other others rest valid_other all e =
-    let many = event_many r n seen others other is counts valid_other all in
+behind_only n seen before after begun text post counts began read valid said other others rest valid_other all e =
+    let many = event_many n seen others other counts valid_other all in
     let a = lines_alike read.0 others after rest (read.1 ∙ sym many) (sym read.2 ∙ e) in
     let whole : text ≡ printed (seen ∷ others) = read.3 ∙ (λ i. began i ++ printed (a.0 i)) in
     (text_tells other post valid_other valid (sym (printed_post (seen ∷ others) other all) ∙ sym whole ∙ said), a.1)
 
-pub behind_posted : (r : Option ℕ) (n : ℕ) (seen : List ℕ) (before after : List Item) (begun text : List ℕ) (post : PostView) → r ≡ Some n
-    → r ≡ event_count (words seen)
-    → begun ≡ ended seen → HasReadMore n before after begun text → text ≡ post_text post → IsPosted seen before after post
-behind_posted r n seen before after begun text post is counts began read said = record {
+pub behind_posted : (n : ℕ) (seen : List ℕ) (before after : List Item) (begun text : List ℕ) (post : PostView) → Some n ≡ event_count (words seen) → begun ≡ ended seen → HasReadMore n before after begun text → text ≡ post_text post → IsPosted seen before after post
+behind_posted n seen before after begun text post counts began read said = record {
   others = read.0;
-  counted = sym counts ∙ is ∙ ap Some (sym read.1);
+  counted = sym counts ∙ ap Some (sym read.1);
   read = read.2;
   text = ap (λ b. b ++ printed read.0) (sym began) ∙ sym read.3 ∙ said;
 }

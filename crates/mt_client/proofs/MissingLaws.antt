@@ -31,7 +31,7 @@ pub only_counted : (behind : ℕ) (seen : List ℕ) (before middle after : List 
 only_counted behind seen before middle after post old new there counts only make other rest valid e =
     let t = post_taken seen before middle rest (post_lines other) other there refl e in
     let o = only other t.0 rest valid t.1 t.2 in
-    let many = event_many (Some behind) behind seen t.0 other refl counts valid t.1 in
+    let many = event_many behind seen t.0 other counts valid t.1 in
     let all : length (seen ∷ t.0) ≡ length (post_lines other) = ap length t.1 in
     (omega (arith, many, all), make ∙ ap (mirrors_with old) (sym o.0), o.1)
 

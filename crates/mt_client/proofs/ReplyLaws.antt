@@ -1,7 +1,6 @@
 -- Rows, namespaces and posts that were passed on, and what cannot come first where one is refused.
-use Rattle.std.proofs.Common.{◌≡◌, ◌≢◌, ℕ, ◌+◌, ◌-◌, ◌<◌, ◌≤◌, ◌^◌, nat_le, Bool, true, false, List, [], ◌∷◌, ◌++◌, length, refl, sym, ap, subst, ◌∙◌, arith, append-nil, length-append, Some, None}
+use Rattle.std.proofs.Common.{◌≡◌, ◌≢◌, ℕ, ◌+◌, ◌<◌, ◌^◌, Bool, List, [], ◌∷◌, ◌++◌, length, refl, sym, ap, subst, ◌∙◌, arith, append-nil, length-append, Some, None}
 use Rattle.std.proofs.lemmas.List.{map-append, length-map}
-use Rattle.std.proofs.lemmas.Bool.Decides.{nat_tests}
 use Rattle.std.proofs.lemmas.Grind.{flat_map-append}
 use Rattle.std.specs.List.{flat_map, join_with_byte}
 use Rattle.std.proofs.lemmas.Option.{same_Some}
@@ -18,11 +17,11 @@ use Rattle.mt_client.specs.declared.opening.Heading.{Heading}
 use Rattle.mt_client.specs.Requests.{verdict, lines_behind, event_count}
 use Rattle.mt_client.specs.Reading.{texts, printed, HasRead, NoneFirst, AreSoMany}
 use Rattle.mt_client.specs.Mirroring.{heading_words}
-use Rattle.mt_client.specs.Awaited.{IsRowLine, AreRowLines}
+use Rattle.mt_client.specs.Awaited.{IsRowLine, AreRowLines, IsPostBehind}
 use Rattle.mt_client.specs.Replies.{IsPartLines, IsPostLines, IsBlock, IsBlockOf, AreBlocks, AreBlockLines, AreBehind, IsHeaded}
 use Rattle.mt_client.proofs.SeriesLaws.{Series, IsSeries, in_lines, are_in_lines, groups}
 use Rattle.mt_client.proofs.OpeningLaws.{first_taken, needs_line, heading_tells, rows_cut}
-use Rattle.mt_client.proofs.FollowLaws.{HasReadMore, lines_alike}
+use Rattle.mt_client.proofs.FollowLaws.{HasReadMore, lines_alike, post_counted, printed_post}
 
 -- rows
 pub no_rows : AreRowLines 0 []
@@ -112,6 +111,11 @@ post_needs_text n seen middle after text begun counts began read none lines late
     let front : begun ++ printed read.0 ≡ printed (k.first ∷ k.others) = (λ i. began i ++ printed (a.0 i)) ∙ ap (λ l. printed (l ∷ k.others)) (sym t.0) in
     none k.post k.valid (read.3 ∙ front ∙ ap printed (sym k.all) ∙ k.text)
 
+-- no post comes behind its first line, where no lines of one come with it
+pub post_behind : (seen : List ℕ) (middle : List Item) → NoneFirst IsPostLines (Text seen ∷ middle) → NoneFirst (IsPostBehind seen) middle
+post_behind seen middle none lines later k e =
+    none (seen ∷ lines) later (record { first = seen; others = lines; post = k.0; all = refl; counted = post_counted seen lines k.0 k.1 k.2; valid = k.1; text = printed_post (seen ∷ lines) k.0 k.2 }) (ap (λ x. Text seen ∷ x) e)
+
 -- two blocks that come first have as many lines
 abbrev pub Alike : (List (List ℕ) → Type 0) → Type 0
 Alike kind = (g h : List (List ℕ)) (middle later : List Item) → kind g → kind h → texts g ++ middle ≡ texts h ++ later → length g ≡ length h
@@ -174,13 +178,6 @@ blocks_join block count left rest behind is ls ms a g =
       record { blocks = a.0.blocks ++ ms ∷ []; each = each_last (IsBlock block) a.0.blocks ms a.0.each g.0; all = flat_more ls ms a.0.blocks a.0.all },
       omega (arith, l, m, n, is),
     )
-
-pub too_many : (behind left : ℕ) → 0 < left → (behind ≤ left - 1 → ⊥) → left < 1 + behind
-too_many behind left some over = go (nat_le behind (left - 1)) refl
-  where
-    go : (b : Bool) → nat_le behind (left - 1) ≡ b → left < 1 + behind
-    go true is = absurd (over (grind (arith, nat_tests)))
-    go false is = let more : left - 1 < behind = grind (arith, nat_tests) in omega (arith, more, some)
 
 -- blocks, counted by their lines
 abbrev pub blocks_of : Block → Series

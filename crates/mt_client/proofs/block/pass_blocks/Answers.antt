@@ -2,7 +2,7 @@ use Rattle.std.proofs.Common.{◌≡◌, ◌+◌, arith, refl, sym}
 use Rattle.mt_client.proofs.RelayLaws.{printed-append}
 use Rattle.mt_client.proofs.CallLaws.{read_both, out_both, out_as, handed_on, passes_read, passes_nothing, passes_both, pass_fault_behind, pass_refused_behind}
 use Rattle.mt_client.proofs.SeriesLaws.{lines_at_first, lines_more, lines_cut}
-use Rattle.mt_client.proofs.ReplyLaws.{none_so_far, blocks_join, blocks_of, are_blocks, one_block, too_many}
+use Rattle.mt_client.proofs.ReplyLaws.{none_so_far, blocks_join, blocks_of, are_blocks, one_block}
 use Rattle.mt_client.proofs.block.pass_blocks.Goals as goal
 
 pub passing-init : goal.passing-init
@@ -23,8 +23,7 @@ returns-in_default-clause-fault g c =
     lines_cut (blocks_of c.args.block) c.args.count c.passing.left tt tt _ _ (are_blocks c.args.block c.args.count) c.passing-test.true (c.passing.invariant.goes t)
     (λ g rest is within there.
     let size = (one_block c.args.block c.in_ok-behind.behind _ _ (passes_read q t) g rest is there).0 in
-    let over = too_many c.in_ok-behind.behind c.passing.left c.passing-test.true c.in_default.ensures in
-    omega (arith, size, within, over)))
+    omega (arith, size, within, c.in_default.ensures, c.passing-test.true)))
 
 pub passing-preserved : goal.passing-preserved
 passing-preserved g c =

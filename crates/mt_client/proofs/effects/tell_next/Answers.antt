@@ -1,4 +1,4 @@
-use Rattle.std.proofs.Common.{None, Err, refl, ap, ◌∙◌}
+use Rattle.std.proofs.Common.{Err, refl, ap, ◌∙◌}
 use Rattle.std.proofs.lemmas.Result.{err_from_is_err_and}
 use Rattle.mt_lines.specs.Reading.{last_line}
 use Rattle.mt_events.specs.declared.opening.Scope.TheVariants.{All}
@@ -8,7 +8,8 @@ use Rattle.mt_client.proofs.RelayLaws.{same_fault}
 use Rattle.mt_client.proofs.CallLaws.{connection≢output, read_still, handed_on, tell_fault_reading, tell_checked}
 use Rattle.mt_client.specs.Telling.{is_due}
 use Rattle.mt_client.proofs.OpeningLaws.{needs_line}
-use Rattle.mt_client.proofs.FollowLaws.{behind_needs_event, such_some, such_needs_post, such_needs_such}
+use Rattle.mt_client.proofs.FollowLaws.{such_some, such_needs_post, such_needs_such}
+use Rattle.mt_client.proofs.ReplyLaws.{post_needs_count, post_behind}
 use Rattle.mt_client.proofs.TellingLaws.{stopped_post}
 use Rattle.mt_client.proofs.EffectLaws.{one_told}
 use Rattle.mt_client.proofs.MissingLaws.{only_counted}
@@ -40,7 +41,7 @@ returns-in_default-clause-fault g c =
     tell_checked c.in_ok-next_text.ensures.read.on.limit
     (λ e t.
     such_needs_post (is_due All c.args.mirrors.now.items) (last_line c.next_text.new.lines) _ (lines_left c.next_text.new.lines) (c.in_ok-next_text.ensures.read.came t)
-    (behind_needs_event None (last_line c.next_text.new.lines) (lines_left c.next_text.new.lines) refl (rw c.line.ensures at c.in_default.ensures)))
+    (post_behind _ _ (post_needs_count (last_line c.next_text.new.lines) (lines_left c.next_text.new.lines) (rw c.line.ensures at c.in_default.ensures))))
     (λ e. absurd (connection≢output e))
 
 pub returns-in_err-post-clause-fault : goal.returns-in_err-post-clause-fault
