@@ -1,16 +1,14 @@
 //! The rows, namespaces and posts of an answer, which are printed once they are known for such.
 ghost use Rattle.std.specs.Prelude.{◌≡◌, ◌≢◌, [], ◌∷◌, None, Err, IfOk, IfErr, OnOk};
 ghost use Rattle.mt_lines.specs.Reading.{fault_of, last_line};
-ghost use Rattle.mt_events.specs.Posts.{PostView, IsPost, post_text};
 ghost use Rattle.mt_client.specs.Calls.{IsPassFault, PassesOn};
 ghost use Rattle.mt_client.specs.Awaited.{IsRowLine, AreRowLines};
 ghost use Rattle.mt_client.specs.Replies.{IsPartLines, IsPostLines, IsBlock, IsBlockOf, AreBlockLines, AreBehind};
 
 use crate::fault::ClientFault;
 use crate::opening::read_heading;
-use crate::posts::{lines_of_event, push_line, push_lines};
+use crate::posts::{lines_of_event, push_line, push_lines, read_text};
 use crate::relay::{next_text, print, print_line};
-use mt_events::read::read_post;
 use mt_info::read::read_row;
 use mt_lines::line::LineReader;
 use mt_lines::stream::{Input, Output};
@@ -90,19 +88,6 @@ fn pass_part<R: Input + Drop, O: Output>(
     Ok(heading.count)
 }
 
-/// Whether a text is that of a post: refused as `Connection` where it is none, and else as `NoMemory`.
-fn check_post(alloc: Global, text: &[u8]) -> Result<(), ClientFault>
-    ensures post { OnOk result ((post : PostView) × IsPost post × (text.now ≡ post_text post)) }
-    ensures refused { result ≡ Err ClientFault.Connection → (post : PostView) → IsPost post → text.now ≢ post_text post }
-    ensures kind { result ≢ Err ClientFault.Output }
-{
-    match read_post(alloc, text) {
-        Ok(_) => Ok(()),
-        Err(Fault::NoMemory) => Err(ClientFault::NoMemory),
-        Err(_) => Err(ClientFault::Connection),
-    }
-}
-
 /// Reads the lines behind the first one of a post, which the reader lends, and prints them all once they are known for
 /// a post: how many stand behind the first.
 pub(crate) fn pass_post<R: Input + Drop, O: Output>(
@@ -120,7 +105,7 @@ pub(crate) fn pass_post<R: Input + Drop, O: Output>(
     let mut text = Vec::new(alloc);
     push_line(&mut text, lines.line())?;
     push_lines(&mut text, lines, count)?;
-    check_post(alloc, &text)?;
+    read_text(alloc, &text)?;
     print(out, &text)?;
     Ok(count)
 }

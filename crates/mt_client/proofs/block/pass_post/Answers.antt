@@ -13,13 +13,13 @@ returns-in_err-push_lines-clause-fault g c =
     handed_on _ _ _ c.from_residual-in_err-push_lines.ensures.1
     (pass_fault_reading (read_still _ c.requires.fresh) (λ t. post_needs_lines c.in-Some.count _ _ (rw c.line.ensures at c.in-Some.ensures)) c.in_err-push_lines.ensures.fault)
 
-pub returns-in_err-check_post-clause-fault : goal.returns-in_err-check_post-clause-fault
-returns-in_err-check_post-clause-fault g c =
+pub returns-in_err-read_text-clause-fault : goal.returns-in_err-read_text-clause-fault
+returns-in_err-read_text-clause-fault g c =
     let begun = c.in_ok-push_line.ensures ∙ (λ i. c.new-text.ensures.items i ++ ended (c.line-2.ensures i)) in
-    handed_on _ _ _ c.from_residual-in_err-check_post.ensures.1
-    (pass_checked (λ e. c.in_err-check_post.ensures.kind (ap Err e)) c.in_ok-push_lines.ensures.text.2.on.limit
+    handed_on _ _ _ c.from_residual-in_err-read_text.ensures.1
+    (pass_checked (λ e. c.in_err-read_text.ensures.kind (ap Err e)) c.in_ok-push_lines.ensures.text.2.on.limit
     (λ e t. post_needs_text c.in-Some.count _ _ _ c.push_lines.new.text.items c.push_line.new.text.items (rw c.line.ensures at c.in-Some.ensures) begun (appended_of _ _ _ _ _ c.in_ok-push_lines.ensures.text t)
-    (λ post valid is. c.in_err-check_post.ensures.refused (ap Err e) post valid (c.deref.ensures.value ∙ is))))
+    (λ post valid is. c.in_err-read_text.ensures.refused (ap Err e) post valid (c.deref.ensures.value ∙ is))))
 
 pub returns-in_err-print-clause-fault : goal.returns-in_err-print-clause-fault
 returns-in_err-print-clause-fault g c =
@@ -32,5 +32,5 @@ returns-clause-passed g c =
     let begun = c.in_ok-push_line.ensures ∙ (λ i. c.new-text.ensures.items i ++ ended (c.line-2.ensures i)) in
     let h = c.in_ok-push_lines.ensures.text in
     let made =
-    post_made c.in-Some.count (last_line c.args.lines.now) h.0 c.push_lines.new.text.items c.push_line.new.text.items (rw c.line.ensures at c.in-Some.ensures) h.1 begun h.3 (rw c.deref.ensures.value at c.in_ok-check_post.ensures.post) in
+    post_made c.in-Some.count (last_line c.args.lines.now) h.0 c.push_lines.new.text.items c.push_line.new.text.items (rw c.line.ensures at c.in-Some.ensures) h.1 begun h.3 (c.in_ok-read_text.field-0, c.in_ok-read_text.ensures.valid, rw c.deref.ensures.value at c.in_ok-read_text.ensures.post) in
     record { others = h.0; is = made.0; read = h.2; out = out_as (c.deref-2.ensures.value ∙ made.1) c.in_ok-print.ensures.out }
