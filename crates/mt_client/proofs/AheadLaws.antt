@@ -1,5 +1,5 @@
 -- What cannot come first where a telling is cut off, and what of it has come.
-use Rattle.std.proofs.Common.{◌≡◌, ℕ, ◌+◌, ◌<◌, ◌≤◌, true, List, [], ◌∷◌, ◌++◌, length, refl, sym, ap, subst, ◌∙◌, arith, inl, inr, Bool, MatchBool, Result, Ok, IfOk}
+use Rattle.std.proofs.Common.{◌≡◌, ℕ, ◌+◌, ◌<◌, ◌≤◌, true, List, [], ◌∷◌, ◌++◌, length, refl, sym, ap, subst, ◌∙◌, arith, inl, inr}
 use Rattle.std.proofs.lemmas.Grind.{fold-append}
 use Rattle.std.specs.List.{flat_map, fold, AllByRecursion}
 use Rattle.mt_skel.proofs.MiddleLaws.{each_left, each_right}
@@ -7,7 +7,6 @@ use Rattle.mt_lines.specs.Lines.{Item, Text}
 use Rattle.mt_events.specs.Posts.{PostView, IsPost, post_lines}
 use Rattle.mt_events.specs.Mirrors.{MirrorView}
 use Rattle.mt_events.specs.declared.opening.Scope.{Scope}
-use Rattle.mt_client.specs.declared.fault.ClientFault.{ClientFault}
 use Rattle.mt_client.specs.Reading.{texts, NoneFirst}
 use Rattle.mt_client.specs.Mirroring.{IsRefusal, counted_line}
 use Rattle.mt_client.specs.Awaited.{IsOneRefusal, IsRefusedOr}
@@ -18,10 +17,6 @@ use Rattle.mt_client.proofs.SeriesLaws.{Series, IsSeries, Came, came_or, came_mo
 use Rattle.mt_client.proofs.RelayLaws.{texts_split}
 use Rattle.mt_client.proofs.OpeningLaws.{unrefused_or}
 use Rattle.mt_client.proofs.FoundLaws.{found_alike}
-
--- a result that is true, and one of two causes
-pub when_ok_true : (T A B : Type 0) (r : Result Bool ClientFault) → r ≡ Ok true → IfOk r (λ going. T → MatchBool going A B) → T → A
-when_ok_true T A B r is h = subst (λ x. IfOk x (λ going. T → MatchBool going A B)) is h
 
 -- posts that are due, up to their end
 abbrev pub due_posts : (count : ℕ) (scope : Scope) (mirrors : List MirrorView) (lines : List (List ℕ)) → AreDuePosts count scope mirrors lines → IsSeries (up_to (due_to scope) (counted_line count) count) mirrors lines

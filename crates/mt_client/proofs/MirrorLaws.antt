@@ -119,13 +119,6 @@ followed_by_post first post before middle after old new e p valid applied = reco
   follows = record { are = and-true (is_next old post) true applied.0 refl; make = applied.1 };
 }
 
-pub when_true : (A B : Type 0) (b : Bool) → b ≡ true → MatchBool b A B → A
-when_true A B true e m = m
-when_true A B false e m = cc
-
-pub when_some : {X : Type 0} (A : Type 0) (P : X → Type 0) (o : Option X) (x : X) → o ≡ Some x → MatchOption o A P → P x
-when_some A P o x e m = subst (λ y. MatchOption y A P) e m
-
 -- the line behind so many posts
 pub all_followed : {T : Type 0} (r : Result Bool ClientFault) (count n : ℕ) (refusal : List ℕ) (before middle after : List Item) (old new : MirrorView) → n ≡ count → (T → HasFollowedSome n before middle old new)
     → IfOk r (λ going. T → MatchBool going (middle ≡ texts (counted_line count ∷ []) ++ after) (HasRefused refusal middle after))

@@ -1,5 +1,5 @@
 -- Posts that were told, one after another, and what stands behind them.
-use Rattle.std.proofs.Common.{◌≡◌, ◌≢◌, ℕ, zero, suc, ◌+◌, ◌≤◌, MatchBool, MatchOption, Option, Some, None, IfSome, IfOk, IfErr, Result, Ok, Err, OnOk, Bool, true, false, List, [], ◌∷◌, ◌++◌, length, replicate, refl, sym, ap, subst, ◌∙◌, arith, append_assoc, length-append, codes, ◌⊎◌, inl, inr}
+use Rattle.std.proofs.Common.{◌≡◌, ◌≢◌, ℕ, zero, suc, ◌+◌, ◌≤◌, MatchBool, IfOk, IfErr, Result, Ok, Err, OnOk, Bool, true, false, List, [], ◌∷◌, ◌++◌, length, replicate, refl, sym, ap, subst, ◌∙◌, arith, append_assoc, length-append, codes, ◌⊎◌, inl, inr}
 use Rattle.std.proofs.lemmas.List.{append-nil}
 use Rattle.std.proofs.lemmas.Grind.{flat_map-append, fold-append}
 use Rattle.std.specs.List.{flat_map, AllByRecursion}
@@ -98,16 +98,6 @@ stopped_post {named} f scope first post old before middle after begun done there
     go Connection same half = inl (same (λ e. let no : ◌≡◌ {A = ClientFault} Connection Output = e in cc))
     go NoMemory same half = inl (same (λ e. let no : ◌≡◌ {A = ClientFault} NoMemory Output = e in cc))
     go Output same half = let h = half refl in inr (refl, half_told scope first post old before middle after begun done there p valid h.0 h.1)
-
-pub when_false : (A B : Type 0) (b : Bool) → b ≡ false → MatchBool b A B → B
-when_false A B false e m = m
-when_false A B true e m = cc
-
-pub when_present : {X : Type 0} (P : X → Type 0) (o : Option X) (x : X) → o ≡ Some x → IfSome o P → P x
-when_present P o x e m = subst (λ y. IfSome y P) e m
-
-pub when_none : {X : Type 0} (A : Type 0) (P : X → Type 0) (o : Option X) → o ≡ None → MatchOption o A P → A
-when_none A P o e m = subst (λ y. MatchOption y A P) e m
 
 -- so many posts
 pub none_yet : {named : NamedTelling} (scope : Scope) (old : List MirrorView) (before : List Item) (begun : List ℕ) → HasToldSome named 0 scope old old before before begun begun

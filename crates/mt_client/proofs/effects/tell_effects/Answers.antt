@@ -1,4 +1,5 @@
 use Rattle.std.proofs.Common.{rules, refl, ◌++◌, codes, inl, inr}
+use Rattle.std.proofs.lemmas.Option.{MatchOption-at_some}
 use Rattle.std.proofs.lemmas.Result.{err_from_is_err_and, IfErr-at_err, IfErr-weaker}
 use Rattle.mt_lines.specs.Reading.{last_line}
 use Rattle.mt_events.specs.Posts.{ended}
@@ -7,7 +8,7 @@ use Rattle.mt_client.specs.Reading.{lines_left}
 use Rattle.mt_client.specs.Finding.{watch_text}
 use Rattle.mt_client.proofs.RequestLaws.{part_first, part_second}
 use Rattle.mt_client.proofs.RelayLaws.{same_fault, broken_later}
-use Rattle.mt_client.proofs.TellingLaws.{when_present, unsaid_of}
+use Rattle.mt_client.proofs.TellingLaws.{unsaid_of}
 use Rattle.mt_client.proofs.CallLaws.{either, out_both}
 use Rattle.mt_client.proofs.MissingLaws.{answer_later, ask_missing}
 use Rattle.mt_client.proofs.effects.tell_effects.Goals as goal
@@ -39,44 +40,44 @@ returns-in_default-clause-refused g c is t u = let a = c.watch.ensures.refused (
 
 pub returns-clause-part : goal.returns-clause-part
 returns-clause-part g c u =
-    let sent = when_present _ c.in_ok-mirrors.field-0 c.in-Some.mirrors (search rules) c.in_ok-mirrors.ensures.sent in
+    let sent = MatchOption-at_some {o = c.in_ok-mirrors.field-0} _ _ c.in-Some.mirrors (search rules) c.in_ok-mirrors.ensures.sent in
     part_second (ended (watch_text All)) (ended c.args.line.now ++ ended (codes "close")) _ _ _ (sent.went u) (c.tell_answered.ensures.part u)
 
 pub returns-clause-sent : goal.returns-clause-sent
 returns-clause-sent g c is u =
-    let sent = when_present _ c.in_ok-mirrors.field-0 c.in-Some.mirrors (search rules) c.in_ok-mirrors.ensures.sent in
+    let sent = MatchOption-at_some {o = c.in_ok-mirrors.field-0} _ _ c.in-Some.mirrors (search rules) c.in_ok-mirrors.ensures.sent in
     let all = out_both sent (c.tell_answered.ensures.sent is) in
     all.went u
 
 pub returns-clause-told : goal.returns-clause-told
 returns-clause-told g c is t u =
-    let found = when_present _ c.in_ok-mirrors.field-0 c.in-Some.mirrors (search rules) c.in_ok-mirrors.ensures.found in
-    let same = when_present _ c.in_ok-mirrors.field-0 c.in-Some.mirrors (search rules) c.in_ok-mirrors.ensures.unprinted in
+    let found = MatchOption-at_some {o = c.in_ok-mirrors.field-0} _ _ c.in-Some.mirrors (search rules) c.in_ok-mirrors.ensures.found in
+    let same = MatchOption-at_some {o = c.in_ok-mirrors.field-0} _ _ c.in-Some.mirrors (search rules) c.in_ok-mirrors.ensures.unprinted in
     let told = rw same at (c.tell_answered.ensures.told is t u) in
     record { found = c.in-Some.mirrors.items; opened = lines_left c.watch.new.lines; answered = told.0; between = told.1; watched = found t; answer = told.2; changes = told.3 }
 
 pub returns-clause-refused : goal.returns-clause-refused
 returns-clause-refused g c is t u =
-    let found = when_present _ c.in_ok-mirrors.field-0 c.in-Some.mirrors (search rules) c.in_ok-mirrors.ensures.found in
-    let same = when_present _ c.in_ok-mirrors.field-0 c.in-Some.mirrors (search rules) c.in_ok-mirrors.ensures.unprinted in
+    let found = MatchOption-at_some {o = c.in_ok-mirrors.field-0} _ _ c.in-Some.mirrors (search rules) c.in_ok-mirrors.ensures.found in
+    let same = MatchOption-at_some {o = c.in_ok-mirrors.field-0} _ _ c.in-Some.mirrors (search rules) c.in_ok-mirrors.ensures.unprinted in
     inr (c.in-Some.mirrors.items, lines_left c.watch.new.lines, found t, rw same at (c.tell_answered.ensures.refused is t u))
 
 pub returns-clause-broken : goal.returns-clause-broken
 returns-clause-broken g c t u =
-    let found = when_present _ c.in_ok-mirrors.field-0 c.in-Some.mirrors (search rules) c.in_ok-mirrors.ensures.found in
-    let same = when_present _ c.in_ok-mirrors.field-0 c.in-Some.mirrors (search rules) c.in_ok-mirrors.ensures.unprinted in
+    let found = MatchOption-at_some {o = c.in_ok-mirrors.field-0} _ _ c.in-Some.mirrors (search rules) c.in_ok-mirrors.ensures.found in
+    let same = MatchOption-at_some {o = c.in_ok-mirrors.field-0} _ _ c.in-Some.mirrors (search rules) c.in_ok-mirrors.ensures.unprinted in
     IfErr-weaker c.tell_answered.result _ _ (λ f q. inr (c.in-Some.mirrors.items, lines_left c.watch.new.lines, found t, q)) (rw same at (c.tell_answered.ensures.broken t u))
 
 pub returns-clause-connection : goal.returns-clause-connection
 returns-clause-connection g c is t u v =
-    let found = when_present _ c.in_ok-mirrors.field-0 c.in-Some.mirrors (search rules) c.in_ok-mirrors.ensures.found in
-    let sent = when_present _ c.in_ok-mirrors.field-0 c.in-Some.mirrors (search rules) c.in_ok-mirrors.ensures.sent in
+    let found = MatchOption-at_some {o = c.in_ok-mirrors.field-0} _ _ c.in-Some.mirrors (search rules) c.in_ok-mirrors.ensures.found in
+    let sent = MatchOption-at_some {o = c.in_ok-mirrors.field-0} _ _ c.in-Some.mirrors (search rules) c.in_ok-mirrors.ensures.sent in
     let on = c.in_ok-mirrors.ensures.on in
     let fault = IfErr-at_err _ is c.tell_answered.ensures.fault in
     either (broken_later _ _ _ _ _ _ (on.counted u) (on.reads u)) (λ m. inr (c.in-Some.mirrors.items, lines_left c.watch.new.lines, found t, answer_later c.args.line.now c.in-Some.mirrors.items (lines_left c.watch.new.lines) (broken_later _ _ _ _ _ _ (sent.on.counted v) (sent.on.serves v)) m)) (fault.cut refl t u v)
 
 pub returns-clause-output : goal.returns-clause-output
 returns-clause-output g c is u =
-    let same = when_present _ c.in_ok-mirrors.field-0 c.in-Some.mirrors (search rules) c.in_ok-mirrors.ensures.unprinted in
+    let same = MatchOption-at_some {o = c.in_ok-mirrors.field-0} _ _ c.in-Some.mirrors (search rules) c.in_ok-mirrors.ensures.unprinted in
     let fault = IfErr-at_err _ is c.tell_answered.ensures.fault in
     rw same at (fault.cause refl u)

@@ -1,4 +1,5 @@
 use Rattle.std.proofs.Common.{rules}
+use Rattle.std.proofs.lemmas.Bool.{MatchBool-at_true}
 use Rattle.std.proofs.lemmas.Result.{IfErr-weaker}
 use Rattle.mt_lines.specs.Reading.{last_line}
 use Rattle.mt_client.specs.Reading.{lines_left}
@@ -6,7 +7,7 @@ use Rattle.mt_client.specs.Mirroring.{counted_line}
 use Rattle.mt_client.proofs.CallLaws.{read_still, reads_both, handed_on, read_fault_behind}
 use Rattle.mt_client.proofs.SeriesLaws.{came_at_first, following, up_to, posts_more, posts_cut, posts_to_end}
 use Rattle.mt_client.proofs.FollowLaws.{follows}
-use Rattle.mt_client.proofs.MirrorLaws.{none_followed, followed_more, when_true, all_followed}
+use Rattle.mt_client.proofs.MirrorLaws.{none_followed, followed_more, all_followed}
 use Rattle.mt_client.proofs.mirror.follow_posts.Goals as goal
 
 pub posts-init : goal.posts-init
@@ -15,7 +16,7 @@ posts-init g c = record { on = read_still _ c.requires.fresh; came = λ t. none_
 pub posts-preserved : goal.posts-preserved
 posts-preserved g c = record {
   on = reads_both c.posts.invariant.on c.in_ok-follow_post.ensures.on;
-  came = λ t. followed_more c.posts._post _ _ _ _ _ _ (c.posts.invariant.came t) (when_true _ _ _ c.if-not-branch.false (c.in_ok-follow_post.ensures.followed t));
+  came = λ t. followed_more c.posts._post _ _ _ _ _ _ (c.posts.invariant.came t) (MatchBool-at_true _ _ c.if-not-branch.false (c.in_ok-follow_post.ensures.followed t));
   goes = λ t. posts_more following (counted_line c.args.count) c.args.count c.posts._post _ _ _ _ _ _ c.posts-test.true (c.posts.invariant.goes t) (c.in_ok-follow_post.ensures.unrefused (search rules) t) (c.in_ok-follow_post.ensures.applied (search rules) t);
 }
 

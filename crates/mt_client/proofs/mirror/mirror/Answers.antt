@@ -1,4 +1,5 @@
 use Rattle.std.proofs.Common.{rules, refl, inl, inr}
+use Rattle.std.proofs.lemmas.Option.{MatchOption-at_some}
 use Rattle.std.proofs.lemmas.Result.{err_from_is_err_and, IfErr-at_err}
 use Rattle.mt_lines.specs.Reading.{last_line}
 use Rattle.mt_client.specs.Reading.{lines_left}
@@ -6,7 +7,6 @@ use Rattle.mt_client.proofs.RequestLaws.{part_first, part_second}
 use Rattle.mt_client.proofs.RelayLaws.{cut_within, same_fault}
 use Rattle.mt_client.proofs.MirrorLaws.{mirrored_whole}
 use Rattle.mt_client.proofs.FollowLaws.{mirroring_needs_opening, mirroring_needs_posts}
-use Rattle.mt_client.proofs.TellingLaws.{when_present}
 use Rattle.mt_client.proofs.CallLaws.{either, out_both, handed_on}
 use Rattle.mt_client.proofs.AskLaws.{broken_behind, writes_told}
 use Rattle.mt_client.proofs.mirror.mirror.Goals as goal
@@ -38,35 +38,35 @@ returns-in_default-clause-writes g c v e = let a = c.watch_one.ensures.refused (
 
 pub returns-clause-mirrored : goal.returns-clause-mirrored
 returns-clause-mirrored g c is t u =
-    let opened = when_present _ c.in_ok-mirror.field-0 c.in-Some.mirror (search rules) c.in_ok-mirror.ensures.opened in
-    let same = when_present _ c.in_ok-mirror.field-0 c.in-Some.mirror (search rules) c.in_ok-mirror.ensures.unprinted in
+    let opened = MatchOption-at_some {o = c.in_ok-mirror.field-0} _ _ c.in-Some.mirror (search rules) c.in_ok-mirror.ensures.opened in
+    let same = MatchOption-at_some {o = c.in_ok-mirror.field-0} _ _ c.in-Some.mirror (search rules) c.in_ok-mirror.ensures.unprinted in
     let printed = rw same at (c.print_followed.ensures.printed is) in
     (c.print_followed.new.mirror, mirrored_whole c.args.space c.args.count _ _ _ _ _ (opened t) (c.print_followed.ensures.followed is t), printed.went u)
 
 pub returns-clause-refused : goal.returns-clause-refused
 returns-clause-refused g c is t u =
-    let opened = when_present _ c.in_ok-mirror.field-0 c.in-Some.mirror (search rules) c.in_ok-mirror.ensures.opened in
-    let same = when_present _ c.in_ok-mirror.field-0 c.in-Some.mirror (search rules) c.in_ok-mirror.ensures.unprinted in
+    let opened = MatchOption-at_some {o = c.in_ok-mirror.field-0} _ _ c.in-Some.mirror (search rules) c.in_ok-mirror.ensures.opened in
+    let same = MatchOption-at_some {o = c.in_ok-mirror.field-0} _ _ c.in-Some.mirror (search rules) c.in_ok-mirror.ensures.unprinted in
     let out = rw same at (c.print_followed.ensures.refused is) in
     let left = c.print_followed.ensures.left is t in
     (last_line c.print_followed.new.lines, inr (c.in-Some.mirror, left.0, lines_left c.watch_one.new.lines, opened t, left.1), out.went u)
 
 pub returns-clause-sent : goal.returns-clause-sent
 returns-clause-sent g c is u =
-    let sent = when_present _ c.in_ok-mirror.field-0 c.in-Some.mirror (search rules) c.in_ok-mirror.ensures.sent in
+    let sent = MatchOption-at_some {o = c.in_ok-mirror.field-0} _ _ c.in-Some.mirror (search rules) c.in_ok-mirror.ensures.sent in
     let all = out_both sent (c.print_followed.ensures.sent is) in
     all.went u
 
 pub returns-clause-part : goal.returns-clause-part
 returns-clause-part g c u =
-    let sent = when_present _ c.in_ok-mirror.field-0 c.in-Some.mirror (search rules) c.in_ok-mirror.ensures.sent in
+    let sent = MatchOption-at_some {o = c.in_ok-mirror.field-0} _ _ c.in-Some.mirror (search rules) c.in_ok-mirror.ensures.sent in
     part_second _ _ _ _ _ (sent.went u) (c.print_followed.ensures.part u)
 
 pub returns-clause-connection : goal.returns-clause-connection
 returns-clause-connection g c is t u v =
-    let opened = when_present _ c.in_ok-mirror.field-0 c.in-Some.mirror (search rules) c.in_ok-mirror.ensures.opened in
-    let unrefused = when_present _ c.in_ok-mirror.field-0 c.in-Some.mirror (search rules) c.in_ok-mirror.ensures.unrefused in
-    let sent = when_present _ c.in_ok-mirror.field-0 c.in-Some.mirror (search rules) c.in_ok-mirror.ensures.sent in
+    let opened = MatchOption-at_some {o = c.in_ok-mirror.field-0} _ _ c.in-Some.mirror (search rules) c.in_ok-mirror.ensures.opened in
+    let unrefused = MatchOption-at_some {o = c.in_ok-mirror.field-0} _ _ c.in-Some.mirror (search rules) c.in_ok-mirror.ensures.unrefused in
+    let sent = MatchOption-at_some {o = c.in_ok-mirror.field-0} _ _ c.in-Some.mirror (search rules) c.in_ok-mirror.ensures.sent in
     let on = c.in_ok-mirror.ensures.on in
     let fault = IfErr-at_err _ is c.print_followed.ensures.fault in
     either (λ broken. (broken_behind sent v broken, inr (unrefused t)))
@@ -74,15 +74,15 @@ returns-clause-connection g c is t u v =
     (fault.cut refl t u v)
 
 pub returns-clause-kept : goal.returns-clause-kept
-returns-clause-kept g c = rw (when_present _ c.in_ok-mirror.field-0 c.in-Some.mirror (search rules) c.in_ok-mirror.ensures.unprinted) at c.print_followed.ensures.kept
+returns-clause-kept g c = rw (MatchOption-at_some {o = c.in_ok-mirror.field-0} _ _ c.in-Some.mirror (search rules) c.in_ok-mirror.ensures.unprinted) at c.print_followed.ensures.kept
 
 pub returns-clause-output : goal.returns-clause-output
 returns-clause-output g c is u =
-    let same = when_present _ c.in_ok-mirror.field-0 c.in-Some.mirror (search rules) c.in_ok-mirror.ensures.unprinted in
+    let same = MatchOption-at_some {o = c.in_ok-mirror.field-0} _ _ c.in-Some.mirror (search rules) c.in_ok-mirror.ensures.unprinted in
     let fault = IfErr-at_err _ is c.print_followed.ensures.fault in
     rw same at (fault.cause refl u)
 
 pub returns-clause-writes : goal.returns-clause-writes
 returns-clause-writes g c =
-    let sent = when_present _ c.in_ok-mirror.field-0 c.in-Some.mirror (search rules) c.in_ok-mirror.ensures.sent in
+    let sent = MatchOption-at_some {o = c.in_ok-mirror.field-0} _ _ c.in-Some.mirror (search rules) c.in_ok-mirror.ensures.sent in
     writes_told g.W.Output _ _ c.args.writer.now c.watch_one.new.writer c.print_followed.new.writer c.print_followed.result sent c.print_followed.ensures.sent c.print_followed.ensures.unsent

@@ -1,7 +1,7 @@
 use Rattle.std.proofs.Common.{rules, refl, arith, ap, inl, inr}
+use Rattle.std.proofs.lemmas.Bool.{MatchBool-at_true, MatchBool-at_false}
 use Rattle.mt_events.specs.Posts.{ended}
-use Rattle.mt_client.proofs.MirrorLaws.{when_true, left_behind, none_followed}
-use Rattle.mt_client.proofs.TellingLaws.{when_false}
+use Rattle.mt_client.proofs.MirrorLaws.{left_behind, none_followed}
 use Rattle.mt_client.proofs.CallLaws.{handed_on, out_as, refused_of, talk_no_memory, talk_fault_sending, talk_fault_telling, talk_fault_printing, tell_fault_reading, read_still}
 use Rattle.mt_client.proofs.AskLaws.{writes_same}
 use Rattle.mt_client.proofs.mirror.print_followed.Goals as goal
@@ -33,7 +33,7 @@ returns-in_err-print_line-clause-fault g c =
 pub returns-then-not-branch-2-clause-left : goal.returns-then-not-branch-2-clause-left
 returns-then-not-branch-2-clause-left g c is t =
     let followed = rw (c.send_request.ensures.unread (search rules)) at (c.in_ok-follow_posts.ensures.followed t) in
-    (c.follow_posts.new.mirror, when_false _ _ _ c.if-not-branch-2.true followed)
+    (c.follow_posts.new.mirror, MatchBool-at_false _ _ c.if-not-branch-2.true followed)
 
 pub returns-then-not-branch-2-clause-refused : goal.returns-then-not-branch-2-clause-refused
 returns-then-not-branch-2-clause-refused g c is = out_as (ap ended c.line.ensures) (rw (c.send_request.ensures.unprinted (search rules)) at c.in_ok-print_line.ensures.out)
@@ -44,4 +44,4 @@ returns-then-not-branch-2-clause-unsent g c is v = inl ((c.send_request.ensures.
 pub returns-clause-followed : goal.returns-clause-followed
 returns-clause-followed g c is t =
     let followed = rw (c.send_request.ensures.unread (search rules)) at (c.in_ok-follow_posts.ensures.followed t) in
-    when_true _ _ _ c.if-not-branch-2.false followed
+    MatchBool-at_true _ _ c.if-not-branch-2.false followed

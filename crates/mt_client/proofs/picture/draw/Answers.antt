@@ -1,9 +1,9 @@
 use Rattle.std.proofs.Common.{rules, refl, ap, ◌∙◌, ◌++◌}
+use Rattle.std.proofs.lemmas.Option.{MatchOption-at_some}
 use Rattle.std.proofs.lemmas.Result.{err_from_is_err_and}
 use Rattle.mt_lines.specs.Reading.{last_line}
 use Rattle.mt_render.specs.Drawings.{drawing_text}
 use Rattle.mt_client.proofs.RelayLaws.{same_fault}
-use Rattle.mt_client.proofs.TellingLaws.{when_present}
 use Rattle.mt_client.proofs.FoundLaws.{watched_whole}
 use Rattle.mt_client.proofs.CallLaws.{handed_on, either}
 use Rattle.mt_client.proofs.picture.draw.Goals as goal
@@ -32,6 +32,6 @@ returns-in_default-clause-writes g c v e = let a = c.watch.ensures.refused (sear
 
 pub returns-clause-drawn : goal.returns-clause-drawn
 returns-clause-drawn g c is t u =
-    let found = when_present _ c.in_ok-parts.field-0 c.in-Some.parts (search rules) c.in_ok-parts.ensures.found in
-    let same = when_present _ c.in_ok-parts.field-0 c.in-Some.parts (search rules) c.in_ok-parts.ensures.unprinted in
+    let found = MatchOption-at_some {o = c.in_ok-parts.field-0} _ _ c.in-Some.parts (search rules) c.in_ok-parts.ensures.found in
+    let same = MatchOption-at_some {o = c.in_ok-parts.field-0} _ _ c.in-Some.parts (search rules) c.in_ok-parts.ensures.unprinted in
     (c.in-Some.parts.items, watched_whole c.args.scope c.in-Some.parts.items _ _ (found t), (rw same at (c.in_ok-print_drawing.ensures.out.went u)) ∙ ap (λ ps. g.O.Output.written c.args.out.now ++ drawing_text c.args.drawing ps) c.as_slice.ensures.value)

@@ -1,11 +1,12 @@
 use Rattle.std.proofs.Common.{rules, IsTrue, refl, inl, inr}
+use Rattle.std.proofs.lemmas.Option.{MatchOption-at_some}
 use Rattle.std.proofs.lemmas.Result.{err_from_is_err_and, IfErr-at_err}
 use Rattle.mt_lines.specs.Reading.{last_line}
 use Rattle.mt_client.specs.Reading.{lines_left}
 use Rattle.mt_client.proofs.RelayLaws.{broken_later, cut_within, same_fault}
 use Rattle.mt_client.proofs.CallLaws.{either}
 use Rattle.mt_client.proofs.AheadLaws.{telling_needs_opening, telling_needs_posts}
-use Rattle.mt_client.proofs.TellingLaws.{telling_first, telling_second, told_behind, when_present, stopped_behind, unsaid_of}
+use Rattle.mt_client.proofs.TellingLaws.{telling_first, telling_second, told_behind, stopped_behind, unsaid_of}
 use Rattle.mt_client.proofs.telling.tell.Goals as goal
 
 pub returns-in_err-mirrors-clause-part : goal.returns-in_err-mirrors-clause-part
@@ -35,26 +36,26 @@ returns-in_default-clause-told g c t u = let a = c.watch.ensures.refused (search
 
 pub returns-clause-part : goal.returns-clause-part
 returns-clause-part g c u =
-    let sent = when_present _ c.in_ok-mirrors.field-0 c.in-Some.mirrors (search rules) c.in_ok-mirrors.ensures.sent in
+    let sent = MatchOption-at_some {o = c.in_ok-mirrors.field-0} _ _ c.in-Some.mirrors (search rules) c.in_ok-mirrors.ensures.sent in
     telling_second c.args.scope _ _ _ (sent.went u) (c.tell_portions.ensures.part u)
 
 pub returns-clause-told : goal.returns-clause-told
 returns-clause-told g c =
-    let same = when_present _ c.in_ok-mirrors.field-0 c.in-Some.mirrors (search rules) c.in_ok-mirrors.ensures.unprinted in
+    let same = MatchOption-at_some {o = c.in_ok-mirrors.field-0} _ _ c.in-Some.mirrors (search rules) c.in_ok-mirrors.ensures.unprinted in
     told_behind c.args.named.now (IsTrue g.R.Input.tells) (IsTrue g.O.Output.tells) _ c.tell_portions.result c.args.scope c.in-Some.mirrors.items (lines_left c.args.lines.now) (lines_left c.watch.new.lines) (lines_left c.tell_portions.new.lines) (g.O.Output.written c.args.out.now) (g.O.Output.written c.tell_portions.new.out)
-    (when_present _ c.in_ok-mirrors.field-0 c.in-Some.mirrors (search rules) c.in_ok-mirrors.ensures.found) (rw same at c.tell_portions.ensures.told)
+    (MatchOption-at_some {o = c.in_ok-mirrors.field-0} _ _ c.in-Some.mirrors (search rules) c.in_ok-mirrors.ensures.found) (rw same at c.tell_portions.ensures.told)
 
 pub returns-clause-broken : goal.returns-clause-broken
 returns-clause-broken g c t u =
-    let found = when_present _ c.in_ok-mirrors.field-0 c.in-Some.mirrors (search rules) c.in_ok-mirrors.ensures.found in
-    let same = when_present _ c.in_ok-mirrors.field-0 c.in-Some.mirrors (search rules) c.in_ok-mirrors.ensures.unprinted in
+    let found = MatchOption-at_some {o = c.in_ok-mirrors.field-0} _ _ c.in-Some.mirrors (search rules) c.in_ok-mirrors.ensures.found in
+    let same = MatchOption-at_some {o = c.in_ok-mirrors.field-0} _ _ c.in-Some.mirrors (search rules) c.in_ok-mirrors.ensures.unprinted in
     stopped_behind c.args.named.now c.tell_portions.result c.args.scope c.in-Some.mirrors.items (lines_left c.args.lines.now) (lines_left c.watch.new.lines) _ _ (found t) (rw same at (c.tell_portions.ensures.broken t u))
 
 pub returns-clause-connection : goal.returns-clause-connection
 returns-clause-connection g c is t u v =
-    let found = when_present _ c.in_ok-mirrors.field-0 c.in-Some.mirrors (search rules) c.in_ok-mirrors.ensures.found in
-    let unrefused = when_present _ c.in_ok-mirrors.field-0 c.in-Some.mirrors (search rules) c.in_ok-mirrors.ensures.unrefused in
-    let sent = when_present _ c.in_ok-mirrors.field-0 c.in-Some.mirrors (search rules) c.in_ok-mirrors.ensures.sent in
+    let found = MatchOption-at_some {o = c.in_ok-mirrors.field-0} _ _ c.in-Some.mirrors (search rules) c.in_ok-mirrors.ensures.found in
+    let unrefused = MatchOption-at_some {o = c.in_ok-mirrors.field-0} _ _ c.in-Some.mirrors (search rules) c.in_ok-mirrors.ensures.unrefused in
+    let sent = MatchOption-at_some {o = c.in_ok-mirrors.field-0} _ _ c.in-Some.mirrors (search rules) c.in_ok-mirrors.ensures.sent in
     let on = c.in_ok-mirrors.ensures.on in
     let fault = IfErr-at_err _ is c.tell_portions.ensures.fault in
     either (λ broken. (broken_later _ _ _ _ _ _ (sent.on.counted v) (sent.on.serves v) broken, inr (unrefused t)))
@@ -63,6 +64,6 @@ returns-clause-connection g c is t u v =
 
 pub returns-clause-output : goal.returns-clause-output
 returns-clause-output g c is u =
-    let same = when_present _ c.in_ok-mirrors.field-0 c.in-Some.mirrors (search rules) c.in_ok-mirrors.ensures.unprinted in
+    let same = MatchOption-at_some {o = c.in_ok-mirrors.field-0} _ _ c.in-Some.mirrors (search rules) c.in_ok-mirrors.ensures.unprinted in
     let fault = IfErr-at_err _ is c.tell_portions.ensures.fault in
     rw same at (fault.cause refl u)

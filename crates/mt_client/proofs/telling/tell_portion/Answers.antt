@@ -1,10 +1,11 @@
 use Rattle.std.proofs.Common.{rules, Ok, refl, ap}
+use Rattle.std.proofs.lemmas.Bool.{MatchBool-at_false}
 use Rattle.std.proofs.lemmas.Result.{err_from_is_err_and}
 use Rattle.mt_lines.specs.Reading.{last_line}
 use Rattle.mt_client.specs.declared.fault.ClientFault.TheVariants.{Output}
 use Rattle.mt_client.proofs.RelayLaws.{same_fault}
 use Rattle.mt_client.proofs.CallLaws.{handed_on, refused_of, talk_no_memory, talk_fault_sending, talk_fault_telling, talk_fault_printing}
-use Rattle.mt_client.proofs.TellingLaws.{when_false, unsaid_of, no_memory_told, up_to_none, refused_at_once, refusal_cut}
+use Rattle.mt_client.proofs.TellingLaws.{unsaid_of, no_memory_told, up_to_none, refused_at_once, refusal_cut}
 use Rattle.mt_client.proofs.telling.tell_portion.Goals as goal
 
 pub returns-in_err-follow-clause-broken : goal.returns-in_err-follow-clause-broken
@@ -32,7 +33,7 @@ returns-in_err-print_line-clause-broken g c t u =
     let told = rw (c.send_request.ensures.unread (search rules), c.send_request.ensures.unprinted (search rules)) at (c.in_ok-tell_posts.ensures.told t u) in
     rw (p.1, p.2)
     (refusal_cut f c.args.count c.args.scope (last_line c.tell_posts.new.lines) c.args.mirrors.now.items _ _ _ _ _ c.in_err-print_line.ensures.part.0
-    (when_false _ _ _ c.if-branch.false told) (rw c.line.ensures at (c.in_err-print_line.ensures.part.1.cut u)))
+    (MatchBool-at_false _ _ c.if-branch.false told) (rw c.line.ensures at (c.in_err-print_line.ensures.part.1.cut u)))
 
 pub returns-then-branch-clause-applied : goal.returns-then-branch-clause-applied
 returns-then-branch-clause-applied g c is t = rw (c.send_request.ensures.unread (search rules)) at (c.in_ok-tell_posts.ensures.applied (ap Ok c.if-branch.true) t)

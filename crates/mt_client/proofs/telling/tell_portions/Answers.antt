@@ -1,10 +1,10 @@
 use Rattle.std.proofs.Common.{Ok, ap, append-nil, sym}
+use Rattle.std.proofs.lemmas.Bool.{MatchBool-at_true, MatchBool-at_false}
 use Rattle.std.proofs.lemmas.Result.{err_from_is_err_and}
-use Rattle.mt_client.proofs.MirrorLaws.{when_true}
 use Rattle.mt_client.proofs.CallLaws.{read_still, reads_both, writes_still, writes_both, handed_on, talk_fault_behind, talk_refused}
 use Rattle.mt_client.proofs.SeriesLaws.{came_at_first}
 use Rattle.mt_client.proofs.AheadLaws.{portions_of, portions_more, portions_cut, portions_over}
-use Rattle.mt_client.proofs.TellingLaws.{when_false, none_whole, whole_more, all_behind, up_to_behind, up_to_whole, follows_sent, follows_part, follows_whole}
+use Rattle.mt_client.proofs.TellingLaws.{none_whole, whole_more, all_behind, up_to_behind, up_to_whole, follows_sent, follows_part, follows_whole}
 use Rattle.mt_client.proofs.telling.tell_portions.Goals as goal
 
 pub portions-init : goal.portions-init
@@ -27,7 +27,7 @@ pub returns-in_err-tell_portion-clause-part : goal.returns-in_err-tell_portion-c
 returns-in_err-tell_portion-clause-part g c u = follows_part c.args.count c.portions._portion _ _ _ (c.portions.invariant.sent u) (c.in_err-tell_portion.ensures.part u)
 
 pub returns-then-not-branch-clause-told : goal.returns-then-not-branch-clause-told
-returns-then-not-branch-clause-told g c t u = all_behind c.args.count c.args.scope _ _ _ _ _ _ _ _ (c.portions.invariant.told t u) (when_false _ _ _ c.if-not-branch.true (c.in_ok-tell_portion.ensures.told t u))
+returns-then-not-branch-clause-told g c t u = all_behind c.args.count c.args.scope _ _ _ _ _ _ _ _ (c.portions.invariant.told t u) (MatchBool-at_false _ _ c.if-not-branch.true (c.in_ok-tell_portion.ensures.told t u))
 
 pub returns-then-not-branch-clause-part : goal.returns-then-not-branch-clause-part
 returns-then-not-branch-clause-part g c u = follows_part c.args.count c.portions._portion _ _ _ (c.portions.invariant.sent u) (c.in_ok-tell_portion.ensures.part u)
@@ -42,7 +42,7 @@ portions-preserved g c =
       rising = c.in_ok-tell_portion.ensures.rising;
       goes = λ t. portions_more c.args.count c.portions._portion c.args.scope _ _ _ _ _ _ (c.portions.invariant.goes t) (c.in_ok-tell_portion.ensures.applied going t);
       sent = λ u. follows_sent c.args.count c.portions._portion _ _ _ (c.portions.invariant.sent u) ((c.in_ok-tell_portion.ensures.sent going).went u);
-      told = λ t u. whole_more c.args.count c.args.scope _ _ _ _ _ _ _ _ _ (c.portions.invariant.told t u) (when_true _ _ _ c.if-not-branch.false (c.in_ok-tell_portion.ensures.told t u));
+      told = λ t u. whole_more c.args.count c.args.scope _ _ _ _ _ _ _ _ _ (c.portions.invariant.told t u) (MatchBool-at_true _ _ c.if-not-branch.false (c.in_ok-tell_portion.ensures.told t u));
     }
 
 pub returns-clause-broken : goal.returns-clause-broken

@@ -1,13 +1,13 @@
 use Rattle.std.proofs.Common.{rules, Ok, ap, arith}
-use Rattle.std.proofs.lemmas.Result.{err_from_is_err_and, IfErr-weaker, on_ok_weaker}
+use Rattle.std.proofs.lemmas.Bool.{MatchBool-at_true, MatchBool-at_false}
+use Rattle.std.proofs.lemmas.Result.{err_from_is_err_and, IfErr-weaker, on_ok_weaker, MatchResult-at_ok}
 use Rattle.mt_lines.specs.Reading.{last_line}
 use Rattle.mt_client.specs.Reading.{lines_left}
-use Rattle.mt_client.proofs.MirrorLaws.{when_true}
 use Rattle.mt_client.proofs.CallLaws.{read_still, reads_both, writes_still, writes_both, handed_on, tell_fault_reading, tell_fault_behind}
 use Rattle.mt_client.specs.Mirroring.{counted_line}
 use Rattle.mt_client.proofs.SeriesLaws.{came_at_first, due_to, up_to, posts_more, posts_cut, posts_to_end}
-use Rattle.mt_client.proofs.AheadLaws.{when_ok_true, due_posts, posts_whole}
-use Rattle.mt_client.proofs.TellingLaws.{when_false, none_yet, some_more, all_told, all_few, up_to_some, end_broken}
+use Rattle.mt_client.proofs.AheadLaws.{due_posts, posts_whole}
+use Rattle.mt_client.proofs.TellingLaws.{none_yet, some_more, all_told, all_few, up_to_some, end_broken}
 use Rattle.mt_client.proofs.telling.tell_posts.Goals as goal
 
 pub posts-init : goal.posts-init
@@ -21,7 +21,7 @@ posts-init g c = record {
 
 pub returns-clause-applied : goal.returns-clause-applied
 returns-clause-applied g c is t =
-    posts_whole c.args.count c.posts._post c.args.scope _ _ _ _ _ c.posts-test.false (c.posts.invariant.goes t) (c.read_end.ensures.unrefused is t) (when_ok_true _ _ _ c.read_end.result is c.read_end.ensures.ended t)
+    posts_whole c.args.count c.posts._post c.args.scope _ _ _ _ _ c.posts-test.false (c.posts.invariant.goes t) (c.read_end.ensures.unrefused is t) (MatchResult-at_ok _ _ _ is c.read_end.ensures.ended t)
 
 pub returns-in_err-tell_post-clause-broken : goal.returns-in_err-tell_post-clause-broken
 returns-in_err-tell_post-clause-broken g c t u =
@@ -30,7 +30,7 @@ returns-in_err-tell_post-clause-broken g c t u =
 
 pub returns-then-not-branch-clause-told : goal.returns-then-not-branch-clause-told
 returns-then-not-branch-clause-told g c t u =
-    all_few c.args.count c.posts._post c.args.scope _ _ _ _ _ _ _ _ _ (omega (arith, c.posts-test.true)) (c.posts.invariant.told t u) (when_false _ _ _ c.if-not-branch.true (c.in_ok-tell_post.ensures.told t u))
+    all_few c.args.count c.posts._post c.args.scope _ _ _ _ _ _ _ _ _ (omega (arith, c.posts-test.true)) (c.posts.invariant.told t u) (MatchBool-at_false _ _ c.if-not-branch.true (c.in_ok-tell_post.ensures.told t u))
 
 pub posts-preserved : goal.posts-preserved
 posts-preserved g c = record {
@@ -38,7 +38,7 @@ posts-preserved g c = record {
   on = reads_both c.posts.invariant.on c.in_ok-tell_post.ensures.on;
   prints = writes_both c.posts.invariant.prints c.in_ok-tell_post.ensures.prints;
   rising = c.in_ok-tell_post.ensures.rising;
-  told = λ t u. some_more c.posts._post c.args.scope _ _ _ _ _ _ _ _ _ (c.posts.invariant.told t u) (when_true _ _ _ c.if-not-branch.false (c.in_ok-tell_post.ensures.told t u));
+  told = λ t u. some_more c.posts._post c.args.scope _ _ _ _ _ _ _ _ _ (c.posts.invariant.told t u) (MatchBool-at_true _ _ c.if-not-branch.false (c.in_ok-tell_post.ensures.told t u));
 }
 
 pub returns-clause-told : goal.returns-clause-told
