@@ -22,6 +22,7 @@ use Rattle.mt_client.proofs.FoundLaws.{found_alike}
 abbrev pub due_posts : (count : ℕ) (scope : Scope) (mirrors : List MirrorView) (lines : List (List ℕ)) → AreDuePosts count scope mirrors lines → IsSeries (up_to (due_to scope) (counted_line count) count) mirrors lines
 due_posts count scope mirrors lines d = record { items = d.posts; last = d.last ∷ []; due = (d.valid, d.due); ends = (d.last, refl, d.ends); all = d.all }
 
+-- posts that came first were so many, and applied, where their end was read behind the last
 pub posts_whole : (count taken : ℕ) (scope : Scope) (old now : List MirrorView) (before middle after : List Item) → count ≤ taken → Came (up_to (due_to scope) (counted_line count) count) taken old now before middle → NoneFirst IsOneRefusal middle → middle ≡ texts (counted_line count ∷ []) ++ after
     → AreOnlyApplied count scope old now before after
 posts_whole count taken scope old now before middle after all came none end lines later d e =
@@ -48,10 +49,12 @@ portions_of count scope = record {
   Ends = λ n ms ls. (d : AreDuePosts count scope ms ls) × IsRefusal d.last × (n < most_portions);
 }
 
+-- the mirrors that posts make in portions
 flat_by : (portions : List (List PostView)) (mirrors : List MirrorView) → fold mirrors_by mirrors portions ≡ mirrors_by mirrors (flat portions)
 flat_by [] mirrors = refl
 flat_by (q ∷ qs) mirrors = flat_by qs (mirrors_by mirrors q) ∙ sym (fold-append mirrors_with mirrors q (flat qs))
 
+-- what a telling waits for is such portions
 are_portions : (count : ℕ) (scope : Scope) (mirrors : List MirrorView) (lines : List (List ℕ)) → AreDuePortions count scope mirrors lines → IsSeries (portions_of count scope) mirrors lines
 are_portions count scope mirrors lines a =
     let due = are_apart (due_to scope) (flat a.portions) a.rest mirrors a.due in
@@ -68,6 +71,7 @@ are_portions count scope mirrors lines a =
 abbrev whole_portion : (count : ℕ) (scope : Scope) (mirrors : List MirrorView) (posts : List PostView) → (length posts ≡ count) × AllByRecursion IsPost posts × (are_due scope mirrors posts ≡ true) → AreDuePosts count scope mirrors (portion_lines count posts)
 whole_portion count scope mirrors posts is = record { posts = posts; last = counted_line count; all = refl; valid = is.1; due = is.2; ends = inl (is.0, refl) }
 
+-- one more portion came, none comes where neither posts nor a refusal do, and none where too many came
 pub portions_more : (count taken : ℕ) (scope : Scope) (old now new : List MirrorView) (before middle after : List Item) → Came (portions_of count scope) taken old now before middle → AreOnlyApplied count scope now new middle after → Came (portions_of count scope) (taken + 1) old new before after
 portions_more count taken scope old now new before middle after came only =
     came_more (portions_of count scope) taken old now new before middle after came (λ ls later h e. (only ls later h.1.0 e).1 h.1.1)

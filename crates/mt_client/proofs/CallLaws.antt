@@ -231,21 +231,11 @@ pass_fault_printing_behind {R} {O} {g} {h} {f} {kind} {xs} {ys} {text} {a} {b} {
     pass_fault_behind {inner = λ ls. ls ≡ []} {seen = []} p o (λ t none. absurd (none [] (lines_left b) refl refl)) (pass_fault_printing q is part)
 
 pub pass_refused : {R O : Type 0} {g : Ghosts R} {h : OutputGhosts O} {kind : List (List ℕ) → Type 0} {seen : List (List ℕ)} {a b : LineReader R g} {x : O} → limit_of b ≡ limit_of a → (IsTrue g.tells → NoneFirst kind (texts seen ++ lines_left a)) → IsPassFault h Connection kind seen a b x x
-pass_refused {R} {O} {g} {h} {kind} {seen} {a} {b} {x} limit none = record {
-  limit = limit;
-  cut = λ e t u. inr (none t);
-  cause = λ e. absurd (connection≢output e);
-  broken = λ t u. unprinted Connection (texts seen ++ lines_left a) (h.written x) connection≢output;
-}
+pass_refused limit none = pass_checked connection≢output limit (λ e. none)
 
 pub pass_refused_behind : {R O : Type 0} {g : Ghosts R} {h : OutputGhosts O} {kind : List (List ℕ) → Type 0} {seen xs : List (List ℕ)} {a b c : LineReader R g} {x y : O} → AreRead xs a b → IsOut h (printed (seen ++ xs)) x y → limit_of c ≡ limit_of b
     → (IsTrue g.tells → NoneFirst kind (texts seen ++ lines_left a)) → IsPassFault h Connection kind seen a c x y
-pass_refused_behind {R} {O} {g} {h} {kind} {seen} {xs} {a} {b} {c} {x} {y} p o limit none = record {
-  limit = limit ∙ p.on.limit;
-  cut = λ e t u. inr (none t);
-  cause = λ e. absurd (connection≢output e);
-  broken = λ t u. let q = passed_of seen xs a b x y p o t u in record { lines = seen ++ xs; later = lines_left b; read = q.read; out = q.out };
-}
+pass_refused_behind p o limit none = pass_fault_behind {inner = λ ls. ⊥} p o (λ t never. none t) (pass_refused limit (λ t lines later never. absurd never))
 
 -- a fault of calls that read and print
 pub tell_fault_reading : {R O : Type 0} {g : Ghosts R} {h : OutputGhosts O} {f : ClientFault} {inner kind : List (List ℕ) → Type 0} {middle : List Item} {a b c : LineReader R g} {x y : O}

@@ -69,6 +69,7 @@ printed_post lines p e = ap printed e
 abbrev pub HasReadMore : ℕ → List Item → List Item → List ℕ → List ℕ → Type 0
 HasReadMore n before after begun text = (all : List (List ℕ)) × (length all ≡ n) × (before ≡ texts all ++ after) × (text ≡ begun ++ printed all)
 
+-- a post that was read behind its first line is the one that comes there
 pub behind_only : (n : ℕ) (seen : List ℕ) (before after : List Item) (begun text : List ℕ) (post : PostView) → Some n ≡ event_count (words seen) → begun ≡ ended seen → HasReadMore n before after begun text
     → IsPost post → text ≡ post_text post → IsOnlyPost seen before after post
 behind_only n seen before after begun text post counts began read valid said other others rest valid_other all e =
@@ -96,6 +97,7 @@ post_taken seen before middle later lines p there is e =
 pub such_some : (test : PostView → Bool) (lines : List (List ℕ)) → IsSuchPost test lines → (first : List ℕ) × (others : List (List ℕ)) × (lines ≡ first ∷ others)
 such_some test lines k = (event_line k.post, behind_lines k.post, k.all)
 
+-- none comes first where no post does, or one that the test does not accept
 pub such_needs_post : (test : PostView → Bool) (seen : List ℕ) (before middle : List Item) → before ≡ Text seen ∷ middle → NoneFirst (IsPostBehind seen) middle → NoneFirst (IsSuchPost test) before
 such_needs_post test seen before middle there none lines later k e =
     let t = post_taken seen before middle later lines k.post there k.all e in

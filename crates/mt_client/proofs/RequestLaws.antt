@@ -1,5 +1,5 @@
 -- The lines of requests, and what of them went out.
-use Rattle.std.proofs.Common.{Bor, ◌≡◌, ℕ, zero, suc, ◌+◌, ◌<◌, List, [], ◌∷◌, ◌++◌, map, length, take, refl, sym, ap, ◌∙◌, arith, append_assoc, length-append, Result, Ok, Err, OnErr}
+use Rattle.std.proofs.Common.{Bor, ◌≡◌, ℕ, suc, ◌+◌, ◌<◌, List, [], ◌∷◌, ◌++◌, map, length, take, drop, take_all, take-append-drop, refl, sym, ap, ◌∙◌, arith, append_assoc, length-append, Result, Ok, Err, OnErr}
 use Rattle.std.proofs.lemmas.List.{append-nil, take-append-le}
 use Rattle.std.specs.List.{flat_map, join_with_byte}
 use Rattle.mt_skel.specs.Escapes.{escaped}
@@ -51,25 +51,17 @@ words_joined words others first begun all is e f =
     behind (w ∷ ws) = ap (λ x. 32 ∷ escaped w.now ++ x) (behind ws)
 
 -- a text that went out whole, or not at all, went out in part
-take_whole : (text : List ℕ) → take (length text) text ≡ text
-take_whole [] = refl
-take_whole (b ∷ text) = ap (λ x. b ∷ x) (take_whole text)
-
 pub sent_whole : (text old new : List ℕ) → new ≡ old ++ text → IsSentPart text old new
-sent_whole text old new e = record { count = length text; out = e ∙ ap (λ x. old ++ x) (sym (take_whole text)) }
+sent_whole text old new e = record { count = length text; out = e ∙ ap (λ x. old ++ x) (sym (take_all (length text) text (omega arith))) }
 
 -- a part of a text, and of one that begins with it
-take_nothing : (n : ℕ) → take {A = ℕ} n [] ≡ []
-take_nothing zero = refl
-take_nothing (suc n) = refl
-
-take_front : (text rest : List ℕ) (n : ℕ) → (k : ℕ) × (take k (text ++ rest) ≡ take n text)
-take_front [] rest n = (0, sym (take_nothing n))
-take_front (b ∷ text) rest zero = (0, refl)
-take_front (b ∷ text) rest (suc n) = let t = take_front text rest n in (suc t.0, ap (λ x. b ∷ x) t.1)
+take_front : (text rest : List ℕ) (n : ℕ) → take (length (take n text)) (text ++ rest) ≡ take n text
+take_front text rest n =
+    let k : ℕ = length (take n text) in
+    ap (λ t. take k (t ++ rest)) (sym (take-append-drop n text)) ∙ ap (take k) (append_assoc (take n text) (drop n text) rest) ∙ take-append-le k (take n text) (drop n text ++ rest) (omega arith) ∙ take_all k (take n text) (omega arith)
 
 pub part_first : (first second old new : List ℕ) → IsSentPart first old new → IsSentPart (first ++ second) old new
-part_first first second old new p = let t = take_front first second p.count in record { count = t.0; out = p.out ∙ ap (λ x. old ++ x) (sym t.1) }
+part_first first second old new p = record { count = length (take p.count first); out = p.out ∙ ap (λ x. old ++ x) (sym (take_front first second p.count)) }
 
 pub part_second : (first second old between new : List ℕ) → between ≡ old ++ first → IsSentPart second between new → IsSentPart (first ++ second) old new
 part_second first second old between new e p = record {

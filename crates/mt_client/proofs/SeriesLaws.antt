@@ -37,6 +37,7 @@ Came k taken old now before middle =
     (lines : List (List ℕ)) (later : List Item) → (d : IsSeries k old lines) → before ≡ texts lines ++ later
     → (rest : List k.X) × k.AreDue now rest × (taken + length rest ≡ length d.items) × (fold k.step now rest ≡ fold k.step old d.items) × (middle ≡ texts (flat_map k.lines_of rest ++ d.last) ++ later)
 
+-- none was taken yet
 pub came_at_first : (k : Series) (old : k.S) (before : List Item) → Came k 0 old old before before
 came_at_first k old before lines later d e = (d.items, d.due, omega arith, refl, e ∙ ap (λ ls. texts ls ++ later) d.all)
 
@@ -92,6 +93,7 @@ in_lines k = record {
   Ends = λ n s ls. ls ≡ [];
 }
 
+-- items whose lines are so many
 pub are_in_lines : (k : Series) (count : ℕ) (old : k.S) (items : List k.X) (lines : List (List ℕ)) → k.AreDue old items → length lines ≡ count → lines ≡ flat_map k.lines_of items → IsSeries (in_lines k) (count, old) lines
 are_in_lines k count old items lines due many all = record { items = items; last = []; due = (due, sym (ap length all) ∙ many); ends = refl; all = all ∙ sym (append-nil (flat_map k.lines_of items)) }
 
@@ -99,6 +101,7 @@ are_in_lines k count old items lines due many all = record { items = items; last
 abbrev pub CameInLines : (k : Series) → ℕ → ℕ → k.S → k.S → List Item → List Item → Type 0
 CameInLines k count left old now before middle = (taken : ℕ) × Came (in_lines k) taken (count, old) (left, now) before middle
 
+-- none was taken yet, one more was, and none came where none comes within the lines that are left
 pub lines_at_first : (k : Series) (count : ℕ) (old : k.S) (before : List Item) → CameInLines k count count old old before before
 lines_at_first k count old before = (0, came_at_first (in_lines k) (count, old) before)
 
@@ -154,6 +157,7 @@ are_both k (p ∷ ps) qs s due more =
     let b = sym (k.both s p ps) ∙ due in
     k.both s p (ps ++ qs) ∙ and-true (k.is s p) (k.are (k.apply s p) (ps ++ qs)) (and_first (k.is s p) (k.are (k.apply s p) ps) b) (are_both k ps qs (k.apply s p) (and_second (k.is s p) (k.are (k.apply s p) ps) b) more)
 
+-- and what is true of each of two runs of posts in a row
 pub are_apart : (k : Posts) (ps qs : List PostView) (s : k.S) → k.are s (ps ++ qs) ≡ true → (k.are s ps ≡ true) × (k.are (fold k.apply s ps) qs ≡ true)
 are_apart k [] qs s due = (k.none s, due)
 are_apart k (p ∷ ps) qs s due =
@@ -192,11 +196,13 @@ last_is : (count taken : ℕ) (last : List ℕ) (lines : List (List ℕ)) → Is
 last_is count taken last lines (inl s) all = inr (all ∙ ap (λ l. l ∷ []) s.1)
 last_is count taken last lines (inr s) all = inl (last, s.1, all)
 
+-- one more post was applied, where no refusal comes first
 pub posts_more : (k : Posts) (end : List ℕ) (count taken : ℕ) (old now new : k.S) (before middle after : List Item) → taken < count → Came (up_to k end count) taken old now before middle → NoneFirst IsOneRefusal middle → IsOnlyApplied k.apply now new middle after
     → Came (up_to k end count) (taken + 1) old new before after
 posts_more k end count taken old now new before middle after lt came none only =
     came_more (up_to k end count) taken old now new before middle after came (λ ls later h. none ls later (h.1.0, refuses_early end count taken h.1.0 h.1.2 lt, h.1.1)) (λ p rest is. only p rest is.0)
 
+-- no such posts came first where neither a next one comes nor a refusal, and where neither their end does nor a refusal
 pub posts_cut : {kind : List (List ℕ) → Type 0} (k : Posts) (end : List ℕ) (count taken : ℕ) (old now : k.S) (before middle : List Item) → ((lines : List (List ℕ)) → kind lines → IsSeries (up_to k end count) old lines) → taken < count → Came (up_to k end count) taken old now before middle
     → NoneFirst (IsRefusedOr (IsSuchPost (k.is now))) middle → NoneFirst kind before
 posts_cut k end count taken old now before middle is lt came none =
