@@ -1,8 +1,8 @@
 -- Posts that were told, one after another, and what stands behind them.
-use Rattle.std.proofs.Common.{◌≡◌, ◌≢◌, ℕ, zero, suc, ◌+◌, ◌≤◌, MatchBool, IfOk, IfErr, Result, Ok, Err, OnOk, Bool, true, false, List, [], ◌∷◌, ◌++◌, length, replicate, refl, sym, ap, subst, ◌∙◌, arith, append_assoc, length-append, codes, ◌⊎◌, inl, inr}
+use Rattle.std.proofs.Common.{◌≡◌, ◌≢◌, ℕ, zero, suc, ◌+◌, ◌≤◌, MatchBool, IfOk, IfErr, Result, Ok, Err, OnOk, Bool, true, false, List, [], ◌∷◌, ◌++◌, replicate, refl, sym, ap, subst, ◌∙◌, arith, append_assoc, length-append, codes, ◌⊎◌, inl, inr}
 use Rattle.std.proofs.lemmas.List.{append-nil}
 use Rattle.std.proofs.lemmas.Grind.{flat_map-append, fold-append}
-use Rattle.std.specs.List.{flat_map, AllByRecursion}
+use Rattle.std.specs.List.{flat_map}
 use Rattle.mt_skel.proofs.MiddleLaws.{and-true, each_append}
 use Rattle.mt_lines.specs.Lines.{Item, Text}
 use Rattle.mt_events.specs.Posts.{PostView, IsPost, post_text, ended}
@@ -143,67 +143,41 @@ so_few {named} count n scope old new before after begun done le f = record { por
 pub so_none : {named : NamedTelling} (count : ℕ) (scope : Scope) (old : List MirrorView) (before : List Item) (begun : List ℕ) → HasToldSo named count scope old old before before begun begun
 so_none {named} count scope old before begun = so_few count 0 scope old old before before begun begun (omega arith) (none_yet scope old before begun)
 
--- whole portions
-pub record HasToldWhole (named : NamedTelling) (count : ℕ) (scope : Scope) (old new : List MirrorView) (before after : List Item) (begun done : List ℕ) : Type 0 where
-  pub portions : List (List PostView)
-  pub whole : AllByRecursion (λ posts. length posts ≡ count) portions
-  pub told : AreTold named scope (flat_map (λ posts. posts) portions) (flat_map (λ posts. followed_text posts (count_text count)) portions) old new before after begun done
+-- what is told from here on is told from the start on, behind the portions that were told
+abbrev pub AreToldBefore : NamedTelling → ℕ → Scope → List MirrorView → List MirrorView → List Item → List Item → List ℕ → List ℕ → Type 0
+AreToldBefore named count scope old mid before middle begun between =
+    (new : List MirrorView) (after : List Item) (done : List ℕ) → HasToldSo named count scope mid new middle after between done → HasToldSo named count scope old new before after begun done
 
-pub none_whole : {named : NamedTelling} (count : ℕ) (scope : Scope) (old : List MirrorView) (before : List Item) (begun : List ℕ) → HasToldWhole named count scope old old before before begun begun
-none_whole {named} count scope old before begun = record { portions = []; whole = tt; told = none_told scope old before begun }
-
-pub whole_more : {named : NamedTelling} (count : ℕ) (scope : Scope) (old mid new : List MirrorView) (before middle after : List Item) (begun between done : List ℕ) → HasToldWhole named count scope old mid before middle begun between → HasToldPortion named count scope mid new middle after between done
-    → HasToldWhole named count scope old new before after begun done
-whole_more {named} count scope old mid new before middle after begun between done f h =
-    let said : List (List PostView) → List ℕ = λ portions. flat_map (λ posts. followed_text posts (count_text count)) portions in
-    let posts : flat_map (λ posts. posts) f.portions ++ h.posts ≡ flat_map (λ posts. posts) (f.portions ++ h.posts ∷ []) =
-    ap (λ x. flat_map (λ posts. posts) f.portions ++ x) (sym (append-nil h.posts)) ∙ sym (flat_map-append (λ posts. posts) f.portions (h.posts ∷ [])) in
-    let text : said f.portions ++ followed_text h.posts (count_text count) ≡ said (f.portions ++ h.posts ∷ []) =
-    ap (λ x. said f.portions ++ x) (sym (append-nil (followed_text h.posts (count_text count)))) ∙ sym (flat_map-append (λ posts. followed_text posts (count_text count)) f.portions (h.posts ∷ [])) in
+pub portion_before : {named : NamedTelling} (count : ℕ) (scope : Scope) (old mid : List MirrorView) (before middle : List Item) (begun between : List ℕ) → HasToldPortion named count scope old mid before middle begun between → AreToldBefore named count scope old mid before middle begun between
+portion_before {named} count scope old mid before middle begun between f new after done h =
+    let first : List ℕ = followed_text f.posts (count_text count) in
+    let posts : f.posts ++ all_posts h.portions h.rest ≡ all_posts (f.posts ∷ h.portions) h.rest = sym (append_assoc f.posts (flat_map (λ posts. posts) h.portions) h.rest) in
+    let text : first ++ portions_text count h.portions h.rest ≡ portions_text count (f.posts ∷ h.portions) h.rest =
+    sym (append_assoc first (flat_map (λ posts. followed_text posts (count_text count)) h.portions) (flat_map post_text h.rest)) in
     record {
-      portions = f.portions ++ h.posts ∷ [];
-      whole = each_append (λ (posts : List PostView). length posts ≡ count) f.portions (h.posts ∷ []) f.whole (h.many, tt);
-      told = subst (λ x. AreTold named scope x (said (f.portions ++ h.posts ∷ [])) old new before after begun done) posts
-          (subst (λ x. AreTold named scope (flat_map (λ posts. posts) f.portions ++ h.posts) x old new before after begun done) text
-          (both_told scope (flat_map (λ posts. posts) f.portions) h.posts (said f.portions) (followed_text h.posts (count_text count)) old mid new before middle after begun between done f.told h.told));
-    }
-
-pub so_behind : {named : NamedTelling} (count : ℕ) (scope : Scope) (old mid new : List MirrorView) (before middle after : List Item) (begun between done : List ℕ) → HasToldWhole named count scope old mid before middle begun between → HasToldSo named count scope mid new middle after between done
-    → HasToldSo named count scope old new before after begun done
-so_behind {named} count scope old mid new before middle after begun between done f h =
-    let all : List (List PostView) → List PostView = λ portions. flat_map (λ posts. posts) portions in
-    let said : List (List PostView) → List ℕ = λ portions. flat_map (λ posts. followed_text posts (count_text count)) portions in
-    let posts : all f.portions ++ all_posts h.portions h.rest ≡ all_posts (f.portions ++ h.portions) h.rest =
-    sym (append_assoc (all f.portions) (all h.portions) h.rest) ∙ ap (λ x. x ++ h.rest) (sym (flat_map-append (λ posts. posts) f.portions h.portions)) in
-    let text : said f.portions ++ portions_text count h.portions h.rest ≡ portions_text count (f.portions ++ h.portions) h.rest =
-    sym (append_assoc (said f.portions) (said h.portions) (flat_map post_text h.rest)) ∙ ap (λ x. x ++ flat_map post_text h.rest) (sym (flat_map-append (λ posts. followed_text posts (count_text count)) f.portions h.portions)) in
-    record {
-      portions = f.portions ++ h.portions;
+      portions = f.posts ∷ h.portions;
       rest = h.rest;
-      whole = each_append (λ (posts : List PostView). length posts ≡ count) f.portions h.portions f.whole h.whole;
+      whole = (f.many, h.whole);
       within = h.within;
-      told = subst (λ x. AreTold named scope x (portions_text count (f.portions ++ h.portions) h.rest) old new before after begun done) posts
-          (subst (λ x. AreTold named scope (all f.portions ++ all_posts h.portions h.rest) x old new before after begun done) text
-          (both_told scope (all f.portions) (all_posts h.portions h.rest) (said f.portions) (portions_text count h.portions h.rest) old mid new before middle after begun between done f.told h.told));
+      told = subst (λ x. AreTold named scope x (portions_text count (f.posts ∷ h.portions) h.rest) old new before after begun done) posts
+          (said_so scope (f.posts ++ all_posts h.portions h.rest) (first ++ portions_text count h.portions h.rest) (portions_text count (f.posts ∷ h.portions) h.rest) old new before after begun done text
+          (both_told scope f.posts (all_posts h.portions h.rest) first (portions_text count h.portions h.rest) old mid new before middle after begun between done f.told h.told));
     }
-
-pub so_whole : {named : NamedTelling} (count : ℕ) (scope : Scope) (old new : List MirrorView) (before after : List Item) (begun done : List ℕ) → HasToldWhole named count scope old new before after begun done → HasToldSo named count scope old new before after begun done
-so_whole {named} count scope old new before after begun done f = so_behind count scope old new new before after after begun done done f (so_none count scope new after done)
 
 -- a refusal behind them, and a fault
-pub all_behind : {named : NamedTelling} (count : ℕ) (scope : Scope) (old mid : List MirrorView) (before middle after : List Item) (begun between done : List ℕ) → HasToldWhole named count scope old mid before middle begun between → HasToldAllOut named count scope mid middle after between done
+pub all_behind : {named : NamedTelling} (count : ℕ) (scope : Scope) (old mid : List MirrorView) (before middle after : List Item) (begun between done : List ℕ) → AreToldBefore named count scope old mid before middle begun between → HasToldAllOut named count scope mid middle after between done
     → HasToldAllOut named count scope old before after begun done
 all_behind {named} count scope old mid before middle after begun between done f h =
     let a : HasToldAll named count scope h.0 mid middle after between h.1 = h.2 in
-    (h.0, h.1, record { made = a.made; middle = a.middle; so = so_behind count scope old mid a.made before middle a.middle begun between h.1 f a.so; refused = a.refused }, h.3)
+    (h.0, h.1, record { made = a.made; middle = a.middle; so = f a.made a.middle h.1 a.so; refused = a.refused }, h.3)
 
-pub up_to_behind : {named : NamedTelling} (fault : ClientFault) (count : ℕ) (scope : Scope) (old mid : List MirrorView) (before middle : List Item) (begun between done : List ℕ) → HasToldWhole named count scope old mid before middle begun between → IsToldUpTo named fault count scope mid middle between done
+pub up_to_behind : {named : NamedTelling} (fault : ClientFault) (count : ℕ) (scope : Scope) (old mid : List MirrorView) (before middle : List Item) (begun between done : List ℕ) → AreToldBefore named count scope old mid before middle begun between → IsToldUpTo named fault count scope mid middle between done
     → IsToldUpTo named fault count scope old before begun done
 up_to_behind {named} fault count scope old mid before middle begun between done f h =
-    record { made = h.made; middle = h.middle; between = h.between; so = so_behind count scope old mid h.made before middle h.middle begun between h.between f h.so; stopped = h.stopped }
+    record { made = h.made; middle = h.middle; between = h.between; so = f h.made h.middle h.between h.so; stopped = h.stopped }
 
-pub up_to_whole : {named : NamedTelling} (count : ℕ) (scope : Scope) (old new : List MirrorView) (before middle : List Item) (begun done : List ℕ) → HasToldWhole named count scope old new before middle begun done → IsToldUpTo named Connection count scope old before begun done
-up_to_whole {named} count scope old new before middle begun done f = record { made = new; middle = middle; between = done; so = so_whole count scope old new before middle begun done f; stopped = inl refl }
+pub up_to_whole : {named : NamedTelling} (count : ℕ) (scope : Scope) (old new : List MirrorView) (before middle : List Item) (begun done : List ℕ) → AreToldBefore named count scope old new before middle begun done → IsToldUpTo named Connection count scope old before begun done
+up_to_whole {named} count scope old new before middle begun done f = record { made = new; middle = middle; between = done; so = f new middle done (so_none count scope new middle done); stopped = inl refl }
 
 -- the line behind so many posts
 pub all_told : {named : NamedTelling} {T O : Type 0} (r : Result Bool ClientFault) (count n : ℕ) (scope : Scope) (refusal : List ℕ) (old new : List MirrorView) (before middle after : List Item) (begun done : List ℕ) → n ≡ count → (T → O → HasToldSome named n scope old new before middle begun done)

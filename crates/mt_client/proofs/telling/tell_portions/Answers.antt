@@ -4,7 +4,7 @@ use Rattle.std.proofs.lemmas.Result.{err_from_is_err_and}
 use Rattle.mt_client.proofs.CallLaws.{read_still, reads_both, writes_still, writes_both, handed_on, talk_fault_behind, talk_refused}
 use Rattle.mt_client.proofs.SeriesLaws.{came_at_first}
 use Rattle.mt_client.proofs.AheadLaws.{portions_of, portions_more, portions_cut, portions_over}
-use Rattle.mt_client.proofs.TellingLaws.{none_whole, whole_more, all_behind, up_to_behind, up_to_whole, follows_sent, follows_part, follows_whole}
+use Rattle.mt_client.proofs.TellingLaws.{portion_before, all_behind, up_to_behind, up_to_whole, follows_sent, follows_part, follows_whole}
 use Rattle.mt_client.proofs.telling.tell_portions.Goals as goal
 
 pub portions-init : goal.portions-init
@@ -15,7 +15,7 @@ portions-init g c = record {
   rising = c.requires.rising;
   goes = λ t. came_at_first (portions_of c.args.count c.args.scope) c.args.mirrors.now.items _;
   sent = λ u. sym (append-nil _);
-  told = λ t u. none_whole c.args.count c.args.scope c.args.mirrors.now.items _ _;
+  told = λ t u new after done so. so;
 }
 
 pub returns-in_err-tell_portion-clause-broken : goal.returns-in_err-tell_portion-clause-broken
@@ -42,7 +42,7 @@ portions-preserved g c =
       rising = c.in_ok-tell_portion.ensures.rising;
       goes = λ t. portions_more c.args.count c.portions._portion c.args.scope _ _ _ _ _ _ (c.portions.invariant.goes t) (c.in_ok-tell_portion.ensures.applied going t);
       sent = λ u. follows_sent c.args.count c.portions._portion _ _ _ (c.portions.invariant.sent u) ((c.in_ok-tell_portion.ensures.sent going).went u);
-      told = λ t u. whole_more c.args.count c.args.scope _ _ _ _ _ _ _ _ _ (c.portions.invariant.told t u) (MatchBool-at_true _ _ c.if-not-branch.false (c.in_ok-tell_portion.ensures.told t u));
+      told = λ t u new after done so. c.portions.invariant.told t u new after done (portion_before c.args.count c.args.scope _ _ _ _ _ _ (MatchBool-at_true _ _ c.if-not-branch.false (c.in_ok-tell_portion.ensures.told t u)) new after done so);
     }
 
 pub returns-clause-broken : goal.returns-clause-broken
