@@ -16,25 +16,13 @@ use Rattle.mt_client.specs.Mirroring.{counted_line, opening_lines, HasOpened, Is
 use Rattle.mt_client.specs.Awaited.{IsOneRefusal, IsRefusedOr, IsOpening, IsSuchPost, IsPostBehind, IsOnlyPost, IsOnlyApplied, IsFollowing, IsMirroring}
 use Rattle.mt_client.specs.Requests.{event_count}
 use Rattle.mt_client.proofs.SeriesLaws.{IsSeries, following, up_to}
-use Rattle.mt_client.proofs.RelayLaws.{texts_split}
+use Rattle.mt_client.proofs.RelayLaws.{texts_split, lines_alike}
 use Rattle.mt_client.proofs.OpeningLaws.{first_taken, unrefused_or}
 use Rattle.mt_client.proofs.FoundLaws.{opened_alike}
 
 pub ok_both : {A E : Type 0} {P Q R : A → Type 0} (r : Result A E) → ((a : A) → P a → Q a → R a) → IfOk r P → IfOk r Q → IfOk r R
 ok_both (Ok a) go p q = go a p q
 ok_both (Err e) go p q = tt
-
--- lists of lines of one length that come first are equal, and end in one place
-pub lines_alike : (xs ys : List (List ℕ)) (middle later : List Item) → length xs ≡ length ys → texts xs ++ middle ≡ texts ys ++ later → (xs ≡ ys) × (middle ≡ later)
-lines_alike [] [] middle later many e = (refl, e)
-lines_alike [] (y ∷ ys) middle later many e = absurd (omega (arith, many))
-lines_alike (x ∷ xs) [] middle later many e = absurd (omega (arith, many))
-lines_alike (x ∷ xs) (y ∷ ys) middle later many e =
-    let both : Text x ∷ (texts xs ++ middle) ≡ Text y ∷ (texts ys ++ later) = e in
-    let here : x ≡ y = cc in
-    let rest : texts xs ++ middle ≡ texts ys ++ later = cc in
-    let r = lines_alike xs ys middle later (omega (arith, many)) rest in
-    ((λ i. here i ∷ r.0 i), r.1)
 
 abbrev behind_lines : PostView → List (List ℕ)
 behind_lines p = map gone_line p.gone ++ map row_line p.rows

@@ -1,6 +1,6 @@
 -- What was read of an opening, and what cannot come first where one is refused.
 use Rattle.std.proofs.Common.{◌≡◌, true, false, ℕ, ◌+◌, ◌<◌, ◌≤◌, ◌^◌, List, [], ◌∷◌, ◌++◌, map, length, refl, sym, ap, ◌∙◌, subst, arith, append-nil, length-append, fold, drop, get_or, IsTrue, Option, Some, inl, inr}
-use Rattle.std.proofs.lemmas.List.{append_cancel_left, length-map}
+use Rattle.std.proofs.lemmas.List.{length-map}
 use Rattle.std.specs.List.{flat_map, join_with_byte, AllByRecursion}
 use Rattle.mt_lines.specs.Lines.{Item, Text}
 use Rattle.mt_info.specs.RowLine.{line}
@@ -22,12 +22,9 @@ use Rattle.mt_client.specs.Reading.{texts, printed, NoneFirst, AreSoMany}
 use Rattle.mt_client.specs.Mirroring.{IsShown, counted_line, heading_words, heading_line, part_lines, opening_lines, HasOpened}
 use Rattle.mt_client.specs.Awaited.{IsRefusedOr, AreRowLines, IsOpening}
 use Rattle.mt_client.specs.Finding.{mirror_space, parts_lines, found_lines, AreOf, AreShown, part_found, opening_found, HasFound, HasWatched, IsFinding, IsPartWithin, ArePartLines}
-use Rattle.mt_client.proofs.RelayLaws.{texts_split, printed-append}
+use Rattle.mt_client.proofs.RelayLaws.{Items, items_alike, items_cut, printed-append}
 use Rattle.mt_client.proofs.MirrorLaws.{part_is}
-use Rattle.mt_client.proofs.OpeningLaws.{first_taken, needs_line, refused_some, no_refusal, unrefused_or, counted_tells, heading_tells, few, rows_alike, behind_rows}
-
-abbrev AllShown : List MirrorView → Type 0
-AllShown parts = AllByRecursion IsShown parts
+use Rattle.mt_client.proofs.OpeningLaws.{first_taken, needs_line, refused_some, no_refusal, unrefused_or, counted_tells, heading_tells, few, row_items}
 
 -- how many lines namespaces have
 part_count : (m : MirrorView) (parts : List MirrorView) → length (parts_lines (m ∷ parts)) ≡ 1 + length m.rows + length (parts_lines parts)
@@ -46,7 +43,8 @@ shown_alike m n middle later s t e =
     let here : heading_line m ≡ heading_line n = cc in
     let rest : texts (map line m.rows) ++ middle ≡ texts (map line n.rows) ++ later = cc in
     let w = heading_tells m.space m.number (length m.rows) n.space n.number (length n.rows) s.space s.number (few (length m.rows) s.counted) t.space t.number (few (length n.rows) t.counted) here in
-    (view_is m n w.0 w.1 (rows_alike m.rows n.rows middle later w.2 rest s.rows t.rows), behind_rows m.rows n.rows middle later w.2 rest)
+    let r = items_alike row_items m.rows n.rows middle later s.rows t.rows (length-map m.rows line ∙ w.2 ∙ sym (length-map n.rows line)) rest in
+    (view_is m n w.0 w.1 r.0, r.1)
 
 -- two openings of one namespace that come first are one, and end in one place
 pub opened_alike : (space : ℕ) (before middle later : List Item) (mirror found : MirrorView) → HasOpened space before middle mirror → IsShown found → before ≡ texts (opening_lines found) ++ later → (mirror ≡ found) × (middle ≡ later)
@@ -54,47 +52,16 @@ opened_alike space before middle later mirror found o s e =
     let t = first_taken (counted_line (1 + length mirror.rows)) (counted_line (1 + length found.rows)) (opening_lines found) (part_lines found) before (texts (part_lines mirror) ++ middle) later o.read refl e in
     shown_alike mirror found middle later o.shown s t.1
 
--- the first of two lists of namespaces that come first are one
-firsts_alike : (m n : MirrorView) (parts news : List MirrorView) (middle later : List Item) → IsShown m → IsShown n → texts (parts_lines (m ∷ parts)) ++ middle ≡ texts (parts_lines (n ∷ news)) ++ later
-    → (m ≡ n) × (texts (parts_lines parts) ++ middle ≡ texts (parts_lines news) ++ later)
-firsts_alike m n parts news middle later s t e =
-    shown_alike m n (texts (parts_lines parts) ++ middle) (texts (parts_lines news) ++ later) s t
-    (sym (texts_split (part_lines m) (parts_lines parts) middle) ∙ e ∙ texts_split (part_lines n) (parts_lines news) later)
-
--- the same number of lines behind it
-fewer : (m n : MirrorView) (parts news : List MirrorView) (left : ℕ) → m ≡ n → length (parts_lines (m ∷ parts)) + left ≡ length (parts_lines (n ∷ news)) → length (parts_lines parts) + left ≡ length (parts_lines news)
-fewer m n parts news left same many =
-    let a = part_count m parts in
-    let b = part_count n news in
-    let rows : length m.rows ≡ length n.rows = ap (λ (k : MirrorView). length k.rows) same in
-    omega (arith, a, b, rows, many)
-
-parts_alike : (parts news : List MirrorView) (middle later : List Item) → AllShown parts → AllShown news → length (parts_lines parts) + 0 ≡ length (parts_lines news) → texts (parts_lines parts) ++ middle ≡ texts (parts_lines news) ++ later → parts ≡ news
-parts_alike [] [] middle later s t many e = refl
-parts_alike [] (n ∷ news) middle later s t many e = let b = part_count n news in absurd (omega (arith, b, many))
-parts_alike (m ∷ parts) [] middle later s t many e = let a = part_count m parts in absurd (omega (arith, a, many))
-parts_alike (m ∷ parts) (n ∷ news) middle later s t many e =
-    let k = firsts_alike m n parts news middle later s.0 t.0 e in
-    let rest = parts_alike parts news middle later s.1 t.1 (fewer m n parts news 0 k.0 many) k.1 in
-    λ i. k.0 i ∷ rest i
-
--- the namespace that is next where more of them came
-next_part : (parts news : List MirrorView) (left : ℕ) (middle later : List Item) → AllShown parts → AllShown news → length (parts_lines parts) + left ≡ length (parts_lines news) → 0 < left → texts (parts_lines parts) ++ middle ≡ texts (parts_lines news) ++ later
-    → (m : MirrorView) × (rest : List Item) × IsShown m × (1 + length m.rows ≤ left) × (middle ≡ texts (part_lines m) ++ rest)
-next_part [] [] left middle later s t many some e = absurd (omega (arith, many, some))
-next_part [] (n ∷ news) left middle later s t many some e =
-    let b = part_count n news in
-    (n, texts (parts_lines news) ++ later, t.0, omega (arith, b, many), e ∙ texts_split (part_lines n) (parts_lines news) later)
-next_part (m ∷ parts) [] left middle later s t many some e = let a = part_count m parts in absurd (omega (arith, a, many))
-next_part (m ∷ parts) (n ∷ news) left middle later s t many some e =
-    let k = firsts_alike m n parts news middle later s.0 t.0 e in
-    next_part parts news left middle later s.1 t.1 (fewer m n parts news left k.0 many) some k.1
+-- namespaces are known by their lines
+abbrev part_items : Items
+part_items = record { X = MirrorView; IsValid = IsShown; lines_of = part_lines; all = parts_lines; none = refl; both = λ m parts. refl; some = λ m. omega arith; alike = shown_alike }
 
 pub parts_cut : (count left : ℕ) (parts : List MirrorView) (before middle : List Item) → before ≡ texts (parts_lines parts) ++ middle → length (parts_lines parts) + left ≡ count → 0 < left → AllByRecursion IsShown parts → NoneFirst (IsPartWithin left) middle
     → NoneFirst (ArePartLines count) before
 parts_cut count left parts before middle came many some shown none lines later k e =
-    let r = next_part parts k.found left middle later shown k.shown (many ∙ sym k.many) some (sym came ∙ e ∙ ap (λ ls. texts ls ++ later) k.all) in
-    none (part_lines r.0) r.1 (record { found = r.0; shown = r.2; within = r.3; all = refl }) r.4
+    let n = k.many in
+    items_cut part_items parts k.found middle later shown k.shown (omega (arith, many, n, some)) (sym came ∙ e ∙ ap (λ ls. texts ls ++ later) k.all)
+    (λ m rest is within. let l = length-map m.rows line in none (part_lines m) rest (record { found = m; shown = is; within = omega (arith, l, many, n, within); all = refl }))
 
 -- a namespace
 pub within_needs_line : (left : ℕ) (before : List Item) → NoneFirst (AreSoMany 1) before → NoneFirst (IsPartWithin left) before
@@ -127,8 +94,8 @@ pub within_needs_rising : (left : ℕ) (h : Heading) (seen : List ℕ) (rows : L
     → NoneFirst (IsPartWithin left) before
 within_needs_rising left h seen rows before middle after there is small came many valid falls lines later k e =
     let t = within_told left h seen before middle later lines there is small k e in
-    let same = rows_alike rows k.found.rows after later (many ∙ t.0) (sym came ∙ t.1) valid k.shown.rows in
-    falls (subst (λ rs. IsTrue (rises row_id rs)) (sym same) k.shown.rising)
+    let same = items_alike row_items rows k.found.rows after later valid k.shown.rows (length-map rows line ∙ many ∙ t.0 ∙ sym (length-map k.found.rows line)) (sym came ∙ t.1) in
+    falls (subst (λ rs. IsTrue (rises row_id rs)) (sym same.0) k.shown.rising)
 
 -- an opening
 finding_some : (scope : Scope) (lines : List (List ℕ)) → IsFinding scope lines → (first : List ℕ) × (others : List (List ℕ)) × (lines ≡ first ∷ others)
@@ -156,17 +123,15 @@ pub finding_needs_scope : (scope : Scope) (count : ℕ) (seen : List ℕ) (parts
 finding_needs_scope scope count seen parts before middle after there tells is small came many shown other =
     unrefused_or before (no_refusal seen before middle there tells) (λ lines later k e.
     let t = finding_told scope count seen before middle later lines there is small k e in
-    let n = t.0 in
-    let same = parts_alike parts k.found after later shown k.shown.each (omega (arith, many, n)) (sym came ∙ t.1) in
-    other (subst (AreOf scope) (sym same) k.shown.of))
+    let same = items_alike part_items parts k.found after later shown k.shown.each (many ∙ sym t.0) (sym came ∙ t.1) in
+    other (subst (AreOf scope) (sym same.0) k.shown.of))
 
 -- the namespaces of an opening that comes first are those that were found, and end in one place
 pub found_alike : (scope : Scope) (before middle later : List Item) (parts news : List MirrorView) → HasFound scope before middle parts → AreShown scope news → before ≡ texts (found_lines news) ++ later → (parts ≡ news) × (middle ≡ later)
 found_alike scope before middle later parts news f s e =
     let t = first_taken (counted_line (length (parts_lines parts))) (counted_line (length (parts_lines news))) (found_lines news) (parts_lines news) before (texts (parts_lines parts) ++ middle) later f.read refl e in
     let n = counted_tells (length (parts_lines news)) (length (parts_lines parts)) s.counted f.shown.counted t.0 in
-    let same = parts_alike parts news middle later f.shown.each s.each (omega (arith, n)) t.1 in
-    (same, append_cancel_left (texts (parts_lines news)) middle later (ap (λ ps. texts (parts_lines ps) ++ middle) (sym same) ∙ t.1))
+    items_alike part_items parts news middle later f.shown.each s.each (sym n) t.1
 
 -- the text of an opening
 parts_text : (parts : List MirrorView) → printed (parts_lines parts) ≡ flat_map part_text (map part_found parts)

@@ -1,7 +1,7 @@
 -- What cannot come first where a line, a row or a heading is refused, and what was read of an opening.
 use Rattle.std.proofs.Common.{◌≡◌, ◌≢◌, ◌==◌, Bool, MatchBool, ℕ, ◌+◌, ◌<◌, ◌^◌, true, false, List, [], ◌∷◌, ◌++◌, map, length, refl, sym, ap, ◌∙◌, arith, codes, decimal, inl, inr}
 use Rattle.std.specs.List.{join_with_byte, AllByRecursion}
-use Rattle.std.proofs.lemmas.List.{append_cancel_left}
+use Rattle.std.proofs.lemmas.List.{append_cancel_left, length-map}
 use Rattle.std.proofs.lemmas.Bool.{false≢true}
 use Rattle.std.proofs.lemmas.Bool.Decides.{nat_tests}
 use Rattle.std.proofs.lemmas.Fmt.{decimal_injective}
@@ -18,13 +18,13 @@ use Rattle.mt_client.specs.Reading.{texts, NoneFirst, AreSoMany}
 use Rattle.mt_client.specs.Mirroring.{counted_line, heading_words}
 use Rattle.mt_client.specs.Awaited.{IsOneRefusal, IsRefusedOr, IsRowLine, AreRowLines}
 use Rattle.mt_client.proofs.MirrorLaws.{heading_lacks}
+use Rattle.mt_client.proofs.RelayLaws.{Items, items_cut, first_alike}
 
 -- the first of the lines that come first
-first_read : (seen first : List ℕ) (others : List (List ℕ)) (middle later : List Item) → Text seen ∷ middle ≡ Text first ∷ (texts others ++ later) → (first ≡ seen) × (middle ≡ texts others ++ later)
-first_read seen first others middle later e = (cc, cc)
-
 pub first_taken : (seen first : List ℕ) (lines others : List (List ℕ)) (before middle later : List Item) → before ≡ Text seen ∷ middle → lines ≡ first ∷ others → before ≡ texts lines ++ later → (first ≡ seen) × (middle ≡ texts others ++ later)
-first_taken seen first lines others before middle later there is e = first_read seen first others middle later (sym there ∙ e ∙ ap (λ ls. texts ls ++ later) is)
+first_taken seen first lines others before middle later there is e =
+    let f = first_alike seen first middle (texts others ++ later) (sym there ∙ e ∙ ap (λ ls. texts ls ++ later) is) in
+    (sym f.0, f.1)
 
 -- what cannot come first where no line does
 pub needs_line : {kind : List (List ℕ) → Type 0} (before : List Item) → ((lines : List (List ℕ)) → kind lines → (first : List ℕ) × (others : List (List ℕ)) × (lines ≡ first ∷ others)) → NoneFirst (AreSoMany 1) before → NoneFirst kind before
@@ -65,40 +65,18 @@ heading_tells space number count space_2 number_2 count_2 a b d a_2 b_2 d_2 e =
     (decimal_injective space space_2 a a_2 (ap second same), decimal_injective number number_2 b b_2 (ap third same), decimal_injective count count_2 d d_2 (ap fourth same))
 
 -- rows and their lines
-row_behind : (rows news : List Row) (middle later : List Item) → AllByRecursion IsRow news → length rows < length news → texts (map line rows) ++ middle ≡ texts (map line news) ++ later
-    → (row : Row) × (rest : List Item) × IsRow row × (middle ≡ Text (line row) ∷ rest)
-row_behind [] [] middle later valid lt e = absurd (omega (arith, lt))
-row_behind [] (n ∷ news) middle later valid lt e = (n, texts (map line news) ++ later, valid.0, e)
-row_behind (r ∷ rows) [] middle later valid lt e = absurd (omega (arith, lt))
-row_behind (r ∷ rows) (n ∷ news) middle later valid lt e =
-    let both : Text (line r) ∷ (texts (map line rows) ++ middle) ≡ Text (line n) ∷ (texts (map line news) ++ later) = e in
-    let rest : texts (map line rows) ++ middle ≡ texts (map line news) ++ later = cc in
-    row_behind rows news middle later valid.1 (omega (arith, lt)) rest
+pub row_alike : (r n : Row) (middle later : List Item) → IsRow r → IsRow n → Text (line r) ∷ middle ≡ Text (line n) ∷ later → (r ≡ n) × (middle ≡ later)
+row_alike r n middle later p q e = let f = first_alike (line r) (line n) middle later e in (line-injective r n p q f.0, f.1)
 
-pub rows_cut : (n count : ℕ) (rows : List Row) (before middle : List Item) → before ≡ texts (map line rows) ++ middle → length rows ≡ n → n < count → NoneFirst IsRowLine middle → NoneFirst (AreRowLines count) before
-rows_cut n count rows before middle came many lt none lines later k e =
-    let l = k.many in
-    let r = row_behind rows k.rows middle later k.valid (omega (arith, l, many, lt)) (sym came ∙ e ∙ ap (λ ls. texts ls ++ later) k.all) in
-    none (line r.0 ∷ []) r.1 (r.0, r.2, refl) r.3
+abbrev pub row_items : Items
+row_items = record { X = Row; IsValid = IsRow; lines_of = λ row. line row ∷ []; all = map line; none = refl; both = λ row rows. refl; some = λ row. omega arith; alike = row_alike }
 
-pub rows_alike : (rows news : List Row) (middle later : List Item) → length rows ≡ length news → texts (map line rows) ++ middle ≡ texts (map line news) ++ later → AllByRecursion IsRow rows → AllByRecursion IsRow news → rows ≡ news
-rows_alike [] [] middle later many e p q = refl
-rows_alike [] (n ∷ news) middle later many e p q = absurd (omega (arith, many))
-rows_alike (r ∷ rows) [] middle later many e p q = absurd (omega (arith, many))
-rows_alike (r ∷ rows) (n ∷ news) middle later many e p q =
-    let both : Text (line r) ∷ (texts (map line rows) ++ middle) ≡ Text (line n) ∷ (texts (map line news) ++ later) = e in
-    let here : line r ≡ line n = cc in
-    let rest : texts (map line rows) ++ middle ≡ texts (map line news) ++ later = cc in
-    let same = line-injective r n p.0 q.0 here in
-    λ i. same i ∷ rows_alike rows news middle later (omega (arith, many)) rest p.1 q.1 i
-
-pub behind_rows : (rows news : List Row) (middle later : List Item) → length rows ≡ length news → texts (map line rows) ++ middle ≡ texts (map line news) ++ later → middle ≡ later
-behind_rows [] [] middle later many e = e
-behind_rows [] (n ∷ news) middle later many e = absurd (omega (arith, many))
-behind_rows (r ∷ rows) [] middle later many e = absurd (omega (arith, many))
-behind_rows (r ∷ rows) (n ∷ news) middle later many e =
-    let both : Text (line r) ∷ (texts (map line rows) ++ middle) ≡ Text (line n) ∷ (texts (map line news) ++ later) = e in
-    behind_rows rows news middle later (omega (arith, many)) (cc)
+pub rows_cut : (n count : ℕ) (rows : List Row) (before middle : List Item) → before ≡ texts (map line rows) ++ middle → length rows ≡ n → n < count → AllByRecursion IsRow rows → NoneFirst IsRowLine middle → NoneFirst (AreRowLines count) before
+rows_cut n count rows before middle came many lt valid none lines later k e =
+    let a = length-map rows line in
+    let b = length-map k.rows line in
+    let m = k.many in
+    items_cut row_items rows k.rows middle later valid k.valid (omega (arith, a, b, m, many, lt)) (sym came ∙ e ∙ ap (λ ls. texts ls ++ later) k.all) (λ row rest is within. none (line row ∷ []) rest (row, is, refl))
 
 pub few : (n : ℕ) → 1 + n < 2 ^ 64 → n < 2 ^ 64
 few n lt = omega (arith, lt)

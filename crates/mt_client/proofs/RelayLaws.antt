@@ -1,5 +1,6 @@
 -- What was read and printed, line by line, and what cannot come first then.
-use Rattle.std.proofs.Common.{◌≡◌, ◌≢◌, ℕ, ◌<◌, ◌≤◌, List, [], ◌∷◌, ◌++◌, length, refl, sym, ap, subst, ◌∙◌, arith, append_assoc, Result, Ok, Err, OnErr, IfErr, inl, inr, ◌⊎◌}
+use Rattle.std.proofs.Common.{◌≡◌, ◌≢◌, ℕ, ◌+◌, ◌<◌, ◌≤◌, List, [], ◌∷◌, ◌++◌, length, refl, sym, ap, subst, ◌∙◌, arith, append_assoc, length-append, Result, Ok, Err, OnErr, IfErr, inl, inr, ◌⊎◌}
+use Rattle.std.specs.List.{AllByRecursion}
 use Rattle.std.proofs.lemmas.List.{append-nil, map-append}
 use Rattle.std.proofs.lemmas.Grind.{flat_map-append}
 use Rattle.mt_lines.specs.Lines.{Item, Text, lines_of}
@@ -37,17 +38,65 @@ pub cut_within : {kind inner : List (List ℕ) → Type 0} (before middle : List
 cut_within before middle old first new none some all low served out (inl b) = inl (broken_later old first new none some all low served b)
 cut_within before middle old first new none some all low served out (inr not) = inr (out not)
 
--- two lists of lines that begin one list of items
-pub split_front : (seen lines : List (List ℕ)) (middle later : List Item) → length seen ≤ length lines → texts seen ++ middle ≡ texts lines ++ later
-    → (more : List (List ℕ)) × (lines ≡ seen ++ more) × (middle ≡ texts more ++ later)
-split_front [] lines middle later le e = (lines, refl, e)
-split_front (s ∷ seen) [] middle later le e = absurd (omega (arith, le))
-split_front (s ∷ seen) (l ∷ lines) middle later le e =
-    let both : Text s ∷ (texts seen ++ middle) ≡ Text l ∷ (texts lines ++ later) = e in
-    let same : s ≡ l = cc in
-    let rest : texts seen ++ middle ≡ texts lines ++ later = cc in
-    let r = split_front seen lines middle later (omega (arith, le)) rest in
-    (r.0, (λ k. sym same k ∷ r.1 k), r.2)
+-- items that are known by their lines, and the lines of several
+pub record Items : Type 1 where
+  pub X : Type 0
+  pub IsValid : X → Type 0
+  pub lines_of : X → List (List ℕ)
+  pub all : List X → List (List ℕ)
+  pub none : all [] ≡ []
+  pub both : (x : X) (xs : List X) → all (x ∷ xs) ≡ lines_of x ++ all xs
+  pub some : (x : X) → 0 < length (lines_of x)
+  pub alike : (x y : X) (middle later : List Item) → IsValid x → IsValid y → texts (lines_of x) ++ middle ≡ texts (lines_of y) ++ later → (x ≡ y) × (middle ≡ later)
+
+-- the lines of the first of them come first, and how many all are
+first_lines : (k : Items) (x : k.X) (xs : List k.X) (later : List Item) → texts (k.all (x ∷ xs)) ++ later ≡ texts (k.lines_of x) ++ (texts (k.all xs) ++ later)
+first_lines k x xs later = ap (λ ls. texts ls ++ later) (k.both x xs) ∙ texts_split (k.lines_of x) (k.all xs) later
+
+counted : (k : Items) (x : k.X) (xs : List k.X) → length (k.all (x ∷ xs)) ≡ length (k.lines_of x) + length (k.all xs)
+counted k x xs = ap length (k.both x xs) ∙ length-append (k.lines_of x) (k.all xs)
+
+-- items that were read are those that come first, or one more comes behind them
+pub items_or : {P : Type 0} (k : Items) (xs ys : List k.X) (middle later : List Item) → AllByRecursion k.IsValid xs → AllByRecursion k.IsValid ys → length (k.all xs) ≤ length (k.all ys) → texts (k.all xs) ++ middle ≡ texts (k.all ys) ++ later
+    → (xs ≡ ys → middle ≡ later → P) → ((x : k.X) (rest : List Item) → k.IsValid x → length (k.all xs) + length (k.lines_of x) ≤ length (k.all ys) → middle ≡ texts (k.lines_of x) ++ rest → P) → P
+items_or k [] [] middle later p q le e same more = same refl (ap (λ ls. texts ls ++ middle) (sym k.none) ∙ e ∙ ap (λ ls. texts ls ++ later) k.none)
+items_or k [] (y ∷ ys) middle later p q le e same more =
+    let n = ap length k.none in
+    let m = counted k y ys in
+    more y (texts (k.all ys) ++ later) q.0 (omega (arith, m, n)) (ap (λ ls. texts ls ++ middle) (sym k.none) ∙ e ∙ first_lines k y ys later)
+items_or k (x ∷ xs) [] middle later p q le e same more =
+    let n = ap length k.none in
+    let m = counted k x xs in
+    let s = k.some x in
+    absurd (omega (arith, m, n, s, le))
+items_or k (x ∷ xs) (y ∷ ys) middle later p q le e same more =
+    let a = k.alike x y (texts (k.all xs) ++ middle) (texts (k.all ys) ++ later) p.0 q.0 (sym (first_lines k x xs middle) ∙ e ∙ first_lines k y ys later) in
+    let m = counted k x xs in
+    let n = counted k y ys in
+    let s = ap (λ z. length (k.lines_of z)) a.0 in
+    items_or k xs ys middle later p.1 q.1 (omega (arith, m, n, s, le)) a.1 (λ alike. same (λ i. a.0 i ∷ alike i)) (λ z rest is within. more z rest is (omega (arith, m, n, s, within)))
+
+-- as many lines are of the same items, and behind fewer lines one more comes
+pub items_alike : (k : Items) (xs ys : List k.X) (middle later : List Item) → AllByRecursion k.IsValid xs → AllByRecursion k.IsValid ys → length (k.all xs) ≡ length (k.all ys) → texts (k.all xs) ++ middle ≡ texts (k.all ys) ++ later → (xs ≡ ys) × (middle ≡ later)
+items_alike k xs ys middle later p q many e = items_or k xs ys middle later p q (omega (arith, many)) e (λ same end. (same, end)) (λ x rest is within there. let s = k.some x in absurd (omega (arith, many, s, within)))
+
+pub items_cut : (k : Items) (xs ys : List k.X) (middle later : List Item) → AllByRecursion k.IsValid xs → AllByRecursion k.IsValid ys → length (k.all xs) < length (k.all ys) → texts (k.all xs) ++ middle ≡ texts (k.all ys) ++ later
+    → ((x : k.X) (rest : List Item) → k.IsValid x → length (k.all xs) + length (k.lines_of x) ≤ length (k.all ys) → middle ≢ texts (k.lines_of x) ++ rest) → ⊥
+items_cut k xs ys middle later p q few e never = items_or k xs ys middle later p q (omega (arith, few)) e (λ same end. let n = ap (λ zs. length (k.all zs)) same in omega (arith, few, n)) never
+
+-- two lines that come first are one, and so are lists of as many lines
+pub first_alike : (x y : List ℕ) (middle later : List Item) → Text x ∷ middle ≡ Text y ∷ later → (x ≡ y) × (middle ≡ later)
+first_alike x y middle later e = (cc, cc)
+
+each_line : (lines : List (List ℕ)) → AllByRecursion (λ line. Unit {0}) lines
+each_line [] = tt
+each_line (line ∷ lines) = (tt, each_line lines)
+
+abbrev line_items : Items
+line_items = record { X = List ℕ; IsValid = λ line. Unit {0}; lines_of = λ line. line ∷ []; all = λ lines. lines; none = refl; both = λ line lines. refl; some = λ line. omega arith; alike = λ x y middle later p q e. first_alike x y middle later e }
+
+pub lines_alike : (xs ys : List (List ℕ)) (middle later : List Item) → length xs ≡ length ys → texts xs ++ middle ≡ texts ys ++ later → (xs ≡ ys) × (middle ≡ later)
+lines_alike xs ys middle later many e = items_alike line_items xs ys middle later (each_line xs) (each_line ys) many e
 
 -- lines one after another
 pub passed_more : (ls ms : List (List ℕ)) (before middle after : List Item) (old between new : List ℕ) → Passed ls before middle old between → Passed ms middle after between new → Passed (ls ++ ms) before after old new
@@ -94,12 +143,7 @@ broken_printing (Err f) line before after old new e kind cut =
 -- fewer lines came than were to come
 pub so_many_cut : (n count : ℕ) (before middle : List Item) → HasRead (AreSoMany n) before middle → n < count → NoneFirst (AreSoMany 1) middle → NoneFirst (AreSoMany count) before
 so_many_cut n count before middle h lt none lines later many e =
-    let s = split_front h.0 lines middle later (omega (arith, h.1, many, lt)) (sym h.2 ∙ e) in
-    go s.0 s.1 s.2
-  where
-    go : (more : List (List ℕ)) → lines ≡ h.0 ++ more → middle ≡ texts more ++ later → ⊥
-    go [] is m = let l = ap length (is ∙ append-nil h.0) in omega (arith, l, h.1, many, lt)
-    go (next ∷ more) is m = none (next ∷ []) (texts more ++ later) refl m
+    items_cut line_items h.0 lines middle later (each_line h.0) (each_line lines) (omega (arith, h.1, many, lt)) (sym h.2 ∙ e) (λ line rest is within. none (line ∷ []) rest refl)
 
 -- a fault of the reader
 pub cut_by_fault : (f : ReadFault) (limit : ℕ) (before text after : List ℕ) (old new : ℕ) (none all : List StreamFault) → ◌≡◌ {A = Result (Unit {0}) ClientFault} (Err (reading_fault f)) (Err Connection) → IsNext limit before (Err f) text after

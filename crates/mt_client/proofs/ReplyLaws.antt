@@ -20,8 +20,9 @@ use Rattle.mt_client.specs.Mirroring.{heading_words}
 use Rattle.mt_client.specs.Awaited.{IsRowLine, AreRowLines, IsPostBehind}
 use Rattle.mt_client.specs.Replies.{IsPartLines, IsPostLines, IsBlock, IsBlockOf, AreBlocks, AreBlockLines, AreBehind, IsHeaded}
 use Rattle.mt_client.proofs.SeriesLaws.{Series, IsSeries, in_lines, are_in_lines, groups}
+use Rattle.mt_client.proofs.RelayLaws.{lines_alike}
 use Rattle.mt_client.proofs.OpeningLaws.{first_taken, needs_line, heading_tells, rows_cut}
-use Rattle.mt_client.proofs.FollowLaws.{HasReadMore, lines_alike, post_counted, printed_post}
+use Rattle.mt_client.proofs.FollowLaws.{HasReadMore, post_counted, printed_post}
 
 -- rows
 pub no_rows : AreRowLines 0 []
@@ -39,7 +40,7 @@ rows_join n ls ms a r =
     }
 
 pub rows_ended : (n count : ℕ) (before middle : List Item) → HasRead (AreRowLines n) before middle → n < count → NoneFirst IsRowLine middle → NoneFirst (AreRowLines count) before
-rows_ended n count before middle h lt none = rows_cut n count h.1.rows before middle (h.2 ∙ ap (λ ls. texts ls ++ middle) h.1.all) h.1.many lt none
+rows_ended n count before middle h lt none = rows_cut n count h.1.rows before middle (h.2 ∙ ap (λ ls. texts ls ++ middle) h.1.all) h.1.many lt h.1.valid none
 
 rows_many : (n : ℕ) (ls : List (List ℕ)) → AreRowLines n ls → length ls ≡ n
 rows_many n ls a = ap length a.all ∙ length-map a.rows line ∙ a.many
