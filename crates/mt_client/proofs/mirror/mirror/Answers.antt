@@ -36,53 +36,33 @@ returns-in_default-clause-refused g c is t u = let a = c.watch_one.ensures.refus
 pub returns-in_default-clause-writes : goal.returns-in_default-clause-writes
 returns-in_default-clause-writes g c v e = let a = c.watch_one.ensures.refused (search rules) in either (λ o. o.on.serves v e) (λ b. (refl, b v)) a.gone
 
-pub returns-clause-mirrored : goal.returns-clause-mirrored
-returns-clause-mirrored g c is t u =
-    let opened = MatchOption-at_some {o = c.in_ok-mirror.field-0} _ _ c.in-Some.mirror (search rules) c.in_ok-mirror.ensures.opened in
-    let same = MatchOption-at_some {o = c.in_ok-mirror.field-0} _ _ c.in-Some.mirror (search rules) c.in_ok-mirror.ensures.unprinted in
-    let printed = rw same at (c.print_followed.ensures.printed is) in
-    (c.print_followed.new.mirror, mirrored_whole c.args.space c.args.count _ _ _ _ _ (opened t) (c.print_followed.ensures.followed is t), printed.went u)
-
-pub returns-clause-refused : goal.returns-clause-refused
-returns-clause-refused g c is t u =
-    let opened = MatchOption-at_some {o = c.in_ok-mirror.field-0} _ _ c.in-Some.mirror (search rules) c.in_ok-mirror.ensures.opened in
-    let same = MatchOption-at_some {o = c.in_ok-mirror.field-0} _ _ c.in-Some.mirror (search rules) c.in_ok-mirror.ensures.unprinted in
-    let out = rw same at (c.print_followed.ensures.refused is) in
-    let left = c.print_followed.ensures.left is t in
-    (last_line c.print_followed.new.lines, inr (c.in-Some.mirror, left.0, lines_left c.watch_one.new.lines, opened t, left.1), out.went u)
-
-pub returns-clause-sent : goal.returns-clause-sent
-returns-clause-sent g c is u =
-    let sent = MatchOption-at_some {o = c.in_ok-mirror.field-0} _ _ c.in-Some.mirror (search rules) c.in_ok-mirror.ensures.sent in
-    let all = out_both sent (c.print_followed.ensures.sent is) in
-    all.went u
-
-pub returns-clause-part : goal.returns-clause-part
-returns-clause-part g c u =
-    let sent = MatchOption-at_some {o = c.in_ok-mirror.field-0} _ _ c.in-Some.mirror (search rules) c.in_ok-mirror.ensures.sent in
-    part_second _ _ _ _ _ (sent.went u) (c.print_followed.ensures.part u)
-
-pub returns-clause-connection : goal.returns-clause-connection
-returns-clause-connection g c is t u v =
+pub returns : goal.returns
+returns g c =
     let opened = MatchOption-at_some {o = c.in_ok-mirror.field-0} _ _ c.in-Some.mirror (search rules) c.in_ok-mirror.ensures.opened in
     let unrefused = MatchOption-at_some {o = c.in_ok-mirror.field-0} _ _ c.in-Some.mirror (search rules) c.in_ok-mirror.ensures.unrefused in
     let sent = MatchOption-at_some {o = c.in_ok-mirror.field-0} _ _ c.in-Some.mirror (search rules) c.in_ok-mirror.ensures.sent in
-    let on = c.in_ok-mirror.ensures.on in
-    let fault = IfErr-at_err _ is c.print_followed.ensures.fault in
-    either (λ broken. (broken_behind sent v broken, inr (unrefused t)))
-    (cut_within _ _ _ _ _ _ _ _ (on.counted u) (on.reads u) (mirroring_needs_posts c.args.space c.args.count c.in-Some.mirror _ _ (opened t) (unrefused t)))
-    (fault.cut refl t u v)
-
-pub returns-clause-kept : goal.returns-clause-kept
-returns-clause-kept g c = rw (MatchOption-at_some {o = c.in_ok-mirror.field-0} _ _ c.in-Some.mirror (search rules) c.in_ok-mirror.ensures.unprinted) at c.print_followed.ensures.kept
-
-pub returns-clause-output : goal.returns-clause-output
-returns-clause-output g c is u =
     let same = MatchOption-at_some {o = c.in_ok-mirror.field-0} _ _ c.in-Some.mirror (search rules) c.in_ok-mirror.ensures.unprinted in
-    let fault = IfErr-at_err _ is c.print_followed.ensures.fault in
-    rw same at (fault.cause refl u)
-
-pub returns-clause-writes : goal.returns-clause-writes
-returns-clause-writes g c =
-    let sent = MatchOption-at_some {o = c.in_ok-mirror.field-0} _ _ c.in-Some.mirror (search rules) c.in_ok-mirror.ensures.sent in
-    writes_told g.W.Output _ _ c.args.writer.now c.watch_one.new.writer c.print_followed.new.writer c.print_followed.result sent c.print_followed.ensures.sent c.print_followed.ensures.unsent
+    let on = c.in_ok-mirror.ensures.on in
+    record {
+      mirrored = λ is t u.
+          let printed = rw same at (c.print_followed.ensures.printed is) in
+          (c.print_followed.new.mirror, mirrored_whole c.args.space c.args.count _ _ _ _ _ (opened t) (c.print_followed.ensures.followed is t), printed.went u);
+      refused = λ is t u.
+          let out = rw same at (c.print_followed.ensures.refused is) in
+          let left = c.print_followed.ensures.left is t in
+          (last_line c.print_followed.new.lines, inr (c.in-Some.mirror, left.0, lines_left c.watch_one.new.lines, opened t, left.1), out.went u);
+      sent = λ is u. let all = out_both sent (c.print_followed.ensures.sent is) in all.went u;
+      part = λ u. part_second _ _ _ _ _ (sent.went u) (c.print_followed.ensures.part u);
+      connection = λ is t u v.
+          let fault = IfErr-at_err _ is c.print_followed.ensures.fault in
+          either (λ broken. (broken_behind sent v broken, inr (unrefused t)))
+          (cut_within _ _ _ _ _ _ _ _ (on.counted u) (on.reads u) (mirroring_needs_posts c.args.space c.args.count c.in-Some.mirror _ _ (opened t) (unrefused t)))
+          (fault.cut refl t u v);
+      kept = rw same at c.print_followed.ensures.kept;
+      output = λ is u. let fault = IfErr-at_err _ is c.print_followed.ensures.fault in rw same at (fault.cause refl u);
+      fresh = search rules;
+      reads = search rules;
+      writes = writes_told g.W.Output _ _ c.args.writer.now c.watch_one.new.writer c.print_followed.new.writer c.print_followed.result sent c.print_followed.ensures.sent c.print_followed.ensures.unsent;
+      prints = search rules;
+      limit = search rules;
+    }

@@ -16,36 +16,20 @@ returns-in_err-apply_next-clause-refused c refused =
     c.requires.rising c.place_for-place.ensures.place c.take_at-mirror.ensures.there c.take_at-mirror.ensures.begun in
     ap (λ m. is_next m c.args.post.now) (sym is) ∙ c.in_err-apply_next.ensures.refused (ap Err same)
 
-pub returns-clause-told : goal.returns-clause-told
-returns-clause-told c =
-    let is =
-    found_there c.args.post.now.space c.post.inside.space c.place_for-place.result c.as_slice.result.now c.args.mirrors.now.items c.take_at-mirror.result (ap (λ (p : PostView). p.space) c.post.view_is) c.as_slice.ensures.value
-    c.requires.rising c.place_for-place.ensures.place c.take_at-mirror.ensures.there c.take_at-mirror.ensures.begun in
-    c.in_ok-extend_from_slice.ensures.items ∙ ap (λ t. c.args.text.now.items ++ t) (c.as_slice-2.ensures.value ∙ c.in_ok-told.ensures.told ∙ ap (λ m. told_as c.args.telling c.args.name.now m c.args.post.now) is)
-
-pub returns-clause-applied : goal.returns-clause-applied
-returns-clause-applied c =
+pub returns : goal.returns
+returns c =
     let is =
     found_there c.args.post.now.space c.post.inside.space c.place_for-place.result c.as_slice.result.now c.args.mirrors.now.items c.take_at-mirror.result (ap (λ (p : PostView). p.space) c.post.view_is) c.as_slice.ensures.value
     c.requires.rising c.place_for-place.ensures.place c.take_at-mirror.ensures.there c.take_at-mirror.ensures.begun in
     let applied =
     applied_there c.args.post.now c.post.inside.space c.place_for-place.result c.take_at-mirror.result c.apply_next.new.mirror c.as_slice.result.now c.args.mirrors.now.items c.take_at-mirror.new.mirrors.items c.insert.new.self.items
     (ap (λ (p : PostView). p.space) c.post.view_is) c.as_slice.ensures.value is c.in_ok-apply_next.ensures.applied.1 c.place_for-place.ensures.place c.take_at-mirror.ensures.taken c.in_ok-insert.ensures.items in
-    applied
-
-pub returns-clause-next : goal.returns-clause-next
-returns-clause-next c =
-    let is =
-    found_there c.args.post.now.space c.post.inside.space c.place_for-place.result c.as_slice.result.now c.args.mirrors.now.items c.take_at-mirror.result (ap (λ (p : PostView). p.space) c.post.view_is) c.as_slice.ensures.value
-    c.requires.rising c.place_for-place.ensures.place c.take_at-mirror.ensures.there c.take_at-mirror.ensures.begun in
-    ap (λ m. is_next m c.args.post.now) (sym is) ∙ c.in_ok-apply_next.ensures.applied.0
-
-pub returns-clause-rising : goal.returns-clause-rising
-returns-clause-rising c =
-    let is =
-    found_there c.args.post.now.space c.post.inside.space c.place_for-place.result c.as_slice.result.now c.args.mirrors.now.items c.take_at-mirror.result (ap (λ (p : PostView). p.space) c.post.view_is) c.as_slice.ensures.value
-    c.requires.rising c.place_for-place.ensures.place c.take_at-mirror.ensures.there c.take_at-mirror.ensures.begun in
-    let applied =
-    applied_there c.args.post.now c.post.inside.space c.place_for-place.result c.take_at-mirror.result c.apply_next.new.mirror c.as_slice.result.now c.args.mirrors.now.items c.take_at-mirror.new.mirrors.items c.insert.new.self.items
-    (ap (λ (p : PostView). p.space) c.post.view_is) c.as_slice.ensures.value is c.in_ok-apply_next.ensures.applied.1 c.place_for-place.ensures.place c.take_at-mirror.ensures.taken c.in_ok-insert.ensures.items in
-    rises_with c.args.post.now c.args.mirrors.now.items c.insert.new.self.items c.requires.rising applied
+    record {
+      told =
+          c.in_ok-extend_from_slice.ensures.items ∙ ap (λ t. c.args.text.now.items ++ t) (c.as_slice-2.ensures.value ∙ c.in_ok-told.ensures.told ∙ ap (λ m. told_as c.args.telling c.args.name.now m c.args.post.now) is);
+      applied = applied;
+      next = ap (λ m. is_next m c.args.post.now) (sym is) ∙ c.in_ok-apply_next.ensures.applied.0;
+      refused = λ e. cc;
+      rising = rises_with c.args.post.now c.args.mirrors.now.items c.insert.new.self.items c.requires.rising applied;
+      kind = λ e. cc;
+    }
