@@ -49,46 +49,21 @@ pub returns-then-not-branch-2-clause-refused : goal.returns-then-not-branch-2-cl
 returns-then-not-branch-2-clause-refused g c is t u =
     inr (inl (rw (c.if-not-branch-2.true, c.form_of.ensures, c.send_request.ensures.unread (search rules), c.send_request.ensures.unprinted (search rules)) at (passes_passed c.in_ok-pass_answer.ensures.passed t u)))
 
-pub returns-clause-part : goal.returns-clause-part
-returns-clause-part g c u = part_second _ _ _ _ _ ((c.send_request.ensures.sent (search rules)).went u) (c.tell_changes.ensures.part u)
-
-pub returns-clause-sent : goal.returns-clause-sent
-returns-clause-sent g c is = out_both (c.send_request.ensures.sent (search rules)) (c.tell_changes.ensures.sent is)
-
-pub returns-clause-told : goal.returns-clause-told
-returns-clause-told g c is t u = (
-  lines_left c.pass_answer.new.lines,
-  g.O.Output.written c.pass_answer.new.out,
-  rw (c.if-not-branch-2.false, c.form_of.ensures, c.send_request.ensures.unread (search rules), c.send_request.ensures.unprinted (search rules)) at (passes_passed c.in_ok-pass_answer.ensures.passed t u),
-  c.tell_changes.ensures.told is t u,
-)
-
-pub returns-clause-refused : goal.returns-clause-refused
-returns-clause-refused g c is t u =
-    let passed = rw (c.if-not-branch-2.false, c.form_of.ensures, c.send_request.ensures.unread (search rules), c.send_request.ensures.unprinted (search rules)) at (passes_passed c.in_ok-pass_answer.ensures.passed t u) in
-    inr (inr (lines_left c.pass_answer.new.lines, g.O.Output.written c.pass_answer.new.out, passed, c.tell_changes.ensures.refused is t u))
-
-pub returns-clause-on : goal.returns-clause-on
-returns-clause-on g c =
-    let on = rw (c.send_request.ensures.unread (search rules)) at c.in_ok-pass_answer.ensures.passed.read.on in
-    on_ok_weaker c.tell_changes.result (λ q. reads_both on q) c.tell_changes.ensures.on
-
-pub returns-clause-prints : goal.returns-clause-prints
-returns-clause-prints g c =
-    let on = rw (c.send_request.ensures.unprinted (search rules)) at c.in_ok-pass_answer.ensures.passed.out.on in
-    on_ok_weaker c.tell_changes.result (λ q. writes_both on q) c.tell_changes.ensures.prints
-
-pub returns-clause-broken : goal.returns-clause-broken
-returns-clause-broken g c t u =
-    let passed = rw (c.if-not-branch-2.false, c.form_of.ensures, c.send_request.ensures.unread (search rules), c.send_request.ensures.unprinted (search rules)) at (passes_passed c.in_ok-pass_answer.ensures.passed t u) in
-    IfErr-weaker c.tell_changes.result _ _ (λ f q. inr (lines_left c.pass_answer.new.lines, g.O.Output.written c.pass_answer.new.out, passed, q)) (c.tell_changes.ensures.broken t u)
-
-pub returns-clause-fault : goal.returns-clause-fault
-returns-clause-fault g c =
-    let passed = rw (c.if-not-branch-2.false, c.form_of.ensures, c.send_request.ensures.unread (search rules), c.send_request.ensures.unprinted (search rules)) at c.in_ok-pass_answer.ensures.passed in
+pub returns : goal.returns
+returns g c =
     let sent = c.send_request.ensures.sent (search rules) in
-    IfErr-weaker c.tell_changes.result _ _
-    (λ f q.
-    effect_behind (λ unsent. IsMissing unsent (IsRefusedOr (IsClosing c.args.mirrors.now.items)) (lines_left c.pass_answer.new.lines)) (λ unsent. IsMissingAnswer unsent c.args.line.now c.args.mirrors.now.items (lines_left c.args.lines.now))
-    passed.read.on sent.on passed.out.on (λ t less more later m. inr (lines_left c.pass_answer.new.lines, passes_read passed t, missing_later later m)) q)
-    c.tell_changes.ensures.fault
+    let passed = rw (c.if-not-branch-2.false, c.form_of.ensures, c.send_request.ensures.unread (search rules), c.send_request.ensures.unprinted (search rules)) at c.in_ok-pass_answer.ensures.passed in
+    record {
+      told = λ is t u. (lines_left c.pass_answer.new.lines, g.O.Output.written c.pass_answer.new.out, passes_passed passed t u, c.tell_changes.ensures.told is t u);
+      refused = λ is t u. inr (inr (lines_left c.pass_answer.new.lines, g.O.Output.written c.pass_answer.new.out, passes_passed passed t u, c.tell_changes.ensures.refused is t u));
+      broken = λ t u. IfErr-weaker c.tell_changes.result _ _ (λ f q. inr (lines_left c.pass_answer.new.lines, g.O.Output.written c.pass_answer.new.out, passes_passed passed t u, q)) (c.tell_changes.ensures.broken t u);
+      sent = λ is. out_both sent (c.tell_changes.ensures.sent is);
+      part = λ u. part_second _ _ _ _ _ (sent.went u) (c.tell_changes.ensures.part u);
+      on = on_ok_weaker c.tell_changes.result (λ q. reads_both passed.read.on q) c.tell_changes.ensures.on;
+      prints = on_ok_weaker c.tell_changes.result (λ q. writes_both passed.out.on q) c.tell_changes.ensures.prints;
+      fault = IfErr-weaker c.tell_changes.result _ _
+          (λ f q.
+          effect_behind (λ unsent. IsMissing unsent (IsRefusedOr (IsClosing c.args.mirrors.now.items)) (lines_left c.pass_answer.new.lines)) (λ unsent. IsMissingAnswer unsent c.args.line.now c.args.mirrors.now.items (lines_left c.args.lines.now))
+          passed.read.on sent.on passed.out.on (λ t less more later m. inr (lines_left c.pass_answer.new.lines, passes_read passed t, missing_later later m)) q)
+          c.tell_changes.ensures.fault;
+    }

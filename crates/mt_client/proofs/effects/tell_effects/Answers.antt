@@ -38,46 +38,26 @@ returns-in_default-clause-part g c u = part_first (ended (watch_text All)) (ende
 pub returns-in_default-clause-refused : goal.returns-in_default-clause-refused
 returns-in_default-clause-refused g c is t u = let a = c.watch.ensures.refused (search rules) in inl (last_line c.watch.new.lines, a.refused t, a.out.went u)
 
-pub returns-clause-part : goal.returns-clause-part
-returns-clause-part g c u =
-    let sent = MatchOption-at_some {o = c.in_ok-mirrors.field-0} _ _ c.in-Some.mirrors (search rules) c.in_ok-mirrors.ensures.sent in
-    part_second (ended (watch_text All)) (ended c.args.line.now ++ ended (codes "close")) _ _ _ (sent.went u) (c.tell_answered.ensures.part u)
-
-pub returns-clause-sent : goal.returns-clause-sent
-returns-clause-sent g c is u =
-    let sent = MatchOption-at_some {o = c.in_ok-mirrors.field-0} _ _ c.in-Some.mirrors (search rules) c.in_ok-mirrors.ensures.sent in
-    let all = out_both sent (c.tell_answered.ensures.sent is) in
-    all.went u
-
-pub returns-clause-told : goal.returns-clause-told
-returns-clause-told g c is t u =
-    let found = MatchOption-at_some {o = c.in_ok-mirrors.field-0} _ _ c.in-Some.mirrors (search rules) c.in_ok-mirrors.ensures.found in
-    let same = MatchOption-at_some {o = c.in_ok-mirrors.field-0} _ _ c.in-Some.mirrors (search rules) c.in_ok-mirrors.ensures.unprinted in
-    let told = rw same at (c.tell_answered.ensures.told is t u) in
-    record { found = c.in-Some.mirrors.items; opened = lines_left c.watch.new.lines; answered = told.0; between = told.1; watched = found t; answer = told.2; changes = told.3 }
-
-pub returns-clause-refused : goal.returns-clause-refused
-returns-clause-refused g c is t u =
-    let found = MatchOption-at_some {o = c.in_ok-mirrors.field-0} _ _ c.in-Some.mirrors (search rules) c.in_ok-mirrors.ensures.found in
-    let same = MatchOption-at_some {o = c.in_ok-mirrors.field-0} _ _ c.in-Some.mirrors (search rules) c.in_ok-mirrors.ensures.unprinted in
-    inr (c.in-Some.mirrors.items, lines_left c.watch.new.lines, found t, rw same at (c.tell_answered.ensures.refused is t u))
-
-pub returns-clause-broken : goal.returns-clause-broken
-returns-clause-broken g c t u =
-    let found = MatchOption-at_some {o = c.in_ok-mirrors.field-0} _ _ c.in-Some.mirrors (search rules) c.in_ok-mirrors.ensures.found in
-    let same = MatchOption-at_some {o = c.in_ok-mirrors.field-0} _ _ c.in-Some.mirrors (search rules) c.in_ok-mirrors.ensures.unprinted in
-    IfErr-weaker c.tell_answered.result _ _ (λ f q. inr (c.in-Some.mirrors.items, lines_left c.watch.new.lines, found t, q)) (rw same at (c.tell_answered.ensures.broken t u))
-
-pub returns-clause-connection : goal.returns-clause-connection
-returns-clause-connection g c is t u v =
+pub returns : goal.returns
+returns g c =
     let found = MatchOption-at_some {o = c.in_ok-mirrors.field-0} _ _ c.in-Some.mirrors (search rules) c.in_ok-mirrors.ensures.found in
     let sent = MatchOption-at_some {o = c.in_ok-mirrors.field-0} _ _ c.in-Some.mirrors (search rules) c.in_ok-mirrors.ensures.sent in
+    let same = MatchOption-at_some {o = c.in_ok-mirrors.field-0} _ _ c.in-Some.mirrors (search rules) c.in_ok-mirrors.ensures.unprinted in
     let on = c.in_ok-mirrors.ensures.on in
-    let fault = IfErr-at_err _ is c.tell_answered.ensures.fault in
-    either (broken_later _ _ _ _ _ _ (on.counted u) (on.reads u)) (λ m. inr (c.in-Some.mirrors.items, lines_left c.watch.new.lines, found t, answer_later c.args.line.now c.in-Some.mirrors.items (lines_left c.watch.new.lines) (broken_later _ _ _ _ _ _ (sent.on.counted v) (sent.on.serves v)) m)) (fault.cut refl t u v)
-
-pub returns-clause-output : goal.returns-clause-output
-returns-clause-output g c is u =
-    let same = MatchOption-at_some {o = c.in_ok-mirrors.field-0} _ _ c.in-Some.mirrors (search rules) c.in_ok-mirrors.ensures.unprinted in
-    let fault = IfErr-at_err _ is c.tell_answered.ensures.fault in
-    rw same at (fault.cause refl u)
+    record {
+      told = λ is t u.
+          let told = rw same at (c.tell_answered.ensures.told is t u) in
+          record { found = c.in-Some.mirrors.items; opened = lines_left c.watch.new.lines; answered = told.0; between = told.1; watched = found t; answer = told.2; changes = told.3 };
+      refused = λ is t u. inr (c.in-Some.mirrors.items, lines_left c.watch.new.lines, found t, rw same at (c.tell_answered.ensures.refused is t u));
+      broken = λ t u. IfErr-weaker c.tell_answered.result _ _ (λ f q. inr (c.in-Some.mirrors.items, lines_left c.watch.new.lines, found t, q)) (rw same at (c.tell_answered.ensures.broken t u));
+      sent = λ is u. let all = out_both sent (c.tell_answered.ensures.sent is) in all.went u;
+      part = λ u. part_second (ended (watch_text All)) (ended c.args.line.now ++ ended (codes "close")) _ _ _ (sent.went u) (c.tell_answered.ensures.part u);
+      connection = λ is t u v.
+          let fault = IfErr-at_err _ is c.tell_answered.ensures.fault in
+          either (broken_later _ _ _ _ _ _ (on.counted u) (on.reads u)) (λ m. inr (c.in-Some.mirrors.items, lines_left c.watch.new.lines, found t, answer_later c.args.line.now c.in-Some.mirrors.items (lines_left c.watch.new.lines) (broken_later _ _ _ _ _ _ (sent.on.counted v) (sent.on.serves v)) m)) (fault.cut refl t u v);
+      output = λ is u. let fault = IfErr-at_err _ is c.tell_answered.ensures.fault in rw same at (fault.cause refl u);
+      fresh = search rules;
+      reads = search rules;
+      prints = search rules;
+      limit = search rules;
+    }

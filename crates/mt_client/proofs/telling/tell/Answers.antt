@@ -34,36 +34,27 @@ returns-in_default-clause-part g c u = telling_first c.args.scope _ _ (c.watch.e
 pub returns-in_default-clause-told : goal.returns-in_default-clause-told
 returns-in_default-clause-told g c t u = let a = c.watch.ensures.refused (search rules) in inl (last_line c.watch.new.lines, a.refused t, a.out.went u)
 
-pub returns-clause-part : goal.returns-clause-part
-returns-clause-part g c u =
-    let sent = MatchOption-at_some {o = c.in_ok-mirrors.field-0} _ _ c.in-Some.mirrors (search rules) c.in_ok-mirrors.ensures.sent in
-    telling_second c.args.scope _ _ _ (sent.went u) (c.tell_portions.ensures.part u)
-
-pub returns-clause-told : goal.returns-clause-told
-returns-clause-told g c =
-    let same = MatchOption-at_some {o = c.in_ok-mirrors.field-0} _ _ c.in-Some.mirrors (search rules) c.in_ok-mirrors.ensures.unprinted in
-    told_behind c.args.named.now (IsTrue g.R.Input.tells) (IsTrue g.O.Output.tells) _ c.tell_portions.result c.args.scope c.in-Some.mirrors.items (lines_left c.args.lines.now) (lines_left c.watch.new.lines) (lines_left c.tell_portions.new.lines) (g.O.Output.written c.args.out.now) (g.O.Output.written c.tell_portions.new.out)
-    (MatchOption-at_some {o = c.in_ok-mirrors.field-0} _ _ c.in-Some.mirrors (search rules) c.in_ok-mirrors.ensures.found) (rw same at c.tell_portions.ensures.told)
-
-pub returns-clause-broken : goal.returns-clause-broken
-returns-clause-broken g c t u =
-    let found = MatchOption-at_some {o = c.in_ok-mirrors.field-0} _ _ c.in-Some.mirrors (search rules) c.in_ok-mirrors.ensures.found in
-    let same = MatchOption-at_some {o = c.in_ok-mirrors.field-0} _ _ c.in-Some.mirrors (search rules) c.in_ok-mirrors.ensures.unprinted in
-    stopped_behind c.args.named.now c.tell_portions.result c.args.scope c.in-Some.mirrors.items (lines_left c.args.lines.now) (lines_left c.watch.new.lines) _ _ (found t) (rw same at (c.tell_portions.ensures.broken t u))
-
-pub returns-clause-connection : goal.returns-clause-connection
-returns-clause-connection g c is t u v =
+pub returns : goal.returns
+returns g c =
     let found = MatchOption-at_some {o = c.in_ok-mirrors.field-0} _ _ c.in-Some.mirrors (search rules) c.in_ok-mirrors.ensures.found in
     let unrefused = MatchOption-at_some {o = c.in_ok-mirrors.field-0} _ _ c.in-Some.mirrors (search rules) c.in_ok-mirrors.ensures.unrefused in
     let sent = MatchOption-at_some {o = c.in_ok-mirrors.field-0} _ _ c.in-Some.mirrors (search rules) c.in_ok-mirrors.ensures.sent in
-    let on = c.in_ok-mirrors.ensures.on in
-    let fault = IfErr-at_err _ is c.tell_portions.ensures.fault in
-    either (λ broken. (broken_later _ _ _ _ _ _ (sent.on.counted v) (sent.on.serves v) broken, inr (unrefused t)))
-    (cut_within _ _ _ _ _ _ _ _ (on.counted u) (on.reads u) (telling_needs_posts c.args.scope c.in-Some.mirrors.items _ _ (found t) (unrefused t)))
-    (fault.cut refl t u v)
-
-pub returns-clause-output : goal.returns-clause-output
-returns-clause-output g c is u =
     let same = MatchOption-at_some {o = c.in_ok-mirrors.field-0} _ _ c.in-Some.mirrors (search rules) c.in_ok-mirrors.ensures.unprinted in
-    let fault = IfErr-at_err _ is c.tell_portions.ensures.fault in
-    rw same at (fault.cause refl u)
+    let on = c.in_ok-mirrors.ensures.on in
+    record {
+      told =
+          told_behind c.args.named.now (IsTrue g.R.Input.tells) (IsTrue g.O.Output.tells) _ c.tell_portions.result c.args.scope c.in-Some.mirrors.items (lines_left c.args.lines.now) (lines_left c.watch.new.lines) (lines_left c.tell_portions.new.lines) (g.O.Output.written c.args.out.now) (g.O.Output.written c.tell_portions.new.out)
+          found (rw same at c.tell_portions.ensures.told);
+      broken = λ t u. stopped_behind c.args.named.now c.tell_portions.result c.args.scope c.in-Some.mirrors.items (lines_left c.args.lines.now) (lines_left c.watch.new.lines) _ _ (found t) (rw same at (c.tell_portions.ensures.broken t u));
+      part = λ u. telling_second c.args.scope _ _ _ (sent.went u) (c.tell_portions.ensures.part u);
+      connection = λ is t u v.
+          let fault = IfErr-at_err _ is c.tell_portions.ensures.fault in
+          either (λ broken. (broken_later _ _ _ _ _ _ (sent.on.counted v) (sent.on.serves v) broken, inr (unrefused t)))
+          (cut_within _ _ _ _ _ _ _ _ (on.counted u) (on.reads u) (telling_needs_posts c.args.scope c.in-Some.mirrors.items _ _ (found t) (unrefused t)))
+          (fault.cut refl t u v);
+      output = λ is u. let fault = IfErr-at_err _ is c.tell_portions.ensures.fault in rw same at (fault.cause refl u);
+      fresh = search rules;
+      reads = search rules;
+      prints = search rules;
+      limit = search rules;
+    }
