@@ -1,5 +1,5 @@
 -- What was read and printed, line by line, and what cannot come first then.
-use Rattle.std.proofs.Common.{◌≡◌, ◌≢◌, ℕ, ◌+◌, ◌<◌, ◌≤◌, List, [], ◌∷◌, ◌++◌, length, refl, sym, ap, subst, ◌∙◌, arith, append_assoc, length-append, Result, Ok, Err, OnErr, IfErr, inl, inr, ◌⊎◌}
+use Rattle.std.proofs.Common.{◌≡◌, ◌≢◌, ℕ, ◌+◌, ◌<◌, ◌≤◌, List, [], ◌∷◌, ◌++◌, length, refl, sym, ap, subst, ◌∙◌, arith, append_assoc, length-append, Result, Ok, Err, OnErr, IfErr, IsErrAnd, inl, inr, ◌⊎◌}
 use Rattle.std.specs.List.{AllByRecursion}
 use Rattle.std.proofs.lemmas.List.{append-nil, map-append}
 use Rattle.std.proofs.lemmas.Grind.{flat_map-append}
@@ -160,8 +160,8 @@ never_output Endless is = cc
 never_output NoRoom is = cc
 
 -- a fault that was handed on is the one that is answered
-pub same_fault : {A : Type 0} (r : Result A ClientFault) (e f k : ClientFault) → r ≡ Err e → e ≡ f → r ≡ Err k → f ≡ k
-same_fault {A} r e f k is same answered = let both : ◌≡◌ {A = Result A ClientFault} (Err e) (Err k) = sym is ∙ answered in let alike : e ≡ k = cc in sym same ∙ alike
+pub same_fault : {A : Type 0} (r : Result A ClientFault) (f k : ClientFault) → IsErrAnd r (λ y. y ≡ f) → r ≡ Err k → f ≡ k
+same_fault r f k is answered = let same : k ≡ f = subst (λ x. IsErrAnd x (λ y. y ≡ f)) answered is in sym same
 
 -- a fault of the output within a line, as it is handed on
 pub broken_cut : (f : ClientFault) (line : List ℕ) (before after : List Item) (old new : List ℕ) → before ≡ Text line ∷ after → f ≡ Output → IsCutOff (ended line) old new → IsBroken f before old new

@@ -1,5 +1,4 @@
 use Rattle.std.proofs.Common.{rules, inl}
-use Rattle.std.proofs.lemmas.Result.{err_from_is_err_and}
 use Rattle.mt_client.proofs.RelayLaws.{same_fault}
 use Rattle.mt_client.proofs.CallLaws.{refused_of, answer_passed}
 use Rattle.mt_client.proofs.SendingLaws.{refused_passed}
@@ -9,9 +8,7 @@ pub returns-then-not-branch-clause-answer : goal.returns-then-not-branch-clause-
 returns-then-not-branch-clause-answer g c t u = let p = c.send_request.ensures.passed (search rules) in refused_passed _ _ _ _ _ _ (refused_of p t) (p.out.went u)
 
 pub returns-in_err-send_request-clause-connection : goal.returns-in_err-send_request-clause-connection
-returns-in_err-send_request-clause-connection g c is t u v =
-    let p = err_from_is_err_and c.from_residual.result c.from_residual.ensures.1 in
-    inl (c.send_request.ensures.cause (search rules) v, c.in_err-send_request.ensures.fault.cut (same_fault _ _ _ _ p.1 p.2 is) t u)
+returns-in_err-send_request-clause-connection g c is t u v = inl (c.send_request.ensures.cause (search rules) v, c.in_err-send_request.ensures.fault.cut (same_fault _ _ _ c.from_residual.ensures.1 is) t u)
 
 pub returns-clause-answer : goal.returns-clause-answer
 returns-clause-answer g c =

@@ -1,5 +1,5 @@
 use Rattle.std.proofs.Common.{rules, inl, inr}
-use Rattle.std.proofs.lemmas.Result.{err_from_is_err_and, IfErr-weaker, on_ok_weaker}
+use Rattle.std.proofs.lemmas.Result.{IfErr-weaker, on_ok_weaker}
 use Rattle.mt_lines.specs.Reading.{last_line}
 use Rattle.mt_client.specs.Reading.{lines_left}
 use Rattle.mt_client.proofs.RequestLaws.{part_first, part_second, part_one}
@@ -18,9 +18,7 @@ returns-in_err-send_request-clause-fault g c =
     (effect_unsent (λ unsent. IsMissingAnswer unsent c.args.line.now c.args.mirrors.now.items (lines_left c.args.lines.now)) (λ unsent s none. inl (inr (s, none))) (c.send_request.ensures.cause (search rules)) c.in_err-send_request.ensures.fault)
 
 pub returns-in_err-send_request-clause-broken : goal.returns-in_err-send_request-clause-broken
-returns-in_err-send_request-clause-broken g c t u =
-    let p = err_from_is_err_and c.from_residual.result c.from_residual.ensures.1 in
-    rw (p.1, p.2) (inl (c.in_err-send_request.ensures.fault.broken t u))
+returns-in_err-send_request-clause-broken g c t u = handed_on _ _ _ c.from_residual.ensures.1 (inl (c.in_err-send_request.ensures.fault.broken t u))
 
 pub returns-then-not-branch-clause-part : goal.returns-then-not-branch-clause-part
 returns-then-not-branch-clause-part g c u = part_first _ _ _ _ (c.send_request.ensures.part u)
@@ -38,9 +36,7 @@ returns-in_err-pass_answer-clause-fault g c =
     (rw (c.form_of.ensures, c.send_request.ensures.unread (search rules), c.send_request.ensures.unprinted (search rules)) at c.in_err-pass_answer.ensures.fault))
 
 pub returns-in_err-pass_answer-clause-broken : goal.returns-in_err-pass_answer-clause-broken
-returns-in_err-pass_answer-clause-broken g c t u =
-    let p = err_from_is_err_and c.from_residual-in_err-pass_answer.result c.from_residual-in_err-pass_answer.ensures.1 in
-    rw (p.1, p.2) (inl (rw (c.send_request.ensures.unread (search rules), c.send_request.ensures.unprinted (search rules)) at (c.in_err-pass_answer.ensures.fault.broken t u)))
+returns-in_err-pass_answer-clause-broken g c t u = handed_on _ _ _ c.from_residual-in_err-pass_answer.ensures.1 (inl (rw (c.send_request.ensures.unread (search rules), c.send_request.ensures.unprinted (search rules)) at (c.in_err-pass_answer.ensures.fault.broken t u)))
 
 pub returns-then-not-branch-2-clause-part : goal.returns-then-not-branch-2-clause-part
 returns-then-not-branch-2-clause-part g c u = part_one _ _ _ _ ((c.send_request.ensures.sent (search rules)).went u)

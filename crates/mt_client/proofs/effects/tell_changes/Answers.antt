@@ -1,5 +1,5 @@
 use Rattle.std.proofs.Common.{rules, refl, inl, inr}
-use Rattle.std.proofs.lemmas.Result.{err_from_is_err_and, IfErr-weaker}
+use Rattle.std.proofs.lemmas.Result.{IfErr-weaker}
 use Rattle.mt_client.specs.Reading.{lines_left}
 use Rattle.mt_client.specs.declared.fault.ClientFault.TheVariants.{Output}
 use Rattle.mt_client.specs.Awaited.{IsRefusedOr}
@@ -12,9 +12,8 @@ use Rattle.mt_client.proofs.effects.tell_changes.Goals as goal
 
 pub returns-in_err-send_request-clause-broken : goal.returns-in_err-send_request-clause-broken
 returns-in_err-send_request-clause-broken g c t u =
-    let p = err_from_is_err_and c.from_residual.result c.from_residual.ensures.1 in
     let f = c.in_err-send_request.field-0.0 in
-    rw (p.1, p.2) (inl (unsaid_of f _ _ _ (c.in_err-send_request.ensures.fault.broken t u) (λ other. c.in_err-send_request.ensures.kept (λ e. other (same_fault _ f f Output refl refl e)) u)))
+    handed_on _ _ _ c.from_residual.ensures.1 (inl (unsaid_of f _ _ _ (c.in_err-send_request.ensures.fault.broken t u) (λ other. c.in_err-send_request.ensures.kept (λ e. other (same_fault _ f Output refl e)) u)))
 
 pub returns-in_err-send_request-clause-fault : goal.returns-in_err-send_request-clause-fault
 returns-in_err-send_request-clause-fault g c =

@@ -1,5 +1,4 @@
 use Rattle.std.proofs.Common.{rules, inl, inr}
-use Rattle.std.proofs.lemmas.Result.{err_from_is_err_and}
 use Rattle.mt_lines.specs.Reading.{last_line}
 use Rattle.mt_client.specs.Reading.{lines_left}
 use Rattle.mt_client.proofs.CallLaws.{connection≢output, read_still, writes_still, handed_on, tell_fault_reading, tell_fault_printing, tell_fault_behind, tell_checked}
@@ -9,15 +8,12 @@ use Rattle.mt_client.proofs.effects.tell_closed.Goals as goal
 
 pub returns-in_err-print_line-clause-broken : goal.returns-in_err-print_line-clause-broken
 returns-in_err-print_line-clause-broken g c t u =
-    let p = err_from_is_err_and c.from_residual-in_err-print_line.result c.from_residual-in_err-print_line.ensures.1 in
-    rw (p.1, p.2)
+    handed_on _ _ _ c.from_residual-in_err-print_line.ensures.1
     (inl (unsaid_cut c.in_err-print_line.field-0.0 (last_line c.next_text.new.lines) _ (lines_left c.next_text.new.lines) _ _ c.in_err-print_line.ensures.part.0 (c.in_ok-next_text.ensures.read.came t)
     (rw c.line-then-is_refusal.ensures at (c.in_err-print_line.ensures.part.1.cut u))))
 
 pub returns-in_err-tell_lines-clause-broken : goal.returns-in_err-tell_lines-clause-broken
-returns-in_err-tell_lines-clause-broken g c t u =
-    let p = err_from_is_err_and c.from_residual-in_err-tell_lines.result c.from_residual-in_err-tell_lines.ensures.1 in
-    rw (p.1, p.2) (inr (last_line c.next_text.new.lines, lines_left c.next_text.new.lines, c.in_ok-next_text.ensures.read.came t, c.in_err-tell_lines.ensures.broken t u))
+returns-in_err-tell_lines-clause-broken g c t u = handed_on _ _ _ c.from_residual-in_err-tell_lines.ensures.1 (inr (last_line c.next_text.new.lines, lines_left c.next_text.new.lines, c.in_ok-next_text.ensures.read.came t, c.in_err-tell_lines.ensures.broken t u))
 
 pub returns-in_err-next_text-clause-fault : goal.returns-in_err-next_text-clause-fault
 returns-in_err-next_text-clause-fault g c = handed_on _ _ _ c.from_residual.ensures.1 (tell_fault_reading (read_still _ c.requires.fresh) (λ t. closing_needs_line c.args.mirrors.now.items _) c.in_err-next_text.ensures.fault)

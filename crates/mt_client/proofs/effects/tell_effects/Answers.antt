@@ -1,6 +1,6 @@
 use Rattle.std.proofs.Common.{rules, refl, ◌++◌, codes, inl, inr}
 use Rattle.std.proofs.lemmas.Option.{MatchOption-at_some}
-use Rattle.std.proofs.lemmas.Result.{err_from_is_err_and, IfErr-at_err, IfErr-weaker}
+use Rattle.std.proofs.lemmas.Result.{IfErr-at_err, IfErr-weaker}
 use Rattle.mt_lines.specs.Reading.{last_line}
 use Rattle.mt_events.specs.Posts.{ended}
 use Rattle.mt_events.specs.declared.opening.Scope.TheVariants.{All}
@@ -9,7 +9,7 @@ use Rattle.mt_client.specs.Finding.{watch_text}
 use Rattle.mt_client.proofs.RequestLaws.{part_first, part_second}
 use Rattle.mt_client.proofs.RelayLaws.{same_fault, broken_later}
 use Rattle.mt_client.proofs.TellingLaws.{unsaid_of}
-use Rattle.mt_client.proofs.CallLaws.{either, out_both}
+use Rattle.mt_client.proofs.CallLaws.{either, out_both, handed_on}
 use Rattle.mt_client.proofs.MissingLaws.{answer_later, ask_missing}
 use Rattle.mt_client.proofs.effects.tell_effects.Goals as goal
 
@@ -18,19 +18,14 @@ returns-in_err-mirrors-clause-part g c u = part_first (ended (watch_text All)) (
 
 pub returns-in_err-mirrors-clause-broken : goal.returns-in_err-mirrors-clause-broken
 returns-in_err-mirrors-clause-broken g c t u =
-    let p = err_from_is_err_and c.from_residual.result c.from_residual.ensures.1 in
     let fault = c.in_err-mirrors.ensures.fault in
-    rw (p.1, p.2) (inl (unsaid_of c.in_err-mirrors.field-0.0 _ _ _ (fault.broken t u) (λ other. fault.kept other u)))
+    handed_on _ _ _ c.from_residual.ensures.1 (inl (unsaid_of c.in_err-mirrors.field-0.0 _ _ _ (fault.broken t u) (λ other. fault.kept other u)))
 
 pub returns-in_err-mirrors-clause-connection : goal.returns-in_err-mirrors-clause-connection
-returns-in_err-mirrors-clause-connection g c is t u v =
-    let p = err_from_is_err_and c.from_residual.result c.from_residual.ensures.1 in
-    either (λ broken. broken) inl (ask_missing c.in_err-mirrors.ensures.fault (same_fault _ _ _ _ p.1 p.2 is) t u v)
+returns-in_err-mirrors-clause-connection g c is t u v = either (λ broken. broken) inl (ask_missing c.in_err-mirrors.ensures.fault (same_fault _ _ _ c.from_residual.ensures.1 is) t u v)
 
 pub returns-in_err-mirrors-clause-output : goal.returns-in_err-mirrors-clause-output
-returns-in_err-mirrors-clause-output g c is u =
-    let p = err_from_is_err_and c.from_residual.result c.from_residual.ensures.1 in
-    c.in_err-mirrors.ensures.fault.cause (same_fault _ _ _ _ p.1 p.2 is) u
+returns-in_err-mirrors-clause-output g c is u = c.in_err-mirrors.ensures.fault.cause (same_fault _ _ _ c.from_residual.ensures.1 is) u
 
 pub returns-in_default-clause-part : goal.returns-in_default-clause-part
 returns-in_default-clause-part g c u = part_first (ended (watch_text All)) (ended c.args.line.now ++ ended (codes "close")) _ _ (c.watch.ensures.part u)

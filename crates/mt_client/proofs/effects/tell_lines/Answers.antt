@@ -1,5 +1,4 @@
 use Rattle.std.proofs.Common.{◌≡◌, ◌+◌, ◌∙◌, arith, refl, subst}
-use Rattle.std.proofs.lemmas.Result.{err_from_is_err_and}
 use Rattle.mt_client.proofs.CallLaws.{connection≢output, read_still, reads_both, writes_still, writes_both, handed_on, tell_fault_behind, tell_checked}
 use Rattle.mt_client.specs.Reading.{lines_left}
 use Rattle.mt_client.specs.Effects.{HasToldLines}
@@ -40,9 +39,8 @@ returns-clause-told g c t u =
 
 pub returns-in_err-behind-clause-broken : goal.returns-in_err-behind-clause-broken
 returns-in_err-behind-clause-broken g c t u =
-    let p = err_from_is_err_and c.from_residual.result c.from_residual.ensures.1 in
     let h = c.telling.invariant.told t u in
-    rw (p.1, p.2) (short_behind c.args.named.now c.in_err-behind.field-0.0 h.0 c.args.mirrors.now.items c.telling.mirrors.items _ _ _ _ _ h.2 (c.in_err-behind.ensures.broken t u))
+    handed_on _ _ _ c.from_residual.ensures.1 (short_behind c.args.named.now c.in_err-behind.field-0.0 h.0 c.args.mirrors.now.items c.telling.mirrors.items _ _ _ _ _ h.2 (c.in_err-behind.ensures.broken t u))
 
 pub returns-in_default-clause-broken : goal.returns-in_default-clause-broken
 returns-in_default-clause-broken g c t u =

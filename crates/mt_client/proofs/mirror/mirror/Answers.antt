@@ -1,6 +1,6 @@
 use Rattle.std.proofs.Common.{rules, refl, inl, inr}
 use Rattle.std.proofs.lemmas.Option.{MatchOption-at_some}
-use Rattle.std.proofs.lemmas.Result.{err_from_is_err_and, IfErr-at_err}
+use Rattle.std.proofs.lemmas.Result.{IfErr-at_err}
 use Rattle.mt_lines.specs.Reading.{last_line}
 use Rattle.mt_client.specs.Reading.{lines_left}
 use Rattle.mt_client.proofs.RequestLaws.{part_first, part_second}
@@ -15,17 +15,13 @@ pub returns-in_err-mirror-clause-part : goal.returns-in_err-mirror-clause-part
 returns-in_err-mirror-clause-part g c u = part_first _ _ _ _ (c.watch_one.ensures.part u)
 
 pub returns-in_err-mirror-clause-connection : goal.returns-in_err-mirror-clause-connection
-returns-in_err-mirror-clause-connection g c is t u v =
-    let p = err_from_is_err_and c.from_residual.result c.from_residual.ensures.1 in
-    either (λ b. b) (either (λ b. b) (mirroring_needs_opening c.args.space c.args.count _)) (c.in_err-mirror.ensures.fault.cut (same_fault _ _ _ _ p.1 p.2 is) t u v)
+returns-in_err-mirror-clause-connection g c is t u v = either (λ b. b) (either (λ b. b) (mirroring_needs_opening c.args.space c.args.count _)) (c.in_err-mirror.ensures.fault.cut (same_fault _ _ _ c.from_residual.ensures.1 is) t u v)
 
 pub returns-in_err-mirror-clause-kept : goal.returns-in_err-mirror-clause-kept
 returns-in_err-mirror-clause-kept g c = handed_on _ _ _ c.from_residual.ensures.1 c.in_err-mirror.ensures.fault.kept
 
 pub returns-in_err-mirror-clause-output : goal.returns-in_err-mirror-clause-output
-returns-in_err-mirror-clause-output g c is u =
-    let p = err_from_is_err_and c.from_residual.result c.from_residual.ensures.1 in
-    c.in_err-mirror.ensures.fault.cause (same_fault _ _ _ _ p.1 p.2 is) u
+returns-in_err-mirror-clause-output g c is u = c.in_err-mirror.ensures.fault.cause (same_fault _ _ _ c.from_residual.ensures.1 is) u
 
 pub returns-in_default-clause-part : goal.returns-in_default-clause-part
 returns-in_default-clause-part g c u = part_first _ _ _ _ (c.watch_one.ensures.part u)

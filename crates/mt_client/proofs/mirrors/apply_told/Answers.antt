@@ -1,5 +1,4 @@
 use Rattle.std.proofs.Common.{◌++◌, Err, sym, ap, ◌∙◌}
-use Rattle.std.proofs.lemmas.Result.{err_from_is_err_and}
 use Rattle.mt_events.specs.Posts.{PostView}
 use Rattle.mt_events.specs.Mirrors.{is_next}
 use Rattle.mt_render.specs.Events.{told_as}
@@ -9,8 +8,7 @@ use Rattle.mt_client.proofs.mirrors.apply_told.Goals as goal
 
 pub returns-in_err-apply_next-clause-refused : goal.returns-in_err-apply_next-clause-refused
 returns-in_err-apply_next-clause-refused c refused =
-    let p = err_from_is_err_and c.from_residual-in_err-apply_next.result c.from_residual-in_err-apply_next.ensures.1 in
-    let same = same_fault _ _ _ _ p.1 p.2 refused in
+    let same = same_fault _ _ _ c.from_residual-in_err-apply_next.ensures.1 refused in
     let is =
     found_there c.args.post.now.space c.post.inside.space c.place_for-place.result c.as_slice.result.now c.args.mirrors.now.items c.take_at-mirror.result (ap (λ (p : PostView). p.space) c.post.view_is) c.as_slice.ensures.value
     c.requires.rising c.place_for-place.ensures.place c.take_at-mirror.ensures.there c.take_at-mirror.ensures.begun in

@@ -1,6 +1,5 @@
 use Rattle.std.proofs.Common.{rules, refl, ap, ◌∙◌, ◌++◌}
 use Rattle.std.proofs.lemmas.Option.{MatchOption-at_some}
-use Rattle.std.proofs.lemmas.Result.{err_from_is_err_and}
 use Rattle.mt_lines.specs.Reading.{last_line}
 use Rattle.mt_render.specs.Drawings.{drawing_text}
 use Rattle.mt_client.proofs.RelayLaws.{same_fault}
@@ -9,14 +8,10 @@ use Rattle.mt_client.proofs.CallLaws.{handed_on, either}
 use Rattle.mt_client.proofs.picture.draw.Goals as goal
 
 pub returns-in_err-parts-clause-connection : goal.returns-in_err-parts-clause-connection
-returns-in_err-parts-clause-connection g c is t u v =
-    let p = err_from_is_err_and c.from_residual.result c.from_residual.ensures.1 in
-    c.in_err-parts.ensures.fault.cut (same_fault _ _ _ _ p.1 p.2 is) t u v
+returns-in_err-parts-clause-connection g c is t u v = c.in_err-parts.ensures.fault.cut (same_fault _ _ _ c.from_residual.ensures.1 is) t u v
 
 pub returns-in_err-parts-clause-output : goal.returns-in_err-parts-clause-output
-returns-in_err-parts-clause-output g c is u =
-    let p = err_from_is_err_and c.from_residual.result c.from_residual.ensures.1 in
-    c.in_err-parts.ensures.fault.cause (same_fault _ _ _ _ p.1 p.2 is) u
+returns-in_err-parts-clause-output g c is u = c.in_err-parts.ensures.fault.cause (same_fault _ _ _ c.from_residual.ensures.1 is) u
 
 pub returns-in_err-parts-clause-kept : goal.returns-in_err-parts-clause-kept
 returns-in_err-parts-clause-kept g c = handed_on _ _ _ c.from_residual.ensures.1 c.in_err-parts.ensures.fault.kept

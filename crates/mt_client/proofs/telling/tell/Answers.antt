@@ -1,10 +1,10 @@
 use Rattle.std.proofs.Common.{rules, IsTrue, refl, inl, inr}
 use Rattle.std.proofs.lemmas.Option.{MatchOption-at_some}
-use Rattle.std.proofs.lemmas.Result.{err_from_is_err_and, IfErr-at_err}
+use Rattle.std.proofs.lemmas.Result.{IfErr-at_err}
 use Rattle.mt_lines.specs.Reading.{last_line}
 use Rattle.mt_client.specs.Reading.{lines_left}
 use Rattle.mt_client.proofs.RelayLaws.{broken_later, cut_within, same_fault}
-use Rattle.mt_client.proofs.CallLaws.{either}
+use Rattle.mt_client.proofs.CallLaws.{either, handed_on}
 use Rattle.mt_client.proofs.AheadLaws.{telling_needs_opening, telling_needs_posts}
 use Rattle.mt_client.proofs.TellingLaws.{telling_first, telling_second, told_behind, stopped_behind, unsaid_of}
 use Rattle.mt_client.proofs.telling.tell.Goals as goal
@@ -14,19 +14,14 @@ returns-in_err-mirrors-clause-part g c u = telling_first c.args.scope _ _ (c.wat
 
 pub returns-in_err-mirrors-clause-broken : goal.returns-in_err-mirrors-clause-broken
 returns-in_err-mirrors-clause-broken g c t u =
-    let p = err_from_is_err_and c.from_residual.result c.from_residual.ensures.1 in
     let fault = c.in_err-mirrors.ensures.fault in
-    rw (p.1, p.2) (inl (unsaid_of c.in_err-mirrors.field-0.0 _ _ _ (fault.broken t u) (λ other. fault.kept other u)))
+    handed_on _ _ _ c.from_residual.ensures.1 (inl (unsaid_of c.in_err-mirrors.field-0.0 _ _ _ (fault.broken t u) (λ other. fault.kept other u)))
 
 pub returns-in_err-mirrors-clause-connection : goal.returns-in_err-mirrors-clause-connection
-returns-in_err-mirrors-clause-connection g c is t u v =
-    let p = err_from_is_err_and c.from_residual.result c.from_residual.ensures.1 in
-    either (λ b. b) (either (λ b. b) (telling_needs_opening c.args.scope _)) (c.in_err-mirrors.ensures.fault.cut (same_fault _ _ _ _ p.1 p.2 is) t u v)
+returns-in_err-mirrors-clause-connection g c is t u v = either (λ b. b) (either (λ b. b) (telling_needs_opening c.args.scope _)) (c.in_err-mirrors.ensures.fault.cut (same_fault _ _ _ c.from_residual.ensures.1 is) t u v)
 
 pub returns-in_err-mirrors-clause-output : goal.returns-in_err-mirrors-clause-output
-returns-in_err-mirrors-clause-output g c is u =
-    let p = err_from_is_err_and c.from_residual.result c.from_residual.ensures.1 in
-    c.in_err-mirrors.ensures.fault.cause (same_fault _ _ _ _ p.1 p.2 is) u
+returns-in_err-mirrors-clause-output g c is u = c.in_err-mirrors.ensures.fault.cause (same_fault _ _ _ c.from_residual.ensures.1 is) u
 
 pub returns-in_default-clause-part : goal.returns-in_default-clause-part
 returns-in_default-clause-part g c u = telling_first c.args.scope _ _ (c.watch.ensures.part u)

@@ -1,6 +1,5 @@
 use Rattle.std.proofs.Common.{rules, Ok, refl, ap}
 use Rattle.std.proofs.lemmas.Bool.{MatchBool-at_false}
-use Rattle.std.proofs.lemmas.Result.{err_from_is_err_and}
 use Rattle.mt_lines.specs.Reading.{last_line}
 use Rattle.mt_client.specs.declared.fault.ClientFault.TheVariants.{Output}
 use Rattle.mt_client.proofs.RelayLaws.{same_fault}
@@ -9,17 +8,14 @@ use Rattle.mt_client.proofs.TellingLaws.{unsaid_of, no_memory_told, up_to_none, 
 use Rattle.mt_client.proofs.telling.tell_portion.Goals as goal
 
 pub returns-in_err-follow-clause-broken : goal.returns-in_err-follow-clause-broken
-returns-in_err-follow-clause-broken g c t u =
-    let p = err_from_is_err_and c.from_residual.result c.from_residual.ensures.1 in
-    rw p.1 (no_memory_told _ c.args.count c.args.scope c.args.mirrors.now.items _ _ p.2)
+returns-in_err-follow-clause-broken g c t u = handed_on _ _ _ c.from_residual.ensures.1 (no_memory_told _ c.args.count c.args.scope c.args.mirrors.now.items _ _ refl)
 
 pub returns-in_err-send_request-clause-broken : goal.returns-in_err-send_request-clause-broken
 returns-in_err-send_request-clause-broken g c t u =
-    let p = err_from_is_err_and c.from_residual-in_err-send_request.result c.from_residual-in_err-send_request.ensures.1 in
     let f = c.in_err-send_request.field-0.0 in
-    rw (p.1, p.2)
+    handed_on _ _ _ c.from_residual-in_err-send_request.ensures.1
     (up_to_none f c.args.count c.args.scope c.args.mirrors.now.items _ _ _
-    (unsaid_of f _ _ _ (c.in_err-send_request.ensures.fault.broken t u) (λ other. c.in_err-send_request.ensures.kept (λ e. other (same_fault _ f f Output refl refl e)) u)))
+    (unsaid_of f _ _ _ (c.in_err-send_request.ensures.fault.broken t u) (λ other. c.in_err-send_request.ensures.kept (λ e. other (same_fault _ f Output refl e)) u)))
 
 pub returns-then-not-branch-clause-told : goal.returns-then-not-branch-clause-told
 returns-then-not-branch-clause-told g c t u =
@@ -28,10 +24,9 @@ returns-then-not-branch-clause-told g c t u =
 
 pub returns-in_err-print_line-clause-broken : goal.returns-in_err-print_line-clause-broken
 returns-in_err-print_line-clause-broken g c t u =
-    let p = err_from_is_err_and c.from_residual-in_err-print_line.result c.from_residual-in_err-print_line.ensures.1 in
     let f = c.in_err-print_line.field-0.0 in
     let told = rw (c.send_request.ensures.unread (search rules), c.send_request.ensures.unprinted (search rules)) at (c.in_ok-tell_posts.ensures.told t u) in
-    rw (p.1, p.2)
+    handed_on _ _ _ c.from_residual-in_err-print_line.ensures.1
     (refusal_cut f c.args.count c.args.scope (last_line c.tell_posts.new.lines) c.args.mirrors.now.items _ _ _ _ _ c.in_err-print_line.ensures.part.0
     (MatchBool-at_false _ _ c.if-branch.false told) (rw c.line.ensures at (c.in_err-print_line.ensures.part.1.cut u)))
 

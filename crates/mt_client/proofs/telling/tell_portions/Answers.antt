@@ -1,6 +1,5 @@
 use Rattle.std.proofs.Common.{Ok, ap, append-nil, sym}
 use Rattle.std.proofs.lemmas.Bool.{MatchBool-at_true, MatchBool-at_false}
-use Rattle.std.proofs.lemmas.Result.{err_from_is_err_and}
 use Rattle.mt_client.proofs.CallLaws.{read_still, reads_both, writes_still, writes_both, handed_on, talk_fault_behind, talk_refused}
 use Rattle.mt_client.proofs.SeriesLaws.{came_at_first}
 use Rattle.mt_client.proofs.AheadLaws.{portions_of, portions_more, portions_cut, portions_over}
@@ -19,9 +18,7 @@ portions-init g c = record {
 }
 
 pub returns-in_err-tell_portion-clause-broken : goal.returns-in_err-tell_portion-clause-broken
-returns-in_err-tell_portion-clause-broken g c t u =
-    let p = err_from_is_err_and c.from_residual.result c.from_residual.ensures.1 in
-    rw (p.1, p.2) (up_to_behind c.in_err-tell_portion.field-0.0 c.args.count c.args.scope _ _ _ _ _ _ _ (c.portions.invariant.told t u) (c.in_err-tell_portion.ensures.broken t u))
+returns-in_err-tell_portion-clause-broken g c t u = handed_on _ _ _ c.from_residual.ensures.1 (up_to_behind c.in_err-tell_portion.field-0.0 c.args.count c.args.scope _ _ _ _ _ _ _ (c.portions.invariant.told t u) (c.in_err-tell_portion.ensures.broken t u))
 
 pub returns-in_err-tell_portion-clause-part : goal.returns-in_err-tell_portion-clause-part
 returns-in_err-tell_portion-clause-part g c u = follows_part c.args.count c.portions._portion _ _ _ (c.portions.invariant.sent u) (c.in_err-tell_portion.ensures.part u)

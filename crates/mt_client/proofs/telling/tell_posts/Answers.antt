@@ -1,6 +1,6 @@
 use Rattle.std.proofs.Common.{rules, Ok, ap, arith}
 use Rattle.std.proofs.lemmas.Bool.{MatchBool-at_true, MatchBool-at_false}
-use Rattle.std.proofs.lemmas.Result.{err_from_is_err_and, IfErr-weaker, on_ok_weaker, MatchResult-at_ok}
+use Rattle.std.proofs.lemmas.Result.{IfErr-weaker, on_ok_weaker, MatchResult-at_ok}
 use Rattle.mt_lines.specs.Reading.{last_line}
 use Rattle.mt_client.specs.Reading.{lines_left}
 use Rattle.mt_client.proofs.CallLaws.{read_still, reads_both, writes_still, writes_both, handed_on, tell_fault_reading, tell_fault_behind}
@@ -24,9 +24,7 @@ returns-clause-applied g c is t =
     posts_whole c.args.count c.posts._post c.args.scope _ _ _ _ _ c.posts-test.false (c.posts.invariant.goes t) (c.read_end.ensures.unrefused is t) (MatchResult-at_ok _ _ _ is c.read_end.ensures.ended t)
 
 pub returns-in_err-tell_post-clause-broken : goal.returns-in_err-tell_post-clause-broken
-returns-in_err-tell_post-clause-broken g c t u =
-    let p = err_from_is_err_and c.from_residual.result c.from_residual.ensures.1 in
-    rw (p.1, p.2) (up_to_some c.in_err-tell_post.field-0.0 c.args.count c.posts._post c.args.scope _ _ _ _ _ _ _ (omega (arith, c.posts-test.true)) (c.posts.invariant.told t u) (c.in_err-tell_post.ensures.broken t u))
+returns-in_err-tell_post-clause-broken g c t u = handed_on _ _ _ c.from_residual.ensures.1 (up_to_some c.in_err-tell_post.field-0.0 c.args.count c.posts._post c.args.scope _ _ _ _ _ _ _ (omega (arith, c.posts-test.true)) (c.posts.invariant.told t u) (c.in_err-tell_post.ensures.broken t u))
 
 pub returns-then-not-branch-clause-told : goal.returns-then-not-branch-clause-told
 returns-then-not-branch-clause-told g c t u =

@@ -16,7 +16,7 @@ pub returns-in_err-send_request-clause-fault : goal.returns-in_err-send_request-
 returns-in_err-send_request-clause-fault g c =
     let f = c.in_err-send_request.field-0.0 in
     handed_on _ _ _ c.from_residual-in_err-send_request.ensures.1
-    (ask_fault_sending (c.send_request.ensures.cause (search rules)) (λ other. c.in_err-send_request.ensures.kept (λ e. other (same_fault _ f f Output refl refl e))) c.in_err-send_request.ensures.fault)
+    (ask_fault_sending (c.send_request.ensures.cause (search rules)) (λ other. c.in_err-send_request.ensures.kept (λ e. other (same_fault _ f Output refl e))) c.in_err-send_request.ensures.fault)
 
 pub returns-then-not-branch-clause-refused : goal.returns-then-not-branch-clause-refused
 returns-then-not-branch-clause-refused g c is = turned_away (c.send_request.ensures.passed (search rules)) (c.send_request.ensures.cause (search rules))
