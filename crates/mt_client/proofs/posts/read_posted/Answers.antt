@@ -1,4 +1,4 @@
-use Rattle.std.proofs.Common.{◌++◌, refl, sym, ◌∙◌}
+use Rattle.std.proofs.Common.{rules, ◌++◌, refl, sym, ◌∙◌}
 use Rattle.std.proofs.lemmas.Result.{IfOk-weaker}
 use Rattle.mt_lines.specs.Reading.{last_line}
 use Rattle.mt_events.specs.Posts.{ended}
@@ -17,28 +17,23 @@ returns-in_err-push_lines-clause-fault g c =
     handed_on _ _ _ c.from_residual-in_err-push_lines.ensures.1
     (read_fault_of (λ none. post_behind _ _ (post_needs_lines c.in-Some.count (last_line c.args.lines.now) (lines_left c.args.lines.now) (rw c.line.ensures at c.in-Some.ensures) none)) c.in_err-push_lines.ensures.fault)
 
-pub returns-clause-only : goal.returns-clause-only
-returns-clause-only g c =
+pub returns : goal.returns
+returns g c =
     let begun = c.in_ok-push_line.ensures ∙ (λ i. c.new-text.ensures.items i ++ ended (c.line-2.ensures i)) in
-    ok_both c.read_text.result
-    (λ post valid said t.
-    behind_only c.in-Some.count (last_line c.args.lines.now) (lines_left c.args.lines.now) (lines_left c.push_lines.new.lines) c.push_line.new.text.items c.push_lines.new.text.items post
-    (rw c.line.ensures at c.in-Some.ensures) begun (appended_of _ _ _ _ _ c.in_ok-push_lines.ensures.text t) valid (sym c.deref.ensures.value ∙ said))
-    c.read_text.ensures.valid c.read_text.ensures.post
-
-pub returns-clause-fault : goal.returns-clause-fault
-returns-clause-fault g c =
-    let begun = c.in_ok-push_line.ensures ∙ (λ i. c.new-text.ensures.items i ++ ended (c.line-2.ensures i)) in
-    checked_end _ _ c.args.lines.now c.push_lines.new.lines c.read_text.result c.read_text.ensures.kind c.in_ok-push_lines.ensures.text.2.on.limit
-    (λ is t. post_behind _ _ (post_needs_text c.in-Some.count (last_line c.args.lines.now) (lines_left c.args.lines.now) (lines_left c.push_lines.new.lines) c.push_lines.new.text.items c.push_line.new.text.items
-    (rw c.line.ensures at c.in-Some.ensures) begun (appended_of _ _ _ _ _ c.in_ok-push_lines.ensures.text t) (λ post valid e. c.read_text.ensures.refused is post valid (c.deref.ensures.value ∙ e))))
-
-pub returns-clause-posted : goal.returns-clause-posted
-returns-clause-posted g c =
-    let begun = c.in_ok-push_line.ensures ∙ (λ i. c.new-text.ensures.items i ++ ended (c.line-2.ensures i)) in
-    IfOk-weaker c.read_text.result _ _
-    (λ post said t.
-    behind_posted c.in-Some.count (last_line c.args.lines.now) (lines_left c.args.lines.now) (lines_left c.push_lines.new.lines) c.push_line.new.text.items c.push_lines.new.text.items post
-    (rw c.line.ensures at c.in-Some.ensures) begun (appended_of _ _ _ _ _ c.in_ok-push_lines.ensures.text t)
-    (sym c.deref.ensures.value ∙ said))
-    c.read_text.ensures.post
+    record {
+      posted = IfOk-weaker c.read_text.result _ _
+          (λ post said t.
+          behind_posted c.in-Some.count (last_line c.args.lines.now) (lines_left c.args.lines.now) (lines_left c.push_lines.new.lines) c.push_line.new.text.items c.push_lines.new.text.items post
+          (rw c.line.ensures at c.in-Some.ensures) begun (appended_of _ _ _ _ _ c.in_ok-push_lines.ensures.text t) (sym c.deref.ensures.value ∙ said))
+          c.read_text.ensures.post;
+      valid = c.read_text.ensures.valid;
+      only = ok_both c.read_text.result
+          (λ post valid said t.
+          behind_only c.in-Some.count (last_line c.args.lines.now) (lines_left c.args.lines.now) (lines_left c.push_lines.new.lines) c.push_line.new.text.items c.push_lines.new.text.items post
+          (rw c.line.ensures at c.in-Some.ensures) begun (appended_of _ _ _ _ _ c.in_ok-push_lines.ensures.text t) valid (sym c.deref.ensures.value ∙ said))
+          c.read_text.ensures.valid c.read_text.ensures.post;
+      on = search rules;
+      fault = checked_end _ _ c.args.lines.now c.push_lines.new.lines c.read_text.result c.read_text.ensures.kind c.in_ok-push_lines.ensures.text.2.on.limit
+          (λ is t. post_behind _ _ (post_needs_text c.in-Some.count (last_line c.args.lines.now) (lines_left c.args.lines.now) (lines_left c.push_lines.new.lines) c.push_lines.new.text.items c.push_line.new.text.items
+          (rw c.line.ensures at c.in-Some.ensures) begun (appended_of _ _ _ _ _ c.in_ok-push_lines.ensures.text t) (λ post valid e. c.read_text.ensures.refused is post valid (c.deref.ensures.value ∙ e))));
+    }

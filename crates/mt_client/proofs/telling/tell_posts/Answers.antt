@@ -19,10 +19,6 @@ posts-init g c = record {
   told = λ t u. none_yet c.args.scope c.args.mirrors.now.items _ _;
 }
 
-pub returns-clause-applied : goal.returns-clause-applied
-returns-clause-applied g c is t =
-    posts_whole c.args.count c.posts._post c.args.scope _ _ _ _ _ c.posts-test.false (c.posts.invariant.goes t) (c.read_end.ensures.unrefused is t) (MatchResult-at_ok _ _ _ is c.read_end.ensures.ended t)
-
 pub returns-in_err-tell_post-clause-broken : goal.returns-in_err-tell_post-clause-broken
 returns-in_err-tell_post-clause-broken g c t u = handed_on _ _ _ c.from_residual.ensures.1 (up_to_some c.in_err-tell_post.field-0.0 c.args.count c.posts._post c.args.scope _ _ _ _ _ _ _ (omega (arith, c.posts-test.true)) (c.posts.invariant.told t u) (c.in_err-tell_post.ensures.broken t u))
 
@@ -39,23 +35,22 @@ posts-preserved g c = record {
   told = λ t u. some_more c.posts._post c.args.scope _ _ _ _ _ _ _ _ _ (c.posts.invariant.told t u) (MatchBool-at_true _ _ c.if-not-branch.false (c.in_ok-tell_post.ensures.told t u));
 }
 
-pub returns-clause-told : goal.returns-clause-told
-returns-clause-told g c =
-    all_told c.read_end.result c.args.count c.posts._post c.args.scope (last_line c.read_end.new.lines) c.args.mirrors.now.items c.posts.mirrors.items (lines_left c.args.lines.now) (lines_left c.posts.lines) (lines_left c.read_end.new.lines)
-    (g.O.Output.written c.args.out.now) (g.O.Output.written c.posts.out) (search rules) c.posts.invariant.told c.read_end.ensures.ended
-
-pub returns-clause-broken : goal.returns-clause-broken
-returns-clause-broken g c t u =
-    end_broken c.read_end.result c.args.count c.posts._post c.args.scope _ _ _ _ _ _ (IfErr-weaker c.read_end.result _ _ (λ f q. q.reading) c.read_end.ensures.fault) (search rules) (c.posts.invariant.told t u)
-
-pub returns-clause-on : goal.returns-clause-on
-returns-clause-on g c = on_ok_weaker c.read_end.result (λ q. reads_both c.posts.invariant.on q) c.read_end.ensures.on
-
 pub returns-in_err-tell_post-clause-fault : goal.returns-in_err-tell_post-clause-fault
 returns-in_err-tell_post-clause-fault g c =
     handed_on _ _ _ c.from_residual.ensures.1
     (tell_fault_behind c.posts.invariant.on c.posts.invariant.prints (λ t. posts_cut (due_to c.args.scope) (counted_line c.args.count) c.args.count c.posts._post _ _ _ _ (due_posts c.args.count c.args.scope _) c.posts-test.true (c.posts.invariant.goes t)) c.in_err-tell_post.ensures.fault)
 
-pub returns-clause-fault : goal.returns-clause-fault
-returns-clause-fault g c =
-    IfErr-weaker c.read_end.result _ _ (λ f q. tell_fault_reading c.posts.invariant.on (λ t. posts_to_end (due_to c.args.scope) c.args.count c.posts._post _ _ _ _ (due_posts c.args.count c.args.scope _) c.posts-test.false (c.posts.invariant.goes t)) q) c.read_end.ensures.fault
+pub returns : goal.returns
+returns g c =
+    let h = c.posts.invariant in
+    record {
+      told =
+          all_told c.read_end.result c.args.count c.posts._post c.args.scope (last_line c.read_end.new.lines) c.args.mirrors.now.items c.posts.mirrors.items (lines_left c.args.lines.now) (lines_left c.posts.lines) (lines_left c.read_end.new.lines)
+          (g.O.Output.written c.args.out.now) (g.O.Output.written c.posts.out) (search rules) h.told c.read_end.ensures.ended;
+      rising = search rules;
+      broken = λ t u. end_broken c.read_end.result c.args.count c.posts._post c.args.scope _ _ _ _ _ _ (IfErr-weaker c.read_end.result _ _ (λ f q. q.reading) c.read_end.ensures.fault) (search rules) (h.told t u);
+      applied = λ is t. posts_whole c.args.count c.posts._post c.args.scope _ _ _ _ _ c.posts-test.false (h.goes t) (c.read_end.ensures.unrefused is t) (MatchResult-at_ok _ _ _ is c.read_end.ensures.ended t);
+      on = on_ok_weaker c.read_end.result (λ q. reads_both h.on q) c.read_end.ensures.on;
+      prints = search rules;
+      fault = IfErr-weaker c.read_end.result _ _ (λ f q. tell_fault_reading h.on (λ t. posts_to_end (due_to c.args.scope) c.args.count c.posts._post _ _ _ _ (due_posts c.args.count c.args.scope _) c.posts-test.false (h.goes t)) q) c.read_end.ensures.fault;
+    }
