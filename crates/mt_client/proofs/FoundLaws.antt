@@ -22,7 +22,7 @@ use Rattle.mt_client.specs.Reading.{texts, printed, NoneFirst, AreSoMany}
 use Rattle.mt_client.specs.Mirroring.{IsShown, counted_line, heading_words, heading_line, part_lines, opening_lines, HasOpened}
 use Rattle.mt_client.specs.Awaited.{IsRefusedOr, AreRowLines, IsOpening}
 use Rattle.mt_client.specs.Finding.{mirror_space, parts_lines, found_lines, AreOf, AreShown, part_found, opening_found, HasFound, HasWatched, IsFinding, IsPartWithin, ArePartLines}
-use Rattle.mt_client.proofs.RelayLaws.{Items, items_alike, items_cut, printed-append}
+use Rattle.mt_client.proofs.RelayLaws.{KnownByLines, items_alike, items_cut, printed-append}
 use Rattle.mt_client.proofs.MirrorLaws.{part_is}
 use Rattle.mt_client.proofs.OpeningLaws.{first_taken, needs_line, refused_some, no_refusal, unrefused_or, counted_tells, heading_tells, few, row_items}
 
@@ -53,7 +53,7 @@ opened_alike space before middle later mirror found o s e =
     shown_alike mirror found middle later o.shown s t.1
 
 -- namespaces are known by their lines
-abbrev part_items : Items
+abbrev part_items : KnownByLines
 part_items = record { X = MirrorView; IsValid = IsShown; lines_of = part_lines; all = parts_lines; none = refl; both = λ m parts. refl; some = λ m. omega arith; alike = shown_alike }
 
 pub parts_cut : (count left : ℕ) (parts : List MirrorView) (before middle : List Item) → before ≡ texts (parts_lines parts) ++ middle → length (parts_lines parts) + left ≡ count → 0 < left → AllByRecursion IsShown parts → NoneFirst (IsPartWithin left) middle

@@ -18,7 +18,7 @@ use Rattle.mt_client.specs.Reading.{texts, NoneFirst, AreSoMany}
 use Rattle.mt_client.specs.Mirroring.{counted_line, heading_words}
 use Rattle.mt_client.specs.Awaited.{IsOneRefusal, IsRefusedOr, IsRowLine, AreRowLines}
 use Rattle.mt_client.proofs.MirrorLaws.{heading_lacks}
-use Rattle.mt_client.proofs.RelayLaws.{Items, items_cut, first_alike}
+use Rattle.mt_client.proofs.RelayLaws.{KnownByLines, items_cut, first_alike}
 
 -- the first of the lines that come first
 pub first_taken : (seen first : List ℕ) (lines others : List (List ℕ)) (before middle later : List Item) → before ≡ Text seen ∷ middle → lines ≡ first ∷ others → before ≡ texts lines ++ later → (first ≡ seen) × (middle ≡ texts others ++ later)
@@ -68,7 +68,7 @@ heading_tells space number count space_2 number_2 count_2 a b d a_2 b_2 d_2 e =
 pub row_alike : (r n : Row) (middle later : List Item) → IsRow r → IsRow n → Text (line r) ∷ middle ≡ Text (line n) ∷ later → (r ≡ n) × (middle ≡ later)
 row_alike r n middle later p q e = let f = first_alike (line r) (line n) middle later e in (line-injective r n p q f.0, f.1)
 
-abbrev pub row_items : Items
+abbrev pub row_items : KnownByLines
 row_items = record { X = Row; IsValid = IsRow; lines_of = λ row. line row ∷ []; all = map line; none = refl; both = λ row rows. refl; some = λ row. omega arith; alike = row_alike }
 
 pub rows_cut : (n count : ℕ) (rows : List Row) (before middle : List Item) → before ≡ texts (map line rows) ++ middle → length rows ≡ n → n < count → AllByRecursion IsRow rows → NoneFirst IsRowLine middle → NoneFirst (AreRowLines count) before

@@ -38,8 +38,8 @@ pub cut_within : {kind inner : List (List ℕ) → Type 0} (before middle : List
 cut_within before middle old first new none some all low served out (inl b) = inl (broken_later old first new none some all low served b)
 cut_within before middle old first new none some all low served out (inr not) = inr (out not)
 
--- items that are known by their lines, and the lines of several
-pub record Items : Type 1 where
+-- what is known by its lines: whether one is valid, its lines, and those of several
+pub record KnownByLines : Type 1 where
   pub X : Type 0
   pub IsValid : X → Type 0
   pub lines_of : X → List (List ℕ)
@@ -50,14 +50,14 @@ pub record Items : Type 1 where
   pub alike : (x y : X) (middle later : List Item) → IsValid x → IsValid y → texts (lines_of x) ++ middle ≡ texts (lines_of y) ++ later → (x ≡ y) × (middle ≡ later)
 
 -- the lines of the first of them come first, and how many all are
-first_lines : (k : Items) (x : k.X) (xs : List k.X) (later : List Item) → texts (k.all (x ∷ xs)) ++ later ≡ texts (k.lines_of x) ++ (texts (k.all xs) ++ later)
+first_lines : (k : KnownByLines) (x : k.X) (xs : List k.X) (later : List Item) → texts (k.all (x ∷ xs)) ++ later ≡ texts (k.lines_of x) ++ (texts (k.all xs) ++ later)
 first_lines k x xs later = ap (λ ls. texts ls ++ later) (k.both x xs) ∙ texts_split (k.lines_of x) (k.all xs) later
 
-counted : (k : Items) (x : k.X) (xs : List k.X) → length (k.all (x ∷ xs)) ≡ length (k.lines_of x) + length (k.all xs)
+counted : (k : KnownByLines) (x : k.X) (xs : List k.X) → length (k.all (x ∷ xs)) ≡ length (k.lines_of x) + length (k.all xs)
 counted k x xs = ap length (k.both x xs) ∙ length-append (k.lines_of x) (k.all xs)
 
 -- items that were read are those that come first, or one more comes behind them
-pub items_or : {P : Type 0} (k : Items) (xs ys : List k.X) (middle later : List Item) → AllByRecursion k.IsValid xs → AllByRecursion k.IsValid ys → length (k.all xs) ≤ length (k.all ys) → texts (k.all xs) ++ middle ≡ texts (k.all ys) ++ later
+pub items_or : {P : Type 0} (k : KnownByLines) (xs ys : List k.X) (middle later : List Item) → AllByRecursion k.IsValid xs → AllByRecursion k.IsValid ys → length (k.all xs) ≤ length (k.all ys) → texts (k.all xs) ++ middle ≡ texts (k.all ys) ++ later
     → (xs ≡ ys → middle ≡ later → P) → ((x : k.X) (rest : List Item) → k.IsValid x → length (k.all xs) + length (k.lines_of x) ≤ length (k.all ys) → middle ≡ texts (k.lines_of x) ++ rest → P) → P
 items_or k [] [] middle later p q le e same more = same refl (ap (λ ls. texts ls ++ middle) (sym k.none) ∙ e ∙ ap (λ ls. texts ls ++ later) k.none)
 items_or k [] (y ∷ ys) middle later p q le e same more =
@@ -77,10 +77,10 @@ items_or k (x ∷ xs) (y ∷ ys) middle later p q le e same more =
     items_or k xs ys middle later p.1 q.1 (omega (arith, m, n, s, le)) a.1 (λ alike. same (λ i. a.0 i ∷ alike i)) (λ z rest is within. more z rest is (omega (arith, m, n, s, within)))
 
 -- as many lines are of the same items, and behind fewer lines one more comes
-pub items_alike : (k : Items) (xs ys : List k.X) (middle later : List Item) → AllByRecursion k.IsValid xs → AllByRecursion k.IsValid ys → length (k.all xs) ≡ length (k.all ys) → texts (k.all xs) ++ middle ≡ texts (k.all ys) ++ later → (xs ≡ ys) × (middle ≡ later)
+pub items_alike : (k : KnownByLines) (xs ys : List k.X) (middle later : List Item) → AllByRecursion k.IsValid xs → AllByRecursion k.IsValid ys → length (k.all xs) ≡ length (k.all ys) → texts (k.all xs) ++ middle ≡ texts (k.all ys) ++ later → (xs ≡ ys) × (middle ≡ later)
 items_alike k xs ys middle later p q many e = items_or k xs ys middle later p q (omega (arith, many)) e (λ same end. (same, end)) (λ x rest is within there. let s = k.some x in absurd (omega (arith, many, s, within)))
 
-pub items_cut : (k : Items) (xs ys : List k.X) (middle later : List Item) → AllByRecursion k.IsValid xs → AllByRecursion k.IsValid ys → length (k.all xs) < length (k.all ys) → texts (k.all xs) ++ middle ≡ texts (k.all ys) ++ later
+pub items_cut : (k : KnownByLines) (xs ys : List k.X) (middle later : List Item) → AllByRecursion k.IsValid xs → AllByRecursion k.IsValid ys → length (k.all xs) < length (k.all ys) → texts (k.all xs) ++ middle ≡ texts (k.all ys) ++ later
     → ((x : k.X) (rest : List Item) → k.IsValid x → length (k.all xs) + length (k.lines_of x) ≤ length (k.all ys) → middle ≢ texts (k.lines_of x) ++ rest) → ⊥
 items_cut k xs ys middle later p q few e never = items_or k xs ys middle later p q (omega (arith, few)) e (λ same end. let n = ap (λ zs. length (k.all zs)) same in omega (arith, few, n)) never
 
@@ -92,7 +92,7 @@ each_line : (lines : List (List ℕ)) → AllByRecursion (λ line. Unit {0}) lin
 each_line [] = tt
 each_line (line ∷ lines) = (tt, each_line lines)
 
-abbrev line_items : Items
+abbrev line_items : KnownByLines
 line_items = record { X = List ℕ; IsValid = λ line. Unit {0}; lines_of = λ line. line ∷ []; all = λ lines. lines; none = refl; both = λ line lines. refl; some = λ line. omega arith; alike = λ x y middle later p q e. first_alike x y middle later e }
 
 pub lines_alike : (xs ys : List (List ℕ)) (middle later : List Item) → length xs ≡ length ys → texts xs ++ middle ≡ texts ys ++ later → (xs ≡ ys) × (middle ≡ later)
