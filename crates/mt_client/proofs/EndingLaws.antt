@@ -1,5 +1,5 @@
 -- Posts that were passed on up to the line that ends them, and what cannot come first where one is refused.
-use Rattle.std.proofs.Common.{◌≡◌, ◌≢◌, ℕ, ◌+◌, ◌<◌, ◌≤◌, Bool, true, false, List, [], ◌∷◌, ◌++◌, length, refl, sym, ap, subst, ◌∙◌, arith, length-append, codes, Some, None, if◌then◌else◌, inl, inr, ◌⊎◌}
+use Rattle.std.proofs.Common.{◌≡◌, ℕ, ◌+◌, ◌<◌, ◌≤◌, Bool, true, false, List, [], ◌∷◌, ◌++◌, length, refl, sym, ap, subst, ◌∙◌, arith, length-append, codes, Some, None, if◌then◌else◌, inl, inr, ◌⊎◌}
 use Rattle.std.specs.List.{flat_map, AllByRecursion}
 use Rattle.std.specs.Str.{bytes_eq}
 use Rattle.std.proofs.lemmas.Slice.Eq.{bytes_eq-Decides}
@@ -106,30 +106,20 @@ answer_more taken behind seen before middle rest after came there tells h =
     came_more answer_posts taken tt tt tt before middle after came (no_end_comes taken seen middle rest there tells) (λ g later is e. (refl, (group_only posts_alike h.0 middle after h.1.0 h.2 g later is e).1))
 
 -- every answer but that of posts that are followed is known by its first line
-pub heads : (form : Form) → form ≢ Followed → ◌≡◌ {A = List (List ℕ) → Bool → Type 0} (IsHeaded form) (IsAnswer form)
-heads Done other = refl
-heads Number other = refl
-heads Place other = refl
-heads Table other = refl
-heads Opening other = refl
-heads Posts other = refl
-heads Followed other = absurd (other refl)
-heads Never other = refl
+pub heads : (form : Form) → ((form ≡ Done) ⊎ ((form ≡ Number) ⊎ ((form ≡ Place) ⊎ ((form ≡ Table) ⊎ ((form ≡ Opening) ⊎ ((form ≡ Posts) ⊎ (form ≡ Never))))))) → ◌≡◌ {A = List (List ℕ) → Bool → Type 0} (IsHeaded form) (IsAnswer form)
+heads form (inl e) = rw e refl
+heads form (inr (inl e)) = rw e refl
+heads form (inr (inr (inl e))) = rw e refl
+heads form (inr (inr (inr (inl e)))) = rw e refl
+heads form (inr (inr (inr (inr (inl e))))) = rw e refl
+heads form (inr (inr (inr (inr (inr (inl e)))))) = rw e refl
+heads form (inr (inr (inr (inr (inr (inr e)))))) = rw e refl
 
-pub never_followed : (form : Form) → ((form ≡ Done) ⊎ ((form ≡ Number) ⊎ ((form ≡ Place) ⊎ ((form ≡ Table) ⊎ ((form ≡ Opening) ⊎ ((form ≡ Posts) ⊎ (form ≡ Never))))))) → form ≢ Followed
-never_followed form (inl e) is = let both : Done ≡ Followed = sym e ∙ is in cc
-never_followed form (inr (inl e)) is = let both : Number ≡ Followed = sym e ∙ is in cc
-never_followed form (inr (inr (inl e))) is = let both : Place ≡ Followed = sym e ∙ is in cc
-never_followed form (inr (inr (inr (inl e)))) is = let both : Table ≡ Followed = sym e ∙ is in cc
-never_followed form (inr (inr (inr (inr (inl e))))) is = let both : Opening ≡ Followed = sym e ∙ is in cc
-never_followed form (inr (inr (inr (inr (inr (inl e)))))) is = let both : Posts ≡ Followed = sym e ∙ is in cc
-never_followed form (inr (inr (inr (inr (inr (inr e)))))) is = let both : Never ≡ Followed = sym e ∙ is in cc
+pub headed_is : (form : Form) (told : Bool) → ◌≡◌ {A = List (List ℕ) → Bool → Type 0} (IsHeaded form) (IsAnswer form) → (lines : List (List ℕ)) → IsHeaded form lines told → IsAnswer form lines told
+headed_is form told same lines h = subst (λ K. K lines told) same h
 
-pub headed_is : (form : Form) (told : Bool) → form ≢ Followed → (lines : List (List ℕ)) → IsHeaded form lines told → IsAnswer form lines told
-headed_is form told other lines h = subst (λ K. K lines told) (heads form other) h
-
-pub headed_none : (form : Form) → form ≢ Followed → (before : List Item) → NoneFirst (λ ls. (told : Bool) × IsHeaded form ls told) before → NoneFirst (λ ls. (told : Bool) × IsAnswer form ls told) before
-headed_none form other before none = subst (λ K. NoneFirst (λ ls. (told : Bool) × K ls told) before) (heads form other) none
+pub headed_none : (form : Form) → ◌≡◌ {A = List (List ℕ) → Bool → Type 0} (IsHeaded form) (IsAnswer form) → (before : List Item) → NoneFirst (λ ls. (told : Bool) × IsHeaded form ls told) before → NoneFirst (λ ls. (told : Bool) × IsAnswer form ls told) before
+headed_none form same before none = subst (λ K. NoneFirst (λ ls. (told : Bool) × K ls told) before) same none
 
 pub followed_none : (form : Form) → form ≡ Followed → (before : List Item) → NoneFirst (λ ls. (told : Bool) × IsFollowAnswer ls told) before → NoneFirst (λ ls. (told : Bool) × IsAnswer form ls told) before
 followed_none form is before none = subst (λ k. NoneFirst (λ ls. (told : Bool) × IsAnswer k ls told) before) (sym is) none

@@ -12,11 +12,8 @@ use Rattle.mt_events.specs.Mirrors.{MirrorView, mirrored}
 use Rattle.mt_client.specs.Finding.{mirror_space}
 use Rattle.mt_client.specs.Telling.{mirror_begun, mirror_in, mirrors_with}
 
-pub place_found : (o : Option ℕ) (at : ℕ) (p : MirrorView → Bool) (xs : List MirrorView) → o ≡ position_from p 0 xs → o ≡ Some at → at ≡ position_or_len p xs
-place_found o at p xs e is = ap (λ k. unwrap_or k (length xs)) (sym is ∙ e) ∙ first-or-length p xs
-
-pub place_behind : (o : Option ℕ) (p : MirrorView → Bool) (xs : List MirrorView) → o ≡ position_from p 0 xs → o ≡ None → length xs ≡ position_or_len p xs
-place_behind o p xs e is = ap (λ k. unwrap_or k (length xs)) (sym is ∙ e) ∙ first-or-length p xs
+pub place_is : (o k : Option ℕ) (p : MirrorView → Bool) (xs : List MirrorView) → o ≡ position_from p 0 xs → o ≡ k → unwrap_or k (length xs) ≡ position_or_len p xs
+place_is o k p xs e is = ap (λ k. unwrap_or k (length xs)) (sym is ∙ e) ∙ first-or-length p xs
 
 abbrev pub from : ℕ → MirrorView → Bool
 from n y = nat_le n y.space
