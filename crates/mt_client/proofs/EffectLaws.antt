@@ -1,5 +1,5 @@
 -- Posts that were told, counted by their lines.
-use Rattle.std.proofs.Common.{◌≡◌, ℕ, ◌+◌, true, Some, List, [], ◌∷◌, ◌++◌, length, refl, sym, ◌∙◌, arith, length-append, inl}
+use Rattle.std.proofs.Common.{◌≡◌, ℕ, ◌+◌, true, Some, List, [], ◌∷◌, ◌++◌, length, refl, sym, ◌∙◌, arith, length-append}
 use Rattle.std.proofs.lemmas.List.{append-nil}
 use Rattle.std.proofs.lemmas.Grind.{flat_map-append}
 use Rattle.std.proofs.lemmas.Option.{same_Some}
@@ -10,12 +10,10 @@ use Rattle.mt_events.specs.Posts.{PostView, IsPost, post_text}
 use Rattle.mt_events.specs.Mirrors.{MirrorView}
 use Rattle.mt_events.specs.declared.opening.Scope.TheVariants.{All}
 use Rattle.mt_client.specs.declared.named.NamedTelling.{NamedTelling}
-use Rattle.mt_client.specs.declared.fault.ClientFault.{ClientFault}
-use Rattle.mt_client.specs.declared.fault.ClientFault.TheVariants.{Connection}
 use Rattle.mt_client.specs.Requests.{event_count}
 use Rattle.mt_client.specs.Mirroring.{IsPosted}
-use Rattle.mt_client.specs.Telling.{told_in, mirrors_with, is_due, IsStopped}
-use Rattle.mt_client.specs.Effects.{HasToldLines, IsToldShort}
+use Rattle.mt_client.specs.Telling.{told_in, mirrors_with, is_due}
+use Rattle.mt_client.specs.Effects.{HasToldLines}
 use Rattle.mt_client.proofs.TellingLaws.{said_so, post_told, both_told, none_told}
 
 -- none yet
@@ -58,11 +56,3 @@ pub more_lines : (named : NamedTelling) (count left more rest : ℕ) (old mid ne
     → HasToldBut named count left old mid before middle begun between → HasToldLines named more mid new middle after between done → HasToldBut named count rest old new before after begun done
 more_lines named count left more rest old mid new before middle after begun between done less h i =
     (h.0 + more, omega (arith, less, h.1), both_lines named h.0 more old mid new before middle after begun between done h.2 i)
-
--- posts up to a fault
-pub short_behind : (named : NamedTelling) (fault : ClientFault) (k : ℕ) (old made : List MirrorView) (before middle : List Item) (begun between done : List ℕ)
-    → HasToldLines named k old made before middle begun between → IsStopped named fault All made middle between done → IsToldShort named fault old before begun done
-short_behind named fault k old made before middle begun between done so stopped = record { count = k; made = made; middle = middle; between = between; so = so; stopped = stopped }
-
-pub short_of_lines : (named : NamedTelling) (k : ℕ) (old made : List MirrorView) (before middle : List Item) (begun done : List ℕ) → HasToldLines named k old made before middle begun done → IsToldShort named Connection old before begun done
-short_of_lines named k old made before middle begun done so = short_behind named Connection k old made before middle begun done done so (inl refl)

@@ -1,5 +1,5 @@
 -- What a mirror has read, line by line, and the texts that the lines are.
-use Rattle.std.proofs.Common.{◌≡◌, ◌≢◌, ℕ, ◌+◌, ◌<◌, ◌≤◌, ◌^◌, MatchOption, MatchBool, IfOk, Result, Ok, Err, Bool, true, false, List, [], ◌∷◌, ◌++◌, map, length, refl, sym, ap, subst, ◌∙◌, arith, append_assoc, length-append, codes, decimal, Some, None, Option}
+use Rattle.std.proofs.Common.{◌≡◌, ◌≢◌, ℕ, ◌+◌, ◌<◌, ◌^◌, MatchOption, MatchBool, IfOk, Result, Ok, Err, Bool, true, false, List, [], ◌∷◌, ◌++◌, map, length, refl, sym, ap, subst, ◌∙◌, arith, append_assoc, length-append, codes, decimal, Some, None, Option}
 use Rattle.std.proofs.lemmas.List.{append-nil}
 use Rattle.std.proofs.lemmas.Grind.{flat_map-append, fold-append}
 use Rattle.std.specs.List.{flat_map, join_with_byte, list_all}
@@ -62,10 +62,6 @@ followed_all count before middle after old new f e = record {
   follows = f.follows;
 }
 
--- a refusal behind some posts
-pub left_behind : (count n : ℕ) (refusal : List ℕ) (before middle after : List Item) (old new : MirrorView) → n ≤ count → HasFollowedSome n before middle old new → HasRefused refusal middle after → IsRefusedMidway count refusal before after old new
-left_behind count n refusal before middle after old new le f r = record { taken = n; middle = middle; few = le; some = f; refused = r }
-
 -- the text of an opening
 rows_text : (rows : List Row) → printed (map line rows) ≡ flat_map whole_line rows
 rows_text [] = refl
@@ -124,5 +120,5 @@ pub all_followed : {T : Type 0} (r : Result Bool ClientFault) (count n : ℕ) (r
     → IfOk r (λ going. T → MatchBool going (middle ≡ texts (counted_line count ∷ []) ++ after) (HasRefused refusal middle after))
     → IfOk r (λ going. T → MatchBool going (HasFollowedAll count before after old new) (IsRefusedMidway count refusal before after old new))
 all_followed (Ok true) count n refusal before middle after old new e f h = λ t. followed_all count before middle after old new (subst (λ x. HasFollowedSome x before middle old new) e (f t)) (h t)
-all_followed (Ok false) count n refusal before middle after old new e f h = λ t. left_behind count n refusal before middle after old new (omega (arith, e)) (f t) (h t)
+all_followed (Ok false) count n refusal before middle after old new e f h = λ t. record { taken = n; middle = middle; few = omega (arith, e); some = f t; refused = h t }
 all_followed (Err k) count n refusal before middle after old new e f h = tt

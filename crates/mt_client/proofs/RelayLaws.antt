@@ -1,5 +1,5 @@
 -- What was read and printed, line by line, and what cannot come first then.
-use Rattle.std.proofs.Common.{◌≡◌, ◌≢◌, ℕ, ◌+◌, ◌<◌, ◌≤◌, List, [], ◌∷◌, ◌++◌, length, refl, sym, ap, subst, ◌∙◌, arith, append_assoc, length-append, Result, Ok, Err, OnErr, IfErr, IsErrAnd, inl, inr, ◌⊎◌}
+use Rattle.std.proofs.Common.{◌≡◌, ◌≢◌, ℕ, ◌+◌, ◌<◌, ◌≤◌, List, [], ◌∷◌, ◌++◌, length, refl, sym, ap, subst, ◌∙◌, arith, append_assoc, length-append, Result, Err, IsErrAnd, inl, inr, ◌⊎◌}
 use Rattle.std.specs.List.{AllByRecursion}
 use Rattle.std.proofs.lemmas.List.{append-nil, map-append}
 use Rattle.std.proofs.lemmas.Grind.{flat_map-append}
@@ -128,18 +128,6 @@ broken_more f ls before middle old between new p b = go f b
       out = subst (λ x. IsCutOff x old new) (sym (printed-append ls w.lines)) (cut_second (printed ls) (printed w.lines) old between new w.out.count p.out w.out.within w.out.out);
     }
 
--- a fault of the output within a line
-pub broken_printing : (r : Result (Unit {0}) ClientFault) (line : List ℕ) (before after : List Item) (old new : List ℕ) → before ≡ Text line ∷ after
-    → IfErr r (λ f. f ≡ Output) → OnErr r (IsCutOff (ended line) old new) → IfErr r (λ f. IsBroken f before old new)
-broken_printing (Ok u) line before after old new e kind cut = tt
-broken_printing (Err f) line before after old new e kind cut =
-    subst (λ x. IsBroken x before old new) (sym kind) (record {
-      lines = line ∷ [];
-      later = after;
-      read = e;
-      out = subst (λ x. IsCutOff x old new) (sym (append-nil (ended line))) cut;
-    })
-
 -- fewer lines came than were to come
 pub so_many_cut : (n count : ℕ) (before middle : List Item) → HasRead (AreSoMany n) before middle → n < count → NoneFirst (AreSoMany 1) middle → NoneFirst (AreSoMany count) before
 so_many_cut n count before middle h lt none lines later many e =
@@ -165,7 +153,8 @@ same_fault r f k is answered = let same : k ≡ f = subst (λ x. IsErrAnd x (λ 
 
 -- a fault of the output within a line, as it is handed on
 pub broken_cut : (f : ClientFault) (line : List ℕ) (before after : List Item) (old new : List ℕ) → before ≡ Text line ∷ after → f ≡ Output → IsCutOff (ended line) old new → IsBroken f before old new
-broken_cut f line before after old new e kind cut = broken_printing (Err f) line before after old new e kind cut
+broken_cut f line before after old new e kind cut =
+    subst (λ x. IsBroken x before old new) (sym kind) (record { lines = line ∷ []; later = after; read = e; out = subst (λ x. IsCutOff x old new) (sym (append-nil (ended line))) cut })
 
 -- a fault that is none of the output, where nothing was printed yet
 pub unprinted : (f : ClientFault) (before : List Item) (old : List ℕ) → f ≢ Output → IsBroken f before old old

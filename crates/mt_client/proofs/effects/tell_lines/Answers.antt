@@ -1,8 +1,8 @@
-use Rattle.std.proofs.Common.{◌≡◌, ◌+◌, ◌∙◌, arith, refl, subst}
+use Rattle.std.proofs.Common.{◌≡◌, ◌+◌, ◌∙◌, arith, refl, subst, inl}
 use Rattle.mt_client.proofs.CallLaws.{connection≢output, read_still, reads_both, writes_still, writes_both, handed_on, tell_fault_behind, tell_checked}
 use Rattle.mt_client.specs.Reading.{lines_left}
 use Rattle.mt_client.specs.Effects.{HasToldLines}
-use Rattle.mt_client.proofs.EffectLaws.{all_left, more_lines, both_lines, short_behind, short_of_lines}
+use Rattle.mt_client.proofs.EffectLaws.{all_left, more_lines, both_lines}
 use Rattle.mt_events.specs.Posts.{post_lines}
 use Rattle.mt_client.proofs.SeriesLaws.{lines_at_first, lines_more, lines_cut}
 use Rattle.mt_client.proofs.MissingLaws.{posts_due, due_lines}
@@ -40,12 +40,12 @@ returns-clause-told g c t u =
 pub returns-in_err-behind-clause-broken : goal.returns-in_err-behind-clause-broken
 returns-in_err-behind-clause-broken g c t u =
     let h = c.telling.invariant.told t u in
-    handed_on _ _ _ c.from_residual.ensures.1 (short_behind c.args.named.now c.in_err-behind.field-0.0 h.0 c.args.mirrors.now.items c.telling.mirrors.items _ _ _ _ _ h.2 (c.in_err-behind.ensures.broken t u))
+    handed_on _ _ _ c.from_residual.ensures.1 (record { count = h.0; made = c.telling.mirrors.items; middle = lines_left c.telling.lines; between = g.O.Output.written c.telling.out; so = h.2; stopped = c.in_err-behind.ensures.broken t u })
 
 pub returns-in_default-clause-broken : goal.returns-in_default-clause-broken
 returns-in_default-clause-broken g c t u =
     let h = c.telling.invariant.told t u in
-    short_of_lines c.args.named.now (h.0 + (1 + c.in_ok-behind.behind)) c.args.mirrors.now.items _ _ _ _ _ (both_lines c.args.named.now h.0 (1 + c.in_ok-behind.behind) c.args.mirrors.now.items c.telling.mirrors.items _ _ _ _ _ _ _ h.2 (c.in_ok-behind.ensures.told t u))
+    record { count = h.0 + (1 + c.in_ok-behind.behind); made = c.tell_next.new.mirrors.items; middle = lines_left c.tell_next.new.lines; between = g.O.Output.written c.tell_next.new.out; stopped = inl refl; so = both_lines c.args.named.now h.0 (1 + c.in_ok-behind.behind) c.args.mirrors.now.items c.telling.mirrors.items _ _ _ _ _ _ _ h.2 (c.in_ok-behind.ensures.told t u) }
 
 pub returns-in_err-behind-clause-fault : goal.returns-in_err-behind-clause-fault
 returns-in_err-behind-clause-fault g c =

@@ -1,7 +1,8 @@
 use Rattle.std.proofs.Common.{rules, refl, arith, ap, inl, inr}
 use Rattle.std.proofs.lemmas.Bool.{MatchBool-at_true, MatchBool-at_false}
 use Rattle.mt_events.specs.Posts.{ended}
-use Rattle.mt_client.proofs.MirrorLaws.{left_behind, none_followed}
+use Rattle.mt_client.specs.Reading.{lines_left}
+use Rattle.mt_client.proofs.MirrorLaws.{none_followed}
 use Rattle.mt_client.proofs.CallLaws.{handed_on, out_as, refused_of, talk_no_memory, talk_fault_sending, talk_fault_telling, talk_fault_printing, tell_fault_reading, read_still}
 use Rattle.mt_client.proofs.AskLaws.{writes_same}
 use Rattle.mt_client.proofs.mirror.print_followed.Goals as goal
@@ -15,7 +16,7 @@ returns-in_err-send_request-clause-fault g c = handed_on _ _ _ c.from_residual-i
 pub returns-then-not-branch-clause-left : goal.returns-then-not-branch-clause-left
 returns-then-not-branch-clause-left g c is t =
     let m = c.args.mirror.now in
-    (m, left_behind c.args.count 0 _ _ _ _ m m (omega arith) (none_followed _ m) (refused_of (c.send_request.ensures.passed (search rules)) t))
+    (m, record { taken = 0; middle = lines_left c.args.lines.now; few = omega arith; some = none_followed _ m; refused = refused_of (c.send_request.ensures.passed (search rules)) t })
 
 pub returns-then-not-branch-clause-unsent : goal.returns-then-not-branch-clause-unsent
 returns-then-not-branch-clause-unsent g c is v = inr (c.send_request.ensures.cause (search rules) v)
