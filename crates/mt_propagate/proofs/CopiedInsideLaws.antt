@@ -35,8 +35,8 @@ use Rattle.mt_propagate.proofs.JoinLaws.{state_row}
 use Rattle.mt_propagate.proofs.RowLaws.{row-mapped, row-first, all-each, found-each, part-mapped, none-picked}
 use Rattle.mt_propagate.proofs.ShownLaws.{mount-state, state-group}
 use Rattle.mt_propagate.proofs.KeyLaws.{group_known, master_known, old_low, key_at, copy_in, in_copies, state-unshared, state-shared, at_home, nearest, above_from, master_by_cases, key_in, new_number, old_key}
-use Rattle.mt_propagate.proofs.CopyRowLaws.{state_mount, state_at_mount, space_is}
-use Rattle.mt_propagate.proofs.MovedLaws.{source_kept}
+use Rattle.mt_propagate.proofs.CopyRowLaws.{state_at_mount, space_is, in_mounts, new_target, num_here, each_copy, moving, kept, made}
+use Rattle.mt_propagate.proofs.MovedLaws.{peer_rows, source_kept}
 
 module _ (w : WorldView) (h : IsWellFormed w) (src : Source) (dest : Place) (s : IsSource w src dest) (d : IsDestination w dest) (near : IsLocal w src dest) where
   abbrev mounts : List Mount
@@ -52,25 +52,14 @@ module _ (w : WorldView) (h : IsWellFormed w) (src : Source) (dest : Place) (s :
   abbrev space : ℕ → ℕ
   space i = unwrap_or (option_map (λ (m : Mount). m.space) (mount_at mounts i)) 0
 
-  mounts_rise : rises id_of mounts ≡ true
-  unfolding copied
-  mounts_rise = (source_kept w h src dest s d).forest.rising
-
   peers_rise : rises mount_of peers ≡ true
   unfolding copied
   peers_rise = (source_kept w h src dest s d).peering.rising
 
   old-space : (i : ℕ) (q : Mount) → mount_at w.forest i ≡ Some q → space i ≡ space_of w i
   old-space i q e =
-      ap (λ o. unwrap_or (option_map (λ (m : Mount). m.space) o) 0) (row-first id_of (map (relocated w src dest) w.forest) (new_mounts w src dest) i (relocated w src dest q) (row-mapped id_of (relocated w src dest) (relocated-id w src dest) w.forest i q e))
+      ap (λ o. unwrap_or (option_map (λ (m : Mount). m.space) o) 0) (kept w h src dest s d i q e)
       ∙ relocated-space w src dest q ∙ sym (space_is w i q e)
-
-  -- a copy is in the namespace of its target
-  new-space : (t : ℕ) (m : Mount) → In t (cond src.moved (hits w dest) (targets w src dest)) → In m src.mounts → space (copy_id w src dest t m.id) ≡ space_of w t
-  new-space t m e f =
-      let here : In (copied_mount w src dest t m) (new_mounts w src dest) =
-      in_flatted (λ t. map (copied_mount w src dest t) src.mounts) (copied_mount w src dest t m) t (cond src.moved (hits w dest) (targets w src dest)) e (in_mapped (copied_mount w src dest t) m src.mounts f) in
-      ap (λ o. unwrap_or (option_map (λ (m : Mount). m.space) o) 0) (in_row id_of mounts (copied_mount w src dest t m) mounts_rise (in_right (copied_mount w src dest t m) (map (relocated w src dest) w.forest) (new_mounts w src dest) here))
 
   -- a source mount that is there is in the namespace of the place
   near-mount : (m q : Mount) (i : ℕ) → In m src.mounts → m.id ≡ i → mount_at w.forest i ≡ Some q → q.space ≡ space_of w dest.mount
@@ -89,45 +78,19 @@ module _ (w : WorldView) (h : IsWellFormed w) (src : Source) (dest : Place) (s :
   abbrev Row : ℕ → State → Type 0
   Row i t = ((state_at w.peering.peers i ≡ Some t) × (space i ≡ space_of w i)) ⊎ ((c : MountCopy) × In c (all_copies w src dest) × (t ≡ copy_state w src dest c) × (space i ≡ space_of w c.target))
 
-  moving : (i : ℕ) → is_moved w src dest i ≡ true → (m : Mount) × In m src.mounts × (m.id ≡ i)
-  moving i e =
-      let m = in_any (λ (m : Mount). m.id == i) src.mounts (and_second src.moved (list_any (λ (m : Mount). m.id == i) src.mounts) e) in
-      (m.0, m.1, eqb-true m.0.id i m.2)
-
-  old-row : (x : Peer) → In x w.peering.peers → Row (regrouped w src dest x).mount (regrouped w src dest x).state
-  old-row x e = go (is_moved w src dest x.mount) refl
-    where
-      place_copy : MountCopy
-      place_copy = record { target = dest.mount; source = x.mount }
-
-      q : (q : Mount) × (mount_at w.forest x.mount ≡ Some q)
-      q = state_mount w h x e
-
-      go : (b : Bool) → is_moved w src dest x.mount ≡ b → Row (cond b (record { mount = x.mount; state = copy_state w src dest (record { target = dest.mount; source = x.mount }) }) x).mount (cond b (record { mount = x.mount; state = copy_state w src dest (record { target = dest.mount; source = x.mount }) }) x).state
-      go false is = inl (ap (option_map (λ (e : Peer). e.state)) (in_row mount_of w.peering.peers x h.peering.rising e), old-space x.mount q.0 q.1)
-      go true is =
-          let m = moving x.mount is in
-          inr (record { target = dest.mount; source = x.mount }, in_copies w h.peering src dest dest.mount x.mount (inl refl) m.0 m.1 m.2, refl, old-space x.mount q.0 q.1 ∙ near-space m.0 q.0 x.mount m.1 m.2 q.1)
-
-  new-target : (t : ℕ) (b : Bool) → In t (cond b (hits w dest) (targets w src dest)) → In t (targets w src dest)
-  new-target t true e = inr e
-  new-target t false e = e
-
-  new-row : (c : MountCopy) → In c (new_copies w src dest) → Row (new_peer c).mount (new_peer c).state
-  new-row c e =
-      let t = in_flat (λ t. map (λ (m : Mount). record { target = t; source = m.id }) src.mounts) c (cond src.moved (hits w dest) (targets w src dest)) e in
-      let m = in_map (λ (m : Mount). record { target = t.0; source = m.id }) c src.mounts t.2 in
-      subst (λ (c : MountCopy). Row (new_peer c).mount (new_peer c).state) m.2
-      (inr (record { target = t.0; source = m.0.id }, in_copies w h.peering src dest t.0 m.0.id (new-target t.0 src.moved t.1) m.0 m.1 refl, refl, new-space t.0 m.0 t.1 m.1))
+  -- a copy is in the namespace of its target
+  copy-space : (c : MountCopy) → In c (all_copies w src dest) → space (copy_id w src dest c.target c.source) ≡ space_of w c.target
+  copy-space = each_copy w h src dest s d (λ c. space (copy_id w src dest c.target c.source) ≡ space_of w c.target)
+      (λ is m e.
+      let q = (s.moves is).known m.id m (in_mounts w h src dest s d m e) in
+      ap space (num_here w h src dest s d m.id is) ∙ old-space m.id m q ∙ near-space m m m.id e refl q)
+      (λ t m e f. ap (λ o. unwrap_or (option_map (λ (m : Mount). m.space) o) 0) (made w h src dest s d t m e (in_mounts w h src dest s d m f)))
 
   rows : (i : ℕ) (t : State) → state_at peers i ≡ Some t → Row i t
-  rows i t e =
-      let r = state_row peers i t e in
-      let k = row_at-key mount_of i peers r.0 r.2 in
-      subst (λ t. Row i t) r.3 (subst (λ j. Row j r.0.state) k (elim (in_append r.0 (map (regrouped w src dest) w.peering.peers) (map new_peer (new_copies w src dest)) r.1) [
-        | inl old ↦ let x = in_map (regrouped w src dest) r.0 w.peering.peers old in subst (λ (e : Peer). Row e.mount e.state) x.2 (old-row x.0 x.1)
-        | inr new ↦ let c = in_map new_peer r.0 (new_copies w src dest) new in subst (λ (e : Peer). Row e.mount e.state) c.2 (new-row c.0 c.1)
-      ]))
+  rows i t e = elim (peer_rows w h src dest s d i t e) [
+    | inl old ↦ let q = state_at_mount w h i t old in inl (old, old-space i q.0 q.1)
+    | inr new ↦ inr (new.0, new.1, new.2, ap space new.3 ∙ copy-space new.0 new.1)
+  ]
 
   module _ (n : ℕ) (c : IsContained n w) where
     -- a place in the namespace has its targets there
@@ -290,9 +253,6 @@ module _ (w : WorldView) (h : IsWellFormed w) (src : Source) (dest : Place) (s :
           go true is = absurd (off (top-inside m e (and_first src.moved (m.id == src.top.id) is) (eqb-true m.id src.top.id (and_second src.moved (m.id == src.top.id) is))))
           go false is = way (find (λ t. is_at (record { mount = t; dir = dest.dir }) m) (hits w dest)) refl
 
-      new-inside : (t : ℕ) (b : Bool) → In t (cond b (hits w dest) (targets w src dest)) → space_of w t ≡ n
-      new-inside t b e = target-inside t (new-target t b e) here
-
       same-mounts : (k : ℕ) → k ≢ n → filter (in_space k) mounts ≡ filter (in_space k) w.forest
       same-mounts k off =
           filter-append (in_space k) (map (relocated w src dest) w.forest) (new_mounts w src dest)
@@ -311,7 +271,7 @@ module _ (w : WorldView) (h : IsWellFormed w) (src : Source) (dest : Place) (s :
           new = none-picked (in_space k) (new_mounts w src dest) (λ a e.
               let t = in_flat (λ t. map (copied_mount w src dest t) src.mounts) a (cond src.moved (hits w dest) (targets w src dest)) e in
               let m = in_map (copied_mount w src dest t.0) a src.mounts t.2 in
-              let there : a.space ≡ n = ap (λ (m : Mount). m.space) (sym m.2) ∙ new-inside t.0 src.moved t.1 in
+              let there : a.space ≡ n = ap (λ (m : Mount). m.space) (sym m.2) ∙ target-inside t.0 (new_target w h src dest s d t.0 t.1) here in
               ne_eqb a.space k (λ same. off (sym same ∙ there)))
 
       same-state : (i : ℕ) (q : Mount) → mount_at w.forest i ≡ Some q → q.space ≢ n → unwrap_or (state_at peers i) private ≡ state_of w i
@@ -325,7 +285,7 @@ module _ (w : WorldView) (h : IsWellFormed w) (src : Source) (dest : Place) (s :
         where
           unmoved : (x : Peer) → x.mount ≡ i → (b : Bool) → is_moved w src dest x.mount ≡ b → cond b (record { mount = x.mount; state = copy_state w src dest (record { target = dest.mount; source = x.mount }) }) x ≡ x
           unmoved x key false is = refl
-          unmoved x key true is = absurd (let m = moving x.mount is in off (near-mount m.0 q i m.1 (m.2 ∙ key) e ∙ here))
+          unmoved x key true is = absurd (let m = moving w h src dest s d x.mount is in off (near-mount m.1 q i m.2 (m.3 ∙ key) e ∙ here))
 
       pub copied-outside : IsSameOutside n w (copied w src dest)
       unfolding copied
