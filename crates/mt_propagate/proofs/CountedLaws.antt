@@ -23,19 +23,7 @@ use Rattle.mt_peers.proofs.VisitLaws.{length-members}
 use Rattle.mt_propagate.specs.World.{WorldView, group_of, private, root_dir}
 use Rattle.mt_propagate.specs.Receivers.{gets_from, propagates_to, hits}
 use Rattle.mt_propagate.specs.Targets.{is_target, target}
-
-twice : {X : Type 0} (a b : X → Bool) (xs : List X) → filter b (filter a xs) ≡ filter (λ x. a x && b x) xs
-twice a b [] = refl
-twice a b (x ∷ xs) = go (a x) (twice a b xs)
-  where
-    at : (v : Bool) → filter b (filter a xs) ≡ filter (λ x. a x && b x) xs → cond v (x ∷ filter b (filter a xs)) (filter b (filter a xs)) ≡ cond v (x ∷ filter (λ x. a x && b x) xs) (filter (λ x. a x && b x) xs)
-    at true ih = ap (λ l. x ∷ l) ih
-    at false ih = ih
-
-    go : (u : Bool) → filter b (filter a xs) ≡ filter (λ x. a x && b x) xs
-        → filter b (cond u (x ∷ filter a xs) (filter a xs)) ≡ cond (u && b x) (x ∷ filter (λ x. a x && b x) xs) (filter (λ x. a x && b x) xs)
-    go true ih = at (b x) ih
-    go false ih = ih
+use Rattle.mt_propagate.proofs.RowLaws.{filter-two}
 
 module _ (w : WorldView) (p : Place) (g : ℕ) (home : group_of w p.mount ≡ Some g) where
   same-received : propagates_to w p.mount ≡ received w.peering.peers g p.mount
@@ -44,7 +32,7 @@ module _ (w : WorldView) (p : Place) (g : ℕ) (home : group_of w p.mount ≡ So
   targets : hits w p ≡ filter (is_target w p) (map mount_of (filter (gets w.peering.peers g) w.peering.peers))
   targets =
       ap (filter (λ j. holds w.skel (root_dir w j) p.dir)) same-received
-      ∙ twice (λ j. not (p.mount == j)) (λ j. holds w.skel (root_dir w j) p.dir) (map mount_of (filter (gets w.peering.peers g) w.peering.peers))
+      ∙ filter-two (λ j. holds w.skel (root_dir w j) p.dir) (λ j. not (p.mount == j)) (is_target w p) (λ j. refl) (map mount_of (filter (gets w.peering.peers g) w.peering.peers))
 
   pub counted-hits : (first ids vs : List ℕ) → rises mount_of w.peering.peers ≡ true → first ≡ filter_map (target w p) (members w.peering.peers g)
       → ((q : ℕ) → occ q ids ≡ occ q first + count (λ e. gets_above w.peering.peers g e && other_at (is_target w p) g q e) w.peering.peers)

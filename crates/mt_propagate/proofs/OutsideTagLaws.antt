@@ -18,6 +18,7 @@ use Rattle.mt_propagate.specs.World.{WorldView, state_of, space_of, private}
 use Rattle.mt_propagate.specs.WellFormed.{IsWellFormed}
 use Rattle.mt_propagate.specs.FromGroup.{is_seen, from_group}
 use Rattle.mt_propagate.specs.Contained.{IsContained, IsSameOutside}
+use Rattle.mt_propagate.proofs.JoinLaws.{state_row}
 use Rattle.mt_propagate.proofs.RowLaws.{picked-row, row-picked}
 use Rattle.mt_propagate.proofs.ShownLaws.{state-mount, mount-state}
 use Rattle.mt_propagate.proofs.CopyRowLaws.{space_is}
@@ -40,15 +41,11 @@ no-tag w i e = ap (tag_of w i) e
 
 -- a group with a member in a namespace is seen there
 pub member-seen : (w : WorldView) (k x i : ℕ) (s : State) → state_at w.peering.peers i ≡ Some s → names s.group x ≡ true → space_of w i ≡ k → is_seen w k x ≡ true
-member-seen w k x i s e named space = go (row_at mount_of i w.peering.peers) refl e
-  where
-    go : (o : Option Peer) → row_at mount_of i w.peering.peers ≡ o → option_map (λ (p : Peer). p.state) o ≡ Some s → is_seen w k x ≡ true
-    go None is f = absurd (cc)
-    go (Some p) is f =
-        let same : p.state ≡ s = cc in
-        let key : p.mount ≡ i = row_at-key mount_of i w.peering.peers p is in
-        any_in (λ (p : Peer). names p.state.group x && (space_of w p.mount == k)) p w.peering.peers (row_in mount_of i w.peering.peers p is)
-        (and-true (names p.state.group x) (space_of w p.mount == k) (ap (λ (t : State). names t.group x) same ∙ named) (eq-eqb (space_of w p.mount) k (ap (space_of w) key ∙ space)))
+member-seen w k x i s e named space =
+    let r = state_row w.peering.peers i s e in
+    let key = row_at-key mount_of i w.peering.peers r.0 r.2 in
+    any_in (λ (p : Peer). names p.state.group x && (space_of w p.mount == k)) r.0 w.peering.peers r.1
+    (and-true (names r.0.state.group x) (space_of w r.0.mount == k) (ap (λ (t : State). names t.group x) r.3 ∙ named) (eq-eqb (space_of w r.0.mount) k (ap (space_of w) key ∙ space)))
 
 -- mounts outside stay with their states, and so do the groups that are seen there
 module _ (n : ℕ) (w v : WorldView) (h : IsWellFormed w) (g : IsWellFormed v) (o : IsSameOutside n w v) where

@@ -7,6 +7,7 @@ use Rattle.std.proofs.lemmas.List.{length-map}
 use Rattle.std.proofs.lemmas.Nat.{mul-le}
 use Rattle.mt_propagate.specs.Copies.{MountCopy, copy_eq}
 use Rattle.mt_propagate.specs.Planned.{copies_by}
+use Rattle.mt_propagate.proofs.ListedLaws.{length-pairs, copy_by}
 
 -- an index is at most how many there are
 pub index-within : {X : Type 0} (p : X → Bool) (xs : List X) → position_or_len p xs ≤ length xs
@@ -27,12 +28,7 @@ index-found p (x ∷ xs) = by (p x) (index-found p xs)
     by false e = grind (arith, nat_tests)
 
 count-by : (ss ts : List ℕ) → length (copies_by ss ts) ≡ length ts * length ss
-count-by ss [] = omega arith
-count-by ss (t ∷ ts) =
-    let ih = count-by ss ts in
-    let here = length-append (map (λ s. let c : MountCopy = record { target = t; source = s } in c) ss) (copies_by ss ts) in
-    let each = length-map ss (λ s. let c : MountCopy = record { target = t; source = s } in c) in
-    omega (arith, ih, here, each)
+count-by ss ts = length-pairs copy_by ss ts
 
 module _ (t s : ℕ) where
   abbrev pub sought : MountCopy → Bool

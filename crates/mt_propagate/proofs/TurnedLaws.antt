@@ -163,15 +163,18 @@ module _ (v w : WorldView) (h : IsWellFormed v) (k : IsWellFormed w) (ids all gs
         apart = λ z e r. a.apart z e (reaches-step w.peering.peers x y z up (k.peering.no_cycle x) r);
       }
 
+  off : (i : ℕ) → among all i ≡ false → among ids i ≡ false
+  off i out = go (among ids i) refl
+    where
+      go : (b : Bool) → among ids i ≡ b → among ids i ≡ false
+      go false e = e
+      go true e = absurd (let x : true ≡ false = sym (kept i e) ∙ out in cc)
+
   tag-stays : (i : ℕ) → among all i ≡ false → from_group v i ≡ from_group w i
   tag-stays i out = go (state_at w.peering.peers i) refl
     where
-      off : (b : Bool) → among ids i ≡ b → among ids i ≡ false
-      off false e = e
-      off true e = absurd (let x : true ≡ false = sym (kept i e) ∙ out in cc)
-
       same : IsAlike v w i
-      same = unchanged v w ids noted i (off (among ids i) refl)
+      same = unchanged v w ids noted i (off i out)
 
       some : (s : State) → state_at w.peering.peers i ≡ Some s → (o : Option ℕ) → s.master ≡ o → from_group v i ≡ from_group w i
       some s at None is =
@@ -198,10 +201,3 @@ module _ (v w : WorldView) (h : IsWellFormed v) (k : IsWellFormed w) (ids all gs
 
   pub turned-touched : IsTouched v w all
   turned-touched = record { mounts = λ i out. noted.mounts i (off i out); states = λ i out. noted.states i (off i out); tags = tag-stays }
-    where
-      off : (i : ℕ) → among all i ≡ false → among ids i ≡ false
-      off i out = go (among ids i) refl
-        where
-          go : (b : Bool) → among ids i ≡ b → among ids i ≡ false
-          go false e = e
-          go true e = absurd (let x : true ≡ false = sym (kept i e) ∙ out in cc)
