@@ -31,7 +31,7 @@ use Rattle.mt_propagate.proofs.ContainLaws.{hit_contained}
 use Rattle.mt_propagate.proofs.ContainedLaws.{master-is, contained}
 use Rattle.mt_propagate.proofs.ListedLaws.{relocated-id, regrouped-mount, relocated-space}
 use Rattle.mt_propagate.proofs.WalkLaws.{stands_at}
-use Rattle.mt_propagate.proofs.JoinLaws.{state_row}
+use Rattle.mt_propagate.proofs.JoinLaws.{both_kinds, state_row}
 use Rattle.mt_propagate.proofs.RowLaws.{row-mapped, row-first, all-each, found-each, part-mapped, none-picked}
 use Rattle.mt_propagate.proofs.ShownLaws.{mount-state, state-group}
 use Rattle.mt_propagate.proofs.KeyLaws.{group_known, master_known, old_low, key_at, copy_in, in_copies, state-unshared, state-shared, at_home, nearest, above_from, master_by_cases, key_in, new_number, old_key}
@@ -204,30 +204,18 @@ module _ (w : WorldView) (h : IsWellFormed w) (src : Source) (dest : Place) (s :
     pub copied-contained : IsContained n (copied w src dest)
     unfolding copied
     copied-contained = contained n (copied w src dest) peers_rise (record {
-      groups = λ i j s t g ei ej gi gj q. elim (grouped i s g ei gi) [
-        | inl a ↦ elim (grouped j t g ej gj) [
-          | inl b ↦ a.3 (c.groups b.0 a.0 g b.1 a.1 (b.2 q))
-          | inr b ↦ absurd (let l = old-group a.0 g a.1 in omega (arith, l, b.4))
-        ]
-        | inr a ↦ elim (grouped j t g ej gj) [
-          | inl b ↦ absurd (let l = old-group b.0 g b.1 in omega (arith, l, a.4))
-          | inr b ↦
-              let same : b.1.group ≡ a.1.group = ap (λ (k : GroupKey). k.group) (some-is b.1 a.1 (sym b.2 ∙ a.2)) in
-              a.5 ∙ c.groups b.0 a.0 b.1.group b.3 (a.3 ∙ ap (λ v. Some v) (sym same)) (sym b.5 ∙ q)
-        ]
-      ];
-      masters = λ i j s t g ei ej mi gj q. elim (mastered i s g ei mi) [
-        | inl a ↦ elim (grouped j t g ej gj) [
-          | inl b ↦ a.2 (drawn a.0 b.0 g a.1 b.1 (b.2 q))
-          | inr b ↦ absurd (let l = old-either a.0 g a.1 in omega (arith, l, b.4))
-        ]
-        | inr a ↦ elim (grouped j t g ej gj) [
-          | inl b ↦ absurd (let l = old-group b.0 g b.1 in omega (arith, l, a.2))
-          | inr b ↦
-              let same : b.1.group ≡ a.0.group = ap (λ (k : GroupKey). k.group) (some-is b.1 a.0 (sym b.2 ∙ a.1)) in
-              a.3 b.0 (b.3 ∙ ap (λ v. Some v) same) (sym b.5 ∙ q)
-        ]
-      ];
+      groups = λ i j s t g ei ej gi gj q.
+          both_kinds w.peering.next g (grouped i s g ei gi) (grouped j t g ej gj) (λ a. old-group a.0 g a.1) (λ b. old-group b.0 g b.1) (λ a. a.4) (λ b. b.4)
+          (λ a b. a.3 (c.groups b.0 a.0 g b.1 a.1 (b.2 q)))
+          (λ a b.
+          let same : b.1.group ≡ a.1.group = ap (λ (k : GroupKey). k.group) (some-is b.1 a.1 (sym b.2 ∙ a.2)) in
+          a.5 ∙ c.groups b.0 a.0 b.1.group b.3 (a.3 ∙ ap (λ v. Some v) (sym same)) (sym b.5 ∙ q));
+      masters = λ i j s t g ei ej mi gj q.
+          both_kinds w.peering.next g (mastered i s g ei mi) (grouped j t g ej gj) (λ a. old-either a.0 g a.1) (λ b. old-group b.0 g b.1) (λ a. a.2) (λ b. b.4)
+          (λ a b. a.2 (drawn a.0 b.0 g a.1 b.1 (b.2 q)))
+          (λ a b.
+          let same : b.1.group ≡ a.0.group = ap (λ (k : GroupKey). k.group) (some-is b.1 a.0 (sym b.2 ∙ a.1)) in
+          a.3 b.0 (b.3 ∙ ap (λ v. Some v) same) (sym b.5 ∙ q));
     })
 
     -- what happens at a place of the namespace
