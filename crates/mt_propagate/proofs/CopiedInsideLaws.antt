@@ -1,14 +1,14 @@
 -- Where copies of a source tree come to stand, a contained namespace stays contained, and what happens in it stays there.
-use Rattle.std.proofs.Common.{◌≡◌, ◌≢◌, ◌⊎◌, ℕ, ◌<◌, ◌≤◌, true, false, cond, ◌==◌, ◌&&◌, eqb, eqb-true, eq-eqb, List, [], ◌++◌, map, Option, Some, None, refl, sym, ap, ◌∙◌, subst, inl, inr, arith, append-nil}
+use Rattle.std.proofs.Common.{◌≡◌, ◌≢◌, ◌⊎◌, ℕ, ◌<◌, ◌≤◌, true, false, cond, ◌==◌, ◌&&◌, eqb, eqb-true, eq-eqb, List, [], ◌++◌, map, Option, Some, None, refl, sym, ap, ◌∙◌, subst, inl, inr, append-nil}
 use Rattle.std.specs.Prelude.{Bool, not, unwrap_or}
-use Rattle.std.specs.List.{filter, find, list_any}
+use Rattle.std.specs.List.{filter, find}
 use Rattle.std.specs.Option.{option_map, option_map_or}
 use Rattle.std.proofs.lemmas.Bool.{ne_eqb}
 use Rattle.std.proofs.lemmas.List.Elements.{filter-append}
 use Rattle.mt_skel.specs.Keyed.{rises}
 use Rattle.mt_skel.specs.Skeleton.{holds}
 use Rattle.mt_skel.proofs.KeyedLaws.{row_at-key}
-use Rattle.mt_skel.proofs.ElementLaws.{In, in_append, in_right, in_filter, in_any, any_in, in_row, in_map, in_flat, in_flatted, in_mapped, find_in}
+use Rattle.mt_skel.proofs.ElementLaws.{In, in_filter, any_in, in_row, in_map, in_flat, find_in}
 use Rattle.mt_skel.proofs.MiddleLaws.{and_first, and_second}
 use Rattle.mt_mounts.specs.declared.mount.Mount.{Mount}
 use Rattle.mt_mounts.specs.declared.mount.Place.{Place}
@@ -29,12 +29,12 @@ use Rattle.mt_propagate.specs.Sound.{IsSource, IsDestination}
 use Rattle.mt_propagate.specs.Contained.{IsContained, IsSameOutside, IsLocal}
 use Rattle.mt_propagate.proofs.ContainLaws.{hit_contained}
 use Rattle.mt_propagate.proofs.ContainedLaws.{master-is, contained}
-use Rattle.mt_propagate.proofs.ListedLaws.{relocated-id, regrouped-mount, relocated-space}
+use Rattle.mt_propagate.proofs.ListedLaws.{regrouped-mount, relocated-space}
 use Rattle.mt_propagate.proofs.WalkLaws.{stands_at}
 use Rattle.mt_propagate.proofs.JoinLaws.{both_kinds, state_row}
 use Rattle.mt_propagate.proofs.RowLaws.{row-mapped, row-first, all-each, found-each, part-mapped, none-picked}
 use Rattle.mt_propagate.proofs.ShownLaws.{mount-state, state-group}
-use Rattle.mt_propagate.proofs.KeyLaws.{group_known, master_known, old_low, key_at, copy_in, in_copies, state-unshared, state-shared, at_home, nearest, above_from, master_by_cases, key_in, new_number, old_key}
+use Rattle.mt_propagate.proofs.KeyLaws.{group_known, master_known, old_low, key_at, copy_in, state-unshared, state-shared, at_home, nearest, above_from, master_by_cases, key_in, new_number, old_key}
 use Rattle.mt_propagate.proofs.CopyRowLaws.{state_at_mount, space_is, in_mounts, new_target, num_here, each_copy, moving, kept, made}
 use Rattle.mt_propagate.proofs.MovedLaws.{peer_rows, source_kept}
 
