@@ -17,7 +17,7 @@ use Rattle.mt_propagate.specs.World.{WorldView, state_of, space_of, private}
 use Rattle.mt_propagate.specs.WellFormed.{IsWellFormed}
 use Rattle.mt_propagate.specs.FromGroup.{is_seen, from_group}
 use Rattle.mt_propagate.specs.Contained.{IsContained, IsSameOutside}
-use Rattle.mt_propagate.proofs.JoinLaws.{state_row}
+use Rattle.mt_propagate.proofs.JoinLaws.{state_in, state_row}
 use Rattle.mt_propagate.proofs.RowLaws.{picked-row, row-picked}
 use Rattle.mt_propagate.proofs.ShownLaws.{state-mount, mount-state}
 use Rattle.mt_propagate.proofs.CopyRowLaws.{space_is}
@@ -71,7 +71,7 @@ module _ (n : ℕ) (w v : WorldView) (h : IsWellFormed w) (g : IsWellFormed v) (
   seen-stays k x off e =
       let q = in_any (λ (p : Peer). names p.state.group x && (space_of w p.mount == k)) w.peering.peers e in
       let i = q.0.mount in
-      let at : state_at w.peering.peers i ≡ Some q.0.state = ap (option_map (λ (p : Peer). p.state)) (in_row mount_of w.peering.peers q.0 h.peering.rising q.1) in
+      let at : state_at w.peering.peers i ≡ Some q.0.state = state_in w.peering.peers h.peering.rising q.0 q.1 in
       let m = state-mount w.forest w.peering.peers i q.0.state h.same_mounts at in
       let here : space_of w i ≡ k = eqb-true (space_of w i) k (and_second _ _ q.2) in
       let out : m.0.space ≢ n = λ same. off (sym here ∙ space_is w i m.0 m.1 ∙ same) in

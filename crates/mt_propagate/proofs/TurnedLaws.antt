@@ -19,6 +19,7 @@ use Rattle.mt_propagate.specs.FromGroup.{from_group, is_seen}
 use Rattle.mt_propagate.specs.Touched.{AreNoted, IsTouched}
 use Rattle.mt_propagate.specs.Turned.{IsSteady, IsQuiet, is_alike, is_below_group, groups_of_changed}
 use Rattle.mt_propagate.proofs.OutsideTagLaws.{same-bool, no-tag, tag_of, member-seen}
+use Rattle.mt_propagate.proofs.JoinLaws.{state_in}
 use Rattle.mt_propagate.proofs.UpwardLaws.{find-chain}
 use Rattle.mt_propagate.proofs.BelowGroupLaws.{in-among, among-in, slave-in}
 use Rattle.mt_propagate.proofs.ShownLaws.{grouped-state}
@@ -58,7 +59,7 @@ module _ (v w : WorldView) (h : IsWellFormed v) (k : IsWellFormed w) (x : ℕ) (
   seen-stays n e =
       let q = in_any (λ (p : Peer). names p.state.group x && (space_of v p.mount == n)) v.peering.peers e in
       let i = q.0.mount in
-      let at : state_at v.peering.peers i ≡ Some q.0.state = ap (option_map (λ (p : Peer). p.state)) (in_row mount_of v.peering.peers q.0 h.peering.rising q.1) in
+      let at : state_at v.peering.peers i ≡ Some q.0.state = state_in v.peering.peers h.peering.rising q.0 q.1 in
       let before = row-group v i q.0.state x at (and_first _ _ q.2) in
       let a = alike i before in
       let s = grouped-state w i x (sym a.group ∙ before) in
