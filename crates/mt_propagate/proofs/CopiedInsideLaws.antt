@@ -27,9 +27,10 @@ use Rattle.mt_propagate.specs.Places.{copied_mount, new_mounts, relocated, stack
 use Rattle.mt_propagate.specs.Copied.{copied, regrouped, is_moved}
 use Rattle.mt_propagate.specs.Sound.{IsSource, IsDestination}
 use Rattle.mt_propagate.specs.Contained.{IsContained, IsSameOutside, IsLocal}
-use Rattle.mt_propagate.proofs.ContainLaws.{hit_contained}
+use Rattle.mt_propagate.proofs.ContainLaws.{receiver_of, hit_received, hit_contained}
 use Rattle.mt_propagate.proofs.ContainedLaws.{master-is, contained}
-use Rattle.mt_propagate.proofs.ListedLaws.{regrouped-mount, relocated-space}
+use Rattle.mt_propagate.proofs.ListedLaws.{relocated-same, regrouped-mount, relocated-space}
+use Rattle.mt_mounts.proofs.SlotLaws.{none_found}
 use Rattle.mt_propagate.proofs.WalkLaws.{stands_at}
 use Rattle.mt_propagate.proofs.JoinLaws.{both_kinds, state_row}
 use Rattle.mt_propagate.proofs.RowLaws.{row-mapped, row-first, all-each, found-each, part-mapped, none-picked}
@@ -104,9 +105,7 @@ module _ (w : WorldView) (h : IsWellFormed w) (src : Source) (dest : Place) (s :
     target-alone : (t : ℕ) → home w src dest ≡ None → In t (targets w src dest) → space_of w t ≡ space_of w dest.mount
     target-alone t none e = elim e [
       | inl same ↦ ap (space_of w) (sym same)
-      | inr hit ↦
-          let p = (in_filter (λ j. holds w.skel (root_dir w j) dest.dir) t (propagates_to w dest.mount) hit).0 in
-          absurd (subst (λ o. In t (option_map_or (λ g. filter (λ j. not (dest.mount == j)) (map mount_of (filter (gets_from w.peering.peers g) w.peering.peers))) o [])) none p)
+      | inr hit ↦ let r = receiver_of w dest.mount t (hit_received w dest t hit) in let v : None ≡ Some r.0 = sym none ∙ r.1 in absurd (cc)
     ]
 
     -- a state with a group: like one that was there, or of a new group
@@ -230,16 +229,13 @@ module _ (w : WorldView) (h : IsWellFormed w) (src : Source) (dest : Place) (s :
           sym p.2 ∙ sym (space_is w t p.0 p.1) ∙ hit-inside t f.0 here
 
       stays : (m : Mount) → mount_at w.forest m.id ≡ Some m → m.space ≢ n → relocated w src dest m ≡ m
-      stays m e off = go (src.moved && (m.id == src.top.id)) refl
+      stays m e off =
+          relocated-same w src dest m (no_top (src.moved && (m.id == src.top.id)) refl)
+          (none_found _ (λ t is. off (way-inside m t e is)))
         where
-          way : (o : Option ℕ) → find (λ t. is_at (record { mount = t; dir = dest.dir }) m) (hits w dest) ≡ o → option_map_or (λ t. record m { place = Some (stack_end w src dest t) }) o m ≡ m
-          way None is = refl
-          way (Some t) is = absurd (off (way-inside m t e is))
-
-          go : (b : Bool) → (src.moved && (m.id == src.top.id)) ≡ b
-              → cond b (record m { place = Some dest }) (option_map_or (λ t. record m { place = Some (stack_end w src dest t) }) (cond b None (find (λ t. is_at (record { mount = t; dir = dest.dir }) m) (hits w dest))) m) ≡ m
-          go true is = absurd (off (top-inside m e (and_first src.moved (m.id == src.top.id) is) (eqb-true m.id src.top.id (and_second src.moved (m.id == src.top.id) is))))
-          go false is = way (find (λ t. is_at (record { mount = t; dir = dest.dir }) m) (hits w dest)) refl
+          no_top : (b : Bool) → (src.moved && (m.id == src.top.id)) ≡ b → (src.moved && (m.id == src.top.id)) ≡ false
+          no_top false is = is
+          no_top true is = absurd (off (top-inside m e (and_first src.moved (m.id == src.top.id) is) (eqb-true m.id src.top.id (and_second src.moved (m.id == src.top.id) is))))
 
       same-mounts : (k : ℕ) → k ≢ n → filter (in_space k) mounts ≡ filter (in_space k) w.forest
       same-mounts k off =
