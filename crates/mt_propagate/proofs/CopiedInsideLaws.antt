@@ -1,14 +1,13 @@
 -- Where copies of a source tree come to stand, a contained namespace stays contained, and what happens in it stays there.
 use Rattle.std.proofs.Common.{◌≡◌, ◌≢◌, ◌⊎◌, ℕ, ◌<◌, ◌≤◌, true, false, cond, ◌==◌, ◌&&◌, eqb, eqb-true, eq-eqb, List, [], ◌++◌, map, Option, Some, None, refl, sym, ap, ◌∙◌, subst, inl, inr, append-nil}
-use Rattle.std.specs.Prelude.{Bool, not, unwrap_or}
+use Rattle.std.specs.Prelude.{Bool, unwrap_or}
 use Rattle.std.specs.List.{filter, find}
-use Rattle.std.specs.Option.{option_map, option_map_or}
+use Rattle.std.specs.Option.{option_map}
 use Rattle.std.proofs.lemmas.Bool.{ne_eqb}
 use Rattle.std.proofs.lemmas.List.Elements.{filter-append}
 use Rattle.mt_skel.specs.Keyed.{rises}
-use Rattle.mt_skel.specs.Skeleton.{holds}
 use Rattle.mt_skel.proofs.KeyedLaws.{row_at-key}
-use Rattle.mt_skel.proofs.ElementLaws.{In, in_filter, any_in, in_row, in_map, in_flat, find_in}
+use Rattle.mt_skel.proofs.ElementLaws.{In, any_in, in_row, find_in}
 use Rattle.mt_skel.proofs.MiddleLaws.{and_first, and_second}
 use Rattle.mt_mounts.specs.declared.mount.Mount.{Mount}
 use Rattle.mt_mounts.specs.declared.mount.Place.{Place}
@@ -18,12 +17,12 @@ use Rattle.mt_peers.specs.Peers.{Peer, mount_of, state_at}
 use Rattle.mt_peers.specs.Masters.{reaches, groups_up}
 use Rattle.mt_peers.proofs.MemberLaws.{named, some-is}
 use Rattle.mt_peers.proofs.ReachLaws.{reaches-self}
-use Rattle.mt_propagate.specs.World.{WorldView, state_of, group_of, space_of, root_dir, private}
+use Rattle.mt_propagate.specs.World.{WorldView, state_of, group_of, space_of, private}
 use Rattle.mt_propagate.specs.WellFormed.{IsWellFormed}
-use Rattle.mt_propagate.specs.Receivers.{gets_from, propagates_to, hits}
+use Rattle.mt_propagate.specs.Receivers.{hits}
 use Rattle.mt_propagate.specs.Copies.{Source, MountCopy, targets, all_copies, new_copies, copy_id}
 use Rattle.mt_propagate.specs.Groups.{GroupKey, key_of, home, key_group, is_new_key, master_key, copy_state}
-use Rattle.mt_propagate.specs.Places.{copied_mount, new_mounts, relocated, stack_end}
+use Rattle.mt_propagate.specs.Places.{copied_mount, new_mounts, relocated}
 use Rattle.mt_propagate.specs.Copied.{copied, regrouped, is_moved}
 use Rattle.mt_propagate.specs.Sound.{IsSource, IsDestination}
 use Rattle.mt_propagate.specs.Contained.{IsContained, IsSameOutside, IsLocal}
@@ -33,7 +32,7 @@ use Rattle.mt_propagate.proofs.ListedLaws.{relocated-same, regrouped-mount, relo
 use Rattle.mt_mounts.proofs.SlotLaws.{none_found}
 use Rattle.mt_propagate.proofs.WalkLaws.{stands_at}
 use Rattle.mt_propagate.proofs.JoinLaws.{both_kinds, state_row}
-use Rattle.mt_propagate.proofs.RowLaws.{row-mapped, row-first, all-each, found-each, part-mapped, none-picked}
+use Rattle.mt_propagate.proofs.RowLaws.{in_pairs, row-mapped, row-first, all-each, found-each, part-mapped, none-picked}
 use Rattle.mt_propagate.proofs.ShownLaws.{mount-state, state-group}
 use Rattle.mt_propagate.proofs.KeyLaws.{group_known, master_known, old_low, key_at, copy_in, state-unshared, state-shared, at_home, nearest, above_from, master_by_cases, key_in, new_number, old_key}
 use Rattle.mt_propagate.proofs.CopyRowLaws.{state_at_mount, space_is, in_mounts, new_target, num_here, each_copy, moving, kept, made}
@@ -253,9 +252,8 @@ module _ (w : WorldView) (h : IsWellFormed w) (src : Source) (dest : Place) (s :
 
           new : filter (in_space k) (new_mounts w src dest) ≡ []
           new = none-picked (in_space k) (new_mounts w src dest) (λ a e.
-              let t = in_flat (λ t. map (copied_mount w src dest t) src.mounts) a (cond src.moved (hits w dest) (targets w src dest)) e in
-              let m = in_map (copied_mount w src dest t.0) a src.mounts t.2 in
-              let there : a.space ≡ n = ap (λ (m : Mount). m.space) (sym m.2) ∙ target-inside t.0 (new_target w h src dest s d t.0 t.1) here in
+              let p = in_pairs (copied_mount w src dest) src.mounts (cond src.moved (hits w dest) (targets w src dest)) a e in
+              let there : a.space ≡ n = ap (λ (m : Mount). m.space) (sym p.4) ∙ target-inside p.0 (new_target w h src dest s d p.0 p.2) here in
               ne_eqb a.space k (λ same. off (sym same ∙ there)))
 
       same-state : (i : ℕ) (q : Mount) → mount_at w.forest i ≡ Some q → q.space ≢ n → unwrap_or (state_at peers i) private ≡ state_of w i

@@ -2,8 +2,8 @@
 use Rattle.std.proofs.Common.{◌≡◌, ◌≢◌, ℕ, Bool, true, false, cond, ◌&&◌, ◌==◌, eqb-true, eq-eqb, Option, Some, None, refl, sym, ap, ◌∙◌}
 use Rattle.std.specs.Prelude.{unwrap_or}
 use Rattle.std.specs.List.{find}
-use Rattle.std.specs.Option.{option_map, option_and_then}
-use Rattle.mt_skel.proofs.ElementLaws.{in_any, any_in, in_row}
+use Rattle.std.specs.Option.{option_and_then}
+use Rattle.mt_skel.proofs.ElementLaws.{in_any, any_in}
 use Rattle.mt_skel.proofs.KeyedLaws.{row_at-key}
 use Rattle.mt_skel.proofs.MiddleLaws.{and_first, and_second, and-true}
 use Rattle.mt_mounts.specs.declared.mount.Mount.{Mount}

@@ -6,7 +6,8 @@ use Rattle.std.proofs.lemmas.Bool.Decides.{nat_tests}
 use Rattle.std.proofs.lemmas.Nat.{mul-le}
 use Rattle.mt_propagate.specs.Copies.{MountCopy, copy_eq}
 use Rattle.mt_propagate.specs.Planned.{copies_by}
-use Rattle.mt_propagate.proofs.ListedLaws.{length-pairs, copy_by}
+use Rattle.mt_propagate.proofs.NumberLaws.{copy_by}
+use Rattle.mt_propagate.proofs.ListedLaws.{length-pairs}
 
 -- an index is at most how many there are
 pub index-within : {X : Type 0} (p : X → Bool) (xs : List X) → position_or_len p xs ≤ length xs

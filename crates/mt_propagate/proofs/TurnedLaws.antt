@@ -4,11 +4,11 @@ use Rattle.std.specs.Prelude.{nat_eq, unwrap_or}
 use Rattle.std.specs.List.{find, flat_map, cons_option}
 use Rattle.std.specs.Option.{option_eq, option_map, option_map_or, option_and_then}
 use Rattle.mt_skel.specs.Keyed.{among}
-use Rattle.mt_skel.proofs.ElementLaws.{In, in_any, in_row, in_flatted}
+use Rattle.mt_skel.proofs.ElementLaws.{In, in_any, in_flatted}
 use Rattle.mt_skel.proofs.MiddleLaws.{and_first, and_second}
 use Rattle.mt_mounts.specs.declared.mount.Mount.{Mount}
 use Rattle.mt_peers.specs.declared.state.State.{State}
-use Rattle.mt_peers.specs.Peers.{Peer, mount_of, names, in_group, state_at, slaves}
+use Rattle.mt_peers.specs.Peers.{Peer, names, in_group, state_at, slaves}
 use Rattle.mt_peers.specs.Masters.{master_of, reaches}
 use Rattle.mt_peers.specs.Members.{master_at}
 use Rattle.mt_peers.proofs.MemberLaws.{find_row, master_of-from, master_of-is, named}
