@@ -3,7 +3,6 @@ use Rattle.std.proofs.Common.{◌≡◌, ◌≢◌, ℕ, zero, suc, ◌&&◌, Bo
 use Rattle.std.specs.List.{list_all, list_any, take_while, last_or}
 use Rattle.std.specs.Option.{option_map_or, is_none}
 use Rattle.std.proofs.lemmas.Bool.{cases_lt, ne_eqb}
-use Rattle.std.proofs.lemmas.List.Sums.{take_while-cons}
 use Rattle.mt_skel.specs.Chain.{chain, ends}
 use Rattle.mt_skel.proofs.ChainLaws.{chain-suc}
 use Rattle.mt_propagate.proofs.TreeLaws.{ends-more}
@@ -11,73 +10,54 @@ use Rattle.mt_mounts.specs.declared.mount.Place.{Place}
 use Rattle.mt_mounts.specs.Forest.{parent}
 use Rattle.mt_mounts.proofs.Walks.{below_within, below_here, below_step}
 use Rattle.mt_propagate.specs.World.{WorldView, state_of}
-use Rattle.mt_bind.specs.Sources.{leads_within, is_bound_along}
+use Rattle.mt_bind.specs.Sources.{leads_within, is_bindable, is_bound_along}
+use Rattle.mt_bind.proofs.BelowLaws.{off_top, way, more, way_here}
 
 and_false : (b c : Bool) → (b && false && c) ≡ false
 and_false true c = refl
 and_false false c = refl
 
 module _ (w : WorldView) (p : Place) where
-  abbrev off_top : ℕ → Bool
-  off_top k = not (k == p.mount)
-
-  abbrev unbound : ℕ → Bool
-  unbound k = not (state_of w k).unbindable
-
-  -- the mounts that so many steps from j pass below the top
-  abbrev way : ℕ → ℕ → List ℕ
-  way n j = take_while off_top (chain (parent w.forest) n j)
-
   -- whether so many steps from j lead to the top, past no unbindable mount and within the directory; the mount passed last
   -- stands in it
   abbrev pub taken : ℕ → Option ℕ → ℕ → Bool
-  taken n passed j = below_within w.forest p.mount n j && list_all unbound (way n j) && leads_within w p.dir (last_or passed (way n j))
+  taken n passed j = below_within w.forest p.mount n j && list_all (is_bindable w) (way w p.mount n j) && leads_within w p.dir (last_or passed (way w p.mount n j))
 
-  stop : (j : ℕ) (rest : List ℕ) → j ≡ p.mount → take_while off_top (j ∷ rest) ≡ []
-  stop j rest e = take_while-cons off_top j rest ∙ ap (λ b. cond (not b) (j ∷ take_while off_top rest) []) (eq-eqb j p.mount e)
-
-  more : (j : ℕ) (rest : List ℕ) → j ≢ p.mount → take_while off_top (j ∷ rest) ≡ j ∷ take_while off_top rest
-  more j rest e = take_while-cons off_top j rest ∙ ap (λ b. cond (not b) (j ∷ take_while off_top rest) []) (ne_eqb j p.mount e)
-
-  way_here : (n j : ℕ) → j ≡ p.mount → way n j ≡ []
-  way_here zero j e = stop j [] e
-  way_here (suc n) j e = stop j (option_map_or (λ y. chain (parent w.forest) n y) (parent w.forest j) []) e
-
-  way_more : (n j : ℕ) → j ≢ p.mount → (rest : List ℕ) × (way n j ≡ j ∷ rest)
-  way_more zero j e = (take_while off_top [], more j [] e)
+  way_more : (n j : ℕ) → j ≢ p.mount → (rest : List ℕ) × (way w p.mount n j ≡ j ∷ rest)
+  way_more zero j e = (take_while (off_top w p.mount) [], more w p.mount j [] e)
   way_more (suc n) j e =
       let rest = option_map_or (λ y. chain (parent w.forest) n y) (parent w.forest j) [] in
-      (take_while off_top rest, more j rest e)
+      (take_while (off_top w p.mount) rest, more w p.mount j rest e)
 
   -- at the top it is decided
   pub taken_here : (n : ℕ) (passed : Option ℕ) (j : ℕ) → j ≡ p.mount → taken n passed j ≡ leads_within w p.dir passed
   taken_here n passed j e =
-      ap (λ b. b && list_all unbound (way n j) && leads_within w p.dir (last_or passed (way n j))) (below_here w.forest p.mount n j e)
-      ∙ ap (λ (ks : List ℕ). true && list_all unbound ks && leads_within w p.dir (last_or passed ks)) (way_here n j e)
+      ap (λ b. b && list_all (is_bindable w) (way w p.mount n j) && leads_within w p.dir (last_or passed (way w p.mount n j))) (below_here w.forest p.mount n j e)
+      ∙ ap (λ (ks : List ℕ). true && list_all (is_bindable w) ks && leads_within w p.dir (last_or passed ks)) (way_here w p.mount n j e)
 
   -- no mount is taken along with an unbindable one below the top
   pub taken_unbindable : (n : ℕ) (passed : Option ℕ) (j : ℕ) → j ≢ p.mount → (state_of w j).unbindable ≡ true → taken n passed j ≡ false
   taken_unbindable n passed j ne e =
       let rest = way_more n j ne in
-      let none : list_all unbound (way n j) ≡ false = ap (list_all unbound) rest.1 ∙ ap (λ b. not b && list_all unbound rest.0) e in
-      ap (λ b. below_within w.forest p.mount n j && b && leads_within w p.dir (last_or passed (way n j))) none
-      ∙ and_false (below_within w.forest p.mount n j) (leads_within w p.dir (last_or passed (way n j)))
+      let none : list_all (is_bindable w) (way w p.mount n j) ≡ false = ap (list_all (is_bindable w)) rest.1 ∙ ap (λ b. not b && list_all (is_bindable w) rest.0) e in
+      ap (λ b. below_within w.forest p.mount n j && b && leads_within w p.dir (last_or passed (way w p.mount n j))) none
+      ∙ and_false (below_within w.forest p.mount n j) (leads_within w p.dir (last_or passed (way w p.mount n j)))
 
   -- elsewhere the parent decides
   pub taken_step : (n : ℕ) (passed : Option ℕ) (j q : ℕ) → j ≢ p.mount → (state_of w j).unbindable ≡ false → parent w.forest j ≡ Some q → taken (suc n) passed j ≡ taken n (Some j) q
   taken_step n passed j q ne e up =
       let rest = option_map_or (λ y. chain (parent w.forest) n y) (parent w.forest j) [] in
-      let longer : way (suc n) j ≡ j ∷ way n q = more j rest ne ∙ ap (λ (o : Option ℕ). j ∷ take_while off_top (option_map_or (λ y. chain (parent w.forest) n y) o [])) up in
-      ap (λ b. b && list_all unbound (way (suc n) j) && leads_within w p.dir (last_or passed (way (suc n) j))) (below_step w.forest p.mount n j q ne up)
-      ∙ ap (λ (ks : List ℕ). below_within w.forest p.mount n q && list_all unbound ks && leads_within w p.dir (last_or passed ks)) longer
-      ∙ ap (λ b. below_within w.forest p.mount n q && (not b && list_all unbound (way n q)) && leads_within w p.dir (last_or (Some j) (way n q))) e
+      let longer : way w p.mount (suc n) j ≡ j ∷ way w p.mount n q = more w p.mount j rest ne ∙ ap (λ (o : Option ℕ). j ∷ take_while (off_top w p.mount) (option_map_or (λ y. chain (parent w.forest) n y) o [])) up in
+      ap (λ b. b && list_all (is_bindable w) (way w p.mount (suc n) j) && leads_within w p.dir (last_or passed (way w p.mount (suc n) j))) (below_step w.forest p.mount n j q ne up)
+      ∙ ap (λ (ks : List ℕ). below_within w.forest p.mount n q && list_all (is_bindable w) ks && leads_within w p.dir (last_or passed ks)) longer
+      ∙ ap (λ b. below_within w.forest p.mount n q && (not b && list_all (is_bindable w) (way w p.mount n q)) && leads_within w p.dir (last_or (Some j) (way w p.mount n q))) e
 
   -- the directory that was passed last says nothing off the top, nor do more steps where the way ends
   taken_passed : (n : ℕ) (passed : Option ℕ) (j : ℕ) → j ≢ p.mount → taken n passed j ≡ taken n None j
   taken_passed n passed j ne =
       let rest = way_more n j ne in
-      ap (λ (ks : List ℕ). below_within w.forest p.mount n j && list_all unbound (way n j) && leads_within w p.dir (last_or passed ks)) rest.1
-      ∙ sym (ap (λ (ks : List ℕ). below_within w.forest p.mount n j && list_all unbound (way n j) && leads_within w p.dir (last_or None ks)) rest.1)
+      ap (λ (ks : List ℕ). below_within w.forest p.mount n j && list_all (is_bindable w) (way w p.mount n j) && leads_within w p.dir (last_or passed ks)) rest.1
+      ∙ sym (ap (λ (ks : List ℕ). below_within w.forest p.mount n j && list_all (is_bindable w) (way w p.mount n j) && leads_within w p.dir (last_or None ks)) rest.1)
 
   longer_chain : (n k j : ℕ) → n ≤ k → ends (parent w.forest) n j ≡ true → chain (parent w.forest) k j ≡ chain (parent w.forest) n j
   longer_chain n zero j l e = let same : n ≡ 0 = omega (arith, l) in ap (λ n. chain (parent w.forest) n j) (sym same)
@@ -89,7 +69,7 @@ module _ (w : WorldView) (p : Place) where
   pub taken_before : (n : ℕ) (passed : Option ℕ) (j : ℕ) → j ≢ p.mount → n ≤ length w.forest → ends (parent w.forest) n j ≡ true → taken n passed j ≡ is_bound_along w p j
   taken_before n passed j ne le e =
       taken_passed n passed j ne
-      ∙ sym (ap (λ (c : List ℕ). list_any (λ k. p.mount == k) c && list_all unbound (take_while off_top c) && leads_within w p.dir (last_or None (take_while off_top c))) (longer_chain n (length w.forest) j le e))
+      ∙ sym (ap (λ (c : List ℕ). list_any (λ k. p.mount == k) c && list_all (is_bindable w) (take_while (off_top w p.mount) c) && leads_within w p.dir (last_or None (take_while (off_top w p.mount) c))) (longer_chain n (length w.forest) j le e))
 
   -- a way that goes on ends behind its first step
   pub ends_up : (n j q : ℕ) → parent w.forest j ≡ Some q → ends (parent w.forest) (suc n) j ≡ true → ends (parent w.forest) n q ≡ true

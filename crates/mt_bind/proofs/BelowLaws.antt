@@ -1,5 +1,5 @@
 -- Which mounts are below a mount, and the way up from them.
-use Rattle.std.proofs.Common.{◌≡◌, ◌≢◌, ℕ, zero, suc, ◌≤◌, ◌||◌, true, false, cond, not, ◌==◌, eqb, eq-eqb, [], ◌∷◌, length, Option, Some, None, refl, sym, ap, ◌∙◌, subst, arith}
+use Rattle.std.proofs.Common.{◌≡◌, ◌≢◌, ℕ, zero, suc, ◌≤◌, ◌||◌, Bool, true, false, cond, not, ◌==◌, eqb, eq-eqb, List, [], ◌∷◌, length, Option, Some, None, refl, sym, ap, ◌∙◌, subst, arith}
 use Rattle.std.specs.List.{list_any, take_while}
 use Rattle.std.specs.Option.{option_map, option_map_or}
 use Rattle.std.proofs.lemmas.Bool.{ne_eqb}
@@ -17,6 +17,25 @@ use Rattle.mt_propagate.specs.WellFormed.{IsWellFormed}
 use Rattle.mt_skel.proofs.ElementLaws.{in_any, chain_low}
 use Rattle.mt_propagate.proofs.TreeLaws.{parent-is}
 use Rattle.mt_bind.specs.Sources.{path_to}
+
+module _ (w : WorldView) (top : ℕ) where
+  abbrev pub off_top : ℕ → Bool
+  off_top k = not (k == top)
+
+  -- the mounts that so many steps from j pass below the top
+  abbrev pub way : ℕ → ℕ → List ℕ
+  way n j = take_while off_top (chain (parent w.forest) n j)
+
+  -- the way from the top is empty, and from any other mount it begins with the mount
+  stop : (j : ℕ) (rest : List ℕ) → j ≡ top → take_while off_top (j ∷ rest) ≡ []
+  stop j rest e = take_while-cons off_top j rest ∙ ap (λ b. cond (not b) (j ∷ take_while off_top rest) []) (eq-eqb j top e)
+
+  pub more : (j : ℕ) (rest : List ℕ) → j ≢ top → take_while off_top (j ∷ rest) ≡ j ∷ take_while off_top rest
+  more j rest e = take_while-cons off_top j rest ∙ ap (λ b. cond (not b) (j ∷ take_while off_top rest) []) (ne_eqb j top e)
+
+  pub way_here : (n j : ℕ) → j ≡ top → way n j ≡ []
+  way_here zero j e = stop j [] e
+  way_here (suc n) j e = stop j (option_map_or (λ y. chain (parent w.forest) n y) (parent w.forest j) []) e
 
 module _ (w : WorldView) (h : IsWellFormed w) where
   pub below_self : (i : ℕ) → is_below w.forest i i ≡ true
@@ -55,18 +74,9 @@ module _ (w : WorldView) (h : IsWellFormed w) where
       let low = below_rank i p.mount b in
       absurd (omega (arith, falls, low))
 
-  -- the way from the top to itself is empty, and from any other mount it begins with the mount
+  -- so is it along all mounts above
   pub path_top : (i : ℕ) → path_to w i i ≡ []
-  path_top i = go (length w.forest)
-    where
-      go : (n : ℕ) → take_while (λ k. not (k == i)) (chain (parent w.forest) n i) ≡ []
-      go zero = take_while-cons (λ k. not (k == i)) i [] ∙ ap (λ b. cond (not b) (i ∷ take_while (λ k. not (k == i)) []) []) (eq-eqb i i refl)
-      go (suc n) =
-          let rest = option_map_or (λ y. chain (parent w.forest) n y) (parent w.forest i) [] in
-          take_while-cons (λ k. not (k == i)) i rest ∙ ap (λ b. cond (not b) (i ∷ take_while (λ k. not (k == i)) rest) []) (eq-eqb i i refl)
+  path_top i = way_here w i (length w.forest) i refl
 
   pub path_step : (i x y : ℕ) → x ≢ i → parent w.forest x ≡ Some y → path_to w i x ≡ x ∷ path_to w i y
-  path_step i x y ne e =
-      ap (take_while (λ k. not (k == i))) (chain-step (parent w.forest) (length w.forest) x y e (h.forest.no_cycle x))
-      ∙ take_while-cons (λ k. not (k == i)) x (chain (parent w.forest) (length w.forest) y)
-      ∙ ap (λ b. cond (not b) (x ∷ path_to w i y) []) (ne_eqb x i ne)
+  path_step i x y ne e = ap (take_while (off_top w i)) (chain-step (parent w.forest) (length w.forest) x y e (h.forest.no_cycle x)) ∙ more w i x _ ne

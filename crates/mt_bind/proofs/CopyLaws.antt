@@ -3,7 +3,7 @@ use Rattle.std.proofs.Common.{◌≡◌, ◌⊎◌, ℕ, ◌+◌, ◌<◌, ◌�
 use Rattle.std.specs.Prelude.{IsTrue}
 use Rattle.std.specs.Option.{option_map, option_or, unwrap_or}
 use Rattle.std.proofs.lemmas.List.{map-append}
-use Rattle.mt_skel.specs.Keyed.{rises}
+use Rattle.mt_skel.specs.Keyed.{rises, row_at}
 use Rattle.mt_skel.specs.Skeleton.{directory}
 use Rattle.mt_skel.proofs.SortedLaws.{rises-keys}
 use Rattle.mt_mounts.specs.declared.mount.Mount.{Mount}
@@ -24,6 +24,16 @@ use Rattle.mt_bind.specs.Spaces.{originals, with_copy}
 use Rattle.mt_bind.specs.Copying.{copy_number, copy_of, state_of_copy}
 use Rattle.mt_bind.proofs.NamespaceCopyLaws.{copies, order, was-original, among, copy-high, copy-low, old-in, copy-in, row-of}
 use Rattle.mt_bind.proofs.CopyTreeLaws.{grown, grown-ids, grown-forest}
+
+-- where a world has more states, each is that of a mount that was there, or a new one
+pub state-from : (w : WorldView) → IsWellFormed w → (new : List Peer) (i : ℕ) (t : State) → state_at (w.peering.peers ++ new) i ≡ Some t → ((state_at w.peering.peers i ≡ Some t) × (m : Mount) × (mount_at w.forest i ≡ Some m)) ⊎ (state_at new i ≡ Some t)
+state-from w h new i t e =
+    let row = state-row (w.peering.peers ++ new) i t e in
+    let stated : (es : List Peer) → row_at mount_of i es ≡ Some row.0 → state_at es i ≡ Some t = λ es at. ap (option_map (λ (e : Peer). e.state)) at ∙ ap (λ s. Some s) row.2 in
+    elim (appended-row mount_of w.peering.peers new i row.0 row.1) [
+      | inl old ↦ let m = state-mount w.forest w.peering.peers i t h.same_mounts (stated w.peering.peers old) in inl (stated w.peering.peers old, m.0, m.1)
+      | inr made ↦ inr (stated new made)
+    ]
 
 -- what a copy's state has of its original's
 module _ (w : WorldView) (n : ℕ) where
@@ -119,15 +129,10 @@ module _ (w : WorldView) (h : IsWellFormed w) (n : ℕ) (less : Bool) where
   alike : IsAlike (fs_at (with_copy w n less)) (with_copy w n less).peering.peers
   unfolding with_copy
   alike =
-      like-IsAlike (fs_at w) (fs_at (with_copy w n less)) w.peering.peers (w.peering.peers ++ new_peers) (shown-alike w h) (λ i t e.
-      let row = state-row (w.peering.peers ++ new_peers) i t e in
-      elim (appended-row mount_of w.peering.peers new_peers i row.0 row.1) [
-        | inl old ↦
-            let was : state_at w.peering.peers i ≡ Some t = ap (option_map (λ (e : Peer). e.state)) old ∙ ap (λ s. Some s) row.2 in
-            let m = state-mount w.forest w.peering.peers i t h.same_mounts was in
-            (i, t, was, old-fs i m.0 m.1, λ g is. is, λ g is. inl is)
+      like-IsAlike (fs_at w) (fs_at (with_copy w n less)) w.peering.peers (w.peering.peers ++ new_peers) (shown-alike w h) (λ i t e. elim (state-from w h new_peers i t e) [
+        | inl old ↦ (i, t, old.0, old-fs i old.1 old.2, λ g is. is, λ g is. inl is)
         | inr new ↦
-            let c = copy-from i t (ap (option_map (λ (e : Peer). e.state)) new ∙ ap (λ s. Some s) row.2) in (
+            let c = copy-from i t new in (
               c.source.id,
               c.state,
               c.stated,

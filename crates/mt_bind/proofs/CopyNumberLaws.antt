@@ -1,9 +1,10 @@
 -- The number of a copy, where its original is found by halving.
-use Rattle.std.proofs.Common.{◌≡◌, ◌≢◌, ℕ, zero, suc, ◌+◌, ◌<◌, Bool, true, false, cond, not, List, [], ◌∷◌, map, length, get_or, Some, None, sym, arith}
+use Rattle.std.proofs.Common.{◌≡◌, ◌≢◌, ℕ, zero, suc, ◌+◌, ◌<◌, Bool, true, false, cond, not, eq-eqb, List, [], ◌∷◌, map, length, get_or, Some, None, sym, ap, arith}
 use Rattle.std.specs.Prelude.{nat_eq, nat_lt}
 use Rattle.std.specs.List.{list_all, position_or_len, HoldsAt}
 use Rattle.std.specs.Ordering.{nat_cmp}
 use Rattle.std.specs.declared.cmp.Ordering.TheVariants.{Equal}
+use Rattle.std.proofs.lemmas.Bool.{ne_eqb}
 use Rattle.std.proofs.lemmas.Bool.Decides.{nat_tests}
 use Rattle.std.proofs.lemmas.Cmp.{ranked}
 use Rattle.std.proofs.lemmas.List.Folds.{list_all_at}
@@ -18,18 +19,10 @@ abbrev pub index_in : List Mount → ℕ → ℕ
 index_in ms i = position_or_len (nat_eq i) (map id_of ms)
 
 first : (m : Mount) (ms : List Mount) (i : ℕ) → i ≡ m.id → index_in (m ∷ ms) i ≡ 0
-first m ms i e = go (nat_eq i m.id) (grind (arith, nat_tests))
-  where
-    go : (b : Bool) → b ≡ true → cond (not b) (1 + index_in ms i) 0 ≡ 0
-    go true f = omega arith
-    go false f = absurd (cc)
+first m ms i e = ap (λ b. cond (not b) (1 + index_in ms i) 0) (eq-eqb i m.id e)
 
-later : (m : Mount) (ms : List Mount) (i : ℕ) → i ≢ m.id → index_in (m ∷ ms) i ≡ suc (index_in ms i)
-later m ms i ne = go (nat_eq i m.id) (grind (arith, nat_tests))
-  where
-    go : (b : Bool) → b ≡ false → cond (not b) (1 + index_in ms i) 0 ≡ suc (index_in ms i)
-    go true f = absurd (cc)
-    go false f = omega arith
+later : (m : Mount) (ms : List Mount) (i : ℕ) → i ≢ m.id → index_in (m ∷ ms) i ≡ 1 + index_in ms i
+later m ms i ne = ap (λ b. cond (not b) (1 + index_in ms i) 0) (ne_eqb i m.id ne)
 
 -- where the IDs rise, the index of the mount that stands at k is k
 index_at : (i k : ℕ) (ms : List Mount) (d : Mount) → rises id_of ms ≡ true → k < length ms → (get_or ms k d).id ≡ i → index_in ms i ≡ k

@@ -1,5 +1,5 @@
 -- The mounts of each namespace stay one tree where a namespace is copied.
-use Rattle.std.proofs.Common.{◌≡◌, ℕ, ◌<◌, ◌≤◌, true, List, ◌++◌, map, length, Option, Some, None, refl, sym, ap, ◌∙◌, inl, inr, arith, length-append}
+use Rattle.std.proofs.Common.{◌≡◌, ◌⊎◌, ℕ, ◌<◌, ◌≤◌, true, List, ◌++◌, map, length, Option, Some, None, refl, sym, ap, ◌∙◌, inl, inr, arith, length-append}
 use Rattle.std.specs.Option.{option_map, option_and_then}
 use Rattle.std.proofs.lemmas.List.{map-append}
 use Rattle.mt_skel.specs.Chain.{ends}
@@ -9,6 +9,7 @@ use Rattle.mt_skel.proofs.SortedLaws.{rises-keys}
 use Rattle.mt_mounts.specs.declared.mount.Mount.{Mount}
 use Rattle.mt_mounts.specs.declared.mount.Place.{Place}
 use Rattle.mt_mounts.specs.Forest.{id_of, mount_at, parent}
+use Rattle.mt_peers.proofs.MemberLaws.{some-is}
 use Rattle.mt_propagate.specs.World.{WorldView}
 use Rattle.mt_propagate.specs.WellFormed.{IsForest, IsWellFormed}
 use Rattle.mt_propagate.proofs.AddedLaws.{parent_id}
@@ -18,6 +19,10 @@ use Rattle.mt_propagate.proofs.TreeLaws.{parent-from, ends-like, ends-more, ends
 use Rattle.mt_bind.specs.Spaces.{originals}
 use Rattle.mt_bind.specs.Copying.{copy_number, copy_of}
 use Rattle.mt_bind.proofs.NamespaceCopyLaws.{copies, copy-high, copy-single, copy-ids, among, old-in, copy-in, IsCopy, row-of, placed-copy, unplaced-copy}
+
+-- each of two things that are one way or another
+pub each_way : {A B C D R : Type 0} → A ⊎ B → C ⊎ D → (A → C → R) → (A → D → R) → (B → C → R) → (B → D → R) → R
+each_way x y f g k l = elim x [ inl a ↦ elim y [ inl c ↦ f a c | inr d ↦ g a d ] | inr b ↦ elim y [ inl c ↦ k b c | inr d ↦ l b d ] ]
 
 module _ (w : WorldView) (h : IsWellFormed w) (n : ℕ) where
   abbrev pub grown : List Mount
@@ -94,9 +99,7 @@ module _ (w : WorldView) (h : IsWellFormed w) (n : ℕ) where
       (λ x y m e.
       let p = parent-from w.forest x y e in
       let q = h.forest.placed x p.0 p.1 p.2 p.3 in
-      let v : Some p.0 ≡ Some m.0 = sym p.2 ∙ m.1 in
-      let same : p.0 ≡ m.0 = cc in
-      (copy-up x m ∙ ap (option_map (copy_number w (map id_of (originals w n)))) e, (q.0, ap (mount_at w.forest) (sym p.4) ∙ q.1, q.2 ∙ ap (λ (m : Mount). m.space) same ∙ m.2)))
+      (copy-up x m ∙ ap (option_map (copy_number w (map id_of (originals w n)))) e, (q.0, ap (mount_at w.forest) (sym p.4) ∙ q.1, q.2 ∙ ap (λ (m : Mount). m.space) (some-is p.0 m.0 (sym p.2 ∙ m.1)) ∙ m.2)))
       (length w.forest) x m (h.forest.no_cycle x)
 
   all-end : (i : ℕ) → ends (parent grown) (length grown) i ≡ true
@@ -123,10 +126,11 @@ module _ (w : WorldView) (h : IsWellFormed w) (n : ℕ) where
             ap (holds w.skel q.0.root) p_0.3 ∙ q.3,
           )
     ];
-    apart = λ i j a b p ea eb pa pb. elim (row-of w h n i a ea) [
-      | inl oa ↦ elim (row-of w h n j b eb) [ inl ob ↦ h.forest.apart i j a b p oa ob pa pb | inr cb ↦ absurd (mixed-places i j a b p oa cb pa pb) ]
-      | inr ca ↦ elim (row-of w h n j b eb) [ inl ob ↦ absurd (mixed-places j i b a p ob ca pb pa) | inr cb ↦ copy-places i j a b p ca cb pa pb ]
-    ];
+    apart = λ i j a b p ea eb pa pb. each_way (row-of w h n i a ea) (row-of w h n j b eb)
+        (λ oa ob. h.forest.apart i j a b p oa ob pa pb)
+        (λ oa cb. absurd (mixed-places i j a b p oa cb pa pb))
+        (λ ca ob. absurd (mixed-places j i b a p ob ca pb pa))
+        (λ ca cb. copy-places i j a b p ca cb pa pb);
     rooted = λ i m e. elim (row-of w h n i m e) [
       | inl old ↦ let r = h.forest.rooted i m old in (r.0, r.1, old-in w h n r.0 r.1 r.2, r.3, r.4)
       | inr c ↦
@@ -138,15 +142,13 @@ module _ (w : WorldView) (h : IsWellFormed w) (n : ℕ) where
             ap (λ (m : Mount). m.space) (sym c.made),
           )
     ];
-    one_root = λ i j a b ea eb pa pb same. elim (row-of w h n i a ea) [
-      | inl oa ↦ elim (row-of w h n j b eb) [ inl ob ↦ h.forest.one_root i j a b oa ob pa pb same | inr cb ↦ absurd (mixed-spaces i j a b oa cb same) ]
-      | inr ca ↦ elim (row-of w h n j b eb) [
-        | inl ob ↦ absurd (mixed-spaces j i b a ob ca (sym same))
-        | inr cb ↦
-            let na = unplaced-copy w h n ca.source (ap (λ (m : Mount). m.place) (sym ca.made) ∙ pa) in
-            let nb = unplaced-copy w h n cb.source (ap (λ (m : Mount). m.place) (sym cb.made) ∙ pb) in
-            same-copy i j a b ca cb (h.forest.one_root ca.source.id cb.source.id ca.source cb.source ca.there cb.there na nb (ca.space ∙ sym cb.space))
-      ]
-    ];
+    one_root = λ i j a b ea eb pa pb same. each_way (row-of w h n i a ea) (row-of w h n j b eb)
+        (λ oa ob. h.forest.one_root i j a b oa ob pa pb same)
+        (λ oa cb. absurd (mixed-spaces i j a b oa cb same))
+        (λ ca ob. absurd (mixed-spaces j i b a ob ca (sym same)))
+        (λ ca cb.
+        let na = unplaced-copy w h n ca.source (ap (λ (m : Mount). m.place) (sym ca.made) ∙ pa) in
+        let nb = unplaced-copy w h n cb.source (ap (λ (m : Mount). m.place) (sym cb.made) ∙ pb) in
+        same-copy i j a b ca cb (h.forest.one_root ca.source.id cb.source.id ca.source cb.source ca.there cb.there na nb (ca.space ∙ sym cb.space)));
     no_cycle = all-end;
   }

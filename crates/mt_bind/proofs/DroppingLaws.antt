@@ -18,16 +18,7 @@ use Rattle.mt_propagate.proofs.WalkLaws.{root_here}
 use Rattle.mt_bind.specs.Spaces.{originals, without_space, drop_space}
 use Rattle.mt_bind.specs.Dropping.{without_mounts}
 use Rattle.mt_bind.proofs.GoneLaws.{agree, end-kept}
-
-among-rows : (xs : List Mount) (i : ℕ) → among (map id_of xs) i ≡ is_some (mount_at xs i)
-among-rows [] i = refl
-among-rows (x ∷ xs) i = go (eqb x.id i) (eqb i x.id) (grind (arith, nat_tests)) (among-rows xs i)
-  where
-    go : (a b : Bool) → a ≡ b → among (map id_of xs) i ≡ is_some (mount_at xs i) → (a || among (map id_of xs) i) ≡ is_some (cond b (Some x) (mount_at xs i))
-    go true true e ih = refl
-    go true false e ih = absurd (cc)
-    go false true e ih = absurd (cc)
-    go false false e ih = ih
+use Rattle.mt_bind.proofs.MemberLaws.{among-rows, some_if}
 
 module _ (w : WorldView) (h : IsWellFormed w) (n : ℕ) where
   -- a namespace that is there has a number from 1 on
@@ -47,13 +38,9 @@ module _ (w : WorldView) (h : IsWellFormed w) (n : ℕ) where
       ∙ ap is_some (row_at-filter id_of (λ (m : Mount). m.space == n) i w.forest h.forest.rising)
       ∙ go (mount_at w.forest i)
     where
-      each : (x : Mount) (b : Bool) → is_some (cond b (Some x) None) ≡ b
-      each x true = refl
-      each x false = refl
-
       go : (o : Option Mount) → is_some (passing (λ (m : Mount). m.space == n) o) ≡ (unwrap_or (option_map (λ (m : Mount). m.space) o) 0 == n)
       go None = grind (arith, nat_tests)
-      go (Some x) = each x (x.space == n)
+      go (Some x) = some_if (x.space == n) x
 
   -- a world without the mounts of a namespace is one without the namespace
   pub without-is : is_space w n ≡ true → (ids : List ℕ) → ids ≡ map id_of (originals w n) → without_mounts w ids ≡ without_space w n
@@ -64,12 +51,10 @@ module _ (w : WorldView) (h : IsWellFormed w) (n : ℕ) where
       ap (λ (t : ℕ → Bool). without (λ (m : Mount). t m.id) w.forest) same ∙ sym (filter-same (λ (m : Mount). not (m.space == n)) (λ (m : Mount). not (space_of w m.id == n)) w.forest (agree w h n)) in
       ap (without_mounts w) e ∙ (λ i. record w { forest = forest i; peering = left (same i) w.peering })
 
-  -- and so is what the end of a namespace answers
-  pub drop-done : is_space w n ≡ true → (u v : WorldView) (ids : List ℕ) → u ≡ w → ids ≡ map id_of (originals w n) → v ≡ without_mounts u ids → drop_space w n ≡ Ok v
-  drop-done is u v ids still e made =
-      passed (not (is_space w n)) NoNamespace [] (without_space w n) (ap not is)
-      ∙ ap (λ (x : WorldView). Ok x) (sym (made ∙ ap (λ (x : WorldView). without_mounts x ids) still ∙ without-is is ids e))
+  -- and so is what has become of the namespace, in a world that was still the same
+  pub is_dropped : is_space w n ≡ true → (u v : WorldView) (ids : List ℕ) → u ≡ w → ids ≡ map id_of (originals w n) → v ≡ without_mounts u ids → without_space w n ≡ v
+  is_dropped is u v ids still e made = sym (made ∙ ap (λ (x : WorldView). without_mounts x ids) still ∙ without-is is ids e)
 
-  pub drop-kept : is_space w n ≡ true → (u v : WorldView) (ids : List ℕ) → u ≡ w → ids ≡ map id_of (originals w n) → v ≡ without_mounts u ids → IsWellFormed v
-  drop-kept is u v ids still e made =
-      subst IsWellFormed (sym (made ∙ ap (λ (x : WorldView). without_mounts x ids) still ∙ without-is is ids e)) (end-kept w h n)
+-- what the end of a namespace that is there leads to
+pub drop-done : (w : WorldView) (n : ℕ) → is_space w n ≡ true → drop_space w n ≡ Ok (without_space w n)
+drop-done w n is = passed (not (is_space w n)) NoNamespace [] (without_space w n) (ap not is)

@@ -1,6 +1,6 @@
 -- A pivot done mount by mount: the new root mount goes, the old one is moved to the place, and the new one comes back without one.
 use Rattle.std.proofs.Common.{◌≡◌, ◌≢◌, ℕ, true, cond, not, ◌==◌, eq-eqb, List, map, Option, Some, None, refl, sym, ap, ◌∙◌, inl, inr}
-use Rattle.std.specs.Option.{option_map, is_none}
+use Rattle.std.specs.Option.{option_map}
 use Rattle.std.proofs.lemmas.Bool.{cases_eq, ne_eqb, true≢false}
 use Rattle.mt_skel.specs.Keyed.{rises, put}
 use Rattle.mt_skel.proofs.KeyedLaws.{passing, row_at-key, row_at-filter, row_at-map, rises-filter, rises-map, rises-put, same_rows}
@@ -15,6 +15,7 @@ use Rattle.mt_propagate.specs.WellFormed.{IsWellFormed}
 use Rattle.mt_propagate.proofs.MovedForestLaws.{lifted, from_lifted}
 use Rattle.mt_propagate.proofs.WalkLaws.{root_here}
 use Rattle.mt_bind.specs.Pivoting.{pivoted_mount, MayPivot}
+use Rattle.mt_bind.proofs.PivotForestLaws.{root_unplaced}
 
 module _ (w : WorldView) (h : IsWellFormed w) (i j : ℕ) (p : Place) (a : MayPivot w i j p) where
   abbrev ms : List Mount
@@ -53,14 +54,10 @@ module _ (w : WorldView) (h : IsWellFormed w) (i j : ℕ) (p : Place) (a : MayPi
   rootless_then = none_found _ (λ b e.
       let n = a.top.space in
       let row = find_row (is_root n) moved b moved_rises e in
-      let root = root_here n b (find_passes (is_root n) moved b e) in
+      let passes = find_passes (is_root n) moved b e in
       let x = was b.id b row in
-      go x.0 b x.1 x.3 (none_is b.place root.0) root.1)
+      go x.0 b x.1 x.3 (root_unplaced n b passes) (root_here n b passes).1)
     where
-      none_is : (o : Option Place) → is_none o ≡ true → o ≡ None
-      none_is None e = refl
-      none_is (Some q) e = absurd (cc)
-
       go : (x b : Mount) → mount_at ms b.id ≡ Some x → b ≡ lifted j p x → b.place ≡ None → b.space ≡ a.top.space → ⊥
       go x b row same at here = elim (cases_eq x.id j) [
         | inl old ↦

@@ -26,7 +26,8 @@ module _ (w : WorldView) (h : IsWellFormed w) (n : ℕ) where
   abbrev leaves : ℕ → Bool
   leaves i = space_of w i == n
 
-  stays : (i : ℕ) (m : Mount) → mount_at (without gone w.forest) i ≡ Some m → mount_at w.forest i ≡ Some m
+  -- a mount that is left was there
+  pub stays : (i : ℕ) (m : Mount) → mount_at (without gone w.forest) i ≡ Some m → mount_at w.forest i ≡ Some m
   stays i m e = (kept-row id_of gone w.forest h.forest.rising i m e).0
 
   -- those that vanish are those whose states leave

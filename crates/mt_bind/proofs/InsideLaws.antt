@@ -4,13 +4,13 @@ use Rattle.std.proofs.Common.{◌≡◌, ◌≢◌, ◌⊎◌, ℕ, ◌+◌, ◌
 use Rattle.std.specs.Prelude.{unwrap_or}
 use Rattle.std.specs.Option.{option_map}
 use Rattle.std.proofs.lemmas.Bool.{ne_eqb}
-use Rattle.mt_skel.specs.Keyed.{without}
+use Rattle.mt_skel.specs.Keyed.{rises, without}
 use Rattle.mt_mounts.specs.declared.mount.Mount.{Mount}
 use Rattle.mt_mounts.specs.Forest.{id_of, mount_at, in_space}
 use Rattle.mt_peers.specs.declared.state.State.{State}
 use Rattle.mt_peers.specs.Peers.{Peer, mount_of, state_at}
 use Rattle.mt_peers.specs.Loss.{left}
-use Rattle.mt_peers.proofs.ClosedLaws.{like-IsClosed}
+use Rattle.mt_peers.proofs.ClosedLaws.{IsClosed, like-IsClosed}
 use Rattle.mt_propagate.specs.World.{WorldView, private, space_of, group_of}
 use Rattle.mt_propagate.specs.WellFormed.{IsWellFormed}
 use Rattle.mt_propagate.specs.Contained.{IsContained, IsSameOutside}
@@ -18,8 +18,8 @@ use Rattle.mt_propagate.proofs.ContainedLaws.{closed, contained, left-contained,
 use Rattle.mt_propagate.proofs.CopiedInsideLaws.{copied-contained, copied-outside}
 use Rattle.mt_propagate.proofs.CopyRowLaws.{space_is}
 use Rattle.mt_propagate.proofs.PrivateLaws.{only-private, rising}
-use Rattle.mt_propagate.proofs.RowLaws.{row-first, appended-row, kept-row, part-filtered}
-use Rattle.mt_propagate.proofs.ShownLaws.{grouped-state, state-mount, state-row}
+use Rattle.mt_propagate.proofs.RowLaws.{row-first, part-filtered}
+use Rattle.mt_propagate.proofs.ShownLaws.{grouped-state, state-mount}
 use Rattle.mt_propagate.proofs.WalkLaws.{root_fits}
 use Rattle.mt_bind.specs.Spaces.{with_space, new_space, originals, with_copy, copy_space, without_space}
 use Rattle.mt_bind.specs.Copying.{copy_number}
@@ -27,8 +27,8 @@ use Rattle.mt_bind.specs.Mounting.{mounted, bound, moved}
 use Rattle.mt_bind.proofs.AcceptedLaws.{fs_of, new_space_accepted, copy_space_accepted}
 use Rattle.mt_bind.proofs.SpaceLaws.{new_root}
 use Rattle.mt_bind.proofs.NamespaceCopyLaws.{old-in, copy-in}
-use Rattle.mt_bind.proofs.CopyLaws.{IsStateOfCopy, new_peers, copy-from, copy-group, copy-master, copy-kept}
-use Rattle.mt_bind.proofs.GoneLaws.{end-kept}
+use Rattle.mt_bind.proofs.CopyLaws.{state-from, IsStateOfCopy, new_peers, copy-from, copy-group, copy-master, copy-kept}
+use Rattle.mt_bind.proofs.GoneLaws.{stays, end-kept}
 use Rattle.mt_bind.proofs.MountLaws.{IsCopying, mount_copies, bind_copies, move_copies}
 
 -- where a source tree comes to stand
@@ -56,32 +56,33 @@ move_contained k w n from to v h c e = copying_contained k n w v h c (move_copie
 pub move_outside : (w : WorldView) (n : ℕ) (from to : List (List ℕ)) (v : WorldView) → IsWellFormed w → IsContained n w → moved w n from to ≡ Ok v → IsSameOutside n w v
 move_outside w n from to v h c e = copying_outside n w v h c (move_copies w n from to v h e)
 
+-- where a world has more mounts, a contained namespace stays so if each new state is like that of a mount that was there, in it or not alike
+more_contained : (k : ℕ) (w v : WorldView) → IsWellFormed w → IsContained k w → (new : List Peer) → v.peering.peers ≡ w.peering.peers ++ new → rises mount_of v.peering.peers ≡ true
+    → ((i : ℕ) (m : Mount) → mount_at w.forest i ≡ Some m → space_of v i ≡ space_of w i)
+    → ((i : ℕ) (t : State) (g : ℕ) → state_at new i ≡ Some t → t.group ≡ Some g → (j : ℕ) × (s : State) × (state_at w.peering.peers j ≡ Some s) × (s.group ≡ Some g) × (space_of w j ≡ k → space_of v i ≡ k) × (space_of v i ≡ k → space_of w j ≡ k))
+    → ((i : ℕ) (t : State) (g : ℕ) → state_at new i ≡ Some t → t.master ≡ Some g → (j : ℕ) × (s : State) × (state_at w.peering.peers j ≡ Some s) × ((s.master ≡ Some g) ⊎ (s.group ≡ Some g)) × (space_of w j ≡ k → space_of v i ≡ k))
+    → IsContained k v
+more_contained k w v h c new all rising stay grouped mastered =
+    contained k v rising
+    (subst (IsClosed (λ i. space_of v i ≡ k)) (sym all)
+    (like-IsClosed (λ i. space_of w i ≡ k) (λ i. space_of v i ≡ k) w.peering.peers (w.peering.peers ++ new) (closed k w c)
+    (λ i t g e is. elim (state-from w h new i t e) [
+      | inl old ↦ let same = stay i old.1 old.2 in (i, t, old.0, is, λ q. same ∙ q, λ q. sym same ∙ q)
+      | inr made ↦ grouped i t g made is
+    ])
+    (λ i t g e is. elim (state-from w h new i t e) [
+      | inl old ↦ let same = stay i old.1 old.2 in (i, t, old.0, inl is, λ q. same ∙ q)
+      | inr made ↦ mastered i t g made is
+    ])))
+
 -- a new namespace has a private mount
 space_contained : (k : ℕ) (w : WorldView) (fs : ℕ) → IsWellFormed w → IsContained k w → IsContained k (with_space w fs)
 unfolding with_space
 space_contained k w fs h c =
-    contained k (with_space w fs) (rising w (new_root w fs) (w.next_space + 1) h (root_fits w (new_root w fs) h refl refl refl) refl)
-    (like-IsClosed (λ i. space_of w i ≡ k) (λ i. space_of (with_space w fs) i ≡ k) w.peering.peers (w.peering.peers ++ record { mount = w.next_mount; state = private } ∷ []) (closed k w c)
-    (λ i t g e is. elim (from i t e) [
-      | inl old ↦ (i, t, old.0, is, λ q. old.1 ∙ q, λ q. sym old.1 ∙ q)
-      | inr new ↦ absurd (let v : None ≡ Some g = sym (ap (λ (s : State). s.group) new) ∙ is in cc)
-    ])
-    (λ i t g e is. elim (from i t e) [
-      | inl old ↦ (i, t, old.0, inl is, λ q. old.1 ∙ q)
-      | inr new ↦ absurd (let v : None ≡ Some g = sym (ap (λ (s : State). s.master) new) ∙ is in cc)
-    ]))
-  where
-    from : (i : ℕ) (t : State) → state_at (w.peering.peers ++ record { mount = w.next_mount; state = private } ∷ []) i ≡ Some t
-        → ((state_at w.peering.peers i ≡ Some t) × (unwrap_or (option_map (λ (m : Mount). m.space) (mount_at (w.forest ++ new_root w fs ∷ []) i)) 0 ≡ space_of w i)) ⊎ (t ≡ private)
-    from i t e =
-        let row = state-row (w.peering.peers ++ record { mount = w.next_mount; state = private } ∷ []) i t e in
-        elim (appended-row mount_of w.peering.peers (record { mount = w.next_mount; state = private } ∷ []) i row.0 row.1) [
-          | inl old ↦
-              let was : state_at w.peering.peers i ≡ Some t = ap (option_map (λ (e : Peer). e.state)) old ∙ ap (λ s. Some s) row.2 in
-              let m = state-mount w.forest w.peering.peers i t h.same_mounts was in
-              inl (was, ap (λ o. unwrap_or (option_map (λ (m : Mount). m.space) o) 0) (row-first id_of w.forest (new_root w fs ∷ []) i m.0 m.1) ∙ sym (space_is w i m.0 m.1))
-          | inr new ↦ inr (only-private w.next_mount i t (ap (option_map (λ (e : Peer). e.state)) new ∙ ap (λ s. Some s) row.2))
-        ]
+    more_contained k w (with_space w fs) h c (record { mount = w.next_mount; state = private } ∷ []) refl (rising w (new_root w fs) (w.next_space + 1) h (root_fits w (new_root w fs) h refl refl refl) refl)
+    (λ i m e. ap (λ o. unwrap_or (option_map (λ (m : Mount). m.space) o) 0) (row-first id_of w.forest (new_root w fs ∷ []) i m e) ∙ sym (space_is w i m e))
+    (λ i t g e is. absurd (let v : None ≡ Some g = sym (ap (λ (s : State). s.group) (only-private w.next_mount i t e)) ∙ is in cc))
+    (λ i t g e is. absurd (let v : None ≡ Some g = sym (ap (λ (s : State). s.master) (only-private w.next_mount i t e)) ∙ is in cc))
 
 -- a copy of a namespace
 module _ (w : WorldView) (h : IsWellFormed w) (m : ℕ) (less : Bool) where
@@ -92,42 +93,22 @@ module _ (w : WorldView) (h : IsWellFormed w) (m : ℕ) (less : Bool) where
   unfolding with_copy
   old-space i q e = ap (λ o. unwrap_or (option_map (λ (m : Mount). m.space) o) 0) (old-in w h m i q e) ∙ sym (space_is w i q e)
 
-  copy-space : (i : ℕ) (q : Mount) → mount_at w.forest i ≡ Some q → q.space ≡ m → space (copy_number w (map id_of (originals w m)) i) ≡ w.next_space
+  new-space : (i : ℕ) (t : State) → IsStateOfCopy w h m less i t → space i ≡ w.next_space
   unfolding with_copy
-  copy-space i q e same = ap (λ o. unwrap_or (option_map (λ (m : Mount). m.space) o) 0) (copy-in w h m i q e same)
-
-  -- each state is one that was there, or that of a copy in the new namespace
-  pub from : (i : ℕ) (t : State) → state_at (w.peering.peers ++ new_peers w h m less) i ≡ Some t
-      → ((state_at w.peering.peers i ≡ Some t) × (space i ≡ space_of w i) × (space_of w i < w.next_space)) ⊎ (IsStateOfCopy w h m less i t × (space i ≡ w.next_space))
-  from i t e =
-      let row = state-row (w.peering.peers ++ new_peers w h m less) i t e in
-      elim (appended-row mount_of w.peering.peers (new_peers w h m less) i row.0 row.1) [
-        | inl old ↦
-            let was : state_at w.peering.peers i ≡ Some t = ap (option_map (λ (e : Peer). e.state)) old ∙ ap (λ s. Some s) row.2 in
-            let q = state-mount w.forest w.peering.peers i t h.same_mounts was in
-            let b = h.below i q.0 q.1 in
-            inl (was, old-space i q.0 q.1, subst (λ k. k < w.next_space) (sym (space_is w i q.0 q.1)) b.3)
-        | inr new ↦
-            let c = copy-from w h m less i t (ap (option_map (λ (e : Peer). e.state)) new ∙ ap (λ s. Some s) row.2) in
-            inr (c, ap space c.number ∙ copy-space c.source.id c.source c.there c.space)
-      ]
+  new-space i t c = ap space c.number ∙ ap (λ o. unwrap_or (option_map (λ (m : Mount). m.space) o) 0) (copy-in w h m c.source.id c.source c.there c.space)
 
   -- of another namespace
   pub copy_contained : (k : ℕ) → k < w.next_space → k ≢ m → IsContained k w → IsContained k (with_copy w m less)
   unfolding with_copy
   copy_contained k low other c =
-      contained k (with_copy w m less) (copy-kept w h m less).peering.rising
-      (like-IsClosed (λ i. space_of w i ≡ k) (λ i. space_of (with_copy w m less) i ≡ k) w.peering.peers (w.peering.peers ++ new_peers w h m less) (closed k w c)
-      (λ i t g e is. elim (from i t e) [
-        | inl old ↦ (i, t, old.0, is, λ q. old.1 ∙ q, λ q. sym old.1 ∙ q)
-        | inr new ↦
-            let s = copy-group w m less new.0.state g (ap (λ (s : State). s.group) (sym new.0.made) ∙ is) in
-            (new.0.source.id, new.0.state, new.0.stated, s.0, away new.0, λ q. absurd (let n = new.1 in omega (arith, low, n, q)))
-      ])
-      (λ i t g e is. elim (from i t e) [
-        | inl old ↦ (i, t, old.0, inl is, λ q. old.1 ∙ q)
-        | inr new ↦ (new.0.source.id, new.0.state, new.0.stated, copy-master w m less new.0.state g (ap (λ (s : State). s.master) (sym new.0.made) ∙ is), away new.0)
-      ]))
+      more_contained k w (with_copy w m less) h c (new_peers w h m less) refl (copy-kept w h m less).peering.rising old-space
+      (λ i t g e is.
+      let c = copy-from w h m less i t e in
+      let s = copy-group w m less c.state g (ap (λ (s : State). s.group) (sym c.made) ∙ is) in
+      (c.source.id, c.state, c.stated, s.0, away c, λ q. absurd (let n = new-space i t c in omega (arith, low, n, q))))
+      (λ i t g e is.
+      let c = copy-from w h m less i t e in
+      (c.source.id, c.state, c.stated, copy-master w m less c.state g (ap (λ (s : State). s.master) (sym c.made) ∙ is), away c))
     where
       -- the copied mounts are not in it
       away : {A : Type 0} {i : ℕ} {t : State} → (c : IsStateOfCopy w h m less i t) → space_of w c.source.id ≡ k → A
@@ -138,9 +119,11 @@ no_member : {A : Type 0} (w : WorldView) (h : IsWellFormed w) (m i g : ℕ) → 
 unfolding with_copy
 no_member w h m i g e q =
     let s = grouped-state (with_copy w m true) i g e in
-    elim (from w h m true i s.0 s.1) [
-      | inl old ↦ (let same = old.1 in let low = old.2 in absurd (omega (arith, same, low, q)))
-      | inr new ↦ absurd (let v : None ≡ Some g = ap (λ (s : State). s.group) (sym new.0.made) ∙ s.2 in cc)
+    elim (state-from w h (new_peers w h m true) i s.0 s.1) [
+      | inl old ↦
+          let low = h.below i old.1 old.2 in
+          absurd (omega (arith, low.3, old-space w h m true i old.1 old.2, space_is w i old.1 old.2, q))
+      | inr new ↦ let c = copy-from w h m true i s.0 new in absurd (let v : None ≡ Some g = ap (λ (s : State). s.group) (sym c.made) ∙ s.2 in cc)
     ]
 
 pub less_contained : (w : WorldView) → IsWellFormed w → (m : ℕ) → IsContained w.next_space (with_copy w m true)
@@ -164,16 +147,13 @@ made_contained k w name v i h c e = subst (IsContained k) (new_space_accepted w 
 
 -- a namespace that ends
 module _ (w : WorldView) (h : IsWellFormed w) (n : ℕ) where
-  stays : (i : ℕ) (m : Mount) → mount_at (without (λ (m : Mount). m.space == n) w.forest) i ≡ Some m → mount_at w.forest i ≡ Some m
-  stays i m e = (kept-row id_of (λ (m : Mount). m.space == n) w.forest h.forest.rising i m e).0
-
   pub end_contained : (k : ℕ) → IsContained k w → IsContained k (without_space w n)
   unfolding without_space
   end_contained k c =
       let v = end-kept w h n in
       left-contained k w (without_space w n) h c (λ i. space_of w i == n) refl (λ i s e.
       let m = state-mount (without (λ (m : Mount). m.space == n) w.forest) (left (λ i. space_of w i == n) w.peering).peers i s v.same_mounts e in
-      ap (λ o. unwrap_or (option_map (λ (m : Mount). m.space) o) 0) (m.1 ∙ sym (stays i m.0 m.1))) v.peering.rising
+      ap (λ o. unwrap_or (option_map (λ (m : Mount). m.space) o) 0) (m.1 ∙ sym (stays w h n i m.0 m.1))) v.peering.rising
 
   -- nothing outside has a master in it
   pub end_outside : IsContained n w → IsSameOutside n w (without_space w n)

@@ -11,15 +11,13 @@ pub mod PartLaws
 pub mod BelowLaws
 pub mod WithinLaws
 pub mod TreeOfLaws
-pub mod MountedLaws
 pub mod SizeLaws
 pub mod CopyingLaws
 pub mod DroppingLaws
 pub mod AlongLaws
 pub mod MemberLaws
 pub mod JudgedLaws
-pub mod BoundLaws
-pub mod MovingLaws
+pub mod LateLaws
 pub mod PivotForestLaws
 pub mod PivotLaws
 pub mod ExchangeLaws

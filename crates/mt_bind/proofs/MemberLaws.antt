@@ -1,32 +1,41 @@
--- The source trees of binds as lists of IDs, and how many copies they make at least.
-use Rattle.std.proofs.Common.{◌≡◌, ℕ, ◌+◌, ◌≤◌, Bool, true, false, cond, ◌==◌, eq-eqb, List, [], ◌∷◌, map, length, Option, Some, None, refl, sym, ap, ◌∙◌, ◌&&◌, ◌++◌, ◌<◌, drop, get_or, append_assoc, inl, inr, arith, length-append}
-use Rattle.std.specs.Prelude.{unwrap_or, nat_lt}
-use Rattle.std.specs.List.{filter, flat_map, list_all, last_or}
+-- The source trees of binds and moves as lists of IDs, and how many copies a bind makes at least.
+use Rattle.std.proofs.Common.{◌≡◌, ℕ, ◌+◌, ◌≤◌, Bool, true, false, cond, ◌==◌, eqb, eqb-true, eq-eqb, ◌||◌, List, [], ◌∷◌, map, length, Option, Some, None, refl, sym, ap, ◌∙◌, ◌&&◌, ◌++◌, ◌<◌, drop, get_or, append_assoc, inl, inr, arith, length-append}
+use Rattle.std.specs.Prelude.{unwrap_or, is_some, nat_lt}
+use Rattle.std.specs.List.{filter, flat_map, list_all, list_any, last_or}
+use Rattle.std.specs.Option.{option_map}
 use Rattle.std.proofs.lemmas.Bool.Decides.{nat_tests}
 use Rattle.std.proofs.lemmas.List.{drop_more, length-map}
-use Rattle.mt_skel.specs.Keyed.{rises}
+use Rattle.mt_skel.specs.Keyed.{rises, among}
+use Rattle.mt_skel.proofs.KeyedLaws.{passing, row_at-key, row_at-filter}
 use Rattle.mt_mounts.specs.declared.mount.Mount.{Mount}
 use Rattle.mt_mounts.specs.declared.mount.Place.{Place}
 use Rattle.mt_mounts.specs.Forest.{id_of, mount_at, is_below, subtree}
-use Rattle.mt_propagate.specs.World.{WorldView}
-use Rattle.mt_propagate.specs.Named.{unknown, mount_or_unknown}
+use Rattle.mt_mounts.proofs.SlotLaws.{eqb-turned}
+use Rattle.mt_propagate.specs.World.{WorldView, state_of, root_dir}
+use Rattle.mt_propagate.specs.Named.{unknown, mount_or_unknown, is_mount_root}
 use Rattle.mt_propagate.specs.Limits.{too_many_mounts}
 use Rattle.mt_propagate.specs.Copies.{Source, MountCopy, copies_at, new_copies}
 use Rattle.mt_propagate.specs.Receivers.{hits}
 use Rattle.mt_propagate.specs.Sound.{IsSource}
 use Rattle.mt_propagate.specs.Plans.{member_of, copied_source}
+use Rattle.mt_propagate.proofs.RowLaws.{keys-filter}
+use Rattle.mt_propagate.proofs.BelowSourceLaws.{below-source}
 use Rattle.mt_skel.proofs.ElementLaws.{In, in_filter, in_row}
-use Rattle.mt_bind.specs.Sources.{top_at, alone, tree_within, is_bindable, is_bound_along, leads_within, path_to}
+use Rattle.mt_bind.specs.Sources.{top_at, alone, tree_within, is_bindable, is_bound_along, leads_within, path_to, tree_of}
 
--- the IDs that pass a test are those of the mounts that pass it
-pub filter_ids : (t : ℕ → Bool) (ms : List Mount) → filter t (map id_of ms) ≡ map id_of (filter (λ m. t m.id) ms)
-filter_ids t [] = refl
-filter_ids t (m ∷ ms) = go (t m.id) (filter_ids t ms)
+-- an ID is among those of mounts where one of them has it
+pub among-rows : (ms : List Mount) (i : ℕ) → among (map id_of ms) i ≡ is_some (mount_at ms i)
+among-rows [] i = refl
+among-rows (m ∷ ms) i = ap (λ b. b || among (map id_of ms) i) (eqb-turned m.id i) ∙ go (eqb i m.id) (among-rows ms i)
   where
-    go : (b : Bool) → filter t (map id_of ms) ≡ map id_of (filter (λ m. t m.id) ms)
-        → cond b (m.id ∷ filter t (map id_of ms)) (filter t (map id_of ms)) ≡ map id_of (cond b (m ∷ filter (λ m. t m.id) ms) (filter (λ m. t m.id) ms))
-    go true ih = ap (λ (l : List ℕ). m.id ∷ l) ih
+    go : (b : Bool) → among (map id_of ms) i ≡ is_some (mount_at ms i) → (b || among (map id_of ms) i) ≡ is_some (cond b (Some m) (mount_at ms i))
+    go true ih = refl
     go false ih = ih
+
+-- something that is kept under a test is there where the test passes
+pub some_if : (b : Bool) (m : Mount) → is_some (cond b (Some m) None) ≡ b
+some_if true m = refl
+some_if false m = refl
 
 -- a test that asks for another one first passes the same where those that fail the other are left out
 module _ (inside after last : ℕ → Bool) where
@@ -60,7 +69,7 @@ module _ (w : WorldView) (p : Place) where
   pub bound_below : filter (is_bound_along w p) (subtree w.forest p.mount) ≡ map id_of (filter (λ m. is_bound_along w p m.id) w.forest)
   bound_below =
       filter_within (is_below w.forest p.mount) (λ i. list_all (is_bindable w) (path_to w p.mount i)) (λ i. leads_within w p.dir (last_or None (path_to w p.mount i))) (map id_of w.forest)
-      ∙ filter_ids (is_bound_along w p) w.forest
+      ∙ sym (keys-filter id_of (is_bound_along w p) w.forest)
 
   abbrev with_mounts : List Mount → Source
   with_mounts ms = record { mounts = ms; top = top_at w p; moved = false }
@@ -117,3 +126,31 @@ module _ (w : WorldView) (src : Source) (dest : Place) (still : src.moved ≡ fa
     where
       beyond : (n k c : ℕ) → 4096 ≤ n → 1 ≤ k → k ≤ c → nat_lt 4096 (n + c) ≡ true
       beyond n k c a b d = grind (arith, nat_tests)
+
+-- a test of IDs is one of their mounts
+any_ids : (t : ℕ → Bool) (ms : List Mount) → list_any t (map id_of ms) ≡ list_any (λ (m : Mount). t m.id) ms
+any_ids t [] = refl
+any_ids t (m ∷ ms) = ap (λ b. t m.id || b) (any_ids t ms)
+
+pub unbindable_ids : (w : WorldView) (i : ℕ) (ids : List ℕ) → ids ≡ subtree w.forest i
+    → list_any (λ k. (state_of w k).unbindable) ids ≡ list_any (λ (m : Mount). (state_of w m.id).unbindable) (tree_of w i).mounts
+unbindable_ids w i ids e =
+    ap (list_any (λ k. (state_of w k).unbindable)) (e ∙ sym (keys-filter id_of (is_below w.forest i) w.forest))
+    ∙ any_ids (λ k. (state_of w k).unbindable) (filter (λ (m : Mount). is_below w.forest i m.id) w.forest)
+
+-- a mount that is there is in a tree if its ID is among those of the tree
+pub below_among : (w : WorldView) → rises id_of w.forest ≡ true → (i j : ℕ) (m : Mount) (ids : List ℕ) → ids ≡ subtree w.forest i → mount_at w.forest j ≡ Some m → among ids j ≡ is_below w.forest i j
+below_among w rising i j m ids e there =
+    ap (λ l. among l j) (e ∙ sym (keys-filter id_of (is_below w.forest i) w.forest))
+    ∙ among-rows (filter (λ (m : Mount). is_below w.forest i m.id) w.forest) j
+    ∙ ap is_some (row_at-filter id_of (λ (m : Mount). is_below w.forest i m.id) j w.forest rising ∙ ap (passing (λ (m : Mount). is_below w.forest i m.id)) there)
+    ∙ some_if (is_below w.forest i m.id) m
+    ∙ ap (is_below w.forest i) (row_at-key id_of j w.forest m there)
+
+-- the tree that moves, by its mounts' IDs
+pub moved_tree : (w : WorldView) (s : Place) → rises id_of w.forest ≡ true → is_mount_root w s ≡ true → (ids : List ℕ) → ids ≡ subtree w.forest s.mount → copied_source w s.mount s.dir ids true ≡ tree_of w s.mount
+moved_tree w s rising named ids e = below-source w rising s.mount s.dir (the_root (mount_at w.forest s.mount) (eqb-true s.dir (root_dir w s.mount) named)) ids e
+  where
+    the_root : (o : Option Mount) → s.dir ≡ unwrap_or (option_map (λ (m : Mount). m.root) o) 0 → s.dir ≡ (unwrap_or o unknown).root
+    the_root None e = e
+    the_root (Some m) e = e

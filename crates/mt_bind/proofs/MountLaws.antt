@@ -1,5 +1,6 @@
 -- What a mount, a bind and a move make of a world, and that it stays well-formed.
-use Rattle.std.proofs.Common.{◌≡◌, ℕ, Bool, true, false, List, Some, Ok, sym, ap, ◌∙◌, subst, arith}
+use Rattle.std.proofs.Common.{◌≡◌, ℕ, Bool, true, false, List, Option, Some, Ok, sym, ap, ◌∙◌, subst, arith}
+use Rattle.std.specs.Prelude.{unwrap_or}
 use Rattle.mt_skel.specs.Outcome.{refusal_of}
 use Rattle.mt_skel.specs.Skeleton.{root_of}
 use Rattle.mt_mounts.specs.declared.mount.Mount.{Mount}
@@ -7,7 +8,7 @@ use Rattle.mt_mounts.specs.declared.mount.Place.{Place}
 use Rattle.mt_mounts.specs.Forest.{mount_at, is_below}
 use Rattle.mt_mounts.specs.Walk.{walk}
 use Rattle.mt_propagate.specs.World.{WorldView, space_of}
-use Rattle.mt_propagate.specs.Named.{unknown, is_root_place}
+use Rattle.mt_propagate.specs.Named.{unknown, is_root_place, is_root_mount}
 use Rattle.mt_propagate.specs.WellFormed.{IsWellFormed}
 use Rattle.mt_propagate.specs.Contained.{IsLocal}
 use Rattle.mt_propagate.specs.Copies.{Source}
@@ -15,9 +16,8 @@ use Rattle.mt_propagate.specs.Copied.{copied}
 use Rattle.mt_propagate.specs.Sound.{IsSource, IsDestination}
 use Rattle.mt_propagate.proofs.WalkLaws.{walked}
 use Rattle.mt_propagate.proofs.ContainedLaws.{below-space, ended-inside}
-use Rattle.mt_propagate.proofs.CopyRowLaws.{space_is}
 use Rattle.mt_propagate.proofs.MovedLaws.{source_kept}
-use Rattle.mt_bind.specs.Sources.{fresh, alone, tree_within, source_at, tree_of}
+use Rattle.mt_bind.specs.Sources.{fresh, source_at, tree_of}
 use Rattle.mt_bind.specs.Mounting.{mounted, bound, moved}
 use Rattle.mt_bind.proofs.AcceptedLaws.{path_end, fs_of, mount_accepted, bind_accepted, move_accepted}
 use Rattle.mt_bind.proofs.BelowLaws.{below_self}
@@ -53,14 +53,22 @@ near_below w h top n ms dest below at here i m q e f = sym (below-space w h top 
 fresh_near : (w : WorldView) → IsWellFormed w → (fs : ℕ) (dest : Place) → IsLocal w (fresh w fs) dest
 fresh_near w h fs dest i m q e f = no_zero w h q (ap (mount_at w.forest) (sym (one_row (record unknown { root = root_of w.skel fs }) i m e).0) ∙ f)
 
+-- where the place is the end of a path, off a root place
+copying : (w v : WorldView) (n : ℕ) (path : List (List ℕ)) (src : Source) → IsWellFormed w → walk w.skel w.forest n path ≡ Ok (path_end w n path) → is_root_place w (path_end w n path) ≡ false → copied w src (path_end w n path) ≡ v
+    → IsSource w src (path_end w n path) → (space_of w (path_end w n path).mount ≡ n → IsLocal w src (path_end w n path)) → IsCopying n w v
+copying w v n path src h ended off made source near =
+    let p = path_end w n path in
+    let here = ended-inside w h n path (ap refusal_of ended) in
+    record { src = src; dest = p; made = made; source = source; destination = destination w n path p h ended off; near = near here; here = here }
+
 pub mount_copies : (w : WorldView) (n : ℕ) (name : List ℕ) (path : List (List ℕ)) (v : WorldView) (i : ℕ) → IsWellFormed w → mounted w n name path ≡ Ok (v, i) → IsCopying n w v
 mount_copies w n name path v i h e =
     let a = mount_accepted w n name path v i e in
     let fs = fs_of w name in
     let p = path_end w n path in
-    let d = destination w n path p h a.ended a.off_root in
-    let low = holds_there w.skel d.there.0.root p.dir d.there.2 in
-    record { src = fresh w fs; dest = p; made = a.world; source = fresh_is_source w h fs p (omega (arith, low)); destination = d; near = fresh_near w h fs p; here = ended-inside w h n path (ap refusal_of a.ended) }
+    let r = (walked w n h path p a.ended).0 in
+    let low = holds_there w.skel r.0.root p.dir r.3 in
+    copying w v n path (fresh w fs) h a.ended a.off_root a.world (fresh_is_source w h fs p (omega (arith, low))) (λ here. fresh_near w h fs p)
 
 pub mount_keeps : (w : WorldView) (n : ℕ) (name : List ℕ) (path : List (List ℕ)) (v : WorldView) (i : ℕ) → IsWellFormed w → mounted w n name path ≡ Ok (v, i) → IsWellFormed v
 mount_keeps w n name path v i h e = copying_keeps n w v h (mount_copies w n name path v i h e)
@@ -70,53 +78,41 @@ pub bound_source : (w : WorldView) (n : ℕ) (from : List (List ℕ)) (recursive
 bound_source w n from true p dest h e = let r = (walked w n h from p e).0 in within_source w h p r.0 r.1 r.3 dest
 bound_source w n from false p dest h e = let r = (walked w n h from p e).0 in alone_is_source w h p r.0 r.1 r.3 dest
 
--- and is of the namespace
-bound_near : (w : WorldView) (n : ℕ) (from : List (List ℕ)) (recursive : Bool) (p dest : Place) → IsWellFormed w → walk w.skel w.forest n from ≡ Ok p → space_of w dest.mount ≡ n → IsLocal w (source_at w recursive p) dest
-bound_near w n from true p dest h e here =
+-- whose mounts are below the top
+bound_below : (w : WorldView) (n : ℕ) (from : List (List ℕ)) (recursive : Bool) (p : Place) → IsWellFormed w → walk w.skel w.forest n from ≡ Ok p → (i : ℕ) (m : Mount) → mount_at (source_at w recursive p).mounts i ≡ Some m → is_below w.forest p.mount i ≡ true
+bound_below w n from true p h e i m f = let r = (walked w n h from p e).0 in within_below w h p r.0 r.1 r.3 i m f
+bound_below w n from false p h e i m f =
     let r = (walked w n h from p e).0 in
-    near_below w h p.mount n (tree_within w p).mounts dest (within_below w h p r.0 r.1 r.3) (space_is w p.mount r.0 r.1 ∙ r.2) here
-bound_near w n from false p dest h e here =
-    let r = (walked w n h from p e).0 in
-    near_below w h p.mount n (alone w p).mounts dest (λ i m f. subst (λ k. is_below w.forest p.mount k ≡ true) (sym (alone_only w h p r.0 r.1 r.3 i m f)) (below_self w h p.mount)) (space_is w p.mount r.0 r.1 ∙ r.2) here
+    subst (λ k. is_below w.forest p.mount k ≡ true) (sym (alone_only w h p r.0 r.1 r.3 i m f)) (below_self w h p.mount)
 
 pub bind_copies : (w : WorldView) (n : ℕ) (recursive : Bool) (from to : List (List ℕ)) (v : WorldView) (i : ℕ) → IsWellFormed w → bound w n recursive from to ≡ Ok (v, i) → IsCopying n w v
 bind_copies w n recursive from to v i h e =
     let a = bind_accepted w n recursive from to v i e in
     let s = path_end w n from in
     let p = path_end w n to in
-    let here = ended-inside w h n to (ap refusal_of a.ended) in
-    record {
-      src = source_at w recursive s;
-      dest = p;
-      made = a.world;
-      source = bound_source w n from recursive s p h a.begun;
-      destination = destination w n to p h a.ended a.off_root;
-      near = bound_near w n from recursive s p h a.begun here;
-      here = here;
-    }
+    let src = source_at w recursive s in
+    copying w v n to src h a.ended a.off_root a.world (bound_source w n from recursive s p h a.begun)
+    (near_below w h s.mount n src.mounts p (bound_below w n from recursive s h a.begun) (ended-inside w h n from (ap refusal_of a.begun)))
 
 pub bind_keeps : (w : WorldView) (n : ℕ) (recursive : Bool) (from to : List (List ℕ)) (v : WorldView) (i : ℕ) → IsWellFormed w → bound w n recursive from to ≡ Ok (v, i) → IsWellFormed v
 bind_keeps w n recursive from to v i h e = copying_keeps n w v h (bind_copies w n recursive from to v i h e)
 
+-- what moves is a source tree
+pub moving_source : (w : WorldView) (n : ℕ) (from to : List (List ℕ)) (s p : Place) → IsWellFormed w → walk w.skel w.forest n from ≡ Ok s → is_root_mount w s ≡ false → walk w.skel w.forest n to ≡ Ok p → is_below w.forest s.mount p.mount ≡ false
+    → IsSource w (tree_of w s.mount) p
+moving_source w n from to s p h began placed ended outside =
+    let q = (walked w n h from s began).0 in
+    let r = (walked w n h to p ended).0 in
+    tree_source w h s.mount q.0 q.1 p placed (λ u f. ap (λ (o : Option Mount). (unwrap_or o unknown).space) (sym f ∙ r.1) ∙ r.2 ∙ sym q.2) outside
+
 pub move_copies : (w : WorldView) (n : ℕ) (from to : List (List ℕ)) (v : WorldView) → IsWellFormed w → moved w n from to ≡ Ok v → IsCopying n w v
 move_copies w n from to v h e =
     let a = move_accepted w n from to v e in
-    let i = (path_end w n from).mount in
+    let s = path_end w n from in
     let p = path_end w n to in
-    let from_end = (walked w n h from (path_end w n from) a.begun).0 in
-    let to_end = (walked w n h to p a.ended).0 in
-    let space : (u : Mount) → mount_at w.forest p.mount ≡ Some u → u.space ≡ from_end.0.space =
-    (λ u f. (let s : Some u ≡ Some to_end.0 = sym f ∙ to_end.1 in let same : u ≡ to_end.0 = cc in ap (λ (m : Mount). m.space) same ∙ to_end.2 ∙ sym from_end.2)) in
-    let here = ended-inside w h n to (ap refusal_of a.ended) in
-    record {
-      src = tree_of w i;
-      dest = p;
-      made = a.world;
-      source = tree_source w h i from_end.0 from_end.1 p a.placed space a.outside;
-      destination = destination w n to p h a.ended a.off_root;
-      near = near_below w h i n (tree_of w i).mounts p (tree_below w h i from_end.0 from_end.1) (ended-inside w h n from (ap refusal_of a.begun)) here;
-      here = here;
-    }
+    let q = (walked w n h from s a.begun).0 in
+    copying w v n to (tree_of w s.mount) h a.ended a.off_root a.world (moving_source w n from to s p h a.begun a.placed a.ended a.outside)
+    (near_below w h s.mount n (tree_of w s.mount).mounts p (tree_below w h s.mount q.0 q.1) (ended-inside w h n from (ap refusal_of a.begun)))
 
 pub move_keeps : (w : WorldView) (n : ℕ) (from to : List (List ℕ)) (v : WorldView) → IsWellFormed w → moved w n from to ≡ Ok v → IsWellFormed v
 move_keeps w n from to v h e = copying_keeps n w v h (move_copies w n from to v h e)

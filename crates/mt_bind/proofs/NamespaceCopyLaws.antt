@@ -1,5 +1,6 @@
 -- The mounts of a copy of a namespace: their numbers, and where they are found.
 use Rattle.std.proofs.Common.{◌≡◌, ◌⊎◌, ℕ, ◌+◌, ◌<◌, ◌≤◌, true, ◌==◌, eqb, eqb-true, eq-eqb, List, ◌++◌, map, length, Option, Some, None, refl, sym, ap, ◌∙◌, inl, inr, arith}
+use Rattle.std.specs.Prelude.{unwrap_or}
 use Rattle.std.specs.List.{list_any, range_with_len}
 use Rattle.std.specs.Option.{option_map}
 use Rattle.std.proofs.lemmas.Cmp.{nat_eq_equiv}
@@ -89,11 +90,7 @@ module _ (w : WorldView) (h : IsWellFormed w) (n : ℕ) where
     where
       go : (o : Option Place) → x.place ≡ o → option_map {U = Place} (λ (q : Place). record { mount = copy_number w (map id_of (originals w n)) q.mount; dir = q.dir }) o ≡ Some p → (q : Place) × (x.place ≡ Some q) × (p.mount ≡ copy_number w (map id_of (originals w n)) q.mount) × (p.dir ≡ q.dir)
       go None at e = absurd (let v : None ≡ Some p = e in cc)
-      go (Some q) at e =
-          let t : Place = record { mount = copy_number w (map id_of (originals w n)) q.mount; dir = q.dir } in
-          let v : Some t ≡ Some p = e in
-          let same : t ≡ p = cc in
-          (q, at, ap (λ (p : Place). p.mount) (sym same), ap (λ (p : Place). p.dir) (sym same))
+      go (Some q) at e = (q, at, ap (λ (o : Option Place). (unwrap_or o p).mount) (sym e), ap (λ (o : Option Place). (unwrap_or o p).dir) (sym e))
 
   pub unplaced-copy : (x : Mount) → (copy_of w (map id_of (originals w n)) x).place ≡ None → x.place ≡ None
   unplaced-copy x e = go x.place e

@@ -1,15 +1,16 @@
 -- The mounts of each namespace stay one tree where another mount of one becomes its root mount.
-use Rattle.std.proofs.Common.{◌≡◌, ◌≢◌, ◌⊎◌, ℕ, suc, ◌+◌, ◌<◌, Bool, true, false, cond, ◌||◌, ◌==◌, eq-eqb, List, map, length, Some, None, refl, sym, ap, ◌∙◌, subst, inl, inr, arith, IsTrue}
-use Rattle.std.specs.Option.{option_map}
+use Rattle.std.proofs.Common.{◌≡◌, ◌≢◌, ◌⊎◌, ℕ, suc, ◌+◌, ◌<◌, Bool, true, false, cond, ◌||◌, ◌==◌, eq-eqb, List, map, length, Option, Some, None, refl, sym, ap, ◌∙◌, subst, inl, inr, arith, IsTrue}
+use Rattle.std.specs.Option.{option_map, is_none}
 use Rattle.std.proofs.lemmas.Bool.{cases_eq, ne_eqb, true≢false}
 use Rattle.mt_skel.proofs.KeyedLaws.{row_at-key, rises-map}
 use Rattle.mt_skel.specs.Skeleton.{holds}
 use Rattle.mt_mounts.specs.declared.mount.Mount.{Mount}
 use Rattle.mt_mounts.specs.declared.mount.Place.{Place}
-use Rattle.mt_mounts.specs.Forest.{id_of, mount_at, is_at, is_below, parent}
+use Rattle.mt_mounts.specs.Forest.{id_of, mount_at, is_at, is_root, is_below, parent}
 use Rattle.mt_mounts.proofs.ForestLaws.{find_none}
 use Rattle.mt_mounts.proofs.Walks.{below_stop}
 use Rattle.mt_mounts.proofs.CycleLaws.{above_of, no_cycle, rank_of}
+use Rattle.mt_peers.proofs.MemberLaws.{some-is}
 use Rattle.mt_propagate.specs.World.{WorldView}
 use Rattle.mt_propagate.specs.WellFormed.{IsForest, IsWellFormed}
 use Rattle.mt_propagate.proofs.ContainedLaws.{below-space}
@@ -17,8 +18,18 @@ use Rattle.mt_propagate.proofs.CopyForestLaws.{stands_here}
 use Rattle.mt_propagate.proofs.CopyRowLaws.{space_is}
 use Rattle.mt_propagate.proofs.RowLaws.{mapped-row, row-mapped}
 use Rattle.mt_propagate.proofs.TreeLaws.{parent-from, parent-is, rank-fell}
+use Rattle.mt_propagate.proofs.WalkLaws.{root_here}
 use Rattle.mt_bind.specs.Pivoting.{pivoted_mount, MayPivot}
 use Rattle.mt_bind.proofs.BelowLaws.{below_parent}
+use Rattle.mt_bind.proofs.CopyTreeLaws.{each_way}
+
+-- a root mount has no place
+pub root_unplaced : (n : ℕ) (m : Mount) → is_root n m ≡ true → m.place ≡ None
+root_unplaced n m e = go m.place (root_here n m e).0
+  where
+    go : (o : Option Place) → is_none o ≡ true → o ≡ None
+    go None e = refl
+    go (Some q) e = absurd (cc)
 
 module _ (w : WorldView) (h : IsWellFormed w) (i j : ℕ) (p : Place) (a : MayPivot w i j p) where
   abbrev ms : List Mount
@@ -29,25 +40,23 @@ module _ (w : WorldView) (h : IsWellFormed w) (i j : ℕ) (p : Place) (a : MayPi
 
   -- the two differ, since one has a place and the other has none
   pub differ : i ≢ j
-  differ same =
-      let v : Some a.top ≡ Some a.root = sym a.top_there ∙ ap (mount_at ms) same ∙ a.root_there in
-      let x : a.top ≡ a.root = cc in
-      a.placed (ap (λ (m : Mount). m.place) x ∙ a.unplaced)
+  differ same = a.placed (ap (λ (m : Mount). m.place) (some-is a.top a.root (sym a.top_there ∙ ap (mount_at ms) same ∙ a.root_there)) ∙ a.unplaced)
 
   -- what the pivot does to a mount
   new_place : (k : ℕ) (x : Mount) → mount_at ms k ≡ Some x → k ≡ i → (x ≡ a.top) × ((pivot x).place ≡ None)
-  new_place k x e same =
-      let v : Some x ≡ Some a.top = sym e ∙ ap (mount_at ms) same ∙ a.top_there in
-      (let y : x ≡ a.top = cc in y, ap (λ b. cond b None (cond (x.id == j) (Some p) x.place)) (eq-eqb x.id i (row_at-key id_of k ms x e ∙ same)))
+  new_place k x e same = (
+    some-is x a.top (sym e ∙ ap (mount_at ms) same ∙ a.top_there),
+    ap (λ b. cond b None (cond (x.id == j) (Some p) x.place)) (eq-eqb x.id i (row_at-key id_of k ms x e ∙ same)),
+  )
 
   other_place : (k : ℕ) (x : Mount) → mount_at ms k ≡ Some x → k ≢ i → (pivot x).place ≡ cond (x.id == j) (Some p) x.place
   other_place k x e off = ap (λ b. cond b None (cond (x.id == j) (Some p) x.place)) (ne_eqb x.id i (λ s. off (sym (row_at-key id_of k ms x e) ∙ s)))
 
   old_place : (k : ℕ) (x : Mount) → mount_at ms k ≡ Some x → k ≡ j → (x ≡ a.root) × ((pivot x).place ≡ Some p)
-  old_place k x e same =
-      let v : Some x ≡ Some a.root = sym e ∙ ap (mount_at ms) same ∙ a.root_there in
-      let off : k ≢ i = (λ s. differ (sym s ∙ same)) in
-      (let y : x ≡ a.root = cc in y, other_place k x e off ∙ ap (λ b. cond b (Some p) x.place) (eq-eqb x.id j (row_at-key id_of k ms x e ∙ same)))
+  old_place k x e same = (
+    some-is x a.root (sym e ∙ ap (mount_at ms) same ∙ a.root_there),
+    other_place k x e (λ s. differ (sym s ∙ same)) ∙ ap (λ b. cond b (Some p) x.place) (eq-eqb x.id j (row_at-key id_of k ms x e ∙ same)),
+  )
 
   kept_place : (k : ℕ) (x : Mount) → mount_at ms k ≡ Some x → k ≢ i → k ≢ j → (pivot x).place ≡ x.place
   kept_place k x e off away =
@@ -60,8 +69,7 @@ module _ (w : WorldView) (h : IsWellFormed w) (i j : ℕ) (p : Place) (a : MayPi
     | inr off ↦ elim (cases_eq k j) [
       | inl same ↦
           let o = old_place k x e same in
-          let v : Some p ≡ Some q = sym o.1 ∙ at in
-          inl (same, let s : p ≡ q = cc in s, o.0)
+          inl (same, some-is p q (sym o.1 ∙ at), o.0)
       | inr away ↦ inr (off, sym (kept_place k x e off away) ∙ at)
     ]
   ]
@@ -111,16 +119,11 @@ module _ (w : WorldView) (h : IsWellFormed w) (i j : ℕ) (p : Place) (a : MayPi
   apart_now k l b d q ek el bq dq =
       let x = was k b ek in
       let y = was l d el in
-      elim (stands k x.0 q x.1 (sym (place_of b x.0 x.2) ∙ bq)) [
-        | inl old ↦ elim (stands l y.0 q y.1 (sym (place_of d y.0 y.2) ∙ dq)) [
-          | inl too ↦ old.0 ∙ sym too.0
-          | inr still ↦ absurd (none_there l y.0 y.1 (still.1 ∙ ap (λ q. Some q) (sym old.1)))
-        ]
-        | inr still ↦ elim (stands l y.0 q y.1 (sym (place_of d y.0 y.2) ∙ dq)) [
-          | inl old ↦ absurd (none_there k x.0 x.1 (still.1 ∙ ap (λ q. Some q) (sym old.1)))
-          | inr too ↦ h.forest.apart k l x.0 y.0 q x.1 y.1 still.1 too.1
-        ]
-      ]
+      each_way (stands k x.0 q x.1 (sym (place_of b x.0 x.2) ∙ bq)) (stands l y.0 q y.1 (sym (place_of d y.0 y.2) ∙ dq))
+      (λ old too. old.0 ∙ sym too.0)
+      (λ old still. absurd (none_there l y.0 y.1 (still.1 ∙ ap (λ q. Some q) (sym old.1))))
+      (λ still old. absurd (none_there k x.0 x.1 (still.1 ∙ ap (λ q. Some q) (sym old.1))))
+      (λ still too. h.forest.apart k l x.0 y.0 q x.1 y.1 still.1 too.1)
 
   rooted_now : (k : ℕ) (b : Mount) → mount_at (map pivot ms) k ≡ Some b → (l : ℕ) × (r : Mount) × (mount_at (map pivot ms) l ≡ Some r) × (r.place ≡ None) × (r.space ≡ b.space)
   rooted_now k b e =
@@ -129,14 +132,10 @@ module _ (w : WorldView) (h : IsWellFormed w) (i j : ℕ) (p : Place) (a : MayPi
         | inl here ↦ (i, pivot a.top, now i a.top a.top_there, (new_place i a.top a.top_there refl).1, sym here ∙ sym (space_of b x.0 x.2))
         | inr other ↦
             let r = h.forest.rooted k x.0 x.1 in
-            let away : r.0 ≢ j = (λ s.
-            let v : Some r.1 ≡ Some a.root = sym r.2 ∙ ap (mount_at ms) s ∙ a.root_there in
-            let y : r.1 ≡ a.root = cc in
-            other (sym r.4 ∙ ap (λ (m : Mount). m.space) y ∙ a.same_space)) in
-            let off : r.0 ≢ i = (λ s.
-            let v : Some r.1 ≡ Some a.top = sym r.2 ∙ ap (mount_at ms) s ∙ a.top_there in
-            let y : r.1 ≡ a.top = cc in
-            other (sym r.4 ∙ ap (λ (m : Mount). m.space) y)) in
+            let space : (k : ℕ) (m : Mount) → mount_at ms k ≡ Some m → r.0 ≡ k → x.0.space ≡ m.space =
+            λ k m f s. sym r.4 ∙ ap (λ (m : Mount). m.space) (some-is r.1 m (sym r.2 ∙ ap (mount_at ms) s ∙ f)) in
+            let away : r.0 ≢ j = λ s. other (space j a.root a.root_there s ∙ a.same_space) in
+            let off : r.0 ≢ i = λ s. other (space i a.top a.top_there s) in
             (r.0, pivot r.1, now r.0 r.1 r.2, kept_place r.0 r.1 r.2 off away ∙ r.3, r.4 ∙ sym (space_of b x.0 x.2))
       ]
 
@@ -149,16 +148,11 @@ module _ (w : WorldView) (h : IsWellFormed w) (i j : ℕ) (p : Place) (a : MayPi
       let x = was k b ek in
       let y = was l d el in
       let spaces : x.0.space ≡ y.0.space = sym (space_of b x.0 x.2) ∙ same ∙ space_of d y.0 y.2 in
-      elim (rootless k x.0 x.1 (sym (place_of b x.0 x.2) ∙ bn)) [
-        | inl new ↦ elim (rootless l y.0 y.1 (sym (place_of d y.0 y.2) ∙ dn)) [
-          | inl too ↦ new.0 ∙ sym too.0
-          | inr old ↦ absurd (one_old l y.0 y.1 old.0 old.1 (sym spaces ∙ ap (λ (m : Mount). m.space) new.1))
-        ]
-        | inr old ↦ elim (rootless l y.0 y.1 (sym (place_of d y.0 y.2) ∙ dn)) [
-          | inl new ↦ absurd (one_old k x.0 x.1 old.0 old.1 (spaces ∙ ap (λ (m : Mount). m.space) new.1))
-          | inr too ↦ h.forest.one_root k l x.0 y.0 x.1 y.1 old.1 too.1 spaces
-        ]
-      ]
+      each_way (rootless k x.0 x.1 (sym (place_of b x.0 x.2) ∙ bn)) (rootless l y.0 y.1 (sym (place_of d y.0 y.2) ∙ dn))
+      (λ new too. new.0 ∙ sym too.0)
+      (λ new old. absurd (one_old l y.0 y.1 old.0 old.1 (sym spaces ∙ ap (λ (m : Mount). m.space) new.1)))
+      (λ old new. absurd (one_old k x.0 x.1 old.0 old.1 (spaces ∙ ap (λ (m : Mount). m.space) new.1)))
+      (λ old too. h.forest.one_root k l x.0 y.0 x.1 y.1 old.1 too.1 spaces)
 
   -- the old root mount is not below the new one
   above : is_below ms i j ≡ false

@@ -1,5 +1,5 @@
 -- A pivot keeps a world well-formed and a namespace contained, and changes nothing outside its namespace.
-use Rattle.std.proofs.Common.{◌≡◌, ◌≢◌, ℕ, ◌<◌, ◌≤◌, true, cond, ◌==◌, eqb-true, length, Option, Some, None, refl, sym, ap, ◌∙◌, subst}
+use Rattle.std.proofs.Common.{◌≡◌, ◌≢◌, ℕ, ◌<◌, ◌≤◌, true, cond, ◌==◌, eqb-true, map, length, Option, Some, None, refl, sym, ap, ◌∙◌, subst}
 use Rattle.std.specs.Option.{option_map, unwrap_or}
 use Rattle.std.proofs.lemmas.Bool.{ne_eqb}
 use Rattle.mt_skel.specs.Skeleton.{directory}
@@ -8,6 +8,7 @@ use Rattle.mt_mounts.specs.declared.mount.Mount.{Mount}
 use Rattle.mt_mounts.specs.declared.mount.Place.{Place}
 use Rattle.mt_mounts.specs.Forest.{id_of, mount_at, in_space}
 use Rattle.mt_propagate.specs.World.{WorldView, root_dir, space_of}
+use Rattle.mt_propagate.specs.Named.{unknown}
 use Rattle.mt_propagate.specs.WellFormed.{IsWellFormed, fs_at}
 use Rattle.mt_propagate.specs.Contained.{IsContained, IsSameOutside}
 use Rattle.mt_propagate.proofs.CopyRowLaws.{space_is}
@@ -19,22 +20,21 @@ module _ (w : WorldView) (i j : ℕ) (p : Place) where
   abbrev pivot : Mount → Mount
   pivot = pivoted_mount i j p
 
-  -- the mounts show what they showed, in the namespaces in which they were
+  -- what a pivot does not change of mounts, their roots and namespaces, is what it was
+  same : (part : Mount → ℕ) → ((m : Mount) → part (pivot m) ≡ part m) → (k : ℕ) → unwrap_or (option_map part (mount_at (map pivot w.forest) k)) 0 ≡ unwrap_or (option_map part (mount_at w.forest k)) 0
+  same part kept k = ap (λ o. unwrap_or (option_map part o) 0) (row_at-map id_of pivot (λ m. refl) k w.forest) ∙ go (mount_at w.forest k)
+    where
+      go : (o : Option Mount) → unwrap_or (option_map part (option_map pivot o)) 0 ≡ unwrap_or (option_map part o) 0
+      go None = refl
+      go (Some m) = kept m
+
   same_root : (k : ℕ) → root_dir (with_pivot w i j p) k ≡ root_dir w k
   unfolding with_pivot
-  same_root k = ap (λ o. unwrap_or (option_map (λ (m : Mount). m.root) o) 0) (row_at-map id_of pivot (λ m. refl) k w.forest) ∙ go (mount_at w.forest k)
-    where
-      go : (o : Option Mount) → unwrap_or (option_map (λ (m : Mount). m.root) (option_map pivot o)) 0 ≡ unwrap_or (option_map (λ (m : Mount). m.root) o) 0
-      go None = refl
-      go (Some m) = refl
+  same_root = same (λ (m : Mount). m.root) (λ m. refl)
 
   same_space : (k : ℕ) → space_of (with_pivot w i j p) k ≡ space_of w k
   unfolding with_pivot
-  same_space k = ap (λ o. unwrap_or (option_map (λ (m : Mount). m.space) o) 0) (row_at-map id_of pivot (λ m. refl) k w.forest) ∙ go (mount_at w.forest k)
-    where
-      go : (o : Option Mount) → unwrap_or (option_map (λ (m : Mount). m.space) (option_map pivot o)) 0 ≡ unwrap_or (option_map (λ (m : Mount). m.space) o) 0
-      go None = refl
-      go (Some m) = refl
+  same_space = same (λ (m : Mount). m.space) (λ m. refl)
 
   same_fs : (k : ℕ) → fs_at (with_pivot w i j p) k ≡ fs_at w k
   unfolding with_pivot
@@ -76,14 +76,11 @@ module _ (w : WorldView) (i j : ℕ) (p : Place) where
       -- a mount of another namespace keeps its place
       unchanged : (m : Mount) → mount_at w.forest m.id ≡ Some m → m.space ≢ n → pivot m ≡ m
       unchanged m e off =
-          ap (λ b. let y : Mount = record m { place = cond b None (cond (m.id == j) (Some p) m.place) } in y) (ne_eqb m.id i (λ s.
-          let v : Some m ≡ Some a.top = sym e ∙ ap (mount_at w.forest) s ∙ a.top_there in
-          let x : m ≡ a.top = cc in
-          off (ap (λ (y : Mount). y.space) x ∙ top_here)))
-          ∙ ap (λ b. let y : Mount = record m { place = cond b (Some p) m.place } in y) (ne_eqb m.id j (λ s.
-          let v : Some m ≡ Some a.root = sym e ∙ ap (mount_at w.forest) s ∙ a.root_there in
-          let x : m ≡ a.root = cc in
-          off (ap (λ (y : Mount). y.space) x ∙ a.same_space ∙ top_here)))
+          let spaces : (x : Mount) → mount_at w.forest m.id ≡ Some x → m.space ≡ x.space = λ x f. ap (λ o. (unwrap_or o unknown).space) (sym e ∙ f) in
+          ap (λ b. let y : Mount = record m { place = cond b None (cond (m.id == j) (Some p) m.place) } in y)
+          (ne_eqb m.id i (λ s. off (spaces a.top (ap (mount_at w.forest) s ∙ a.top_there) ∙ top_here)))
+          ∙ ap (λ b. let y : Mount = record m { place = cond b (Some p) m.place } in y)
+          (ne_eqb m.id j (λ s. off (spaces a.root (ap (mount_at w.forest) s ∙ a.root_there) ∙ a.same_space ∙ top_here)))
 
       -- nothing changes outside the namespace
       pub pivot_outside : IsSameOutside n w (with_pivot w i j p)

@@ -19,6 +19,7 @@ use Rattle.mt_propagate.proofs.WalkLaws.{walked, root_here}
 use Rattle.mt_bind.specs.Pivoting.{root_id, pivoted, with_pivot, MayPivot}
 use Rattle.mt_bind.proofs.AcceptedLaws.{path_end, pivot_accepted}
 use Rattle.mt_bind.proofs.MountLaws.{destination}
+use Rattle.mt_bind.proofs.PivotForestLaws.{root_unplaced}
 use Rattle.mt_bind.proofs.PivotLaws.{pivot_kept, pivot_contained, pivot_outside}
 
 -- a walk begins at the root mount of its namespace
@@ -35,22 +36,18 @@ pub may_pivot : (w : WorldView) (n : ℕ) (new old : List (List ℕ)) (s p : Pla
 may_pivot w n new old s p h began placed ended off inside =
     let top = (walked w n h new s began).0 in
     let root = begins w n new s began in
-    let at = root_here n root.0 (find_passes (is_root n) w.forest root.0 root.1) in
+    let passes = find_passes (is_root n) w.forest root.0 root.1 in
     record {
       top = top.0;
       top_there = top.1;
       placed = λ e. true≢false (sym (ap (λ (o : Option Mount). is_none (unwrap_or o unknown).place) top.1 ∙ ap is_none e) ∙ placed);
       root = root.0;
       root_there = ap (λ (o : Option Mount). mount_at w.forest (unwrap_or (option_map id_of o) 0)) root.1 ∙ find_row (is_root n) w.forest root.0 h.forest.rising root.1;
-      unplaced = none_is root.0.place at.0;
-      same_space = at.1 ∙ sym top.2;
+      unplaced = root_unplaced n root.0 passes;
+      same_space = (root_here n root.0 passes).1 ∙ sym top.2;
       destination = destination w n old p h ended off;
       inside = inside;
     }
-  where
-    none_is : (o : Option Place) → is_none o ≡ true → o ≡ None
-    none_is None e = refl
-    none_is (Some q) e = absurd (cc)
 
 -- a pivot that is accepted
 pub record IsPivot (n : ℕ) (w v : WorldView) : Type 0 where

@@ -1,62 +1,52 @@
 -- How much new namespaces, copies of namespaces, mounts, binds, moves and pivots add to a world.
-use Rattle.std.proofs.Common.{◌≡◌, ℕ, ◌+◌, ◌≤◌, Bool, true, false, cond, not, ◌==◌, List, [], ◌∷◌, map, length, None, Ok, ap, subst, arith, length-append}
+use Rattle.std.proofs.Common.{◌≡◌, ℕ, ◌+◌, ◌≤◌, Bool, true, false, cond, not, ◌==◌, List, [], ◌∷◌, ◌++◌, map, length, Ok, refl, sym, ap, ◌∙◌, subst, arith, length-append}
 use Rattle.std.specs.List.{filter}
 use Rattle.std.proofs.lemmas.Bool.Decides.{nat_tests}
 use Rattle.std.proofs.lemmas.List.{length-map}
-use Rattle.mt_skel.specs.Skeleton.{root_of}
 use Rattle.mt_mounts.specs.declared.mount.Mount.{Mount}
-use Rattle.mt_mounts.specs.Attrs.{new_attrs}
 use Rattle.mt_mounts.specs.Forest.{id_of, is_below}
 use Rattle.mt_peers.specs.Loss.{left}
 use Rattle.mt_propagate.specs.World.{WorldView}
+use Rattle.mt_propagate.specs.Limits.{too_many_mounts}
 use Rattle.mt_propagate.proofs.SizeLaws.{IsSized, few_pass, copied_sized}
 use Rattle.mt_bind.specs.Spaces.{originals, new_space, with_space, copy_space, with_copy, drop_space, without_space}
 use Rattle.mt_bind.specs.Copying.{copy_of}
 use Rattle.mt_bind.specs.Sources.{fresh, top_at, is_bound_along, source_at, tree_of}
 use Rattle.mt_bind.specs.Mounting.{mounted, bound, moved}
 use Rattle.mt_bind.specs.Pivoting.{root_id, pivoted_mount, with_pivot, pivoted}
+use Rattle.mt_bind.proofs.SpaceLaws.{new_root}
 use Rattle.mt_bind.proofs.AcceptedLaws.{path_end, fs_of, new_space_accepted, copy_space_accepted, drop_space_accepted, mount_accepted, bind_accepted, move_accepted, pivot_accepted}
+
+-- a namespace more, with these mounts
+added_sized : (w v : WorldView) (ms : List Mount) → too_many_mounts w (length ms) ≡ false → v.forest ≡ w.forest ++ ms → v.next_mount ≡ w.next_mount + length ms → v.next_space ≡ w.next_space + 1 → v.peering.next ≡ w.peering.next → IsSized w v 1
+added_sized w v ms few forest mounts spaces groups =
+    let room : length w.forest + length ms ≤ 4096 = grind (arith, nat_tests) in
+    record { spaces = spaces; mounts = omega (arith, room, mounts); groups = omega (arith, groups); within = omega (arith, room, ap length forest, length-append w.forest ms) }
+
+-- a world with the same numbers, and with no more mounts
+same_sized : (w v : WorldView) → length w.forest ≤ 4096 → length v.forest ≤ length w.forest → (v.next_mount ≡ w.next_mount) × (v.next_space ≡ w.next_space) × (v.peering.next ≡ w.peering.next) → IsSized w v 0
+same_sized w v few fewer same = record { spaces = omega (arith, same.1); mounts = omega (arith, same.0); groups = omega (arith, same.2); within = omega (arith, few, fewer) }
 
 -- a new namespace
 pub space_sized : (w v : WorldView) (name : List ℕ) (i : ℕ) → new_space w name ≡ Ok (v, i) → IsSized w v 1
 unfolding with_space
 space_sized w v name i e =
     let a = new_space_accepted w name v i e in
-    let few = a.few in
-    let room : length w.forest + 1 ≤ 4096 = grind (arith, nat_tests) in
-    let root : List Mount = record { id = w.next_mount; space = w.next_space; place = None; root = root_of w.skel (fs_of w name); attrs = new_attrs } ∷ [] in
-    record {
-      spaces = omega (arith, ap (λ x. x.next_space) a.world);
-      mounts = omega (arith, ap (λ x. x.next_mount) a.world);
-      groups = omega (arith, ap (λ x. x.peering.next) a.world);
-      within = omega (arith, room, ap (λ x. length x.forest) a.world, length-append w.forest root);
-    }
+    subst (λ (x : WorldView). IsSized w x 1) a.world (added_sized w (with_space w (fs_of w name)) (new_root w (fs_of w name) ∷ []) a.few refl refl refl refl)
 
 -- a copy of a namespace
 pub copy_sized : (w v : WorldView) (n : ℕ) (less : Bool) (i : ℕ) → copy_space w n less ≡ Ok (v, i) → IsSized w v 1
 unfolding with_copy
 copy_sized w v n less i e =
     let a = copy_space_accepted w n less v i e in
-    let few = a.few in
-    let room : length w.forest + length (originals w n) ≤ 4096 = grind (arith, nat_tests) in
-    record {
-      spaces = omega (arith, ap (λ x. x.next_space) a.world);
-      mounts = omega (arith, room, ap (λ x. x.next_mount) a.world);
-      groups = omega (arith, ap (λ x. x.peering.next) a.world);
-      within = omega (arith, room, ap (λ x. length x.forest) a.world, length-append w.forest (map (copy_of w (map id_of (originals w n))) (originals w n)), length-map (originals w n) (copy_of w (map id_of (originals w n))));
-    }
+    let count = length-map (originals w n) (copy_of w (map id_of (originals w n))) in
+    subst (λ (x : WorldView). IsSized w x 1) a.world (added_sized w (with_copy w n less) (map (copy_of w (map id_of (originals w n))) (originals w n)) (ap (too_many_mounts w) count ∙ a.few) refl (ap (λ k. w.next_mount + k) (sym count)) refl refl)
 
 -- the end of a namespace
 pub dropped_sized : (w v : WorldView) (n : ℕ) → length w.forest ≤ 4096 → drop_space w n ≡ Ok v → IsSized w v 0
 unfolding without_space left
 dropped_sized w v n few e =
-    let stays : Mount → Bool = λ m. not (m.space == n) in
-    subst (λ (x : WorldView). IsSized w x 0) (drop_space_accepted w n v e).world (record {
-      spaces = omega arith;
-      mounts = omega arith;
-      groups = omega arith;
-      within = omega (arith, few, few_pass stays w.forest);
-    })
+    subst (λ (x : WorldView). IsSized w x 0) (drop_space_accepted w n v e).world (same_sized w (without_space w n) few (few_pass (λ (m : Mount). not (m.space == n)) w.forest) (refl, refl, refl))
 
 -- a mount
 pub mount_sized : (w v : WorldView) (n : ℕ) (name : List ℕ) (path : List (List ℕ)) (i : ℕ) → mounted w n name path ≡ Ok (v, i) → IsSized w v 0
@@ -89,9 +79,5 @@ move_sized w v n from to few e =
 pub pivot_sized : (w v : WorldView) (n : ℕ) (new old : List (List ℕ)) → length w.forest ≤ 4096 → pivoted w n new old ≡ Ok v → IsSized w v 0
 unfolding with_pivot
 pivot_sized w v n new old few e =
-    subst (λ (x : WorldView). IsSized w x 0) (pivot_accepted w n new old v e).world (record {
-      spaces = omega arith;
-      mounts = omega arith;
-      groups = omega arith;
-      within = omega (arith, few, length-map w.forest (pivoted_mount (path_end w n new).mount (root_id w n) (path_end w n old)));
-    })
+    let same = length-map w.forest (pivoted_mount (path_end w n new).mount (root_id w n) (path_end w n old)) in
+    subst (λ (x : WorldView). IsSized w x 0) (pivot_accepted w n new old v e).world (same_sized w _ few (omega (arith, same)) (refl, refl, refl))

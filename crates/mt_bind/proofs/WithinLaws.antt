@@ -11,13 +11,13 @@ use Rattle.mt_mounts.specs.declared.mount.Mount.{Mount}
 use Rattle.mt_mounts.specs.declared.mount.Place.{Place}
 use Rattle.mt_mounts.specs.Forest.{id_of, mount_at, is_below}
 use Rattle.mt_mounts.proofs.SlotLaws.{none_found}
-use Rattle.mt_propagate.specs.World.{WorldView, state_of}
+use Rattle.mt_propagate.specs.World.{WorldView}
 use Rattle.mt_propagate.specs.Named.{unknown, mount_or_unknown}
 use Rattle.mt_propagate.specs.WellFormed.{IsWellFormed, fs_at}
 use Rattle.mt_propagate.specs.Sound.{IsSource}
 use Rattle.mt_propagate.proofs.CopyRowLaws.{root_is}
 use Rattle.mt_propagate.proofs.TreeLaws.{parent-is}
-use Rattle.mt_bind.specs.Sources.{top_at, tree_within, is_bound_along, path_to}
+use Rattle.mt_bind.specs.Sources.{top_at, tree_within, is_bindable, stands_within, leads_within, is_bound_along, path_to}
 use Rattle.mt_bind.proofs.SourceLaws.{holds_there, top_is, own_id, shows_same}
 use Rattle.mt_bind.proofs.PartLaws.{part_tree}
 use Rattle.mt_bind.proofs.BelowLaws.{below_self, below_parent, below_has_parent, above_not_below, path_top, path_step}
@@ -69,97 +69,85 @@ module _ (w : WorldView) (h : IsWellFormed w) (p : Place) (q : Mount) (row : mou
   cut-other : (x : Mount) → x.id ≢ p.mount → cut x ≡ x
   cut-other x ne = ap (λ b. cond b (top_at w p) x) (ne_eqb x.id p.mount ne)
 
-  -- the conditions of a bound mount, and of its parent
-  abbrev unbound : ℕ → Bool
-  unbound k = not (state_of w k).unbindable
+  -- a mount that is cut has what the top has that shows the directory, and any other mount what it has
+  cut_has : (P : Mount → Type 0) (i : ℕ) (x : Mount) → mount_at w.forest i ≡ Some x → (i ≡ p.mount → P (record x { root = p.dir })) → (i ≢ p.mount → P x) → P (cut x)
+  cut_has P i x e top other =
+      let k = row_at-key id_of i w.forest x e in
+      elim (cases_eq x.id p.mount) [
+        | inl same ↦
+            let here = sym k ∙ same in
+            subst P (ap (λ o. record (unwrap_or o unknown) { root = p.dir }) (sym e ∙ ap (mount_at w.forest) here) ∙ sym (cut-top x same)) (top here)
+        | inr off ↦ subst P (sym (cut-other x off)) (other (λ s. off (k ∙ s)))
+      ]
 
-  abbrev in_dir : ℕ → Bool
-  in_dir k = option_map_or (λ (r : Place). holds w.skel p.dir r.dir) (mount_or_unknown w k).place false
+  -- the way from a mount leads into the directory
+  abbrev leads : ℕ → Bool
+  leads i = leads_within w p.dir (last_or None (path_to w p.mount i))
 
-  abbrev first_in : List ℕ → Bool
-  first_in ks = option_map_or (λ k. in_dir k) (last_or None ks) true
+  -- what a mount has that is bound along, and what has it
+  bound_parts : (i : ℕ) → is_bound_along w p i ≡ true → (is_below w.forest p.mount i ≡ true) × (list_all (is_bindable w) (path_to w p.mount i) ≡ true) × (leads i ≡ true)
+  bound_parts i b =
+      let c = and_parts (is_below w.forest p.mount i && list_all (is_bindable w) (path_to w p.mount i)) (leads i) b in
+      let d = and_parts (is_below w.forest p.mount i) (list_all (is_bindable w) (path_to w p.mount i)) c.0 in
+      (d.0, d.1, c.1)
+
+  bound_from : (i : ℕ) → is_below w.forest p.mount i ≡ true → list_all (is_bindable w) (path_to w p.mount i) ≡ true → leads i ≡ true → is_bound_along w p i ≡ true
+  bound_from i below free within =
+      and_from (is_below w.forest p.mount i && list_all (is_bindable w) (path_to w p.mount i)) (leads i)
+      (and_from (is_below w.forest p.mount i) (list_all (is_bindable w) (path_to w p.mount i)) below free) within
 
   bound_top : is_bound_along w p p.mount ≡ true
   bound_top =
       let e = path_top w h p.mount in
-      and_from (is_below w.forest p.mount p.mount && list_all unbound (path_to w p.mount p.mount)) (first_in (path_to w p.mount p.mount))
-      (and_from (is_below w.forest p.mount p.mount) (list_all unbound (path_to w p.mount p.mount)) (below_self w h p.mount) (ap (list_all unbound) e))
-      (ap first_in e)
+      bound_from p.mount (below_self w h p.mount) (ap (list_all (is_bindable w)) e) (ap (λ (ks : List ℕ). leads_within w p.dir (last_or None ks)) e)
 
-  last_in : (i : ℕ) (ks : List ℕ) → first_in (i ∷ ks) ≡ true → first_in ks ≡ true
+  last_in : (i : ℕ) (ks : List ℕ) → leads_within w p.dir (last_or None (i ∷ ks)) ≡ true → leads_within w p.dir (last_or None ks) ≡ true
   last_in i [] e = refl
   last_in i (k ∷ ks) e = e
 
   bound_parent : (i : ℕ) (x : Mount) → mount_at w.forest i ≡ Some x → i ≢ p.mount → is_bound_along w p i ≡ true
       → (r : Place) × (x.place ≡ Some r) × (is_bound_along w p r.mount ≡ true) × (r.mount ≡ p.mount → holds w.skel p.dir r.dir ≡ true)
   bound_parent i x e ne b =
-      let c = and_parts (is_below w.forest p.mount i && list_all unbound (path_to w p.mount i)) (first_in (path_to w p.mount i)) b in
-      let d = and_parts (is_below w.forest p.mount i) (list_all unbound (path_to w p.mount i)) c.0 in
-      let r = below_has_parent w h p.mount i x ne e d.0 in
+      let c = bound_parts i b in
+      let r = below_has_parent w h p.mount i x ne e c.0 in
       let up = parent-is w.forest i x r.0 e r.1 in
       let path = path_step w h p.mount i r.0.mount ne up in
-      let free = and_parts (unbound i) (list_all unbound (path_to w p.mount r.0.mount)) (sym (ap (list_all unbound) path) ∙ d.1) in
-      let first = sym (ap first_in path) ∙ c.1 in (
+      let free = and_parts (is_bindable w i) (list_all (is_bindable w) (path_to w p.mount r.0.mount)) (sym (ap (list_all (is_bindable w)) path) ∙ c.1) in
+      let first = sym (ap (λ (ks : List ℕ). leads_within w p.dir (last_or None ks)) path) ∙ c.2 in (
         r.0,
         r.1,
-        and_from (is_below w.forest p.mount r.0.mount && list_all unbound (path_to w p.mount r.0.mount)) (first_in (path_to w p.mount r.0.mount))
-            (and_from (is_below w.forest p.mount r.0.mount) (list_all unbound (path_to w p.mount r.0.mount)) (sym (below_parent w h p.mount i r.0.mount ne up) ∙ d.0) free.1)
-            (last_in i (path_to w p.mount r.0.mount) first),
+        bound_from r.0.mount (sym (below_parent w h p.mount i r.0.mount ne up) ∙ c.0) free.1 (last_in i (path_to w p.mount r.0.mount) first),
         λ same.
             let none : path_to w p.mount r.0.mount ≡ [] = ap (path_to w p.mount) same ∙ path_top w h p.mount in
-            let here : in_dir i ≡ true = sym (ap (λ ks. first_in (i ∷ ks)) none) ∙ first in
-            let place : (mount_or_unknown w i).place ≡ Some r.0 = ap (λ o. (unwrap_or o unknown).place) e ∙ r.1 in
-            sym (ap (λ o. option_map_or (λ (r : Place). holds w.skel p.dir r.dir) o false) place) ∙ here,
+            let here : stands_within w p.dir i ≡ true = sym (ap (λ (ks : List ℕ). leads_within w p.dir (last_or None (i ∷ ks))) none) ∙ first in
+            sym (ap (λ o. option_map_or (λ (r : Place). holds w.skel p.dir r.dir) o false) (ap (λ o. (unwrap_or o unknown).place) e ∙ r.1)) ∙ here,
       )
 
   same_place : (i : ℕ) (x : Mount) → mount_at w.forest i ≡ Some x → (cut x).place ≡ x.place
-  same_place i x e =
-      let k = row_at-key id_of i w.forest x e in
-      elim (cases_eq x.id p.mount) [
-        | inl top ↦
-            let v : Some q ≡ Some x = sym row ∙ ap (mount_at w.forest) (sym top ∙ k) ∙ e in
-            let s : q ≡ x = cc in
-            ap (λ (m : Mount). m.place) (cut-top x top ∙ top_is w h p q row held) ∙ ap (λ (m : Mount). m.place) s
-        | inr off ↦ ap (λ (m : Mount). m.place) (cut-other x off)
-      ]
+  same_place i x e = cut_has (λ m. m.place ≡ x.place) i x e (λ _. refl) (λ _. refl)
 
   root_low : (i : ℕ) (x : Mount) → mount_at w.forest i ≡ Some x → (cut x).root < length w.skel.directories
-  root_low i x e = elim (cases_eq x.id p.mount) [
-    | inl top ↦ subst (λ r. r < length w.skel.directories) (ap (λ (m : Mount). m.root) (sym (cut-top x top ∙ top_is w h p q row held))) (holds_there w.skel q.root p.dir held)
-    | inr off ↦ let b = h.below i x e in subst (λ r. r < length w.skel.directories) (ap (λ (m : Mount). m.root) (sym (cut-other x off))) b.4
-  ]
+  root_low i x e = cut_has (λ m. m.root < length w.skel.directories) i x e (λ _. holds_there w.skel q.root p.dir held) (λ _. let b = h.below i x e in b.4)
 
   shows_cut : (i : ℕ) (x : Mount) → mount_at w.forest i ≡ Some x → (directory w.skel (cut x).root).fs ≡ fs_at w i
   shows_cut i x e =
-      let k = row_at-key id_of i w.forest x e in
-      elim (cases_eq x.id p.mount) [
-        | inl top ↦ ap (λ (m : Mount). (directory w.skel m.root).fs) (cut-top x top ∙ top_is w h p q row held) ∙ shows_same w h p q row held ∙ ap (fs_at w) (sym top ∙ k)
-        | inr off ↦ ap (λ (m : Mount). (directory w.skel m.root).fs) (cut-other x off) ∙ ap (λ r. (directory w.skel r).fs) (sym (root_is w i x e))
-      ]
+      cut_has (λ m. (directory w.skel m.root).fs ≡ fs_at w i) i x e (λ same. shows_same w h p q row held ∙ ap (fs_at w) (sym same))
+      (λ _. ap (λ r. (directory w.skel r).fs) (sym (root_is w i x e)))
 
   inside : (i : ℕ) (m : Mount) → mount_at ms i ≡ Some m → i ≢ (top_at w p).id → (r : Place) × (u : Mount) × (m.place ≡ Some r) × (mount_at ms r.mount ≡ Some u) × IsTrue (holds w.skel u.root r.dir)
   inside i m e ne =
       let x = from_row i m e in
-      let off : i ≢ p.mount = (λ s. ne (s ∙ sym top_id)) in
-      let r = bound_parent i x.0 x.1 off x.2 in
-      let f = h.forest.placed i x.0 r.0 x.1 r.1 in
-      let k = row_at-key id_of r.0.mount w.forest f.0 f.1 in (
+      let r = bound_parent i x.0 x.1 (λ s. ne (s ∙ sym top_id)) x.2 in
+      let f = h.forest.placed i x.0 r.0 x.1 r.1 in (
         r.0,
         cut f.0,
         ap (λ (v : Mount). v.place) x.3 ∙ same_place i x.0 x.1 ∙ r.1,
         to_row r.0.mount f.0 f.1 r.2,
-        elim (cases_eq f.0.id p.mount) [
-          | inl top ↦ ap (λ (v : Mount). holds w.skel v.root r.0.dir) (cut-top f.0 top ∙ top_is w h p q row held) ∙ r.3 (sym k ∙ top)
-          | inr other ↦ ap (λ (v : Mount). holds w.skel v.root r.0.dir) (cut-other f.0 other) ∙ f.3
-        ],
+        cut_has (λ v. holds w.skel v.root r.0.dir ≡ true) r.0.mount f.0 f.1 r.3 (λ _. f.3),
       )
 
   outside : (r : Place) → (top_at w p).place ≡ Some r → mount_at ms r.mount ≡ None
-  outside r at = none_found _ (λ x e.
-      let y = from_row r.mount x e in
-      let c = and_parts (is_below w.forest p.mount r.mount && list_all unbound (path_to w p.mount r.mount)) (first_in (path_to w p.mount r.mount)) y.2 in
-      let d = and_parts (is_below w.forest p.mount r.mount) (list_all unbound (path_to w p.mount r.mount)) c.0 in
-      above_not_below w h p.mount q r row (ap (λ (m : Mount). m.place) (sym (top_is w h p q row held)) ∙ at) d.0)
+  outside r at = none_found _ (λ x e. above_not_below w h p.mount q r row (ap (λ (m : Mount). m.place) (sym (top_is w h p q row held)) ∙ at) (bound_parts r.mount (from_row r.mount x e).2).0)
 
   pub within_source : (dest : Place) → IsSource w (tree_within w p) dest
   within_source dest = record {
@@ -177,7 +165,4 @@ module _ (w : WorldView) (h : IsWellFormed w) (p : Place) (q : Mount) (row : mou
 
   -- its mounts are below the top
   pub within_below : (i : ℕ) (m : Mount) → mount_at ms i ≡ Some m → is_below w.forest p.mount i ≡ true
-  within_below i m e =
-      let x = from_row i m e in
-      let c = and_parts (is_below w.forest p.mount i && list_all unbound (path_to w p.mount i)) (first_in (path_to w p.mount i)) x.2 in
-      (and_parts (is_below w.forest p.mount i) (list_all unbound (path_to w p.mount i)) c.0).0
+  within_below i m e = (bound_parts i (from_row i m e).2).0

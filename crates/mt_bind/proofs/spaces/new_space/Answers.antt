@@ -1,4 +1,4 @@
-use Rattle.std.proofs.Common.{◌≡◌, ◌∙◌, ◌+◌, ◌∷◌, ◌++◌, [], List, ap, sym, subst, arith, Ok, None, refl}
+use Rattle.std.proofs.Common.{◌≡◌, ◌∙◌, ◌+◌, ◌∷◌, ◌++◌, [], ap, sym, subst, arith, Ok, None, refl}
 use Rattle.mt_skel.proofs.SkeletonLaws.{directory_within}
 use Rattle.mt_mounts.specs.declared.mount.Mount.{Mount}
 use Rattle.mt_mounts.specs.Forest.{root_mount}
@@ -21,43 +21,31 @@ join-requires-clause-absent c =
     let w = world_view c.args.world.now in
     ap (λ (p : Peering). state_at p.peers w.next_mount) c.in_ok-reserve-2.ensures.peering ∙ state_free w c.requires.well_formed
 
+-- the world after the call
+is_made : (c : goal.After-world-2-1) → with_space (world_view c.args.world.now) c.in-Some.fs ≡ record {
+  skel = c.args.world.now.skel;
+  forest = c.insert.new.self.mounts;
+  peering = record { peers = c.join.new.self.peers; next = c.join.new.self.next };
+  next_mount = c.args.world.now.next_mount + 1;
+  next_space = c.args.world.now.next_space + 1;
+}
+is_made c =
+    let w = world_view c.args.world.now in
+    let m : Mount = record { id = w.next_mount; space = w.next_space; place = None; root = c.root.result; attrs = c.new.result } in
+    let forest = forest_after w m _ _ c.requires.well_formed refl c.insert.ensures.mounts c.in_ok-reserve.ensures.mounts in
+    let peers = peers_after w _ _ c.requires.well_formed c.join.ensures.peers (ap (λ (p : Peering). p.peers) c.in_ok-reserve-2.ensures.peering) in
+    let next = c.join.ensures.next ∙ ap (λ (p : Peering). p.next) c.in_ok-reserve-2.ensures.peering in
+    sym (private_world w _ (new_root w c.in-Some.fs) (w.next_space + 1) refl
+    (forest ∙ (λ i. w.forest ++ record m { root = c.root.ensures.root i; attrs = c.new.ensures i } ∷ [])) peers next refl refl
+    ∙ with_space_is w c.in-Some.fs)
+
 pub returns-clause-done : goal.returns-clause-done
 returns-clause-done c =
     let w = world_view c.args.world.now in
-    let v : WorldView = record {
-      skel = w.skel;
-      forest = c.insert.new.self.mounts;
-      peering = record { peers = c.join.new.self.peers; next = c.join.new.self.next };
-      next_mount = w.next_mount + 1;
-      next_space = w.next_space + 1;
-    } in
-    let root : List Mount = record { id = w.next_mount; space = w.next_space; place = None; root = c.root.result; attrs = c.new.result } ∷ [] in
-    let forest = forest_after w (record { id = w.next_mount; space = w.next_space; place = None; root = c.root.result; attrs = c.new.result }) _ _ c.requires.well_formed refl c.insert.ensures.mounts c.in_ok-reserve.ensures.mounts in
-    let peers = peers_after w _ _ c.requires.well_formed c.join.ensures.peers (ap (λ (p : Peering). p.peers) c.in_ok-reserve-2.ensures.peering) in
-    let next = c.join.ensures.next ∙ ap (λ (p : Peering). p.next) c.in_ok-reserve-2.ensures.peering in
-    let same : v ≡ with_space w c.in-Some.fs =
-    private_world w v (new_root w c.in-Some.fs) (w.next_space + 1) refl
-    (forest ∙ (λ i. w.forest ++ record { id = w.next_mount; space = w.next_space; place = None; root = c.root.ensures.root i; attrs = c.new.ensures i } ∷ [])) peers next refl refl
-    ∙ with_space_is w c.in-Some.fs in
     new_space_done w c.args.fs.now c.in-Some.fs (sym c.fs.ensures.number ∙ c.in-Some.is) (sym c.too_many.ensures ∙ c.if-too_many.false)
-    ∙ ap (λ v. Ok (v, w.next_space)) (sym same)
+    ∙ ap (λ v. Ok (v, w.next_space)) (is_made c)
 
 pub returns-clause-kept : goal.returns-clause-kept
 returns-clause-kept c =
-    let w = world_view c.args.world.now in
-    let v : WorldView = record {
-      skel = w.skel;
-      forest = c.insert.new.self.mounts;
-      peering = record { peers = c.join.new.self.peers; next = c.join.new.self.next };
-      next_mount = w.next_mount + 1;
-      next_space = w.next_space + 1;
-    } in
-    let forest = forest_after w (record { id = w.next_mount; space = w.next_space; place = None; root = c.root.result; attrs = c.new.result }) _ _ c.requires.well_formed refl c.insert.ensures.mounts c.in_ok-reserve.ensures.mounts in
-    let peers = peers_after w _ _ c.requires.well_formed c.join.ensures.peers (ap (λ (p : Peering). p.peers) c.in_ok-reserve-2.ensures.peering) in
-    let next = c.join.ensures.next ∙ ap (λ (p : Peering). p.next) c.in_ok-reserve-2.ensures.peering in
-    let same : v ≡ with_space w c.in-Some.fs =
-    private_world w v (new_root w c.in-Some.fs) (w.next_space + 1) refl
-    (forest ∙ (λ i. w.forest ++ record { id = w.next_mount; space = w.next_space; place = None; root = c.root.ensures.root i; attrs = c.new.ensures i } ∷ [])) peers next refl refl
-    ∙ with_space_is w c.in-Some.fs in
-    let there = directory_within w.skel c.root.result c.root.ensures.there in
-    subst IsWellFormed (sym same) (space-kept w c.in-Some.fs c.requires.well_formed (omega (arith, there, c.root.ensures.root)))
+    let there = directory_within c.args.world.now.skel c.root.result c.root.ensures.there in
+    subst IsWellFormed (is_made c) (space-kept (world_view c.args.world.now) c.in-Some.fs c.requires.well_formed (omega (arith, there, c.root.ensures.root)))
