@@ -50,11 +50,11 @@ pub record IsAcceptedSpace (w : WorldView) (name : List ℕ) (v : WorldView) (i 
 
 pub new_space_accepted : (w : WorldView) (name : List ℕ) (v : WorldView) (i : ℕ) → new_space w name ≡ Ok (v, i) → IsAcceptedSpace w name v i
 new_space_accepted w name v i e =
-    let a = accepted (new_space_refusals w (fs_named w.skel name)) (new_space_effect w (fs_named w.skel name)) (v, i) e in
+    let a = accepted (new_space_refusals w (fs_named w.skel name)) _ _ e in
     record {
-      named = has_name (fs_named w.skel name) (not_refused (is_none (fs_named w.skel name)) NoFilesystem a.1.0);
-      few_spaces = not_refused (too_many_spaces w) TooMany a.1.1.0;
-      few = not_refused (too_many_mounts w 1) TooMany a.1.1.1.0;
+      named = has_name _ (not_refused _ _ a.1.0);
+      few_spaces = not_refused _ _ a.1.1.0;
+      few = not_refused _ _ a.1.1.1.0;
       world = ap (λ x. x.0) a.0;
       number = ap (λ x. x.1) a.0;
     }
@@ -69,11 +69,11 @@ pub record IsAcceptedCopy (w : WorldView) (n : ℕ) (less : Bool) (v : WorldView
 
 pub copy_space_accepted : (w : WorldView) (n : ℕ) (less : Bool) (v : WorldView) (i : ℕ) → copy_space w n less ≡ Ok (v, i) → IsAcceptedCopy w n less v i
 copy_space_accepted w n less v i e =
-    let a = accepted (copy_space_refusals w n) (copy_space_effect w n less) (v, i) e in
+    let a = accepted (copy_space_refusals w n) _ _ e in
     record {
-      there = not-false (is_space w n) (not_refused (not (is_space w n)) NoNamespace a.1.0);
-      few_spaces = not_refused (too_many_spaces w) TooMany a.1.1.0;
-      few = not_refused (too_many_mounts w (length (originals w n))) TooMany a.1.1.1.0;
+      there = not-false _ (not_refused _ _ a.1.0);
+      few_spaces = not_refused _ _ a.1.1.0;
+      few = not_refused _ _ a.1.1.1.0;
       world = ap (λ x. x.0) a.0;
       number = ap (λ x. x.1) a.0;
     }
@@ -85,8 +85,8 @@ pub record IsAcceptedDrop (w : WorldView) (n : ℕ) (v : WorldView) : Type 0 whe
 
 pub drop_space_accepted : (w : WorldView) (n : ℕ) (v : WorldView) → drop_space w n ≡ Ok v → IsAcceptedDrop w n v
 drop_space_accepted w n v e =
-    let a = accepted (drop_space_refusals w n) (without_space w n) v e in
-    record { there = not-false (is_space w n) (not_refused (not (is_space w n)) NoNamespace a.1.0); world = a.0 }
+    let a = accepted (drop_space_refusals w n) _ _ e in
+    record { there = not-false _ (not_refused _ _ a.1.0); world = a.0 }
 
 -- a mount
 pub record IsAcceptedMount (w : WorldView) (n : ℕ) (name : List ℕ) (path : List (List ℕ)) (v : WorldView) (i : ℕ) : Type 0 where
@@ -99,15 +99,12 @@ pub record IsAcceptedMount (w : WorldView) (n : ℕ) (name : List ℕ) (path : L
 
 pub mount_accepted : (w : WorldView) (n : ℕ) (name : List ℕ) (path : List (List ℕ)) (v : WorldView) (i : ℕ) → mounted w n name path ≡ Ok (v, i) → IsAcceptedMount w n name path v i
 mount_accepted w n name path v i e =
-    let fs = fs_named w.skel name in
-    let to = walk w.skel w.forest n path in
-    let p = path_end w n path in
-    let a = accepted (mounted_refusals w fs to) (mounted_effect w fs to) (v, i) e in
+    let a = accepted (mounted_refusals w (fs_named w.skel name) (walk w.skel w.forest n path)) _ _ e in
     record {
-      named = has_name fs (not_refused (is_none fs) NoFilesystem a.1.0);
-      ended = has_ended to a.1.1.0;
-      off_root = not_refused (is_root_place w p) RootPlace a.1.1.1.0;
-      few = not_refused (too_many_mounts w (length (new_copies w (fresh w (fs_of w name)) p))) TooMany a.1.1.1.1.0;
+      named = has_name _ (not_refused _ _ a.1.0);
+      ended = has_ended _ a.1.1.0;
+      off_root = not_refused _ _ a.1.1.1.0;
+      few = not_refused _ _ a.1.1.1.1.0;
       world = ap (λ x. x.0) a.0;
       id = ap (λ x. x.1) a.0;
     }
@@ -124,17 +121,13 @@ pub record IsAcceptedBind (w : WorldView) (n : ℕ) (recursive : Bool) (from to 
 
 pub bind_accepted : (w : WorldView) (n : ℕ) (recursive : Bool) (from to : List (List ℕ)) (v : WorldView) (i : ℕ) → bound w n recursive from to ≡ Ok (v, i) → IsAcceptedBind w n recursive from to v i
 bind_accepted w n recursive from to v i e =
-    let q = walk w.skel w.forest n from in
-    let r = walk w.skel w.forest n to in
-    let s = path_end w n from in
-    let p = path_end w n to in
-    let a = accepted (bound_refusals w recursive q r) (bound_effect w recursive q r) (v, i) e in
+    let a = accepted (bound_refusals w recursive (walk w.skel w.forest n from) (walk w.skel w.forest n to)) _ _ e in
     record {
-      begun = has_ended q a.1.0;
-      ended = has_ended r a.1.1.0;
-      off_root = not_refused (is_root_place w p) RootPlace a.1.1.1.0;
-      bindable = not_refused (state_of w s.mount).unbindable Unbindable a.1.1.1.1.0;
-      few = not_refused (too_many_mounts w (length (new_copies w (source_at w recursive s) p))) TooMany a.1.1.1.1.1.0;
+      begun = has_ended _ a.1.0;
+      ended = has_ended _ a.1.1.0;
+      off_root = not_refused _ _ a.1.1.1.0;
+      bindable = not_refused _ _ a.1.1.1.1.0;
+      few = not_refused _ _ a.1.1.1.1.1.0;
       world = ap (λ x. x.0) a.0;
       id = ap (λ x. x.1) a.0;
     }
@@ -154,22 +147,18 @@ pub record IsAcceptedMove (w : WorldView) (n : ℕ) (from to : List (List ℕ)) 
 
 pub move_accepted : (w : WorldView) (n : ℕ) (from to : List (List ℕ)) (v : WorldView) → moved w n from to ≡ Ok v → IsAcceptedMove w n from to v
 move_accepted w n from to v e =
-    let q = walk w.skel w.forest n from in
-    let r = walk w.skel w.forest n to in
-    let s = path_end w n from in
-    let p = path_end w n to in
-    let a = accepted (moved_refusals w q r) (moved_effect w q r) v e in
+    let a = accepted (moved_refusals w (walk w.skel w.forest n from) (walk w.skel w.forest n to)) _ _ e in
     let late = a.1.1.1.1 in
     record {
-      begun = has_ended q a.1.0;
-      named = not-false (is_mount_root w s) (not_refused (not (is_mount_root w s)) NotMountRoot a.1.1.0);
-      placed = not_refused (is_root_mount w s) RootPlace a.1.1.1.0;
-      ended = has_ended r late.0;
-      off_root = not_refused (is_root_place w p) RootPlace late.1.0;
-      unshared = not_refused (stands_on_shared w s.mount) SharedParent late.1.1.0;
-      outside = not_refused (is_below w.forest s.mount p.mount) IntoItself late.1.1.1.0;
-      bindable = not_refused (is_some (group_of w p.mount) && any_unbindable w s.mount) UnbindableInside late.1.1.1.1.0;
-      few = not_refused (too_many_mounts w (length (new_copies w (tree_of w s.mount) p))) TooMany late.1.1.1.1.1.0;
+      begun = has_ended _ a.1.0;
+      named = not-false _ (not_refused _ _ a.1.1.0);
+      placed = not_refused _ _ a.1.1.1.0;
+      ended = has_ended _ late.0;
+      off_root = not_refused _ _ late.1.0;
+      unshared = not_refused _ _ late.1.1.0;
+      outside = not_refused _ _ late.1.1.1.0;
+      bindable = not_refused _ _ late.1.1.1.1.0;
+      few = not_refused _ _ late.1.1.1.1.1.0;
       world = a.0;
     }
 
@@ -186,19 +175,15 @@ pub record IsAcceptedPivot (w : WorldView) (n : ℕ) (new old : List (List ℕ))
 
 pub pivot_accepted : (w : WorldView) (n : ℕ) (new old : List (List ℕ)) (v : WorldView) → pivoted w n new old ≡ Ok v → IsAcceptedPivot w n new old v
 pivot_accepted w n new old v e =
-    let q = walk w.skel w.forest n new in
-    let r = walk w.skel w.forest n old in
-    let s = path_end w n new in
-    let p = path_end w n old in
-    let a = accepted (pivoted_refusals w q r) (pivoted_effect w n q r) v e in
+    let a = accepted (pivoted_refusals w (walk w.skel w.forest n new) (walk w.skel w.forest n old)) _ _ e in
     let late = a.1.1.1.1 in
     record {
-      begun = has_ended q a.1.0;
-      named = not-false (is_mount_root w s) (not_refused (not (is_mount_root w s)) NotMountRoot a.1.1.0);
-      placed = not_refused (is_root_mount w s) RootPlace a.1.1.1.0;
-      ended = has_ended r late.0;
-      off_root = not_refused (is_root_place w p) RootPlace late.1.0;
-      unshared = not_refused (stands_on_shared w s.mount || is_some (group_of w p.mount)) SharedParent late.1.1.0;
-      inside = not-false (is_below w.forest s.mount p.mount) (not_refused (not (is_below w.forest s.mount p.mount)) IntoItself late.1.1.1.0);
+      begun = has_ended _ a.1.0;
+      named = not-false _ (not_refused _ _ a.1.1.0);
+      placed = not_refused _ _ a.1.1.1.0;
+      ended = has_ended _ late.0;
+      off_root = not_refused _ _ late.1.0;
+      unshared = not_refused _ _ late.1.1.0;
+      inside = not-false _ (not_refused _ _ late.1.1.1.0);
       world = a.0;
     }

@@ -10,6 +10,7 @@ use Rattle.mt_mounts.specs.Forest.{id_of, mount_at, on, is_at, is_root, root_mou
 use Rattle.mt_mounts.specs.ForestView.{with_place, without_id}
 use Rattle.mt_mounts.proofs.ForestLaws.{find_row, find_passes, find_none}
 use Rattle.mt_mounts.proofs.SlotLaws.{none_found, row_put_here, row_put_later, row_kept}
+use Rattle.mt_peers.proofs.MemberLaws.{some-is}
 use Rattle.mt_propagate.specs.World.{WorldView}
 use Rattle.mt_propagate.specs.WellFormed.{IsWellFormed}
 use Rattle.mt_propagate.proofs.MovedForestLaws.{lifted, from_lifted}
@@ -46,35 +47,36 @@ module _ (w : WorldView) (h : IsWellFormed w) (i j : ℕ) (p : Place) (a : MayPi
       let row = row_kept ms i k x.0 h.forest.rising x.1 in
       (x.0, row.0, row.1, x.2)
 
-  pub absent_then : mount_at moved i ≡ None
-  absent_then = none_found _ (λ b e. let x = was i b e in absurd (x.2 (row_at-key id_of i ms x.0 x.1)))
-
-  -- no other mount of the namespace has no place then
-  pub rootless_then : root_mount moved a.top.space ≡ None
-  rootless_then = none_found _ (λ b e.
-      let n = a.top.space in
-      let row = find_row (is_root n) moved b moved_rises e in
-      let passes = find_passes (is_root n) moved b e in
-      let x = was b.id b row in
-      go x.0 b x.1 x.3 (root_unplaced n b passes) (root_here n b passes).1)
-    where
-      go : (x b : Mount) → mount_at ms b.id ≡ Some x → b ≡ lifted j p x → b.place ≡ None → b.space ≡ a.top.space → ⊥
-      go x b row same at here = elim (cases_eq x.id j) [
-        | inl old ↦
-            let v : Some p ≡ None = sym (ap (λ c. cond c (Some p) x.place) (eq-eqb x.id j old)) ∙ sym (ap (λ (m : Mount). m.place) same) ∙ at in
-            absurd (cc)
-        | inr other ↦
-            let none : x.place ≡ None = sym (ap (λ c. cond c (Some p) x.place) (ne_eqb x.id j other)) ∙ sym (ap (λ (m : Mount). m.place) same) ∙ at in
-            let space : x.space ≡ a.root.space = sym (ap (λ (m : Mount). m.space) same) ∙ here ∙ sym a.same_space in
-            other (row_at-key id_of b.id ms x row ∙ h.forest.one_root b.id j x a.root row a.root_there none a.unplaced space)
-      ]
-
   module _ (m : Mount) (there : mount_at ms i ≡ Some m) where
     abbrev back : Mount
     back = record m { place = None }
 
     own : m.id ≡ i
     own = row_at-key id_of i ms m there
+
+    -- its number is free then
+    pub absent_then : mount_at moved m.id ≡ None
+    absent_then = none_found _ (λ b e. let x = was m.id b e in absurd (x.2 (row_at-key id_of m.id ms x.0 x.1 ∙ own)))
+
+    -- no other mount of the namespace has no place then
+    pub rootless_then : root_mount moved m.space ≡ None
+    rootless_then = none_found _ (λ b e.
+        let n = m.space in
+        let row = find_row (is_root n) moved b moved_rises e in
+        let passes = find_passes (is_root n) moved b e in
+        let x = was b.id b row in
+        go x.0 b x.1 x.3 (root_unplaced n b passes) (root_here n b passes).1)
+      where
+        go : (x b : Mount) → mount_at ms b.id ≡ Some x → b ≡ lifted j p x → b.place ≡ None → b.space ≡ m.space → ⊥
+        go x b row same at here = elim (cases_eq x.id j) [
+          | inl old ↦
+              let v : Some p ≡ None = sym (ap (λ c. cond c (Some p) x.place) (eq-eqb x.id j old)) ∙ sym (ap (λ (m : Mount). m.place) same) ∙ at in
+              absurd (cc)
+          | inr other ↦
+              let none : x.place ≡ None = sym (ap (λ c. cond c (Some p) x.place) (ne_eqb x.id j other)) ∙ sym (ap (λ (m : Mount). m.place) same) ∙ at in
+              let space : x.space ≡ a.root.space = sym (ap (λ (m : Mount). m.space) same) ∙ here ∙ ap (λ (m : Mount). m.space) (some-is m a.top (sym there ∙ a.top_there)) ∙ sym a.same_space in
+              other (row_at-key id_of b.id ms x row ∙ h.forest.one_root b.id j x a.root row a.root_there none a.unplaced space)
+        ]
 
     same-row : (k : ℕ) → mount_at (put id_of back moved) k ≡ mount_at (map (pivoted_mount i j p) ms) k
     same-row k = elim (cases_eq k i) [

@@ -4,7 +4,7 @@ use Rattle.std.specs.Prelude.{unwrap_or, Bool, is_none}
 use Rattle.std.specs.List.{filter}
 use Rattle.std.proofs.lemmas.Bool.{true≢false}
 use Rattle.mt_skel.specs.Skeleton.{directory, holds}
-use Rattle.mt_skel.proofs.KeyedLaws.{row_at-key, row_at-filter, rises-filter, passing}
+use Rattle.mt_skel.proofs.KeyedLaws.{row_at-key, rises-filter}
 use Rattle.mt_mounts.specs.declared.mount.Mount.{Mount}
 use Rattle.mt_mounts.specs.declared.mount.Place.{Place}
 use Rattle.mt_mounts.specs.Forest.{id_of, mount_at, is_below}
@@ -14,11 +14,11 @@ use Rattle.mt_propagate.specs.Named.{unknown, mount_or_unknown}
 use Rattle.mt_propagate.specs.WellFormed.{IsWellFormed, fs_at}
 use Rattle.mt_propagate.specs.Sound.{IsTree, IsSource}
 use Rattle.mt_propagate.proofs.CopyRowLaws.{root_is}
+use Rattle.mt_propagate.proofs.RowLaws.{picked-row, row-picked}
 use Rattle.mt_propagate.proofs.TreeLaws.{parent-is}
 use Rattle.mt_bind.specs.Sources.{tree_of}
 use Rattle.mt_bind.proofs.PartLaws.{part_tree}
 use Rattle.mt_bind.proofs.BelowLaws.{below_self, below_parent, below_has_parent, above_not_below}
-use Rattle.mt_bind.proofs.WithinLaws.{passed}
 
 module _ (w : WorldView) (h : IsWellFormed w) (i : ℕ) (q : Mount) (row : mount_at w.forest i ≡ Some q) where
   abbrev below : Mount → Bool
@@ -28,14 +28,10 @@ module _ (w : WorldView) (h : IsWellFormed w) (i : ℕ) (q : Mount) (row : mount
   ms = filter (λ m. is_below w.forest i m.id) w.forest
 
   from_row : (j : ℕ) (m : Mount) → mount_at ms j ≡ Some m → (mount_at w.forest j ≡ Some m) × (is_below w.forest i j ≡ true)
-  from_row j m e =
-      let r = passed below (mount_at w.forest j) m (sym (row_at-filter id_of below j w.forest h.forest.rising) ∙ e) in
-      (r.0, ap (is_below w.forest i) (sym (row_at-key id_of j w.forest m r.0)) ∙ r.1)
+  from_row j m e = let r = picked-row id_of below w.forest h.forest.rising j m e in (r.0, ap (is_below w.forest i) (sym (row_at-key id_of j w.forest m r.0)) ∙ r.1)
 
   to_row : (j : ℕ) (m : Mount) → mount_at w.forest j ≡ Some m → is_below w.forest i j ≡ true → mount_at ms j ≡ Some m
-  to_row j m e b =
-      row_at-filter id_of below j w.forest h.forest.rising ∙ ap (passing below) e
-      ∙ ap (λ b. cond b (Some m) None) (ap (is_below w.forest i) (row_at-key id_of j w.forest m e) ∙ b)
+  to_row j m e b = row-picked id_of below w.forest h.forest.rising j m (ap (is_below w.forest i) (row_at-key id_of j w.forest m e) ∙ b) e
 
   own : q.id ≡ i
   own = row_at-key id_of i w.forest q row

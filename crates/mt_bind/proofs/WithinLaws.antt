@@ -4,9 +4,8 @@ use Rattle.std.specs.Prelude.{unwrap_or}
 use Rattle.std.specs.List.{filter, list_all, last_or}
 use Rattle.std.specs.Option.{option_map, option_map_or}
 use Rattle.std.proofs.lemmas.Bool.{cases_eq, ne_eqb, and_parts, and_from}
-use Rattle.std.proofs.lemmas.Option.{cond_some}
 use Rattle.mt_skel.specs.Skeleton.{holds, directory}
-use Rattle.mt_skel.proofs.KeyedLaws.{row_at-key, row_at-map, rises-map, row_at-filter, rises-filter, passing}
+use Rattle.mt_skel.proofs.KeyedLaws.{row_at-key, rises-map, rises-filter}
 use Rattle.mt_mounts.specs.declared.mount.Mount.{Mount}
 use Rattle.mt_mounts.specs.declared.mount.Place.{Place}
 use Rattle.mt_mounts.specs.Forest.{id_of, mount_at, is_below}
@@ -16,15 +15,12 @@ use Rattle.mt_propagate.specs.Named.{unknown, mount_or_unknown}
 use Rattle.mt_propagate.specs.WellFormed.{IsWellFormed, fs_at}
 use Rattle.mt_propagate.specs.Sound.{IsSource}
 use Rattle.mt_propagate.proofs.CopyRowLaws.{root_is}
+use Rattle.mt_propagate.proofs.RowLaws.{picked-row, row-picked, mapped-row, row-mapped}
 use Rattle.mt_propagate.proofs.TreeLaws.{parent-is}
 use Rattle.mt_bind.specs.Sources.{top_at, tree_within, is_bindable, stands_within, leads_within, is_bound_along, path_to}
 use Rattle.mt_bind.proofs.SourceLaws.{holds_there, top_is, own_id, shows_same}
 use Rattle.mt_bind.proofs.PartLaws.{part_tree}
 use Rattle.mt_bind.proofs.BelowLaws.{below_self, below_parent, below_has_parent, above_not_below, path_top, path_step}
-
-pub passed : (t : Mount → Bool) (o : Option Mount) (m : Mount) → passing t o ≡ Some m → (o ≡ Some m) × (t m ≡ true)
-passed t None m e = absurd (cc)
-passed t (Some x) m e = let c = cond_some (t x) x m e in (ap Some c.1, ap t (sym c.1) ∙ c.0)
 
 module _ (w : WorldView) (h : IsWellFormed w) (p : Place) (q : Mount) (row : mount_at w.forest p.mount ≡ Some q) (held : holds w.skel q.root p.dir ≡ true) where
   abbrev bound : Mount → Bool
@@ -46,22 +42,14 @@ module _ (w : WorldView) (h : IsWellFormed w) (p : Place) (q : Mount) (row : mou
       go true is = top_id ∙ sym (eqb-true m.id p.mount is)
       go false is = refl
 
-  rows : (i : ℕ) → mount_at ms i ≡ option_map cut (passing bound (mount_at w.forest i))
-  rows i = row_at-map id_of cut cut-id i (filter bound w.forest) ∙ ap (option_map cut) (row_at-filter id_of bound i w.forest h.forest.rising)
-
   from_row : (i : ℕ) (m : Mount) → mount_at ms i ≡ Some m → (x : Mount) × (mount_at w.forest i ≡ Some x) × (is_bound_along w p i ≡ true) × (m ≡ cut x)
-  from_row i m e = go (passing bound (mount_at w.forest i)) refl (sym (rows i) ∙ e)
-    where
-      go : (o : Option Mount) → passing bound (mount_at w.forest i) ≡ o → option_map cut o ≡ Some m → (x : Mount) × (mount_at w.forest i ≡ Some x) × (is_bound_along w p i ≡ true) × (m ≡ cut x)
-      go None is f = absurd (cc)
-      go (Some x) is f =
-          let r = passed bound (mount_at w.forest i) x is in
-          (x, r.0, ap (is_bound_along w p) (sym (row_at-key id_of i w.forest x r.0)) ∙ r.1, let s : cut x ≡ m = cc in sym s)
+  from_row i m e =
+      let x = mapped-row id_of cut cut-id (filter bound w.forest) i m e in
+      let r = picked-row id_of bound w.forest h.forest.rising i x.0 x.1 in
+      (x.0, r.0, ap (is_bound_along w p) (sym (row_at-key id_of i w.forest x.0 r.0)) ∙ r.1, x.2)
 
   to_row : (i : ℕ) (x : Mount) → mount_at w.forest i ≡ Some x → is_bound_along w p i ≡ true → mount_at ms i ≡ Some (cut x)
-  to_row i x e b =
-      let k = row_at-key id_of i w.forest x e in
-      rows i ∙ ap (λ o. option_map cut (passing bound o)) e ∙ ap (λ b. option_map cut (cond b (Some x) None)) (ap (is_bound_along w p) k ∙ b)
+  to_row i x e b = row-mapped id_of cut cut-id (filter bound w.forest) i x (row-picked id_of bound w.forest h.forest.rising i x (ap (is_bound_along w p) (row_at-key id_of i w.forest x e) ∙ b) e)
 
   cut-top : (x : Mount) → x.id ≡ p.mount → cut x ≡ top_at w p
   cut-top x e = ap (λ b. cond b (top_at w p) x) (eq-eqb x.id p.mount e)

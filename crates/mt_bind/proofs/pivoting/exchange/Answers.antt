@@ -17,19 +17,13 @@ reattach-requires-clause-free c =
 
 pub insert-requires-clause-absent : goal.insert-requires-clause-absent
 insert-requires-clause-absent c =
-    let w = world_view c.args.world.now in
     ap (λ (ms : List Mount). mount_at ms c.in-Some.mount.id) (c.reattach.ensures.mounts ∙ ap (with_place c.args.old c.args.place) c.remove.ensures.mounts)
-    ∙ ap (mount_at (with_place c.args.old c.args.place (without_id c.args.new w.forest))) (row_at-key id_of c.args.new w.forest c.in-Some.mount (sym c.get.ensures ∙ c.in-Some.is))
-    ∙ absent_then w c.requires.well_formed c.args.new c.args.old c.args.place c.requires.pivot
+    ∙ absent_then (world_view c.args.world.now) c.requires.well_formed c.args.new c.args.old c.args.place c.requires.pivot c.in-Some.mount (sym c.get.ensures ∙ c.in-Some.is)
 
 pub insert-requires-clause-rootless : goal.insert-requires-clause-rootless
 insert-requires-clause-rootless c _ =
-    let w = world_view c.args.world.now in
-    let v : Some c.in-Some.mount ≡ Some c.requires.pivot.top = sym c.in-Some.is ∙ c.get.ensures ∙ c.requires.pivot.top_there in
-    let same : c.in-Some.mount ≡ c.requires.pivot.top = cc in
     ap (λ (ms : List Mount). root_mount ms c.in-Some.mount.space) (c.reattach.ensures.mounts ∙ ap (with_place c.args.old c.args.place) c.remove.ensures.mounts)
-    ∙ ap (λ (m : Mount). root_mount (with_place c.args.old c.args.place (without_id c.args.new w.forest)) m.space) same
-    ∙ rootless_then w c.requires.well_formed c.args.new c.args.old c.args.place c.requires.pivot
+    ∙ rootless_then (world_view c.args.world.now) c.requires.well_formed c.args.new c.args.old c.args.place c.requires.pivot c.in-Some.mount (sym c.get.ensures ∙ c.in-Some.is)
 
 -- the mounts after the three changes
 pub returns-clause-world : goal.returns-clause-world
