@@ -36,19 +36,18 @@ state-from w h new i t e =
     ]
 
 -- what a copy's state has of its original's
-module _ (w : WorldView) (n : ℕ) where
-  pub copy-group : (less : Bool) (s : State) (g : ℕ) → (state_of_copy less s).group ≡ Some g → (s.group ≡ Some g) × ((state_of_copy less s).master ≡ s.master)
-  copy-group true s g e = absurd (let v : None ≡ Some g = e in cc)
-  copy-group false s g e = (e, refl)
+pub copy-group : (less : Bool) (s : State) (g : ℕ) → (state_of_copy less s).group ≡ Some g → (s.group ≡ Some g) × ((state_of_copy less s).master ≡ s.master)
+copy-group true s g e = absurd (let v : None ≡ Some g = e in cc)
+copy-group false s g e = (e, refl)
 
-  pub copy-master : (less : Bool) (s : State) (g : ℕ) → (state_of_copy less s).master ≡ Some g → (s.master ≡ Some g) ⊎ (s.group ≡ Some g)
-  copy-master false s g e = inl e
-  copy-master true s g e = elim s.group as (λ o. option_or o s.master ≡ Some g → (s.master ≡ Some g) ⊎ (o ≡ Some g)) [ None ↦ λ x. inl x | Some q ↦ λ x. inr x ] e
+pub copy-master : (less : Bool) (s : State) (g : ℕ) → (state_of_copy less s).master ≡ Some g → (s.master ≡ Some g) ⊎ (s.group ≡ Some g)
+copy-master false s g e = inl e
+copy-master true s g e = elim s.group as (λ o. option_or o s.master ≡ Some g → (s.master ≡ Some g) ⊎ (o ≡ Some g)) [ None ↦ λ x. inl x | Some q ↦ λ x. inr x ] e
 
-  copy-alone : (less : Bool) (s : State) → (IsTrue s.unbindable → (s.group ≡ None) × (s.master ≡ None)) → IsTrue (state_of_copy less s).unbindable
-      → ((state_of_copy less s).group ≡ None) × ((state_of_copy less s).master ≡ None)
-  copy-alone false s a u = a u
-  copy-alone true s a u = let b = a u in (refl, ap (λ o. option_or o s.master) b.0 ∙ b.1)
+copy-alone : (less : Bool) (s : State) → (IsTrue s.unbindable → (s.group ≡ None) × (s.master ≡ None)) → IsTrue (state_of_copy less s).unbindable
+    → ((state_of_copy less s).group ≡ None) × ((state_of_copy less s).master ≡ None)
+copy-alone false s a u = a u
+copy-alone true s a u = let b = a u in (refl, ap (λ o. option_or o s.master) b.0 ∙ b.1)
 
 module _ (w : WorldView) (h : IsWellFormed w) (n : ℕ) (less : Bool) where
   abbrev pub peer_of_copy : Mount → Peer
@@ -101,18 +100,18 @@ module _ (w : WorldView) (h : IsWellFormed w) (n : ℕ) (less : Bool) where
       added-IsPeering w.peering h.peering new_peers peers-rise
       (λ i t g e is.
       let c = copy-from i t e in
-      let s = copy-group w n less c.state g (ap (λ (s : State). s.group) (sym c.made) ∙ is) in
+      let s = copy-group less c.state g (ap (λ (s : State). s.group) (sym c.made) ∙ is) in
       (c.source.id, c.state, c.stated, s.0, sym s.1 ∙ ap (λ (s : State). s.master) (sym c.made)))
       (λ i t m e is.
       let c = copy-from i t e in
-      elim (copy-master w n less c.state m (ap (λ (s : State). s.master) (sym c.made) ∙ is)) [
+      elim (copy-master less c.state m (ap (λ (s : State). s.master) (sym c.made) ∙ is)) [
         | inl master ↦ h.peering.master_lives c.source.id c.state m c.stated master
         | inr group ↦ member-there m w.peering.peers c.source.id c.state c.stated group
       ])
       (λ i t e u.
       let c = copy-from i t e in
       subst (λ (s : State). (s.group ≡ None) × (s.master ≡ None)) (sym c.made)
-      (copy-alone w n less c.state (h.peering.unbindable_alone c.source.id c.state c.stated) (subst (λ (s : State). IsTrue s.unbindable) c.made u)))
+      (copy-alone less c.state (h.peering.unbindable_alone c.source.id c.state c.stated) (subst (λ (s : State). IsTrue s.unbindable) c.made u)))
 
   abbrev fs_of : Option Mount → ℕ
   fs_of o = (directory w.skel (unwrap_or (option_map (λ (m : Mount). m.root) o) 0)).fs
@@ -137,8 +136,8 @@ module _ (w : WorldView) (h : IsWellFormed w) (n : ℕ) (less : Bool) where
               c.state,
               c.stated,
               ap (fs_at (with_copy w n less)) c.number ∙ copy-fs c.source.id c.source c.there c.space,
-              λ g is. (copy-group w n less c.state g (ap (λ (s : State). s.group) (sym c.made) ∙ is)).0,
-              λ g is. copy-master w n less c.state g (ap (λ (s : State). s.master) (sym c.made) ∙ is),
+              λ g is. (copy-group less c.state g (ap (λ (s : State). s.group) (sym c.made) ∙ is)).0,
+              λ g is. copy-master less c.state g (ap (λ (s : State). s.master) (sym c.made) ∙ is),
             )
       ])
 

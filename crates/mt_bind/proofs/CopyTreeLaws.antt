@@ -44,7 +44,7 @@ module _ (w : WorldView) (h : IsWellFormed w) (n : ℕ) where
   mixed-places : (i j : ℕ) (a b : Mount) (p : Place) → mount_at w.forest i ≡ Some a → IsCopy w h n j b → a.place ≡ Some p → b.place ≡ Some p → ⊥
   mixed-places i j a b p e c pa pb =
       let low = old-placed i a p e pa in
-      let q = placed-copy w h n c.source p (ap (λ (m : Mount). m.place) (sym c.made) ∙ pb) in
+      let q = placed-copy w h n j b c p pb in
       let high = copy-high w h n q.0.mount in
       omega (arith, q.2)
 
@@ -60,8 +60,8 @@ module _ (w : WorldView) (h : IsWellFormed w) (n : ℕ) where
 
   copy-places : (i j : ℕ) (a b : Mount) (p : Place) (c : IsCopy w h n i a) (d : IsCopy w h n j b) → a.place ≡ Some p → b.place ≡ Some p → i ≡ j
   copy-places i j a b p c d pa pb =
-      let qa = placed-copy w h n c.source p (ap (λ (m : Mount). m.place) (sym c.made) ∙ pa) in
-      let qb = placed-copy w h n d.source p (ap (λ (m : Mount). m.place) (sym d.made) ∙ pb) in
+      let qa = placed-copy w h n i a c p pa in
+      let qb = placed-copy w h n j b d p pb in
       let on = h.forest.placed c.source.id c.source qa.0 c.there qa.1 in
       let mounts : qa.0.mount ≡ qb.0.mount = copy-single w h n qa.0.mount qb.0.mount (among w h n qa.0.mount on.0 on.1 (on.2 ∙ c.space)) (sym qa.2 ∙ qb.2) in
       let dirs : qa.0.dir ≡ qb.0.dir = sym qa.3 ∙ qb.3 in
@@ -118,7 +118,7 @@ module _ (w : WorldView) (h : IsWellFormed w) (n : ℕ) where
     placed = λ i m p e at. elim (row-of w h n i m e) [
       | inl old ↦ let q = h.forest.placed i m p old at in (q.0, old-in w h n p.mount q.0 q.1, q.2, q.3)
       | inr c ↦
-          let p_0 = placed-copy w h n c.source p (ap (λ (m : Mount). m.place) (sym c.made) ∙ at) in
+          let p_0 = placed-copy w h n i m c p at in
           let q = h.forest.placed c.source.id c.source p_0.0 c.there p_0.1 in (
             copy_of w (map id_of (originals w n)) q.0,
             ap (mount_at grown) p_0.2 ∙ copy-in w h n p_0.0.mount q.0 q.1 (q.2 ∙ c.space),
@@ -147,8 +147,8 @@ module _ (w : WorldView) (h : IsWellFormed w) (n : ℕ) where
         (λ oa cb. absurd (mixed-spaces i j a b oa cb same))
         (λ ca ob. absurd (mixed-spaces j i b a ob ca (sym same)))
         (λ ca cb.
-        let na = unplaced-copy w h n ca.source (ap (λ (m : Mount). m.place) (sym ca.made) ∙ pa) in
-        let nb = unplaced-copy w h n cb.source (ap (λ (m : Mount). m.place) (sym cb.made) ∙ pb) in
+        let na = unplaced-copy w h n i a ca pa in
+        let nb = unplaced-copy w h n j b cb pb in
         same-copy i j a b ca cb (h.forest.one_root ca.source.id cb.source.id ca.source cb.source ca.there cb.there na nb (ca.space ∙ sym cb.space)));
     no_cycle = all-end;
   }

@@ -1,11 +1,10 @@
 -- What the end of a namespace, done mount by mount, makes of a world.
 use Rattle.std.proofs.Common.{◌≡◌, ℕ, ◌≤◌, Bool, true, false, cond, not, ◌||◌, ◌==◌, eqb, List, [], ◌∷◌, map, Option, Some, None, Ok, refl, sym, ap, ◌∙◌, subst, arith}
-use Rattle.std.specs.Option.{is_some, option_map, unwrap_or}
+use Rattle.std.specs.Option.{is_some, option_map, option_map_or, unwrap_or}
 use Rattle.std.proofs.lemmas.Bool.Decides.{nat_tests}
 use Rattle.mt_skel.specs.declared.fault.Fault.TheVariants.{NoNamespace}
 use Rattle.mt_skel.specs.Keyed.{without, among}
 use Rattle.mt_skel.proofs.OutcomeLaws.{passed}
-use Rattle.mt_skel.proofs.KeyedLaws.{row_at-filter, passing}
 use Rattle.mt_mounts.specs.declared.mount.Mount.{Mount}
 use Rattle.mt_mounts.specs.Forest.{id_of, is_root, root_mount, mount_at}
 use Rattle.mt_mounts.proofs.ForestLaws.{find_row, find_passes}
@@ -18,7 +17,7 @@ use Rattle.mt_propagate.proofs.WalkLaws.{root_here}
 use Rattle.mt_bind.specs.Spaces.{originals, without_space, drop_space}
 use Rattle.mt_bind.specs.Dropping.{without_mounts}
 use Rattle.mt_bind.proofs.GoneLaws.{agree, end-kept}
-use Rattle.mt_bind.proofs.MemberLaws.{among-rows, some_if}
+use Rattle.mt_bind.proofs.MemberLaws.{among_passing}
 
 module _ (w : WorldView) (h : IsWellFormed w) (n : ℕ) where
   -- a namespace that is there has a number from 1 on
@@ -33,14 +32,11 @@ module _ (w : WorldView) (h : IsWellFormed w) (n : ℕ) where
           omega (arith, low.2, root.1)
 
   among-space : 1 ≤ n → (i : ℕ) → among (map id_of (originals w n)) i ≡ (space_of w i == n)
-  among-space one i =
-      among-rows (originals w n) i
-      ∙ ap is_some (row_at-filter id_of (λ (m : Mount). m.space == n) i w.forest h.forest.rising)
-      ∙ go (mount_at w.forest i)
+  among-space one i = among_passing (λ (m : Mount). m.space == n) w.forest h.forest.rising i ∙ go (mount_at w.forest i)
     where
-      go : (o : Option Mount) → is_some (passing (λ (m : Mount). m.space == n) o) ≡ (unwrap_or (option_map (λ (m : Mount). m.space) o) 0 == n)
+      go : (o : Option Mount) → option_map_or (λ (m : Mount). m.space == n) o false ≡ (unwrap_or (option_map (λ (m : Mount). m.space) o) 0 == n)
       go None = grind (arith, nat_tests)
-      go (Some x) = some_if (x.space == n) x
+      go (Some x) = refl
 
   -- a world without the mounts of a namespace is one without the namespace
   pub without-is : is_space w n ≡ true → (ids : List ℕ) → ids ≡ map id_of (originals w n) → without_mounts w ids ≡ without_space w n

@@ -104,11 +104,11 @@ module _ (w : WorldView) (h : IsWellFormed w) (m : ℕ) (less : Bool) where
       more_contained k w (with_copy w m less) h c (new_peers w h m less) refl (copy-kept w h m less).peering.rising old-space
       (λ i t g e is.
       let c = copy-from w h m less i t e in
-      let s = copy-group w m less c.state g (ap (λ (s : State). s.group) (sym c.made) ∙ is) in
+      let s = copy-group less c.state g (ap (λ (s : State). s.group) (sym c.made) ∙ is) in
       (c.source.id, c.state, c.stated, s.0, away c, λ q. absurd (let n = new-space i t c in omega (arith, low, n, q))))
       (λ i t g e is.
       let c = copy-from w h m less i t e in
-      (c.source.id, c.state, c.stated, copy-master w m less c.state g (ap (λ (s : State). s.master) (sym c.made) ∙ is), away c))
+      (c.source.id, c.state, c.stated, copy-master less c.state g (ap (λ (s : State). s.master) (sym c.made) ∙ is), away c))
     where
       -- the copied mounts are not in it
       away : {A : Type 0} {i : ℕ} {t : State} → (c : IsStateOfCopy w h m less i t) → space_of w c.source.id ≡ k → A

@@ -2,7 +2,7 @@
 use Rattle.std.proofs.Common.{◌≡◌, ℕ, ◌+◌, ◌≤◌, Bool, true, false, cond, ◌==◌, eqb, eqb-true, eq-eqb, ◌||◌, List, [], ◌∷◌, map, length, Option, Some, None, refl, sym, ap, ◌∙◌, ◌&&◌, ◌++◌, ◌<◌, drop, get_or, append_assoc, inl, inr, arith, length-append}
 use Rattle.std.specs.Prelude.{unwrap_or, is_some, nat_lt}
 use Rattle.std.specs.List.{filter, flat_map, list_all, list_any, last_or}
-use Rattle.std.specs.Option.{option_map}
+use Rattle.std.specs.Option.{option_map, option_map_or}
 use Rattle.std.proofs.lemmas.Bool.Decides.{nat_tests}
 use Rattle.std.proofs.lemmas.List.{drop_more, length-map}
 use Rattle.mt_skel.specs.Keyed.{rises, among}
@@ -24,7 +24,7 @@ use Rattle.mt_skel.proofs.ElementLaws.{In, in_filter, in_row}
 use Rattle.mt_bind.specs.Sources.{top_at, alone, tree_within, is_bindable, is_bound_along, leads_within, path_to, tree_of}
 
 -- an ID is among those of mounts where one of them has it
-pub among-rows : (ms : List Mount) (i : ℕ) → among (map id_of ms) i ≡ is_some (mount_at ms i)
+among-rows : (ms : List Mount) (i : ℕ) → among (map id_of ms) i ≡ is_some (mount_at ms i)
 among-rows [] i = refl
 among-rows (m ∷ ms) i = ap (λ b. b || among (map id_of ms) i) (eqb-turned m.id i) ∙ go (eqb i m.id) (among-rows ms i)
   where
@@ -32,10 +32,13 @@ among-rows (m ∷ ms) i = ap (λ b. b || among (map id_of ms) i) (eqb-turned m.i
     go true ih = refl
     go false ih = ih
 
--- something that is kept under a test is there where the test passes
-pub some_if : (b : Bool) (m : Mount) → is_some (cond b (Some m) None) ≡ b
-some_if true m = refl
-some_if false m = refl
+-- and among those of mounts that pass a test where that one passes it
+pub among_passing : (t : Mount → Bool) (ms : List Mount) → rises id_of ms ≡ true → (i : ℕ) → among (map id_of (filter t ms)) i ≡ option_map_or t (mount_at ms i) false
+among_passing t ms rising i = among-rows (filter t ms) i ∙ ap is_some (row_at-filter id_of t i ms rising) ∙ go (mount_at ms i)
+  where
+    go : (o : Option Mount) → is_some (passing t o) ≡ option_map_or t o false
+    go None = refl
+    go (Some x) = elim (t x) as (λ b. is_some (cond b (Some x) None) ≡ b) [ true ↦ refl | false ↦ refl ]
 
 -- a test that asks for another one first passes the same where those that fail the other are left out
 module _ (inside after last : ℕ → Bool) where
@@ -142,9 +145,8 @@ unbindable_ids w i ids e =
 pub below_among : (w : WorldView) → rises id_of w.forest ≡ true → (i j : ℕ) (m : Mount) (ids : List ℕ) → ids ≡ subtree w.forest i → mount_at w.forest j ≡ Some m → among ids j ≡ is_below w.forest i j
 below_among w rising i j m ids e there =
     ap (λ l. among l j) (e ∙ sym (keys-filter id_of (is_below w.forest i) w.forest))
-    ∙ among-rows (filter (λ (m : Mount). is_below w.forest i m.id) w.forest) j
-    ∙ ap is_some (row_at-filter id_of (λ (m : Mount). is_below w.forest i m.id) j w.forest rising ∙ ap (passing (λ (m : Mount). is_below w.forest i m.id)) there)
-    ∙ some_if (is_below w.forest i m.id) m
+    ∙ among_passing (λ (m : Mount). is_below w.forest i m.id) w.forest rising j
+    ∙ ap (λ o. option_map_or (λ (m : Mount). is_below w.forest i m.id) o false) there
     ∙ ap (is_below w.forest i) (row_at-key id_of j w.forest m there)
 
 -- the tree that moves, by its mounts' IDs

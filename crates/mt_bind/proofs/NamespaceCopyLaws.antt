@@ -85,15 +85,15 @@ module _ (w : WorldView) (h : IsWellFormed w) (n : ℕ) where
   ]
 
   -- a copy's place is on the copy of its source's parent
-  pub placed-copy : (x : Mount) (p : Place) → (copy_of w (map id_of (originals w n)) x).place ≡ Some p → (q : Place) × (x.place ≡ Some q) × (p.mount ≡ copy_number w (map id_of (originals w n)) q.mount) × (p.dir ≡ q.dir)
-  placed-copy x p e = go x.place refl e
+  pub placed-copy : (i : ℕ) (y : Mount) (c : IsCopy i y) (p : Place) → y.place ≡ Some p → (q : Place) × (c.source.place ≡ Some q) × (p.mount ≡ copy_number w (map id_of (originals w n)) q.mount) × (p.dir ≡ q.dir)
+  placed-copy i y c p e = go c.source.place refl (ap (λ (m : Mount). m.place) (sym c.made) ∙ e)
     where
-      go : (o : Option Place) → x.place ≡ o → option_map {U = Place} (λ (q : Place). record { mount = copy_number w (map id_of (originals w n)) q.mount; dir = q.dir }) o ≡ Some p → (q : Place) × (x.place ≡ Some q) × (p.mount ≡ copy_number w (map id_of (originals w n)) q.mount) × (p.dir ≡ q.dir)
+      go : (o : Option Place) → c.source.place ≡ o → option_map {U = Place} (λ (q : Place). record { mount = copy_number w (map id_of (originals w n)) q.mount; dir = q.dir }) o ≡ Some p → (q : Place) × (c.source.place ≡ Some q) × (p.mount ≡ copy_number w (map id_of (originals w n)) q.mount) × (p.dir ≡ q.dir)
       go None at e = absurd (let v : None ≡ Some p = e in cc)
       go (Some q) at e = (q, at, ap (λ (o : Option Place). (unwrap_or o p).mount) (sym e), ap (λ (o : Option Place). (unwrap_or o p).dir) (sym e))
 
-  pub unplaced-copy : (x : Mount) → (copy_of w (map id_of (originals w n)) x).place ≡ None → x.place ≡ None
-  unplaced-copy x e = go x.place e
+  pub unplaced-copy : (i : ℕ) (y : Mount) (c : IsCopy i y) → y.place ≡ None → c.source.place ≡ None
+  unplaced-copy i y c e = go c.source.place (ap (λ (m : Mount). m.place) (sym c.made) ∙ e)
     where
       go : (o : Option Place) → option_map {U = Place} (λ (q : Place). record { mount = copy_number w (map id_of (originals w n)) q.mount; dir = q.dir }) o ≡ None → o ≡ None
       go None e = refl

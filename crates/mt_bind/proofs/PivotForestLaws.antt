@@ -88,38 +88,32 @@ module _ (w : WorldView) (h : IsWellFormed w) (i j : ℕ) (p : Place) (a : MayPi
   none_there : (k : ℕ) (x : Mount) → mount_at ms k ≡ Some x → x.place ≡ Some p → ⊥
   none_there k x e at = true≢false (sym (stands_here x p at) ∙ find_none (is_at p) ms a.destination.free k x e)
 
-  was : (k : ℕ) (b : Mount) → mount_at (map pivot ms) k ≡ Some b → (x : Mount) × (mount_at ms k ≡ Some x) × (b ≡ pivot x)
-  was k b e = mapped-row id_of pivot (λ m. refl) ms k b e
+  was : (k : ℕ) (b : Mount) → mount_at (map pivot ms) k ≡ Some b → (x : Mount) × (mount_at ms k ≡ Some x) × (b.place ≡ (pivot x).place) × (b.space ≡ x.space)
+  was k b e = let x = mapped-row id_of pivot (λ m. refl) ms k b e in (x.0, x.1, ap (λ (m : Mount). m.place) x.2, ap (λ (m : Mount). m.space) x.2)
 
   now : (k : ℕ) (x : Mount) → mount_at ms k ≡ Some x → mount_at (map pivot ms) k ≡ Some (pivot x)
   now k x e = row-mapped id_of pivot (λ m. refl) ms k x e
 
-  place_of : (b x : Mount) → b ≡ pivot x → b.place ≡ (pivot x).place
-  place_of b x e = ap (λ (m : Mount). m.place) e
-
-  space_of : (b x : Mount) → b ≡ pivot x → b.space ≡ x.space
-  space_of b x e = ap (λ (m : Mount). m.space) e
-
   placed_now : (k : ℕ) (b : Mount) (q : Place) → mount_at (map pivot ms) k ≡ Some b → b.place ≡ Some q → (u : Mount) × (mount_at (map pivot ms) q.mount ≡ Some u) × (u.space ≡ b.space) × IsTrue (holds w.skel u.root q.dir)
   placed_now k b q e at =
       let x = was k b e in
-      elim (stands k x.0 q x.1 (sym (place_of b x.0 x.2) ∙ at)) [
+      elim (stands k x.0 q x.1 (sym x.2 ∙ at)) [
         | inl old ↦
             let there = a.destination.there in
             let space : there.0.space ≡ b.space =
-            sym (below-space w h i p.mount there.0 there.1 a.inside) ∙ space_is w i a.top a.top_there ∙ sym a.same_space ∙ ap (λ (m : Mount). m.space) (sym old.2) ∙ sym (space_of b x.0 x.2) in
+            sym (below-space w h i p.mount there.0 there.1 a.inside) ∙ space_is w i a.top a.top_there ∙ sym a.same_space ∙ ap (λ (m : Mount). m.space) (sym old.2) ∙ sym x.3 in
             subst (λ (q : Place). (u : Mount) × (mount_at (map pivot ms) q.mount ≡ Some u) × (u.space ≡ b.space) × IsTrue (holds w.skel u.root q.dir)) old.1
             (pivot there.0, now p.mount there.0 there.1, space, there.2)
         | inr still ↦
             let u = h.forest.placed k x.0 q x.1 still.1 in
-            (pivot u.0, now q.mount u.0 u.1, u.2 ∙ sym (space_of b x.0 x.2), u.3)
+            (pivot u.0, now q.mount u.0 u.1, u.2 ∙ sym x.3, u.3)
       ]
 
   apart_now : (k l : ℕ) (b d : Mount) (q : Place) → mount_at (map pivot ms) k ≡ Some b → mount_at (map pivot ms) l ≡ Some d → b.place ≡ Some q → d.place ≡ Some q → k ≡ l
   apart_now k l b d q ek el bq dq =
       let x = was k b ek in
       let y = was l d el in
-      each_way (stands k x.0 q x.1 (sym (place_of b x.0 x.2) ∙ bq)) (stands l y.0 q y.1 (sym (place_of d y.0 y.2) ∙ dq))
+      each_way (stands k x.0 q x.1 (sym x.2 ∙ bq)) (stands l y.0 q y.1 (sym y.2 ∙ dq))
       (λ old too. old.0 ∙ sym too.0)
       (λ old still. absurd (none_there l y.0 y.1 (still.1 ∙ ap (λ q. Some q) (sym old.1))))
       (λ still old. absurd (none_there k x.0 x.1 (still.1 ∙ ap (λ q. Some q) (sym old.1))))
@@ -129,14 +123,14 @@ module _ (w : WorldView) (h : IsWellFormed w) (i j : ℕ) (p : Place) (a : MayPi
   rooted_now k b e =
       let x = was k b e in
       elim (cases_eq x.0.space a.top.space) [
-        | inl here ↦ (i, pivot a.top, now i a.top a.top_there, (new_place i a.top a.top_there refl).1, sym here ∙ sym (space_of b x.0 x.2))
+        | inl here ↦ (i, pivot a.top, now i a.top a.top_there, (new_place i a.top a.top_there refl).1, sym here ∙ sym x.3)
         | inr other ↦
             let r = h.forest.rooted k x.0 x.1 in
             let space : (k : ℕ) (m : Mount) → mount_at ms k ≡ Some m → r.0 ≡ k → x.0.space ≡ m.space =
             λ k m f s. sym r.4 ∙ ap (λ (m : Mount). m.space) (some-is r.1 m (sym r.2 ∙ ap (mount_at ms) s ∙ f)) in
             let away : r.0 ≢ j = λ s. other (space j a.root a.root_there s ∙ a.same_space) in
             let off : r.0 ≢ i = λ s. other (space i a.top a.top_there s) in
-            (r.0, pivot r.1, now r.0 r.1 r.2, kept_place r.0 r.1 r.2 off away ∙ r.3, r.4 ∙ sym (space_of b x.0 x.2))
+            (r.0, pivot r.1, now r.0 r.1 r.2, kept_place r.0 r.1 r.2 off away ∙ r.3, r.4 ∙ sym x.3)
       ]
 
   -- no mount but the old one was a root mount of its namespace
@@ -147,8 +141,8 @@ module _ (w : WorldView) (h : IsWellFormed w) (i j : ℕ) (p : Place) (a : MayPi
   one_now k l b d ek el bn dn same =
       let x = was k b ek in
       let y = was l d el in
-      let spaces : x.0.space ≡ y.0.space = sym (space_of b x.0 x.2) ∙ same ∙ space_of d y.0 y.2 in
-      each_way (rootless k x.0 x.1 (sym (place_of b x.0 x.2) ∙ bn)) (rootless l y.0 y.1 (sym (place_of d y.0 y.2) ∙ dn))
+      let spaces : x.0.space ≡ y.0.space = sym x.3 ∙ same ∙ y.3 in
+      each_way (rootless k x.0 x.1 (sym x.2 ∙ bn)) (rootless l y.0 y.1 (sym y.2 ∙ dn))
       (λ new too. new.0 ∙ sym too.0)
       (λ new old. absurd (one_old l y.0 y.1 old.0 old.1 (sym spaces ∙ ap (λ (m : Mount). m.space) new.1)))
       (λ old new. absurd (one_old k x.0 x.1 old.0 old.1 (spaces ∙ ap (λ (m : Mount). m.space) new.1)))
@@ -169,7 +163,7 @@ module _ (w : WorldView) (h : IsWellFormed w) (i j : ℕ) (p : Place) (a : MayPi
   rank_falls x y e =
       let m = parent-from (map pivot ms) x y e in
       let u = was x m.0 m.2 in
-      elim (stands x u.0 m.1 u.1 (sym (place_of m.0 u.0 u.2) ∙ m.3)) [
+      elim (stands x u.0 m.1 u.1 (sym u.2 ∙ m.3)) [
         | inl old ↦
             let rx : rank x ≡ rank_of ms x + suc (rank_of ms p.mount) = ap (λ b. cond b (rank_of ms x) (rank_of ms x + suc (rank_of ms p.mount))) (ap (is_below ms i) old.0 ∙ above) in
             let ry : rank y ≡ rank_of ms p.mount =
