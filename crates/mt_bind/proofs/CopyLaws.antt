@@ -22,7 +22,7 @@ use Rattle.mt_propagate.proofs.RowLaws.{renamed-row, appended-row}
 use Rattle.mt_propagate.proofs.ShownLaws.{shown-alike, groups-show, masters-show, mount-state, state-mount, state-row}
 use Rattle.mt_bind.specs.Spaces.{originals, with_copy}
 use Rattle.mt_bind.specs.Copying.{copy_number, copy_of, state_of_copy}
-use Rattle.mt_bind.proofs.NamespaceCopyLaws.{copies, order, was-original, among, copy-high, copy-low, old-in, copy-in, row-of}
+use Rattle.mt_bind.proofs.NamespaceCopyLaws.{number, copy, copies, order, was-original, among, copy-high, copy-low, old-in, copy-in, row-of}
 use Rattle.mt_bind.proofs.CopyTreeLaws.{grown, grown-ids, grown-forest}
 
 -- where a world has more states, each is that of a mount that was there, or a new one
@@ -51,7 +51,7 @@ copy-alone true s a u = let b = a u in (refl, ap (λ o. option_or o s.master) b.
 
 module _ (w : WorldView) (h : IsWellFormed w) (n : ℕ) (less : Bool) where
   abbrev pub peer_of_copy : Mount → Peer
-  peer_of_copy m = record { mount = copy_number w (map id_of (originals w n)) m.id; state = state_of_copy less (state_of w m.id) }
+  peer_of_copy m = record { mount = number w n m.id; state = state_of_copy less (state_of w m.id) }
 
   abbrev pub new_peers : List Peer
   new_peers = map peer_of_copy (originals w n)
@@ -62,14 +62,14 @@ module _ (w : WorldView) (h : IsWellFormed w) (n : ℕ) (less : Bool) where
     pub state : State
     pub there : mount_at w.forest source.id ≡ Some source
     pub space : source.space ≡ n
-    pub number : i ≡ copy_number w (map id_of (originals w n)) source.id
+    pub number : i ≡ number w n source.id
     pub stated : state_at w.peering.peers source.id ≡ Some state
     pub made : t ≡ state_of_copy less state
 
   pub copy-from : (i : ℕ) (t : State) → state_at new_peers i ≡ Some t → IsStateOfCopy i t
   copy-from i t e =
       let row = state-row new_peers i t e in
-      let r = renamed-row id_of mount_of peer_of_copy (copy_number w (map id_of (originals w n))) (λ m. refl) (originals w n) (order w h n) i row.0 row.1 in
+      let r = renamed-row id_of mount_of peer_of_copy (number w n) (λ m. refl) (originals w n) (order w h n) i row.0 row.1 in
       let o = was-original w h n r.0.id r.0 r.1 in
       let s = mount-state w.forest w.peering.peers r.0.id r.0 h.same_mounts o.0 in
       record {
@@ -84,8 +84,8 @@ module _ (w : WorldView) (h : IsWellFormed w) (n : ℕ) (less : Bool) where
 
   peer-ids : map id_of (copies w h n) ≡ map mount_of new_peers
   peer-ids =
-      map-map (copy_of w (map id_of (originals w n))) id_of (λ (m : Mount). copy_number w (map id_of (originals w n)) m.id) (λ m. refl) (originals w n)
-      ∙ sym (map-map peer_of_copy mount_of (λ (m : Mount). copy_number w (map id_of (originals w n)) m.id) (λ m. refl) (originals w n))
+      map-map (copy w n) id_of (λ (m : Mount). number w n m.id) (λ m. refl) (originals w n)
+      ∙ sym (map-map peer_of_copy mount_of (λ (m : Mount). number w n m.id) (λ m. refl) (originals w n))
 
   same_ids : map id_of (grown w h n) ≡ map mount_of (w.peering.peers ++ new_peers)
   same_ids = grown-ids w h n ∙ (λ i. h.same_mounts i ++ peer-ids i) ∙ sym (map-append mount_of w.peering.peers new_peers)
@@ -121,7 +121,7 @@ module _ (w : WorldView) (h : IsWellFormed w) (n : ℕ) (less : Bool) where
   unfolding with_copy
   old-fs i m e = ap fs_of (old-in w h n i m e ∙ sym e)
 
-  copy-fs : (i : ℕ) (m : Mount) → mount_at w.forest i ≡ Some m → m.space ≡ n → fs_at (with_copy w n less) (copy_number w (map id_of (originals w n)) i) ≡ fs_at w i
+  copy-fs : (i : ℕ) (m : Mount) → mount_at w.forest i ≡ Some m → m.space ≡ n → fs_at (with_copy w n less) (number w n i) ≡ fs_at w i
   unfolding with_copy
   copy-fs i m e same = ap fs_of (copy-in w h n i m e same) ∙ ap fs_of (sym e)
 

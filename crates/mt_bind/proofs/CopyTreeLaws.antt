@@ -18,7 +18,7 @@ use Rattle.mt_propagate.proofs.NumberLaws.{climbs}
 use Rattle.mt_propagate.proofs.TreeLaws.{parent-from, ends-like, ends-more, ends-none}
 use Rattle.mt_bind.specs.Spaces.{originals}
 use Rattle.mt_bind.specs.Copying.{copy_number, copy_of}
-use Rattle.mt_bind.proofs.NamespaceCopyLaws.{copies, copy-high, copy-single, copy-ids, among, old-in, copy-in, IsCopy, row-of, placed-copy, unplaced-copy}
+use Rattle.mt_bind.proofs.NamespaceCopyLaws.{number, copy, place, copies, copy-high, copy-single, copy-ids, among, old-in, copy-in, IsCopy, row-of, placed-copy, unplaced-copy}
 
 -- each of two things that are one way or another
 pub each_way : {A B C D R : Type 0} → A ⊎ B → C ⊎ D → (A → C → R) → (A → D → R) → (B → C → R) → (B → D → R) → R
@@ -56,7 +56,7 @@ module _ (w : WorldView) (h : IsWellFormed w) (n : ℕ) where
       omega (arith, low.3, same, is)
 
   same-copy : (i j : ℕ) (a b : Mount) (c : IsCopy w h n i a) (d : IsCopy w h n j b) → c.source.id ≡ d.source.id → i ≡ j
-  same-copy i j a b c d e = c.number ∙ ap (copy_number w (map id_of (originals w n))) e ∙ sym d.number
+  same-copy i j a b c d e = c.number ∙ ap (number w n) e ∙ sym d.number
 
   copy-places : (i j : ℕ) (a b : Mount) (p : Place) (c : IsCopy w h n i a) (d : IsCopy w h n j b) → a.place ≡ Some p → b.place ≡ Some p → i ≡ j
   copy-places i j a b p c d pa pb =
@@ -72,10 +72,10 @@ module _ (w : WorldView) (h : IsWellFormed w) (n : ℕ) where
   old-up : (x : ℕ) → (m : Mount) × (mount_at w.forest x ≡ Some m) → parent grown x ≡ parent w.forest x
   old-up x m = ap (option_and_then parent_id) (old-in w h n x m.0 m.1 ∙ sym m.1)
 
-  copy-up : (x : ℕ) → (m : Mount) × (mount_at w.forest x ≡ Some m) × (m.space ≡ n) → parent grown (copy_number w (map id_of (originals w n)) x) ≡ option_map (copy_number w (map id_of (originals w n))) (parent w.forest x)
-  copy-up x m = ap (option_and_then parent_id) (copy-in w h n x m.0 m.1 m.2) ∙ go m.0.place ∙ ap (λ o. option_map (copy_number w (map id_of (originals w n))) (option_and_then parent_id o)) (sym m.1)
+  copy-up : (x : ℕ) → (m : Mount) × (mount_at w.forest x ≡ Some m) × (m.space ≡ n) → parent grown (number w n x) ≡ option_map (number w n) (parent w.forest x)
+  copy-up x m = ap (option_and_then parent_id) (copy-in w h n x m.0 m.1 m.2) ∙ go m.0.place ∙ ap (λ o. option_map (number w n) (option_and_then parent_id o)) (sym m.1)
     where
-      go : (o : Option Place) → option_map (λ (p : Place). p.mount) (option_map {U = Place} (λ (q : Place). record { mount = copy_number w (map id_of (originals w n)) q.mount; dir = q.dir }) o) ≡ option_map (copy_number w (map id_of (originals w n))) (option_map (λ (p : Place). p.mount) o)
+      go : (o : Option Place) → option_map (λ (p : Place). p.mount) (option_map (place w n) o) ≡ option_map (number w n) (option_map (λ (p : Place). p.mount) o)
       go None = refl
       go (Some p) = refl
 
@@ -92,14 +92,14 @@ module _ (w : WorldView) (h : IsWellFormed w) (n : ℕ) where
       (old-up x m ∙ e, (q.0, ap (mount_at w.forest) (sym p.4) ∙ q.1)))
       (length w.forest) x m (h.forest.no_cycle x)
 
-  copy-ends : (x : ℕ) → (m : Mount) × (mount_at w.forest x ≡ Some m) × (m.space ≡ n) → ends (parent grown) (length w.forest) (copy_number w (map id_of (originals w n)) x) ≡ true
+  copy-ends : (x : ℕ) → (m : Mount) × (mount_at w.forest x ≡ Some m) × (m.space ≡ n) → ends (parent grown) (length w.forest) (number w n x) ≡ true
   copy-ends x m =
-      ends-like (parent w.forest) (parent grown) (copy_number w (map id_of (originals w n))) (λ x. (m : Mount) × (mount_at w.forest x ≡ Some m) × (m.space ≡ n))
-      (λ x m e. copy-up x m ∙ ap (option_map (copy_number w (map id_of (originals w n)))) e)
+      ends-like (parent w.forest) (parent grown) (number w n) (λ x. (m : Mount) × (mount_at w.forest x ≡ Some m) × (m.space ≡ n))
+      (λ x m e. copy-up x m ∙ ap (option_map (number w n)) e)
       (λ x y m e.
       let p = parent-from w.forest x y e in
       let q = h.forest.placed x p.0 p.1 p.2 p.3 in
-      (copy-up x m ∙ ap (option_map (copy_number w (map id_of (originals w n)))) e, (q.0, ap (mount_at w.forest) (sym p.4) ∙ q.1, q.2 ∙ ap (λ (m : Mount). m.space) (some-is p.0 m.0 (sym p.2 ∙ m.1)) ∙ m.2)))
+      (copy-up x m ∙ ap (option_map (number w n)) e, (q.0, ap (mount_at w.forest) (sym p.4) ∙ q.1, q.2 ∙ ap (λ (m : Mount). m.space) (some-is p.0 m.0 (sym p.2 ∙ m.1)) ∙ m.2)))
       (length w.forest) x m (h.forest.no_cycle x)
 
   all-end : (i : ℕ) → ends (parent grown) (length grown) i ≡ true
@@ -120,7 +120,7 @@ module _ (w : WorldView) (h : IsWellFormed w) (n : ℕ) where
       | inr c ↦
           let p_0 = placed-copy w h n i m c p at in
           let q = h.forest.placed c.source.id c.source p_0.0 c.there p_0.1 in (
-            copy_of w (map id_of (originals w n)) q.0,
+            copy w n q.0,
             ap (mount_at grown) p_0.2 ∙ copy-in w h n p_0.0.mount q.0 q.1 (q.2 ∙ c.space),
             ap (λ (m : Mount). m.space) (sym c.made),
             ap (holds w.skel q.0.root) p_0.3 ∙ q.3,
@@ -135,10 +135,10 @@ module _ (w : WorldView) (h : IsWellFormed w) (n : ℕ) where
       | inl old ↦ let r = h.forest.rooted i m old in (r.0, r.1, old-in w h n r.0 r.1 r.2, r.3, r.4)
       | inr c ↦
           let r = h.forest.rooted c.source.id c.source c.there in (
-            copy_number w (map id_of (originals w n)) r.0,
-            copy_of w (map id_of (originals w n)) r.1,
+            number w n r.0,
+            copy w n r.1,
             copy-in w h n r.0 r.1 r.2 (r.4 ∙ c.space),
-            ap (option_map {U = Place} (λ (q : Place). record { mount = copy_number w (map id_of (originals w n)) q.mount; dir = q.dir })) r.3,
+            ap (option_map (place w n)) r.3,
             ap (λ (m : Mount). m.space) (sym c.made),
           )
     ];

@@ -16,7 +16,7 @@ use Rattle.mt_propagate.specs.Limits.{too_many_mounts, too_many_spaces}
 use Rattle.mt_propagate.specs.WellFormed.{IsForest, IsWellFormed}
 use Rattle.mt_bind.specs.Spaces.{originals, with_copy, copy_space}
 use Rattle.mt_bind.specs.Copying.{copy_of}
-use Rattle.mt_bind.proofs.NamespaceCopyLaws.{copies}
+use Rattle.mt_bind.proofs.NamespaceCopyLaws.{copy, copies}
 use Rattle.mt_bind.proofs.CopyTreeLaws.{grown-forest}
 use Rattle.mt_bind.proofs.CopyLaws.{new_peers, peers-rise}
 
@@ -39,7 +39,7 @@ module _ (w : WorldView) (h : IsWellFormed w) (n : ℕ) (less : Bool) where
         → (v.next_mount ≡ u.next_mount + length cs) × (v.next_space ≡ u.next_space + 1) → v ≡ with_copy w n less
     unfolding with_copy
     copy-made v forest states same next =
-        let count : length cs ≡ length (originals w n) = ap length a.mounts ∙ length-map (originals w n) (copy_of w (map id_of (originals w n))) in
+        let count : length cs ≡ length (originals w n) = ap length a.mounts ∙ length-map (originals w n) (copy w n) in
         let added : v ≡ record { skel = u.skel; forest = u.forest ++ cs; peering = record { peers = u.peering.peers ++ peers_of rs; next = u.peering.next }; next_mount = u.next_mount + length cs; next_space = u.next_space + 1 } =
         λ i. record { skel = same.0 i; forest = forest i; peering = record { peers = states i; next = same.1 i }; next_mount = next.0 i; next_space = next.1 i } in
         added ∙ (λ i. let x = a.still i in record x { forest = x.forest ++ a.mounts i; peering = record x.peering { peers = x.peering.peers ++ a.states i }; next_mount = x.next_mount + count i; next_space = x.next_space + 1 })

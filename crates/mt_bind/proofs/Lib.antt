@@ -7,7 +7,6 @@ pub mod CopyLaws
 pub mod CopyNumberLaws
 pub mod SourceLaws
 pub mod MountLaws
-pub mod PartLaws
 pub mod BelowLaws
 pub mod WithinLaws
 pub mod TreeOfLaws

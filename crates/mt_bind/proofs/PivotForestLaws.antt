@@ -42,47 +42,33 @@ module _ (w : WorldView) (h : IsWellFormed w) (i j : ℕ) (p : Place) (a : MayPi
   pub differ : i ≢ j
   differ same = a.placed (ap (λ (m : Mount). m.place) (some-is a.top a.root (sym a.top_there ∙ ap (mount_at ms) same ∙ a.root_there)) ∙ a.unplaced)
 
-  -- what the pivot does to a mount
-  new_place : (k : ℕ) (x : Mount) → mount_at ms k ≡ Some x → k ≡ i → (x ≡ a.top) × ((pivot x).place ≡ None)
-  new_place k x e same = (
-    some-is x a.top (sym e ∙ ap (mount_at ms) same ∙ a.top_there),
-    ap (λ b. cond b None (cond (x.id == j) (Some p) x.place)) (eq-eqb x.id i (row_at-key id_of k ms x e ∙ same)),
-  )
-
-  other_place : (k : ℕ) (x : Mount) → mount_at ms k ≡ Some x → k ≢ i → (pivot x).place ≡ cond (x.id == j) (Some p) x.place
-  other_place k x e off = ap (λ b. cond b None (cond (x.id == j) (Some p) x.place)) (ne_eqb x.id i (λ s. off (sym (row_at-key id_of k ms x e) ∙ s)))
-
-  old_place : (k : ℕ) (x : Mount) → mount_at ms k ≡ Some x → k ≡ j → (x ≡ a.root) × ((pivot x).place ≡ Some p)
-  old_place k x e same = (
-    some-is x a.root (sym e ∙ ap (mount_at ms) same ∙ a.root_there),
-    other_place k x e (λ s. differ (sym s ∙ same)) ∙ ap (λ b. cond b (Some p) x.place) (eq-eqb x.id j (row_at-key id_of k ms x e ∙ same)),
-  )
-
-  kept_place : (k : ℕ) (x : Mount) → mount_at ms k ≡ Some x → k ≢ i → k ≢ j → (pivot x).place ≡ x.place
-  kept_place k x e off away =
-      other_place k x e off ∙ ap (λ b. cond b (Some p) x.place) (ne_eqb x.id j (λ s. away (sym (row_at-key id_of k ms x e) ∙ s)))
+  -- a pivot takes the place of the new root mount away, gives this place to the old one, and leaves any other mount its own
+  pub pivot_cases : (P : Option Place → Type 0) (k : ℕ) (x : Mount) → mount_at ms k ≡ Some x → (k ≡ i → x ≡ a.top → P None) → (k ≡ j → x ≡ a.root → P (Some p)) → (k ≢ i → k ≢ j → P x.place) → P (pivot x).place
+  pivot_cases P k x e new old other =
+      let own = row_at-key id_of k ms x e in
+      elim (cases_eq k i) [
+        | inl same ↦
+            let none = ap (λ b. cond b None (cond (x.id == j) (Some p) x.place)) (eq-eqb x.id i (own ∙ same)) in
+            subst P (sym none) (new same (some-is x a.top (sym e ∙ ap (mount_at ms) same ∙ a.top_there)))
+        | inr off ↦
+            let past = ap (λ b. cond b None (cond (x.id == j) (Some p) x.place)) (ne_eqb x.id i (λ s. off (sym own ∙ s))) in
+            elim (cases_eq k j) [
+              | inl same ↦ subst P (sym (past ∙ ap (λ b. cond b (Some p) x.place) (eq-eqb x.id j (own ∙ same)))) (old same (some-is x a.root (sym e ∙ ap (mount_at ms) same ∙ a.root_there)))
+              | inr away ↦ subst P (sym (past ∙ ap (λ b. cond b (Some p) x.place) (ne_eqb x.id j (λ s. away (sym own ∙ s))))) (other off away)
+            ]
+      ]
 
   -- a mount that has a place then is the old root mount, or had it before
   pub stands : (k : ℕ) (x : Mount) (q : Place) → mount_at ms k ≡ Some x → (pivot x).place ≡ Some q → ((k ≡ j) × (p ≡ q) × (x ≡ a.root)) ⊎ ((k ≢ i) × (x.place ≡ Some q))
-  stands k x q e at = elim (cases_eq k i) [
-    | inl same ↦ absurd (let n = new_place k x e same in let v : None ≡ Some q = sym n.1 ∙ at in cc)
-    | inr off ↦ elim (cases_eq k j) [
-      | inl same ↦
-          let o = old_place k x e same in
-          inl (same, some-is p q (sym o.1 ∙ at), o.0)
-      | inr away ↦ inr (off, sym (kept_place k x e off away) ∙ at)
-    ]
-  ]
+  stands k x q e =
+      pivot_cases (λ o. o ≡ Some q → ((k ≡ j) × (p ≡ q) × (x ≡ a.root)) ⊎ ((k ≢ i) × (x.place ≡ Some q))) k x e (λ _ _ at. absurd (let v : None ≡ Some q = at in cc))
+      (λ same is at. inl (same, some-is p q at, is)) (λ off away at. inr (off, at))
 
   -- and one that has none is the new root mount, or had none and is not the old one
   rootless : (k : ℕ) (x : Mount) → mount_at ms k ≡ Some x → (pivot x).place ≡ None → ((k ≡ i) × (x ≡ a.top)) ⊎ ((k ≢ j) × (x.place ≡ None))
-  rootless k x e at = elim (cases_eq k i) [
-    | inl same ↦ inl (same, (new_place k x e same).0)
-    | inr off ↦ elim (cases_eq k j) [
-      | inl same ↦ absurd (let o = old_place k x e same in let v : Some p ≡ None = sym o.1 ∙ at in cc)
-      | inr away ↦ inr (away, sym (kept_place k x e off away) ∙ at)
-    ]
-  ]
+  rootless k x e =
+      pivot_cases (λ o. o ≡ None → ((k ≡ i) × (x ≡ a.top)) ⊎ ((k ≢ j) × (x.place ≡ None))) k x e (λ same is at. inl (same, is))
+      (λ _ _ at. absurd (let v : Some p ≡ None = at in cc)) (λ off away at. inr (away, at))
 
   -- nothing stood at the place
   none_there : (k : ℕ) (x : Mount) → mount_at ms k ≡ Some x → x.place ≡ Some p → ⊥
@@ -123,14 +109,14 @@ module _ (w : WorldView) (h : IsWellFormed w) (i j : ℕ) (p : Place) (a : MayPi
   rooted_now k b e =
       let x = was k b e in
       elim (cases_eq x.0.space a.top.space) [
-        | inl here ↦ (i, pivot a.top, now i a.top a.top_there, (new_place i a.top a.top_there refl).1, sym here ∙ sym x.3)
+        | inl here ↦ (i, pivot a.top, now i a.top a.top_there, pivot_cases (λ o. o ≡ None) i a.top a.top_there (λ _ _. refl) (λ s _. absurd (differ s)) (λ off _. absurd (off refl)), sym here ∙ sym x.3)
         | inr other ↦
             let r = h.forest.rooted k x.0 x.1 in
             let space : (k : ℕ) (m : Mount) → mount_at ms k ≡ Some m → r.0 ≡ k → x.0.space ≡ m.space =
             λ k m f s. sym r.4 ∙ ap (λ (m : Mount). m.space) (some-is r.1 m (sym r.2 ∙ ap (mount_at ms) s ∙ f)) in
             let away : r.0 ≢ j = λ s. other (space j a.root a.root_there s ∙ a.same_space) in
             let off : r.0 ≢ i = λ s. other (space i a.top a.top_there s) in
-            (r.0, pivot r.1, now r.0 r.1 r.2, kept_place r.0 r.1 r.2 off away ∙ r.3, r.4 ∙ sym x.3)
+            (r.0, pivot r.1, now r.0 r.1 r.2, pivot_cases (λ o. o ≡ None) r.0 r.1 r.2 (λ s _. absurd (off s)) (λ s _. absurd (away s)) (λ _ _. r.3), r.4 ∙ sym x.3)
       ]
 
   -- no mount but the old one was a root mount of its namespace

@@ -14,7 +14,7 @@ use Rattle.mt_propagate.specs.Contained.{IsContained, IsSameOutside}
 use Rattle.mt_propagate.proofs.CopyRowLaws.{space_is}
 use Rattle.mt_propagate.proofs.RowLaws.{all-each, found-each, keys-map, mapped-row, part-mapped}
 use Rattle.mt_bind.specs.Pivoting.{pivoted_mount, with_pivot, MayPivot}
-use Rattle.mt_bind.proofs.PivotForestLaws.{pivot_forest}
+use Rattle.mt_bind.proofs.PivotForestLaws.{pivot_cases, pivot_forest}
 
 module _ (w : WorldView) (i j : ℕ) (p : Place) where
   abbrev pivot : Mount → Mount
@@ -76,11 +76,8 @@ module _ (w : WorldView) (i j : ℕ) (p : Place) where
       -- a mount of another namespace keeps its place
       unchanged : (m : Mount) → mount_at w.forest m.id ≡ Some m → m.space ≢ n → pivot m ≡ m
       unchanged m e off =
-          let spaces : (x : Mount) → mount_at w.forest m.id ≡ Some x → m.space ≡ x.space = λ x f. ap (λ o. (unwrap_or o unknown).space) (sym e ∙ f) in
-          ap (λ b. let y : Mount = record m { place = cond b None (cond (m.id == j) (Some p) m.place) } in y)
-          (ne_eqb m.id i (λ s. off (spaces a.top (ap (mount_at w.forest) s ∙ a.top_there) ∙ top_here)))
-          ∙ ap (λ b. let y : Mount = record m { place = cond b (Some p) m.place } in y)
-          (ne_eqb m.id j (λ s. off (spaces a.root (ap (mount_at w.forest) s ∙ a.root_there) ∙ a.same_space ∙ top_here)))
+          pivot_cases w h i j p a (λ o. let y : Mount = record m { place = o } in y ≡ m) m.id m e (λ _ is. absurd (off (ap (λ (y : Mount). y.space) is ∙ top_here)))
+          (λ _ is. absurd (off (ap (λ (y : Mount). y.space) is ∙ a.same_space ∙ top_here))) (λ _ _. refl)
 
       -- nothing changes outside the namespace
       pub pivot_outside : IsSameOutside n w (with_pivot w i j p)

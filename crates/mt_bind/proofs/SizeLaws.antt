@@ -15,6 +15,7 @@ use Rattle.mt_bind.specs.Sources.{fresh, top_at, is_bound_along, source_at, tree
 use Rattle.mt_bind.specs.Mounting.{mounted, bound, moved}
 use Rattle.mt_bind.specs.Pivoting.{root_id, pivoted_mount, with_pivot, pivoted}
 use Rattle.mt_bind.proofs.SpaceLaws.{new_root}
+use Rattle.mt_bind.proofs.NamespaceCopyLaws.{copy}
 use Rattle.mt_bind.proofs.AcceptedLaws.{path_end, fs_of, new_space_accepted, copy_space_accepted, drop_space_accepted, mount_accepted, bind_accepted, move_accepted, pivot_accepted}
 
 -- a namespace more, with these mounts
@@ -39,8 +40,8 @@ pub copy_sized : (w v : WorldView) (n : ℕ) (less : Bool) (i : ℕ) → copy_sp
 unfolding with_copy
 copy_sized w v n less i e =
     let a = copy_space_accepted w n less v i e in
-    let count = length-map (originals w n) (copy_of w (map id_of (originals w n))) in
-    subst (λ (x : WorldView). IsSized w x 1) a.world (added_sized w (with_copy w n less) (map (copy_of w (map id_of (originals w n))) (originals w n)) (ap (too_many_mounts w) count ∙ a.few) refl (ap (λ k. w.next_mount + k) (sym count)) refl refl)
+    let count = length-map (originals w n) (copy w n) in
+    subst (λ (x : WorldView). IsSized w x 1) a.world (added_sized w (with_copy w n less) (map (copy w n) (originals w n)) (ap (too_many_mounts w) count ∙ a.few) refl (ap (λ k. w.next_mount + k) (sym count)) refl refl)
 
 -- the end of a namespace
 pub dropped_sized : (w v : WorldView) (n : ℕ) → length w.forest ≤ 4096 → drop_space w n ≡ Ok v → IsSized w v 0

@@ -11,7 +11,9 @@ use Rattle.mt_mounts.specs.declared.mount.Place.{Place}
 use Rattle.mt_mounts.specs.Forest.{id_of, mount_at}
 use Rattle.mt_mounts.proofs.SlotLaws.{none_found}
 use Rattle.mt_mounts.proofs.CycleLaws.{no_cycle, rank_of, rank_falls}
-use Rattle.mt_propagate.specs.World.{WorldView, state_of, group_of}
+use Rattle.mt_peers.specs.declared.state.State.{State}
+use Rattle.mt_peers.specs.Peers.{state_at}
+use Rattle.mt_propagate.specs.World.{WorldView, state_of}
 use Rattle.mt_propagate.specs.Named.{unknown, mount_or_unknown}
 use Rattle.mt_propagate.specs.WellFormed.{IsWellFormed, fs_at}
 use Rattle.mt_propagate.specs.Sound.{IsTree, IsSource}
@@ -78,11 +80,9 @@ module _ (w : WorldView) (h : IsWellFormed w) where
   pub no_zero : {A : Type 0} (q : Mount) → mount_at w.forest 0 ≡ Some q → A
   no_zero q e = let b = h.below 0 q e in absurd (omega (arith, b.0))
 
-  zero_group : {A : Type 0} (i g : ℕ) → i ≡ 0 → group_of w i ≡ Some g → A
-  zero_group i g z e = let q = state_at_mount w h i (state_of w i) (group_known w i g e) in no_zero q.0 (ap (mount_at w.forest) (sym z) ∙ q.1)
-
-  zero_master : {A : Type 0} (i g : ℕ) → i ≡ 0 → (state_of w i).master ≡ Some g → A
-  zero_master i g z e = let q = state_at_mount w h i (state_of w i) (master_known w i g e) in no_zero q.0 (ap (mount_at w.forest) (sym z) ∙ q.1)
+  -- nor a state
+  zero_state : {A : Type 0} (i : ℕ) (s : State) → i ≡ 0 → state_at w.peering.peers i ≡ Some s → A
+  zero_state i s z e = let q = state_at_mount w h i s e in no_zero q.0 (ap (mount_at w.forest) (sym z) ∙ q.1)
 
   -- a fresh mount
   pub fresh_is_source : (fs : ℕ) (dest : Place) → 0 < length w.skel.directories → IsSource w (fresh w fs) dest
@@ -90,8 +90,8 @@ module _ (w : WorldView) (h : IsWellFormed w) where
       let m : Mount = record unknown { root = root_of w.skel fs } in
       record {
         tree = one_tree w.skel m (λ p e. let v : None ≡ Some p = e in absurd (cc)) (root_there w.skel fs some);
-        group_fs = λ i g x e is. zero_group i g (one_row m i x e).0 is;
-        master_fs = λ i g x e is. zero_master i g (one_row m i x e).0 is;
+        group_fs = λ i g x e is. zero_state i (state_of w i) (one_row m i x e).0 (group_known w i g is);
+        master_fs = λ i g x e is. zero_state i (state_of w i) (one_row m i x e).0 (master_known w i g is);
         moves = λ e. let v : false ≡ true = e in absurd (cc);
       }
 

@@ -1,25 +1,51 @@
--- A mount with all below it is a source tree that may move.
-use Rattle.std.proofs.Common.{◌≡◌, ◌≢◌, ℕ, true, false, cond, List, Some, None, refl, sym, ap, ◌∙◌, subst, IsTrue}
+-- Mounts of a world that are one tree below a top are a source tree, and so is a mount with all below it, which may move.
+use Rattle.std.proofs.Common.{◌≡◌, ◌≢◌, ℕ, ◌<◌, true, false, List, length, Some, None, refl, sym, ap, ◌∙◌, subst, IsTrue}
 use Rattle.std.specs.Prelude.{unwrap_or, Bool, is_none}
 use Rattle.std.specs.List.{filter}
 use Rattle.std.proofs.lemmas.Bool.{true≢false}
+use Rattle.mt_skel.specs.Keyed.{rises}
 use Rattle.mt_skel.specs.Skeleton.{directory, holds}
 use Rattle.mt_skel.proofs.KeyedLaws.{row_at-key, rises-filter}
 use Rattle.mt_mounts.specs.declared.mount.Mount.{Mount}
 use Rattle.mt_mounts.specs.declared.mount.Place.{Place}
 use Rattle.mt_mounts.specs.Forest.{id_of, mount_at, is_below}
 use Rattle.mt_mounts.proofs.SlotLaws.{none_found}
+use Rattle.mt_mounts.proofs.CycleLaws.{no_cycle, rank_of, rank_falls}
 use Rattle.mt_propagate.specs.World.{WorldView}
 use Rattle.mt_propagate.specs.Named.{unknown, mount_or_unknown}
 use Rattle.mt_propagate.specs.WellFormed.{IsWellFormed, fs_at}
 use Rattle.mt_propagate.specs.Sound.{IsTree, IsSource}
 use Rattle.mt_propagate.proofs.CopyRowLaws.{root_is}
 use Rattle.mt_propagate.proofs.RowLaws.{picked-row, row-picked}
-use Rattle.mt_propagate.proofs.TreeLaws.{parent-is}
+use Rattle.mt_propagate.proofs.TreeLaws.{parent-is, parent-from}
 use Rattle.mt_bind.specs.Sources.{tree_of}
-use Rattle.mt_bind.proofs.PartLaws.{part_tree}
 use Rattle.mt_bind.proofs.BelowLaws.{below_self, below_parent, below_has_parent, above_not_below}
 
+-- mounts that are one tree below a top
+module _ (w : WorldView) (h : IsWellFormed w) (ms : List Mount) (top : Mount) (rising : rises id_of ms ≡ true) (there : mount_at ms top.id ≡ Some top)
+    (origin : (i : ℕ) (m : Mount) → mount_at ms i ≡ Some m → (q : Mount) × (mount_at w.forest i ≡ Some q) × (q.place ≡ m.place) × (m.root < length w.skel.directories))
+    (inside : (i : ℕ) (m : Mount) → mount_at ms i ≡ Some m → i ≢ top.id → (p : Place) × (q : Mount) × (m.place ≡ Some p) × (mount_at ms p.mount ≡ Some q) × IsTrue (holds w.skel q.root p.dir))
+    (outside : (p : Place) → top.place ≡ Some p → mount_at ms p.mount ≡ None) where
+  falls : (x y : ℕ) (a : Mount) (p : Place) → mount_at ms x ≡ Some a → a.place ≡ Some p → p.mount ≡ y → rank_of w.forest y < rank_of w.forest x
+  falls x y a p e at on =
+      let o = origin x a e in
+      rank_falls w.forest h.forest.no_cycle x y (parent-is w.forest x o.0 p o.1 (o.2 ∙ at) ∙ ap (λ v. Some v) on)
+
+  pub part_tree : IsTree w.skel ms top
+  part_tree = record {
+    rising = rising;
+    top_there = there;
+    top_outside = outside;
+    placed = inside;
+    apart = λ i j m n p ei ej at_i at_j.
+        let a = origin i m ei in
+        let b = origin j n ej in
+        h.forest.apart i j a.0 b.0 p a.1 b.1 (a.2 ∙ at_i) (b.2 ∙ at_j);
+    no_cycle = no_cycle ms (rank_of w.forest) (λ x y e. let r = parent-from ms x y e in falls x y r.0 r.1 r.2 r.3 r.4);
+    roots = λ i m e. let o = origin i m e in o.3;
+  }
+
+-- a mount with all below it
 module _ (w : WorldView) (h : IsWellFormed w) (i : ℕ) (q : Mount) (row : mount_at w.forest i ≡ Some q) where
   abbrev below : Mount → Bool
   below m = is_below w.forest i m.id

@@ -19,7 +19,7 @@ use Rattle.mt_propagate.proofs.RowLaws.{picked-row, row-picked, mapped-row, row-
 use Rattle.mt_propagate.proofs.TreeLaws.{parent-is}
 use Rattle.mt_bind.specs.Sources.{top_at, tree_within, is_bindable, stands_within, leads_within, is_bound_along, path_to}
 use Rattle.mt_bind.proofs.SourceLaws.{holds_there, top_is, own_id, shows_same}
-use Rattle.mt_bind.proofs.PartLaws.{part_tree}
+use Rattle.mt_bind.proofs.TreeOfLaws.{part_tree}
 use Rattle.mt_bind.proofs.BelowLaws.{below_self, below_parent, below_has_parent, above_not_below, path_top, path_step}
 
 module _ (w : WorldView) (h : IsWellFormed w) (p : Place) (q : Mount) (row : mount_at w.forest p.mount ≡ Some q) (held : holds w.skel q.root p.dir ≡ true) where
