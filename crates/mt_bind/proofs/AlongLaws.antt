@@ -18,10 +18,13 @@ and_false true c = refl
 and_false false c = refl
 
 module _ (w : WorldView) (p : Place) where
-  -- whether so many steps from j lead to the top, past no unbindable mount and within the directory; the mount passed last
-  -- stands in it
+  -- what is asked of a way up to the top: no mount of it is unbindable, and the last one stands within the directory, or if there is none the mount passed last
+  abbrev asked : Bool → Option ℕ → List ℕ → Bool
+  asked leads passed ks = leads && list_all (is_bindable w) ks && leads_within w p.dir (last_or passed ks)
+
+  -- whether so many steps from j lead to the top on such a way
   abbrev pub taken : ℕ → Option ℕ → ℕ → Bool
-  taken n passed j = below_within w.forest p.mount n j && list_all (is_bindable w) (way w p.mount n j) && leads_within w p.dir (last_or passed (way w p.mount n j))
+  taken n passed j = asked (below_within w.forest p.mount n j) passed (way w p.mount n j)
 
   way_more : (n j : ℕ) → j ≢ p.mount → (rest : List ℕ) × (way w p.mount n j ≡ j ∷ rest)
   way_more zero j e = (take_while (off_top w p.mount) [], more w p.mount j [] e)
@@ -31,33 +34,31 @@ module _ (w : WorldView) (p : Place) where
 
   -- at the top it is decided
   pub taken_here : (n : ℕ) (passed : Option ℕ) (j : ℕ) → j ≡ p.mount → taken n passed j ≡ leads_within w p.dir passed
-  taken_here n passed j e =
-      ap (λ b. b && list_all (is_bindable w) (way w p.mount n j) && leads_within w p.dir (last_or passed (way w p.mount n j))) (below_here w.forest p.mount n j e)
-      ∙ ap (λ (ks : List ℕ). true && list_all (is_bindable w) ks && leads_within w p.dir (last_or passed ks)) (way_here w p.mount n j e)
+  taken_here n passed j e = ap (λ b. asked b passed (way w p.mount n j)) (below_here w.forest p.mount n j e) ∙ ap (asked true passed) (way_here w p.mount n j e)
 
   -- no mount is taken along with an unbindable one below the top
   pub taken_unbindable : (n : ℕ) (passed : Option ℕ) (j : ℕ) → j ≢ p.mount → (state_of w j).unbindable ≡ true → taken n passed j ≡ false
   taken_unbindable n passed j ne e =
       let rest = way_more n j ne in
-      let none : list_all (is_bindable w) (way w p.mount n j) ≡ false = ap (list_all (is_bindable w)) rest.1 ∙ ap (λ b. not b && list_all (is_bindable w) rest.0) e in
-      ap (λ b. below_within w.forest p.mount n j && b && leads_within w p.dir (last_or passed (way w p.mount n j))) none
-      ∙ and_false (below_within w.forest p.mount n j) (leads_within w p.dir (last_or passed (way w p.mount n j)))
+      let below = below_within w.forest p.mount n j in
+      ap (asked below passed) rest.1
+      ∙ ap (λ b. below && (not b && list_all (is_bindable w) rest.0) && leads_within w p.dir (last_or passed (j ∷ rest.0))) e
+      ∙ and_false below (leads_within w p.dir (last_or passed (j ∷ rest.0)))
 
   -- elsewhere the parent decides
   pub taken_step : (n : ℕ) (passed : Option ℕ) (j q : ℕ) → j ≢ p.mount → (state_of w j).unbindable ≡ false → parent w.forest j ≡ Some q → taken (suc n) passed j ≡ taken n (Some j) q
   taken_step n passed j q ne e up =
-      let rest = option_map_or (λ y. chain (parent w.forest) n y) (parent w.forest j) [] in
-      let longer : way w p.mount (suc n) j ≡ j ∷ way w p.mount n q = more w p.mount j rest ne ∙ ap (λ (o : Option ℕ). j ∷ take_while (off_top w p.mount) (option_map_or (λ y. chain (parent w.forest) n y) o [])) up in
-      ap (λ b. b && list_all (is_bindable w) (way w p.mount (suc n) j) && leads_within w p.dir (last_or passed (way w p.mount (suc n) j))) (below_step w.forest p.mount n j q ne up)
-      ∙ ap (λ (ks : List ℕ). below_within w.forest p.mount n q && list_all (is_bindable w) ks && leads_within w p.dir (last_or passed ks)) longer
-      ∙ ap (λ b. below_within w.forest p.mount n q && (not b && list_all (is_bindable w) (way w p.mount n q)) && leads_within w p.dir (last_or (Some j) (way w p.mount n q))) e
+      let below = below_within w.forest p.mount n q in
+      let longer : way w p.mount (suc n) j ≡ j ∷ way w p.mount n q = more w p.mount j _ ne ∙ ap (λ (o : Option ℕ). j ∷ take_while (off_top w p.mount) (option_map_or (λ y. chain (parent w.forest) n y) o [])) up in
+      ap (λ b. asked b passed (way w p.mount (suc n) j)) (below_step w.forest p.mount n j q ne up)
+      ∙ ap (asked below passed) longer
+      ∙ ap (λ b. below && (not b && list_all (is_bindable w) (way w p.mount n q)) && leads_within w p.dir (last_or (Some j) (way w p.mount n q))) e
 
   -- the directory that was passed last says nothing off the top, nor do more steps where the way ends
   taken_passed : (n : ℕ) (passed : Option ℕ) (j : ℕ) → j ≢ p.mount → taken n passed j ≡ taken n None j
   taken_passed n passed j ne =
       let rest = way_more n j ne in
-      ap (λ (ks : List ℕ). below_within w.forest p.mount n j && list_all (is_bindable w) (way w p.mount n j) && leads_within w p.dir (last_or passed ks)) rest.1
-      ∙ sym (ap (λ (ks : List ℕ). below_within w.forest p.mount n j && list_all (is_bindable w) (way w p.mount n j) && leads_within w p.dir (last_or None ks)) rest.1)
+      ap (asked (below_within w.forest p.mount n j) passed) rest.1 ∙ sym (ap (asked (below_within w.forest p.mount n j) None) rest.1)
 
   longer_chain : (n k j : ℕ) → n ≤ k → ends (parent w.forest) n j ≡ true → chain (parent w.forest) k j ≡ chain (parent w.forest) n j
   longer_chain n zero j l e = let same : n ≡ 0 = omega (arith, l) in ap (λ n. chain (parent w.forest) n j) (sym same)
@@ -69,7 +70,7 @@ module _ (w : WorldView) (p : Place) where
   pub taken_before : (n : ℕ) (passed : Option ℕ) (j : ℕ) → j ≢ p.mount → n ≤ length w.forest → ends (parent w.forest) n j ≡ true → taken n passed j ≡ is_bound_along w p j
   taken_before n passed j ne le e =
       taken_passed n passed j ne
-      ∙ sym (ap (λ (c : List ℕ). list_any (λ k. p.mount == k) c && list_all (is_bindable w) (take_while (off_top w p.mount) c) && leads_within w p.dir (last_or None (take_while (off_top w p.mount) c))) (longer_chain n (length w.forest) j le e))
+      ∙ sym (ap (λ (c : List ℕ). asked (list_any (λ k. p.mount == k) c) None (take_while (off_top w p.mount) c)) (longer_chain n (length w.forest) j le e))
 
   -- a way that goes on ends behind its first step
   pub ends_up : (n j q : ℕ) → parent w.forest j ≡ Some q → ends (parent w.forest) (suc n) j ≡ true → ends (parent w.forest) n q ≡ true

@@ -7,6 +7,7 @@ use Rattle.std.proofs.lemmas.Bool.Decides.{nat_tests}
 use Rattle.std.proofs.lemmas.List.{drop_more, length-map}
 use Rattle.mt_skel.specs.Keyed.{rises, among}
 use Rattle.mt_skel.proofs.KeyedLaws.{passing, row_at-key, row_at-filter}
+use Rattle.mt_skel.proofs.MiddleLaws.{and_first}
 use Rattle.mt_mounts.specs.declared.mount.Mount.{Mount}
 use Rattle.mt_mounts.specs.declared.mount.Place.{Place}
 use Rattle.mt_mounts.specs.Forest.{id_of, mount_at, is_below, subtree}
@@ -18,7 +19,7 @@ use Rattle.mt_propagate.specs.Copies.{Source, MountCopy, copies_at, new_copies}
 use Rattle.mt_propagate.specs.Receivers.{hits}
 use Rattle.mt_propagate.specs.Sound.{IsSource}
 use Rattle.mt_propagate.specs.Plans.{member_of, copied_source}
-use Rattle.mt_propagate.proofs.RowLaws.{keys-filter}
+use Rattle.mt_propagate.proofs.RowLaws.{keys-filter, part-filtered}
 use Rattle.mt_propagate.proofs.BelowSourceLaws.{below-source}
 use Rattle.mt_skel.proofs.ElementLaws.{In, in_filter, in_row}
 use Rattle.mt_bind.specs.Sources.{top_at, alone, tree_within, is_bindable, is_bound_along, leads_within, path_to, tree_of}
@@ -40,19 +41,6 @@ among_passing t ms rising i = among-rows (filter t ms) i ∙ ap is_some (row_at-
     go None = refl
     go (Some x) = elim (t x) as (λ b. is_some (cond b (Some x) None) ≡ b) [ true ↦ refl | false ↦ refl ]
 
--- a test that asks for another one first passes the same where those that fail the other are left out
-module _ (inside after last : ℕ → Bool) where
-  abbrev all : ℕ → Bool
-  all k = inside k && after k && last k
-
-  filter_within : (ks : List ℕ) → filter all (filter inside ks) ≡ filter all ks
-  filter_within [] = refl
-  filter_within (k ∷ ks) = go (inside k) refl (filter_within ks)
-    where
-      go : (b : Bool) → inside k ≡ b → filter all (filter inside ks) ≡ filter all ks → filter all (cond b (k ∷ filter inside ks) (filter inside ks)) ≡ cond (all k) (k ∷ filter all ks) (filter all ks)
-      go true is ih = ap (λ (l : List ℕ). cond (all k) (k ∷ l) l) ih
-      go false is ih = ih ∙ sym (ap (λ b. cond (b && after k && last k) (k ∷ filter all ks) (filter all ks)) is)
-
 -- the elements that pass, one element further
 module _ (t : ℕ → Bool) (ks : List ℕ) (i x : ℕ) (there : i < length ks) (out more all : List ℕ) (before : out ++ filter t (drop i ks) ≡ all) where
   abbrev later : List ℕ
@@ -71,7 +59,7 @@ module _ (w : WorldView) (p : Place) where
   -- what is bound along stands in the tree of the directory's own mount
   pub bound_below : filter (is_bound_along w p) (subtree w.forest p.mount) ≡ map id_of (filter (λ m. is_bound_along w p m.id) w.forest)
   bound_below =
-      filter_within (is_below w.forest p.mount) (λ i. list_all (is_bindable w) (path_to w p.mount i)) (λ i. leads_within w p.dir (last_or None (path_to w p.mount i))) (map id_of w.forest)
+      part-filtered (is_bound_along w p) (is_below w.forest p.mount) (map id_of w.forest) (λ i b. and_first _ _ (and_first _ _ b))
       ∙ sym (keys-filter id_of (is_bound_along w p) w.forest)
 
   abbrev with_mounts : List Mount → Source

@@ -74,15 +74,10 @@ module _ (w : WorldView) (h : IsWellFormed w) (p : Place) (q : Mount) (row : mou
 
   -- what a mount has that is bound along, and what has it
   bound_parts : (i : ℕ) → is_bound_along w p i ≡ true → (is_below w.forest p.mount i ≡ true) × (list_all (is_bindable w) (path_to w p.mount i) ≡ true) × (leads i ≡ true)
-  bound_parts i b =
-      let c = and_parts (is_below w.forest p.mount i && list_all (is_bindable w) (path_to w p.mount i)) (leads i) b in
-      let d = and_parts (is_below w.forest p.mount i) (list_all (is_bindable w) (path_to w p.mount i)) c.0 in
-      (d.0, d.1, c.1)
+  bound_parts i b = let c = and_parts _ _ b in let d = and_parts _ _ c.0 in (d.0, d.1, c.1)
 
   bound_from : (i : ℕ) → is_below w.forest p.mount i ≡ true → list_all (is_bindable w) (path_to w p.mount i) ≡ true → leads i ≡ true → is_bound_along w p i ≡ true
-  bound_from i below free within =
-      and_from (is_below w.forest p.mount i && list_all (is_bindable w) (path_to w p.mount i)) (leads i)
-      (and_from (is_below w.forest p.mount i) (list_all (is_bindable w) (path_to w p.mount i)) below free) within
+  bound_from i below free within = and_from _ _ (and_from _ _ below free) within
 
   bound_top : is_bound_along w p p.mount ≡ true
   bound_top =
