@@ -1,9 +1,8 @@
 -- What is known of a command that was accepted: its effect, and that no refusal holds.
 use Rattle.std.proofs.Common.{◌≡◌, ℕ, Bool, true, false, ◌&&◌, ◌||◌, List, length, Option, Some, None, Result, Ok, Err, refl, ap}
-use Rattle.std.specs.Prelude.{not, is_none, is_some, unwrap_or}
+use Rattle.std.specs.Prelude.{is_none, is_some, unwrap_or}
 use Rattle.std.proofs.lemmas.Bool.{not-false}
 use Rattle.mt_skel.specs.declared.fault.Fault.{Fault}
-use Rattle.mt_skel.specs.declared.fault.Fault.TheVariants.{NoFilesystem, NoNamespace, RootPlace, TooMany, Unbindable, NotMountRoot, SharedParent, IntoItself, UnbindableInside}
 use Rattle.mt_skel.specs.Outcome.{refusal_of}
 use Rattle.mt_skel.proofs.OutcomeLaws.{not_refused, accepted}
 use Rattle.mt_skel.specs.Skeleton.{fs_named}
@@ -15,10 +14,10 @@ use Rattle.mt_propagate.specs.Named.{place_or_nowhere, is_root_place, is_root_mo
 use Rattle.mt_propagate.specs.Limits.{too_many_mounts, too_many_spaces}
 use Rattle.mt_propagate.specs.Copies.{Source, new_copies, copy_id}
 use Rattle.mt_propagate.specs.Copied.{copied}
-use Rattle.mt_bind.specs.Spaces.{originals, with_space, new_space_refusals, new_space_effect, new_space, with_copy, copy_space_refusals, copy_space_effect, copy_space, without_space, drop_space_refusals, drop_space}
+use Rattle.mt_bind.specs.Spaces.{originals, with_space, new_space_refusals, new_space, with_copy, copy_space_refusals, copy_space, without_space, drop_space_refusals, drop_space}
 use Rattle.mt_bind.specs.Sources.{fresh, source_at, tree_of}
-use Rattle.mt_bind.specs.Mounting.{stands_on_shared, any_unbindable, mounted_refusals, mounted_effect, mounted, bound_refusals, bound_effect, bound, moved_refusals, moved_effect, moved}
-use Rattle.mt_bind.specs.Pivoting.{root_id, with_pivot, pivoted_refusals, pivoted_effect, pivoted}
+use Rattle.mt_bind.specs.Mounting.{stands_on_shared, any_unbindable, mounted_refusals, mounted, bound_refusals, bound, moved_refusals, moved}
+use Rattle.mt_bind.specs.Pivoting.{root_id, with_pivot, pivoted_refusals, pivoted}
 
 -- the place where a path ends
 abbrev pub path_end : WorldView → ℕ → List (List ℕ) → Place

@@ -1,8 +1,8 @@
 -- Whether a mount is bound with a directory, step by step up to the top.
-use Rattle.std.proofs.Common.{◌≡◌, ◌≢◌, ℕ, zero, suc, ◌&&◌, Bool, true, false, cond, not, ◌==◌, eq-eqb, List, [], ◌∷◌, Option, Some, None, refl, sym, ap, ◌∙◌, ◌≤◌, length, inl, inr, arith}
+use Rattle.std.proofs.Common.{◌≡◌, ◌≢◌, ℕ, zero, suc, ◌&&◌, Bool, true, false, not, ◌==◌, List, [], ◌∷◌, Option, Some, None, refl, sym, ap, ◌∙◌, ◌≤◌, length, inl, inr, arith}
 use Rattle.std.specs.List.{list_all, list_any, take_while, last_or}
 use Rattle.std.specs.Option.{option_map_or, is_none}
-use Rattle.std.proofs.lemmas.Bool.{cases_lt, ne_eqb}
+use Rattle.std.proofs.lemmas.Bool.{cases_lt}
 use Rattle.mt_skel.specs.Chain.{chain, ends}
 use Rattle.mt_skel.proofs.ChainLaws.{chain-suc}
 use Rattle.mt_propagate.proofs.TreeLaws.{ends-more}

@@ -21,7 +21,7 @@ use Rattle.mt_propagate.proofs.NumberLaws.{climbs}
 use Rattle.mt_propagate.proofs.RowLaws.{renamed-row, appended-row}
 use Rattle.mt_propagate.proofs.ShownLaws.{shown-alike, groups-show, masters-show, mount-state, state-mount, state-row}
 use Rattle.mt_bind.specs.Spaces.{originals, with_copy}
-use Rattle.mt_bind.specs.Copying.{copy_number, copy_of, state_of_copy}
+use Rattle.mt_bind.specs.Copying.{state_of_copy}
 use Rattle.mt_bind.proofs.NamespaceCopyLaws.{number, copy, copies, order, was-original, among, copy-high, copy-low, old-in, copy-in, row-of}
 use Rattle.mt_bind.proofs.CopyTreeLaws.{grown, grown-ids, grown-forest}
 

@@ -17,7 +17,6 @@ use Rattle.mt_propagate.proofs.ListedLaws.{below-all, climbs-append}
 use Rattle.mt_propagate.proofs.NumberLaws.{climbs}
 use Rattle.mt_propagate.proofs.TreeLaws.{parent-from, ends-like, ends-more, ends-none}
 use Rattle.mt_bind.specs.Spaces.{originals}
-use Rattle.mt_bind.specs.Copying.{copy_number, copy_of}
 use Rattle.mt_bind.proofs.NamespaceCopyLaws.{number, copy, place, copies, copy-high, copy-single, copy-ids, among, old-in, copy-in, IsCopy, row-of, placed-copy, unplaced-copy}
 
 -- each of two things that are one way or another

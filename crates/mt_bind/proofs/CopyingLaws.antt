@@ -1,5 +1,5 @@
 -- What the copy of a namespace, done mount by mount, makes of a world.
-use Rattle.std.proofs.Common.{◌≡◌, ℕ, ◌+◌, Bool, true, false, ◌||◌, List, [], ◌++◌, map, length, Option, Some, None, Ok, not, refl, sym, ap, ◌∙◌, subst, arith}
+use Rattle.std.proofs.Common.{◌≡◌, ℕ, ◌+◌, Bool, true, false, ◌||◌, List, [], ◌++◌, length, Option, Some, None, Ok, not, refl, sym, ap, ◌∙◌, subst, arith}
 use Rattle.std.specs.Option.{is_some, option_map}
 use Rattle.std.proofs.lemmas.Bool.{or_parts}
 use Rattle.std.proofs.lemmas.Bool.Decides.{nat_tests}
@@ -15,7 +15,6 @@ use Rattle.mt_propagate.specs.World.{WorldView, is_space}
 use Rattle.mt_propagate.specs.Limits.{too_many_mounts, too_many_spaces}
 use Rattle.mt_propagate.specs.WellFormed.{IsForest, IsWellFormed}
 use Rattle.mt_bind.specs.Spaces.{originals, with_copy, copy_space}
-use Rattle.mt_bind.specs.Copying.{copy_of}
 use Rattle.mt_bind.proofs.NamespaceCopyLaws.{copy, copies}
 use Rattle.mt_bind.proofs.CopyTreeLaws.{grown-forest}
 use Rattle.mt_bind.proofs.CopyLaws.{new_peers, peers-rise}

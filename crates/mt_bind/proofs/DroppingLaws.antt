@@ -1,5 +1,5 @@
 -- What the end of a namespace, done mount by mount, makes of a world.
-use Rattle.std.proofs.Common.{◌≡◌, ℕ, ◌≤◌, Bool, true, false, cond, not, ◌||◌, ◌==◌, eqb, List, [], ◌∷◌, map, Option, Some, None, Ok, refl, sym, ap, ◌∙◌, subst, arith}
+use Rattle.std.proofs.Common.{◌≡◌, ℕ, ◌≤◌, Bool, true, false, not, ◌==◌, List, [], map, Option, Some, None, Ok, refl, sym, ap, ◌∙◌, arith}
 use Rattle.std.specs.Option.{is_some, option_map, option_map_or, unwrap_or}
 use Rattle.std.proofs.lemmas.Bool.Decides.{nat_tests}
 use Rattle.mt_skel.specs.declared.fault.Fault.TheVariants.{NoNamespace}
@@ -16,7 +16,7 @@ use Rattle.mt_propagate.proofs.RowLaws.{filter-same}
 use Rattle.mt_propagate.proofs.WalkLaws.{root_here}
 use Rattle.mt_bind.specs.Spaces.{originals, without_space, drop_space}
 use Rattle.mt_bind.specs.Dropping.{without_mounts}
-use Rattle.mt_bind.proofs.GoneLaws.{agree, end-kept}
+use Rattle.mt_bind.proofs.GoneLaws.{agree}
 use Rattle.mt_bind.proofs.MemberLaws.{among_passing}
 
 module _ (w : WorldView) (h : IsWellFormed w) (n : ℕ) where

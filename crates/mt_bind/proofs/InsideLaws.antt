@@ -1,6 +1,6 @@
 -- Where mounts come to stand and namespaces come and go, contained namespaces stay contained, and what happens in them changes
 -- nothing outside.
-use Rattle.std.proofs.Common.{◌≡◌, ◌≢◌, ◌⊎◌, ℕ, ◌+◌, ◌<◌, Bool, true, not, ◌==◌, eqb-true, List, [], ◌∷◌, ◌++◌, map, Some, None, Ok, refl, sym, ap, subst, ◌∙◌, inl, inr, arith}
+use Rattle.std.proofs.Common.{◌≡◌, ◌≢◌, ◌⊎◌, ℕ, ◌+◌, ◌<◌, Bool, true, not, ◌==◌, eqb-true, List, [], ◌∷◌, ◌++◌, Some, None, Ok, refl, sym, ap, subst, ◌∙◌, inl, inr, arith}
 use Rattle.std.specs.Prelude.{unwrap_or}
 use Rattle.std.specs.Option.{option_map}
 use Rattle.std.proofs.lemmas.Bool.{ne_eqb}
@@ -21,8 +21,7 @@ use Rattle.mt_propagate.proofs.PrivateLaws.{only-private, rising}
 use Rattle.mt_propagate.proofs.RowLaws.{row-first, part-filtered}
 use Rattle.mt_propagate.proofs.ShownLaws.{grouped-state, state-mount}
 use Rattle.mt_propagate.proofs.WalkLaws.{root_fits}
-use Rattle.mt_bind.specs.Spaces.{with_space, new_space, originals, with_copy, copy_space, without_space}
-use Rattle.mt_bind.specs.Copying.{copy_number}
+use Rattle.mt_bind.specs.Spaces.{with_space, new_space, with_copy, copy_space, without_space}
 use Rattle.mt_bind.specs.Mounting.{mounted, bound, moved}
 use Rattle.mt_bind.proofs.AcceptedLaws.{fs_of, new_space_accepted, copy_space_accepted}
 use Rattle.mt_bind.proofs.SpaceLaws.{new_root}

@@ -1,7 +1,7 @@
 -- The source trees of binds and moves as lists of IDs, and how many copies a bind makes at least.
-use Rattle.std.proofs.Common.{◌≡◌, ℕ, ◌+◌, ◌≤◌, Bool, true, false, cond, ◌==◌, eqb, eqb-true, eq-eqb, ◌||◌, List, [], ◌∷◌, map, length, Option, Some, None, refl, sym, ap, ◌∙◌, ◌&&◌, ◌++◌, ◌<◌, drop, get_or, append_assoc, inl, inr, arith, length-append}
+use Rattle.std.proofs.Common.{◌≡◌, ℕ, ◌+◌, ◌≤◌, Bool, true, false, cond, ◌==◌, eqb, eqb-true, eq-eqb, ◌||◌, List, [], ◌∷◌, map, length, Option, Some, None, refl, sym, ap, ◌∙◌, ◌++◌, ◌<◌, drop, get_or, append_assoc, inl, inr, arith, length-append}
 use Rattle.std.specs.Prelude.{unwrap_or, is_some, nat_lt}
-use Rattle.std.specs.List.{filter, flat_map, list_all, list_any, last_or}
+use Rattle.std.specs.List.{filter, flat_map, list_any}
 use Rattle.std.specs.Option.{option_map, option_map_or}
 use Rattle.std.proofs.lemmas.Bool.Decides.{nat_tests}
 use Rattle.std.proofs.lemmas.List.{drop_more, length-map}
@@ -22,7 +22,7 @@ use Rattle.mt_propagate.specs.Plans.{member_of, copied_source}
 use Rattle.mt_propagate.proofs.RowLaws.{keys-filter, part-filtered}
 use Rattle.mt_propagate.proofs.BelowSourceLaws.{below-source}
 use Rattle.mt_skel.proofs.ElementLaws.{In, in_filter, in_row}
-use Rattle.mt_bind.specs.Sources.{top_at, alone, tree_within, is_bindable, is_bound_along, leads_within, path_to, tree_of}
+use Rattle.mt_bind.specs.Sources.{top_at, alone, tree_within, is_bound_along, tree_of}
 
 -- an ID is among those of mounts where one of them has it
 among-rows : (ms : List Mount) (i : ℕ) → among (map id_of ms) i ≡ is_some (mount_at ms i)

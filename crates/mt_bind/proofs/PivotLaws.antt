@@ -1,14 +1,12 @@
 -- A pivot keeps a world well-formed and a namespace contained, and changes nothing outside its namespace.
-use Rattle.std.proofs.Common.{◌≡◌, ◌≢◌, ℕ, ◌<◌, ◌≤◌, true, cond, ◌==◌, eqb-true, map, length, Option, Some, None, refl, sym, ap, ◌∙◌, subst}
+use Rattle.std.proofs.Common.{◌≡◌, ◌≢◌, ℕ, ◌<◌, ◌≤◌, true, eqb-true, map, length, Option, Some, None, refl, sym, ap, ◌∙◌, subst}
 use Rattle.std.specs.Option.{option_map, unwrap_or}
-use Rattle.std.proofs.lemmas.Bool.{ne_eqb}
 use Rattle.mt_skel.specs.Skeleton.{directory}
 use Rattle.mt_skel.proofs.KeyedLaws.{row_at-map}
 use Rattle.mt_mounts.specs.declared.mount.Mount.{Mount}
 use Rattle.mt_mounts.specs.declared.mount.Place.{Place}
 use Rattle.mt_mounts.specs.Forest.{id_of, mount_at, in_space}
 use Rattle.mt_propagate.specs.World.{WorldView, root_dir, space_of}
-use Rattle.mt_propagate.specs.Named.{unknown}
 use Rattle.mt_propagate.specs.WellFormed.{IsWellFormed, fs_at}
 use Rattle.mt_propagate.specs.Contained.{IsContained, IsSameOutside}
 use Rattle.mt_propagate.proofs.CopyRowLaws.{space_is}

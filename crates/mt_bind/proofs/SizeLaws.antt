@@ -4,13 +4,12 @@ use Rattle.std.specs.List.{filter}
 use Rattle.std.proofs.lemmas.Bool.Decides.{nat_tests}
 use Rattle.std.proofs.lemmas.List.{length-map}
 use Rattle.mt_mounts.specs.declared.mount.Mount.{Mount}
-use Rattle.mt_mounts.specs.Forest.{id_of, is_below}
+use Rattle.mt_mounts.specs.Forest.{is_below}
 use Rattle.mt_peers.specs.Loss.{left}
 use Rattle.mt_propagate.specs.World.{WorldView}
 use Rattle.mt_propagate.specs.Limits.{too_many_mounts}
 use Rattle.mt_propagate.proofs.SizeLaws.{IsSized, few_pass, copied_sized}
 use Rattle.mt_bind.specs.Spaces.{originals, new_space, with_space, copy_space, with_copy, drop_space, without_space}
-use Rattle.mt_bind.specs.Copying.{copy_of}
 use Rattle.mt_bind.specs.Sources.{fresh, top_at, is_bound_along, source_at, tree_of}
 use Rattle.mt_bind.specs.Mounting.{mounted, bound, moved}
 use Rattle.mt_bind.specs.Pivoting.{root_id, pivoted_mount, with_pivot, pivoted}

@@ -1,8 +1,8 @@
 -- The tree of mounts below a directory is a source tree.
-use Rattle.std.proofs.Common.{◌≡◌, ◌≢◌, ℕ, ◌<◌, ◌&&◌, Bool, true, false, cond, not, ◌==◌, eqb-true, eq-eqb, List, [], ◌∷◌, map, length, Option, Some, None, refl, sym, ap, ◌∙◌, subst, inl, inr, IsTrue}
+use Rattle.std.proofs.Common.{◌≡◌, ◌≢◌, ℕ, ◌<◌, Bool, true, false, cond, ◌==◌, eqb-true, eq-eqb, List, [], ◌∷◌, map, length, Some, None, refl, sym, ap, ◌∙◌, subst, inl, inr, IsTrue}
 use Rattle.std.specs.Prelude.{unwrap_or}
 use Rattle.std.specs.List.{filter, list_all, last_or}
-use Rattle.std.specs.Option.{option_map, option_map_or}
+use Rattle.std.specs.Option.{option_map_or}
 use Rattle.std.proofs.lemmas.Bool.{cases_eq, ne_eqb, and_parts, and_from}
 use Rattle.mt_skel.specs.Skeleton.{holds, directory}
 use Rattle.mt_skel.proofs.KeyedLaws.{row_at-key, rises-map, rises-filter}
@@ -11,7 +11,7 @@ use Rattle.mt_mounts.specs.declared.mount.Place.{Place}
 use Rattle.mt_mounts.specs.Forest.{id_of, mount_at, is_below}
 use Rattle.mt_mounts.proofs.SlotLaws.{none_found}
 use Rattle.mt_propagate.specs.World.{WorldView}
-use Rattle.mt_propagate.specs.Named.{unknown, mount_or_unknown}
+use Rattle.mt_propagate.specs.Named.{unknown}
 use Rattle.mt_propagate.specs.WellFormed.{IsWellFormed, fs_at}
 use Rattle.mt_propagate.specs.Sound.{IsSource}
 use Rattle.mt_propagate.proofs.CopyRowLaws.{root_is}

@@ -2,7 +2,7 @@ use Rattle.std.proofs.Common.{◌≡◌, ℕ, ◌+◌, ◌≤◌, true, length, 
 use Rattle.std.specs.Prelude.{nat_lt}
 use Rattle.std.proofs.lemmas.Bool.Decides.{nat_tests}
 use Rattle.std.proofs.lemmas.Result.{err_from_is_err_and}
-use Rattle.mt_propagate.specs.World.{WorldView, world_view}
+use Rattle.mt_propagate.specs.World.{world_view}
 use Rattle.mt_propagate.specs.Limits.{mount_limit}
 use Rattle.mt_propagate.specs.Plans.{source_in, place_in}
 use Rattle.mt_bind.specs.Sources.{source_at}
@@ -30,12 +30,10 @@ late c = bound_late (world_view c.args.world.now) c.args.space c.args.recursive 
 pub returns-then-too_many_mounts-clause-refused : goal.returns-then-too_many_mounts-clause-refused
 returns-then-too_many_mounts-clause-refused c _ =
     let w = world_view c.args.world.now in
-    let recursive = c.args.recursive in
     let s = c.in_ok-source.source in
-    let p = c.in_ok-place.place in
-    let tree = bound_source w c.args.space c.args.from.now recursive s p c.requires.well_formed (sym c.walk.ensures ∙ c.in_ok-source.was) in
+    let tree = bound_source w _ _ c.args.recursive s c.in_ok-place.place c.requires.well_formed (sym c.walk.ensures ∙ c.in_ok-source.was) in
     planned_refused (late (goal.at.returns-then-too_many_mounts-clause-refused c).After-too_many_mounts) _ refl _
-    (refl, full w (source_at w recursive s) p (stays w s recursive) tree (most (length w.forest) (sym c.too_many_mounts.ensures ∙ c.if-too_many_mounts.true)))
+    (refl, full w _ _ (stays w s c.args.recursive) tree (most (length w.forest) (sym c.too_many_mounts.ensures ∙ c.if-too_many_mounts.true)))
 
 pub returns-in_err-plan-clause-refused : goal.returns-in_err-plan-clause-refused
 returns-in_err-plan-clause-refused c =
@@ -50,12 +48,12 @@ planned c = record { still = c.ready.ensures.world; source = c.in_ok-plan.ensure
 pub carry_out-requires-clause-source : goal.carry_out-requires-clause-source
 carry_out-requires-clause-source c =
     ready_source (planned (goal.at.carry_out-requires-clause-source c).After-ready)
-    (bound_source (world_view c.args.world.now) c.args.space c.args.from.now c.args.recursive c.in_ok-source.source c.in_ok-place.place c.requires.well_formed (sym c.walk.ensures ∙ c.in_ok-source.was))
+    (bound_source _ _ _ c.args.recursive c.in_ok-source.source _ c.requires.well_formed (sym c.walk.ensures ∙ c.in_ok-source.was))
 
 pub carry_out-requires-clause-destination : goal.carry_out-requires-clause-destination
 carry_out-requires-clause-destination c =
     ready_destination (planned (goal.at.carry_out-requires-clause-destination c).After-ready)
-    (destination (world_view c.args.world.now) c.args.space c.args.to.now c.in_ok-place.place c.requires.well_formed (sym c.walk-2.ensures ∙ c.in_ok-place.was) (sym c.is_root_place.ensures ∙ c.if-is_root_place.false))
+    (destination _ _ _ _ c.requires.well_formed (sym c.walk-2.ensures ∙ c.in_ok-place.was) (sym c.is_root_place.ensures ∙ c.if-is_root_place.false))
 
 pub returns-clause-done : goal.returns-clause-done
 returns-clause-done c =

@@ -15,7 +15,7 @@ there c = space-there (root_mount c.args.world.now.forest.mounts c.args.space) c
 -- the world after the call
 dropped : (c : goal.After-drop-ids-2) → without_space (world_view c.args.world.now) c.args.space ≡ world_view c.drop_mounts.new.world
 dropped c =
-    is_dropped (world_view c.args.world.now) c.requires.well_formed c.args.space (there c) (world_view c.make_room.new.world) (world_view c.drop_mounts.new.world) c.deref.result.now c.make_room.ensures.world
+    is_dropped (world_view c.args.world.now) c.requires.well_formed c.args.space (there c) (world_view c.make_room.new.world) _ _ c.make_room.ensures.world
     (c.deref.ensures.value ∙ c.in_ok-ids.ensures.ids) c.drop_mounts.ensures.world
 
 pub returns-clause-done : goal.returns-clause-done

@@ -1,8 +1,7 @@
-use Rattle.std.proofs.Common.{◌≡◌, false, Ok, sym, ap, ◌∙◌, arith}
+use Rattle.std.proofs.Common.{Ok, sym, ap, ◌∙◌, arith}
 use Rattle.std.proofs.lemmas.Result.{err_from_is_err_and}
 use Rattle.mt_skel.proofs.SkeletonLaws.{directory_within}
-use Rattle.mt_propagate.specs.World.{WorldView, world_view}
-use Rattle.mt_propagate.specs.Sound.{IsDestination}
+use Rattle.mt_propagate.specs.World.{world_view}
 use Rattle.mt_propagate.specs.Plans.{source_of, source_in, place_in}
 use Rattle.mt_propagate.specs.declared.copies.Sources.TheVariants.{Fresh}
 use Rattle.mt_bind.specs.Sources.{fresh}
@@ -15,9 +14,7 @@ use Rattle.mt_bind.proofs.mounting.mount.Goals as goal
 
 -- it is left to see whether the copies are too many
 late : (c : After-root-root) → (let w = world_view c.args.world.now in let src = fresh w c.in-Some.fs in IsLate (mounted w c.args.space c.args.fs.now c.args.path.now) w src c.in_ok-place.place (copied_with_id w src c.in_ok-place.place))
-late c =
-    mounted_late (world_view c.args.world.now) c.args.space c.args.fs.now c.args.path.now c.in-Some.fs c.in_ok-place.place (sym c.fs.ensures.number ∙ c.in-Some.is) (sym c.walk.ensures ∙ c.in_ok-place.was)
-    (sym c.is_root_place.ensures ∙ c.if-is_root_place.false)
+late c = mounted_late _ _ _ _ _ _ (sym c.fs.ensures.number ∙ c.in-Some.is) (sym c.walk.ensures ∙ c.in_ok-place.was) (sym c.is_root_place.ensures ∙ c.if-is_root_place.false)
 
 pub returns-in_err-plan-clause-refused : goal.returns-in_err-plan-clause-refused
 returns-in_err-plan-clause-refused c =
@@ -42,7 +39,7 @@ carry_out-requires-clause-source c =
 pub carry_out-requires-clause-destination : goal.carry_out-requires-clause-destination
 carry_out-requires-clause-destination c =
     ready_destination (planned (goal.at.carry_out-requires-clause-destination c).After-ready)
-    (destination (world_view c.args.world.now) c.args.space c.args.path.now c.in_ok-place.place c.requires.well_formed (sym c.walk.ensures ∙ c.in_ok-place.was) (sym c.is_root_place.ensures ∙ c.if-is_root_place.false))
+    (destination _ _ _ _ c.requires.well_formed (sym c.walk.ensures ∙ c.in_ok-place.was) (sym c.is_root_place.ensures ∙ c.if-is_root_place.false))
 
 pub returns-clause-done : goal.returns-clause-done
 returns-clause-done c =

@@ -2,7 +2,7 @@ use Rattle.std.proofs.Common.{◌≡◌, ◌&&◌, true, Ok, sym, ap, ◌∙◌}
 use Rattle.std.specs.Prelude.{is_some}
 use Rattle.std.proofs.lemmas.Result.{err_from_is_err_and}
 use Rattle.mt_mounts.specs.Forest.{is_below}
-use Rattle.mt_propagate.specs.World.{WorldView, world_view, group_of}
+use Rattle.mt_propagate.specs.World.{world_view, group_of}
 use Rattle.mt_propagate.specs.Sound.{IsDestination}
 use Rattle.mt_propagate.specs.Plans.{copied_source}
 use Rattle.mt_bind.specs.Sources.{tree_of}
@@ -26,20 +26,20 @@ judged c = record {
 
 -- the mounts go to a place where they may stand
 goes : (c : After-is_among) → IsDestination (world_view c.args.world.now) c.in_ok-place.place
-goes c = destination (world_view c.args.world.now) c.args.space c.args.to.now c.in_ok-place.place c.requires.well_formed (judged c).ended (judged c).off_root
+goes c = destination _ _ _ _ c.requires.well_formed (judged c).ended (judged c).off_root
 
 -- it was found whether the place is among them
 among : (c : After-is_among) → is_below c.args.world.now.forest.mounts c.in_ok-source.source.mount c.in_ok-place.place.mount ≡ c.is_among.result
 among c =
     let d = goes c in
-    sym (below_among (world_view c.args.world.now) c.requires.well_formed.forest.rising c.in_ok-source.source.mount c.in_ok-place.place.mount d.there.0 c.deref.result.now (c.deref.ensures.value ∙ c.in_ok-members.ensures.subtree) d.there.1)
+    sym (below_among (world_view c.args.world.now) c.requires.well_formed.forest.rising _ _ d.there.0 _ (c.deref.ensures.value ∙ c.in_ok-members.ensures.subtree) d.there.1)
     ∙ sym c.is_among.ensures
 
 -- and whether an unbindable one would come below a shared mount
 inside : (c : After-is_unbindable_inside) → (let w = world_view c.args.world.now in is_some (group_of w c.in_ok-place.place.mount) && any_unbindable w c.in_ok-source.source.mount ≡ c.is_unbindable_inside.result)
 inside c =
     let w = world_view c.args.world.now in
-    ap (λ b. is_some (group_of w c.in_ok-place.place.mount) && b) (sym (unbindable_ids w c.in_ok-source.source.mount c.deref-2.result.now (c.deref-2.ensures.value ∙ c.in_ok-members.ensures.subtree)))
+    ap (λ b. is_some (group_of w c.in_ok-place.place.mount) && b) (sym (unbindable_ids w _ _ (c.deref-2.ensures.value ∙ c.in_ok-members.ensures.subtree)))
     ∙ sym c.is_unbindable_inside.ensures
 
 -- what is planned is the tree that moves

@@ -1,9 +1,8 @@
-use Rattle.std.proofs.Common.{◌≡◌, List, Some, None, sym, ap, ◌∙◌, subst}
+use Rattle.std.proofs.Common.{List, None, sym, ap, ◌∙◌, subst}
 use Rattle.mt_skel.specs.Keyed.{put}
-use Rattle.mt_skel.proofs.KeyedLaws.{row_at-key}
 use Rattle.mt_mounts.specs.declared.mount.Mount.{Mount}
 use Rattle.mt_mounts.specs.Forest.{id_of, mount_at, on, root_mount}
-use Rattle.mt_mounts.specs.ForestView.{with_place, without_id}
+use Rattle.mt_mounts.specs.ForestView.{with_place}
 use Rattle.mt_propagate.specs.World.{world_view}
 use Rattle.mt_propagate.specs.WellFormed.{IsWellFormed}
 use Rattle.mt_bind.specs.Pivoting.{with_pivot}

@@ -5,14 +5,11 @@ use Rattle.mt_mounts.proofs.Walks.{below_within, below_here, below_stop, below_s
 use Rattle.mt_bind.proofs.pivoting.is_below.Goals as goal
 
 pub returns-then-here-top : goal.returns-then-here-top
-returns-then-here-top c =
-    let ms = c.args.forest.now.mounts in
-    sym (below_here ms c.args.top (length ms - c.up._step) c.up.here c.if-here-top.true) ∙ c.up.invariant.leads
+returns-then-here-top c = sym (below_here c.args.forest.now.mounts c.args.top _ _ c.if-here-top.true) ∙ c.up.invariant.leads
 
 pub returns-in_default : goal.returns-in_default
 returns-in_default c =
-    let ms = c.args.forest.now.mounts in
-    sym (below_stop ms c.args.top (length ms - c.up._step) c.up.here (sym c.parent.ensures ∙ c.in_default.is) ∙ ap (λ b. b || false) (ne_eqb c.args.top c.up.here (λ s. c.if-here-top.false (sym s))))
+    sym (below_stop c.args.forest.now.mounts c.args.top _ _ (sym c.parent.ensures ∙ c.in_default.is) ∙ ap (λ b. b || false) (ne_eqb c.args.top c.up.here (λ s. c.if-here-top.false (sym s))))
     ∙ c.up.invariant.leads
 
 pub up-preserved : goal.up-preserved

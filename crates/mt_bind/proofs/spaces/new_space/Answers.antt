@@ -3,7 +3,7 @@ use Rattle.mt_skel.proofs.SkeletonLaws.{directory_within}
 use Rattle.mt_mounts.specs.declared.mount.Mount.{Mount}
 use Rattle.mt_mounts.specs.Forest.{root_mount}
 use Rattle.mt_peers.specs.Peers.{Peering, state_at}
-use Rattle.mt_propagate.specs.World.{WorldView, world_view}
+use Rattle.mt_propagate.specs.World.{world_view}
 use Rattle.mt_propagate.specs.WellFormed.{IsWellFormed}
 use Rattle.mt_propagate.proofs.WalkLaws.{space_free}
 use Rattle.mt_propagate.proofs.PrivateLaws.{state_free, forest_after, peers_after, private_world}
