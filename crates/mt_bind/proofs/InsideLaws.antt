@@ -88,6 +88,7 @@ module _ (w : WorldView) (h : IsWellFormed w) (m : ℕ) (less : Bool) where
   abbrev space : ℕ → ℕ
   space i = space_of (with_copy w m less) i
 
+  -- the mounts that were there stay in their namespaces, and the copies are in the new one
   old-space : (i : ℕ) (q : Mount) → mount_at w.forest i ≡ Some q → space i ≡ space_of w i
   unfolding with_copy
   old-space i q e = ap (λ o. unwrap_or (option_map (λ (m : Mount). m.space) o) 0) (old-in w h m i q e) ∙ sym (space_is w i q e)

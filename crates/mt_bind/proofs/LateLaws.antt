@@ -28,10 +28,10 @@ module _ {T : Type 0} {w : WorldView} {src : Source} {p : Place} {effect : T} {o
   judged = ap (λ (s : Source). too_many_mounts w (length (new_copies w s p))) (sym same)
 
   pub planned_done : too_many_mounts w (length (new_copies w given p)) ≡ false → o ≡ Ok effect
-  planned_done few = late.decided ∙ passed (too_many_mounts w (length (new_copies w src p))) TooMany [] _ (judged ∙ few)
+  planned_done few = late.decided ∙ passed _ TooMany [] _ (judged ∙ few)
 
   pub planned_refused : (f : Fault) → (f ≡ TooMany) × IsTrue (too_many_mounts w (length (new_copies w given p))) → o ≡ Err f
-  planned_refused f r = late.decided ∙ stopped (too_many_mounts w (length (new_copies w src p))) TooMany [] _ (judged ∙ r.1) ∙ ap (λ (f : Fault). Err f) (sym r.0)
+  planned_refused f r = late.decided ∙ stopped _ TooMany [] _ (judged ∙ r.1) ∙ ap (λ (f : Fault). Err f) (sym r.0)
 
 -- a world that was made ready is still the same, and a plan in it is of a source tree and a place
 pub record IsReady (w : WorldView) (src : Source) (p : Place) (v : WorldView) (given : Source) (q : Place) : Type 0 where
@@ -39,6 +39,7 @@ pub record IsReady (w : WorldView) (src : Source) (p : Place) (v : WorldView) (g
   pub source : given ≡ src
   pub place : q ≡ p
 
+-- so what is known of the tree and the place is known of the plan, and what is made of them is made of it
 module _ {w v : WorldView} {src given : Source} {p q : Place} (r : IsReady w src p v given q) where
   pub ready_source : IsSource w src p → IsSource v given q
   ready_source = subst (λ (A : Type 0). A) (λ i. IsSource (sym r.still i) (sym r.source i) (sym r.place i))
@@ -46,11 +47,8 @@ module _ {w v : WorldView} {src given : Source} {p q : Place} (r : IsReady w src
   pub ready_destination : IsDestination w p → IsDestination v q
   ready_destination = subst (λ (A : Type 0). A) (λ i. IsDestination (sym r.still i) (sym r.place i))
 
-  pub ready_copied : copied w src p ≡ copied v given q
-  ready_copied = λ i. copied (sym r.still i) (sym r.source i) (sym r.place i)
-
-  pub ready_copied_with_id : copied_with_id w src p ≡ copied_with_id v given q
-  ready_copied_with_id = λ i. copied_with_id (sym r.still i) (sym r.source i) (sym r.place i)
+  pub ready_same : {T : Type 0} (f : WorldView → Source → Place → T) → f w src p ≡ f v given q
+  ready_same f = λ i. f (sym r.still i) (sym r.source i) (sym r.place i)
 
 -- a mount whose filesystem is named and whose path ends off a root place
 pub mounted_late : (w : WorldView) (n : ℕ) (name : List ℕ) (path : List (List ℕ)) (f : ℕ) (p : Place) → fs_named w.skel name ≡ Some f → walk w.skel w.forest n path ≡ Ok p → is_root_place w p ≡ false

@@ -80,59 +80,9 @@ module _ (w : WorldView) (h : IsWellFormed w) (i j : ℕ) (p : Place) (a : MayPi
   now : (k : ℕ) (x : Mount) → mount_at ms k ≡ Some x → mount_at (map pivot ms) k ≡ Some (pivot x)
   now k x e = row-mapped id_of pivot (λ m. refl) ms k x e
 
-  placed_now : (k : ℕ) (b : Mount) (q : Place) → mount_at (map pivot ms) k ≡ Some b → b.place ≡ Some q → (u : Mount) × (mount_at (map pivot ms) q.mount ≡ Some u) × (u.space ≡ b.space) × IsTrue (holds w.skel u.root q.dir)
-  placed_now k b q e at =
-      let x = was k b e in
-      elim (stands k x.0 q x.1 (sym x.2 ∙ at)) [
-        | inl old ↦
-            let there = a.destination.there in
-            let space : there.0.space ≡ b.space =
-            sym (below-space w h i p.mount there.0 there.1 a.inside) ∙ space_is w i a.top a.top_there ∙ sym a.same_space ∙ ap (λ (m : Mount). m.space) (sym old.2) ∙ sym x.3 in
-            subst (λ (q : Place). (u : Mount) × (mount_at (map pivot ms) q.mount ≡ Some u) × (u.space ≡ b.space) × IsTrue (holds w.skel u.root q.dir)) old.1
-            (pivot there.0, now p.mount there.0 there.1, space, there.2)
-        | inr still ↦
-            let u = h.forest.placed k x.0 q x.1 still.1 in
-            (pivot u.0, now q.mount u.0 u.1, u.2 ∙ sym x.3, u.3)
-      ]
-
-  apart_now : (k l : ℕ) (b d : Mount) (q : Place) → mount_at (map pivot ms) k ≡ Some b → mount_at (map pivot ms) l ≡ Some d → b.place ≡ Some q → d.place ≡ Some q → k ≡ l
-  apart_now k l b d q ek el bq dq =
-      let x = was k b ek in
-      let y = was l d el in
-      each_way (stands k x.0 q x.1 (sym x.2 ∙ bq)) (stands l y.0 q y.1 (sym y.2 ∙ dq))
-      (λ old too. old.0 ∙ sym too.0)
-      (λ old still. absurd (none_there l y.0 y.1 (still.1 ∙ ap (λ q. Some q) (sym old.1))))
-      (λ still old. absurd (none_there k x.0 x.1 (still.1 ∙ ap (λ q. Some q) (sym old.1))))
-      (λ still too. h.forest.apart k l x.0 y.0 q x.1 y.1 still.1 too.1)
-
-  rooted_now : (k : ℕ) (b : Mount) → mount_at (map pivot ms) k ≡ Some b → (l : ℕ) × (r : Mount) × (mount_at (map pivot ms) l ≡ Some r) × (r.place ≡ None) × (r.space ≡ b.space)
-  rooted_now k b e =
-      let x = was k b e in
-      elim (cases_eq x.0.space a.top.space) [
-        | inl here ↦ (i, pivot a.top, now i a.top a.top_there, pivot_cases (λ o. o ≡ None) i a.top a.top_there (λ _ _. refl) (λ s _. absurd (differ s)) (λ off _. absurd (off refl)), sym here ∙ sym x.3)
-        | inr other ↦
-            let r = h.forest.rooted k x.0 x.1 in
-            let space : (k : ℕ) (m : Mount) → mount_at ms k ≡ Some m → r.0 ≡ k → x.0.space ≡ m.space =
-            λ k m f s. sym r.4 ∙ ap (λ (m : Mount). m.space) (some-is r.1 m (sym r.2 ∙ ap (mount_at ms) s ∙ f)) in
-            let away : r.0 ≢ j = λ s. other (space j a.root a.root_there s ∙ a.same_space) in
-            let off : r.0 ≢ i = λ s. other (space i a.top a.top_there s) in
-            (r.0, pivot r.1, now r.0 r.1 r.2, pivot_cases (λ o. o ≡ None) r.0 r.1 r.2 (λ s _. absurd (off s)) (λ s _. absurd (away s)) (λ _ _. r.3), r.4 ∙ sym x.3)
-      ]
-
   -- no mount but the old one was a root mount of its namespace
   one_old : (k : ℕ) (x : Mount) → mount_at ms k ≡ Some x → k ≢ j → x.place ≡ None → x.space ≡ a.top.space → ⊥
   one_old k x e away at here = away (h.forest.one_root k j x a.root e a.root_there at a.unplaced (here ∙ sym a.same_space))
-
-  one_now : (k l : ℕ) (b d : Mount) → mount_at (map pivot ms) k ≡ Some b → mount_at (map pivot ms) l ≡ Some d → b.place ≡ None → d.place ≡ None → b.space ≡ d.space → k ≡ l
-  one_now k l b d ek el bn dn same =
-      let x = was k b ek in
-      let y = was l d el in
-      let spaces : x.0.space ≡ y.0.space = sym x.3 ∙ same ∙ y.3 in
-      each_way (rootless k x.0 x.1 (sym x.2 ∙ bn)) (rootless l y.0 y.1 (sym y.2 ∙ dn))
-      (λ new too. new.0 ∙ sym too.0)
-      (λ new old. absurd (one_old l y.0 y.1 old.0 old.1 (sym spaces ∙ ap (λ (m : Mount). m.space) new.1)))
-      (λ old new. absurd (one_old k x.0 x.1 old.0 old.1 (spaces ∙ ap (λ (m : Mount). m.space) new.1)))
-      (λ old too. h.forest.one_root k l x.0 y.0 x.1 y.1 old.1 too.1 spaces)
 
   -- the old root mount is not below the new one
   above : is_below ms i j ≡ false
@@ -170,9 +120,47 @@ module _ (w : WorldView) (h : IsWellFormed w) (i j : ℕ) (p : Place) (a : MayPi
   pub pivot_forest : IsForest w.skel (map pivot ms)
   pivot_forest = record {
     rising = rises-map id_of pivot (λ m. refl) ms ∙ h.forest.rising;
-    placed = placed_now;
-    apart = apart_now;
-    rooted = rooted_now;
-    one_root = one_now;
+    placed = λ k b q e at.
+        let x = was k b e in
+        elim (stands k x.0 q x.1 (sym x.2 ∙ at)) [
+          | inl old ↦
+              let there = a.destination.there in
+              let space : there.0.space ≡ b.space =
+              sym (below-space w h i p.mount there.0 there.1 a.inside) ∙ space_is w i a.top a.top_there ∙ sym a.same_space ∙ ap (λ (m : Mount). m.space) (sym old.2) ∙ sym x.3 in
+              subst (λ (q : Place). (u : Mount) × (mount_at (map pivot ms) q.mount ≡ Some u) × (u.space ≡ b.space) × IsTrue (holds w.skel u.root q.dir)) old.1
+              (pivot there.0, now p.mount there.0 there.1, space, there.2)
+          | inr still ↦
+              let u = h.forest.placed k x.0 q x.1 still.1 in
+              (pivot u.0, now q.mount u.0 u.1, u.2 ∙ sym x.3, u.3)
+        ];
+    apart = λ k l b d q ek el bq dq.
+        let x = was k b ek in
+        let y = was l d el in
+        each_way (stands k x.0 q x.1 (sym x.2 ∙ bq)) (stands l y.0 q y.1 (sym y.2 ∙ dq))
+        (λ old too. old.0 ∙ sym too.0)
+        (λ old still. absurd (none_there l y.0 y.1 (still.1 ∙ ap (λ q. Some q) (sym old.1))))
+        (λ still old. absurd (none_there k x.0 x.1 (still.1 ∙ ap (λ q. Some q) (sym old.1))))
+        (λ still too. h.forest.apart k l x.0 y.0 q x.1 y.1 still.1 too.1);
+    rooted = λ k b e.
+        let x = was k b e in
+        elim (cases_eq x.0.space a.top.space) [
+          | inl here ↦ (i, pivot a.top, now i a.top a.top_there, pivot_cases (λ o. o ≡ None) i a.top a.top_there (λ _ _. refl) (λ s _. absurd (differ s)) (λ off _. absurd (off refl)), sym here ∙ sym x.3)
+          | inr other ↦
+              let r = h.forest.rooted k x.0 x.1 in
+              let space : (k : ℕ) (m : Mount) → mount_at ms k ≡ Some m → r.0 ≡ k → x.0.space ≡ m.space =
+              λ k m f s. sym r.4 ∙ ap (λ (m : Mount). m.space) (some-is r.1 m (sym r.2 ∙ ap (mount_at ms) s ∙ f)) in
+              let away : r.0 ≢ j = λ s. other (space j a.root a.root_there s ∙ a.same_space) in
+              let off : r.0 ≢ i = λ s. other (space i a.top a.top_there s) in
+              (r.0, pivot r.1, now r.0 r.1 r.2, pivot_cases (λ o. o ≡ None) r.0 r.1 r.2 (λ s _. absurd (off s)) (λ s _. absurd (away s)) (λ _ _. r.3), r.4 ∙ sym x.3)
+        ];
+    one_root = λ k l b d ek el bn dn same.
+        let x = was k b ek in
+        let y = was l d el in
+        let spaces : x.0.space ≡ y.0.space = sym x.3 ∙ same ∙ y.3 in
+        each_way (rootless k x.0 x.1 (sym x.2 ∙ bn)) (rootless l y.0 y.1 (sym y.2 ∙ dn))
+        (λ new too. new.0 ∙ sym too.0)
+        (λ new old. absurd (one_old l y.0 y.1 old.0 old.1 (sym spaces ∙ ap (λ (m : Mount). m.space) new.1)))
+        (λ old new. absurd (one_old k x.0 x.1 old.0 old.1 (spaces ∙ ap (λ (m : Mount). m.space) new.1)))
+        (λ old too. h.forest.one_root k l x.0 y.0 x.1 y.1 old.1 too.1 spaces);
     no_cycle = no_cycle (map pivot ms) rank rank_falls;
   }

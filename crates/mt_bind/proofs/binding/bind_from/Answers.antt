@@ -9,7 +9,7 @@ use Rattle.mt_bind.specs.Sources.{source_at}
 use Rattle.mt_bind.specs.Mounting.{copied_with_id, bound}
 use Rattle.mt_bind.proofs.MountLaws.{bound_source, destination}
 use Rattle.mt_bind.proofs.MemberLaws.{stays, full}
-use Rattle.mt_bind.proofs.LateLaws.{IsLate, IsReady, ready_source, ready_destination, ready_copied_with_id, planned_done, planned_refused, bound_late}
+use Rattle.mt_bind.proofs.LateLaws.{IsLate, IsReady, ready_source, ready_destination, ready_same, planned_done, planned_refused, bound_late}
 use Rattle.mt_bind.proofs.binding.bind_from.Goals.{After-too_many_mounts, After-ready}
 use Rattle.mt_bind.proofs.binding.bind_from.Goals as goal
 
@@ -59,4 +59,4 @@ pub returns-clause-done : goal.returns-clause-done
 returns-clause-done c =
     let a = goal.at.returns-clause-done c in
     planned_done (late a.After-too_many_mounts) _ c.in_ok-sources.ensures.sources c.in_ok-plan.ensures.few
-    ∙ ap (λ e. Ok e) (ready_copied_with_id (planned a.After-ready)) ∙ (λ i. Ok (sym c.carry_out.ensures.world i, sym c.carry_out.ensures.top i))
+    ∙ ready_same (planned a.After-ready) (λ v src q. Ok (copied_with_id v src q)) ∙ (λ i. Ok (sym c.carry_out.ensures.world i, sym c.carry_out.ensures.top i))

@@ -8,7 +8,7 @@ use Rattle.mt_bind.specs.Sources.{fresh}
 use Rattle.mt_bind.specs.Mounting.{copied_with_id, mounted}
 use Rattle.mt_bind.proofs.SourceLaws.{fresh_is_source}
 use Rattle.mt_bind.proofs.MountLaws.{destination}
-use Rattle.mt_bind.proofs.LateLaws.{IsLate, IsReady, ready_source, ready_destination, ready_copied_with_id, planned_done, planned_refused, mounted_late}
+use Rattle.mt_bind.proofs.LateLaws.{IsLate, IsReady, ready_source, ready_destination, ready_same, planned_done, planned_refused, mounted_late}
 use Rattle.mt_bind.proofs.mounting.mount.Goals.{After-root-root, After-ready}
 use Rattle.mt_bind.proofs.mounting.mount.Goals as goal
 
@@ -45,4 +45,4 @@ pub returns-clause-done : goal.returns-clause-done
 returns-clause-done c =
     let a = goal.at.returns-clause-done c in
     planned_done (late a.After-root-root) _ (ap (λ root. source_of (world_view c.args.world.now) (Fresh root)) c.root-root.ensures.root) c.in_ok-plan.ensures.few
-    ∙ ap (λ e. Ok e) (ready_copied_with_id (planned a.After-ready)) ∙ (λ i. Ok (sym c.carry_out.ensures.world i, sym c.carry_out.ensures.top i))
+    ∙ ready_same (planned a.After-ready) (λ v src q. Ok (copied_with_id v src q)) ∙ (λ i. Ok (sym c.carry_out.ensures.world i, sym c.carry_out.ensures.top i))

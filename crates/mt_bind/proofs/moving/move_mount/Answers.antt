@@ -3,13 +3,14 @@ use Rattle.std.specs.Prelude.{is_some}
 use Rattle.std.proofs.lemmas.Result.{err_from_is_err_and}
 use Rattle.mt_mounts.specs.Forest.{is_below}
 use Rattle.mt_propagate.specs.World.{world_view, group_of}
+use Rattle.mt_propagate.specs.Copied.{copied}
 use Rattle.mt_propagate.specs.Sound.{IsDestination}
 use Rattle.mt_propagate.specs.Plans.{copied_source}
 use Rattle.mt_bind.specs.Sources.{tree_of}
 use Rattle.mt_bind.specs.Mounting.{any_unbindable}
 use Rattle.mt_bind.proofs.MountLaws.{destination, moving_source}
 use Rattle.mt_bind.proofs.MemberLaws.{below_among, unbindable_ids, moved_tree}
-use Rattle.mt_bind.proofs.LateLaws.{IsMove, ready_source, ready_destination, ready_copied, planned_done, planned_refused, into_itself, unbindable_inside, moved_late}
+use Rattle.mt_bind.proofs.LateLaws.{IsMove, ready_source, ready_destination, ready_same, planned_done, planned_refused, into_itself, unbindable_inside, moved_late}
 use Rattle.mt_bind.proofs.moving.move_mount.Goals.{After-is_among, After-is_unbindable_inside}
 use Rattle.mt_bind.proofs.moving.move_mount.Goals as goal
 
@@ -80,4 +81,4 @@ returns-clause-done c =
     let a = goal.at.returns-clause-done c in
     let late = moved_late _ _ _ _ _ _ (judged a.After-is_among) (among a.After-is_among ∙ c.if-is_among.false) (inside a.After-is_unbindable_inside ∙ c.if-is_unbindable_inside.false) in
     planned_done late _ (tree a.After-is_among) c.in_ok-plan.ensures.few
-    ∙ ap (λ v. Ok v) (ready_copied (record { still = c.ready.ensures.world; source = c.in_ok-plan.ensures.given.0 ∙ tree a.After-is_among; place = c.in_ok-plan.ensures.given.1 }) ∙ sym c.carry_out.ensures.world)
+    ∙ ready_same (record { still = c.ready.ensures.world; source = c.in_ok-plan.ensures.given.0 ∙ tree a.After-is_among; place = c.in_ok-plan.ensures.given.1 }) (λ v src q. Ok (copied v src q)) ∙ ap (λ v. Ok v) (sym c.carry_out.ensures.world)
