@@ -1,23 +1,24 @@
 -- A set of mounts that has all that receive from its members stays one, and mounts outside keep their states.
-use Rattle.std.proofs.Common.{◌≡◌, ◌⊎◌, ℕ, ◌<◌, Bool, true, false, cond, not, eqb, List, [], ◌∷◌, map, length, Option, Some, None, refl, sym, ap, ◌∙◌, subst, inl, inr, arith}
+use Rattle.std.proofs.Common.{◌≡◌, ◌⊎◌, ℕ, zero, suc, ◌<◌, Bool, true, false, cond, not, ◌||◌, eqb, eqb-true, List, [], ◌∷◌, map, length, Option, Some, None, refl, sym, ap, ◌∙◌, subst, inl, inr, arith}
 use Rattle.std.specs.List.{list_any, filter}
-use Rattle.std.specs.Option.{option_map}
+use Rattle.std.specs.Option.{option_map, option_map_or, option_or}
 use Rattle.std.proofs.lemmas.Bool.Decides.{nat_tests}
-use Rattle.mt_skel.specs.Keyed.{row_at, rises}
-use Rattle.mt_skel.proofs.KeyedLaws.{row_at-filter, row_at-map, row_at-key, passing}
-use Rattle.mt_skel.proofs.ElementLaws.{In, in_any, any_in, in_row, in_filtered, in_mapped}
+use Rattle.mt_skel.specs.Chain.{chain}
+use Rattle.mt_skel.specs.Keyed.{rises}
+use Rattle.mt_skel.proofs.ElementLaws.{In, any_in, in_filtered, in_mapped}
 use Rattle.mt_peers.specs.declared.state.State.{State}
 use Rattle.mt_peers.specs.declared.state.Kind.{Kind}
-use Rattle.mt_peers.specs.Peers.{Peer, Peering, mount_of, state_at, in_group, has_member, names}
+use Rattle.mt_peers.specs.declared.state.Kind.TheVariants.{Shared, Private, Slave, Unbindable}
+use Rattle.mt_peers.specs.Peers.{Peer, Peering, mount_of, state_at, in_group, has_member}
 use Rattle.mt_peers.specs.Masters.{master_of, groups_up, reaches}
 use Rattle.mt_peers.specs.Loss.{settle, heir, with_master, left}
 use Rattle.mt_peers.specs.Making.{made, changed, changed_peer, new_group}
 use Rattle.mt_peers.specs.WellFormed.{IsPeering}
-use Rattle.mt_peers.proofs.MemberLaws.{master_of-from, state_at-filter, named}
-use Rattle.mt_peers.proofs.SettleLaws.{before, state_at-settle}
+use Rattle.mt_peers.proofs.MemberLaws.{master_of-from, state_at-filter, state_at-without, state_at-map, names-is}
+use Rattle.mt_peers.proofs.SettleLaws.{before, find-among, state_at-settle}
 use Rattle.mt_peers.proofs.MakingLaws.{old_master, change, number, origin, source, both, number-high, made-settled}
-use Rattle.mt_peers.proofs.AlikeLaws.{along, heir-along, changed-master}
-use Rattle.mt_peers.proofs.GoingLaws.{find-first}
+use Rattle.mt_peers.proofs.GoingLaws.{heir-stays}
+pub use Rattle.mt_peers.proofs.MemberLaws.{living}
 
 -- with one member of a group, the set has all its members and all its slaves
 pub record IsClosed (P : ℕ → Type 0) (es : List Peer) : Type 0 where
@@ -47,6 +48,32 @@ pub same-IsClosed : (P Q : ℕ → Type 0) (es : List Peer) → ((i : ℕ) (s : 
 same-IsClosed P Q es same a =
     like-IsClosed P Q es es a (λ i t g e is. let b = same i t e in (i, t, e, is, b.0, b.1)) (λ i t g e is. (i, t, e, inl is, (same i t e).0))
 
+-- what goes from each number to the next is true of a whole chain
+pub along : (next : ℕ → Option ℕ) (P : ℕ → Type 0) → ((x y : ℕ) → P x → next x ≡ Some y → P y) → (n x q : ℕ) → P x → list_any (eqb q) (chain next n x) ≡ true → P q
+along next P step zero x q px h = let s : q ≡ x = grind (arith, nat_tests) in subst P (sym s) px
+along next P step (suc n) x q px h = go (next x) refl (λ y. along next P step n y q) h
+  where
+    go : (o : Option ℕ) → next x ≡ o → ((y : ℕ) → P y → list_any (eqb q) (chain next n y) ≡ true → P q)
+        → (eqb q x || list_any (eqb q) (option_map_or (λ y. chain next n y) o [])) ≡ true → P q
+    go None e ih a = let s : q ≡ x = grind (arith, nat_tests) in subst P (sym s) px
+    go (Some y) e ih a =
+        elim (eqb q x) as (λ b. eqb q x ≡ b → (b || list_any (eqb q) (chain next n y)) ≡ true → P q) [
+          | true ↦ λ t _. subst P (sym (eqb-true q x t)) px
+          | false ↦ λ _ r. ih y (step x y px e) r
+        ] refl a
+
+pub heir-along : (old new : List Peer) (P : ℕ → Type 0) → ((x y : ℕ) → P x → master_of old x ≡ Some y → P y) → (m : Option ℕ) (g : ℕ) → ((k : ℕ) → m ≡ Some k → P k) → heir old new m ≡ Some g → P g
+heir-along old new P step None g start e = absurd (cc)
+heir-along old new P step (Some m) g start e = along (master_of old) P step (length old) m g (start m refl) (find-among (has_member new) (groups_up old m) g e)
+
+-- a changed state has the master that it had, or its group as master
+pub changed-master : (k : Kind) (n : ℕ) (b : Bool) (s : State) (g : ℕ) → (cond b (changed k n s) s).master ≡ Some g → (s.master ≡ Some g) ⊎ (s.group ≡ Some g)
+changed-master k n false s g e = inl e
+changed-master Shared n true s g e = inl e
+changed-master Private n true s g e = absurd (cc)
+changed-master Slave n true s g e = elim s.group as (λ o. option_or o s.master ≡ Some g → (s.master ≡ Some g) ⊎ (o ≡ Some g)) [ None ↦ λ x. inl x | Some q ↦ λ x. inr x ] e
+changed-master Unbindable n true s g e = absurd (cc)
+
 -- a chain of masters that leads to a group of the set begins at one of the set
 turned : (g : ℕ) (xs : List ℕ) → list_any (λ k. eqb k g) xs ≡ true → list_any (eqb g) xs ≡ true
 turned g [] h = h
@@ -61,20 +88,10 @@ reached P es r a i j m g s t ei ej ms gt q far =
     λ k u ek gu p. draws f.0 f.1 f.2 f.3 (a.masters f.0 k f.1 u y f.2 ek f.4 gu p))
     (length es) m g (λ k u ek gu p. a.masters i k s u m ei ek ms gu p) (turned g (groups_up es m) far) j t ej gt q
 
--- a member of a group that lives
-pub living : (es : List Peer) (g : ℕ) → rises mount_of es ≡ true → has_member es g ≡ true → (e : Peer) × In e es × (state_at es e.mount ≡ Some e.state) × (e.state.group ≡ Some g)
-living es g r h =
-    let m = in_any (in_group g) es h in
-    (m.0, m.1, ap (option_map (λ (e : Peer). e.state)) (in_row mount_of es m.0 r m.1), named m.0.state.group g m.2)
-
 -- a master that still lives stays
 pub settled-same : (old mid : List Peer) (i : ℕ) (s : State) → state_at mid i ≡ Some s → ((m : ℕ) → s.master ≡ Some m → has_member mid m ≡ true) → state_at (settle old mid) i ≡ Some s
 settled-same old mid i s e lives =
-    state_at-settle old mid i ∙ ap (option_map (λ s. with_master s (heir old mid s.master))) e ∙ ap (λ m. Some (with_master s m)) (go s.master refl)
-  where
-    go : (o : Option ℕ) → s.master ≡ o → heir old mid o ≡ o
-    go None is = refl
-    go (Some m) is = find-first (has_member mid) (master_of old) (length old) m (lives m is)
+    state_at-settle old mid i ∙ ap (option_map (λ s. with_master s (heir old mid s.master))) e ∙ ap (λ m. Some (with_master s m)) (heir-stays old mid s.master lives)
 
 module _ (P : ℕ → Type 0) (p : Peering) (h : IsPeering p) (a : IsClosed P p.peers) where
   -- a group that was given out, and that has no member in the set unless the mount is in it
@@ -141,9 +158,6 @@ module _ (P : ℕ → Type 0) (p : Peering) (h : IsPeering p) (a : IsClosed P p.
   outside : (i : ℕ) (s : State) (m : ℕ) (e : Peer) → state_at p.peers i ≡ Some s → (P i → ⊥) → s.master ≡ Some m → state_at p.peers e.mount ≡ Some e.state → e.state.group ≡ Some m → P e.mount → ⊥
   outside i s m e ei off ms ee ge q = off (a.masters i e.mount s e.state m ei ee ms ge q)
 
-  member : (e : Peer) (m : ℕ) → e.state.group ≡ Some m → in_group m e ≡ true
-  member e m is = ap (λ o. names o m) is ∙ (grind (arith, nat_tests))
-
   module _ (f : ℕ → Bool) (within : (i : ℕ) → f i ≡ true → P i) where
     off-outside : (j : ℕ) → (P j → ⊥) → f j ≡ false
     off-outside j out = go (f j) refl
@@ -156,13 +170,7 @@ module _ (P : ℕ → Type 0) (p : Peering) (h : IsPeering p) (a : IsClosed P p.
     stay e = not (f e.mount)
 
     staying-state : (i : ℕ) (s : State) → state_at p.peers i ≡ Some s → (P i → ⊥) → state_at (filter stay p.peers) i ≡ Some s
-    staying-state i s e off = ap (option_map (λ (e : Peer). e.state)) (row_at-filter mount_of stay i p.peers h.rising) ∙ go (row_at mount_of i p.peers) refl e
-      where
-        go : (o : Option Peer) → row_at mount_of i p.peers ≡ o → option_map (λ (e : Peer). e.state) o ≡ Some s → option_map (λ (e : Peer). e.state) (passing stay o) ≡ Some s
-        go None is r = r
-        go (Some x) is r =
-            let k = row_at-key mount_of i p.peers x is in
-            ap (λ b. option_map (λ (e : Peer). e.state) (cond b (Some x) None)) (ap not (ap f k ∙ off-outside i off)) ∙ r
+    staying-state i s e off = state_at-without f i p.peers h.rising ∙ ap (λ b. cond b None (state_at p.peers i)) (off-outside i off) ∙ e
 
     -- a mount outside keeps its state when mounts of the set alone leave
     pub left-outside : (i : ℕ) (s : State) → state_at p.peers i ≡ Some s → (P i → ⊥) → state_at (left f p).peers i ≡ Some s
@@ -170,7 +178,7 @@ module _ (P : ℕ → Type 0) (p : Peering) (h : IsPeering p) (a : IsClosed P p.
     left-outside i s e off = settled-same p.peers (filter stay p.peers) i s (staying-state i s e off) (λ m ms.
         let l = living p.peers m h.rising (h.master_lives i s m e ms) in
         let on : not (f l.0.mount) ≡ true = ap not (off-outside l.0.mount (outside i s m l.0 e off ms l.2 l.3)) in
-        any_in (in_group m) l.0 (filter stay p.peers) (in_filtered stay l.0 p.peers l.1 on) (member l.0 m l.3))
+        any_in (in_group m) l.0 (filter stay p.peers) (in_filtered stay l.0 p.peers l.1 on) (names-is l.0.state.group m l.3))
 
     -- and when mounts of the set alone are made of a kind
     module _ (k : Kind) where
@@ -178,17 +186,14 @@ module _ (P : ℕ → Type 0) (p : Peering) (h : IsPeering p) (a : IsClosed P p.
       changed-outside x off = ap (λ b. let y : Peer = record { mount = x.mount; state = cond b (changed k (new_group f p x.mount) x.state) x.state } in y) (off-outside x.mount off)
 
       changed-state : (i : ℕ) (s : State) → state_at p.peers i ≡ Some s → (P i → ⊥) → state_at (map (changed_peer k f p) p.peers) i ≡ Some s
-      changed-state i s e off = ap (option_map (λ (e : Peer). e.state)) (row_at-map mount_of (changed_peer k f p) (λ x. refl) i p.peers) ∙ go (row_at mount_of i p.peers) refl e
-        where
-          go : (o : Option Peer) → row_at mount_of i p.peers ≡ o → option_map (λ (e : Peer). e.state) o ≡ Some s → option_map (λ (e : Peer). e.state) (option_map (changed_peer k f p) o) ≡ Some s
-          go None is r = r
-          go (Some x) is r =
-              let key = row_at-key mount_of i p.peers x is in
-              ap (λ (y : Peer). Some y.state) (changed-outside x (λ q. off (subst P key q))) ∙ r
+      changed-state i s e off =
+          state_at-map (changed_peer k f p) (λ x. refl) i p.peers
+          ∙ ap (option_map (λ (s : State). cond (f i) (changed k (new_group f p i) s) s)) e
+          ∙ ap (λ b. Some (cond b (changed k (new_group f p i) s) s)) (off-outside i off)
 
       pub made-outside : (i : ℕ) (s : State) → state_at p.peers i ≡ Some s → (P i → ⊥) → state_at (made k f p).peers i ≡ Some s
       unfolding made
       made-outside i s e off = settled-same p.peers (map (changed_peer k f p) p.peers) i s (changed-state i s e off) (λ m ms.
           let l = living p.peers m h.rising (h.master_lives i s m e ms) in
           let same = changed-outside l.0 (outside i s m l.0 e off ms l.2 l.3) in
-          any_in (in_group m) l.0 (map (changed_peer k f p) p.peers) (subst (λ x. In x (map (changed_peer k f p) p.peers)) same (in_mapped (changed_peer k f p) l.0 p.peers l.1)) (member l.0 m l.3))
+          any_in (in_group m) l.0 (map (changed_peer k f p) p.peers) (subst (λ x. In x (map (changed_peer k f p) p.peers)) same (in_mapped (changed_peer k f p) l.0 p.peers l.1)) (names-is l.0.state.group m l.3))

@@ -1,21 +1,21 @@
 -- Mounts that are changed one after the other, and no master settled.
-use Rattle.std.proofs.Common.{◌≡◌, ℕ, suc, ◌+◌, ◌<◌, ◌≤◌, Bool, true, false, cond, ◌&&◌, ◌||◌, eqb, eqb-true, ltb, List, [], ◌∷◌, ◌++◌, map, drop, length, length-append, length-drop, get_or, get_or-drop, Option, Some, None, refl, sym, ap, ap₂, ◌∙◌, subst, inl, inr, arith}
+use Rattle.std.proofs.Common.{◌≡◌, ℕ, suc, ◌+◌, ◌<◌, ◌≤◌, Bool, true, false, cond, ◌&&◌, ◌||◌, eqb, eqb-true, ltb, List, [], ◌∷◌, ◌++◌, map, drop, length, eq-eqb, length-append, length-drop, get_or, get_or-drop, Option, Some, None, refl, sym, ap, ap₂, ◌∙◌, subst, inl, inr, arith}
 use Rattle.std.specs.Prelude.{nat_eq}
 use Rattle.std.specs.List.{filter, list_any, list_all, position_or_len}
 use Rattle.std.specs.List.Sorted.{IsNonDecreasing}
-use Rattle.std.specs.Option.{option_map, option_or, is_none}
+use Rattle.std.specs.Option.{option_map, option_map_or, option_or, is_none}
 use Rattle.std.proofs.lemmas.Bool.Decides.{nat_tests}
 use Rattle.std.proofs.lemmas.List.{drop_more, drop_all}
 use Rattle.mt_skel.specs.Keyed.{row_at, rises, among}
-use Rattle.mt_skel.proofs.KeyedLaws.{rises-map}
-use Rattle.mt_skel.proofs.ElementLaws.{In, in_row}
+use Rattle.mt_skel.proofs.KeyedLaws.{rises-map, row_at-below, all-lower}
+use Rattle.mt_skel.proofs.ElementLaws.{In}
 use Rattle.mt_peers.specs.declared.state.State.{State}
 use Rattle.mt_peers.specs.declared.state.Kind.{Kind}
 use Rattle.mt_peers.specs.declared.state.Kind.TheVariants.{Shared, Private, Slave, Unbindable}
 use Rattle.mt_peers.specs.Peers.{Peer, Peering, mount_of, state_at, with_state}
 use Rattle.mt_peers.specs.Making.{changed, changed_peer, is_shared, groupless, new_group}
 use Rattle.mt_peers.specs.Few.{unsettled}
-use Rattle.mt_peers.proofs.MemberLaws.{some-is}
+use Rattle.mt_peers.proofs.MemberLaws.{some-is, peering, mapped, state-in}
 use Rattle.mt_peers.proofs.ChangeLaws.{same_change}
 use Rattle.mt_peers.proofs.MakingLaws.{among_groupless}
 use Rattle.mt_peers.proofs.GoingLaws.{map-same}
@@ -24,13 +24,6 @@ use Rattle.mt_peers.proofs.GoingLaws.{map-same}
 pub map-alike : (f g : Peer → Peer) (es : List Peer) → ((e : Peer) → In e es → f e ≡ g e) → map f es ≡ map g es
 map-alike f g [] same = refl
 map-alike f g (x ∷ es) same = ap₂ (λ (y : Peer) (t : List Peer). y ∷ t) (same x (inl refl)) (map-alike f g es (λ e at. same e (inr at)))
-
-map-twice : (f g : Peer → Peer) (es : List Peer) → map f (map g es) ≡ map (λ e. f (g e)) es
-map-twice f g [] = refl
-map-twice f g (x ∷ es) = ap (λ t. f (g x) ∷ t) (map-twice f g es)
-
-pub state-in : (es : List Peer) (e : Peer) → rises mount_of es ≡ true → In e es → state_at es e.mount ≡ Some e.state
-state-in es e up at = ap (option_map (λ (e : Peer). e.state)) (in_row mount_of es e up at)
 
 -- where a number stands in two lists, one behind the other
 place-front : (m : ℕ) (xs ys : List ℕ) → list_any (eqb m) xs ≡ true → position_or_len (nat_eq m) (xs ++ ys) ≡ position_or_len (nat_eq m) xs
@@ -54,84 +47,60 @@ again Private m n s = refl
 again Slave m n s = refl
 again Unbindable m n s = refl
 
--- one mount alone
+-- a mount that is there is in no group
+abbrev lacks_group : Option State → Bool
+lacks_group o = option_map_or (λ (s : State). is_none s.group) o false
+
+-- of one mount alone, it is the only one that can be counted
 module _ (x : ℕ) where
-  above-none : (n : ℕ) (es : List Peer) → x ≤ n → list_all (λ y. ltb n (mount_of y)) es ≡ true → groupless (nat_eq x) es ≡ []
-  above-none n [] l h = refl
-  above-none n (e ∷ es) l h =
-      let off : eqb x e.mount ≡ false = grind (arith, nat_tests) in
-      let rest : list_all (λ y. ltb n (mount_of y)) es ≡ true = grind (arith, nat_tests) in
-      ap (λ b. map mount_of (cond (b && is_none e.state.group) (e ∷ filter (λ e. eqb x e.mount && is_none e.state.group) es) (filter (λ e. eqb x e.mount && is_none e.state.group) es))) off ∙ above-none n es l rest
-
-  place-zero : (es : List Peer) → position_or_len (nat_eq x) (groupless (nat_eq x) es) ≡ 0
-  place-zero [] = refl
-  place-zero (e ∷ es) = go (eqb x e.mount) refl (is_none e.state.group) (place-zero es)
+  one-alone : (es : List Peer) → rises mount_of es ≡ true → groupless (nat_eq x) es ≡ cond (lacks_group (state_at es x)) (x ∷ []) []
+  one-alone [] up = refl
+  one-alone (e ∷ es) up = go (eqb x e.mount) refl (one-alone es (grind (arith, nat_tests)))
     where
-      go : (a : Bool) → eqb x e.mount ≡ a → (c : Bool) → position_or_len (nat_eq x) (groupless (nat_eq x) es) ≡ 0
-          → position_or_len (nat_eq x) (map mount_of (cond (a && c) (e ∷ filter (λ e. eqb x e.mount && is_none e.state.group) es) (filter (λ e. eqb x e.mount && is_none e.state.group) es))) ≡ 0
-      go true is true ih = rw is refl
-      go true is false ih = ih
-      go false is c ih = ih
+      by : (c : Bool) → x ≡ e.mount → groupless (nat_eq x) es ≡ [] → map mount_of (cond c (e ∷ filter (λ e. eqb x e.mount && is_none e.state.group) es) (filter (λ e. eqb x e.mount && is_none e.state.group) es)) ≡ cond c (x ∷ []) []
+      by true same none = ap₂ (λ (k : ℕ) (t : List ℕ). k ∷ t) (sym same) none
+      by false same none = none
 
-  place-other : (m : ℕ) (es : List Peer) → eqb x m ≡ false → list_any (eqb m) (groupless (nat_eq x) es) ≡ false
-  place-other m [] off = refl
-  place-other m (e ∷ es) off = go (eqb x e.mount) refl (is_none e.state.group) (place-other m es off)
-    where
-      go : (a : Bool) → eqb x e.mount ≡ a → (c : Bool) → list_any (eqb m) (groupless (nat_eq x) es) ≡ false
-          → list_any (eqb m) (map mount_of (cond (a && c) (e ∷ filter (λ e. eqb x e.mount && is_none e.state.group) es) (filter (λ e. eqb x e.mount && is_none e.state.group) es))) ≡ false
-      go true is true ih = let other : eqb m e.mount ≡ false = grind (arith, nat_tests) in ap (λ b. b || list_any (eqb m) (groupless (nat_eq x) es)) other ∙ ih
-      go true is false ih = ih
-      go false is c ih = ih
+      go : (b : Bool) → eqb x e.mount ≡ b → groupless (nat_eq x) es ≡ cond (lacks_group (state_at es x)) (x ∷ []) []
+          → map mount_of (cond (b && is_none e.state.group) (e ∷ filter (λ e. eqb x e.mount && is_none e.state.group) es) (filter (λ e. eqb x e.mount && is_none e.state.group) es))
+          ≡ cond (lacks_group (option_map (λ (e : Peer). e.state) (cond b (Some e) (row_at mount_of x es)))) (x ∷ []) []
+      go true is ih =
+          let above : list_all (λ y. ltb x (mount_of y)) es ≡ true = subst (λ k. list_all (λ y. ltb k (mount_of y)) es ≡ true) (sym (eqb-true x e.mount is)) (grind (arith, nat_tests)) in
+          by (is_none e.state.group) (eqb-true x e.mount is) (ih ∙ ap (λ o. cond (lacks_group (option_map (λ (e : Peer). e.state) o)) (x ∷ []) []) (row_at-below mount_of x es above))
+      go false is ih = ih
+
+  place-zero : (es : List Peer) → rises mount_of es ≡ true → position_or_len (nat_eq x) (groupless (nat_eq x) es) ≡ 0
+  place-zero es up = ap (position_or_len (nat_eq x)) (one-alone es up) ∙ elim (lacks_group (state_at es x)) as (λ c. position_or_len (nat_eq x) (cond c (x ∷ []) []) ≡ 0) [ true ↦ rw (eq-eqb x x refl) refl | false ↦ refl ]
+
+  place-other : (m : ℕ) (es : List Peer) → rises mount_of es ≡ true → eqb x m ≡ false → list_any (eqb m) (groupless (nat_eq x) es) ≡ false
+  place-other m es up off = ap (list_any (eqb m)) (one-alone es up) ∙ elim (lacks_group (state_at es x)) as (λ c. list_any (eqb m) (cond c (x ∷ []) []) ≡ false) [ true ↦ grind (arith, nat_tests) | false ↦ refl ]
 
   count-one : (es : List Peer) (s : State) → rises mount_of es ≡ true → state_at es x ≡ Some s → length (groupless (nat_eq x) es) ≡ cond (is_none s.group) 1 0
-  count-one [] s up at = absurd (cc)
-  count-one (e ∷ es) s up at = go (eqb x e.mount) refl at (λ a. count-one es s (grind (arith, nat_tests)) a)
-    where
-      above : eqb x e.mount ≡ true → groupless (nat_eq x) es ≡ []
-      above is = above-none e.mount es (grind (arith, nat_tests)) (grind (arith, nat_tests))
+  count-one es s up at = ap length (one-alone es up ∙ ap (λ o. cond (lacks_group o) (x ∷ []) []) at) ∙ elim (is_none s.group) as (λ c. length (cond c (x ∷ []) []) ≡ cond c 1 0) [ true ↦ refl | false ↦ refl ]
 
-      go : (a : Bool) → eqb x e.mount ≡ a → option_map (λ (e : Peer). e.state) (cond a (Some e) (row_at mount_of x es)) ≡ Some s
-          → (state_at es x ≡ Some s → length (groupless (nat_eq x) es) ≡ cond (is_none s.group) 1 0)
-          → length (map mount_of (cond (a && is_none e.state.group) (e ∷ filter (λ e. eqb x e.mount && is_none e.state.group) es) (filter (λ e. eqb x e.mount && is_none e.state.group) es))) ≡ cond (is_none s.group) 1 0
-      go true is f ih =
-          let same : e.state ≡ s = some-is e.state s f in
-          by (is_none e.state.group) (above is) ∙ ap (λ (t : State). cond (is_none t.group) 1 0) same
-        where
-          by : (c : Bool) → groupless (nat_eq x) es ≡ []
-              → length (map mount_of (cond c (e ∷ filter (λ e. eqb x e.mount && is_none e.state.group) es) (filter (λ e. eqb x e.mount && is_none e.state.group) es))) ≡ cond c 1 0
-          by true none = ap (λ (t : List ℕ). suc (length t)) none
-          by false none = ap length none
-      go false is f ih = ih f
-
-  count-none : (es : List Peer) → state_at es x ≡ None → groupless (nat_eq x) es ≡ []
-  count-none [] at = refl
-  count-none (e ∷ es) at = go (eqb x e.mount) at (count-none es)
-    where
-      go : (a : Bool) → option_map (λ (e : Peer). e.state) (cond a (Some e) (row_at mount_of x es)) ≡ None → (state_at es x ≡ None → groupless (nat_eq x) es ≡ [])
-          → map mount_of (cond (a && is_none e.state.group) (e ∷ filter (λ e. eqb x e.mount && is_none e.state.group) es) (filter (λ e. eqb x e.mount && is_none e.state.group) es)) ≡ []
-      go true f ih = absurd (cc)
-      go false f ih = ih f
-
-abbrev pub peering : List Peer → ℕ → Peering
-peering es n = record { peers = es; next = n }
-
--- what is made of one mount
-module _ (k : Kind) (x : ℕ) (p : Peering) (up : rises mount_of p.peers ≡ true) where
-  pub made-absent : state_at p.peers x ≡ None → p ≡ unsettled k (nat_eq x) p
-  made-absent none =
-      ap (λ (es : List Peer). peering es p.next) (sym (map-same (changed_peer k (nat_eq x) p) p.peers same))
-      ∙ ap (peering (map (changed_peer k (nat_eq x) p) p.peers)) (count (is_shared k) ∙ ap (λ (xs : List ℕ). cond (is_shared k) (p.next + length xs) p.next) (sym (count-none x p.peers none)))
+-- where no mount of the list is chosen, nothing changes
+module _ (k : Kind) (chosen : ℕ → Bool) (p : Peering) (nobody : (e : Peer) → In e p.peers → chosen e.mount ≡ false) where
+  unsettled-none : p ≡ unsettled k chosen p
+  unsettled-none =
+      ap (λ (es : List Peer). peering es p.next) (sym (map-same (changed_peer k chosen p) p.peers (λ e at. ap (λ b. record { mount = e.mount; state = cond b (changed k (new_group chosen p e.mount) e.state) e.state }) (nobody e at))))
+      ∙ ap (peering (map (changed_peer k chosen p) p.peers)) (count (is_shared k) ∙ ap (λ (xs : List ℕ). cond (is_shared k) (p.next + length xs) p.next) (sym (none p.peers nobody)))
     where
       count : (b : Bool) → p.next ≡ cond b (p.next + 0) p.next
       count true = omega arith
       count false = refl
 
-      same : (e : Peer) → In e p.peers → changed_peer k (nat_eq x) p e ≡ e
-      same e at = ap (λ b. record { mount = e.mount; state = cond b (changed k (new_group (nat_eq x) p e.mount) e.state) e.state }) (off (eqb x e.mount) refl)
-        where
-          off : (b : Bool) → eqb x e.mount ≡ b → eqb x e.mount ≡ false
-          off true is = absurd (let there = state-in p.peers e up at in let here = ap (state_at p.peers) (eqb-true x e.mount is) in let c : Some e.state ≡ None = sym there ∙ sym here ∙ none in cc)
-          off false is = is
+      none : (es : List Peer) → ((e : Peer) → In e es → chosen e.mount ≡ false) → groupless chosen es ≡ []
+      none [] off = refl
+      none (e ∷ es) off = ap (λ b. map mount_of (cond (b && is_none e.state.group) (e ∷ filter (λ e. chosen e.mount && is_none e.state.group) es) (filter (λ e. chosen e.mount && is_none e.state.group) es))) (off e (inl refl)) ∙ none es (λ y at. off y (inr at))
+
+-- what is made of one mount
+module _ (k : Kind) (x : ℕ) (p : Peering) (up : rises mount_of p.peers ≡ true) where
+  pub made-absent : state_at p.peers x ≡ None → p ≡ unsettled k (nat_eq x) p
+  made-absent none = unsettled-none k (nat_eq x) p (λ e at. off e at (eqb x e.mount) refl)
+    where
+      off : (e : Peer) → In e p.peers → (b : Bool) → eqb x e.mount ≡ b → eqb x e.mount ≡ false
+      off e at true is = absurd (let there = state-in p.peers e up at in let here = ap (state_at p.peers) (eqb-true x e.mount is) in let c : Some e.state ≡ None = sym there ∙ sym here ∙ none in cc)
+      off e at false is = is
 
   pub made-one : (s : State) → state_at p.peers x ≡ Some s
       → peering (with_state x (changed k p.next s) p.peers) (cond (is_shared k && (true && is_none s.group)) (p.next + 1) p.next) ≡ unsettled k (nat_eq x) p
@@ -145,7 +114,7 @@ module _ (k : Kind) (x : ℕ) (p : Peering) (up : rises mount_of p.peers ≡ tru
       count false b = refl
 
       number : (m : ℕ) → eqb x m ≡ true → p.next ≡ new_group (nat_eq x) p m
-      number m is = let zero_at = place-zero x p.peers in subst (λ j. p.next ≡ p.next + position_or_len (nat_eq j) (groupless (nat_eq x) p.peers)) (eqb-true x m is) (omega (arith, zero_at))
+      number m is = let zero_at = place-zero x p.peers up in subst (λ j. p.next ≡ p.next + position_or_len (nat_eq j) (groupless (nat_eq x) p.peers)) (eqb-true x m is) (omega (arith, zero_at))
 
       same : (e : Peer) → In e p.peers → ◌≡◌ {A = Peer} (record { mount = e.mount; state = cond (eqb x e.mount) (changed k p.next s) e.state }) (changed_peer k (nat_eq x) p e)
       same e at = ap (λ (t : State). record { mount = e.mount; state = t }) (go (eqb x e.mount) refl)
@@ -208,7 +177,11 @@ module _ (k : Kind) (x : ℕ) (rest : List ℕ) (low : (i : ℕ) → among rest 
       refl
       (λ is. ap (λ b. is_none (cond b (changed k (n e.mount) e.state) e.state).group) is ∙ gets-group k (n e.mount) e.state sh)
       (λ is. ap (λ b. is_none (cond b (changed k (n e.mount) e.state) e.state).group) is)
-      (λ off at. let l = low e.mount at in above-none x e.mount es l (grind (arith, nat_tests)))
+      (λ off at.
+      let l = low e.mount at in
+      let less : x < e.mount = grind (arith, nat_tests) in
+      one-alone x es (grind (arith, nat_tests))
+      ∙ ap (λ o. cond (lacks_group (option_map (λ (e : Peer). e.state) o)) (x ∷ []) []) (row_at-below mount_of x es (all-lower mount_of x e.mount es less (grind (arith, nat_tests)))))
       (split n es (grind (arith, nat_tests)) sh)
 
   module _ (p : Peering) (up : rises mount_of p.peers ≡ true) where
@@ -235,7 +208,7 @@ module _ (k : Kind) (x : ℕ) (rest : List ℕ) (low : (i : ℕ) → among rest 
     number-later : (m : ℕ) → eqb x m ≡ false → is_shared k ≡ true → new_group (among rest) (unsettled k (nat_eq x) p) m ≡ new_group (among (x ∷ rest)) p m
     number-later m off sh =
         let count : (unsettled k (nat_eq x) p).next ≡ p.next + length front = ap (λ b. cond b (p.next + length front) p.next) sh in
-        let behind = place-back m front back (place-other x m p.peers off) in
+        let behind = place-back m front back (place-other x m p.peers up off) in
         ap (λ n. n + position_or_len (nat_eq m) back) count
         ∙ (omega (arith, behind))
         ∙ ap (λ (xs : List ℕ). p.next + position_or_len (nat_eq m) xs) (sym (parts sh))
@@ -254,7 +227,7 @@ module _ (k : Kind) (x : ℕ) (rest : List ℕ) (low : (i : ℕ) → among rest 
     pub step : unsettled k (among rest) (unsettled k (nat_eq x) p) ≡ unsettled k (among (x ∷ rest)) p
     step =
         ap (λ (es : List Peer). peering es (unsettled k (among rest) (unsettled k (nat_eq x) p)).next)
-        (map-twice (changed_peer k (among rest) (unsettled k (nat_eq x) p)) (changed_peer k (nat_eq x) p) p.peers ∙ map-alike (λ e. changed_peer k (among rest) (unsettled k (nat_eq x) p) (changed_peer k (nat_eq x) p e)) (changed_peer k (among (x ∷ rest)) p) p.peers step-peer)
+        (mapped (changed_peer k (among rest) (unsettled k (nat_eq x) p)) (changed_peer k (nat_eq x) p) p.peers ∙ map-alike (λ e. changed_peer k (among rest) (unsettled k (nat_eq x) p) (changed_peer k (nat_eq x) p e)) (changed_peer k (among (x ∷ rest)) p) p.peers step-peer)
         ∙ ap (peering (map (changed_peer k (among (x ∷ rest)) p) p.peers)) (count (is_shared k) refl)
       where
         count : (b : Bool) → is_shared k ≡ b
@@ -284,20 +257,7 @@ each-step k ids i d p q all sorted l up one told =
     ∙ told
 
 pub each-end : (k : Kind) (ids : List ℕ) (i : ℕ) (p : Peering) → length ids ≤ i → p ≡ unsettled k (among (drop i ids)) p
-each-end k ids i p l = none ∙ ap (λ (t : List ℕ). unsettled k (among t) p) (sym (drop_all i ids l))
-  where
-    nobody : (es : List Peer) → groupless (among []) es ≡ []
-    nobody [] = refl
-    nobody (e ∷ es) = nobody es
-
-    count : (b : Bool) → p.next ≡ cond b (p.next + 0) p.next
-    count true = omega arith
-    count false = refl
-
-    none : p ≡ unsettled k (among []) p
-    none =
-        ap (λ (es : List Peer). peering es p.next) (sym (map-same (changed_peer k (among []) p) p.peers (λ e at. refl)))
-        ∙ ap (peering (map (changed_peer k (among []) p) p.peers)) (count (is_shared k) ∙ ap (λ (xs : List ℕ). cond (is_shared k) (p.next + length xs) p.next) (sym (nobody p.peers)))
+each-end k ids i p l = unsettled-none k (among []) p (λ e at. refl) ∙ ap (λ (t : List ℕ). unsettled k (among t) p) (sym (drop_all i ids l))
 
 pub each-rises : (k : Kind) (chosen : ℕ → Bool) (p q : Peering) → q ≡ unsettled k chosen p → rises mount_of p.peers ≡ true → rises mount_of q.peers ≡ true
 each-rises k chosen p q e up = ap (λ (r : Peering). rises mount_of r.peers) e ∙ rises-map mount_of (changed_peer k chosen p) (λ e. refl) p.peers ∙ up

@@ -1,48 +1,48 @@
 -- Each group is entered at its first member, and so once.
-use Rattle.std.proofs.Common.{◌≡◌, ℕ, suc, Bool, true, false, cond, not, ◌&&◌, ◌==◌, eqb-true, ltb, List, [], ◌∷◌, map, Option, Some, None, refl, ap, ◌∙◌, arith}
-use Rattle.std.specs.List.{list_all, filter, find}
-use Rattle.std.specs.Option.{option_map_or, option_and_then}
+use Rattle.std.proofs.Common.{◌≡◌, ℕ, suc, Bool, true, false, cond, not, ◌&&◌, ◌==◌, eqb-true, List, [], ◌∷◌, map, Option, Some, None, refl, sym, ap, ◌∙◌, inl, inr, arith}
+use Rattle.std.specs.List.{filter, find}
+use Rattle.std.specs.Option.{option_map, option_map_or, option_and_then}
+use Rattle.std.proofs.Math.Bool.{and_comm, and-false, and-true}
 use Rattle.std.proofs.lemmas.Bool.Decides.{nat_tests}
-use Rattle.mt_skel.specs.Keyed.{rises}
+use Rattle.mt_skel.specs.Keyed.{row_at, rises}
+use Rattle.mt_skel.proofs.ElementLaws.{In}
 use Rattle.mt_peers.specs.Peers.{Peer, mount_of, in_group, has_master, names}
 use Rattle.mt_peers.specs.Masters.{master_of}
-use Rattle.mt_lists.specs.Lists.{first}
 use Rattle.mt_peers.specs.Members.{is_first}
 use Rattle.mt_peers.specs.Entered.{entered, entered_by}
 use Rattle.mt_skel.specs.Counted.{count, occ}
-use Rattle.mt_skel.proofs.CountLaws.{count-same, count-filter, occ-filter_map}
+use Rattle.mt_skel.proofs.CountLaws.{count-same, count-filter, count-row, occ-filter_map}
+use Rattle.mt_peers.proofs.MemberLaws.{find_row}
+use Rattle.mt_peers.proofs.ListedLaws.{first-found}
 
--- no mount of greater ID is this one
-none-above : (q : ℕ) (s t : Peer → Bool) (es : List Peer) → list_all (λ y. ltb q (mount_of y)) es ≡ true → count (λ e. (s e && (q == e.mount)) && t e) es ≡ 0
-none-above q s t [] up = refl
-none-above q s t (x ∷ es) up =
-    let ih = none-above q s t es (grind (arith, nat_tests)) in
-    let apart : (q == x.mount) ≡ false = grind (arith, nat_tests) in
-    go (s x) (q == x.mount) (t x) apart _ ih
+-- where none passes, none counts
+pub count-zero : (t : Peer → Bool) (es : List Peer) → ((e : Peer) → In e es → t e ≡ false) → count t es ≡ 0
+count-zero t [] off = refl
+count-zero t (x ∷ es) off = ap (λ b. cond b (suc (count t es)) (count t es)) (off x (inl refl)) ∙ count-zero t es (λ e at. off e (inr at))
+
+-- of a mount's rows, the one that is read passes or none
+pub one-row : (p : ℕ) (s : Peer → Bool) (es : List Peer) → rises mount_of es ≡ true → count (λ e. s e && (p == e.mount)) es ≡ option_map_or (λ x. cond (s x) 1 0) (row_at mount_of p es) 0
+one-row p s es up = count-same (λ e. s e && (p == e.mount)) (λ e. (e.mount == p) && s e) (λ e. turned (s e) e.mount) es ∙ count-row mount_of s p es up
   where
-    go : (a b c : Bool) → b ≡ false → (n : ℕ) → n ≡ 0 → cond ((a && b) && c) (suc n) n ≡ 0
-    go true b c e n z = rw e z
-    go false b c e n z = z
+    turned : (b : Bool) (k : ℕ) → (b && (p == k)) ≡ ((k == p) && b)
+    turned b k = let same : (p == k) ≡ (k == p) = grind (arith, nat_tests) in ap (λ c. b && c) same ∙ and_comm b (k == p)
 
 first-count : (h : ℕ) (t : Peer → Bool) (es : List Peer) → rises mount_of es ≡ true
     → count (λ e. (in_group h e && is_first es h e.mount) && t e) es ≡ option_map_or (λ x. cond (t x) 1 0) (find (in_group h) es) 0
-first-count h t [] up = refl
-first-count h t (x ∷ es) up =
-    go (in_group h x) refl (first-count h t es (grind (arith, nat_tests))) (none-above x.mount (in_group h) t es (grind (arith, nat_tests))) (grind (arith, nat_tests))
+first-count h t es up = ap (λ o. count (λ e. (in_group h e && names o e.mount) && t e) es) (first-found es h) ∙ go (find (in_group h) es) refl
   where
-    go : (b : Bool) → in_group h x ≡ b
-        → count (λ e. (in_group h e && is_first es h e.mount) && t e) es ≡ option_map_or (λ x. cond (t x) 1 0) (find (in_group h) es) 0
-        → count (λ (e : Peer). (in_group h e && (x.mount == e.mount)) && t e) es ≡ 0
-        → (x.mount == x.mount) ≡ true
-        → count (λ (e : Peer). (in_group h e && names (first (map mount_of (cond b (x ∷ filter (in_group h) es) (filter (in_group h) es)))) e.mount) && t e) (x ∷ es)
-        ≡ option_map_or (λ x. cond (t x) 1 0) (cond b (Some x) (find (in_group h) es)) 0
-    go true is ih none same =
-        ap (λ a. cond ((a && (x.mount == x.mount)) && t x) (suc (count (λ (e : Peer). (in_group h e && (x.mount == e.mount)) && t e) es)) (count (λ (e : Peer). (in_group h e && (x.mount == e.mount)) && t e) es)) is
-        ∙ ap (λ a. cond (a && t x) (suc (count (λ (e : Peer). (in_group h e && (x.mount == e.mount)) && t e) es)) (count (λ (e : Peer). (in_group h e && (x.mount == e.mount)) && t e) es)) same
-        ∙ ap (λ n. cond (t x) (suc n) n) none
-    go false is ih none same =
-        ap (λ a. cond ((a && is_first es h x.mount) && t x) (suc (count (λ (e : Peer). (in_group h e && is_first es h e.mount) && t e) es)) (count (λ (e : Peer). (in_group h e && is_first es h e.mount) && t e) es)) is
-        ∙ ih
+    order : (a b c : Bool) → ((a && b) && c) ≡ ((a && c) && b)
+    order true b c = and_comm b c
+    order false b c = refl
+
+    go : (o : Option Peer) → find (in_group h) es ≡ o → count (λ e. (in_group h e && names (option_map mount_of o) e.mount) && t e) es ≡ option_map_or (λ x. cond (t x) 1 0) o 0
+    go None is = count-zero (λ e. (in_group h e && false) && t e) es (λ e at. ap (λ b. b && t e) (and-false (in_group h e)))
+    go (Some x) is =
+        let f = find_row h es x up is in
+        count-same (λ e. (in_group h e && (x.mount == e.mount)) && t e) (λ e. (in_group h e && t e) && (x.mount == e.mount)) (λ e. order (in_group h e) (x.mount == e.mount) (t e)) es
+        ∙ one-row x.mount (λ e. in_group h e && t e) es up
+        ∙ ap (λ o. option_map_or (λ y. cond (in_group h y && t y) 1 0) o 0) f.0
+        ∙ ap (λ b. cond (b && t x) 1 0) f.1
 
 -- a group is entered at the slaves of its master, once, and at no others
 pub entered-once : (es : List Peer) (g m h : ℕ) → rises mount_of es ≡ true → occ h (entered_by es g m) ≡ cond (not (h == g) && names (master_of es h) m) 1 0
@@ -53,20 +53,9 @@ entered-once es g m h up =
     ∙ first-count h (λ (e : Peer). not (h == g) && has_master m e) es up
     ∙ by (not (h == g)) (find (in_group h) es)
   where
-    is : (a b c : Bool) → ((a && b) && true) ≡ (a && b)
-    is true true c = refl
-    is true false c = refl
-    is false b c = refl
-
-    order : (a b c : Bool) → (a && (b && c)) ≡ ((true && c) && (b && a))
-    order true true true = refl
-    order true true false = refl
-    order true false true = refl
-    order true false false = refl
-    order false true true = refl
-    order false true false = refl
-    order false false true = refl
-    order false false false = refl
+    order : (a b c : Bool) → (a && (b && c)) ≡ (c && (b && a))
+    order true b c = and_comm b c ∙ ap (λ x. c && x) (sym (and-true b))
+    order false b c = sym (ap (λ x. c && x) (and-false b) ∙ and-false c)
 
     here : (a b : Bool) (k : ℕ) → (k == h) ≡ true → (a && names (cond b (Some k) None) h) ≡ (a && b)
     here a true k e = ap (λ c. a && c) e

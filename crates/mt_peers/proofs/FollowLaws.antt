@@ -1,11 +1,11 @@
 -- States and lists on their way to others.
-use Rattle.std.proofs.Common.{◌≡◌, ℕ, true, cond, not, eqb, eq-eqb, List, [], ◌∷◌, Option, Some, None, refl, sym, ap, subst, ◌∙◌}
+use Rattle.std.proofs.Common.{◌≡◌, ℕ, true, cond, not, eq-eqb, List, [], ◌∷◌, Option, Some, None, refl, sym, ap, subst, ◌∙◌}
 use Rattle.std.specs.Prelude.{is_some, nat_eq}
 use Rattle.std.specs.List.{filter}
 use Rattle.std.specs.Option.{option_map, option_and_then}
 use Rattle.std.proofs.lemmas.Bool.{ne_eqb, true≢false}
 use Rattle.mt_skel.specs.Keyed.{row_at, put, rises}
-use Rattle.mt_skel.proofs.KeyedLaws.{row_at-key, row_at-put, row_at-map, row_at-filter, passing, rises-filter, same_rows}
+use Rattle.mt_skel.proofs.KeyedLaws.{row_at-key, row_at-put, same_rows}
 use Rattle.mt_lists.specs.Lists.{ListRow, listed_id, listed_number, with_number}
 use Rattle.mt_lists.specs.Log.{AreAlikeBut}
 use Rattle.mt_lists.proofs.LogLaws.{not-only}
@@ -15,27 +15,24 @@ use Rattle.mt_peers.specs.declared.state.State.{State}
 use Rattle.mt_peers.specs.Peers.{Peer, mount_of, state_at, with_state}
 use Rattle.mt_peers.specs.Members.{group_at, master_at}
 use Rattle.mt_peers.specs.Listed.{peer_group, leader_of, IsListed}
+use Rattle.mt_peers.proofs.MemberLaws.{state_at-without}
+use Rattle.mt_peers.proofs.GivenLaws.{state_at-given}
 use Rattle.mt_peers.proofs.ListedLaws.{group-listed, master-listed}
 
--- the states that are found make the list
-row_of_state : (es : List Peer) (i : ℕ) (x : Option Peer) → row_at mount_of i es ≡ x → x ≡ option_map (λ (s : State). record { mount = i; state = s }) (option_map (λ (e : Peer). e.state) x)
-row_of_state es i None e = refl
-row_of_state es i (Some x) e = let k : x.mount ≡ i = row_at-key mount_of i es x e in λ j. Some (record { mount = k j; state = x.state })
+-- rows of a key and a value are what is found of them
+module _ {X V : Type 0} (key : X → ℕ) (value : X → V) (row : ℕ → V → X) (whole : (x : X) → x ≡ row (key x) (value x)) where
+  row_of : (xs : List X) (i : ℕ) (o : Option X) → row_at key i xs ≡ o → o ≡ option_map (row i) (option_map value o)
+  row_of xs i None e = refl
+  row_of xs i (Some x) e = ap (λ y. Some y) (whole x) ∙ ap (λ k. Some (row k (value x))) (row_at-key key i xs x e)
+
+  same_values : (xs ys : List X) → rises key xs ≡ true → rises key ys ≡ true → ((i : ℕ) → option_map value (row_at key i xs) ≡ option_map value (row_at key i ys)) → xs ≡ ys
+  same_values xs ys r s e = same_rows key xs ys r s (λ i. row_of xs i (row_at key i xs) refl ∙ ap (option_map (row i)) (e i) ∙ sym (row_of ys i (row_at key i ys) refl))
 
 pub same_states : (es fs : List Peer) → rises mount_of es ≡ true → rises mount_of fs ≡ true → ((i : ℕ) → state_at es i ≡ state_at fs i) → es ≡ fs
-same_states es fs r s e =
-    same_rows mount_of es fs r s (λ i.
-    row_of_state es i (row_at mount_of i es) refl ∙ ap (option_map (λ (t : State). record { mount = i; state = t })) (e i) ∙ sym (row_of_state fs i (row_at mount_of i fs) refl))
-
--- and the numbers that are found the rows
-row_of_number : (rows : List ListRow) (i : ℕ) (x : Option ListRow) → row_at listed_id i rows ≡ x → x ≡ option_map (λ n. record { id = i; number = n }) (option_map (λ (r : ListRow). r.number) x)
-row_of_number rows i None e = refl
-row_of_number rows i (Some x) e = let k : x.id ≡ i = row_at-key listed_id i rows x e in λ j. Some (record { id = k j; number = x.number })
+same_states es fs r s e = same_values mount_of (λ (e : Peer). e.state) (λ i s. record { mount = i; state = s }) (λ e. refl) es fs r s e
 
 same_numbers : (rows others : List ListRow) → rises listed_id rows ≡ true → rises listed_id others ≡ true → ((i : ℕ) → listed_number rows i ≡ listed_number others i) → rows ≡ others
-same_numbers rows others r s e =
-    same_rows listed_id rows others r s (λ i.
-    row_of_number rows i (row_at listed_id i rows) refl ∙ ap (option_map (λ n. record { id = i; number = n })) (e i) ∙ sym (row_of_number others i (row_at listed_id i others) refl))
+same_numbers rows others r s e = same_values listed_id (λ (r : ListRow). r.number) (λ i n. record { id = i; number = n }) (λ r. refl) rows others r s e
 
 -- lists that answer as those of the states do are those
 pub listed_as : (es fs : List Peer) (old_members old_slaves members slaves : List ListRow) → IsListed es old_members old_slaves → fs ≡ es
@@ -76,36 +73,19 @@ put_state es i s =
     ap (option_map (λ (e : Peer). e.state)) (row_at-put mount_of i x es ∙ ap (λ b. cond b (Some x) (row_at mount_of i es)) (eq-eqb i i refl))
 
 pub given_state : (es : List Peer) (i : ℕ) (s : State) → is_some (state_at es i) ≡ true → state_at (with_state i s es) i ≡ Some s
-given_state es i s there = ap (option_map (λ (e : Peer). e.state)) (row_at-map mount_of (λ (e : Peer). record e { state = cond (eqb i e.mount) s e.state }) (λ e. refl) i es) ∙ go (row_at mount_of i es) refl there
+given_state es i s there = state_at-given i s i es ∙ ap (λ b. option_map (λ t. cond b s t) (state_at es i)) (eq-eqb i i refl) ∙ go (state_at es i) there
   where
-    go : (o : Option Peer) → row_at mount_of i es ≡ o → is_some (option_map (λ (e : Peer). e.state) o) ≡ true → option_map (λ (e : Peer). e.state) (option_map (λ (e : Peer). record e { state = cond (eqb i e.mount) s e.state }) o) ≡ Some s
-    go None e f = absurd (true≢false (sym f))
-    go (Some x) e f = ap (λ b. Some (cond b s x.state)) (eq-eqb i x.mount (sym (row_at-key mount_of i es x e)))
+    go : (o : Option State) → is_some o ≡ true → option_map (λ (t : State). s) o ≡ Some s
+    go None f = absurd (true≢false (sym f))
+    go (Some t) f = refl
 
 -- one mount is taken out
 module _ (es : List Peer) (k : ℕ) (r : rises mount_of es ≡ true) where
-  abbrev rest : List Peer
-  rest = filter (λ (e : Peer). not (nat_eq k e.mount)) es
+  pub dropped_here : state_at (filter (λ (e : Peer). not (nat_eq k e.mount)) es) k ≡ None
+  dropped_here = state_at-without (nat_eq k) k es r ∙ ap (λ b. cond b None (state_at es k)) (eq-eqb k k refl)
 
-  found : (i : ℕ) → state_at rest i ≡ option_map (λ (e : Peer). e.state) (passing (λ (e : Peer). not (nat_eq k e.mount)) (row_at mount_of i es))
-  found i = ap (option_map (λ (e : Peer). e.state)) (row_at-filter mount_of (λ (e : Peer). not (nat_eq k e.mount)) i es r)
-
-  pub dropped_here : state_at rest k ≡ None
-  dropped_here = found k ∙ go (row_at mount_of k es) refl
-    where
-      go : (o : Option Peer) → row_at mount_of k es ≡ o → option_map (λ (e : Peer). e.state) (passing (λ (e : Peer). not (nat_eq k e.mount)) o) ≡ None
-      go None e = refl
-      go (Some x) e = ap (λ b. option_map (λ (y : Peer). y.state) (cond (not b) (Some x) None)) (eq-eqb k x.mount (sym (row_at-key mount_of k es x e)))
-
-  pub dropped_others : AreAlikeBut (k ∷ []) (state_at es) (state_at rest)
-  dropped_others i n = sym (found i ∙ go (row_at mount_of i es) refl)
-    where
-      go : (o : Option Peer) → row_at mount_of i es ≡ o → option_map (λ (e : Peer). e.state) (passing (λ (e : Peer). not (nat_eq k e.mount)) o) ≡ option_map (λ (e : Peer). e.state) o
-      go None e = refl
-      go (Some x) e = ap (λ b. option_map (λ (y : Peer). y.state) (cond (not b) (Some x) None)) (ne_eqb k x.mount (λ h. not-only k i n (sym (h ∙ row_at-key mount_of i es x e))))
-
-  pub dropped_rises : rises mount_of rest ≡ true
-  dropped_rises = rises-filter mount_of (λ (e : Peer). not (nat_eq k e.mount)) es r
+  pub dropped_others : AreAlikeBut (k ∷ []) (state_at es) (state_at (filter (λ (e : Peer). not (nat_eq k e.mount)) es))
+  dropped_others i n = sym (state_at-without (nat_eq k) i es r ∙ ap (λ b. cond b None (state_at es i)) (ne_eqb k i (λ h. not-only k i n (sym h))))
 
 -- the same of equal lists
 pub alike_is : (es fs os ps : List Peer) (ids : List ℕ) → es ≡ fs → os ≡ ps → AreAlikeBut ids (state_at fs) (state_at ps) → AreAlikeBut ids (state_at es) (state_at os)

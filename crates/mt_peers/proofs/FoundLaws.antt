@@ -1,5 +1,5 @@
 -- Entries that are found by halving their list: the place of a new one, one that gets another state, one that is taken out.
-use Rattle.std.proofs.Common.{◌≡◌, ℕ, zero, suc, ◌+◌, ◌-◌, ◌<◌, ◌≤◌, Bool, true, false, cond, not, eqb, leb, List, [], ◌∷◌, ◌++◌, map, take, drop, length, get_or, set, slice_get, Some, None, refl, sym, ap, ◌∙◌, arith}
+use Rattle.std.proofs.Common.{◌≡◌, ℕ, zero, suc, ◌+◌, ◌-◌, ◌<◌, ◌≤◌, Bool, true, false, cond, not, eqb, eq-eqb, leb, List, [], ◌∷◌, ◌++◌, map, take, drop, length, get_or, set, slice_get, Some, None, refl, sym, ap, ◌∙◌, arith}
 use Rattle.std.specs.Prelude.{nat_lt, nat_eq}
 use Rattle.std.specs.List.{filter, list_all, position_or_len, HoldsAt}
 use Rattle.std.specs.List.Sorted.{IsNonDecreasingBy, IsPartitionPoint}
@@ -9,13 +9,16 @@ use Rattle.std.proofs.lemmas.Bool.Decides.{nat_tests}
 use Rattle.std.proofs.lemmas.Cmp.{ranked}
 use Rattle.std.proofs.lemmas.List.Sums.{position_or_len_is}
 use Rattle.std.proofs.lemmas.Option.{slice_get-get_or}
+use Rattle.std.proofs.Math.Seq.{set_split}
 use Rattle.mt_skel.specs.Keyed.{rises, row_at}
+use Rattle.mt_skel.proofs.KeyedLaws.{row_at-below}
 use Rattle.mt_peers.specs.declared.state.State.{State}
 use Rattle.mt_peers.specs.declared.entries.Entry.{Entry}
 use Rattle.mt_peers.specs.Entries.{now_peers, given_entry}
 use Rattle.mt_peers.proofs.EntryLaws.{entry_mount}
 
-above_at : (k : ℕ) (es : List Entry) (j : ℕ) (d : Entry) → list_all (λ e. nat_lt k (entry_mount e)) es ≡ true → j < length es → k < (get_or es j d).mount
+-- those behind one are above it
+pub above_at : (k : ℕ) (es : List Entry) (j : ℕ) (d : Entry) → list_all (λ e. nat_lt k (entry_mount e)) es ≡ true → j < length es → k < (get_or es j d).mount
 above_at k [] j d all l = absurd (omega (arith, l))
 above_at k (x ∷ xs) zero d all l = grind (arith, nat_tests)
 above_at k (x ∷ xs) (suc j) d all l = above_at k xs j d (grind (arith, nat_tests)) (omega (arith, l))
@@ -51,76 +54,60 @@ place_parted id es at bound parted = sym (position_or_len_is (λ (e : Entry). na
     (λ k l. let low = parted.0 k nothing (omega arith) l in grind (arith, nat_tests))
     (λ l. let high = parted.1 at nothing (omega arith) l in grind (arith, nat_tests)))
 
-given_above : (id : ℕ) (s : State) (es : List Entry) → list_all (λ e. nat_lt id (entry_mount e)) es ≡ true → es ≡ map (given_entry id s) es
-given_above id s [] all = refl
-given_above id s (x ∷ xs) all =
-    let other : eqb id x.mount ≡ false = grind (arith, nat_tests) in
-    ap (λ t. x ∷ t) (given_above id s xs (grind (arith, nat_tests))) ∙ ap (λ b. record { mount = x.mount; state = cond b s x.state; was = x.was } ∷ map (given_entry id s) xs) (sym other)
+-- an edit of the entry of one mount, which is there or is not
+module _ (id : ℕ) (edited : List Entry → List Entry) (there : Entry → List Entry → List Entry) (none : edited [] ≡ [])
+    (some : (x : Entry) (xs : List Entry) (b : Bool) → nat_eq id x.mount ≡ b → cond b (there x (edited xs)) (x ∷ edited xs) ≡ edited (x ∷ xs)) where
+  edited_none : (es : List Entry) → row_at entry_mount id es ≡ None → es ≡ edited es
+  edited_none [] absent = sym none
+  edited_none (x ∷ xs) absent = go (nat_eq id x.mount) refl absent (edited_none xs)
+    where
+      go : (b : Bool) → nat_eq id x.mount ≡ b → cond b (Some x) (row_at entry_mount id xs) ≡ None → (row_at entry_mount id xs ≡ None → xs ≡ edited xs) → x ∷ xs ≡ edited (x ∷ xs)
+      go true is f ih = absurd (cc)
+      go false is f ih = ap (λ t. x ∷ t) (ih f) ∙ some x xs false is
 
--- an entry at a place gets another state
-module _ (id : ℕ) (s : State) where
-  abbrev written : List Entry → ℕ → Entry → Entry
-  written es i d = record { mount = (get_or es i d).mount; state = s; was = (get_or es i d).was }
-
-  given_at : (es : List Entry) (i : ℕ) (d : Entry) → rises entry_mount es ≡ true → i < length es → (get_or es i d).mount ≡ id → set es i (written es i d) ≡ map (given_entry id s) es
-  given_at [] i d up l same = absurd (omega (arith, l))
-  given_at (x ∷ xs) zero d up l same =
-      let here : eqb id x.mount ≡ true = grind (arith, nat_tests) in
-      let all : list_all (λ e. nat_lt id (entry_mount e)) xs ≡ true = ap (λ k. list_all (λ e. nat_lt k (entry_mount e)) xs) (sym same) ∙ grind (arith, nat_tests) in
-      ap (λ t. record { mount = x.mount; state = s; was = x.was } ∷ t) (given_above id s xs all)
-      ∙ ap (λ b. record { mount = x.mount; state = cond b s x.state; was = x.was } ∷ map (given_entry id s) xs) (sym here)
-  given_at (x ∷ xs) (suc i) d up l same =
+  edited_at : (es : List Entry) (i : ℕ) (d : Entry) → rises entry_mount es ≡ true → i < length es → (get_or es i d).mount ≡ id → take i es ++ there (get_or es i d) (drop (suc i) es) ≡ edited es
+  edited_at [] i d up l same = absurd (omega arith)
+  edited_at (x ∷ xs) zero d up l same =
+      let above : list_all (λ e. nat_lt id (entry_mount e)) xs ≡ true = ap (λ k. list_all (λ e. nat_lt k (entry_mount e)) xs) (sym same) ∙ grind (arith, nat_tests) in
+      ap (there x) (edited_none xs (row_at-below entry_mount id xs above)) ∙ some x xs true (eq-eqb id x.mount (sym same))
+  edited_at (x ∷ xs) (suc i) d up l same =
       let high = above_at x.mount xs i d (grind (arith, nat_tests)) (omega (arith, l)) in
       let other : eqb id x.mount ≡ false = grind (arith, nat_tests) in
-      ap (λ t. x ∷ t) (given_at xs i d (grind (arith, nat_tests)) (omega (arith, l)) same)
-      ∙ ap (λ b. record { mount = x.mount; state = cond b s x.state; was = x.was } ∷ map (given_entry id s) xs) (sym other)
+      ap (λ t. x ∷ t) (edited_at xs i d (grind (arith, nat_tests)) (omega (arith, l)) same) ∙ some x xs false other
 
-  pub give_found : (es : List Entry) (i : ℕ) (d : Entry) → rises entry_mount es ≡ true → i < length es → HoldsAt (λ e. nat_cmp (entry_mount e) id ≡ Equal) es i → set es i (written es i d) ≡ map (given_entry id s) es
-  give_found es i d up l at = given_at es i d up l (ranked _ id _ (sym (at d)))
+-- an entry gets another state
+module _ (id : ℕ) (s : State) where
+  -- an entry with that state
+  abbrev written : Entry → Entry
+  written e = record { mount = e.mount; state = s; was = e.was }
+
+  given_some : (x : Entry) (xs : List Entry) (b : Bool) → nat_eq id x.mount ≡ b → cond b (written x ∷ map (given_entry id s) xs) (x ∷ map (given_entry id s) xs) ≡ map (given_entry id s) (x ∷ xs)
+  given_some x xs true is = ap (λ b. record { mount = x.mount; state = cond b s x.state; was = x.was } ∷ map (given_entry id s) xs) (sym is)
+  given_some x xs false is = ap (λ b. record { mount = x.mount; state = cond b s x.state; was = x.was } ∷ map (given_entry id s) xs) (sym is)
+
+  pub give_found : (es : List Entry) (i : ℕ) (d : Entry) → rises entry_mount es ≡ true → i < length es → HoldsAt (λ e. nat_cmp (entry_mount e) id ≡ Equal) es i → set es i (written (get_or es i d)) ≡ map (given_entry id s) es
+  give_found es i d up l at = set_split es i (written (get_or es i d)) l ∙ edited_at id (map (given_entry id s)) (λ x t. written x ∷ t) refl given_some es i d up l (ranked _ id _ (sym (at d)))
 
   pub give_none : (es : List Entry) → row_at entry_mount id es ≡ None → es ≡ map (given_entry id s) es
-  give_none [] none = refl
-  give_none (x ∷ xs) none = go (eqb id x.mount) none (give_none xs)
-    where
-      go : (b : Bool) → cond b (Some x) (row_at entry_mount id xs) ≡ None → (row_at entry_mount id xs ≡ None → xs ≡ map (given_entry id s) xs)
-          → ◌≡◌ {A = List Entry} (x ∷ xs) (record { mount = x.mount; state = cond b s x.state; was = x.was } ∷ map (given_entry id s) xs)
-      go true f ih = absurd (cc)
-      go false f ih = ap (λ t. x ∷ t) (ih f)
+  give_none es none = edited_none id (map (given_entry id s)) (λ x t. written x ∷ t) refl given_some es none
 
 -- one is taken out
-kept_above : (id : ℕ) (es : List Entry) → list_all (λ e. nat_lt id (entry_mount e)) es ≡ true → es ≡ filter (λ (e : Entry). not (nat_eq id e.mount)) es
-kept_above id [] all = refl
-kept_above id (x ∷ xs) all =
-    let other : eqb id x.mount ≡ false = grind (arith, nat_tests) in
-    let rest = filter (λ (e : Entry). not (nat_eq id e.mount)) xs in
-    ap (λ t. x ∷ t) (kept_above id xs (grind (arith, nat_tests))) ∙ ap (λ b. cond (not b) (x ∷ rest) rest) (sym other)
+module _ (id : ℕ) where
+  -- the entries of other mounts
+  abbrev others : List Entry → List Entry
+  others es = filter (λ (e : Entry). not (nat_eq id e.mount)) es
 
-dropped_at : (id : ℕ) (es : List Entry) (i : ℕ) (d : Entry) → rises entry_mount es ≡ true → i < length es → (get_or es i d).mount ≡ id → take i es ++ drop (suc i) es ≡ filter (λ (e : Entry). not (nat_eq id e.mount)) es
-dropped_at id [] i d up l same = absurd (omega (arith, l))
-dropped_at id (x ∷ xs) zero d up l same =
-    let here : eqb id x.mount ≡ true = grind (arith, nat_tests) in
-    let all : list_all (λ e. nat_lt id (entry_mount e)) xs ≡ true = ap (λ k. list_all (λ e. nat_lt k (entry_mount e)) xs) (sym same) ∙ grind (arith, nat_tests) in
-    let rest = filter (λ (e : Entry). not (nat_eq id e.mount)) xs in
-    kept_above id xs all ∙ ap (λ b. cond (not b) (x ∷ rest) rest) (sym here)
-dropped_at id (x ∷ xs) (suc i) d up l same =
-    let high = above_at x.mount xs i d (grind (arith, nat_tests)) (omega (arith, l)) in
-    let other : eqb id x.mount ≡ false = grind (arith, nat_tests) in
-    let rest = filter (λ (e : Entry). not (nat_eq id e.mount)) xs in
-    ap (λ t. x ∷ t) (dropped_at id xs i d (grind (arith, nat_tests)) (omega (arith, l)) same) ∙ ap (λ b. cond (not b) (x ∷ rest) rest) (sym other)
+  dropped_some : (x : Entry) (xs : List Entry) (b : Bool) → nat_eq id x.mount ≡ b → cond b (others xs) (x ∷ others xs) ≡ others (x ∷ xs)
+  dropped_some x xs true is = ap (λ b. cond (not b) (x ∷ others xs) (others xs)) (sym is)
+  dropped_some x xs false is = ap (λ b. cond (not b) (x ∷ others xs) (others xs)) (sym is)
 
-pub drop_found : (id : ℕ) (es whole left : List Entry) (i : ℕ) → es ≡ whole → rises entry_mount whole ≡ true → i < length es → HoldsAt (λ e. nat_cmp (entry_mount e) id ≡ Equal) es i → left ≡ take i whole ++ drop (i + 1) whole
-    → left ≡ filter (λ (e : Entry). not (nat_eq id e.mount)) whole
-drop_found id es whole left i same up l at is =
-    let one : i + 1 ≡ suc i = omega arith in
-    is ∙ ap (λ t. take i t ++ drop (i + 1) t) (sym same) ∙ ap (λ k. take i es ++ drop k es) one
-    ∙ dropped_at id es i nothing (ap (rises entry_mount) same ∙ up) l (ranked _ id _ (sym (at nothing)))
-    ∙ ap (filter (λ (e : Entry). not (nat_eq id e.mount))) same
+  pub drop_found : (es whole left : List Entry) (i : ℕ) → es ≡ whole → rises entry_mount whole ≡ true → i < length es → HoldsAt (λ e. nat_cmp (entry_mount e) id ≡ Equal) es i → left ≡ take i whole ++ drop (i + 1) whole
+      → left ≡ others whole
+  drop_found es whole left i same up l at is =
+      let one : i + 1 ≡ suc i = omega arith in
+      is ∙ ap (λ t. take i t ++ drop (i + 1) t) (sym same) ∙ ap (λ k. take i es ++ drop k es) one
+      ∙ edited_at id others (λ x t. t) refl dropped_some es i nothing (ap (rises entry_mount) same ∙ up) l (ranked _ id _ (sym (at nothing)))
+      ∙ ap others same
 
-pub drop_none : (id : ℕ) (es : List Entry) → row_at entry_mount id es ≡ None → es ≡ filter (λ (e : Entry). not (nat_eq id e.mount)) es
-drop_none id [] none = refl
-drop_none id (x ∷ xs) none = go (eqb id x.mount) none (drop_none id xs)
-  where
-    go : (b : Bool) → cond b (Some x) (row_at entry_mount id xs) ≡ None → (row_at entry_mount id xs ≡ None → xs ≡ filter (λ (e : Entry). not (nat_eq id e.mount)) xs)
-        → x ∷ xs ≡ cond (not b) (x ∷ filter (λ (e : Entry). not (nat_eq id e.mount)) xs) (filter (λ (e : Entry). not (nat_eq id e.mount)) xs)
-    go true f ih = absurd (cc)
-    go false f ih = ap (λ t. x ∷ t) (ih f)
+  pub drop_none : (es : List Entry) → row_at entry_mount id es ≡ None → es ≡ others es
+  drop_none es none = edited_none id others (λ x t. t) refl dropped_some es none

@@ -1,14 +1,14 @@
 -- Mounts that leave where no group that is some other's master goes: then each master stays as it is.
-use Rattle.std.proofs.Common.{◌≡◌, ℕ, zero, suc, ◌+◌, ◌<◌, ◌≤◌, Bool, true, false, cond, not, ◌&&◌, ◌||◌, eqb, eqb-true, List, [], ◌∷◌, map, drop, length, get_or, Option, Some, None, refl, sym, ap, ◌∙◌, inl, inr, arith}
+use Rattle.std.proofs.Common.{◌≡◌, ℕ, zero, suc, ◌+◌, ◌<◌, ◌≤◌, Bool, true, false, cond, not, ◌&&◌, ◌||◌, eqb, eqb-true, eq-eqb, nat_lt, List, [], ◌∷◌, map, drop, length, get_or, Option, Some, None, refl, sym, ap, ◌∙◌, inl, inr, arith}
 use Rattle.std.specs.List.{filter, find, list_any, list_all}
-use Rattle.std.specs.Option.{option_map, option_map_or}
+use Rattle.std.specs.Option.{option_map_or}
 use Rattle.std.proofs.lemmas.Bool.Decides.{nat_tests}
 use Rattle.std.proofs.lemmas.List.{drop_more, drop_all}
 use Rattle.std.proofs.Math.Bool.{or-false}
 use Rattle.mt_skel.specs.Chain.{chain}
 use Rattle.mt_skel.specs.Keyed.{without, among}
-use Rattle.mt_skel.proofs.ElementLaws.{In, in_filter, in_row, any_in}
-use Rattle.mt_lists.specs.Lists.{ListRow, listed_number, ids, first, above, names, without_row}
+use Rattle.mt_skel.proofs.ElementLaws.{In, in_filter, any_in}
+use Rattle.mt_lists.specs.Lists.{ListRow, listed_id, listed_number, ids, first, above, names, without_row}
 use Rattle.mt_lists.proofs.NeighbourLaws.{rising}
 use Rattle.mt_lists.proofs.WalkLaws.{rest_from, rest-next}
 use Rattle.mt_peers.specs.Peers.{Peer, Peering, mount_of, state_at, in_group, has_master, has_member, members, slaves}
@@ -16,9 +16,10 @@ use Rattle.mt_peers.specs.Masters.{master_of}
 use Rattle.mt_peers.specs.Loss.{heir, with_master, settle, left}
 use Rattle.mt_peers.specs.Listed.{IsListed, MastersLive}
 use Rattle.mt_peers.specs.Going.{stays, may_go, keeps}
-use Rattle.mt_peers.proofs.ChangeLaws.{settled}
+use Rattle.mt_peers.proofs.SettleLaws.{settled}
+use Rattle.mt_peers.proofs.MemberLaws.{peering, state-in, names-is}
 use Rattle.mt_peers.proofs.ListLaws.{member-group}
-use Rattle.mt_peers.proofs.ListedLaws.{group-listed, members-listed, slaves-listed}
+use Rattle.mt_peers.proofs.ListedLaws.{group-listed, members-listed, slaves-listed, members-live}
 
 -- a walk along a list, until one stays
 module _ (gone : ℕ → Bool) (xs : List ℕ) (up : rising xs ≡ true) (k : ℕ) (here : Option ℕ) (is : here ≡ Some k) (at : among xs k ≡ true) (told : stays gone (rest_from here xs) ≡ stays gone xs) where
@@ -49,12 +50,13 @@ forget-step ids i d old new l e =
     ∙ forget-one (get_or ids i d) (drop (i + 1) ids) old
     ∙ ap (λ (t : List ℕ). without (λ (r : ListRow). among t r.id) old) (sym (drop_more ids i d l))
 
+-- where none is taken out, all stay
+pub all_stay : {X : Type 0} (key : X → ℕ) (xs : List X) → filter (λ x. not (among [] (key x))) xs ≡ xs
+all_stay key [] = refl
+all_stay key (x ∷ xs) = ap (λ t. x ∷ t) (all_stay key xs)
+
 pub forget-end : (ids : List ℕ) (i : ℕ) (rows : List ListRow) → length ids ≤ i → without (λ (r : ListRow). among (drop i ids) r.id) rows ≡ rows
-forget-end ids i rows l = ap (λ (t : List ℕ). without (λ (r : ListRow). among t r.id) rows) (drop_all i ids l) ∙ none rows
-  where
-    none : (rows : List ListRow) → without (λ (r : ListRow). among [] r.id) rows ≡ rows
-    none [] = refl
-    none (r ∷ rows) = ap (λ t. r ∷ t) (none rows)
+forget-end ids i rows l = ap (λ (t : List ℕ). without (λ (r : ListRow). among t r.id) rows) (drop_all i ids l) ∙ all_stay listed_id rows
 
 -- who stays, in a list and among all
 stays-picked : (gone : ℕ → Bool) (s : Peer → Bool) (es : List Peer) → stays gone (map mount_of (filter s es)) ≡ list_any s (filter (λ (e : Peer). not (gone e.mount)) es)
@@ -69,13 +71,11 @@ stays-picked gone s (e ∷ es) = go (s e) refl (gone e.mount) refl (stays-picked
     go false is false at ih = ih ∙ sym (ap (λ c. c || list_any s (filter (λ (e : Peer). not (gone e.mount)) es)) is)
 
 first-member : (g : ℕ) (es : List Peer) → has_member es g ≡ true → (j : ℕ) × (rest : List ℕ) × (members es g ≡ j ∷ rest)
-first-member g [] e = absurd (cc)
-first-member g (x ∷ xs) e = go (in_group g x) e (first-member g xs)
+first-member g es e = go (members es g) refl
   where
-    go : (b : Bool) → (b || has_member xs g) ≡ true → (has_member xs g ≡ true → (j : ℕ) × (rest : List ℕ) × (members xs g ≡ j ∷ rest))
-        → (j : ℕ) × (rest : List ℕ) × (map mount_of (cond b (x ∷ filter (in_group g) xs) (filter (in_group g) xs)) ≡ j ∷ rest)
-    go true e ih = (x.mount, members xs g, refl)
-    go false e ih = ih e
+    go : (xs : List ℕ) → members es g ≡ xs → (j : ℕ) × (rest : List ℕ) × (members es g ≡ j ∷ rest)
+    go [] is = absurd (let c : true ≡ false = sym e ∙ sym (members-live es g) ∙ ap (λ xs. nat_lt 0 (length xs)) is in cc)
+    go (j ∷ rest) is = (j, rest, is)
 
 pub all-among : (t : ℕ → Bool) (xs : List ℕ) (j : ℕ) → list_all t xs ≡ true → among xs j ≡ true → t j ≡ true
 all-among t [] j all at = absurd (cc)
@@ -103,15 +103,12 @@ module _ (p : Peering) (live : MastersLive p.peers) (them : List ℕ) (ms ss : L
   abbrev pub staying : List Peer
   staying = without (λ (e : Peer). among them e.mount) p.peers
 
-  same : (j : ℕ) → eqb j j ≡ true
-  same j = grind (arith, nat_tests)
-
   -- what was asked of a first member is asked of its group
   listed-first : (g j : ℕ) (rest : List ℕ) → members p.peers g ≡ j ∷ rest → (listed_number ms j ≡ Some g) × (names (first (ids ms g)) j ≡ true)
   listed-first g j rest is =
-      let listed : among (members p.peers g) j ≡ true = ap (λ xs. among xs j) is ∙ ap (λ b. b || among rest j) (same j) in (
+      let listed : among (members p.peers g) j ≡ true = ap (λ xs. among xs j) is ∙ ap (λ b. b || among rest j) (eq-eqb j j refl) in (
         group-listed p.peers ms ss l j ∙ member-group p.peers g j l.rising listed,
-        ap (λ xs. names (first xs) j) (members-listed p.peers ms ss l g ∙ is) ∙ same j,
+        ap (λ xs. names (first xs) j) (members-listed p.peers ms ss l g ∙ is) ∙ eq-eqb j j refl,
       )
 
   -- a group that has members keeps one, where its first member stays or something stays of which it is asked
@@ -146,18 +143,12 @@ module _ (p : Peering) (live : MastersLive p.peers) (them : List ℕ) (ms ss : L
     pub keeps-member : (e : Peer) (g : ℕ) → In e staying → e.state.master ≡ Some g → has_member staying g ≡ true
     keeps-member e g at is =
         let old = in_filter (λ (e : Peer). not (among them e.mount)) e p.peers at in
-        let state : state_at p.peers e.mount ≡ Some e.state = ap (option_map (λ (e : Peer). e.state)) (in_row mount_of p.peers e l.rising old.0) in
-        let slave : stays (among them) (slaves p.peers g) ≡ true = stays-picked (among them) (has_master g) p.peers ∙ any_in (has_master g) e staying at (led g is) in
+        let state : state_at p.peers e.mount ≡ Some e.state = state-in p.peers e l.rising old.0 in
+        let slave : stays (among them) (slaves p.peers g) ≡ true = stays-picked (among them) (has_master g) p.peers ∙ any_in (has_master g) e staying at (names-is e.state.master g is) in
         some-stays g (live.lives e.mount e.state g state is) (λ j rest is on. sym (or-false (stays (among them) (members p.peers g))) ∙ (ap (λ b. stays (among them) (members p.peers g) || not b) (sym slave) ∙ asked g j rest is (all-among (may_go ms ss (among them)) them j ok on)))
-      where
-        led : (g : ℕ) → e.state.master ≡ Some g → has_master g e ≡ true
-        led g is = ap (λ o. option_map_or (λ h. eqb h g) o false) is ∙ same g
 
     pub going : left (among them) p ≡ record { peers = staying; next = p.next }
     unfolding left settle
     going =
-        ap (λ (es : List Peer). peering es)
+        ap (λ (es : List Peer). peering es p.next)
         (map-same (settled p.peers staying) staying (λ e at. ap (λ m. record { mount = e.mount; state = with_master e.state m }) (heir-stays p.peers staying e.state.master (λ g is. keeps-member e g at is))))
-      where
-        peering : List Peer → Peering
-        peering es = record { peers = es; next = p.next }

@@ -1,46 +1,33 @@
 -- A list of mounts is gone through from its first on, by what follows each.
-use Rattle.std.proofs.Common.{◌≡◌, ℕ, suc, ◌≤◌, Bool, true, false, cond, ◌||◌, ◌==◌, eqb-true, List, [], ◌∷◌, ◌++◌, map, length, Option, Some, None, refl, sym, ap, ◌∙◌, arith}
+use Rattle.std.proofs.Common.{◌≡◌, ℕ, suc, ◌≤◌, Bool, true, false, cond, eqb, eqb-true, List, [], ◌∷◌, ◌++◌, map, length, Option, Some, None, refl, sym, ap, ◌∙◌, arith}
 use Rattle.std.specs.List.{filter, filter_map, cons_option}
 use Rattle.std.specs.Option.{option_and_then}
 use Rattle.std.proofs.lemmas.List.{append_assoc}
 use Rattle.mt_skel.specs.Keyed.{rises, among}
+use Rattle.mt_skel.proofs.ElementLaws.{in_any, in_filter, in_map}
 use Rattle.mt_lists.specs.Lists.{above}
 use Rattle.mt_lists.proofs.WalkLaws.{rest_from, rest-next}
 use Rattle.mt_peers.specs.declared.state.State.{State}
-use Rattle.mt_peers.specs.Peers.{Peer, mount_of, in_group, has_master, state_at, members, slaves}
+use Rattle.mt_peers.specs.Peers.{Peer, mount_of, state_at, names, members, slaves}
 use Rattle.mt_peers.specs.Members.{group_at, master_at, next_member, next_slave, member_after, slave_after}
-use Rattle.mt_peers.proofs.MemberLaws.{named}
-use Rattle.mt_peers.proofs.ReceivedLaws.{HasStates, states-there}
+use Rattle.mt_peers.proofs.MemberLaws.{named, state-in}
 
--- a mount of a list of picked rows has the state of one
-picked-there : (es : List Peer) (s : Peer → Bool) (j : ℕ) (xs : List Peer) → HasStates es xs → among (map mount_of (filter s xs)) j ≡ true
-    → (e : Peer) × (state_at es j ≡ Some e.state) × (s e ≡ true)
-picked-there es s j [] h any = absurd (cc)
-picked-there es s j (x ∷ xs) h any = go (s x) refl any (picked-there es s j xs h.1)
-  where
-    at : (b : Bool) → (x.mount == j) ≡ b → s x ≡ true → (b || among (map mount_of (filter s xs)) j) ≡ true
-        → (among (map mount_of (filter s xs)) j ≡ true → (e : Peer) × (state_at es j ≡ Some e.state) × (s e ≡ true))
-        → (e : Peer) × (state_at es j ≡ Some e.state) × (s e ≡ true)
-    at true e is any ih = (x, ap (state_at es) (sym (eqb-true x.mount j e)) ∙ h.0, is)
-    at false e is any ih = ih any
-
-    go : (b : Bool) → s x ≡ b → among (map mount_of (cond b (x ∷ filter s xs) (filter s xs))) j ≡ true
-        → (among (map mount_of (filter s xs)) j ≡ true → (e : Peer) × (state_at es j ≡ Some e.state) × (s e ≡ true))
-        → (e : Peer) × (state_at es j ≡ Some e.state) × (s e ≡ true)
-    go true is any ih = at (x.mount == j) refl is any ih
-    go false is any ih = ih any
+-- a mount of the list of those that have a number has it
+picked-number : (number : State → Option ℕ) (es : List Peer) (g j : ℕ) → rises mount_of es ≡ true → among (map mount_of (filter (λ (e : Peer). names (number e.state) g) es)) j ≡ true → option_and_then number (state_at es j) ≡ Some g
+picked-number number es g j up any =
+    let has : Peer → Bool = λ e. names (number e.state) g in
+    let k = in_any (λ k. eqb k j) (map mount_of (filter has es)) any in
+    let e = in_map mount_of k.0 (filter has es) k.1 in
+    let at = in_filter has e.0 es e.1 in
+    ap (option_and_then number) (ap (state_at es) (sym (e.2 ∙ eqb-true k.0 j k.2)) ∙ state-in es e.0 up at.0) ∙ named (number e.0.state) g at.1
 
 -- a mount of the list of members is in the group
 pub member-group : (es : List Peer) (g j : ℕ) → rises mount_of es ≡ true → among (members es g) j ≡ true → group_at es j ≡ Some g
-member-group es g j up at =
-    let f = picked-there es (in_group g) j es (states-there es up) at in
-    ap (option_and_then (λ (s : State). s.group)) f.1 ∙ named f.0.state.group g f.2
+member-group es g j up at = picked-number (λ s. s.group) es g j up at
 
 -- and one of the list of slaves has the master
 pub slave-master : (es : List Peer) (m j : ℕ) → rises mount_of es ≡ true → among (slaves es m) j ≡ true → master_at es j ≡ Some m
-slave-master es m j up at =
-    let f = picked-there es (has_master m) j es (states-there es up) at in
-    ap (option_and_then (λ (s : State). s.master)) f.1 ∙ named f.0.state.master m f.2
+slave-master es m j up at = picked-number (λ s. s.master) es m j up at
 
 pub member-next : (es : List Peer) (g j : ℕ) → rises mount_of es ≡ true → among (members es g) j ≡ true → member_after es j ≡ above j (members es g)
 member-next es g j up at = ap (option_and_then (λ g. next_member es g j)) (member-group es g j up at)

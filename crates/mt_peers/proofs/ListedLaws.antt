@@ -1,13 +1,14 @@
 -- The lists of members and of slaves, and what a change of the states makes of them.
-use Rattle.std.proofs.Common.{◌≡◌, ◌≢◌, ℕ, zero, suc, ◌+◌, ◌<◌, Bool, true, false, cond, not, ◌&&◌, ◌||◌, eqb, ltb, List, [], ◌∷◌, ◌++◌, map, take, drop, length, get_or, append_assoc, Option, Some, None, refl, sym, ap, ◌∙◌, arith}
+use Rattle.std.proofs.Common.{◌≡◌, ◌≢◌, ℕ, zero, suc, ◌+◌, ◌<◌, Bool, true, false, cond, not, ◌||◌, eqb, List, [], ◌∷◌, ◌++◌, map, take, drop, length, get_or, append_assoc, Option, Some, None, refl, sym, ap, ◌∙◌, arith}
 use Rattle.std.specs.Prelude.{is_some, nat_lt}
-use Rattle.std.specs.List.{filter, find, list_all}
+use Rattle.std.specs.List.{filter, find}
 use Rattle.std.specs.Option.{option_map, option_map_or, option_and_then}
 use Rattle.std.proofs.lemmas.Bool.{ne_eqb}
 use Rattle.std.proofs.lemmas.Bool.Decides.{nat_tests}
 use Rattle.std.proofs.lemmas.List.{drop_more, map_more}
 use Rattle.mt_skel.specs.Keyed.{row_at, put, rises, without}
 use Rattle.mt_skel.proofs.KeyedLaws.{row_at-key, rises-put, rises-filter}
+use Rattle.mt_skel.proofs.MiddleLaws.{put_mid}
 use Rattle.mt_lists.specs.Lists.{ListRow, listed_number, ids, first, above, next_of, with_number}
 use Rattle.mt_lists.specs.Numbered.{rows_by}
 use Rattle.mt_lists.proofs.NumberedLaws.{ids-by, number-by, put-by, change-by}
@@ -18,7 +19,7 @@ use Rattle.mt_peers.specs.Masters.{master_of}
 use Rattle.mt_peers.specs.Members.{group_at, master_at, member_after, slave_after}
 use Rattle.mt_peers.specs.Entries.{now_peer, was_peer, now_peers, was_peers}
 use Rattle.mt_peers.specs.Listed.{peer_group, leader_of, IsListed}
-use Rattle.mt_peers.proofs.MemberLaws.{find_row}
+use Rattle.mt_peers.proofs.MemberLaws.{find_row, rises-alike}
 use Rattle.mt_peers.proofs.GivenLaws.{rises-given}
 
 -- what the lists of a number answer
@@ -28,6 +29,11 @@ module _ (number : Peer → Option ℕ) (es : List Peer) (rows : List ListRow) (
 
   pub number-listed : (i : ℕ) → rises mount_of es ≡ true → listed_number rows i ≡ option_and_then number (row_at mount_of i es)
   number-listed i up = ap (λ r. listed_number r i) told ∙ number-by mount_of number i es up
+
+-- the first of the members is the one that is found
+pub first-found : (es : List Peer) (g : ℕ) → first (members es g) ≡ option_map mount_of (find (in_group g) es)
+first-found [] g = refl
+first-found (x ∷ xs) g = elim (in_group g x) as (λ b. first (map mount_of (cond b (x ∷ filter (in_group g) xs) (filter (in_group g) xs))) ≡ option_map mount_of (cond b (Some x) (find (in_group g) xs))) [ true ↦ refl | false ↦ first-found xs g ]
 
 stated : (number : State → Option ℕ) (o : Option Peer) → option_and_then (λ (e : Peer). number e.state) o ≡ option_and_then number (option_map (λ (e : Peer). e.state) o)
 stated number None = refl
@@ -58,12 +64,8 @@ module _ (es : List Peer) (ms ss : List ListRow) (h : IsListed es ms ss) where
 
   -- the master of a group is that of its first member
   pub master-of-listed : (g i : ℕ) → first (ids ms g) ≡ Some i → listed_number ss i ≡ master_of es g
-  master-of-listed g i e = master-listed i ∙ go (find (in_group g) es) refl (sym (first-found es) ∙ ap first (sym (members-listed g)) ∙ e)
+  master-of-listed g i e = master-listed i ∙ go (find (in_group g) es) refl (sym (first-found es g) ∙ ap first (sym (members-listed g)) ∙ e)
     where
-      first-found : (es : List Peer) → first (members es g) ≡ option_map mount_of (find (in_group g) es)
-      first-found [] = refl
-      first-found (x ∷ xs) = elim (in_group g x) as (λ b. first (map mount_of (cond b (x ∷ filter (in_group g) xs) (filter (in_group g) xs))) ≡ option_map mount_of (cond b (Some x) (find (in_group g) xs))) [ true ↦ refl | false ↦ first-found xs ]
-
       go : (o : Option Peer) → find (in_group g) es ≡ o → option_map mount_of o ≡ Some i → master_at es i ≡ option_and_then (λ (e : Peer). e.state.master) o
       go None is f = absurd (cc)
       go (Some x) is f =
@@ -71,25 +73,22 @@ module _ (es : List Peer) (ms ss : List ListRow) (h : IsListed es ms ss) where
           ap (master_at es) (sym same) ∙ ap (λ o. option_and_then (λ (s : State). s.master) (option_map (λ (e : Peer). e.state) o)) (find_row g es x h.rising is).0
 
   pub no-master-listed : (g : ℕ) → first (ids ms g) ≡ None → master_of es g ≡ None
-  no-master-listed g e = go es (ap first (sym (members-listed g)) ∙ e)
+  no-master-listed g e = go (find (in_group g) es) (sym (first-found es g) ∙ ap first (sym (members-listed g)) ∙ e)
     where
-      go : (es : List Peer) → first (members es g) ≡ None → master_of es g ≡ None
-      go [] f = refl
-      go (x ∷ xs) f = elim (in_group g x) as (λ b. first (map mount_of (cond b (x ∷ filter (in_group g) xs) (filter (in_group g) xs))) ≡ None → option_and_then (λ (e : Peer). e.state.master) (cond b (Some x) (find (in_group g) xs)) ≡ None) [
-        | true ↦ λ f. absurd (cc)
-        | false ↦ λ f. go xs f
-      ] f
+      go : (o : Option Peer) → option_map mount_of o ≡ None → option_and_then (λ (e : Peer). e.state.master) o ≡ None
+      go None f = refl
+      go (Some x) f = absurd (cc)
 
 positive : (n : ℕ) → nat_lt 0 (suc n) ≡ true
 positive n = grind (arith, nat_tests)
 
 -- a group lives where its list has a member
+pub members-live : (es : List Peer) (g : ℕ) → nat_lt 0 (length (members es g)) ≡ has_member es g
+members-live [] g = refl
+members-live (x ∷ xs) g = elim (in_group g x) as (λ b. nat_lt 0 (length (map mount_of (cond b (x ∷ filter (in_group g) xs) (filter (in_group g) xs)))) ≡ (b || has_member xs g)) [ true ↦ positive (length (members xs g)) | false ↦ members-live xs g ]
+
 pub lives-listed : (es : List Peer) (rows : List ListRow) (g : ℕ) → rows ≡ rows_by mount_of peer_group es → nat_lt 0 (length (ids rows g)) ≡ has_member es g
-lives-listed es rows g told = ap (λ xs. nat_lt 0 (length xs)) (ids-listed peer_group es rows told g) ∙ go es
-  where
-    go : (es : List Peer) → nat_lt 0 (length (members es g)) ≡ has_member es g
-    go [] = refl
-    go (x ∷ xs) = elim (in_group g x) as (λ b. nat_lt 0 (length (map mount_of (cond b (x ∷ filter (in_group g) xs) (filter (in_group g) xs)))) ≡ (b || has_member xs g)) [ true ↦ positive (length (map mount_of (filter (in_group g) xs))) | false ↦ go xs ]
+lives-listed es rows g told = ap (λ xs. nat_lt 0 (length xs)) (ids-listed peer_group es rows told g) ∙ members-live es g
 
 -- a mount joins
 pub listed-put : (x : Peer) (es : List Peer) (ms ss : List ListRow) → IsListed es ms ss
@@ -142,34 +141,11 @@ given-absent i s (e ∷ es) none = go (eqb i e.mount) none (given-absent i s es)
 abbrev pub mixed : ℕ → List Entry → List Peer
 mixed i es = now_peers (take i es) ++ was_peers (drop i es)
 
-mixed-above : (k i : ℕ) (es : List Entry) → list_all (λ p. nat_lt k (mount_of p)) (mixed i es) ≡ list_all (λ p. nat_lt k (mount_of p)) (now_peers es)
-mixed-above k zero [] = refl
-mixed-above k zero (e ∷ es) = ap (λ b. nat_lt k e.mount && b) (mixed-above k zero es)
-mixed-above k (suc i) [] = refl
-mixed-above k (suc i) (e ∷ es) = ap (λ b. nat_lt k e.mount && b) (mixed-above k i es)
-
-rises-mixed : (i : ℕ) (es : List Entry) → rises mount_of (mixed i es) ≡ rises mount_of (now_peers es)
-rises-mixed zero [] = refl
-rises-mixed zero (e ∷ es) = ap (λ b. b && rises mount_of (was_peers es)) (mixed-above e.mount zero es) ∙ ap (λ b. list_all (λ p. nat_lt e.mount (mount_of p)) (now_peers es) && b) (rises-mixed zero es)
-rises-mixed (suc i) [] = refl
-rises-mixed (suc i) (e ∷ es) = ap (λ b. b && rises mount_of (mixed i es)) (mixed-above e.mount i es) ∙ ap (λ b. list_all (λ p. nat_lt e.mount (mount_of p)) (now_peers es) && b) (rises-mixed i es)
-
--- a row in the middle of a list is replaced
-above-middle : (k : ℕ) (xs : List Peer) (y : Peer) (ys : List Peer) → list_all (λ p. nat_lt k (mount_of p)) (xs ++ y ∷ ys) ≡ true → nat_lt k y.mount ≡ true
-above-middle k [] y ys h = grind (arith, nat_tests)
-above-middle k (x ∷ xs) y ys h = above-middle k xs y ys (grind (arith, nat_tests))
-
-put-middle : (x y : Peer) (xs ys : List Peer) → x.mount ≡ y.mount → rises mount_of (xs ++ y ∷ ys) ≡ true → put mount_of x (xs ++ y ∷ ys) ≡ xs ++ x ∷ ys
-put-middle x y [] ys same up = let k = x.mount in let m = y.mount in let low : ltb k m ≡ false = grind (arith, nat_tests) in let at : eqb k m ≡ true = grind (arith, nat_tests) in
-    ap (λ b. cond b (x ∷ y ∷ ys) (cond (eqb k m) (x ∷ ys) (y ∷ put mount_of x ys))) low ∙ ap (λ b. cond b (x ∷ ys) (y ∷ put mount_of x ys)) at
-put-middle x y (z ∷ xs) ys same up =
-    let high = above-middle z.mount xs y ys (grind (arith, nat_tests)) in
-    let low : ltb x.mount z.mount ≡ false = grind (arith, nat_tests) in
-    let off : eqb x.mount z.mount ≡ false = grind (arith, nat_tests) in
-    let rest : rises mount_of (xs ++ y ∷ ys) ≡ true = grind (arith, nat_tests) in
-    ap (λ b. cond b (x ∷ z ∷ (xs ++ y ∷ ys)) (cond (eqb x.mount z.mount) (x ∷ (xs ++ y ∷ ys)) (z ∷ put mount_of x (xs ++ y ∷ ys)))) low
-    ∙ ap (λ b. cond b (x ∷ (xs ++ y ∷ ys)) (z ∷ put mount_of x (xs ++ y ∷ ys))) off
-    ∙ ap (λ t. z ∷ t) (put-middle x y xs ys same rest)
+mixed-mounts : (i : ℕ) (es : List Entry) → map mount_of (mixed i es) ≡ map mount_of (now_peers es)
+mixed-mounts zero [] = refl
+mixed-mounts zero (e ∷ es) = ap (λ t. e.mount ∷ t) (mixed-mounts zero es)
+mixed-mounts (suc i) [] = refl
+mixed-mounts (suc i) (e ∷ es) = ap (λ t. e.mount ∷ t) (mixed-mounts i es)
 
 mixed-here : (i : ℕ) (es : List Entry) (d : Entry) → i < length es → mixed i es ≡ now_peers (take i es) ++ was_peer (get_or es i d) ∷ was_peers (drop (i + 1) es)
 mixed-here i es d l = ap (λ t. now_peers (take i es) ++ was_peers t) (drop_more es i d l)
@@ -185,10 +161,10 @@ pub mixed-step : (number : Peer → Option ℕ) (es : List Entry) (i : ℕ) (d :
 mixed-step number es i d rows l up told =
     let e = get_or es i d in
     let here = mixed-here i es d l in
-    let rising : rises mount_of (now_peers (take i es) ++ was_peer e ∷ was_peers (drop (i + 1) es)) ≡ true = ap (rises mount_of) (sym here) ∙ rises-mixed i es ∙ up in
+    let rising : rises mount_of (now_peers (take i es) ++ was_peer e ∷ was_peers (drop (i + 1) es)) ≡ true = ap (rises mount_of) (sym here) ∙ rises-alike mount_of mount_of (mixed i es) (now_peers es) (mixed-mounts i es) ∙ up in
     ap (with_number e.mount (number (now_peer e))) (told ∙ ap (rows_by mount_of number) here)
     ∙ sym (put-by mount_of number (now_peer e) (now_peers (take i es) ++ was_peer e ∷ was_peers (drop (i + 1) es)) rising)
-    ∙ ap (rows_by mount_of number) (put-middle (now_peer e) (was_peer e) (now_peers (take i es)) (was_peers (drop (i + 1) es)) refl rising ∙ mixed-next es i d l)
+    ∙ ap (rows_by mount_of number) (put_mid mount_of (now_peers (take i es)) (was_peers (drop (i + 1) es)) (was_peer e) (now_peer e) refl rising ∙ mixed-next es i d l)
 
 same-middle : (number : Peer → Option ℕ) (x y : Peer) (xs ys : List Peer) → x.mount ≡ y.mount → number x ≡ number y → rows_by mount_of number (xs ++ x ∷ ys) ≡ rows_by mount_of number (xs ++ y ∷ ys)
 same-middle number x y [] ys at same = (λ i. option_map_or (λ n. record { id = at i; number = n } ∷ rows_by mount_of number ys) (same i) (rows_by mount_of number ys))

@@ -1,5 +1,5 @@
 -- A change that settles no master.
-use Rattle.std.proofs.Common.{◌≡◌, ℕ, ◌+◌, Bool, true, false, cond, not, ◌||◌, List, [], ◌∷◌, map, length, Option, Some, None, refl, sym, ap, ◌∙◌}
+use Rattle.std.proofs.Common.{◌≡◌, ℕ, ◌+◌, Bool, true, false, cond, not, List, map, length, Option, Some, None, refl, sym, ap, ◌∙◌}
 use Rattle.std.specs.List.{filter, list_all}
 use Rattle.std.specs.Option.{option_or}
 use Rattle.mt_skel.specs.Keyed.{among}
@@ -8,20 +8,17 @@ use Rattle.mt_lists.specs.Lists.{ListRow}
 use Rattle.mt_peers.specs.declared.state.State.{State}
 use Rattle.mt_peers.specs.declared.state.Kind.{Kind}
 use Rattle.mt_peers.specs.declared.state.Kind.TheVariants.{Shared, Private, Slave, Unbindable}
-use Rattle.mt_peers.specs.Peers.{Peer, Peering, has_member, names}
+use Rattle.mt_peers.specs.Peers.{Peer, Peering, has_member}
 use Rattle.mt_peers.specs.Loss.{with_master, settle}
 use Rattle.mt_peers.specs.Making.{made, changed, changed_peer, is_shared, groupless, new_group}
 use Rattle.mt_peers.specs.Listed.{IsListed, MastersLive}
 use Rattle.mt_peers.specs.Going.{may_go, keeps, loses_none}
 use Rattle.mt_peers.specs.Few.{gains, unsettled}
-use Rattle.mt_peers.proofs.ChangeLaws.{settled}
-use Rattle.mt_peers.proofs.MemberLaws.{member-there}
+use Rattle.mt_peers.proofs.SettleLaws.{settled}
+use Rattle.mt_peers.proofs.MemberLaws.{peering, state-in, member-there}
+use Rattle.mt_peers.proofs.LeaveLaws.{has-staying}
 use Rattle.mt_peers.proofs.GoingLaws.{staying, kept, keeps-member, heir-stays, map-same}
 use Rattle.mt_peers.proofs.LiveLaws.{gained-master, gains-self, gains-shared, has-map}
-use Rattle.mt_peers.proofs.EachLaws.{state-in}
-
-abbrev peering : List Peer → ℕ → Peering
-peering es n = record { peers = es; next = n }
 
 module _ (p : Peering) (ids : List ℕ) where
   -- each master has a member then
@@ -38,17 +35,6 @@ module _ (p : Peering) (ids : List ℕ) where
           ap (λ m. record { mount = e.mount; state = with_master e.state m })
           (heir-stays p.peers (map (changed_peer k (among ids) p) p.peers) e.state.master (λ g is. lives x.0 x.1 g (ap (λ (y : Peer). y.state.master) x.2 ∙ is)))
 
-  -- a mount that loses its group is a member of none
-  has-staying : (k : Kind) → ((n : ℕ) (s : State) → (changed k n s).group ≡ None) → (es : List Peer) (g : ℕ) → has_member (map (changed_peer k (among ids) p) es) g ≡ has_member (filter (λ (e : Peer). not (among ids e.mount)) es) g
-  has-staying k lost [] g = refl
-  has-staying k lost (e ∷ es) g = go (among ids e.mount) (has-staying k lost es g)
-    where
-      go : (b : Bool) → has_member (map (changed_peer k (among ids) p) es) g ≡ has_member (filter (λ (e : Peer). not (among ids e.mount)) es) g
-          → (names (cond b (changed k (new_group (among ids) p e.mount) e.state) e.state).group g || has_member (map (changed_peer k (among ids) p) es) g)
-          ≡ has_member (cond (not b) (e ∷ filter (λ (e : Peer). not (among ids e.mount)) es) (filter (λ (e : Peer). not (among ids e.mount)) es)) g
-      go true ih = ap (λ o. names o g || has_member (map (changed_peer k (among ids) p) es) g) (lost (new_group (among ids) p e.mount) e.state) ∙ ih
-      go false ih = ap (λ b. names e.state.group g || b) ih
-
   module _ (live : MastersLive p.peers) (ms ss : List ListRow) (l : IsListed p.peers ms ss) where
     shared-none : (k : Kind) → is_shared k ≡ true → made k (among ids) p ≡ unsettled k (among ids) p
     shared-none k sh = settled-none k (λ e at g is. has-map (changed_peer k (among ids) p) (λ e. refl) g p.peers keep (live.lives e.mount e.state g (state-in p.peers e l.rising at) (gained-master e.state (changed_peer k (among ids) p e).state (keep e at) ∙ is)))
@@ -62,7 +48,7 @@ module _ (p : Peering) (ids : List ℕ) where
 
     alone-none : (k : Kind) → ((n : ℕ) (s : State) → (changed k n s).group ≡ None) → ((n : ℕ) (s : State) → (changed k n s).master ≡ None) → list_all (may_go ms ss (among ids)) ids ≡ true
         → made k (among ids) p ≡ unsettled k (among ids) p
-    alone-none k lost free ok = settled-none k (λ e at g is. has-staying k lost p.peers g ∙ go e at g (among ids e.mount) refl is)
+    alone-none k lost free ok = settled-none k (λ e at g is. has-staying k lost (among ids) p p.peers g ∙ go e at g (among ids e.mount) refl is)
       where
         go : (e : Peer) → In e p.peers → (g : ℕ) (b : Bool) → among ids e.mount ≡ b → (cond b (changed k (new_group (among ids) p e.mount) e.state) e.state).master ≡ Some g
             → has_member (staying p live ids ms ss l) g ≡ true
@@ -70,7 +56,7 @@ module _ (p : Peering) (ids : List ℕ) where
         go e at g false off is = keeps-member p live ids ms ss l ok e g (in_filtered (λ (e : Peer). not (among ids e.mount)) e p.peers at (ap not off)) is
 
     slave-none : list_all (keeps ms (among ids)) ids ≡ true → made Slave (among ids) p ≡ unsettled Slave (among ids) p
-    slave-none ok = settled-none Slave (λ e at g is. has-staying Slave (λ n s. refl) p.peers g ∙ kept p live ids ms ss l ok g (go e at g (among ids e.mount) is))
+    slave-none ok = settled-none Slave (λ e at g is. has-staying Slave (λ n s. refl) (among ids) p p.peers g ∙ kept p live ids ms ss l ok g (go e at g (among ids e.mount) is))
       where
         from : (e : Peer) → In e p.peers → (g : ℕ) (o : Option ℕ) → e.state.group ≡ o → option_or o e.state.master ≡ Some g → has_member p.peers g ≡ true
         from e at g None none is = live.lives e.mount e.state g (state-in p.peers e l.rising at) is

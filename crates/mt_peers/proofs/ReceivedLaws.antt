@@ -1,9 +1,12 @@
 -- What a worklist collects and counts: the mounts that get what happens in a group.
-use Rattle.std.proofs.Common.{◌≡◌, ℕ, suc, ◌+◌, ◌*◌, ◌≤◌, ◌<◌, Bool, true, false, cond, not, ◌&&◌, ◌||◌, ◌==◌, eqb, eqb-true, ltb, List, [], ◌∷◌, ◌++◌, map, length, Option, Some, None, refl, sym, ap, subst, ◌∙◌, arith}
-use Rattle.std.specs.List.{list_all, list_any, filter, filter_map, cons_option, AllByRecursion}
-use Rattle.std.specs.Option.{option_map, option_map_or, option_and_then}
-use Rattle.std.proofs.lemmas.Bool.Decides.{nat_tests}
+use Rattle.std.proofs.Common.{◌≡◌, ℕ, suc, ◌+◌, ◌*◌, ◌≤◌, ◌<◌, Bool, true, false, cond, not, ◌&&◌, ◌||◌, ◌==◌, eqb-true, List, [], ◌∷◌, ◌++◌, map, length, Option, Some, None, refl, sym, ap, ◌∙◌, inl, inr, arith}
+use Rattle.std.specs.List.{filter, filter_map, cons_option}
+use Rattle.std.specs.Option.{option_map_or, option_and_then}
+use Rattle.std.proofs.Math.Bool.{and-or_distrib_right}
+use Rattle.std.proofs.lemmas.Bool.{or_right}
 use Rattle.mt_skel.specs.Keyed.{row_at, rises, among}
+use Rattle.mt_skel.proofs.ElementLaws.{In, in_any, in_filter, chain_low}
+use Rattle.mt_skel.proofs.MiddleLaws.{and_first}
 use Rattle.mt_peers.specs.declared.state.State.{State}
 use Rattle.mt_peers.specs.Peers.{Peer, Peering, mount_of, names, in_group, has_master, state_at, slaves}
 use Rattle.mt_peers.specs.Masters.{master_of, groups_up, reaches}
@@ -11,11 +14,11 @@ use Rattle.mt_skel.specs.Counted.{count, occ}
 use Rattle.mt_peers.specs.Members.{group_at}
 use Rattle.mt_peers.specs.Entered.{entered, entered_by, gets_above, collected_slave, other_at}
 use Rattle.mt_peers.specs.WellFormed.{IsPeering}
-use Rattle.mt_peers.proofs.MemberLaws.{master_of-is, named}
-use Rattle.mt_peers.proofs.SettleLaws.{chain-rank}
+use Rattle.mt_peers.proofs.MemberLaws.{master_of-is, named, state-in}
 use Rattle.mt_peers.proofs.LeavingLaws.{up_rank, up_falls}
 use Rattle.mt_skel.proofs.CountLaws.{count-same, count-or, count-le-or, count-map, count-filter, length-filter, occ-filter_map}
 use Rattle.mt_skel.proofs.WorklistLaws.{is_found, is_found-snoc, apart-new}
+use Rattle.mt_peers.proofs.FirstLaws.{count-zero, one-row}
 use Rattle.mt_peers.proofs.WorklistLaws.{IsWorklist, led_by, worklist-sound, worklist-reach}
 
 -- a mount gets what happens in the group g
@@ -26,44 +29,22 @@ gets es g e = in_group g e || gets_above es g e
 abbrev pub received : List Peer → ℕ → ℕ → List ℕ
 received es g p = filter (λ j. not (p == j)) (map mount_of (filter (gets es g) es))
 
--- the group of each row is the one that is read at its mount
-abbrev HasRows : List Peer → List Peer → Type 0
-HasRows es xs = AllByRecursion (λ (e : Peer). group_at es e.mount ≡ e.state.group) xs
-
-rows-lift : (x : Peer) (es xs : List Peer) → list_all (λ y. ltb x.mount (mount_of y)) xs ≡ true → HasRows es xs → HasRows (x ∷ es) xs
-rows-lift x es [] up h = tt
-rows-lift x es (y ∷ xs) up h =
-    let apart : eqb y.mount x.mount ≡ false = grind (arith, nat_tests) in (
-      ap (λ b. option_and_then (λ (s : State). s.group) (option_map (λ (e : Peer). e.state) (cond b (Some x) (row_at mount_of y.mount es)))) apart ∙ h.0,
-      rows-lift x es xs (grind (arith, nat_tests)) h.1,
-    )
-
-pub rows-there : (es : List Peer) → rises mount_of es ≡ true → HasRows es es
-rows-there [] up = tt
-rows-there (x ∷ es) up =
-    let same : eqb x.mount x.mount ≡ true = grind (arith, nat_tests) in (
-      ap (λ b. option_and_then (λ (s : State). s.group) (option_map (λ (e : Peer). e.state) (cond b (Some x) (row_at mount_of x.mount es)))) same,
-      rows-lift x es es (grind (arith, nat_tests)) (rows-there es (grind (arith, nat_tests))),
-    )
-
 -- what is picked by mount and group may be read off the rows
-pub picked-rows : (es : List Peer) (f : ℕ → Option ℕ → Option ℕ) (s : Peer → Bool) (xs : List Peer) → HasRows es xs
-    → filter_map (λ i. f i (group_at es i)) (map mount_of (filter s xs)) ≡ filter_map (λ (e : Peer). f e.mount e.state.group) (filter s xs)
-picked-rows es f s [] h = refl
-picked-rows es f s (x ∷ xs) h = go (s x) (picked-rows es f s xs h.1)
-  where
-    go : (b : Bool) → filter_map (λ i. f i (group_at es i)) (map mount_of (filter s xs)) ≡ filter_map (λ (e : Peer). f e.mount e.state.group) (filter s xs)
-        → filter_map (λ i. f i (group_at es i)) (map mount_of (cond b (x ∷ filter s xs) (filter s xs))) ≡ filter_map (λ (e : Peer). f e.mount e.state.group) (cond b (x ∷ filter s xs) (filter s xs))
-    go true ih = ap (λ o. cons_option (f x.mount o) (filter_map (λ i. f i (group_at es i)) (map mount_of (filter s xs)))) h.0 ∙ ap (λ l. cons_option (f x.mount x.state.group) l) ih
-    go false ih = ih
+picked-rows : (es : List Peer) (f : ℕ → Option ℕ → Option ℕ) (xs : List Peer) → ((e : Peer) → In e xs → group_at es e.mount ≡ e.state.group)
+    → filter_map (λ i. f i (group_at es i)) (map mount_of xs) ≡ filter_map (λ (e : Peer). f e.mount e.state.group) xs
+picked-rows es f [] told = refl
+picked-rows es f (x ∷ xs) told = (λ i. cons_option (f x.mount (told x (inl refl) i)) (picked-rows es f xs (λ e at. told e (inr at)) i))
+
+slave-rows : (es : List Peer) (f : ℕ → Option ℕ → Option ℕ) (m : ℕ) → rises mount_of es ≡ true → filter_map (λ i. f i (group_at es i)) (slaves es m) ≡ filter_map (λ (e : Peer). f e.mount e.state.group) (filter (has_master m) es)
+slave-rows es f m up = picked-rows es f (filter (has_master m) es) (λ e at. ap (option_and_then (λ (s : State). s.group)) (state-in es e up (in_filter (has_master m) e es at).0))
 
 pub entered-rows : (es : List Peer) (g m : ℕ) → rises mount_of es ≡ true → filter_map (λ i. entered es g i (group_at es i)) (slaves es m) ≡ entered_by es g m
-entered-rows es g m up = picked-rows es (entered es g) (has_master m) es (rows-there es up)
+entered-rows es g m up = slave-rows es (entered es g) m up
 
 pub collected-rows : (es : List Peer) (t : ℕ → Bool) (g m q : ℕ) → rises mount_of es ≡ true
     → occ q (filter_map (λ i. collected_slave t g i (group_at es i)) (slaves es m)) ≡ count (λ e. has_master m e && other_at t g q e) es
 collected-rows es t g m q up =
-    ap (occ q) (picked-rows es (collected_slave t g) (has_master m) es (rows-there es up))
+    ap (occ q) (slave-rows es (collected_slave t g) m up)
     ∙ occ-filter_map q (λ (e : Peer). collected_slave t g e.mount e.state.group) (filter (has_master m) es)
     ∙ count-filter (λ (e : Peer). names (collected_slave t g e.mount e.state.group) q) (has_master m) es
     ∙ count-same (λ (e : Peer). has_master m e && names (collected_slave t g e.mount e.state.group) q) (λ e. has_master m e && other_at t g q e) (λ e. ap (λ b. has_master m e && b) (at (t e.mount && not (in_group g e)) e.mount)) es
@@ -83,16 +64,9 @@ pub other-more : (es : List Peer) (done : List ℕ) (m : ℕ) (s : Peer → Bool
     → count (λ e. led_by (done ++ m ∷ []) e && s e) es ≡ count (λ e. led_by done e && s e) es + count (λ e. has_master m e && s e) es
 other-more es done m s new =
     count-or (λ e. led_by (done ++ m ∷ []) e && s e) (λ e. led_by done e && s e) (λ e. has_master m e && s e)
-    (λ e. ap (λ b. b && s e) (is_found-snoc done m e.state.master) ∙ spread (led_by done e) (has_master m e) (s e))
+    (λ e. ap (λ b. b && s e) (is_found-snoc done m e.state.master) ∙ and-or_distrib_right (led_by done e) (has_master m e) (s e))
     (λ e. apart (led_by done e) (has_master m e) (s e) (apart-new done m new e.state.master)) es
   where
-    spread : (a b c : Bool) → ((a || b) && c) ≡ ((a && c) || (b && c))
-    spread true true true = refl
-    spread true true false = refl
-    spread true false true = refl
-    spread true false false = refl
-    spread false b c = refl
-
     apart : (a b c : Bool) → (a && b) ≡ false → ((a && c) && (b && c)) ≡ false
     apart true true c e = absurd (cc)
     apart true false true e = refl
@@ -155,92 +129,45 @@ received-count es g p =
 
 -- one mount is itself
 pub one-itself : (p : ℕ) (es : List Peer) → rises mount_of es ≡ true → count (λ e. p == e.mount) es ≤ 1
-one-itself p [] up = omega arith
-one-itself p (x ∷ es) up = go (p == x.mount) refl (one-itself p es (grind (arith, nat_tests)))
+one-itself p es up = go (row_at mount_of p es) (one-row p (λ e. true) es up)
   where
-    none : (q : ℕ) (xs : List Peer) → list_all (λ y. ltb q (mount_of y)) xs ≡ true → count (λ e. q == e.mount) xs ≡ 0
-    none q [] up = refl
-    none q (y ∷ ys) up =
-        let ih = none q ys (grind (arith, nat_tests)) in
-        let off : (q == y.mount) ≡ false = grind (arith, nat_tests) in
-        ap (λ b. cond b (suc (count (λ e. q == e.mount) ys)) (count (λ e. q == e.mount) ys)) off ∙ ih
-
-    go : (b : Bool) → (p == x.mount) ≡ b → count (λ e. p == e.mount) es ≤ 1 → cond b (suc (count (λ e. p == e.mount) es)) (count (λ e. p == e.mount) es) ≤ 1
-    go true e ih =
-        let is : p ≡ x.mount = eqb-true p x.mount e in
-        let z = none p es (subst (λ q. list_all (λ y. ltb q (mount_of y)) es ≡ true) (sym is) (grind (arith, nat_tests))) in
-        omega (arith, z)
-    go false e ih = ih
+    go : (o : Option Peer) → count (λ (e : Peer). p == e.mount) es ≡ option_map_or (λ (x : Peer). 1) o 0 → count (λ (e : Peer). p == e.mount) es ≤ 1
+    go None e = omega (arith, e)
+    go (Some x) e = omega (arith, e)
 
 -- the looks that a worklist takes: one at each member of the group, and one at each slave
 abbrev pub looks_at : List Peer → ℕ → ℕ
 looks_at es g = count (in_group g) es + count (gets_above es g) es
 
+-- what passes a test is another than one, or that one
+pub all_so : (u d : Bool) → u ≡ true → ((u && not d) || d) ≡ true
+all_so true true e = refl
+all_so true false e = refl
+all_so false d e = absurd (cc)
+
 pub looks-least : (es : List Peer) (g p : ℕ) → length (received es g p) ≤ looks_at es g
 looks-least es g p =
     let n = received-count es g p in
-    let l = count-le-or (λ e. gets es g e && not (p == e.mount)) (in_group g) (gets_above es g) (λ e f. so (in_group g e) (gets_above es g e) (not (p == e.mount)) f) es in
+    let l = count-le-or (λ e. gets es g e && not (p == e.mount)) (in_group g) (gets_above es g) (λ e f. and_first (gets es g e) (not (p == e.mount)) f) es in
     omega arith
-  where
-    so : (a b d : Bool) → ((a || b) && d) ≡ true → (a || b) ≡ true
-    so true b d f = refl
-    so false true d f = refl
-    so false false d f = absurd (cc)
 
 pub looks-most : (es : List Peer) (g p : ℕ) → rises mount_of es ≡ true → looks_at es g ≤ 2 * length (received es g p) + 2
 looks-most es g p up =
     let n = received-count es g p in
     let one = one-itself p es up in
-    let a = count-le-or (in_group g) (λ e. gets es g e && not (p == e.mount)) (λ e. p == e.mount) (λ e f. in_so (in_group g e) (gets_above es g e) (p == e.mount) f) es in
-    let b = count-le-or (gets_above es g) (λ e. gets es g e && not (p == e.mount)) (λ e. p == e.mount) (λ e f. led_so (in_group g e) (gets_above es g e) (p == e.mount) f) es in
+    let a = count-le-or (in_group g) (λ e. gets es g e && not (p == e.mount)) (λ e. p == e.mount) (λ e f. all_so (gets es g e) (p == e.mount) (ap (λ b. b || gets_above es g e) f)) es in
+    let b = count-le-or (gets_above es g) (λ e. gets es g e && not (p == e.mount)) (λ e. p == e.mount) (λ e f. all_so (gets es g e) (p == e.mount) (or_right (in_group g e) (gets_above es g e) f)) es in
     omega arith
-  where
-    in_so : (a b d : Bool) → a ≡ true → (((a || b) && not d) || d) ≡ true
-    in_so true b true e = refl
-    in_so true b false e = refl
-    in_so false b d e = absurd (cc)
-
-    led_so : (a b d : Bool) → b ≡ true → (((a || b) && not d) || d) ≡ true
-    led_so true true true e = refl
-    led_so true true false e = refl
-    led_so false true true e = refl
-    led_so false true false e = refl
-    led_so a false d e = absurd (cc)
-
--- the state of each row is the one that is read at its mount
-abbrev pub HasStates : List Peer → List Peer → Type 0
-HasStates es xs = AllByRecursion (λ (e : Peer). state_at es e.mount ≡ Some e.state) xs
-
-states-lift : (x : Peer) (es xs : List Peer) → list_all (λ y. ltb x.mount (mount_of y)) xs ≡ true → HasStates es xs → HasStates (x ∷ es) xs
-states-lift x es [] up h = tt
-states-lift x es (y ∷ xs) up h =
-    let apart : eqb y.mount x.mount ≡ false = grind (arith, nat_tests) in (
-      ap (λ b. option_map (λ (e : Peer). e.state) (cond b (Some x) (row_at mount_of y.mount es))) apart ∙ h.0,
-      states-lift x es xs (grind (arith, nat_tests)) h.1,
-    )
-
-pub states-there : (es : List Peer) → rises mount_of es ≡ true → HasStates es es
-states-there [] up = tt
-states-there (x ∷ es) up =
-    let same : eqb x.mount x.mount ≡ true = grind (arith, nat_tests) in (
-      ap (λ b. option_map (λ (e : Peer). e.state) (cond b (Some x) (row_at mount_of x.mount es))) same,
-      states-lift x es es (grind (arith, nat_tests)) (states-there es (grind (arith, nat_tests))),
-    )
 
 -- in order, no member of the group is a slave of one that was gone over
 module _ (pg : Peering) (h : IsPeering pg) (g p : ℕ) where
-  abbrev both : Peer → Bool
-  both e = in_group g e && gets_above pg.peers g e
-
   above-not : (m : ℕ) → master_of pg.peers g ≡ Some m → reaches pg.peers m g ≡ true → up_rank pg h g < up_rank pg h g
   above-not m e r =
       let low = up_falls pg h g m e in
-      let high = chain-rank (master_of pg.peers) (up_rank pg h) (up_falls pg h) (length pg.peers) m g (turned (groups_up pg.peers m) r) in
-      omega arith
-    where
-      turned : (xs : List ℕ) → list_any (λ k. k == g) xs ≡ true → list_any (eqb g) xs ≡ true
-      turned [] e = e
-      turned (x ∷ xs) e = let ih = turned xs in grind (arith, nat_tests)
+      let k = in_any (λ k. k == g) (groups_up pg.peers m) r in
+      let high = chain_low (master_of pg.peers) (up_rank pg h) (up_falls pg h) (length pg.peers) m k.0 k.1 in
+      let same = ap (up_rank pg h) (eqb-true k.0 g k.2) in
+      omega (arith, low, high, same)
 
   not-both : (e : Peer) → state_at pg.peers e.mount ≡ Some e.state → in_group g e ≡ true → gets_above pg.peers g e ≡ true → up_rank pg h g < up_rank pg h g
   not-both e at in_g led = go e.state.master refl led
@@ -249,14 +176,13 @@ module _ (pg : Peering) (h : IsPeering pg) (g p : ℕ) where
       go None is f = absurd (cc)
       go (Some m) is f = above-not m (master_of-is pg.peers h.rising h.one_master e.mount e.state g at (named e.state.group g in_g) ∙ is) f
 
-  none-both : (xs : List Peer) → HasStates pg.peers xs → count both xs ≡ 0
-  none-both [] s = refl
-  none-both (x ∷ xs) s = go (in_group g x) refl (gets_above pg.peers g x) refl (none-both xs s.1)
+  none-both : count (λ e. in_group g e && gets_above pg.peers g e) pg.peers ≡ 0
+  none-both = count-zero (λ e. in_group g e && gets_above pg.peers g e) pg.peers (λ e at. go e at (in_group g e) refl (gets_above pg.peers g e) refl)
     where
-      go : (a : Bool) → in_group g x ≡ a → (b : Bool) → gets_above pg.peers g x ≡ b → count both xs ≡ 0 → cond (a && b) (suc (count both xs)) (count both xs) ≡ 0
-      go true e true f ih = absurd (let l = not-both x s.0 e f in omega (arith, l))
-      go true e false f ih = ih
-      go false e b f ih = ih
+      go : (e : Peer) → In e pg.peers → (a : Bool) → in_group g e ≡ a → (b : Bool) → gets_above pg.peers g e ≡ b → (a && b) ≡ false
+      go e at true i true j = absurd (let l = not-both e (state-in pg.peers e h.rising at) i j in omega (arith, l))
+      go e at true i false j = refl
+      go e at false i b j = refl
 
   either-count : (a b : Peer → Bool) (xs : List Peer) → count a xs + count b xs ≡ count (λ e. a e || b e) xs + count (λ e. a e && b e) xs
   either-count a b [] = omega arith
@@ -273,15 +199,8 @@ module _ (pg : Peering) (h : IsPeering pg) (g p : ℕ) where
       let n = received-count pg.peers g p in
       let one = one-itself p pg.peers h.rising in
       let sum = either-count (in_group g) (gets_above pg.peers g) pg.peers in
-      let none = none-both pg.peers (states-there pg.peers h.rising) in
+      let none = none-both in
       let a =
       count-le-or (λ e. in_group g e || gets_above pg.peers g e) (λ e. gets pg.peers g e && not (p == e.mount)) (λ e. p == e.mount)
-      (λ e f. so (in_group g e) (gets_above pg.peers g e) (p == e.mount) f) pg.peers in
+      (λ e f. all_so (gets pg.peers g e) (p == e.mount) f) pg.peers in
       omega arith
-    where
-      so : (a b d : Bool) → (a || b) ≡ true → (((a || b) && not d) || d) ≡ true
-      so true b true e = refl
-      so true b false e = refl
-      so false true true e = refl
-      so false true false e = refl
-      so false false d e = absurd (cc)

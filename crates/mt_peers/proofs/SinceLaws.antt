@@ -1,10 +1,11 @@
 -- The mounts that a change does not note have the state that they had.
-use Rattle.std.proofs.Common.{◌≡◌, ◌≢◌, ℕ, Bool, true, false, cond, not, ◌||◌, eqb, List, [], ◌∷◌, ◌++◌, map, Some, refl, sym, ap, ◌∙◌, subst, arith}
+use Rattle.std.proofs.Common.{◌≡◌, ℕ, Bool, true, false, cond, not, ◌||◌, eqb, List, [], ◌∷◌, ◌++◌, map, None, Some, refl, sym, ap, ◌∙◌, subst, arith}
 use Rattle.std.specs.List.{filter}
 use Rattle.std.specs.Option.{option_map}
 use Rattle.std.proofs.lemmas.Bool.{false≢true, ne_eqb, or_parts}
 use Rattle.std.proofs.lemmas.Bool.Decides.{nat_tests}
-use Rattle.mt_skel.specs.Keyed.{row_at, put, among, without}
+use Rattle.std.proofs.lemmas.Iterator.Adapters.{option_map_id}
+use Rattle.mt_skel.specs.Keyed.{row_at, put, rises, among, without}
 use Rattle.mt_skel.proofs.KeyedLaws.{row_at-put}
 use Rattle.mt_lists.specs.Lists.{ListRow}
 use Rattle.mt_lists.specs.Log.{AreAlikeBut}
@@ -15,6 +16,8 @@ use Rattle.mt_peers.specs.declared.entries.Entry.{Entry}
 use Rattle.mt_peers.specs.Peers.{Peer, mount_of, state_at, with_state}
 use Rattle.mt_peers.specs.Entries.{now_peer, was_peer, now_peers, was_peers, differs, is_changed, noted_of}
 use Rattle.mt_peers.specs.Listed.{IsListed, IsKeptPeers, MastersLive}
+use Rattle.mt_peers.proofs.MemberLaws.{state_at-without}
+use Rattle.mt_peers.proofs.GivenLaws.{state_at-given}
 use Rattle.mt_peers.proofs.ListedLaws.{listed-is}
 
 same_mark : (a b : Bool) → differs a b ≡ false → a ≡ b
@@ -39,24 +42,20 @@ module _ (leaving : ℕ → Bool) (i : ℕ) where
   abbrev kept_of : Bool → Bool → Entry → List Entry → List Entry
   kept_of c l e es = cond (c || l) (e ∷ filter (λ (x : Entry). is_changed x || leaving x.mount) es) (filter (λ (x : Entry). is_changed x || leaving x.mount) es)
 
+  -- one that is noted is another mount
+  passed : (x : Peer) (es : List Peer) → eqb x.mount i ≡ false → state_at (x ∷ es) i ≡ state_at es i
+  passed x es n = let m : eqb i x.mount ≡ false = grind (arith, nat_tests) in ap (λ b. option_map (λ (p : Peer). p.state) (cond b (Some x) (row_at mount_of i es))) m
+
+  noted : (l : Bool) (e : Entry) (es : List Entry) → eqb e.mount i ≡ false → state_at (was_peers es) i ≡ state_at (stays es) i
+      → state_at (was_peer e ∷ was_peers es) i ≡ state_at (cond (not l) (now_peer e ∷ stays es) (stays es)) i
+  noted true e es n ih = passed (was_peer e) (was_peers es) n ∙ ih
+  noted false e es n ih = passed (was_peer e) (was_peers es) n ∙ ih ∙ sym (passed (now_peer e) (stays es) n)
+
   step : (e : Entry) (es : List Entry) (c l : Bool) → (c ≡ false → e.was ≡ e.state) → (among (noted_of leaving es) i ≡ false → state_at (was_peers es) i ≡ state_at (stays es) i)
       → among (map (λ (x : Entry). x.mount) (kept_of c l e es)) i ≡ false
       → state_at (was_peer e ∷ was_peers es) i ≡ state_at (cond (not l) (now_peer e ∷ stays es) (stays es)) i
-  step e es true true same ih h = off e es (or_parts _ _ h).0 ∙ ih (or_parts _ _ h).1
-    where
-      off : (e : Entry) (es : List Entry) → eqb e.mount i ≡ false → state_at (was_peer e ∷ was_peers es) i ≡ state_at (was_peers es) i
-      off e es n = let m : eqb i e.mount ≡ false = grind (arith, nat_tests) in ap (λ b. option_map (λ (p : Peer). p.state) (cond b (Some (was_peer e)) (row_at mount_of i (was_peers es)))) m
-  step e es true false same ih h =
-      let n = (or_parts (eqb e.mount i) _ h).0 in
-      let m : eqb i e.mount ≡ false = grind (arith, nat_tests) in
-      ap (λ b. option_map (λ (p : Peer). p.state) (cond b (Some (was_peer e)) (row_at mount_of i (was_peers es)))) m
-      ∙ ih (or_parts (eqb e.mount i) _ h).1
-      ∙ sym (ap (λ b. option_map (λ (p : Peer). p.state) (cond b (Some (now_peer e)) (row_at mount_of i (stays es)))) m)
-  step e es false true same ih h =
-      let n = (or_parts (eqb e.mount i) _ h).0 in
-      let m : eqb i e.mount ≡ false = grind (arith, nat_tests) in
-      ap (λ b. option_map (λ (p : Peer). p.state) (cond b (Some (was_peer e)) (row_at mount_of i (was_peers es)))) m
-      ∙ ih (or_parts (eqb e.mount i) _ h).1
+  step e es true l same ih h = noted l e es (or_parts (eqb e.mount i) _ h).0 (ih (or_parts (eqb e.mount i) _ h).1)
+  step e es false true same ih h = noted true e es (or_parts (eqb e.mount i) _ h).0 (ih (or_parts (eqb e.mount i) _ h).1)
   step e es false false same ih h = go (eqb i e.mount)
     where
       go : (b : Bool) → option_map (λ (p : Peer). p.state) (cond b (Some (was_peer e)) (row_at mount_of i (was_peers es))) ≡ option_map (λ (p : Peer). p.state) (cond b (Some (now_peer e)) (row_at mount_of i (stays es)))
@@ -67,11 +66,6 @@ module _ (leaving : ℕ → Bool) (i : ℕ) where
   but_noted [] h = refl
   but_noted (e ∷ es) h = step e es (is_changed e) (leaving e.mount) (same_state e) (but_noted es) h
 
--- where none leaves, all stay
-pub all_stay : (es : List Peer) → filter (λ (e : Peer). not (among [] e.mount)) es ≡ es
-all_stay [] = refl
-all_stay (e ∷ es) = ap (λ t. e ∷ t) (all_stay es)
-
 -- what was noted, and what a change notes
 pub known-noted : (leaving : ℕ → Bool) (es : List Entry) (since was now : List Peer) (noted all : List ℕ) → was_peers es ≡ was → filter (λ (e : Peer). not (leaving e.mount)) (now_peers es) ≡ now
     → all ≡ noted ++ noted_of leaving es → AreAlikeBut noted (state_at since) (state_at was) → AreAlikeBut all (state_at since) (state_at now)
@@ -81,33 +75,11 @@ known-noted leaving es since was now noted all w s n k =
 pub but_put : (es : List Peer) (x : Peer) → AreAlikeBut (x.mount ∷ []) (state_at es) (state_at (put mount_of x es))
 but_put es x i e = ap (option_map (λ (p : Peer). p.state)) (sym (row_at-put mount_of i x es ∙ ap (λ b. cond b (Some x) (row_at mount_of i es)) (ne_eqb i x.mount (not-only x.mount i e))))
 
-given_first : (k i : ℕ) (s : State) (e : Peer) (es : List Peer) → i ≢ k → state_at es i ≡ state_at (with_state k s es) i → (b : Bool) → eqb i e.mount ≡ b
-    → option_map (λ (p : Peer). p.state) (cond b (Some e) (row_at mount_of i es))
-    ≡ option_map (λ (p : Peer). p.state) (cond b (Some (record e { state = cond (eqb k e.mount) s e.state })) (row_at mount_of i (with_state k s es)))
-given_first k i s e es ne ih true at = let off : eqb k e.mount ≡ false = grind (arith, nat_tests) in ap (λ b. Some (cond b s e.state)) (sym off)
-given_first k i s e es ne ih false at = ih
-
-given_other : (k i : ℕ) (s : State) (es : List Peer) → i ≢ k → state_at es i ≡ state_at (with_state k s es) i
-given_other k i s [] ne = refl
-given_other k i s (e ∷ es) ne = given_first k i s e es ne (given_other k i s es ne) (eqb i e.mount) refl
-
 pub but_given : (es : List Peer) (k : ℕ) (s : State) → AreAlikeBut (k ∷ []) (state_at es) (state_at (with_state k s es))
-but_given es k s i e = given_other k i s es (not-only k i e)
+but_given es k s i e = sym (state_at-given k s i es ∙ ap (λ b. option_map (λ t. cond b s t) (state_at es i)) (ne_eqb k i (λ h. not-only k i e (sym h))) ∙ option_map_id (state_at es i))
 
-left_first : (ids : List ℕ) (i : ℕ) (e : Peer) (es rest : List Peer) → among ids i ≡ false → state_at es i ≡ state_at rest i → (a : Bool) → among ids e.mount ≡ a → (b : Bool) → eqb i e.mount ≡ b
-    → option_map (λ (p : Peer). p.state) (cond b (Some e) (row_at mount_of i es)) ≡ state_at (cond (not a) (e ∷ rest) rest) i
-left_first ids i e es rest h ih true there true at = let same : i ≡ e.mount = grind (arith, nat_tests) in absurd (false≢true (sym h ∙ ap (among ids) same ∙ there))
-left_first ids i e es rest h ih true there false at = ih
-left_first ids i e es rest h ih false there b at = by b ∙ ap (λ c. option_map (λ (p : Peer). p.state) (cond c (Some e) (row_at mount_of i rest))) (sym at)
-  where
-    by : (b : Bool) → option_map (λ (p : Peer). p.state) (cond b (Some e) (row_at mount_of i es)) ≡ option_map (λ (p : Peer). p.state) (cond b (Some e) (row_at mount_of i rest))
-    by true = refl
-    by false = ih
-
-pub but_left : (es : List Peer) (ids : List ℕ) → AreAlikeBut ids (state_at es) (state_at (without (λ (e : Peer). among ids e.mount) es))
-but_left [] ids i h = refl
-but_left (e ∷ es) ids i h =
-    left_first ids i e es (without (λ (x : Peer). among ids x.mount) es) h (but_left es ids i h) (among ids e.mount) refl (eqb i e.mount) refl
+pub but_left : (es : List Peer) (ids : List ℕ) → rises mount_of es ≡ true → AreAlikeBut ids (state_at es) (state_at (without (λ (e : Peer). among ids e.mount) es))
+but_left es ids up i h = sym (state_at-without (among ids) i es up ∙ ap (λ b. cond b None (state_at es i)) h)
 
 -- what is kept where the rows and the IDs noted are as they are said to be
 pub kept-is : (es fs : List Peer) (members ms slaves ss : List ListRow) (since : List Peer) (noted : List ℕ) (live : Bool) → es ≡ fs → members ≡ ms → slaves ≡ ss → IsListed fs ms ss → AreAlikeBut noted (state_at since) (state_at fs)

@@ -12,6 +12,7 @@ use Rattle.mt_peers.specs.Entered.{entered, entered_by, gets_above, collected_sl
 use Rattle.mt_skel.proofs.CountLaws.{count-same, count-le, count-length, length-filter, length-of-map}
 use Rattle.mt_skel.proofs.WorklistLaws.{is_found, next-new}
 use Rattle.mt_peers.specs.Masters.{master_of}
+use Rattle.mt_peers.proofs.FirstLaws.{count-zero}
 use Rattle.mt_peers.proofs.WorklistLaws.{IsWorklist, led_by, worklist-next, worklist-all, next-led}
 use Rattle.mt_peers.proofs.ReceivedLaws.{entered-rows, collected-rows, other-more, led-gets, led-all}
 
@@ -96,12 +97,8 @@ led-none e = go e.state.master
     go None = refl
     go (Some m) = refl
 
-none-counted : (s : Peer → Bool) → ((e : Peer) → s e ≡ false) → (es : List Peer) → count s es ≡ 0
-none-counted s none [] = refl
-none-counted s none (x ∷ es) = ap (λ b. cond b (suc (count s es)) (count s es)) (none x) ∙ none-counted s none es
-
 pub start-led : (es : List Peer) (n : ℕ) → n ≡ n + count (led_by []) es
-start-led es n = let z = none-counted (led_by []) led-none es in omega (arith, z)
+start-led es n = let z = count-zero (led_by []) es (λ e at. led-none e) in omega (arith, z)
 
 pub start-occ : (es : List Peer) (s : Peer → Bool) (n : ℕ) → n ≡ n + count (λ e. led_by [] e && s e) es
-start-occ es s n = let z = none-counted (λ e. led_by [] e && s e) (λ e. ap (λ b. b && s e) (led-none e)) es in omega (arith, z)
+start-occ es s n = let z = count-zero (λ e. led_by [] e && s e) es (λ e at. ap (λ b. b && s e) (led-none e)) in omega (arith, z)

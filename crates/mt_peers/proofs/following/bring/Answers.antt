@@ -2,14 +2,14 @@ use Rattle.std.proofs.Common.{List, not, sym, ap, ◌∙◌}
 use Rattle.std.specs.Prelude.{is_some, nat_eq}
 use Rattle.std.proofs.lemmas.List.{with_items_is}
 use Rattle.mt_skel.specs.Keyed.{rises}
-use Rattle.mt_skel.proofs.KeyedLaws.{rises-put}
+use Rattle.mt_skel.proofs.KeyedLaws.{rises-put, rises-filter}
 use Rattle.mt_peers.specs.declared.entries.Entry.{Entry}
 use Rattle.mt_peers.specs.Peers.{Peer, mount_of, state_at, with_state}
 use Rattle.mt_peers.specs.Entries.{now_peers}
 use Rattle.mt_peers.proofs.GivenLaws.{given-now, rises-given}
 use Rattle.mt_peers.proofs.LeaveLaws.{now-filter}
 use Rattle.mt_peers.proofs.SinceLaws.{but_put, but_given}
-use Rattle.mt_peers.proofs.FollowLaws.{put_state, given_state, dropped_here, dropped_others, dropped_rises}
+use Rattle.mt_peers.proofs.FollowLaws.{put_state, given_state, dropped_here, dropped_others}
 use Rattle.mt_peers.proofs.following.bring.Goals as goal
 
 pub returns-in_default-clause-here : goal.returns-in_default-clause-here
@@ -27,7 +27,7 @@ returns-in_default-clause-others c i e =
 pub returns-in_default-clause-rising : goal.returns-in_default-clause-rising
 returns-in_default-clause-rising c =
     ap (rises mount_of) (ap now_peers c.drop_entry.ensures.entries ∙ now-filter (λ j. not (nat_eq c.args.id j)) c.args.entries.now.items)
-    ∙ dropped_rises (now_peers c.args.entries.now.items) c.args.id c.requires.rising
+    ∙ rises-filter mount_of (λ (e : Peer). not (nat_eq c.args.id e.mount)) (now_peers c.args.entries.now.items) c.requires.rising
 
 pub returns-then-is_some-clause-here : goal.returns-then-is_some-clause-here
 returns-then-is_some-clause-here c =

@@ -4,7 +4,7 @@ use Rattle.std.proofs.lemmas.List.{with_items_is}
 use Rattle.mt_skel.specs.Keyed.{among}
 use Rattle.mt_lists.specs.Log.{earlier}
 use Rattle.mt_peers.specs.declared.entries.Entry.{Entry}
-use Rattle.mt_peers.specs.Peers.{Peering, PeersView, peering_of}
+use Rattle.mt_peers.specs.Peers.{Peering, PeersView, mount_of, peering_of}
 use Rattle.mt_peers.specs.Making.{made}
 use Rattle.mt_peers.specs.WellFormed.{IsPeering}
 use Rattle.mt_peers.specs.Entries.{now_peers, noted_of}
@@ -12,7 +12,8 @@ use Rattle.mt_peers.specs.Listed.{MastersLive}
 use Rattle.mt_peers.proofs.LiveLaws.{made-live}
 use Rattle.mt_peers.proofs.MakingLaws.{made-IsPeering}
 use Rattle.mt_peers.proofs.ListedLaws.{listed-is}
-use Rattle.mt_peers.proofs.SinceLaws.{all_stay, known-noted}
+use Rattle.mt_peers.proofs.GoingLaws.{all_stay}
+use Rattle.mt_peers.proofs.SinceLaws.{known-noted}
 use Rattle.mt_peers.proofs.peers.Peers.change_all.Goals as goal
 
 -- the peering of entries and a next group
@@ -43,7 +44,7 @@ invariant_of-self c =
       known =
           known-noted (among []) es (earlier c.self.inside.since.seen.items (λ v. now_peers v.items)) (now_peers c.self.inside.entries.items) (now_peers (with_items c.self.inside.entries es).items) noted c.note_changes.new.log.ids
           (c.make_entries-next.ensures.was ∙ ap now_peers c.deref_mut.ensures.value)
-          (all_stay (now_peers es) ∙ ap now_peers (sym written))
+          (all_stay mount_of (now_peers es) ∙ ap now_peers (sym written))
           (c.note_changes.ensures.ids ∙ ap (λ (l : List ℕ). noted ++ noted_of (among l) c.deref.result.now) c.new.ensures
           ∙ ap (λ (l : List Entry). noted ++ noted_of (among []) l) (c.deref.ensures.value ∙ written))
           c.self.invariant.known;

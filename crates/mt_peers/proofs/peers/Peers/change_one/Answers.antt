@@ -3,7 +3,8 @@ use Rattle.std.specs.Option.{is_none}
 use Rattle.mt_peers.specs.declared.state.State.{State}
 use Rattle.mt_peers.specs.Peers.{Peer, PeersView, peering_of, with_state}
 use Rattle.mt_peers.specs.Making.{changed, is_shared}
-use Rattle.mt_peers.proofs.EachLaws.{peering, made-absent, made-one}
+use Rattle.mt_peers.proofs.MemberLaws.{peering}
+use Rattle.mt_peers.proofs.EachLaws.{made-absent, made-one}
 use Rattle.mt_peers.proofs.peers.Peers.change_one.Goals as goal
 
 pub returns-in_default-clause-unsettled : goal.returns-in_default-clause-unsettled

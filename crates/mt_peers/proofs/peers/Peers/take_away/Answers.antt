@@ -19,7 +19,7 @@ invariant_of-self c =
       listed = c.take_out.ensures.listed;
       known =
           alike-as c.note_all.new.log.ids (state_at since) (state_at rest) (state_at new)
-          (alike-noted c.self.inside.log.ids ids c.note_all.new.log.ids (state_at since) (state_at es) (state_at rest) c.note_all.ensures.ids c.self.invariant.known (but_left es ids))
+          (alike-noted c.self.inside.log.ids ids c.note_all.new.log.ids (state_at since) (state_at es) (state_at rest) c.note_all.ensures.ids c.self.invariant.known (but_left es ids c.self.invariant.listed.rising))
           (λ i. ap (λ l. state_at l i) (sym c.take_out.ensures.peers));
       led = λ t. absurd (false≢true t);
     }
