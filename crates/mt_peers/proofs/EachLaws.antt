@@ -15,15 +15,10 @@ use Rattle.mt_peers.specs.declared.state.Kind.TheVariants.{Shared, Private, Slav
 use Rattle.mt_peers.specs.Peers.{Peer, Peering, mount_of, state_at, with_state}
 use Rattle.mt_peers.specs.Making.{changed, changed_peer, is_shared, groupless, new_group}
 use Rattle.mt_peers.specs.Few.{unsettled}
-use Rattle.mt_peers.proofs.MemberLaws.{some-is, peering, mapped, state-in}
+use Rattle.mt_peers.proofs.MemberLaws.{some-is, peering, mapped, map-alike, state-in}
 use Rattle.mt_peers.proofs.ChangeLaws.{same_change}
 use Rattle.mt_peers.proofs.MakingLaws.{among_groupless}
 use Rattle.mt_peers.proofs.GoingLaws.{map-same}
-
--- two changes that agree at each mount of the list
-pub map-alike : (f g : Peer → Peer) (es : List Peer) → ((e : Peer) → In e es → f e ≡ g e) → map f es ≡ map g es
-map-alike f g [] same = refl
-map-alike f g (x ∷ es) same = ap₂ (λ (y : Peer) (t : List Peer). y ∷ t) (same x (inl refl)) (map-alike f g es (λ e at. same e (inr at)))
 
 -- where a number stands in two lists, one behind the other
 place-front : (m : ℕ) (xs ys : List ℕ) → list_any (eqb m) xs ≡ true → position_or_len (nat_eq m) (xs ++ ys) ≡ position_or_len (nat_eq m) xs

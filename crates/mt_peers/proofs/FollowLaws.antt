@@ -12,7 +12,7 @@ use Rattle.mt_lists.proofs.LogLaws.{not-only}
 use Rattle.mt_lists.proofs.RowLaws.{row-with}
 use Rattle.mt_lists.proofs.NumberedLaws.{rises-by}
 use Rattle.mt_peers.specs.declared.state.State.{State}
-use Rattle.mt_peers.specs.Peers.{Peer, mount_of, state_at, with_state}
+use Rattle.mt_peers.specs.Peers.{Peer, Peering, PeersView, peering_of, mount_of, state_at, with_state}
 use Rattle.mt_peers.specs.Members.{group_at, master_at}
 use Rattle.mt_peers.specs.Listed.{peer_group, leader_of, IsListed}
 use Rattle.mt_peers.proofs.MemberLaws.{state_at-without}
@@ -55,16 +55,19 @@ pub masters_alike : (es os : List Peer) (ids : List ℕ) (ms ss : List ListRow) 
 masters_alike es os ids ms ss h a i e = master-listed es ms ss h i ∙ ap (option_and_then (λ (s : State). s.master)) (a i e)
 
 -- the number of an ID that was given one, or none, and those of others
-pub number_here : (i : ℕ) (o : Option ℕ) (rows : List ListRow) → rises listed_id rows ≡ true → listed_number (with_number i o rows) i ≡ o
-number_here i o rows r = ap (option_map (λ (x : ListRow). x.number)) (row-with i i o rows r ∙ ap (λ b. cond b (option_map (λ n. record { id = i; number = n }) o) (row_at listed_id i rows)) (eq-eqb i i refl)) ∙ go o
-  where
-    go : (o : Option ℕ) → option_map (λ (x : ListRow). x.number) (option_map (λ n. record { id = i; number = n }) o) ≡ o
-    go None = refl
-    go (Some n) = refl
+module _ (i : ℕ) (o : Option ℕ) (rows new : List ListRow) (r : rises listed_id rows ≡ true) (given : new ≡ with_number i o rows) where
+  row_given : (q : ℕ) → row_at listed_id q new ≡ cond (nat_eq q i) (option_map (λ n. record { id = i; number = n }) o) (row_at listed_id q rows)
+  row_given q = ap (row_at listed_id q) given ∙ row-with i q o rows r
 
-pub number_others : (i : ℕ) (o : Option ℕ) (rows : List ListRow) → rises listed_id rows ≡ true → AreAlikeBut (i ∷ []) (listed_number rows) (listed_number (with_number i o rows))
-number_others i o rows r q e =
-    ap (option_map (λ (x : ListRow). x.number)) (sym (row-with i q o rows r ∙ ap (λ b. cond b (option_map (λ n. record { id = i; number = n }) o) (row_at listed_id q rows)) (ne_eqb q i (not-only i q e))))
+  pub number_here : listed_number new i ≡ o
+  number_here = ap (option_map (λ (x : ListRow). x.number)) (row_given i ∙ ap (λ b. cond b (option_map (λ n. record { id = i; number = n }) o) (row_at listed_id i rows)) (eq-eqb i i refl)) ∙ go o
+    where
+      go : (o : Option ℕ) → option_map (λ (x : ListRow). x.number) (option_map (λ n. record { id = i; number = n }) o) ≡ o
+      go None = refl
+      go (Some n) = refl
+
+  pub number_others : AreAlikeBut (i ∷ []) (listed_number rows) (listed_number new)
+  number_others q e = ap (option_map (λ (x : ListRow). x.number)) (sym (row_given q ∙ ap (λ b. cond b (option_map (λ n. record { id = i; number = n }) o) (row_at listed_id q rows)) (ne_eqb q i (not-only i q e))))
 
 -- what a mount has once it is given a state
 pub put_state : (es : List Peer) (i : ℕ) (s : State) → state_at (put mount_of (record { mount = i; state = s }) es) i ≡ Some s
@@ -87,6 +90,8 @@ module _ (es : List Peer) (k : ℕ) (r : rises mount_of es ≡ true) where
   pub dropped_others : AreAlikeBut (k ∷ []) (state_at es) (state_at (filter (λ (e : Peer). not (nat_eq k e.mount)) es))
   dropped_others i n = sym (state_at-without (nat_eq k) i es r ∙ ap (λ b. cond b None (state_at es i)) (ne_eqb k i (λ h. not-only k i n (sym h))))
 
--- the same of equal lists
-pub alike_is : (es fs os ps : List Peer) (ids : List ℕ) → es ≡ fs → os ≡ ps → AreAlikeBut ids (state_at fs) (state_at ps) → AreAlikeBut ids (state_at es) (state_at os)
-alike_is es fs os ps ids m t a i e = ap (λ l. state_at l i) m ∙ a i e ∙ ap (λ l. state_at l i) (sym t)
+-- the same of the states that two peers keep
+pub alike_seen : {v s w t : PeersView} {os : List Peer} (r : PeersView) (ids : List ℕ) → v ≡ s → peering_of s ≡ peering_of r → w ≡ t → os ≡ w.peers → AreAlikeBut ids (state_at r.peers) (state_at t.peers) → AreAlikeBut ids (state_at v.peers) (state_at os)
+alike_seen r ids mine kept theirs other a i e =
+    ap (λ (s : PeersView). state_at s.peers i) mine ∙ ap (λ (p : Peering). state_at p.peers i) kept ∙ a i e
+    ∙ sym (ap (λ l. state_at l i) other ∙ ap (λ (s : PeersView). state_at s.peers i) theirs)

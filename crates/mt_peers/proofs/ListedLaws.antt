@@ -1,5 +1,5 @@
 -- The lists of members and of slaves, and what a change of the states makes of them.
-use Rattle.std.proofs.Common.{◌≡◌, ◌≢◌, ℕ, zero, suc, ◌+◌, ◌<◌, Bool, true, false, cond, not, ◌||◌, eqb, List, [], ◌∷◌, ◌++◌, map, take, drop, length, get_or, append_assoc, Option, Some, None, refl, sym, ap, ◌∙◌, arith}
+use Rattle.std.proofs.Common.{◌≡◌, ◌≢◌, ℕ, zero, suc, ◌+◌, ◌<◌, Bool, true, false, cond, not, ◌||◌, eqb, List, [], ◌∷◌, ◌++◌, map, take, drop, length, get_or, append_assoc, Option, Some, None, refl, sym, ap, ◌∙◌, subst, arith}
 use Rattle.std.specs.Prelude.{is_some, nat_lt}
 use Rattle.std.specs.List.{filter, find}
 use Rattle.std.specs.Option.{option_map, option_map_or, option_and_then}
@@ -14,11 +14,11 @@ use Rattle.mt_lists.specs.Numbered.{rows_by}
 use Rattle.mt_lists.proofs.NumberedLaws.{ids-by, number-by, put-by, change-by}
 use Rattle.mt_peers.specs.declared.state.State.{State}
 use Rattle.mt_peers.specs.declared.entries.Entry.{Entry}
-use Rattle.mt_peers.specs.Peers.{Peer, mount_of, state_at, with_state, in_group, has_member, names, members, slaves}
+use Rattle.mt_peers.specs.Peers.{Peer, Peering, PeersView, peering_of, mount_of, state_at, with_state, in_group, has_member, names, members, slaves}
 use Rattle.mt_peers.specs.Masters.{master_of}
 use Rattle.mt_peers.specs.Members.{group_at, master_at, member_after, slave_after}
 use Rattle.mt_peers.specs.Entries.{now_peer, was_peer, now_peers, was_peers}
-use Rattle.mt_peers.specs.Listed.{peer_group, leader_of, IsListed}
+use Rattle.mt_peers.specs.Listed.{peer_group, leader_of, IsListed, IsKeptPeers, MastersLive}
 use Rattle.mt_peers.proofs.MemberLaws.{find_row, rises-alike}
 use Rattle.mt_peers.proofs.GivenLaws.{rises-given}
 
@@ -206,4 +206,17 @@ listed-is es fs ms ns ss ts e f g h = record {
   rising = ap (rises mount_of) e ∙ h.rising;
   members_told = f ∙ h.members_told ∙ ap (rows_by mount_of peer_group) (sym e);
   slaves_told = g ∙ h.slaves_told ∙ ap (rows_by mount_of leader_of) (sym e);
+}
+
+-- what is kept of the states that are seen
+pub seen : {v s : PeersView} {ms ss : List ListRow} {since : List Peer} {noted : List ℕ} {live : Bool} → v ≡ s → IsKeptPeers v.peers ms ss since noted live → IsKeptPeers s.peers ms ss since noted live
+seen {ms = ms} {ss = ss} {since = since} {noted = noted} {live = live} e h = subst (λ (t : PeersView). IsKeptPeers t.peers ms ss since noted live) e h
+
+-- where each master has a member, that may be said
+pub kept-led : {v s : PeersView} {p : Peering} {ms ss : List ListRow} {since : List Peer} {noted : List ℕ} {live other : Bool} → v ≡ s → peering_of s ≡ p → MastersLive p.peers
+    → IsKeptPeers v.peers ms ss since noted live → IsKeptPeers v.peers ms ss since noted other
+kept-led e f l h = record {
+  listed = h.listed;
+  known = h.known;
+  led = λ t. subst MastersLive (sym (ap (λ (s : PeersView). s.peers) e ∙ ap (λ (p : Peering). p.peers) f)) l;
 }

@@ -1,12 +1,11 @@
 -- Masters that live, also once a mount has joined or got another state, or many have.
-use Rattle.std.proofs.Common.{◌≡◌, ℕ, Bool, true, false, cond, not, ◌&&◌, ◌||◌, eqb, eqb-true, ltb, List, [], ◌∷◌, map, Option, Some, None, refl, sym, ap, ◌∙◌, inl, inr, arith}
+use Rattle.std.proofs.Common.{◌≡◌, ℕ, Bool, true, false, cond, not, ◌&&◌, ◌||◌, eqb, eqb-true, eq-eqb, ltb, List, [], ◌∷◌, map, Option, Some, None, refl, sym, ap, ◌∙◌}
 use Rattle.std.specs.Prelude.{nat_eq}
 use Rattle.std.specs.Option.{option_map, option_map_or, option_or, option_eq, is_none}
-use Rattle.std.proofs.lemmas.Bool.Decides.{nat_tests}
 use Rattle.std.proofs.lemmas.Bool.{or_right}
 use Rattle.mt_skel.specs.Keyed.{row_at, put, rises}
 use Rattle.mt_skel.proofs.KeyedLaws.{row_at-put, row_at-map}
-use Rattle.mt_skel.proofs.ElementLaws.{In, row_in, in_row}
+use Rattle.mt_skel.proofs.ElementLaws.{In, any_in, in_any, in_mapped, row_in}
 use Rattle.mt_skel.proofs.MiddleLaws.{and_first, and_second}
 use Rattle.mt_lists.proofs.RowLaws.{same_of}
 use Rattle.mt_peers.specs.declared.state.State.{State}
@@ -17,7 +16,7 @@ use Rattle.mt_peers.specs.Loss.{left}
 use Rattle.mt_peers.specs.Making.{made, changed, is_shared}
 use Rattle.mt_peers.specs.Listed.{MastersLive}
 use Rattle.mt_peers.specs.Few.{gains}
-use Rattle.mt_peers.proofs.MemberLaws.{some-is}
+use Rattle.mt_peers.proofs.MemberLaws.{some-is, state-in}
 use Rattle.mt_peers.proofs.SettleLaws.{settle-live}
 
 -- a mount joins
@@ -56,12 +55,9 @@ gained-group s t g h is = go s.group is (and_second (option_eq nat_eq s.master t
     go None is h = absurd (cc)
     go (Some k) is h = ap (λ o. names o g) (sym (same_of (Some k) t.group (sym (ap not h)))) ∙ is
 
-same-number : (n : ℕ) → eqb n n ≡ true
-same-number n = grind (arith, nat_tests)
-
 same-option : (o : Option ℕ) → option_eq nat_eq o o ≡ true
 same-option None = refl
-same-option (Some n) = same-number n
+same-option (Some n) = eq-eqb n n refl
 
 pub gains-self : (s : State) → gains s s ≡ true
 gains-self s = ap (λ b. b && (is_none s.group || option_eq nat_eq s.group s.group)) (same-option s.master) ∙ or_right (is_none s.group) (option_eq nat_eq s.group s.group) (same-option s.group)
@@ -79,12 +75,9 @@ gains-shared Unbindable n s sh = absurd (cc)
 -- states that change so
 module _ (f : Peer → Peer) (same : (e : Peer) → (f e).mount ≡ e.mount) where
   pub has-map : (g : ℕ) (es : List Peer) → ((e : Peer) → In e es → gains e.state (f e).state ≡ true) → has_member es g ≡ true → has_member (map f es) g ≡ true
-  has-map g [] keep h = absurd (cc)
-  has-map g (x ∷ xs) keep h = go (in_group g x) refl h (has-map g xs (λ e at. keep e (inr at)))
-    where
-      go : (b : Bool) → in_group g x ≡ b → (b || has_member xs g) ≡ true → (has_member xs g ≡ true → has_member (map f xs) g ≡ true) → (in_group g (f x) || has_member (map f xs) g) ≡ true
-      go true is h ih = ap (λ b. b || has_member (map f xs) g) (gained-group x.state (f x).state g (keep x (inl refl)) is)
-      go false is h ih = or_right (in_group g (f x)) (has_member (map f xs) g) (ih h)
+  has-map g es keep h =
+      let m = in_any (in_group g) es h in
+      any_in (in_group g) (f m.0) (map f es) (in_mapped f m.0 es m.1) (gained-group m.0.state (f m.0).state g (keep m.0 m.1) m.2)
 
   pub live-map : (es : List Peer) → ((e : Peer) → In e es → gains e.state (f e).state ≡ true) → MastersLive es → MastersLive (map f es)
   live-map es keep h = record { lives = λ i t g e is. go i t g is (row_at mount_of i es) refl (sym (ap (option_map (λ (e : Peer). e.state)) (row_at-map mount_of f same i es)) ∙ e) }
@@ -105,7 +98,7 @@ live-given i s es up gain h = live-map (λ (e : Peer). record e { state = cond (
       where
         go : (b : Bool) → eqb i e.mount ≡ b → gains e.state (cond b s e.state) ≡ true
         go true is =
-            let state : state_at es i ≡ Some e.state = ap (state_at es) (eqb-true i e.mount is) ∙ ap (option_map (λ (e : Peer). e.state)) (in_row mount_of es e up at) in
+            let state : state_at es i ≡ Some e.state = ap (state_at es) (eqb-true i e.mount is) ∙ state-in es e up at in
             sym (ap (λ o. option_map_or (λ u. gains u s) o true) state) ∙ gain
         go false is = gains-self e.state
 

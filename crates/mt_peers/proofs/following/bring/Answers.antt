@@ -1,12 +1,11 @@
 use Rattle.std.proofs.Common.{List, not, sym, ap, ◌∙◌}
 use Rattle.std.specs.Prelude.{is_some, nat_eq}
-use Rattle.std.proofs.lemmas.List.{with_items_is}
 use Rattle.mt_skel.specs.Keyed.{rises}
 use Rattle.mt_skel.proofs.KeyedLaws.{rises-put, rises-filter}
 use Rattle.mt_peers.specs.declared.entries.Entry.{Entry}
-use Rattle.mt_peers.specs.Peers.{Peer, mount_of, state_at, with_state}
+use Rattle.mt_peers.specs.Peers.{Peer, mount_of, state_at}
 use Rattle.mt_peers.specs.Entries.{now_peers}
-use Rattle.mt_peers.proofs.GivenLaws.{given-now, rises-given}
+use Rattle.mt_peers.proofs.GivenLaws.{given-written, rises-given}
 use Rattle.mt_peers.proofs.LeaveLaws.{now-filter}
 use Rattle.mt_peers.proofs.SinceLaws.{but_put, but_given}
 use Rattle.mt_peers.proofs.FollowLaws.{put_state, given_state, dropped_here, dropped_others}
@@ -14,8 +13,7 @@ use Rattle.mt_peers.proofs.following.bring.Goals as goal
 
 pub returns-in_default-clause-here : goal.returns-in_default-clause-here
 returns-in_default-clause-here c =
-    ap (λ es. state_at (now_peers es) c.args.id) c.drop_entry.ensures.entries
-    ∙ ap (λ l. state_at l c.args.id) (now-filter (λ i. not (nat_eq c.args.id i)) c.args.entries.now.items)
+    ap (λ l. state_at l c.args.id) (ap now_peers c.drop_entry.ensures.entries ∙ now-filter (λ i. not (nat_eq c.args.id i)) c.args.entries.now.items)
     ∙ dropped_here (now_peers c.args.entries.now.items) c.args.id c.requires.rising
     ∙ sym c.in_default.is
 
@@ -31,10 +29,7 @@ returns-in_default-clause-rising c =
 
 pub returns-then-is_some-clause-here : goal.returns-then-is_some-clause-here
 returns-then-is_some-clause-here c =
-    let given =
-    ap now_peers (with_items_is c.args.entries.now c.give_state.new.entries (c.give_state.auto.entries ∙ c.deref_mut.ensures.len) ∙ c.give_state.ensures.entries)
-    ∙ given-now c.args.id c.in-Some.state c.deref_mut.result.now
-    ∙ ap (λ (es : List Entry). with_state c.args.id c.in-Some.state (now_peers es)) c.deref_mut.ensures.value in
+    let given = given-written c.args.entries.now c.args.id c.in-Some.state _ _ (c.give_state.auto.entries ∙ c.deref_mut.ensures.len) c.give_state.ensures.entries c.deref_mut.ensures.value in
     let there =
     ap (λ (es : List Entry). is_some (state_at (now_peers es) c.args.id)) (sym c.deref.ensures.value) ∙ ap is_some (sym c.find_state.ensures) ∙ sym c.is_some.ensures
     ∙ c.if-is_some.true in
@@ -42,18 +37,12 @@ returns-then-is_some-clause-here c =
 
 pub returns-then-is_some-clause-others : goal.returns-then-is_some-clause-others
 returns-then-is_some-clause-others c i e =
-    let given =
-    ap now_peers (with_items_is c.args.entries.now c.give_state.new.entries (c.give_state.auto.entries ∙ c.deref_mut.ensures.len) ∙ c.give_state.ensures.entries)
-    ∙ given-now c.args.id c.in-Some.state c.deref_mut.result.now
-    ∙ ap (λ (es : List Entry). with_state c.args.id c.in-Some.state (now_peers es)) c.deref_mut.ensures.value in
+    let given = given-written c.args.entries.now c.args.id c.in-Some.state _ _ (c.give_state.auto.entries ∙ c.deref_mut.ensures.len) c.give_state.ensures.entries c.deref_mut.ensures.value in
     but_given (now_peers c.args.entries.now.items) c.args.id c.in-Some.state i e ∙ ap (λ l. state_at l i) (sym given)
 
 pub returns-then-is_some-clause-rising : goal.returns-then-is_some-clause-rising
 returns-then-is_some-clause-rising c =
-    let given =
-    ap now_peers (with_items_is c.args.entries.now c.give_state.new.entries (c.give_state.auto.entries ∙ c.deref_mut.ensures.len) ∙ c.give_state.ensures.entries)
-    ∙ given-now c.args.id c.in-Some.state c.deref_mut.result.now
-    ∙ ap (λ (es : List Entry). with_state c.args.id c.in-Some.state (now_peers es)) c.deref_mut.ensures.value in
+    let given = given-written c.args.entries.now c.args.id c.in-Some.state _ _ (c.give_state.auto.entries ∙ c.deref_mut.ensures.len) c.give_state.ensures.entries c.deref_mut.ensures.value in
     ap (rises mount_of) given ∙ rises-given c.args.id c.in-Some.state (now_peers c.args.entries.now.items) c.requires.rising
 
 pub returns-else-is_some-clause-here : goal.returns-else-is_some-clause-here

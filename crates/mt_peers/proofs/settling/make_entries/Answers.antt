@@ -5,6 +5,7 @@ use Rattle.mt_peers.specs.Peers.{Peer, Peering, mount_of}
 use Rattle.mt_peers.specs.Making.{made}
 use Rattle.mt_peers.specs.Entries.{now_peers}
 use Rattle.mt_peers.specs.Listed.{peer_group, leader_of}
+use Rattle.mt_peers.proofs.MemberLaws.{peering}
 use Rattle.mt_peers.proofs.ChangeLaws.{made-entries}
 use Rattle.mt_peers.proofs.RelistLaws.{was-made, rises-changed, was-kept, rises-kept, groups-kept}
 use Rattle.mt_peers.proofs.settling.make_entries.Goals as goal
@@ -36,13 +37,10 @@ list_slaves-requires-clause-listed c =
 pub returns-clause-made : goal.returns-clause-made
 unfolding made
 returns-clause-made c =
-    let old : Peering = record { peers = now_peers c.args.entries.now; next = c.args.next } in
+    let old = peering (now_peers c.args.entries.now) c.args.next in
     let peers : now_peers c.settle_all.new.entries ≡ (made c.args.kind (among c.args.ids.now) old).peers =
     ap now_peers c.settle_all.ensures.settled ∙ made-entries c.args.kind c.args.ids.now c.args.next c.args.entries.now c.change_all-after.new.entries c.change_all-after.ensures.entries in
     ap (λ (es : List Peer). peering es c.change_all-after.result) peers ∙ ap (λ (n : ℕ). peering (made c.args.kind (among c.args.ids.now) old).peers n) c.change_all-after.ensures.next
-  where
-    peering : List Peer → ℕ → Peering
-    peering es n = record { peers = es; next = n }
 
 pub returns-clause-listed : goal.returns-clause-listed
 returns-clause-listed c = record {

@@ -9,6 +9,7 @@ use Rattle.mt_peers.specs.Making.{made}
 use Rattle.mt_peers.specs.WellFormed.{IsPeering}
 use Rattle.mt_peers.specs.Entries.{now_peers, noted_of}
 use Rattle.mt_peers.specs.Listed.{MastersLive}
+use Rattle.mt_peers.proofs.MemberLaws.{peering}
 use Rattle.mt_peers.proofs.LiveLaws.{made-live}
 use Rattle.mt_peers.proofs.MakingLaws.{made-IsPeering}
 use Rattle.mt_peers.proofs.ListedLaws.{listed-is}
@@ -16,19 +17,15 @@ use Rattle.mt_peers.proofs.GoingLaws.{all_stay}
 use Rattle.mt_peers.proofs.SinceLaws.{known-noted}
 use Rattle.mt_peers.proofs.peers.Peers.change_all.Goals as goal
 
--- the peering of entries and a next group
-abbrev peering : List Entry → ℕ → Peering
-peering es n = record { peers = now_peers es; next = n }
-
 -- the new entries are the states made from the old
 is_made : (c : goal.After-self-3-1)
-    → peering (with_items c.self.inside.entries c.make_entries-next.new.entries).items c.make_entries-next.result ≡ made c.args.kind (among c.args.ids.now) (peering_of c.args.self.now)
+    → peering (now_peers (with_items c.self.inside.entries c.make_entries-next.new.entries).items) c.make_entries-next.result ≡ made c.args.kind (among c.args.ids.now) (peering_of c.args.self.now)
 is_made c =
     let written = with_items_is c.self.inside.entries c.make_entries-next.new.entries (c.make_entries-next.auto.entries ∙ c.deref_mut.ensures.len) in
-    ap (λ (es : List Entry). peering es c.make_entries-next.result) written
+    ap (λ (es : List Entry). peering (now_peers es) c.make_entries-next.result) written
     ∙ c.make_entries-next.ensures.made
-    ∙ ap (λ (ids : List ℕ). made c.args.kind (among ids) (peering c.deref_mut.result.now c.self.inside.next)) c.new-chosen.ensures
-    ∙ ap (λ (es : List Entry). made c.args.kind (among c.args.ids.now) (peering es c.self.inside.next)) c.deref_mut.ensures.value
+    ∙ ap (λ (ids : List ℕ). made c.args.kind (among ids) (peering (now_peers c.deref_mut.result.now) c.self.inside.next)) c.new-chosen.ensures
+    ∙ ap (λ (es : List Entry). made c.args.kind (among c.args.ids.now) (peering (now_peers es) c.self.inside.next)) c.deref_mut.ensures.value
     ∙ ap (λ (s : PeersView). made c.args.kind (among c.args.ids.now) (peering_of s)) c.self.view_is
 
 pub returns-clause-kept : goal.returns-clause-kept

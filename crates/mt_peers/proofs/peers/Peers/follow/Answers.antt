@@ -1,30 +1,20 @@
 use Rattle.std.proofs.Common.{List, sym, ap, ◌∙◌, subst}
 use Rattle.mt_lists.specs.Log.{earlier}
 use Rattle.mt_peers.specs.declared.entries.Entry.{Entry}
-use Rattle.mt_peers.specs.Peers.{Peering, PeersView, state_at}
+use Rattle.mt_peers.specs.Peers.{state_at}
 use Rattle.mt_peers.specs.Members.{group_at, master_at}
 use Rattle.mt_peers.specs.Listed.{MastersLive}
 use Rattle.mt_peers.specs.Entries.{now_peers}
-use Rattle.mt_peers.proofs.FollowLaws.{alike_is, groups_alike, masters_alike, listed_as}
+use Rattle.mt_peers.proofs.FollowLaws.{alike_seen, groups_alike, masters_alike, listed_as}
 use Rattle.mt_peers.proofs.peers.Peers.follow.Goals as goal
 
 pub follow_lists-requires-clause-groups : goal.follow_lists-requires-clause-groups
 follow_lists-requires-clause-groups c =
-    let mine = ap (λ (s : PeersView). s.peers) c.self.view_is ∙ ap (λ (p : Peering). p.peers) c.in_ok-reserve.ensures.peering in
-    let theirs = ap now_peers c.deref.ensures.value ∙ ap (λ (s : PeersView). s.peers) c.other.view_is in
-    let es = now_peers c.self.inside.entries.items in
-    let os = now_peers c.deref.result.now in
-    groups_alike es os c.args.ids.now c.self.inside.members.rows c.self.inside.slaves.rows c.self.invariant.listed
-    (alike_is es c.args.self.now.peers os c.args.other.now.peers c.args.ids.now mine theirs c.requires.alike)
+    groups_alike _ _ _ _ _ c.self.invariant.listed (alike_seen c.args.self.now c.args.ids.now c.self.view_is c.in_ok-reserve.ensures.peering c.other.view_is (ap now_peers c.deref.ensures.value) c.requires.alike)
 
 pub follow_lists-requires-clause-masters : goal.follow_lists-requires-clause-masters
 follow_lists-requires-clause-masters c =
-    let mine = ap (λ (s : PeersView). s.peers) c.self.view_is ∙ ap (λ (p : Peering). p.peers) c.in_ok-reserve.ensures.peering in
-    let theirs = ap now_peers c.deref.ensures.value ∙ ap (λ (s : PeersView). s.peers) c.other.view_is in
-    let es = now_peers c.self.inside.entries.items in
-    let os = now_peers c.deref.result.now in
-    masters_alike es os c.args.ids.now c.self.inside.members.rows c.self.inside.slaves.rows c.self.invariant.listed
-    (alike_is es c.args.self.now.peers os c.args.other.now.peers c.args.ids.now mine theirs c.requires.alike)
+    masters_alike _ _ _ _ _ c.self.invariant.listed (alike_seen c.args.self.now c.args.ids.now c.self.view_is c.in_ok-reserve.ensures.peering c.other.view_is (ap now_peers c.deref.ensures.value) c.requires.alike)
 
 pub invariant_of-self-2 : goal.invariant_of-self-2
 invariant_of-self-2 c = record {

@@ -2,12 +2,11 @@ use Rattle.std.proofs.Common.{◌≡◌, List, [], ◌∷◌, refl, sym, ap, ◌
 use Rattle.std.specs.Prelude.{is_some}
 use Rattle.std.specs.Vec.{with_items}
 use Rattle.std.proofs.lemmas.Bool.{false≢true}
-use Rattle.std.proofs.lemmas.List.{with_items_is}
 use Rattle.mt_lists.specs.Log.{earlier}
 use Rattle.mt_peers.specs.declared.entries.Entry.{Entry}
 use Rattle.mt_peers.specs.Peers.{PeersView, state_at, with_state}
 use Rattle.mt_peers.specs.Entries.{now_peers}
-use Rattle.mt_peers.proofs.GivenLaws.{given-now}
+use Rattle.mt_peers.proofs.GivenLaws.{given-written}
 use Rattle.mt_lists.proofs.LogLaws.{alike-noted}
 use Rattle.mt_peers.proofs.ListedLaws.{given-absent, listed-given}
 use Rattle.mt_peers.proofs.SinceLaws.{but_given, kept-is}
@@ -16,19 +15,11 @@ use Rattle.mt_peers.proofs.peers.Peers.give.Goals.{Else-is_some}
 
 -- the new entries are the states with that one given
 is_given : (c : goal.After-add) → now_peers (with_items c.self.inside.entries c.give_state-was.new.entries).items ≡ with_state c.args.id c.args.state (now_peers c.self.inside.entries.items)
-is_given c =
-    ap now_peers (with_items_is c.self.inside.entries c.give_state-was.new.entries (c.give_state-was.auto.entries ∙ c.deref_mut.ensures.len))
-    ∙ ap now_peers c.give_state-was.ensures.entries
-    ∙ given-now c.args.id c.args.state c.deref_mut.result.now
-    ∙ ap (λ (es : List Entry). with_state c.args.id c.args.state (now_peers es)) c.deref_mut.ensures.value
+is_given c = given-written c.self.inside.entries c.args.id c.args.state _ _ (c.give_state-was.auto.entries ∙ c.deref_mut.ensures.len) c.give_state-was.ensures.entries c.deref_mut.ensures.value
 
 -- and the same where there is none
 is_same : (c : Else-is_some) → now_peers (with_items c.self.inside.entries c.give_state-was.new.entries).items ≡ with_state c.args.id c.args.state (now_peers c.self.inside.entries.items)
-is_same c =
-    ap now_peers (with_items_is c.self.inside.entries c.give_state-was.new.entries (c.give_state-was.auto.entries ∙ c.deref_mut.ensures.len))
-    ∙ ap now_peers c.give_state-was.ensures.entries
-    ∙ given-now c.args.id c.args.state c.deref_mut.result.now
-    ∙ ap (λ (es : List Entry). with_state c.args.id c.args.state (now_peers es)) c.deref_mut.ensures.value
+is_same c = given-written c.self.inside.entries c.args.id c.args.state _ _ (c.give_state-was.auto.entries ∙ c.deref_mut.ensures.len) c.give_state-was.ensures.entries c.deref_mut.ensures.value
 
 pub invariant_of-self : goal.invariant_of-self
 invariant_of-self c =

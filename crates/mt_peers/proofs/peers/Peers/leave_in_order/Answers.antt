@@ -1,21 +1,17 @@
-use Rattle.std.proofs.Common.{◌≡◌, ℕ, List, not, refl, sym, ap, ◌∙◌, subst}
+use Rattle.std.proofs.Common.{◌≡◌, ℕ, List, not, sym, ap, ◌∙◌, subst}
 use Rattle.std.specs.List.{filter, list_all}
 use Rattle.mt_skel.specs.Keyed.{among}
-use Rattle.mt_peers.specs.Peers.{Peer, Peering, PeersView, peering_of}
+use Rattle.mt_peers.specs.Peers.{Peer, Peering, peering_of}
 use Rattle.mt_peers.specs.Loss.{left}
 use Rattle.mt_peers.specs.WellFormed.{IsPeering}
 use Rattle.mt_peers.specs.Listed.{MastersLive}
-use Rattle.mt_peers.specs.Entries.{now_peers}
 use Rattle.mt_peers.specs.Going.{may_go}
+use Rattle.mt_peers.proofs.MemberLaws.{peering}
 use Rattle.mt_peers.proofs.LeavingLaws.{left-IsPeering}
 use Rattle.mt_peers.proofs.LiveLaws.{left-live}
-use Rattle.mt_peers.proofs.ListedLaws.{listed-is}
+use Rattle.mt_peers.proofs.ListedLaws.{seen, kept-led}
 use Rattle.mt_peers.proofs.GoingLaws.{going}
 use Rattle.mt_peers.proofs.peers.Peers.leave_in_order.Goals as goal
-
--- the peering of states and a next group
-abbrev peering : List Peer → ℕ → Peering
-peering es n = record { peers = es; next = n }
 
 in_order : {p : Peering} → IsPeering p → MastersLive p.peers
 in_order h = record { lives = h.master_lives }
@@ -25,18 +21,12 @@ is_left c =
     let ok =
     ap (λ (t : List ℕ). list_all (may_go c.self.inside.members.rows c.self.inside.slaves.rows (among t)) c.args.ids.now) (sym c.new.ensures)
     ∙ sym c.may_all_go.ensures ∙ c.if-may_all_go.true in
-    let listed =
-    listed-is c.args.self.now.peers (now_peers c.self.inside.entries.items) _ _ _ _ (ap (λ (s : PeersView). s.peers) (sym c.self.view_is)) refl refl c.self.invariant.listed in
     ap (λ (es : List Peer). peering es c.take_away.new.self.next) c.take_away.ensures.peers
     ∙ ap (λ (n : ℕ). peering (filter (λ (e : Peer). not (among c.args.ids.now e.mount)) c.args.self.now.peers) n) c.take_away.ensures.next
-    ∙ sym (going (peering_of c.args.self.now) (in_order c.requires.order) c.args.ids.now c.self.inside.members.rows c.self.inside.slaves.rows listed ok)
+    ∙ sym (going (peering_of c.args.self.now) (in_order c.requires.order) c.args.ids.now c.self.inside.members.rows c.self.inside.slaves.rows (seen c.self.view_is c.self.invariant).listed ok)
 
 pub invariant_of-self : goal.invariant_of-self
-invariant_of-self c = record {
-  listed = c.self-then-may_all_go.invariant.listed;
-  known = c.self-then-may_all_go.invariant.known;
-  led = λ t. subst MastersLive (sym (ap (λ (s : PeersView). s.peers) c.self-then-may_all_go.view_is ∙ ap (λ (p : Peering). p.peers) (is_left c))) (left-live (among c.args.ids.now) (peering_of c.args.self.now));
-}
+invariant_of-self c = kept-led c.self-then-may_all_go.view_is (is_left c) (left-live (among c.args.ids.now) (peering_of c.args.self.now)) c.self-then-may_all_go.invariant
 
 pub returns-then-may_all_go-clause-left : goal.returns-then-may_all_go-clause-left
 returns-then-may_all_go-clause-left c = ap peering_of c.self-then-may_all_go.view_is ∙ is_left c
