@@ -2,6 +2,7 @@
 use Rattle.std.proofs.Common.{◌≡◌, ◌⊎◌, ℕ, zero, suc, ◌<◌, Bool, true, false, cond, not, ◌||◌, eqb, eqb-true, List, [], ◌∷◌, map, length, Option, Some, None, refl, sym, ap, ◌∙◌, subst, inl, inr, arith}
 use Rattle.std.specs.List.{list_any, filter}
 use Rattle.std.specs.Option.{option_map, option_map_or, option_or}
+use Rattle.std.proofs.lemmas.Bool.{false_from_ne_true}
 use Rattle.std.proofs.lemmas.Bool.Decides.{nat_tests}
 use Rattle.mt_skel.specs.Chain.{chain}
 use Rattle.mt_skel.specs.Keyed.{rises}
@@ -16,7 +17,7 @@ use Rattle.mt_peers.specs.Making.{made, changed, changed_peer, new_group}
 use Rattle.mt_peers.specs.WellFormed.{IsPeering}
 use Rattle.mt_peers.proofs.MemberLaws.{master_of-from, state_at-filter, state_at-without, state_at-map, names-is}
 use Rattle.mt_peers.proofs.SettleLaws.{before, find-among, state_at-settle}
-use Rattle.mt_peers.proofs.MakingLaws.{old_master, change, number, origin, source, both, number-high, made-settled}
+use Rattle.mt_peers.proofs.MakingLaws.{old_master, origin, source, both, made-settled}
 use Rattle.mt_peers.proofs.GoingLaws.{heir-stays}
 pub use Rattle.mt_peers.proofs.MemberLaws.{living}
 
@@ -139,7 +140,7 @@ module _ (P : ℕ → Type 0) (p : Peering) (h : IsPeering p) (a : IsClosed P p.
   pub made-IsClosed : (k : Kind) (chosen : ℕ → Bool) → IsClosed P (made k chosen p).peers
   made-IsClosed k chosen =
       subst (IsClosed P) (sym (made-settled p h k chosen))
-      (settle-IsClosed (map (change p h k chosen) p.peers)
+      (settle-IsClosed (map (changed_peer k chosen p) p.peers)
       (λ i j s t g es et gs gt q. elim (both p h k chosen i j s t g es et gs gt) [
         | inl same ↦ subst P (sym same) q
         | inr old ↦ a.groups i j old.0 old.1 g old.2 old.3 old.4 old.5 q
@@ -148,11 +149,11 @@ module _ (P : ℕ → Type 0) (p : Peering) (h : IsPeering p) (a : IsClosed P p.
       let o = source p h k chosen j t g e gt in (
         o.0,
         o.1,
-        elim o.2 [ inl old ↦ old | inr new ↦ absurd (let high = number-high p h k chosen j in let eq = new.3 in omega arith) ],
+        elim o.2 [ inl old ↦ old | inr new ↦ absurd (let eq = new.3 in omega arith) ],
       ))
       (λ i t g e m.
       let o = origin p h k chosen i t e in
-      (o.0, o.1, changed-master k (number p h k chosen i) (chosen i) o.0 g (ap (λ (v : State). v.master) (sym o.2) ∙ m))))
+      (o.0, o.1, changed-master k (new_group chosen p i) (chosen i) o.0 g (ap (λ (v : State). v.master) (sym o.2) ∙ m))))
 
   -- the master of a mount outside has no member in the set
   outside : (i : ℕ) (s : State) (m : ℕ) (e : Peer) → state_at p.peers i ≡ Some s → (P i → ⊥) → s.master ≡ Some m → state_at p.peers e.mount ≡ Some e.state → e.state.group ≡ Some m → P e.mount → ⊥
@@ -160,11 +161,7 @@ module _ (P : ℕ → Type 0) (p : Peering) (h : IsPeering p) (a : IsClosed P p.
 
   module _ (f : ℕ → Bool) (within : (i : ℕ) → f i ≡ true → P i) where
     off-outside : (j : ℕ) → (P j → ⊥) → f j ≡ false
-    off-outside j out = go (f j) refl
-      where
-        go : (b : Bool) → f j ≡ b → f j ≡ false
-        go true is = absurd (out (within j is))
-        go false is = is
+    off-outside j out = false_from_ne_true (f j) (λ is. out (within j is))
 
     abbrev stay : Peer → Bool
     stay e = not (f e.mount)

@@ -1,9 +1,10 @@
 -- Mounts that are changed one after the other, and no master settled.
 use Rattle.std.proofs.Common.{◌≡◌, ℕ, suc, ◌+◌, ◌<◌, ◌≤◌, Bool, true, false, cond, ◌&&◌, ◌||◌, eqb, eqb-true, ltb, List, [], ◌∷◌, ◌++◌, map, drop, length, eq-eqb, length-append, length-drop, get_or, get_or-drop, Option, Some, None, refl, sym, ap, ap₂, ◌∙◌, subst, inl, inr, arith}
-use Rattle.std.specs.Prelude.{nat_eq}
+use Rattle.std.specs.Prelude.{is_some, nat_eq}
 use Rattle.std.specs.List.{filter, list_any, list_all, position_or_len}
 use Rattle.std.specs.List.Sorted.{IsNonDecreasing}
 use Rattle.std.specs.Option.{option_map, option_map_or, option_or, is_none}
+use Rattle.std.proofs.lemmas.Bool.{false≢true, false_from_ne_true}
 use Rattle.std.proofs.lemmas.Bool.Decides.{nat_tests}
 use Rattle.std.proofs.lemmas.List.{drop_more, drop_all}
 use Rattle.mt_skel.specs.Keyed.{row_at, rises, among}
@@ -91,11 +92,12 @@ module _ (k : Kind) (chosen : ℕ → Bool) (p : Peering) (nobody : (e : Peer) �
 -- what is made of one mount
 module _ (k : Kind) (x : ℕ) (p : Peering) (up : rises mount_of p.peers ≡ true) where
   pub made-absent : state_at p.peers x ≡ None → p ≡ unsettled k (nat_eq x) p
-  made-absent none = unsettled-none k (nat_eq x) p (λ e at. off e at (eqb x e.mount) refl)
-    where
-      off : (e : Peer) → In e p.peers → (b : Bool) → eqb x e.mount ≡ b → eqb x e.mount ≡ false
-      off e at true is = absurd (let there = state-in p.peers e up at in let here = ap (state_at p.peers) (eqb-true x e.mount is) in let c : Some e.state ≡ None = sym there ∙ sym here ∙ none in cc)
-      off e at false is = is
+  made-absent none =
+      unsettled-none k (nat_eq x) p (λ e at. false_from_ne_true (eqb x e.mount) (λ is.
+      let there = state-in p.peers e up at in
+      let here = ap (state_at p.peers) (eqb-true x e.mount is) in
+      let c : Some e.state ≡ None = sym there ∙ sym here ∙ none in
+      absurd (cc)))
 
   pub made-one : (s : State) → state_at p.peers x ≡ Some s
       → peering (with_state x (changed k p.next s) p.peers) (cond (is_shared k && (true && is_none s.group)) (p.next + 1) p.next) ≡ unsettled k (nat_eq x) p
@@ -120,16 +122,22 @@ module _ (k : Kind) (x : ℕ) (p : Peering) (up : rises mount_of p.peers ≡ tru
               ap (changed k p.next) mine ∙ ap (λ (n : ℕ). changed k n e.state) (number e.mount is)
           go false is = refl
 
--- a mount gets the state that it has
-pub given-same : (x : ℕ) (s : State) (es : List Peer) → rises mount_of es ≡ true → state_at es x ≡ Some s → with_state x s es ≡ es
-given-same x s es up there = map-same (λ (e : Peer). record e { state = cond (eqb x e.mount) s e.state }) es same
+-- nothing changes where a mount gets the state that it has, or is not there
+given-still : (x : ℕ) (s : State) (es : List Peer) → rises mount_of es ≡ true → ((t : State) → state_at es x ≡ Some t → s ≡ t) → with_state x s es ≡ es
+given-still x s es up still = map-same (λ (e : Peer). record e { state = cond (eqb x e.mount) s e.state }) es same
   where
     same : (e : Peer) → In e es → ◌≡◌ {A = Peer} (record { mount = e.mount; state = cond (eqb x e.mount) s e.state }) e
     same e at = ap (λ (t : State). record { mount = e.mount; state = t }) (go (eqb x e.mount) refl)
       where
         go : (b : Bool) → eqb x e.mount ≡ b → cond b s e.state ≡ e.state
-        go true is = some-is s e.state (sym there ∙ ap (state_at es) (eqb-true x e.mount is) ∙ state-in es e up at)
+        go true is = still e.state (ap (state_at es) (eqb-true x e.mount is) ∙ state-in es e up at)
         go false is = refl
+
+pub given-same : (x : ℕ) (s : State) (es : List Peer) → rises mount_of es ≡ true → state_at es x ≡ Some s → with_state x s es ≡ es
+given-same x s es up there = given-still x s es up (λ t at. some-is s t (sym there ∙ at))
+
+pub given-absent : (x : ℕ) (s : State) (es : List Peer) → rises mount_of es ≡ true → is_some (state_at es x) ≡ false → with_state x s es ≡ es
+given-absent x s es up none = given-still x s es up (λ t at. absurd (false≢true (sym none ∙ ap is_some at)))
 
 -- those that are counted of a list, where one of them gets a group
 split-step : (a b c : Bool) (e f : Peer) (both mine theirs : List Peer) → f.mount ≡ e.mount

@@ -1,9 +1,9 @@
 -- States and lists on their way to others.
 use Rattle.std.proofs.Common.{◌≡◌, ℕ, true, cond, not, eq-eqb, List, [], ◌∷◌, Option, Some, None, refl, sym, ap, subst, ◌∙◌}
-use Rattle.std.specs.Prelude.{is_some, nat_eq}
+use Rattle.std.specs.Prelude.{nat_eq}
 use Rattle.std.specs.List.{filter}
 use Rattle.std.specs.Option.{option_map, option_and_then}
-use Rattle.std.proofs.lemmas.Bool.{ne_eqb, true≢false}
+use Rattle.std.proofs.lemmas.Bool.{ne_eqb}
 use Rattle.mt_skel.specs.Keyed.{row_at, put, rises}
 use Rattle.mt_skel.proofs.KeyedLaws.{row_at-key, row_at-put, same_rows}
 use Rattle.mt_lists.specs.Lists.{ListRow, listed_id, listed_number, with_number}
@@ -12,11 +12,10 @@ use Rattle.mt_lists.proofs.LogLaws.{not-only}
 use Rattle.mt_lists.proofs.RowLaws.{row-with}
 use Rattle.mt_lists.proofs.NumberedLaws.{rises-by}
 use Rattle.mt_peers.specs.declared.state.State.{State}
-use Rattle.mt_peers.specs.Peers.{Peer, Peering, PeersView, peering_of, mount_of, state_at, with_state}
+use Rattle.mt_peers.specs.Peers.{Peer, Peering, PeersView, peering_of, mount_of, state_at}
 use Rattle.mt_peers.specs.Members.{group_at, master_at}
 use Rattle.mt_peers.specs.Listed.{peer_group, leader_of, IsListed}
 use Rattle.mt_peers.proofs.MemberLaws.{state_at-without}
-use Rattle.mt_peers.proofs.GivenLaws.{state_at-given}
 use Rattle.mt_peers.proofs.ListedLaws.{group-listed, master-listed}
 
 -- rows of a key and a value are what is found of them
@@ -74,13 +73,6 @@ pub put_state : (es : List Peer) (i : ℕ) (s : State) → state_at (put mount_o
 put_state es i s =
     let x : Peer = record { mount = i; state = s } in
     ap (option_map (λ (e : Peer). e.state)) (row_at-put mount_of i x es ∙ ap (λ b. cond b (Some x) (row_at mount_of i es)) (eq-eqb i i refl))
-
-pub given_state : (es : List Peer) (i : ℕ) (s : State) → is_some (state_at es i) ≡ true → state_at (with_state i s es) i ≡ Some s
-given_state es i s there = state_at-given i s i es ∙ ap (λ b. option_map (λ t. cond b s t) (state_at es i)) (eq-eqb i i refl) ∙ go (state_at es i) there
-  where
-    go : (o : Option State) → is_some o ≡ true → option_map (λ (t : State). s) o ≡ Some s
-    go None f = absurd (true≢false (sym f))
-    go (Some t) f = refl
 
 -- one mount is taken out
 module _ (es : List Peer) (k : ℕ) (r : rises mount_of es ≡ true) where

@@ -1,16 +1,16 @@
 -- Mounts that leave where no group that is some other's master goes: then each master stays as it is.
 use Rattle.std.proofs.Common.{◌≡◌, ℕ, zero, suc, ◌+◌, ◌<◌, ◌≤◌, Bool, true, false, cond, not, ◌&&◌, ◌||◌, eqb, eqb-true, eq-eqb, nat_lt, List, [], ◌∷◌, map, drop, length, get_or, Option, Some, None, refl, sym, ap, ◌∙◌, inl, inr, arith}
 use Rattle.std.specs.List.{filter, find, list_any, list_all}
-use Rattle.std.specs.Option.{option_map_or}
+use Rattle.std.specs.Option.{option_map_or, IfSome}
 use Rattle.std.proofs.lemmas.Bool.Decides.{nat_tests}
 use Rattle.std.proofs.lemmas.List.{drop_more, drop_all}
 use Rattle.std.proofs.Math.Bool.{or-false}
 use Rattle.mt_skel.specs.Chain.{chain}
-use Rattle.mt_skel.specs.Keyed.{without, among}
+use Rattle.mt_skel.specs.Keyed.{rises, without, among}
 use Rattle.mt_skel.proofs.ElementLaws.{In, in_filter, any_in}
-use Rattle.mt_lists.specs.Lists.{ListRow, listed_id, listed_number, ids, first, above, names, without_row}
-use Rattle.mt_lists.proofs.NeighbourLaws.{rising}
-use Rattle.mt_lists.proofs.WalkLaws.{rest_from, rest-next}
+use Rattle.mt_lists.specs.Lists.{ListRow, listed_id, listed_number, ids, first, above, next_of, names, without_row}
+use Rattle.mt_lists.proofs.IdLaws.{rising-ids}
+use Rattle.mt_lists.proofs.WalkLaws.{rest_from, rest-next, walk-member, walk-falls, next-among}
 use Rattle.mt_peers.specs.Peers.{Peer, Peering, mount_of, state_at, in_group, has_master, has_member, members, slaves}
 use Rattle.mt_peers.specs.Masters.{master_of}
 use Rattle.mt_peers.specs.Loss.{heir, with_master, settle, left}
@@ -21,16 +21,26 @@ use Rattle.mt_peers.proofs.MemberLaws.{peering, state-in, names-is}
 use Rattle.mt_peers.proofs.ListLaws.{member-group}
 use Rattle.mt_peers.proofs.ListedLaws.{group-listed, members-listed, slaves-listed, members-live}
 
--- a walk along a list, until one stays
-module _ (gone : ℕ → Bool) (xs : List ℕ) (up : rising xs ≡ true) (k : ℕ) (here : Option ℕ) (is : here ≡ Some k) (at : among xs k ≡ true) (told : stays gone (rest_from here xs) ≡ stays gone xs) where
-  cut : stays gone xs ≡ (not (gone k) || stays gone (rest_from (above k xs) xs))
-  cut = sym told ∙ ap (λ o. stays gone (rest_from o xs)) is ∙ ap (stays gone) (rest-next k xs up at)
+-- a walk along the list of a number, until one stays
+module _ (rows : List ListRow) (n : ℕ) (r : rises listed_id rows ≡ true) (k : ℕ) (here : Option ℕ) (is : here ≡ Some k) (inside : IfSome here (λ j. among (ids rows n) j ≡ true)) where
+  met : among (ids rows n) k ≡ true
+  met = rw is at inside
 
-  pub stays-here : gone k ≡ false → true ≡ stays gone xs
-  stays-here e = sym (cut ∙ ap (λ b. not b || stays gone (rest_from (above k xs) xs)) e)
+  pub stays-inside : (next : Option ℕ) → next ≡ next_of rows k → IfSome next (λ j. among (ids rows n) j ≡ true)
+  stays-inside next e = walk-member k (ids rows n) next (e ∙ next-among rows n k r met)
 
-  pub stays-later : (next : Option ℕ) → gone k ≡ true → next ≡ above k xs → stays gone (rest_from next xs) ≡ stays gone xs
-  stays-later next e f = ap (λ o. stays gone (rest_from o xs)) f ∙ sym (cut ∙ ap (λ b. not b || stays gone (rest_from (above k xs) xs)) e)
+  pub stays-smaller : (next : Option ℕ) → next ≡ next_of rows k → length (rest_from next (ids rows n)) < length (rest_from here (ids rows n))
+  stays-smaller next e = walk-falls k (ids rows n) here next (rising-ids rows n r) met is (e ∙ next-among rows n k r met)
+
+  module _ (gone : ℕ → Bool) (told : stays gone (rest_from here (ids rows n)) ≡ stays gone (ids rows n)) where
+    cut : stays gone (ids rows n) ≡ (not (gone k) || stays gone (rest_from (above k (ids rows n)) (ids rows n)))
+    cut = sym told ∙ ap (λ o. stays gone (rest_from o (ids rows n))) is ∙ ap (stays gone) (rest-next k (ids rows n) (rising-ids rows n r) met)
+
+    pub stays-here : gone k ≡ false → true ≡ stays gone (ids rows n)
+    stays-here e = sym (cut ∙ ap (λ b. not b || stays gone (rest_from (above k (ids rows n)) (ids rows n))) e)
+
+    pub stays-later : gone k ≡ true → (next : Option ℕ) → next ≡ next_of rows k → stays gone (rest_from next (ids rows n)) ≡ stays gone (ids rows n)
+    stays-later e next f = ap (λ o. stays gone (rest_from o (ids rows n))) (f ∙ next-among rows n k r met) ∙ sym (cut ∙ ap (λ b. not b || stays gone (rest_from (above k (ids rows n)) (ids rows n))) e)
 
 -- rows are taken out one after the other
 forget-one : (x : ℕ) (rest : List ℕ) (rows : List ListRow) → without (λ (r : ListRow). among rest r.id) (without_row x rows) ≡ without (λ (r : ListRow). among (x ∷ rest) r.id) rows

@@ -1,17 +1,16 @@
 -- The lists of members and of slaves, and what a change of the states makes of them.
-use Rattle.std.proofs.Common.{◌≡◌, ◌≢◌, ℕ, zero, suc, ◌+◌, ◌<◌, Bool, true, false, cond, not, ◌||◌, eqb, List, [], ◌∷◌, ◌++◌, map, take, drop, length, get_or, append_assoc, Option, Some, None, refl, sym, ap, ◌∙◌, subst, arith}
+use Rattle.std.proofs.Common.{◌≡◌, ℕ, zero, suc, ◌+◌, ◌<◌, Bool, true, false, cond, not, ◌||◌, List, [], ◌∷◌, ◌++◌, map, take, drop, length, get_or, append_assoc, Option, Some, None, refl, sym, ap, ◌∙◌, subst, arith}
 use Rattle.std.specs.Prelude.{is_some, nat_lt}
 use Rattle.std.specs.List.{filter, find}
 use Rattle.std.specs.Option.{option_map, option_map_or, option_and_then}
-use Rattle.std.proofs.lemmas.Bool.{ne_eqb}
 use Rattle.std.proofs.lemmas.Bool.Decides.{nat_tests}
 use Rattle.std.proofs.lemmas.List.{drop_more, map_more}
 use Rattle.mt_skel.specs.Keyed.{row_at, put, rises, without}
-use Rattle.mt_skel.proofs.KeyedLaws.{row_at-key, rises-put, rises-filter}
+use Rattle.mt_skel.proofs.KeyedLaws.{rises-put, rises-filter}
 use Rattle.mt_skel.proofs.MiddleLaws.{put_mid}
 use Rattle.mt_lists.specs.Lists.{ListRow, listed_number, ids, first, above, next_of, with_number}
 use Rattle.mt_lists.specs.Numbered.{rows_by}
-use Rattle.mt_lists.proofs.NumberedLaws.{ids-by, number-by, put-by, change-by}
+use Rattle.mt_lists.proofs.NumberedLaws.{ids-by, number-by, put-by, changed-by}
 use Rattle.mt_peers.specs.declared.state.State.{State}
 use Rattle.mt_peers.specs.declared.entries.Entry.{Entry}
 use Rattle.mt_peers.specs.Peers.{Peer, Peering, PeersView, peering_of, mount_of, state_at, with_state, in_group, has_member, names, members, slaves}
@@ -20,7 +19,7 @@ use Rattle.mt_peers.specs.Members.{group_at, master_at, member_after, slave_afte
 use Rattle.mt_peers.specs.Entries.{now_peer, was_peer, now_peers, was_peers}
 use Rattle.mt_peers.specs.Listed.{peer_group, leader_of, IsListed, IsKeptPeers, MastersLive}
 use Rattle.mt_peers.proofs.MemberLaws.{find_row, rises-alike}
-use Rattle.mt_peers.proofs.GivenLaws.{rises-given}
+use Rattle.mt_peers.proofs.GivenLaws.{rises-given, given_state, other_state}
 
 -- what the lists of a number answer
 module _ (number : Peer → Option ℕ) (es : List Peer) (rows : List ListRow) (told : rows ≡ rows_by mount_of number es) where
@@ -100,24 +99,12 @@ listed-put x es ms ss h = record {
 }
 
 -- a mount gets another state
-
-module _ (number : State → Option ℕ) (i : ℕ) (s : State) where
-  number-given : (e : Peer) → e.mount ≡ i → number (cond (eqb i e.mount) s e.state) ≡ number s
-  number-given e same = let b : eqb i e.mount ≡ true = grind (arith, nat_tests) in ap (λ b. number (cond b s e.state)) b
-
-  number-other : (e : Peer) → e.mount ≢ i → number (cond (eqb i e.mount) s e.state) ≡ number e.state
-  number-other e other = ap (λ b. number (cond b s e.state)) (ne_eqb i e.mount (λ e. other (sym e)))
-
-  rows-given : (es : List Peer) → rises mount_of es ≡ true → is_some (state_at es i) ≡ true
-      → rows_by mount_of (λ e. number e.state) (with_state i s es) ≡ with_number i (number s) (rows_by mount_of (λ e. number e.state) es)
-  rows-given es up there = go (row_at mount_of i es) refl there
-    where
-      go : (o : Option Peer) → row_at mount_of i es ≡ o → is_some (option_map (λ (e : Peer). e.state) o) ≡ true
-          → rows_by mount_of (λ e. number e.state) (with_state i s es) ≡ with_number i (number s) (rows_by mount_of (λ e. number e.state) es)
-      go None is f = absurd (cc)
-      go (Some x) is f =
-          change-by mount_of (λ e. number e.state) i (λ (e : Peer). record e { state = cond (eqb i e.mount) s e.state }) x es (λ y. refl) number-other up is
-          ∙ ap (λ o. with_number i o (rows_by mount_of (λ e. number e.state) es)) (number-given x (row_at-key mount_of i es x is))
+rows-given : (number : State → Option ℕ) (i : ℕ) (s : State) (es : List Peer) → rises mount_of es ≡ true → is_some (state_at es i) ≡ true
+    → rows_by mount_of (λ e. number e.state) (with_state i s es) ≡ with_number i (number s) (rows_by mount_of (λ e. number e.state) es)
+rows-given number i s es up there =
+    changed-by mount_of (λ e. number e.state) es (with_state i s es) i (number s) up (rises-given i s es up)
+    (stated number (row_at mount_of i (with_state i s es)) ∙ ap (option_and_then number) (given_state es i s there))
+    (λ q ne. stated number (row_at mount_of q (with_state i s es)) ∙ ap (option_and_then number) (other_state i s q es ne) ∙ sym (stated number (row_at mount_of q es)))
 
 pub listed-given : (i : ℕ) (s : State) (es : List Peer) (ms ss : List ListRow) → IsListed es ms ss → is_some (state_at es i) ≡ true
     → IsListed (with_state i s es) (with_number i s.group ms) (with_number i s.master ss)
@@ -126,16 +113,6 @@ listed-given i s es ms ss h there = record {
   members_told = ap (with_number i s.group) h.members_told ∙ sym (rows-given (λ s. s.group) i s es h.rising there);
   slaves_told = ap (with_number i s.master) h.slaves_told ∙ sym (rows-given (λ s. s.master) i s es h.rising there);
 }
-
--- a mount that is not there gets none
-pub given-absent : (i : ℕ) (s : State) (es : List Peer) → is_some (state_at es i) ≡ false → with_state i s es ≡ es
-given-absent i s [] none = refl
-given-absent i s (e ∷ es) none = go (eqb i e.mount) none (given-absent i s es)
-  where
-    go : (b : Bool) → is_some (option_map (λ (e : Peer). e.state) (cond b (Some e) (row_at mount_of i es))) ≡ false → (is_some (state_at es i) ≡ false → with_state i s es ≡ es)
-        → ◌≡◌ {A = List Peer} (record { mount = e.mount; state = cond b s e.state } ∷ with_state i s es) (e ∷ es)
-    go true f ih = absurd (cc)
-    go false f ih = ap (λ t. e ∷ t) (ih f)
 
 -- entries of which some are listed by what they are and the others by what they were
 abbrev pub mixed : ℕ → List Entry → List Peer

@@ -2,7 +2,7 @@
 use Rattle.std.proofs.Common.{◌≡◌, ℕ, suc, ◌+◌, ◌*◌, ◌≤◌, ◌<◌, Bool, true, false, cond, not, ◌&&◌, ◌||◌, ◌==◌, eqb-true, List, [], ◌∷◌, ◌++◌, map, length, Option, Some, None, refl, sym, ap, ◌∙◌, inl, inr, arith}
 use Rattle.std.specs.List.{filter, filter_map, cons_option}
 use Rattle.std.specs.Option.{option_map_or, option_and_then}
-use Rattle.std.proofs.Math.Bool.{and-or_distrib_right}
+use Rattle.std.proofs.Math.Bool.{and-false, and-true, or-false, not-or_self, and-or_distrib_right}
 use Rattle.std.proofs.lemmas.Bool.{or_right}
 use Rattle.mt_skel.specs.Keyed.{row_at, rises, among}
 use Rattle.mt_skel.proofs.ElementLaws.{In, in_any, in_filter, chain_low}
@@ -100,24 +100,11 @@ all-collected es g t q =
     ∙ sym (occ-filter es t (gets es g) q)
   where
     either : (a b c d : Bool) → ((a || b) && (c && d)) ≡ ((a && (c && d)) || (b && ((c && not a) && d)))
-    either true true true true = refl
-    either true true true false = refl
-    either true true false d = refl
-    either true false true true = refl
-    either true false true false = refl
-    either true false false d = refl
-    either false true true true = refl
-    either false true true false = refl
-    either false true false d = refl
-    either false false c d = refl
+    either true b c d = sym (ap (λ x. (c && d) || (b && (x && d))) (and-false c) ∙ ap (λ x. (c && d) || x) (and-false b) ∙ or-false (c && d))
+    either false b c d = ap (λ x. b && (x && d)) (sym (and-true c))
 
     apart : (a b c d : Bool) → ((a && (c && d)) && (b && ((c && not a) && d))) ≡ false
-    apart true true true true = refl
-    apart true true true false = refl
-    apart true true false d = refl
-    apart true false true true = refl
-    apart true false true false = refl
-    apart true false false d = refl
+    apart true b c d = ap (λ x. (c && d) && (b && (x && d))) (and-false c) ∙ ap (λ x. (c && d) && x) (and-false b) ∙ and-false (c && d)
     apart false b c d = refl
 
 -- how many receivers there are
@@ -141,9 +128,7 @@ looks_at es g = count (in_group g) es + count (gets_above es g) es
 
 -- what passes a test is another than one, or that one
 pub all_so : (u d : Bool) → u ≡ true → ((u && not d) || d) ≡ true
-all_so true true e = refl
-all_so true false e = refl
-all_so false d e = absurd (cc)
+all_so u d e = ap (λ x. (x && not d) || d) e ∙ not-or_self d
 
 pub looks-least : (es : List Peer) (g p : ℕ) → length (received es g p) ≤ looks_at es g
 looks-least es g p =

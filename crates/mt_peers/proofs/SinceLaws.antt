@@ -4,7 +4,6 @@ use Rattle.std.specs.List.{filter}
 use Rattle.std.specs.Option.{option_map}
 use Rattle.std.proofs.lemmas.Bool.{false≢true, ne_eqb, or_parts}
 use Rattle.std.proofs.lemmas.Bool.Decides.{nat_tests}
-use Rattle.std.proofs.lemmas.Iterator.Adapters.{option_map_id}
 use Rattle.mt_skel.specs.Keyed.{row_at, put, rises, among, without}
 use Rattle.mt_skel.proofs.KeyedLaws.{row_at-put}
 use Rattle.mt_lists.specs.Lists.{ListRow}
@@ -17,7 +16,7 @@ use Rattle.mt_peers.specs.Peers.{Peer, mount_of, state_at, with_state}
 use Rattle.mt_peers.specs.Entries.{now_peer, was_peer, now_peers, was_peers, differs, is_changed, noted_of}
 use Rattle.mt_peers.specs.Listed.{IsListed, IsKeptPeers, MastersLive}
 use Rattle.mt_peers.proofs.MemberLaws.{state_at-without}
-use Rattle.mt_peers.proofs.GivenLaws.{state_at-given}
+use Rattle.mt_peers.proofs.GivenLaws.{other_state}
 use Rattle.mt_peers.proofs.ListedLaws.{listed-is}
 
 same_mark : (a b : Bool) → differs a b ≡ false → a ≡ b
@@ -76,7 +75,7 @@ pub but_put : (es : List Peer) (x : Peer) → AreAlikeBut (x.mount ∷ []) (stat
 but_put es x i e = ap (option_map (λ (p : Peer). p.state)) (sym (row_at-put mount_of i x es ∙ ap (λ b. cond b (Some x) (row_at mount_of i es)) (ne_eqb i x.mount (not-only x.mount i e))))
 
 pub but_given : (es : List Peer) (k : ℕ) (s : State) → AreAlikeBut (k ∷ []) (state_at es) (state_at (with_state k s es))
-but_given es k s i e = sym (state_at-given k s i es ∙ ap (λ b. option_map (λ t. cond b s t) (state_at es i)) (ne_eqb k i (λ h. not-only k i e (sym h))) ∙ option_map_id (state_at es i))
+but_given es k s i e = sym (other_state k s i es (not-only k i e))
 
 pub but_left : (es : List Peer) (ids : List ℕ) → rises mount_of es ≡ true → AreAlikeBut ids (state_at es) (state_at (without (λ (e : Peer). among ids e.mount) es))
 but_left es ids up i h = sym (state_at-without (among ids) i es up ∙ ap (λ b. cond b None (state_at es i)) h)

@@ -2,9 +2,9 @@ use Rattle.std.proofs.Common.{sym, ap, ◌∙◌}
 use Rattle.mt_skel.specs.Keyed.{among}
 use Rattle.mt_lists.specs.Lists.{ids}
 use Rattle.mt_lists.proofs.IdLaws.{rising-ids}
-use Rattle.mt_lists.proofs.WalkLaws.{rest_from, rest-first, walk-start, walk-member, walk-falls, next-among}
+use Rattle.mt_lists.proofs.WalkLaws.{rest_from, rest-first, walk-start}
 use Rattle.mt_peers.specs.Going.{stays}
-use Rattle.mt_peers.proofs.GoingLaws.{stays-here, stays-later}
+use Rattle.mt_peers.proofs.GoingLaws.{stays-here, stays-later, stays-inside, stays-smaller}
 use Rattle.mt_peers.proofs.leaving.any_stays.Goals as goal
 
 pub list-init : goal.list-init
@@ -16,25 +16,13 @@ list-init c =
     }
 
 pub list-smaller : goal.list-smaller
-list-smaller c =
-    let xs = ids c.args.lists.now.rows c.args.group in
-    let m = rw c.in-Some.is at c.list.invariant.inside in
-    walk-falls c.in-Some.id xs c.list.here c.after-here.result (rising-ids c.args.lists.now.rows c.args.group c.first-here.ensures.rising) m c.in-Some.is
-    (c.after-here.ensures ∙ next-among c.args.lists.now.rows c.args.group c.in-Some.id c.first-here.ensures.rising m)
+list-smaller c = stays-smaller c.args.lists.now.rows c.args.group c.first-here.ensures.rising c.in-Some.id c.list.here c.in-Some.is c.list.invariant.inside c.after-here.result c.after-here.ensures
 
 pub list-preserved : goal.list-preserved
-list-preserved c =
-    let xs = ids c.args.lists.now.rows c.args.group in
-    let up = rising-ids c.args.lists.now.rows c.args.group c.first-here.ensures.rising in
-    let m = rw c.in-Some.is at c.list.invariant.inside in
-    let next = c.after-here.ensures ∙ next-among c.args.lists.now.rows c.args.group c.in-Some.id c.first-here.ensures.rising m in
-    record {
-      told = stays-later (among c.args.gone.now) xs up c.in-Some.id c.list.here c.in-Some.is m c.list.invariant.told c.after-here.result (sym c.has.ensures ∙ c.if-not-has.false) next;
-      inside = walk-member c.in-Some.id xs c.after-here.result next;
-    }
+list-preserved c = record {
+  told = stays-later c.args.lists.now.rows c.args.group c.first-here.ensures.rising c.in-Some.id c.list.here c.in-Some.is c.list.invariant.inside (among c.args.gone.now) c.list.invariant.told (sym c.has.ensures ∙ c.if-not-has.false) c.after-here.result c.after-here.ensures;
+  inside = stays-inside c.args.lists.now.rows c.args.group c.first-here.ensures.rising c.in-Some.id c.list.here c.in-Some.is c.list.invariant.inside c.after-here.result c.after-here.ensures;
+}
 
 pub returns-then-not-has : goal.returns-then-not-has
-returns-then-not-has c =
-    let xs = ids c.args.lists.now.rows c.args.group in
-    let m = rw c.in-Some.is at c.list.invariant.inside in
-    stays-here (among c.args.gone.now) xs (rising-ids c.args.lists.now.rows c.args.group c.first-here.ensures.rising) c.in-Some.id c.list.here c.in-Some.is m c.list.invariant.told (sym c.has.ensures ∙ c.if-not-has.true)
+returns-then-not-has c = stays-here c.args.lists.now.rows c.args.group c.first-here.ensures.rising c.in-Some.id c.list.here c.in-Some.is c.list.invariant.inside (among c.args.gone.now) c.list.invariant.told (sym c.has.ensures ∙ c.if-not-has.true)

@@ -8,7 +8,8 @@ use Rattle.mt_peers.specs.Peers.{PeersView, state_at, with_state}
 use Rattle.mt_peers.specs.Entries.{now_peers}
 use Rattle.mt_peers.proofs.GivenLaws.{given-written}
 use Rattle.mt_lists.proofs.LogLaws.{alike-noted}
-use Rattle.mt_peers.proofs.ListedLaws.{given-absent, listed-given}
+use Rattle.mt_peers.proofs.EachLaws.{given-absent}
+use Rattle.mt_peers.proofs.ListedLaws.{listed-given}
 use Rattle.mt_peers.proofs.SinceLaws.{but_given, kept-is}
 use Rattle.mt_peers.proofs.peers.Peers.give.Goals as goal
 use Rattle.mt_peers.proofs.peers.Peers.give.Goals.{Else-is_some}
@@ -35,7 +36,7 @@ invariant_of-self c =
 pub invariant_of-self-else-is_some : goal.invariant_of-self-else-is_some
 invariant_of-self-else-is_some c =
     let none = ap (λ (es : List Entry). is_some (state_at (now_peers es) c.args.id)) (sym c.deref_mut.ensures.value) ∙ ap is_some (sym c.give_state-was.ensures.was) ∙ sym c.is_some.ensures ∙ c.if-is_some.false in
-    kept-is _ _ _ _ _ _ (earlier c.self.inside.since.seen.items (λ v. now_peers v.items)) c.self.inside.log.ids _ (is_same c ∙ given-absent c.args.id c.args.state (now_peers c.self.inside.entries.items) none) refl refl c.self.invariant.listed
+    kept-is _ _ _ _ _ _ (earlier c.self.inside.since.seen.items (λ v. now_peers v.items)) c.self.inside.log.ids _ (is_same c ∙ given-absent c.args.id c.args.state (now_peers c.self.inside.entries.items) c.self.invariant.listed.rising none) refl refl c.self.invariant.listed
     c.self.invariant.known (λ t. absurd (false≢true t))
 
 pub returns-then-is_some-clause-peers : goal.returns-then-is_some-clause-peers
