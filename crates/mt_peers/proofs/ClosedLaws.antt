@@ -1,7 +1,7 @@
 -- A set of mounts that has all that receive from its members stays one, and mounts outside keep their states.
 use Rattle.std.proofs.Common.{◌≡◌, ◌⊎◌, ℕ, zero, suc, ◌<◌, Bool, true, false, cond, not, ◌||◌, eqb, eqb-true, List, [], ◌∷◌, map, length, Option, Some, None, refl, sym, ap, ◌∙◌, subst, inl, inr, arith}
 use Rattle.std.specs.List.{list_any, filter}
-use Rattle.std.specs.Option.{option_map, option_map_or, option_or}
+use Rattle.std.specs.Option.{option_map, option_map_or}
 use Rattle.std.proofs.lemmas.Bool.{false_from_ne_true}
 use Rattle.std.proofs.lemmas.Bool.Decides.{nat_tests}
 use Rattle.mt_skel.specs.Chain.{chain}
@@ -9,7 +9,6 @@ use Rattle.mt_skel.specs.Keyed.{rises}
 use Rattle.mt_skel.proofs.ElementLaws.{In, any_in, in_filtered, in_mapped}
 use Rattle.mt_peers.specs.declared.state.State.{State}
 use Rattle.mt_peers.specs.declared.state.Kind.{Kind}
-use Rattle.mt_peers.specs.declared.state.Kind.TheVariants.{Shared, Private, Slave, Unbindable}
 use Rattle.mt_peers.specs.Peers.{Peer, Peering, mount_of, state_at, in_group, has_member}
 use Rattle.mt_peers.specs.Masters.{master_of, groups_up, reaches}
 use Rattle.mt_peers.specs.Loss.{settle, heir, with_master, left}
@@ -17,7 +16,7 @@ use Rattle.mt_peers.specs.Making.{made, changed, changed_peer, new_group}
 use Rattle.mt_peers.specs.WellFormed.{IsPeering}
 use Rattle.mt_peers.proofs.MemberLaws.{master_of-from, state_at-filter, state_at-without, state_at-map, names-is}
 use Rattle.mt_peers.proofs.SettleLaws.{before, find-among, state_at-settle}
-use Rattle.mt_peers.proofs.MakingLaws.{old_master, origin, source, both, made-settled}
+use Rattle.mt_peers.proofs.MakingLaws.{changed-master, old_master, origin, source, both, made-settled}
 use Rattle.mt_peers.proofs.GoingLaws.{heir-stays}
 pub use Rattle.mt_peers.proofs.MemberLaws.{living}
 
@@ -66,14 +65,6 @@ along next P step (suc n) x q px h = go (next x) refl (λ y. along next P step n
 pub heir-along : (old new : List Peer) (P : ℕ → Type 0) → ((x y : ℕ) → P x → master_of old x ≡ Some y → P y) → (m : Option ℕ) (g : ℕ) → ((k : ℕ) → m ≡ Some k → P k) → heir old new m ≡ Some g → P g
 heir-along old new P step None g start e = absurd (cc)
 heir-along old new P step (Some m) g start e = along (master_of old) P step (length old) m g (start m refl) (find-among (has_member new) (groups_up old m) g e)
-
--- a changed state has the master that it had, or its group as master
-pub changed-master : (k : Kind) (n : ℕ) (b : Bool) (s : State) (g : ℕ) → (cond b (changed k n s) s).master ≡ Some g → (s.master ≡ Some g) ⊎ (s.group ≡ Some g)
-changed-master k n false s g e = inl e
-changed-master Shared n true s g e = inl e
-changed-master Private n true s g e = absurd (cc)
-changed-master Slave n true s g e = elim s.group as (λ o. option_or o s.master ≡ Some g → (s.master ≡ Some g) ⊎ (o ≡ Some g)) [ None ↦ λ x. inl x | Some q ↦ λ x. inr x ] e
-changed-master Unbindable n true s g e = absurd (cc)
 
 -- a chain of masters that leads to a group of the set begins at one of the set
 turned : (g : ℕ) (xs : List ℕ) → list_any (λ k. eqb k g) xs ≡ true → list_any (eqb g) xs ≡ true

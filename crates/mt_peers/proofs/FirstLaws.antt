@@ -44,6 +44,11 @@ first-count h t es up = ap (λ o. count (λ e. (in_group h e && names o e.mount)
         ∙ ap (λ o. option_map_or (λ y. cond (in_group h y && t y) 1 0) o 0) f.0
         ∙ ap (λ b. cond (b && t x) 1 0) f.1
 
+-- an optional number is this one
+pub names-cond : (b : Bool) (k q : ℕ) → names (cond b (Some k) None) q ≡ (b && (k == q))
+names-cond true k q = refl
+names-cond false k q = refl
+
 -- a group is entered at the slaves of its master, once, and at no others
 pub entered-once : (es : List Peer) (g m h : ℕ) → rises mount_of es ≡ true → occ h (entered_by es g m) ≡ cond (not (h == g) && names (master_of es h) m) 1 0
 entered-once es g m h up =
@@ -57,26 +62,16 @@ entered-once es g m h up =
     order true b c = and_comm b c ∙ ap (λ x. c && x) (sym (and-true b))
     order false b c = sym (ap (λ x. c && x) (and-false b) ∙ and-false c)
 
-    here : (a b : Bool) (k : ℕ) → (k == h) ≡ true → (a && names (cond b (Some k) None) h) ≡ (a && b)
-    here a true k e = ap (λ c. a && c) e
-    here a false k e = refl
-
-    there : (a b : Bool) (k : ℕ) → (k == h) ≡ false → (a && names (cond b (Some k) None) h) ≡ false
-    there true true k e = e
-    there true false k e = refl
-    there false b k e = refl
-
-    at : (a : Bool) (i k : ℕ) (b : Bool) → (k == h) ≡ b → (a && names (cond (not (k == g) && is_first es k i) (Some k) None) h) ≡ ((b && is_first es h i) && (not (h == g) && a))
+    at : (a : Bool) (i k : ℕ) (b : Bool) → (k == h) ≡ b → (a && ((not (k == g) && is_first es k i) && b)) ≡ ((b && is_first es h i) && (not (h == g) && a))
     at a i k true e =
-        here a (not (k == g) && is_first es k i) k e
+        ap (λ c. a && c) (and-true (not (k == g) && is_first es k i))
         ∙ ap (λ j. a && (not (j == g) && is_first es j i)) (eqb-true k h e)
         ∙ order a (not (h == g)) (is_first es h i)
-    at a i k false e = there a (not (k == g) && is_first es k i) k e
+    at a i k false e = ap (λ c. a && c) (and-false (not (k == g) && is_first es k i)) ∙ and-false a
 
     tests : (a : Bool) (i : ℕ) (o : Option ℕ) → (a && names (entered es g i o) h) ≡ ((names o h && is_first es h i) && (not (h == g) && a))
-    tests true i None = refl
-    tests false i None = refl
-    tests a i (Some k) = at a i k (k == h) refl
+    tests a i None = and-false a
+    tests a i (Some k) = ap (λ c. a && c) (names-cond (not (k == g) && is_first es k i) k h) ∙ at a i k (k == h) refl
 
     by : (a : Bool) (o : Option Peer) → ◌≡◌ {A = ℕ} (option_map_or (λ x. cond (a && has_master m x) 1 0) o 0) (cond (a && names (option_and_then (λ (e : Peer). e.state.master) o) m) 1 0)
     by true None = refl

@@ -1,14 +1,13 @@
 -- A change that settles no master.
-use Rattle.std.proofs.Common.{◌≡◌, ℕ, ◌+◌, Bool, true, false, cond, not, List, map, length, Option, Some, None, refl, sym, ap, ◌∙◌}
+use Rattle.std.proofs.Common.{◌≡◌, ℕ, ◌+◌, Bool, true, false, cond, not, List, map, length, Option, Some, None, refl, sym, ap, ◌∙◌, ◌⊎◌, inl, inr}
 use Rattle.std.specs.List.{filter, list_all}
-use Rattle.std.specs.Option.{option_or}
 use Rattle.mt_skel.specs.Keyed.{among}
 use Rattle.mt_skel.proofs.ElementLaws.{In, in_map, in_filtered}
 use Rattle.mt_lists.specs.Lists.{ListRow}
 use Rattle.mt_peers.specs.declared.state.State.{State}
 use Rattle.mt_peers.specs.declared.state.Kind.{Kind}
 use Rattle.mt_peers.specs.declared.state.Kind.TheVariants.{Shared, Private, Slave, Unbindable}
-use Rattle.mt_peers.specs.Peers.{Peer, Peering, has_member}
+use Rattle.mt_peers.specs.Peers.{Peer, Peering, state_at, has_member}
 use Rattle.mt_peers.specs.Loss.{with_master, settle}
 use Rattle.mt_peers.specs.Making.{made, changed, changed_peer, is_shared, groupless, new_group}
 use Rattle.mt_peers.specs.Listed.{IsListed, MastersLive}
@@ -16,6 +15,7 @@ use Rattle.mt_peers.specs.Going.{may_go, keeps, loses_none}
 use Rattle.mt_peers.specs.Few.{gains, unsettled}
 use Rattle.mt_peers.proofs.SettleLaws.{settled}
 use Rattle.mt_peers.proofs.MemberLaws.{peering, state-in, member-there}
+use Rattle.mt_peers.proofs.MakingLaws.{changed-master}
 use Rattle.mt_peers.proofs.LeaveLaws.{has-staying}
 use Rattle.mt_peers.proofs.GoingLaws.{staying, kept, keeps-member, heir-stays, map-same}
 use Rattle.mt_peers.proofs.LiveLaws.{gained-master, gains-self, gains-shared, has-map}
@@ -56,15 +56,11 @@ module _ (p : Peering) (ids : List ℕ) where
         go e at g false off is = keeps-member p live ids ms ss l ok e g (in_filtered (λ (e : Peer). not (among ids e.mount)) e p.peers at (ap not off)) is
 
     slave-none : list_all (keeps ms (among ids)) ids ≡ true → made Slave (among ids) p ≡ unsettled Slave (among ids) p
-    slave-none ok = settled-none Slave (λ e at g is. has-staying Slave (λ n s. refl) (among ids) p p.peers g ∙ kept p live ids ms ss l ok g (go e at g (among ids e.mount) is))
+    slave-none ok = settled-none Slave (λ e at g is. has-staying Slave (λ n s. refl) (among ids) p p.peers g ∙ kept p live ids ms ss l ok g (lives e g (state-in p.peers e l.rising at) (changed-master Slave (new_group (among ids) p e.mount) (among ids e.mount) e.state g is)))
       where
-        from : (e : Peer) → In e p.peers → (g : ℕ) (o : Option ℕ) → e.state.group ≡ o → option_or o e.state.master ≡ Some g → has_member p.peers g ≡ true
-        from e at g None none is = live.lives e.mount e.state g (state-in p.peers e l.rising at) is
-        from e at g (Some h) own is = member-there g p.peers e.mount e.state (state-in p.peers e l.rising at) (own ∙ is)
-
-        go : (e : Peer) → In e p.peers → (g : ℕ) (b : Bool) → (cond b (changed Slave (new_group (among ids) p e.mount) e.state) e.state).master ≡ Some g → has_member p.peers g ≡ true
-        go e at g true is = from e at g e.state.group refl is
-        go e at g false is = live.lives e.mount e.state g (state-in p.peers e l.rising at) is
+        lives : (e : Peer) (g : ℕ) → state_at p.peers e.mount ≡ Some e.state → (e.state.master ≡ Some g) ⊎ (e.state.group ≡ Some g) → has_member p.peers g ≡ true
+        lives e g at (inl led) = live.lives e.mount e.state g at led
+        lives e g at (inr own) = member-there g p.peers e.mount e.state at own
 
     pub local : (k : Kind) → loses_none k ms ss (among ids) ids ≡ true → made k (among ids) p ≡ unsettled k (among ids) p
     local Shared ok = shared-none Shared refl

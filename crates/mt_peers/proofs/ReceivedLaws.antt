@@ -18,7 +18,7 @@ use Rattle.mt_peers.proofs.MemberLaws.{master_of-is, named, state-in}
 use Rattle.mt_peers.proofs.LeavingLaws.{up_rank, up_falls}
 use Rattle.mt_skel.proofs.CountLaws.{count-same, count-or, count-le-or, count-map, count-filter, length-filter, occ-filter_map}
 use Rattle.mt_skel.proofs.WorklistLaws.{is_found, is_found-snoc, apart-new}
-use Rattle.mt_peers.proofs.FirstLaws.{count-zero, one-row}
+use Rattle.mt_peers.proofs.FirstLaws.{count-zero, names-cond, one-row}
 use Rattle.mt_peers.proofs.WorklistLaws.{IsWorklist, led_by, worklist-sound, worklist-reach}
 
 -- a mount gets what happens in the group g
@@ -47,11 +47,7 @@ collected-rows es t g m q up =
     ap (occ q) (slave-rows es (collected_slave t g) m up)
     ∙ occ-filter_map q (λ (e : Peer). collected_slave t g e.mount e.state.group) (filter (has_master m) es)
     ∙ count-filter (λ (e : Peer). names (collected_slave t g e.mount e.state.group) q) (has_master m) es
-    ∙ count-same (λ (e : Peer). has_master m e && names (collected_slave t g e.mount e.state.group) q) (λ e. has_master m e && other_at t g q e) (λ e. ap (λ b. has_master m e && b) (at (t e.mount && not (in_group g e)) e.mount)) es
-  where
-    at : (b : Bool) (i : ℕ) → names (cond b (Some i) None) q ≡ (b && (i == q))
-    at true i = refl
-    at false i = refl
+    ∙ count-same (λ (e : Peer). has_master m e && names (collected_slave t g e.mount e.state.group) q) (λ e. has_master m e && other_at t g q e) (λ e. ap (λ b. has_master m e && b) (names-cond (t e.mount && not (in_group g e)) e.mount q)) es
 
 pub occ-filter : (es : List Peer) (t : ℕ → Bool) (s : Peer → Bool) (q : ℕ) → occ q (filter t (map mount_of (filter s es))) ≡ count (λ e. s e && (t e.mount && (e.mount == q))) es
 occ-filter es t s q =
