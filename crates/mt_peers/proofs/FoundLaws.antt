@@ -14,7 +14,7 @@ use Rattle.mt_skel.specs.Keyed.{rises, row_at}
 use Rattle.mt_skel.proofs.KeyedLaws.{row_at-below}
 use Rattle.mt_peers.specs.declared.state.State.{State}
 use Rattle.mt_peers.specs.declared.entries.Entry.{Entry}
-use Rattle.mt_peers.specs.Entries.{now_peers, given_entry}
+use Rattle.mt_peers.specs.Entries.{given_entry}
 use Rattle.mt_peers.proofs.EntryLaws.{entry_mount}
 
 -- those behind one are above it

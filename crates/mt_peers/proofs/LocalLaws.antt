@@ -1,6 +1,6 @@
 -- A change that settles no master.
-use Rattle.std.proofs.Common.{◌≡◌, ℕ, ◌+◌, Bool, true, false, cond, not, List, map, length, Option, Some, None, refl, sym, ap, ◌∙◌, ◌⊎◌, inl, inr}
-use Rattle.std.specs.List.{filter, list_all}
+use Rattle.std.proofs.Common.{◌≡◌, ℕ, ◌+◌, Bool, true, false, cond, not, List, map, length, Some, None, refl, sym, ap, ◌∙◌, ◌⊎◌, inl, inr}
+use Rattle.std.specs.List.{list_all}
 use Rattle.mt_skel.specs.Keyed.{among}
 use Rattle.mt_skel.proofs.ElementLaws.{In, in_map, in_filtered}
 use Rattle.mt_lists.specs.Lists.{ListRow}

@@ -1,7 +1,7 @@
 use Rattle.std.proofs.Common.{◌≡◌, ℕ, List, length, sym, ap, ◌∙◌}
 use Rattle.mt_skel.specs.Keyed.{among}
 use Rattle.mt_lists.specs.Numbered.{rows_by}
-use Rattle.mt_peers.specs.Peers.{Peer, Peering, mount_of}
+use Rattle.mt_peers.specs.Peers.{Peer, mount_of}
 use Rattle.mt_peers.specs.Making.{made}
 use Rattle.mt_peers.specs.Entries.{now_peers}
 use Rattle.mt_peers.specs.Listed.{peer_group, leader_of}
