@@ -1,12 +1,12 @@
 -- A set of mounts that has all that receive from its members stays one, and mounts outside keep their states.
-use Rattle.std.proofs.Common.{◌≡◌, ◌⊎◌, ℕ, zero, suc, ◌<◌, Bool, true, false, cond, not, ◌||◌, eqb, eqb-true, List, [], ◌∷◌, map, length, Option, Some, None, refl, sym, ap, ◌∙◌, subst, inl, inr, arith}
+use Rattle.std.proofs.Common.{◌≡◌, ◌⊎◌, ℕ, zero, suc, ◌<◌, Bool, true, false, cond, not, ◌||◌, eqb, eqb-true, eq-eqb, List, [], ◌∷◌, map, length, Option, Some, None, refl, sym, ap, ◌∙◌, subst, inl, inr, arith}
 use Rattle.std.specs.List.{list_any, filter}
 use Rattle.std.specs.Option.{option_map, option_map_or}
 use Rattle.std.proofs.lemmas.Bool.{false_from_ne_true}
 use Rattle.std.proofs.lemmas.Bool.Decides.{nat_tests}
 use Rattle.mt_skel.specs.Chain.{chain}
 use Rattle.mt_skel.specs.Keyed.{rises}
-use Rattle.mt_skel.proofs.ElementLaws.{In, any_in, in_filtered, in_mapped}
+use Rattle.mt_skel.proofs.ElementLaws.{In, in_any, any_in, in_filtered, in_mapped}
 use Rattle.mt_peers.specs.declared.state.State.{State}
 use Rattle.mt_peers.specs.declared.state.Kind.{Kind}
 use Rattle.mt_peers.specs.Peers.{Peer, Peering, mount_of, state_at, in_group, has_member}
@@ -67,18 +67,16 @@ heir-along old new P step None g start e = absurd (cc)
 heir-along old new P step (Some m) g start e = along (master_of old) P step (length old) m g (start m refl) (find-among (has_member new) (groups_up old m) g e)
 
 -- a chain of masters that leads to a group of the set begins at one of the set
-turned : (g : ℕ) (xs : List ℕ) → list_any (λ k. eqb k g) xs ≡ true → list_any (eqb g) xs ≡ true
-turned g [] h = h
-turned g (x ∷ xs) h = let ih = turned g xs in grind (arith, nat_tests)
-
 pub reached : (P : ℕ → Type 0) (es : List Peer) → rises mount_of es ≡ true → IsClosed P es → (i j m g : ℕ) (s t : State)
     → state_at es i ≡ Some s → state_at es j ≡ Some t → s.master ≡ Some m → t.group ≡ Some g → P j → reaches es m g ≡ true → P i
 reached P es r a i j m g s t ei ej ms gt q far =
+    let here = in_any (λ k. eqb k g) (groups_up es m) far in
+    let turned = any_in (eqb g) here.0 (groups_up es m) here.1 (eq-eqb g here.0 (sym (eqb-true here.0 g here.2))) in
     along (master_of es) (λ x. (k : ℕ) (u : State) → state_at es k ≡ Some u → u.group ≡ Some x → P k → P i)
     (λ x y draws up.
     let f = master_of-from es x y r up in
     λ k u ek gu p. draws f.0 f.1 f.2 f.3 (a.masters f.0 k f.1 u y f.2 ek f.4 gu p))
-    (length es) m g (λ k u ek gu p. a.masters i k s u m ei ek ms gu p) (turned g (groups_up es m) far) j t ej gt q
+    (length es) m g (λ k u ek gu p. a.masters i k s u m ei ek ms gu p) turned j t ej gt q
 
 -- a master that still lives stays
 pub settled-same : (old mid : List Peer) (i : ℕ) (s : State) → state_at mid i ≡ Some s → ((m : ℕ) → s.master ≡ Some m → has_member mid m ≡ true) → state_at (settle old mid) i ≡ Some s

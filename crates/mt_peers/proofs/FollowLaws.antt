@@ -55,6 +55,7 @@ masters_alike es os ids ms ss h a i e = master-listed es ms ss h i ∙ ap (optio
 
 -- the number of an ID that was given one, or none, and those of others
 module _ (i : ℕ) (o : Option ℕ) (rows new : List ListRow) (r : rises listed_id rows ≡ true) (given : new ≡ with_number i o rows) where
+  -- the row of an ID then
   row_given : (q : ℕ) → row_at listed_id q new ≡ cond (nat_eq q i) (option_map (λ n. record { id = i; number = n }) o) (row_at listed_id q rows)
   row_given q = ap (row_at listed_id q) given ∙ row-with i q o rows r
 

@@ -57,6 +57,7 @@ place_parted id es at bound parted = sym (position_or_len_is (λ (e : Entry). na
 -- an edit of the entry of one mount, which is there or is not
 module _ (id : ℕ) (edited : List Entry → List Entry) (there : Entry → List Entry → List Entry) (none : edited [] ≡ [])
     (some : (x : Entry) (xs : List Entry) (b : Bool) → nat_eq id x.mount ≡ b → cond b (there x (edited xs)) (x ∷ edited xs) ≡ edited (x ∷ xs)) where
+  -- where it is not there, nothing changes
   edited_none : (es : List Entry) → row_at entry_mount id es ≡ None → es ≡ edited es
   edited_none [] absent = sym none
   edited_none (x ∷ xs) absent = go (nat_eq id x.mount) refl absent (edited_none xs)
@@ -65,6 +66,7 @@ module _ (id : ℕ) (edited : List Entry → List Entry) (there : Entry → List
       go true is f ih = absurd (cc)
       go false is f ih = ap (λ t. x ∷ t) (ih f) ∙ some x xs false is
 
+  -- and where it is, what stands at its place
   edited_at : (es : List Entry) (i : ℕ) (d : Entry) → rises entry_mount es ≡ true → i < length es → (get_or es i d).mount ≡ id → take i es ++ there (get_or es i d) (drop (suc i) es) ≡ edited es
   edited_at [] i d up l same = absurd (omega arith)
   edited_at (x ∷ xs) zero d up l same =
@@ -81,6 +83,7 @@ module _ (id : ℕ) (s : State) where
   abbrev written : Entry → Entry
   written e = record { mount = e.mount; state = s; was = e.was }
 
+  -- one entry more
   given_some : (x : Entry) (xs : List Entry) (b : Bool) → nat_eq id x.mount ≡ b → cond b (written x ∷ map (given_entry id s) xs) (x ∷ map (given_entry id s) xs) ≡ map (given_entry id s) (x ∷ xs)
   given_some x xs true is = ap (λ b. record { mount = x.mount; state = cond b s x.state; was = x.was } ∷ map (given_entry id s) xs) (sym is)
   given_some x xs false is = ap (λ b. record { mount = x.mount; state = cond b s x.state; was = x.was } ∷ map (given_entry id s) xs) (sym is)
@@ -97,6 +100,7 @@ module _ (id : ℕ) where
   abbrev others : List Entry → List Entry
   others es = filter (λ (e : Entry). not (nat_eq id e.mount)) es
 
+  -- one entry more
   dropped_some : (x : Entry) (xs : List Entry) (b : Bool) → nat_eq id x.mount ≡ b → cond b (others xs) (x ∷ others xs) ≡ others (x ∷ xs)
   dropped_some x xs true is = ap (λ b. cond (not b) (x ∷ others xs) (others xs)) (sym is)
   dropped_some x xs false is = ap (λ b. cond (not b) (x ∷ others xs) (others xs)) (sym is)

@@ -22,12 +22,15 @@ use Rattle.mt_peers.proofs.ListedLaws.{group-listed, members-listed, slaves-list
 
 -- a walk along the list of a number, until one stays
 module _ (rows : List ListRow) (n : ℕ) (r : rises listed_id rows ≡ true) (k : ℕ) (here : Option ℕ) (is : here ≡ Some k) (inside : IfSome here (λ j. among (ids rows n) j ≡ true)) where
+  -- the walk is at one of them
   met : among (ids rows n) k ≡ true
   met = rw is at inside
 
+  -- and then at the next of them, or at the end
   pub stays-inside : (next : Option ℕ) → next ≡ next_of rows k → IfSome next (λ j. among (ids rows n) j ≡ true)
   stays-inside next e = walk-member k (ids rows n) next (e ∙ next-among rows n k r met)
 
+  -- less is left
   pub stays-smaller : (next : Option ℕ) → next ≡ next_of rows k → length (rest_from next (ids rows n)) < length (rest_from here (ids rows n))
   stays-smaller next e = walk-falls k (ids rows n) here next (rising-ids rows n r) met is (e ∙ next-among rows n k r met)
 

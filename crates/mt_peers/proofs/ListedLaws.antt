@@ -118,6 +118,7 @@ listed-given i s es ms ss h there = record {
 abbrev pub mixed : ℕ → List Entry → List Peer
 mixed i es = now_peers (take i es) ++ was_peers (drop i es)
 
+-- each of them is of the same mount
 mixed-mounts : (i : ℕ) (es : List Entry) → map mount_of (mixed i es) ≡ map mount_of (now_peers es)
 mixed-mounts zero [] = refl
 mixed-mounts zero (e ∷ es) = ap (λ t. e.mount ∷ t) (mixed-mounts zero es)
@@ -164,11 +165,9 @@ rows-without number gone (e ∷ es) = go (number e) refl (gone e.mount) refl (ro
         → rows_by mount_of number (cond (not b) (e ∷ without (λ e. gone e.mount) es) (without (λ e. gone e.mount) es))
         ≡ without (λ (r : ListRow). gone r.id) (option_map_or (λ m. record { id = e.mount; number = m } ∷ rows_by mount_of number es) o (rows_by mount_of number es))
     go None is true at ih = ih
-    go None is false at ih = ap (λ z. option_map_or (λ m. record { id = e.mount; number = m } ∷ rows_by mount_of number (without (λ e. gone e.mount) es)) z (rows_by mount_of number (without (λ e. gone e.mount) es))) is ∙ ih
-    go (Some m) is true at ih = ih ∙ sym (ap (λ b. cond (not b) (record { id = e.mount; number = m } ∷ without (λ (r : ListRow). gone r.id) (rows_by mount_of number es)) (without (λ (r : ListRow). gone r.id) (rows_by mount_of number es))) at)
-    go (Some m) is false at ih =
-        ap (λ z. option_map_or (λ m. record { id = e.mount; number = m } ∷ rows_by mount_of number (without (λ e. gone e.mount) es)) z (rows_by mount_of number (without (λ e. gone e.mount) es))) is ∙ ap (λ z. record { id = e.mount; number = m } ∷ z) ih
-        ∙ sym (ap (λ b. cond (not b) (record { id = e.mount; number = m } ∷ without (λ (r : ListRow). gone r.id) (rows_by mount_of number es)) (without (λ (r : ListRow). gone r.id) (rows_by mount_of number es))) at)
+    go None is false at ih = rw is ih
+    go (Some m) is true at ih = rw at ih
+    go (Some m) is false at ih = rw (is, at) (ap (λ z. record { id = e.mount; number = m } ∷ z) ih)
 
 pub listed-without : (gone : ℕ → Bool) (es : List Peer) (ms ss : List ListRow) → IsListed es ms ss
     → IsListed (without (λ e. gone e.mount) es) (without (λ (r : ListRow). gone r.id) ms) (without (λ (r : ListRow). gone r.id) ss)

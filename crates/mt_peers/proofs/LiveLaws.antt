@@ -24,16 +24,12 @@ has-put : (g : ℕ) (x : Peer) (es : List Peer) → state_at es x.mount ≡ None
 has-put g x [] none h = absurd (cc)
 has-put g x (y ∷ ys) none h = go (ltb x.mount y.mount) (eqb x.mount y.mount) none h (has-put g x ys)
   where
-    by : (b : Bool) → (b || has_member ys g) ≡ true → (has_member ys g ≡ true → has_member (put mount_of x ys) g ≡ true) → (b || has_member (put mount_of x ys) g) ≡ true
-    by true h f = refl
-    by false h f = f h
-
     go : (less same : Bool) → option_map (λ (e : Peer). e.state) (cond same (Some y) (row_at mount_of x.mount ys)) ≡ None → (in_group g y || has_member ys g) ≡ true
         → (state_at ys x.mount ≡ None → has_member ys g ≡ true → has_member (put mount_of x ys) g ≡ true)
         → has_member (cond less (x ∷ y ∷ ys) (cond same (x ∷ ys) (y ∷ put mount_of x ys))) g ≡ true
     go true same none h ih = or_right (in_group g x) (in_group g y || has_member ys g) h
     go false true none h ih = absurd (cc)
-    go false false none h ih = by (in_group g y) h (ih none)
+    go false false none h ih = elim (in_group g y) as (λ b. (b || has_member ys g) ≡ true → (b || has_member (put mount_of x ys) g) ≡ true) [ true ↦ λ f. f | false ↦ λ f. ih none f ] h
 
 pub live-put : (x : Peer) (es : List Peer) → state_at es x.mount ≡ None → MastersLive es → option_map_or (has_member (put mount_of x es)) x.state.master true ≡ true → MastersLive (put mount_of x es)
 live-put x es none h own = record {

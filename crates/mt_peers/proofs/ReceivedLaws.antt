@@ -35,6 +35,7 @@ picked-rows : (es : List Peer) (f : ℕ → Option ℕ → Option ℕ) (xs : Lis
 picked-rows es f [] told = refl
 picked-rows es f (x ∷ xs) told = (λ i. cons_option (f x.mount (told x (inl refl) i)) (picked-rows es f xs (λ e at. told e (inr at)) i))
 
+-- so it is of the slaves of a group
 slave-rows : (es : List Peer) (f : ℕ → Option ℕ → Option ℕ) (m : ℕ) → rises mount_of es ≡ true → filter_map (λ i. f i (group_at es i)) (slaves es m) ≡ filter_map (λ (e : Peer). f e.mount e.state.group) (filter (has_master m) es)
 slave-rows es f m up = picked-rows es f (filter (has_master m) es) (λ e at. ap (option_and_then (λ (s : State). s.group)) (state-in es e up (in_filter (has_master m) e es at).0))
 

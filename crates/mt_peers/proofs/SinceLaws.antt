@@ -45,6 +45,7 @@ module _ (leaving : ℕ → Bool) (i : ℕ) where
   passed : (x : Peer) (es : List Peer) → eqb x.mount i ≡ false → state_at (x ∷ es) i ≡ state_at es i
   passed x es n = let m : eqb i x.mount ≡ false = grind (arith, nat_tests) in ap (λ b. option_map (λ (p : Peer). p.state) (cond b (Some x) (row_at mount_of i es))) m
 
+  -- whether it leaves or not
   noted : (l : Bool) (e : Entry) (es : List Entry) → eqb e.mount i ≡ false → state_at (was_peers es) i ≡ state_at (stays es) i
       → state_at (was_peer e ∷ was_peers es) i ≡ state_at (cond (not l) (now_peer e ∷ stays es) (stays es)) i
   noted true e es n ih = passed (was_peer e) (was_peers es) n ∙ ih
