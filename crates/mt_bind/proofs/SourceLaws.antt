@@ -1,7 +1,6 @@
 -- A fresh mount, and one mount bound alone, are source trees.
 use Rattle.std.proofs.Common.{◌≡◌, ◌≢◌, ℕ, ◌<◌, Bool, true, false, cond, eqb, eqb-true, eq-eqb, [], ◌∷◌, length, Option, Some, None, refl, sym, ap, ◌∙◌, subst, arith}
 use Rattle.std.specs.Prelude.{unwrap_or}
-use Rattle.std.proofs.lemmas.Bool.{ne_eqb}
 use Rattle.std.proofs.lemmas.Option.{slice_get_within}
 use Rattle.mt_skel.specs.Skeleton.{Skeleton, Directory, directory, holds, directory_number, root_of}
 use Rattle.mt_skel.proofs.KeyedLaws.{row_at-key}
@@ -10,7 +9,7 @@ use Rattle.mt_mounts.specs.declared.mount.Mount.{Mount}
 use Rattle.mt_mounts.specs.declared.mount.Place.{Place}
 use Rattle.mt_mounts.specs.Forest.{id_of, mount_at}
 use Rattle.mt_mounts.proofs.SlotLaws.{none_found}
-use Rattle.mt_mounts.proofs.CycleLaws.{no_cycle, rank_of, rank_falls}
+use Rattle.mt_mounts.proofs.CycleLaws.{no_cycle_leaf, rank_of, rank_falls}
 use Rattle.mt_peers.specs.declared.state.State.{State}
 use Rattle.mt_peers.specs.Peers.{state_at}
 use Rattle.mt_propagate.specs.World.{WorldView, state_of}
@@ -19,7 +18,7 @@ use Rattle.mt_propagate.specs.WellFormed.{IsWellFormed, fs_at}
 use Rattle.mt_propagate.specs.Sound.{IsTree, IsSource}
 use Rattle.mt_propagate.proofs.KeyLaws.{group_known, master_known}
 use Rattle.mt_propagate.proofs.CopyRowLaws.{state_at_mount, root_is}
-use Rattle.mt_propagate.proofs.TreeLaws.{parent-from, parent-is}
+use Rattle.mt_propagate.proofs.TreeLaws.{parent-is}
 use Rattle.mt_bind.specs.Sources.{fresh, alone, top_at}
 
 pub holds_fs : (s : Skeleton) (outer inner : ℕ) → holds s outer inner ≡ true → (directory s inner).fs ≡ (directory s outer).fs
@@ -44,34 +43,16 @@ one_row m i x e = go (eqb i m.id) refl e
     go true is f = (eqb-true i m.id is, let s : m ≡ x = cc in sym s)
     go false is f = absurd (cc)
 
-one_here : (m : Mount) → mount_at (m ∷ []) m.id ≡ Some m
-one_here m = ap (λ b. cond b (Some m) None) (eq-eqb m.id m.id refl)
-
 -- one mount that does not stand on itself is a tree
 module _ (s : Skeleton) (m : Mount) (off : (p : Place) → m.place ≡ Some p → p.mount ≢ m.id) (there : m.root < length s.directories) where
-  weight : Bool → ℕ
-  weight b = cond b 1 0
-
-  rank : ℕ → ℕ
-  rank x = weight (eqb x m.id)
-
-  falls : (x y : ℕ) (a : Mount) (p : Place) → mount_at (m ∷ []) x ≡ Some a → a.place ≡ Some p → p.mount ≡ y → rank y < rank x
-  unfolding rank weight
-  falls x y a p e at on =
-      let o = one_row m x a e in
-      let other = off p (ap (λ (v : Mount). v.place) (sym o.1) ∙ at) in
-      let ry : rank y ≡ 0 = ap weight (ne_eqb y m.id (λ same. other (on ∙ same))) in
-      let rx : rank x ≡ 1 = ap weight (eq-eqb x m.id o.0) in
-      omega (arith, rx, ry)
-
   pub one_tree : IsTree s (m ∷ []) m
   one_tree = record {
     rising = refl;
-    top_there = one_here m;
+    top_there = ap (λ b. cond b (Some m) None) (eq-eqb m.id m.id refl);
     top_outside = λ p e. none_found _ (λ x f. off p e (one_row m p.mount x f).0);
     placed = λ i x e ne. absurd (ne (one_row m i x e).0);
     apart = λ i j x y p ei ej at_i at_j. (one_row m i x ei).0 ∙ sym (one_row m j y ej).0;
-    no_cycle = no_cycle (m ∷ []) rank (λ x y e. let r = parent-from (m ∷ []) x y e in falls x y r.0 r.1 r.2 r.3 r.4);
+    no_cycle = no_cycle_leaf [] m (λ i. refl) (λ x e. absurd (let v : None ≡ Some m.id = e in cc)) off;
     roots = λ i x e. subst (λ v. v.root < length s.directories) (sym (one_row m i x e).1) there;
   }
 
