@@ -16,7 +16,7 @@ In x (y ∷ ys) = (y ≡ x) ⊎ In x ys
 module _ {X : Type 0} where
   pub in_append : (x : X) (xs ys : List X) → In x (xs ++ ys) → In x xs ⊎ In x ys
   in_append x [] ys h = inr h
-  in_append x (y ∷ xs) ys h = elim h [ inl here ↦ inl (inl here) | inr later ↦ elim (in_append x xs ys later) [ inl a ↦ inl (inr a) | inr b ↦ inr b ] ]
+  in_append x (y ∷ xs) ys h = grind (arith, in_append x xs ys)
 
   pub in_left : (x : X) (xs ys : List X) → In x xs → In x (xs ++ ys)
   in_left x [] ys h = absurd h
@@ -28,59 +28,37 @@ module _ {X : Type 0} where
 
   pub in_filter : (q : X → Bool) (x : X) (xs : List X) → In x (filter q xs) → In x xs × (q x ≡ true)
   in_filter q x [] h = absurd h
-  in_filter q x (y ∷ ys) h = go (q y) refl h (in_filter q x ys)
-    where
-      go : (b : Bool) → q y ≡ b → In x (cond b (y ∷ filter q ys) (filter q ys)) → (In x (filter q ys) → In x ys × (q x ≡ true)) → In x (y ∷ ys) × (q x ≡ true)
-      go true is f ih = elim f [ inl here ↦ (inl here, ap q (sym here) ∙ is) | inr later ↦ let r = ih later in (inr r.0, r.1) ]
-      go false is f ih = let r = ih f in (inr r.0, r.1)
+  in_filter q x (y ∷ ys) h = grind (arith, in_filter q x ys)
 
   pub in_filtered : (q : X → Bool) (x : X) (xs : List X) → In x xs → q x ≡ true → In x (filter q xs)
   in_filtered q x [] h t = absurd h
-  in_filtered q x (y ∷ ys) h t = go (q y) refl h (λ later. in_filtered q x ys later t)
-    where
-      go : (b : Bool) → q y ≡ b → In x (y ∷ ys) → (In x ys → In x (filter q ys)) → In x (cond b (y ∷ filter q ys) (filter q ys))
-      go true is f ih = elim f [ inl here ↦ inl here | inr later ↦ inr (ih later) ]
-      go false is f ih = elim f [ inl here ↦ absurd (let v : true ≡ false = sym t ∙ ap q (sym here) ∙ is in cc) | inr later ↦ ih later ]
+  in_filtered q x (y ∷ ys) h t = grind (arith, in_filtered q x ys)
 
   pub in_any : (q : X → Bool) (xs : List X) → list_any q xs ≡ true → (x : X) × In x xs × (q x ≡ true)
   in_any q [] h = absurd (cc)
-  in_any q (y ∷ ys) h = go (q y) refl h (in_any q ys)
-    where
-      go : (b : Bool) → q y ≡ b → (b || list_any q ys) ≡ true → (list_any q ys ≡ true → (x : X) × In x ys × (q x ≡ true)) → (x : X) × In x (y ∷ ys) × (q x ≡ true)
-      go true is f ih = (y, inl refl, is)
-      go false is f ih = let r = ih f in (r.0, inr r.1, r.2)
+  in_any q (y ∷ ys) h = grind (arith, in_any q ys)
 
   pub any_in : (q : X → Bool) (x : X) (xs : List X) → In x xs → q x ≡ true → list_any q xs ≡ true
   any_in q x [] h t = absurd h
-  any_in q x (y ∷ ys) h t = elim h [ inl here ↦ (let s : q y ≡ true = ap q here ∙ t in grind (arith, nat_tests)) | inr later ↦ (let r = any_in q x ys later t in grind (arith, nat_tests)) ]
+  any_in q x (y ∷ ys) h t = grind (arith, any_in q x ys)
 
   -- rows that are found
   pub row_in : (key : X → ℕ) (i : ℕ) (xs : List X) (x : X) → row_at key i xs ≡ Some x → In x xs
   row_in key i [] x h = absurd (cc)
-  row_in key i (y ∷ ys) x h = go (eqb i (key y)) h (row_in key i ys x)
-    where
-      go : (b : Bool) → cond b (Some y) (row_at key i ys) ≡ Some x → (row_at key i ys ≡ Some x → In x ys) → In x (y ∷ ys)
-      go true f ih = inl (let s : y ≡ x = cc in s)
-      go false f ih = inr (ih f)
+  row_in key i (y ∷ ys) x h = grind (arith, nat_tests, row_in key i ys x)
 
   pub in_row : (key : X → ℕ) (xs : List X) (x : X) → rises key xs ≡ true → In x xs → row_at key (key x) xs ≡ Some x
   in_row key [] x r h = absurd h
-  in_row key (y ∷ ys) x r h = elim h [
-    | inl here ↦ subst (λ z. row_at key (key z) (y ∷ ys) ≡ Some z) here (grind (arith, nat_tests))
-    | inr later ↦
-        let ih = in_row key ys x (grind (arith, nat_tests)) later in
-        let low = above ys (grind (arith, nat_tests)) later in
-        grind (arith, nat_tests)
-  ]
+  in_row key (y ∷ ys) x r h = grind (arith, nat_tests, in_row key ys x, above ys)
     where
-      above : (zs : List X) → list_all (λ z. ltb (key y) (key z)) zs ≡ true → In x zs → ltb (key y) (key x) ≡ true
+      above : (zs : List X) → list_all (λ z. ltb (key y) (key z)) zs ≡ true → In x zs → key y < key x
       above [] l m = absurd m
-      above (z ∷ zs) l m = elim m [ inl here ↦ ap (λ v. ltb (key y) (key v)) (sym here) ∙ (grind (arith, nat_tests)) | inr later ↦ above zs (grind (arith, nat_tests)) later ]
+      above (z ∷ zs) l m = grind (arith, nat_tests, above zs)
 
 module _ {X Y : Type 0} where
   pub in_map : (f : X → Y) (y : Y) (xs : List X) → In y (map f xs) → (x : X) × In x xs × (f x ≡ y)
   in_map f y [] h = absurd h
-  in_map f y (x ∷ xs) h = elim h [ inl here ↦ (x, inl refl, here) | inr later ↦ let r = in_map f y xs later in (r.0, inr r.1, r.2) ]
+  in_map f y (x ∷ xs) h = grind (arith, in_map f y xs)
 
   pub in_mapped : (f : X → Y) (x : X) (xs : List X) → In x xs → In (f x) (map f xs)
   in_mapped f x [] h = absurd h
@@ -92,28 +70,21 @@ module _ {X Y : Type 0} where
 
   pub in_flatted : (f : X → List Y) (y : Y) (x : X) (xs : List X) → In x xs → In y (f x) → In y (flat_map f xs)
   in_flatted f y x [] h k = absurd h
-  in_flatted f y x (z ∷ xs) h k = elim h [
-    | inl here ↦ in_left y (f z) (flat_map f xs) (subst (λ v. In y (f v)) (sym here) k)
-    | inr later ↦ in_right y (f z) (flat_map f xs) (in_flatted f y x xs later k)
-  ]
+  in_flatted f y x (z ∷ xs) h k = grind (arith, in_left y (f z) (flat_map f xs), in_right y (f z) (flat_map f xs), in_flatted f y x xs)
 
 module _ {X : Type 0} where
   -- what a search finds
   pub find_in : (q : X → Bool) (xs : List X) (x : X) → find q xs ≡ Some x → In x xs × (q x ≡ true)
   find_in q [] x h = absurd (cc)
-  find_in q (y ∷ ys) x h = go (q y) refl h (find_in q ys x)
-    where
-      go : (b : Bool) → q y ≡ b → cond b (Some y) (find q ys) ≡ Some x → (find q ys ≡ Some x → In x ys × (q x ≡ true)) → In x (y ∷ ys) × (q x ≡ true)
-      go true is f ih = let s : y ≡ x = cc in (inl s, ap q (sym s) ∙ is)
-      go false is f ih = let r = ih f in (inr r.0, r.1)
+  find_in q (y ∷ ys) x h = grind (arith, find_in q ys x)
 
   pub in_found : (q : X → Bool) (xs : List X) (x : X) → In x xs → q x ≡ true → (y : X) × (find q xs ≡ Some y)
   in_found q [] x h t = absurd h
-  in_found q (y ∷ ys) x h t = go (q y) refl h (λ later. in_found q ys x later t)
+  in_found q (y ∷ ys) x h t = go (q y) refl (in_found q ys x)
     where
-      go : (b : Bool) → q y ≡ b → In x (y ∷ ys) → (In x ys → (v : X) × (find q ys ≡ Some v)) → (v : X) × (cond b (Some y) (find q ys) ≡ Some v)
-      go true is f ih = (y, refl)
-      go false is f ih = elim f [ inl here ↦ absurd (let v : true ≡ false = sym t ∙ ap q (sym here) ∙ is in cc) | inr later ↦ ih later ]
+      go : (b : Bool) → q y ≡ b → (In x ys → q x ≡ true → (v : X) × (find q ys ≡ Some v)) → (v : X) × (cond b (Some y) (find q ys) ≡ Some v)
+      go true is ih = (y, refl)
+      go false is ih = ih (grind arith) t
 
   pub get_in : (xs : List X) (i : ℕ) (x : X) → slice_get xs i ≡ Some x → In x xs
   get_in [] i x h = absurd (cc)
@@ -130,11 +101,7 @@ module _ {X : Type 0} where
 
     pub in_firsts : (xs : List X) (x : X) → In x xs → In x (firsts eq xs)
     in_firsts [] x h = absurd h
-    in_firsts (y ∷ ys) x h = elim h [ inl here ↦ inl here | inr later ↦ go (eq y x) refl (in_firsts ys x later) ]
-      where
-        go : (b : Bool) → eq y x ≡ b → In x (firsts eq ys) → In x (y ∷ filter (λ z. not (eq y z)) (firsts eq ys))
-        go true is f = inl (exact y x is)
-        go false is f = inr (in_filtered (λ z. not (eq y z)) x (firsts eq ys) f (ap not is))
+    in_firsts (y ∷ ys) x h = grind (arith, exact y x, in_firsts ys x, in_filtered (λ z. not (eq y z)) x (firsts eq ys))
 
   pub firsts_in : (eq : X → X → Bool) (xs : List X) (x : X) → In x (firsts eq xs) → In x xs
   firsts_in eq [] x h = absurd h
@@ -142,7 +109,7 @@ module _ {X : Type 0} where
 
   pub option_in : (o : Option X) (x : X) → In x (option_to_list o) → o ≡ Some x
   option_in None x h = absurd h
-  option_in (Some y) x h = elim h [ inl here ↦ ap (λ v. Some v) here | inr later ↦ absurd later ]
+  option_in (Some y) x h = grind arith
 
   pub in_option : (o : Option X) (x : X) → o ≡ Some x → In x (option_to_list o)
   in_option None x h = absurd (cc)
@@ -150,9 +117,5 @@ module _ {X : Type 0} where
 
   -- along a chain a number that falls with each step is no higher than at its start
   pub chain_low : (next : X → Option X) (rank : X → ℕ) → ((x y : X) → next x ≡ Some y → rank y < rank x) → (n : ℕ) (x y : X) → In y (chain next n x) → rank y ≤ rank x
-  chain_low next rank falls zero x y h = elim h [ inl here ↦ omega (arith, ap rank here) | inr later ↦ absurd later ]
-  chain_low next rank falls (suc n) x y h = go (next x) refl h (λ v. chain_low next rank falls n v y)
-    where
-      go : (o : Option X) → next x ≡ o → In y (x ∷ option_map_or (λ v. chain next n v) o []) → ((v : X) → In y (chain next n v) → rank y ≤ rank v) → rank y ≤ rank x
-      go None is f ih = elim f [ inl here ↦ omega (arith, ap rank here) | inr later ↦ absurd later ]
-      go (Some v) is f ih = elim f [ inl here ↦ omega (arith, ap rank here) | inr later ↦ omega (arith, ih v later, falls x v is) ]
+  chain_low next rank falls zero x y h = grind arith
+  chain_low next rank falls (suc n) x y h = let ih = λ (v : X). chain_low next rank falls n v y in grind (arith, ih, falls)

@@ -18,64 +18,40 @@ module _ {X : Type 0} (key : X → ℕ) where
   -- one row more
   pub row_at-put : (q : ℕ) (x : X) (xs : List X) → row_at key q (put key x xs) ≡ cond (eqb q (key x)) (Some x) (row_at key q xs)
   row_at-put q x [] = refl
-  row_at-put q x (y ∷ ys) =
-      let ih = row_at-put q x ys in
-      grind (arith, nat_tests)
+  row_at-put q x (y ∷ ys) = grind (arith, nat_tests, row_at-put q x ys)
 
   pub row_at-key : (q : ℕ) (xs : List X) (x : X) → row_at key q xs ≡ Some x → key x ≡ q
-  row_at-key q [] x h = absurd (let e : None ≡ Some x = h in cc)
-  row_at-key q (y ∷ ys) x h =
-      let ih = row_at-key q ys x in
-      grind (arith, nat_tests)
+  row_at-key q [] x h = absurd (cc)
+  row_at-key q (y ∷ ys) x h = grind (arith, nat_tests, row_at-key q ys x)
 
   all-put : (k : ℕ) (x : X) (xs : List X) → k < key x → list_all (λ y. ltb k (key y)) xs ≡ true → list_all (λ y. ltb k (key y)) (put key x xs) ≡ true
   all-put k x [] l h = grind (arith, nat_tests)
-  all-put k x (y ∷ ys) l h =
-      let ih = all-put k x ys l in
-      grind (arith, nat_tests)
+  all-put k x (y ∷ ys) l h = grind (arith, nat_tests, all-put k x ys l)
 
   pub all-lower : (j k : ℕ) (xs : List X) → j < k → list_all (λ y. ltb k (key y)) xs ≡ true → list_all (λ y. ltb j (key y)) xs ≡ true
   all-lower j k [] l h = refl
-  all-lower j k (y ∷ ys) l h =
-      let ih = all-lower j k ys l in
-      grind (arith, nat_tests)
+  all-lower j k (y ∷ ys) l h = grind (arith, nat_tests, all-lower j k ys l)
 
   pub rises-put : (x : X) (xs : List X) → rises key xs ≡ true → rises key (put key x xs) ≡ true
   rises-put x [] h = refl
-  rises-put x (y ∷ ys) h =
-      let ih = rises-put x ys in
-      let more = all-put (key y) x ys in
-      let low = all-lower (key x) (key y) ys in
-      grind (arith, nat_tests)
+  rises-put x (y ∷ ys) h = grind (arith, nat_tests, rises-put x ys, all-put (key y) x ys, all-lower (key x) (key y) ys)
 
   pub row_at-below : (q : ℕ) (xs : List X) → list_all (λ y. ltb q (key y)) xs ≡ true → row_at key q xs ≡ None
   row_at-below q [] h = refl
-  row_at-below q (y ∷ ys) h =
-      let ih = row_at-below q ys in
-      grind (arith, nat_tests)
+  row_at-below q (y ∷ ys) h = grind (arith, nat_tests, row_at-below q ys)
 
   all-filter : (p : X → Bool) (k : ℕ) (xs : List X) → list_all (λ y. ltb k (key y)) xs ≡ true → list_all (λ y. ltb k (key y)) (filter p xs) ≡ true
   all-filter p k [] h = refl
-  all-filter p k (y ∷ ys) h =
-      let ih = all-filter p k ys in
-      grind (arith, nat_tests)
+  all-filter p k (y ∷ ys) h = grind (arith, nat_tests, all-filter p k ys)
 
   pub rises-filter : (p : X → Bool) (xs : List X) → rises key xs ≡ true → rises key (filter p xs) ≡ true
   rises-filter p [] h = refl
-  rises-filter p (y ∷ ys) h =
-      let ih = rises-filter p ys in
-      let more = all-filter p (key y) ys in
-      grind (arith, nat_tests)
+  rises-filter p (y ∷ ys) h = grind (arith, nat_tests, rises-filter p ys, all-filter p (key y) ys)
 
   -- a filter by a test that may read the whole row
   pub row_at-filter : (p : X → Bool) (q : ℕ) (xs : List X) → rises key xs ≡ true → row_at key q (filter p xs) ≡ passing p (row_at key q xs)
   row_at-filter p q [] h = refl
-  row_at-filter p q (y ∷ ys) h =
-      let ih = row_at-filter p q ys in
-      let low = row_at-below q ys in
-      let low_2 = row_at-below q (filter p ys) in
-      let more = all-filter p (key y) ys in
-      grind (arith, nat_tests)
+  row_at-filter p q (y ∷ ys) h = grind (arith, nat_tests, row_at-filter p q ys, row_at-below q ys, row_at-below q (filter p ys), all-filter p (key y) ys)
 
   -- two lists that answer alike are equal
   pub same_rows : (xs ys : List X) → rises key xs ≡ true → rises key ys ≡ true → ((q : ℕ) → row_at key q xs ≡ row_at key q ys) → xs ≡ ys
@@ -83,22 +59,11 @@ module _ {X : Type 0} (key : X → ℕ) where
   same_rows [] (y ∷ ys) g h e = let e_y = e (key y) in absurd (grind (arith, nat_tests))
   same_rows (x ∷ xs) [] g h e = let e_x = e (key x) in absurd (grind (arith, nat_tests))
   same_rows (x ∷ xs) (y ∷ ys) g h e =
-      let e_x = e (key x) in
-      let e_y = e (key y) in
       let low_x : key x < key y → row_at key (key x) ys ≡ None = λ l. row_at-below (key x) ys (all-lower (key x) (key y) ys l (grind (arith, nat_tests))) in
       let low_y : key y < key x → row_at key (key y) xs ≡ None = λ l. row_at-below (key y) xs (all-lower (key y) (key x) xs l (grind (arith, nat_tests))) in
-      let keys : key x ≡ key y = grind (arith, nat_tests) in
-      let heads : x ≡ y = grind (arith, nat_tests) in
-      let g_2 : rises key xs ≡ true = grind (arith, nat_tests) in
-      let h_2 : rises key ys ≡ true = grind (arith, nat_tests) in
-      let tails : (q : ℕ) → row_at key q xs ≡ row_at key q ys =
-      λ q.
-      let e_q = e q in
-      let none_x : q ≡ key x → row_at key q xs ≡ None = λ e. row_at-below q xs (grind (arith, nat_tests)) in
-      let none_y : q ≡ key x → row_at key q ys ≡ None = λ e. row_at-below q ys (grind (arith, nat_tests)) in
-      grind (arith, nat_tests) in
-      let rest = same_rows xs ys g_2 h_2 tails in
-      cc
+      let heads : x ≡ y = grind (arith, nat_tests, e (key x), e (key y)) in
+      let tails : (q : ℕ) → row_at key q xs ≡ row_at key q ys = λ q. grind (arith, nat_tests, e q, heads, row_at-below (key x) xs, row_at-below (key y) ys) in
+      grind (arith, nat_tests, heads, same_rows xs ys, tails)
 
 -- a change of the rows that keeps their keys
 module _ {X : Type 0} (key : X → ℕ) (f : X → X) (keeps : (x : X) → key (f x) ≡ key x) where

@@ -27,40 +27,20 @@ module _ {X : Type 0} (key : X → ℕ) where
   below_mid front back z x h = all_mid (λ y. ltb (key z) (key y)) front back x (and_first _ _ h)
 
   pub row_mid : (front back : List X) (x : X) → rises key (front ++ x ∷ back) ≡ true → row_at key (key x) (front ++ x ∷ back) ≡ Some x
-  row_mid [] back x h = ap (λ b. cond b (Some x) (row_at key (key x) back)) (eq-eqb (key x) (key x) refl)
-  row_mid (z ∷ front) back x h =
-      let low = below_mid front back z x h in
-      let other : eqb (key x) (key z) ≡ false = grind (arith, nat_tests) in
-      ap (λ b. cond b (Some z) (row_at key (key x) (front ++ x ∷ back))) other ∙ row_mid front back x (and_second _ _ h)
+  row_mid [] back x h = grind (arith, nat_tests)
+  row_mid (z ∷ front) back x h = grind (arith, nat_tests, below_mid front back z x h, row_mid front back x)
 
   pub put_mid : (front back : List X) (x y : X) → key y ≡ key x → rises key (front ++ x ∷ back) ≡ true → put key y (front ++ x ∷ back) ≡ front ++ y ∷ back
-  put_mid [] back x y e h =
-      let no_less : ltb (key y) (key x) ≡ false = grind (arith, nat_tests) in
-      ap (λ b. cond b (y ∷ x ∷ back) (cond (eqb (key y) (key x)) (y ∷ back) (x ∷ put key y back))) no_less
-      ∙ ap (λ b. cond b (y ∷ back) (x ∷ put key y back)) (eq-eqb (key y) (key x) e)
-  put_mid (z ∷ front) back x y e h =
-      let low = below_mid front back z x h in
-      let no_less : ltb (key y) (key z) ≡ false = grind (arith, nat_tests) in
-      let other : eqb (key y) (key z) ≡ false = grind (arith, nat_tests) in
-      ap (λ b. cond b (y ∷ z ∷ (front ++ x ∷ back)) (cond (eqb (key y) (key z)) (y ∷ (front ++ x ∷ back)) (z ∷ put key y (front ++ x ∷ back)))) no_less
-      ∙ ap (λ b. cond b (y ∷ (front ++ x ∷ back)) (z ∷ put key y (front ++ x ∷ back))) other
-      ∙ ap (λ l. z ∷ l) (put_mid front back x y e (and_second _ _ h))
+  put_mid [] back x y e h = grind (arith, nat_tests)
+  put_mid (z ∷ front) back x y e h = grind (arith, nat_tests, below_mid front back z x h, put_mid front back x y e)
 
   none_above : (k : ℕ) (ys : List X) → list_all (λ y. ltb k (key y)) ys ≡ true → filter (λ y. not (eqb (key y) k)) ys ≡ ys
   none_above k [] h = refl
-  none_above k (y ∷ ys) h =
-      let here = and_first (ltb k (key y)) _ h in
-      let other : eqb (key y) k ≡ false = grind (arith, nat_tests) in
-      ap (λ b. cond (not b) (y ∷ filter (λ z. not (eqb (key z) k)) ys) (filter (λ z. not (eqb (key z) k)) ys)) other ∙ ap (λ l. y ∷ l) (none_above k ys (and_second _ _ h))
+  none_above k (y ∷ ys) h = grind (arith, nat_tests, none_above k ys)
 
   pub without_mid : (front back : List X) (x : X) → rises key (front ++ x ∷ back) ≡ true → filter (λ y. not (eqb (key y) (key x))) (front ++ x ∷ back) ≡ front ++ back
-  without_mid [] back x h =
-      ap (λ b. cond (not b) (x ∷ filter (λ y. not (eqb (key y) (key x))) back) (filter (λ y. not (eqb (key y) (key x))) back)) (eq-eqb (key x) (key x) refl) ∙ none_above (key x) back (and_first _ _ h)
-  without_mid (z ∷ front) back x h =
-      let low = below_mid front back z x h in
-      let other : eqb (key z) (key x) ≡ false = grind (arith, nat_tests) in
-      ap (λ b. cond (not b) (z ∷ filter (λ y. not (eqb (key y) (key x))) (front ++ x ∷ back)) (filter (λ y. not (eqb (key y) (key x))) (front ++ x ∷ back))) other
-      ∙ ap (λ l. z ∷ l) (without_mid front back x (and_second _ _ h))
+  without_mid [] back x h = grind (arith, nat_tests, none_above (key x) back)
+  without_mid (z ∷ front) back x h = grind (arith, nat_tests, below_mid front back z x h, without_mid front back x)
 
 pub set_mid : {X : Type 0} (front back : List X) (x y : X) → set (front ++ x ∷ back) (length front) y ≡ front ++ y ∷ back
 set_mid [] back x y = refl

@@ -34,23 +34,12 @@ module _ {X : Type 0} (key : X → ℕ) where
   put_is x [] = refl
   put_is x (y ∷ ys) = go (nat_le (key x) (key y)) refl (put_is x ys)
     where
-      first : (b : Bool) → (key y == key x) ≡ b → nat_le (key x) (key y) ≡ true → insert (cond (key y == key x) ys (y ∷ ys)) 0 x ≡ put key x (y ∷ ys)
-      first true e is =
-          let less : nat_lt (key x) (key y) ≡ false = grind (arith, nat_tests) in
-          let same : nat_eq (key x) (key y) ≡ true = grind (arith, nat_tests) in
-          rw (e, less, same) refl
-      first false e is =
-          let less : nat_lt (key x) (key y) ≡ true = grind (arith, nat_tests) in
-          rw (e, less) refl
-
       go : (le : Bool) → nat_le (key x) (key y) ≡ le
           → insert (cond (here x (place x ys) ys) (remove ys (place x ys)) ys) (place x ys) x ≡ put key x ys
           → insert (cond (here x (cond (not le) (1 + place x ys) 0) (y ∷ ys)) (remove (y ∷ ys) (cond (not le) (1 + place x ys) 0)) (y ∷ ys)) (cond (not le) (1 + place x ys) 0) x ≡ put key x (y ∷ ys)
-      go true is ih = first (key y == key x) refl is
+      go true is ih = grind (arith, nat_tests)
       go false is ih =
-          let less : nat_lt (key x) (key y) ≡ false = grind (arith, nat_tests) in
-          let same : nat_eq (key x) (key y) ≡ false = grind (arith, nat_tests) in
           let n : ℕ = place x ys in
           let e : 1 + n ≡ suc n = omega arith in
-          let behind : put key x (y ∷ ys) ≡ y ∷ put key x ys = rw (less, same) refl in
-          ap (λ m. insert (cond (here x m (y ∷ ys)) (remove (y ∷ ys) m) (y ∷ ys)) m x) e ∙ pull x y n (remove ys n) ys (here x n ys) ∙ ap (λ t. y ∷ t) ih ∙ sym behind
+          let behind : y ∷ put key x ys ≡ put key x (y ∷ ys) = grind (arith, nat_tests) in
+          ap (λ m. insert (cond (here x m (y ∷ ys)) (remove (y ∷ ys) m) (y ∷ ys)) m x) e ∙ pull x y n (remove ys n) ys (here x n ys) ∙ ap (λ t. y ∷ t) ih ∙ behind

@@ -20,10 +20,9 @@ module _ {X : Type 0} (key : X → ℕ) where
   above_at k (x ∷ xs) (suc j) d all l = above_at k xs j d (and_second _ _ all) (omega (arith, l))
 
   rises_at : (xs : List X) → rises key xs ≡ true → (i j : ℕ) (d : X) → i < j → j < length xs → key (get_or xs i d) < key (get_or xs j d)
-  rises_at [] r i j d b l = absurd (omega (arith, l))
-  rises_at (x ∷ xs) r zero zero d b l = absurd (omega (arith, b))
+  rises_at xs r i zero d b l = absurd (omega (arith, b))
+  rises_at [] r i (suc j) d b l = absurd (omega (arith, l))
   rises_at (x ∷ xs) r zero (suc j) d b l = above_at (key x) xs j d (and_first _ _ r) (omega (arith, l))
-  rises_at (x ∷ xs) r (suc i) zero d b l = absurd (omega (arith, b))
   rises_at (x ∷ xs) r (suc i) (suc j) d b l = rises_at xs (and_second _ _ r) i j d (omega (arith, b)) (omega (arith, l))
 
   compared : (k : ℕ) (xs : List X) → rises key xs ≡ true → IsNonDecreasingBy (λ y. ordering_index (nat_cmp (key y) k)) xs
@@ -34,8 +33,7 @@ module _ {X : Type 0} (key : X → ℕ) where
 
   nowhere : (k : ℕ) (xs : List X) → ((i : ℕ) (d : X) → i < length xs → key (get_or xs i d) ≢ k) → row_at key k xs ≡ None
   nowhere k [] h = refl
-  nowhere k (x ∷ xs) h =
-      ap (λ b. cond b (Some x) (row_at key k xs)) (ne_eqb k (key x) (λ e. h 0 x (omega arith) (sym e))) ∙ nowhere k xs (λ i d l. h (suc i) d (omega (arith, l)))
+  nowhere k (x ∷ xs) h = grind (arith, nat_tests, h 0 x, nowhere k xs (λ i d l. h (suc i) d (omega (arith, l))))
 
   -- where no key is the one that is sought
   pub not_found : (k i : ℕ) (xs : List X) → rises key xs ≡ true

@@ -6,7 +6,7 @@ use Rattle.std.specs.Option.{option_map_or}
 use Rattle.std.proofs.lemmas.Bool.Decides.{nat_tests}
 use Rattle.std.proofs.lemmas.List.Folds.{list_any-append}
 use Rattle.std.proofs.lemmas.List.{length-append, take-append-drop, take-append-le, take_all}
-use Rattle.std.proofs.Math.Seq.{take-suc}
+use Rattle.std.proofs.Math.Seq.{take-suc, drop-cons}
 use Rattle.std.proofs.Math.Bool.{and-false, or-false, or-true}
 use Rattle.mt_skel.specs.Chain.{chain}
 use Rattle.mt_skel.specs.Keyed.{among}
@@ -28,15 +28,7 @@ is_found-snoc done m (Some k) = list_any-append (λ j. eqb j k) done (m ∷ []) 
 -- a number that was not gone over is the next of none whose next was
 pub apart-new : (done : List ℕ) (m : ℕ) → occ m done ≡ 0 → (o : Option ℕ) → (is_found done o && is_next o m) ≡ false
 apart-new done m new None = refl
-apart-new done m new (Some k) = go (k == m) refl
-  where
-    go : (b : Bool) → (k == m) ≡ b → (among done k && b) ≡ false
-    go false e = and-false (among done k)
-    go true e = ap (λ j. among done j && true) (eqb-true k m e) ∙ ap (λ b. b && true) (any-zero (λ j. eqb j m) done new)
-
-is_next-some : (o : Option ℕ) (m : ℕ) → is_next o m ≡ true → o ≡ Some m
-is_next-some None m e = absurd (cc)
-is_next-some (Some k) m e = ap (λ n. Some n) (eqb-true k m e)
+apart-new done m new (Some k) = grind (arith, nat_tests, any-zero (λ j. eqb j m) done new)
 
 module _ (next : ℕ → Option ℕ) (g : ℕ) where
   -- g is h, or is met from h by so many steps at most
@@ -44,24 +36,11 @@ module _ (next : ℕ → Option ℕ) (g : ℕ) where
   within n h = list_any (λ k. k == g) (chain next n h)
 
   pub within-suc : (n h : ℕ) → within (suc n) h ≡ ((h == g) || option_map_or (λ m. within n m) (next h) false)
-  within-suc n h = ap (λ b. (h == g) || b) (go (next h))
-    where
-      go : (o : Option ℕ) → list_any (λ k. k == g) (option_map_or (λ y. chain next n y) o []) ≡ option_map_or (λ m. within n m) o false
-      go None = refl
-      go (Some m) = refl
+  within-suc n h = grind arith
 
   within-more : (n h : ℕ) → within n h ≡ true → within (suc n) h ≡ true
   within-more zero h e = within-suc zero h ∙ grind (arith, nat_tests)
-  within-more (suc n) h e = within-suc (suc n) h ∙ go (next h) (λ m. within-more n m) (sym (within-suc n h) ∙ e)
-    where
-      go : (o : Option ℕ) → ((m : ℕ) → within n m ≡ true → within (suc n) m ≡ true)
-          → ((h == g) || option_map_or (λ m. within n m) o false) ≡ true → ((h == g) || option_map_or (λ m. within (suc n) m) o false) ≡ true
-      go None ih f = f
-      go (Some m) ih f = by (h == g) (within n m) (within (suc n) m) (ih m) f
-        where
-          by : (a b c : Bool) → (b ≡ true → c ≡ true) → (a || b) ≡ true → (a || c) ≡ true
-          by true b c i f = refl
-          by false b c i f = i f
+  within-more (suc n) h e = let ih = λ (m : ℕ). within-more n m in grind (arith, within-suc (suc n) h, within-suc n h, ih)
 
   pub within-self : (n h : ℕ) → (h == g) ≡ true → within n h ≡ true
   within-self zero h e = grind (arith, nat_tests)
@@ -78,11 +57,7 @@ module _ (next : ℕ → Option ℕ) (g : ℕ) where
   module _ (found : ℕ → Bool) (start : found g ≡ true) (closed : (h m : ℕ) → next h ≡ Some m → found m ≡ true → found h ≡ true) where
     pub found_all : (n : ℕ) (h : ℕ) → within n h ≡ true → found h ≡ true
     found_all zero h e = let s : h ≡ g = grind (arith, nat_tests) in rw s start
-    found_all (suc n) h e = go (next h) refl (λ m. found_all n m) (sym (within-suc n h) ∙ e)
-      where
-        go : (o : Option ℕ) → next h ≡ o → ((m : ℕ) → within n m ≡ true → found m ≡ true) → ((h == g) || option_map_or (λ m. within n m) o false) ≡ true → found h ≡ true
-        go None e ih a = let s : h ≡ g = grind (arith, nat_tests) in rw s start
-        go (Some m) e ih a = let c = closed h m e in let f = ih m in let s = start in grind (arith, nat_tests)
+    found_all (suc n) h e = let ih = λ (m : ℕ). found_all n m in grind (arith, nat_tests, within-suc n h, ih, start, closed h)
 
   -- those that have one of `done` as their next were entered after g, and make up `all` with it
   pub record IsGathered (done all : List ℕ) : Type 0 where
@@ -91,12 +66,9 @@ module _ (next : ℕ → Option ℕ) (g : ℕ) where
 
   pub gathered-start : IsGathered [] (g ∷ [])
   gathered-start = record {
-    once = λ h. ap (λ b. cond b 1 0) (same h ∙ sym (ap (λ b. (h == g) || b) (is_found-none (next h)) ∙ or-false (h == g)));
+    once = λ h. grind (arith, nat_tests, is_found-none (next h));
     sound = λ h e. within-self 0 h (grind (arith, nat_tests));
   }
-    where
-      same : (h : ℕ) → (g == h) ≡ (h == g)
-      same h = grind (arith, nat_tests)
 
   module _ (done all : List ℕ) (w : IsGathered done all) where
     -- what was entered is g, or has a number that was gone over as its next
@@ -107,18 +79,7 @@ module _ (next : ℕ → Option ℕ) (g : ℕ) where
     module _ (m : ℕ) (more : List ℕ) (right : (h : ℕ) → occ h more ≡ cond (not (h == g) && is_next (next h) m) 1 0) (new : occ m done ≡ 0) (entered : among all m ≡ true) where
       step-once : (h : ℕ) → occ h (all ++ more) ≡ cond ((h == g) || is_found (done ++ m ∷ []) (next h)) 1 0
       step-once h =
-          count-append (λ j. j == h) all more
-          ∙ ap (λ n. n + occ h more) (w.once h)
-          ∙ ap (λ n. cond ((h == g) || is_found done (next h)) 1 0 + n) (right h)
-          ∙ add (h == g) (is_found done (next h)) (is_next (next h) m) (apart-new done m new (next h))
-          ∙ ap (λ b. cond ((h == g) || b) 1 0) (sym (is_found-snoc done m (next h)))
-        where
-          add : (a b c : Bool) → (b && c) ≡ false → ◌≡◌ {A = ℕ} (cond (a || b) 1 0 + cond (not a && c) 1 0) (cond (a || (b || c)) 1 0)
-          add true b c e = omega arith
-          add false true true e = absurd (cc)
-          add false true false e = omega arith
-          add false false true e = omega arith
-          add false false false e = omega arith
+          grind (arith, count-append (λ j. j == h) all more, w.once h, right h, apart-new done m new (next h), is_found-snoc done m (next h))
 
       -- a number that is new has its next among the old ones
       fresh : (h : ℕ) → (h == g) ≡ false → is_next (next h) m ≡ true → within (length (all ++ more) - 1) h ≡ true
@@ -129,22 +90,14 @@ module _ (next : ℕ → Option ℕ) (g : ℕ) where
           let long_all = count-length (λ j. eqb j m) all in
           let whole = length-append all more in
           let at : within (length all - 1) m ≡ true = w.sound m entered in
-          let up_is : next h ≡ Some m = is_next-some (next h) m is in
-          let step : within (suc (length all - 1)) h ≡ true =
-          within-suc (length all - 1) h ∙ ap (λ b. b || option_map_or (λ m. within (length all - 1) m) (next h) false) off ∙ ap (λ o. option_map_or (λ m. within (length all - 1) m) o false) up_is ∙ at in
+          let step : within (suc (length all - 1)) h ≡ true = grind (arith, nat_tests, within-suc (length all - 1) h) in
           within-lift (suc (length all - 1)) (length (all ++ more) - 1) h (omega arith) step
 
       step-sound : (h : ℕ) → ((h == g) || is_found (done ++ m ∷ []) (next h)) ≡ true → within (length (all ++ more) - 1) h ≡ true
-      step-sound h e = go (h == g) refl (is_found done (next h)) (there h) (is_next (next h) m) refl (ap (λ b. (h == g) || b) (sym (is_found-snoc done m (next h))) ∙ e) (fresh h)
-        where
-          go : (a : Bool) → (h == g) ≡ a → (b : Bool) → among all h ≡ ((h == g) || b) → (c : Bool) → is_next (next h) m ≡ c → (a || (b || c)) ≡ true
-              → ((h == g) ≡ false → is_next (next h) m ≡ true → within (length (all ++ more) - 1) h ≡ true) → within (length (all ++ more) - 1) h ≡ true
-          go true same b is c led e fresh = within-self (length (all ++ more) - 1) h same
-          go false off true is c led e fresh =
-              let old : among all h ≡ true = is ∙ ap (λ a. a || true) off in
-              let whole = length-append all more in
-              within-lift (length all - 1) (length (all ++ more) - 1) h (omega arith) (w.sound h old)
-          go false off false is c led e fresh = fresh off (led ∙ e)
+      step-sound h e =
+          let end = length (all ++ more) - 1 in
+          let old = λ (s : among all h ≡ true). within-lift (length all - 1) end h (omega (arith, length-append all more)) (w.sound h s) in
+          grind (arith, is_found-snoc done m (next h), there h, within-self end h, old, fresh h)
 
       pub gathered-step : IsGathered (done ++ m ∷ []) (all ++ more)
       gathered-step = record {
@@ -154,44 +107,29 @@ module _ (next : ℕ → Option ℕ) (g : ℕ) where
 
   -- once all were gone over, these are all from which g is met
   pub gathered-all : (all : List ℕ) (n : ℕ) → IsGathered all all → length all ≤ suc n → (h : ℕ) → among all h ≡ within n h
-  gathered-all all n w few h = both (among all h) (within n h) (λ e. within-lift (length all - 1) n h (omega (arith, few)) (w.sound h e)) (found_all (among all) start closed n h)
+  gathered-all all n w few h =
+      let sound = λ (e : among all h ≡ true). within-lift (length all - 1) n h (omega (arith, few)) (w.sound h e) in
+      grind (arith, sound, found_all (among all) start closed n h)
     where
       start : among all g ≡ true
       start = there all all w g ∙ grind (arith, nat_tests)
 
       closed : (h m : ℕ) → next h ≡ Some m → among all m ≡ true → among all h ≡ true
-      closed h m e f = there all all w h ∙ ap (λ o. (h == g) || is_found all o) e ∙ ap (λ b. (h == g) || b) f ∙ or-true (h == g)
-
-      both : (a b : Bool) → (a ≡ true → b ≡ true) → (b ≡ true → a ≡ true) → a ≡ b
-      both true true p q = refl
-      both true false p q = sym (p refl)
-      both false true p q = q refl
-      both false false p q = refl
+      closed h m e f = grind (arith, there all all w h)
 
   -- one number more of the list is gone over: it is new, and it was entered
   module _ (i d : ℕ) (all : List ℕ) (w : IsGathered (take i all) all) (in_all : i < length all) where
     pub next-new : (occ (get_or all i d) (take i all) ≡ 0) × (among all (get_or all i d) ≡ true)
     next-new =
         let m = get_or all i d in
-        let one = w.once m in
-        let at_most = small ((m == g) || is_found (take i all) (next m)) in
-        let cut = ap (occ m) (take-suc all i d in_all) in
-        let parts = ap (occ m) (sym (take-append-drop (suc i) all)) ∙ count-append (λ j. j == m) (take (suc i) all) (drop (suc i) all) in
-        let front = count-append (λ j. j == m) (take i all) (m ∷ []) in
-        let self = alone m in
-        let has : 1 ≤ occ m all = omega arith in
-        (omega arith, any-is (λ j. eqb j m) all ((m == g) || is_found (take i all) (next m)) one ∙ so ((m == g) || is_found (take i all) (next m)) (occ m all) one has)
+        let later = drop (suc i) all in
+        let self : occ m (m ∷ later) ≡ suc (occ m later) = grind (arith, nat_tests) in
+        let parts = ap (occ m) (sym (take-append-drop i all) ∙ ap (λ l. take i all ++ l) (drop-cons all i d in_all)) ∙ count-append (λ j. j == m) (take i all) (m ∷ later) in
+        let both = one _ (occ m all) (occ m (take i all)) (occ m later) (w.once m) (omega (arith, self, parts)) in
+        (both.0, any-is (λ j. eqb j m) all true both.1)
       where
-        small : (b : Bool) → cond b 1 0 ≤ 1
-        small true = omega arith
-        small false = omega arith
-
-        alone : (m : ℕ) → occ m (m ∷ []) ≡ 1
-        alone m = let e : (m == m) ≡ true = grind (arith, nat_tests) in ap (λ b. cond b 1 0) e
-
-        so : (b : Bool) (n : ℕ) → n ≡ cond b 1 0 → 1 ≤ n → b ≡ true
-        so true n e l = refl
-        so false n e l = absurd (omega (arith, e, l))
+        one : (b : Bool) (n before after : ℕ) → n ≡ cond b 1 0 → n ≡ before + suc after → (before ≡ 0) × (n ≡ 1)
+        one b n before after e f = grind arith
 
     pub front-next : (more : List ℕ) → take (i + 1) (all ++ more) ≡ take i all ++ get_or all i d ∷ []
     front-next more =
