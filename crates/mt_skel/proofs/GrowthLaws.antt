@@ -19,36 +19,15 @@ module _ (fs : List FilesystemNode) (ns : List Node) (t : IsLaidOut fs ns) (dir 
   pub dir_laid_out : child (skeleton_of fs ns) dir name ≡ None → IsLaidOut fs (ns ++ record { fs = f; up = Some (record { dir = dir; name = name }) } ∷ [])
   dir_laid_out absent = record {
     skeleton = rw (dir_view, same) (skeleton_with_dir (skeleton_of fs ns) t.skeleton dir (directory (skeleton_of fs ns) dir) name (there_at fs ns t dir there) absent);
-    before = λ d n up e is. elim (pushed ns node n d e) [
-      | inl old ↦ t.before d n up old is
-      | inr last ↦ let w = link n up last.1 is in omega (arith, ap (λ x. x.dir) w, last.0)
-    ];
-    one_fs = λ d n p up e is pe. elim (pushed ns node n d e) [
-      | inl old ↦ elim (pushed ns node p up.dir pe) [
-        | inl pold ↦ t.one_fs d n p up old is pold
-        | inr plast ↦ absurd (omega (arith, t.before d n up old is, slice_get_within ns d n old, plast.0))
-      ]
-      | inr last ↦
-          let w : dir ≡ up.dir = ap (λ x. x.dir) (link n up last.1 is) in
-          elim (pushed ns node p up.dir pe) [
-            | inl pold ↦
-                let parent = node_at fs ns t dir (directory (skeleton_of fs ns) dir) (there_at fs ns t dir there) in
-                let v : Some parent.0 ≡ Some p = sym parent.1 ∙ ap (slice_get ns) w ∙ pold in
-                let u : parent.0 ≡ p = cc in
-                sym (ap (λ x. x.fs) u) ∙ sym (ap (λ x. x.fs) parent.2) ∙ sym same ∙ ap (λ x. x.fs) last.1
-            | inr plast ↦ absurd (omega (arith, plast.0))
-          ]
-    ];
+    before = λ d n up e is. grind (arith, pushed ns node n d e, t.before d n up);
+    one_fs = λ d n p up e is pe.
+        let parent = node_at fs ns t dir (directory (skeleton_of fs ns) dir) (there_at fs ns t dir there) in
+        grind (arith, pushed ns node n d e, pushed ns node p up.dir pe, t.one_fs d n p up, t.before d n up, slice_get_within ns d n, parent.1, ap (λ x. x.fs) parent.2);
     roots = λ i g e. rw (dirs_push ns node) (kept (dirs_of ns) (dir_of (dirs_of ns) node) (record { fs = i + 1; path = [] }) g.root (t.roots i g e));
   }
     where
       node : Node
       node = record { fs = f; up = Some (record { dir = dir; name = name }) }
-
-      link : (n : Node) (up : Link) → node ≡ n → n.up ≡ Some up → record { dir = dir; name = name } ≡ up
-      link n up e is =
-          let v : Some (record { dir = dir; name = name }) ≡ Some up = ap (λ x. x.up) e ∙ is in
-          cc
 
 -- a root, and its filesystem
 module _ (fs : List FilesystemNode) (ns : List Node) (t : IsLaidOut fs ns) (f : FilesystemNode) (number : ℕ) (root : f.root ≡ length ns) (next : number ≡ length fs + 1) where
@@ -65,17 +44,8 @@ module _ (fs : List FilesystemNode) (ns : List Node) (t : IsLaidOut fs ns) (f : 
   pub fs_laid_out : fs_named (skeleton_of fs ns) f.name ≡ None → IsLaidOut (fs ++ f ∷ []) (ns ++ record { fs = number; up = None } ∷ [])
   fs_laid_out free = record {
     skeleton = rw fs_view (skeleton_with_fs (skeleton_of fs ns) t.skeleton (shown_fs f) free);
-    before = λ d n up e is. elim (pushed ns node n d e) [
-      | inl old ↦ t.before d n up old is
-      | inr last ↦ absurd (unlinked n up last.1 is)
-    ];
-    one_fs = λ d n p up e is pe. elim (pushed ns node n d e) [
-      | inl old ↦ elim (pushed ns node p up.dir pe) [
-        | inl pold ↦ t.one_fs d n p up old is pold
-        | inr plast ↦ absurd (omega (arith, t.before d n up old is, slice_get_within ns d n old, plast.0))
-      ]
-      | inr last ↦ absurd (unlinked n up last.1 is)
-    ];
+    before = λ d n up e is. grind (arith, pushed ns node n d e, t.before d n up);
+    one_fs = λ d n p up e is pe. grind (arith, pushed ns node n d e, pushed ns node p up.dir pe, t.one_fs d n p up, t.before d n up, slice_get_within ns d n);
     roots = λ i g e. rw (dirs_push ns node) (elim (pushed fs f g i e) [
       | inl old ↦ kept (dirs_of ns) (dir_of (dirs_of ns) node) (record { fs = i + 1; path = [] }) g.root (t.roots i g old)
       | inr last ↦
@@ -87,8 +57,3 @@ module _ (fs : List FilesystemNode) (ns : List Node) (t : IsLaidOut fs ns) (f : 
     where
       node : Node
       node = record { fs = number; up = None }
-
-      unlinked : (n : Node) (up : Link) → node ≡ n → n.up ≡ Some up → ⊥
-      unlinked n up e is =
-          let v : None ≡ Some up = ap (λ x. x.up) e ∙ is in
-          absurd (cc)

@@ -3,21 +3,13 @@ use Rattle.std.proofs.Common.{◌≡◌, ℕ, ◌<◌, true, List, [], ◌∷◌
 use Rattle.std.proofs.Math.ListN.{get_or-append}
 use Rattle.std.proofs.lemmas.Option.{slice_get_within}
 use Rattle.mt_skel.specs.Skeleton.{Skeleton, Directory, directory, child, holds}
-use Rattle.mt_skel.proofs.SkeletonLaws.{holds-Decides, at_number, at_directory}
+use Rattle.mt_skel.proofs.SkeletonLaws.{holds-Decides, above_below, at_number}
 
 -- a directory that holds another holds the children of it
 pub holds_child : (s : Skeleton) (outer up here : ℕ) (name : List ℕ) → holds s outer up ≡ true → child s up name ≡ Some here → holds s outer here ≡ true
 holds_child s outer up here name h e =
     let below : Directory = record { fs = (directory s up).fs; path = (directory s up).path ++ name ∷ [] } in
-    let a = (holds-Decides s outer up).0 h in
-    let at = at_number s below here e in
-    let d = at_directory s here below at in
-    (holds-Decides s outer here).1 (record {
-      there = slice_get_within s.directories here below at;
-      one = a.one ∙ ap (λ x. x.fs) (sym d);
-      rest = a.rest ++ name ∷ [];
-      joined = ap (λ x. x.path) d ∙ ap (λ (x : List (List ℕ)). x ++ name ∷ []) a.joined ∙ append_assoc (directory s outer).path a.rest (name ∷ []);
-    })
+    (holds-Decides s outer here).1 (above_below s outer up here name (at_number s below here e) ((holds-Decides s outer up).0 h))
 
 -- a directory that is there stays what it is where others are made
 pub directory_grown : (s t : Skeleton) (more : List Directory) (i : ℕ) → t.directories ≡ s.directories ++ more → i < length s.directories → directory t i ≡ directory s i

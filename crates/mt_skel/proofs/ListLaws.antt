@@ -72,11 +72,11 @@ walked_more here up done more whole x y e w m same =
     let turned : reverse more ≡ x ∷ reverse done = ap reverse m ∙ reverse-append done (y ∷ []) ∙ ap (λ z. z ∷ reverse done) same in
     ap (λ l. up ++ l) turned ∙ sym (append_assoc up (x ∷ []) (reverse done)) ∙ ap (λ l. l ++ reverse done) (sym e) ∙ w
 
-pub walked_all : {X : Type 0} (here done whole : List X) → here ≡ [] → here ++ reverse done ≡ whole → reverse done ≡ whole
-walked_all here done whole e w = ap (λ l. l ++ reverse done) (sym e) ∙ w
+-- the last so many of an empty list, and of one with one element more
+pub last_none : {X : Type 0} (here : List X) (n : ℕ) → here ≡ [] → drop (length here - n) here ≡ []
+last_none here n e = rw e (drop_all (0 - n) [] (omega arith))
 
--- the last so many of a list with one element more
-last_more : {X : Type 0} (here up : List X) (x : X) (n : ℕ) → here ≡ up ++ x ∷ [] → 1 ≤ n → drop (length here - n) here ≡ drop (length up - (n - 1)) up ++ x ∷ []
+pub last_more : {X : Type 0} (here up : List X) (x : X) (n : ℕ) → here ≡ up ++ x ∷ [] → 1 ≤ n → drop (length here - n) here ≡ drop (length up - (n - 1)) up ++ x ∷ []
 last_more here up x n e l =
     let size : length here - n ≡ length up - (n - 1) = omega (arith, ap length e, length_push up x, l) in
     ap (λ k. drop k here) size ∙ ap (drop (length up - (n - 1))) e ∙ drop-append-le (length up - (n - 1)) up (x ∷ []) (omega arith)
@@ -88,20 +88,3 @@ written_more f here up x n text0 text1 text2 e l e1 e2 =
     let above = drop (length up - (n - 1)) up in
     e2 ∙ ap (λ t. t ++ f x) e1 ∙ append_assoc text0 (flat_map f above) (f x)
     ∙ ap (λ t. text0 ++ t) (ap (λ t. flat_map f above ++ t) (sym (append-nil (f x))) ∙ sym (flat_map-append f above (x ∷ [])) ∙ ap (flat_map f) (sym (last_more here up x n e l)))
-
--- nothing was written, since there is nothing to write
-pub written_none : {X A : Type 0} (f : X → List A) (here : List X) (n : ℕ) (text : List A) → here ≡ [] → text ≡ text ++ flat_map f (drop (length here - n) here)
-written_none f [] n text e = sym (ap (λ h. text ++ flat_map f h) (drop_all (0 - n) [] (omega arith)) ∙ append-nil text)
-written_none f (x ∷ xs) n text e = absurd (cc)
-
--- a list with the last so many at its end, and one more of them
-pub joined_more : {X : Type 0} (here up : List X) (x : X) (n : ℕ) (list0 list1 list2 : List X) → here ≡ up ++ x ∷ [] → 1 ≤ n
-    → list1 ≡ list0 ++ drop (length up - (n - 1)) up → list2 ≡ list1 ++ x ∷ [] → list2 ≡ list0 ++ drop (length here - n) here
-joined_more here up x n list0 list1 list2 e l e1 e2 =
-    let above = drop (length up - (n - 1)) up in
-    e2 ∙ ap (λ t. t ++ x ∷ []) e1 ∙ append_assoc list0 above (x ∷ []) ∙ ap (λ t. list0 ++ t) (sym (last_more here up x n e l))
-
--- nothing was added, since there is nothing to add
-pub joined_none : {X : Type 0} (here : List X) (n : ℕ) (list : List X) → here ≡ [] → list ≡ list ++ drop (length here - n) here
-joined_none [] n list e = sym (ap (λ h. list ++ h) (drop_all (0 - n) [] (omega arith)) ∙ append-nil list)
-joined_none (x ∷ xs) n list e = absurd (cc)

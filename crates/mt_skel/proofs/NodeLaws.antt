@@ -1,42 +1,36 @@
 -- The skeleton of a list of nodes.
-use Rattle.std.proofs.Common.{◌≡◌, ◌≢◌, Bool, true, false, cond, ltb, ℕ, zero, suc, ◌+◌, ◌-◌, ◌<◌, ◌≤◌, List, [], ◌∷◌, ◌++◌, length, map, get_or, Option, Some, None, slice_get, refl, sym, ap, ◌∙◌, arith, length-append, add-zero, zero-add}
+use Rattle.std.proofs.Common.{◌≡◌, ◌≢◌, Bool, true, false, cond, ltb, ℕ, zero, suc, ◌+◌, ◌-◌, ◌<◌, ◌≤◌, List, [], ◌∷◌, ◌++◌, length, map, get_or, Option, Some, None, slice_get, refl, sym, ap, ◌∙◌, inl, inr, arith, length-append, add-zero, zero-add}
 use Rattle.std.specs.List.{position_from, position_or_len}
 use Rattle.std.specs.Option.{option_map, unwrap_or}
 use Rattle.std.specs.Str.{bytes_eq}
 use Rattle.std.proofs.lemmas.Bool.Decides.{nat_tests}
 use Rattle.std.proofs.lemmas.Iterator.Adapters.{position_from-zero}
-use Rattle.std.proofs.lemmas.List.{length-map, same_from_push, get_or_push}
-use Rattle.std.proofs.lemmas.Option.{slice_get_within, slice_get-get_or}
-use Rattle.std.proofs.Math.ListN.{get_or-append}
-use Rattle.mt_skel.specs.Skeleton.{Skeleton, Directory, Filesystem, directory, is_filesystem, is_directory, fs_named, root_of, child, holds}
+use Rattle.std.proofs.lemmas.List.{length-map, same_from_push}
+use Rattle.std.proofs.lemmas.Option.{slice_get_within, slice_get_cases, slice_get_read, slice_get-get_or, get_or_from_slice_get, same_Some}
+use Rattle.std.proofs.lemmas.Bool.{lt-ltb}
+use Rattle.mt_skel.specs.Skeleton.{Skeleton, IsSkeleton, Directory, Filesystem, directory, is_filesystem, is_directory, fs_named, root_of, child, holds}
 use Rattle.mt_skel.specs.declared.skel.Filesystem.{Filesystem as FilesystemNode}
 use Rattle.mt_skel.specs.declared.skel.Link.{Link}
 use Rattle.mt_skel.specs.declared.skel.Node.{Node}
 use Rattle.mt_skel.specs.Nodes.{names_at, names_up, dir_of, dirs_from, dirs_of, shown_fs, skeleton_of, IsUp, IsLaidOut}
-use Rattle.mt_skel.proofs.ListLaws.{snoc_some}
+use Rattle.mt_skel.proofs.ListLaws.{snoc_some, kept, last_place}
 use Rattle.mt_skel.proofs.SkeletonLaws.{holds_up, holds_root, directory_within, filesystem_within, number_at, number_none, directory_at, at_directory, same_place}
 
 -- no node
-pub laid_out_empty : (fs : List FilesystemNode) (ns : List Node) → fs ≡ [] → ns ≡ [] → IsLaidOut fs ns
+pub laid_out_empty : IsLaidOut [] []
 unfolding dirs_of
-laid_out_empty fs ns ef en = rw (ef, en) empty
-  where
-    none : {A : Type 0} (i : ℕ) (x : A) → slice_get [] i ≡ Some x → ⊥
-    none i x e = omega (arith, slice_get_within [] i x e)
-
-    empty : IsLaidOut [] []
-    empty = record {
-      skeleton = record {
-        names_once = λ i j f g e. absurd (none i f e);
-        once = λ i j d e. absurd (none i d e);
-        of_filesystem = λ i d e. absurd (none i d e);
-        parents = λ i fs path name e. absurd (none i (record { fs = fs; path = path ++ name ∷ [] }) e);
-        rooted = λ f l m. absurd (omega arith);
-      };
-      before = λ d n up e. absurd (none d n e);
-      one_fs = λ d n p up e. absurd (none d n e);
-      roots = λ i f e. absurd (none i f e);
-    }
+laid_out_empty = record {
+  skeleton = record {
+    names_once = λ i j f g e. absurd (cc);
+    once = λ i j d e. absurd (cc);
+    of_filesystem = λ i d e. absurd (cc);
+    parents = λ i fs path name e. absurd (cc);
+    rooted = λ f l m. absurd (omega arith);
+  };
+  before = λ d n up e. absurd (cc);
+  one_fs = λ d n p up e. absurd (cc);
+  roots = λ i f e. absurd (cc);
+}
 
 pub skeleton_empty : (fs : List FilesystemNode) (ns : List Node) → fs ≡ [] → ns ≡ [] → skeleton_of fs ns ≡ record { filesystems = []; directories = [] }
 unfolding dirs_of
@@ -51,37 +45,24 @@ unfolding dirs_of
 length-dirs_of ns = omega (arith, length-dirs_from [] ns)
 
 -- what stands already stays
-stays : (done : List Directory) (ns : List Node) (i : ℕ) (d : Directory) → i < length done → get_or (dirs_from done ns) i d ≡ get_or done i d
-stays done [] i d lt = refl
-stays done (n ∷ ns) i d lt =
-    stays (done ++ dir_of done n ∷ []) ns i d (omega (arith, length-append done (dir_of done n ∷ []))) ∙ get_or-append done (dir_of done n ∷ []) d i lt
+stays : (done : List Directory) (ns : List Node) (i : ℕ) (p : Directory) → slice_get done i ≡ Some p → slice_get (dirs_from done ns) i ≡ Some p
+stays done [] i p e = e
+stays done (n ∷ ns) i p e = stays (done ++ dir_of done n ∷ []) ns i p (kept done (dir_of done n) p i e)
 
-dir_same : (a b : List Directory) (n : Node) → ((up : Link) → n.up ≡ Some up → names_at a up.dir ≡ names_at b up.dir) → dir_of a n ≡ dir_of b n
-dir_same a b n same = by n.up refl
-  where
-    names : (o : Option Link) → n.up ≡ o → names_up a o ≡ names_up b o
-    names None e = refl
-    names (Some up) e = ap (λ x. x ++ up.name ∷ []) (same up e)
-
-    by : (o : Option Link) → n.up ≡ o → dir_of a n ≡ dir_of b n
-    by o e = let s = names o e in rw e (λ i. record { fs = n.fs; path = s i })
+names_stay : (done : List Directory) (ns : List Node) (o : Option Link) → ((up : Link) → o ≡ Some up → up.dir < length done) → names_up done o ≡ names_up (dirs_from done ns) o
+names_stay done ns None low = refl
+names_stay done ns (Some up) low =
+    let none : Directory = record { fs = 0; path = [] } in
+    ap (λ (p : Directory). p.path ++ up.name ∷ []) (sym (get_or_from_slice_get (dirs_from done ns) up.dir _ none (stays done ns up.dir _ (slice_get-get_or done up.dir none (low up refl)))))
 
 entry : (done : List Directory) (ns : List Node) (k : ℕ) (n : Node) → slice_get ns k ≡ Some n → ((up : Link) → n.up ≡ Some up → up.dir < length done + k)
     → slice_get (dirs_from done ns) (length done + k) ≡ Some (dir_of (dirs_from done ns) n)
-entry done [] k n e low = absurd (omega (arith, slice_get_within [] k n e))
+entry done [] k n e low = absurd (cc)
 entry done (x ∷ ns) zero n e low =
-    let v : Some x ≡ Some n = e in
-    let w : x ≡ n = cc in
-    let next = done ++ dir_of done x ∷ [] in
-    let size : length next ≡ length done + 1 = length-append done (dir_of done x ∷ []) in
-    let all = dirs_from next ns in
-    let d0 = dir_of done x in
-    let within : length done + 0 < length all = omega (arith, length-dirs_from next ns) in
-    let at : get_or all (length done + 0) d0 ≡ d0 = ap (λ i. get_or all i d0) (add-zero (length done)) ∙ stays next ns (length done) d0 (omega arith) ∙ get_or_push done d0 d0 (length done) refl in
-    let same : dir_of done x ≡ dir_of all x = dir_same done all x (λ up is.
-    let lt : up.dir < length done = omega (arith, low up (sym (ap (λ y. y.up) w) ∙ is)) in
-    ap (λ p. p.path) (sym (stays next ns up.dir (record { fs = 0; path = [] }) (omega arith) ∙ get_or-append done (dir_of done x ∷ []) (record { fs = 0; path = [] }) up.dir lt))) in
-    slice_get-get_or all (length done + 0) d0 within ∙ ap (λ p. Some p) (at ∙ same ∙ ap (dir_of all) w)
+    let same : x ≡ n = grind (arith, e) in
+    let names = names_stay done (x ∷ ns) x.up (λ up is. let l = low up (sym (ap (λ y. y.up) same) ∙ is) in omega arith) in
+    ap (slice_get (dirs_from done (x ∷ ns))) (add-zero (length done)) ∙ stays (done ++ dir_of done x ∷ []) ns (length done) (dir_of done x) (last_place done (dir_of done x))
+    ∙ (λ i. Some (record { fs = x.fs; path = names i })) ∙ ap (λ m. Some (dir_of (dirs_from done (x ∷ ns)) m)) same
 entry done (x ∷ ns) (suc k) n e low =
     let next = done ++ dir_of done x ∷ [] in
     let size : length next ≡ length done + 1 = length-append done (dir_of done x ∷ []) in
@@ -106,18 +87,12 @@ module _ (fs : List FilesystemNode) (ns : List Node) (t : IsLaidOut fs ns) where
   dir_at d n e = entry_of ns d n e (λ up is. t.before d n up e is)
 
   pub node_within : (d : ℕ) → d < length ns → (n : Node) × (slice_get ns d ≡ Some n)
-  node_within d l = by ns refl
-    where
-      by : (xs : List Node) → ns ≡ xs → (n : Node) × (slice_get ns d ≡ Some n)
-      by [] e = absurd (omega (arith, ap length e))
-      by (x ∷ xs) e = (get_or ns d x, slice_get-get_or ns d x l)
+  node_within d l = elim (slice_get_cases ns d).1 [ inl h ↦ (h.0, h.2) | inr past ↦ absurd (omega (arith, past.0)) ]
 
   pub node_at : (d : ℕ) (p : Directory) → slice_get (dirs_of ns) d ≡ Some p → (n : Node) × (slice_get ns d ≡ Some n) × (p ≡ dir_of (dirs_of ns) n)
   node_at d p e =
       let h = node_within d (omega (arith, slice_get_within (dirs_of ns) d p e, length-dirs_of ns)) in
-      let v : Some p ≡ Some (dir_of (dirs_of ns) h.0) = sym e ∙ dir_at d h.0 h.1 in
-      let w : p ≡ dir_of (dirs_of ns) h.0 = cc in
-      (h.0, h.1, w)
+      (h.0, h.1, same_Some p (dir_of (dirs_of ns) h.0) (sym e ∙ dir_at d h.0 h.1))
 
   pub there_at : (d : ℕ) → d < length ns → slice_get (dirs_of ns) d ≡ Some (directory (skeleton_of fs ns) d)
   there_at d l = directory_at (skeleton_of fs ns) d (omega (arith, length-dirs_of ns))
@@ -155,59 +130,78 @@ module _ (fs : List FilesystemNode) (ns : List Node) (t : IsLaidOut fs ns) where
       by d n e at is None up = absurd (snoc_some outer.path name (ap (λ p. p.path) is ∙ ap (names_up (dirs_of ns)) up))
       by d n e at is (Some up) u =
           let q = directory s up.dir in
-          let v : ◌≡◌ {A = Option Directory} (Some (record { fs = outer.fs; path = outer.path ++ name ∷ [] })) (Some (record { fs = q.fs; path = q.path ++ up.name ∷ [] })) = sym at ∙ dir_under d n up e u in
-          let w : ◌≡◌ {A = Directory} (record { fs = outer.fs; path = outer.path ++ name ∷ [] }) (record { fs = q.fs; path = q.path ++ up.name ∷ [] }) = cc in
+          let w = same_Some {A = Directory} (record { fs = outer.fs; path = outer.path ++ name ∷ [] }) (record { fs = q.fs; path = q.path ++ up.name ∷ [] }) (sym at ∙ dir_under d n up e u) in
           let names = same_from_push outer.path q.path name up.name (ap (λ p. p.path) w) in
           let one = ap (λ p. p.fs) w in
           let same : outer ≡ q = λ i. record { fs = one i; path = names.0 i } in
           (up, u, same_place s t.skeleton dir up.dir q same (there_at up.dir (omega (arith, t.before d n up e u, slice_get_within ns d n e))), sym names.1)
-
-  -- a number of a directory or of a filesystem is within the lists
-  pub dir_within : (v : Skeleton) (d : ℕ) → skeleton_of fs ns ≡ v → is_directory v d ≡ true → d < length ns
-  dir_within v d e h = omega (arith, directory_within v d h, ap (λ s. length s.directories) e, length-dirs_of ns)
-
-  pub dir_there : (v : Skeleton) (d : ℕ) → skeleton_of fs ns ≡ v → d < length ns → is_directory v d ≡ true
-  dir_there v d e h =
-      let within : d < length v.directories = omega (arith, h, ap (λ s. length s.directories) e, length-dirs_of ns) in
-      grind (arith, nat_tests)
-
-  pub fs_within : (v : Skeleton) (f : ℕ) → skeleton_of fs ns ≡ v → is_filesystem v f ≡ true → (1 ≤ f) × (f - 1 < length fs)
-  fs_within v f e h =
-      let w = filesystem_within v f h in
-      (w.0, omega (arith, w, ap (λ s. length s.filesystems) e, length-map fs shown_fs))
-
-  -- what a node and a filesystem say of their directory
-  pub fs_at : (d : ℕ) (n : Node) → slice_get ns d ≡ Some n → n.fs ≡ (directory (skeleton_of fs ns) d).fs
-  fs_at d n e = sym (ap (λ p. p.fs) (at_directory (skeleton_of fs ns) d (dir_of (dirs_of ns) n) (dir_at d n e)))
 
   pub fs_there : (d : ℕ) → d < length ns → is_filesystem (skeleton_of fs ns) (directory (skeleton_of fs ns) d).fs ≡ true
   fs_there d l =
       let h = t.skeleton.of_filesystem d (directory (skeleton_of fs ns) d) (there_at d l) in
       grind (arith, nat_tests)
 
-  pub root_at : (i number : ℕ) (f : FilesystemNode) → slice_get fs i ≡ Some f → number ≡ i + 1 → f.root ≡ root_of (skeleton_of fs ns) number
-  root_at i number f e next =
-      rw next (sym (ap (λ o. unwrap_or o 0) (number_at (skeleton_of fs ns) t.skeleton (record { fs = i + 1; path = [] }) f.root (t.roots i f e))))
+-- how many filesystems and directories there are, as a skeleton is seen
+pub counted : (fs : List FilesystemNode) (ns : List Node) (v : Skeleton) → skeleton_of fs ns ≡ v → (length v.filesystems ≡ length fs) × (length v.directories ≡ length ns)
+counted fs ns v view = rw (← view) (length-map fs shown_fs, length-dirs_of ns)
 
-  pub root_within : (i : ℕ) (f : FilesystemNode) → slice_get fs i ≡ Some f → f.root < length ns
-  root_within i f e = omega (arith, slice_get_within (dirs_of ns) f.root (record { fs = i + 1; path = [] }) (t.roots i f e), length-dirs_of ns)
+-- a number of a directory is within the nodes
+pub dir_within : (fs : List FilesystemNode) (ns : List Node) (v : Skeleton) (d : ℕ) → skeleton_of fs ns ≡ v → is_directory v d ≡ true → d < length ns
+dir_within fs ns v d view h = omega (arith, directory_within v d h, counted fs ns v view)
 
-  -- from a node to its parent
-  pub path_up : (d : ℕ) (n : Node) (up : Link) → slice_get ns d ≡ Some n → n.up ≡ Some up → (directory (skeleton_of fs ns) d).path ≡ (directory (skeleton_of fs ns) up.dir).path ++ up.name ∷ []
-  path_up d n up e is =
-      let p = directory (skeleton_of fs ns) up.dir in
-      ap (λ x. x.path) (at_directory (skeleton_of fs ns) d (record { fs = p.fs; path = p.path ++ up.name ∷ [] }) (dir_under d n up e is))
+pub sound : {fs : List FilesystemNode} {ns : List Node} → IsLaidOut fs ns → (v : Skeleton) → skeleton_of fs ns ≡ v → IsSkeleton v
+sound t v view = rw (← view) t.skeleton
 
-  pub path_root : (d : ℕ) (n : Node) → slice_get ns d ≡ Some n → n.up ≡ None → (directory (skeleton_of fs ns) d).path ≡ []
-  path_root d n e is = ap (λ x. x.path) (at_directory (skeleton_of fs ns) d (record { fs = n.fs; path = [] }) (dir_root d n e is))
+-- what a node that is read says of its directory: one without a parent is a root, and another has one name more than its parent
+pub record IsRoot (v : Skeleton) (d : ℕ) : Type 0 where
+  pub path : (directory v d).path ≡ []
+  pub alone : (outer : ℕ) → d ≢ outer → holds v outer d ≡ false
 
-  pub holds_parent : (outer d : ℕ) (n : Node) (up : Link) → slice_get ns d ≡ Some n → n.up ≡ Some up → d ≢ outer → holds (skeleton_of fs ns) outer up.dir ≡ holds (skeleton_of fs ns) outer d
-  holds_parent outer d n up e is ne =
-      let p = directory (skeleton_of fs ns) up.dir in
-      sym (holds_up (skeleton_of fs ns) t.skeleton outer d up.dir p.fs p.path up.name (dir_under d n up e is) (there_at up.dir (omega (arith, t.before d n up e is, slice_get_within ns d n e))) ne)
+pub record IsBelow (v : Skeleton) (d : ℕ) (up : Link) : Type 0 where
+  pub low : up.dir < d
+  pub there : is_directory v up.dir ≡ true
+  pub path : (directory v d).path ≡ (directory v up.dir).path ++ up.name ∷ []
+  pub held : (outer : ℕ) → d ≢ outer → holds v outer up.dir ≡ holds v outer d
 
-  pub holds_end : (outer d : ℕ) (n : Node) → slice_get ns d ≡ Some n → n.up ≡ None → d ≢ outer → holds (skeleton_of fs ns) outer d ≡ false
-  holds_end outer d n e is ne = holds_root (skeleton_of fs ns) t.skeleton outer d n.fs (dir_root d n e is) ne
+module _ {fs : List FilesystemNode} {ns : List Node} (t : IsLaidOut fs ns) (v : Skeleton) (view : skeleton_of fs ns ≡ v) (d : ℕ) (n : Node) (l : d < length ns) (read : n ≡ get_or ns d n) where
+  at : slice_get ns d ≡ Some n
+  at = slice_get_read ns (length ns) d n refl l read
+
+  pub fs_read : n.fs ≡ (directory v d).fs
+  fs_read = rw (← view) (sym (ap (λ p. p.fs) (at_directory (skeleton_of fs ns) d (dir_of (dirs_of ns) n) (dir_at fs ns t d n at))))
+
+  pub root_read : n.up ≡ None → IsRoot v d
+  root_read is =
+      let e = dir_root fs ns t d n at is in
+      rw (← view) (record {
+        path = ap (λ x. x.path) (at_directory (skeleton_of fs ns) d (record { fs = n.fs; path = [] }) e);
+        alone = λ outer ne. holds_root (skeleton_of fs ns) t.skeleton outer d n.fs e ne;
+      })
+
+  pub below_read : (up : Link) → n.up ≡ Some up → IsBelow v d up
+  below_read up is =
+      let s = skeleton_of fs ns in
+      let e = dir_under fs ns t d n up at is in
+      let low = t.before d n up at is in
+      let within : up.dir < length (dirs_of ns) = omega (arith, length-dirs_of ns) in
+      rw (← view) (record {
+        low = low;
+        there = lt-ltb up.dir (length (dirs_of ns)) within;
+        path = ap (λ x. x.path) (at_directory s d (record { fs = (directory s up.dir).fs; path = (directory s up.dir).path ++ up.name ∷ [] }) e);
+        held = λ outer ne. holds_up s t.skeleton outer d up.dir up.name within e ne;
+      })
+
+-- a filesystem that is read says where its root is
+module _ {fs : List FilesystemNode} {ns : List Node} (t : IsLaidOut fs ns) (v : Skeleton) (view : skeleton_of fs ns ≡ v) (f : ℕ) (n : FilesystemNode) (valid : is_filesystem v f ≡ true) (read : n ≡ get_or fs (f - 1) n) where
+  pub root_place : slice_get v.directories n.root ≡ Some (record { fs = f; path = [] })
+  root_place =
+      let within = filesystem_within v f valid in
+      let at = slice_get_read fs (length fs) (f - 1) n refl (omega (arith, within, counted fs ns v view)) read in
+      let next : f - 1 + 1 ≡ f = omega (arith, within) in
+      rw (← view) (t.roots (f - 1) n at ∙ ap (λ k. Some (record { fs = k; path = [] })) next)
+
+  pub root_number : n.root ≡ root_of v f
+  root_number = sym (ap (λ o. unwrap_or o 0) (number_at v (sound t v view) (record { fs = f; path = [] }) n.root root_place))
 
 -- the number of a filesystem, from its place among the nodes
 numbered : (name : List ℕ) (fs : List FilesystemNode) (k m : ℕ) → m ≡ k + 1 → position_from (λ (f : Filesystem). bytes_eq f.name name) m (map shown_fs fs) ≡ option_map (λ i. i + 1) (position_from (λ (f : FilesystemNode). bytes_eq f.name name) k fs)

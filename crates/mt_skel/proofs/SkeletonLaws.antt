@@ -1,12 +1,12 @@
 -- What the numbers of directories say, and one directory or filesystem more.
-use Rattle.std.proofs.Common.{◌≡◌, ◌≢◌, ℕ, zero, suc, ◌+◌, ◌<◌, ◌≤◌, Bool, true, false, cond, ◌&&◌, eqb, leb, List, [], ◌∷◌, ◌++◌, length, drop, get_or, Some, None, slice_get, Decides, refl, sym, ap, ◌∙◌, inl, inr, arith, length-append, append_assoc, append-nil}
+use Rattle.std.proofs.Common.{◌≡◌, ◌≢◌, ℕ, zero, suc, ◌+◌, ◌<◌, ◌≤◌, Bool, true, false, cond, ◌&&◌, eqb, leb, List, [], ◌∷◌, ◌++◌, length, drop, Option, Some, None, slice_get, Decides, refl, sym, ap, ◌∙◌, inl, inr, arith, length-append, append_assoc, append-nil}
 use Rattle.std.specs.List.{position_from, starts_with}
 use Rattle.std.specs.Str.{bytes_eq}
 use Rattle.std.proofs.lemmas.Bool.{cases_lt, and_parts, false_from_ne_true, true≢false, ltb-true, leb-true}
 use Rattle.std.proofs.lemmas.Bool.Decides.{Decides-eqb, Decides-and, Decides-like, Decides-ltb, same_from_decides}
 use Rattle.std.proofs.lemmas.Slice.Eq.{slice_eq-Decides, bytes_eq-Decides, starts_is}
 use Rattle.std.proofs.lemmas.Option.{slice_get_within, get_or_from_slice_get, slice_get-get_or}
-use Rattle.std.proofs.lemmas.List.{same_from_push}
+use Rattle.std.proofs.lemmas.List.{same_from_push, get_or_past}
 use Rattle.mt_skel.proofs.ListLaws.{snoc_some, front_empty, last_of, pushed, kept, last_place}
 use Rattle.mt_skel.specs.Skeleton.{Skeleton, Directory, Filesystem, path_eq, directory_eq, is_directory, is_filesystem, directory, fs_named, directory_number, child, holds, with_fs, with_dir, IsSkeleton}
 
@@ -18,42 +18,19 @@ module _ {X : Type 0} (p : X → Bool) where
     where
       by : (b : Bool) → p x ≡ b → (position_from p (k + 1) xs ≡ Some i → (j : ℕ) × (y : X) × (i ≡ k + 1 + j) × (slice_get xs j ≡ Some y) × (p y ≡ true))
           → (j : ℕ) × (y : X) × (i ≡ k + j) × (slice_get (x ∷ xs) j ≡ Some y) × (p y ≡ true)
-      by true t ih =
-          let v : Some k ≡ Some i = sym (ap (λ b. cond b (Some k) (position_from p (k + 1) xs)) t) ∙ e in
-          let w : k ≡ i = cc in
-          (zero, x, omega arith, refl, t)
-      by false f ih =
-          let h = ih (sym (ap (λ b. cond b (Some k) (position_from p (k + 1) xs)) f) ∙ e) in
-          (suc h.0, h.1, omega (arith, h.2), h.3, h.4)
+      by true t ih = (zero, x, grind arith, refl, t)
+      by false f ih = let h = ih (grind arith) in (suc h.0, h.1, omega (arith, h.2), h.3, h.4)
 
   pub place_first : (xs : List X) (k i n : ℕ) (x : X) → slice_get xs i ≡ Some x → p x ≡ true → ((j : ℕ) (y : X) → slice_get xs j ≡ Some y → p y ≡ true → j ≡ i) → n ≡ k + i → position_from p k xs ≡ Some n
   place_first [] k i n x e t one m = absurd (omega (arith, slice_get_within [] i x e))
-  place_first (y ∷ xs) k zero n x e t one m =
-      let v : Some y ≡ Some x = e in
-      let w : y ≡ x = cc in
-      ap (λ b. cond b (Some k) (position_from p (k + 1) xs)) (ap p w ∙ t) ∙ ap (λ a. Some a) (let z : k ≡ n = omega arith in z)
+  place_first (y ∷ xs) k zero n x e t one m = grind arith
   place_first (y ∷ xs) k (suc i) n x e t one m =
-      let off : p y ≡ false = false_from_ne_true (p y) (λ h. let z = one zero y refl h in absurd (omega arith)) in
-      ap (λ b. cond b (Some k) (position_from p (k + 1) xs)) off ∙ place_first xs (k + 1) i n x e t (λ j z f h. let s = one (suc j) z f h in omega arith) (omega arith)
-
-  pub place_none : (xs : List X) (k : ℕ) → ((j : ℕ) (y : X) → slice_get xs j ≡ Some y → p y ≡ false) → position_from p k xs ≡ None
-  place_none [] k off = refl
-  place_none (x ∷ xs) k off =
-      ap (λ b. cond b (Some k) (position_from p (k + 1) xs)) (off zero x refl) ∙ place_none xs (k + 1) (λ j y e. off (suc j) y e)
+      grind (arith, one zero y refl, place_first xs (k + 1) i n x e t (λ j z f h. let s = one (suc j) z f h in omega arith) (omega arith))
 
   pub no_place : (xs : List X) (k : ℕ) → position_from p k xs ≡ None → (j : ℕ) (y : X) → slice_get xs j ≡ Some y → p y ≡ false
   no_place [] k e j y at = absurd (omega (arith, slice_get_within [] j y at))
-  no_place (x ∷ xs) k e j y at = by (p x) refl (λ f j. no_place xs (k + 1) f j y) j at
-    where
-      by : (b : Bool) → p x ≡ b → (position_from p (k + 1) xs ≡ None → (j : ℕ) → slice_get xs j ≡ Some y → p y ≡ false) → (j : ℕ) → slice_get (x ∷ xs) j ≡ Some y → p y ≡ false
-      by true t ih j at =
-          let v : Some k ≡ None = sym (ap (λ b. cond b (Some k) (position_from p (k + 1) xs)) t) ∙ e in
-          absurd (cc)
-      by false f ih zero at =
-          let v : Some x ≡ Some y = at in
-          let w : x ≡ y = cc in
-          ap p (sym w) ∙ f
-      by false f ih (suc j) at = ih (sym (ap (λ b. cond b (Some k) (position_from p (k + 1) xs)) f) ∙ e) j at
+  no_place (x ∷ xs) k e zero y at = grind arith
+  no_place (x ∷ xs) k e (suc j) y at = no_place xs (k + 1) (grind arith) j y at
 
 pub path_eq-Decides : (xs ys : List (List ℕ)) → Decides (path_eq xs ys) (xs ≡ ys)
 path_eq-Decides xs ys = slice_eq-Decides bytes_eq-Decides xs ys (path_eq xs ys) refl
@@ -75,8 +52,11 @@ number_at s is d i e =
     place_first (directory_eq d) s.directories 0 i i d e ((directory_eq-Decides d d).1 refl) (λ j y at t. is.once j i d (at ∙ ap (λ x. Some x) (sym ((directory_eq-Decides d y).0 t))) e) (omega arith)
 
 pub number_none : (s : Skeleton) (d : Directory) → ((i : ℕ) → ¬ (slice_get s.directories i ≡ Some d)) → directory_number s d ≡ None
-number_none s d off =
-    place_none (directory_eq d) s.directories 0 (λ j y at. false_from_ne_true (directory_eq d y) (λ t. off j (at ∙ ap (λ x. Some x) (sym ((directory_eq-Decides d y).0 t)))))
+number_none s d off = by (directory_number s d) refl
+  where
+    by : (o : Option ℕ) → directory_number s d ≡ o → o ≡ None
+    by None e = refl
+    by (Some i) e = absurd (off i (at_number s d i e))
 
 pub none_number : (s : Skeleton) (d : Directory) (i : ℕ) → directory_number s d ≡ None → ¬ (slice_get s.directories i ≡ Some d)
 none_number s d i e at = true≢false (sym ((directory_eq-Decides d d).1 refl) ∙ no_place (directory_eq d) s.directories 0 e i d at)
@@ -98,12 +78,7 @@ pub at_directory : (s : Skeleton) (i : ℕ) (d : Directory) → slice_get s.dire
 at_directory s i d e = get_or_from_slice_get s.directories i d (record { fs = 0; path = [] }) e
 
 pub past_directory : (s : Skeleton) (i : ℕ) → length s.directories ≤ i → directory s i ≡ record { fs = 0; path = [] }
-past_directory s i l = past s.directories i l
-  where
-    past : (ds : List Directory) (i : ℕ) → length ds ≤ i → get_or ds i (record { fs = 0; path = [] }) ≡ record { fs = 0; path = [] }
-    past [] i l = refl
-    past (d ∷ ds) zero l = absurd (omega arith)
-    past (d ∷ ds) (suc i) l = past ds i (omega arith)
+past_directory s i l = get_or_past s.directories i (record { fs = 0; path = [] }) l
 
 -- the directories above a directory are there
 pub above_there : (s : Skeleton) → IsSkeleton s → (n fs : ℕ) (path rest : List (List ℕ)) (i : ℕ) → length rest ≡ n → slice_get s.directories i ≡ Some (record { fs = fs; path = path ++ rest })
@@ -118,21 +93,20 @@ above_there s is (suc n) fs path rest i l e = elim (last_of rest) [
       above_there s is n fs path some.0 up.0 (omega (arith, ap length some.2, length-append some.0 (some.1 ∷ []))) up.2
 ]
 
+-- a child has the names of its directory and one more
+pub child_number : (s : Skeleton) (here : ℕ) (d : Directory) (name : List ℕ) → slice_get s.directories here ≡ Some d → child s here name ≡ directory_number s (record { fs = d.fs; path = d.path ++ name ∷ [] })
+child_number s here d name e = ap (λ (p : Directory). directory_number s (record { fs = p.fs; path = p.path ++ name ∷ [] })) (at_directory s here d e)
+
 -- one name further down, where the directory is there and where it is not
 pub child_at : (s : Skeleton) (fs here below : ℕ) (front : List (List ℕ)) (name : List ℕ) → slice_get s.directories here ≡ Some (record { fs = fs; path = front }) → child s here name ≡ Some below
     → slice_get s.directories below ≡ Some (record { fs = fs; path = front ++ name ∷ [] })
-child_at s fs here below front name e c =
-    let at = at_directory s here (record { fs = fs; path = front }) e in
-    at_number s (record { fs = fs; path = front ++ name ∷ [] }) below (ap (λ d. directory_number s (record { fs = d.fs; path = d.path ++ name ∷ [] })) (sym at) ∙ c)
+child_at s fs here below front name e c = at_number s (record { fs = fs; path = front ++ name ∷ [] }) below (sym (child_number s here (record { fs = fs; path = front }) name e) ∙ c)
 
 pub none_below : (s : Skeleton) → IsSkeleton s → (fs here : ℕ) (front rest path : List (List ℕ)) (name : List ℕ) → slice_get s.directories here ≡ Some (record { fs = fs; path = front }) → child s here name ≡ None
     → path ≡ (front ++ name ∷ []) ++ rest → directory_number s (record { fs = fs; path = path }) ≡ None
-none_below s is fs here front rest path name e c split =
-    let at = at_directory s here (record { fs = fs; path = front }) e in
-    let absent : directory_number s (record { fs = fs; path = front ++ name ∷ [] }) ≡ None = ap (λ d. directory_number s (record { fs = d.fs; path = d.path ++ name ∷ [] })) (sym at) ∙ c in
-    number_none s (record { fs = fs; path = path }) (λ i h.
+none_below s is fs here front rest path name e c split = number_none s (record { fs = fs; path = path }) (λ i h.
     let above = above_there s is (length rest) fs (front ++ name ∷ []) rest i refl (h ∙ ap (λ (p : List (List ℕ)). Some (record { fs = fs; path = p })) split) in
-    none_number s (record { fs = fs; path = front ++ name ∷ [] }) above.0 absent above.1)
+    none_number s (record { fs = fs; path = front ++ name ∷ [] }) above.0 (sym (child_number s here (record { fs = fs; path = front }) name e) ∙ c) above.1)
 
 -- a number whose directory stands at another is the other
 pub same_place : (s : Skeleton) → IsSkeleton s → (i j : ℕ) (d : Directory) → directory s i ≡ d → slice_get s.directories j ≡ Some d → j ≡ i
@@ -166,44 +140,38 @@ holds-Decides s outer inner =
 pub holds_self : (s : Skeleton) (d : ℕ) → d < length s.directories → holds s d d ≡ true
 holds_self s d l = (holds-Decides s d d).1 (record { there = l; one = refl; rest = []; joined = sym (append-nil (directory s d).path) })
 
--- a directory holds another one exactly if it holds the parent of it
-pub holds_up : (s : Skeleton) → IsSkeleton s → (outer here up fs : ℕ) (path : List (List ℕ)) (name : List ℕ) → slice_get s.directories here ≡ Some (record { fs = fs; path = path ++ name ∷ [] })
-    → slice_get s.directories up ≡ Some (record { fs = fs; path = path }) → here ≢ outer → holds s outer here ≡ holds s outer up
-holds_up s is outer here up fs path name e u ne =
-    same_from_decides (holds s outer here) (holds s outer up) (holds-Decides s outer here) (Decides-like (holds s outer up) down above (holds-Decides s outer up))
-  where
-    h : directory s here ≡ record { fs = fs; path = path ++ name ∷ [] }
-    h = at_directory s here (record { fs = fs; path = path ++ name ∷ [] }) e
-
-    p : directory s up ≡ record { fs = fs; path = path }
-    p = at_directory s up (record { fs = fs; path = path }) u
-
-    down : IsAbove s outer up → IsAbove s outer here
-    down a = record {
-      there = slice_get_within s.directories here (record { fs = fs; path = path ++ name ∷ [] }) e;
-      one = a.one ∙ ap (λ x. x.fs) p ∙ ap (λ x. x.fs) (sym h);
+-- a directory that holds another holds what has one name more, and that is held by no other but itself
+pub above_below : (s : Skeleton) (outer up here : ℕ) (name : List ℕ) → slice_get s.directories here ≡ Some (record { fs = (directory s up).fs; path = (directory s up).path ++ name ∷ [] }) → IsAbove s outer up → IsAbove s outer here
+above_below s outer up here name e a =
+    let below : Directory = record { fs = (directory s up).fs; path = (directory s up).path ++ name ∷ [] } in
+    let h = at_directory s here below e in
+    record {
+      there = slice_get_within s.directories here below e;
+      one = a.one ∙ ap (λ x. x.fs) (sym h);
       rest = a.rest ++ name ∷ [];
-      joined =
-          ap (λ x. x.path) h ∙ ap (λ (x : List (List ℕ)). x ++ name ∷ []) (ap (λ x. x.path) (sym p) ∙ a.joined) ∙ append_assoc (directory s outer).path a.rest (name ∷ []);
+      joined = ap (λ x. x.path) h ∙ ap (λ (x : List (List ℕ)). x ++ name ∷ []) a.joined ∙ append_assoc (directory s outer).path a.rest (name ∷ []);
     }
 
+pub holds_up : (s : Skeleton) → IsSkeleton s → (outer here up : ℕ) (name : List ℕ) → up < length s.directories → slice_get s.directories here ≡ Some (record { fs = (directory s up).fs; path = (directory s up).path ++ name ∷ [] }) → here ≢ outer
+    → holds s outer up ≡ holds s outer here
+holds_up s is outer here up name l e ne =
+    same_from_decides (holds s outer up) (holds s outer here) (holds-Decides s outer up) (Decides-like (holds s outer here) above (above_below s outer up here name e) (holds-Decides s outer here))
+  where
     above : IsAbove s outer here → IsAbove s outer up
     above a =
-        let one : (directory s outer).fs ≡ fs = a.one ∙ ap (λ x. x.fs) h in
-        let joined : path ++ name ∷ [] ≡ (directory s outer).path ++ a.rest = ap (λ x. x.path) (sym h) ∙ a.joined in
+        let p = directory s up in
+        let o = directory s outer in
+        let below : Directory = record { fs = p.fs; path = p.path ++ name ∷ [] } in
+        let h = at_directory s here below e in
+        let one : o.fs ≡ p.fs = a.one ∙ ap (λ x. x.fs) h in
+        let joined : p.path ++ name ∷ [] ≡ o.path ++ a.rest = ap (λ x. x.path) (sym h) ∙ a.joined in
         elim (last_of a.rest) [
           | inl none ↦
-              let names : (directory s outer).path ≡ path ++ name ∷ [] = sym (joined ∙ ap (λ x. (directory s outer).path ++ x) none ∙ append-nil (directory s outer).path) in
-              absurd (ne (same_place s is outer here (record { fs = fs; path = path ++ name ∷ [] }) (λ i. record { fs = one i; path = names i }) e))
+              let names : o.path ≡ p.path ++ name ∷ [] = sym (joined ∙ ap (λ x. o.path ++ x) none ∙ append-nil o.path) in
+              absurd (ne (same_place s is outer here below (λ i. record { fs = one i; path = names i }) e))
           | inr some ↦
-              let split : path ++ name ∷ [] ≡ ((directory s outer).path ++ some.0) ++ some.1 ∷ [] = joined ∙ ap (λ x. (directory s outer).path ++ x) some.2 ∙ sym (append_assoc (directory s outer).path some.0 (some.1 ∷ [])) in
-              let same = same_from_push path ((directory s outer).path ++ some.0) name some.1 split in
-              record {
-                there = slice_get_within s.directories up (record { fs = fs; path = path }) u;
-                one = one ∙ ap (λ x. x.fs) (sym p);
-                rest = some.0;
-                joined = ap (λ x. x.path) p ∙ same.0;
-              }
+              let split : p.path ++ name ∷ [] ≡ (o.path ++ some.0) ++ some.1 ∷ [] = joined ∙ ap (λ x. o.path ++ x) some.2 ∙ sym (append_assoc o.path some.0 (some.1 ∷ [])) in
+              record { there = l; one = one; rest = some.0; joined = (same_from_push p.path (o.path ++ some.0) name some.1 split).0 }
         ]
 
 -- and a root is held by itself alone
@@ -223,20 +191,8 @@ pub skeleton_with_dir : (s : Skeleton) → IsSkeleton s → (up : ℕ) (p : Dire
     → IsSkeleton (with_dir s (record { fs = p.fs; path = p.path ++ name ∷ [] }))
 skeleton_with_dir s is up p name u absent = record {
   names_once = is.names_once;
-  once = λ i j d ei ej. elim (pushed s.directories new d i ei) [
-    | inl oi ↦ elim (pushed s.directories new d j ej) [
-      | inl oj ↦ is.once i j d oi oj
-      | inr lj ↦ absurd (none_number s new i absent (oi ∙ ap (λ x. Some x) (sym lj.1)))
-    ]
-    | inr li ↦ elim (pushed s.directories new d j ej) [
-      | inl oj ↦ absurd (none_number s new j absent (oj ∙ ap (λ x. Some x) (sym li.1)))
-      | inr lj ↦ li.0 ∙ sym lj.0
-    ]
-  ];
-  of_filesystem = λ i d e. elim (pushed s.directories new d i e) [
-    | inl old ↦ is.of_filesystem i d old
-    | inr last ↦ let f = is.of_filesystem up p u in let same : p.fs ≡ d.fs = ap (λ x. x.fs) last.1 in (omega arith, omega arith)
-  ];
+  once = λ i j d ei ej. grind (arith, pushed s.directories new d i ei, pushed s.directories new d j ej, is.once i j d, none_number s new i absent, none_number s new j absent);
+  of_filesystem = λ i d e. grind (arith, pushed s.directories new d i e, is.of_filesystem i d, is.of_filesystem up p u);
   parents = λ i fs path last e. elim (pushed s.directories new (record { fs = fs; path = path ++ last ∷ [] }) i e) [
     | inl old ↦ let h = is.parents i fs path last old in (h.0, h.1, kept s.directories new (record { fs = fs; path = path }) h.0 h.2)
     | inr end ↦
@@ -257,30 +213,9 @@ fs_named_none s name e i g at same = true≢false (sym ((bytes_eq-Decides g.name
 -- one filesystem more
 pub skeleton_with_fs : (s : Skeleton) → IsSkeleton s → (f : Filesystem) → fs_named s f.name ≡ None → IsSkeleton (with_fs s f)
 skeleton_with_fs s is f free = record {
-  names_once = λ i j g h ei ej same. elim (pushed s.filesystems f g i ei) [
-    | inl oi ↦ elim (pushed s.filesystems f h j ej) [
-      | inl oj ↦ is.names_once i j g h oi oj same
-      | inr lj ↦ absurd (fs_named_none s f.name free i g oi (same ∙ ap (λ x. x.name) (sym lj.1)))
-    ]
-    | inr li ↦ elim (pushed s.filesystems f h j ej) [
-      | inl oj ↦ absurd (fs_named_none s f.name free j h oj (sym same ∙ ap (λ x. x.name) (sym li.1)))
-      | inr lj ↦ li.0 ∙ sym lj.0
-    ]
-  ];
-  once = λ i j d ei ej. elim (pushed s.directories root d i ei) [
-    | inl oi ↦ elim (pushed s.directories root d j ej) [
-      | inl oj ↦ is.once i j d oi oj
-      | inr lj ↦ absurd (omega (arith, is.of_filesystem i d oi, ap (λ x. x.fs) lj.1))
-    ]
-    | inr li ↦ elim (pushed s.directories root d j ej) [
-      | inl oj ↦ absurd (omega (arith, is.of_filesystem j d oj, ap (λ x. x.fs) li.1))
-      | inr lj ↦ li.0 ∙ sym lj.0
-    ]
-  ];
-  of_filesystem = λ i d e. elim (pushed s.directories root d i e) [
-    | inl old ↦ let h = is.of_filesystem i d old in (h.0, omega (arith, more))
-    | inr last ↦ let same : length s.filesystems + 1 ≡ d.fs = ap (λ x. x.fs) last.1 in (omega arith, omega (arith, more))
-  ];
+  names_once = λ i j g h ei ej same. grind (arith, pushed s.filesystems f g i ei, pushed s.filesystems f h j ej, is.names_once i j g h, fs_named_none s f.name free i g, fs_named_none s f.name free j h);
+  once = λ i j d ei ej. grind (arith, pushed s.directories root d i ei, pushed s.directories root d j ej, is.once i j d, is.of_filesystem i d, is.of_filesystem j d);
+  of_filesystem = λ i d e. grind (arith, pushed s.directories root d i e, is.of_filesystem i d, more);
   parents = λ i fs path last e. elim (pushed s.directories root (record { fs = fs; path = path ++ last ∷ [] }) i e) [
     | inl old ↦ let h = is.parents i fs path last old in (h.0, h.1, kept s.directories root (record { fs = fs; path = path }) h.0 h.2)
     | inr end ↦ absurd (snoc_some path last (sym (ap (λ x. x.path) end.1)))

@@ -1,44 +1,25 @@
-use Rattle.std.proofs.Common.{◌++◌, ◌∷◌, [], ℕ, List, length, ap, sym, ◌∙◌, refl, arith}
-use Rattle.std.proofs.lemmas.Option.{slice_get_read}
-use Rattle.mt_skel.specs.Skeleton.{Skeleton, directory}
-use Rattle.mt_skel.proofs.ListLaws.{joined_more, joined_none}
-use Rattle.mt_skel.proofs.NodeLaws.{dir_within, dir_there, path_up, path_root}
+use Rattle.std.proofs.Common.{ℕ, ◌++◌, ◌∷◌, [], sym, arith, append-nil, append_assoc}
+use Rattle.mt_skel.proofs.ListLaws.{last_none, last_more}
+use Rattle.mt_skel.proofs.NodeLaws.{IsBelow, dir_within, root_read, below_read}
+use Rattle.mt_skel.proofs.skel.Skel.+add_path.Goals.{In-Some}
 use Rattle.mt_skel.proofs.skel.Skel.+add_path.Goals as goal
 
 pub index-requires : goal.index-requires
-index-requires t c =
-    let fs = c.self.inside.filesystems.items in
-    let ns = c.self.inside.nodes.items in
-    omega (arith, dir_within fs ns c.self.invariant.laid_out c.args.self.now c.args.dir c.self.view_is c.requires, c.self.inside.nodes.ok)
+index-requires t c = omega (arith, dir_within _ _ c.args.self.now c.args.dir c.self.view_is c.requires, c.self.inside.nodes.ok)
 
 pub returns-in_default : goal.returns-in_default
 returns-in_default t c =
-    let fs = c.self.inside.filesystems.items in
-    let ns = c.self.inside.nodes.items in
-    let lt = dir_within fs ns c.self.invariant.laid_out c.args.self.now c.args.dir c.self.view_is c.requires in
-    let at = slice_get_read ns (length ns) c.args.dir c.index.result.now refl lt c.index.ensures in
-    let none = sym (ap (λ v. (directory v c.args.dir).path) c.self.view_is) ∙ path_root fs ns c.self.invariant.laid_out c.args.dir c.index.result.now at c.in_default.is in
-    joined_none (directory c.args.self.now c.args.dir).path c.args.count c.args.path none
+    let within = dir_within _ _ c.args.self.now c.args.dir c.self.view_is c.requires in
+    let root = root_read c.self.invariant.laid_out _ c.self.view_is _ _ within c.index.ensures c.in_default.is in
+    rw (last_none _ c.args.count root.path) (sym (append-nil c.args.path))
+
+below : (t : ℕ) (c : In-Some t) → IsBelow c.args.self.now c.args.dir c.in-Some.link
+below t c = below_read c.self.invariant.laid_out _ c.self.view_is _ _ (dir_within _ _ c.args.self.now c.args.dir c.self.view_is c.requires) c.index.ensures _ c.in-Some.is
 
 pub add_path-requires : goal.add_path-requires
-add_path-requires t c =
-    let fs = c.self.inside.filesystems.items in
-    let ns = c.self.inside.nodes.items in
-    let lt = dir_within fs ns c.self.invariant.laid_out c.args.self.now c.args.dir c.self.view_is c.requires in
-    let at = slice_get_read ns (length ns) c.args.dir c.index.result.now refl lt c.index.ensures in
-    let up = c.self.invariant.laid_out.before c.args.dir c.index.result.now c.in-Some.link at c.in-Some.is in
-    (omega (arith, c.decreases, c.if-count-eq0.false), dir_there fs ns c.self.invariant.laid_out c.args.self.now c.in-Some.link.dir c.self.view_is (omega (arith, up, lt)))
+add_path-requires t c = (omega (arith, c.decreases, c.if-count-eq0.false), (below t c).there)
 
 pub returns : goal.returns
 returns t c =
-    let fs = c.self.inside.filesystems.items in
-    let ns = c.self.inside.nodes.items in
-    let lt = dir_within fs ns c.self.invariant.laid_out c.args.self.now c.args.dir c.self.view_is c.requires in
-    let at = slice_get_read ns (length ns) c.args.dir c.index.result.now refl lt c.index.ensures in
-    let link = c.in-Some.link in
-    let names : Skeleton → ℕ → List (List ℕ) = λ v d. (directory v d).path in
-    let longer =
-    sym (ap (λ v. names v c.args.dir) c.self.view_is) ∙ path_up fs ns c.self.invariant.laid_out c.args.dir c.index.result.now link at c.in-Some.is
-    ∙ ap (λ v. names v link.dir ++ link.name ∷ []) c.self.view_is in
-    joined_more (names c.args.self.now c.args.dir) (names c.args.self.now link.dir) link.name c.args.count c.args.path c.in_ok-above.above c.in_ok-names.names
-    longer (omega (arith, c.if-count-eq0.false)) c.in_ok-above.ensures c.in_ok-names.ensures
+    let more = last_more _ _ _ c.args.count (below t (goal.at.returns t c).In-Some).path (omega (arith, c.if-count-eq0.false)) in
+    rw (more, c.in_ok-names.ensures, c.in_ok-above.ensures) (append_assoc c.args.path _ (c.in-Some.link.name ∷ []))
