@@ -3,6 +3,7 @@ use Rattle.std.proofs.lemmas.List.{take_all, append-nil}
 use Rattle.std.proofs.Math.Dec.{eqb-suc-zero}
 use Rattle.std.proofs.Common.{get_or, ◌-◌, ◌≡◌, ◌≢◌, ℕ, ◌+◌, ◌<◌, ◌≤◌, ◌==◌, List, [], ◌∷◌, ◌++◌, length, take, drop, Bool, Option, Some, None, true, false, refl, ap, sym, ◌∙◌, arith, zero-add}
 use Rattle.std.proofs.lemmas.Bool.{ne_eqb, eqb-true, eqb-false}
+use Rattle.std.proofs.lemmas.Bool.Decides.{nat_tests}
 use Rattle.std.specs.Option.{option_map}
 use Rattle.std.specs.List.{list_any}
 use Rattle.mt_skel.specs.Escapes.{has_escape, is_backslash, escaped, escaped_byte, unescaped, cons_to, byte_of_digits}
@@ -72,23 +73,7 @@ unescaped-escape d e f rest = refl
 -- what holds of the four escapes, and of each other byte, holds of the text of any byte
 pub each_escape : (P : ℕ → List ℕ → Type 0) → P 32 (92 ∷ 48 ∷ 52 ∷ 48 ∷ []) → P 9 (92 ∷ 48 ∷ 49 ∷ 49 ∷ []) → P 10 (92 ∷ 48 ∷ 49 ∷ 50 ∷ []) → P 92 (92 ∷ 49 ∷ 51 ∷ 52 ∷ [])
     → ((b : ℕ) → (b == 32) ≡ false → (b == 9) ≡ false → (b == 10) ≡ false → (b == 92) ≡ false → P b (b ∷ [])) → (b : ℕ) → P b (escaped_byte b)
-each_escape P of_space of_tab of_newline of_backslash plain b = by_space (b == 32) refl
-  where
-    by_backslash : (k : Bool) → (b == 92) ≡ k → (b == 32) ≡ false → (b == 9) ≡ false → (b == 10) ≡ false → P b (escaped_byte b)
-    by_backslash true is space tab newline = rw (eqb-true b 92 is) of_backslash
-    by_backslash false is space tab newline = rw (space, tab, newline, is) (plain b space tab newline is)
-
-    by_newline : (k : Bool) → (b == 10) ≡ k → (b == 32) ≡ false → (b == 9) ≡ false → P b (escaped_byte b)
-    by_newline true is space tab = rw (eqb-true b 10 is) of_newline
-    by_newline false is space tab = by_backslash (b == 92) refl space tab is
-
-    by_tab : (k : Bool) → (b == 9) ≡ k → (b == 32) ≡ false → P b (escaped_byte b)
-    by_tab true is space = rw (eqb-true b 9 is) of_tab
-    by_tab false is space = by_newline (b == 10) refl space is
-
-    by_space : (k : Bool) → (b == 32) ≡ k → P b (escaped_byte b)
-    by_space true is = rw (eqb-true b 32 is) of_space
-    by_space false is = by_tab (b == 9) refl is
+each_escape P of_space of_tab of_newline of_backslash plain b = grind (arith, nat_tests, of_space, of_tab, of_newline, of_backslash, plain b)
 
 -- the text of a byte stands for that byte
 unescaped-escaped_byte : (b : ℕ) (rest : List ℕ) → unescaped (escaped_byte b ++ rest) ≡ cons_to (Some b) (unescaped rest)
@@ -106,12 +91,7 @@ pub stands_for : (text bytes : List ℕ) → text ≡ escaped bytes → unescape
 stands_for text bytes e = rw e (unescaped-escaped bytes)
 
 pub not_empty : (text : List ℕ) → false ≡ (length text == 0) → 0 < length text
-not_empty [] e = cc
-not_empty (x ∷ text) e = omega arith
-
-count_from-zero : (o : Option (List ℕ)) → count_from 0 o ≡ option_map (λ r. length r) o
-count_from-zero None = refl
-count_from-zero (Some r) = ap Some (zero-add (length r))
+not_empty text e = grind (arith, nat_tests)
 
 -- a byte that has no escape is its own text
 bare_byte : (b : ℕ) → has_escape b ≡ false → escaped_byte b ≡ b ∷ []
@@ -120,30 +100,17 @@ bare_byte b h = each_escape (λ x text. has_escape x ≡ false → text ≡ x �
 -- bytes of which none has an escape are their own text
 pub bare_escaped : (bytes : List ℕ) → list_any has_escape bytes ≡ false → escaped bytes ≡ bytes
 bare_escaped [] h = refl
-bare_escaped (b ∷ bytes) h = by_first (has_escape b) refl (bare_escaped bytes)
-  where
-    by_first : (k : Bool) → has_escape b ≡ k → (list_any has_escape bytes ≡ false → escaped bytes ≡ bytes) → escaped (b ∷ bytes) ≡ b ∷ bytes
-    by_first true is rest = absurd (cc)
-    by_first false is rest = rw (bare_byte b is) (ap (λ bs. b ∷ bs) (rest (rw is at h)))
+bare_escaped (b ∷ bytes) h = grind (arith, nat_tests, bare_byte b, bare_escaped bytes)
 
 -- a text without a backslash stands for itself
 pub bare_unescaped : (text : List ℕ) → list_any is_backslash text ≡ false → unescaped text ≡ Some text
 bare_unescaped [] h = unescaped-nil [] refl
-bare_unescaped (b ∷ text) h = by_first (b == 92) refl (bare_unescaped text)
-  where
-    by_first : (k : Bool) → (b == 92) ≡ k → (list_any is_backslash text ≡ false → unescaped text ≡ Some text) → unescaped (b ∷ text) ≡ Some (b ∷ text)
-    by_first true is rest = absurd (cc)
-    by_first false is rest = unescaped-plain b text (eqb-false b 92 is) ∙ ap (cons_to (Some b)) (rest (rw is at h))
+bare_unescaped (b ∷ text) h = grind (arith, nat_tests, unescaped-plain b text, bare_unescaped text)
 
 -- what was counted is all, once nothing is left
 pub all_counted : (n : ℕ) (rest text : List ℕ) → count_from n (unescaped rest) ≡ count_from 0 (unescaped text) → true ≡ (length rest == 0) → Some n ≡ option_map (λ r. length r) (unescaped text)
-all_counted n [] text h e =
-    ap Some (omega arith) ∙ ap (count_from n) (sym (unescaped-nil [] refl)) ∙ h ∙ count_from-zero (unescaped text)
-all_counted n (x ∷ rest) text h e = let no : (length (x ∷ rest) == 0) ≡ false = eqb-suc-zero (length rest) in cc
+all_counted n rest text h e = grind (arith, nat_tests, unescaped-nil rest)
 
 -- what was read is all, once no byte is left to read
 pub all_read : (out rest text : List ℕ) (n : ℕ) → before_all out (unescaped rest) ≡ unescaped text → Some n ≡ option_map (λ r. length r) (unescaped text) → (0 < length rest → unescaped rest ≡ None) → unescaped text ≡ Some out
-all_read out [] text n h is none = sym h ∙ ap (before_all out) (unescaped-nil [] refl) ∙ ap Some (append-nil out)
-all_read out (x ∷ rest) text n h is none =
-    let e : unescaped text ≡ None = sym h ∙ ap (before_all out) (none (omega arith)) in
-    let f : Some n ≡ None = is ∙ ap (option_map (λ r. length r)) e in cc
+all_read out rest text n h is none = grind (arith, unescaped-nil rest, append-nil out)

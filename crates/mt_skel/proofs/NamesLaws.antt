@@ -13,13 +13,9 @@ use Rattle.mt_skel.specs.Skeleton.{path_eq}
 use Rattle.mt_skel.proofs.MiddleLaws.{and_first, and_second, and-true}
 use Rattle.mt_skel.proofs.SkeletonLaws.{path_eq-Decides}
 
-name_lacks : (n : List ℕ) → is_name n ≡ true → lacks_byte 47 n ≡ true
-name_lacks n h = grind (arith, nat_tests)
-
 names_lack : (ns : List (List ℕ)) → list_all is_name ns ≡ true → list_all (lacks_byte 47) ns ≡ true
 names_lack [] h = refl
-names_lack (n ∷ ns) h =
-    and-true (lacks_byte 47 n) (list_all (lacks_byte 47) ns) (name_lacks n (and_first (is_name n) (list_all is_name ns) h)) (names_lack ns (and_second (is_name n) (list_all is_name ns) h))
+names_lack (n ∷ ns) h = grind (arith, nat_tests, names_lack ns)
 
 text_joined : (n : List ℕ) (ns : List (List ℕ)) → names_text (n ∷ ns) ≡ 47 ∷ join_with_byte 47 (n ∷ ns)
 text_joined n [] = ap (λ t. 47 ∷ t) (append-nil n)
@@ -32,12 +28,7 @@ names_of_text (n ∷ ns) h = ap names_in (text_joined n ns) ∙ pieces_joined 47
 
 pieces_some : (c : ℕ) (text : List ℕ) → pieces c text ≢ []
 pieces_some c [] e = cc
-pieces_some c (b ∷ text) e = go (b == c) (pieces c text) (pieces_some c text) e
-  where
-    go : (t : Bool) (ps : List (List ℕ)) → ps ≢ [] → cond t ([] ∷ ps) (onto_first b ps) ≢ []
-    go true ps some = λ e. cc
-    go false [] some = λ e. some refl
-    go false (p ∷ ps) some = λ e. cc
+pieces_some c (b ∷ text) e = grind (arith, nat_tests, pieces_some c text)
 
 -- a slash and a text are the text of the names between its slashes
 pub text_between : (text : List ℕ) → 47 ∷ text ≡ names_text (pieces 47 text)
