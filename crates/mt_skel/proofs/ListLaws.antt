@@ -4,11 +4,10 @@ use Rattle.std.specs.List.{flat_map}
 use Rattle.std.proofs.lemmas.Grind.{flat_map-append}
 use Rattle.std.proofs.lemmas.List.{reverse-append, take_more, take-append-drop, drop-append-le, drop_all, length_push}
 use Rattle.std.proofs.Math.Seq.{take-append_seam}
-use Rattle.std.proofs.lemmas.Option.{slice_get_within}
+use Rattle.std.proofs.lemmas.Option.{slice_get_within, get_or_from_slice_get}
 
 pub snoc_some : {X : Type 0} (xs : List X) (x : X) → xs ++ x ∷ [] ≡ [] → ⊥
-snoc_some [] x e = absurd (cc)
-snoc_some (y ∷ ys) x e = absurd (cc)
+snoc_some xs x e = omega (arith, ap length e, length_push xs x)
 
 pub front_empty : {X : Type 0} (xs ys : List X) → xs ++ ys ≡ [] → xs ≡ []
 front_empty [] ys e = refl
@@ -25,15 +24,12 @@ last_of (x ∷ xs) = elim (last_of xs) [
 -- an element of a list with one more: one of before, or the last
 pub pushed : {X : Type 0} (xs : List X) (y x : X) (i : ℕ) → slice_get (xs ++ y ∷ []) i ≡ Some x → (slice_get xs i ≡ Some x) ⊎ ((i ≡ length xs) × (y ≡ x))
 pushed [] y x zero e = inr (refl, cc)
-pushed [] y x (suc i) e = absurd (omega (arith, slice_get_within (y ∷ []) (suc i) x e))
+pushed [] y x (suc i) e = absurd (cc)
 pushed (a ∷ xs) y x zero e = inl e
-pushed (a ∷ xs) y x (suc i) e = elim (pushed xs y x i e) [
-  | inl old ↦ inl old
-  | inr last ↦ inr (omega (arith, last.0), last.1)
-]
+pushed (a ∷ xs) y x (suc i) e = grind (arith, pushed xs y x i e)
 
 pub kept : {X : Type 0} (xs : List X) (y x : X) (i : ℕ) → slice_get xs i ≡ Some x → slice_get (xs ++ y ∷ []) i ≡ Some x
-kept [] y x i e = absurd (omega (arith, slice_get_within [] i x e))
+kept [] y x i e = absurd (cc)
 kept (a ∷ xs) y x zero e = e
 kept (a ∷ xs) y x (suc i) e = kept xs y x i e
 
@@ -49,28 +45,18 @@ pub split_next : {X : Type 0} (xs : List X) (i : ℕ) (x : X) → i < length xs 
 split_next xs i x l e = sym (take-append-drop (i + 1) xs) ∙ ap (λ l. l ++ drop (i + 1) xs) (take_next xs i x l e)
 
 -- the front of a list with the element that was found behind it
-take_suc : {X : Type 0} (w : List X) (i : ℕ) (x : X) → slice_get w i ≡ Some x → take (suc i) w ≡ take i w ++ x ∷ []
-take_suc [] zero x e = cc
-take_suc [] (suc i) x e = cc
-take_suc (y ∷ w) zero x e = let same : y ≡ x = cc in ap (λ z. z ∷ []) same
-take_suc (y ∷ w) (suc i) x e = ap (λ l. y ∷ l) (take_suc w i x e)
-
 pub take_found : {X : Type 0} (w : List X) (i : ℕ) (x : X) → slice_get w i ≡ Some x → take (i + 1) w ≡ take i w ++ x ∷ []
-take_found w i x e =
-    let next : i + 1 ≡ suc i = omega arith in
-    ap (λ n. take n w) next ∙ take_suc w i x e
+take_found w i x e = take_next w i x (slice_get_within w i x e) (sym (get_or_from_slice_get w i x x e))
 
 -- all but the last element
 pub take_front : {X : Type 0} (xs front : List X) (x : X) → xs ≡ front ++ x ∷ [] → take (length xs - 1) xs ≡ front
 take_front xs front x e =
     let size : length xs - 1 ≡ length front = omega (arith, ap length e, length_push front x) in
-    ap (λ n. take n xs) size ∙ ap (take (length front)) e ∙ take-append_seam front (x ∷ [])
+    rw (size, e) (take-append_seam front (x ∷ []))
 
 -- a list that is walked from its end, and what is walked already in its reverse
 pub walked_more : {X : Type 0} (here up done more whole : List X) (x y : X) → here ≡ up ++ x ∷ [] → here ++ reverse done ≡ whole → more ≡ done ++ y ∷ [] → y ≡ x → up ++ reverse more ≡ whole
-walked_more here up done more whole x y e w m same =
-    let turned : reverse more ≡ x ∷ reverse done = ap reverse m ∙ reverse-append done (y ∷ []) ∙ ap (λ z. z ∷ reverse done) same in
-    ap (λ l. up ++ l) turned ∙ sym (append_assoc up (x ∷ []) (reverse done)) ∙ ap (λ l. l ++ reverse done) (sym e) ∙ w
+walked_more here up done more whole x y e w m same = rw (m, reverse-append done (y ∷ []), same, ← append_assoc up (x ∷ []) (reverse done), ← e) w
 
 -- the last so many of an empty list, and of one with one element more
 pub last_none : {X : Type 0} (here : List X) (n : ℕ) → here ≡ [] → drop (length here - n) here ≡ []
@@ -79,12 +65,10 @@ last_none here n e = rw e (drop_all (0 - n) [] (omega arith))
 pub last_more : {X : Type 0} (here up : List X) (x : X) (n : ℕ) → here ≡ up ++ x ∷ [] → 1 ≤ n → drop (length here - n) here ≡ drop (length up - (n - 1)) up ++ x ∷ []
 last_more here up x n e l =
     let size : length here - n ≡ length up - (n - 1) = omega (arith, ap length e, length_push up x, l) in
-    ap (λ k. drop k here) size ∙ ap (drop (length up - (n - 1))) e ∙ drop-append-le (length up - (n - 1)) up (x ∷ []) (omega arith)
+    rw (size, e) (drop-append-le (length up - (n - 1)) up (x ∷ []) (omega arith))
 
 -- what was written of these, and then the last of them
 pub written_more : {X A : Type 0} (f : X → List A) (here up : List X) (x : X) (n : ℕ) (text0 text1 text2 : List A) → here ≡ up ++ x ∷ [] → 1 ≤ n
     → text1 ≡ text0 ++ flat_map f (drop (length up - (n - 1)) up) → text2 ≡ text1 ++ f x → text2 ≡ text0 ++ flat_map f (drop (length here - n) here)
 written_more f here up x n text0 text1 text2 e l e1 e2 =
-    let above = drop (length up - (n - 1)) up in
-    e2 ∙ ap (λ t. t ++ f x) e1 ∙ append_assoc text0 (flat_map f above) (f x)
-    ∙ ap (λ t. text0 ++ t) (ap (λ t. flat_map f above ++ t) (sym (append-nil (f x))) ∙ sym (flat_map-append f above (x ∷ [])) ∙ ap (flat_map f) (sym (last_more here up x n e l)))
+    rw (last_more here up x n e l, e2, e1) (simp (flat_map-append, append-nil, append_assoc))

@@ -6,16 +6,13 @@ use Rattle.mt_skel.specs.Keyed.{row_at, put, rises}
 
 -- two tests that hold together
 pub and-true : (a b : Bool) → a ≡ true → b ≡ true → (a && b) ≡ true
-and-true true b h k = k
-and-true false b h k = h
+and-true a b h k = grind arith
 
 pub and_first : (a b : Bool) → (a && b) ≡ true → a ≡ true
-and_first true b h = refl
-and_first false b h = h
+and_first a b h = grind arith
 
 pub and_second : (a b : Bool) → (a && b) ≡ true → b ≡ true
-and_second true b h = h
-and_second false b h = absurd (cc)
+and_second a b h = grind arith
 
 -- rows by rising key
 module _ {X : Type 0} (key : X → ℕ) where

@@ -3,7 +3,7 @@ use Rattle.std.proofs.Common.{◌≡◌, ◌≢◌, ℕ, zero, suc, ◌+◌, ◌
 use Rattle.std.specs.List.{position_from, starts_with}
 use Rattle.std.specs.Str.{bytes_eq}
 use Rattle.std.proofs.lemmas.Bool.{cases_lt, and_parts, false_from_ne_true, true≢false, ltb-true, leb-true}
-use Rattle.std.proofs.lemmas.Bool.Decides.{Decides-eqb, Decides-and, Decides-like, Decides-ltb, same_from_decides}
+use Rattle.std.proofs.lemmas.Bool.Decides.{nat_tests, Decides-eqb, Decides-and, Decides-like, Decides-ltb, same_from_decides}
 use Rattle.std.proofs.lemmas.Slice.Eq.{slice_eq-Decides, bytes_eq-Decides, starts_is}
 use Rattle.std.proofs.lemmas.Option.{slice_get_within, get_or_from_slice_get, slice_get-get_or}
 use Rattle.std.proofs.lemmas.List.{same_from_push, get_or_past}
@@ -44,8 +44,7 @@ directory_eq-Decides d e =
 pub at_number : (s : Skeleton) (d : Directory) (i : ℕ) → directory_number s d ≡ Some i → slice_get s.directories i ≡ Some d
 at_number s d i e =
     let h = place_found (directory_eq d) s.directories 0 i e in
-    let same : d ≡ h.1 = (directory_eq-Decides d h.1).0 h.4 in
-    ap (slice_get s.directories) (let z : i ≡ h.0 = omega (arith, h.2) in z) ∙ h.3 ∙ ap (λ x. Some x) (sym same)
+    grind (arith, h.2, h.3, (directory_eq-Decides d h.1).0 h.4)
 
 pub number_at : (s : Skeleton) → IsSkeleton s → (d : Directory) (i : ℕ) → slice_get s.directories i ≡ Some d → directory_number s d ≡ Some i
 number_at s is d i e =
@@ -66,9 +65,7 @@ pub directory_within : (s : Skeleton) (d : ℕ) → is_directory s d ≡ true �
 directory_within s d e = ltb-true d (length s.directories) e
 
 pub filesystem_within : (s : Skeleton) (f : ℕ) → is_filesystem s f ≡ true → (1 ≤ f) × (f ≤ length s.filesystems)
-filesystem_within s f e =
-    let h = and_parts (leb 1 f) (leb f (length s.filesystems)) e in
-    (leb-true 1 f h.0, leb-true f (length s.filesystems) h.1)
+filesystem_within s f e = grind (arith, nat_tests)
 
 -- what stands at a number
 pub directory_at : (s : Skeleton) (i : ℕ) → i < length s.directories → slice_get s.directories i ≡ Some (directory s i)
@@ -76,9 +73,6 @@ directory_at s i l = slice_get-get_or s.directories i (record { fs = 0; path = [
 
 pub at_directory : (s : Skeleton) (i : ℕ) (d : Directory) → slice_get s.directories i ≡ Some d → directory s i ≡ d
 at_directory s i d e = get_or_from_slice_get s.directories i d (record { fs = 0; path = [] }) e
-
-pub past_directory : (s : Skeleton) (i : ℕ) → length s.directories ≤ i → directory s i ≡ record { fs = 0; path = [] }
-past_directory s i l = get_or_past s.directories i (record { fs = 0; path = [] }) l
 
 -- the directories above a directory are there
 pub above_there : (s : Skeleton) → IsSkeleton s → (n fs : ℕ) (path rest : List (List ℕ)) (i : ℕ) → length rest ≡ n → slice_get s.directories i ≡ Some (record { fs = fs; path = path ++ rest })
@@ -112,7 +106,7 @@ none_below s is fs here front rest path name e c split = number_none s (record {
 pub same_place : (s : Skeleton) → IsSkeleton s → (i j : ℕ) (d : Directory) → directory s i ≡ d → slice_get s.directories j ≡ Some d → j ≡ i
 same_place s is i j d e at = elim (cases_lt i (length s.directories)) [
   | inl within ↦ is.once j i d at (directory_at s i within ∙ ap (λ x. Some x) e)
-  | inr past ↦ absurd (omega (arith, is.of_filesystem j d at, ap (λ x. x.fs) (sym (past_directory s i past) ∙ e)))
+  | inr past ↦ absurd (omega (arith, is.of_filesystem j d at, ap (λ x. x.fs) (sym (get_or_past s.directories i (record { fs = 0; path = [] }) past) ∙ e)))
 ]
 
 -- what `holds` tests
@@ -124,11 +118,8 @@ pub record IsAbove (s : Skeleton) (outer inner : ℕ) : Type 0 where
 
 path_begins : (whole front : List (List ℕ)) → Decides (starts_with bytes_eq whole front) ((rest : List (List ℕ)) × (whole ≡ front ++ rest))
 path_begins whole front =
-    let h = starts_is path_bytes whole front (starts_with bytes_eq whole front) refl in
+    let h = starts_is bytes_eq-Decides whole front (starts_with bytes_eq whole front) refl in
     (λ t. (drop (length front) whole, h.0 t), λ r. h.1 r.0 r.1)
-  where
-    path_bytes : (xs ys : List ℕ) → Decides (bytes_eq xs ys) (xs ≡ ys)
-    path_bytes = bytes_eq-Decides
 
 pub holds-Decides : (s : Skeleton) (outer inner : ℕ) → Decides (holds s outer inner) (IsAbove s outer inner)
 holds-Decides s outer inner =
