@@ -93,14 +93,10 @@ stands_for text bytes e = rw e (unescaped-escaped bytes)
 pub not_empty : (text : List ℕ) → false ≡ (length text == 0) → 0 < length text
 not_empty text e = grind (arith, nat_tests)
 
--- a byte that has no escape is its own text
-bare_byte : (b : ℕ) → has_escape b ≡ false → escaped_byte b ≡ b ∷ []
-bare_byte b h = each_escape (λ x text. has_escape x ≡ false → text ≡ x ∷ []) (λ e. absurd (cc)) (λ e. absurd (cc)) (λ e. absurd (cc)) (λ e. absurd (cc)) (λ x _ _ _ _ e. refl) b h
-
 -- bytes of which none has an escape are their own text
 pub bare_escaped : (bytes : List ℕ) → list_any has_escape bytes ≡ false → escaped bytes ≡ bytes
 bare_escaped [] h = refl
-bare_escaped (b ∷ bytes) h = grind (arith, nat_tests, bare_byte b, bare_escaped bytes)
+bare_escaped (b ∷ bytes) h = grind (arith, nat_tests, bare_escaped bytes)
 
 -- a text without a backslash stands for itself
 pub bare_unescaped : (text : List ℕ) → list_any is_backslash text ≡ false → unescaped text ≡ Some text

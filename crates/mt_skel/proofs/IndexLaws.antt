@@ -1,9 +1,9 @@
--- The directories that are found by their names, in a skeleton that grows.
-use Rattle.std.proofs.Common.{◌≡◌, ◌⊎◌, ℕ, ◌+◌, ◌<◌, ◌==◌, ◌&&◌, Bool, true, false, cond, List, [], ◌∷◌, ◌++◌, length, Option, Some, None, Decides, IfSome, slice_get, refl, sym, ap, ◌∙◌, inl, inr, arith}
+-- A skeleton that grows by a node, and the directories that are found by their names in it.
+use Rattle.std.proofs.Common.{◌≡◌, ◌⊎◌, ℕ, ◌+◌, ◌<◌, ◌==◌, ◌&&◌, Bool, true, false, cond, List, [], ◌∷◌, ◌++◌, length, map, Option, Some, None, Decides, IfSome, slice_get, refl, sym, ap, ◌∙◌, inl, inr, arith}
 use Rattle.std.specs.Str.{bytes_eq}
 use Rattle.std.proofs.lemmas.Bool.{true≢false, lt-ltb}
 use Rattle.std.proofs.lemmas.Bool.Decides.{Decides-eqb, Decides-and}
-use Rattle.std.proofs.lemmas.List.{length_push}
+use Rattle.std.proofs.lemmas.List.{length_push, length-map, map-append}
 use Rattle.std.proofs.lemmas.Option.{slice_get_within}
 use Rattle.std.proofs.lemmas.Slice.Eq.{bytes_eq-Decides}
 use Rattle.mt_skel.specs.Children.{child_in}
@@ -11,10 +11,54 @@ use Rattle.mt_skel.specs.Skeleton.{Skeleton, directory, fs_named, child, is_dire
 use Rattle.mt_skel.specs.declared.skel.Filesystem.{Filesystem as FilesystemNode}
 use Rattle.mt_skel.specs.declared.skel.Link.{Link}
 use Rattle.mt_skel.specs.declared.skel.Node.{Node}
-use Rattle.mt_skel.specs.Nodes.{shown_fs, skeleton_of, AreFoundByName, IsKeptSkeleton}
+use Rattle.mt_skel.specs.Nodes.{dir_of, dirs_of, shown_fs, skeleton_of, AreFoundByName, IsKeptSkeleton, IsLaidOut}
 use Rattle.mt_skel.proofs.ListLaws.{pushed, kept, last_place}
-use Rattle.mt_skel.proofs.GrowthLaws.{dir_view, dir_laid_out, fs_view, fs_laid_out}
-use Rattle.mt_skel.proofs.NodeLaws.{counted, dir_within, laid_out_empty, child_found, child_none}
+use Rattle.mt_skel.proofs.SkeletonLaws.{skeleton_with_dir, skeleton_with_fs}
+use Rattle.mt_skel.proofs.NodeLaws.{length-dirs_of, dirs_push, node_at, there_at, counted, dir_within, laid_out_empty, child_found, child_none}
+
+-- a directory below one that is there
+module _ (fs : List FilesystemNode) (ns : List Node) (t : IsLaidOut fs ns) (dir f : ℕ) (name : List ℕ) (there : dir < length ns) (same : f ≡ (directory (skeleton_of fs ns) dir).fs) where
+  pub dir_view : skeleton_of fs (ns ++ record { fs = f; up = Some (record { dir = dir; name = name }) } ∷ []) ≡ with_dir (skeleton_of fs ns) (record { fs = f; path = (directory (skeleton_of fs ns) dir).path ++ name ∷ [] })
+  dir_view = let grown = dirs_push ns (record { fs = f; up = Some (record { dir = dir; name = name }) }) in λ i. record { filesystems = map shown_fs fs; directories = grown i }
+
+  pub dir_laid_out : child (skeleton_of fs ns) dir name ≡ None → IsLaidOut fs (ns ++ record { fs = f; up = Some (record { dir = dir; name = name }) } ∷ [])
+  dir_laid_out absent = record {
+    skeleton = rw (dir_view, same) (skeleton_with_dir (skeleton_of fs ns) t.skeleton dir (directory (skeleton_of fs ns) dir) name (there_at fs ns t dir there) absent);
+    before = λ d n up e is. grind (arith, pushed ns node n d e, t.before d n up);
+    one_fs = λ d n p up e is pe.
+        let parent = node_at fs ns t dir (directory (skeleton_of fs ns) dir) (there_at fs ns t dir there) in
+        grind (arith, pushed ns node n d e, pushed ns node p up.dir pe, t.one_fs d n p up, t.before d n up, slice_get_within ns d n, parent.1, ap (λ x. x.fs) parent.2);
+    roots = λ i g e. rw (dirs_push ns node) (kept (dirs_of ns) (dir_of (dirs_of ns) node) (record { fs = i + 1; path = [] }) g.root (t.roots i g e));
+  }
+    where
+      node : Node
+      node = record { fs = f; up = Some (record { dir = dir; name = name }) }
+
+-- a root, and its filesystem
+module _ (fs : List FilesystemNode) (ns : List Node) (t : IsLaidOut fs ns) (f : FilesystemNode) (number : ℕ) (root : f.root ≡ length ns) (next : number ≡ length fs + 1) where
+  pub fs_view : skeleton_of (fs ++ f ∷ []) (ns ++ record { fs = number; up = None } ∷ []) ≡ with_fs (skeleton_of fs ns) (shown_fs f)
+  fs_view =
+      let shown = map-append shown_fs fs (f ∷ []) in
+      let same : number ≡ length (map shown_fs fs) + 1 = omega (arith, length-map fs shown_fs) in
+      let grown = dirs_push ns (record { fs = number; up = None }) ∙ ap (λ k. dirs_of ns ++ record { fs = k; path = [] } ∷ []) same in
+      λ i. record { filesystems = shown i; directories = grown i }
+
+  pub fs_laid_out : fs_named (skeleton_of fs ns) f.name ≡ None → IsLaidOut (fs ++ f ∷ []) (ns ++ record { fs = number; up = None } ∷ [])
+  fs_laid_out free = record {
+    skeleton = rw fs_view (skeleton_with_fs (skeleton_of fs ns) t.skeleton (shown_fs f) free);
+    before = λ d n up e is. grind (arith, pushed ns node n d e, t.before d n up);
+    one_fs = λ d n p up e is pe. grind (arith, pushed ns node n d e, pushed ns node p up.dir pe, t.one_fs d n p up, t.before d n up, slice_get_within ns d n);
+    roots = λ i g e. rw (dirs_push ns node) (elim (pushed fs f g i e) [
+      | inl old ↦ kept (dirs_of ns) (dir_of (dirs_of ns) node) (record { fs = i + 1; path = [] }) g.root (t.roots i g old)
+      | inr last ↦
+          let place : length (dirs_of ns) ≡ g.root = omega (arith, length-dirs_of ns, ap (λ x. x.root) last.1) in
+          let k : number ≡ i + 1 = omega (arith, last.0) in
+          ap (slice_get (dirs_of ns ++ dir_of (dirs_of ns) node ∷ [])) (sym place) ∙ last_place (dirs_of ns) (dir_of (dirs_of ns) node) ∙ ap (λ m. Some (record { fs = m; path = [] })) k
+    ]);
+  }
+    where
+      node : Node
+      node = record { fs = number; up = None }
 
 -- no node
 pub kept_empty : (fs : List FilesystemNode) (ns : List Node) (children : List (List (List ℕ × ℕ))) → fs ≡ [] → ns ≡ [] → children ≡ [] → IsKeptSkeleton fs ns children

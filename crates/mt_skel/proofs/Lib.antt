@@ -3,7 +3,6 @@ pub mod ChainLaws
 pub mod ChildrenLaws
 pub mod ElementLaws
 pub mod EscapeLaws
-pub mod GrowthLaws
 pub mod HoldLaws
 pub mod IndexLaws
 pub mod KeyedLaws

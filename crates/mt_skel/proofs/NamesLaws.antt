@@ -47,17 +47,12 @@ all_more ns n h k = list_all-append is_name ns (n ∷ []) ∙ and-true (list_all
 -- a text with a slash and a name more at its end
 module _ (text slash text2 n : List ℕ) (is : text ≡ names_text (names_in text)) (named : list_all is_name (names_in text) ≡ true) (name : is_name n ≡ true)
     (e : slash ≡ text ++ 47 ∷ []) (f : text2 ≡ slash ++ n) where
-  longer : text2 ≡ names_text (names_in text ++ n ∷ [])
-  longer = f ∙ ap (λ t. t ++ n) e ∙ append_assoc text (47 ∷ []) n ∙ ap (λ t. t ++ 47 ∷ n) is ∙ sym (text_more (names_in text) n)
-
-  pub one_more : names_in text2 ≡ names_in text ++ n ∷ []
-  one_more = ap names_in longer ∙ names_of_text (names_in text ++ n ∷ []) (all_more (names_in text) n named name)
-
-  pub more_text : text2 ≡ names_text (names_in text2)
-  more_text = longer ∙ ap names_text (sym one_more)
-
-  pub more_named : list_all is_name (names_in text2) ≡ true
-  more_named = ap (list_all is_name) one_more ∙ all_more (names_in text) n named name
+  pub one_more : (names_in text2 ≡ names_in text ++ n ∷ []) × ((text2 ≡ names_text (names_in text2)) × (list_all is_name (names_in text2) ≡ true))
+  one_more =
+      let longer : text2 ≡ names_text (names_in text ++ n ∷ []) = f ∙ ap (λ t. t ++ n) e ∙ append_assoc text (47 ∷ []) n ∙ ap (λ t. t ++ 47 ∷ n) is ∙ sym (text_more (names_in text) n) in
+      let valid = all_more (names_in text) n named name in
+      let found : names_in text2 ≡ names_in text ++ n ∷ [] = ap names_in longer ∙ names_of_text (names_in text ++ n ∷ []) valid in
+      (found, (longer ∙ ap names_text (sym found), ap (list_all is_name) found ∙ valid))
 
 text_injective : (ns ms : List (List ℕ)) → list_all is_name ns ≡ true → list_all is_name ms ≡ true → names_text ns ≡ names_text ms → ns ≡ ms
 text_injective ns ms h k e = sym (names_of_text ns h) ∙ ap names_in e ∙ names_of_text ms k

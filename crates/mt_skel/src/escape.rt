@@ -44,6 +44,7 @@ fn has_backslash(text: &[u8]) -> bool
 
 /// Appends the text of these bytes to a line. Fails for want of memory alone, and what stood there stays in front then
 /// too.
+#[tactic(auto, using(crate::proofs::EscapeLaws::bare_escaped))]
 pub fn push_escaped(text: &mut Vec<u8>, bytes: &[u8]) -> Result<(), AllocError>
     ensures text { OnOk result (text.new.items ≡ text.old.items ++ escaped bytes.now) }
     ensures kept { IsFront text.old.items text.new.items }
@@ -76,7 +77,7 @@ fn push_byte(text: &mut Vec<u8>, byte: u8) -> Result<(), AllocError>
 ///
 /// Refused as `BadLine` exactly where a backslash begins none of the four escapes, which is found
 /// out without memory, and else as `NoMemory` alone.
-#[tactic(auto, using(crate::proofs::EscapeLaws::stands_for))]
+#[tactic(auto, using(crate::proofs::EscapeLaws::stands_for, crate::proofs::EscapeLaws::bare_unescaped))]
 pub fn unescape(alloc: Global, text: &[u8]) -> Result<Vec<u8>, Fault>
     ensures bytes { IfOk result (λ bytes. unescaped text.now ≡ Some bytes.items) }
     ensures bad { unescaped text.now ≡ None → result ≡ Err Fault.BadLine }
@@ -101,6 +102,7 @@ pub fn unescape(alloc: Global, text: &[u8]) -> Result<Vec<u8>, Fault>
 }
 
 /// How many bytes a text stands for, or None where a backslash begins no escape. Takes no memory.
+#[tactic(auto, using(crate::proofs::EscapeLaws::bare_unescaped))]
 pub fn unescaped_len(text: &[u8]) -> Option<usize>
     ensures { result ≡ option_map (λ bytes. length bytes) (unescaped text.now) }
 {
@@ -132,6 +134,7 @@ fn byte_of_digits(a: u8, b: u8, c: u8) -> Option<u8>
 
 /// The first byte that a text stands for, and the text behind it; None at the end, and where a
 /// backslash begins no escape.
+#[tactic(auto, using(crate::proofs::EscapeLaws::first_plain, crate::proofs::EscapeLaws::first_short))]
 fn first_byte(text: &[u8]) -> Option<(u8, &[u8])>
     ensures first { MatchOption result (0 < length text.now → unescaped text.now ≡ None) (λ p. unescaped text.now ≡ cons_to (Some p.0) (unescaped p.1.now)) }
     ensures shorter { MatchOption result (Unit {0}) (λ p. length p.1.now < length text.now) }

@@ -76,6 +76,7 @@ impl Names {
     }
 
     /// Whether two paths have the same names.
+    #[tactic(auto, using(crate::proofs::NamesLaws::texts_tell))]
     pub fn is_same(&self, other: &Names) -> bool
         ensures { result ≡ path_eq self.now other.now }
     {

@@ -1,12 +1,6 @@
 use Rattle.std.proofs.Common.{Some, None}
-use Rattle.mt_skel.proofs.EscapeLaws.{not_empty, first_plain, first_short, first_code}
+use Rattle.mt_skel.proofs.EscapeLaws.{not_empty, first_code}
 use Rattle.mt_skel.proofs.escape.first_byte.Goals as goal
-
-pub returns-then-first-ne92-clause-first : goal.returns-then-first-ne92-clause-first
-returns-then-first-ne92-clause-first c = first_plain c.args.text.now (not_empty c.args.text.now c.if-is_empty.ensures) c.if-first-ne92.true
-
-pub returns-then-rest-lt3-clause-first : goal.returns-then-rest-lt3-clause-first
-returns-then-rest-lt3-clause-first c some = first_short c.args.text.now some c.if-first-ne92.false c.if-rest-lt3.true
 
 pub returns-in-Some-clause-first : goal.returns-in-Some-clause-first
 returns-in-Some-clause-first c =

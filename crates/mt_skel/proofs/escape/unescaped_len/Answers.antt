@@ -6,6 +6,3 @@ use Rattle.mt_skel.proofs.escape.unescaped_len.Goals as goal
 pub returns : goal.returns
 returns c =
     all_counted c.loop-rest.length c.loop-rest.rest.now c.args.text.now c.loop-rest.invariant.counted c.loop-rest-test.ensures
-
-pub returns-then-not-has_backslash : goal.returns-then-not-has_backslash
-returns-then-not-has_backslash c = ap (option_map (λ bytes. length bytes)) (sym (bare_unescaped c.args.text.now (sym c.if-not-has_backslash.ensures)))
