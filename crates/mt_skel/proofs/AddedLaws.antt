@@ -1,5 +1,5 @@
 -- What is answered where a filesystem or a directory is added.
-use Rattle.std.proofs.Common.{◌≡◌, ◌⊎◌, slice_get, ℕ, ◌<◌, ◌≤◌, true, false, refl, List, [], ◌∷◌, ◌++◌, length, Option, Some, None, Ok, Err, sym, ap, ◌∙◌, arith}
+use Rattle.std.proofs.Common.{◌≡◌, ◌⊎◌, slice_get, ℕ, ◌<◌, ◌≤◌, true, false, refl, List, [], ◌∷◌, ◌++◌, length, Some, None, Ok, Err, sym, arith}
 use Rattle.std.specs.Option.{is_some}
 use Rattle.std.proofs.lemmas.Bool.{lt-ltb}
 use Rattle.std.proofs.lemmas.Bool.Decides.{nat_tests}

@@ -1,7 +1,6 @@
 -- What a directory holds, one name further down and in a skeleton that has grown.
-use Rattle.std.proofs.Common.{◌≡◌, ℕ, ◌<◌, true, List, [], ◌∷◌, ◌++◌, length, get_or, Some, sym, ap, ◌∙◌, arith, length-append, append_assoc}
+use Rattle.std.proofs.Common.{◌≡◌, ℕ, ◌<◌, true, List, [], ◌∷◌, ◌++◌, length, get_or, Some, sym, ap, ◌∙◌, arith, length-append}
 use Rattle.std.proofs.Math.ListN.{get_or-append}
-use Rattle.std.proofs.lemmas.Option.{slice_get_within}
 use Rattle.mt_skel.specs.Skeleton.{Skeleton, Directory, directory, child, holds}
 use Rattle.mt_skel.proofs.SkeletonLaws.{holds-Decides, above_below, at_number}
 

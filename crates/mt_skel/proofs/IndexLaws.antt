@@ -1,7 +1,7 @@
 -- A skeleton that grows by a node, and the directories that are found by their names in it.
-use Rattle.std.proofs.Common.{◌≡◌, ◌⊎◌, ℕ, ◌+◌, ◌<◌, ◌==◌, ◌&&◌, Bool, true, false, cond, List, [], ◌∷◌, ◌++◌, length, map, Option, Some, None, Decides, IfSome, slice_get, refl, sym, ap, ◌∙◌, inl, inr, arith}
+use Rattle.std.proofs.Common.{◌≡◌, ◌⊎◌, ℕ, ◌+◌, ◌<◌, ◌==◌, ◌&&◌, true, cond, List, [], ◌∷◌, ◌++◌, length, map, Option, Some, None, Decides, IfSome, slice_get, refl, sym, ap, ◌∙◌, inl, inr, arith}
 use Rattle.std.specs.Str.{bytes_eq}
-use Rattle.std.proofs.lemmas.Bool.{true≢false, lt-ltb}
+use Rattle.std.proofs.lemmas.Bool.{lt-ltb}
 use Rattle.std.proofs.lemmas.Bool.Decides.{Decides-eqb, Decides-and}
 use Rattle.std.proofs.lemmas.List.{length_push, length-map, map-append}
 use Rattle.std.proofs.lemmas.Option.{slice_get_within}
@@ -9,7 +9,6 @@ use Rattle.std.proofs.lemmas.Slice.Eq.{bytes_eq-Decides}
 use Rattle.mt_skel.specs.Children.{child_in}
 use Rattle.mt_skel.specs.Skeleton.{Skeleton, directory, fs_named, child, is_directory, with_dir, with_fs}
 use Rattle.mt_skel.specs.declared.skel.Filesystem.{Filesystem as FilesystemNode}
-use Rattle.mt_skel.specs.declared.skel.Link.{Link}
 use Rattle.mt_skel.specs.declared.skel.Node.{Node}
 use Rattle.mt_skel.specs.Nodes.{dir_of, dirs_of, shown_fs, skeleton_of, AreFoundByName, IsKeptSkeleton, IsLaidOut}
 use Rattle.mt_skel.proofs.ListLaws.{pushed, kept, last_place}
@@ -63,9 +62,9 @@ module _ (fs : List FilesystemNode) (ns : List Node) (t : IsLaidOut fs ns) (f : 
 -- no node
 pub kept_empty : (fs : List FilesystemNode) (ns : List Node) (children : List (List (List ℕ × ℕ))) → fs ≡ [] → ns ≡ [] → children ≡ [] → IsKeptSkeleton fs ns children
 kept_empty fs ns children ef en ec = rw (ef, en, ec) (record {
-    laid_out = laid_out_empty;
-    indexed = record { sized = refl; found = λ dir d name e. absurd (cc); all = λ dir d name n at up. absurd (cc) };
-  })
+  laid_out = laid_out_empty;
+  indexed = record { sized = refl; found = λ dir d name e. absurd (cc); all = λ dir d name n at up. absurd (cc) };
+})
 
 -- what is found is the child
 pub child_is : (fs : List FilesystemNode) (ns : List Node) (children : List (List (List ℕ × ℕ))) → IsKeptSkeleton fs ns children → (dir : ℕ) (name : List ℕ) → child_in children dir name ≡ child (skeleton_of fs ns) dir name
@@ -121,21 +120,27 @@ child_kept {fs} {ns} {children = children} more v parent f number name copy t vi
     let there = dir_within fs ns v parent view valid in
     let of : f ≡ (directory (skeleton_of fs ns) parent).fs = same ∙ ap (λ s. (directory s parent).fs) (sym view) in
     let free : child (skeleton_of fs ns) parent name ≡ None = ap (λ s. child s parent name) view ∙ absent in
-    rw (longer, ← view) (record {
-      laid_out = dir_laid_out fs ns t.laid_out parent f name there of free;
-      indexed = indexed_child ns children more t.indexed parent f name (child_is fs ns children t parent name ∙ free) size
-          (λ dir other. found dir other ∙ (λ i. cond ((parent == dir) && bytes_eq (copied i) other) (Some (place i)) (child_in children dir other)));
-    }, dir_view fs ns t.laid_out parent f name there of)
+    rw (longer, ← view) (
+      record {
+        laid_out = dir_laid_out fs ns t.laid_out parent f name there of free;
+        indexed = indexed_child ns children more t.indexed parent f name (child_is fs ns children t parent name ∙ free) size
+            (λ dir other. found dir other ∙ (λ i. cond ((parent == dir) && bytes_eq (copied i) other) (Some (place i)) (child_in children dir other)));
+      },
+      dir_view fs ns t.laid_out parent f name there of,
+    )
 
 pub fs_kept : {fs more_fs : List FilesystemNode} {ns grown : List Node} {children : List (List (List ℕ × ℕ))} (more : List (List (List ℕ × ℕ))) (v : Skeleton) (f : FilesystemNode) (number : ℕ) → IsKeptSkeleton fs ns children → skeleton_of fs ns ≡ v
     → fs_named v f.name ≡ None → f.root ≡ length ns → number ≡ length fs + 1 → length more ≡ length children + 1 → ((dir : ℕ) (other : List ℕ) → child_in more dir other ≡ child_in children dir other)
     → more_fs ≡ fs ++ f ∷ [] → grown ≡ ns ++ record { fs = number; up = None } ∷ []
     → IsKeptSkeleton more_fs grown more × (skeleton_of more_fs grown ≡ with_fs v (shown_fs f))
 fs_kept {fs} {ns = ns} {children = children} more v f number t view free root next size same with_f longer =
-    rw (with_f, longer, ← view) (record {
-      laid_out = fs_laid_out fs ns t.laid_out f number root next (ap (λ s. fs_named s f.name) view ∙ free);
-      indexed = indexed_root ns children more (record { fs = number; up = None }) t.indexed size same refl;
-    }, fs_view fs ns t.laid_out f number root next)
+    rw (with_f, longer, ← view) (
+      record {
+        laid_out = fs_laid_out fs ns t.laid_out f number root next (ap (λ s. fs_named s f.name) view ∙ free);
+        indexed = indexed_root ns children more (record { fs = number; up = None }) t.indexed size same refl;
+      },
+      fs_view fs ns t.laid_out f number root next,
+    )
 
 -- the child that is found is there
 pub child_there : (fs : List FilesystemNode) (ns : List Node) (children : List (List (List ℕ × ℕ))) (v : Skeleton) → IsKeptSkeleton fs ns children → skeleton_of fs ns ≡ v → (o : Option ℕ) (dir : ℕ) (name : List ℕ) → o ≡ child_in children dir name → IfSome o (λ d. is_directory v d ≡ true)

@@ -1,5 +1,5 @@
 -- An element among others: the row of its key, what changes or leaves there, and what holds of each.
-use Rattle.std.proofs.Common.{◌≡◌, ℕ, Bool, true, false, cond, not, ◌&&◌, eqb, ltb, eq-eqb, List, [], ◌∷◌, ◌++◌, map, length, set, Some, slice_get, refl, ap, ◌∙◌, arith}
+use Rattle.std.proofs.Common.{◌≡◌, ℕ, Bool, true, not, ◌&&◌, eqb, ltb, List, [], ◌∷◌, ◌++◌, map, length, set, Some, slice_get, refl, ap, arith}
 use Rattle.std.specs.List.{filter, list_all, remove, AllByRecursion}
 use Rattle.std.proofs.lemmas.Bool.Decides.{nat_tests}
 use Rattle.mt_skel.specs.Keyed.{row_at, put, rises}

@@ -1,6 +1,6 @@
 -- Paths as they lie: the names, each behind a slash, and the way back.
-use Rattle.std.proofs.Common.{◌≡◌, ◌≢◌, ◌==◌, ℕ, Bool, cond, false, List, [], ◌∷◌, ◌++◌, true, refl, sym, ap, ◌∙◌, arith, append-nil, append_assoc}
-use Rattle.std.specs.List.{list_all, join_with_byte, onto_first}
+use Rattle.std.proofs.Common.{◌≡◌, ◌≢◌, ℕ, List, [], ◌∷◌, ◌++◌, true, refl, sym, ap, ◌∙◌, arith, append-nil, append_assoc}
+use Rattle.std.specs.List.{list_all, join_with_byte}
 use Rattle.std.specs.Str.{bytes_eq}
 use Rattle.std.proofs.lemmas.Bool.Decides.{nat_tests, Decides-like, same_from_decides}
 use Rattle.std.proofs.lemmas.Grind.{flat_map-append}
@@ -10,7 +10,7 @@ use Rattle.mt_lines.specs.Words.{pieces}
 use Rattle.mt_lines.proofs.PieceLaws.{lacks_byte, pieces_joined, joined_pieces}
 use Rattle.mt_skel.specs.Names.{is_name, names_text, names_in}
 use Rattle.mt_skel.specs.Skeleton.{path_eq}
-use Rattle.mt_skel.proofs.MiddleLaws.{and_first, and_second, and-true}
+use Rattle.mt_skel.proofs.MiddleLaws.{and-true}
 use Rattle.mt_skel.proofs.SkeletonLaws.{path_eq-Decides}
 
 names_lack : (ns : List (List ℕ)) → list_all is_name ns ≡ true → list_all (lacks_byte 47) ns ≡ true

@@ -1,5 +1,5 @@
 -- The skeleton of a list of nodes.
-use Rattle.std.proofs.Common.{◌≡◌, ◌≢◌, Bool, true, false, cond, ltb, ℕ, zero, suc, ◌+◌, ◌-◌, ◌<◌, ◌≤◌, List, [], ◌∷◌, ◌++◌, length, map, get_or, Option, Some, None, slice_get, refl, sym, ap, ◌∙◌, inl, inr, arith, length-append, add-zero, zero-add}
+use Rattle.std.proofs.Common.{◌≡◌, ◌≢◌, Bool, true, false, cond, ltb, ℕ, zero, suc, ◌+◌, ◌-◌, ◌<◌, List, [], ◌∷◌, ◌++◌, length, map, get_or, Option, Some, None, slice_get, refl, sym, ap, ◌∙◌, inl, inr, arith, length-append, add-zero, zero-add}
 use Rattle.std.specs.List.{position_from, position_or_len}
 use Rattle.std.specs.Option.{option_map, unwrap_or}
 use Rattle.std.specs.Str.{bytes_eq}
@@ -12,7 +12,7 @@ use Rattle.mt_skel.specs.Skeleton.{Skeleton, IsSkeleton, Directory, Filesystem, 
 use Rattle.mt_skel.specs.declared.skel.Filesystem.{Filesystem as FilesystemNode}
 use Rattle.mt_skel.specs.declared.skel.Link.{Link}
 use Rattle.mt_skel.specs.declared.skel.Node.{Node}
-use Rattle.mt_skel.specs.Nodes.{names_at, names_up, dir_of, dirs_from, dirs_of, shown_fs, skeleton_of, IsUp, IsLaidOut}
+use Rattle.mt_skel.specs.Nodes.{names_up, dir_of, dirs_from, dirs_of, shown_fs, skeleton_of, IsUp, IsLaidOut}
 use Rattle.mt_skel.proofs.ListLaws.{snoc_some, kept, last_place}
 use Rattle.mt_skel.proofs.SkeletonLaws.{holds_up, holds_root, directory_within, filesystem_within, number_at, number_none, directory_at, at_directory, same_place}
 
@@ -118,7 +118,7 @@ module _ (fs : List FilesystemNode) (ns : List Node) (t : IsLaidOut fs ns) where
       (dir_under d n u.0 e u.1 ∙ ap (λ k. Some (record { fs = (directory s k).fs; path = (directory s k).path ++ u.0.name ∷ [] })) u.2 ∙ ap (λ (x : List ℕ). Some (record { fs = (directory s dir).fs; path = (directory s dir).path ++ x ∷ [] })) u.3)
 
   pub child_none : (dir : ℕ) (name : List ℕ) → ((d : ℕ) (n : Node) → slice_get ns d ≡ Some n → ¬ (IsUp n dir name)) → child (skeleton_of fs ns) dir name ≡ None
-  child_none dir name off = number_none s (record { fs = outer.fs; path = outer.path ++ name ∷ [] }) (λ d e. let h = node_at d (record { fs = outer.fs; path = outer.path ++ name ∷ [] }) e in off d h.0 h.1 (by d h.0 h.1 e h.2 h.0.up refl))
+  child_none dir name off = number_none s (record { fs = outer.fs; path = outer.path ++ name ∷ [] }) (λ d e. let h = node_at d (record { fs = outer.fs; path = outer.path ++ name ∷ [] }) e in off d h.0 h.1 (by d h.0 h.1 e h.0.up refl))
     where
       s : Skeleton
       s = skeleton_of fs ns
@@ -126,9 +126,9 @@ module _ (fs : List FilesystemNode) (ns : List Node) (t : IsLaidOut fs ns) where
       outer : Directory
       outer = directory s dir
 
-      by : (d : ℕ) (n : Node) → slice_get ns d ≡ Some n → slice_get (dirs_of ns) d ≡ Some (record { fs = outer.fs; path = outer.path ++ name ∷ [] }) → ◌≡◌ {A = Directory} (record { fs = outer.fs; path = outer.path ++ name ∷ [] }) (dir_of (dirs_of ns) n) → (o : Option Link) → n.up ≡ o → IsUp n dir name
-      by d n e at is None up = absurd (snoc_some outer.path name (ap (λ p. p.path) is ∙ ap (names_up (dirs_of ns)) up))
-      by d n e at is (Some up) u =
+      by : (d : ℕ) (n : Node) → slice_get ns d ≡ Some n → slice_get (dirs_of ns) d ≡ Some (record { fs = outer.fs; path = outer.path ++ name ∷ [] }) → (o : Option Link) → n.up ≡ o → IsUp n dir name
+      by d n e at None up = absurd (snoc_some outer.path name (ap (λ p. p.path) (same_Some {A = Directory} (record { fs = outer.fs; path = outer.path ++ name ∷ [] }) (record { fs = n.fs; path = [] }) (sym at ∙ dir_root d n e up))))
+      by d n e at (Some up) u =
           let q = directory s up.dir in
           let w = same_Some {A = Directory} (record { fs = outer.fs; path = outer.path ++ name ∷ [] }) (record { fs = q.fs; path = q.path ++ up.name ∷ [] }) (sym at ∙ dir_under d n up e u) in
           let names = same_from_push outer.path q.path name up.name (ap (λ p. p.path) w) in
@@ -149,6 +149,7 @@ counted fs ns v view = rw (← view) (length-map fs shown_fs, length-dirs_of ns)
 pub dir_within : (fs : List FilesystemNode) (ns : List Node) (v : Skeleton) (d : ℕ) → skeleton_of fs ns ≡ v → is_directory v d ≡ true → d < length ns
 dir_within fs ns v d view h = omega (arith, directory_within v d h, counted fs ns v view)
 
+-- what is always true of a skeleton is true of the one that is seen
 pub sound : {fs : List FilesystemNode} {ns : List Node} → IsLaidOut fs ns → (v : Skeleton) → skeleton_of fs ns ≡ v → IsSkeleton v
 sound t v view = rw (← view) t.skeleton
 

@@ -1,5 +1,5 @@
 -- A row that is put in its place among keyed rows: before the first that has no lesser key.
-use Rattle.std.proofs.Common.{◌≡◌, ℕ, suc, ◌+◌, ◌≤◌, Bool, true, false, cond, not, ◌==◌, ltb, nat_le, nat_lt, nat_eq, List, [], ◌∷◌, length, Some, None, slice_get, refl, sym, ap, ◌∙◌, arith}
+use Rattle.std.proofs.Common.{◌≡◌, ℕ, suc, ◌+◌, ◌≤◌, Bool, true, false, cond, not, ◌==◌, ltb, nat_le, List, [], ◌∷◌, length, Some, None, slice_get, refl, ap, ◌∙◌, arith}
 use Rattle.std.specs.List.{insert, remove, position_from, position_or_len}
 use Rattle.std.specs.Option.{option_map_or, unwrap_or}
 use Rattle.std.proofs.lemmas.Grind.{common_steps}

@@ -1,13 +1,12 @@
 -- A worklist begins with a number, goes over its numbers in their order, and enters those that have the one gone over as their
 -- next. It finds exactly the numbers from which some steps lead to the first, each once.
-use Rattle.std.proofs.Common.{◌≡◌, ℕ, zero, suc, ◌+◌, ◌-◌, ◌≤◌, ◌<◌, Bool, true, false, cond, not, ◌&&◌, ◌||◌, ◌==◌, eqb, eqb-true, List, [], ◌∷◌, ◌++◌, take, drop, length, get_or, Option, Some, None, refl, sym, ap, subst, ◌∙◌, arith, add-zero, add-suc}
+use Rattle.std.proofs.Common.{◌≡◌, ℕ, zero, suc, ◌+◌, ◌-◌, ◌≤◌, ◌<◌, Bool, true, false, cond, not, ◌&&◌, ◌||◌, ◌==◌, eqb, List, [], ◌∷◌, ◌++◌, take, drop, length, get_or, Option, Some, None, refl, sym, ap, subst, ◌∙◌, arith, add-zero, add-suc}
 use Rattle.std.specs.List.{list_any}
 use Rattle.std.specs.Option.{option_map_or}
 use Rattle.std.proofs.lemmas.Bool.Decides.{nat_tests}
 use Rattle.std.proofs.lemmas.List.Folds.{list_any-append}
 use Rattle.std.proofs.lemmas.List.{length-append, take-append-drop, take-append-le, take_all}
 use Rattle.std.proofs.Math.Seq.{take-suc, drop-cons}
-use Rattle.std.proofs.Math.Bool.{and-false, or-false, or-true}
 use Rattle.mt_skel.specs.Chain.{chain}
 use Rattle.mt_skel.specs.Keyed.{among}
 use Rattle.mt_skel.specs.Counted.{occ}
@@ -16,10 +15,6 @@ use Rattle.mt_skel.proofs.CountLaws.{is_next, count-length, count-append, any-is
 -- an optional number is in the list
 abbrev pub is_found : List ℕ → Option ℕ → Bool
 is_found found o = option_map_or (among found) o false
-
-is_found-none : (o : Option ℕ) → is_found [] o ≡ false
-is_found-none None = refl
-is_found-none (Some m) = refl
 
 pub is_found-snoc : (done : List ℕ) (m : ℕ) (o : Option ℕ) → is_found (done ++ m ∷ []) o ≡ (is_found done o || is_next o m)
 is_found-snoc done m None = refl
@@ -66,7 +61,7 @@ module _ (next : ℕ → Option ℕ) (g : ℕ) where
 
   pub gathered-start : IsGathered [] (g ∷ [])
   gathered-start = record {
-    once = λ h. grind (arith, nat_tests, is_found-none (next h));
+    once = λ h. grind (arith, nat_tests);
     sound = λ h e. within-self 0 h (grind (arith, nat_tests));
   }
 
@@ -84,14 +79,11 @@ module _ (next : ℕ → Option ℕ) (g : ℕ) where
       -- a number that is new has its next among the old ones
       fresh : (h : ℕ) → (h == g) ≡ false → is_next (next h) m ≡ true → within (length (all ++ more) - 1) h ≡ true
       fresh h off is =
-          let one : occ h more ≡ 1 = right h ∙ ap (λ b. cond (not b && is_next (next h) m) 1 0) off ∙ ap (λ b. cond b 1 0) is in
-          let long = count-length (λ j. j == h) more in
-          let there = any-some (λ j. eqb j m) all entered in
-          let long_all = count-length (λ j. eqb j m) all in
-          let whole = length-append all more in
-          let at : within (length all - 1) m ≡ true = w.sound m entered in
-          let step : within (suc (length all - 1)) h ≡ true = grind (arith, nat_tests, within-suc (length all - 1) h) in
-          within-lift (suc (length all - 1)) (length (all ++ more) - 1) h (omega arith) step
+          let one : occ h more ≡ 1 = grind (arith, right h) in
+          let longer : length all < length (all ++ more) = omega (arith, one, count-length (λ j. j == h) more, length-append all more) in
+          let some : 1 ≤ length all = omega (arith, any-some (λ j. eqb j m) all entered, count-length (λ j. eqb j m) all) in
+          let step : within (suc (length all - 1)) h ≡ true = grind (arith, nat_tests, within-suc (length all - 1) h, w.sound m entered) in
+          within-lift (suc (length all - 1)) (length (all ++ more) - 1) h (omega (arith, longer, some)) step
 
       step-sound : (h : ℕ) → ((h == g) || is_found (done ++ m ∷ []) (next h)) ≡ true → within (length (all ++ more) - 1) h ≡ true
       step-sound h e =
@@ -109,13 +101,8 @@ module _ (next : ℕ → Option ℕ) (g : ℕ) where
   pub gathered-all : (all : List ℕ) (n : ℕ) → IsGathered all all → length all ≤ suc n → (h : ℕ) → among all h ≡ within n h
   gathered-all all n w few h =
       let sound = λ (e : among all h ≡ true). within-lift (length all - 1) n h (omega (arith, few)) (w.sound h e) in
-      grind (arith, sound, found_all (among all) start closed n h)
-    where
-      start : among all g ≡ true
-      start = there all all w g ∙ grind (arith, nat_tests)
-
-      closed : (h m : ℕ) → next h ≡ Some m → among all m ≡ true → among all h ≡ true
-      closed h m e f = grind (arith, there all all w h)
+      let complete = found_all (among all) (there all all w g ∙ grind (arith, nat_tests)) (λ k m e f. grind (arith, there all all w k)) n h in
+      grind (arith, sound, complete)
 
   -- one number more of the list is gone over: it is new, and it was entered
   module _ (i d : ℕ) (all : List ℕ) (w : IsGathered (take i all) all) (in_all : i < length all) where

@@ -46,6 +46,7 @@ impl Names {
     }
 
     /// The path whose names stand between the slashes of a text. Refused as `NoMemory` alone.
+    #[tactic(auto, using(crate::proofs::NamesLaws::text_between))]
     pub fn between(alloc: Global, text: &[u8]) -> Result<Names, Fault>
         requires names { IsTrue (list_all is_name (pieces 47 text.now)) }
         ensures names { IfOk result (λ names. names ≡ pieces 47 text.now) }

@@ -212,6 +212,7 @@ impl Skel {
     }
 
     /// The directory of this name in a directory; None also where the directory is not there.
+    #[tactic(auto, using(crate::proofs::IndexLaws::child_is))]
     pub fn child(&self, dir: Dir, name: &Name) -> Option<Dir>
         ensures child { result ≡ child self.now dir name.now }
         ensures there { IfSome result (λ below. IsTrue (is_directory self.now below)) }

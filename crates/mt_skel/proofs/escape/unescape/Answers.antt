@@ -1,5 +1,4 @@
-use Rattle.std.proofs.Common.{Some, ◌++◌, ◌∙◌, ap, sym}
-use Rattle.mt_skel.proofs.EscapeLaws.{all_read, bare_unescaped}
+use Rattle.mt_skel.proofs.EscapeLaws.{all_read}
 use Rattle.mt_skel.proofs.escape.unescape.Goals as goal
 
 pub returns-clause-bytes : goal.returns-clause-bytes

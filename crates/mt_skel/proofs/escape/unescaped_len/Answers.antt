@@ -1,6 +1,4 @@
-use Rattle.std.proofs.Common.{length, ap, sym}
-use Rattle.std.specs.Option.{option_map}
-use Rattle.mt_skel.proofs.EscapeLaws.{all_counted, bare_unescaped}
+use Rattle.mt_skel.proofs.EscapeLaws.{all_counted}
 use Rattle.mt_skel.proofs.escape.unescaped_len.Goals as goal
 
 pub returns : goal.returns

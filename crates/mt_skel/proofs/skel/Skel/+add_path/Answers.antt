@@ -1,4 +1,4 @@
-use Rattle.std.proofs.Common.{ℕ, ◌++◌, ◌∷◌, [], sym, arith, append-nil, append_assoc}
+use Rattle.std.proofs.Common.{ℕ, ◌∷◌, [], sym, arith, append-nil, append_assoc}
 use Rattle.mt_skel.proofs.ListLaws.{last_none, last_more}
 use Rattle.mt_skel.proofs.NodeLaws.{IsBelow, dir_within, root_read, below_read}
 use Rattle.mt_skel.proofs.skel.Skel.+add_path.Goals.{In-Some}

@@ -1,5 +1,5 @@
 use Rattle.std.proofs.Common.{◌≡◌, ◌+◌, ◌<◌, ◌++◌, ◌∷◌, [], ap, sym, ◌∙◌, length, Ok, None, inl, inr, arith}
-use Rattle.std.proofs.lemmas.List.{length-map, length_push}
+use Rattle.std.proofs.lemmas.List.{length_push}
 use Rattle.mt_skel.specs.declared.skel.Filesystem.{Filesystem}
 use Rattle.mt_skel.specs.declared.skel.Node.{Node}
 use Rattle.mt_skel.specs.Skeleton.{fs_named, with_fs}

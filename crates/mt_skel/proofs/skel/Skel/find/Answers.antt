@@ -1,7 +1,5 @@
-use Rattle.std.proofs.Common.{◌≡◌, ◌+◌, ◌-◌, [], Some, take, drop, ap, sym, ◌∙◌, length, slice_get, refl, arith}
+use Rattle.std.proofs.Common.{◌≡◌, ◌+◌, Some, take, drop, ap, sym, ◌∙◌, arith}
 use Rattle.std.proofs.lemmas.List.{take_all}
-use Rattle.std.proofs.lemmas.Option.{slice_get_read}
-use Rattle.mt_skel.specs.Skeleton.{IsSkeleton}
 use Rattle.mt_skel.proofs.ListLaws.{take_next, split_next}
 use Rattle.mt_skel.proofs.SkeletonLaws.{number_at, child_at, none_below}
 use Rattle.mt_skel.proofs.NodeLaws.{root_place, sound}

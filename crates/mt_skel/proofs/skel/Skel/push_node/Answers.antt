@@ -16,7 +16,8 @@ grown : (c : In_ok-push) → IsKeptSkeleton c.self.inside.filesystems.items c.pu
 grown c =
     let node : Node = record { fs = c.args.fs; up = Some (record { dir = c.args.parent; name = c.args.name }) } in
     let place : c.len-dir.result ≡ length c.self.inside.nodes.items = omega (arith, c.len-dir.ensures, c.self.inside.nodes.ok) in
-    child_kept c.push_child.new.self c.args.self.now c.args.parent c.args.fs c.len-dir.result c.args.name c.in_ok-copy.field-0 c.self.invariant c.self.view_is c.requires.there c.requires.same c.requires.absent c.in_ok-copy.ensures.copy place c.in_ok-push_child.ensures.length c.in_ok-push_child.ensures.child
+    child_kept c.push_child.new.self c.args.self.now c.args.parent c.args.fs c.len-dir.result c.args.name c.in_ok-copy.field-0 c.self.invariant c.self.view_is
+    c.requires.there c.requires.same c.requires.absent c.in_ok-copy.ensures.copy place c.in_ok-push_child.ensures.length c.in_ok-push_child.ensures.child
     (c.in_ok-push.ensures.items ∙ ap (λ l. l ++ node ∷ []) c.in_ok-reserve.ensures.items)
 
 pub invariant_of-self-2 : goal.invariant_of-self-2
