@@ -1,5 +1,5 @@
 -- The skeleton of a list of nodes.
-use Rattle.std.proofs.Common.{◌≡◌, ◌≢◌, Bool, true, false, cond, ltb, ℕ, zero, suc, ◌+◌, ◌-◌, ◌<◌, List, [], ◌∷◌, ◌++◌, length, map, get_or, Option, Some, None, slice_get, refl, sym, ap, ◌∙◌, inl, inr, arith, length-append, add-zero, zero-add}
+use Rattle.std.proofs.Common.{◌≡◌, ◌≢◌, true, false, cond, ltb, ℕ, zero, suc, ◌+◌, ◌-◌, ◌<◌, List, [], ◌∷◌, ◌++◌, length, map, get_or, Option, Some, None, slice_get, refl, sym, ap, ◌∙◌, inl, inr, arith, length-append, add-zero, zero-add}
 use Rattle.std.specs.List.{position_from, position_or_len}
 use Rattle.std.specs.Option.{option_map, unwrap_or}
 use Rattle.std.specs.Str.{bytes_eq}
@@ -118,7 +118,7 @@ module _ (fs : List FilesystemNode) (ns : List Node) (t : IsLaidOut fs ns) where
       (dir_under d n u.0 e u.1 ∙ ap (λ k. Some (record { fs = (directory s k).fs; path = (directory s k).path ++ u.0.name ∷ [] })) u.2 ∙ ap (λ (x : List ℕ). Some (record { fs = (directory s dir).fs; path = (directory s dir).path ++ x ∷ [] })) u.3)
 
   pub child_none : (dir : ℕ) (name : List ℕ) → ((d : ℕ) (n : Node) → slice_get ns d ≡ Some n → ¬ (IsUp n dir name)) → child (skeleton_of fs ns) dir name ≡ None
-  child_none dir name off = number_none s (record { fs = outer.fs; path = outer.path ++ name ∷ [] }) (λ d e. let h = node_at d (record { fs = outer.fs; path = outer.path ++ name ∷ [] }) e in off d h.0 h.1 (by d h.0 h.1 e h.0.up refl))
+  child_none dir name off = number_none s below (λ d e. let h = node_at d below e in off d h.0 h.1 (by d h.0 h.1 e h.0.up refl))
     where
       s : Skeleton
       s = skeleton_of fs ns
@@ -126,16 +126,22 @@ module _ (fs : List FilesystemNode) (ns : List Node) (t : IsLaidOut fs ns) where
       outer : Directory
       outer = directory s dir
 
-      by : (d : ℕ) (n : Node) → slice_get ns d ≡ Some n → slice_get (dirs_of ns) d ≡ Some (record { fs = outer.fs; path = outer.path ++ name ∷ [] }) → (o : Option Link) → n.up ≡ o → IsUp n dir name
-      by d n e at None up = absurd (snoc_some outer.path name (ap (λ p. p.path) (same_Some {A = Directory} (record { fs = outer.fs; path = outer.path ++ name ∷ [] }) (record { fs = n.fs; path = [] }) (sym at ∙ dir_root d n e up))))
+      below : Directory
+      below = record { fs = outer.fs; path = outer.path ++ name ∷ [] }
+
+      by : (d : ℕ) (n : Node) → slice_get ns d ≡ Some n → slice_get (dirs_of ns) d ≡ Some below → (o : Option Link) → n.up ≡ o → IsUp n dir name
+      by d n e at None up =
+          let root = same_Some {A = Directory} below (record { fs = n.fs; path = [] }) (sym at ∙ dir_root d n e up) in
+          absurd (snoc_some outer.path name (ap (λ p. p.path) root))
       by d n e at (Some up) u =
           let q = directory s up.dir in
-          let w = same_Some {A = Directory} (record { fs = outer.fs; path = outer.path ++ name ∷ [] }) (record { fs = q.fs; path = q.path ++ up.name ∷ [] }) (sym at ∙ dir_under d n up e u) in
+          let w = same_Some {A = Directory} below (record { fs = q.fs; path = q.path ++ up.name ∷ [] }) (sym at ∙ dir_under d n up e u) in
           let names = same_from_push outer.path q.path name up.name (ap (λ p. p.path) w) in
           let one = ap (λ p. p.fs) w in
           let same : outer ≡ q = λ i. record { fs = one i; path = names.0 i } in
           (up, u, same_place s t.skeleton dir up.dir q same (there_at up.dir (omega (arith, t.before d n up e u, slice_get_within ns d n e))), sym names.1)
 
+  -- each directory is of a filesystem that is there
   pub fs_there : (d : ℕ) → d < length ns → is_filesystem (skeleton_of fs ns) (directory (skeleton_of fs ns) d).fs ≡ true
   fs_there d l =
       let h = t.skeleton.of_filesystem d (directory (skeleton_of fs ns) d) (there_at d l) in
@@ -207,11 +213,7 @@ module _ {fs : List FilesystemNode} {ns : List Node} (t : IsLaidOut fs ns) (v : 
 -- the number of a filesystem, from its place among the nodes
 numbered : (name : List ℕ) (fs : List FilesystemNode) (k m : ℕ) → m ≡ k + 1 → position_from (λ (f : Filesystem). bytes_eq f.name name) m (map shown_fs fs) ≡ option_map (λ i. i + 1) (position_from (λ (f : FilesystemNode). bytes_eq f.name name) k fs)
 numbered name [] k m e = refl
-numbered name (f ∷ fs) k m e = by (bytes_eq f.name name) _ _ (numbered name fs (k + 1) (m + 1) (omega arith))
-  where
-    by : (b : Bool) (x y : Option ℕ) → x ≡ option_map (λ i. i + 1) y → cond b (Some m) x ≡ option_map (λ i. i + 1) (cond b (Some k) y)
-    by true x y h = ap (λ i. Some i) e
-    by false x y h = h
+numbered name (f ∷ fs) k m e = grind (arith, numbered name fs (k + 1) (m + 1) (omega arith))
 
 pub fs_numbered : (fs : List FilesystemNode) (ns : List Node) (name : List ℕ) (r : Option ℕ)
     → r ≡ cond (ltb (position_or_len (λ (f : FilesystemNode). bytes_eq f.name name) fs) (length fs)) (Some (position_or_len (λ (f : FilesystemNode). bytes_eq f.name name) fs)) None
