@@ -1,15 +1,17 @@
 -- Where what stays, or is below what stays, stands on a mount that goes, it stands at the root of that one.
-use Rattle.std.proofs.Common.{◌≡◌, ℕ, zero, suc, Bool, true, false, not, ◌&&◌, ◌||◌, ◌==◌, eqb-true, eq-eqb, [], length, Option, Some, None, refl, sym, ap, ◌∙◌}
+use Rattle.std.proofs.Common.{◌≡◌, ℕ, zero, suc, Bool, true, false, not, ◌&&◌, ◌==◌, eqb, eqb-true, eq-eqb, length, Option, Some, None, refl, sym, ap, ◌∙◌}
 use Rattle.std.specs.List.{list_any}
 use Rattle.std.specs.Option.{option_map_or, unwrap_or}
-use Rattle.std.proofs.lemmas.Bool.{true≢false}
-use Rattle.std.proofs.Math.Bool.{or-true, or-false}
+use Rattle.std.proofs.lemmas.Bool.{true≢false, and_parts, not-true, or_left, or_right, false_from_ne_true, true_from_ne_false}
+use Rattle.std.proofs.Math.Bool.{or-false}
 use Rattle.mt_skel.specs.Chain.{chain}
-use Rattle.mt_skel.proofs.ChainLaws.{chain-step}
+use Rattle.mt_skel.proofs.ChainLaws.{chain-step, chain-last}
+use Rattle.mt_skel.proofs.ElementLaws.{in_any, any_in}
 use Rattle.mt_skel.proofs.KeyedLaws.{row_at-key}
 use Rattle.mt_mounts.specs.declared.mount.Mount.{Mount}
 use Rattle.mt_mounts.specs.declared.mount.Place.{Place}
-use Rattle.mt_mounts.specs.Forest.{id_of, mount_at, parent, root_place}
+use Rattle.mt_mounts.specs.Forest.{id_of, mount_at, parent, parents_up, is_below, root_place}
+use Rattle.mt_peers.proofs.AlikeLaws.{along}
 use Rattle.mt_propagate.specs.World.{WorldView, root_dir}
 use Rattle.mt_propagate.specs.Named.{unknown}
 use Rattle.mt_propagate.specs.WellFormed.{IsWellFormed}
@@ -17,8 +19,8 @@ use Rattle.mt_propagate.proofs.TreeLaws.{parent-is}
 use Rattle.mt_propagate.proofs.CopyRowLaws.{root_is}
 use Rattle.mt_unmount.specs.Sliding.{place_of, stands_inside, is_inside, CanGo}
 
--- the place of a mount, and a mount with a place
 module _ (w : WorldView) where
+  -- the place of a mount, and a mount with a place
   pub place-at : (j : ℕ) (r : Mount) → mount_at w.forest j ≡ Some r → place_of w j ≡ r.place
   place-at j r e = ap (λ o. (unwrap_or o unknown).place) e
 
@@ -39,71 +41,59 @@ module _ (w : WorldView) where
   pub within-place : (i j : ℕ) → stands_inside w i j ≡ true → (p : Place) × (place_of w j ≡ Some p) × (p.mount ≡ i) × ((p.dir == root_dir w i) ≡ false)
   within-place i j e = go (place_of w j) refl e
     where
-      both : (a b : Bool) → (a && not b) ≡ true → (a ≡ true) × (b ≡ false)
-      both true false e = (refl, refl)
-      both true true e = absurd (cc)
-      both false b e = absurd (cc)
-
       go : (o : Option Place) → place_of w j ≡ o → option_map_or (λ (p : Place). (p.mount == i) && not (p.dir == root_dir w i)) o false ≡ true
           → (p : Place) × (place_of w j ≡ Some p) × (p.mount ≡ i) × ((p.dir == root_dir w i) ≡ false)
       go None is e = absurd (cc)
-      go (Some p) is e = let b = both (p.mount == i) (p.dir == root_dir w i) e in (p, is, eqb-true p.mount i b.0, b.1)
+      go (Some p) is e =
+          let b = and_parts (p.mount == i) (not (p.dir == root_dir w i)) e in
+          (p, is, eqb-true p.mount i b.0, not-true (p.dir == root_dir w i) b.1)
+
+  pub parent-place : (j : ℕ) (p : Place) → place_of w j ≡ Some p → parent w.forest j ≡ Some p.mount
+  parent-place j p e = let m = placed-mount j p e in parent-is w.forest j m.0 p m.1 m.2
 
 module _ (w : WorldView) (h : IsWellFormed w) where
-  pub parent-place : (j : ℕ) (p : Place) → place_of w j ≡ Some p → parent w.forest j ≡ Some p.mount
-  parent-place j p e = let m = placed-mount w j p e in parent-is w.forest j m.0 p m.1 m.2
+  -- whether a test holds of a mount or of one on its way up
+  module _ (t : ℕ → Bool) where
+    abbrev pub any_up : ℕ → Bool
+    any_up j = list_any t (parents_up w.forest j)
 
-  -- what is inside a mount stands within it, or on what is inside it
-  pub inside-step : (i j k : ℕ) → parent w.forest j ≡ Some k → is_inside w i j ≡ (stands_inside w i j || is_inside w i k)
-  inside-step i j k e = ap (list_any (stands_inside w i)) (chain-step (parent w.forest) (length w.forest) j k e (h.forest.no_cycle j))
+    pub any-here : (j : ℕ) → t j ≡ true → any_up j ≡ true
+    any-here j e = go (length w.forest)
+      where
+        go : (n : ℕ) → list_any t (chain (parent w.forest) n j) ≡ true
+        go zero = or_left (t j) _ e
+        go (suc n) = or_left (t j) _ e
 
-  pub inside-child : (i j k : ℕ) → parent w.forest j ≡ Some k → is_inside w i k ≡ true → is_inside w i j ≡ true
-  inside-child i j k e is = inside-step i j k e ∙ ap (λ b. stands_inside w i j || b) is ∙ or-true (stands_inside w i j)
+    pub any-further : (j k : ℕ) → parent w.forest j ≡ Some k → any_up k ≡ true → any_up j ≡ true
+    any-further j k up e = ap (list_any t) (chain-step (parent w.forest) (length w.forest) j k up (h.forest.no_cycle j)) ∙ or_right (t j) (any_up k) e
 
-  pub inside-here : (i j : ℕ) → stands_inside w i j ≡ true → is_inside w i j ≡ true
-  inside-here i j e =
-      let p = within-place w i j e in
-      inside-step i j p.0.mount (parent-place j p.0 p.1) ∙ ap (λ b. b || is_inside w i p.0.mount) e
+    pub any-last : (j : ℕ) → parent w.forest j ≡ None → any_up j ≡ true → t j ≡ true
+    any-last j none e = sym (or-false (t j)) ∙ ap (list_any t) (sym (chain-last (parent w.forest) (length w.forest) j none)) ∙ e
+
+    pub any-above : (j k : ℕ) → is_below w.forest k j ≡ true → any_up k ≡ true → any_up j ≡ true
+    any-above j k below e = along (parent w.forest) (λ x. any_up x ≡ true → any_up j ≡ true) (λ x y holds up f. holds (any-further x y up f)) (length w.forest) j k (λ f. f) below e
+
+    pub any-is : (j : ℕ) → any_up j ≡ true → (k : ℕ) × (is_below w.forest k j ≡ true) × (t k ≡ true)
+    any-is j e = let k = in_any t (parents_up w.forest j) e in (k.0, any_in (eqb k.0) k.0 (parents_up w.forest j) k.1 (eq-eqb k.0 k.0 refl), k.2)
 
   -- what is inside a mount that is inside another one is inside that one
-  module _ (i k : ℕ) (out : is_inside w i k ≡ true) where
-    inside-both : (j : ℕ) → stands_inside w k j ≡ true → is_inside w i j ≡ true
-    inside-both j e = let p = within-place w k j e in inside-child i j p.0.mount (parent-place j p.0 p.1) (ap (is_inside w i) p.2 ∙ out)
-
-    inside-along : (n j : ℕ) → list_any (stands_inside w k) (chain (parent w.forest) n j) ≡ true → is_inside w i j ≡ true
-    inside-along zero j e = inside-both j (sym (or-false (stands_inside w k j)) ∙ e)
-    inside-along (suc n) j e = go (parent w.forest j) refl (stands_inside w k j) refl e (λ y. inside-along n y)
-      where
-        go : (o : Option ℕ) → parent w.forest j ≡ o → (b : Bool) → stands_inside w k j ≡ b
-            → (b || list_any (stands_inside w k) (option_map_or (λ y. chain (parent w.forest) n y) o [])) ≡ true
-            → ((y : ℕ) → list_any (stands_inside w k) (chain (parent w.forest) n y) ≡ true → is_inside w i y ≡ true) → is_inside w i j ≡ true
-        go o up true is e ih = inside-both j is
-        go None up false is e ih = absurd (cc)
-        go (Some y) up false is e ih = inside-child i j y up (ih y e)
-
-    pub inside-inside : (j : ℕ) → is_inside w k j ≡ true → is_inside w i j ≡ true
-    inside-inside j e = inside-along (length w.forest) j e
+  pub inside-inside : (i k : ℕ) → is_inside w i k ≡ true → (j : ℕ) → is_inside w k j ≡ true → is_inside w i j ≡ true
+  inside-inside i k out j e =
+      let x = any-is (stands_inside w k) j e in
+      let p = within-place w k x.0 x.2 in
+      any-above (stands_inside w i) j x.0 x.1 (any-further (stands_inside w i) x.0 p.0.mount (parent-place w x.0 p.0 p.1) (ap (is_inside w i) p.2 ∙ out))
 
 module _ (w : WorldView) (h : IsWellFormed w) (goes : ℕ → Bool) (can : CanGo w goes) where
   -- a mount inside none that goes
   abbrev pub Spared : ℕ → Type 0
   Spared j = (i : ℕ) → goes i ≡ true → is_inside w i j ≡ false
 
-  -- so is one that stays
+  -- so is one that stays, and the mount that it stands on
   pub spared : (j : ℕ) → goes j ≡ false → Spared j
-  spared j off i on = by (is_inside w i j) refl
-    where
-      by : (b : Bool) → is_inside w i j ≡ b → b ≡ false
-      by false is = refl
-      by true is = absurd (true≢false (sym (can.inside i j on is) ∙ off))
+  spared j off i on = false_from_ne_true (is_inside w i j) (λ is. true≢false (sym (can.inside i j on is) ∙ off))
 
-  -- and the mount that it stands on
   pub spared-above : (j k : ℕ) → parent w.forest j ≡ Some k → Spared j → Spared k
-  spared-above j k e s i on = by (is_inside w i k) refl
-    where
-      by : (b : Bool) → is_inside w i k ≡ b → b ≡ false
-      by false is = refl
-      by true is = absurd (true≢false (sym (inside-child w h i j k e is) ∙ s i on))
+  spared-above j k e s i on = false_from_ne_true (is_inside w i k) (λ is. true≢false (sym (any-further w h (stands_inside w i) j k e is) ∙ s i on))
 
   -- where such a mount stands on one that goes, it stands at that one's root directory, and that one has a place
   pub record Gap (p : Place) : Type 0 where
@@ -118,10 +108,8 @@ module _ (w : WorldView) (h : IsWellFormed w) (goes : ℕ → Bool) (can : CanGo
       let q = h.forest.placed j m p e at in
       let r = can.placed p.mount q.0 gone q.1 in
       let id : q.0.id ≡ p.mount = row_at-key id_of p.mount w.forest q.0 q.1 in
-      let dir : p.dir ≡ q.0.root = eqb-true p.dir q.0.root (ap (λ d. p.dir == d) (sym (root_is w p.mount q.0 q.1)) ∙ at_dir (p.dir == root_dir w p.mount) refl) in
-      let same : root_place q.0 ≡ p = λ i. record { mount = id i; dir = sym dir i } in
-      record { mount = q.0; place = r.0; there = q.1; stands = r.1; at_root = same }
-    where
-      at_dir : (b : Bool) → (p.dir == root_dir w p.mount) ≡ b → b ≡ true
-      at_dir true is = refl
-      at_dir false is = absurd (true≢false (sym (inside-here w h p.mount j (within-at w p.mount j p (place-at w j m e ∙ at) refl ∙ ap not is)) ∙ s p.mount gone))
+      let at_dir : (p.dir == root_dir w p.mount) ≡ true =
+      true_from_ne_false (p.dir == root_dir w p.mount) (λ is.
+      true≢false (sym (any-here w h (stands_inside w p.mount) j (within-at w p.mount j p (place-at w j m e ∙ at) refl ∙ ap not is)) ∙ s p.mount gone)) in
+      let dir : p.dir ≡ q.0.root = eqb-true p.dir q.0.root (ap (λ d. p.dir == d) (sym (root_is w p.mount q.0 q.1)) ∙ at_dir) in
+      record { mount = q.0; place = r.0; there = q.1; stands = r.1; at_root = (λ i. record { mount = id i; dir = sym dir i }) }

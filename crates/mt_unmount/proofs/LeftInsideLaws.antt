@@ -1,40 +1,37 @@
--- Where mounts go, a contained namespace stays contained, and where all of them are in it nothing changes outside.
-use Rattle.std.proofs.Common.{◌≡◌, ◌≢◌, ℕ, Bool, true, false, cond, not, eqb-true, length, Option, Some, None, refl, sym, ap, ◌∙◌}
-use Rattle.std.specs.Prelude.{unwrap_or}
+-- Where mounts go, a contained namespace stays contained, and where all of them are in it nothing changes outside. So it is of each
+-- command that takes mounts away.
+use Rattle.std.proofs.Common.{◌≡◌, ◌≢◌, ℕ, Bool, true, false, not, eqb-true, Option, Some, None, refl, sym, ap, subst, ◌∙◌}
 use Rattle.std.specs.List.{filter}
 use Rattle.std.specs.Option.{option_map}
-use Rattle.mt_skel.proofs.ChainLaws.{follow-stop}
+use Rattle.std.proofs.lemmas.Bool.{false_from_ne_true}
 use Rattle.mt_mounts.specs.declared.mount.Mount.{Mount}
 use Rattle.mt_mounts.specs.declared.mount.Place.{Place}
 use Rattle.mt_mounts.specs.Forest.{id_of, mount_at, in_space}
-use Rattle.mt_peers.specs.Loss.{left}
+use Rattle.mt_peers.proofs.LeavingLaws.{left-IsPeering}
 use Rattle.mt_propagate.specs.World.{WorldView, space_of}
 use Rattle.mt_propagate.specs.WellFormed.{IsWellFormed}
 use Rattle.mt_propagate.specs.Contained.{IsContained, IsSameOutside}
 use Rattle.mt_propagate.proofs.ContainedLaws.{left-contained, left-state}
 use Rattle.mt_propagate.proofs.CopyRowLaws.{space_is}
 use Rattle.mt_propagate.proofs.RowLaws.{all-each, found-each, part-kept}
-use Rattle.mt_propagate.proofs.ShownLaws.{state-mount}
-use Rattle.mt_unmount.specs.Sliding.{place_of, slide, slid, once_gone}
-use Rattle.mt_unmount.proofs.LeftTreeLaws.{leaves, moved, left_mounts, row-of}
+use Rattle.mt_unmount.specs.Sliding.{CanGo, slid, once_gone}
+use Rattle.mt_unmount.proofs.LeftLaws.{state-stays, gone-kept}
+use Rattle.mt_unmount.proofs.ReceivedLaws.{under-space}
+use Rattle.mt_unmount.proofs.SlideLaws.{slid-here}
+use Rattle.mt_unmount.proofs.LeftTreeLaws.{leaves, moved, left_mounts}
 
 module _ (w : WorldView) (h : IsWellFormed w) (goes : ℕ → Bool) (n : ℕ) (c : IsContained n w) where
   -- a contained namespace stays so, wherever the mounts are
-  pub gone-contained : IsWellFormed (once_gone w goes) → IsContained n (once_gone w goes)
-  gone-contained v =
+  gone-contained : IsContained n (once_gone w goes)
+  gone-contained =
       left-contained n w (once_gone w goes) h c goes refl (λ k s e.
-      let m = state-mount (left_mounts w goes) (left goes w.peering).peers k s v.same_mounts e in
-      let x = row-of w h goes k m.0 m.1 in
-      ap (λ o. unwrap_or (option_map (λ (m : Mount). m.space) o) 0) m.1 ∙ ap (λ (m : Mount). m.space) x.made ∙ sym (space_is w k x.mount x.there)) v.peering.rising
+      let y = state-stays w h goes k s e in
+      space_is (once_gone w goes) k y.0 y.1 ∙ ap (λ (m : Mount). m.space) y.2.made ∙ sym (space_is w k y.2.mount y.2.there)) (left-IsPeering w.peering h.peering goes).rising
 
   module _ (within : (j : ℕ) → goes j ≡ true → space_of w j ≡ n) where
     -- a mount outside stays where it is
     stays : (j : ℕ) → space_of w j ≢ n → goes j ≡ false
-    stays j off = go (goes j) refl
-      where
-        go : (b : Bool) → goes j ≡ b → goes j ≡ false
-        go true is = absurd (off (within j is))
-        go false is = is
+    stays j off = false_from_ne_true (goes j) (λ is. off (within j is))
 
     unmoved : (m : Mount) → mount_at w.forest m.id ≡ Some m → m.space ≢ n → moved w goes m ≡ m
     unmoved m e off = ap (λ (o : Option Place). let y : Mount = record m { place = o } in y) (go m.place refl)
@@ -42,9 +39,8 @@ module _ (w : WorldView) (h : IsWellFormed w) (goes : ℕ → Bool) (n : ℕ) (c
         go : (o : Option Place) → m.place ≡ o → option_map (slid w goes) o ≡ o
         go None is = refl
         go (Some p) is =
-            let q = h.forest.placed m.id m p e is in
-            let on : goes p.mount ≡ false = stays p.mount (λ same. off (sym q.2 ∙ sym (space_is w p.mount q.0 q.1) ∙ same)) in
-            ap (λ q. Some q) (follow-stop (slide w goes) (length w.forest) p (ap (λ b. cond b (place_of w p.mount) None) on))
+            let on = stays p.mount (λ same. off (sym (space_is w m.id m e) ∙ sym (under-space w h m.id m p e is) ∙ same)) in
+            ap (λ q. Some q) (slid-here w h goes p on)
 
     same-mounts : (k : ℕ) → k ≢ n → filter (in_space k) (left_mounts w goes) ≡ filter (in_space k) w.forest
     same-mounts k off =
@@ -58,9 +54,26 @@ module _ (w : WorldView) (h : IsWellFormed w) (goes : ℕ → Bool) (n : ℕ) (c
         )) w.forest (found-each id_of w.forest h.forest.rising))
 
     -- nothing changes outside
-    pub gone-outside : IsSameOutside n w (once_gone w goes)
+    gone-outside : IsSameOutside n w (once_gone w goes)
     gone-outside = record {
       skel = refl;
       mounts = same-mounts;
       states = left-state n w h c goes within;
     }
+
+-- a command in a namespace takes mounts away that can go, and that are in the namespace if it is contained
+pub record Takes (w : WorldView) (n : ℕ) (v : WorldView) : Type 0 where
+  pub goes : ℕ → Bool
+  pub can : CanGo w goes
+  pub world : once_gone w goes ≡ v
+  pub within : IsContained n w → (j : ℕ) → goes j ≡ true → space_of w j ≡ n
+
+module _ (w : WorldView) (h : IsWellFormed w) (n : ℕ) (v : WorldView) (t : Takes w n v) where
+  pub takes-kept : IsWellFormed v
+  takes-kept = subst IsWellFormed t.world (gone-kept w h t.goes t.can)
+
+  pub takes-contained : (k : ℕ) → IsContained k w → IsContained k v
+  takes-contained k c = subst (IsContained k) t.world (gone-contained w h t.goes k c)
+
+  pub takes-outside : IsContained n w → IsSameOutside n w v
+  takes-outside c = subst (IsSameOutside n w) t.world (gone-outside w h t.goes n c (t.within c))

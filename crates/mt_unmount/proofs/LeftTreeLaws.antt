@@ -1,19 +1,23 @@
 -- The mounts of each namespace stay one tree where mounts go.
-use Rattle.std.proofs.Common.{◌≡◌, ℕ, ◌<◌, Bool, true, false, not, List, map, Option, Some, None, refl, sym, ap, subst, ◌∙◌}
+use Rattle.std.proofs.Common.{◌≡◌, ℕ, ◌<◌, Bool, false, not, List, map, Some, None, refl, sym, ap, subst, ◌∙◌}
 use Rattle.std.specs.Option.{option_map}
+use Rattle.std.proofs.lemmas.Bool.{false_from_ne_true}
+use Rattle.std.proofs.lemmas.Option.{none-some}
+use Rattle.std.proofs.NetLemmas.Options.{map_some}
 use Rattle.mt_skel.specs.Keyed.{without}
 use Rattle.mt_skel.specs.Skeleton.{holds}
 use Rattle.mt_skel.proofs.KeyedLaws.{row_at-key, rises-map, rises-filter}
 use Rattle.mt_mounts.specs.declared.mount.Mount.{Mount}
 use Rattle.mt_mounts.specs.declared.mount.Place.{Place}
 use Rattle.mt_mounts.specs.Forest.{id_of, mount_at}
+use Rattle.mt_mounts.proofs.SlotLaws.{none_found}
 use Rattle.mt_mounts.proofs.CycleLaws.{no_cycle, rank_of}
 use Rattle.mt_propagate.specs.World.{WorldView}
 use Rattle.mt_propagate.specs.WellFormed.{IsForest, IsWellFormed}
 use Rattle.mt_propagate.proofs.RowLaws.{mapped-row, row-mapped, kept-row, row-kept}
 use Rattle.mt_propagate.proofs.TreeLaws.{parent-from}
 use Rattle.mt_unmount.specs.Sliding.{CanGo, slid}
-use Rattle.mt_unmount.proofs.SlideLaws.{heir_at, slid-there, heir-single}
+use Rattle.mt_unmount.proofs.SlideLaws.{slid-there, slid-single}
 
 module _ (w : WorldView) (goes : ℕ → Bool) where
   abbrev pub leaves : Mount → Bool
@@ -24,14 +28,6 @@ module _ (w : WorldView) (goes : ℕ → Bool) where
 
   abbrev pub left_mounts : List Mount
   left_mounts = map moved (without leaves w.forest)
-
-  placed-moved : (o : Option Place) (q : Place) → option_map (slid w goes) o ≡ Some q → (p : Place) × (o ≡ Some p) × (q ≡ slid w goes p)
-  placed-moved None q e = absurd (let v : None ≡ Some q = e in cc)
-  placed-moved (Some p) q e = (p, refl, let v : Some (slid w goes p) ≡ Some q = e in let same : slid w goes p ≡ q = cc in sym same)
-
-  unplaced-moved : (o : Option Place) → option_map (slid w goes) o ≡ None → o ≡ None
-  unplaced-moved None e = refl
-  unplaced-moved (Some p) e = absurd (let v : Some (slid w goes p) ≡ None = e in cc)
 
 module _ (w : WorldView) (h : IsWellFormed w) (goes : ℕ → Bool) where
   -- the mount that stays as y with the ID k
@@ -53,21 +49,17 @@ module _ (w : WorldView) (h : IsWellFormed w) (goes : ℕ → Bool) where
       (row-kept id_of (leaves w goes) w.forest h.forest.rising k m (ap goes (row_at-key id_of k w.forest m e) ∙ off) e)
 
   place-was : (k : ℕ) (y : Mount) (q : Place) (s : Stays k y) → y.place ≡ Some q → (p : Place) × (s.mount.place ≡ Some p) × (q ≡ slid w goes p)
-  place-was k y q s e = placed-moved w goes s.mount.place q (ap (λ (m : Mount). m.place) (sym s.made) ∙ e)
+  place-was k y q s e = map_some (slid w goes) s.mount.place q (ap (λ (m : Mount). m.place) (sym s.made) ∙ e) (λ p at same. (p, at, sym same))
 
   root-was : (k : ℕ) (y : Mount) (s : Stays k y) → y.place ≡ None → s.mount.place ≡ None
-  root-was k y s e = unplaced-moved w goes s.mount.place (ap (λ (m : Mount). m.place) (sym s.made) ∙ e)
+  root-was k y s e = none_found s.mount.place (λ p at. none-some (slid w goes p) (sym e ∙ ap (λ (m : Mount). m.place) s.made ∙ ap (option_map (slid w goes)) at))
 
   space-was : (k : ℕ) (y : Mount) (s : Stays k y) → y.space ≡ s.mount.space
   space-was k y s = ap (λ (m : Mount). m.space) s.made
 
   module _ (can : CanGo w goes) where
     root-stays : (j : ℕ) (r : Mount) → mount_at w.forest j ≡ Some r → r.place ≡ None → goes j ≡ false
-    root-stays j r e none = by (goes j) refl
-      where
-        by : (b : Bool) → goes j ≡ b → b ≡ false
-        by false is = refl
-        by true is = let p = can.placed j r is e in let v : None ≡ Some p.0 = sym none ∙ p.1 in absurd (cc)
+    root-stays j r e none = false_from_ne_true (goes j) (λ is. let p = can.placed j r is e in none-some p.0 (sym none ∙ p.1))
 
     pub left-forest : IsForest w.skel (left_mounts w goes)
     left-forest = record {
@@ -88,11 +80,8 @@ module _ (w : WorldView) (h : IsWellFormed w) (goes : ℕ → Bool) where
           let t = row-of j b eb in
           let p = place-was k a q s pa in
           let r = place-was j b q t pb in
-          let x = slid-there w h goes can k s.mount p.0 s.there p.1 s.stays in
-          let y = slid-there w h goes can j t.mount r.0 t.there r.1 t.stays in
-          let same : s.mount ≡ t.mount =
-          heir-single w goes x.0.steps y.0.steps (slid w goes p.0) s.mount t.mount x.0.leads (subst (λ q. heir_at w goes y.0.steps q ≡ Some t.mount) (sym r.2 ∙ p.2) y.0.leads) in
-          sym (row_at-key id_of k w.forest s.mount s.there) ∙ ap id_of same ∙ row_at-key id_of j w.forest t.mount t.there;
+          let same = slid-single w h goes can k j s.mount t.mount p.0 r.0 s.there p.1 s.stays t.there r.1 t.stays (sym p.2 ∙ r.2) in
+          h.forest.apart k j s.mount t.mount p.0 s.there t.there p.1 (r.1 ∙ ap (λ (q : Place). Some q) (sym same));
       rooted = λ k y e.
           let s = row-of k y e in
           let r = h.forest.rooted k s.mount s.there in

@@ -3,6 +3,8 @@ pub mod GapLaws
 pub mod SlideLaws
 pub mod LeftTreeLaws
 mod LeftLaws
+mod FoundLaws
+mod ReceivedLaws
 mod LeftInsideLaws
 mod PlacedLaws
 mod TakenLaws
@@ -11,7 +13,6 @@ pub mod UnmountLaws
 pub mod SizeLaws
 mod GoneLaws
 mod MayGoLaws
-mod UnmountedLaws
 pub mod InsideLaws
 mod HoldingLaws
 mod HeldLaws

@@ -1,108 +1,107 @@
 -- What is made one after the other is the world once the mounts are gone.
-use Rattle.std.proofs.Common.{◌≡◌, ℕ, Bool, true, false, cond, not, List, length, Option, Some, None, refl, sym, ap, ◌∙◌, subst}
+use Rattle.std.proofs.Common.{◌≡◌, ◌⊎◌, ℕ, Bool, true, false, cond, not, List, Option, Some, None, refl, sym, ap, ◌∙◌, subst, inl, inr}
 use Rattle.std.specs.List.{filter_map}
-use Rattle.std.specs.Option.{option_and_then}
-use Rattle.std.proofs.lemmas.Bool.{not-true}
-use Rattle.mt_skel.specs.Keyed.{without, among, rises}
-use Rattle.mt_skel.proofs.ChainLaws.{follow-stop}
-use Rattle.mt_skel.proofs.ElementLaws.{In, in_filter, in_filtered, in_row, find_in}
-use Rattle.mt_skel.proofs.KeyedLaws.{row_at-key, rises-filter}
+use Rattle.std.specs.Option.{option_map, option_and_then}
+use Rattle.std.proofs.lemmas.Bool.{true≢false, not-true}
+use Rattle.std.proofs.lemmas.Option.{option_and_then_some}
+use Rattle.mt_skel.specs.Keyed.{among, rises}
+use Rattle.mt_skel.proofs.ElementLaws.{In, in_filter, in_row}
+use Rattle.mt_skel.proofs.KeyedLaws.{row_at-key}
 use Rattle.mt_mounts.specs.declared.mount.Mount.{Mount}
 use Rattle.mt_mounts.specs.declared.mount.Place.{Place}
-use Rattle.mt_mounts.specs.Forest.{id_of, mount_at, on, is_at, root_place}
+use Rattle.mt_mounts.specs.Forest.{id_of, mount_at, on, root_place}
 use Rattle.mt_peers.specs.Loss.{left}
-use Rattle.mt_peers.proofs.MemberLaws.{some-is}
+use Rattle.mt_peers.proofs.MemberLaws.{some-is, map-alike}
 use Rattle.mt_propagate.specs.World.{WorldView}
 use Rattle.mt_propagate.specs.WellFormed.{IsWellFormed}
 use Rattle.mt_propagate.specs.Carried.{IsFree, staying}
+use Rattle.mt_propagate.proofs.BelowGroupLaws.{in-among, among-in}
 use Rattle.mt_propagate.proofs.TreeLaws.{on-is}
-use Rattle.mt_propagate.proofs.WalkLaws.{stands_at}
-use Rattle.mt_unmount.specs.Sliding.{place_of, CanGo, slide, slid, once_gone}
+use Rattle.mt_unmount.specs.Sliding.{CanGo, slid, once_gone}
 use Rattle.mt_unmount.specs.Taking.{moved_from, relocation_past, resettled}
 use Rattle.mt_unmount.proofs.GapLaws.{spared, gap-below}
-use Rattle.mt_unmount.proofs.SlideLaws.{heir_at, slid-there, heir-single}
-use Rattle.mt_unmount.proofs.LeftTreeLaws.{leaves}
-use Rattle.mt_unmount.proofs.PlacedLaws.{Fits, Finds, Moves, placed-each}
+use Rattle.mt_unmount.proofs.SlideLaws.{slid-here, slid-there, slid-single}
+use Rattle.mt_unmount.proofs.LeftTreeLaws.{moved}
+use Rattle.mt_unmount.proofs.FoundLaws.{where_false, in_filter_map, in_filter_mapped}
+use Rattle.mt_unmount.proofs.PlacedLaws.{place_after, placed-each, place-end, free-each}
+use Rattle.mt_unmount.proofs.ReceivedLaws.{found-on}
 
--- a new place, unless the mount goes
-abbrev unless : Bool → ℕ → Place → Option (ℕ × Place)
-unless b j q = cond b None (Some (j, q))
+module _ (w : WorldView) (h : IsWellFormed w) (ids : List ℕ) (can : CanGo w (among ids)) where
+  abbrev goes : ℕ → Bool
+  goes = among ids
 
-module _ (w : WorldView) (h : IsWellFormed w) (goes : ℕ → Bool) (can : CanGo w goes) where
-  -- the mounts that stay
-  abbrev rest : List Mount
-  rest = without (leaves w goes) w.forest
+  -- a mount that stays, and stands at the root of the mount k: its ID and its new place
+  record Moves (k : ℕ) (r : ℕ × Place) : Type 0 where
+    mount : Mount
+    place : Place
+    there : mount_at w.forest r.0 ≡ Some mount
+    stays : goes r.0 ≡ false
+    stands : mount.place ≡ Some place
+    from : place.mount ≡ k
+    comes : slid w goes place ≡ r.1
 
-  known : (m : Mount) → In m rest → (mount_at w.forest m.id ≡ Some m) × (goes m.id ≡ false)
+  moves : (k : ℕ) (r : ℕ × Place) → relocation_past w goes k ≡ Some r → Moves k r
+  moves k r e = option_and_then_some (λ (x : Mount). moved_from w goes (root_place x)) (mount_at w.forest k) r e (λ x there found.
+      option_and_then_some (λ (m : Mount). cond (goes m.id) None (Some (m.id, slid w goes (root_place x)))) (on w.forest (root_place x)) r found (λ m at given.
+      let off = where_false (goes m.id) (Some (m.id, slid w goes (root_place x))) r given in
+      let stands = found-on w h (root_place x) m at in
+      subst (Moves k) (some-is (m.id, slid w goes (root_place x)) r off.1)
+      (record { mount = m; place = root_place x; there = stands.0; stays = off.0; stands = stands.1; from = row_at-key id_of k w.forest x there; comes = refl })))
+
+  -- each mount that stays and stands on one that goes is found so
+  found-past : (m : Mount) (p : Place) → mount_at w.forest m.id ≡ Some m → goes m.id ≡ false → m.place ≡ Some p → goes p.mount ≡ true → relocation_past w goes p.mount ≡ Some (m.id, slid w goes p)
+  found-past m p there stays at off =
+      let gap = gap-below w h goes can m.id m p (spared w h goes can m.id stays) there at off in
+      ap (option_and_then (λ (r : Mount). moved_from w goes (root_place r))) gap.there ∙ ap (moved_from w goes) gap.at_root
+      ∙ ap (option_and_then (λ (x : Mount). cond (goes x.id) None (Some (x.id, slid w goes p)))) (on-is w.forest h.forest.rising h.forest.apart m.id m p there at)
+      ∙ ap (λ b. cond b None (Some (m.id, slid w goes p))) stays
+
+  known : (m : Mount) → In m (staying ids w.forest) → (mount_at w.forest m.id ≡ Some m) × (goes m.id ≡ false)
   known m e =
-      let f = in_filter (λ m. not (leaves w goes m)) m w.forest e in
+      let f = in_filter (λ m. not (goes m.id)) m w.forest e in
       (in_row id_of w.forest m h.forest.rising f.0, not-true (goes m.id) f.1)
 
-  fits : Fits goes (slid w goes) rest
-  fits = record {
-    rising = rises-filter id_of (λ m. not (leaves w goes m)) w.forest h.forest.rising;
-    stays = λ p off. follow-stop (slide w goes) (length w.forest) p (ap (λ b. cond b (place_of w p.mount) None) off);
-    lands = λ m p e at.
-        let k = known m e in
-        (slid-there w h goes can m.id m p k.0 at k.1).1;
-    apart = λ a b p q ea eb pa pb same.
-        let j = known a ea in
-        let k = known b eb in
-        let x = slid-there w h goes can a.id a p j.0 pa j.1 in
-        let y = slid-there w h goes can b.id b q k.0 pb k.1 in
-        ap id_of (heir-single w goes x.0.steps y.0.steps (slid w goes p) a b x.0.leads (subst (λ r. heir_at w goes y.0.steps r ≡ Some b) (sym same) y.0.leads));
-  }
+  -- no mount that stays stands at a new place before
+  never-there : (k : ℕ) (r : ℕ × Place) (m : Mount) → In k ids → relocation_past w goes k ≡ Some r → In m (staying ids w.forest) → m.place ≡ Some r.1 → ⊥
+  never-there k r m here e at is =
+      let a = moves k r e in
+      let j = known m at in
+      let lands : goes r.1.mount ≡ false = ap (λ (p : Place). goes p.mount) (sym a.comes) ∙ (slid-there w h goes can r.0 a.mount a.place a.there a.stands a.stays).1 in
+      let same = slid-single w h goes can m.id r.0 m a.mount r.1 a.place j.0 is j.1 a.there a.stands a.stays (slid-here w h goes r.1 lands ∙ sym a.comes) in
+      true≢false (sym (among-in ids k here) ∙ ap goes (sym a.from) ∙ ap (λ (p : Place). goes p.mount) (sym same) ∙ lands)
 
-  -- what stands on a mount that goes is what is found at its root
-  only : (k j : ℕ) (q : Place) → goes k ≡ true → relocation_past w goes k ≡ Some (j, q) → Moves goes (slid w goes) rest k j q
-  only k j q off e = go (mount_at w.forest k) refl e
+  -- and each comes to the place that it slides to
+  comes-to : (m : Mount) → In m (staying ids w.forest) → place_after (filter_map (relocation_past w goes) ids) m.id m.place ≡ option_map (slid w goes) m.place
+  comes-to m e =
+      place-end (filter_map (relocation_past w goes) ids) m.id m.place (option_map (slid w goes) m.place) (λ p given.
+      let k = in_filter_map (relocation_past w goes) (m.id, p) ids given in
+      let a = moves k.0 (m.id, p) k.2 in
+      let at : m.place ≡ Some a.place = ap (λ (m : Mount). m.place) (some-is m a.mount (sym (known m e).0 ∙ a.there)) ∙ a.stands in
+      sym (ap (option_map (slid w goes)) at ∙ ap (λ (q : Place). Some q) a.comes)) (by m.place refl)
     where
-      go : (o : Option Mount) → mount_at w.forest k ≡ o → option_and_then (λ (r : Mount). moved_from w goes (root_place r)) o ≡ Some (j, q) → Moves goes (slid w goes) rest k j q
-      go None is e = absurd (let v : None ≡ Some (j, q) = e in cc)
-      go (Some r) is e = by (on w.forest (root_place r)) refl e
-        where
-          by : (o : Option Mount) → on w.forest (root_place r) ≡ o → option_and_then (λ (m : Mount). unless (goes m.id) m.id (slid w goes (root_place r))) o ≡ Some (j, q)
-              → Moves goes (slid w goes) rest k j q
-          by None at e = absurd (let v : None ≡ Some (j, q) = e in cc)
-          by (Some m) at e = stay (goes m.id) refl e
-            where
-              stay : (b : Bool) → goes m.id ≡ b → unless b m.id (slid w goes (root_place r)) ≡ Some (j, q) → Moves goes (slid w goes) rest k j q
-              stay true gone e = absurd (let v : None ≡ Some (j, q) = e in cc)
-              stay false here e =
-                  let was : ℕ × Place = (m.id, slid w goes (root_place r)) in
-                  let now : ℕ × Place = (j, q) in
-                  let pair : was ≡ now = some-is was now e in
-                  let f = find_in (is_at (root_place r)) w.forest m at in
-                  record {
-                    mount = m;
-                    place = root_place r;
-                    there = in_filtered (λ m. not (leaves w goes m)) m w.forest f.0 (ap not here);
-                    stands = stands_at (root_place r) m f.1;
-                    from = row_at-key id_of k w.forest r is;
-                    id = ap (λ (x : ℕ × Place). x.0) pair;
-                    comes = ap (λ (x : ℕ × Place). x.1) pair;
-                  }
+      by : (o : Option Place) → m.place ≡ o → (o ≡ option_map (slid w goes) o) ⊎ ((p : Place) × In (m.id, p) (filter_map (relocation_past w goes) ids))
+      by None at = inl refl
+      by (Some p) at = elim (goes p.mount) as (λ b. goes p.mount ≡ b → (Some p ≡ Some (slid w goes p)) ⊎ ((q : Place) × In (m.id, q) (filter_map (relocation_past w goes) ids))) [
+        | true ↦ λ on. inr (slid w goes p, in_filter_mapped (relocation_past w goes) (m.id, slid w goes p) p.mount ids (in-among ids p.mount on) (found-past m p (known m e).0 (known m e).1 at on))
+        | false ↦ λ off. inl (ap (λ (q : Place). Some q) (sym (slid-here w h goes p off)))
+      ] refl
 
-  finds : Finds goes (slid w goes) rest (relocation_past w goes)
-  finds = record {
-    each = λ m p e at off.
-        let k = known m e in
-        let gap = gap-below w h goes can m.id m p (spared w h goes can m.id k.1) k.0 at off in
-        let here : on w.forest p ≡ Some m = on-is w.forest h.forest.rising h.forest.apart m.id m p k.0 at in
-        ap (option_and_then (λ (r : Mount). moved_from w goes (root_place r))) gap.there ∙ ap (moved_from w goes) gap.at_root
-        ∙ ap (option_and_then (λ (x : Mount). unless (goes x.id) x.id (slid w goes p))) here ∙ ap (λ b. unless b m.id (slid w goes p)) k.1;
-    only = only;
-  }
+  -- so they are placed as they slide, and each new place is free in its turn
+  placed-all : rises (λ k. k) ids ≡ true → IsFree (filter_map (relocation_past w goes) ids) (staying ids w.forest) × (resettled ids (filter_map (relocation_past w goes) ids) w ≡ once_gone w goes)
+  placed-all rising = (
+    free-each (relocation_past w goes) (λ k l r s e f same.
+        let a = moves k r e in
+        let b = moves l s f in
+        let one = slid-single w h goes can r.0 s.0 a.mount b.mount a.place b.place a.there a.stands a.stays b.there b.stands b.stays (a.comes ∙ same ∙ sym b.comes) in
+        sym a.from ∙ ap (λ (p : Place). p.mount) one ∙ b.from) ids (staying ids w.forest) rising never-there,
+    ap (λ (l : List Mount). let v : WorldView = record w { forest = l; peering = left goes w.peering } in v)
+        (placed-each (filter_map (relocation_past w goes) ids) (staying ids w.forest)
+        ∙ map-alike (λ (m : Mount). record m { place = place_after (filter_map (relocation_past w goes) ids) m.id m.place }) (moved w goes) (staying ids w.forest) (λ m e i. record m { place = comes-to m e i })),
+  )
 
 -- the mounts of a list are taken away, and others placed, also where the world is read once more
 pub replaced : (w : WorldView) → IsWellFormed w → (ids : List ℕ) → rises (λ k. k) ids ≡ true → CanGo w (among ids) → (v : WorldView) (relocations : List (ℕ × Place)) → v ≡ w → relocations ≡ filter_map (relocation_past w (among ids)) ids
     → IsFree relocations (staying ids v.forest) × (resettled ids relocations v ≡ once_gone w (among ids))
 replaced w h ids rising can v relocations again same =
-    let gone = among ids in
-    let e = placed-each gone (slid w gone) (rest w h gone can) (fits w h gone can) (relocation_past w gone) (finds w h gone can) ids rising (λ j. refl) in
-    let all : IsFree (filter_map (relocation_past w gone) ids) (staying ids w.forest) × (resettled ids (filter_map (relocation_past w gone) ids) w ≡ once_gone w gone) = (e.0, ap with_forest e.1) in
-    subst (λ (u : WorldView). IsFree relocations (staying ids u.forest) × (resettled ids relocations u ≡ once_gone w gone)) (sym again)
-    (subst (λ (ws : List (ℕ × Place)). IsFree ws (staying ids w.forest) × (resettled ids ws w ≡ once_gone w gone)) (sym same) all)
-  where
-    with_forest : List Mount → WorldView
-    with_forest l = record w { forest = l; peering = left (among ids) w.peering }
+    subst (λ (u : WorldView). IsFree relocations (staying ids u.forest) × (resettled ids relocations u ≡ once_gone w (among ids))) (sym again)
+    (subst (λ (rs : List (ℕ × Place)). IsFree rs (staying ids w.forest) × (resettled ids rs w ≡ once_gone w (among ids))) (sym same) (placed-all w h ids can rising))

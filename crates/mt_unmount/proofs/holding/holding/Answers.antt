@@ -1,4 +1,4 @@
-use Rattle.std.proofs.Common.{◌≡◌, ◌<◌, ◌≤◌, ℕ, List, take, get_or, ap, ◌∙◌, arith}
+use Rattle.std.proofs.Common.{◌≡◌, ◌<◌, ◌≤◌, ℕ, List, get_or, ap, ◌∙◌, arith}
 use Rattle.std.specs.Prelude.{nat_eq}
 use Rattle.std.specs.Option.{option_map_or}
 use Rattle.indexmap.specs.IndexSet.{insert_key}
@@ -28,7 +28,7 @@ holding-smaller c =
     let w = world_view c.args.world.now in
     let keys = c.holding.set.keys in
     let in_all = within _ _ _ c.holding-test.true c.len.ensures.len in
-    let bound = met-bound w c.requires.well_formed (among c.args.candidates.now) (take c.holding.visited keys) keys c.holding.invariant c.len.ensures.unique in
+    let bound = met-bound w c.requires.well_formed (among c.args.candidates.now) c.holding.visited keys c.holding.invariant c.len.ensures.unique in
     omega (arith, in_all, bound)
 
 pub holding-preserved : goal.holding-preserved

@@ -1,4 +1,4 @@
-use Rattle.mt_unmount.proofs.DetachInsideLaws.{detached-contained, detached-outside}
+use Rattle.mt_unmount.proofs.InsideLaws.{detached-contained, detached-outside}
 use Rattle.mt_unmount.proofs.laws.detaching_stays_inside.Goals as goal
 
 pub returns-clause-kept : goal.returns-clause-kept

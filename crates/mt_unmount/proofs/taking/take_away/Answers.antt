@@ -18,8 +18,4 @@ returns-clause-gone c =
     c.make_room.ensures.world (c.deref-2.ensures.value ∙ c.in_ok-relocations.ensures.relocations)).1
 
 pub returns-clause-kept : goal.returns-clause-kept
-returns-clause-kept c =
-    let w = world_view c.args.world.now in
-    let same = (replaced w c.requires.well_formed c.args.gone.now c.requires.rising c.requires.can_go (world_view c.make_room.new.world) c.deref-2.result.now
-    c.make_room.ensures.world (c.deref-2.ensures.value ∙ c.in_ok-relocations.ensures.relocations)).1 in
-    subst IsWellFormed (sym (c.replace.ensures.world ∙ same)) (gone-kept w c.requires.well_formed (among c.args.gone.now) c.requires.can_go)
+returns-clause-kept c = subst IsWellFormed (sym (returns-clause-gone c)) (gone-kept (world_view c.args.world.now) c.requires.well_formed (among c.args.gone.now) c.requires.can_go)

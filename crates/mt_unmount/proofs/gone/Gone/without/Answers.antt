@@ -8,18 +8,18 @@ use Rattle.mt_skel.proofs.KeyedLaws.{rises-filter}
 use Rattle.mt_unmount.proofs.GoneLaws.{among-without}
 use Rattle.mt_unmount.proofs.gone.Gone.without.Goals as goal
 
+-- what is kept
+kept : (c : goal.After-retain) → c.retain.new.self.items ≡ filter (λ j. not (among c.args.others.now j)) c.self.inside.ids.items
+kept c = filter_same _ (λ j. not (among c.args.others.now j)) _ (λ x b g r. search rules) _ _ c.retain.ensures.filtered
+
 pub invariant_of-result : goal.invariant_of-result
-invariant_of-result c =
-    let kept : c.retain.new.self.items ≡ filter (λ j. not (among c.args.others.now j)) c.self.inside.ids.items = filter_same _ (λ j. not (among c.args.others.now j)) _ (λ x b g r. search rules) _ _ c.retain.ensures.filtered in
-    subst IsStrictlyIncreasing (sym kept) (IsStrictlyIncreasing-filter (λ j. not (among c.args.others.now j)) c.self.inside.ids.items c.self.invariant)
+invariant_of-result c = subst IsStrictlyIncreasing (sym (kept c)) (IsStrictlyIncreasing-filter (λ j. not (among c.args.others.now j)) c.self.inside.ids.items c.self.invariant)
 
 pub returns-clause-rising : goal.returns-clause-rising
 returns-clause-rising c =
-    let kept : c.retain.new.self.items ≡ filter (λ j. not (among c.args.others.now j)) c.self.inside.ids.items = filter_same _ (λ j. not (among c.args.others.now j)) _ (λ x b g r. search rules) _ _ c.retain.ensures.filtered in
-    subst (λ (l : List ℕ). IsTrue (rises (λ k. k) l)) (sym (kept ∙ ap (filter (λ j. not (among c.args.others.now j))) c.self.view_is))
+    subst (λ (l : List ℕ). IsTrue (rises (λ k. k) l)) (sym (kept c ∙ ap (filter (λ j. not (among c.args.others.now j))) c.self.view_is))
     (rises-filter (λ k. k) (λ j. not (among c.args.others.now j)) c.args.self c.requires.rising)
 
 pub returns-clause-same : goal.returns-clause-same
 returns-clause-same c j =
-    let kept : c.retain.new.self.items ≡ filter (λ j. not (among c.args.others.now j)) c.self.inside.ids.items = filter_same _ (λ j. not (among c.args.others.now j)) _ (λ x b g r. search rules) _ _ c.retain.ensures.filtered in
-    ap (λ (l : List ℕ). among l j) (kept ∙ ap (filter (λ j. not (among c.args.others.now j))) c.self.view_is) ∙ among-without c.args.self (among c.args.others.now) j
+    ap (λ (l : List ℕ). among l j) (kept c ∙ ap (filter (λ j. not (among c.args.others.now j))) c.self.view_is) ∙ among-without c.args.self (among c.args.others.now) j
