@@ -22,9 +22,8 @@ use Rattle.mt_propagate.proofs.TreeLaws.{parent-from}
 use Rattle.mt_unmount.specs.Sliding.{place_of, is_inside, inside, stands_inside, CanGo}
 use Rattle.mt_unmount.specs.Detaching.{standing_at, received, candidates, is_candidate, is_detached}
 use Rattle.mt_unmount.specs.Holding.{AreHeld}
-use Rattle.mt_unmount.proofs.GapLaws.{place-at, placed-mount, within-place, any-last, inside-inside}
+use Rattle.mt_unmount.proofs.StandingLaws.{place-at, placed-mount, within-place, any-last, inside-inside, IsReceived, received-at, received-placed, received-inside}
 use Rattle.mt_unmount.proofs.FoundLaws.{in_filter_map}
-use Rattle.mt_unmount.proofs.ReceivedLaws.{IsReceived, received-at, received-placed, received-inside}
 
 module _ (w : WorldView) (h : IsWellFormed w) where
   -- the mounts that pass a test are among its IDs, and those among them are mounts that pass

@@ -21,9 +21,9 @@ use Rattle.mt_unmount.specs.Taking.{AreGone}
 use Rattle.mt_unmount.specs.Detaching.{is_detached, without_tree, named_place, detached_refusals, detached_effect, detached}
 use Rattle.mt_unmount.proofs.AcceptedLaws.{path_end, detach_accepted}
 use Rattle.mt_unmount.proofs.CandidateLaws.{detached-inside, detached-can-go}
-use Rattle.mt_unmount.proofs.GoneLaws.{listed-is}
-use Rattle.mt_unmount.proofs.LeftInsideLaws.{Takes, takes-kept}
-use Rattle.mt_unmount.proofs.ReceivedLaws.{found-on, under-space}
+use Rattle.mt_unmount.proofs.FoundLaws.{listed-is}
+use Rattle.mt_unmount.proofs.LeftLaws.{Takes, takes-kept}
+use Rattle.mt_unmount.proofs.StandingLaws.{found-on, under-space}
 
 module _ (w : WorldView) (n : ℕ) (path : List (List ℕ)) (end p : Place) (named : p ≡ top w.forest end) where
   -- what a detach answers with its path walked

@@ -1,12 +1,13 @@
--- Which mounts hold others: upwards from those that stand on candidates and are none, each is met once.
-use Rattle.std.proofs.Common.{◌≡◌, ℕ, ◌+◌, ◌<◌, ◌≤◌, Bool, true, false, cond, not, ◌||◌, ◌==◌, eqb, eqb-true, eq-eqb, List, [], ◌∷◌, ◌++◌, take, map, length, get_or, Option, Some, None, refl, sym, ap, subst, ◌∙◌, inl, inr, arith}
+-- Which mounts hold others: upwards from those that stand on candidates and are none, each is met once. What is held is what holds a
+-- mount inside it that is no candidate.
+use Rattle.std.proofs.Common.{◌≡◌, ℕ, ◌+◌, ◌<◌, ◌≤◌, Bool, true, false, cond, not, ◌||◌, ◌==◌, eqb, eqb-true, eq-eqb, List, [], ◌∷◌, ◌++◌, take, map, length, get_or, Option, Some, None, refl, sym, ap, subst, ◌∙◌, inl, inr, arith, drop}
 use Rattle.std.specs.Prelude.{nat_eq}
-use Rattle.std.specs.List.{filter, flat_map, list_any, IsDistinct}
+use Rattle.std.specs.List.{filter, flat_map, list_any, IsDistinct, filter_map}
 use Rattle.std.specs.Option.{option_map_or, option_and_then}
 use Rattle.std.proofs.lemmas.Bool.{not-true, not_from_false, or_cases, or_left, or_right, cases_lt}
 use Rattle.std.proofs.lemmas.Bool.Decides.{nat_tests}
 use Rattle.std.proofs.lemmas.Cmp.{nat_eq_equiv}
-use Rattle.std.proofs.lemmas.List.{get_or_append_left}
+use Rattle.std.proofs.lemmas.List.{get_or_append_left, drop_all, append-nil}
 use Rattle.std.proofs.lemmas.List.Folds.{list_any-append, list_any_at, list_any_more}
 use Rattle.std.proofs.lemmas.Map.Made.{length-le_from_is_member}
 use Rattle.std.proofs.lemmas.Option.{cond_some, option_and_then_some}
@@ -19,14 +20,16 @@ use Rattle.mt_mounts.specs.declared.mount.Mount.{Mount}
 use Rattle.mt_mounts.specs.declared.mount.Place.{Place}
 use Rattle.mt_mounts.specs.Forest.{id_of, mount_at, parent, children, stands_on, is_below}
 use Rattle.mt_peers.proofs.AlikeLaws.{along}
-use Rattle.mt_propagate.specs.World.{WorldView}
+use Rattle.mt_peers.proofs.MemberLaws.{some-is}
+use Rattle.mt_propagate.specs.World.{WorldView, root_dir}
 use Rattle.mt_propagate.specs.WellFormed.{IsWellFormed}
 use Rattle.mt_propagate.proofs.RowLaws.{length-keys, among-keys}
 use Rattle.mt_propagate.proofs.TreeLaws.{parent-from}
 use Rattle.mt_propagate.proofs.BelowGroupLaws.{in-among, among-in}
-use Rattle.mt_unmount.specs.Holding.{staying_on, candidate_under, AreHolding}
-use Rattle.mt_unmount.proofs.GapLaws.{any-here, any-further, any-above}
-use Rattle.mt_unmount.proofs.FoundLaws.{among-at}
+use Rattle.mt_unmount.specs.Holding.{staying_on, candidate_under, AreHolding, around, AreHeld}
+use Rattle.mt_unmount.specs.Sliding.{place_of, stands_inside}
+use Rattle.mt_unmount.proofs.StandingLaws.{any-here, any-further, any-above, within-at, within-place, parent-place, any-is}
+use Rattle.mt_unmount.proofs.FoundLaws.{among-at, where_false, in_filter_map, in_filter_mapped}
 
 -- numbers of a list
 turned : (xs : List ℕ) (x : ℕ) → list_any (nat_eq x) xs ≡ among xs x
@@ -135,21 +138,63 @@ module _ (w : WorldView) (h : IsWellFormed w) where
         sound = λ i e. sound i (candidate_under w candidate y) refl e;
       })
 
-    -- the start: the mounts that stand on a candidate and are none
-    pub met-start : (ids all : List ℕ) → ((i : ℕ) → among ids i ≡ candidate i) → ((j : ℕ) → among all j ≡ among (flat_map (staying_on w candidate) ids) j) → IsMet w candidate 0 all
-    met-start ids all are same = record {
-      starts = λ i j c up off.
-          let r = parent-from w.forest j i up in
-          let child : In r.0 (filter (stands_on i) w.forest) =
-          in_filtered (stands_on i) r.0 w.forest (row_in id_of j w.forest r.0 r.2) (ap (λ o. option_map_or (λ (p : Place). p.mount == i) o false) r.3 ∙ eq-eqb r.1.mount i r.4) in
-          let named : In j (children w.forest i) = subst (λ k. In k (children w.forest i)) (row_at-key id_of j w.forest r.0 r.2) (in_mapped id_of r.0 (filter (stands_on i) w.forest) child) in
-          same j ∙ among-in (flat_map (staying_on w candidate) ids) j
-          (in_flatted (staying_on w candidate) j i ids (in-among ids i (are i ∙ c)) (in_filtered (λ k. not (candidate k)) j (children w.forest i) named (not_from_false (candidate j) off)));
-      closed = λ i k l. absurd (omega (arith, l));
-      sound = λ j e.
-          let f = in_flat (staying_on w candidate) j ids (in-among (flat_map (staying_on w candidate) ids) j (sym (same j) ∙ e)) in
-          let g = in_filter (λ k. not (candidate k)) j (children w.forest f.0) f.2 in
-          let r = in_map id_of j (filter (stands_on f.0) w.forest) g.0 in
-          let x = in_filter (stands_on f.0) r.0 w.forest r.1 in
-          (j, r.0, subst (λ k. mount_at w.forest k ≡ Some r.0) r.2 (in_row id_of w.forest r.0 h.forest.rising x.0), not-true (candidate j) g.1, any-here w h (eqb j) j (eq-eqb j j refl));
-    }
+  -- the start: the mounts that stand on a candidate and are none
+  pub met-start : (ids all : List ℕ) → ((j : ℕ) → among all j ≡ among (flat_map (staying_on w (among ids)) ids) j) → IsMet w (among ids) 0 all
+  met-start ids all same = record {
+    starts = λ i j c up off.
+        let r = parent-from w.forest j i up in
+        let child : In r.0 (filter (stands_on i) w.forest) =
+        in_filtered (stands_on i) r.0 w.forest (row_in id_of j w.forest r.0 r.2) (ap (λ o. option_map_or (λ (p : Place). p.mount == i) o false) r.3 ∙ eq-eqb r.1.mount i r.4) in
+        let named : In j (children w.forest i) = subst (λ k. In k (children w.forest i)) (row_at-key id_of j w.forest r.0 r.2) (in_mapped id_of r.0 (filter (stands_on i) w.forest) child) in
+        same j ∙ among-in (flat_map (staying_on w (among ids)) ids) j
+        (in_flatted (staying_on w (among ids)) j i ids (in-among ids i c) (in_filtered (λ k. not (among ids k)) j (children w.forest i) named (not_from_false (among ids j) off)));
+    closed = λ i k l. absurd (omega (arith, l));
+    sound = λ j e.
+        let f = in_flat (staying_on w (among ids)) j ids (in-among (flat_map (staying_on w (among ids)) ids) j (sym (same j) ∙ e)) in
+        let g = in_filter (λ k. not (among ids k)) j (children w.forest f.0) f.2 in
+        let r = in_map id_of j (filter (stands_on f.0) w.forest) g.0 in
+        let x = in_filter (stands_on f.0) r.0 w.forest r.1 in
+        (j, r.0, subst (λ k. mount_at w.forest k ≡ Some r.0) r.2 (in_row id_of w.forest r.0 h.forest.rising x.0), not-true (among ids j) g.1, any-here w h (eqb j) j (eq-eqb j j refl));
+  }
+
+-- once all of a list were passed
+pub passed-all : (f : ℕ → Option ℕ) (found xs : List ℕ) (i : ℕ) → length xs ≤ i → found ++ filter_map f (drop i xs) ≡ filter_map f xs → found ≡ filter_map f xs
+passed-all f found xs i l e = sym (append-nil found) ∙ ap (λ (ys : List ℕ). found ++ filter_map f ys) (sym (drop_all i xs l)) ∙ e
+
+-- the mount around one is the one that it stands within
+module _ (w : WorldView) where
+  around-is : (i j : ℕ) → stands_inside w i j ≡ true → around w j ≡ Some i
+  around-is i j e =
+      let p = within-place w i j e in
+      ap (option_and_then (λ (p : Place). cond (p.dir == root_dir w p.mount) None (Some p.mount))) p.1
+      ∙ ap (λ b. cond b None (Some p.0.mount)) (ap (λ k. p.0.dir == root_dir w k) p.2 ∙ p.3) ∙ ap (λ k. Some k) p.2
+
+  around-from : (i j : ℕ) → around w j ≡ Some i → stands_inside w i j ≡ true
+  around-from i j e = option_and_then_some (λ (p : Place). cond (p.dir == root_dir w p.mount) None (Some p.mount)) (place_of w j) i e (λ p at f.
+      let g = where_false (p.dir == root_dir w p.mount) (Some p.mount) i f in
+      let same = some-is p.mount i g.1 in
+      within-at w i j p at same ∙ not_from_false (p.dir == root_dir w i) (ap (λ k. p.dir == root_dir w k) (sym same) ∙ g.0))
+
+module _ (w : WorldView) (h : IsWellFormed w) (candidate : ℕ → Bool) (ids : List ℕ) (are : AreHolding w candidate ids) where
+  -- on the way up from a mount that is no candidate all that stand on a candidate hold it
+  holds-up : (i j c : ℕ) → candidate j ≡ false → is_below w.forest c j ≡ true → parent w.forest c ≡ Some i → candidate i ≡ true → among ids c ≡ true
+  holds-up i j c off on up is =
+      along (parent w.forest) (λ x. (k : ℕ) → parent w.forest x ≡ Some k → candidate k ≡ true → among ids x ≡ true)
+      (λ x y holds at k up is. elim (candidate y) as (λ b. candidate y ≡ b → among ids y ≡ true) [
+        | true ↦ λ too. are.closed y x too at (holds y at too)
+        | false ↦ λ off. are.starts k y is up off
+      ] refl)
+      (length w.forest) j c (λ k up is. are.starts k j is up off) on i up is
+
+  pub held-are : AreHeld w candidate (among (filter_map (around w) ids))
+  held-are = record {
+    each = λ i j m is at off within.
+        let c = any-is w h (stands_inside w i) j within in
+        let p = within-place w i c.0 c.2 in
+        let holds = holds-up i j c.0 off c.1 (parent-place w c.0 p.0 p.1 ∙ ap (λ k. Some k) p.2) is in
+        among-in (filter_map (around w) ids) i (in_filter_mapped (around w) i c.0 ids (in-among ids c.0 holds) (around-is w i c.0 c.2));
+    only = λ i e.
+        let c = in_filter_map (around w) i ids (in-among (filter_map (around w) ids) i e) in
+        let z = are.sound c.0 (among-in ids c.0 c.1) in
+        (z.0, z.1, z.2, z.3, any-above w h (stands_inside w i) z.0 c.0 z.4 (any-here w h (stands_inside w i) c.0 (around-from w i c.0 c.2)));
+  }

@@ -6,7 +6,7 @@ use Rattle.mt_propagate.specs.Contained.{IsContained, IsSameOutside}
 use Rattle.mt_unmount.specs.Unmounting.{unmounted}
 use Rattle.mt_unmount.specs.Detaching.{detached}
 use Rattle.mt_unmount.proofs.DetachedLaws.{detached-takes}
-use Rattle.mt_unmount.proofs.LeftInsideLaws.{takes-contained, takes-outside}
+use Rattle.mt_unmount.proofs.LeftLaws.{takes-contained, takes-outside}
 use Rattle.mt_unmount.proofs.UnmountLaws.{unmounted-takes}
 
 pub unmounted-contained : (k : ℕ) (w : WorldView) (n : ℕ) (path : List (List ℕ)) (v : WorldView) → IsWellFormed w → IsContained k w → unmounted w n path ≡ Ok v → IsContained k v

@@ -1,22 +1,30 @@
--- A well-formed world stays so where mounts go.
-use Rattle.std.proofs.Common.{◌≡◌, ℕ, ◌<◌, ◌≤◌, Bool, not, map, length, Some, refl, sym, ap, subst, ◌∙◌}
+-- Where mounts go, a well-formed world stays so, a contained namespace stays contained, and where all of them are in it nothing changes
+-- outside. So it is of each command that takes mounts away.
+use Rattle.std.proofs.Common.{◌≡◌, ℕ, ◌<◌, ◌≤◌, Bool, not, map, length, Some, refl, sym, ap, subst, ◌∙◌, ◌≢◌, true, false, eqb-true, Option, None}
 use Rattle.std.specs.List.{filter}
+use Rattle.std.specs.Option.{option_map}
+use Rattle.std.proofs.lemmas.Bool.{false_from_ne_true}
 use Rattle.mt_skel.specs.Keyed.{without}
 use Rattle.mt_skel.specs.Skeleton.{directory}
 use Rattle.mt_mounts.specs.declared.mount.Mount.{Mount}
-use Rattle.mt_mounts.specs.Forest.{id_of, mount_at}
+use Rattle.mt_mounts.specs.Forest.{id_of, mount_at, in_space}
+use Rattle.mt_mounts.specs.declared.mount.Place.{Place}
 use Rattle.mt_peers.specs.declared.state.State.{State}
 use Rattle.mt_peers.specs.Peers.{mount_of, state_at}
 use Rattle.mt_peers.specs.Loss.{left}
 use Rattle.mt_peers.proofs.LeavingLaws.{left-IsPeering}
 use Rattle.mt_peers.proofs.AlikeLaws.{IsAlike, left-IsAlike, same-IsAlike}
-use Rattle.mt_propagate.specs.World.{WorldView}
+use Rattle.mt_propagate.specs.World.{WorldView, space_of}
 use Rattle.mt_propagate.specs.WellFormed.{IsWellFormed, fs_at}
-use Rattle.mt_propagate.proofs.CopyRowLaws.{root_is}
-use Rattle.mt_propagate.proofs.RowLaws.{keys-map, keys-filter}
+use Rattle.mt_propagate.specs.Contained.{IsContained, IsSameOutside}
+use Rattle.mt_propagate.proofs.CopyRowLaws.{root_is, space_is}
+use Rattle.mt_propagate.proofs.RowLaws.{keys-map, keys-filter, all-each, found-each, part-kept}
 use Rattle.mt_propagate.proofs.ShownLaws.{shown-alike, groups-show, masters-show, left-mounts, state-mount}
-use Rattle.mt_unmount.specs.Sliding.{CanGo, once_gone}
+use Rattle.mt_propagate.proofs.ContainedLaws.{left-contained, left-state}
+use Rattle.mt_unmount.specs.Sliding.{CanGo, once_gone, slid}
 use Rattle.mt_unmount.proofs.LeftTreeLaws.{leaves, moved, left_mounts, Stays, left-forest, row-of}
+use Rattle.mt_unmount.proofs.StandingLaws.{under-space}
+use Rattle.mt_unmount.proofs.SlideLaws.{slid-here}
 
 module _ (w : WorldView) (h : IsWellFormed w) (goes : ℕ → Bool) where
   same_ids : map id_of (left_mounts w goes) ≡ map mount_of (left goes w.peering).peers
@@ -51,3 +59,61 @@ module _ (w : WorldView) (h : IsWellFormed w) (goes : ℕ → Bool) where
     group_fs = groups-show (once_gone w goes) alike;
     master_fs = masters-show (once_gone w goes) alike;
   }
+
+module _ (w : WorldView) (h : IsWellFormed w) (goes : ℕ → Bool) (n : ℕ) (c : IsContained n w) where
+  -- a contained namespace stays so, wherever the mounts are
+  gone-contained : IsContained n (once_gone w goes)
+  gone-contained =
+      left-contained n w (once_gone w goes) h c goes refl (λ k s e.
+      let y = state-stays w h goes k s e in
+      space_is (once_gone w goes) k y.0 y.1 ∙ ap (λ (m : Mount). m.space) y.2.made ∙ sym (space_is w k y.2.mount y.2.there)) (left-IsPeering w.peering h.peering goes).rising
+
+  module _ (within : (j : ℕ) → goes j ≡ true → space_of w j ≡ n) where
+    -- a mount outside stays where it is
+    stays : (j : ℕ) → space_of w j ≢ n → goes j ≡ false
+    stays j off = false_from_ne_true (goes j) (λ is. off (within j is))
+
+    unmoved : (m : Mount) → mount_at w.forest m.id ≡ Some m → m.space ≢ n → moved w goes m ≡ m
+    unmoved m e off = ap (λ (o : Option Place). let y : Mount = record m { place = o } in y) (go m.place refl)
+      where
+        go : (o : Option Place) → m.place ≡ o → option_map (slid w goes) o ≡ o
+        go None is = refl
+        go (Some p) is =
+            let on = stays p.mount (λ same. off (sym (space_is w m.id m e) ∙ sym (under-space w h m.id m p e is) ∙ same)) in
+            ap (λ q. Some q) (slid-here w h goes p on)
+
+    same-mounts : (k : ℕ) → k ≢ n → filter (in_space k) (left_mounts w goes) ≡ filter (in_space k) w.forest
+    same-mounts k off =
+        part-kept (in_space k) (λ m. not (leaves w goes m)) (moved w goes) w.forest
+        (all-each (λ m. mount_at w.forest m.id ≡ Some m) (λ m. (in_space k (moved w goes m) ≡ in_space k m) × (in_space k m ≡ true → (not (leaves w goes m) ≡ true) × (moved w goes m ≡ m)))
+        (λ m e. (
+          refl,
+          λ is.
+              let apart : m.space ≢ n = (λ same. off (sym (eqb-true m.space k is) ∙ same)) in
+              (ap not (stays m.id (λ same. apart (sym (space_is w m.id m e) ∙ same))), unmoved m e apart),
+        )) w.forest (found-each id_of w.forest h.forest.rising))
+
+    -- nothing changes outside
+    gone-outside : IsSameOutside n w (once_gone w goes)
+    gone-outside = record {
+      skel = refl;
+      mounts = same-mounts;
+      states = left-state n w h c goes within;
+    }
+
+-- a command in a namespace takes mounts away that can go, and that are in the namespace if it is contained
+pub record Takes (w : WorldView) (n : ℕ) (v : WorldView) : Type 0 where
+  pub goes : ℕ → Bool
+  pub can : CanGo w goes
+  pub world : once_gone w goes ≡ v
+  pub within : IsContained n w → (j : ℕ) → goes j ≡ true → space_of w j ≡ n
+
+module _ (w : WorldView) (h : IsWellFormed w) (n : ℕ) (v : WorldView) (t : Takes w n v) where
+  pub takes-kept : IsWellFormed v
+  takes-kept = subst IsWellFormed t.world (gone-kept w h t.goes t.can)
+
+  pub takes-contained : (k : ℕ) → IsContained k w → IsContained k v
+  takes-contained k c = subst (IsContained k) t.world (gone-contained w h t.goes k c)
+
+  pub takes-outside : IsContained n w → IsSameOutside n w v
+  takes-outside c = subst (IsSameOutside n w) t.world (gone-outside w h t.goes n c (t.within c))

@@ -17,9 +17,8 @@ use Rattle.mt_propagate.proofs.RowLaws.{row-picked, all-row, any-row}
 use Rattle.mt_propagate.proofs.CopyRowLaws.{root_is}
 use Rattle.mt_unmount.specs.Sliding.{place_of, stands_inside, CanGo}
 use Rattle.mt_unmount.specs.Unmounting.{may_go, going_at, removed, is_removed}
-use Rattle.mt_unmount.proofs.GapLaws.{place-at, placed-mount, within-place, any-is}
+use Rattle.mt_unmount.proofs.StandingLaws.{place-at, placed-mount, within-place, any-is, IsReceived, received-at, received-placed, received-inside}
 use Rattle.mt_unmount.proofs.FoundLaws.{in_filter_map}
-use Rattle.mt_unmount.proofs.ReceivedLaws.{IsReceived, received-at, received-placed, received-inside}
 
 module _ (w : WorldView) (h : IsWellFormed w) (i : ℕ) where
   -- a mount that is received, and may go

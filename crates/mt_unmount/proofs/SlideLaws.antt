@@ -17,7 +17,7 @@ use Rattle.mt_propagate.specs.World.{WorldView}
 use Rattle.mt_propagate.specs.WellFormed.{IsWellFormed}
 use Rattle.mt_propagate.proofs.TreeLaws.{parent-is, rank-fell, on-is}
 use Rattle.mt_unmount.specs.Sliding.{place_of, is_inside, CanGo, slide, slid}
-use Rattle.mt_unmount.proofs.GapLaws.{place-at, placed-mount, spared, spared-above, gap-below}
+use Rattle.mt_unmount.proofs.StandingLaws.{place-at, placed-mount, spared, spared-above, gap-below}
 use Rattle.mt_unmount.proofs.FoundLaws.{where_true}
 
 module _ (w : WorldView) (h : IsWellFormed w) (goes : ℕ → Bool) where

@@ -20,9 +20,9 @@ use Rattle.mt_unmount.specs.Sliding.{once_gone}
 use Rattle.mt_unmount.specs.Taking.{AreGone}
 use Rattle.mt_unmount.specs.Unmounting.{is_removed, without_mount, unmounted_refusals, unmounted_effect, unmounted}
 use Rattle.mt_unmount.proofs.AcceptedLaws.{path_end, unmount_accepted}
-use Rattle.mt_unmount.proofs.GoneLaws.{listed-is}
+use Rattle.mt_unmount.proofs.FoundLaws.{listed-is}
 use Rattle.mt_unmount.proofs.RemovedLaws.{removed-inside, removed-can-go}
-use Rattle.mt_unmount.proofs.LeftInsideLaws.{Takes, takes-kept}
+use Rattle.mt_unmount.proofs.LeftLaws.{Takes, takes-kept}
 
 -- a mount stands on one where that has children
 pub some-child : (t : Mount → Bool) (ms : List Mount) → list_any t ms ≡ nat_lt 0 (length (map id_of (filter t ms)))

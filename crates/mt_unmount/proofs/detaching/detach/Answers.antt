@@ -4,11 +4,8 @@ use Rattle.mt_unmount.specs.Sliding.{CanGo}
 use Rattle.mt_unmount.specs.Detaching.{is_detached}
 use Rattle.mt_unmount.proofs.CandidateLaws.{detached-can-go}
 use Rattle.mt_unmount.proofs.DetachedLaws.{detached-done}
-use Rattle.mt_unmount.proofs.GoneLaws.{listed-is}
+use Rattle.mt_unmount.proofs.FoundLaws.{listed-is}
 use Rattle.mt_unmount.proofs.detaching.detach.Goals as goal
-
-pub take_away-requires-clause-rising : goal.take_away-requires-clause-rising
-take_away-requires-clause-rising c = c.in_ok-gone.ensures.gone.rising
 
 pub take_away-requires-clause-can_go : goal.take_away-requires-clause-can_go
 take_away-requires-clause-can_go c =

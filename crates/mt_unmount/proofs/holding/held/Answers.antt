@@ -3,7 +3,7 @@ use Rattle.std.specs.List.{filter_map}
 use Rattle.mt_skel.specs.Keyed.{among}
 use Rattle.mt_propagate.specs.World.{world_view}
 use Rattle.mt_unmount.specs.Holding.{around, AreHeld}
-use Rattle.mt_unmount.proofs.HeldLaws.{held-are, passed-all}
+use Rattle.mt_unmount.proofs.HoldingLaws.{held-are, passed-all}
 use Rattle.mt_unmount.proofs.holding.held.Goals as goal
 
 pub returns-clause-held : goal.returns-clause-held

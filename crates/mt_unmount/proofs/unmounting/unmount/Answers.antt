@@ -2,13 +2,10 @@ use Rattle.std.proofs.Common.{Ok, sym, ap, ◌∙◌, subst}
 use Rattle.mt_propagate.specs.World.{WorldView, world_view}
 use Rattle.mt_unmount.specs.Sliding.{CanGo}
 use Rattle.mt_unmount.specs.Unmounting.{is_removed}
-use Rattle.mt_unmount.proofs.GoneLaws.{listed-is}
+use Rattle.mt_unmount.proofs.FoundLaws.{listed-is}
 use Rattle.mt_unmount.proofs.RemovedLaws.{removed-can-go}
 use Rattle.mt_unmount.proofs.UnmountLaws.{unmounted-done}
 use Rattle.mt_unmount.proofs.unmounting.unmount.Goals as goal
-
-pub take_away-requires-clause-rising : goal.take_away-requires-clause-rising
-take_away-requires-clause-rising c = c.in_ok-gone.ensures.gone.rising
 
 pub take_away-requires-clause-can_go : goal.take_away-requires-clause-can_go
 take_away-requires-clause-can_go c =

@@ -1,7 +1,7 @@
 use Rattle.std.proofs.Common.{List, ℕ, sym, ap, subst, ◌∙◌}
 use Rattle.std.specs.List.Sorted.{IsStrictlyIncreasing}
 use Rattle.mt_skel.specs.Keyed.{among}
-use Rattle.mt_unmount.proofs.GoneLaws.{searched-among}
+use Rattle.mt_unmount.proofs.FoundLaws.{searched-among}
 use Rattle.mt_unmount.proofs.gone.Gone.has.Goals as goal
 
 pub returns : goal.returns

@@ -5,7 +5,7 @@ use Rattle.std.proofs.lemmas.Fn.{filter_same}
 use Rattle.std.proofs.lemmas.List.Kept.{IsStrictlyIncreasing-filter}
 use Rattle.mt_skel.specs.Keyed.{among, rises}
 use Rattle.mt_skel.proofs.KeyedLaws.{rises-filter}
-use Rattle.mt_unmount.proofs.GoneLaws.{among-without}
+use Rattle.mt_unmount.proofs.FoundLaws.{among-without}
 use Rattle.mt_unmount.proofs.gone.Gone.without.Goals as goal
 
 -- what is kept

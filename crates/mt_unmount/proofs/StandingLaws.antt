@@ -1,4 +1,5 @@
--- Where what stays, or is below what stays, stands on a mount that goes, it stands at the root of that one.
+-- Where mounts stand: what is inside a mount, what a mount receives, and that what stays, or is below what stays, stands at the root of a
+-- mount that goes.
 use Rattle.std.proofs.Common.{◌≡◌, ℕ, zero, suc, Bool, true, false, not, ◌&&◌, ◌==◌, eqb, eqb-true, eq-eqb, length, Option, Some, None, refl, sym, ap, ◌∙◌}
 use Rattle.std.specs.List.{list_any}
 use Rattle.std.specs.Option.{option_map_or, unwrap_or}
@@ -6,17 +7,23 @@ use Rattle.std.proofs.lemmas.Bool.{true≢false, and_parts, not-true, or_left, o
 use Rattle.std.proofs.Math.Bool.{or-false}
 use Rattle.mt_skel.specs.Chain.{chain}
 use Rattle.mt_skel.proofs.ChainLaws.{chain-step, chain-last}
-use Rattle.mt_skel.proofs.ElementLaws.{in_any, any_in}
+use Rattle.mt_skel.proofs.ElementLaws.{in_any, any_in, In}
 use Rattle.mt_skel.proofs.KeyedLaws.{row_at-key}
 use Rattle.mt_mounts.specs.declared.mount.Mount.{Mount}
 use Rattle.mt_mounts.specs.declared.mount.Place.{Place}
-use Rattle.mt_mounts.specs.Forest.{id_of, mount_at, parent, parents_up, is_below, root_place}
+use Rattle.mt_mounts.specs.Forest.{id_of, mount_at, parent, parents_up, is_below, root_place, on, is_at}
+use Rattle.mt_mounts.proofs.ForestLaws.{find_row, find_passes}
 use Rattle.mt_peers.proofs.AlikeLaws.{along}
-use Rattle.mt_propagate.specs.World.{WorldView, root_dir}
+use Rattle.mt_peers.proofs.MemberLaws.{some-is}
+use Rattle.mt_propagate.specs.World.{WorldView, root_dir, space_of}
 use Rattle.mt_propagate.specs.Named.{unknown}
 use Rattle.mt_propagate.specs.WellFormed.{IsWellFormed}
+use Rattle.mt_propagate.specs.Receivers.{hits}
+use Rattle.mt_propagate.specs.Contained.{IsContained}
 use Rattle.mt_propagate.proofs.TreeLaws.{parent-is}
-use Rattle.mt_propagate.proofs.CopyRowLaws.{root_is}
+use Rattle.mt_propagate.proofs.CopyRowLaws.{root_is, space_is}
+use Rattle.mt_propagate.proofs.ContainLaws.{hit_contained}
+use Rattle.mt_propagate.proofs.WalkLaws.{stands_at}
 use Rattle.mt_unmount.specs.Sliding.{place_of, stands_inside, is_inside, CanGo}
 
 module _ (w : WorldView) where
@@ -113,3 +120,35 @@ module _ (w : WorldView) (h : IsWellFormed w) (goes : ℕ → Bool) (can : CanGo
       true≢false (sym (any-here w h (stands_inside w p.mount) j (within-at w p.mount j p (place-at w j m e ∙ at) refl ∙ ap not is)) ∙ s p.mount gone)) in
       let dir : p.dir ≡ q.0.root = eqb-true p.dir q.0.root (ap (λ d. p.dir == d) (sym (root_is w p.mount q.0 q.1)) ∙ at_dir) in
       record { mount = q.0; place = r.0; there = q.1; stands = r.1; at_root = (λ i. record { mount = id i; dir = sym dir i }) }
+
+module _ (w : WorldView) (h : IsWellFormed w) where
+  -- a mount that is found at a place is there, and stands at it
+  pub found-on : (p : Place) (m : Mount) → on w.forest p ≡ Some m → (mount_at w.forest m.id ≡ Some m) × (m.place ≡ Some p)
+  found-on p m e = (find_row (is_at p) w.forest m h.forest.rising e, stands_at p m (find_passes (is_at p) w.forest m e))
+
+  -- it is in the namespace of the mount that it stands on
+  pub under-space : (j : ℕ) (m : Mount) (p : Place) → mount_at w.forest j ≡ Some m → m.place ≡ Some p → space_of w p.mount ≡ space_of w j
+  under-space j m p e at = let q = h.forest.placed j m p e at in space_is w p.mount q.0 q.1 ∙ q.2 ∙ sym (space_is w j m e)
+
+  -- a mount j that another one receives: it stands at a target of that one's place, at the same directory
+  pub record IsReceived (from j : ℕ) : Type 0 where
+    pub place : Place
+    pub stands : place_of w from ≡ Some place
+    pub target : ℕ
+    pub hit : In target (hits w place)
+    pub mount : Mount
+    pub there : mount_at w.forest j ≡ Some mount
+    pub at : mount.place ≡ Some (record { mount = target; dir = place.dir })
+
+  abbrev pub received-at : (from t : ℕ) (p : Place) (m : Mount) → place_of w from ≡ Some p → In t (hits w p) → on w.forest (record { mount = t; dir = p.dir }) ≡ Some m → IsReceived from m.id
+  received-at from t p m own hit found = let f = found-on (record { mount = t; dir = p.dir }) m found in record { place = p; stands = own; target = t; hit = hit; mount = m; there = f.0; at = f.1 }
+
+  pub received-placed : (from j : ℕ) (m : Mount) → IsReceived from j → mount_at w.forest j ≡ Some m → (p : Place) × (m.place ≡ Some p)
+  received-placed from j m r e = (record { mount = r.target; dir = r.place.dir }, ap (λ (m : Mount). m.place) (some-is m r.mount (sym e ∙ r.there)) ∙ r.at)
+
+  -- it is in a contained namespace, if the other one is
+  pub received-inside : (n : ℕ) → IsContained n w → (from j : ℕ) → IsReceived from j → space_of w from ≡ n → space_of w j ≡ n
+  received-inside n c from j r here =
+      let m = placed-mount w from r.place r.stands in
+      sym (under-space j r.mount (record { mount = r.target; dir = r.place.dir }) r.there r.at)
+      ∙ hit_contained n w c h.peering.rising r.place r.target r.hit (under-space from m.0 r.place m.1 m.2 ∙ here)
