@@ -1,4 +1,5 @@
--- What a detach leads to where its path names a mount that is no root mount, what it takes away, and that a well-formed world stays so.
+-- What a detach leads to where its path names a mount that is no root mount, what it takes away, and that a well-formed
+-- world stays so.
 use Rattle.std.proofs.Common.{◌≡◌, ℕ, Bool, true, false, not, List, [], ◌∷◌, length, Result, Ok, refl, sym, ap, ◌∙◌}
 use Rattle.std.proofs.NetLemmas.Options.{map_some}
 use Rattle.mt_skel.specs.declared.fault.Fault.{Fault}
@@ -47,6 +48,7 @@ top-space w h p =
     let f = found-on w h q y at in
     ap (λ (q : Place). space_of w q.mount) (sym root) ∙ sym (under-space w h y.id y q f.0 f.1) ∙ here)) (length w.forest) p refl (stack_ends w.forest h.forest.rising h.forest.no_cycle p)).0
 
+-- and so does an accepted detach
 pub detached-takes : (w : WorldView) → IsWellFormed w → (n : ℕ) (path : List (List ℕ)) (v : WorldView) → detached w n path ≡ Ok v → Takes w n v
 unfolding without_tree
 detached-takes w h n path v e =

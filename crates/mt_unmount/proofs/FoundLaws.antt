@@ -1,4 +1,5 @@
--- Values that are there on a condition, what comes of lists, and numbers of a list: where one stands, and those that are found by halving.
+-- Values that are there on a condition, what comes of lists, and numbers of a list: where one stands, and those that
+-- are found by halving.
 use Rattle.std.proofs.Common.{◌≡◌, ℕ, ◌<◌, Bool, true, false, cond, eqb-true, List, [], ◌∷◌, length, get_or, Option, Some, None, refl, sym, ap, ◌∙◌, inl, inr, ◌≤◌, not, ◌&&◌, eq-eqb, Result, Ok, Err, subst, arith}
 use Rattle.std.specs.Prelude.{nat_eq, MatchResult}
 use Rattle.std.specs.List.{cons_option, filter_map, filter}

@@ -1,5 +1,5 @@
--- Which mounts hold others: upwards from those that stand on candidates and are none, each is met once. What is held is what holds a
--- mount inside it that is no candidate.
+-- Which mounts hold others: upwards from those that stand on candidates and are none, each is met once. What is held is
+-- what holds a mount inside it that is no candidate.
 use Rattle.std.proofs.Common.{◌≡◌, ℕ, ◌+◌, ◌<◌, ◌≤◌, Bool, true, false, cond, not, ◌||◌, ◌==◌, eqb, eqb-true, eq-eqb, List, [], ◌∷◌, ◌++◌, take, map, length, get_or, Option, Some, None, refl, sym, ap, subst, ◌∙◌, inl, inr, arith, drop}
 use Rattle.std.specs.Prelude.{nat_eq}
 use Rattle.std.specs.List.{filter, flat_map, list_any, IsDistinct, filter_map}

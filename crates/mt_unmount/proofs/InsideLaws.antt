@@ -1,4 +1,5 @@
--- Where an unmount or a detach was accepted, a contained namespace stays contained, and one in it changes nothing outside.
+-- Where an unmount or a detach was accepted, a contained namespace stays contained, and one in it changes nothing
+-- outside.
 use Rattle.std.proofs.Common.{◌≡◌, ℕ, List, Ok}
 use Rattle.mt_propagate.specs.World.{WorldView}
 use Rattle.mt_propagate.specs.WellFormed.{IsWellFormed}

@@ -1,5 +1,5 @@
--- Where mounts go, a well-formed world stays so, a contained namespace stays contained, and where all of them are in it nothing changes
--- outside. So it is of each command that takes mounts away.
+-- Where mounts go, a well-formed world stays so, a contained namespace stays contained, and where all of them are in it
+-- nothing changes outside. So it is of each command that takes mounts away.
 use Rattle.std.proofs.Common.{◌≡◌, ℕ, ◌<◌, ◌≤◌, Bool, not, map, length, Some, refl, sym, ap, subst, ◌∙◌, ◌≢◌, true, false, eqb-true, Option, None}
 use Rattle.std.specs.List.{filter}
 use Rattle.std.specs.Option.{option_map}
@@ -27,6 +27,7 @@ use Rattle.mt_unmount.proofs.StandingLaws.{under-space}
 use Rattle.mt_unmount.proofs.SlideLaws.{slid-here}
 
 module _ (w : WorldView) (h : IsWellFormed w) (goes : ℕ → Bool) where
+  -- the mounts that are left and the states that are left have the same IDs
   same_ids : map id_of (left_mounts w goes) ≡ map mount_of (left goes w.peering).peers
   same_ids =
       keys-map id_of (moved w goes) (λ m. refl) (without (leaves w goes) w.forest)
@@ -109,6 +110,8 @@ pub record Takes (w : WorldView) (n : ℕ) (v : WorldView) : Type 0 where
   pub within : IsContained n w → (j : ℕ) → goes j ≡ true → space_of w j ≡ n
 
 module _ (w : WorldView) (h : IsWellFormed w) (n : ℕ) (v : WorldView) (t : Takes w n v) where
+  -- the world stays well-formed and a contained namespace contained, and outside the command's own, if contained,
+  -- nothing changes
   pub takes-kept : IsWellFormed v
   takes-kept = subst IsWellFormed t.world (gone-kept w h t.goes t.can)
 

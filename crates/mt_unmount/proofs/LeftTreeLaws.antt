@@ -17,7 +17,7 @@ use Rattle.mt_propagate.specs.WellFormed.{IsForest, IsWellFormed}
 use Rattle.mt_propagate.proofs.RowLaws.{mapped-row, row-mapped, kept-row, row-kept}
 use Rattle.mt_propagate.proofs.TreeLaws.{parent-from}
 use Rattle.mt_unmount.specs.Sliding.{CanGo, slid}
-use Rattle.mt_unmount.proofs.SlideLaws.{slid-there, slid-single}
+use Rattle.mt_unmount.proofs.SlideLaws.{StaysAt, slid-there, slid-single}
 
 module _ (w : WorldView) (goes : ℕ → Bool) where
   abbrev pub leaves : Mount → Bool
@@ -48,8 +48,10 @@ module _ (w : WorldView) (h : IsWellFormed w) (goes : ℕ → Bool) where
       row-mapped id_of (moved w goes) (λ m. refl) (without (leaves w goes) w.forest) k m
       (row-kept id_of (leaves w goes) w.forest h.forest.rising k m (ap goes (row_at-key id_of k w.forest m e) ∙ off) e)
 
-  place-was : (k : ℕ) (y : Mount) (q : Place) (s : Stays k y) → y.place ≡ Some q → (p : Place) × (s.mount.place ≡ Some p) × (q ≡ slid w goes p)
-  place-was k y q s e = map_some (slid w goes) s.mount.place q (ap (λ (m : Mount). m.place) (sym s.made) ∙ e) (λ p at same. (p, at, sym same))
+  -- where it came from
+  place-was : (k : ℕ) (y : Mount) (q : Place) (s : Stays k y) → y.place ≡ Some q → (p : Place) × StaysAt w h goes k s.mount p × (q ≡ slid w goes p)
+  place-was k y q s e =
+      map_some (slid w goes) s.mount.place q (ap (λ (m : Mount). m.place) (sym s.made) ∙ e) (λ p at same. (p, record { there = s.there; stands = at; stays = s.stays }, sym same))
 
   root-was : (k : ℕ) (y : Mount) (s : Stays k y) → y.place ≡ None → s.mount.place ≡ None
   root-was k y s e = none_found s.mount.place (λ p at. none-some (slid w goes p) (sym e ∙ ap (λ (m : Mount). m.place) s.made ∙ ap (option_map (slid w goes)) at))
@@ -68,7 +70,7 @@ module _ (w : WorldView) (h : IsWellFormed w) (goes : ℕ → Bool) where
       placed = λ k y q e at.
           let s = row-of k y e in
           let p = place-was k y q s at in
-          let t = slid-there w h goes can k s.mount p.0 s.there p.1 s.stays in
+          let t = slid-there w h goes can p.1 in
           let on = h.forest.placed t.0.id t.0.mount (slid w goes p.0) t.0.there t.0.stands in (
             moved w goes on.0,
             ap (λ (q : Place). mount_at (left_mounts w goes) q.mount) p.2 ∙ stays-in (slid w goes p.0).mount on.0 on.1 t.1,
@@ -80,8 +82,8 @@ module _ (w : WorldView) (h : IsWellFormed w) (goes : ℕ → Bool) where
           let t = row-of j b eb in
           let p = place-was k a q s pa in
           let r = place-was j b q t pb in
-          let same = slid-single w h goes can k j s.mount t.mount p.0 r.0 s.there p.1 s.stays t.there r.1 t.stays (sym p.2 ∙ r.2) in
-          h.forest.apart k j s.mount t.mount p.0 s.there t.there p.1 (r.1 ∙ ap (λ (q : Place). Some q) (sym same));
+          let same = slid-single w h goes can p.1 r.1 (sym p.2 ∙ r.2) in
+          h.forest.apart k j s.mount t.mount p.0 s.there t.there p.1.stands (r.1.stands ∙ ap (λ (q : Place). Some q) (sym same));
       rooted = λ k y e.
           let s = row-of k y e in
           let r = h.forest.rooted k s.mount s.there in
@@ -94,6 +96,6 @@ module _ (w : WorldView) (h : IsWellFormed w) (goes : ℕ → Bool) where
           let m = parent-from (left_mounts w goes) k j e in
           let s = row-of k m.0 m.2 in
           let p = place-was k m.0 m.1 s m.3 in
-          let t = slid-there w h goes can k s.mount p.0 s.there p.1 s.stays in
+          let t = slid-there w h goes can p.1 in
           subst (λ j. rank_of w.forest j < rank_of w.forest k) (ap (λ (q : Place). q.mount) (sym p.2) ∙ m.4) t.0.lower);
     }

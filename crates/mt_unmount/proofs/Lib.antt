@@ -2,7 +2,7 @@ pub mod AcceptedLaws
 pub mod StandingLaws
 pub mod SlideLaws
 pub mod LeftTreeLaws
-mod LeftLaws
+pub mod LeftLaws
 mod FoundLaws
 mod TakenLaws
 pub mod RemovedLaws

@@ -19,7 +19,8 @@ use Rattle.mt_propagate.proofs.RowLaws.{all_in}
 use Rattle.mt_propagate.proofs.WalkLaws.{stands_at}
 use Rattle.mt_unmount.specs.Unmounting.{may_go}
 
--- a search finds a mount where one passes, and one passes two tests where one of those that pass the first passes the second
+-- a search finds a mount where one passes, and one passes two tests where one of those that pass the first passes the
+-- second
 found : (t : Mount → Bool) (xs : List Mount) → is_some (find t xs) ≡ list_any t xs
 found t [] = refl
 found t (x ∷ xs) = elim (t x) as (λ b. is_some (cond b (Some x) (find t xs)) ≡ (b || list_any t xs)) [ true ↦ refl | false ↦ found t xs ]

@@ -52,6 +52,12 @@ module _ (w : WorldView) (h : IsWellFormed w) (goes : ℕ → Bool) where
       ∙ ap (λ b. cond b (Some p) (heir_place (root_place m)))
       (ap (λ o. option_map_or (λ (x : Mount). not (goes x.id)) o false) found ∙ ap (λ k. not (goes k)) (row_at-key id_of k w.forest m e))
 
+  -- the mount m with the ID k stays, and its place is p
+  pub record StaysAt (k : ℕ) (m : Mount) (p : Place) : Type 0 where
+    pub there : mount_at w.forest k ≡ Some m
+    pub stands : m.place ≡ Some p
+    pub stays : goes k ≡ false
+
   -- a place q that the mount m with the ID k comes to from the place p: a mount of its namespace stood there, below m
   pub record Slides (k : ℕ) (m : Mount) (p q : Place) : Type 0 where
     pub id : ℕ
@@ -85,18 +91,18 @@ module _ (w : WorldView) (h : IsWellFormed w) (goes : ℕ → Bool) where
         }
 
     -- a mount that stays comes to a place on a mount that stays
-    pub slid-there : (k : ℕ) (m : Mount) (p : Place) → mount_at w.forest k ≡ Some m → m.place ≡ Some p → goes k ≡ false → Slides k m p (slid w goes p) × (goes (slid w goes p).mount ≡ false)
-    slid-there k m p e at stays =
+    pub slid-there : {k : ℕ} {m : Mount} {p : Place} → StaysAt k m p → Slides k m p (slid w goes p) × (goes (slid w goes p).mount ≡ false)
+    slid-there {k} {m} {p} s =
         let start : Slides k m p p =
         record {
           id = k;
           mount = m;
-          there = e;
-          stands = at;
+          there = s.there;
+          stands = s.stands;
           space = refl;
-          lower = rank-fell w.skel w.forest h.forest k m p e at;
-          leads = heir-step k m p e at ∙ ap (λ b. cond (not b) (Some p) (heir_place (root_place m))) stays;
-          spared = spared w h goes can k stays;
+          lower = rank-fell w.skel w.forest h.forest k m p s.there s.stands;
+          leads = heir-step k m p s.there s.stands ∙ ap (λ b. cond (not b) (Some p) (heir_place (root_place m))) s.stays;
+          spared = spared w h goes can k s.stays;
         } in
         let end = follow-holds (slide w goes) (Slides k m p) (slides-on k m p) (length w.forest) p start (slide-ends p) in
         (end.0, false_from_ne_true (goes (slid w goes p).mount) (ends-there (slid w goes p) end.0 end.1))
@@ -107,7 +113,5 @@ module _ (w : WorldView) (h : IsWellFormed w) (goes : ℕ → Bool) where
             none-some gap.place (sym none ∙ ap (λ b. cond b (place_of w q.mount) None) is ∙ place-at w q.mount gap.mount gap.there ∙ gap.stands)
 
     -- no two mounts that stay come to one place
-    pub slid-single : (k j : ℕ) (m x : Mount) (p q : Place) → mount_at w.forest k ≡ Some m → m.place ≡ Some p → goes k ≡ false
-        → mount_at w.forest j ≡ Some x → x.place ≡ Some q → goes j ≡ false → slid w goes p ≡ slid w goes q → p ≡ q
-    slid-single k j m x p q e at stays f on remains same =
-        some-is p q (sym (slid-there k m p e at stays).0.leads ∙ ap heir_place same ∙ (slid-there j x q f on remains).0.leads)
+    pub slid-single : {k j : ℕ} {m x : Mount} {p q : Place} → StaysAt k m p → StaysAt j x q → slid w goes p ≡ slid w goes q → p ≡ q
+    slid-single {k} {j} {m} {x} {p} {q} s t same = some-is p q (sym (slid-there s).0.leads ∙ ap heir_place same ∙ (slid-there t).0.leads)

@@ -1,5 +1,5 @@
--- Where mounts stand: what is inside a mount, what a mount receives, and that what stays, or is below what stays, stands at the root of a
--- mount that goes.
+-- Where mounts stand: what is inside a mount, what a mount receives, and that what stays, or is below what stays,
+-- stands at the root of a mount that goes.
 use Rattle.std.proofs.Common.{◌≡◌, ℕ, zero, suc, Bool, true, false, not, ◌&&◌, ◌==◌, eqb, eqb-true, eq-eqb, length, Option, Some, None, refl, sym, ap, ◌∙◌}
 use Rattle.std.specs.List.{list_any}
 use Rattle.std.specs.Option.{option_map_or, unwrap_or}
@@ -55,6 +55,7 @@ module _ (w : WorldView) where
           let b = and_parts (p.mount == i) (not (p.dir == root_dir w i)) e in
           (p, is, eqb-true p.mount i b.0, not-true (p.dir == root_dir w i) b.1)
 
+  -- the place of a mount is on its parent
   pub parent-place : (j : ℕ) (p : Place) → place_of w j ≡ Some p → parent w.forest j ≡ Some p.mount
   parent-place j p e = let m = placed-mount j p e in parent-is w.forest j m.0 p m.1 m.2
 

@@ -1,5 +1,5 @@
--- Mounts come to new places one after the other: where each stands then, and that each place is free in its turn. What is made so is
--- the world once the mounts are gone.
+-- Mounts come to new places one after the other: where each stands then, and that each place is free in its turn. What
+-- is made so is the world once the mounts are gone.
 use Rattle.std.proofs.Common.{◌≡◌, ◌≢◌, ◌⊎◌, ℕ, Bool, true, false, cond, ◌==◌, eqb-true, eq-eqb, ltb, List, [], ◌∷◌, map, Option, Some, None, refl, sym, ap, ◌∙◌, inl, inr, arith, not, subst}
 use Rattle.std.specs.List.{cons_option, filter_map}
 use Rattle.std.specs.Option.{option_map, option_and_then}
@@ -27,7 +27,7 @@ use Rattle.mt_propagate.proofs.TreeLaws.{on-is}
 use Rattle.mt_unmount.specs.Sliding.{CanGo, slid, once_gone}
 use Rattle.mt_unmount.specs.Taking.{moved_from, relocation_past, resettled}
 use Rattle.mt_unmount.proofs.StandingLaws.{spared, gap-below, found-on}
-use Rattle.mt_unmount.proofs.SlideLaws.{slid-here, slid-there, slid-single}
+use Rattle.mt_unmount.proofs.SlideLaws.{StaysAt, slid-here, slid-there, slid-single}
 use Rattle.mt_unmount.proofs.LeftTreeLaws.{moved}
 use Rattle.mt_unmount.proofs.FoundLaws.{where_false, in_filter_map, in_filter_mapped}
 
@@ -57,8 +57,8 @@ place-end (r ∷ rs) i o end one at = go (i == r.0) refl (λ o. place-end rs i o
       ]
     ]
 
--- the places that numbers lead to are free one after the other, where different numbers lead to different places and no mount
--- stands at one of them
+-- the places that numbers lead to are free one after the other, where different numbers lead to different places and no
+-- mount stands at one of them
 free-each : (f : ℕ → Option (ℕ × Place)) → ((k l : ℕ) (r s : ℕ × Place) → f k ≡ Some r → f l ≡ Some s → r.1 ≡ s.1 → k ≡ l) → (ks : List ℕ) (ms : List Mount) → rises (λ k. k) ks ≡ true
     → ((k : ℕ) (r : ℕ × Place) (m : Mount) → In k ks → f k ≡ Some r → In m ms → m.place ≢ Some r.1) → IsFree (filter_map f ks) ms
 free-each f one [] ms up never = tt
@@ -92,9 +92,7 @@ module _ (w : WorldView) (h : IsWellFormed w) (ids : List ℕ) (can : CanGo w (a
   record Moves (k : ℕ) (r : ℕ × Place) : Type 0 where
     mount : Mount
     place : Place
-    there : mount_at w.forest r.0 ≡ Some mount
-    stays : goes r.0 ≡ false
-    stands : mount.place ≡ Some place
+    at : StaysAt w h goes r.0 mount place
     from : place.mount ≡ k
     comes : slid w goes place ≡ r.1
 
@@ -104,28 +102,29 @@ module _ (w : WorldView) (h : IsWellFormed w) (ids : List ℕ) (can : CanGo w (a
       let off = where_false (goes m.id) (Some (m.id, slid w goes (root_place x))) r given in
       let stands = found-on w h (root_place x) m at in
       subst (Moves k) (some-is (m.id, slid w goes (root_place x)) r off.1)
-      (record { mount = m; place = root_place x; there = stands.0; stays = off.0; stands = stands.1; from = row_at-key id_of k w.forest x there; comes = refl })))
+      (record { mount = m; place = root_place x; at = record { there = stands.0; stands = stands.1; stays = off.0 }; from = row_at-key id_of k w.forest x there; comes = refl })))
 
   -- each mount that stays and stands on one that goes is found so
-  found-past : (m : Mount) (p : Place) → mount_at w.forest m.id ≡ Some m → goes m.id ≡ false → m.place ≡ Some p → goes p.mount ≡ true → past p.mount ≡ Some (m.id, slid w goes p)
-  found-past m p there stays at off =
-      let gap = gap-below w h goes can m.id m p (spared w h goes can m.id stays) there at off in
+  found-past : (m : Mount) (p : Place) → StaysAt w h goes m.id m p → goes p.mount ≡ true → past p.mount ≡ Some (m.id, slid w goes p)
+  found-past m p at off =
+      let gap = gap-below w h goes can m.id m p (spared w h goes can m.id at.stays) at.there at.stands off in
       ap (option_and_then (λ (r : Mount). moved_from w goes (root_place r))) gap.there ∙ ap (moved_from w goes) gap.at_root
-      ∙ ap (option_and_then (λ (x : Mount). cond (goes x.id) None (Some (x.id, slid w goes p)))) (on-is w.forest h.forest.rising h.forest.apart m.id m p there at)
-      ∙ ap (λ b. cond b None (Some (m.id, slid w goes p))) stays
+      ∙ ap (option_and_then (λ (x : Mount). cond (goes x.id) None (Some (x.id, slid w goes p)))) (on-is w.forest h.forest.rising h.forest.apart m.id m p at.there at.stands)
+      ∙ ap (λ b. cond b None (Some (m.id, slid w goes p))) at.stays
 
-  known : (m : Mount) → In m rest → (mount_at w.forest m.id ≡ Some m) × (goes m.id ≡ false)
-  known m e =
-      let f = in_filter (λ m. not (goes m.id)) m w.forest e in
-      (in_row id_of w.forest m h.forest.rising f.0, not-true (goes m.id) f.1)
+  -- what stays is there, at its place
+  known : (m : Mount) → In m rest → mount_at w.forest m.id ≡ Some m
+  known m e = in_row id_of w.forest m h.forest.rising (in_filter (λ m. not (goes m.id)) m w.forest e).0
+
+  stays-at : (m : Mount) (p : Place) → In m rest → m.place ≡ Some p → StaysAt w h goes m.id m p
+  stays-at m p e at = record { there = known m e; stands = at; stays = not-true (goes m.id) (in_filter (λ m. not (goes m.id)) m w.forest e).1 }
 
   -- no mount that stays stands at a new place before
   never-there : (k : ℕ) (r : ℕ × Place) (m : Mount) → In k ids → past k ≡ Some r → In m rest → m.place ≡ Some r.1 → ⊥
   never-there k r m here e at is =
       let a = moves k r e in
-      let j = known m at in
-      let lands : goes r.1.mount ≡ false = ap (λ (p : Place). goes p.mount) (sym a.comes) ∙ (slid-there w h goes can r.0 a.mount a.place a.there a.stands a.stays).1 in
-      let same = slid-single w h goes can m.id r.0 m a.mount r.1 a.place j.0 is j.1 a.there a.stands a.stays (slid-here w h goes r.1 lands ∙ sym a.comes) in
+      let lands : goes r.1.mount ≡ false = ap (λ (p : Place). goes p.mount) (sym a.comes) ∙ (slid-there w h goes can a.at).1 in
+      let same = slid-single w h goes can (stays-at m r.1 at is) a.at (slid-here w h goes r.1 lands ∙ sym a.comes) in
       true≢false (sym (among-in ids k here) ∙ ap goes (sym a.from) ∙ ap (λ (p : Place). goes p.mount) (sym same) ∙ lands)
 
   -- and each comes to the place that it slides to
@@ -134,13 +133,13 @@ module _ (w : WorldView) (h : IsWellFormed w) (ids : List ℕ) (can : CanGo w (a
       place-end (filter_map past ids) m.id m.place (option_map (slid w goes) m.place) (λ p given.
       let k = in_filter_map past (m.id, p) ids given in
       let a = moves k.0 (m.id, p) k.2 in
-      let at : m.place ≡ Some a.place = ap (λ (m : Mount). m.place) (some-is m a.mount (sym (known m e).0 ∙ a.there)) ∙ a.stands in
+      let at : m.place ≡ Some a.place = ap (λ (m : Mount). m.place) (some-is m a.mount (sym (known m e) ∙ a.at.there)) ∙ a.at.stands in
       sym (ap (option_map (slid w goes)) at ∙ ap (λ (q : Place). Some q) a.comes)) (by m.place refl)
     where
       by : (o : Option Place) → m.place ≡ o → (o ≡ option_map (slid w goes) o) ⊎ ((p : Place) × In (m.id, p) (filter_map past ids))
       by None at = inl refl
       by (Some p) at = elim (goes p.mount) as (λ b. goes p.mount ≡ b → (Some p ≡ Some (slid w goes p)) ⊎ ((q : Place) × In (m.id, q) (filter_map past ids))) [
-        | true ↦ λ on. inr (slid w goes p, in_filter_mapped past (m.id, slid w goes p) p.mount ids (in-among ids p.mount on) (found-past m p (known m e).0 (known m e).1 at on))
+        | true ↦ λ on. inr (slid w goes p, in_filter_mapped past (m.id, slid w goes p) p.mount ids (in-among ids p.mount on) (found-past m p (stays-at m p e at) on))
         | false ↦ λ off. inl (ap (λ (q : Place). Some q) (sym (slid-here w h goes p off)))
       ] refl
 
@@ -150,7 +149,7 @@ module _ (w : WorldView) (h : IsWellFormed w) (ids : List ℕ) (can : CanGo w (a
     free-each past (λ k l r s e f same.
         let a = moves k r e in
         let b = moves l s f in
-        let one = slid-single w h goes can r.0 s.0 a.mount b.mount a.place b.place a.there a.stands a.stays b.there b.stands b.stays (a.comes ∙ same ∙ sym b.comes) in
+        let one = slid-single w h goes can a.at b.at (a.comes ∙ same ∙ sym b.comes) in
         sym a.from ∙ ap (λ (p : Place). p.mount) one ∙ b.from) ids rest rising never-there,
     ap (λ (l : List Mount). let v : WorldView = record w { forest = l; peering = left goes w.peering } in v)
         (placed-each (filter_map past ids) rest

@@ -1,4 +1,5 @@
--- What an unmount leads to where its path names a mount that may go, what it takes away, and that a well-formed world stays so.
+-- What an unmount leads to where its path names a mount that may go, what it takes away, and that a well-formed world
+-- stays so.
 use Rattle.std.proofs.Common.{◌≡◌, ℕ, Bool, true, false, cond, not, ◌||◌, List, [], ◌∷◌, map, length, Result, Ok, refl, sym, ap, ◌∙◌, arith}
 use Rattle.std.specs.Prelude.{nat_lt}
 use Rattle.std.specs.List.{filter, list_any}
@@ -42,6 +43,7 @@ module _ (w : WorldView) (n : ℕ) (path : List (List ℕ)) (p : Place) where
       ∙ passed (list_any (stands_on p.mount) w.forest) Busy [] _ bare
       ∙ ap (λ (goes : ℕ → Bool). Ok (once_gone w goes)) (sym (listed-is (is_removed w p.mount) ids gone))
 
+-- an accepted unmount takes mounts away that can go, in the namespace if that is contained
 pub unmounted-takes : (w : WorldView) → IsWellFormed w → (n : ℕ) (path : List (List ℕ)) (v : WorldView) → unmounted w n path ≡ Ok v → Takes w n v
 unfolding without_mount
 unmounted-takes w h n path v e =
