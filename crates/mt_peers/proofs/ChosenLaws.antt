@@ -25,14 +25,11 @@ halved_found ids id at l h = sym (among_at ids id at 0 l (ranked _ id _ (sym (h 
 pub halved_absent : (ids : List ℕ) (id at : ℕ) → IsNonDecreasing ids
     → (IsNonDecreasingBy (λ y. ordering_index (nat_cmp y id)) ids → IsPartitionPoint (λ y. nat_cmp y id ≡ Less) (λ y. nat_cmp y id ≡ Greater) ids at) → false ≡ among ids id
 halved_absent ids id at up parted =
-    let p = parted compared in
+    let p = parted (λ i j d le l. let low = up i j d le l in grind (arith, nat_tests)) in
     sym (among_nowhere ids id (λ j d l e.
     let low : j < at → get_or ids j d < id = λ lt. ranked _ id _ (sym (p.0 j d (omega arith) lt)) in
     let high : at ≤ j → id < get_or ids j d = λ le. ranked _ id _ (sym (p.1 j d le l)) in
     grind (arith, low, high)))
-  where
-    compared : IsNonDecreasingBy (λ y. ordering_index (nat_cmp y id)) ids
-    compared = λ i j d le l. let low = up i j d le l in grind (arith, nat_tests)
 
 -- what holds at the answer true
 pub where_true : {P : Type 0} (Q : Type 0) (b : Bool) → MatchBool b P Q → b ≡ true → P

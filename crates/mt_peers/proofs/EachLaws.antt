@@ -32,7 +32,7 @@ place-back m (x ∷ xs) ys h = let ih = place-back m xs ys in grind (arith, nat_
 
 -- a mount that was made shared has a group, and to be made so again changes nothing
 gets-group : (k : Kind) (n : ℕ) (s : State) → is_shared k ≡ true → is_none (changed k n s).group ≡ false
-gets-group Shared n s sh = elim s.group as (λ o. is_none (option_or o (Some n)) ≡ false) [ None ↦ refl | Some g ↦ refl ]
+gets-group Shared n s sh = grind arith
 gets-group Private n s sh = absurd (cc)
 gets-group Slave n s sh = absurd (cc)
 gets-group Unbindable n s sh = absurd (cc)
@@ -51,43 +51,29 @@ lacks_group o = option_map_or (λ (s : State). is_none s.group) o false
 module _ (x : ℕ) where
   one-alone : (es : List Peer) → rises mount_of es ≡ true → groupless (nat_eq x) es ≡ cond (lacks_group (state_at es x)) (x ∷ []) []
   one-alone [] up = refl
-  one-alone (e ∷ es) up = go (eqb x e.mount) refl (one-alone es (grind (arith, nat_tests)))
-    where
-      by : (c : Bool) → x ≡ e.mount → groupless (nat_eq x) es ≡ [] → map mount_of (cond c (e ∷ filter (λ e. eqb x e.mount && is_none e.state.group) es) (filter (λ e. eqb x e.mount && is_none e.state.group) es)) ≡ cond c (x ∷ []) []
-      by true same none = ap₂ (λ (k : ℕ) (t : List ℕ). k ∷ t) (sym same) none
-      by false same none = none
-
-      go : (b : Bool) → eqb x e.mount ≡ b → groupless (nat_eq x) es ≡ cond (lacks_group (state_at es x)) (x ∷ []) []
-          → map mount_of (cond (b && is_none e.state.group) (e ∷ filter (λ e. eqb x e.mount && is_none e.state.group) es) (filter (λ e. eqb x e.mount && is_none e.state.group) es))
-          ≡ cond (lacks_group (option_map (λ (e : Peer). e.state) (cond b (Some e) (row_at mount_of x es)))) (x ∷ []) []
-      go true is ih =
-          let above : list_all (λ y. ltb x (mount_of y)) es ≡ true = subst (λ k. list_all (λ y. ltb k (mount_of y)) es ≡ true) (sym (eqb-true x e.mount is)) (grind (arith, nat_tests)) in
-          by (is_none e.state.group) (eqb-true x e.mount is) (ih ∙ ap (λ o. cond (lacks_group (option_map (λ (e : Peer). e.state) o)) (x ∷ []) []) (row_at-below mount_of x es above))
-      go false is ih = ih
+  one-alone (e ∷ es) up =
+      let higher : eqb x e.mount ≡ true → row_at mount_of x es ≡ None = λ is. row_at-below mount_of x es (subst (λ k. list_all (λ y. ltb k (mount_of y)) es ≡ true) (sym (eqb-true x e.mount is)) (grind (arith, nat_tests))) in
+      grind (arith, nat_tests, one-alone es (grind (arith, nat_tests)), higher)
 
   place-zero : (es : List Peer) → rises mount_of es ≡ true → position_or_len (nat_eq x) (groupless (nat_eq x) es) ≡ 0
-  place-zero es up = ap (position_or_len (nat_eq x)) (one-alone es up) ∙ elim (lacks_group (state_at es x)) as (λ c. position_or_len (nat_eq x) (cond c (x ∷ []) []) ≡ 0) [ true ↦ rw (eq-eqb x x refl) refl | false ↦ refl ]
+  place-zero es up = grind (arith, nat_tests, one-alone es up)
 
   place-other : (m : ℕ) (es : List Peer) → rises mount_of es ≡ true → eqb x m ≡ false → list_any (eqb m) (groupless (nat_eq x) es) ≡ false
-  place-other m es up off = ap (list_any (eqb m)) (one-alone es up) ∙ elim (lacks_group (state_at es x)) as (λ c. list_any (eqb m) (cond c (x ∷ []) []) ≡ false) [ true ↦ grind (arith, nat_tests) | false ↦ refl ]
+  place-other m es up off = grind (arith, nat_tests, one-alone es up)
 
   count-one : (es : List Peer) (s : State) → rises mount_of es ≡ true → state_at es x ≡ Some s → length (groupless (nat_eq x) es) ≡ cond (is_none s.group) 1 0
-  count-one es s up at = ap length (one-alone es up ∙ ap (λ o. cond (lacks_group o) (x ∷ []) []) at) ∙ elim (is_none s.group) as (λ c. length (cond c (x ∷ []) []) ≡ cond c 1 0) [ true ↦ refl | false ↦ refl ]
+  count-one es s up at = grind (arith, one-alone es up, at)
 
 -- where no mount of the list is chosen, nothing changes
 module _ (k : Kind) (chosen : ℕ → Bool) (p : Peering) (nobody : (e : Peer) → In e p.peers → chosen e.mount ≡ false) where
   unsettled-none : p ≡ unsettled k chosen p
   unsettled-none =
-      ap (λ (es : List Peer). peering es p.next) (sym (map-same (changed_peer k chosen p) p.peers (λ e at. ap (λ b. record { mount = e.mount; state = cond b (changed k (new_group chosen p e.mount) e.state) e.state }) (nobody e at))))
-      ∙ ap (peering (map (changed_peer k chosen p) p.peers)) (count (is_shared k) ∙ ap (λ (xs : List ℕ). cond (is_shared k) (p.next + length xs) p.next) (sym (none p.peers nobody)))
+      ap (λ (es : List Peer). peering es p.next) (sym (map-same (changed_peer k chosen p) p.peers (λ e at. grind (arith, nobody e at))))
+      ∙ ap (peering (map (changed_peer k chosen p) p.peers)) (grind (arith, none p.peers nobody))
     where
-      count : (b : Bool) → p.next ≡ cond b (p.next + 0) p.next
-      count true = omega arith
-      count false = refl
-
       none : (es : List Peer) → ((e : Peer) → In e es → chosen e.mount ≡ false) → groupless chosen es ≡ []
       none [] off = refl
-      none (e ∷ es) off = ap (λ b. map mount_of (cond (b && is_none e.state.group) (e ∷ filter (λ e. chosen e.mount && is_none e.state.group) es) (filter (λ e. chosen e.mount && is_none e.state.group) es))) (off e (inl refl)) ∙ none es (λ y at. off y (inr at))
+      none (e ∷ es) off = grind (arith, off e (inl refl), none es (λ y at. off y (inr at)))
 
 -- what is made of one mount
 module _ (k : Kind) (x : ℕ) (p : Peering) (up : rises mount_of p.peers ≡ true) where
@@ -102,66 +88,19 @@ module _ (k : Kind) (x : ℕ) (p : Peering) (up : rises mount_of p.peers ≡ tru
   pub made-one : (s : State) → state_at p.peers x ≡ Some s
       → peering (with_state x (changed k p.next s) p.peers) (cond (is_shared k && (true && is_none s.group)) (p.next + 1) p.next) ≡ unsettled k (nat_eq x) p
   made-one s there =
-      ap (λ (es : List Peer). peering es (cond (is_shared k && (true && is_none s.group)) (p.next + 1) p.next)) (map-alike (λ (e : Peer). record e { state = cond (eqb x e.mount) (changed k p.next s) e.state }) (changed_peer k (nat_eq x) p) p.peers same)
-      ∙ ap (peering (map (changed_peer k (nat_eq x) p) p.peers)) (count (is_shared k) (is_none s.group) ∙ ap (λ (n : ℕ). cond (is_shared k) (p.next + n) p.next) (sym (count-one x p.peers s up there)))
-    where
-      count : (a b : Bool) → cond (a && (true && b)) (p.next + 1) p.next ≡ cond a (p.next + cond b 1 0) p.next
-      count true true = refl
-      count true false = omega arith
-      count false b = refl
-
-      number : (m : ℕ) → eqb x m ≡ true → p.next ≡ new_group (nat_eq x) p m
-      number m is = let zero_at = place-zero x p.peers up in subst (λ j. p.next ≡ p.next + position_or_len (nat_eq j) (groupless (nat_eq x) p.peers)) (eqb-true x m is) (omega (arith, zero_at))
-
-      same : (e : Peer) → In e p.peers → ◌≡◌ {A = Peer} (record { mount = e.mount; state = cond (eqb x e.mount) (changed k p.next s) e.state }) (changed_peer k (nat_eq x) p e)
-      same e at = ap (λ (t : State). record { mount = e.mount; state = t }) (go (eqb x e.mount) refl)
-        where
-          go : (b : Bool) → eqb x e.mount ≡ b → cond b (changed k p.next s) e.state ≡ cond b (changed k (new_group (nat_eq x) p e.mount) e.state) e.state
-          go true is =
-              let mine : s ≡ e.state = some-is s e.state (sym there ∙ ap (state_at p.peers) (eqb-true x e.mount is) ∙ state-in p.peers e up at) in
-              ap (changed k p.next) mine ∙ ap (λ (n : ℕ). changed k n e.state) (number e.mount is)
-          go false is = refl
+      ap (λ (es : List Peer). peering es (cond (is_shared k && (true && is_none s.group)) (p.next + 1) p.next)) (map-alike (λ (e : Peer). record e { state = cond (eqb x e.mount) (changed k p.next s) e.state }) (changed_peer k (nat_eq x) p) p.peers (λ e at. grind (arith, nat_tests, there, state-in p.peers e up at, place-zero x p.peers up)))
+      ∙ ap (peering (map (changed_peer k (nat_eq x) p) p.peers)) (grind (arith, count-one x p.peers s up there))
 
 -- nothing changes where a mount gets the state that it has, or is not there
 given-still : (x : ℕ) (s : State) (es : List Peer) → rises mount_of es ≡ true → ((t : State) → state_at es x ≡ Some t → s ≡ t) → with_state x s es ≡ es
-given-still x s es up still = map-same (λ (e : Peer). record e { state = cond (eqb x e.mount) s e.state }) es same
-  where
-    same : (e : Peer) → In e es → ◌≡◌ {A = Peer} (record { mount = e.mount; state = cond (eqb x e.mount) s e.state }) e
-    same e at = ap (λ (t : State). record { mount = e.mount; state = t }) (go (eqb x e.mount) refl)
-      where
-        go : (b : Bool) → eqb x e.mount ≡ b → cond b s e.state ≡ e.state
-        go true is = still e.state (ap (state_at es) (eqb-true x e.mount is) ∙ state-in es e up at)
-        go false is = refl
+given-still x s es up still =
+    map-same (λ (e : Peer). record e { state = cond (eqb x e.mount) s e.state }) es (λ e at. grind (arith, nat_tests, still e.state, state-in es e up at))
 
 pub given-same : (x : ℕ) (s : State) (es : List Peer) → rises mount_of es ≡ true → state_at es x ≡ Some s → with_state x s es ≡ es
 given-same x s es up there = given-still x s es up (λ t at. some-is s t (sym there ∙ at))
 
 pub given-absent : (x : ℕ) (s : State) (es : List Peer) → rises mount_of es ≡ true → is_some (state_at es x) ≡ false → with_state x s es ≡ es
 given-absent x s es up none = given-still x s es up (λ t at. absurd (false≢true (sym none ∙ ap is_some at)))
-
--- those that are counted of a list, where one of them gets a group
-split-step : (a b c : Bool) (e f : Peer) (both mine theirs : List Peer) → f.mount ≡ e.mount
-    → (a ≡ true → is_none f.state.group ≡ false) → (a ≡ false → is_none f.state.group ≡ c) → (a ≡ false → b ≡ true → map mount_of mine ≡ [])
-    → map mount_of both ≡ map mount_of mine ++ map mount_of theirs
-    → map mount_of (cond ((a || b) && c) (e ∷ both) both) ≡ map mount_of (cond (a && c) (e ∷ mine) mine) ++ map mount_of (cond (b && is_none f.state.group) (f ∷ theirs) theirs)
-split-step true b c e f both mine theirs m g h none ih = by c ∙ ap (λ d. map mount_of (cond c (e ∷ mine) mine) ++ map mount_of (cond d (f ∷ theirs) theirs)) (sym (off b))
-  where
-    off : (b : Bool) → (b && is_none f.state.group) ≡ false
-    off true = g refl
-    off false = refl
-
-    by : (c : Bool) → map mount_of (cond c (e ∷ both) both) ≡ map mount_of (cond c (e ∷ mine) mine) ++ map mount_of theirs
-    by true = ap (λ t. e.mount ∷ t) ih
-    by false = ih
-split-step false true c e f both mine theirs m g h none ih = by c ∙ ap (λ d. map mount_of mine ++ map mount_of (cond d (f ∷ theirs) theirs)) (sym (h refl))
-  where
-    gone : map mount_of mine ≡ []
-    gone = none refl refl
-
-    by : (c : Bool) → map mount_of (cond c (e ∷ both) both) ≡ map mount_of mine ++ map mount_of (cond c (f ∷ theirs) theirs)
-    by true = ap (λ t. e.mount ∷ t) (ih ∙ ap (λ t. t ++ map mount_of theirs) gone) ∙ ap (λ j. j ∷ map mount_of theirs) (sym m) ∙ ap (λ t. t ++ (f.mount ∷ map mount_of theirs)) (sym gone)
-    by false = ih
-split-step false false c e f both mine theirs m g h none ih = ih
 
 -- first one mount, and then those that are not below it
 module _ (k : Kind) (x : ℕ) (rest : List ℕ) (low : (i : ℕ) → among rest i ≡ true → x ≤ i) where
@@ -173,19 +112,12 @@ module _ (k : Kind) (x : ℕ) (rest : List ℕ) (low : (i : ℕ) → among rest 
       → groupless (among (x ∷ rest)) es ≡ groupless (nat_eq x) es ++ groupless (among rest) (map (first_of n) es)
   split n [] up sh = refl
   split n (e ∷ es) up sh =
-      split-step (eqb x e.mount) (among rest e.mount) (is_none e.state.group) e (first_of n e)
-      (filter (λ (e : Peer). among (x ∷ rest) e.mount && is_none e.state.group) es)
-      (filter (λ (e : Peer). eqb x e.mount && is_none e.state.group) es)
-      (filter (λ (e : Peer). among rest e.mount && is_none e.state.group) (map (first_of n) es))
-      refl
-      (λ is. ap (λ b. is_none (cond b (changed k (n e.mount) e.state) e.state).group) is ∙ gets-group k (n e.mount) e.state sh)
-      (λ is. ap (λ b. is_none (cond b (changed k (n e.mount) e.state) e.state).group) is)
-      (λ off at.
+      let alone : eqb x e.mount ≡ false → among rest e.mount ≡ true → groupless (nat_eq x) es ≡ [] = λ off at.
       let l = low e.mount at in
       let less : x < e.mount = grind (arith, nat_tests) in
       one-alone x es (grind (arith, nat_tests))
-      ∙ ap (λ o. cond (lacks_group (option_map (λ (e : Peer). e.state) o)) (x ∷ []) []) (row_at-below mount_of x es (all-lower mount_of x e.mount es less (grind (arith, nat_tests)))))
-      (split n es (grind (arith, nat_tests)) sh)
+      ∙ ap (λ o. cond (lacks_group (option_map (λ (e : Peer). e.state) o)) (x ∷ []) []) (row_at-below mount_of x es (all-lower mount_of x e.mount es less (grind (arith, nat_tests)))) in
+      grind (arith, alone, gets-group k (n e.mount) e.state sh, split n es (grind (arith, nat_tests)) sh)
 
   module _ (p : Peering) (up : rises mount_of p.peers ≡ true) where
     abbrev front : List ℕ
@@ -200,43 +132,26 @@ module _ (k : Kind) (x : ℕ) (rest : List ℕ) (low : (i : ℕ) → among rest 
     -- the number of the first
     number-first : (e : Peer) → In e p.peers → eqb x e.mount ≡ true → is_shared k ≡ true → is_none e.state.group ≡ true → new_group (nat_eq x) p e.mount ≡ new_group (among (x ∷ rest)) p e.mount
     number-first e at is sh alone =
-        let there = among_groupless (nat_eq x) p.peers e.mount e.state (state-in p.peers e up at) is (none-is e.state.group alone) in
+        let none : e.state.group ≡ None = grind (arith, alone) in
+        let there = among_groupless (nat_eq x) p.peers e.mount e.state (state-in p.peers e up at) is none in
         ap (λ n. p.next + n) (sym (place-front e.mount front back there)) ∙ ap (λ (xs : List ℕ). p.next + position_or_len (nat_eq e.mount) xs) (sym (parts sh))
-      where
-        none-is : (o : Option ℕ) → is_none o ≡ true → o ≡ None
-        none-is None h = refl
-        none-is (Some g) h = absurd (cc)
 
     -- the number of another
     number-later : (m : ℕ) → eqb x m ≡ false → is_shared k ≡ true → new_group (among rest) (unsettled k (nat_eq x) p) m ≡ new_group (among (x ∷ rest)) p m
-    number-later m off sh =
-        let count : (unsettled k (nat_eq x) p).next ≡ p.next + length front = ap (λ b. cond b (p.next + length front) p.next) sh in
-        let behind = place-back m front back (place-other x m p.peers up off) in
-        ap (λ n. n + position_or_len (nat_eq m) back) count
-        ∙ (omega (arith, behind))
-        ∙ ap (λ (xs : List ℕ). p.next + position_or_len (nat_eq m) xs) (sym (parts sh))
+    number-later m off sh = grind (arith, place-back m front back (place-other x m p.peers up off), parts sh)
 
     step-peer : (e : Peer) → In e p.peers → changed_peer k (among rest) (unsettled k (nat_eq x) p) (changed_peer k (nat_eq x) p e) ≡ changed_peer k (among (x ∷ rest)) p e
-    step-peer e at = ap (λ (s : State). record { mount = e.mount; state = s }) (go (eqb x e.mount) refl (among rest e.mount))
-      where
-        go : (a : Bool) → eqb x e.mount ≡ a → (b : Bool)
-            → cond b (changed k (new_group (among rest) (unsettled k (nat_eq x) p) e.mount) (cond a (changed k (new_group (nat_eq x) p e.mount) e.state) e.state)) (cond a (changed k (new_group (nat_eq x) p e.mount) e.state) e.state)
-            ≡ cond (a || b) (changed k (new_group (among (x ∷ rest)) p e.mount) e.state) e.state
-        go true is true = again k _ _ e.state ∙ same_change k _ _ e.state (number-first e at is)
-        go true is false = same_change k _ _ e.state (number-first e at is)
-        go false is true = same_change k _ _ e.state (λ sh alone. number-later e.mount is sh)
-        go false is false = refl
+    step-peer e at =
+        let first : eqb x e.mount ≡ true → changed k (new_group (nat_eq x) p e.mount) e.state ≡ changed k (new_group (among (x ∷ rest)) p e.mount) e.state = λ is. same_change k _ _ e.state (number-first e at is) in
+        let later : eqb x e.mount ≡ false → changed k (new_group (among rest) (unsettled k (nat_eq x) p) e.mount) e.state ≡ changed k (new_group (among (x ∷ rest)) p e.mount) e.state =
+        λ is. same_change k _ _ e.state (λ sh alone. number-later e.mount is sh) in
+        grind (arith, first, later, λ (m n : ℕ). again k m n e.state)
 
     pub step : unsettled k (among rest) (unsettled k (nat_eq x) p) ≡ unsettled k (among (x ∷ rest)) p
     step =
         ap (λ (es : List Peer). peering es (unsettled k (among rest) (unsettled k (nat_eq x) p)).next)
         (mapped (changed_peer k (among rest) (unsettled k (nat_eq x) p)) (changed_peer k (nat_eq x) p) p.peers ∙ map-alike (λ e. changed_peer k (among rest) (unsettled k (nat_eq x) p) (changed_peer k (nat_eq x) p e)) (changed_peer k (among (x ∷ rest)) p) p.peers step-peer)
-        ∙ ap (peering (map (changed_peer k (among (x ∷ rest)) p) p.peers)) (count (is_shared k) refl)
-      where
-        count : (b : Bool) → is_shared k ≡ b
-            → cond b (cond b (p.next + length front) p.next + length back) (cond b (p.next + length front) p.next) ≡ cond b (p.next + length (groupless (among (x ∷ rest)) p.peers)) p.next
-        count true sh = let both = length-append front back in (omega (arith, both)) ∙ ap (λ (xs : List ℕ). p.next + length xs) (sym (parts sh))
-        count false sh = refl
+        ∙ ap (peering (map (changed_peer k (among (x ∷ rest)) p) p.peers)) (grind (arith, λ (sh : is_shared k ≡ true). parts sh, length-append front back))
 
 -- none below the first
 lowest : (x d : ℕ) (rest : List ℕ) → ((j : ℕ) → j < length rest → x ≤ get_or rest j d) → (i : ℕ) → among rest i ≡ true → x ≤ i

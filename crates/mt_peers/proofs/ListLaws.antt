@@ -1,4 +1,5 @@
 -- A list of mounts is gone through from its first on, by what follows each.
+use Rattle.std.proofs.lemmas.Bool.Decides.{nat_tests}
 use Rattle.std.proofs.Common.{◌≡◌, ℕ, suc, ◌≤◌, Bool, true, false, cond, eqb, eqb-true, List, [], ◌∷◌, ◌++◌, map, length, Option, Some, None, refl, sym, ap, ◌∙◌, arith}
 use Rattle.std.specs.List.{filter, filter_map, cons_option}
 use Rattle.std.specs.Option.{option_and_then}
@@ -48,16 +49,8 @@ module _ (xs : List ℕ) (j : ℕ) (next : Option ℕ) (up : rises (λ n. n) xs 
   walk-shorter = ap length walk-cut
 
   pub walk-picks : (f : ℕ → Option ℕ) (kept more all : List ℕ) → more ≡ kept ++ cons_option (f j) [] → kept ++ filter_map f (rest_from (Some j) xs) ≡ all → more ++ filter_map f (rest_from next xs) ≡ all
-  walk-picks f kept more all e inv = ap (λ l. l ++ filter_map f (rest_from next xs)) e ∙ one (f j) (filter_map f (rest_from next xs)) ∙ ap (λ l. kept ++ filter_map f l) (sym walk-cut) ∙ inv
-    where
-      one : (o : Option ℕ) (l : List ℕ) → (kept ++ cons_option o []) ++ l ≡ kept ++ cons_option o l
-      one None l = append_assoc kept [] l
-      one (Some k) l = append_assoc kept (k ∷ []) l
+  walk-picks f kept more all e inv = grind (arith, walk-cut, append_assoc kept (cons_option (f j) []) (filter_map f (rest_from next xs)))
 
 pub picked-filter : (t : ℕ → Bool) (xs : List ℕ) → filter_map (λ i. cond (t i) (Some i) None) xs ≡ filter t xs
 picked-filter t [] = refl
-picked-filter t (x ∷ xs) = go (t x) (picked-filter t xs)
-  where
-    go : (b : Bool) → filter_map (λ i. cond (t i) (Some i) None) xs ≡ filter t xs → cons_option (cond b (Some x) None) (filter_map (λ i. cond (t i) (Some i) None) xs) ≡ cond b (x ∷ filter t xs) (filter t xs)
-    go true ih = ap (λ l. x ∷ l) ih
-    go false ih = ih
+picked-filter t (x ∷ xs) = grind (arith, picked-filter t xs)

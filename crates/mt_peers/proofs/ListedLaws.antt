@@ -19,7 +19,7 @@ use Rattle.mt_peers.specs.Members.{group_at, master_at, member_after, slave_afte
 use Rattle.mt_peers.specs.Entries.{now_peer, was_peer, now_peers, was_peers}
 use Rattle.mt_peers.specs.Listed.{peer_group, leader_of, IsListed, IsKeptPeers, MastersLive}
 use Rattle.mt_peers.proofs.MemberLaws.{find_row, rises-alike}
-use Rattle.mt_peers.proofs.GivenLaws.{rises-given, given_state, other_state}
+use Rattle.mt_peers.proofs.EntryLaws.{rises-given, given_state, other_state}
 
 -- what the lists of a number answer
 module _ (number : Peer → Option ℕ) (es : List Peer) (rows : List ListRow) (told : rows ≡ rows_by mount_of number es) where
@@ -32,7 +32,7 @@ module _ (number : Peer → Option ℕ) (es : List Peer) (rows : List ListRow) (
 -- the first of the members is the one that is found
 pub first-found : (es : List Peer) (g : ℕ) → first (members es g) ≡ option_map mount_of (find (in_group g) es)
 first-found [] g = refl
-first-found (x ∷ xs) g = elim (in_group g x) as (λ b. first (map mount_of (cond b (x ∷ filter (in_group g) xs) (filter (in_group g) xs))) ≡ option_map mount_of (cond b (Some x) (find (in_group g) xs))) [ true ↦ refl | false ↦ first-found xs g ]
+first-found (x ∷ xs) g = grind (arith, first-found xs g)
 
 stated : (number : State → Option ℕ) (o : Option Peer) → option_and_then (λ (e : Peer). number e.state) o ≡ option_and_then number (option_map (λ (e : Peer). e.state) o)
 stated number None = refl
@@ -63,28 +63,15 @@ module _ (es : List Peer) (ms ss : List ListRow) (h : IsListed es ms ss) where
 
   -- the master of a group is that of its first member
   pub master-of-listed : (g i : ℕ) → first (ids ms g) ≡ Some i → listed_number ss i ≡ master_of es g
-  master-of-listed g i e = master-listed i ∙ go (find (in_group g) es) refl (sym (first-found es g) ∙ ap first (sym (members-listed g)) ∙ e)
-    where
-      go : (o : Option Peer) → find (in_group g) es ≡ o → option_map mount_of o ≡ Some i → master_at es i ≡ option_and_then (λ (e : Peer). e.state.master) o
-      go None is f = absurd (cc)
-      go (Some x) is f =
-          let same : x.mount ≡ i = cc in
-          ap (master_at es) (sym same) ∙ ap (λ o. option_and_then (λ (s : State). s.master) (option_map (λ (e : Peer). e.state) o)) (find_row g es x h.rising is).0
+  master-of-listed g i e = grind (arith, master-listed i, first-found es g, members-listed g, λ (x : Peer). find_row g es x h.rising)
 
   pub no-master-listed : (g : ℕ) → first (ids ms g) ≡ None → master_of es g ≡ None
-  no-master-listed g e = go (find (in_group g) es) (sym (first-found es g) ∙ ap first (sym (members-listed g)) ∙ e)
-    where
-      go : (o : Option Peer) → option_map mount_of o ≡ None → option_and_then (λ (e : Peer). e.state.master) o ≡ None
-      go None f = refl
-      go (Some x) f = absurd (cc)
-
-positive : (n : ℕ) → nat_lt 0 (suc n) ≡ true
-positive n = grind (arith, nat_tests)
+  no-master-listed g e = grind (arith, first-found es g, members-listed g)
 
 -- a group lives where its list has a member
 pub members-live : (es : List Peer) (g : ℕ) → nat_lt 0 (length (members es g)) ≡ has_member es g
 members-live [] g = refl
-members-live (x ∷ xs) g = elim (in_group g x) as (λ b. nat_lt 0 (length (map mount_of (cond b (x ∷ filter (in_group g) xs) (filter (in_group g) xs)))) ≡ (b || has_member xs g)) [ true ↦ positive (length (members xs g)) | false ↦ members-live xs g ]
+members-live (x ∷ xs) g = grind (arith, nat_tests, members-live xs g)
 
 pub lives-listed : (es : List Peer) (rows : List ListRow) (g : ℕ) → rows ≡ rows_by mount_of peer_group es → nat_lt 0 (length (ids rows g)) ≡ has_member es g
 lives-listed es rows g told = ap (λ xs. nat_lt 0 (length xs)) (ids-listed peer_group es rows told g) ∙ members-live es g
@@ -121,9 +108,9 @@ mixed i es = now_peers (take i es) ++ was_peers (drop i es)
 -- each of them is of the same mount
 mixed-mounts : (i : ℕ) (es : List Entry) → map mount_of (mixed i es) ≡ map mount_of (now_peers es)
 mixed-mounts zero [] = refl
-mixed-mounts zero (e ∷ es) = ap (λ t. e.mount ∷ t) (mixed-mounts zero es)
+mixed-mounts zero (e ∷ es) = grind (arith, mixed-mounts zero es)
 mixed-mounts (suc i) [] = refl
-mixed-mounts (suc i) (e ∷ es) = ap (λ t. e.mount ∷ t) (mixed-mounts i es)
+mixed-mounts (suc i) (e ∷ es) = grind (arith, mixed-mounts i es)
 
 mixed-here : (i : ℕ) (es : List Entry) (d : Entry) → i < length es → mixed i es ≡ now_peers (take i es) ++ was_peer (get_or es i d) ∷ was_peers (drop (i + 1) es)
 mixed-here i es d l = ap (λ t. now_peers (take i es) ++ was_peers t) (drop_more es i d l)
@@ -159,15 +146,7 @@ mixed-same number es i d rows l same told =
 -- mounts are taken out
 pub rows-without : (number : Peer → Option ℕ) (gone : ℕ → Bool) (es : List Peer) → rows_by mount_of number (without (λ e. gone e.mount) es) ≡ without (λ (r : ListRow). gone r.id) (rows_by mount_of number es)
 rows-without number gone [] = refl
-rows-without number gone (e ∷ es) = go (number e) refl (gone e.mount) refl (rows-without number gone es)
-  where
-    go : (o : Option ℕ) → number e ≡ o → (b : Bool) → gone e.mount ≡ b → rows_by mount_of number (without (λ e. gone e.mount) es) ≡ without (λ (r : ListRow). gone r.id) (rows_by mount_of number es)
-        → rows_by mount_of number (cond (not b) (e ∷ without (λ e. gone e.mount) es) (without (λ e. gone e.mount) es))
-        ≡ without (λ (r : ListRow). gone r.id) (option_map_or (λ m. record { id = e.mount; number = m } ∷ rows_by mount_of number es) o (rows_by mount_of number es))
-    go None is true at ih = ih
-    go None is false at ih = rw is ih
-    go (Some m) is true at ih = rw at ih
-    go (Some m) is false at ih = rw (is, at) (ap (λ z. record { id = e.mount; number = m } ∷ z) ih)
+rows-without number gone (e ∷ es) = grind (arith, rows-without number gone es)
 
 pub listed-without : (gone : ℕ → Bool) (es : List Peer) (ms ss : List ListRow) → IsListed es ms ss
     → IsListed (without (λ e. gone e.mount) es) (without (λ (r : ListRow). gone r.id) ms) (without (λ (r : ListRow). gone r.id) ss)

@@ -1,5 +1,6 @@
 -- Masters that live, also once a mount has joined or got another state, or many have.
-use Rattle.std.proofs.Common.{◌≡◌, ℕ, Bool, true, false, cond, not, ◌&&◌, ◌||◌, eqb, eqb-true, eq-eqb, ltb, List, [], ◌∷◌, map, Option, Some, None, refl, sym, ap, ◌∙◌}
+use Rattle.std.proofs.lemmas.Bool.Decides.{nat_tests}
+use Rattle.std.proofs.Common.{◌≡◌, ℕ, Bool, true, false, cond, not, ◌&&◌, ◌||◌, eqb, eqb-true, eq-eqb, ltb, List, [], ◌∷◌, map, Option, Some, None, refl, sym, ap, ◌∙◌, arith}
 use Rattle.std.specs.Prelude.{nat_eq}
 use Rattle.std.specs.Option.{option_map, option_map_or, option_or, option_eq, is_none}
 use Rattle.std.proofs.lemmas.Bool.{or_right}
@@ -16,40 +17,23 @@ use Rattle.mt_peers.specs.Loss.{left}
 use Rattle.mt_peers.specs.Making.{made, changed, is_shared}
 use Rattle.mt_peers.specs.Listed.{MastersLive}
 use Rattle.mt_peers.specs.Few.{gains}
-use Rattle.mt_peers.proofs.MemberLaws.{some-is, state-in}
+use Rattle.mt_peers.proofs.MemberLaws.{some-is, state-in, stated, state-from}
 use Rattle.mt_peers.proofs.SettleLaws.{settle-live}
 
 -- a mount joins
 has-put : (g : ℕ) (x : Peer) (es : List Peer) → state_at es x.mount ≡ None → has_member es g ≡ true → has_member (put mount_of x es) g ≡ true
 has-put g x [] none h = absurd (cc)
-has-put g x (y ∷ ys) none h = go (ltb x.mount y.mount) (eqb x.mount y.mount) none h (has-put g x ys)
-  where
-    go : (less same : Bool) → option_map (λ (e : Peer). e.state) (cond same (Some y) (row_at mount_of x.mount ys)) ≡ None → (in_group g y || has_member ys g) ≡ true
-        → (state_at ys x.mount ≡ None → has_member ys g ≡ true → has_member (put mount_of x ys) g ≡ true)
-        → has_member (cond less (x ∷ y ∷ ys) (cond same (x ∷ ys) (y ∷ put mount_of x ys))) g ≡ true
-    go true same none h ih = or_right (in_group g x) (in_group g y || has_member ys g) h
-    go false true none h ih = absurd (cc)
-    go false false none h ih = elim (in_group g y) as (λ b. (b || has_member ys g) ≡ true → (b || has_member (put mount_of x ys) g) ≡ true) [ true ↦ λ f. f | false ↦ λ f. ih none f ] h
+has-put g x (y ∷ ys) none h = grind (arith, nat_tests, has-put g x ys)
 
 pub live-put : (x : Peer) (es : List Peer) → state_at es x.mount ≡ None → MastersLive es → option_map_or (has_member (put mount_of x es)) x.state.master true ≡ true → MastersLive (put mount_of x es)
-live-put x es none h own = record {
-  lives = λ i s g e is. go i s g is (eqb i x.mount) (sym (ap (option_map (λ (e : Peer). e.state)) (row_at-put mount_of i x es)) ∙ e);
-}
-  where
-    go : (i : ℕ) (s : State) (g : ℕ) → s.master ≡ Some g → (b : Bool) → option_map (λ (e : Peer). e.state) (cond b (Some x) (row_at mount_of i es)) ≡ Some s → has_member (put mount_of x es) g ≡ true
-    go i s g is true f = sym (ap (λ o. option_map_or (has_member (put mount_of x es)) o true) (ap (λ (t : State). t.master) (some-is x.state s f) ∙ is)) ∙ own
-    go i s g is false f = has-put g x es none (h.lives i s g f is)
+live-put x es none h own = record { lives = λ i s g e is. grind (arith, row_at-put mount_of i x es, λ (f : state_at es i ≡ Some s). has-put g x es none (h.lives i s g f is)) }
 
 -- a state that keeps its master, and its group if it has one
 pub gained-master : (s t : State) → gains s t ≡ true → s.master ≡ t.master
 gained-master s t h = same_of s.master t.master (sym (ap not (and_first _ _ h)))
 
 gained-group : (s t : State) (g : ℕ) → gains s t ≡ true → names s.group g ≡ true → names t.group g ≡ true
-gained-group s t g h is = go s.group is (and_second (option_eq nat_eq s.master t.master) _ h)
-  where
-    go : (o : Option ℕ) → names o g ≡ true → (is_none o || option_eq nat_eq o t.group) ≡ true → names t.group g ≡ true
-    go None is h = absurd (cc)
-    go (Some k) is h = ap (λ o. names o g) (sym (same_of (Some k) t.group (sym (ap not h)))) ∙ is
+gained-group s t g h is = let same = same_of s.group t.group in grind (arith, same)
 
 same-option : (o : Option ℕ) → option_eq nat_eq o o ≡ true
 same-option None = refl
@@ -59,11 +43,7 @@ pub gains-self : (s : State) → gains s s ≡ true
 gains-self s = ap (λ b. b && (is_none s.group || option_eq nat_eq s.group s.group)) (same-option s.master) ∙ or_right (is_none s.group) (option_eq nat_eq s.group s.group) (same-option s.group)
 
 pub gains-shared : (k : Kind) (n : ℕ) (s : State) → is_shared k ≡ true → gains s (changed k n s) ≡ true
-gains-shared Shared n s sh = ap (λ b. b && (is_none s.group || option_eq nat_eq s.group (option_or s.group (Some n)))) (same-option s.master) ∙ go s.group
-  where
-    go : (o : Option ℕ) → (is_none o || option_eq nat_eq o (option_or o (Some n))) ≡ true
-    go None = refl
-    go (Some g) = same-option (Some g)
+gains-shared Shared n s sh = grind (arith, nat_tests)
 gains-shared Private n s sh = absurd (cc)
 gains-shared Slave n s sh = absurd (cc)
 gains-shared Unbindable n s sh = absurd (cc)
@@ -76,27 +56,18 @@ module _ (f : Peer → Peer) (same : (e : Peer) → (f e).mount ≡ e.mount) whe
       any_in (in_group g) (f m.0) (map f es) (in_mapped f m.0 es m.1) (gained-group m.0.state (f m.0).state g (keep m.0 m.1) m.2)
 
   pub live-map : (es : List Peer) → ((e : Peer) → In e es → gains e.state (f e).state ≡ true) → MastersLive es → MastersLive (map f es)
-  live-map es keep h = record { lives = λ i t g e is. go i t g is (row_at mount_of i es) refl (sym (ap (option_map (λ (e : Peer). e.state)) (row_at-map mount_of f same i es)) ∙ e) }
-    where
-      go : (i : ℕ) (t : State) (g : ℕ) → t.master ≡ Some g → (o : Option Peer) → row_at mount_of i es ≡ o → option_map (λ (e : Peer). e.state) (option_map f o) ≡ Some t → has_member (map f es) g ≡ true
-      go i t g is None at k = absurd (cc)
-      go i t g is (Some x) at k =
-          let gain = keep x (row_in mount_of i es x at) in
-          let master = gained-master x.state (f x).state gain ∙ ap (λ (s : State). s.master) (some-is (f x).state t k) ∙ is in
-          has-map g es keep (h.lives i x.state g (ap (option_map (λ (e : Peer). e.state)) at) master)
+  live-map es keep h = record {
+    lives = λ i t g e is.
+        let y = stated (map f es) i t e in
+        let x = state-from f (row_at mount_of i es) y.0 (sym (row_at-map mount_of f same i es) ∙ y.1) in
+        let gain = keep x.0 (row_in mount_of i es x.0 x.1) in
+        let master = gained-master x.0.state (f x.0).state gain ∙ ap (λ (e : Peer). e.state.master) (sym x.2) ∙ ap (λ (s : State). s.master) (sym y.2) ∙ is in
+        has-map g es keep (h.lives i x.0.state g (ap (option_map (λ (e : Peer). e.state)) x.1) master);
+  }
 
 -- a mount gets such a state
 pub live-given : (i : ℕ) (s : State) (es : List Peer) → rises mount_of es ≡ true → option_map_or (λ u. gains u s) (state_at es i) true ≡ true → MastersLive es → MastersLive (with_state i s es)
-live-given i s es up gain h = live-map (λ (e : Peer). record e { state = cond (eqb i e.mount) s e.state }) (λ e. refl) es keep h
-  where
-    keep : (e : Peer) → In e es → gains e.state (cond (eqb i e.mount) s e.state) ≡ true
-    keep e at = go (eqb i e.mount) refl
-      where
-        go : (b : Bool) → eqb i e.mount ≡ b → gains e.state (cond b s e.state) ≡ true
-        go true is =
-            let state : state_at es i ≡ Some e.state = ap (state_at es) (eqb-true i e.mount is) ∙ state-in es e up at in
-            sym (ap (λ o. option_map_or (λ u. gains u s) o true) state) ∙ gain
-        go false is = gains-self e.state
+live-given i s es up gain h = live-map (λ (e : Peer). record e { state = cond (eqb i e.mount) s e.state }) (λ e. refl) es (λ e at. grind (arith, nat_tests, state-in es e up at, gains-self e.state, gain)) h
 
 -- what all changes leave
 pub made-live : (k : Kind) (chosen : ℕ → Bool) (p : Peering) → MastersLive (made k chosen p).peers

@@ -1,4 +1,5 @@
 -- What a worklist collects and counts: the mounts that get what happens in a group.
+use Rattle.std.proofs.lemmas.Bool.Decides.{nat_tests}
 use Rattle.std.proofs.Common.{◌≡◌, ℕ, suc, ◌+◌, ◌*◌, ◌≤◌, ◌<◌, Bool, true, false, cond, not, ◌&&◌, ◌||◌, ◌==◌, eqb-true, List, [], ◌∷◌, ◌++◌, map, length, Option, Some, None, refl, sym, ap, ◌∙◌, inl, inr, arith}
 use Rattle.std.specs.List.{filter, filter_map, cons_option}
 use Rattle.std.specs.Option.{option_map_or, option_and_then}
@@ -18,8 +19,7 @@ use Rattle.mt_peers.proofs.MemberLaws.{master_of-is, named, state-in}
 use Rattle.mt_peers.proofs.LeavingLaws.{up_rank, up_falls}
 use Rattle.mt_skel.proofs.CountLaws.{count-same, count-or, count-le-or, count-map, count-filter, length-filter, occ-filter_map}
 use Rattle.mt_skel.proofs.WorklistLaws.{is_found, is_found-snoc, apart-new}
-use Rattle.mt_peers.proofs.FirstLaws.{count-zero, names-cond, one-row}
-use Rattle.mt_peers.proofs.WorklistLaws.{IsWorklist, led_by, worklist-sound, worklist-reach}
+use Rattle.mt_peers.proofs.WorklistLaws.{count-zero, names-cond, one-row, IsWorklist, led_by, worklist-sound, worklist-reach}
 
 -- a mount gets what happens in the group g
 abbrev pub gets : List Peer → ℕ → Peer → Bool
@@ -62,47 +62,24 @@ pub other-more : (es : List Peer) (done : List ℕ) (m : ℕ) (s : Peer → Bool
 other-more es done m s new =
     count-or (λ e. led_by (done ++ m ∷ []) e && s e) (λ e. led_by done e && s e) (λ e. has_master m e && s e)
     (λ e. ap (λ b. b && s e) (is_found-snoc done m e.state.master) ∙ and-or_distrib_right (led_by done e) (has_master m e) (s e))
-    (λ e. apart (led_by done e) (has_master m e) (s e) (apart-new done m new e.state.master)) es
-  where
-    apart : (a b c : Bool) → (a && b) ≡ false → ((a && c) && (b && c)) ≡ false
-    apart true true c e = absurd (cc)
-    apart true false true e = refl
-    apart true false false e = refl
-    apart false b c e = refl
+    (λ e. grind (arith, apart-new done m new e.state.master)) es
 
 -- at the end, the slaves that were gone over are those that get what happens in the group
 pub led-all : (es : List Peer) (g : ℕ) (all : List ℕ) → IsWorklist es g all all → (e : Peer) → led_by all e ≡ gets_above es g e
-led-all es g all w e = go e.state.master
-  where
-    go : (o : Option ℕ) → is_found all o ≡ option_map_or (λ m. reaches es m g) o false
-    go None = refl
-    go (Some m) = worklist-reach es g all w m
+led-all es g all w e = grind (arith, worklist-reach es g all w)
 
 -- and at each time they are some of those
 pub led-gets : (es : List Peer) (g : ℕ) (done some all : List ℕ) → IsWorklist es g done all → ((h : ℕ) → among some h ≡ true → among all h ≡ true)
     → (e : Peer) → led_by some e ≡ true → gets_above es g e ≡ true
-led-gets es g done some all w part e = go e.state.master
-  where
-    go : (o : Option ℕ) → is_found some o ≡ true → option_map_or (λ m. reaches es m g) o false ≡ true
-    go None f = f
-    go (Some m) f = worklist-sound es g done all w m (part m f)
+led-gets es g done some all w part e led = grind (arith, worklist-sound es g done all w, part)
 
 -- what was collected is what the receivers are
 pub all-collected : (es : List Peer) (g : ℕ) (t : ℕ → Bool) (q : ℕ)
     → count (λ e. in_group g e && (t e.mount && (e.mount == q))) es + count (λ e. gets_above es g e && other_at t g q e) es ≡ occ q (filter t (map mount_of (filter (gets es g) es)))
 all-collected es g t q =
     sym (count-or (λ e. gets es g e && (t e.mount && (e.mount == q))) (λ e. in_group g e && (t e.mount && (e.mount == q))) (λ e. gets_above es g e && other_at t g q e)
-    (λ e. either (in_group g e) (gets_above es g e) (t e.mount) (e.mount == q))
-    (λ e. apart (in_group g e) (gets_above es g e) (t e.mount) (e.mount == q)) es)
+    (λ e. grind arith) (λ e. grind arith) es)
     ∙ sym (occ-filter es t (gets es g) q)
-  where
-    either : (a b c d : Bool) → ((a || b) && (c && d)) ≡ ((a && (c && d)) || (b && ((c && not a) && d)))
-    either true b c d = sym (ap (λ x. (c && d) || (b && (x && d))) (and-false c) ∙ ap (λ x. (c && d) || x) (and-false b) ∙ or-false (c && d))
-    either false b c d = ap (λ x. b && (x && d)) (sym (and-true c))
-
-    apart : (a b c d : Bool) → ((a && (c && d)) && (b && ((c && not a) && d))) ≡ false
-    apart true b c d = ap (λ x. (c && d) && (b && (x && d))) (and-false c) ∙ ap (λ x. (c && d) && x) (and-false b) ∙ and-false (c && d)
-    apart false b c d = refl
 
 -- how many receivers there are
 pub received-count : (es : List Peer) (g p : ℕ) → length (received es g p) ≡ count (λ e. gets es g e && not (p == e.mount)) es
@@ -113,11 +90,7 @@ received-count es g p =
 
 -- one mount is itself
 pub one-itself : (p : ℕ) (es : List Peer) → rises mount_of es ≡ true → count (λ e. p == e.mount) es ≤ 1
-one-itself p es up = go (row_at mount_of p es) (one-row p (λ e. true) es up)
-  where
-    go : (o : Option Peer) → count (λ (e : Peer). p == e.mount) es ≡ option_map_or (λ (x : Peer). 1) o 0 → count (λ (e : Peer). p == e.mount) es ≤ 1
-    go None e = omega (arith, e)
-    go (Some x) e = omega (arith, e)
+one-itself p es up = grind (arith, one-row p (λ e. true) es up)
 
 -- the looks that a worklist takes: one at each member of the group, and one at each slave
 abbrev pub looks_at : List Peer → ℕ → ℕ
@@ -152,29 +125,14 @@ module _ (pg : Peering) (h : IsPeering pg) (g p : ℕ) where
       omega (arith, low, high, same)
 
   not-both : (e : Peer) → state_at pg.peers e.mount ≡ Some e.state → in_group g e ≡ true → gets_above pg.peers g e ≡ true → up_rank pg h g < up_rank pg h g
-  not-both e at in_g led = go e.state.master refl led
-    where
-      go : (o : Option ℕ) → e.state.master ≡ o → option_map_or (λ m. reaches pg.peers m g) o false ≡ true → up_rank pg h g < up_rank pg h g
-      go None is f = absurd (cc)
-      go (Some m) is f = above-not m (master_of-is pg.peers h.rising h.one_master e.mount e.state g at (named e.state.group g in_g) ∙ is) f
+  not-both e at in_g led = grind (arith, master_of-is pg.peers h.rising h.one_master e.mount e.state g at (named e.state.group g in_g), above-not)
 
   none-both : count (λ e. in_group g e && gets_above pg.peers g e) pg.peers ≡ 0
-  none-both = count-zero (λ e. in_group g e && gets_above pg.peers g e) pg.peers (λ e at. go e at (in_group g e) refl (gets_above pg.peers g e) refl)
-    where
-      go : (e : Peer) → In e pg.peers → (a : Bool) → in_group g e ≡ a → (b : Bool) → gets_above pg.peers g e ≡ b → (a && b) ≡ false
-      go e at true i true j = absurd (let l = not-both e (state-in pg.peers e h.rising at) i j in omega (arith, l))
-      go e at true i false j = refl
-      go e at false i b j = refl
+  none-both = count-zero (λ e. in_group g e && gets_above pg.peers g e) pg.peers (λ e at. grind (arith, not-both e (state-in pg.peers e h.rising at)))
 
   either-count : (a b : Peer → Bool) (xs : List Peer) → count a xs + count b xs ≡ count (λ e. a e || b e) xs + count (λ e. a e && b e) xs
   either-count a b [] = omega arith
-  either-count a b (x ∷ xs) = go (a x) (b x) (count a xs) (count b xs) (count (λ e. a e || b e) xs) (count (λ e. a e && b e) xs) (either-count a b xs)
-    where
-      go : (u v : Bool) (k l m n : ℕ) → k + l ≡ m + n → cond u (suc k) k + cond v (suc l) l ≡ cond (u || v) (suc m) m + cond (u && v) (suc n) n
-      go true true k l m n e = omega (arith, e)
-      go true false k l m n e = omega (arith, e)
-      go false true k l m n e = omega (arith, e)
-      go false false k l m n e = omega (arith, e)
+  either-count a b (x ∷ xs) = grind (arith, either-count a b xs)
 
   pub looks-ordered : looks_at pg.peers g ≤ length (received pg.peers g p) + 1
   looks-ordered =

@@ -22,22 +22,16 @@ known-step false o x e = (refl, e)
 -- Groups are entered
 
 or_joined : (o rest : Option Above) (b : Bool) (x : Above) → option_or (option_or o (cond b (Some x) None)) rest ≡ option_or o (cond b (Some x) rest)
-or_joined (Some y) rest b x = refl
-or_joined None rest true x = refl
-or_joined None rest false x = refl
+or_joined o rest b x = grind arith
 
 first-more : (g : ℕ) (e : Entry) (es : List Entry) → above_first g (e ∷ es) ≡ cond (names e.was.group g) (Some (record { up = e.was.master; steps = 1 })) (above_first g es)
-first-more g e es = go (names e.was.group g)
-  where
-    go : (b : Bool) → option_map (λ (p : Peer). record { up = p.state.master; steps = 1 }) (cond b (Some (record { mount = e.mount; state = e.was })) (find (in_group g) (was_peers es))) ≡ cond b (Some (record { up = e.was.master; steps = 1 })) (above_first g es)
-    go true = refl
-    go false = refl
+first-more g e es = grind arith
 
 -- a group of a mount has a member
 pub has-at : (es : List Entry) (i : ℕ) (d : Entry) (g : ℕ) → i < length es → has_member (now_peers es) g ≡ false → names (get_or es i d).state.group g ≡ false
 has-at [] i d g l off = absurd (omega arith)
-has-at (e ∷ es) zero d g l off = let w : names e.state.group g ≡ false = grind (arith, nat_tests) in w
-has-at (e ∷ es) (suc i) d g l off = has-at es i d g (omega arith) (let w : has_member (now_peers es) g ≡ false = grind (arith, nat_tests) in w)
+has-at (e ∷ es) zero d g l off = grind arith
+has-at (e ∷ es) (suc i) d g l off = has-at es i d g (omega arith) (grind arith)
 
 pub enter-step : (es : List Entry) (i g : ℕ) (d : Entry) (o n : Option Above) → i < length es → option_or o (above_first g (drop i es)) ≡ above_first g es → n ≡ option_or o (above_was g (get_or es i d))
     → option_or n (above_first g (drop (i + 1) es)) ≡ above_first g es
@@ -54,11 +48,10 @@ enter-step es i g d o n l before adds =
 -- one entry is another
 module _ (old new : List Peer) (before after : Index Above) (g : ℕ) (x : Above) (written : (k : ℕ) → get nat_eq after k ≡ cond (nat_eq g k) (Some x) (get nat_eq before k)) where
   at : (k : ℕ) (o y : Option Above) → cond (nat_eq g k) (Some x) o ≡ y → ((g ≡ k) × (Some x ≡ y)) ⊎ (o ≡ y)
-  at k o y e = go (nat_eq g k) refl e
-    where
-      go : (b : Bool) → nat_eq g k ≡ b → cond b (Some x) o ≡ y → ((g ≡ k) × (Some x ≡ y)) ⊎ (o ≡ y)
-      go true is e = inl (grind (arith, nat_tests), e)
-      go false is e = inr e
+  at k o y e = elim (nat_eq g k) as (λ b. nat_eq g k ≡ b → cond b (Some x) o ≡ y → ((g ≡ k) × (Some x ≡ y)) ⊎ (o ≡ y)) [
+    | true ↦ λ is e. inl (grind (arith, nat_tests), e)
+    | false ↦ λ is e. inr e
+  ] refl e
 
   pub written-vanished : IsVanished old new before → IsAbove (has_member new) (master_of old) (Some g) x.up x.steps → IsVanished old new after
   written-vanished v a = record {
@@ -73,7 +66,6 @@ module _ (old new : List Peer) (before after : Index Above) (g : ℕ) (x : Above
   }
 
   pub written-near : (most : ℕ) → AreNear most before → 0 < x.steps → x.steps ≤ most → AreNear most after
-  written-near most near low high k y e = elim (at k (get nat_eq before k) (Some y) (sym (written k) ∙ e)) [
-    | inl is ↦ let same : x ≡ y = (let s = is.1 in cc) in rw (← same) (low, omega (arith, high))
-    | inr is ↦ near k y is
-  ]
+  written-near most near low high k y e =
+      let old = near k y in
+      (grind (arith, written k, old), grind (arith, written k, old))

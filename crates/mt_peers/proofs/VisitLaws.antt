@@ -12,8 +12,7 @@ use Rattle.mt_peers.specs.Entered.{entered, entered_by, gets_above, collected_sl
 use Rattle.mt_skel.proofs.CountLaws.{count-same, count-le, count-length, length-filter, length-of-map}
 use Rattle.mt_skel.proofs.WorklistLaws.{is_found, next-new}
 use Rattle.mt_peers.specs.Masters.{master_of}
-use Rattle.mt_peers.proofs.FirstLaws.{count-zero}
-use Rattle.mt_peers.proofs.WorklistLaws.{IsWorklist, led_by, worklist-next, worklist-all, next-led}
+use Rattle.mt_peers.proofs.WorklistLaws.{count-zero, IsWorklist, led_by, worklist-next, worklist-all, next-led}
 use Rattle.mt_peers.proofs.ReceivedLaws.{entered-rows, collected-rows, other-more, led-gets, led-all}
 
 pub length-slaves : (es : List Peer) (m : ℕ) → length (slaves es m) ≡ count (has_master m) es
@@ -91,11 +90,7 @@ module _ (es : List Peer) (g i : ℕ) (all : List ℕ) (w : IsWorklist es g (tak
 
 -- at the start no slave was gone over
 led-none : (e : Peer) → led_by [] e ≡ false
-led-none e = go e.state.master
-  where
-    go : (o : Option ℕ) → is_found [] o ≡ false
-    go None = refl
-    go (Some m) = refl
+led-none e = grind arith
 
 pub start-led : (es : List Peer) (n : ℕ) → n ≡ n + count (led_by []) es
 start-led es n = let z = count-zero (led_by []) es (λ e at. led-none e) in omega (arith, z)

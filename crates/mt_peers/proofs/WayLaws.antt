@@ -31,50 +31,21 @@ module _ (p : ℕ → Bool) (next : ℕ → Option ℕ) where
 
   -- what follows one that does not pass is a step above it
   pub above-once : (g : ℕ) → p g ≡ false → IsAbove p next (Some g) (next g) 1
-  above-once g off zero = ap (λ b. cond b (Some g) None) off
-  above-once g off (suc k) =
-      let f : suc k - 1 ≡ k = omega arith in
-      let b : nat_lt (suc k) 1 ≡ false = grind (arith, nat_tests) in
-      ap (λ b. cond b (Some g) (find p (option_map_or (λ y. chain next k y) (next g) []))) off
-      ∙ go (next g)
-      ∙ ap (λ n. first_within p next n (next g)) (sym f)
-      ∙ ap (λ b. cond b None (first_within p next (suc k - 1) (next g))) (sym b)
-    where
-      go : (o : Option ℕ) → find p (option_map_or (λ y. chain next k y) o []) ≡ first_within p next k o
-      go None = refl
-      go (Some h) = refl
+  above-once g off zero = grind (arith, nat_tests)
+  above-once g off (suc k) = let f : suc k - 1 ≡ k = omega arith in grind (arith, nat_tests, f)
 
-  passes-first : (k g : ℕ) → p g ≡ true → first_within p next k (Some g) ≡ Some g
-  passes-first zero g on = ap (λ b. cond b (Some g) None) on
-  passes-first (suc k) g on = ap (λ b. cond b (Some g) (find p (option_map_or (λ y. chain next k y) (next g) []))) on
+  -- one that passes is the first
+  pub passes-first : (k g : ℕ) → p g ≡ true → first_within p next k (Some g) ≡ Some g
+  passes-first zero g on = grind arith
+  passes-first (suc k) g on = grind arith
 
   -- what is below another one does not pass
   pub above-dead : (g r : ℕ) (v : Option ℕ) → IsAbove p next (Some g) v r → 0 < r → p g ≡ false
-  above-dead g r v a l =
-      let b : nat_lt 0 r ≡ true = grind (arith, nat_tests) in
-      let none : first_within p next 0 (Some g) ≡ None = a 0 ∙ ap (λ b. cond b None (first_within p next (0 - r) v)) b in
-      go (p g) refl none
-    where
-      go : (t : Bool) → p g ≡ t → first_within p next 0 (Some g) ≡ None → t ≡ false
-      go false e none = refl
-      go true e none = absurd (let f : Some g ≡ None = sym (passes-first 0 g e) ∙ none in cc)
+  above-dead g r v a l = grind (arith, nat_tests, a 0, passes-first 0 g)
 
   dead-end : (k u : ℕ) → p u ≡ false → next u ≡ None → first_within p next k (Some u) ≡ None
-  dead-end k u off none = above-once u off k ∙ ap (λ m. cond (nat_lt k 1) None (first_within p next (k - 1) m)) none ∙ go (nat_lt k 1)
-    where
-      go : (b : Bool) → ◌≡◌ {A = Option ℕ} (cond b None None) None
-      go true = refl
-      go false = refl
+  dead-end k u off none = grind (arith, nat_tests, above-once u off k)
 
   pub first-near : (n g s : ℕ) (u : Option ℕ) → IsAbove p next (Some g) u s → s ≤ n → ((h : ℕ) → u ≡ Some h → p h ≡ false → next h ≡ None) → if_passes p u ≡ find p (chain next n g)
-  first-near n g s u a l ended =
-      let b : nat_lt n s ≡ false = grind (arith, nat_tests) in
-      sym (a n ∙ ap (λ b. cond b None (first_within p next (n - s) u)) b ∙ go u ended)
-    where
-      go : (u : Option ℕ) → ((h : ℕ) → u ≡ Some h → p h ≡ false → next h ≡ None) → first_within p next (n - s) u ≡ if_passes p u
-      go None ended = refl
-      go (Some h) ended = one (p h) refl (ended h refl)
-        where
-          one : (t : Bool) → p h ≡ t → (p h ≡ false → next h ≡ None) → first_within p next (n - s) (Some h) ≡ if_passes p (Some h)
-          one true e ended = passes-first (n - s) h e ∙ ap (λ b. cond b (Some h) None) (sym e)
-          one false e ended = dead-end (n - s) h e (ended e) ∙ ap (λ b. cond b (Some h) None) (sym e)
+  first-near n g s None a l ended = grind (arith, nat_tests, a n)
+  first-near n g s (Some h) a l ended = grind (arith, nat_tests, a n, passes-first (n - s) h, dead-end (n - s) h, ended h refl)

@@ -3,7 +3,7 @@ use Rattle.std.specs.Prelude.{is_ok, if◌then◌else◌}
 use Rattle.std.specs.List.{insert, position_or_len}
 use Rattle.mt_peers.specs.declared.entries.Entry.{Entry}
 use Rattle.mt_peers.specs.Entries.{now_peers}
-use Rattle.mt_peers.proofs.JoinLaws.{now-insert}
+use Rattle.mt_peers.proofs.EntryLaws.{now-insert}
 use Rattle.mt_peers.proofs.entries.add_entry.Goals as goal
 
 pub returns-clause-peers : goal.returns-clause-peers

@@ -2,8 +2,7 @@ use Rattle.std.proofs.Common.{rules, sym, ap, ◌∙◌}
 use Rattle.std.proofs.lemmas.List.Sorted.{answers_always}
 use Rattle.mt_skel.specs.Keyed.{rises, row_at}
 use Rattle.mt_skel.proofs.SearchLaws.{not_found}
-use Rattle.mt_peers.proofs.EntryLaws.{entry_mount, rises_now}
-use Rattle.mt_peers.proofs.FoundLaws.{drop_found, drop_none}
+use Rattle.mt_peers.proofs.EntryLaws.{entry_mount, rises_now, drop_found, drop_none}
 use Rattle.mt_peers.proofs.entries.drop_entry.Goals as goal
 
 pub returns-in-Ok-clause-entries : goal.returns-in-Ok-clause-entries

@@ -1,8 +1,7 @@
 use Rattle.std.proofs.Common.{ap, sym, ◌∙◌, arith}
 use Rattle.std.specs.Option.{option_copied}
 use Rattle.std.proofs.lemmas.Bool.Decides.{nat_tests}
-use Rattle.mt_peers.proofs.EntryLaws.{rises_now}
-use Rattle.mt_peers.proofs.FoundLaws.{past_last}
+use Rattle.mt_peers.proofs.EntryLaws.{rises_now, past_last}
 use Rattle.mt_peers.proofs.entries.ends_by.Goals as goal
 
 pub returns-in-Some : goal.returns-in-Some

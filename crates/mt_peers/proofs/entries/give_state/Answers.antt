@@ -2,8 +2,7 @@ use Rattle.std.proofs.Common.{◌≡◌, rules, sym, ap, ◌∙◌, None}
 use Rattle.std.proofs.lemmas.List.Sorted.{answers_always}
 use Rattle.mt_skel.specs.Keyed.{row_at}
 use Rattle.mt_skel.proofs.SearchLaws.{found_at, not_found}
-use Rattle.mt_peers.proofs.EntryLaws.{entry_mount, entry_state, rises_now, state_now}
-use Rattle.mt_peers.proofs.FoundLaws.{give_found, give_none}
+use Rattle.mt_peers.proofs.EntryLaws.{entry_mount, entry_state, rises_now, state_now, give_found, give_none}
 use Rattle.mt_peers.proofs.entries.give_state.Goals as goal
 
 pub returns-in-Ok-clause-entries : goal.returns-in-Ok-clause-entries

@@ -1,8 +1,7 @@
 use Rattle.std.proofs.Common.{rules, leb, sym, ◌∙◌}
 use Rattle.std.proofs.lemmas.List.Sorted.{IsPartitionPoint-from_clause, IsPartitionedBy-leb}
 use Rattle.mt_peers.specs.declared.entries.Entry.{Entry}
-use Rattle.mt_peers.proofs.EntryLaws.{entry_mount, rises_now}
-use Rattle.mt_peers.proofs.FoundLaws.{non_decreasing, place_parted}
+use Rattle.mt_peers.proofs.EntryLaws.{entry_mount, rises_now, non_decreasing, place_parted}
 use Rattle.mt_peers.proofs.entries.place_for.Goals as goal
 
 pub returns-clause-place : goal.returns-clause-place

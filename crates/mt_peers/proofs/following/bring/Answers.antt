@@ -5,10 +5,9 @@ use Rattle.mt_skel.proofs.KeyedLaws.{rises-put, rises-filter}
 use Rattle.mt_peers.specs.declared.entries.Entry.{Entry}
 use Rattle.mt_peers.specs.Peers.{Peer, mount_of, state_at}
 use Rattle.mt_peers.specs.Entries.{now_peers}
-use Rattle.mt_peers.proofs.GivenLaws.{given-written, given_state, rises-given}
-use Rattle.mt_peers.proofs.LeaveLaws.{now-filter}
-use Rattle.mt_peers.proofs.SinceLaws.{but_put, but_given}
-use Rattle.mt_peers.proofs.FollowLaws.{put_state, dropped_here, dropped_others}
+use Rattle.mt_peers.proofs.EntryLaws.{given-written, given_state, rises-given}
+use Rattle.mt_peers.proofs.LeavingLaws.{now-filter}
+use Rattle.mt_peers.proofs.SinceLaws.{but_put, but_given, put_state, dropped_here, dropped_others}
 use Rattle.mt_peers.proofs.following.bring.Goals as goal
 
 pub returns-in_default-clause-here : goal.returns-in_default-clause-here

@@ -1,7 +1,7 @@
 use Rattle.mt_mounts.proofs.StepLaws.{alike_end}
 use Rattle.mt_peers.specs.Peers.{state_at}
 use Rattle.mt_peers.specs.Entries.{now_peers}
-use Rattle.mt_peers.proofs.FollowLaws.{same_states}
+use Rattle.mt_peers.proofs.SinceLaws.{same_states}
 use Rattle.mt_peers.proofs.following.follow_each.Goals as goal
 
 pub returns : goal.returns

@@ -1,7 +1,7 @@
 use Rattle.std.proofs.Common.{not, ap, ◌∙◌}
 use Rattle.mt_skel.specs.Keyed.{among}
 use Rattle.mt_peers.specs.Entries.{now_peers}
-use Rattle.mt_peers.proofs.LeaveLaws.{now-filter}
+use Rattle.mt_peers.proofs.LeavingLaws.{now-filter}
 use Rattle.mt_peers.proofs.ListedLaws.{listed-is, listed-without}
 use Rattle.mt_peers.proofs.leaving.take_out.Goals as goal
 

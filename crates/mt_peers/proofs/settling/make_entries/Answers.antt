@@ -6,8 +6,7 @@ use Rattle.mt_peers.specs.Making.{made}
 use Rattle.mt_peers.specs.Entries.{now_peers}
 use Rattle.mt_peers.specs.Listed.{peer_group, leader_of}
 use Rattle.mt_peers.proofs.MemberLaws.{peering}
-use Rattle.mt_peers.proofs.ChangeLaws.{made-entries}
-use Rattle.mt_peers.proofs.RelistLaws.{was-made, rises-changed, was-kept, rises-kept, groups-kept}
+use Rattle.mt_peers.proofs.ChangeLaws.{made-entries, was-made, rises-changed, was-kept, rises-kept, groups-kept}
 use Rattle.mt_peers.proofs.settling.make_entries.Goals as goal
 
 pub list_members-requires-clause-rising : goal.list_members-requires-clause-rising

@@ -1,7 +1,7 @@
 use Rattle.std.proofs.Common.{arith}
 use Rattle.mt_skel.proofs.CountLaws.{length-of-map}
 use Rattle.mt_peers.specs.Entries.{was_peer, now_peers, was_peers}
-use Rattle.mt_peers.proofs.HeirLaws.{settle-step}
+use Rattle.mt_peers.proofs.ChangeLaws.{settle-step}
 use Rattle.mt_peers.proofs.settling.settle_all.Goals as goal
 
 pub loop-i-preserved : goal.loop-i-preserved

@@ -5,7 +5,7 @@ use Rattle.mt_peers.specs.Peers.{state_at}
 use Rattle.mt_peers.specs.Members.{group_at, master_at}
 use Rattle.mt_peers.specs.Listed.{MastersLive}
 use Rattle.mt_peers.specs.Entries.{now_peers}
-use Rattle.mt_peers.proofs.FollowLaws.{alike_seen, groups_alike, masters_alike, listed_as}
+use Rattle.mt_peers.proofs.SinceLaws.{alike_seen, groups_alike, masters_alike, listed_as}
 use Rattle.mt_peers.proofs.peers.Peers.follow.Goals as goal
 
 pub follow_lists-requires-clause-groups : goal.follow_lists-requires-clause-groups

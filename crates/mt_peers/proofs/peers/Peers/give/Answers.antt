@@ -6,7 +6,7 @@ use Rattle.mt_lists.specs.Log.{earlier}
 use Rattle.mt_peers.specs.declared.entries.Entry.{Entry}
 use Rattle.mt_peers.specs.Peers.{PeersView, state_at, with_state}
 use Rattle.mt_peers.specs.Entries.{now_peers}
-use Rattle.mt_peers.proofs.GivenLaws.{given-written}
+use Rattle.mt_peers.proofs.EntryLaws.{given-written}
 use Rattle.mt_lists.proofs.LogLaws.{alike-noted}
 use Rattle.mt_peers.proofs.EachLaws.{given-absent}
 use Rattle.mt_peers.proofs.ListedLaws.{listed-given}

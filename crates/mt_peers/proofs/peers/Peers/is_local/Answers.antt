@@ -4,7 +4,7 @@ use Rattle.mt_skel.specs.Keyed.{among}
 use Rattle.mt_peers.specs.Peers.{peering_of}
 use Rattle.mt_peers.specs.Going.{loses_none}
 use Rattle.mt_peers.proofs.ListedLaws.{seen}
-use Rattle.mt_peers.proofs.LocalLaws.{local}
+use Rattle.mt_peers.proofs.GoingLaws.{local}
 use Rattle.mt_peers.proofs.peers.Peers.is_local.Goals as goal
 
 pub returns-clause-few : goal.returns-clause-few
