@@ -1,7 +1,7 @@
 -- A set of mounts that has all that receive from its members stays one, and mounts outside keep their states.
 use Rattle.std.proofs.Common.{◌≡◌, ◌⊎◌, ℕ, zero, suc, ◌<◌, Bool, true, false, cond, not, ◌||◌, eqb, eqb-true, eq-eqb, List, [], map, length, Option, Some, None, refl, sym, ap, ◌∙◌, subst, inl, inr, arith}
 use Rattle.std.specs.List.{list_any, filter}
-use Rattle.std.specs.Option.{option_map, option_map_or}
+use Rattle.std.specs.Option.{option_map_or}
 use Rattle.std.proofs.lemmas.Bool.{false_from_ne_true}
 use Rattle.std.proofs.lemmas.Bool.Decides.{nat_tests}
 use Rattle.mt_skel.specs.Chain.{chain}
@@ -11,7 +11,7 @@ use Rattle.mt_peers.specs.declared.state.State.{State}
 use Rattle.mt_peers.specs.declared.state.Kind.{Kind}
 use Rattle.mt_peers.specs.Peers.{Peer, Peering, mount_of, state_at, in_group, has_member}
 use Rattle.mt_peers.specs.Masters.{master_of, groups_up, reaches}
-use Rattle.mt_peers.specs.Loss.{settle, heir, with_master, left}
+use Rattle.mt_peers.specs.Loss.{settle, heir, left}
 use Rattle.mt_peers.specs.Making.{made, changed, changed_peer, new_group}
 use Rattle.mt_peers.specs.WellFormed.{IsPeering}
 use Rattle.mt_peers.proofs.MemberLaws.{master_of-from, state_at-filter, state_at-without, state_at-map, names-is}
@@ -51,16 +51,13 @@ same-IsClosed P Q es same a =
 -- what goes from each number to the next is true of a whole chain
 pub along : (next : ℕ → Option ℕ) (P : ℕ → Type 0) → ((x y : ℕ) → P x → next x ≡ Some y → P y) → (n x q : ℕ) → P x → list_any (eqb q) (chain next n x) ≡ true → P q
 along next P step zero x q px h = let s : q ≡ x = grind (arith, nat_tests) in subst P (sym s) px
-along next P step (suc n) x q px h = go (next x) refl (λ y. along next P step n y q) h
-  where
-    go : (o : Option ℕ) → next x ≡ o → ((y : ℕ) → P y → list_any (eqb q) (chain next n y) ≡ true → P q)
-        → (eqb q x || list_any (eqb q) (option_map_or (λ y. chain next n y) o [])) ≡ true → P q
-    go None e ih a = let s : q ≡ x = grind (arith, nat_tests) in subst P (sym s) px
-    go (Some y) e ih a =
-        elim (eqb q x) as (λ b. eqb q x ≡ b → (b || list_any (eqb q) (chain next n y)) ≡ true → P q) [
-          | true ↦ λ t _. subst P (sym (eqb-true q x t)) px
-          | false ↦ λ _ r. ih y (step x y px e) r
-        ] refl a
+along next P step (suc n) x q px h = elim (eqb q x) as (λ b. eqb q x ≡ b → (b || list_any (eqb q) (option_map_or (λ y. chain next n y) (next x) [])) ≡ true → P q) [
+  | true ↦ λ t _. subst P (sym (eqb-true q x t)) px
+  | false ↦ λ _ r. elim (next x) as (λ o. next x ≡ o → list_any (eqb q) (option_map_or (λ y. chain next n y) o []) ≡ true → P q) [
+    | None ↦ λ _ f. absurd (cc)
+    | Some y ↦ λ e f. along next P step n y q (step x y px e) f
+  ] refl r
+] refl h
 
 pub heir-along : (old new : List Peer) (P : ℕ → Type 0) → ((x y : ℕ) → P x → master_of old x ≡ Some y → P y) → (m : Option ℕ) (g : ℕ) → ((k : ℕ) → m ≡ Some k → P k) → heir old new m ≡ Some g → P g
 heir-along old new P step None g start e = absurd (cc)
@@ -80,8 +77,7 @@ reached P es r a i j m g s t ei ej ms gt q far =
 
 -- a master that still lives stays
 pub settled-same : (old mid : List Peer) (i : ℕ) (s : State) → state_at mid i ≡ Some s → ((m : ℕ) → s.master ≡ Some m → has_member mid m ≡ true) → state_at (settle old mid) i ≡ Some s
-settled-same old mid i s e lives =
-    state_at-settle old mid i ∙ ap (option_map (λ s. with_master s (heir old mid s.master))) e ∙ ap (λ m. Some (with_master s m)) (heir-stays old mid s.master lives)
+settled-same old mid i s e lives = grind (arith, state_at-settle old mid i, heir-stays old mid s.master lives)
 
 module _ (P : ℕ → Type 0) (p : Peering) (h : IsPeering p) (a : IsClosed P p.peers) where
   -- a group that was given out, and that has no member in the set unless the mount is in it
@@ -172,10 +168,7 @@ module _ (P : ℕ → Type 0) (p : Peering) (h : IsPeering p) (a : IsClosed P p.
       changed-outside x off = ap (λ b. let y : Peer = record { mount = x.mount; state = cond b (changed k (new_group f p x.mount) x.state) x.state } in y) (off-outside x.mount off)
 
       changed-state : (i : ℕ) (s : State) → state_at p.peers i ≡ Some s → (P i → ⊥) → state_at (map (changed_peer k f p) p.peers) i ≡ Some s
-      changed-state i s e off =
-          state_at-map (changed_peer k f p) (λ x. refl) i p.peers
-          ∙ ap (option_map (λ (s : State). cond (f i) (changed k (new_group f p i) s) s)) e
-          ∙ ap (λ b. Some (cond b (changed k (new_group f p i) s) s)) (off-outside i off)
+      changed-state i s e off = grind (arith, state_at-map (changed_peer k f p) (λ x. refl) i p.peers, off-outside i off)
 
       pub made-outside : (i : ℕ) (s : State) → state_at p.peers i ≡ Some s → (P i → ⊥) → state_at (made k f p).peers i ≡ Some s
       unfolding made

@@ -1,8 +1,7 @@
 -- The masters above a group and the members of one, as iterators give them.
 use Rattle.std.proofs.lemmas.Bool.Decides.{nat_tests}
-use Rattle.std.proofs.Common.{◌≡◌, ℕ, zero, suc, List, [], ◌∷◌, drop, Option, Some, None, refl, ap, ◌∙◌, arith, ◌<◌, Bool, true, false, cond, ltb, sym}
-use Rattle.std.specs.Option.{option_map_or, option_and_then}
-use Rattle.std.specs.List.{filter}
+use Rattle.std.proofs.Common.{◌≡◌, ℕ, zero, suc, List, [], ◌∷◌, drop, Some, refl, arith, true, ltb, filter}
+use Rattle.std.specs.Option.{option_map_or}
 use Rattle.mt_skel.specs.Chain.{chain}
 use Rattle.mt_skel.specs.Keyed.{rises, among}
 use Rattle.mt_lists.specs.Lists.{first, above}
@@ -10,7 +9,7 @@ use Rattle.mt_lists.proofs.NeighbourLaws.{rising, over, over-low, above-among}
 use Rattle.mt_peers.specs.Peers.{Peer, mount_of, in_group, members}
 use Rattle.mt_peers.specs.Masters.{master_of}
 use Rattle.mt_peers.specs.Above.{masters_from}
-use Rattle.mt_peers.specs.Members.{group_at, next_member, member_after}
+use Rattle.mt_peers.specs.Members.{member_after}
 use Rattle.mt_peers.specs.Coming.{members_above, members_from}
 use Rattle.mt_peers.proofs.ListLaws.{member-group}
 use Rattle.mt_peers.proofs.SortedLaws.{rises-picked}

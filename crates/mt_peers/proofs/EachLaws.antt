@@ -1,10 +1,9 @@
 -- Mounts that are changed one after the other, and no master settled.
-use Rattle.std.proofs.Common.{◌≡◌, ℕ, suc, ◌+◌, ◌<◌, ◌≤◌, Bool, true, false, cond, ◌&&◌, ◌||◌, eqb, eqb-true, ltb, List, [], ◌∷◌, ◌++◌, map, drop, length, eq-eqb, length-append, length-drop, get_or, get_or-drop, Option, Some, None, refl, sym, ap, ap₂, ◌∙◌, subst, inl, inr, arith}
-use Rattle.std.specs.Prelude.{is_some, nat_eq}
-use Rattle.std.specs.List.{filter, list_any, list_all, position_or_len}
+use Rattle.std.proofs.Common.{◌≡◌, ℕ, suc, ◌+◌, ◌<◌, ◌≤◌, Bool, true, false, cond, ◌&&◌, eqb, eqb-true, ltb, List, [], ◌∷◌, ◌++◌, map, drop, length, length-append, length-drop, get_or, get_or-drop, Option, Some, None, refl, sym, ap, ◌∙◌, subst, inl, inr, arith, is_some, nat_eq}
+use Rattle.std.specs.List.{list_any, list_all, position_or_len}
 use Rattle.std.specs.List.Sorted.{IsNonDecreasing}
-use Rattle.std.specs.Option.{option_map, option_map_or, option_or, is_none}
-use Rattle.std.proofs.lemmas.Bool.{false≢true, false_from_ne_true}
+use Rattle.std.specs.Option.{option_map, option_map_or, is_none}
+use Rattle.std.proofs.lemmas.Bool.{false≢true}
 use Rattle.std.proofs.lemmas.Bool.Decides.{nat_tests}
 use Rattle.std.proofs.lemmas.List.{drop_more, drop_all}
 use Rattle.mt_skel.specs.Keyed.{row_at, rises, among}
@@ -12,7 +11,6 @@ use Rattle.mt_skel.proofs.KeyedLaws.{rises-map, row_at-below, all-lower}
 use Rattle.mt_skel.proofs.ElementLaws.{In}
 use Rattle.mt_peers.specs.declared.state.State.{State}
 use Rattle.mt_peers.specs.declared.state.Kind.{Kind}
-use Rattle.mt_peers.specs.declared.state.Kind.TheVariants.{Shared, Private, Slave, Unbindable}
 use Rattle.mt_peers.specs.Peers.{Peer, Peering, mount_of, state_at, with_state}
 use Rattle.mt_peers.specs.Making.{changed, changed_peer, is_shared, groupless, new_group}
 use Rattle.mt_peers.specs.Few.{unsettled}
@@ -32,16 +30,10 @@ place-back m (x ∷ xs) ys h = let ih = place-back m xs ys in grind (arith, nat_
 
 -- a mount that was made shared has a group, and to be made so again changes nothing
 gets-group : (k : Kind) (n : ℕ) (s : State) → is_shared k ≡ true → is_none (changed k n s).group ≡ false
-gets-group Shared n s sh = grind arith
-gets-group Private n s sh = absurd (cc)
-gets-group Slave n s sh = absurd (cc)
-gets-group Unbindable n s sh = absurd (cc)
+gets-group k n s sh = grind arith
 
 again : (k : Kind) (m n : ℕ) (s : State) → changed k m (changed k n s) ≡ changed k n s
-again Shared m n s = ap (λ (o : Option ℕ). record { group = o; master = s.master; unbindable = false }) (elim s.group as (λ o. option_or (option_or o (Some n)) (Some m) ≡ option_or o (Some n)) [ None ↦ refl | Some g ↦ refl ])
-again Private m n s = refl
-again Slave m n s = refl
-again Unbindable m n s = refl
+again k m n s = grind arith
 
 -- a mount that is there is in no group
 abbrev lacks_group : Option State → Bool
@@ -54,15 +46,6 @@ module _ (x : ℕ) where
   one-alone (e ∷ es) up =
       let higher : eqb x e.mount ≡ true → row_at mount_of x es ≡ None = λ is. row_at-below mount_of x es (subst (λ k. list_all (λ y. ltb k (mount_of y)) es ≡ true) (sym (eqb-true x e.mount is)) (grind (arith, nat_tests))) in
       grind (arith, nat_tests, one-alone es (grind (arith, nat_tests)), higher)
-
-  place-zero : (es : List Peer) → rises mount_of es ≡ true → position_or_len (nat_eq x) (groupless (nat_eq x) es) ≡ 0
-  place-zero es up = grind (arith, nat_tests, one-alone es up)
-
-  place-other : (m : ℕ) (es : List Peer) → rises mount_of es ≡ true → eqb x m ≡ false → list_any (eqb m) (groupless (nat_eq x) es) ≡ false
-  place-other m es up off = grind (arith, nat_tests, one-alone es up)
-
-  count-one : (es : List Peer) (s : State) → rises mount_of es ≡ true → state_at es x ≡ Some s → length (groupless (nat_eq x) es) ≡ cond (is_none s.group) 1 0
-  count-one es s up at = grind (arith, one-alone es up, at)
 
 -- where no mount of the list is chosen, nothing changes
 module _ (k : Kind) (chosen : ℕ → Bool) (p : Peering) (nobody : (e : Peer) → In e p.peers → chosen e.mount ≡ false) where
@@ -78,18 +61,13 @@ module _ (k : Kind) (chosen : ℕ → Bool) (p : Peering) (nobody : (e : Peer) �
 -- what is made of one mount
 module _ (k : Kind) (x : ℕ) (p : Peering) (up : rises mount_of p.peers ≡ true) where
   pub made-absent : state_at p.peers x ≡ None → p ≡ unsettled k (nat_eq x) p
-  made-absent none =
-      unsettled-none k (nat_eq x) p (λ e at. false_from_ne_true (eqb x e.mount) (λ is.
-      let there = state-in p.peers e up at in
-      let here = ap (state_at p.peers) (eqb-true x e.mount is) in
-      let c : Some e.state ≡ None = sym there ∙ sym here ∙ none in
-      absurd (cc)))
+  made-absent none = unsettled-none k (nat_eq x) p (λ e at. grind (arith, nat_tests, none, state-in p.peers e up at))
 
   pub made-one : (s : State) → state_at p.peers x ≡ Some s
       → peering (with_state x (changed k p.next s) p.peers) (cond (is_shared k && (true && is_none s.group)) (p.next + 1) p.next) ≡ unsettled k (nat_eq x) p
   made-one s there =
-      ap (λ (es : List Peer). peering es (cond (is_shared k && (true && is_none s.group)) (p.next + 1) p.next)) (map-alike (λ (e : Peer). record e { state = cond (eqb x e.mount) (changed k p.next s) e.state }) (changed_peer k (nat_eq x) p) p.peers (λ e at. grind (arith, nat_tests, there, state-in p.peers e up at, place-zero x p.peers up)))
-      ∙ ap (peering (map (changed_peer k (nat_eq x) p) p.peers)) (grind (arith, count-one x p.peers s up there))
+      ap (λ (es : List Peer). peering es (cond (is_shared k && (true && is_none s.group)) (p.next + 1) p.next)) (map-alike (λ (e : Peer). record e { state = cond (eqb x e.mount) (changed k p.next s) e.state }) (changed_peer k (nat_eq x) p) p.peers (λ e at. grind (arith, nat_tests, there, state-in p.peers e up at, one-alone x p.peers up)))
+      ∙ ap (peering (map (changed_peer k (nat_eq x) p) p.peers)) (grind (arith, one-alone x p.peers up, there))
 
 -- nothing changes where a mount gets the state that it has, or is not there
 given-still : (x : ℕ) (s : State) (es : List Peer) → rises mount_of es ≡ true → ((t : State) → state_at es x ≡ Some t → s ≡ t) → with_state x s es ≡ es
@@ -138,7 +116,7 @@ module _ (k : Kind) (x : ℕ) (rest : List ℕ) (low : (i : ℕ) → among rest 
 
     -- the number of another
     number-later : (m : ℕ) → eqb x m ≡ false → is_shared k ≡ true → new_group (among rest) (unsettled k (nat_eq x) p) m ≡ new_group (among (x ∷ rest)) p m
-    number-later m off sh = grind (arith, place-back m front back (place-other x m p.peers up off), parts sh)
+    number-later m off sh = grind (arith, place-back m front back (grind (arith, nat_tests, one-alone x p.peers up)), parts sh)
 
     step-peer : (e : Peer) → In e p.peers → changed_peer k (among rest) (unsettled k (nat_eq x) p) (changed_peer k (nat_eq x) p e) ≡ changed_peer k (among (x ∷ rest)) p e
     step-peer e at =

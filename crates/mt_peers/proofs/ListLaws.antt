@@ -1,8 +1,6 @@
 -- A list of mounts is gone through from its first on, by what follows each.
-use Rattle.std.proofs.lemmas.Bool.Decides.{nat_tests}
-use Rattle.std.proofs.Common.{◌≡◌, ℕ, suc, ◌≤◌, Bool, true, false, cond, eqb, eqb-true, List, [], ◌∷◌, ◌++◌, map, length, Option, Some, None, refl, sym, ap, ◌∙◌, arith}
+use Rattle.std.proofs.Common.{◌≡◌, ℕ, suc, ◌≤◌, Bool, true, cond, eqb, eqb-true, List, [], ◌∷◌, ◌++◌, map, length, Option, Some, None, refl, sym, ap, ◌∙◌, arith, option_and_then}
 use Rattle.std.specs.List.{filter, filter_map, cons_option}
-use Rattle.std.specs.Option.{option_and_then}
 use Rattle.std.proofs.lemmas.List.{append_assoc}
 use Rattle.mt_skel.specs.Keyed.{rises, among}
 use Rattle.mt_skel.proofs.ElementLaws.{in_any, in_filter, in_map}

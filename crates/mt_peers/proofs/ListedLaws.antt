@@ -1,7 +1,5 @@
 -- The lists of members and of slaves, and what a change of the states makes of them.
-use Rattle.std.proofs.Common.{◌≡◌, ℕ, zero, suc, ◌+◌, ◌<◌, Bool, true, false, cond, not, ◌||◌, List, [], ◌∷◌, ◌++◌, map, take, drop, length, get_or, append_assoc, Option, Some, None, refl, sym, ap, ◌∙◌, subst, arith}
-use Rattle.std.specs.Prelude.{is_some, nat_lt}
-use Rattle.std.specs.List.{filter, find}
+use Rattle.std.proofs.Common.{◌≡◌, ℕ, zero, suc, ◌+◌, ◌<◌, Bool, true, not, List, [], ◌∷◌, ◌++◌, map, take, drop, length, get_or, append_assoc, Option, Some, None, refl, sym, ap, ◌∙◌, subst, arith, is_some, nat_lt, filter, find}
 use Rattle.std.specs.Option.{option_map, option_map_or, option_and_then}
 use Rattle.std.proofs.lemmas.Bool.Decides.{nat_tests}
 use Rattle.std.proofs.lemmas.List.{drop_more, map_more}
@@ -52,14 +50,10 @@ module _ (es : List Peer) (ms ss : List ListRow) (h : IsListed es ms ss) where
   slaves-listed g = ids-listed leader_of es ss h.slaves_told g
 
   pub member-after-listed : (i : ℕ) → next_of ms i ≡ member_after es i
-  member-after-listed i =
-      ap (λ o. option_and_then (λ n. above i (ids ms n)) o) (group-listed i)
-      ∙ (λ k. option_and_then (λ n. above i (members-listed n k)) (group_at es i))
+  member-after-listed i = λ k. option_and_then (λ n. above i (members-listed n k)) (group-listed i k)
 
   pub slave-after-listed : (i : ℕ) → next_of ss i ≡ slave_after es i
-  slave-after-listed i =
-      ap (λ o. option_and_then (λ n. above i (ids ss n)) o) (master-listed i)
-      ∙ (λ k. option_and_then (λ n. above i (slaves-listed n k)) (master_at es i))
+  slave-after-listed i = λ k. option_and_then (λ n. above i (slaves-listed n k)) (master-listed i k)
 
   -- the master of a group is that of its first member
   pub master-of-listed : (g i : ℕ) → first (ids ms g) ≡ Some i → listed_number ss i ≡ master_of es g
@@ -157,11 +151,7 @@ listed-without gone es ms ss h = record {
 }
 
 pub listed-is : (es fs : List Peer) (ms ns ss ts : List ListRow) → es ≡ fs → ms ≡ ns → ss ≡ ts → IsListed fs ns ts → IsListed es ms ss
-listed-is es fs ms ns ss ts e f g h = record {
-  rising = ap (rises mount_of) e ∙ h.rising;
-  members_told = f ∙ h.members_told ∙ ap (rows_by mount_of peer_group) (sym e);
-  slaves_told = g ∙ h.slaves_told ∙ ap (rows_by mount_of leader_of) (sym e);
-}
+listed-is es fs ms ns ss ts e f g h = rw (e, f, g) h
 
 -- what is kept of the states that are seen
 pub seen : {v s : PeersView} {ms ss : List ListRow} {since : List Peer} {noted : List ℕ} {live : Bool} → v ≡ s → IsKeptPeers v.peers ms ss since noted live → IsKeptPeers s.peers ms ss since noted live

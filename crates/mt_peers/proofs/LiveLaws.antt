@@ -1,23 +1,20 @@
 -- Masters that live, also once a mount has joined or got another state, or many have.
 use Rattle.std.proofs.lemmas.Bool.Decides.{nat_tests}
-use Rattle.std.proofs.Common.{◌≡◌, ℕ, Bool, true, false, cond, not, ◌&&◌, ◌||◌, eqb, eqb-true, eq-eqb, ltb, List, [], ◌∷◌, map, Option, Some, None, refl, sym, ap, ◌∙◌, arith}
-use Rattle.std.specs.Prelude.{nat_eq}
-use Rattle.std.specs.Option.{option_map, option_map_or, option_or, option_eq, is_none}
-use Rattle.std.proofs.lemmas.Bool.{or_right}
+use Rattle.std.proofs.Common.{◌≡◌, ℕ, Bool, true, cond, not, eqb, List, [], ◌∷◌, map, Some, None, refl, sym, ap, ◌∙◌, arith}
+use Rattle.std.specs.Option.{option_map, option_map_or}
 use Rattle.mt_skel.specs.Keyed.{row_at, put, rises}
 use Rattle.mt_skel.proofs.KeyedLaws.{row_at-put, row_at-map}
 use Rattle.mt_skel.proofs.ElementLaws.{In, any_in, in_any, in_mapped, row_in}
-use Rattle.mt_skel.proofs.MiddleLaws.{and_first, and_second}
+use Rattle.mt_skel.proofs.MiddleLaws.{and_first}
 use Rattle.mt_lists.proofs.RowLaws.{same_of}
 use Rattle.mt_peers.specs.declared.state.State.{State}
 use Rattle.mt_peers.specs.declared.state.Kind.{Kind}
-use Rattle.mt_peers.specs.declared.state.Kind.TheVariants.{Shared, Private, Slave, Unbindable}
 use Rattle.mt_peers.specs.Peers.{Peer, Peering, mount_of, state_at, with_state, in_group, has_member, names}
 use Rattle.mt_peers.specs.Loss.{left}
 use Rattle.mt_peers.specs.Making.{made, changed, is_shared}
 use Rattle.mt_peers.specs.Listed.{MastersLive}
 use Rattle.mt_peers.specs.Few.{gains}
-use Rattle.mt_peers.proofs.MemberLaws.{some-is, state-in, stated, state-from}
+use Rattle.mt_peers.proofs.MemberLaws.{state-in, stated, state-from}
 use Rattle.mt_peers.proofs.SettleLaws.{settle-live}
 
 -- a mount joins
@@ -35,18 +32,11 @@ gained-master s t h = same_of s.master t.master (sym (ap not (and_first _ _ h)))
 gained-group : (s t : State) (g : ℕ) → gains s t ≡ true → names s.group g ≡ true → names t.group g ≡ true
 gained-group s t g h is = let same = same_of s.group t.group in grind (arith, same)
 
-same-option : (o : Option ℕ) → option_eq nat_eq o o ≡ true
-same-option None = refl
-same-option (Some n) = eq-eqb n n refl
-
 pub gains-self : (s : State) → gains s s ≡ true
-gains-self s = ap (λ b. b && (is_none s.group || option_eq nat_eq s.group s.group)) (same-option s.master) ∙ or_right (is_none s.group) (option_eq nat_eq s.group s.group) (same-option s.group)
+gains-self s = grind (arith, nat_tests)
 
 pub gains-shared : (k : Kind) (n : ℕ) (s : State) → is_shared k ≡ true → gains s (changed k n s) ≡ true
-gains-shared Shared n s sh = grind (arith, nat_tests)
-gains-shared Private n s sh = absurd (cc)
-gains-shared Slave n s sh = absurd (cc)
-gains-shared Unbindable n s sh = absurd (cc)
+gains-shared k n s sh = grind (arith, nat_tests)
 
 -- states that change so
 module _ (f : Peer → Peer) (same : (e : Peer) → (f e).mount ≡ e.mount) where

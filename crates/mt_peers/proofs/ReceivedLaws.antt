@@ -1,11 +1,8 @@
 -- What a worklist collects and counts: the mounts that get what happens in a group.
-use Rattle.std.proofs.lemmas.Bool.Decides.{nat_tests}
-use Rattle.std.proofs.Common.{◌≡◌, ℕ, suc, ◌+◌, ◌*◌, ◌≤◌, ◌<◌, Bool, true, false, cond, not, ◌&&◌, ◌||◌, ◌==◌, eqb-true, List, [], ◌∷◌, ◌++◌, map, length, Option, Some, None, refl, sym, ap, ◌∙◌, inl, inr, arith}
+use Rattle.std.proofs.Common.{◌≡◌, ℕ, ◌+◌, ◌*◌, ◌≤◌, ◌<◌, Bool, true, not, ◌&&◌, ◌||◌, ◌==◌, eqb-true, List, [], ◌∷◌, ◌++◌, map, length, Option, Some, refl, sym, ap, ◌∙◌, inl, inr, arith, option_and_then}
 use Rattle.std.specs.List.{filter, filter_map, cons_option}
-use Rattle.std.specs.Option.{option_map_or, option_and_then}
-use Rattle.std.proofs.Math.Bool.{and-false, and-true, or-false, not-or_self, and-or_distrib_right}
-use Rattle.std.proofs.lemmas.Bool.{or_right}
-use Rattle.mt_skel.specs.Keyed.{row_at, rises, among}
+use Rattle.std.proofs.Math.Bool.{and-or_distrib_right}
+use Rattle.mt_skel.specs.Keyed.{rises, among}
 use Rattle.mt_skel.proofs.ElementLaws.{In, in_any, in_filter, chain_low}
 use Rattle.mt_skel.proofs.MiddleLaws.{and_first}
 use Rattle.mt_peers.specs.declared.state.State.{State}
@@ -18,7 +15,7 @@ use Rattle.mt_peers.specs.WellFormed.{IsPeering}
 use Rattle.mt_peers.proofs.MemberLaws.{master_of-is, named, state-in}
 use Rattle.mt_peers.proofs.LeavingLaws.{up_rank, up_falls}
 use Rattle.mt_skel.proofs.CountLaws.{count-same, count-or, count-le-or, count-map, count-filter, length-filter, occ-filter_map}
-use Rattle.mt_skel.proofs.WorklistLaws.{is_found, is_found-snoc, apart-new}
+use Rattle.mt_skel.proofs.WorklistLaws.{is_found-snoc, apart-new}
 use Rattle.mt_peers.proofs.WorklistLaws.{count-zero, names-cond, one-row, IsWorklist, led_by, worklist-sound, worklist-reach}
 
 -- a mount gets what happens in the group g
@@ -96,10 +93,6 @@ one-itself p es up = grind (arith, one-row p (λ e. true) es up)
 abbrev pub looks_at : List Peer → ℕ → ℕ
 looks_at es g = count (in_group g) es + count (gets_above es g) es
 
--- what passes a test is another than one, or that one
-pub all_so : (u d : Bool) → u ≡ true → ((u && not d) || d) ≡ true
-all_so u d e = ap (λ x. (x && not d) || d) e ∙ not-or_self d
-
 pub looks-least : (es : List Peer) (g p : ℕ) → length (received es g p) ≤ looks_at es g
 looks-least es g p =
     let n = received-count es g p in
@@ -110,8 +103,8 @@ pub looks-most : (es : List Peer) (g p : ℕ) → rises mount_of es ≡ true →
 looks-most es g p up =
     let n = received-count es g p in
     let one = one-itself p es up in
-    let a = count-le-or (in_group g) (λ e. gets es g e && not (p == e.mount)) (λ e. p == e.mount) (λ e f. all_so (gets es g e) (p == e.mount) (ap (λ b. b || gets_above es g e) f)) es in
-    let b = count-le-or (gets_above es g) (λ e. gets es g e && not (p == e.mount)) (λ e. p == e.mount) (λ e f. all_so (gets es g e) (p == e.mount) (or_right (in_group g e) (gets_above es g e) f)) es in
+    let a = count-le-or (in_group g) (λ e. gets es g e && not (p == e.mount)) (λ e. p == e.mount) (λ e f. grind arith) es in
+    let b = count-le-or (gets_above es g) (λ e. gets es g e && not (p == e.mount)) (λ e. p == e.mount) (λ e f. grind arith) es in
     omega arith
 
 -- in order, no member of the group is a slave of one that was gone over
@@ -142,5 +135,5 @@ module _ (pg : Peering) (h : IsPeering pg) (g p : ℕ) where
       let none = none-both in
       let a =
       count-le-or (λ e. in_group g e || gets_above pg.peers g e) (λ e. gets pg.peers g e && not (p == e.mount)) (λ e. p == e.mount)
-      (λ e f. all_so (gets pg.peers g e) (p == e.mount) f) pg.peers in
+      (λ e f. grind arith) pg.peers in
       omega arith

@@ -1,36 +1,29 @@
 -- States and lists that are alike but for some: what a change does not note, and states on their way to others.
-use Rattle.std.proofs.Common.{◌≡◌, ℕ, Bool, true, false, cond, not, ◌||◌, eqb, List, [], ◌∷◌, ◌++◌, map, None, Some, refl, sym, ap, ◌∙◌, subst, arith, eq-eqb, Option}
-use Rattle.std.specs.List.{filter}
-use Rattle.std.specs.Option.{option_map, option_and_then}
-use Rattle.std.proofs.lemmas.Bool.{false≢true, ne_eqb, or_parts}
+use Rattle.std.proofs.Common.{◌≡◌, ℕ, Bool, true, false, cond, not, ◌||◌, List, [], ◌∷◌, ◌++◌, map, None, Some, refl, sym, ap, ◌∙◌, subst, arith, eq-eqb, Option, filter, option_map, option_and_then, nat_eq}
+use Rattle.std.proofs.lemmas.Bool.{ne_eqb}
 use Rattle.std.proofs.lemmas.Bool.Decides.{nat_tests}
-use Rattle.std.specs.Prelude.{nat_eq}
 use Rattle.mt_skel.specs.Keyed.{row_at, put, rises, among, without}
 use Rattle.mt_skel.proofs.KeyedLaws.{row_at-put, row_at-key, same_rows}
 use Rattle.mt_lists.specs.Lists.{ListRow, listed_id, listed_number, with_number}
 use Rattle.mt_lists.specs.Log.{AreAlikeBut}
 use Rattle.mt_lists.proofs.RowLaws.{same_of, row-with}
-use Rattle.mt_lists.proofs.LogLaws.{not-only, alike-as, alike-noted}
+use Rattle.mt_lists.proofs.LogLaws.{not-only, alike-noted}
 use Rattle.mt_lists.proofs.NumberedLaws.{rises-by}
 use Rattle.mt_peers.specs.declared.state.State.{State}
 use Rattle.mt_peers.specs.declared.entries.Entry.{Entry}
 use Rattle.mt_peers.specs.Peers.{Peer, mount_of, state_at, with_state, Peering, PeersView, peering_of}
-use Rattle.mt_peers.specs.Entries.{now_peer, was_peer, now_peers, was_peers, differs, is_changed, noted_of}
+use Rattle.mt_peers.specs.Entries.{now_peers, was_peers, is_changed, noted_of}
 use Rattle.mt_peers.specs.Listed.{IsListed, IsKeptPeers, MastersLive, peer_group, leader_of}
 use Rattle.mt_peers.specs.Members.{group_at, master_at}
 use Rattle.mt_peers.proofs.MemberLaws.{state_at-without}
 use Rattle.mt_peers.proofs.EntryLaws.{other_state}
-use Rattle.mt_peers.proofs.ListedLaws.{listed-is, group-listed, master-listed}
-
-same_mark : (a b : Bool) → differs a b ≡ false → a ≡ b
-same_mark a b e = grind arith
+use Rattle.mt_peers.proofs.ListedLaws.{group-listed, master-listed}
 
 pub same_state : (e : Entry) → is_changed e ≡ false → e.was ≡ e.state
 same_state e h =
-    let groups = (or_parts _ _ h).0 in
-    let g = same_of e.state.group e.was.group (sym (or_parts _ _ groups).0) in
-    let m = same_of e.state.master e.was.master (sym (or_parts _ _ groups).1) in
-    let u = same_mark e.state.unbindable e.was.unbindable (or_parts _ _ h).1 in
+    let g : e.state.group ≡ e.was.group = same_of _ _ (grind arith) in
+    let m : e.state.master ≡ e.was.master = same_of _ _ (grind arith) in
+    let u : e.state.unbindable ≡ e.was.unbindable = grind arith in
     λ i. record { group = sym g i; master = sym m i; unbindable = sym u i }
 
 module _ (leaving : ℕ → Bool) (i : ℕ) where
@@ -66,11 +59,7 @@ but_left es ids up i h = sym (state_at-without (among ids) i es up ∙ ap (λ b.
 -- what is kept where the rows and the IDs noted are as they are said to be
 pub kept-is : (es fs : List Peer) (members ms slaves ss : List ListRow) (since : List Peer) (noted : List ℕ) (live : Bool) → es ≡ fs → members ≡ ms → slaves ≡ ss → IsListed fs ms ss → AreAlikeBut noted (state_at since) (state_at fs)
     → (live ≡ true → MastersLive fs) → IsKeptPeers es members slaves since noted live
-kept-is es fs members ms slaves ss since noted live e m s l k led = record {
-  listed = listed-is es fs members ms slaves ss e m s l;
-  known = alike-as noted (state_at since) (state_at fs) (state_at es) k (λ i. ap (λ l. state_at l i) (sym e));
-  led = λ t. subst MastersLive (sym e) (led t);
-}
+kept-is es fs members ms slaves ss since noted live e m s l k led = rw (e, m, s) (record { listed = l; known = k; led = led })
 
 -- rows of a key and a value are what is found of them
 module _ {X V : Type 0} (key : X → ℕ) (value : X → V) (row : ℕ → V → X) (whole : (x : X) → x ≡ row (key x) (value x)) where
@@ -121,9 +110,7 @@ module _ (i : ℕ) (o : Option ℕ) (rows new : List ListRow) (r : rises listed_
 
 -- what a mount has once it is given a state
 pub put_state : (es : List Peer) (i : ℕ) (s : State) → state_at (put mount_of (record { mount = i; state = s }) es) i ≡ Some s
-put_state es i s =
-    let x : Peer = record { mount = i; state = s } in
-    ap (option_map (λ (e : Peer). e.state)) (row_at-put mount_of i x es ∙ ap (λ b. cond b (Some x) (row_at mount_of i es)) (eq-eqb i i refl))
+put_state es i s = grind (arith, nat_tests, row_at-put mount_of i (record { mount = i; state = s }) es)
 
 -- one mount is taken out
 module _ (es : List Peer) (k : ℕ) (r : rises mount_of es ≡ true) where

@@ -1,11 +1,9 @@
 -- Whether any mount has a master.
-use Rattle.std.proofs.Common.{◌≡◌, ℕ, false, cond, ◌||◌, ltb, List, [], ◌∷◌, map, length, Option, Some, None, refl, arith, true≢false}
-use Rattle.std.specs.Prelude.{is_some}
+use Rattle.std.proofs.Common.{◌≡◌, ℕ, false, ltb, List, [], ◌∷◌, length, refl, arith}
 use Rattle.std.proofs.lemmas.Bool.Decides.{nat_tests}
-use Rattle.std.specs.List.{filter, list_any}
-use Rattle.std.specs.Option.{option_map_or}
+use Rattle.std.specs.List.{list_any}
 use Rattle.mt_lists.specs.Numbered.{rows_by}
-use Rattle.mt_peers.specs.Peers.{Peer, mount_of, names, slaves, has_master, is_slave}
+use Rattle.mt_peers.specs.Peers.{Peer, mount_of, slaves, is_slave}
 use Rattle.mt_peers.specs.Listed.{leader_of}
 
 -- the list of slaves is empty where there is none

@@ -1,16 +1,15 @@
 -- What is known above groups that lost their last members, as searches come by.
 use Rattle.std.proofs.Common.{◌≡◌, ℕ, zero, suc, ◌+◌, ◌<◌, ◌≤◌, Bool, true, false, cond, nat_eq, List, [], ◌∷◌, drop, length, get_or, Option, Some, None, refl, sym, ap, ◌∙◌, arith, ◌⊎◌, inl, inr}
-use Rattle.std.specs.List.{find}
-use Rattle.std.specs.Option.{option_map, option_or}
+use Rattle.std.specs.Option.{option_or}
 use Rattle.std.proofs.lemmas.Bool.Decides.{nat_tests}
 use Rattle.std.proofs.lemmas.List.{drop_more}
 use Rattle.indexmap.specs.IndexMap.{get}
 use Rattle.mt_lists.specs.Tables.{Index}
 use Rattle.mt_peers.specs.declared.entries.Entry.{Entry}
 use Rattle.mt_peers.specs.declared.vanished.Above.{Above}
-use Rattle.mt_peers.specs.Peers.{Peer, in_group, has_member, names}
+use Rattle.mt_peers.specs.Peers.{Peer, has_member, names}
 use Rattle.mt_peers.specs.Masters.{master_of}
-use Rattle.mt_peers.specs.Entries.{now_peers, was_peers}
+use Rattle.mt_peers.specs.Entries.{now_peers}
 use Rattle.mt_peers.specs.Ways.{IsAbove}
 use Rattle.mt_peers.specs.Vanished.{above_was, above_first, IsVanished, AreNear}
 

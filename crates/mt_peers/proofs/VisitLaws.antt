@@ -1,6 +1,5 @@
 -- What is found and looked at once the slaves of one group more of a worklist were gone over.
-use Rattle.std.proofs.Common.{◌≡◌, ℕ, suc, ◌+◌, ◌≤◌, ◌<◌, Bool, true, false, ◌&&◌, ◌||◌, eqb, List, [], ◌∷◌, ◌++◌, take, drop, length, get_or, Option, Some, None, refl, sym, ap, subst, ◌∙◌, arith}
-use Rattle.std.specs.List.{filter, filter_map}
+use Rattle.std.proofs.Common.{◌≡◌, ℕ, suc, ◌+◌, ◌≤◌, ◌<◌, Bool, true, false, ◌&&◌, ◌||◌, eqb, List, [], ◌∷◌, ◌++◌, take, drop, length, get_or, sym, ap, subst, ◌∙◌, arith, filter, filter_map}
 use Rattle.std.proofs.lemmas.List.Folds.{list_any-append}
 use Rattle.std.proofs.lemmas.List.{take-append-drop, take-append-le, take_all}
 use Rattle.std.proofs.Math.Seq.{take-suc}
@@ -10,7 +9,7 @@ use Rattle.mt_skel.specs.Counted.{count, occ}
 use Rattle.mt_peers.specs.Members.{group_at}
 use Rattle.mt_peers.specs.Entered.{entered, entered_by, gets_above, collected_slave, other_at}
 use Rattle.mt_skel.proofs.CountLaws.{count-same, count-le, count-length, length-filter, length-of-map}
-use Rattle.mt_skel.proofs.WorklistLaws.{is_found, next-new}
+use Rattle.mt_skel.proofs.WorklistLaws.{next-new}
 use Rattle.mt_peers.specs.Masters.{master_of}
 use Rattle.mt_peers.proofs.WorklistLaws.{count-zero, IsWorklist, led_by, worklist-next, worklist-all, next-led}
 use Rattle.mt_peers.proofs.ReceivedLaws.{entered-rows, collected-rows, other-more, led-gets, led-all}
@@ -37,13 +36,7 @@ module _ (es : List Peer) (g i d m : ℕ) (all more : List ℕ) (up : rises moun
   visit-next = subst (λ l. IsWorklist es g (take (i + 1) l) l) (sym grown_by) (worklist-next es g i d all up w in_all)
 
   cut : take (i + 1) more ≡ take i all ++ m ∷ []
-  cut =
-      let one : i + 1 ≡ suc i = omega arith in
-      ap (λ l. take (i + 1) l) grown_by
-      ∙ ap (λ k. take k (all ++ entered_by es g (get_or all i d))) one
-      ∙ take-append-le (suc i) all (entered_by es g (get_or all i d)) (omega arith)
-      ∙ take-suc all i d in_all
-      ∙ ap (λ k. take i all ++ k ∷ []) is
+  cut = grind (arith, grown_by, take-append-le (suc i) all (entered_by es g (get_or all i d)) (omega arith), take-suc all i d in_all, is)
 
   new : occ m (take i all) ≡ 0
   new = ap (λ k. occ k (take i all)) (sym is) ∙ (next-new (master_of es) g i d all w.gathered in_all).0

@@ -1,5 +1,4 @@
-use Rattle.std.proofs.Common.{ℕ, Bool, List, ap, ◌∙◌, nat_lt, ◌≡◌}
-use Rattle.std.specs.Prelude.{is_ok, if◌then◌else◌}
+use Rattle.std.proofs.Common.{ℕ, Bool, List, ap, ◌∙◌, nat_lt, ◌≡◌, is_ok, if◌then◌else◌}
 use Rattle.std.specs.List.{insert, position_or_len}
 use Rattle.mt_peers.specs.declared.entries.Entry.{Entry}
 use Rattle.mt_peers.specs.Entries.{now_peers}

@@ -1,5 +1,4 @@
-use Rattle.std.proofs.Common.{ap, sym, ◌∙◌, arith}
-use Rattle.std.specs.Option.{option_copied}
+use Rattle.std.proofs.Common.{ap, sym, ◌∙◌, arith, option_copied}
 use Rattle.std.proofs.lemmas.Bool.Decides.{nat_tests}
 use Rattle.mt_peers.proofs.EntryLaws.{rises_now, past_last}
 use Rattle.mt_peers.proofs.entries.ends_by.Goals as goal

@@ -1,5 +1,4 @@
-use Rattle.std.proofs.Common.{List, not, sym, ap, ◌∙◌}
-use Rattle.std.specs.Prelude.{is_some, nat_eq}
+use Rattle.std.proofs.Common.{List, not, sym, ap, ◌∙◌, is_some, nat_eq}
 use Rattle.mt_skel.specs.Keyed.{rises}
 use Rattle.mt_skel.proofs.KeyedLaws.{rises-put, rises-filter}
 use Rattle.mt_peers.specs.declared.entries.Entry.{Entry}

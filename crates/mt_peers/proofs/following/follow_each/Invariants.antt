@@ -1,5 +1,4 @@
-use Rattle.std.proofs.Common.{◌≡◌, ◌≤◌, ◌+◌, IsTrue, drop}
-use Rattle.std.specs.Prelude.{vec_len, vec_capacity}
+use Rattle.std.proofs.Common.{◌≡◌, ◌≤◌, ◌+◌, IsTrue, drop, vec_len, vec_capacity}
 use Rattle.mt_skel.specs.Keyed.{rises}
 use Rattle.mt_lists.specs.Log.{AreAlikeBut}
 use Rattle.mt_peers.specs.Peers.{mount_of, state_at}

@@ -1,5 +1,4 @@
-use Rattle.std.proofs.Common.{None, sym, ap, ◌∙◌}
-use Rattle.std.specs.Option.{option_and_then}
+use Rattle.std.proofs.Common.{None, sym, ap, ◌∙◌, option_and_then}
 use Rattle.mt_peers.specs.declared.state.State.{State}
 use Rattle.mt_peers.proofs.SinceLaws.{number_here, number_others}
 use Rattle.mt_peers.proofs.following.list_state.Goals as goal

@@ -1,5 +1,4 @@
-use Rattle.std.proofs.Common.{◌≡◌, true, length}
-use Rattle.std.specs.Option.{IfSome}
+use Rattle.std.proofs.Common.{◌≡◌, true, length, IfSome}
 use Rattle.mt_skel.specs.Keyed.{among}
 use Rattle.mt_lists.specs.Lists.{ids}
 use Rattle.mt_lists.proofs.WalkLaws.{rest_from}

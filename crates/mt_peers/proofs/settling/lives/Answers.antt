@@ -1,5 +1,4 @@
-use Rattle.std.proofs.Common.{◌∙◌, ap}
-use Rattle.std.specs.Prelude.{nat_lt}
+use Rattle.std.proofs.Common.{◌∙◌, ap, nat_lt}
 use Rattle.mt_peers.proofs.ListedLaws.{lives-listed}
 use Rattle.mt_peers.proofs.settling.lives.Goals as goal
 

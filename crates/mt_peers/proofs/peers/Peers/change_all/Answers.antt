@@ -1,8 +1,7 @@
-use Rattle.std.proofs.Common.{◌≡◌, ℕ, List, [], ◌++◌, refl, sym, ap, ◌∙◌, subst}
+use Rattle.std.proofs.Common.{◌≡◌, List, [], ◌++◌, refl, sym, ap, ◌∙◌, subst}
 use Rattle.std.specs.Vec.{with_items}
 use Rattle.std.proofs.lemmas.List.{with_items_is}
 use Rattle.mt_skel.specs.Keyed.{among}
-use Rattle.mt_lists.specs.Log.{earlier}
 use Rattle.mt_peers.specs.declared.entries.Entry.{Entry}
 use Rattle.mt_peers.specs.Peers.{Peering, PeersView, mount_of, peering_of}
 use Rattle.mt_peers.specs.Making.{made}
@@ -24,8 +23,7 @@ is_made c =
     let written = with_items_is c.self.inside.entries c.make_entries-next.new.entries (c.make_entries-next.auto.entries ∙ c.deref_mut.ensures.len) in
     ap (λ (es : List Entry). peering (now_peers es) c.make_entries-next.result) written
     ∙ c.make_entries-next.ensures.made
-    ∙ ap (λ (ids : List ℕ). made c.args.kind (among ids) (peering (now_peers c.deref_mut.result.now) c.self.inside.next)) c.new-chosen.ensures
-    ∙ ap (λ (es : List Entry). made c.args.kind (among c.args.ids.now) (peering (now_peers es) c.self.inside.next)) c.deref_mut.ensures.value
+    ∙ (λ i. made c.args.kind (among (c.new-chosen.ensures i)) (peering (now_peers (c.deref_mut.ensures.value i)) c.self.inside.next))
     ∙ ap (λ (s : PeersView). made c.args.kind (among c.args.ids.now) (peering_of s)) c.self.view_is
 
 pub returns-clause-kept : goal.returns-clause-kept
@@ -35,15 +33,11 @@ pub invariant_of-self : goal.invariant_of-self
 invariant_of-self c =
     let es = c.make_entries-next.new.entries in
     let written = with_items_is c.self.inside.entries es (c.make_entries-next.auto.entries ∙ c.deref_mut.ensures.len) in
-    let noted = c.self.inside.log.ids in
     record {
       listed = listed-is _ _ _ _ _ _ (ap now_peers written) refl refl c.make_entries-next.ensures.listed;
       known =
-          known-noted (among []) es (earlier c.self.inside.since.seen.items (λ v. now_peers v.items)) (now_peers c.self.inside.entries.items) (now_peers (with_items c.self.inside.entries es).items) noted c.note_changes.new.log.ids
-          (c.make_entries-next.ensures.was ∙ ap now_peers c.deref_mut.ensures.value)
-          (all_stay mount_of (now_peers es) ∙ ap now_peers (sym written))
-          (c.note_changes.ensures.ids ∙ ap (λ (l : List ℕ). noted ++ noted_of (among l) c.deref.result.now) c.new.ensures
-          ∙ ap (λ (l : List Entry). noted ++ noted_of (among []) l) (c.deref.ensures.value ∙ written))
+          known-noted (among []) es _ _ _ _ _ (c.make_entries-next.ensures.was ∙ ap now_peers c.deref_mut.ensures.value) (all_stay mount_of (now_peers es) ∙ ap now_peers (sym written))
+          (c.note_changes.ensures.ids ∙ (λ i. c.self.inside.log.ids ++ noted_of (among (c.new.ensures i)) ((c.deref.ensures.value ∙ written) i)))
           c.self.invariant.known;
       led = λ t. subst MastersLive (sym (ap (λ (p : Peering). p.peers) (is_made c))) (made-live c.args.kind (among c.args.ids.now) (peering_of c.args.self.now));
     }

@@ -1,5 +1,4 @@
-use Rattle.std.proofs.Common.{ℕ, true, cond, ◌&&◌, ◌+◌, List, sym, ap, ◌∙◌}
-use Rattle.std.specs.Option.{is_none}
+use Rattle.std.proofs.Common.{ℕ, true, cond, ◌&&◌, ◌+◌, List, sym, ap, ◌∙◌, is_none}
 use Rattle.mt_peers.specs.declared.state.State.{State}
 use Rattle.mt_peers.specs.Peers.{Peer, PeersView, peering_of, with_state}
 use Rattle.mt_peers.specs.Making.{changed, is_shared}

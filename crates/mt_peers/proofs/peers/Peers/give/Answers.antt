@@ -1,9 +1,6 @@
-use Rattle.std.proofs.Common.{◌≡◌, List, [], ◌∷◌, refl, sym, ap, ◌∙◌}
-use Rattle.std.specs.Prelude.{is_some}
+use Rattle.std.proofs.Common.{◌≡◌, [], ◌∷◌, refl, sym, ap, ◌∙◌, is_some}
 use Rattle.std.specs.Vec.{with_items}
 use Rattle.std.proofs.lemmas.Bool.{false≢true}
-use Rattle.mt_lists.specs.Log.{earlier}
-use Rattle.mt_peers.specs.declared.entries.Entry.{Entry}
 use Rattle.mt_peers.specs.Peers.{PeersView, state_at, with_state}
 use Rattle.mt_peers.specs.Entries.{now_peers}
 use Rattle.mt_peers.proofs.EntryLaws.{given-written}
@@ -25,19 +22,16 @@ is_same c = given-written c.self.inside.entries c.args.id c.args.state _ _ (c.gi
 pub invariant_of-self : goal.invariant_of-self
 invariant_of-self c =
     let es = now_peers c.self.inside.entries.items in
-    let since = earlier c.self.inside.since.seen.items (λ v. now_peers v.items) in
-    let there = ap (λ (es : List Entry). is_some (state_at (now_peers es) c.args.id)) (sym c.deref_mut.ensures.value) ∙ ap is_some (sym c.give_state-was.ensures.was) ∙ sym c.is_some.ensures ∙ c.if-is_some.true in
-    kept-is _ _ _ _ _ _ since c.add.new.self.ids _ (is_given c) c.set.ensures.rows c.set-then-is_some.ensures.rows
-    (listed-given c.args.id c.args.state es c.self.inside.members.rows c.self.inside.slaves.rows c.self.invariant.listed there)
-    (alike-noted c.self.inside.log.ids (c.args.id ∷ []) c.add.new.self.ids (state_at since) (state_at es) (state_at (with_state c.args.id c.args.state es)) c.add.ensures.ids c.self.invariant.known
-    (but_given es c.args.id c.args.state))
+    let there = (λ i. is_some (state_at (now_peers (sym c.deref_mut.ensures.value i)) c.args.id)) ∙ ap is_some (sym c.give_state-was.ensures.was) ∙ sym c.is_some.ensures ∙ c.if-is_some.true in
+    kept-is _ _ _ _ _ _ _ _ _ (is_given c) c.set.ensures.rows c.set-then-is_some.ensures.rows (listed-given c.args.id c.args.state es _ _ c.self.invariant.listed there)
+    (alike-noted _ (c.args.id ∷ []) _ _ (state_at es) _ c.add.ensures.ids c.self.invariant.known (but_given es c.args.id c.args.state))
     (λ t. absurd (false≢true t))
 
 pub invariant_of-self-else-is_some : goal.invariant_of-self-else-is_some
 invariant_of-self-else-is_some c =
-    let none = ap (λ (es : List Entry). is_some (state_at (now_peers es) c.args.id)) (sym c.deref_mut.ensures.value) ∙ ap is_some (sym c.give_state-was.ensures.was) ∙ sym c.is_some.ensures ∙ c.if-is_some.false in
-    kept-is _ _ _ _ _ _ (earlier c.self.inside.since.seen.items (λ v. now_peers v.items)) c.self.inside.log.ids _ (is_same c ∙ given-absent c.args.id c.args.state (now_peers c.self.inside.entries.items) c.self.invariant.listed.rising none) refl refl c.self.invariant.listed
-    c.self.invariant.known (λ t. absurd (false≢true t))
+    let none = (λ i. is_some (state_at (now_peers (sym c.deref_mut.ensures.value i)) c.args.id)) ∙ ap is_some (sym c.give_state-was.ensures.was) ∙ sym c.is_some.ensures ∙ c.if-is_some.false in
+    kept-is _ _ _ _ _ _ _ _ _ (is_same c ∙ given-absent c.args.id c.args.state (now_peers c.self.inside.entries.items) c.self.invariant.listed.rising none) refl refl c.self.invariant.listed c.self.invariant.known
+    (λ t. absurd (false≢true t))
 
 pub returns-then-is_some-clause-peers : goal.returns-then-is_some-clause-peers
 returns-then-is_some-clause-peers c = is_given c ∙ ap (λ (s : PeersView). with_state c.args.id c.args.state s.peers) c.self.view_is

@@ -1,5 +1,4 @@
-use Rattle.std.proofs.Common.{◌≡◌, ℕ, List, subst}
-use Rattle.std.specs.Prelude.{IfOk}
+use Rattle.std.proofs.Common.{◌≡◌, ℕ, List, subst, IfOk}
 use Rattle.mt_peers.proofs.ListedLaws.{seen, slaves-listed}
 use Rattle.mt_peers.proofs.peers.Peers.slaves.Goals as goal
 

@@ -2,7 +2,6 @@ use Rattle.std.proofs.Common.{sym, ap}
 use Rattle.std.proofs.lemmas.Bool.{false≢true}
 use Rattle.mt_skel.specs.Keyed.{among, without}
 use Rattle.mt_lists.proofs.LogLaws.{alike-noted, alike-as}
-use Rattle.mt_lists.specs.Log.{earlier}
 use Rattle.mt_peers.specs.Peers.{Peer, state_at}
 use Rattle.mt_peers.specs.Entries.{now_peers}
 use Rattle.mt_peers.proofs.SinceLaws.{but_left}
@@ -12,14 +11,11 @@ pub invariant_of-self : goal.invariant_of-self
 invariant_of-self c =
     let es = now_peers c.self.inside.entries.items in
     let ids = c.args.ids.now in
-    let since = earlier c.self.inside.since.seen.items (λ v. now_peers v.items) in
     let rest = without (λ (e : Peer). among ids e.mount) es in
-    let new = now_peers c.take_out.new.entries.items in
     record {
       listed = c.take_out.ensures.listed;
       known =
-          alike-as c.note_all.new.log.ids (state_at since) (state_at rest) (state_at new)
-          (alike-noted c.self.inside.log.ids ids c.note_all.new.log.ids (state_at since) (state_at es) (state_at rest) c.note_all.ensures.ids c.self.invariant.known (but_left es ids c.self.invariant.listed.rising))
+          alike-as _ _ (state_at rest) _ (alike-noted _ ids _ _ (state_at es) (state_at rest) c.note_all.ensures.ids c.self.invariant.known (but_left es ids c.self.invariant.listed.rising))
           (λ i. ap (λ l. state_at l i) (sym c.take_out.ensures.peers));
       led = λ t. absurd (false≢true t);
     }
