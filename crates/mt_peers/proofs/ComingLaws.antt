@@ -14,6 +14,7 @@ use Rattle.mt_peers.specs.Coming.{members_above, members_from}
 use Rattle.mt_peers.proofs.ListLaws.{member-group}
 use Rattle.mt_peers.proofs.SortedLaws.{rises-picked}
 
+-- the masters above a group, one after the other
 pub from-chain : (es : List Peer) (n g : ℕ) → masters_from es n (master_of es g) ≡ drop 1 (chain (master_of es) n g)
 from-chain es zero g = refl
 from-chain es (suc n) g = grind (arith, from-chain es n, head n)

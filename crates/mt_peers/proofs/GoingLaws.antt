@@ -129,6 +129,7 @@ module _ (p : Peering) (live : MastersLive p.peers) (them : List ℕ) (ms ss : L
         ap (λ (es : List Peer). peering es p.next)
         (map-same (settled p.peers staying) staying (λ e at. ap (λ m. record { mount = e.mount; state = with_master e.state m }) (heir-stays p.peers staying e.state.master (λ g is. keeps-member e g at is))))
 
+-- mounts that are made of a kind, where each master keeps a member
 module _ (p : Peering) (ids : List ℕ) where
   -- each master has a member then
   settled-none : (k : Kind) → ((e : Peer) → In e p.peers → (g : ℕ) → (changed_peer k (among ids) p e).state.master ≡ Some g → has_member (map (changed_peer k (among ids) p) p.peers) g ≡ true)

@@ -1,5 +1,5 @@
 -- What is found and looked at once the slaves of one group more of a worklist were gone over.
-use Rattle.std.proofs.Common.{◌≡◌, ℕ, suc, ◌+◌, ◌≤◌, ◌<◌, Bool, true, false, ◌&&◌, ◌||◌, eqb, List, [], ◌∷◌, ◌++◌, take, drop, length, get_or, sym, ap, subst, ◌∙◌, arith, filter, filter_map}
+use Rattle.std.proofs.Common.{◌≡◌, ℕ, suc, ◌+◌, ◌≤◌, ◌<◌, Bool, true, ◌&&◌, ◌||◌, eqb, List, [], ◌∷◌, ◌++◌, take, drop, length, get_or, sym, ap, subst, ◌∙◌, arith, filter, filter_map}
 use Rattle.std.proofs.lemmas.List.Folds.{list_any-append}
 use Rattle.std.proofs.lemmas.List.{take-append-drop, take-append-le, take_all}
 use Rattle.std.proofs.Math.Seq.{take-suc}
@@ -82,11 +82,8 @@ module _ (es : List Peer) (g i : ℕ) (all : List ℕ) (w : IsWorklist es g (tak
       ∙ count-same (λ e. led_by all e && other_at t g q e) (λ e. gets_above es g e && other_at t g q e) (λ e. ap (λ b. b && other_at t g q e) (led-all es g all whole e)) es
 
 -- at the start no slave was gone over
-led-none : (e : Peer) → led_by [] e ≡ false
-led-none e = grind arith
-
 pub start-led : (es : List Peer) (n : ℕ) → n ≡ n + count (led_by []) es
-start-led es n = let z = count-zero (led_by []) es (λ e at. led-none e) in omega (arith, z)
+start-led es n = let z = count-zero (led_by []) es (λ e at. grind arith) in omega (arith, z)
 
 pub start-occ : (es : List Peer) (s : Peer → Bool) (n : ℕ) → n ≡ n + count (λ e. led_by [] e && s e) es
-start-occ es s n = let z = count-zero (λ e. led_by [] e && s e) es (λ e at. ap (λ b. b && s e) (led-none e)) in omega (arith, z)
+start-occ es s n = let z = count-zero (λ e. led_by [] e && s e) es (λ e at. grind arith) in omega (arith, z)
