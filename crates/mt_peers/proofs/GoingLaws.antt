@@ -137,20 +137,18 @@ module _ (p : Peering) (ids : List ℕ) where
   unfolding made settle
   settled-none k lives =
       ap (λ (es : List Peer). peering es (cond (is_shared k) (p.next + length (groupless (among ids) p.peers)) p.next))
-      (map-same (settled p.peers (map (changed_peer k (among ids) p) p.peers)) (map (changed_peer k (among ids) p) p.peers) same)
-    where
-      same : (e : Peer) → In e (map (changed_peer k (among ids) p) p.peers) → settled p.peers (map (changed_peer k (among ids) p) p.peers) e ≡ e
-      same e at =
-          let x = in_map (changed_peer k (among ids) p) e p.peers at in
-          ap (λ m. record { mount = e.mount; state = with_master e.state m })
-          (heir-stays p.peers (map (changed_peer k (among ids) p) p.peers) e.state.master (λ g is. lives x.0 x.1 g (ap (λ (y : Peer). y.state.master) x.2 ∙ is)))
+      (map-same (settled p.peers (map (changed_peer k (among ids) p) p.peers)) (map (changed_peer k (among ids) p) p.peers) (λ e at.
+      let x = in_map (changed_peer k (among ids) p) e p.peers at in
+      ap (λ m. record { mount = e.mount; state = with_master e.state m })
+      (heir-stays p.peers (map (changed_peer k (among ids) p) p.peers) e.state.master (λ g is. lives x.0 x.1 g (ap (λ (y : Peer). y.state.master) x.2 ∙ is)))))
 
   module _ (live : MastersLive p.peers) (ms ss : List ListRow) (l : IsListed p.peers ms ss) where
     shared-none : (k : Kind) → is_shared k ≡ true → made k (among ids) p ≡ unsettled k (among ids) p
-    shared-none k sh = settled-none k (λ e at g is. has-map (changed_peer k (among ids) p) (λ e. refl) g p.peers keep (live.lives e.mount e.state g (state-in p.peers e l.rising at) (gained-master e.state (changed_peer k (among ids) p e).state (keep e at) ∙ is)))
-      where
-        keep : (e : Peer) → In e p.peers → gains e.state (changed_peer k (among ids) p e).state ≡ true
-        keep e at = grind (arith, gains-shared k (new_group (among ids) p e.mount) e.state sh, gains-self e.state)
+    shared-none k sh =
+        let keep : (e : Peer) → In e p.peers → gains e.state (changed_peer k (among ids) p e).state ≡ true = λ e at. grind (arith, gains-shared k (new_group (among ids) p e.mount) e.state sh, gains-self e.state) in
+        settled-none k (λ e at g is.
+        let master = gained-master e.state (changed_peer k (among ids) p e).state (keep e at) ∙ is in
+        has-map (changed_peer k (among ids) p) (λ e. refl) g p.peers keep (live.lives e.mount e.state g (state-in p.peers e l.rising at) master))
 
     alone-none : (k : Kind) → ((n : ℕ) (s : State) → (changed k n s).group ≡ None) → ((n : ℕ) (s : State) → (changed k n s).master ≡ None) → list_all (may_go ms ss (among ids)) ids ≡ true
         → made k (among ids) p ≡ unsettled k (among ids) p
