@@ -1,10 +1,9 @@
 pub mod SlotLaws
+pub mod WrittenLaws
 pub mod TableLaws
 pub mod SeatLaws
 pub mod ForestLaws
-pub mod ChangeLaws
 pub mod TableStepLaws
-pub mod SinceLaws
 pub mod PlaceLaws
 pub mod StackLaws
 pub mod IndexLaws

@@ -1,19 +1,17 @@
--- Where the mounts of a forest stand once one of them has come, has gone or has moved.
-use Rattle.std.proofs.Common.{◌≡◌, ◌≢◌, ℕ, Bool, true, false, cond, not, eqb, List, [], ◌∷◌, map, Option, Some, None, refl, sym, ap, ◌∙◌, inl, inr, arith}
+-- Where the mounts of a forest stand once one of them was written.
+use Rattle.std.proofs.Common.{◌≡◌, ◌≢◌, ℕ, Bool, true, false, cond, ◌&&◌, eqb, eqb-true, List, [], ◌∷◌, map, Option, Some, None, refl, sym, ap, ◌∙◌, inl, inr, arith}
 use Rattle.std.specs.List.{find}
-use Rattle.std.specs.Option.{option_map}
-use Rattle.std.proofs.lemmas.Bool.{cases_eq, true≢false}
+use Rattle.std.specs.Option.{IfSome, ForSome, is_none, option_map, option_map_or}
+use Rattle.std.proofs.lemmas.Bool.{true≢false}
 use Rattle.std.proofs.lemmas.Bool.Decides.{nat_tests}
-use Rattle.mt_skel.specs.Keyed.{row_at, put, rises}
-use Rattle.mt_skel.proofs.KeyedLaws.{row_at-key, rises-put, rises-filter, same_rows}
+use Rattle.mt_skel.specs.Keyed.{rises}
 use Rattle.mt_mounts.specs.declared.mount.Place.{Place}
 use Rattle.mt_mounts.specs.declared.mount.Mount.{Mount}
-use Rattle.mt_mounts.specs.Forest.{id_of, place_eq}
+use Rattle.mt_mounts.specs.Forest.{id_of, mount_at, on, is_at, is_root, root_mount, place_eq}
 use Rattle.mt_mounts.specs.Tree.{AtMostOne}
-use Rattle.mt_mounts.specs.ForestView.{with_place, without_id}
-use Rattle.mt_mounts.proofs.SlotLaws.{same_options, none_found, row_put_here, row_put_later, row_kept, row_without}
-use Rattle.mt_mounts.proofs.ForestLaws.{find_row, find_passes, find_none, map_one}
-use Rattle.mt_mounts.proofs.ChangeLaws.{place_of, place_other}
+use Rattle.mt_mounts.proofs.SlotLaws.{same_options, none_found, mapped}
+use Rattle.mt_mounts.proofs.ForestLaws.{find_row, find_passes, find_none}
+use Rattle.mt_mounts.proofs.WrittenLaws.{IsWritten, written_here, written_other, written_cases}
 
 pub turned_place : (p q : Place) → place_eq p q ≡ place_eq q p
 turned_place p q = grind (arith, nat_tests)
@@ -24,78 +22,84 @@ same_place p q h =
     let b : p.dir ≡ q.dir = grind (arith, nat_tests) in
     λ i. record { mount = a i; dir = b i }
 
+-- a mount, if there is one, passes a test
+abbrev pub passes : (Mount → Bool) → Option Mount → Bool
+passes t o = option_map_or t o false
+
+passed : (t : Mount → Bool) (o : Option Mount) → passes t o ≡ true → (m : Mount) × (o ≡ Some m) × (t m ≡ true)
+passed t None e = absurd (cc)
+passed t (Some m) e = (m, refl, e)
+
+-- no mount but that of the ID passes a test that this one passes
+abbrev pub IsAlone : (Mount → Bool) → List Mount → ℕ → Option Mount → Type 0
+IsAlone t ms i o = (m : Mount) → o ≡ Some m → t m ≡ true → (j : ℕ) (x : Mount) → mount_at ms j ≡ Some x → t x ≡ true → j ≡ i
+
+-- so it is at a place that is free, as the root mount of a namespace that had none, and where it is no other for the test than it was
+pub alone_at : (ms : List Mount) (i : ℕ) (o : Option Mount) → IfSome o (λ m. ForSome m.place (λ p. on ms p ≡ None)) → (p : Place) → IsAlone (is_at p) ms i o
+alone_at ms i o free p m is at j x g h = absurd (true≢false (sym h ∙ find_none (is_at p) ms (go m.place (rw is at free) at) j x g))
+  where
+    go : (q : Option Place) → ForSome q (λ p. on ms p ≡ None) → option_map_or (place_eq p) q false ≡ true → on ms p ≡ None
+    go None f e = absurd (cc)
+    go (Some q) f e = f p (ap (λ z. Some z) (sym (same_place p q e)))
+
+pub alone_root : (ms : List Mount) (i : ℕ) (o : Option Mount) → IfSome o (λ m. m.place ≡ None → root_mount ms m.space ≡ None) → (n : ℕ) → IsAlone (is_root n) ms i o
+alone_root ms i o free n m is at j x g h = absurd (true≢false (sym h ∙ find_none (is_root n) ms (go m.place (rw is at free) at) j x g))
+  where
+    go : (q : Option Place) → (q ≡ None → root_mount ms m.space ≡ None) → (is_none q && eqb m.space n) ≡ true → root_mount ms n ≡ None
+    go None f e = ap (root_mount ms) (sym (eqb-true m.space n e)) ∙ f refl
+    go (Some q) f e = absurd (cc)
+
+pub alone_still : (t : Mount → Bool) (f : Mount → Mount) → ((m : Mount) → t (f m) ≡ t m) → (ms : List Mount) → AtMostOne t ms → (i : ℕ) (o : Option Mount) → mount_at ms i ≡ o → IsAlone t ms i (option_map f o)
+alone_still t f same ms one i o is m e at j x g h =
+    let was = mapped f o m e in
+    one j i x was.0 g (is ∙ was.1) h (sym (same was.0) ∙ ap t was.2 ∙ at)
+
 -- a mount that passes, where at most one does, is the one that is found
-module _ (t : Mount → Bool) (ms : List Mount) (r : rises id_of ms ≡ true) (one : AtMostOne t ms) where
-  found_one : (i : ℕ) (m : Mount) → row_at id_of i ms ≡ Some m → t m ≡ true → find t ms ≡ Some m
-  found_one i m g h = go (find t ms) refl
-    where
-      go : (o : Option Mount) → find t ms ≡ o → find t ms ≡ Some m
-      go None e = absurd (true≢false (sym h ∙ find_none t ms e i m g))
-      go (Some x) e =
-          let row_x = find_row t ms x r e in
-          let same : x.id ≡ i = one x.id i x m row_x g (find_passes t ms x e) h in
-          e ∙ sym row_x ∙ ap (λ k. row_at id_of k ms) same ∙ g
+found_one : (t : Mount → Bool) (ms : List Mount) → rises id_of ms ≡ true → AtMostOne t ms → (i : ℕ) (m : Mount) → mount_at ms i ≡ Some m → t m ≡ true → find t ms ≡ Some m
+found_one t ms r one i m g h = go (find t ms) refl
+  where
+    go : (o : Option Mount) → find t ms ≡ o → find t ms ≡ Some m
+    go None e = absurd (true≢false (sym h ∙ find_none t ms e i m g))
+    go (Some x) e = let row = find_row t ms x r e in e ∙ sym row ∙ ap (mount_at ms) (one x.id i x m row g (find_passes t ms x e) h) ∙ g
 
-  -- a mount has gone
-  still_found : (i : ℕ) (x : Mount) → row_at id_of x.id ms ≡ Some x → x.id ≢ i → t x ≡ true → find t (without_id i ms) ≡ Some x
-  still_found i x row_x apart h = by (find t (without_id i ms)) refl
-    where
-      by : (o : Option Mount) → find t (without_id i ms) ≡ o → find t (without_id i ms) ≡ Some x
-      by None e = absurd (true≢false (sym h ∙ find_none t (without_id i ms) e x.id x (row_without ms i x.id x r row_x apart)))
-      by (Some y) e =
-          let up = rises-filter id_of (λ z. not (eqb z.id i)) ms r in
-          let row_y = find_row t (without_id i ms) y up e in
-          let same : y.id ≡ x.id = one y.id x.id y x (row_kept ms i y.id y r row_y).0 row_x (find_passes t (without_id i ms) y e) h in
-          e ∙ sym row_y ∙ ap (λ k. row_at id_of k (without_id i ms)) same ∙ row_without ms i x.id x r row_x apart
+-- a test that at most one mount passes, once one was written
+module _ (t : Mount → Bool) (ms : List Mount) (i : ℕ) (o : Option Mount) (after : List Mount) (r : rises id_of ms ≡ true) (w : IsWritten ms i o after) (one : AtMostOne t ms) (alone : IsAlone t ms i o) where
+  pub one_written : AtMostOne t after
+  one_written j k a b ga gb ta tb = elim (written_cases ms i o after w j a ga) [
+    | inl x ↦ elim (written_cases ms i o after w k b gb) [ inl y ↦ x.0 ∙ sym y.0 | inr y ↦ absurd (y.0 (alone a x.1 ta k b y.1 tb)) ]
+    | inr x ↦ elim (written_cases ms i o after w k b gb) [ inl y ↦ absurd (x.0 (alone b y.1 tb j a x.1 ta)) | inr y ↦ one j k a b x.1 y.1 ta tb ]
+  ]
 
-  pub found_without : (i : ℕ) (m : Mount) → row_at id_of i ms ≡ Some m → find t (without_id i ms) ≡ cond (t m) None (find t ms)
-  found_without i m g = go (t m) refl
+  -- what is found now
+  pub found_written : (was : Option Mount) → mount_at ms i ≡ was → find t after ≡ cond (passes t o) o (cond (passes t was) None (find t ms))
+  found_written was is = go (passes t o) refl (passes t was) refl
     where
-      go : (b : Bool) → t m ≡ b → find t (without_id i ms) ≡ cond b None (find t ms)
-      go true h = none_found _ (λ x e.
-          let k = row_kept ms i x.id x r (find_row t (without_id i ms) x (rises-filter id_of (λ y. not (eqb y.id i)) ms r) e) in
-          k.1 (one x.id i x m k.0 g (find_passes t (without_id i ms) x e) h))
-      go false h = same_options _ _
-          (λ x e.
-          let up = rises-filter id_of (λ y. not (eqb y.id i)) ms r in
-          let k = row_kept ms i x.id x r (find_row t (without_id i ms) x up e) in
-          found_one x.id x k.0 (find_passes t (without_id i ms) x e))
-          (λ x e.
-          let row_x = find_row t ms x r e in
-          let apart : x.id ≢ i = λ (s : x.id ≡ i). (
-          let v : Some x ≡ Some m = sym row_x ∙ ap (λ k. row_at id_of k ms) s ∙ g in
-          let w : x ≡ m = cc in
-          true≢false (sym (find_passes t ms x e) ∙ ap t w ∙ h)
-          ) in
-          still_found i x row_x apart (find_passes t ms x e))
+      -- a mount that is found was not written, unless that passes
+      before : passes t o ≡ false → (x : Mount) → find t after ≡ Some x → (x.id ≢ i) × (mount_at ms x.id ≡ Some x) × (t x ≡ true)
+      before e x g = elim (written_cases ms i o after w x.id x (find_row t after x w.rising g)) [
+        | inl y ↦ absurd (true≢false (sym (find_passes t after x g) ∙ sym (ap (passes t) y.1) ∙ e))
+        | inr y ↦ (y.0, y.1, find_passes t after x g)
+      ]
 
--- a mount with a new ID has come
-pub found_put : (t : Mount → Bool) (m : Mount) (ms : List Mount) → row_at id_of m.id ms ≡ None → (t m ≡ true → find t ms ≡ None) → find t (put id_of m ms) ≡ cond (t m) (Some m) (find t ms)
-found_put t m [] absent free = refl
-found_put t m (x ∷ xs) absent free = let ih = found_put t m xs in grind (arith, nat_tests)
+      go : (b : Bool) → passes t o ≡ b → (c : Bool) → passes t was ≡ c → find t after ≡ cond b o (cond c None (find t ms))
+      go true e c f =
+          let m = passed t o e in
+          found_one t after w.rising one_written i m.0 (written_here ms i o after w i refl ∙ m.1) m.2 ∙ sym m.1
+      go false e true f = none_found _ (λ x g.
+          let b = before e x g in
+          let m = passed t was f in
+          b.0 (one x.id i x m.0 b.1 (is ∙ m.1) b.2 m.2))
+      go false e false f = same_options _ _
+          (λ x g. let b = before e x g in found_one t ms r one x.id x b.1 b.2)
+          (λ x g.
+          let row = find_row t ms x r g in
+          let p = find_passes t ms x g in
+          let off : x.id ≢ i = λ (s : x.id ≡ i). true≢false (sym p ∙ ap (passes t) (sym row ∙ ap (mount_at ms) s ∙ is) ∙ f) in
+          found_one t after w.rising one_written x.id x (written_other ms i o after w x.id off ∙ row) p)
 
 -- a change of what a test does not ask
 pub found_map : (t : Mount → Bool) (f : Mount → Mount) → ((x : Mount) → t (f x) ≡ t x) → (ms : List Mount) → find t (map f ms) ≡ option_map f (find t ms)
 found_map t f same [] = refl
-found_map t f same (x ∷ xs) = ap (λ b. cond b (Some (f x)) (find t (map f xs))) (same x) ∙ go (t x) (found_map t f same xs)
-  where
-    go : (b : Bool) → find t (map f xs) ≡ option_map f (find t xs) → cond b (Some (f x)) (find t (map f xs)) ≡ option_map f (cond b (Some x) (find t xs))
-    go true ih = refl
-    go false ih = ih
-
--- a mount that moves is taken away and put again
-pub moved_is : (ms : List Mount) (i : ℕ) (p : Place) (m : Mount) → rises id_of ms ≡ true → row_at id_of i ms ≡ Some m → with_place i p ms ≡ put id_of (place_of i p m) (without_id i ms)
-moved_is ms i p m r g =
-    let up : rises id_of (without_id i ms) ≡ true = rises-filter id_of (λ x. not (eqb x.id i)) ms r in
-    let at : m.id ≡ i = row_at-key id_of i ms m g in
-    sym (map_one (place_of i p) (λ x. refl) i (place_other i p) ms r m g)
-    ∙ same_rows id_of _ _ (rises-put id_of (place_of i p m) ms r) (rises-put id_of (place_of i p m) (without_id i ms) up) (λ q.
-    elim (cases_eq i q) [
-      | inl here ↦ row_put_here ms (place_of i p m) q (at ∙ here) ∙ sym (row_put_here (without_id i ms) (place_of i p m) q (at ∙ here))
-      | inr off ↦
-          row_put_later ms (place_of i p m) q (λ s. off (sym at ∙ s))
-          ∙ same_options _ _
-          (λ x e. row_without ms i q x r e (λ s. off (sym s ∙ row_at-key id_of q ms x e)))
-          (λ x e. (row_kept ms i q x r e).0)
-          ∙ sym (row_put_later (without_id i ms) (place_of i p m) q (λ s. off (sym at ∙ s)))
-    ])
+found_map t f same (x ∷ xs) =
+    ap (λ b. cond b (Some (f x)) (find t (map f xs))) (same x)
+    ∙ (elim (t x) as (λ b. cond b (Some (f x)) (find t (map f xs)) ≡ option_map f (cond b (Some x) (find t xs))) [ true ↦ refl | false ↦ found_map t f same xs ])

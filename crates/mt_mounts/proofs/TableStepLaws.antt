@@ -1,24 +1,26 @@
--- A table stays one once a mount has come, has gone or was changed, and with other memory.
-use Rattle.std.proofs.Common.{◌≡◌, ◌⊎◌, ℕ, ◌<◌, ◌≤◌, cond, eqb, eq-eqb, List, [], slice_get, slice_set, Option, Some, None, refl, sym, ap, ◌∙◌, inl, inr}
-use Rattle.std.specs.Option.{option_map, option_map_or}
+-- A table stays one, and what its mounts are, once a slot was written, and with other memory.
+use Rattle.std.proofs.Common.{◌≡◌, ◌⊎◌, ℕ, ◌<◌, ◌≤◌, cond, eqb, eq-eqb, List, [], length, slice_set, Option, Some, None, refl, sym, ap, ◌∙◌, inl, inr}
+use Rattle.std.specs.Option.{IfSome, option_map, option_map_or, option_and_then}
+use Rattle.std.proofs.lemmas.List.{set-set}
 use Rattle.slab.specs.Slab.{Slab, get, Updates, with_value}
 use Rattle.slab.proofs.SlabLemmas.{Updates-with_value}
-use Rattle.mt_skel.specs.Keyed.{row_at, put}
-use Rattle.mt_lists.specs.Lists.{listed_id, listed_number, without_row, with_number}
+use Rattle.mt_skel.specs.Keyed.{put}
+use Rattle.mt_skel.proofs.KeyedLaws.{row_at-key}
+use Rattle.mt_lists.specs.Lists.{ListRow, listed_id, listed_number, without_row, with_number}
 use Rattle.mt_lists.specs.SlotLists.{SlotListsView, id_in, lengthened}
-use Rattle.mt_lists.specs.Numbered.{rows_by}
-use Rattle.mt_lists.proofs.NumberedLaws.{change-by, same-by}
+use Rattle.mt_lists.proofs.RowLaws.{with-taken}
 use Rattle.mt_mounts.specs.declared.mount.Mount.{Mount}
 use Rattle.mt_mounts.specs.declared.mount.Place.{Place}
 use Rattle.mt_mounts.specs.declared.mount.Attrs.{Attrs}
-use Rattle.mt_mounts.specs.Forest.{id_of}
-use Rattle.mt_mounts.specs.ForestView.{without_id}
+use Rattle.mt_mounts.specs.Forest.{id_of, mount_at}
+use Rattle.mt_mounts.specs.ForestView.{with_attrs, with_place, without_id}
+use Rattle.mt_mounts.specs.Follow.{given_attrs}
 use Rattle.mt_mounts.specs.Slots.{slab_mounts, Keys, key_at}
-use Rattle.mt_mounts.specs.Seats.{parent_of, own_space, seat, IsBeside, IsTable}
-use Rattle.mt_mounts.proofs.SlotLaws.{rises_table, row_at_slot}
-use Rattle.mt_mounts.proofs.TableLaws.{distinct_ids, keyed_same, keyed_none, key_fits, table_inserted, keyed_inserted, table_removed, keyed_removed, keyed_written}
-use Rattle.mt_mounts.proofs.ChangeLaws.{attrs_of, place_of, moved_place, stays_place, attrs_written, place_written}
-use Rattle.mt_mounts.proofs.SeatLaws.{beside_none, beside_longer, beside_put, beside_kept, beside_gone, beside_moved, taken_absent}
+use Rattle.mt_mounts.specs.Seats.{parent_of, own_space, seat, IsTable}
+use Rattle.mt_mounts.proofs.SlotLaws.{rises_table}
+use Rattle.mt_mounts.proofs.WrittenLaws.{IsWritten, written_once, row_cases, moved_to, put_written, without_written, attrs_written, place_written}
+use Rattle.mt_mounts.proofs.TableLaws.{keyed_same, keyed_none, mount_keyed, not_keyed, keyed_written, mounts_written}
+use Rattle.mt_mounts.proofs.SeatLaws.{rises_beside, within, beside_none, beside_longer, beside_written, rows_kept, slots_kept, taken, taken_absent}
 
 -- no mounts
 pub table_empty : (s : Slab Mount) (keys : Keys) (children spaces : SlotListsView) → s.slots ≡ [] → s.capacity ≡ 0 → keys.entries ≡ [] → children.rows ≡ [] → children.slots ≡ [] → spaces.rows ≡ [] → spaces.slots ≡ []
@@ -41,71 +43,100 @@ module _ (s : Slab Mount) (keys : Keys) (children spaces : SlotListsView) (t : I
     spaces = beside_longer own_space s spaces t.spaces new spaces' sw e sr ss sfits;
   }
 
-  -- a mount has come into a slot
-  pub table_filled : (new : Slab Mount) (keys' : Keys) (children' spaces' : SlotListsView) (slot : ℕ) (m : Mount) → get s slot ≡ None → Updates s new slot (Some m) → slot < s.capacity → new.capacity ≡ s.capacity
-      → row_at id_of m.id (slab_mounts s) ≡ None → ((i : ℕ) → key_at keys' i ≡ cond (eqb m.id i) (Some slot) (key_at keys i))
-      → children'.rows ≡ with_number m.id (parent_of m) children.rows → children'.slots ≡ slice_set children.slots slot (seat parent_of m)
-      → spaces'.rows ≡ with_number m.id (own_space m) spaces.rows → spaces'.slots ≡ slice_set spaces.slots slot (seat own_space m)
+  -- a slot was written, and the key and the lists with it
+  pub table_written : (new : Slab Mount) (keys' : Keys) (children' spaces' : SlotListsView) (slot i : ℕ) (o : Option Mount) → Updates s new slot o → key_at keys i ≡ option_map (λ _. slot) (get s slot) → IfSome o (λ m. m.id ≡ i)
+      → ((q : ℕ) → key_at keys' q ≡ cond (eqb i q) (option_map (λ _. slot) o) (key_at keys q)) → new.capacity ≡ s.capacity → slot < length children.slots → slot < length spaces.slots
+      → children'.rows ≡ with_number i (option_and_then parent_of o) children.rows → children'.slots ≡ slice_set children.slots slot (option_and_then (seat parent_of) o)
+      → spaces'.rows ≡ with_number i (option_and_then own_space o) spaces.rows → spaces'.slots ≡ slice_set spaces.slots slot (option_and_then (seat own_space) o)
       → IsTable new keys' children' spaces'
-  table_filled new keys' children' spaces' slot m vacant u fits room absent puts cr cs sr ss =
-      let rows = table_inserted s keys t.keyed new keys' slot m vacant u absent in
+  table_written new keys' children' spaces' slot i o u at fits puts room cin sin cr cs sr ss =
+      let w = mounts_written s keys t.keyed new keys' slot i o u at fits puts in
       record {
-        keyed = keyed_inserted s keys t.keyed new keys' slot m vacant u absent puts;
-        children = beside_put parent_of s children t.children new slot room m children' u fits rows cr cs;
-        spaces = beside_put own_space s spaces t.spaces new slot room m spaces' u fits rows sr ss;
+        keyed = keyed_written s keys t.keyed new keys' slot i o u at fits puts;
+        children = beside_written parent_of s children t.children new slot i o children' u w room cin cr cs;
+        spaces = beside_written own_space s spaces t.spaces new slot i o spaces' u w room sin sr ss;
       }
 
-  module _ (i slot : ℕ) (m : Mount) (at_i : key_at keys i ≡ Some slot) (was : get s slot ≡ Some m) where
-    -- a mount has gone from its slot
-    pub table_emptied : (new : Slab Mount) (keys' : Keys) (children' spaces' : SlotListsView) → Updates s new slot None → new.capacity ≡ s.capacity
-        → ((j : ℕ) → key_at keys' j ≡ cond (eqb i j) None (key_at keys j))
-        → children'.rows ≡ option_map_or (λ j. without_row j children.rows) (id_in children.slots slot) children.rows → children'.slots ≡ slice_set children.slots slot None
-        → spaces'.rows ≡ option_map_or (λ j. without_row j spaces.rows) (id_in spaces.slots slot) spaces.rows → spaces'.slots ≡ slice_set spaces.slots slot None
+  -- a mount has come into a slot that was free
+  module _ (new : Slab Mount) (keys' : Keys) (slot : ℕ) (m : Mount) (vacant : get s slot ≡ None) (absent : mount_at (slab_mounts s) m.id ≡ None) (u : Updates s new slot (Some m))
+      (puts : (q : ℕ) → key_at keys' q ≡ cond (eqb m.id q) (Some slot) (key_at keys q)) where
+    no_key : key_at keys m.id ≡ option_map (λ _. slot) (get s slot)
+    no_key = not_keyed s keys t.keyed m.id absent ∙ sym (ap (option_map (λ _. slot)) vacant)
+
+    pub mounts_filled : slab_mounts new ≡ put id_of m (slab_mounts s)
+    mounts_filled =
+        written_once (slab_mounts s) m.id (Some m) (slab_mounts new) (put id_of m (slab_mounts s)) (mounts_written s keys t.keyed new keys' slot m.id (Some m) u no_key refl puts) (put_written (slab_mounts s) (rises_table s) m)
+
+    pub table_filled : (children' spaces' : SlotListsView) → slot < s.capacity → new.capacity ≡ s.capacity
+        → children'.rows ≡ with_number m.id (parent_of m) children.rows → children'.slots ≡ slice_set children.slots slot (seat parent_of m)
+        → spaces'.rows ≡ with_number m.id (own_space m) spaces.rows → spaces'.slots ≡ slice_set spaces.slots slot (seat own_space m)
         → IsTable new keys' children' spaces'
-    table_emptied new keys' children' spaces' u room cuts cr cs sr ss =
-        let rows = table_removed s keys t.keyed new keys' i slot m at_i was u ∙ ap (λ j. without_id j (slab_mounts s)) (sym (key_fits s keys t.keyed i slot m at_i was)) in
-        let apart = distinct_ids s keys t.keyed in
-        record {
-          keyed = keyed_removed s keys t.keyed new keys' i slot m at_i was u cuts;
-          children = beside_gone parent_of s children t.children new slot room m apart was children' cr cs u rows;
-          spaces = beside_gone own_space s spaces t.spaces new slot room m apart was spaces' sr ss u rows;
-        }
+    table_filled children' spaces' room kept cr cs sr ss =
+        table_written new keys' children' spaces' slot m.id (Some m) u no_key refl puts kept (within parent_of s children t.children slot room) (within own_space s spaces t.spaces slot room) cr cs sr ss
 
-    written : (x : Mount) → Updates s (with_value s slot x) slot (Some x)
-    written x = Updates-with_value s slot x (rw was refl)
+  -- the mount of an ID, in its slot
+  module _ (i slot : ℕ) (m : Mount) (at_i : key_at keys i ≡ Some slot) (was : get s slot ≡ Some m) where
+    pub row : mount_at (slab_mounts s) i ≡ Some m
+    row = mount_keyed s keys t.keyed i ∙ ap (option_and_then (get s)) at_i ∙ was
 
-    -- a mount has other attributes
-    pub table_attrs : (a : Attrs) → IsTable (with_value s slot (record m { attrs = a })) keys children spaces
-    table_attrs a =
-        let rows = attrs_written s keys t.keyed i slot m at_i was a in
-        record {
-          keyed = keyed_written s keys t.keyed slot m (record m { attrs = a }) was refl;
-          children = beside_kept parent_of s children t.children _ slot refl m _ was (written (record m { attrs = a })) refl (ap (rows_by id_of parent_of) rows ∙ same-by id_of parent_of (attrs_of i a) (slab_mounts s) (λ y. refl) (λ y. refl));
-          spaces = beside_kept own_space s spaces t.spaces _ slot refl m _ was (written (record m { attrs = a })) refl (ap (rows_by id_of own_space) rows ∙ same-by id_of own_space (attrs_of i a) (slab_mounts s) (λ y. refl) (λ y. refl));
-        }
+    fits : m.id ≡ i
+    fits = row_at-key id_of i (slab_mounts s) m row
 
-    -- a mount has another place: what it leaves of the list of its parent, and what it makes of that of the new one
+    its_key : key_at keys i ≡ option_map (λ _. slot) (get s slot)
+    its_key = at_i ∙ sym (ap (option_map (λ _. slot)) was)
+
+    -- it has gone from the slot
+    module _ (new : Slab Mount) (keys' : Keys) (u : Updates s new slot None) (cuts : (q : ℕ) → key_at keys' q ≡ cond (eqb i q) None (key_at keys q)) where
+      pub mounts_emptied : slab_mounts new ≡ without_id i (slab_mounts s)
+      mounts_emptied =
+          written_once (slab_mounts s) i None (slab_mounts new) (without_id i (slab_mounts s)) (mounts_written s keys t.keyed new keys' slot i None u its_key tt cuts) (without_written (slab_mounts s) (rises_table s) i)
+
+      pub table_emptied : (children' spaces' : SlotListsView) → new.capacity ≡ s.capacity
+          → children'.rows ≡ option_map_or (λ j. without_row j children.rows) (id_in children.slots slot) children.rows → children'.slots ≡ slice_set children.slots slot None
+          → spaces'.rows ≡ option_map_or (λ j. without_row j spaces.rows) (id_in spaces.slots slot) spaces.rows → spaces'.slots ≡ slice_set spaces.slots slot None
+          → IsTable new keys' children' spaces'
+      table_emptied children' spaces' room cr cs sr ss =
+          table_written new keys' children' spaces' slot i None u its_key tt cuts room (t.children.held slot m was) (t.spaces.held slot m was)
+          (taken parent_of s children t.children slot i m was row children'.rows cr) cs (taken own_space s spaces t.spaces slot i m was row spaces'.rows sr) ss
+
+    -- it was changed in the slot
+    module _ (x : Mount) (same : x.id ≡ m.id) where
+      written : Updates s (with_value s slot x) slot (Some x)
+      written = Updates-with_value s slot x (rw was refl)
+
+      stays : (q : ℕ) → key_at keys q ≡ cond (eqb i q) (Some slot) (key_at keys q)
+      stays q = row_cases i q _ _ _ (λ e. ap (key_at keys) (sym e) ∙ at_i) (λ ne. refl)
+
+      mounts_changed : IsWritten (slab_mounts s) i (Some x) (slab_mounts (with_value s slot x))
+      mounts_changed = mounts_written s keys t.keyed (with_value s slot x) keys slot i (Some x) written its_key (same ∙ fits) stays
+
+      table_changed : (children' : SlotListsView) → x.space ≡ m.space → children'.rows ≡ with_number i (parent_of x) children.rows → children'.slots ≡ slice_set children.slots slot (seat parent_of x) → IsTable (with_value s slot x) keys children' spaces
+      table_changed children' space cr cs =
+          table_written (with_value s slot x) keys children' spaces slot i (Some x) written its_key (same ∙ fits) stays refl (t.children.held slot m was) (t.spaces.held slot m was) cr cs
+          (rows_kept own_space s spaces t.spaces slot i m was row ∙ ap (λ n. with_number i (Some n) spaces.rows) (sym space))
+          (slots_kept own_space s spaces t.spaces slot i m was row ∙ ap (λ n. slice_set spaces.slots slot (Some n)) (sym same))
+
+    -- it has other attributes
+    pub mounts_attrs : (a : Attrs) → slab_mounts (with_value s slot (given_attrs a m)) ≡ with_attrs i a (slab_mounts s)
+    mounts_attrs a = written_once (slab_mounts s) i (Some (given_attrs a m)) _ _ (mounts_changed (given_attrs a m) refl) (attrs_written (slab_mounts s) (rises_table s) i (Some m) row a)
+
+    pub table_attrs : (a : Attrs) → IsTable (with_value s slot (given_attrs a m)) keys children spaces
+    table_attrs a = table_changed (given_attrs a m) refl children refl (rows_kept parent_of s children t.children slot i m was row) (slots_kept parent_of s children t.children slot i m was row)
+
+    -- it has another place: what it leaves of the list of its parent, and what it makes of that of the new one
+    pub mounts_moved : (p : Place) → slab_mounts (with_value s slot (moved_to p m)) ≡ with_place i p (slab_mounts s)
+    mounts_moved p = written_once (slab_mounts s) i (Some (moved_to p m)) _ _ (mounts_changed (moved_to p m) refl) (place_written (slab_mounts s) (rises_table s) i (Some m) row p)
+
     module _ (mid : SlotListsView) (rows_less : mid.rows ≡ option_map_or (λ j. without_row j children.rows) (id_in children.slots slot) children.rows) (slots_less : mid.slots ≡ slice_set children.slots slot None) where
-      fits : m.id ≡ i
-      fits = key_fits s keys t.keyed i slot m at_i was
+      gone : mid.rows ≡ without_row i children.rows
+      gone = taken parent_of s children t.children slot i m was row mid.rows rows_less
 
       pub left_absent : listed_number mid.rows i ≡ None
-      left_absent = ap (listed_number mid.rows) (sym fits) ∙ taken_absent parent_of s children t.children s slot refl m (distinct_ids s keys t.keyed) was mid rows_less slots_less
+      left_absent = taken_absent parent_of s children t.children slot i m was row mid.rows gone
 
       pub table_moved : (p : Place) (children' : SlotListsView) → children'.rows ≡ put listed_id (record { id = i; number = p.mount }) mid.rows → children'.slots ≡ slice_set mid.slots slot (Some i)
-          → IsTable (with_value s slot (record m { place = Some p })) keys children' spaces
+          → IsTable (with_value s slot (moved_to p m)) keys children' spaces
       table_moved p children' r l =
-          let x = record m { place = Some p } in
-          let rows = place_written s keys t.keyed i slot m at_i was p in
-          let row = row_at_slot s slot i m (distinct_ids s keys t.keyed) was fits in
-          let moved : rows_by id_of parent_of (slab_mounts (with_value s slot x)) ≡ with_number m.id (Some p.mount) (rows_by id_of parent_of (slab_mounts s)) =
-          ap (rows_by id_of parent_of) rows
-          ∙ change-by id_of parent_of i (place_of i p) m (slab_mounts s) (λ y. refl) (λ y ne. ap (option_map (λ (q : Place). q.mount)) (stays_place i p y ne)) (rises_table s) row
-          ∙ ap (λ o. with_number i o (rows_by id_of parent_of (slab_mounts s))) (ap (option_map (λ (q : Place). q.mount)) (moved_place i p m fits))
-          ∙ ap (λ j. with_number j (Some p.mount) (rows_by id_of parent_of (slab_mounts s))) (sym fits) in
-          record {
-            keyed = keyed_written s keys t.keyed slot m x was refl;
-            children = beside_moved parent_of s children t.children _ slot refl m (distinct_ids s keys t.keyed) was mid rows_less slots_less x p.mount children' (written x) refl moved
-                (r ∙ ap (λ j. put listed_id (record { id = j; number = p.mount }) mid.rows) (sym fits)) (l ∙ ap (λ j. slice_set mid.slots slot (Some j)) (sym fits));
-            spaces = beside_kept own_space s spaces t.spaces _ slot refl m x was (written x) refl (ap (rows_by id_of own_space) rows ∙ same-by id_of own_space (place_of i p) (slab_mounts s) (λ y. refl) (λ y. refl));
-          }
+          table_changed (moved_to p m) refl children' refl
+          (r ∙ ap (with_number i (Some p.mount)) gone ∙ with-taken i (Some p.mount) children.rows (rises_beside parent_of s children t.children))
+          (l ∙ ap (λ xs. slice_set xs slot (Some i)) slots_less ∙ set-set children.slots slot None (Some i) ∙ ap (λ j. slice_set children.slots slot (Some j)) (sym fits))

@@ -1,23 +1,24 @@
 -- How a `Table` lies in its slots and its keys. No public clause cites this module.
 -- A word with no source is this project's rule.
-use Rattle.std.specs.Prelude.{◌≡◌, ℕ, Some, Option, List, [], ◌∷◌, ◌++◌, nat_eq}
+use Rattle.std.specs.Prelude.{◌≡◌, ℕ, Some, None, Option, List, [], ◌∷◌, ◌++◌, nat_eq}
 use Rattle.std.specs.Option.{option_map_or}
 use Rattle.std.specs.declared.hash.FoldHasher.{FoldHasher}
 use Rattle.std.specs.declared.hash.BuildHasherDefault.{BuildHasherDefault}
-use Rattle.slab.specs.Slab.{Slab, get, entries}
+use Rattle.slab.specs.Slab.{Slab, get}
 use Rattle.indexmap.specs.IndexMap.{IndexMap, get as key_in}
 use Rattle.mt_skel.specs.Keyed.{put}
 use Rattle.mt_mounts.specs.declared.mount.Mount.{Mount}
 use Rattle.mt_mounts.specs.Forest.{id_of, mount_at}
 
--- The mounts of these entries, by rising ID.
-abbrev pub by_id : List (ℕ × Mount) → List Mount
+-- The mounts in these slots, by rising ID.
+abbrev pub by_id : List (Option Mount) → List Mount
 by_id [] = []
-by_id (e ∷ es) = put id_of e.1 (by_id es)
+by_id (None ∷ slots) = by_id slots
+by_id (Some m ∷ slots) = put id_of m (by_id slots)
 
 -- The mounts of a slab, by rising ID.
 unfoldable pub slab_mounts : Slab Mount → List Mount
-slab_mounts s = by_id (entries s)
+slab_mounts s = by_id s.slots
 
 -- The keys of the slab, each under the ID of its mount.
 abbrev pub Keys : Type 0

@@ -1,29 +1,34 @@
-use Rattle.std.proofs.Common.{ap, sym, ◌∙◌, refl, arith}
+use Rattle.std.proofs.Common.{◌≡◌, Some, None, ap, sym, ◌∙◌, refl, inl, arith}
 use Rattle.mt_lists.specs.Log.{earlier}
-use Rattle.mt_mounts.specs.Forest.{mount_at}
+use Rattle.mt_mounts.specs.Forest.{on, mount_at}
 use Rattle.mt_mounts.specs.ForestView.{with_place}
-use Rattle.mt_mounts.proofs.ForestLaws.{map_none}
-use Rattle.mt_mounts.proofs.ChangeLaws.{place_of, place_other}
-use Rattle.mt_mounts.proofs.KeptLaws.{forest_moved, mount_fits}
+use Rattle.mt_mounts.proofs.WrittenLaws.{moved_to, place_written, place_absent}
+use Rattle.mt_mounts.proofs.PlaceLaws.{alone_at, alone_root}
+use Rattle.mt_mounts.proofs.KeptLaws.{forest_written, mount_fits}
 use Rattle.mt_mounts.proofs.forest.Forest.reattach.Goals as goal
 
 pub invariant_of-self : goal.invariant_of-self
 invariant_of-self c =
     let e = ap (λ f. f.mounts) c.self.view_is in
     let f = c.self.invariant.0 in
+    let ms = c.self.inside.table.mounts in
+    let since = earlier c.self.inside.since.seen.items (λ t. t.mounts) in
+    let m = c.in-Some.mount in
+    let p = c.args.place in
+    let free : on ms p ≡ None = rw e c.requires.free in
     let there = sym c.in-Some.ensures in
-    let fits = mount_fits c.self.inside.table.mounts c.args.id c.in-Some.mount there in
-    let at_id = ap (mount_at c.self.inside.table.mounts) fits ∙ there in (
-      forest_moved c.self.inside.table.mounts c.self.inside.indexes c.set_place.new.self (earlier c.self.inside.since.seen.items (λ t. t.mounts)) c.self.inside.log.ids f c.set_place-in-Some.new.self.mounts c.add.new.self.ids c.in-Some.mount c.args.place at_id
-          (rw e c.requires.free)
-          (c.set_place-in-Some.ensures.mounts ∙ ap (λ i. with_place i c.args.place c.self.inside.table.mounts) (sym fits)) c.add.ensures.ids
-          (c.set_place.ensures.indexed c.self.inside.table.mounts f.rising f.single at_id (rw e c.requires.free) f.indexed),
+    let fits = mount_fits ms c.args.id m there in
+    let at_id = ap (mount_at ms) fits ∙ there in
+    let now = Some (moved_to p m) in (
+      forest_written ms c.self.inside.indexes c.set_place.new.self since c.self.inside.log.ids f c.set_place-in-Some.new.self.mounts since c.add.new.self.ids
+          m.id now (with_place m.id p ms) (place_written ms f.rising m.id (Some m) at_id p)
+          (alone_at ms m.id now (λ q s. let pq : p ≡ q = cc in ap (on ms) (sym pq) ∙ free)) (alone_root ms m.id now (λ s. absurd (cc)))
+          (c.set_place-in-Some.ensures.mounts ∙ ap (λ i. with_place i p ms) (sym fits)) (inl (refl, c.add.ensures.ids))
+          (c.set_place.ensures.indexed ms f.rising f.single at_id free f.indexed),
       omega (arith, c.self.invariant.1, c.set_place.ensures.room, c.set_place-in-Some.ensures.room),
     )
 
 pub returns-in_default-clause-mounts : goal.returns-in_default-clause-mounts
 returns-in_default-clause-mounts c =
     let e = ap (λ f. f.mounts) c.self.view_is in
-    sym e
-    ∙ map_none (place_of c.args.id c.args.place) (λ x. refl) c.args.id (place_other c.args.id c.args.place) c.self.inside.table.mounts c.self.invariant.0.rising (sym c.in_default.ensures)
-    ∙ ap (with_place c.args.id c.args.place) e
+    sym e ∙ place_absent c.self.inside.table.mounts c.self.invariant.0.rising c.args.id (sym c.in_default.ensures) c.args.place ∙ ap (with_place c.args.id c.args.place) e

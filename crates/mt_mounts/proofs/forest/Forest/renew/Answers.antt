@@ -1,7 +1,10 @@
-use Rattle.std.proofs.Common.{ap, sym, ◌∙◌, arith}
+use Rattle.std.proofs.Common.{cond, ap, sym, ◌∙◌, refl, arith}
+use Rattle.std.specs.Option.{option_map}
 use Rattle.mt_lists.specs.Log.{earlier}
 use Rattle.mt_mounts.specs.Forest.{mount_at}
-use Rattle.mt_mounts.proofs.FollowLaws.{forest_renewed, renewed_here, renewed_others}
+use Rattle.mt_mounts.specs.Follow.{given_attrs}
+use Rattle.mt_mounts.proofs.WrittenLaws.{written_here, but_written}
+use Rattle.mt_mounts.proofs.FollowLaws.{forest_renewed, renewed_written}
 use Rattle.mt_mounts.proofs.forest.Forest.renew.Goals as goal
 
 pub invariant_of-self : goal.invariant_of-self
@@ -14,9 +17,14 @@ invariant_of-self c =
 
 pub returns-clause-here : goal.returns-clause-here
 returns-clause-here c is =
-    renewed_here c.self.inside.table.mounts c.renew-renewed.new.self.mounts c.args.mount c.renew-renewed.result is c.renew-renewed.ensures.mounts (c.renew-renewed.ensures.renewed is)
+    let ms = c.self.inside.table.mounts in
+    let m = c.args.mount in
+    written_here ms m.id _ c.renew-renewed.new.self.mounts (renewed_written ms c.renew-renewed.new.self.mounts m c.self.invariant.0.rising c.renew-renewed.result c.renew-renewed.ensures.mounts) m.id refl
+    ∙ ap (λ b. cond b (option_map (given_attrs m.attrs) (mount_at ms m.id)) (mount_at ms m.id)) is ∙ c.renew-renewed.ensures.renewed is
 
 pub returns-clause-others : goal.returns-clause-others
 returns-clause-others c i e =
+    let ms = c.self.inside.table.mounts in
+    let after = c.renew-renewed.new.self.mounts in
     ap (λ f. mount_at f.mounts i) (sym c.self.view_is)
-    ∙ renewed_others c.self.inside.table.mounts c.renew-renewed.new.self.mounts c.args.mount c.renew-renewed.result c.self.invariant.0.rising c.renew-renewed.ensures.mounts i e
+    ∙ but_written ms c.args.mount.id _ after (renewed_written ms after c.args.mount c.self.invariant.0.rising c.renew-renewed.result c.renew-renewed.ensures.mounts) i e

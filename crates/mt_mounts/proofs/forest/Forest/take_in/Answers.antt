@@ -1,33 +1,36 @@
-use Rattle.std.proofs.Common.{sym, ap, ◌∙◌}
-use Rattle.mt_mounts.specs.Forest.{mount_at}
+use Rattle.std.proofs.Common.{◌≡◌, Some, None, sym, ap, ◌∙◌}
+use Rattle.mt_skel.specs.Keyed.{put}
+use Rattle.mt_skel.proofs.AddedLaws.{none_tested}
+use Rattle.mt_mounts.specs.Forest.{id_of, mount_at}
+use Rattle.mt_mounts.proofs.SlotLaws.{row_put_here}
+use Rattle.mt_mounts.proofs.WrittenLaws.{put_written, but_written}
 use Rattle.mt_mounts.proofs.KeptLaws.{mount_fits}
-use Rattle.mt_mounts.proofs.FollowLaws.{none_is, is_absent, is_free, is_rootless, put_here, put_other}
+use Rattle.mt_mounts.proofs.FollowLaws.{is_free, is_rootless, others_under}
 use Rattle.mt_mounts.proofs.forest.Forest.take_in.Goals as goal
 
-pub put_in-requires-clause-absent : goal.put_in-requires-clause-absent
-put_in-requires-clause-absent c =
-    let absent = sym c.get.ensures ∙ none_is c.get.result c.is_some.result c.if-is_some.false c.is_some.ensures in
-    let there = sym c.get-2.ensures ∙ c.in-Some.is in
-    is_absent c.args.self.now.mounts c.args.other.now.mounts c.args.id c.in-Some.mount c.known.ensures.rising c.known-2.ensures.single c.requires.part absent there
-
-pub put_in-requires-clause-free : goal.put_in-requires-clause-free
-put_in-requires-clause-free c =
-    let absent = sym c.get.ensures ∙ none_is c.get.result c.is_some.result c.if-is_some.false c.is_some.ensures in
-    let there = sym c.get-2.ensures ∙ c.in-Some.is in
-    is_free c.args.self.now.mounts c.args.other.now.mounts c.args.id c.in-Some.mount c.known.ensures.rising c.known-2.ensures.single c.requires.part absent there
-
-pub put_in-requires-clause-rootless : goal.put_in-requires-clause-rootless
-put_in-requires-clause-rootless c =
-    let absent = sym c.get.ensures ∙ none_is c.get.result c.is_some.result c.if-is_some.false c.is_some.ensures in
-    let there = sym c.get-2.ensures ∙ c.in-Some.is in
-    is_rootless c.args.self.now.mounts c.args.other.now.mounts c.args.id c.in-Some.mount c.known.ensures.rising c.known-2.ensures.single c.requires.part absent there
+pub put_in-requires : goal.put_in-requires
+put_in-requires c =
+    let ms = c.args.self.now.mounts in
+    let os = c.args.other.now.mounts in
+    let i = c.args.id in
+    let m = c.in-Some.mount in
+    let absent : mount_at ms i ≡ None = none_tested c.get.result (mount_at ms i) c.is_some.result c.is_some.ensures c.if-is_some.false c.get.ensures in
+    let there : mount_at os i ≡ Some m = sym c.get-2.ensures ∙ c.in-Some.is in
+    record {
+      room = c.requires.room;
+      absent = ap (mount_at ms) (mount_fits os i m there) ∙ absent;
+      free = is_free ms os i m c.known.ensures.rising c.known-2.ensures.single c.requires.part absent there;
+      rootless = is_rootless ms os i m c.known.ensures.rising c.known-2.ensures.single c.requires.part absent there;
+    }
 
 pub returns-in-Some-clause-here : goal.returns-in-Some-clause-here
 returns-in-Some-clause-here c =
     let there = sym c.get-2.ensures ∙ c.in-Some.is in
-    ap (λ l. mount_at l c.args.id) c.put_in.ensures.mounts ∙ put_here c.args.self.now.mounts c.args.id c.in-Some.mount (mount_fits c.args.other.now.mounts c.args.id c.in-Some.mount there) ∙ sym there
+    ap (λ l. mount_at l c.args.id) c.put_in.ensures.mounts ∙ row_put_here c.args.self.now.mounts c.in-Some.mount c.args.id (mount_fits c.args.other.now.mounts c.args.id c.in-Some.mount there) ∙ sym there
 
 pub returns-in-Some-clause-others : goal.returns-in-Some-clause-others
 returns-in-Some-clause-others c i e =
-    let there = sym c.get-2.ensures ∙ c.in-Some.is in
-    put_other c.args.self.now.mounts c.args.id c.in-Some.mount (mount_fits c.args.other.now.mounts c.args.id c.in-Some.mount there) i e ∙ ap (λ l. mount_at l i) (sym c.put_in.ensures.mounts)
+    let ms = c.args.self.now.mounts in
+    let m = c.in-Some.mount in
+    others_under c.args.other.now.mounts ms (put id_of m ms) c.args.id m (sym c.get-2.ensures ∙ c.in-Some.is) (but_written ms m.id (Some m) (put id_of m ms) (put_written ms c.known.ensures.rising m)) i e
+    ∙ ap (λ l. mount_at l i) (sym c.put_in.ensures.mounts)

@@ -1,5 +1,6 @@
 use Rattle.std.proofs.Common.{ap, sym, ◌∙◌, length}
-use Rattle.mt_mounts.proofs.TableLaws.{length_table, distinct_ids}
+use Rattle.mt_mounts.proofs.SlotLaws.{length_table}
+use Rattle.mt_mounts.proofs.TableLaws.{distinct_ids}
 use Rattle.mt_mounts.proofs.table.Table.len.Goals as goal
 
 pub returns : goal.returns

@@ -1,5 +1,5 @@
 use Rattle.std.proofs.Common.{◌≡◌, ◌++◌, ap, sym, ◌∙◌, append-nil, rules}
-use Rattle.std.proofs.lemmas.List.Sorted.{IsNonDecreasingBy-from_sort_by_key}
+use Rattle.std.proofs.lemmas.Fn.{always_returns_same}
 use Rattle.slab.specs.Slab.{entries}
 use Rattle.mt_mounts.specs.Forest.{id_of}
 use Rattle.mt_mounts.proofs.SlotLaws.{vals}
@@ -13,6 +13,6 @@ returns-clause-mounts c =
     let first = c.into_iter-mount-iterator.ensures.into_iter_gives ∙ c.iter-mount-items.ensures.rest in
     let all : c.loop-mount.mounts.items ≡ vals (entries c.self.inside.slots) =
     sym (append-nil c.loop-mount.mounts.items) ∙ ap (λ x. c.loop-mount.mounts.items ++ vals x) (sym left.0) ∙ c.loop-mount.invariant.listed ∙ ap vals first in
-    let sorted = IsNonDecreasingBy-from_sort_by_key id_of _ c.sort_unstable_by_key.ensures.sorted (λ a r q k. search rules) in
+    let sorted = c.sort_unstable_by_key.ensures.sorted id_of (always_returns_same _ (λ a r. r ≡ id_of a.0.now) _ (λ a r q k. search rules)) in
     sorted_mounts c.self.inside.slots c.loop-mount.mounts.items c.sort_unstable_by_key.new.self.items (distinct_ids c.self.inside.slots c.self.inside.keys c.self.invariant.keyed) all c.sort_unstable_by_key.ensures.permutation sorted
     ∙ ap (λ t. t.mounts) c.self.view_is

@@ -5,8 +5,7 @@ use Rattle.mt_mounts.specs.Forest.{mount_at}
 use Rattle.mt_mounts.specs.ForestView.{with_attrs}
 use Rattle.mt_mounts.specs.Follow.{given_attrs}
 use Rattle.mt_mounts.proofs.TableLaws.{mount_keyed}
-use Rattle.mt_mounts.proofs.ChangeLaws.{attrs_written}
-use Rattle.mt_mounts.proofs.TableStepLaws.{table_attrs}
+use Rattle.mt_mounts.proofs.TableStepLaws.{mounts_attrs, table_attrs}
 use Rattle.mt_mounts.proofs.table.Table.renew.Goals as goal
 
 pub invariant_of-self : goal.invariant_of-self
@@ -31,6 +30,6 @@ returns-then-stands_as-clause-renewed c is =
 pub returns-then-stands_as-clause-mounts : goal.returns-then-stands_as-clause-mounts
 returns-then-stands_as-clause-mounts c =
     let i = c.args.mount.id in
-    attrs_written c.self.inside.slots c.self.inside.keys c.self.invariant.keyed i c.in-Some.key c.in-Some-get_mut.here.now
+    mounts_attrs c.self.inside.slots c.self.inside.keys c.self.inside.children c.self.inside.spaces c.self.invariant i c.in-Some.key c.in-Some-get_mut.here.now
     (sym c.get.ensures.value ∙ sym c.in-Some.ensures) (sym c.in-Some-get_mut.ensures.value) c.args.mount.attrs
     ∙ ap (λ t. with_attrs i c.args.mount.attrs t.mounts) c.self.view_is

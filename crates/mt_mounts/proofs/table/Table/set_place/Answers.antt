@@ -1,9 +1,12 @@
 use Rattle.std.proofs.Common.{ap, ◌∙◌, sym}
 use Rattle.std.specs.Option.{option_and_then}
 use Rattle.slab.specs.Slab.{get}
+use Rattle.mt_mounts.specs.Slots.{slab_mounts}
 use Rattle.mt_mounts.specs.ForestView.{with_place}
-use Rattle.mt_mounts.proofs.ChangeLaws.{place_absent, place_written}
-use Rattle.mt_mounts.proofs.TableStepLaws.{left_absent, table_moved}
+use Rattle.mt_mounts.proofs.SlotLaws.{rises_table}
+use Rattle.mt_mounts.proofs.WrittenLaws.{place_absent}
+use Rattle.mt_mounts.proofs.TableLaws.{mount_keyed}
+use Rattle.mt_mounts.proofs.TableStepLaws.{mounts_moved, left_absent, table_moved}
 use Rattle.mt_mounts.proofs.table.Table.set_place.Goals as goal
 
 pub insert-requires-clause-absent : goal.insert-requires-clause-absent
@@ -19,21 +22,21 @@ invariant_of-self c =
 
 pub returns-in-Some-get_mut-clause-mounts : goal.returns-in-Some-get_mut-clause-mounts
 returns-in-Some-get_mut-clause-mounts c =
-    place_written c.self.inside.slots c.self.inside.keys c.self.invariant.keyed c.args.id c.in-Some.slot c.in-Some-get_mut.mount.now
+    mounts_moved c.self.inside.slots c.self.inside.keys c.self.inside.children c.self.inside.spaces c.self.invariant c.args.id c.in-Some.slot c.in-Some-get_mut.mount.now
     (sym c.get.ensures.value ∙ sym c.in-Some.ensures) (sym c.in-Some-get_mut.ensures.value) c.args.place
     ∙ ap (λ t. with_place c.args.id c.args.place t.mounts) c.self.view_is
 
 pub returns-in_default-get_mut-clause-mounts : goal.returns-in_default-get_mut-clause-mounts
 returns-in_default-get_mut-clause-mounts c =
     let e = ap (λ t. t.mounts) c.self.view_is in
-    place_absent c.self.inside.slots c.self.inside.keys c.self.invariant.keyed c.args.id
-    (ap (option_and_then (get c.self.inside.slots)) (sym c.get.ensures.value ∙ sym c.in-Some.ensures) ∙ sym c.in_default-get_mut.ensures.value) c.args.place
+    place_absent (slab_mounts c.self.inside.slots) (rises_table c.self.inside.slots) c.args.id
+    (mount_keyed c.self.inside.slots c.self.inside.keys c.self.invariant.keyed c.args.id ∙ ap (option_and_then (get c.self.inside.slots)) (sym c.get.ensures.value ∙ sym c.in-Some.ensures) ∙ sym c.in_default-get_mut.ensures.value) c.args.place
     ∙ ap (with_place c.args.id c.args.place) e
 
 pub returns-in_default-clause-mounts : goal.returns-in_default-clause-mounts
 returns-in_default-clause-mounts c =
     let e = ap (λ t. t.mounts) c.self.view_is in
     sym e
-    ∙ place_absent c.self.inside.slots c.self.inside.keys c.self.invariant.keyed c.args.id
-    (ap (option_and_then (get c.self.inside.slots)) (sym c.get.ensures.value ∙ sym c.in_default.ensures)) c.args.place
+    ∙ place_absent (slab_mounts c.self.inside.slots) (rises_table c.self.inside.slots) c.args.id
+    (mount_keyed c.self.inside.slots c.self.inside.keys c.self.invariant.keyed c.args.id ∙ ap (option_and_then (get c.self.inside.slots)) (sym c.get.ensures.value ∙ sym c.in_default.ensures)) c.args.place
     ∙ ap (with_place c.args.id c.args.place) e
