@@ -1,10 +1,9 @@
 -- What the lists and indexes answer is what the mounts are.
-use Rattle.std.proofs.Common.{◌≡◌, ℕ, ◌++◌, Bool, true, false, cond, ◌&&◌, eqb, eq-eqb, List, [], ◌∷◌, map, length, Option, Some, None, refl, sym, ap, ◌∙◌, arith}
+use Rattle.std.proofs.Common.{◌≡◌, ℕ, ◌++◌, Bool, true, false, cond, ◌&&◌, eqb, eq-eqb, List, [], ◌∷◌, map, length, Option, Some, None, refl, ap, ◌∙◌, inl, inr}
 use Rattle.std.specs.List.{find, filter}
 use Rattle.std.specs.Option.{option_map, option_map_or, option_and_then, is_none}
-use Rattle.std.proofs.lemmas.Bool.Decides.{nat_tests}
-use Rattle.mt_skel.specs.Keyed.{row_at, rises}
-use Rattle.mt_skel.proofs.KeyedLaws.{row_at-below, row_at-filter, rises-filter, passing}
+use Rattle.mt_skel.specs.Keyed.{rises}
+use Rattle.mt_skel.proofs.ElementLaws.{In, in_row, in_filter}
 use Rattle.mt_lists.specs.Lists.{ListRow, first, ids}
 use Rattle.mt_lists.specs.Numbered.{rows_by, has_number}
 use Rattle.mt_lists.proofs.NumberedLaws.{ids-by}
@@ -26,28 +25,18 @@ mount_found t ms r = go (find t ms) (λ m e. find_row t ms m r e)
 
 first_found : (t : Mount → Bool) (ms : List Mount) → first (map id_of (filter t ms)) ≡ option_map id_of (find t ms)
 first_found t [] = refl
-first_found t (m ∷ ms) = go (t m) (first_found t ms)
-  where
-    go : (b : Bool) → first (map id_of (filter t ms)) ≡ option_map id_of (find t ms) → first (map id_of (cond b (m ∷ filter t ms) (filter t ms))) ≡ option_map id_of (cond b (Some m) (find t ms))
-    go true ih = refl
-    go false ih = ih
+first_found t (m ∷ ms) =
+    elim (t m) as (λ b. first (map id_of (cond b (m ∷ filter t ms) (filter t ms))) ≡ option_map id_of (cond b (Some m) (find t ms))) [ true ↦ refl | false ↦ first_found t ms ]
 
 numbered_as : (number : Mount → Option ℕ) (t : ℕ → Mount → Bool) → ((n : ℕ) (m : Mount) → has_number id_of number n m ≡ t n m) → (ms : List Mount) (rows : List ListRow) → rows ≡ rows_by id_of number ms → (n : ℕ) → ids rows n ≡ map id_of (filter (t n) ms)
 numbered_as number t same ms rows e n = ap (λ r. ids r n) e ∙ ids-by id_of number ms n ∙ ap (λ s. map id_of (filter s ms)) (λ i m. same n m i)
 
 child_test : (i : ℕ) (m : Mount) → has_number id_of parent_of i m ≡ stands_on i m
-child_test i m = go m.place
-  where
-    go : (o : Option Place) → option_map_or (λ n. eqb n i) (option_map (λ (p : Place). p.mount) o) false ≡ option_map_or (λ (p : Place). eqb p.mount i) o false
-    go None = refl
-    go (Some p) = refl
+child_test i m =
+    elim m.place as (λ o. option_map_or (λ n. eqb n i) (option_map (λ (p : Place). p.mount) o) false ≡ option_map_or (λ (p : Place). eqb p.mount i) o false) [ None ↦ refl | Some p ↦ refl ]
 
 root_test : (n : ℕ) (m : Mount) → has_number id_of rooted_in n m ≡ is_root n m
-root_test n m = go (is_none m.place)
-  where
-    go : (b : Bool) → option_map_or (λ k. eqb k n) (cond b (Some m.space) None) false ≡ (b && eqb m.space n)
-    go true = refl
-    go false = refl
+root_test n m = elim (is_none m.place) as (λ b. option_map_or (λ k. eqb k n) (cond b (Some m.space) None) false ≡ (b && eqb m.space n)) [ true ↦ refl | false ↦ refl ]
 
 pub child_ids : (ms : List Mount) (rows : List ListRow) → rows ≡ rows_by id_of parent_of ms → (i : ℕ) → ids rows i ≡ children ms i
 child_ids ms rows e i = numbered_as parent_of stands_on child_test ms rows e i
@@ -71,25 +60,11 @@ count_roots (m ∷ ms) = go (is_none m.place) (count_roots ms)
 pub root_count : (ms : List Mount) (rows : List ListRow) → rows ≡ rows_by id_of rooted_in ms → length rows ≡ length (roots ms)
 root_count ms rows e = ap length e ∙ count_roots ms
 
-of_ids : (ms xs : List Mount) → rises id_of xs ≡ true → ((q : ℕ) (x : Mount) → row_at id_of q xs ≡ Some x → mount_at ms q ≡ Some x) → mounts_of ms (map id_of xs) ≡ xs
-of_ids ms [] r f = refl
-of_ids ms (x ∷ xs) r f =
-    ap (λ o. option_map_or (λ m. m ∷ []) o [] ++ mounts_of ms (map id_of xs)) (f x.id x (ap (λ b. cond b (Some x) (row_at id_of x.id xs)) (eq-eqb x.id x.id refl)))
-    ∙ ap (λ l. x ∷ l) (of_ids ms xs (grind (arith, nat_tests)) (λ q y e. f q y (later q y e (grind (arith, nat_tests)))))
-  where
-    later : (q : ℕ) (y : Mount) → row_at id_of q xs ≡ Some y → rises id_of (x ∷ xs) ≡ true → row_at id_of q (x ∷ xs) ≡ Some y
-    later q y e up =
-        let low = row_at-below id_of x.id xs in
-        grind (arith, nat_tests)
+of_ids : (ms xs : List Mount) → ((x : Mount) → In x xs → mount_at ms x.id ≡ Some x) → mounts_of ms (map id_of xs) ≡ xs
+of_ids ms [] f = refl
+of_ids ms (x ∷ xs) f =
+    ap (λ o. option_map_or (λ m. m ∷ []) o [] ++ mounts_of ms (map id_of xs)) (f x (inl refl)) ∙ ap (λ l. x ∷ l) (of_ids ms xs (λ y h. f y (inr h)))
 
 -- the mounts of a namespace are those of its IDs
 pub space_mounts : (ms : List Mount) (n : ℕ) → rises id_of ms ≡ true → mounts_of ms (map id_of (mounts_in ms n)) ≡ mounts_in ms n
-space_mounts ms n r = of_ids ms (mounts_in ms n) (rises-filter id_of (in_space n) ms r) (λ q x e. go (mount_at ms q) (sym (row_at-filter id_of (in_space n) q ms r) ∙ e))
-  where
-    go : {x : Mount} → (o : Option Mount) → passing (in_space n) o ≡ Some x → o ≡ Some x
-    go None e = e
-    go {x} (Some m) e = by (in_space n m) e
-      where
-        by : (b : Bool) → cond b (Some m) None ≡ Some x → Some m ≡ Some x
-        by true e = e
-        by false e = absurd (let v : None ≡ Some x = e in cc)
+space_mounts ms n r = of_ids ms (mounts_in ms n) (λ x h. in_row id_of ms x r (in_filter (in_space n) x ms h).0)

@@ -8,12 +8,12 @@ use Rattle.mt_mounts.specs.declared.mount.Mount.{Mount}
 use Rattle.mt_mounts.specs.declared.indexes.Indexes.{Indexes}
 use Rattle.mt_mounts.specs.Forest.{id_of, mount_at, on, is_at, is_root, root_mount, place_eq}
 use Rattle.mt_mounts.specs.Tree.{AtMostOne, IsSingle}
-use Rattle.mt_mounts.specs.ForestView.{with_attrs}
+use Rattle.mt_mounts.specs.ForestView.{with_attrs, without_id}
 use Rattle.mt_mounts.specs.Follow.{IsPartOf, given_attrs}
 use Rattle.mt_mounts.specs.Indexes.{IsKeptForest}
 use Rattle.mt_mounts.proofs.SlotLaws.{none_found}
 use Rattle.mt_mounts.proofs.ForestLaws.{find_row, find_passes}
-use Rattle.mt_mounts.proofs.WrittenLaws.{IsWritten, left_written, attrs_written}
+use Rattle.mt_mounts.proofs.WrittenLaws.{IsWritten, without_written, left_written, attrs_written}
 use Rattle.mt_mounts.proofs.StackLaws.{place_self}
 use Rattle.mt_mounts.proofs.KeptLaws.{mount_fits, forest_attrs, forest_same}
 
@@ -27,6 +27,10 @@ module _ (ms after : List Mount) (m : Mount) where
   pub renewed_written : rises id_of ms ≡ true → (b : Bool) → after ≡ cond b (with_attrs m.id m.attrs ms) ms → IsWritten ms m.id (cond b (option_map (given_attrs m.attrs) (mount_at ms m.id)) (mount_at ms m.id)) after
   renewed_written r true e = subst (IsWritten ms m.id (option_map (given_attrs m.attrs) (mount_at ms m.id))) (sym e) (attrs_written ms r m.id (mount_at ms m.id) refl m.attrs)
   renewed_written r false e = subst (IsWritten ms m.id (mount_at ms m.id)) (sym e) (left_written ms r m.id (mount_at ms m.id) refl)
+
+-- a mount that was taken away
+pub taken_written : (ms after : List Mount) (i : ℕ) → rises id_of ms ≡ true → after ≡ without_id i ms → IsWritten ms i None after
+taken_written ms after i r e = subst (IsWritten ms i None) (sym e) (without_written ms r i)
 
 -- a mount under its own ID is the one under an ID under which another forest has it, and so are the others
 pub same_under : (os ms : List Mount) (i : ℕ) (m : Mount) → mount_at os i ≡ Some m → mount_at ms m.id ≡ Some m → mount_at ms i ≡ mount_at os i

@@ -2,6 +2,7 @@
 use Rattle.std.proofs.Common.{◌≡◌, ◌≢◌, ℕ, Bool, true, false, cond, List, Option, Some, None, refl, sym, ap, subst, ◌∙◌}
 use Rattle.std.specs.Map.{lookup}
 use Rattle.std.specs.Option.{IfSome, ForSome, option_map, option_and_then}
+use Rattle.std.proofs.lemmas.Option.{same_Some}
 use Rattle.indexmap.specs.IndexMap.{get}
 use Rattle.mt_skel.specs.Keyed.{rises}
 use Rattle.mt_lists.specs.Lists.{listed_number, with_number}
@@ -35,9 +36,7 @@ module _ (ms : List Mount) (r : rises id_of ms ≡ true) (m : Mount) where
   pub stands_once : mount_at ms m.id ≡ Some m → (q : Place) → over ms q ≡ Some (root_place m) → is_at q m ≡ true
   stands_once there q e =
       let s = stands q e in
-      let v : Some s.0 ≡ Some m = sym s.2 ∙ there in
-      let w : s.0 ≡ m = cc in
-      subst (λ y. is_at q y ≡ true) w (find_passes (is_at q) ms s.0 s.1)
+      subst (λ y. is_at q y ≡ true) (same_Some s.0 m (sym s.2 ∙ there)) (find_passes (is_at q) ms s.0 s.1)
 
 -- of which namespace the mount of an ID is the root mount
 pub rooted : (ms : List Mount) (x : Indexes) → rises id_of ms ≡ true → IsIndexed ms x → (i : ℕ) (o : Option Mount) → mount_at ms i ≡ o → listed_number x.roots.rows i ≡ option_and_then rooted_in o

@@ -13,7 +13,7 @@ use Rattle.mt_mounts.specs.Forest.{id_of, mount_at, on, is_at, is_root, root_mou
 use Rattle.mt_mounts.specs.ForestView.{with_attrs, without_id}
 use Rattle.mt_mounts.specs.Follow.{given_attrs}
 use Rattle.mt_mounts.specs.Indexes.{IsIndexed, IsKeptForest}
-use Rattle.mt_mounts.proofs.WrittenLaws.{IsWritten, but_written, put_written, without_written, attrs_written}
+use Rattle.mt_mounts.proofs.WrittenLaws.{IsWritten, but_written, put_written, without_written, without_absent, attrs_written}
 use Rattle.mt_mounts.proofs.PlaceLaws.{IsAlone, alone_at, alone_root, alone_still, one_written}
 use Rattle.mt_mounts.proofs.IndexLaws.{indexed_attrs}
 
@@ -49,8 +49,14 @@ module _ (ms : List Mount) (old new : Indexes) (since : List Mount) (noted : Lis
       → ((then ≡ since) × (all ≡ noted ++ m.id ∷ [])) ⊎ (then ≡ after) → IsIndexed (put id_of m ms) new → IsKeptForest after new then all
   forest_put m free rootless = forest_written m.id (Some m) (put id_of m ms) (put_written ms f.rising m) (alone_at ms m.id (Some m) free) (alone_root ms m.id (Some m) rootless)
 
-  pub forest_without : (i : ℕ) → after ≡ without_id i ms → ((then ≡ since) × (all ≡ noted ++ i ∷ [])) ⊎ (then ≡ after) → IsIndexed (without_id i ms) new → IsKeptForest after new then all
-  forest_without i = forest_written i None (without_id i ms) (without_written ms f.rising i) (alone_at ms i None tt) (alone_root ms i None tt)
+  pub forest_without : (i : ℕ) (m : Mount) → mount_at ms i ≡ Some m → after ≡ without_id i ms → ((then ≡ since) × (all ≡ noted ++ m.id ∷ [])) ⊎ (then ≡ after) → (mount_at ms m.id ≡ Some m → IsIndexed (without_id m.id ms) new) → IsKeptForest after new then all
+  forest_without i m there e told x =
+      let fits = mount_fits ms i m there in
+      forest_written m.id None (without_id m.id ms) (without_written ms f.rising m.id) (alone_at ms m.id None tt) (alone_root ms m.id None tt) (e ∙ ap (λ j. without_id j ms) (sym fits)) told (x (ap (mount_at ms) fits ∙ there))
+
+-- none has gone, since none was there
+pub forest_left : (ms : List Mount) (x : Indexes) (since : List Mount) (noted : List ℕ) → IsKeptForest ms x since noted → (after : List Mount) (i : ℕ) → mount_at ms i ≡ None → after ≡ without_id i ms → IsKeptForest after x since noted
+forest_left ms x since noted f after i absent e = forest_same ms x x since noted f after since noted (e ∙ sym (without_absent ms f.rising i absent)) f.indexed f.known
 
 pub forest_attrs : (ms : List Mount) (x : Indexes) (since : List Mount) (noted : List ℕ) → IsKeptForest ms x since noted → (after then : List Mount) (all : List ℕ) (i : ℕ) (a : Attrs) → after ≡ with_attrs i a ms
     → ((then ≡ since) × (all ≡ noted ++ i ∷ [])) ⊎ (then ≡ after) → IsKeptForest after x then all

@@ -22,6 +22,11 @@ same_place p q h =
     let b : p.dir ≡ q.dir = grind (arith, nat_tests) in
     λ i. record { mount = a i; dir = b i }
 
+-- a mount that is at a place has it
+pub placed : (p : Place) (o : Option Place) → option_map_or (place_eq p) o false ≡ true → o ≡ Some p
+placed p None e = absurd (cc)
+placed p (Some q) e = ap (λ z. Some z) (sym (same_place p q e))
+
 -- a mount, if there is one, passes a test
 abbrev pub passes : (Mount → Bool) → Option Mount → Bool
 passes t o = option_map_or t o false
@@ -36,11 +41,9 @@ IsAlone t ms i o = (m : Mount) → o ≡ Some m → t m ≡ true → (j : ℕ) (
 
 -- so it is at a place that is free, as the root mount of a namespace that had none, and where it is no other for the test than it was
 pub alone_at : (ms : List Mount) (i : ℕ) (o : Option Mount) → IfSome o (λ m. ForSome m.place (λ p. on ms p ≡ None)) → (p : Place) → IsAlone (is_at p) ms i o
-alone_at ms i o free p m is at j x g h = absurd (true≢false (sym h ∙ find_none (is_at p) ms (go m.place (rw is at free) at) j x g))
-  where
-    go : (q : Option Place) → ForSome q (λ p. on ms p ≡ None) → option_map_or (place_eq p) q false ≡ true → on ms p ≡ None
-    go None f e = absurd (cc)
-    go (Some q) f e = f p (ap (λ z. Some z) (sym (same_place p q e)))
+alone_at ms i o free p m is at j x g h =
+    let f : ForSome m.place (λ p. on ms p ≡ None) = rw is at free in
+    absurd (true≢false (sym h ∙ find_none (is_at p) ms (f p (placed p m.place at)) j x g))
 
 pub alone_root : (ms : List Mount) (i : ℕ) (o : Option Mount) → IfSome o (λ m. m.place ≡ None → root_mount ms m.space ≡ None) → (n : ℕ) → IsAlone (is_root n) ms i o
 alone_root ms i o free n m is at j x g h = absurd (true≢false (sym h ∙ find_none (is_root n) ms (go m.place (rw is at free) at) j x g))

@@ -2,8 +2,10 @@
 use Rattle.std.proofs.Common.{◌≡◌, ◌≢◌, ◌⊎◌, ℕ, zero, suc, ◌+◌, ◌<◌, ◌≤◌, Bool, true, false, cond, Option, Some, None, refl, sym, ap, subst, ◌∙◌, inl, inr, arith}
 use Rattle.std.specs.Map.{lookup}
 use Rattle.std.specs.Option.{option_map_or}
-use Rattle.std.proofs.lemmas.Bool.{true≢false}
+use Rattle.std.proofs.NetLemmas.Options.{cond_none}
+use Rattle.std.proofs.lemmas.Bool.{true≢false, cases_Bool, false_from_ne_true}
 use Rattle.std.proofs.lemmas.Bool.Decides.{nat_tests}
+use Rattle.std.proofs.lemmas.Option.{same_Some}
 use Rattle.indexmap.specs.IndexMap.{get}
 use Rattle.mt_skel.specs.Chain.{follow}
 use Rattle.mt_skel.proofs.ChainLaws.{follow-step}
@@ -18,19 +20,14 @@ use Rattle.mt_mounts.proofs.PlaceLaws.{same_place}
 pub place_self : (p : Place) → place_eq p p ≡ true
 place_self p = grind (arith, nat_tests)
 
-place_cases : (q p : Place) → (q ≡ p) ⊎ (q ≢ p)
-place_cases q p = go (place_eq q p) refl
-  where
-    go : (b : Bool) → place_eq q p ≡ b → (q ≡ p) ⊎ (q ≢ p)
-    go true e = inl (same_place q p e)
-    go false e = inr (λ (h : q ≡ p). true≢false (sym (ap (λ z. place_eq z p) h ∙ place_self p) ∙ e))
-
 place_apart : (q p : Place) → q ≢ p → place_eq q p ≡ false
-place_apart q p ne = go (place_eq q p) refl
-  where
-    go : (b : Bool) → place_eq q p ≡ b → place_eq q p ≡ false
-    go true e = absurd (ne (same_place q p e))
-    go false e = e
+place_apart q p ne = false_from_ne_true (place_eq q p) (λ e. ne (same_place q p e))
+
+place_cases : (q p : Place) → (q ≡ p) ⊎ (q ≢ p)
+place_cases q p = elim (cases_Bool (place_eq q p)) [
+  | inl e ↦ inl (same_place q p e)
+  | inr e ↦ inr (λ (h : q ≡ p). true≢false (sym (ap (λ z. place_eq z p) h ∙ place_self p) ∙ e))
+]
 
 -- stacks are known along steps, however those are told
 pub stacked_same : (x : Stacks) (next after : Place → Option Place) → ((q : Place) → next q ≡ after q) → IsStacked next x → IsStacked after x
@@ -104,8 +101,7 @@ module _ (next : Place → Option Place) (place root : Place) (free : next place
       let on = linked_on (get place_eq old.starts) told (written_apart root (Some (reach begun.place m)) (get place_eq old.starts) told starts) in
       elim (place_cases s begun.place) [
         | inl h ↦
-            let v : Some (reach root m) ≡ Some e = sym (written_here begun.place (Some (reach root m)) (get place_eq old.ends) (get place_eq new.ends) ends s h) ∙ g in
-            let w : reach root m ≡ e = cc in
+            let w = same_Some (reach root m) e (sym (written_here begun.place (Some (reach root m)) (get place_eq old.ends) (get place_eq new.ends) ends s h) ∙ g) in
             let step : linked place root next place ≡ Some root = ap (λ b. cond b (Some root) (next place)) (place_self place) in
             let mark : told root ≡ Some (reach begun.place m) = written_here root (Some (reach begun.place m)) (get place_eq old.starts) told starts root refl in
             let all : leads (linked place root next) told begun.place 0 (suc begun.steps) begun.place root =
@@ -140,9 +136,7 @@ module _ (next : Place → Option Place) (place root : Place) (only : StandsOnly
         leads-over next starts s (unlinked place next) told i (λ j q. j < i → q ≢ place)
         (λ j q r l p n st. (
           (λ (m : suc j < i) (e : r ≡ place).
-              let v : Some (reach s i) ≡ Some (reach s (suc j)) = sym at ∙ ap starts (sym e) ∙ st in
-              let w : reach s i ≡ reach s (suc j) = cc in
-              let f : i ≡ suc j = ap (λ (z : Reach). z.steps) w in
+              let f : i ≡ suc j = ap (λ (z : Reach). z.steps) (same_Some (reach s i) (reach s (suc j)) (sym at ∙ ap starts (sym e) ∙ st)) in
               absurd (omega (arith, m, f))),
           stays q r (p l) n,
           same r (other q r (p l) n) ∙ st,
@@ -168,29 +162,15 @@ module _ (next : Place → Option Place) (place root : Place) (only : StandsOnly
             ]
       ]
 
--- a mount that has a place, or none
-module _ (m : Mount) (next : Place → Option Place) (x : Stacks) where
-  pub enter_on : (p r : Place) → m.place ≡ Some p → r ≡ root_place m → IsStacked (linked p r next) x → IsStacked (come_to m next) x
-  enter_on p r e f h =
-      stacked_same x (linked p r next) (come_to m next)
-      (λ q. ap (λ z. cond (place_eq q p) (Some z) (next q)) f ∙ ap (λ o. cond (option_map_or (place_eq q) o false) (Some (root_place m)) (next q)) (sym e)) h
-
-  pub enter_nowhere : m.place ≡ None → IsStacked next x → IsStacked (come_to m next) x
-  enter_nowhere e h = stacked_same x next (come_to m next) (λ q. ap (λ o. cond (option_map_or (place_eq q) o false) (Some (root_place m)) (next q)) (sym e)) h
-
-  pub leave_on : (p : Place) → m.place ≡ Some p → IsStacked (unlinked p next) x → IsStacked (gone_from m next) x
-  leave_on p e h = stacked_same x (unlinked p next) (gone_from m next) (λ q. ap (λ o. cond (option_map_or (place_eq q) o false) None (next q)) (sym e)) h
-
-  pub leave_nowhere : m.place ≡ None → IsStacked next x → IsStacked (gone_from m next) x
-  leave_nowhere e h = stacked_same x next (gone_from m next) (λ q. ap (λ o. cond (option_map_or (place_eq q) o false) None (next q)) (sym e)) h
+-- the steps, but from the place of a mount, if it has one
+pub stacked_at : (m : Mount) (place to : Option Place) (next : Place → Option Place) (x : Stacks) → m.place ≡ place → IsStacked (λ q. cond (option_map_or (place_eq q) place false) to (next q)) x → IsStacked (λ q. cond (is_at q m) to (next q)) x
+stacked_at m place to next x e h = subst (λ o. IsStacked (λ q. cond (option_map_or (place_eq q) o false) to (next q)) x) (sym e) h
 
 module _ (m : Mount) (next : Place → Option Place) (only : (q : Place) → next q ≡ Some (root_place m) → is_at q m ≡ true) where
   pub only_there : (p r : Place) → m.place ≡ Some p → r ≡ root_place m → StandsOnly p r next
   only_there p r e f q n = same_place q p (ap (λ o. option_map_or (place_eq q) o false) (sym e) ∙ only q (n ∙ ap (λ z. Some z) f))
 
   pub gone_bare : (r : Place) → r ≡ root_place m → IsBare r (gone_from m next)
-  gone_bare r f q n = true≢false (go (is_at q m) refl (n ∙ ap (λ z. Some z) f))
-    where
-      go : (b : Bool) → is_at q m ≡ b → cond b None (next q) ≡ Some (root_place m) → true ≡ false
-      go true e h = absurd (let v : None ≡ Some (root_place m) = h in cc)
-      go false e h = sym (only q h) ∙ e
+  gone_bare r f q n =
+      let c = cond_none (is_at q m) (next q) (root_place m) (n ∙ ap (λ z. Some z) f) in
+      true≢false (sym (only q c.1) ∙ c.0)

@@ -1,9 +1,11 @@
 -- What is gathered down from a mount, children by children, are the mounts of its tree, each once.
-use Rattle.std.proofs.Common.{◌≡◌, ℕ, suc, ◌+◌, ◌≤◌, ◌<◌, Bool, true, false, cond, not, ◌&&◌, ◌||◌, ◌==◌, eqb, eqb-true, List, [], ◌∷◌, ◌++◌, take, map, length, get_or, Option, Some, None, refl, sym, ap, subst, ◌∙◌, arith, IsPermutation}
+use Rattle.std.proofs.Common.{◌≡◌, ℕ, suc, ◌+◌, ◌≤◌, ◌<◌, Bool, true, false, cond, not, ◌&&◌, ◌||◌, ◌==◌, eqb, eq-eqb, List, [], ◌∷◌, ◌++◌, take, map, length, get_or, Option, Some, None, refl, sym, ap, subst, ◌∙◌, inl, inr, arith, IsPermutation}
 use Rattle.std.specs.List.{filter, list_any}
 use Rattle.std.specs.List.Sorted.{IsSorted}
 use Rattle.std.specs.Ordering.{nat_cmp}
 use Rattle.std.specs.Option.{is_some, option_map, option_map_or}
+use Rattle.std.proofs.Math.Bool.{and_comm, and_assoc, and-false}
+use Rattle.std.proofs.lemmas.Bool.{cases_eq, ne_eqb, false≢true, cond-true, cond-false}
 use Rattle.std.proofs.lemmas.Bool.Decides.{nat_tests}
 use Rattle.std.proofs.lemmas.List.{length-append}
 use Rattle.mt_skel.specs.Chain.{chain}
@@ -37,26 +39,15 @@ gathered-once ms g m q up =
     count-filter (λ j. j == q) (λ c. not (c == g)) (children ms m)
     ∙ count-map (λ j. not (j == g) && (j == q)) id_of (filter (stands_on m) ms)
     ∙ count-filter (λ (x : Mount). not (x.id == g) && (x.id == q)) (stands_on m) ms
-    ∙ count-same (λ (x : Mount). stands_on m x && (not (x.id == g) && (x.id == q))) (λ (x : Mount). (x.id == q) && (not (x.id == g) && stands_on m x)) (λ x. order (stands_on m x) (not (x.id == g)) (x.id == q)) ms
+    ∙ count-same (λ (x : Mount). stands_on m x && (not (x.id == g) && (x.id == q))) (λ (x : Mount). (x.id == q) && (not (x.id == g) && stands_on m x)) (λ x. turned (stands_on m x) (not (x.id == g)) (x.id == q)) ms
     ∙ count-row id_of (λ (x : Mount). not (x.id == g) && stands_on m x) q ms up
     ∙ go (mount_at ms q) refl
   where
-    order : (a b c : Bool) → (a && (b && c)) ≡ (c && (b && a))
-    order true true true = refl
-    order true true false = refl
-    order true false true = refl
-    order true false false = refl
-    order false true true = refl
-    order false true false = refl
-    order false false true = refl
-    order false false false = refl
-
-    none : (a : Bool) → ◌≡◌ {A = ℕ} 0 (cond (a && false) 1 0)
-    none true = refl
-    none false = refl
+    turned : (a b c : Bool) → (a && (b && c)) ≡ (c && (b && a))
+    turned a b c = and_comm a (b && c) ∙ ap (λ z. z && a) (and_comm b c) ∙ and_assoc c b a
 
     go : (o : Option Mount) → mount_at ms q ≡ o → ◌≡◌ {A = ℕ} (option_map_or (λ (x : Mount). cond (not (x.id == g) && stands_on m x) 1 0) o 0) (cond (not (q == g) && is_next (above_of o) m) 1 0)
-    go None e = none (not (q == g))
+    go None e = ap (λ b. cond b 1 0) (sym (and-false (not (q == g))))
     go (Some x) e =
         ap (λ b. cond (not (x.id == g) && b) 1 0) (sym (same_child m x.place))
         ∙ ap (λ k. cond (not (k == g) && is_next (above_of (Some x)) m) 1 0) (row_at-key id_of q ms x e)
@@ -114,64 +105,41 @@ gathering-end ms g i all w l q =
     turned [] = refl
     turned (x ∷ xs) = let ih = turned xs in grind (arith, nat_tests)
 
--- how often a number stands in the tree of g
-subtree-row : (ms : List Mount) (g q : ℕ) → rises id_of ms ≡ true → occ q (subtree ms g) ≡ option_map_or (λ (x : Mount). cond (is_below ms g x.id) 1 0) (mount_at ms q) 0
+-- how often a number stands in the tree of g, and in a list without g
+subtree-row : (ms : List Mount) (g q : ℕ) → rises id_of ms ≡ true → occ q (subtree ms g) ≡ cond (is_some (mount_at ms q) && is_below ms g q) 1 0
 subtree-row ms g q up =
     count-filter (λ j. j == q) (is_below ms g) (map id_of ms)
     ∙ count-map (λ j. is_below ms g j && (j == q)) id_of ms
-    ∙ count-same (λ (x : Mount). is_below ms g x.id && (x.id == q)) (λ (x : Mount). (x.id == q) && is_below ms g x.id) (λ x. swap (is_below ms g x.id) (x.id == q)) ms
-    ∙ count-row id_of (λ (x : Mount). is_below ms g x.id) q ms up
+    ∙ count-same (λ (x : Mount). is_below ms g x.id && (x.id == q)) (λ (x : Mount). (x.id == q) && is_below ms g x.id) (λ x. and_comm (is_below ms g x.id) (x.id == q)) ms
+    ∙ count-row id_of (λ (x : Mount). is_below ms g x.id) q ms up ∙ go (mount_at ms q) (row_at-key id_of q ms)
   where
-    swap : (a b : Bool) → (a && b) ≡ (b && a)
-    swap true true = refl
-    swap true false = refl
-    swap false true = refl
-    swap false false = refl
+    go : (o : Option Mount) → ((x : Mount) → o ≡ Some x → x.id ≡ q) → ◌≡◌ {A = ℕ} (option_map_or (λ (x : Mount). cond (is_below ms g x.id) 1 0) o 0) (cond (is_some o && is_below ms g q) 1 0)
+    go None k = refl
+    go (Some x) k = ap (λ i. cond (is_below ms g i) 1 0) (k x refl)
+
+occ-without : (g q : ℕ) (xs : List ℕ) → occ q (filter (λ j. not (j == g)) xs) ≡ cond (q == g) 0 (occ q xs)
+occ-without g q [] = grind (arith, nat_tests)
+occ-without g q (x ∷ xs) = let ih = occ-without g q xs in grind (arith, nat_tests)
 
 -- a number below g is a mount, but for g where that is not there
-below-row : (ms : List Mount) (g q : ℕ) → ((q == g) ≡ true → is_some (mount_at ms q) ≡ true) → ◌≡◌ {A = ℕ} (cond (is_below ms g q) 1 0) (option_map_or (λ (x : Mount). cond (is_below ms g x.id) 1 0) (mount_at ms q) 0)
-below-row ms g q f = go (mount_at ms q) refl f
+below-known : (ms : List Mount) (g q : ℕ) → (q ≡ g → is_some (mount_at ms q) ≡ true) → is_below ms g q ≡ (is_some (mount_at ms q) && is_below ms g q)
+below-known ms g q f = go (mount_at ms q) refl f
   where
-    off : (b : Bool) → (q == g) ≡ b → (b ≡ true → false ≡ true) → (eqb g q || false) ≡ false
-    off true e f = absurd (let v = f refl in cc)
-    off false e f = grind (arith, nat_tests)
+    go : (o : Option Mount) → mount_at ms q ≡ o → (q ≡ g → is_some o ≡ true) → is_below ms g q ≡ (is_some o && is_below ms g q)
+    go None e f = below_stop ms g (length ms) q (ap above_of e) ∙ ap (λ b. b || false) (ne_eqb g q (λ s. false≢true (f (sym s))))
+    go (Some x) e f = refl
 
-    go : (o : Option Mount) → mount_at ms q ≡ o → ((q == g) ≡ true → is_some o ≡ true) → ◌≡◌ {A = ℕ} (cond (is_below ms g q) 1 0) (option_map_or (λ (x : Mount). cond (is_below ms g x.id) 1 0) o 0)
-    go None e f = ap (λ b. cond b 1 0) (below_stop ms g (length ms) q (ap above_of e) ∙ off (q == g) refl f)
-    go (Some x) e f = ap (λ k. cond (is_below ms g k) 1 0) (sym (row_at-key id_of q ms x e))
-
--- where g is there, all that was gathered is its tree
+-- where g is there, all that was gathered is its tree, and where it is not, all but g is
 pub members-there : (ms : List Mount) (g : ℕ) (all : List ℕ) → rises id_of ms ≡ true → is_some (mount_at ms g) ≡ true → ((q : ℕ) → occ q all ≡ cond (is_below ms g q) 1 0) → (q : ℕ) → occ q all ≡ occ q (subtree ms g)
-members-there ms g all up known below q = below q ∙ below-row ms g q (λ e. ap (λ k. is_some (mount_at ms k)) (eqb-true q g e) ∙ known) ∙ sym (subtree-row ms g q up)
+members-there ms g all up known below q =
+    below q ∙ ap (λ b. cond b 1 0) (below-known ms g q (λ s. ap (λ k. is_some (mount_at ms k)) s ∙ known)) ∙ sym (subtree-row ms g q up)
 
--- where it is not, all but g is
 pub members-absent : (ms : List Mount) (g : ℕ) (all : List ℕ) → rises id_of ms ≡ true → is_some (mount_at ms g) ≡ false → ((q : ℕ) → occ q all ≡ cond (is_below ms g q) 1 0)
     → (q : ℕ) → occ q (filter (λ j. not (j == g)) all) ≡ occ q (subtree ms g)
-members-absent ms g all up unknown below q =
-    count-filter (λ j. j == q) (λ j. not (j == g)) all
-    ∙ count-same (λ j. not (j == g) && (j == q)) (λ j. not (q == g) && (j == q)) (λ j. here j (j == q) refl) all
-    ∙ go (q == g) refl
-    ∙ sym (subtree-row ms g q up)
-  where
-    here : (j : ℕ) (b : Bool) → (j == q) ≡ b → (not (j == g) && b) ≡ (not (q == g) && b)
-    here j true e = ap (λ k. not (k == g) && true) (eqb-true j q e)
-    here j false e = none (not (j == g)) ∙ sym (none (not (q == g)))
-      where
-        none : (a : Bool) → (a && false) ≡ false
-        none true = refl
-        none false = refl
-
-    never : (xs : List ℕ) → count (λ j. false && (j == q)) xs ≡ 0
-    never [] = refl
-    never (x ∷ xs) = never xs
-
-    out : (o : Option Mount) → is_some o ≡ false → ◌≡◌ {A = ℕ} 0 (option_map_or (λ (x : Mount). cond (is_below ms g x.id) 1 0) o 0)
-    out None e = refl
-    out (Some x) e = absurd (cc)
-
-    go : (b : Bool) → (q == g) ≡ b → count (λ j. not b && (j == q)) all ≡ option_map_or (λ (x : Mount). cond (is_below ms g x.id) 1 0) (mount_at ms q) 0
-    go true e = never all ∙ out (mount_at ms q) (ap (λ k. is_some (mount_at ms k)) (eqb-true q g e) ∙ unknown)
-    go false e = below q ∙ below-row ms g q (λ t. absurd (let v : true ≡ false = sym t ∙ e in cc))
+members-absent ms g all up unknown below q = occ-without g q all ∙ (elim (cases_eq q g) [
+  | inl s ↦ cond-true _ _ _ (eq-eqb q g s) ∙ sym (subtree-row ms g q up ∙ ap (λ b. cond (b && is_below ms g q) 1 0) (ap (λ k. is_some (mount_at ms k)) s ∙ unknown))
+  | inr ne ↦ cond-false _ _ _ (ne_eqb q g ne) ∙ below q ∙ ap (λ b. cond b 1 0) (below-known ms g q (λ s. absurd (ne s))) ∙ sym (subtree-row ms g q up)
+])
 
 -- sorted, these are the tree
 pub sorted-members : (ms : List Mount) (g : ℕ) (ids vs : List ℕ) → rises id_of ms ≡ true → ((q : ℕ) → occ q ids ≡ occ q (subtree ms g)) → IsPermutation ids vs → IsSorted nat_cmp vs → vs ≡ subtree ms g

@@ -5,6 +5,7 @@ use Rattle.std.specs.Map.{lookup}
 use Rattle.std.specs.Option.{IfSome, option_map, option_and_then}
 use Rattle.std.proofs.lemmas.Bool.{cases_eq, ne_eqb, cond-true, cond-false}
 use Rattle.std.proofs.lemmas.List.Elements.{same_from_all_zip}
+use Rattle.std.proofs.lemmas.Option.{same_Some, none-some}
 use Rattle.slab.specs.Slab.{Slab, get, Updates, IsSlotClone}
 use Rattle.mt_skel.specs.Keyed.{row_at}
 use Rattle.mt_mounts.specs.declared.mount.Mount.{Mount}
@@ -34,9 +35,7 @@ slots_same R same a b h = same_from_all_zip (IsSlotClone R) a b h (slot_same R s
 
 -- the mounts of a table differ in their IDs
 pub distinct_ids : (s : Slab Mount) (keys : Keys) → IsKeyed s keys → AreApart s.slots
-distinct_ids s keys k i j a b ga gb same =
-    let v : Some i ≡ Some j = sym (k.known i a ga) ∙ ap (key_at keys) same ∙ k.known j b gb in
-    cc
+distinct_ids s keys k i j a b ga gb same = same_Some i j (sym (k.known i a ga) ∙ ap (key_at keys) same ∙ k.known j b gb)
 
 -- the same slots and entries make the same table
 pub keyed_same : (s new : Slab Mount) (keys keys' : Keys) → new.slots ≡ s.slots → keys'.entries ≡ keys.entries → IsKeyed s keys → IsKeyed new keys'
@@ -58,33 +57,23 @@ keyed_none s keys e f = record {
 }
 
 -- the mount of an ID is the one under its key
-pub mount_keyed : (s : Slab Mount) (keys : Keys) → IsKeyed s keys → (i : ℕ) → mount_at (slab_mounts s) i ≡ option_and_then (get s) (key_at keys i)
+pub mount_keyed : (s : Slab Mount) (keys : Keys) → IsKeyed s keys → (i : ℕ) (o : Option ℕ) → key_at keys i ≡ o → mount_at (slab_mounts s) i ≡ option_and_then (get s) o
 unfolding slab_mounts
-mount_keyed s keys k i = go (key_at keys i) (k.held i) refl
-  where
-    go : (o : Option ℕ) → ((key : ℕ) → o ≡ Some key → HoldsAt s i key) → key_at keys i ≡ o → row_at id_of i (by_id s.slots) ≡ option_and_then (get s) o
-    go None h e = none_found _ (λ m g.
-        let f = slot_of_row s.slots i m g in
-        let v : Some f.0 ≡ None = sym (k.known f.0 m f.1) ∙ ap (key_at keys) f.2 ∙ e in absurd (cc))
-    go (Some key) h e =
-        let f = h key refl in
-        ap (λ j. row_at id_of j (by_id s.slots)) (sym f.fits) ∙ row_of_slot s.slots (distinct_ids s keys k) key f.mount f.there ∙ sym f.there
+mount_keyed s keys k i None e = none_found _ (λ m g. let f = slot_of_row s.slots i m g in none-some f.0 (sym e ∙ ap (key_at keys) (sym f.2) ∙ k.known f.0 m f.1))
+mount_keyed s keys k i (Some key) e =
+    let f = k.held i key e in
+    ap (λ j. row_at id_of j (by_id s.slots)) (sym f.fits) ∙ row_of_slot s.slots (distinct_ids s keys k) key f.mount f.there ∙ sym f.there
 
 module _ (s : Slab Mount) (keys : Keys) (k : IsKeyed s keys) where
   -- the mount under the key of an ID has that ID
   pub key_fits : (i key : ℕ) (m : Mount) → key_at keys i ≡ Some key → get s key ≡ Some m → m.id ≡ i
   key_fits i key m e g =
       let f = k.held i key e in
-      let v : Some m ≡ Some f.mount = sym g ∙ f.there in
-      let w : m ≡ f.mount = cc in
-      ap (λ x. x.id) w ∙ f.fits
+      ap (λ (x : Mount). x.id) (same_Some m f.mount (sym g ∙ f.there)) ∙ f.fits
 
   -- a mount that is not there has no key
   pub not_keyed : (i : ℕ) → mount_at (slab_mounts s) i ≡ None → key_at keys i ≡ None
-  not_keyed i absent = none_found _ (λ key e.
-      let h = k.held i key e in
-      let v : None ≡ Some h.mount = sym absent ∙ mount_keyed s keys k i ∙ ap (option_and_then (get s)) e ∙ h.there in
-      absurd (cc))
+  not_keyed i absent = none_found _ (λ key e. let h = k.held i key e in none-some h.mount (sym absent ∙ mount_keyed s keys k i (Some key) e ∙ h.there))
 
   -- a slot is written: the one of an ID, or a free one of a new ID
   module _ (new : Slab Mount) (keys' : Keys) (slot i : ℕ) (o : Option Mount) (u : Updates s new slot o) (at : key_at keys i ≡ option_map (λ _. slot) (get s slot)) (fits : IfSome o (λ m. m.id ≡ i))
@@ -122,10 +111,10 @@ module _ (s : Slab Mount) (keys : Keys) (k : IsKeyed s keys) where
     mounts_written = record {
       rising = rises_table new;
       rows = λ q. row_cases q i _ _ _
-          (λ e. mount_keyed new keys' keyed_written q ∙ ap (option_and_then (get new)) (puts q ∙ cond-true _ _ _ (eq-eqb i q (sym e))) ∙ changed o u.changed)
+          (λ e. mount_keyed new keys' keyed_written q _ (puts q ∙ cond-true _ _ _ (eq-eqb i q (sym e))) ∙ changed o u.changed)
           (λ ne.
           let off : i ≢ q = λ e. ne (sym e) in
-          mount_keyed new keys' keyed_written q ∙ ap (option_and_then (get new)) (puts q ∙ cond-false _ _ _ (ne_eqb i q off)) ∙ kept q off (key_at keys q) (k.held q) ∙ sym (mount_keyed s keys k q));
+          mount_keyed new keys' keyed_written q _ (puts q ∙ cond-false _ _ _ (ne_eqb i q off)) ∙ kept q off (key_at keys q) (k.held q) ∙ sym (mount_keyed s keys k q _ refl));
     }
       where
         changed : (p : Option Mount) → get new slot ≡ p → option_and_then (get new) (option_map (λ _. slot) p) ≡ p

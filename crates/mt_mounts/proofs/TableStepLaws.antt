@@ -76,8 +76,8 @@ module _ (s : Slab Mount) (keys : Keys) (children spaces : SlotListsView) (t : I
 
   -- the mount of an ID, in its slot
   module _ (i slot : ℕ) (m : Mount) (at_i : key_at keys i ≡ Some slot) (was : get s slot ≡ Some m) where
-    pub row : mount_at (slab_mounts s) i ≡ Some m
-    row = mount_keyed s keys t.keyed i ∙ ap (option_and_then (get s)) at_i ∙ was
+    row : mount_at (slab_mounts s) i ≡ Some m
+    row = mount_keyed s keys t.keyed i (Some slot) at_i ∙ was
 
     fits : m.id ≡ i
     fits = row_at-key id_of i (slab_mounts s) m row

@@ -63,6 +63,26 @@ moved_to p m = record m { place = Some p }
 abbrev pub attrs_of : ℕ → Attrs → Mount → Mount
 attrs_of i a m = record m { attrs = cond (eqb m.id i) a m.attrs }
 
+-- what is found once the mount of an ID was changed
+module _ (f : Bool → Mount → Mount) (keeps : (b : Bool) (m : Mount) → (f b m).id ≡ m.id) (left : (m : Mount) → f false m ≡ m) (ms : List Mount) (i : ℕ) (o : Option Mount) (is : mount_at ms i ≡ o) where
+  at : (q : ℕ) (b : Bool) → eqb q i ≡ b → mount_at (map (λ m. f (eqb m.id i) m) ms) q ≡ option_map (f b) (mount_at ms q)
+  at q b e = row_at-map id_of (λ m. f (eqb m.id i) m) (λ m. keeps (eqb m.id i) m) q ms ∙ go (mount_at ms q) (row_at-key id_of q ms)
+    where
+      go : (p : Option Mount) → ((m : Mount) → p ≡ Some m → m.id ≡ q) → option_map (λ m. f (eqb m.id i) m) p ≡ option_map (f b) p
+      go None k = refl
+      go (Some m) k = ap (λ c. Some (f c m)) (ap (λ j. eqb j i) (k m refl) ∙ e)
+
+  changed_rows : (q : ℕ) → mount_at (map (λ m. f (eqb m.id i) m) ms) q ≡ cond (eqb q i) (option_map (f true) o) (mount_at ms q)
+  changed_rows q = row_cases q i _ _ _
+      (λ e. at q true (eq-eqb q i e) ∙ ap (option_map (f true)) (ap (mount_at ms) e ∙ is))
+      (λ ne. at q false (ne_eqb q i ne) ∙ (λ j. option_map (λ m. left m j) (mount_at ms q)) ∙ option_map_id (mount_at ms q))
+
+  changed_written : rises id_of ms ≡ true → IsWritten ms i (option_map (f true) o) (map (λ m. f (eqb m.id i) m) ms)
+  changed_written r = record { rising = rises-map id_of (λ m. f (eqb m.id i) m) (λ m. keeps (eqb m.id i) m) ms ∙ r; rows = changed_rows }
+
+pub place_rows : (ms : List Mount) (i : ℕ) (p : Place) (q : ℕ) → mount_at (with_place i p ms) q ≡ cond (eqb q i) (option_map (moved_to p) (mount_at ms i)) (mount_at ms q)
+place_rows ms i p q = changed_rows (λ b m. record m { place = cond b (Some p) m.place }) (λ b m. refl) (λ m. refl) ms i (mount_at ms i) refl q
+
 -- each change of mounts that rise
 module _ (ms : List Mount) (r : rises id_of ms ≡ true) where
   pub put_written : (m : Mount) → IsWritten ms m.id (Some m) (put id_of m ms)
@@ -82,27 +102,11 @@ module _ (ms : List Mount) (r : rises id_of ms ≡ true) where
     pub left_written : IsWritten ms i o ms
     left_written = record { rising = r; rows = λ q. row_cases q i _ o _ (λ e. ap (mount_at ms) e ∙ is) (λ ne. refl) }
 
-    module _ (f : Bool → Mount → Mount) (keeps : (b : Bool) (m : Mount) → (f b m).id ≡ m.id) (left : (m : Mount) → f false m ≡ m) where
-      at : (q : ℕ) (b : Bool) → eqb q i ≡ b → mount_at (map (λ m. f (eqb m.id i) m) ms) q ≡ option_map (f b) (mount_at ms q)
-      at q b e = row_at-map id_of (λ m. f (eqb m.id i) m) (λ m. keeps (eqb m.id i) m) q ms ∙ go (mount_at ms q) (row_at-key id_of q ms)
-        where
-          go : (p : Option Mount) → ((m : Mount) → p ≡ Some m → m.id ≡ q) → option_map (λ m. f (eqb m.id i) m) p ≡ option_map (f b) p
-          go None k = refl
-          go (Some m) k = ap (λ c. Some (f c m)) (ap (λ j. eqb j i) (k m refl) ∙ e)
-
-      changed_written : IsWritten ms i (option_map (f true) o) (map (λ m. f (eqb m.id i) m) ms)
-      changed_written = record {
-        rising = rises-map id_of (λ m. f (eqb m.id i) m) (λ m. keeps (eqb m.id i) m) ms ∙ r;
-        rows = λ q. row_cases q i _ _ _
-            (λ e. at q true (eq-eqb q i e) ∙ ap (option_map (f true)) (ap (mount_at ms) e ∙ is))
-            (λ ne. at q false (ne_eqb q i ne) ∙ (λ j. option_map (λ m. left m j) (mount_at ms q)) ∙ option_map_id (mount_at ms q));
-      }
-
     pub attrs_written : (a : Attrs) → IsWritten ms i (option_map (given_attrs a) o) (with_attrs i a ms)
-    attrs_written a = changed_written (λ b m. record m { attrs = cond b a m.attrs }) (λ b m. refl) (λ m. refl)
+    attrs_written a = changed_written (λ b m. record m { attrs = cond b a m.attrs }) (λ b m. refl) (λ m. refl) ms i o is r
 
     pub place_written : (p : Place) → IsWritten ms i (option_map (moved_to p) o) (with_place i p ms)
-    place_written p = changed_written (λ b m. record m { place = cond b (Some p) m.place }) (λ b m. refl) (λ m. refl)
+    place_written p = changed_written (λ b m. record m { place = cond b (Some p) m.place }) (λ b m. refl) (λ m. refl) ms i o is r
 
   -- a mount that is not there
   module _ (i : ℕ) (absent : mount_at ms i ≡ None) where

@@ -12,14 +12,10 @@ mounts-init c =
       rising = λ l. absurd (omega (arith, l));
     }
 
--- the mount visited stands in the list
-within : (i n len items : ℕ) → i < n → n ≡ len → len ≡ items → i < items
-within i n len items l e f = omega (arith, l, e, f)
-
 pub mounts-smaller : goal.mounts-smaller
 mounts-smaller c =
     let ms = c.args.self.now.mounts in
-    let in_all = within _ _ _ _ c.mounts-test.true c.len.ensures c.mounts.gathered.ok.0 in
+    let in_all : c.mounts.visited < length c.mounts.gathered.items = omega (arith, c.mounts-test.true, c.len.ensures, c.mounts.gathered.ok.0) in
     let bound = gathering-bound ms c.args.id (take c.mounts.visited c.mounts.gathered.items) c.mounts.gathered.items c.mounts.invariant.work in
     omega (arith, in_all, bound)
 
@@ -30,7 +26,7 @@ mounts-preserved c =
     let i = c.mounts.visited in
     let m = c.index-parent.result.now in
     let all = c.mounts.gathered.items in
-    let in_all = within _ _ _ _ c.mounts-test.true c.len.ensures c.mounts.gathered.ok.0 in
+    let in_all : c.mounts.visited < length c.mounts.gathered.items = omega (arith, c.mounts-test.true, c.len.ensures, c.mounts.gathered.ok.0) in
     let at : get_or all i m ≡ m = sym c.index-parent.ensures in
     let up = c.gather_children.ensures.rising in
     let grown : c.gather_children.new.gathered.items ≡ all ++ gathered_by ms g (get_or all i m) = c.in_ok-gather_children.ensures.gathered ∙ ap (λ k. all ++ gathered_by ms g k) (sym at) in
@@ -40,17 +36,13 @@ mounts-preserved c =
       rising = λ l. up;
     }
 
--- the list is at its end
-ended : (i n len items : ℕ) → n ≤ i → n ≡ len → len ≡ items → items ≤ i
-ended i n len items l e f = omega (arith, l, e, f)
-
 pub returns-clause-gathered : goal.returns-clause-gathered
 returns-clause-gathered c q =
-    let out = ended _ _ _ _ c.mounts-test.false c.len.ensures c.mounts.gathered.ok.0 in
+    let out : length c.mounts.gathered.items ≤ c.mounts.visited = omega (arith, c.mounts-test.false, c.len.ensures, c.mounts.gathered.ok.0) in
     gathering-end c.args.self.now.mounts c.args.id c.mounts.visited c.mounts.gathered.items c.mounts.invariant.work out q
 
 pub returns-clause-rising : goal.returns-clause-rising
 returns-clause-rising c =
-    let out = ended _ _ _ _ c.mounts-test.false c.len.ensures c.mounts.gathered.ok.0 in
+    let out : length c.mounts.gathered.items ≤ c.mounts.visited = omega (arith, c.mounts-test.false, c.len.ensures, c.mounts.gathered.ok.0) in
     let some = c.mounts.invariant.some in
     c.mounts.invariant.rising (omega (arith, out, some))

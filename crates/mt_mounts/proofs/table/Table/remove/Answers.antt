@@ -1,13 +1,11 @@
 use Rattle.std.proofs.Common.{◌≡◌, Some, ap, ◌∙◌, sym, refl}
-use Rattle.std.specs.Option.{option_and_then}
-use Rattle.slab.specs.Slab.{get}
 use Rattle.mt_mounts.specs.Forest.{mount_at}
 use Rattle.mt_mounts.specs.ForestView.{without_id}
 use Rattle.mt_mounts.specs.Slots.{slab_mounts}
 use Rattle.mt_mounts.proofs.SlotLaws.{rises_table}
 use Rattle.mt_mounts.proofs.WrittenLaws.{without_absent}
 use Rattle.mt_mounts.proofs.TableLaws.{mount_keyed}
-use Rattle.mt_mounts.proofs.TableStepLaws.{row, mounts_emptied, table_emptied}
+use Rattle.mt_mounts.proofs.TableStepLaws.{mounts_emptied, table_emptied}
 use Rattle.mt_mounts.proofs.table.Table.remove.Goals as goal
 
 pub remove-requires-in-Some-2 : goal.remove-requires-in-Some-2
@@ -32,19 +30,17 @@ returns-in-Some-clause-mounts c =
 
 pub returns-in-Some-clause-mount : goal.returns-in-Some-clause-mount
 returns-in-Some-clause-mount c =
-    sym
-    (row c.self.inside.slots c.self.inside.keys c.self.inside.children c.self.inside.spaces c.self.invariant c.args.id c.in-Some.slot c.remove-in-Some-2.result
-    (sym c.swap_remove.ensures.value ∙ c.in-Some.is) c.remove-in-Some-2.ensures.value)
+    sym (mount_keyed c.self.inside.slots c.self.inside.keys c.self.invariant.keyed c.args.id _ (sym c.swap_remove.ensures.value ∙ c.in-Some.is) ∙ c.remove-in-Some-2.ensures.value)
     ∙ ap (λ t. mount_at t.mounts c.args.id) c.self.view_is
 
 pub returns-clause-mount : goal.returns-clause-mount
 returns-clause-mount c =
-    sym (mount_keyed c.self.inside.slots c.self.inside.keys c.self.invariant.keyed c.args.id ∙ ap (option_and_then (get c.self.inside.slots)) (sym c.swap_remove.ensures.value ∙ c.in_default.is))
+    sym (mount_keyed c.self.inside.slots c.self.inside.keys c.self.invariant.keyed c.args.id _ (sym c.swap_remove.ensures.value ∙ c.in_default.is))
     ∙ ap (λ t. mount_at t.mounts c.args.id) c.self.view_is
 
 pub returns-clause-mounts : goal.returns-clause-mounts
 returns-clause-mounts c =
     let e = ap (λ t. t.mounts) c.self.view_is in
     without_absent (slab_mounts c.self.inside.slots) (rises_table c.self.inside.slots) c.args.id
-    (mount_keyed c.self.inside.slots c.self.inside.keys c.self.invariant.keyed c.args.id ∙ ap (option_and_then (get c.self.inside.slots)) (sym c.swap_remove.ensures.value ∙ c.in_default.is))
+    (mount_keyed c.self.inside.slots c.self.inside.keys c.self.invariant.keyed c.args.id _ (sym c.swap_remove.ensures.value ∙ c.in_default.is))
     ∙ ap (without_id c.args.id) e

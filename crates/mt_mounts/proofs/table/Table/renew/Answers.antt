@@ -1,6 +1,5 @@
 use Rattle.std.proofs.Common.{Some, ap, ◌∙◌, sym, refl}
-use Rattle.std.specs.Option.{option_and_then, option_map}
-use Rattle.slab.specs.Slab.{get}
+use Rattle.std.specs.Option.{option_map}
 use Rattle.mt_mounts.specs.Forest.{mount_at}
 use Rattle.mt_mounts.specs.ForestView.{with_attrs}
 use Rattle.mt_mounts.specs.Follow.{given_attrs}
@@ -23,7 +22,7 @@ returns-then-stands_as-clause-renewed c is =
     let i = c.args.mount.id in
     ap (λ t. option_map (given_attrs c.args.mount.attrs) (mount_at t.mounts i)) (sym c.self.view_is)
     ∙ ap (option_map (given_attrs c.args.mount.attrs))
-    (mount_keyed c.self.inside.slots c.self.inside.keys c.self.invariant.keyed i ∙ ap (option_and_then (get c.self.inside.slots)) (sym c.get.ensures.value ∙ sym c.in-Some.ensures)
+    (mount_keyed c.self.inside.slots c.self.inside.keys c.self.invariant.keyed i _ (sym c.get.ensures.value ∙ sym c.in-Some.ensures)
     ∙ sym c.in-Some-get_mut.ensures.value)
     ∙ ap (λ m. Some m) (c.stands_as.ensures c.if-stands_as.true)
 

@@ -1,6 +1,4 @@
 use Rattle.std.proofs.Common.{ap, ◌∙◌, sym, refl}
-use Rattle.std.specs.Option.{option_and_then}
-use Rattle.slab.specs.Slab.{get}
 use Rattle.mt_mounts.specs.Slots.{slab_mounts}
 use Rattle.mt_mounts.specs.ForestView.{with_attrs}
 use Rattle.mt_mounts.proofs.SlotLaws.{rises_table}
@@ -24,7 +22,7 @@ pub returns-in_default-get_mut-clause-mounts : goal.returns-in_default-get_mut-c
 returns-in_default-get_mut-clause-mounts c =
     let e = ap (λ t. t.mounts) c.self.view_is in
     attrs_absent (slab_mounts c.self.inside.slots) (rises_table c.self.inside.slots) c.args.id
-    (mount_keyed c.self.inside.slots c.self.inside.keys c.self.invariant.keyed c.args.id ∙ ap (option_and_then (get c.self.inside.slots)) (sym c.get.ensures.value ∙ sym c.in-Some.ensures) ∙ sym c.in_default-get_mut.ensures.value) c.args.attrs
+    (mount_keyed c.self.inside.slots c.self.inside.keys c.self.invariant.keyed c.args.id _ (sym c.get.ensures.value ∙ sym c.in-Some.ensures) ∙ sym c.in_default-get_mut.ensures.value) c.args.attrs
     ∙ ap (with_attrs c.args.id c.args.attrs) e
 
 pub returns-in_default-clause-mounts : goal.returns-in_default-clause-mounts
@@ -32,5 +30,5 @@ returns-in_default-clause-mounts c =
     let e = ap (λ t. t.mounts) c.self.view_is in
     sym e
     ∙ attrs_absent (slab_mounts c.self.inside.slots) (rises_table c.self.inside.slots) c.args.id
-    (mount_keyed c.self.inside.slots c.self.inside.keys c.self.invariant.keyed c.args.id ∙ ap (option_and_then (get c.self.inside.slots)) (sym c.get.ensures.value ∙ sym c.in_default.ensures)) c.args.attrs
+    (mount_keyed c.self.inside.slots c.self.inside.keys c.self.invariant.keyed c.args.id _ (sym c.get.ensures.value ∙ sym c.in_default.ensures)) c.args.attrs
     ∙ ap (with_attrs c.args.id c.args.attrs) e
