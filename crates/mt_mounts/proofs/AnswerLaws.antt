@@ -1,5 +1,5 @@
 -- What the lists and indexes answer is what the mounts are.
-use Rattle.std.proofs.Common.{◌≡◌, ℕ, ◌++◌, Bool, true, false, cond, ◌&&◌, eqb, eq-eqb, List, [], ◌∷◌, map, length, Option, Some, None, refl, ap, ◌∙◌, inl, inr}
+use Rattle.std.proofs.Common.{◌≡◌, ℕ, suc, ◌++◌, Bool, true, false, cond, ◌&&◌, eqb, eq-eqb, List, [], ◌∷◌, map, length, Option, Some, None, refl, ap, ◌∙◌, inl, inr}
 use Rattle.std.specs.List.{find, filter}
 use Rattle.std.specs.Option.{option_map, option_map_or, option_and_then, is_none}
 use Rattle.mt_skel.specs.Keyed.{rises}
@@ -50,12 +50,9 @@ root_first ms rows e n = ap first (numbered_as rooted_in is_root root_test ms ro
 -- how many root mounts there are
 count_roots : (ms : List Mount) → length (rows_by id_of rooted_in ms) ≡ length (roots ms)
 count_roots [] = refl
-count_roots (m ∷ ms) = go (is_none m.place) (count_roots ms)
-  where
-    go : (b : Bool) → length (rows_by id_of rooted_in ms) ≡ length (roots ms)
-        → length (option_map_or (λ n. record { id = m.id; number = n } ∷ rows_by id_of rooted_in ms) (cond b (Some m.space) None) (rows_by id_of rooted_in ms)) ≡ length (cond b (m ∷ roots ms) (roots ms))
-    go true ih = rw ih refl
-    go false ih = ih
+count_roots (m ∷ ms) =
+    elim (is_none m.place) as (λ b. length (option_map_or (λ n. record { id = m.id; number = n } ∷ rows_by id_of rooted_in ms) (cond b (Some m.space) None) (rows_by id_of rooted_in ms)) ≡ length (cond b (m ∷ roots ms) (roots ms)))
+    [ true ↦ ap suc (count_roots ms) | false ↦ count_roots ms ]
 
 pub root_count : (ms : List Mount) (rows : List ListRow) → rows ≡ rows_by id_of rooted_in ms → length rows ≡ length (roots ms)
 root_count ms rows e = ap length e ∙ count_roots ms

@@ -109,11 +109,8 @@ no_cycle_moved ms i p h apart = no_cycle_at ms (with_place i p ms) i h (λ x ne.
 -- where parents have no cycle, the top of a stack is free: the way up gets longer along a stack
 length_within : {X : Type 0} (next : X → Option X) (n : ℕ) (x : X) → length (chain next n x) ≤ suc n
 length_within next zero x = omega arith
-length_within {X} next (suc n) x = go (next x) (λ y. length_within next n y)
-  where
-    go : (o : Option X) → ((y : X) → length (chain next n y) ≤ suc n) → suc (length (option_map_or (λ y. chain next n y) o [])) ≤ suc (suc n)
-    go None ih = omega arith
-    go (Some y) ih = let l = ih y in omega arith
+length_within next (suc n) x =
+    elim (next x) as (λ o. suc (length (option_map_or (λ y. chain next n y) o [])) ≤ suc (suc n)) [ None ↦ omega arith | Some y ↦ omega (arith, length_within next n y) ]
 
 module _ (ms : List Mount) (r : rises id_of ms ≡ true) (h : HasNoCycle ms) where
   parent_here : (p : Place) (m : Mount) → on ms p ≡ Some m → parent ms m.id ≡ Some p.mount

@@ -102,11 +102,9 @@ module _ (next : Place → Option Place) (place root : Place) (free : next place
       elim (place_cases s begun.place) [
         | inl h ↦
             let w = same_Some (reach root m) e (sym (written_here begun.place (Some (reach root m)) (get place_eq old.ends) (get place_eq new.ends) ends s h) ∙ g) in
-            let step : linked place root next place ≡ Some root = ap (λ b. cond b (Some root) (next place)) (place_self place) in
-            let mark : told root ≡ Some (reach begun.place m) = written_here root (Some (reach begun.place m)) (get place_eq old.starts) told starts root refl in
-            let all : leads (linked place root next) told begun.place 0 (suc begun.steps) begun.place root =
-            leads-snoc (linked place root next) told begun.place 0 begun.steps m begun.place place root (omega (arith, em)) step mark (on begun.place begun.steps place way) in
-            let far : leads (linked place root next) told begun.place 0 m begun.place root = subst (λ j. leads (linked place root next) told begun.place 0 j begun.place root) (sym em) all in
+            let all = leads-snoc (linked place root next) told begun.place 0 begun.steps m begun.place place root (omega (arith, em)) (ap (λ b. cond b (Some root) (next place)) (place_self place))
+            (written_here root (Some (reach begun.place m)) (get place_eq old.starts) told starts root refl) (on begun.place begun.steps place way) in
+            let far = subst (λ j. leads (linked place root next) told begun.place 0 j begun.place root) (sym em) all in
             subst (λ z. leads (linked place root next) told z 0 e.steps z e.place) (sym h)
             (subst (λ (z : Reach). leads (linked place root next) told begun.place 0 z.steps begun.place z.place) w far)
         | inr h ↦ on s e.steps e.place (x s e (sym (written_apart begun.place (Some (reach root m)) (get place_eq old.ends) (get place_eq new.ends) ends s h) ∙ g))
@@ -121,26 +119,18 @@ module _ (next : Place → Option Place) (place root : Place) (only : StandsOnly
   other q r ne e h = ne (only q (e ∙ ap (λ x. Some x) h))
 
   module _ (starts told : Place → Option Reach) (same : (q : Place) → q ≢ root → told q ≡ starts q) where
-    -- a way that does not come by the place
-    past : (s : Place) → s ≢ place → ((j : ℕ) → starts place ≢ Some (reach s j)) → (k : ℕ) (t : Place) → leads next starts s 0 k s t → leads (unlinked place next) told s 0 k s t
-    past s ne none k t h =
-        leads-over next starts s (unlinked place next) told k (λ j q. q ≢ place)
-        (λ j q r l p n st. ((λ (e : r ≡ place). none (suc j) (ap starts (sym e) ∙ st)), stays q r p n, same r (other q r p n) ∙ st)) 0 k s t (omega arith) ne h
+    -- a way that does not come by the place before its end
+    past : (s : Place) → s ≢ place → (k : ℕ) → ((j : ℕ) → j < k → starts place ≢ Some (reach s j)) → (t : Place) → leads next starts s 0 k s t → leads (unlinked place next) told s 0 k s t
+    past s ne k none t h =
+        leads-over next starts s (unlinked place next) told k (λ j q. j < k → q ≢ place)
+        (λ j q r l p n st. ((λ (m : suc j < k) (e : r ≡ place). none (suc j) m (ap starts (sym e) ∙ st)), stays q r (p l) n, same r (other q r (p l) n) ∙ st)) 0 k s t (omega arith) (λ l. ne) h
 
-    -- and one whose last step was from the place: each place before it is nearer to the start
+    -- as one whose last step was from the place: each place before it is nearer to the start
     up_to : (s : Place) → s ≢ place → (i : ℕ) → starts place ≡ Some (reach s i) → leads next starts s 0 (suc i) s root → leads (unlinked place next) told s 0 i s place
     up_to s ne i at h =
         let u = leads-unsnoc next starts s 0 i s root h in
-        let here : u.0 ≡ place = only u.0 u.1 in
-        let way : leads next starts s 0 i s place = subst (λ z. leads next starts s 0 i s z) here u.2 in
-        leads-over next starts s (unlinked place next) told i (λ j q. j < i → q ≢ place)
-        (λ j q r l p n st. (
-          (λ (m : suc j < i) (e : r ≡ place).
-              let f : i ≡ suc j = ap (λ (z : Reach). z.steps) (same_Some (reach s i) (reach s (suc j)) (sym at ∙ ap starts (sym e) ∙ st)) in
-              absurd (omega (arith, m, f))),
-          stays q r (p l) n,
-          same r (other q r (p l) n) ∙ st,
-        )) 0 i s place (omega arith) (λ l. ne) way
+        past s ne i (λ j m e. let f : i ≡ j = ap (λ (z : Reach). z.steps) (same_Some (reach s i) (reach s j) (sym at ∙ e)) in absurd (omega (arith, m, f))) place
+        (subst (λ z. leads next starts s 0 i s z) (only u.0 u.1) u.2)
 
   pub stacked_unlinked : (old new : Stacks) (ends : Place → Option Reach) → IsStacked next old
       → ((s : Place) (e : Reach) → ends s ≡ Some e → IsShortened place root (get place_eq old.starts place) s (get place_eq old.ends s) e)
@@ -155,7 +145,7 @@ module _ (next : Place → Option Place) (place root : Place) (only : StandsOnly
         | inr h ↦
             let was : ends s ≡ Some e = sym (written_apart place None ends (get place_eq new.ends) at s h) ∙ g in
             elim (kept s e was) [
-              | inl k ↦ past (get place_eq old.starts) told same s h k.0 e.steps e.place (x s e k.1)
+              | inl k ↦ past (get place_eq old.starts) told same s h e.steps (λ j l. k.0 j) e.place (x s e k.1)
               | inr k ↦
                   subst (λ (z : Reach). leads (unlinked place next) told s 0 z.steps s z.place) (sym k.3)
                   (up_to (get place_eq old.starts) told same s h k.0 k.1 (x s (reach root (suc k.0)) k.2))

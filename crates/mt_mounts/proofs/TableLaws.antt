@@ -1,16 +1,14 @@
 -- What a change of one slot makes of a table's keys and of its mounts.
-use Rattle.std.proofs.Common.{◌≡◌, ◌≢◌, ◌↔◌, ℕ, cond, eqb, eq-eqb, nat_eq, List, [], Option, Some, None, sym, ap, ◌∙◌, refl, inl, inr}
-use Rattle.std.specs.List.{AllZip}
+use Rattle.std.proofs.Common.{◌≡◌, ◌≢◌, ◌↔◌, ℕ, cond, eqb, eq-eqb, nat_eq, List, [], Option, Some, None, slice_index_or, sym, ap, subst, ◌∙◌, refl, inl, inr}
 use Rattle.std.specs.Map.{lookup}
 use Rattle.std.specs.Option.{IfSome, option_map, option_and_then}
 use Rattle.std.proofs.lemmas.Bool.{cases_eq, ne_eqb, cond-true, cond-false}
-use Rattle.std.proofs.lemmas.List.Elements.{same_from_all_zip}
 use Rattle.std.proofs.lemmas.Option.{same_Some, none-some}
 use Rattle.slab.specs.Slab.{Slab, get, Updates, IsSlotClone}
 use Rattle.mt_skel.specs.Keyed.{row_at}
 use Rattle.mt_mounts.specs.declared.mount.Mount.{Mount}
 use Rattle.mt_mounts.specs.Forest.{id_of, mount_at}
-use Rattle.mt_mounts.specs.Slots.{by_id, slab_mounts, Keys, key_at, HoldsAt, IsKeyed}
+use Rattle.mt_mounts.specs.Slots.{by_id, slab_mounts, Keys, key_at, HoldsAt, AreKeyed, IsKeyed}
 use Rattle.mt_mounts.proofs.SlotLaws.{AreApart, none_found, mapped, rises_table, slot_of_row, row_of_slot}
 use Rattle.mt_mounts.proofs.WrittenLaws.{IsWritten, row_cases}
 
@@ -24,14 +22,11 @@ pub table_none : (s : Slab Mount) → s.slots ≡ [] → slab_mounts s ≡ []
 unfolding slab_mounts
 table_none s e = ap by_id e
 
--- clones of values that are copied
-slot_same : (R : Mount → Mount → Type 0) → ((x y : Mount) → R x y → y ≡ x) → (a b : Option Mount) → IsSlotClone R a b → b ≡ a
-slot_same R same None b h = h
-slot_same R same (Some x) None h = absurd h
-slot_same R same (Some x) (Some y) h = ap (λ z. Some z) (same x y h)
-
-pub slots_same : (R : Mount → Mount → Type 0) → ((x y : Mount) → R x y → y ≡ x) → (a b : List (Option Mount)) → AllZip (IsSlotClone R) a b → b ≡ a
-slots_same R same a b h = same_from_all_zip (IsSlotClone R) a b h (slot_same R same)
+-- a clone of a value that is copied
+pub slot_same : (a b : Option Mount) → IsSlotClone (λ x y. y ≡ x) a b → b ≡ a
+slot_same None b h = h
+slot_same (Some x) None h = absurd h
+slot_same (Some x) (Some y) h = ap (λ z. Some z) h
 
 -- the mounts of a table differ in their IDs
 pub distinct_ids : (s : Slab Mount) (keys : Keys) → IsKeyed s keys → AreApart s.slots
@@ -39,21 +34,13 @@ distinct_ids s keys k i j a b ga gb same = same_Some i j (sym (k.known i a ga) �
 
 -- the same slots and entries make the same table
 pub keyed_same : (s new : Slab Mount) (keys keys' : Keys) → new.slots ≡ s.slots → keys'.entries ≡ keys.entries → IsKeyed s keys → IsKeyed new keys'
-keyed_same s new keys keys' e f k = record {
-  held = λ i key g. (let h = k.held i key (sym (same i) ∙ g) in record { mount = h.mount; there = got key ∙ h.there; fits = h.fits });
-  known = λ key m g. same m.id ∙ k.known key m (sym (got key) ∙ g);
-}
-  where
-    same : (i : ℕ) → key_at keys' i ≡ key_at keys i
-    same i = ap (lookup (nat_eq i)) f
-
-    got : (key : ℕ) → get new key ≡ get s key
-    got key = rw e refl
+keyed_same s new keys keys' e f k =
+    subst (λ at. AreKeyed at (key_at keys')) (λ j key. slice_index_or (sym e j) key None) (subst (AreKeyed (get s)) (λ j i. lookup (nat_eq i) (sym f j)) k)
 
 pub keyed_none : (s : Slab Mount) (keys : Keys) → s.slots ≡ [] → keys.entries ≡ [] → IsKeyed s keys
 keyed_none s keys e f = record {
-  held = λ i key g. absurd (let v : None ≡ Some key = sym (ap (lookup (nat_eq i)) f) ∙ g in cc);
-  known = λ key m g. absurd (let v : None ≡ Some m = rw e at g in cc);
+  held = λ i key g. absurd (none-some key (sym (ap (lookup (nat_eq i)) f) ∙ g));
+  known = λ key m g. absurd (none-some m (rw e at g));
 }
 
 -- the mount of an ID is the one under its key
@@ -121,6 +108,6 @@ module _ (s : Slab Mount) (keys : Keys) (k : IsKeyed s keys) where
         changed None e = refl
         changed (Some m) e = e
 
-        kept : (q : ℕ) → i ≢ q → (p : Option ℕ) → ((j : ℕ) → p ≡ Some j → HoldsAt s q j) → option_and_then (get new) p ≡ option_and_then (get s) p
+        kept : (q : ℕ) → i ≢ q → (p : Option ℕ) → ((j : ℕ) → p ≡ Some j → HoldsAt (get s) q j) → option_and_then (get new) p ≡ option_and_then (get s) p
         kept q off None h = refl
         kept q off (Some j) h = let f = h j refl in u.others j (λ e. off (sym ((here j f.mount f.there).0 e) ∙ f.fits))

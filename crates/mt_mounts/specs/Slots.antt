@@ -28,16 +28,20 @@ Keys = IndexMap ℕ ℕ (BuildHasherDefault FoldHasher)
 abbrev pub key_at : Keys → ℕ → Option ℕ
 key_at keys i = key_in nat_eq keys i
 
--- The slab has a mount with this ID under the key.
-pub record HoldsAt (s : Slab Mount) (id : ℕ) (key : ℕ) : Type 0 where
+-- A mount with this ID is under the key.
+pub record HoldsAt (at : ℕ → Option Mount) (id : ℕ) (key : ℕ) : Type 0 where
   pub mount : Mount
-  pub there : get s key ≡ Some mount
+  pub there : at key ≡ Some mount
   pub fits : mount.id ≡ id
 
--- An ID has a key exactly where the slab has a mount with this ID under that key.
-pub record IsKeyed (s : Slab Mount) (keys : Keys) : Type 0 where
-  pub held : (i key : ℕ) → key_at keys i ≡ Some key → HoldsAt s i key
-  pub known : (key : ℕ) (m : Mount) → get s key ≡ Some m → key_at keys m.id ≡ Some key
+-- An ID has a key exactly where a mount with this ID is under that key.
+pub record AreKeyed (at : ℕ → Option Mount) (keys : ℕ → Option ℕ) : Type 0 where
+  pub held : (i key : ℕ) → keys i ≡ Some key → HoldsAt at i key
+  pub known : (key : ℕ) (m : Mount) → at key ≡ Some m → keys m.id ≡ Some key
+
+-- So it is in the slab.
+abbrev pub IsKeyed : Slab Mount → Keys → Type 0
+IsKeyed s keys = AreKeyed (get s) (key_at keys)
 
 -- The mounts of these IDs, in their order.
 abbrev pub mounts_of : List Mount → List ℕ → List Mount

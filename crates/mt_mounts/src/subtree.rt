@@ -40,6 +40,7 @@ impl Forest {
     {
         let mut gathered = Vec::new(self.allocator());
         gathered.push(id)?;
+        self.known();
         let mut visited = 0usize;
         'mounts: while visited < gathered.len() {
             let parent = gathered[visited];
