@@ -3,11 +3,10 @@
 --     no_cycle_leaf      one mount more, on which none stands
 --     no_cycle_moved     a mount moved to a place that is not below it
 --     top_is_free        the place that `top` answers is free
-use Rattle.std.proofs.Common.{◌≡◌, ◌≢◌, ℕ, zero, suc, ◌+◌, ◌-◌, ◌<◌, ◌≤◌, Bool, true, false, cond, ◌||◌, eqb, eq-eqb, List, [], ◌∷◌, map, length, Option, Some, None, refl, sym, ap, subst, ◌∙◌, inl, inr, arith}
+use Rattle.std.proofs.Common.{◌≡◌, ◌≢◌, ℕ, zero, suc, ◌+◌, ◌-◌, ◌<◌, ◌≤◌, Bool, true, false, cond, ◌||◌, eqb, eq-eqb, List, [], map, length, Option, Some, None, refl, sym, ap, subst, ◌∙◌, inl, inr, arith}
 use Rattle.std.specs.List.{list_any}
 use Rattle.std.specs.Option.{option_map, option_map_or, option_and_then}
 use Rattle.std.proofs.lemmas.Bool.{cases_eq, ne_eqb, cond-true, cond-false}
-use Rattle.std.proofs.lemmas.Bool.Decides.{nat_tests}
 use Rattle.std.proofs.lemmas.Option.{none-some, option_and_then_some}
 use Rattle.mt_skel.specs.Keyed.{put, rises}
 use Rattle.mt_skel.specs.Chain.{chain, ends}
@@ -17,7 +16,7 @@ use Rattle.mt_skel.proofs.ElementLaws.{row_in, in_mapped, any_in}
 use Rattle.mt_skel.proofs.ChainLaws.{chain-step, length-chain, ends-within, ends-rank, chain-some, follow-holds}
 use Rattle.mt_mounts.specs.declared.mount.Mount.{Mount}
 use Rattle.mt_mounts.specs.declared.mount.Place.{Place}
-use Rattle.mt_mounts.specs.Forest.{id_of, mount_at, parent, is_below, on, is_at, place_eq, root_place, top}
+use Rattle.mt_mounts.specs.Forest.{id_of, mount_at, parent, is_below, on, is_at, root_place, top}
 use Rattle.mt_mounts.specs.Tree.{HasNoCycle, HasParents}
 use Rattle.mt_mounts.specs.ForestView.{with_place}
 use Rattle.mt_mounts.proofs.SlotLaws.{none_found, mapped, row_put_here, row_put_later}

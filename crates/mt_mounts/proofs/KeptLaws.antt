@@ -1,7 +1,7 @@
 -- A forest stays one once a mount was written, and where its mounts are as they were.
-use Rattle.std.proofs.Common.{◌≡◌, ◌⊎◌, ℕ, true, List, [], ◌∷◌, ◌++◌, Option, Some, None, refl, sym, ap, subst, ◌∙◌, inl, inr}
+use Rattle.std.proofs.Common.{◌≡◌, ◌⊎◌, ℕ, List, [], ◌∷◌, ◌++◌, Option, Some, None, refl, sym, ap, subst, ◌∙◌, inl, inr}
 use Rattle.std.specs.Option.{ForSome, option_map}
-use Rattle.mt_skel.specs.Keyed.{put, rises}
+use Rattle.mt_skel.specs.Keyed.{put}
 use Rattle.mt_skel.proofs.KeyedLaws.{row_at-key}
 use Rattle.mt_lists.specs.Log.{AreAlikeBut}
 use Rattle.mt_lists.proofs.LogLaws.{alike-noted}

@@ -3,7 +3,7 @@ use Rattle.std.proofs.Common.{◌≡◌, ◌≢◌, ℕ, zero, suc, ◌+◌, Boo
 use Rattle.std.specs.Option.{option_map}
 use Rattle.std.proofs.lemmas.Bool.{cases_eq, ne_eqb, false≢true}
 use Rattle.std.proofs.lemmas.Bool.Decides.{nat_tests}
-use Rattle.std.proofs.lemmas.Option.{cond_some}
+use Rattle.std.proofs.lemmas.Option.{cond_some, same_Some}
 use Rattle.slab.specs.Slab.{Slab, entries, entries_from, slab_len}
 use Rattle.slab.proofs.SlabLemmas.{length-entries}
 use Rattle.mt_skel.specs.Keyed.{row_at, put, rises}
@@ -78,8 +78,7 @@ slot_of_row (None ∷ slots) q m e = let f = slot_of_row slots q m e in (suc f.0
 slot_of_row (Some a ∷ slots) q m e = elim (cases_eq a.id q) [
   | inl same ↦
       let v : Some a ≡ Some m = sym (row_put_here (by_id slots) a q same) ∙ e in
-      let w : a ≡ m = cc in
-      (zero, v, ap (λ x. x.id) (sym w) ∙ same)
+      (zero, v, ap (λ (x : Mount). x.id) (sym (same_Some a m v)) ∙ same)
   | inr off ↦ let f = slot_of_row slots q m (sym (row_put_later (by_id slots) a q off) ∙ e) in (suc f.0, f.1, f.2)
 ]
 
@@ -87,10 +86,7 @@ pub row_of_slot : (slots : List (Option Mount)) → AreApart slots → (key : �
 row_of_slot [] apart key m e = absurd (let v : None ≡ Some m = e in cc)
 row_of_slot (None ∷ slots) apart zero m e = absurd (let v : None ≡ Some m = e in cc)
 row_of_slot (None ∷ slots) apart (suc key) m e = row_of_slot slots (apart_rest None slots apart) key m e
-row_of_slot (Some a ∷ slots) apart zero m e =
-    let v : Some a ≡ Some m = e in
-    let w : a ≡ m = cc in
-    row_put_here (by_id slots) a m.id (ap (λ x. x.id) w) ∙ v
+row_of_slot (Some a ∷ slots) apart zero m e = row_put_here (by_id slots) a m.id (ap (λ (x : Mount). x.id) (same_Some a m e)) ∙ e
 row_of_slot (Some a ∷ slots) apart (suc key) m e =
     row_put_later (by_id slots) a m.id (λ s. let z : zero ≡ suc key = apart zero (suc key) a m refl e s in absurd (omega (arith, z)))
     ∙ row_of_slot slots (apart_rest (Some a) slots apart) key m e

@@ -1,5 +1,5 @@
 -- What is known of stacks once a mount has come to a place or has gone from it.
-use Rattle.std.proofs.Common.{◌≡◌, ◌≢◌, ◌⊎◌, ℕ, zero, suc, ◌+◌, ◌<◌, ◌≤◌, Bool, true, false, cond, Option, Some, None, refl, sym, ap, subst, ◌∙◌, inl, inr, arith}
+use Rattle.std.proofs.Common.{◌≡◌, ◌≢◌, ◌⊎◌, ℕ, zero, suc, ◌+◌, ◌<◌, ◌≤◌, true, false, cond, Option, Some, None, refl, sym, ap, subst, ◌∙◌, inl, inr, arith}
 use Rattle.std.specs.Map.{lookup}
 use Rattle.std.specs.Option.{option_map_or}
 use Rattle.std.proofs.NetLemmas.Options.{cond_none}
@@ -14,7 +14,7 @@ use Rattle.mt_mounts.specs.declared.mount.Mount.{Mount}
 use Rattle.mt_mounts.specs.declared.stacks.Reach.{Reach}
 use Rattle.mt_mounts.specs.declared.stacks.Stacks.{Stacks}
 use Rattle.mt_mounts.specs.Forest.{is_at, place_eq, root_place}
-use Rattle.mt_mounts.specs.Stacks.{reach, leads, IsStacked, IsBare, StandsOnly, IsShortened, linked, unlinked, come_to, gone_from}
+use Rattle.mt_mounts.specs.Stacks.{reach, leads, IsStacked, IsBare, StandsOnly, IsShortened, linked, unlinked, gone_from}
 use Rattle.mt_mounts.proofs.PlaceLaws.{same_place}
 
 pub place_self : (p : Place) → place_eq p p ≡ true

@@ -1,5 +1,5 @@
 -- What a change of one slot makes of a table's keys and of its mounts.
-use Rattle.std.proofs.Common.{◌≡◌, ◌≢◌, ◌↔◌, ℕ, cond, eqb, eq-eqb, nat_eq, List, [], Option, Some, None, slice_index_or, sym, ap, subst, ◌∙◌, refl, inl, inr}
+use Rattle.std.proofs.Common.{◌≡◌, ◌≢◌, ◌↔◌, ℕ, cond, eqb, eq-eqb, nat_eq, [], Option, Some, None, slice_index_or, sym, ap, subst, ◌∙◌, refl, inl, inr}
 use Rattle.std.specs.Map.{lookup}
 use Rattle.std.specs.Option.{IfSome, option_map, option_and_then}
 use Rattle.std.proofs.lemmas.Bool.{cases_eq, ne_eqb, cond-true, cond-false}

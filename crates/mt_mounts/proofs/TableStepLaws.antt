@@ -1,12 +1,12 @@
 -- A table stays one, and what its mounts are, once a slot was written, and with other memory.
-use Rattle.std.proofs.Common.{◌≡◌, ◌⊎◌, ℕ, ◌<◌, ◌≤◌, cond, eqb, eq-eqb, List, [], length, slice_set, Option, Some, None, refl, sym, ap, ◌∙◌, inl, inr}
+use Rattle.std.proofs.Common.{◌≡◌, ◌⊎◌, ℕ, ◌<◌, ◌≤◌, cond, eqb, length, slice_set, Option, Some, None, refl, sym, ap, ◌∙◌}
 use Rattle.std.specs.Option.{IfSome, option_map, option_map_or, option_and_then}
 use Rattle.std.proofs.lemmas.List.{set-set}
 use Rattle.slab.specs.Slab.{Slab, get, Updates, with_value}
 use Rattle.slab.proofs.SlabLemmas.{Updates-with_value}
 use Rattle.mt_skel.specs.Keyed.{put}
 use Rattle.mt_skel.proofs.KeyedLaws.{row_at-key}
-use Rattle.mt_lists.specs.Lists.{ListRow, listed_id, listed_number, without_row, with_number}
+use Rattle.mt_lists.specs.Lists.{listed_id, listed_number, without_row, with_number}
 use Rattle.mt_lists.specs.SlotLists.{SlotListsView, id_in, lengthened}
 use Rattle.mt_lists.proofs.RowLaws.{with-taken}
 use Rattle.mt_mounts.specs.declared.mount.Mount.{Mount}
@@ -19,17 +19,8 @@ use Rattle.mt_mounts.specs.Slots.{slab_mounts, Keys, key_at}
 use Rattle.mt_mounts.specs.Seats.{parent_of, own_space, seat, IsTable}
 use Rattle.mt_mounts.proofs.SlotLaws.{rises_table}
 use Rattle.mt_mounts.proofs.WrittenLaws.{IsWritten, written_once, row_cases, moved_to, put_written, without_written, attrs_written, place_written}
-use Rattle.mt_mounts.proofs.TableLaws.{keyed_same, keyed_none, mount_keyed, not_keyed, keyed_written, mounts_written}
-use Rattle.mt_mounts.proofs.SeatLaws.{rises_beside, within, beside_none, beside_longer, beside_written, rows_kept, slots_kept, taken, taken_absent}
-
--- no mounts
-pub table_empty : (s : Slab Mount) (keys : Keys) (children spaces : SlotListsView) → s.slots ≡ [] → s.capacity ≡ 0 → keys.entries ≡ [] → children.rows ≡ [] → children.slots ≡ [] → spaces.rows ≡ [] → spaces.slots ≡ []
-    → IsTable s keys children spaces
-table_empty s keys children spaces e z k cr cs sr ss = record {
-  keyed = keyed_none s keys e k;
-  children = beside_none parent_of s children e z cr cs;
-  spaces = beside_none own_space s spaces e z sr ss;
-}
+use Rattle.mt_mounts.proofs.TableLaws.{keyed_same, mount_keyed, not_keyed, keyed_written, mounts_written}
+use Rattle.mt_mounts.proofs.SeatLaws.{rises_beside, within, beside_longer, beside_written, rows_kept, slots_kept, taken, taken_absent}
 
 module _ (s : Slab Mount) (keys : Keys) (children spaces : SlotListsView) (t : IsTable s keys children spaces) where
   -- other memory: the lists are as wide as they were, or as the slab is now

@@ -359,6 +359,7 @@ impl Forest {
         ensures rising { IsTrue (rises id_of self.now.mounts) }
         ensures memory { IsOkUnless result Fault.NoMemory }
     {
+        self.known();
         self.table.children_of(id)
     }
 }

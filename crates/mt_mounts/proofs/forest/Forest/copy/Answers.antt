@@ -1,4 +1,4 @@
-use Rattle.std.proofs.Common.{sym, ap, ◌∙◌, arith}
+use Rattle.std.proofs.Common.{ap, ◌∙◌, arith}
 use Rattle.mt_lists.specs.Log.{earlier}
 use Rattle.mt_mounts.specs.Forest.{mount_at}
 use Rattle.mt_mounts.proofs.KeptLaws.{forest_same}
@@ -6,8 +6,7 @@ use Rattle.mt_mounts.proofs.forest.Forest.copy.Goals as goal
 
 pub invariant_of-result : goal.invariant_of-result
 invariant_of-result c = (
-  forest_same c.self.inside.table.mounts c.self.inside.indexes c.in_ok-indexes.indexes (earlier c.self.inside.since.seen.items (λ t. t.mounts)) c.self.inside.log.ids c.self.invariant.0
-      c.in_ok-table.table.mounts (earlier c.of.result.seen.items (λ t. t.mounts)) c.new.result.ids c.in_ok-table.ensures.copy (c.in_ok-indexes.ensures.copy c.self.inside.table.mounts c.self.invariant.0.indexed)
+  forest_same _ _ _ _ _ c.self.invariant.0 _ _ _ c.in_ok-table.ensures.copy (c.in_ok-indexes.ensures.copy c.self.inside.table.mounts c.self.invariant.0.indexed)
       (λ q n. ap (λ l. mount_at l q) (ap (λ l. earlier l (λ t. t.mounts)) c.of.ensures ∙ c.in_ok-table.ensures.copy)),
   omega arith,
 )

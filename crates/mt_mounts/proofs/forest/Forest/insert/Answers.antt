@@ -1,5 +1,4 @@
 use Rattle.std.proofs.Common.{None, refl, ap, inl, arith}
-use Rattle.mt_lists.specs.Log.{earlier}
 use Rattle.mt_mounts.proofs.IndexLaws.{rooted}
 use Rattle.mt_mounts.proofs.KeptLaws.{forest_put}
 use Rattle.mt_mounts.proofs.forest.Forest.insert.Goals as goal
@@ -8,10 +7,8 @@ pub invariant_of-self : goal.invariant_of-self
 invariant_of-self c =
     let e = ap (λ f. f.mounts) c.self.view_is in
     let f = c.self.invariant.0 in
-    let ms = c.self.inside.table.mounts in
-    let since = earlier c.self.inside.since.seen.items (λ t. t.mounts) in (
-      forest_put ms c.self.inside.indexes c.insert.new.self since c.self.inside.log.ids f c.insert-2.new.self.mounts since c.add.new.self.ids c.args.mount
-          (rw e c.requires.free) (rw e c.requires.rootless) c.insert-2.ensures.mounts (inl (refl, c.add.ensures.ids))
+    let ms = c.self.inside.table.mounts in (
+      forest_put ms _ _ _ _ f _ _ _ c.args.mount (rw e c.requires.free) (rw e c.requires.rootless) c.insert-2.ensures.mounts (inl (refl, c.add.ensures.ids))
           (c.insert.ensures.indexed ms f.rising f.single (rw e c.requires.absent) (rw e c.requires.free) f.indexed),
       omega (arith, c.self.invariant.1, c.insert.ensures.room, c.insert-2.ensures.room),
     )

@@ -9,9 +9,7 @@ invariant_of-self c =
     let e = ap (λ f. f.mounts) c.self.view_is in
     let f = c.self.invariant.0 in
     let ms = c.self.inside.table.mounts in (
-      forest_put ms c.self.inside.indexes c.insert.new.self (earlier c.self.inside.since.seen.items (λ t. t.mounts)) c.self.inside.log.ids f
-          c.insert-2.new.self.mounts (earlier c.of-self-inside.result.seen.items (λ t. t.mounts)) c.clear.new.self.ids c.args.mount
-          (rw e c.requires.free) (rw e c.requires.rootless) c.insert-2.ensures.mounts (inr (ap (λ l. earlier l (λ t. t.mounts)) c.of-self-inside.ensures))
+      forest_put ms _ _ _ _ f _ _ _ c.args.mount (rw e c.requires.free) (rw e c.requires.rootless) c.insert-2.ensures.mounts (inr (ap (λ l. earlier l (λ t. t.mounts)) c.of-self-inside.ensures))
           (c.insert.ensures.indexed ms f.rising f.single (rw e c.requires.absent) (rw e c.requires.free) f.indexed),
       omega (arith, c.self.invariant.1, c.insert.ensures.room, c.insert-2.ensures.room),
     )

@@ -1,5 +1,4 @@
 use Rattle.std.proofs.Common.{◌≡◌, Some, None, ap, sym, ◌∙◌, refl, inl, arith}
-use Rattle.mt_lists.specs.Log.{earlier}
 use Rattle.mt_mounts.specs.Forest.{on, mount_at}
 use Rattle.mt_mounts.specs.ForestView.{with_place}
 use Rattle.mt_mounts.proofs.WrittenLaws.{moved_to, place_written, place_absent}
@@ -12,7 +11,6 @@ invariant_of-self c =
     let e = ap (λ f. f.mounts) c.self.view_is in
     let f = c.self.invariant.0 in
     let ms = c.self.inside.table.mounts in
-    let since = earlier c.self.inside.since.seen.items (λ t. t.mounts) in
     let m = c.in-Some.mount in
     let p = c.args.place in
     let free : on ms p ≡ None = rw e c.requires.free in
@@ -20,8 +18,7 @@ invariant_of-self c =
     let fits = mount_fits ms c.args.id m there in
     let at_id = ap (mount_at ms) fits ∙ there in
     let now = Some (moved_to p m) in (
-      forest_written ms c.self.inside.indexes c.set_place.new.self since c.self.inside.log.ids f c.set_place-in-Some.new.self.mounts since c.add.new.self.ids
-          m.id now (with_place m.id p ms) (place_written ms f.rising m.id (Some m) at_id p)
+      forest_written ms _ _ _ _ f _ _ _ m.id now (with_place m.id p ms) (place_written ms f.rising m.id (Some m) at_id p)
           (alone_at ms m.id now (λ q s. let pq : p ≡ q = cc in ap (on ms) (sym pq) ∙ free)) (alone_root ms m.id now (λ s. absurd (cc)))
           (c.set_place-in-Some.ensures.mounts ∙ ap (λ i. with_place i p ms) (sym fits)) (inl (refl, c.add.ensures.ids))
           (c.set_place.ensures.indexed ms f.rising f.single at_id free f.indexed),

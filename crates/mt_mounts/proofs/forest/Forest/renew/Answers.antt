@@ -8,12 +8,10 @@ use Rattle.mt_mounts.proofs.FollowLaws.{forest_renewed, renewed_written}
 use Rattle.mt_mounts.proofs.forest.Forest.renew.Goals as goal
 
 pub invariant_of-self : goal.invariant_of-self
-invariant_of-self c =
-    let since = earlier c.self.inside.since.seen.items (λ t. t.mounts) in (
-      forest_renewed c.self.inside.table.mounts c.renew-renewed.new.self.mounts c.args.mount c.self.inside.indexes since c.self.inside.log.ids (earlier c.of-self-inside.result.seen.items (λ t. t.mounts)) c.clear.new.self.ids c.renew-renewed.result
-          c.renew-renewed.ensures.mounts (ap (λ l. earlier l (λ t. t.mounts)) c.of-self-inside.ensures) c.self.invariant.0,
-      omega (arith, c.self.invariant.1, c.renew-renewed.ensures.room),
-    )
+invariant_of-self c = (
+  forest_renewed _ _ c.args.mount _ _ _ _ _ c.renew-renewed.result c.renew-renewed.ensures.mounts (ap (λ l. earlier l (λ t. t.mounts)) c.of-self-inside.ensures) c.self.invariant.0,
+  omega (arith, c.self.invariant.1, c.renew-renewed.ensures.room),
+)
 
 pub returns-clause-here : goal.returns-clause-here
 returns-clause-here c is =

@@ -10,17 +10,14 @@ pub invariant_of-self : goal.invariant_of-self
 invariant_of-self c =
     let f = c.self.invariant.0 in
     let ms = c.self.inside.table.mounts in (
-      forest_without ms c.self.inside.indexes c.remove-in-Some.new.self (earlier c.self.inside.since.seen.items (λ t. t.mounts)) c.self.inside.log.ids f
-          c.remove.new.self.mounts (earlier c.of-self-inside.result.seen.items (λ t. t.mounts)) c.clear.new.self.ids
-          c.args.id c.in-Some.mount (sym c.in-Some.ensures.mount) c.in-Some.ensures.mounts (inr (ap (λ l. earlier l (λ t. t.mounts)) c.of-self-inside.ensures))
+      forest_without ms _ _ _ _ f _ _ _ c.args.id c.in-Some.mount (sym c.in-Some.ensures.mount) c.in-Some.ensures.mounts (inr (ap (λ l. earlier l (λ t. t.mounts)) c.of-self-inside.ensures))
           (λ at. c.remove-in-Some.ensures.indexed ms f.rising f.single at f.indexed),
       omega (arith, c.self.invariant.1, c.in-Some.ensures.room, c.remove-in-Some.ensures.room),
     )
 
 pub invariant_of-self-in_default : goal.invariant_of-self-in_default
 invariant_of-self-in_default c = (
-  forest_left c.self.inside.table.mounts c.self.inside.indexes (earlier c.self.inside.since.seen.items (λ t. t.mounts)) c.self.inside.log.ids c.self.invariant.0
-      c.remove.new.self.mounts c.args.id (sym c.in_default.ensures.mount) c.in_default.ensures.mounts,
+  forest_left _ _ _ _ c.self.invariant.0 _ c.args.id (sym c.in_default.ensures.mount) c.in_default.ensures.mounts,
   omega (arith, c.self.invariant.1, c.in_default.ensures.room),
 )
 

@@ -6,7 +6,7 @@ use Rattle.mt_mounts.proofs.table.Table.copy.Goals as goal
 
 pub invariant_of-result : goal.invariant_of-result
 invariant_of-result c =
-    table_wider c.self.inside.slots c.self.inside.keys c.self.inside.children c.self.inside.spaces c.self.invariant
+    table_wider _ _ _ _ c.self.invariant
     c.in_ok-slots.slots c.in_ok-clone.field-0 c.in_ok-copy_of.field-0 c.in_ok-copy_of-2.field-0 c.capacity.result c.capacity-2.result
     (same_from_all_zip _ _ _ c.in_ok-slots.ensures.cases.slots slot_same)
     (same_from_all_zip _ c.self.inside.keys.entries c.in_ok-clone.field-0.entries c.in_ok-clone.ensures.cases (λ x y e. λ i. (e.0 i, e.1 i)))

@@ -1,7 +1,6 @@
 use Rattle.std.proofs.Common.{None, ap, ◌∙◌, ◌<◌, subst}
 use Rattle.mt_skel.specs.Keyed.{put}
 use Rattle.mt_lists.specs.Lists.{with_number}
-use Rattle.mt_lists.specs.SlotLists.{SlotListsView}
 use Rattle.std.specs.Option.{option_map}
 use Rattle.std.proofs.Common.{slice_set}
 use Rattle.mt_mounts.specs.Forest.{id_of}
@@ -29,7 +28,7 @@ pub invariant_of-self : goal.invariant_of-self
 invariant_of-self c =
     let e = ap (λ t. t.mounts) c.self.view_is in
     let fits = subst (λ n. c.insert_reserved-slot.result < n) c.insert_reserved-slot.ensures.capacity c.insert_reserved-slot.ensures.key_in_range in
-    table_filled c.self.inside.slots c.self.inside.keys c.self.inside.children c.self.inside.spaces c.self.invariant
+    table_filled _ _ _ _ c.self.invariant
     c.insert_reserved-slot.new.self c.insert.new.self c.insert_reserved-slot.result c.args.mount
     c.insert_reserved-slot.ensures.was_vacant (rw e c.requires.absent) c.insert_reserved-slot.ensures.updates (let u = rw c.unwrap.ensures at c.insert.ensures.updates in u.0)
     c.seat.new.lists c.insert-2.new.self fits c.insert_reserved-slot.ensures.capacity
@@ -40,7 +39,7 @@ invariant_of-self c =
 pub returns-clause-mounts : goal.returns-clause-mounts
 returns-clause-mounts c =
     let e = ap (λ t. t.mounts) c.self.view_is in
-    mounts_filled c.self.inside.slots c.self.inside.keys c.self.inside.children c.self.inside.spaces c.self.invariant
+    mounts_filled _ _ _ _ c.self.invariant
     c.insert_reserved-slot.new.self c.insert.new.self c.insert_reserved-slot.result c.args.mount
     c.insert_reserved-slot.ensures.was_vacant (rw e c.requires.absent) c.insert_reserved-slot.ensures.updates (let u = rw c.unwrap.ensures at c.insert.ensures.updates in u.0)
     ∙ ap (put id_of c.args.mount) e

@@ -1,7 +1,6 @@
-use Rattle.std.proofs.Common.{◌≡◌, Some, ap, ◌∙◌, sym, refl}
+use Rattle.std.proofs.Common.{ap, ◌∙◌, sym, refl}
 use Rattle.mt_mounts.specs.Forest.{mount_at}
 use Rattle.mt_mounts.specs.ForestView.{without_id}
-use Rattle.mt_mounts.specs.Slots.{slab_mounts}
 use Rattle.mt_mounts.proofs.SlotLaws.{rises_table}
 use Rattle.mt_mounts.proofs.WrittenLaws.{without_absent}
 use Rattle.mt_mounts.proofs.TableLaws.{mount_keyed}
@@ -15,16 +14,14 @@ remove-requires-in-Some-2 c =
 
 pub invariant_of-self : goal.invariant_of-self
 invariant_of-self c =
-    table_emptied c.self.inside.slots c.self.inside.keys c.self.inside.children c.self.inside.spaces c.self.invariant c.args.id c.in-Some.slot c.remove-in-Some-2.result
-    (sym c.swap_remove.ensures.value ∙ c.in-Some.is) c.remove-in-Some-2.ensures.value
+    table_emptied _ _ _ _ c.self.invariant c.args.id c.in-Some.slot c.remove-in-Some-2.result (sym c.swap_remove.ensures.value ∙ c.in-Some.is) c.remove-in-Some-2.ensures.value
     c.remove-in-Some-2.new.self c.swap_remove.new.self c.remove-in-Some-2.ensures.updates c.swap_remove.ensures.updates.0
     c.remove.new.self c.remove-in-Some.new.self c.remove-in-Some-2.ensures.capacity
     c.remove.ensures.rows c.remove.ensures.slots c.remove-in-Some.ensures.rows c.remove-in-Some.ensures.slots
 
 pub returns-in-Some-clause-mounts : goal.returns-in-Some-clause-mounts
 returns-in-Some-clause-mounts c =
-    mounts_emptied c.self.inside.slots c.self.inside.keys c.self.inside.children c.self.inside.spaces c.self.invariant c.args.id c.in-Some.slot c.remove-in-Some-2.result
-    (sym c.swap_remove.ensures.value ∙ c.in-Some.is) c.remove-in-Some-2.ensures.value
+    mounts_emptied _ _ _ _ c.self.invariant c.args.id c.in-Some.slot c.remove-in-Some-2.result (sym c.swap_remove.ensures.value ∙ c.in-Some.is) c.remove-in-Some-2.ensures.value
     c.remove-in-Some-2.new.self c.swap_remove.new.self c.remove-in-Some-2.ensures.updates c.swap_remove.ensures.updates.0
     ∙ ap (λ t. without_id c.args.id t.mounts) c.self.view_is
 
@@ -41,6 +38,6 @@ returns-clause-mount c =
 pub returns-clause-mounts : goal.returns-clause-mounts
 returns-clause-mounts c =
     let e = ap (λ t. t.mounts) c.self.view_is in
-    without_absent (slab_mounts c.self.inside.slots) (rises_table c.self.inside.slots) c.args.id
+    without_absent _ (rises_table c.self.inside.slots) c.args.id
     (mount_keyed c.self.inside.slots c.self.inside.keys c.self.invariant.keyed c.args.id _ (sym c.swap_remove.ensures.value ∙ c.in_default.is))
     ∙ ap (without_id c.args.id) e

@@ -1,4 +1,4 @@
-use Rattle.std.proofs.Common.{Some, ap, ◌∙◌, sym, refl}
+use Rattle.std.proofs.Common.{Some, ap, ◌∙◌, sym}
 use Rattle.std.specs.Option.{option_map}
 use Rattle.mt_mounts.specs.Forest.{mount_at}
 use Rattle.mt_mounts.specs.ForestView.{with_attrs}
@@ -9,12 +9,12 @@ use Rattle.mt_mounts.proofs.table.Table.renew.Goals as goal
 
 pub invariant_of-self : goal.invariant_of-self
 invariant_of-self c =
-    table_attrs c.self.inside.slots c.self.inside.keys c.self.inside.children c.self.inside.spaces c.self.invariant c.args.mount.id c.in-Some.key c.in-Some-get_mut.here.now
+    table_attrs _ _ _ _ c.self.invariant c.args.mount.id c.in-Some.key c.in-Some-get_mut.here.now
     (sym c.get.ensures.value ∙ sym c.in-Some.ensures) (sym c.in-Some-get_mut.ensures.value) c.args.mount.attrs
 
 pub invariant_of-self-else-stands_as : goal.invariant_of-self-else-stands_as
 invariant_of-self-else-stands_as c =
-    table_attrs c.self.inside.slots c.self.inside.keys c.self.inside.children c.self.inside.spaces c.self.invariant c.args.mount.id c.in-Some.key c.in-Some-get_mut.here.now
+    table_attrs _ _ _ _ c.self.invariant c.args.mount.id c.in-Some.key c.in-Some-get_mut.here.now
     (sym c.get.ensures.value ∙ sym c.in-Some.ensures) (sym c.in-Some-get_mut.ensures.value) c.in-Some-get_mut.here.now.attrs
 
 pub returns-then-stands_as-clause-renewed : goal.returns-then-stands_as-clause-renewed
@@ -29,6 +29,6 @@ returns-then-stands_as-clause-renewed c is =
 pub returns-then-stands_as-clause-mounts : goal.returns-then-stands_as-clause-mounts
 returns-then-stands_as-clause-mounts c =
     let i = c.args.mount.id in
-    mounts_attrs c.self.inside.slots c.self.inside.keys c.self.inside.children c.self.inside.spaces c.self.invariant i c.in-Some.key c.in-Some-get_mut.here.now
+    mounts_attrs _ _ _ _ c.self.invariant i c.in-Some.key c.in-Some-get_mut.here.now
     (sym c.get.ensures.value ∙ sym c.in-Some.ensures) (sym c.in-Some-get_mut.ensures.value) c.args.mount.attrs
     ∙ ap (λ t. with_attrs i c.args.mount.attrs t.mounts) c.self.view_is

@@ -5,7 +5,7 @@ use Rattle.mt_mounts.proofs.table.Table.reserve.Goals as goal
 
 pub invariant_of-self-then-capacity-len : goal.invariant_of-self-then-capacity-len
 invariant_of-self-then-capacity-len c =
-    table_wider c.self.inside.slots c.self.inside.keys c.self.inside.children c.self.inside.spaces c.self.invariant
+    table_wider _ _ _ _ c.self.invariant
     c.in_ok-slots.slots c.reserve.new.self c.reserve-then-capacity-len.new.self c.reserve-then-capacity-len-2.new.self c.capacity-then-capacity-len.result c.capacity-then-capacity-len-2.result
     c.in_ok-slots.ensures.slots c.reserve.ensures.entries
     c.reserve-then-capacity-len.ensures.rows c.in_ok-reserve-2.ensures.slots (inr (omega (arith, c.capacity-then-capacity-len.ensures.value)))

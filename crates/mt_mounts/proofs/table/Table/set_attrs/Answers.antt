@@ -1,5 +1,4 @@
-use Rattle.std.proofs.Common.{ap, ◌∙◌, sym, refl}
-use Rattle.mt_mounts.specs.Slots.{slab_mounts}
+use Rattle.std.proofs.Common.{ap, ◌∙◌, sym}
 use Rattle.mt_mounts.specs.ForestView.{with_attrs}
 use Rattle.mt_mounts.proofs.SlotLaws.{rises_table}
 use Rattle.mt_mounts.proofs.WrittenLaws.{attrs_absent}
@@ -9,19 +8,19 @@ use Rattle.mt_mounts.proofs.table.Table.set_attrs.Goals as goal
 
 pub invariant_of-self : goal.invariant_of-self
 invariant_of-self c =
-    table_attrs c.self.inside.slots c.self.inside.keys c.self.inside.children c.self.inside.spaces c.self.invariant c.args.id c.in-Some.key c.in-Some-get_mut.mount.now
+    table_attrs _ _ _ _ c.self.invariant c.args.id c.in-Some.key c.in-Some-get_mut.mount.now
     (sym c.get.ensures.value ∙ sym c.in-Some.ensures) (sym c.in-Some-get_mut.ensures.value) c.args.attrs
 
 pub returns-in-Some-get_mut-clause-mounts : goal.returns-in-Some-get_mut-clause-mounts
 returns-in-Some-get_mut-clause-mounts c =
-    mounts_attrs c.self.inside.slots c.self.inside.keys c.self.inside.children c.self.inside.spaces c.self.invariant c.args.id c.in-Some.key c.in-Some-get_mut.mount.now
+    mounts_attrs _ _ _ _ c.self.invariant c.args.id c.in-Some.key c.in-Some-get_mut.mount.now
     (sym c.get.ensures.value ∙ sym c.in-Some.ensures) (sym c.in-Some-get_mut.ensures.value) c.args.attrs
     ∙ ap (λ t. with_attrs c.args.id c.args.attrs t.mounts) c.self.view_is
 
 pub returns-in_default-get_mut-clause-mounts : goal.returns-in_default-get_mut-clause-mounts
 returns-in_default-get_mut-clause-mounts c =
     let e = ap (λ t. t.mounts) c.self.view_is in
-    attrs_absent (slab_mounts c.self.inside.slots) (rises_table c.self.inside.slots) c.args.id
+    attrs_absent _ (rises_table c.self.inside.slots) c.args.id
     (mount_keyed c.self.inside.slots c.self.inside.keys c.self.invariant.keyed c.args.id _ (sym c.get.ensures.value ∙ sym c.in-Some.ensures) ∙ sym c.in_default-get_mut.ensures.value) c.args.attrs
     ∙ ap (with_attrs c.args.id c.args.attrs) e
 
@@ -29,6 +28,6 @@ pub returns-in_default-clause-mounts : goal.returns-in_default-clause-mounts
 returns-in_default-clause-mounts c =
     let e = ap (λ t. t.mounts) c.self.view_is in
     sym e
-    ∙ attrs_absent (slab_mounts c.self.inside.slots) (rises_table c.self.inside.slots) c.args.id
+    ∙ attrs_absent _ (rises_table c.self.inside.slots) c.args.id
     (mount_keyed c.self.inside.slots c.self.inside.keys c.self.invariant.keyed c.args.id _ (sym c.get.ensures.value ∙ sym c.in_default.ensures)) c.args.attrs
     ∙ ap (with_attrs c.args.id c.args.attrs) e

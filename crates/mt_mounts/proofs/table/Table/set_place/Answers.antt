@@ -1,5 +1,4 @@
 use Rattle.std.proofs.Common.{ap, ◌∙◌, sym}
-use Rattle.mt_mounts.specs.Slots.{slab_mounts}
 use Rattle.mt_mounts.specs.ForestView.{with_place}
 use Rattle.mt_mounts.proofs.SlotLaws.{rises_table}
 use Rattle.mt_mounts.proofs.WrittenLaws.{place_absent}
@@ -9,25 +8,25 @@ use Rattle.mt_mounts.proofs.table.Table.set_place.Goals as goal
 
 pub insert-requires-clause-absent : goal.insert-requires-clause-absent
 insert-requires-clause-absent c =
-    left_absent c.self.inside.slots c.self.inside.keys c.self.inside.children c.self.inside.spaces c.self.invariant c.args.id c.in-Some.slot c.in-Some-get_mut.mount.now
+    left_absent _ _ _ _ c.self.invariant c.args.id c.in-Some.slot c.in-Some-get_mut.mount.now
     (sym c.get.ensures.value ∙ sym c.in-Some.ensures) (sym c.in-Some-get_mut.ensures.value) c.remove.new.self c.remove.ensures.rows c.remove.ensures.slots
 
 pub invariant_of-self : goal.invariant_of-self
 invariant_of-self c =
-    table_moved c.self.inside.slots c.self.inside.keys c.self.inside.children c.self.inside.spaces c.self.invariant c.args.id c.in-Some.slot c.in-Some-get_mut.mount.now
+    table_moved _ _ _ _ c.self.invariant c.args.id c.in-Some.slot c.in-Some-get_mut.mount.now
     (sym c.get.ensures.value ∙ sym c.in-Some.ensures) (sym c.in-Some-get_mut.ensures.value) c.remove.new.self c.remove.ensures.rows c.remove.ensures.slots
     c.args.place c.insert.new.self c.insert.ensures.rows c.insert.ensures.slots
 
 pub returns-in-Some-get_mut-clause-mounts : goal.returns-in-Some-get_mut-clause-mounts
 returns-in-Some-get_mut-clause-mounts c =
-    mounts_moved c.self.inside.slots c.self.inside.keys c.self.inside.children c.self.inside.spaces c.self.invariant c.args.id c.in-Some.slot c.in-Some-get_mut.mount.now
+    mounts_moved _ _ _ _ c.self.invariant c.args.id c.in-Some.slot c.in-Some-get_mut.mount.now
     (sym c.get.ensures.value ∙ sym c.in-Some.ensures) (sym c.in-Some-get_mut.ensures.value) c.args.place
     ∙ ap (λ t. with_place c.args.id c.args.place t.mounts) c.self.view_is
 
 pub returns-in_default-get_mut-clause-mounts : goal.returns-in_default-get_mut-clause-mounts
 returns-in_default-get_mut-clause-mounts c =
     let e = ap (λ t. t.mounts) c.self.view_is in
-    place_absent (slab_mounts c.self.inside.slots) (rises_table c.self.inside.slots) c.args.id
+    place_absent _ (rises_table c.self.inside.slots) c.args.id
     (mount_keyed c.self.inside.slots c.self.inside.keys c.self.invariant.keyed c.args.id _ (sym c.get.ensures.value ∙ sym c.in-Some.ensures) ∙ sym c.in_default-get_mut.ensures.value) c.args.place
     ∙ ap (with_place c.args.id c.args.place) e
 
@@ -35,6 +34,6 @@ pub returns-in_default-clause-mounts : goal.returns-in_default-clause-mounts
 returns-in_default-clause-mounts c =
     let e = ap (λ t. t.mounts) c.self.view_is in
     sym e
-    ∙ place_absent (slab_mounts c.self.inside.slots) (rises_table c.self.inside.slots) c.args.id
+    ∙ place_absent _ (rises_table c.self.inside.slots) c.args.id
     (mount_keyed c.self.inside.slots c.self.inside.keys c.self.invariant.keyed c.args.id _ (sym c.get.ensures.value ∙ sym c.in_default.ensures)) c.args.place
     ∙ ap (with_place c.args.id c.args.place) e
