@@ -44,7 +44,7 @@ module _ (ms : List Mount) (old new : Indexes) (since : List Mount) (noted : Lis
         ];
       })
 
-  -- it has come, has gone, or has other attributes
+  -- a mount has come, or has gone
   pub forest_put : (m : Mount) → ForSome m.place (λ p. on ms p ≡ None) → (m.place ≡ None → root_mount ms m.space ≡ None) → after ≡ put id_of m ms
       → ((then ≡ since) × (all ≡ noted ++ m.id ∷ [])) ⊎ (then ≡ after) → IsIndexed (put id_of m ms) new → IsKeptForest after new then all
   forest_put m free rootless = forest_written m.id (Some m) (put id_of m ms) (put_written ms f.rising m) (alone_at ms m.id (Some m) free) (alone_root ms m.id (Some m) rootless)
@@ -58,6 +58,7 @@ module _ (ms : List Mount) (old new : Indexes) (since : List Mount) (noted : Lis
 pub forest_left : (ms : List Mount) (x : Indexes) (since : List Mount) (noted : List ℕ) → IsKeptForest ms x since noted → (after : List Mount) (i : ℕ) → mount_at ms i ≡ None → after ≡ without_id i ms → IsKeptForest after x since noted
 forest_left ms x since noted f after i absent e = forest_same ms x x since noted f after since noted (e ∙ sym (without_absent ms f.rising i absent)) f.indexed f.known
 
+-- one has other attributes
 pub forest_attrs : (ms : List Mount) (x : Indexes) (since : List Mount) (noted : List ℕ) → IsKeptForest ms x since noted → (after then : List Mount) (all : List ℕ) (i : ℕ) (a : Attrs) → after ≡ with_attrs i a ms
     → ((then ≡ since) × (all ≡ noted ++ i ∷ [])) ⊎ (then ≡ after) → IsKeptForest after x then all
 forest_attrs ms x since noted f after then all i a e told =

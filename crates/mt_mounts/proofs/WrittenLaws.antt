@@ -28,6 +28,7 @@ pub written_once : (ms : List Mount) (i : ℕ) (o : Option Mount) (xs ys : List 
 written_once ms i o xs ys x y = same_rows id_of xs ys x.rising y.rising (λ q. x.rows q ∙ sym (y.rows q))
 
 module _ (ms : List Mount) (i : ℕ) (o : Option Mount) (after : List Mount) (w : IsWritten ms i o after) where
+  -- what is found under the ID, and under another
   pub written_here : (q : ℕ) → q ≡ i → mount_at after q ≡ o
   written_here q e = w.rows q ∙ cond-true _ _ _ (eq-eqb q i e)
 
@@ -41,6 +42,7 @@ module _ (ms : List Mount) (i : ℕ) (o : Option Mount) (after : List Mount) (w 
     | inr off ↦ inr (off, sym (written_other q off) ∙ e)
   ]
 
+  -- but for the ID all is found as before
   pub but_written : AreAlikeBut (i ∷ []) (mount_at ms) (mount_at after)
   but_written q e = sym (written_other q (not-only i q e))
 
@@ -49,7 +51,7 @@ module _ (ms : List Mount) (i : ℕ) (o : Option Mount) (after : List Mount) (w 
   rows_written number r =
       changed-by id_of number ms after i (option_and_then number o) r w.rising (ap (option_and_then number) (written_here i refl)) (λ q ne. ap (option_and_then number) (written_other q ne))
 
--- what is asked under the ID, and under another
+-- a look-up that is told under the ID and under each other
 pub row_cases : {A : Type 0} (q i : ℕ) (a o b : A) → (q ≡ i → a ≡ o) → (q ≢ i → a ≡ b) → a ≡ cond (eqb q i) o b
 row_cases q i a o b here other = elim (cases_eq q i) [
   | inl at ↦ here at ∙ sym (cond-true _ _ _ (eq-eqb q i at))
@@ -63,7 +65,7 @@ moved_to p m = record m { place = Some p }
 abbrev pub attrs_of : ℕ → Attrs → Mount → Mount
 attrs_of i a m = record m { attrs = cond (eqb m.id i) a m.attrs }
 
--- what is found once the mount of an ID was changed
+-- what is found once the mount of an ID was changed, by a function that leaves the others
 module _ (f : Bool → Mount → Mount) (keeps : (b : Bool) (m : Mount) → (f b m).id ≡ m.id) (left : (m : Mount) → f false m ≡ m) (ms : List Mount) (i : ℕ) (o : Option Mount) (is : mount_at ms i ≡ o) where
   at : (q : ℕ) (b : Bool) → eqb q i ≡ b → mount_at (map (λ m. f (eqb m.id i) m) ms) q ≡ option_map (f b) (mount_at ms q)
   at q b e = row_at-map id_of (λ m. f (eqb m.id i) m) (λ m. keeps (eqb m.id i) m) q ms ∙ go (mount_at ms q) (row_at-key id_of q ms)
