@@ -1,11 +1,13 @@
--- What is known of a command that was accepted: its effect, and that no refusal holds.
-use Rattle.std.proofs.Common.{◌≡◌, ℕ, Bool, true, false, ◌&&◌, ◌||◌, List, length, Option, Some, None, Result, Ok, Err, refl, ap}
-use Rattle.std.specs.Prelude.{is_none, is_some, unwrap_or}
+-- What is known of a command that was accepted: its effect, and that no refusal holds; and what a mount, a bind and a move lead to
+-- once their places are judged: it is left to see whether the copies are too many.
+use Rattle.std.proofs.Common.{◌≡◌, ℕ, Bool, true, false, ◌&&◌, ◌||◌, List, length, Option, Some, None, Result, Ok, Err, ap, not, [], ◌∷◌, sym, ◌∙◌, arith}
+use Rattle.std.specs.Prelude.{is_none, is_some, unwrap_or, IsTrue}
 use Rattle.std.proofs.lemmas.Bool.{not-false}
 use Rattle.mt_skel.specs.declared.fault.Fault.{Fault}
-use Rattle.mt_skel.specs.Outcome.{refusal_of}
-use Rattle.mt_skel.proofs.OutcomeLaws.{not_refused, accepted}
+use Rattle.mt_skel.specs.Outcome.{refusal_of, refuse_if, outcome}
+use Rattle.mt_skel.proofs.OutcomeLaws.{not_refused, accepted, passed, stopped}
 use Rattle.mt_skel.specs.Skeleton.{fs_named}
+use Rattle.mt_skel.specs.declared.fault.Fault.TheVariants.{NotMountRoot, RootPlace, SharedParent, IntoItself, Unbindable, UnbindableInside, TooMany}
 use Rattle.mt_mounts.specs.declared.mount.Place.{Place}
 use Rattle.mt_mounts.specs.Forest.{is_below}
 use Rattle.mt_mounts.specs.Walk.{walk}
@@ -16,7 +18,7 @@ use Rattle.mt_propagate.specs.Copies.{Source, new_copies, copy_id}
 use Rattle.mt_propagate.specs.Copied.{copied}
 use Rattle.mt_bind.specs.Spaces.{originals, with_space, new_space_refusals, new_space, with_copy, copy_space_refusals, copy_space, without_space, drop_space_refusals, drop_space}
 use Rattle.mt_bind.specs.Sources.{fresh, source_at, tree_of}
-use Rattle.mt_bind.specs.Mounting.{stands_on_shared, any_unbindable, mounted_refusals, mounted, bound_refusals, bound, moved_refusals, moved}
+use Rattle.mt_bind.specs.Mounting.{stands_on_shared, any_unbindable, mounted_refusals, mounted, bound_refusals, bound, moved_refusals, moved, too_many, copied_with_id, mounted_effect, bound_effect, moved_effect}
 use Rattle.mt_bind.specs.Pivoting.{root_id, with_pivot, pivoted_refusals, pivoted}
 
 -- the place where a path ends
@@ -24,12 +26,10 @@ abbrev pub path_end : WorldView → ℕ → List (List ℕ) → Place
 path_end w n path = place_or_nowhere (walk w.skel w.forest n path)
 
 has_ended : (r : Result Place Fault) → refusal_of r ≡ None → r ≡ Ok (place_or_nowhere r)
-has_ended (Ok p) e = refl
-has_ended (Err f) e = absurd (cc)
+has_ended r e = grind arith
 
 has_name : (o : Option ℕ) → is_none o ≡ false → o ≡ Some (unwrap_or o 0)
-has_name (Some f) e = refl
-has_name None e = absurd (cc)
+has_name o e = grind arith
 
 -- the number of the filesystem with a name
 abbrev pub fs_of : WorldView → List ℕ → ℕ
@@ -186,3 +186,52 @@ pivot_accepted w n new old v e =
       inside = not-false _ (not_refused _ _ late.1.1.1.0);
       world = a.0;
     }
+
+-- what a command answers goes by whether the copies are too many, and by nothing else
+pub record IsLate {T : Type 0} (o : Result T Fault) (w : WorldView) (src : Source) (p : Place) (effect : T) : Type 0 where
+  pub decided : o ≡ outcome (too_many w src p ∷ []) effect
+
+-- so what is planned of the source tree decides
+module _ {T : Type 0} {w : WorldView} {src : Source} {p : Place} {effect : T} {o : Result T Fault} (late : IsLate o w src p effect) (given : Source) (same : given ≡ src) where
+  judged : too_many_mounts w (length (new_copies w src p)) ≡ too_many_mounts w (length (new_copies w given p))
+  judged = ap (λ (s : Source). too_many_mounts w (length (new_copies w s p))) (sym same)
+
+  pub planned_done : too_many_mounts w (length (new_copies w given p)) ≡ false → o ≡ Ok effect
+  planned_done few = late.decided ∙ passed _ TooMany [] _ (judged ∙ few)
+
+  pub planned_refused : (f : Fault) → (f ≡ TooMany) × IsTrue (too_many_mounts w (length (new_copies w given p))) → o ≡ Err f
+  planned_refused f r = late.decided ∙ stopped _ TooMany [] _ (judged ∙ r.1) ∙ ap (λ (f : Fault). Err f) (sym r.0)
+
+-- a mount whose filesystem is named and whose path ends off a root place
+pub mounted_late : (w : WorldView) (n : ℕ) (name : List ℕ) (path : List (List ℕ)) (f : ℕ) (p : Place) → fs_named w.skel name ≡ Some f → walk w.skel w.forest n path ≡ Ok p → is_root_place w p ≡ false
+    → IsLate (mounted w n name path) w (fresh w f) p (copied_with_id w (fresh w f) p)
+mounted_late w n name path f p named ended off = record { decided = (λ i. outcome (mounted_refusals w (named i) (ended i)) (mounted_effect w (named i) (ended i))) ∙ passed (is_root_place w p) RootPlace _ _ off }
+
+-- a bind whose paths end, the other one off a root place, and whose mount may be bound
+pub bound_late : (w : WorldView) (n : ℕ) (recursive : Bool) (from to : List (List ℕ)) (s p : Place) → walk w.skel w.forest n from ≡ Ok s → walk w.skel w.forest n to ≡ Ok p → is_root_place w p ≡ false
+    → (state_of w s.mount).unbindable ≡ false → IsLate (bound w n recursive from to) w (source_at w recursive s) p (copied_with_id w (source_at w recursive s) p)
+bound_late w n recursive from to s p begun ended off bindable = record {
+  decided = (λ i. outcome (bound_refusals w recursive (begun i) (ended i)) (bound_effect w recursive (begun i) (ended i)))
+      ∙ passed (is_root_place w p) RootPlace _ _ off
+      ∙ passed (state_of w s.mount).unbindable Unbindable _ _ bindable;
+}
+
+-- a move of a mount that is no root mount from a parent that is not shared, where both paths end
+pub moved_judged : (w : WorldView) (n : ℕ) (from to : List (List ℕ)) (s p : Place) → walk w.skel w.forest n from ≡ Ok s → is_mount_root w s ≡ true → is_root_mount w s ≡ false
+    → walk w.skel w.forest n to ≡ Ok p → is_root_place w p ≡ false → stands_on_shared w s.mount ≡ false
+    → moved w n from to ≡ outcome (refuse_if (is_below w.forest s.mount p.mount) IntoItself
+    ∷ refuse_if (is_some (group_of w p.mount) && any_unbindable w s.mount) UnbindableInside
+    ∷ too_many w (tree_of w s.mount) p ∷ []) (copied w (tree_of w s.mount) p)
+moved_judged w n from to s p begun named placed ended off unshared =
+    (λ i. outcome (moved_refusals w (begun i) (ended i)) (moved_effect w (begun i) (ended i)))
+    ∙ passed (not (is_mount_root w s)) NotMountRoot _ _ (ap not named)
+    ∙ passed (is_root_mount w s) RootPlace _ _ placed
+    ∙ passed (is_root_place w p) RootPlace _ _ off
+    ∙ passed (stands_on_shared w s.mount) SharedParent _ _ unshared
+
+-- once neither the place is below it nor an unbindable mount would come below a shared one
+pub moved_late : (w : WorldView) (n : ℕ) (from to : List (List ℕ)) (s p : Place) → moved w n from to ≡ outcome (refuse_if (is_below w.forest s.mount p.mount) IntoItself
+    ∷ refuse_if (is_some (group_of w p.mount) && any_unbindable w s.mount) UnbindableInside
+    ∷ too_many w (tree_of w s.mount) p ∷ []) (copied w (tree_of w s.mount) p)
+    → is_below w.forest s.mount p.mount ≡ false → is_some (group_of w p.mount) && any_unbindable w s.mount ≡ false → IsLate (moved w n from to) w (tree_of w s.mount) p (copied w (tree_of w s.mount) p)
+moved_late w n from to s p judged outside bindable = record { decided = judged ∙ passed (is_below w.forest s.mount p.mount) IntoItself _ _ outside ∙ passed _ UnbindableInside _ _ bindable }

@@ -1,29 +1,28 @@
--- A well-formed world stays so where a namespace is copied.
+-- A well-formed world stays so where a namespace is copied, and what the copy, done mount by mount, makes of it.
 use Rattle.std.proofs.Common.{◌≡◌, ◌⊎◌, ℕ, ◌+◌, ◌<◌, ◌≤◌, Bool, true, false, List, ◌++◌, map, length, Option, Some, None, refl, sym, ap, subst, ◌∙◌, inl, inr, arith}
 use Rattle.std.specs.Prelude.{IsTrue}
 use Rattle.std.specs.Option.{option_map, option_or, unwrap_or}
-use Rattle.std.proofs.lemmas.List.{map-append}
+use Rattle.std.proofs.lemmas.List.{map-append, length-map}
 use Rattle.mt_skel.specs.Keyed.{rises, row_at}
 use Rattle.mt_skel.specs.Skeleton.{directory}
 use Rattle.mt_skel.proofs.SortedLaws.{rises-keys}
 use Rattle.mt_mounts.specs.declared.mount.Mount.{Mount}
 use Rattle.mt_mounts.specs.Forest.{id_of, mount_at}
 use Rattle.mt_peers.specs.declared.state.State.{State}
-use Rattle.mt_peers.specs.Peers.{Peer, mount_of, state_at}
+use Rattle.mt_peers.specs.Peers.{Peer, mount_of, state_at, peers_of}
 use Rattle.mt_peers.specs.WellFormed.{IsPeering}
 use Rattle.mt_peers.proofs.AddedLaws.{added-IsPeering}
 use Rattle.mt_peers.proofs.MemberLaws.{member-there}
 use Rattle.mt_peers.proofs.AlikeLaws.{IsAlike, like-IsAlike}
 use Rattle.mt_propagate.specs.World.{WorldView, state_of, private}
-use Rattle.mt_propagate.specs.WellFormed.{IsWellFormed, fs_at}
+use Rattle.mt_propagate.specs.WellFormed.{IsWellFormed, fs_at, IsForest}
 use Rattle.mt_propagate.proofs.ListedLaws.{map-map}
 use Rattle.mt_propagate.proofs.NumberLaws.{climbs}
 use Rattle.mt_propagate.proofs.RowLaws.{renamed-row, appended-row}
 use Rattle.mt_propagate.proofs.ShownLaws.{shown-alike, groups-show, masters-show, mount-state, state-mount, state-row}
 use Rattle.mt_bind.specs.Spaces.{originals, with_copy}
 use Rattle.mt_bind.specs.Copying.{state_of_copy}
-use Rattle.mt_bind.proofs.NamespaceCopyLaws.{number, copy, copies, order, was-original, among, copy-high, copy-low, old-in, copy-in, row-of}
-use Rattle.mt_bind.proofs.CopyTreeLaws.{grown, grown-ids, grown-forest}
+use Rattle.mt_bind.proofs.NamespaceCopyLaws.{number, copy, copies, order, was-original, among, copy-high, copy-low, old-in, copy-in, row-of, grown, grown-ids, grown-forest}
 
 -- where a world has more states, each is that of a mount that was there, or a new one
 pub state-from : (w : WorldView) → IsWellFormed w → (new : List Peer) (i : ℕ) (t : State) → state_at (w.peering.peers ++ new) i ≡ Some t → ((state_at w.peering.peers i ≡ Some t) × (m : Mount) × (mount_at w.forest i ≡ Some m)) ⊎ (state_at new i ≡ Some t)
@@ -170,3 +169,27 @@ module _ (w : WorldView) (h : IsWellFormed w) (n : ℕ) (less : Bool) where
     group_fs = groups-show (with_copy w n less) alike;
     master_fs = masters-show (with_copy w n less) alike;
   }
+
+module _ (w : WorldView) (h : IsWellFormed w) (n : ℕ) (less : Bool) where
+  -- the copies of the mounts and of their states, made in a world that is still the same
+  pub record AreCopies (u : WorldView) (cs : List Mount) (rs : List (ℕ × State)) : Type 0 where
+    pub still : u ≡ w
+    pub mounts : cs ≡ copies w h n
+    pub states : peers_of rs ≡ new_peers w h n less
+
+  module _ (u : WorldView) (cs : List Mount) (rs : List (ℕ × State)) (a : AreCopies u cs rs) where
+    pub added-forest : IsForest w.skel (u.forest ++ cs)
+    added-forest = subst (IsForest w.skel) (λ i. (sym a.still i).forest ++ sym a.mounts i) (grown-forest w h n)
+
+    pub added-rise : rises mount_of (u.peering.peers ++ peers_of rs) ≡ true
+    added-rise = (λ i. rises mount_of ((a.still i).peering.peers ++ a.states i)) ∙ peers-rise w h n less
+
+    -- together they make the copy
+    pub copy-made : (v : WorldView) → v.forest ≡ u.forest ++ cs → v.peering.peers ≡ u.peering.peers ++ peers_of rs → (v.skel ≡ u.skel) × (v.peering.next ≡ u.peering.next)
+        → (v.next_mount ≡ u.next_mount + length cs) × (v.next_space ≡ u.next_space + 1) → v ≡ with_copy w n less
+    unfolding with_copy
+    copy-made v forest states same next =
+        let count : length cs ≡ length (originals w n) = ap length a.mounts ∙ length-map (originals w n) (copy w n) in
+        let added : v ≡ record { skel = u.skel; forest = u.forest ++ cs; peering = record { peers = u.peering.peers ++ peers_of rs; next = u.peering.next }; next_mount = u.next_mount + length cs; next_space = u.next_space + 1 } =
+        λ i. record { skel = same.0 i; forest = forest i; peering = record { peers = states i; next = same.1 i }; next_mount = next.0 i; next_space = next.1 i } in
+        added ∙ (λ i. let x = a.still i in record x { forest = x.forest ++ a.mounts i; peering = record x.peering { peers = x.peering.peers ++ a.states i }; next_mount = x.next_mount + count i; next_space = x.next_space + 1 })

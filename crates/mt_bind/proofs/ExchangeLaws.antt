@@ -1,9 +1,9 @@
 -- A pivot done mount by mount: the new root mount goes, the old one is moved to the place, and the new one comes back without one.
-use Rattle.std.proofs.Common.{◌≡◌, ◌≢◌, ℕ, true, cond, not, ◌==◌, eq-eqb, List, map, Option, Some, None, refl, sym, ap, ◌∙◌, inl, inr}
-use Rattle.std.specs.Option.{option_map}
-use Rattle.std.proofs.lemmas.Bool.{cases_eq, ne_eqb, true≢false}
+use Rattle.std.proofs.Common.{◌≡◌, ◌≢◌, ℕ, true, cond, not, ◌==◌, eq-eqb, List, map, Some, None, refl, sym, ap, ◌∙◌, inl, inr, arith}
+use Rattle.std.proofs.lemmas.Bool.{cases_eq, true≢false}
+use Rattle.std.proofs.lemmas.Bool.Decides.{nat_tests}
 use Rattle.mt_skel.specs.Keyed.{rises, put}
-use Rattle.mt_skel.proofs.KeyedLaws.{passing, row_at-key, row_at-filter, row_at-map, rises-filter, rises-map, rises-put, same_rows}
+use Rattle.mt_skel.proofs.KeyedLaws.{row_at-key, row_at-filter, row_at-map, rises-filter, rises-map, rises-put, same_rows}
 use Rattle.mt_mounts.specs.declared.mount.Mount.{Mount}
 use Rattle.mt_mounts.specs.declared.mount.Place.{Place}
 use Rattle.mt_mounts.specs.Forest.{id_of, mount_at, on, is_at, is_root, root_mount}
@@ -16,7 +16,7 @@ use Rattle.mt_propagate.specs.WellFormed.{IsWellFormed}
 use Rattle.mt_propagate.proofs.MovedForestLaws.{lifted, from_lifted}
 use Rattle.mt_propagate.proofs.WalkLaws.{root_here}
 use Rattle.mt_bind.specs.Pivoting.{pivoted_mount, MayPivot}
-use Rattle.mt_bind.proofs.PivotForestLaws.{root_unplaced}
+use Rattle.mt_bind.proofs.PivotingLaws.{root_unplaced}
 
 module _ (w : WorldView) (h : IsWellFormed w) (i j : ℕ) (p : Place) (a : MayPivot w i j p) where
   abbrev ms : List Mount
@@ -65,40 +65,20 @@ module _ (w : WorldView) (h : IsWellFormed w) (i j : ℕ) (p : Place) (a : MayPi
         let row = find_row (is_root n) moved b moved_rises e in
         let passes = find_passes (is_root n) moved b e in
         let x = was b.id b row in
-        go x.0 b x.1 x.3 (root_unplaced n b passes) (root_here n b passes).1)
-      where
-        go : (x b : Mount) → mount_at ms b.id ≡ Some x → b ≡ lifted j p x → b.place ≡ None → b.space ≡ m.space → ⊥
-        go x b row same at here = elim (cases_eq x.id j) [
-          | inl old ↦
-              let v : Some p ≡ None = sym (ap (λ c. cond c (Some p) x.place) (eq-eqb x.id j old)) ∙ sym (ap (λ (m : Mount). m.place) same) ∙ at in
-              absurd (cc)
-          | inr other ↦
-              let none : x.place ≡ None = sym (ap (λ c. cond c (Some p) x.place) (ne_eqb x.id j other)) ∙ sym (ap (λ (m : Mount). m.place) same) ∙ at in
-              let space : x.space ≡ a.root.space = sym (ap (λ (m : Mount). m.space) same) ∙ here ∙ ap (λ (m : Mount). m.space) (some-is m a.top (sym there ∙ a.top_there)) ∙ sym a.same_space in
-              other (row_at-key id_of b.id ms x row ∙ h.forest.one_root b.id j x a.root row a.root_there none a.unplaced space)
-        ]
+        let place : cond (x.0.id == j) (Some p) x.0.place ≡ None = ap (λ (m : Mount). m.place) (sym x.3) ∙ root_unplaced n b passes in
+        let none : x.0.place ≡ None = grind (arith, nat_tests) in
+        let off : x.0.id ≢ j = λ old. (let t = eq-eqb x.0.id j old in grind arith) in
+        let space : x.0.space ≡ a.root.space =
+        sym (ap (λ (m : Mount). m.space) x.3) ∙ (root_here n b passes).1 ∙ ap (λ (m : Mount). m.space) (some-is m a.top (sym there ∙ a.top_there)) ∙ sym a.same_space in
+        off (row_at-key id_of b.id ms x.0 x.1 ∙ h.forest.one_root b.id j x.0 a.root x.1 a.root_there none a.unplaced space))
 
     same-row : (k : ℕ) → mount_at (put id_of back moved) k ≡ mount_at (map (pivoted_mount i j p) ms) k
     same-row k = elim (cases_eq k i) [
-      | inl same ↦
-          row_put_here moved back k (own ∙ sym same)
-          ∙ sym (ap (λ c. let o : Option Mount = Some (record m { place = cond c None (cond (m.id == j) (Some p) m.place) }) in o) (eq-eqb m.id i own))
-          ∙ sym (ap (option_map (pivoted_mount i j p)) (ap (mount_at ms) same ∙ there))
-          ∙ sym (row_at-map id_of (pivoted_mount i j p) (λ x. refl) k ms)
+      | inl same ↦ rw (same, row_put_here moved back i own, row_at-map id_of (pivoted_mount i j p) (λ x. refl) i ms, there, eq-eqb m.id i own) refl
       | inr off ↦
-          row_put_later moved back k (λ s. off (sym s ∙ own))
-          ∙ row_at-map id_of (lifted j p) (λ x. refl) k gone
-          ∙ ap (option_map (lifted j p)) (row_at-filter id_of (λ (m : Mount). not (m.id == i)) k ms h.forest.rising)
-          ∙ go (mount_at ms k) (λ x e. (λ s. off (sym (row_at-key id_of k ms x e) ∙ s)))
-          ∙ sym (row_at-map id_of (pivoted_mount i j p) (λ x. refl) k ms)
+          rw (row_put_later moved back k (λ s. off (sym s ∙ own)), row_at-map id_of (lifted j p) (λ x. refl) k gone, row_at-filter id_of (λ (m : Mount). not (m.id == i)) k ms h.forest.rising, row_at-map id_of (pivoted_mount i j p) (λ x. refl) k ms)
+          (grind (arith, nat_tests, row_at-key id_of k ms))
     ]
-      where
-        go : (o : Option Mount) → ((x : Mount) → o ≡ Some x → x.id ≢ i) → option_map (lifted j p) (passing (λ (m : Mount). not (m.id == i)) o) ≡ option_map (pivoted_mount i j p) o
-        go None away = refl
-        go (Some x) away =
-            let is = ne_eqb x.id i (away x refl) in
-            ap (λ c. option_map (lifted j p) (cond (not c) (Some x) None)) is
-            ∙ sym (ap (λ c. let o : Option Mount = Some (record x { place = cond c None (cond (x.id == j) (Some p) x.place) }) in o) is)
 
     pub exchanged : put id_of back moved ≡ map (pivoted_mount i j p) ms
     exchanged =

@@ -1,23 +1,29 @@
--- A well-formed world stays so where all mounts of a namespace vanish.
-use Rattle.std.proofs.Common.{◌≡◌, ℕ, Bool, not, ◌==◌, map, Some, sym, ap, ◌∙◌}
+-- A well-formed world stays so where all mounts of a namespace vanish, and what their end, done mount by mount, makes of it.
+use Rattle.std.proofs.Common.{◌≡◌, ℕ, Bool, not, ◌==◌, map, Some, sym, ap, ◌∙◌, ◌≤◌, true, List, None, refl, arith}
 use Rattle.std.specs.Prelude.{unwrap_or}
 use Rattle.std.specs.List.{filter, AllByRecursion}
 use Rattle.std.specs.Option.{option_map}
-use Rattle.mt_skel.specs.Keyed.{without}
+use Rattle.std.proofs.lemmas.Bool.Decides.{nat_tests}
+use Rattle.mt_skel.specs.Keyed.{without, among}
 use Rattle.mt_skel.specs.Skeleton.{directory}
 use Rattle.mt_mounts.specs.declared.mount.Mount.{Mount}
-use Rattle.mt_mounts.specs.Forest.{id_of, mount_at}
+use Rattle.mt_mounts.specs.Forest.{id_of, mount_at, is_root, root_mount}
+use Rattle.mt_mounts.proofs.ForestLaws.{find_row, find_passes}
 use Rattle.mt_peers.specs.declared.state.State.{State}
 use Rattle.mt_peers.specs.Peers.{mount_of, state_at}
 use Rattle.mt_peers.specs.Loss.{left}
 use Rattle.mt_peers.proofs.LeavingLaws.{left-IsPeering}
 use Rattle.mt_peers.proofs.AlikeLaws.{IsAlike, left-IsAlike, same-IsAlike}
-use Rattle.mt_propagate.specs.World.{WorldView, space_of}
+use Rattle.mt_propagate.specs.World.{WorldView, space_of, is_space}
 use Rattle.mt_propagate.specs.WellFormed.{IsWellFormed, fs_at}
 use Rattle.mt_propagate.proofs.RowLaws.{filter-same, all-each, found-each, kept-row, keys-filter}
 use Rattle.mt_propagate.proofs.TreeLaws.{forest_without}
 use Rattle.mt_propagate.proofs.ShownLaws.{shown-alike, groups-show, masters-show, left-mounts, state-mount}
-use Rattle.mt_bind.specs.Spaces.{without_space}
+use Rattle.mt_propagate.specs.Carried.{staying}
+use Rattle.mt_propagate.proofs.WalkLaws.{root_here}
+use Rattle.mt_bind.specs.Spaces.{without_space, originals}
+use Rattle.mt_bind.specs.Dropping.{without_mounts}
+use Rattle.mt_bind.proofs.MemberLaws.{among_passing}
 
 module _ (w : WorldView) (h : IsWellFormed w) (n : ℕ) where
   abbrev gone : Mount → Bool
@@ -66,3 +72,27 @@ module _ (w : WorldView) (h : IsWellFormed w) (n : ℕ) where
     group_fs = groups-show (without_space w n) alike;
     master_fs = masters-show (without_space w n) alike;
   }
+
+module _ (w : WorldView) (h : IsWellFormed w) (n : ℕ) where
+  -- a namespace that is there has a number from 1 on
+  from-one : is_space w n ≡ true → 1 ≤ n
+  from-one is = elim (root_mount w.forest n) as (λ o. root_mount w.forest n ≡ o → 1 ≤ n) [
+    | None ↦ λ e. absurd (grind (arith, is, e))
+    | Some r ↦ λ e. omega (arith, (h.below r.id r (find_row (is_root n) w.forest r h.forest.rising e)).2, (root_here n r (find_passes (is_root n) w.forest r e)).1)
+  ] refl
+
+  among-space : 1 ≤ n → (i : ℕ) → among (map id_of (originals w n)) i ≡ (space_of w i == n)
+  among-space one i = grind (arith, nat_tests, among_passing (λ (m : Mount). m.space == n) w.forest h.forest.rising i)
+
+  -- a world without the mounts of a namespace is one without the namespace
+  pub without-is : is_space w n ≡ true → (ids : List ℕ) → ids ≡ map id_of (originals w n) → without_mounts w ids ≡ without_space w n
+  unfolding without_space
+  without-is is ids e =
+      let same : among (map id_of (originals w n)) ≡ (λ i. space_of w i == n) = λ i j. among-space (from-one is) j i in
+      let forest : staying (map id_of (originals w n)) w.forest ≡ without (λ (m : Mount). m.space == n) w.forest =
+      ap (λ (t : ℕ → Bool). without (λ (m : Mount). t m.id) w.forest) same ∙ sym (filter-same (λ (m : Mount). not (m.space == n)) (λ (m : Mount). not (space_of w m.id == n)) w.forest (agree w h n)) in
+      ap (without_mounts w) e ∙ (λ i. record w { forest = forest i; peering = left (same i) w.peering })
+
+  -- and so is what has become of the namespace, in a world that was still the same
+  pub is_dropped : is_space w n ≡ true → (u v : WorldView) (ids : List ℕ) → u ≡ w → ids ≡ map id_of (originals w n) → v ≡ without_mounts u ids → without_space w n ≡ v
+  is_dropped is u v ids still e made = sym (made ∙ ap (λ (x : WorldView). without_mounts x ids) still ∙ without-is is ids e)

@@ -20,10 +20,8 @@ use Rattle.mt_propagate.proofs.MovedLaws.{source_kept}
 use Rattle.mt_bind.specs.Sources.{fresh, source_at, tree_of}
 use Rattle.mt_bind.specs.Mounting.{mounted, bound, moved}
 use Rattle.mt_bind.proofs.AcceptedLaws.{path_end, fs_of, mount_accepted, bind_accepted, move_accepted}
-use Rattle.mt_bind.proofs.BelowLaws.{below_self}
-use Rattle.mt_bind.proofs.SourceLaws.{fresh_is_source, alone_is_source, alone_only, holds_there, no_zero, one_row}
-use Rattle.mt_bind.proofs.WithinLaws.{within_source, within_below}
-use Rattle.mt_bind.proofs.TreeOfLaws.{tree_source, tree_below}
+use Rattle.mt_bind.proofs.TreeOfLaws.{below_self, tree_source, tree_below}
+use Rattle.mt_bind.proofs.SourceLaws.{fresh_is_source, alone_is_source, alone_only, holds_there, no_zero, one_row, within_source, within_below}
 
 -- the end of a walk that is no root place is a destination
 pub destination : (w : WorldView) (n : ℕ) (path : List (List ℕ)) (p : Place) → IsWellFormed w → walk w.skel w.forest n path ≡ Ok p → is_root_place w p ≡ false → IsDestination w p

@@ -1,25 +1,85 @@
--- Mounts of a world that are one tree below a top are a source tree, and so is a mount with all below it, which may move.
-use Rattle.std.proofs.Common.{◌≡◌, ◌≢◌, ℕ, ◌<◌, true, false, List, length, Some, None, refl, sym, ap, ◌∙◌, subst, IsTrue}
-use Rattle.std.specs.Prelude.{unwrap_or, Bool, is_none}
-use Rattle.std.specs.List.{filter}
-use Rattle.std.proofs.lemmas.Bool.{true≢false}
+-- Which mounts are below a mount, and the way up from them; such trees are source trees, and one with all below its top may move.
+use Rattle.std.proofs.Common.{◌≡◌, ◌≢◌, ℕ, ◌<◌, true, false, List, length, Some, None, refl, sym, ap, ◌∙◌, subst, IsTrue, zero, suc, ◌≤◌, Bool, not, ◌==◌, eqb, eqb-true, eq-eqb, [], ◌∷◌, arith}
+use Rattle.std.specs.Prelude.{is_none}
+use Rattle.std.specs.List.{filter, take_while}
+use Rattle.std.proofs.lemmas.Bool.{true≢false, ne_eqb}
+use Rattle.std.specs.Option.{option_map, option_map_or}
+use Rattle.std.proofs.lemmas.Bool.Decides.{nat_tests}
+use Rattle.std.proofs.lemmas.List.Sums.{take_while-cons}
 use Rattle.mt_skel.specs.Keyed.{rises}
 use Rattle.mt_skel.specs.Skeleton.{directory, holds}
 use Rattle.mt_skel.proofs.KeyedLaws.{row_at-key, rises-filter}
+use Rattle.mt_skel.specs.Chain.{chain}
+use Rattle.mt_skel.proofs.ChainLaws.{chain-step}
+use Rattle.mt_skel.proofs.ElementLaws.{in_any, chain_low}
 use Rattle.mt_mounts.specs.declared.mount.Mount.{Mount}
 use Rattle.mt_mounts.specs.declared.mount.Place.{Place}
-use Rattle.mt_mounts.specs.Forest.{id_of, mount_at, is_below}
+use Rattle.mt_mounts.specs.Forest.{id_of, mount_at, is_below, parent}
 use Rattle.mt_mounts.proofs.SlotLaws.{none_found}
-use Rattle.mt_mounts.proofs.CycleLaws.{no_cycle, rank_of, rank_falls}
+use Rattle.mt_mounts.proofs.CycleLaws.{no_cycle, rank_of, rank_falls, above_of}
+use Rattle.mt_mounts.proofs.Walks.{below_here, below_stop}
 use Rattle.mt_propagate.specs.World.{WorldView}
-use Rattle.mt_propagate.specs.Named.{unknown, mount_or_unknown}
+use Rattle.mt_propagate.specs.Named.{mount_or_unknown}
 use Rattle.mt_propagate.specs.WellFormed.{IsWellFormed, fs_at}
 use Rattle.mt_propagate.specs.Sound.{IsTree, IsSource}
 use Rattle.mt_propagate.proofs.CopyRowLaws.{root_is}
 use Rattle.mt_propagate.proofs.RowLaws.{picked-row, row-picked}
 use Rattle.mt_propagate.proofs.TreeLaws.{parent-is, parent-from}
-use Rattle.mt_bind.specs.Sources.{tree_of}
-use Rattle.mt_bind.proofs.BelowLaws.{below_self, below_parent, below_has_parent, above_not_below}
+use Rattle.mt_bind.specs.Sources.{tree_of, path_to}
+
+module _ (w : WorldView) (top : ℕ) where
+  abbrev pub off_top : ℕ → Bool
+  off_top k = not (k == top)
+
+  -- the mounts that so many steps from j pass below the top
+  abbrev pub way : ℕ → ℕ → List ℕ
+  way n j = take_while off_top (chain (parent w.forest) n j)
+
+  -- the way from the top is empty, and from any other mount it begins with the mount
+  stop : (j : ℕ) (rest : List ℕ) → j ≡ top → take_while off_top (j ∷ rest) ≡ []
+  stop j rest e = rw (take_while-cons off_top j rest, eq-eqb j top e) refl
+
+  pub more : (j : ℕ) (rest : List ℕ) → j ≢ top → take_while off_top (j ∷ rest) ≡ j ∷ take_while off_top rest
+  more j rest e = rw (take_while-cons off_top j rest, ne_eqb j top e) refl
+
+  pub way_here : (n j : ℕ) → j ≡ top → way n j ≡ []
+  way_here zero j e = stop j [] e
+  way_here (suc n) j e = stop j (option_map_or (λ y. chain (parent w.forest) n y) (parent w.forest j) []) e
+
+  pub way_step : (n j q : ℕ) → j ≢ top → parent w.forest j ≡ Some q → way (suc n) j ≡ j ∷ way n q
+  way_step n j q ne up = rw up (more j _ ne)
+
+module _ (w : WorldView) (h : IsWellFormed w) where
+  pub below_self : (i : ℕ) → is_below w.forest i i ≡ true
+  below_self i = below_here w.forest i (length w.forest) i refl
+
+  -- any other mount is below where its parent is
+  pub below_parent : (i x y : ℕ) → x ≢ i → parent w.forest x ≡ Some y → is_below w.forest i x ≡ is_below w.forest i y
+  below_parent i x y ne e = rw (chain-step (parent w.forest) (length w.forest) x y e (h.forest.no_cycle x), ne_eqb i x (λ s. ne (sym s))) refl
+
+  -- and has one
+  pub below_has_parent : (i x : ℕ) (m : Mount) → x ≢ i → mount_at w.forest x ≡ Some m → is_below w.forest i x ≡ true → (p : Place) × (m.place ≡ Some p)
+  below_has_parent i x m ne row b = elim m.place as (λ o. m.place ≡ o → (p : Place) × (o ≡ Some p)) [
+    | Some p ↦ λ e. (p, refl)
+    | None ↦ λ e. absurd (let none = below_stop w.forest i (length w.forest) x (ap above_of row ∙ ap (option_map (λ (p : Place). p.mount)) e) in grind (arith, nat_tests))
+  ] refl
+
+  -- what is below i is no higher
+  pub below_rank : (i x : ℕ) → is_below w.forest i x ≡ true → rank_of w.forest i ≤ rank_of w.forest x
+  below_rank i x b =
+      let m = in_any (λ k. eqb i k) (chain (parent w.forest) (length w.forest) x) b in
+      rw (eqb-true i m.0 m.2) (chain_low (parent w.forest) (rank_of w.forest) (rank_falls w.forest h.forest.no_cycle) (length w.forest) x m.0 m.1)
+
+  -- a parent of i is not below it
+  pub above_not_below : (i : ℕ) (m : Mount) (p : Place) → mount_at w.forest i ≡ Some m → m.place ≡ Some p → is_below w.forest i p.mount ≡ true → ⊥
+  above_not_below i m p row at b = absurd (omega (arith, rank_falls w.forest h.forest.no_cycle i p.mount (parent-is w.forest i m p row at), below_rank i p.mount b))
+
+  -- so is it along all mounts above
+  pub path_top : (i : ℕ) → path_to w i i ≡ []
+  path_top i = way_here w i (length w.forest) i refl
+
+  pub path_step : (i x y : ℕ) → x ≢ i → parent w.forest x ≡ Some y → path_to w i x ≡ x ∷ path_to w i y
+  path_step i x y ne e = ap (take_while (off_top w i)) (chain-step (parent w.forest) (length w.forest) x y e (h.forest.no_cycle x)) ∙ more w i x _ ne
 
 -- mounts that are one tree below a top
 module _ (w : WorldView) (h : IsWellFormed w) (ms : List Mount) (top : Mount) (rising : rises id_of ms ≡ true) (there : mount_at ms top.id ≡ Some top)
@@ -79,7 +139,7 @@ module _ (w : WorldView) (h : IsWellFormed w) (i : ℕ) (q : Mount) (row : mount
       (λ p at. none_found _ (λ x e. let r = from_row p.mount x e in above_not_below w h i q p row at r.1))
 
   top_is : mount_or_unknown w i ≡ q
-  top_is = ap (λ o. unwrap_or o unknown) row
+  top_is = rw row refl
 
   shows_same : (j : ℕ) (m : Mount) → mount_at ms j ≡ Some m → (directory w.skel m.root).fs ≡ fs_at w j
   shows_same j m e = ap (λ r. (directory w.skel r).fs) (sym (root_is w j m (from_row j m e).0))

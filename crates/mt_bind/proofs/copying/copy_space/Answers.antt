@@ -1,16 +1,16 @@
-use Rattle.std.proofs.Common.{◌≡◌, ◌||◌, ◌++◌, ℕ, List, map, length, Ok, sym, ap, ◌∙◌, subst}
+use Rattle.std.proofs.Common.{◌≡◌, true, arith, ◌||◌, ◌++◌, ℕ, List, map, length, sym, ap, ◌∙◌, subst, Ok}
+use Rattle.std.proofs.lemmas.Bool.{or_parts}
 use Rattle.mt_skel.specs.Keyed.{rises}
 use Rattle.mt_mounts.specs.declared.mount.Mount.{Mount}
-use Rattle.mt_mounts.specs.Forest.{id_of, root_mount}
+use Rattle.mt_mounts.specs.Forest.{id_of}
 use Rattle.mt_peers.specs.Peers.{peers_of}
-use Rattle.mt_propagate.specs.World.{WorldView, world_view}
+use Rattle.mt_propagate.specs.World.{WorldView, world_view, is_space}
 use Rattle.mt_propagate.specs.Limits.{too_many_mounts, too_many_spaces}
 use Rattle.mt_propagate.specs.WellFormed.{IsForest, IsWellFormed}
-use Rattle.mt_bind.specs.Spaces.{with_copy}
+use Rattle.mt_bind.specs.Spaces.{originals, with_copy}
 use Rattle.mt_bind.specs.Copying.{copy_of, peer_of}
 use Rattle.mt_bind.proofs.NamespaceCopyLaws.{order}
-use Rattle.mt_bind.proofs.CopyLaws.{copy-kept}
-use Rattle.mt_bind.proofs.CopyingLaws.{AreCopies, added-forest, added-rise, copy-made, space-there, copy-done}
+use Rattle.mt_bind.proofs.CopyLaws.{copy-kept, AreCopies, added-forest, added-rise, copy-made}
 use Rattle.mt_bind.proofs.copying.copy_space.Goals.{After-deref-4}
 use Rattle.mt_bind.proofs.copying.copy_space.Goals as goal
 
@@ -55,11 +55,11 @@ is_copy c =
 pub returns-clause-done : goal.returns-clause-done
 returns-clause-done c =
     let w = world_view c.args.world.now in
-    let there = space-there (root_mount w.forest c.args.space) c.root.result c.is_none.result c.root.ensures c.is_none.ensures c.if-is_none.false in
+    let there : is_space w c.args.space ≡ true = grind (arith, c.root.ensures, c.is_none.ensures, c.if-is_none.false) in
     let more = c.len.ensures ∙ c.in_ok-originals.originals.ok.0 ∙ ap length c.in_ok-originals.ensures.mounts in
-    let few = ap (λ (k : ℕ). too_many_spaces w || too_many_mounts w k) (sym more) ∙ sym c.too_many.ensures ∙ c.if-too_many.false in
     let number = c.add_space.ensures.space ∙ ap (λ (v : WorldView). v.next_space) c.in_ok-make_room.ensures.world in
-    copy-done w c.args.space c.args.less there few ∙ (λ i. Ok (sym (is_copy c) i, sym number i))
+    let few = or_parts (too_many_spaces w) (too_many_mounts w (length (originals w c.args.space))) (ap (λ (k : ℕ). too_many_spaces w || too_many_mounts w k) (sym more) ∙ sym c.too_many.ensures ∙ c.if-too_many.false) in
+    rw (there, few.0, few.1) (λ i. Ok (sym (is_copy c) i, sym number i))
 
 pub returns-clause-kept : goal.returns-clause-kept
 returns-clause-kept c = subst IsWellFormed (sym (is_copy c)) (copy-kept (world_view c.args.world.now) c.requires.well_formed c.args.space c.args.less)

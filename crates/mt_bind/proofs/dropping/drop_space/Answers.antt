@@ -1,16 +1,13 @@
-use Rattle.std.proofs.Common.{◌≡◌, true, Ok, ap, ◌∙◌, subst}
-use Rattle.mt_mounts.specs.Forest.{root_mount}
-use Rattle.mt_propagate.specs.World.{WorldView, world_view, is_space}
+use Rattle.std.proofs.Common.{◌≡◌, true, refl, arith, ◌∙◌, subst}
+use Rattle.mt_propagate.specs.World.{world_view, is_space}
 use Rattle.mt_propagate.specs.WellFormed.{IsWellFormed}
 use Rattle.mt_bind.specs.Spaces.{without_space}
-use Rattle.mt_bind.proofs.CopyingLaws.{space-there}
-use Rattle.mt_bind.proofs.DroppingLaws.{is_dropped, drop-done}
-use Rattle.mt_bind.proofs.GoneLaws.{end-kept}
+use Rattle.mt_bind.proofs.GoneLaws.{is_dropped, end-kept}
 use Rattle.mt_bind.proofs.dropping.drop_space.Goals as goal
 
 -- the namespace is there
 there : (c : goal.After-drop-ids-2) → is_space (world_view c.args.world.now) c.args.space ≡ true
-there c = space-there (root_mount c.args.world.now.forest.mounts c.args.space) c.root.result c.is_none.result c.root.ensures c.is_none.ensures c.if-is_none.false
+there c = grind (arith, c.root.ensures, c.is_none.ensures, c.if-is_none.false)
 
 -- the world after the call
 dropped : (c : goal.After-drop-ids-2) → without_space (world_view c.args.world.now) c.args.space ≡ world_view c.drop_mounts.new.world
@@ -19,7 +16,7 @@ dropped c =
     (c.deref.ensures.value ∙ c.in_ok-ids.ensures.ids) c.drop_mounts.ensures.world
 
 pub returns-clause-done : goal.returns-clause-done
-returns-clause-done c = drop-done (world_view c.args.world.now) c.args.space (there c) ∙ ap (λ (v : WorldView). Ok v) (dropped c)
+returns-clause-done c = rw (there c, dropped c) refl
 
 pub returns-clause-kept : goal.returns-clause-kept
 returns-clause-kept c = subst IsWellFormed (dropped c) (end-kept (world_view c.args.world.now) c.requires.well_formed c.args.space)

@@ -3,8 +3,7 @@ use Rattle.mt_skel.specs.Chain.{ends}
 use Rattle.mt_mounts.specs.Forest.{parent}
 use Rattle.mt_mounts.proofs.Walks.{fuel_step}
 use Rattle.mt_propagate.specs.World.{world_view}
-use Rattle.mt_bind.proofs.AlongLaws.{taken, ends_up, taken_before, taken_here, taken_unbindable, taken_step}
-use Rattle.mt_bind.proofs.JudgedLaws.{judged_is}
+use Rattle.mt_bind.proofs.MemberLaws.{taken, ends_up, taken_before, taken_here, taken_unbindable, taken_step}
 use Rattle.mt_bind.proofs.members.is_bound_along.Goals as goal
 
 pub parents-preserved : goal.parents-preserved
@@ -33,6 +32,6 @@ returns-then-here-from-2 c = c.leads_within-then-here-from-2.ensures ∙ sym (ta
 pub returns-in-Some : goal.returns-in-Some
 returns-in-Some c =
     let w = world_view c.args.world.now in
-    judged_is w c.args.from c.args.judged.now _ c.in-Some.bound c.requires.judged (sym c.get.ensures.value ∙ sym c.copied.ensures ∙ c.in-Some.is)
+    c.requires.judged _ _ (sym c.get.ensures.value ∙ sym c.copied.ensures ∙ c.in-Some.is)
     ∙ sym (taken_before w c.args.from _ _ _ c.if-here-from.false (omega arith) c.parents.invariant.ends)
     ∙ c.parents.invariant.answers

@@ -3,7 +3,7 @@ use Rattle.mt_skel.specs.Chain.{ends}
 use Rattle.mt_mounts.specs.Forest.{parent}
 use Rattle.mt_propagate.specs.World.{world_view}
 use Rattle.mt_bind.specs.Sources.{is_bound_along}
-use Rattle.mt_bind.proofs.AlongLaws.{taken}
+use Rattle.mt_bind.proofs.MemberLaws.{taken}
 use Rattle.mt_bind.proofs.members.is_bound_along.Given as goal
 
 -- the steps that are left answer for the start

@@ -2,8 +2,7 @@ use Rattle.std.proofs.Common.{◌++◌, ◌∙◌, sym, ap}
 use Rattle.std.specs.List.{filter}
 use Rattle.mt_propagate.specs.World.{world_view}
 use Rattle.mt_bind.specs.Sources.{is_bound_along}
-use Rattle.mt_bind.proofs.JudgedLaws.{judged_none}
-use Rattle.mt_bind.proofs.MemberLaws.{bound_below, passes, fails}
+use Rattle.mt_bind.proofs.MemberLaws.{judged_none, bound_below, passes, fails}
 use Rattle.mt_bind.proofs.members.members_within.Goals.{then-bound+in_ok-push, else-bound}
 use Rattle.mt_bind.proofs.members.members_within.Goals as goal
 

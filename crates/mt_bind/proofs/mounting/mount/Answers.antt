@@ -1,48 +1,47 @@
-use Rattle.std.proofs.Common.{Ok, sym, ap, ◌∙◌, arith}
+use Rattle.std.proofs.Common.{◌≡◌, Ok, sym, ◌∙◌, arith, ap}
 use Rattle.std.proofs.lemmas.Result.{err_from_is_err_and}
 use Rattle.mt_skel.proofs.SkeletonLaws.{directory_within}
 use Rattle.mt_propagate.specs.World.{world_view}
-use Rattle.mt_propagate.specs.Plans.{source_of, source_in, place_in}
+use Rattle.mt_propagate.specs.Plans.{fresh_source, source_of}
 use Rattle.mt_propagate.specs.declared.copies.Sources.TheVariants.{Fresh}
 use Rattle.mt_bind.specs.Sources.{fresh}
 use Rattle.mt_bind.specs.Mounting.{copied_with_id, mounted}
 use Rattle.mt_bind.proofs.SourceLaws.{fresh_is_source}
 use Rattle.mt_bind.proofs.MountLaws.{destination}
-use Rattle.mt_bind.proofs.LateLaws.{IsLate, IsReady, ready_source, ready_destination, ready_same, planned_done, planned_refused, mounted_late}
-use Rattle.mt_bind.proofs.mounting.mount.Goals.{After-root-root, After-ready}
+use Rattle.mt_bind.proofs.AcceptedLaws.{IsLate, mounted_late, planned_done, planned_refused}
+use Rattle.mt_bind.proofs.mounting.mount.Goals.{After-root-root}
 use Rattle.mt_bind.proofs.mounting.mount.Goals as goal
 
 -- it is left to see whether the copies are too many
-late : (c : After-root-root) → (let w = world_view c.args.world.now in let src = fresh w c.in-Some.fs in IsLate (mounted w c.args.space c.args.fs.now c.args.path.now) w src c.in_ok-place.place (copied_with_id w src c.in_ok-place.place))
+late : (c : After-root-root) → (let w = world_view c.args.world.now in let src = fresh w c.in-Some.fs in
+    IsLate (mounted w c.args.space c.args.fs.now c.args.path.now) w src c.in_ok-place.place (copied_with_id w src c.in_ok-place.place))
 late c = mounted_late _ _ _ _ _ _ (sym c.fs.ensures.number ∙ c.in-Some.is) (sym c.walk.ensures ∙ c.in_ok-place.was) (sym c.is_root_place.ensures ∙ c.if-is_root_place.false)
+
+-- what is planned is a fresh mount
+given : (c : After-root-root) → source_of (world_view c.args.world.now) (Fresh c.root-root.result) ≡ fresh (world_view c.args.world.now) c.in-Some.fs
+given c = ap fresh_source c.root-root.ensures.root
 
 pub returns-in_err-plan-clause-refused : goal.returns-in_err-plan-clause-refused
 returns-in_err-plan-clause-refused c =
     let a = (goal.at.returns-in_err-plan-clause-refused c).After-root-root in
     let f = err_from_is_err_and c.from_residual-in_err-plan.result c.from_residual-in_err-plan.ensures.1 in
-    rw (f.1, f.2) (λ ne. planned_refused (late a) _ (ap (λ root. source_of (world_view c.args.world.now) (Fresh root)) c.root-root.ensures.root) _ (c.in_err-plan.ensures.refused ne))
-
--- the plan is of a fresh mount and the place, in a world that is still the same
-planned : (c : After-ready) → IsReady (world_view c.args.world.now) (fresh (world_view c.args.world.now) c.in-Some.fs) c.in_ok-place.place (world_view c.ready.new.world) (source_in c.in_ok-plan.plan) (place_in c.in_ok-plan.plan)
-planned c = record {
-  still = c.ready.ensures.world;
-  source = c.in_ok-plan.ensures.given.0 ∙ ap (λ root. source_of (world_view c.args.world.now) (Fresh root)) c.root-root.ensures.root;
-  place = c.in_ok-plan.ensures.given.1;
-}
+    rw (f.1, f.2) (λ ne. planned_refused (late a) _ (given a) _ (c.in_err-plan.ensures.refused ne))
 
 pub carry_out-requires-clause-source : goal.carry_out-requires-clause-source
 carry_out-requires-clause-source c =
     let w = world_view c.args.world.now in
     let low = directory_within w.skel c.root-root.result c.root-root.ensures.there in
-    ready_source (planned (goal.at.carry_out-requires-clause-source c).After-ready) (fresh_is_source w c.requires.well_formed c.in-Some.fs c.in_ok-place.place (omega (arith, low)))
+    rw (c.ready.ensures.world, c.in_ok-plan.ensures.given.0, c.in_ok-plan.ensures.given.1, c.root-root.ensures.root)
+    (fresh_is_source w c.requires.well_formed c.in-Some.fs c.in_ok-place.place (omega (arith, low)))
 
 pub carry_out-requires-clause-destination : goal.carry_out-requires-clause-destination
 carry_out-requires-clause-destination c =
-    ready_destination (planned (goal.at.carry_out-requires-clause-destination c).After-ready)
+    rw (c.ready.ensures.world, c.in_ok-plan.ensures.given.1)
     (destination _ _ _ _ c.requires.well_formed (sym c.walk.ensures ∙ c.in_ok-place.was) (sym c.is_root_place.ensures ∙ c.if-is_root_place.false))
 
 pub returns-clause-done : goal.returns-clause-done
 returns-clause-done c =
-    let a = goal.at.returns-clause-done c in
-    planned_done (late a.After-root-root) _ (ap (λ root. source_of (world_view c.args.world.now) (Fresh root)) c.root-root.ensures.root) c.in_ok-plan.ensures.few
-    ∙ ready_same (planned a.After-ready) (λ v src q. Ok (copied_with_id v src q)) ∙ (λ i. Ok (sym c.carry_out.ensures.world i, sym c.carry_out.ensures.top i))
+    let a = (goal.at.returns-clause-done c).After-root-root in
+    planned_done (late a) _ (given a) c.in_ok-plan.ensures.few
+    ∙ (λ i. Ok (copied_with_id (sym c.ready.ensures.world i) (sym (c.in_ok-plan.ensures.given.0 ∙ given a) i) (sym c.in_ok-plan.ensures.given.1 i)))
+    ∙ (λ i. Ok (sym c.carry_out.ensures.world i, sym c.carry_out.ensures.top i))
