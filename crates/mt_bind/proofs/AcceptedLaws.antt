@@ -216,12 +216,15 @@ bound_late w n recursive from to s p begun ended off bindable = record {
       ∙ passed (state_of w s.mount).unbindable Unbindable _ _ bindable;
 }
 
+-- what is left to see of a move once both places are judged
+abbrev pub past_places : WorldView → Place → Place → Result WorldView Fault
+past_places w s p = outcome (refuse_if (is_below w.forest s.mount p.mount) IntoItself ∷ refuse_if (is_some (group_of w p.mount) && any_unbindable w s.mount) UnbindableInside
+    ∷ too_many w (tree_of w s.mount) p ∷ []) (copied w (tree_of w s.mount) p)
+
 -- a move of a mount that is no root mount from a parent that is not shared, where both paths end
 pub moved_judged : (w : WorldView) (n : ℕ) (from to : List (List ℕ)) (s p : Place) → walk w.skel w.forest n from ≡ Ok s → is_mount_root w s ≡ true → is_root_mount w s ≡ false
     → walk w.skel w.forest n to ≡ Ok p → is_root_place w p ≡ false → stands_on_shared w s.mount ≡ false
-    → moved w n from to ≡ outcome (refuse_if (is_below w.forest s.mount p.mount) IntoItself
-    ∷ refuse_if (is_some (group_of w p.mount) && any_unbindable w s.mount) UnbindableInside
-    ∷ too_many w (tree_of w s.mount) p ∷ []) (copied w (tree_of w s.mount) p)
+    → moved w n from to ≡ past_places w s p
 moved_judged w n from to s p begun named placed ended off unshared =
     (λ i. outcome (moved_refusals w (begun i) (ended i)) (moved_effect w (begun i) (ended i)))
     ∙ passed (not (is_mount_root w s)) NotMountRoot _ _ (ap not named)
@@ -230,8 +233,6 @@ moved_judged w n from to s p begun named placed ended off unshared =
     ∙ passed (stands_on_shared w s.mount) SharedParent _ _ unshared
 
 -- once neither the place is below it nor an unbindable mount would come below a shared one
-pub moved_late : (w : WorldView) (n : ℕ) (from to : List (List ℕ)) (s p : Place) → moved w n from to ≡ outcome (refuse_if (is_below w.forest s.mount p.mount) IntoItself
-    ∷ refuse_if (is_some (group_of w p.mount) && any_unbindable w s.mount) UnbindableInside
-    ∷ too_many w (tree_of w s.mount) p ∷ []) (copied w (tree_of w s.mount) p)
+pub moved_late : (w : WorldView) (n : ℕ) (from to : List (List ℕ)) (s p : Place) → moved w n from to ≡ past_places w s p
     → is_below w.forest s.mount p.mount ≡ false → is_some (group_of w p.mount) && any_unbindable w s.mount ≡ false → IsLate (moved w n from to) w (tree_of w s.mount) p (copied w (tree_of w s.mount) p)
 moved_late w n from to s p judged outside bindable = record { decided = judged ∙ passed (is_below w.forest s.mount p.mount) IntoItself _ _ outside ∙ passed _ UnbindableInside _ _ bindable }

@@ -36,8 +36,7 @@ state-from w h new i t e =
 
 -- what a copy's state has of its original's
 pub copy-group : (less : Bool) (s : State) (g : ℕ) → (state_of_copy less s).group ≡ Some g → (s.group ≡ Some g) × ((state_of_copy less s).master ≡ s.master)
-copy-group true s g e = absurd (let v : None ≡ Some g = e in cc)
-copy-group false s g e = (e, refl)
+copy-group less s g e = (grind (arith, e), grind (arith, e))
 
 pub copy-master : (less : Bool) (s : State) (g : ℕ) → (state_of_copy less s).master ≡ Some g → (s.master ≡ Some g) ⊎ (s.group ≡ Some g)
 copy-master false s g e = inl e

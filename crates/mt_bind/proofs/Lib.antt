@@ -8,6 +8,5 @@ pub mod MountLaws
 pub mod TreeOfLaws
 pub mod SizeLaws
 pub mod MemberLaws
-pub mod ExchangeLaws
 pub mod PivotingLaws
 pub mod InsideLaws

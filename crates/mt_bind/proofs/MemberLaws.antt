@@ -57,25 +57,19 @@ module _ (w : WorldView) (p : Place) where
       part-filtered (is_bound_along w p) (is_below w.forest p.mount) (map id_of w.forest) (λ i b. and_first _ _ (and_first _ _ b))
       ∙ sym (keys-filter id_of (is_bound_along w p) w.forest)
 
-  abbrev with_mounts : List Mount → Source
-  with_mounts ms = record { mounts = ms; top = top_at w p; moved = false }
-
   abbrev cut : Mount → Mount
   cut m = cond (m.id == p.mount) (top_at w p) m
 
-  member : (m : Mount) → mount_at w.forest m.id ≡ Some m → member_of w p.mount p.dir m.id ≡ cut m
-  member m e = ap (λ (o : Option Mount). cond (m.id == p.mount) (top_at w p) (unwrap_or o unknown)) e
-
   members : (ms : List Mount) → ((m : Mount) → In m ms → mount_at w.forest m.id ≡ Some m) → map (member_of w p.mount p.dir) (map id_of ms) ≡ map cut ms
   members [] known = refl
-  members (m ∷ ms) known = λ i. member m (known m (inl refl)) i ∷ members ms (λ x there. known x (inr there)) i
+  members (m ∷ ms) known = λ i. cond (m.id == p.mount) (top_at w p) (unwrap_or (known m (inl refl) i) unknown) ∷ members ms (λ x there. known x (inr there)) i
 
   -- a tree within a directory, by its mounts' IDs
   pub tree_is : rises id_of w.forest ≡ true → (ids : List ℕ) → ids ≡ map id_of (filter (λ m. is_bound_along w p m.id) w.forest) → copied_source w p.mount p.dir ids false ≡ tree_within w p
   tree_is rising ids e =
       let all = filter (λ m. is_bound_along w p m.id) w.forest in
       ap (λ (l : List ℕ). copied_source w p.mount p.dir l false) e
-      ∙ ap with_mounts (members all (λ m there. in_row id_of w.forest m rising (in_filter (λ m. is_bound_along w p m.id) m w.forest there).0))
+      ∙ ap (λ (ms : List Mount). let s : Source = record { mounts = ms; top = top_at w p; moved = false } in s) (members all (λ m there. in_row id_of w.forest m rising (in_filter (λ m. is_bound_along w p m.id) m w.forest there).0))
 
   -- one mount alone, by its ID
   pub alone_is : (ids : List ℕ) → ids ≡ p.mount ∷ [] → copied_source w p.mount p.dir ids false ≡ alone w p

@@ -1,20 +1,24 @@
--- The mounts of each namespace stay one tree where another mount of one becomes its root mount; so a pivot that is accepted keeps
--- worlds well-formed and namespaces contained, and changes nothing outside its namespace.
-use Rattle.std.proofs.Common.{◌≡◌, ℕ, true, false, List, Option, Some, None, Ok, Err, refl, sym, ap, ◌∙◌, subst, ◌≢◌, ◌⊎◌, suc, ◌+◌, ◌<◌, cond, ◌||◌, eq-eqb, map, length, inl, inr, arith, IsTrue, eqb-true}
+-- The mounts of each namespace stay one tree where another mount of one becomes its root mount, also where that is done mount by
+-- mount; so a pivot that is accepted keeps worlds well-formed and namespaces contained, and changes nothing outside its namespace.
+use Rattle.std.proofs.Common.{◌≡◌, ℕ, true, false, List, Option, Some, None, Ok, Err, refl, sym, ap, ◌∙◌, subst, ◌≢◌, ◌⊎◌, suc, ◌+◌, ◌<◌, cond, ◌||◌, eq-eqb, map, length, inl, inr, arith, IsTrue, eqb-true, not, ◌==◌}
 use Rattle.std.specs.Prelude.{unwrap_or, is_none}
 use Rattle.std.specs.Option.{option_map, option_map_or, ok_or}
 use Rattle.std.proofs.lemmas.Bool.{true≢false, cases_eq, ne_eqb}
+use Rattle.std.proofs.lemmas.Bool.Decides.{nat_tests}
 use Rattle.mt_skel.specs.declared.fault.Fault.TheVariants.{NoNamespace, NoEntry}
 use Rattle.mt_skel.specs.Outcome.{refusal_of}
-use Rattle.mt_skel.proofs.KeyedLaws.{row_at-key, rises-map, row_at-map}
+use Rattle.mt_skel.proofs.KeyedLaws.{row_at-key, rises-map, row_at-map, row_at-filter, rises-filter, rises-put, same_rows}
 use Rattle.mt_skel.specs.Skeleton.{holds, directory}
+use Rattle.mt_skel.specs.Keyed.{rises, put}
 use Rattle.mt_mounts.specs.declared.mount.Mount.{Mount}
 use Rattle.mt_mounts.specs.declared.mount.Place.{Place}
-use Rattle.mt_mounts.specs.Forest.{id_of, mount_at, is_below, is_root, root_mount, root_place, is_at, parent, in_space}
+use Rattle.mt_mounts.specs.Forest.{id_of, mount_at, is_below, is_root, root_mount, root_place, is_at, parent, in_space, on}
 use Rattle.mt_mounts.specs.Walk.{walk, walk_from}
 use Rattle.mt_mounts.proofs.ForestLaws.{find_row, find_passes, find_none}
 use Rattle.mt_mounts.proofs.Walks.{below_stop}
 use Rattle.mt_mounts.proofs.CycleLaws.{above_of, no_cycle, rank_of}
+use Rattle.mt_mounts.specs.ForestView.{with_place, without_id}
+use Rattle.mt_mounts.proofs.SlotLaws.{none_found, row_put_here, row_put_later, row_kept}
 use Rattle.mt_peers.proofs.MemberLaws.{some-is}
 use Rattle.mt_propagate.specs.World.{WorldView, space_of, root_dir}
 use Rattle.mt_propagate.specs.Named.{unknown, is_root_place, is_root_mount}
@@ -26,6 +30,7 @@ use Rattle.mt_propagate.proofs.CopyForestLaws.{stands_here}
 use Rattle.mt_propagate.proofs.CopyRowLaws.{space_is}
 use Rattle.mt_propagate.proofs.RowLaws.{mapped-row, row-mapped, all-each, found-each, keys-map, part-mapped}
 use Rattle.mt_propagate.proofs.TreeLaws.{parent-from, parent-is, rank-fell}
+use Rattle.mt_propagate.proofs.MovedForestLaws.{lifted, from_lifted}
 use Rattle.mt_bind.specs.Pivoting.{root_id, pivoted, with_pivot, MayPivot, pivoted_mount}
 use Rattle.mt_bind.proofs.AcceptedLaws.{path_end, pivot_accepted}
 use Rattle.mt_bind.proofs.MountLaws.{destination}
@@ -154,6 +159,70 @@ module _ (w : WorldView) (h : IsWellFormed w) (i j : ℕ) (p : Place) (a : MayPi
     no_cycle = no_cycle (map pivot ms) rank rank_falls;
   }
 
+  -- a pivot done mount by mount: the new root mount goes, the old one is moved to the place, and the new one comes back without one
+  abbrev gone : List Mount
+  gone = without_id i ms
+
+  abbrev moved : List Mount
+  moved = with_place j p gone
+
+  gone_rises : rises id_of gone ≡ true
+  gone_rises = rises-filter id_of (λ (m : Mount). not (m.id == i)) ms h.forest.rising
+
+  moved_rises : rises id_of moved ≡ true
+  moved_rises = rises-map id_of (lifted j p) (λ x. refl) gone ∙ gone_rises
+
+  -- the place is free still
+  pub free_still : on gone p ≡ None
+  free_still = none_found _ (λ x e.
+      let row = row_kept ms i x.id x h.forest.rising (find_row (is_at p) gone x gone_rises e) in
+      true≢false (sym (find_passes (is_at p) gone x e) ∙ find_none (is_at p) ms a.destination.free x.id x row.0))
+
+  -- what is there then was there, and is not the new root mount
+  remained : (k : ℕ) (b : Mount) → mount_at moved k ≡ Some b → (x : Mount) × (mount_at ms k ≡ Some x) × (x.id ≢ i) × (b ≡ lifted j p x)
+  remained k b e =
+      let x = from_lifted gone j p k b e in
+      let row = row_kept ms i k x.0 h.forest.rising x.1 in
+      (x.0, row.0, row.1, x.2)
+
+  module _ (m : Mount) (there : mount_at ms i ≡ Some m) where
+    abbrev back : Mount
+    back = record m { place = None }
+
+    own : m.id ≡ i
+    own = row_at-key id_of i ms m there
+
+    -- its number is free then
+    pub absent_then : mount_at moved m.id ≡ None
+    absent_then = none_found _ (λ b e. let x = remained m.id b e in absurd (x.2 (row_at-key id_of m.id ms x.0 x.1 ∙ own)))
+
+    -- no other mount of the namespace has no place then
+    pub rootless_then : root_mount moved m.space ≡ None
+    rootless_then = none_found _ (λ b e.
+        let n = m.space in
+        let row = find_row (is_root n) moved b moved_rises e in
+        let passes = find_passes (is_root n) moved b e in
+        let x = remained b.id b row in
+        let place : cond (x.0.id == j) (Some p) x.0.place ≡ None = ap (λ (m : Mount). m.place) (sym x.3) ∙ root_unplaced n b passes in
+        let none : x.0.place ≡ None = grind (arith, nat_tests) in
+        let off : x.0.id ≢ j = λ old. (let t = eq-eqb x.0.id j old in grind arith) in
+        let space : x.0.space ≡ a.root.space =
+        sym (ap (λ (m : Mount). m.space) x.3) ∙ (root_here n b passes).1 ∙ ap (λ (m : Mount). m.space) (some-is m a.top (sym there ∙ a.top_there)) ∙ sym a.same_space in
+        off (row_at-key id_of b.id ms x.0 x.1 ∙ h.forest.one_root b.id j x.0 a.root x.1 a.root_there none a.unplaced space))
+
+    same-row : (k : ℕ) → mount_at (put id_of back moved) k ≡ mount_at (map (pivoted_mount i j p) ms) k
+    same-row k = elim (cases_eq k i) [
+      | inl same ↦ rw (same, row_put_here moved back i own, row_at-map id_of (pivoted_mount i j p) (λ x. refl) i ms, there, eq-eqb m.id i own) refl
+      | inr off ↦
+          rw (row_put_later moved back k (λ s. off (sym s ∙ own)), row_at-map id_of (lifted j p) (λ x. refl) k gone, row_at-filter id_of (λ (m : Mount). not (m.id == i)) k ms h.forest.rising, row_at-map id_of (pivoted_mount i j p) (λ x. refl) k ms)
+          (grind (arith, nat_tests, row_at-key id_of k ms))
+    ]
+
+    pub exchanged : put id_of back moved ≡ map (pivoted_mount i j p) ms
+    exchanged =
+        same_rows id_of (put id_of back moved) (map (pivoted_mount i j p) ms) (rises-put id_of back moved moved_rises)
+        (rises-map id_of (pivoted_mount i j p) (λ x. refl) ms ∙ h.forest.rising) same-row
+
 module _ (w : WorldView) (i j : ℕ) (p : Place) where
   abbrev pivoting : Mount → Mount
   pivoting = pivoted_mount i j p
@@ -221,11 +290,10 @@ module _ (w : WorldView) (i j : ℕ) (p : Place) where
 
 -- a walk begins at the root mount of its namespace
 begins : (w : WorldView) (n : ℕ) (path : List (List ℕ)) (s : Place) → walk w.skel w.forest n path ≡ Ok s → (r : Mount) × (root_mount w.forest n ≡ Some r)
-begins w n path s e = go (root_mount w.forest n) refl e
-  where
-    go : (o : Option Mount) → root_mount w.forest n ≡ o → option_map_or (λ m. ok_or (walk_from w.skel w.forest (root_place m) path) NoEntry) o (Err NoNamespace) ≡ Ok s → (r : Mount) × (root_mount w.forest n ≡ Some r)
-    go None at f = absurd (cc)
-    go (Some r) at f = (r, at)
+begins w n path s e = elim (root_mount w.forest n) as (λ o. root_mount w.forest n ≡ o → option_map_or (λ m. ok_or (walk_from w.skel w.forest (root_place m) path) NoEntry) o (Err NoNamespace) ≡ Ok s → (r : Mount) × (root_mount w.forest n ≡ Some r)) [
+  | None ↦ λ at f. absurd (cc)
+  | Some r ↦ λ at f. (r, at)
+] refl e
 
 -- what is exchanged where no refusal holds
 pub may_pivot : (w : WorldView) (n : ℕ) (new old : List (List ℕ)) (s p : Place) → IsWellFormed w → walk w.skel w.forest n new ≡ Ok s → is_root_mount w s ≡ false → walk w.skel w.forest n old ≡ Ok p → is_root_place w p ≡ false

@@ -154,12 +154,9 @@ module _ (w : WorldView) (h : IsWellFormed w) (p : Place) (q : Mount) (row : mou
   abbrev leads : ℕ → Bool
   leads i = leads_within w p.dir (last_or None (path_to w p.mount i))
 
-  -- what a mount has that is bound along, and what has it
+  -- what a mount has that is bound along
   bound_parts : (i : ℕ) → is_bound_along w p i ≡ true → (is_below w.forest p.mount i ≡ true) × (list_all (is_bindable w) (path_to w p.mount i) ≡ true) × (leads i ≡ true)
   bound_parts i b = let c = and_parts _ _ b in let d = and_parts _ _ c.0 in (d.0, d.1, c.1)
-
-  bound_from : (i : ℕ) → is_below w.forest p.mount i ≡ true → list_all (is_bindable w) (path_to w p.mount i) ≡ true → leads i ≡ true → is_bound_along w p i ≡ true
-  bound_from i below free within = and_from _ _ (and_from _ _ below free) within
 
   bound_top : is_bound_along w p p.mount ≡ true
   bound_top = rw (below_self w h p.mount, path_top w h p.mount) refl
@@ -179,7 +176,7 @@ module _ (w : WorldView) (h : IsWellFormed w) (p : Place) (q : Mount) (row : mou
       let first = sym (ap (λ (ks : List ℕ). leads_within w p.dir (last_or None ks)) path) ∙ c.2 in (
         r.0,
         r.1,
-        bound_from r.0.mount (sym (below_parent w h p.mount i r.0.mount ne up) ∙ c.0) free.1 (last_in i (path_to w p.mount r.0.mount) first),
+        and_from _ _ (and_from _ _ (sym (below_parent w h p.mount i r.0.mount ne up) ∙ c.0) free.1) (last_in i (path_to w p.mount r.0.mount) first),
         λ same.
             let none : path_to w p.mount r.0.mount ≡ [] = ap (path_to w p.mount) same ∙ path_top w h p.mount in
             let here : stands_within w p.dir i ≡ true = sym (ap (λ (ks : List ℕ). leads_within w p.dir (last_or None (i ∷ ks))) none) ∙ first in

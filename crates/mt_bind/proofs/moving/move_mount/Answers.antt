@@ -1,8 +1,6 @@
-use Rattle.std.proofs.Common.{◌≡◌, ◌&&◌, true, [], ◌∷◌, sym, ap, ◌∙◌, Ok}
+use Rattle.std.proofs.Common.{◌≡◌, ◌&&◌, true, sym, ap, ◌∙◌, Ok}
 use Rattle.std.specs.Prelude.{is_some}
 use Rattle.std.proofs.lemmas.Result.{err_from_is_err_and}
-use Rattle.mt_skel.specs.declared.fault.Fault.TheVariants.{IntoItself, UnbindableInside}
-use Rattle.mt_skel.specs.Outcome.{outcome, refuse_if}
 use Rattle.mt_skel.proofs.OutcomeLaws.{passed, stopped}
 use Rattle.mt_mounts.specs.Forest.{is_below}
 use Rattle.mt_propagate.specs.World.{world_view, group_of}
@@ -10,10 +8,10 @@ use Rattle.mt_propagate.specs.Copied.{copied}
 use Rattle.mt_propagate.specs.Sound.{IsDestination}
 use Rattle.mt_propagate.specs.Plans.{copied_source}
 use Rattle.mt_bind.specs.Sources.{tree_of}
-use Rattle.mt_bind.specs.Mounting.{too_many, any_unbindable, moved}
+use Rattle.mt_bind.specs.Mounting.{any_unbindable, moved}
 use Rattle.mt_bind.proofs.MountLaws.{destination, moving_source}
 use Rattle.mt_bind.proofs.MemberLaws.{below_among, unbindable_ids, moved_tree}
-use Rattle.mt_bind.proofs.AcceptedLaws.{moved_judged, moved_late, planned_done, planned_refused}
+use Rattle.mt_bind.proofs.AcceptedLaws.{past_places, moved_judged, moved_late, planned_done, planned_refused}
 use Rattle.mt_bind.proofs.moving.move_mount.Goals.{After-is_among, After-is_unbindable_inside}
 use Rattle.mt_bind.proofs.moving.move_mount.Goals as goal
 
@@ -22,10 +20,7 @@ goes : (c : After-is_among) → IsDestination (world_view c.args.world.now) c.in
 goes c = destination _ _ _ _ c.requires.well_formed (sym c.walk-2.ensures ∙ c.in_ok-place.was) (sym c.is_root_place.ensures ∙ c.if-is_root_place.false)
 
 -- both places are judged: it is left to see what is below the mount, and whether the copies are too many
-judged : (c : After-is_among) → (let w = world_view c.args.world.now in let s = c.in_ok-source.source in let p = c.in_ok-place.place in
-    moved w c.args.space c.args.from.now c.args.to.now ≡ outcome (refuse_if (is_below w.forest s.mount p.mount) IntoItself
-    ∷ refuse_if (is_some (group_of w p.mount) && any_unbindable w s.mount) UnbindableInside
-    ∷ too_many w (tree_of w s.mount) p ∷ []) (copied w (tree_of w s.mount) p))
+judged : (c : After-is_among) → moved (world_view c.args.world.now) c.args.space c.args.from.now c.args.to.now ≡ past_places (world_view c.args.world.now) c.in_ok-source.source c.in_ok-place.place
 judged c =
     moved_judged _ _ _ _ _ _ (sym c.walk.ensures ∙ c.in_ok-source.was) (sym c.is_mount_root.ensures ∙ c.if-not-is_mount_root.false) (sym c.is_root_mount.ensures ∙ c.if-is_root_mount.false) (sym c.walk-2.ensures ∙ c.in_ok-place.was)
     (sym c.is_root_place.ensures ∙ c.if-is_root_place.false) (sym c.has_shared_parent.ensures ∙ c.if-has_shared_parent.false)

@@ -6,8 +6,7 @@ use Rattle.mt_mounts.specs.ForestView.{with_place}
 use Rattle.mt_propagate.specs.World.{world_view}
 use Rattle.mt_propagate.specs.WellFormed.{IsWellFormed}
 use Rattle.mt_bind.specs.Pivoting.{with_pivot}
-use Rattle.mt_bind.proofs.PivotingLaws.{pivot_kept}
-use Rattle.mt_bind.proofs.ExchangeLaws.{free_still, absent_then, rootless_then, exchanged}
+use Rattle.mt_bind.proofs.PivotingLaws.{pivot_kept, free_still, absent_then, rootless_then, exchanged}
 use Rattle.mt_bind.proofs.pivoting.exchange.Goals as goal
 
 pub reattach-requires-clause-free : goal.reattach-requires-clause-free
