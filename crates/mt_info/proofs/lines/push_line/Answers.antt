@@ -1,4 +1,5 @@
 use Rattle.std.proofs.Common.{◌++◌, ◌∙◌, ap, sym}
+use Rattle.mt_skel.specs.Front.{IsFront}
 use Rattle.mt_skel.specs.Skeleton.{filesystem}
 use Rattle.mt_peers.specs.declared.state.State.{State}
 use Rattle.mt_propagate.specs.declared.world.World.{World}
@@ -10,6 +11,7 @@ use Rattle.mt_info.specs.Building.{behind, numbers_text, end_text}
 use Rattle.mt_info.specs.Table.{row_of, mount_point}
 use Rattle.mt_info.proofs.FrontLaws.{front_through, front_of_four}
 use Rattle.mt_info.proofs.PrintLaws.{line_appended}
+use Rattle.mt_info.proofs.lines.push_line.Goals.{After-push_options}
 use Rattle.mt_info.proofs.lines.push_line.Goals as goal
 
 pub returns-clause-line : goal.returns-clause-line
@@ -42,15 +44,11 @@ returns-clause-line c =
 pub returns-clause-kept : goal.returns-clause-kept
 returns-clause-kept c = (_, returns-clause-line c)
 
-pub returns-in_err-push_tags-clause-kept : goal.returns-in_err-push_tags-clause-kept
-returns-in_err-push_tags-clause-kept c =
+-- what stood in the text stays in front of what is appended up to the options
+begun : (c : After-push_options) → IsFront c.args.text.now.items c.push_options.new.text.items
+begun c =
     front_through _ _ _ (front_of_four _ _ _ _ _ c.push_numbers.ensures.kept c.push_dir.ensures.kept (_, c.in_ok-push.ensures.items) c.push_point.ensures.kept)
-    (front_through _ _ _ (_, c.in_ok-push-2.ensures.items) (front_through _ _ _ c.push_options.ensures.kept c.push_tags.ensures.kept))
-
-pub returns-in_err-push_end-clause-kept : goal.returns-in_err-push_end-clause-kept
-returns-in_err-push_end-clause-kept c =
-    front_through _ _ _ (front_of_four _ _ _ _ _ c.push_numbers.ensures.kept c.push_dir.ensures.kept (_, c.in_ok-push.ensures.items) c.push_point.ensures.kept)
-    (front_of_four _ _ _ _ _ (_, c.in_ok-push-2.ensures.items) c.push_options.ensures.kept c.push_tags.ensures.kept c.push_end.ensures.kept)
+    (front_through _ _ _ (_, c.in_ok-push-2.ensures.items) c.push_options.ensures.kept)
 
 pub returns-in_err-push_dir-clause-kept : goal.returns-in_err-push_dir-clause-kept
 returns-in_err-push_dir-clause-kept c = front_through _ _ _ c.push_numbers.ensures.kept c.push_dir.ensures.kept
@@ -59,5 +57,11 @@ pub returns-in_err-push_point-clause-kept : goal.returns-in_err-push_point-claus
 returns-in_err-push_point-clause-kept c = front_of_four _ _ _ _ _ c.push_numbers.ensures.kept c.push_dir.ensures.kept (_, c.in_ok-push.ensures.items) c.push_point.ensures.kept
 
 pub returns-in_err-push_options-clause-kept : goal.returns-in_err-push_options-clause-kept
-returns-in_err-push_options-clause-kept c =
-    front_through _ _ _ (front_of_four _ _ _ _ _ c.push_numbers.ensures.kept c.push_dir.ensures.kept (_, c.in_ok-push.ensures.items) c.push_point.ensures.kept) (front_through _ _ _ (_, c.in_ok-push-2.ensures.items) c.push_options.ensures.kept)
+returns-in_err-push_options-clause-kept c = begun (goal.at.returns-in_err-push_options-clause-kept c).After-push_options
+
+pub returns-in_err-push_tags-clause-kept : goal.returns-in_err-push_tags-clause-kept
+returns-in_err-push_tags-clause-kept c = front_through _ _ _ (begun (goal.at.returns-in_err-push_tags-clause-kept c).After-push_options) c.push_tags.ensures.kept
+
+pub returns-in_err-push_end-clause-kept : goal.returns-in_err-push_end-clause-kept
+returns-in_err-push_end-clause-kept c =
+    front_through _ _ _ (begun (goal.at.returns-in_err-push_end-clause-kept c).After-push_options) (front_through _ _ _ c.push_tags.ensures.kept c.push_end.ensures.kept)

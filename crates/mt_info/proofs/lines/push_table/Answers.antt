@@ -1,18 +1,13 @@
-use Rattle.std.proofs.Common.{◌∙◌, ap, sym, arith}
+use Rattle.std.proofs.Common.{◌∙◌, arith}
 use Rattle.std.proofs.lemmas.Grind.{common_steps}
-use Rattle.mt_skel.specs.Keyed.{rises}
-use Rattle.mt_mounts.specs.Forest.{id_of, mounts_in}
-use Rattle.mt_propagate.specs.declared.world.World.{World}
 use Rattle.mt_info.proofs.FrontLaws.{front_through}
 use Rattle.mt_info.proofs.TableLaws.{found_in}
 use Rattle.mt_info.proofs.lines.push_table.Goals as goal
 
 pub push_line-requires-clause-there : goal.push_line-requires-clause-there
 push_line-requires-clause-there c =
-    let same = c.mounts.invariant.same in
-    let rising = ap (λ (w : World). rises id_of w.forest.mounts) same ∙ c.requires.well_formed.forest.rising in
-    let among = c.deref-mount-items.ensures.value ∙ c.in_ok-mounts.ensures.mounts ∙ ap (λ (w : World). mounts_in w.forest.mounts c.args.space) (sym same) in
-    found_in c.mounts.seen.forest.mounts c.deref-mount-items.result.now c.args.space c.mounts.mount-index _ rising among c.mounts-test.true
+    found_in c.args.world.now c.mounts.seen c.deref-mount-items.result.now c.args.space c.mounts.mount-index _ c.mounts.invariant.same c.requires.well_formed
+    (c.deref-mount-items.ensures.value ∙ c.in_ok-mounts.ensures.mounts) c.mounts-test.true
 
 pub mounts-preserved : goal.mounts-preserved
 mounts-preserved c = record {

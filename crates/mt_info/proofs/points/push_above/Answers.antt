@@ -1,7 +1,7 @@
 use Rattle.std.proofs.Common.{◌++◌, ◌∷◌, [], sym, ap, ◌∙◌, unwrap_or, option_copied}
 use Rattle.std.specs.List.{flat_map}
 use Rattle.mt_skel.specs.Escapes.{escaped}
-use Rattle.mt_info.proofs.PrintLaws.{text_escaped}
+use Rattle.mt_info.proofs.WordLaws.{text_escaped}
 use Rattle.mt_info.proofs.points.push_above.Goals as goal
 
 pub returns-clause-text : goal.returns-clause-text

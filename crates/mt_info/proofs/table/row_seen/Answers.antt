@@ -1,6 +1,6 @@
-use Rattle.std.proofs.Common.{◌≡◌, ◌∙◌, Some, sym, ap}
-use Rattle.mt_skel.proofs.KeyedLaws.{row_at-key}
-use Rattle.mt_mounts.specs.Forest.{id_of, mount_at}
+use Rattle.std.proofs.Common.{◌∙◌, sym, ap}
+use Rattle.mt_mounts.specs.Forest.{mount_at}
+use Rattle.mt_mounts.proofs.KeptLaws.{mount_fits}
 use Rattle.mt_propagate.specs.declared.world.World.{World}
 use Rattle.mt_info.proofs.table.row_seen.Goals as goal
 
@@ -8,6 +8,5 @@ use Rattle.mt_info.proofs.table.row_seen.Goals as goal
 pub row_of_mount-requires-clause-there : goal.row_of_mount-requires-clause-there
 row_of_mount-requires-clause-there c =
     let ms = c.args.seen.now.forest.mounts in
-    let here = ap (λ (w : World). mount_at w.forest.mounts c.args.id) c.world.ensures in
-    let found : mount_at ms c.args.id ≡ Some c.unwrap-mount.result = sym here ∙ sym c.get.ensures ∙ c.unwrap-mount.ensures in
-    ap (λ k. mount_at ms k) (row_at-key id_of c.args.id ms c.unwrap-mount.result found) ∙ found
+    let found = sym (ap (λ (w : World). mount_at w.forest.mounts c.args.id) c.world.ensures) ∙ sym c.get.ensures ∙ c.unwrap-mount.ensures in
+    ap (mount_at ms) (mount_fits ms c.args.id c.unwrap-mount.result found) ∙ found
