@@ -4,9 +4,9 @@ use Rattle.std.specs.List.{filter, list_all}
 use Rattle.std.specs.Option.{option_map, option_map_or, option_and_then}
 use Rattle.std.proofs.lemmas.Bool.{cases_eq, ne_eqb}
 use Rattle.std.proofs.lemmas.Bool.Decides.{nat_tests}
-use Rattle.mt_skel.specs.Keyed.{row_at, put, rises, without}
-use Rattle.mt_skel.proofs.KeyedLaws.{row_at-put, row_at-key, row_at-below, row_at-map, rises-put, rises-map, same_rows}
-use Rattle.mt_lists.specs.Lists.{ListRow, listed_id, listed_number, ids, without_row, with_number}
+use Rattle.mt_skel.specs.Keyed.{row_at, put, rises}
+use Rattle.mt_skel.proofs.KeyedLaws.{row_at-put, row_at-below, rises-put, same_rows}
+use Rattle.mt_lists.specs.Lists.{ListRow, listed_id, listed_number, ids, with_number}
 use Rattle.mt_lists.specs.Numbered.{rows_by, has_number}
 use Rattle.mt_lists.proofs.RowLaws.{row-with, rises-with}
 
@@ -93,31 +93,6 @@ module _ {X : Type 0} (key : X → ℕ) (number : X → Option ℕ) where
   put-by x xs h = changed-by xs (put key x xs) (key x) (number x) h (rises-put key x xs h)
       (ap (option_and_then number) (row_at-put key (key x) x xs ∙ ap (λ b. cond b (Some x) (row_at key (key x) xs)) (eq-eqb (key x) (key x) refl)))
       (λ q ne. ap (option_and_then number) (row_at-put key q x xs ∙ ap (λ b. cond b (Some x) (row_at key q xs)) (ne_eqb q (key x) ne)))
-
-  -- items are taken out of it by their key
-  pub without-by : (i : ℕ) (p : X → Bool) (xs : List X) → ((x : X) → p x ≡ eqb i (key x)) → rows_by key number (without p xs) ≡ without_row i (rows_by key number xs)
-  without-by i p [] s = refl
-  without-by i p (x ∷ xs) s = ap (λ b. rows_by key number (cond (not b) (x ∷ without p xs) (without p xs))) (s x) ∙ go (number x) refl (eqb i (key x)) refl (without-by i p xs s)
-    where
-      go : (o : Option ℕ) → number x ≡ o → (b : Bool) → eqb i (key x) ≡ b → rows_by key number (without p xs) ≡ without_row i (rows_by key number xs)
-          → rows_by key number (cond (not b) (x ∷ without p xs) (without p xs)) ≡ without_row i (option_map_or (λ m. record { id = key x; number = m } ∷ rows_by key number xs) o (rows_by key number xs))
-      go None e true is ih = ih
-      go None e false is ih = ap (λ z. option_map_or (λ m. record { id = key x; number = m } ∷ rows_by key number (without p xs)) z (rows_by key number (without p xs))) e ∙ ih
-      go (Some m) e true is ih = ih ∙ sym (ap (λ b. cond (not b) (record { id = key x; number = m } ∷ without_row i (rows_by key number xs)) (without_row i (rows_by key number xs))) is)
-      go (Some m) e false is ih =
-          ap (λ z. option_map_or (λ m. record { id = key x; number = m } ∷ rows_by key number (without p xs)) z (rows_by key number (without p xs))) e ∙ ap (λ z. record { id = key x; number = m } ∷ z) ih
-          ∙ sym (ap (λ b. cond (not b) (record { id = key x; number = m } ∷ without_row i (rows_by key number xs)) (without_row i (rows_by key number xs))) is)
-
-  -- a change of one item by its key
-  pub change-by : (i : ℕ) (f : X → X) (x : X) (xs : List X) → ((y : X) → key (f y) ≡ key y) → ((y : X) → key y ≢ i → number (f y) ≡ number y) → rises key xs ≡ true → row_at key i xs ≡ Some x
-      → rows_by key number (map f xs) ≡ with_number i (number (f x)) (rows_by key number xs)
-  change-by i f x xs keeps others h there = changed-by xs (map f xs) i (number (f x)) h (rises-map key f keeps xs ∙ h)
-      (ap (option_and_then number) (row_at-map key f keeps i xs ∙ ap (option_map f) there))
-      (λ q ne. ap (option_and_then number) (row_at-map key f keeps q xs) ∙ go q ne (row_at key q xs) (row_at-key key q xs))
-    where
-      go : (q : ℕ) → q ≢ i → (o : Option X) → ((y : X) → o ≡ Some y → key y ≡ q) → option_and_then number (option_map f o) ≡ option_and_then number o
-      go q ne None k = refl
-      go q ne (Some y) k = others y (λ e. ne (sym (k y refl) ∙ e))
 
   -- a change that leaves each item its number
   pub same-by : (f : X → X) (xs : List X) → ((y : X) → key (f y) ≡ key y) → ((y : X) → number (f y) ≡ number y) → rows_by key number (map f xs) ≡ rows_by key number xs
