@@ -1,5 +1,5 @@
 -- A list of the mounts whose rows may differ holds every mount whose row differs.
-use Rattle.std.proofs.Common.{◌≡◌, ℕ, Bool, true, false, cond, eqb, List, Option, Some, None, refl, sym, ap, ◌∙◌}
+use Rattle.std.proofs.Common.{◌≡◌, ℕ, true, false, cond, eqb, List, Option, Some, None, refl, sym, ap, ◌∙◌}
 use Rattle.std.specs.Option.{option_map}
 use Rattle.std.proofs.lemmas.Bool.{or_parts}
 use Rattle.mt_skel.specs.Keyed.{row_at, among}
@@ -25,11 +25,7 @@ module _ (w v : WorldView) (ids : List ℕ) (h : IsWellFormed w) (g : IsWellForm
       let key : m.id ≡ i = row_at-key id_of i w.forest m e in
       let later : mount_at v.forest i ≡ Some m = sym both ∙ e in
       let kept = row_kept w v h g same ids t m (ap (mount_at w.forest) key ∙ e) (ap (mount_at v.forest) key ∙ later) (ap (may_differ w v ids) key ∙ stays) in
-      row_by_space w n i h m e ∙ in_or_out (eqb m.space n) kept ∙ sym (row_by_space v n i g m later)
-    where
-      in_or_out : (b : Bool) → row_of w m ≡ row_of v m → option_map (row_of w) (cond b (Some m) None) ≡ option_map (row_of v) (cond b (Some m) None)
-      in_or_out true kept = ap (λ r. Some r) kept
-      in_or_out false kept = refl
+      row_by_space w n i h m e ∙ elim (eqb m.space n) as (λ b. option_map (row_of w) (cond b (Some m) None) ≡ option_map (row_of v) (cond b (Some m) None)) [ true ↦ ap Some kept | false ↦ refl ] ∙ sym (row_by_space v n i g m later)
 
 pub rows_held : (w v : WorldView) (ids rows : List ℕ) → IsWellFormed w → IsWellFormed v → w.skel ≡ v.skel → IsTouched w v ids
     → ((i : ℕ) → among rows i ≡ may_differ w v ids i) → (n : ℕ) → HoldsChanged (table_of w n) (table_of v n) rows

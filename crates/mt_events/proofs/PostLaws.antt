@@ -115,28 +115,28 @@ ended_lines [] = refl
 ended_lines (l ∷ []) = append-nil (l ++ 10 ∷ [])
 ended_lines (l ∷ m ∷ ls) = append_assoc l (10 ∷ []) (flat_map ended (m ∷ ls)) ∙ ap (λ t. l ++ 10 ∷ t) (ended_lines (m ∷ ls))
 
-gone-lack : (gone : List ℕ) → AllByRecursion (λ i. i < 2 ^ 64) gone → list_all (lacks 10) (map gone_line gone) ≡ true
-gone-lack [] h = refl
-gone-lack (i ∷ gone) h =
-    and-true (lacks 10 (gone_line i)) _ (all-append (λ b. not (b == 10)) minus (decimal i) refl (decimal-lacks-end i h.0)) (gone-lack gone h.1)
-
-rows-lack : (rows : List Row) → AllByRecursion IsRow rows → list_all (lacks 10) (map row_line rows) ≡ true
-rows-lack [] h = refl
-rows-lack (r ∷ rows) h =
-    and-true (lacks 10 (row_line r)) _ (all-append (λ b. not (b == 10)) equals (line r) refl (line-lacks-end r h.0)) (rows-lack rows h.1)
+-- lines of one kind that lack it
+each-lacks : {X : Type 0} {Valid : X → Type 0} (f : X → List ℕ) → ((x : X) → Valid x → lacks 10 (f x) ≡ true) → (xs : List X) → AllByRecursion Valid xs → list_all (lacks 10) (map f xs) ≡ true
+each-lacks f each [] h = refl
+each-lacks f each (x ∷ xs) h = and-true (lacks 10 (f x)) _ (each x h.0) (each-lacks f each xs h.1)
 
 event-lacks-end : (space number count : ℕ) → space < 2 ^ 64 → number < 2 ^ 64 → count < 2 ^ 64 → lacks 10 (join_with_byte 32 (event_words space number count)) ≡ true
 event-lacks-end space number count a b d =
     joined-lacks-end 32 (event_words space number count) refl
     (and-true (lacks 10 (decimal space)) _ (decimal-lacks-end space a) (and-true (lacks 10 (decimal number)) _ (decimal-lacks-end number b) (and-true (lacks 10 (decimal count)) true (decimal-lacks-end count d) refl)))
 
-pub post_split : (text : List ℕ) (p : PostView) → IsPost p → text ≡ post_text p → pieces 10 text ≡ event_line p ∷ (map gone_line p.gone ++ (map row_line p.rows ++ [] ∷ []))
+-- what stands behind those of the mounts that left
+abbrev tail_lines : PostView → List (List ℕ)
+tail_lines p = map row_line p.rows ++ [] ∷ []
+
+pub post_split : (text : List ℕ) (p : PostView) → IsPost p → text ≡ post_text p → pieces 10 text ≡ event_line p ∷ (map gone_line p.gone ++ tail_lines p)
 unfolding post_text
 post_split text p h e =
+    let gone = each-lacks gone_line (λ i low. all-append (λ b. not (b == 10)) minus (decimal i) refl (decimal-lacks-end i low)) p.gone h.gone in
+    let rows = each-lacks row_line (λ r valid. all-append (λ b. not (b == 10)) equals (line r) refl (line-lacks-end r valid)) p.rows h.rows in
     let lacking : list_all (lacks 10) (post_lines p ++ [] ∷ []) ≡ true =
     all-append (lacks 10) (post_lines p) ([] ∷ [])
-    (and-true (lacks 10 (event_line p)) _ (event-lacks-end p.space p.number (length p.gone + length p.rows) h.space h.number h.counted)
-    (all-append (lacks 10) (map gone_line p.gone) (map row_line p.rows) (gone-lack p.gone h.gone) (rows-lack p.rows h.rows))) refl in
+    (and-true (lacks 10 (event_line p)) _ (event-lacks-end p.space p.number (length p.gone + length p.rows) h.space h.number h.counted) (all-append (lacks 10) (map gone_line p.gone) (map row_line p.rows) gone rows)) refl in
     ap (pieces 10) (e ∙ ended_lines (post_lines p))
     ∙ pieces_joined 10 (event_line p) ((map gone_line p.gone ++ map row_line p.rows) ++ [] ∷ []) lacking
     ∙ ap (λ ls. event_line p ∷ ls) (append_assoc (map gone_line p.gone) (map row_line p.rows) ([] ∷ []))
@@ -145,23 +145,11 @@ pub post_is : (text : List ℕ) (p : PostView) (count : ℕ) (whole past_event p
     → past_event ≡ map gone_line p.gone ++ past_gone → past_gone ≡ map row_line p.rows ++ past_rows → past_rows ≡ [] ∷ [] → text ≡ post_text p
 unfolding post_text
 post_is text p count whole past_event past_gone past_rows is e n g r end =
-    let lines : pieces 10 text ≡ event_line p ∷ (map gone_line p.gone ++ (map row_line p.rows ++ [] ∷ [])) =
+    let lines : pieces 10 text ≡ event_line p ∷ (map gone_line p.gone ++ tail_lines p) =
     sym is ∙ e ∙ (λ k. join_with_byte 32 (event_words p.space p.number (n k)) ∷ (g ∙ ap (λ w. map gone_line p.gone ++ w) (r ∙ ap (λ w. map row_line p.rows ++ w) end)) k) in
     sym (joined_pieces 10 text)
     ∙ ap (join_with_byte 10) (lines ∙ ap (λ ls. event_line p ∷ ls) (sym (append_assoc (map gone_line p.gone) (map row_line p.rows) ([] ∷ []))))
     ∙ sym (ended_lines (post_lines p))
-
--- what is left behind each part
-module _ (text : List ℕ) (p : PostView) (h : IsPost p) (e : text ≡ post_text p) (whole past_event past_gone past_rows : List (List ℕ)) (is : whole ≡ pieces 10 text) (first : List ℕ) (begun : whole ≡ first ∷ past_event) where
-  pub behind_event : past_event ≡ map gone_line p.gone ++ (map row_line p.rows ++ [] ∷ [])
-  behind_event =
-      let both : first ∷ past_event ≡ event_line p ∷ (map gone_line p.gone ++ (map row_line p.rows ++ [] ∷ [])) = sym begun ∙ is ∙ post_split text p h e in cc
-
-  pub behind_gone : (gone : List ℕ) → past_event ≡ map gone_line gone ++ past_gone → begins minus past_gone ≡ false → past_gone ≡ map row_line p.rows ++ [] ∷ []
-  behind_gone gone g none = same_behind gone_line minus gone_begins gone p.gone past_gone (map row_line p.rows ++ [] ∷ []) (sym g ∙ behind_event) none (rows_end p.rows)
-
-  pub behind_rows : (gone : List ℕ) (rows : List Row) → past_event ≡ map gone_line gone ++ past_gone → begins minus past_gone ≡ false → past_gone ≡ map row_line rows ++ past_rows → begins equals past_rows ≡ false → past_rows ≡ [] ∷ []
-  behind_rows gone rows g none r after = same_behind row_line equals row_begins rows p.rows past_rows ([] ∷ []) (sym r ∙ behind_gone gone g none) after refl
 
 -- a line tells what it is of
 gone_tells : (i j : ℕ) → i < 2 ^ 64 → j < 2 ^ 64 → gone_line i ≡ gone_line j → i ≡ j
@@ -189,44 +177,50 @@ event_tells space number count space_2 number_2 count_2 a b d a_2 b_2 d_2 e =
     sym (pieces_joined 32 _ _ (event_lacks space number count a b d)) ∙ ap (pieces 32) e ∙ pieces_joined 32 _ _ (event_lacks space_2 number_2 count_2 a_2 b_2 d_2) in
     (decimal_injective space space_2 a a_2 (ap second same), decimal_injective number number_2 b b_2 (ap third same), decimal_injective count count_2 d d_2 (ap fourth same))
 
+-- what is left behind each part, and what is read in front of it
+module _ {text : List ℕ} (p : PostView) (h : IsPost p) (e : text ≡ post_text p) {whole past : List (List ℕ)} {first : List ℕ} (is : whole ≡ pieces 10 text) (begun : whole ≡ first ∷ past) where
+  both : first ∷ past ≡ event_line p ∷ (map gone_line p.gone ++ tail_lines p)
+  both = sym begun ∙ is ∙ post_split text p h e
+
+  pub behind_event : past ≡ map gone_line p.gone ++ tail_lines p
+  behind_event = let lines = both in cc
+
+  module _ {past_gone : List (List ℕ)} (gone : List ℕ) (g : past ≡ map gone_line gone ++ past_gone) (none : begins minus past_gone ≡ false) where
+    pub behind_gone : past_gone ≡ tail_lines p
+    behind_gone = same_behind gone_line minus gone_begins gone p.gone past_gone (tail_lines p) (sym g ∙ behind_event) none (rows_end p.rows)
+
+    module _ (past_rows : List (List ℕ)) (rows : List Row) (r : past_gone ≡ map row_line rows ++ past_rows) (after : begins equals past_rows ≡ false) where
+      pub behind_rows : past_rows ≡ [] ∷ []
+      behind_rows = same_behind row_line equals row_begins rows p.rows past_rows ([] ∷ []) (sym r ∙ behind_gone) after refl
+
+      parts_tell : (space number count : ℕ) → first ≡ join_with_byte 32 (event_words space number count) → space < 2 ^ 64 → number < 2 ^ 64 → count < 2 ^ 64 → AllByRecursion (λ i. i < 2 ^ 64) gone → AllByRecursion IsRow rows
+          → (space ≡ p.space) × (number ≡ p.number) × (count ≡ length p.gone + length p.rows) × (gone ≡ p.gone) × (rows ≡ p.rows)
+      parts_tell space number count f a b d small valid =
+          let lines = both in
+          let told = event_tells space number count p.space p.number (length p.gone + length p.rows) a b d h.space h.number h.counted (cc) in (
+            told.0,
+            told.1,
+            told.2,
+            same_lines gone_line minus gone_begins {Valid = λ i. i < 2 ^ 64} gone_tells gone p.gone past_gone (tail_lines p) (sym g ∙ behind_event) none (rows_end p.rows) small h.gone,
+            same_lines row_line equals row_begins {Valid = IsRow} row_tells rows p.rows past_rows ([] ∷ []) (sym r ∙ behind_gone) after refl valid h.rows,
+          )
+
 -- what is read of the text of a post can be one
-pub can_be_post : (text : List ℕ) (p : PostView) → IsPost p → text ≡ post_text p → (space number count : ℕ) → space < 2 ^ 64 → number < 2 ^ 64 → count < 2 ^ 64
+pub can_be_post : {text : List ℕ} (p : PostView) → IsPost p → text ≡ post_text p → (space number count : ℕ) → space < 2 ^ 64 → number < 2 ^ 64 → count < 2 ^ 64
     → (gone : List ℕ) (rows : List Row) → AllByRecursion (λ i. i < 2 ^ 64) gone → AllByRecursion IsRow rows
-    → (whole past_event past_gone past_rows : List (List ℕ)) → whole ≡ pieces 10 text → whole ≡ join_with_byte 32 (event_words space number count) ∷ past_event
+    → {whole past_event past_gone : List (List ℕ)} (past_rows : List (List ℕ)) → whole ≡ pieces 10 text → whole ≡ join_with_byte 32 (event_words space number count) ∷ past_event
     → past_event ≡ map gone_line gone ++ past_gone → begins minus past_gone ≡ false → past_gone ≡ map row_line rows ++ past_rows → begins equals past_rows ≡ false
     → (1 ≤ number) × IsTrue (rises itself gone && rises row_id rows && is_change gone rows && (count == length gone + length rows))
-can_be_post text p h e space number count a b d gone rows small valid whole past_event past_gone past_rows is begun g none r after =
-    let tail : List (List ℕ) = map row_line p.rows ++ [] ∷ [] in
-    let behind = behind_event text p h e whole past_event past_gone past_rows is (join_with_byte 32 (event_words space number count)) begun in
-    let both : join_with_byte 32 (event_words space number count) ∷ past_event ≡ event_line p ∷ (map gone_line p.gone ++ tail) = sym begun ∙ is ∙ post_split text p h e in
-    let first : join_with_byte 32 (event_words space number count) ≡ event_line p = cc in
-    let told = event_tells space number count p.space p.number (length p.gone + length p.rows) a b d h.space h.number h.counted first in
-    let n : count ≡ length p.gone + length p.rows = told.2 in
-    let left : gone ≡ p.gone = same_lines gone_line minus gone_begins {Valid = λ i. i < 2 ^ 64} gone_tells gone p.gone past_gone tail (sym g ∙ behind) none (rows_end p.rows) small h.gone in
-    let rest : past_gone ≡ tail = behind_gone text p h e whole past_event past_gone past_rows is (join_with_byte 32 (event_words space number count)) begun gone g none in
-    let news : rows ≡ p.rows = same_lines row_line equals row_begins {Valid = IsRow} row_tells rows p.rows past_rows ([] ∷ []) (sym r ∙ rest) after refl valid h.rows in
+can_be_post p h e space number count a b d gone rows small valid past_rows is begun g none r after =
+    let t = parts_tell p h e is begun gone g none past_rows rows r after space number count refl a b d small valid in
     let counted : (length p.gone + length p.rows == length p.gone + length p.rows) ≡ true = grind (arith, nat_tests) in
-    let all : (rises itself p.gone && rises row_id p.rows && is_change p.gone p.rows && (length p.gone + length p.rows == length p.gone + length p.rows)) ≡ true =
-    and-true _ _ (and-true _ _ (and-true _ _ h.rising_gone h.rising_rows) h.change) counted in (
-      subst (λ k. 1 ≤ k) (sym told.1) h.first,
-      (λ k. rises itself (left k) && rises row_id (news k) && is_change (left k) (news k) && (n k == length (left k) + length (news k))) ∙ all,
-    )
+    rw (t.1, t.2, t.3, t.4) (h.first, and-true _ _ (and-true _ _ (and-true _ _ h.rising_gone h.rising_rows) h.change) counted)
 
 -- a text tells of which post it is
-abbrev tail_lines : PostView → List (List ℕ)
-tail_lines p = map row_line p.rows ++ [] ∷ []
-
 pub text_tells : (p q : PostView) → IsPost p → IsPost q → post_text p ≡ post_text q → p ≡ q
 text_tells p q h k e =
-    let both : event_line p ∷ (map gone_line p.gone ++ tail_lines p) ≡ event_line q ∷ (map gone_line q.gone ++ tail_lines q) =
-    sym (post_split (post_text p) p h refl) ∙ post_split (post_text p) q k e in
-    let first : event_line p ≡ event_line q = cc in
-    let later : map gone_line p.gone ++ tail_lines p ≡ map gone_line q.gone ++ tail_lines q = cc in
-    let event = event_tells p.space p.number (length p.gone + length p.rows) q.space q.number (length q.gone + length q.rows) h.space h.number h.counted k.space k.number k.counted first in
-    let gone : p.gone ≡ q.gone = same_lines gone_line minus gone_begins {Valid = λ i. i < 2 ^ 64} gone_tells p.gone q.gone (tail_lines p) (tail_lines q) later (rows_end p.rows) (rows_end q.rows) h.gone k.gone in
-    let rest : tail_lines p ≡ tail_lines q = same_behind gone_line minus gone_begins p.gone q.gone (tail_lines p) (tail_lines q) later (rows_end p.rows) (rows_end q.rows) in
-    let rows : p.rows ≡ q.rows = same_lines row_line equals row_begins {Valid = IsRow} row_tells p.rows q.rows ([] ∷ []) ([] ∷ []) rest refl refl h.rows k.rows in
-    λ i. record { space = event.0 i; number = event.1 i; gone = gone i; rows = rows i }
+    let t = parts_tell q k e refl (post_split (post_text p) p h refl) p.gone refl (rows_end p.rows) ([] ∷ []) p.rows refl refl p.space p.number (length p.gone + length p.rows) refl h.space h.number h.counted h.gone h.rows in
+    λ i. record { space = t.0 i; number = t.1 i; gone = t.3 i; rows = t.4 i }
 
 pub texts_tell : (ps qs : List PostView) → AllByRecursion IsPost ps → AllByRecursion IsPost qs → map post_text ps ≡ map post_text qs → ps ≡ qs
 texts_tell [] [] h k e = refl
@@ -243,10 +237,8 @@ pub post_valid : (space number count : ℕ) (gone : List ℕ) (rows : List Row) 
     → (space < 2 ^ 64) × (number < 2 ^ 64) × (count < 2 ^ 64) → AllByRecursion (λ i. i < 2 ^ 64) gone → AllByRecursion IsRow rows
     → (IsTrue (rises itself p.gone) × IsTrue (rises row_id p.rows)) × ((1 ≤ p.number) × IsTrue (is_change p.gone p.rows)) → IsPost p
 post_valid space number count gone rows p is counted small ids valid told =
-    subst IsPost (sym is) (made (subst (λ q. (IsTrue (rises itself q.gone) × IsTrue (rises row_id q.rows)) × ((1 ≤ q.number) × IsTrue (is_change q.gone q.rows))) is told))
-  where
-    made : (IsTrue (rises itself gone) × IsTrue (rises row_id rows)) × ((1 ≤ number) × IsTrue (is_change gone rows)) → IsPost (post_with space number gone rows)
-    made whole = record {
+    let whole = subst (λ q. (IsTrue (rises itself q.gone) × IsTrue (rises row_id q.rows)) × ((1 ≤ q.number) × IsTrue (is_change q.gone q.rows))) is told in
+    subst IsPost (sym is) (record {
       space = small.0;
       number = small.1;
       first = whole.1.0;
@@ -256,4 +248,4 @@ post_valid space number count gone rows p is counted small ids valid told =
       rising_gone = whole.0.0;
       rising_rows = whole.0.1;
       change = whole.1.1;
-    }
+    })

@@ -1,5 +1,5 @@
 -- The difference of two tables, from the mounts that a change touched.
-use Rattle.std.proofs.Common.{◌≡◌, ℕ, ◌+◌, ◌<◌, Bool, true, false, cond, not, ◌&&◌, ◌||◌, eqb, ltb, List, [], ◌∷◌, ◌++◌, map, drop, length, get_or, append_assoc, Option, Some, None, refl, sym, ap, ◌∙◌, arith}
+use Rattle.std.proofs.Common.{◌≡◌, ℕ, ◌+◌, ◌<◌, Bool, true, false, cond, not, ◌&&◌, eqb, ltb, List, [], ◌∷◌, ◌++◌, map, drop, length, get_or, append_assoc, Option, Some, None, refl, sym, ap, ◌∙◌, arith}
 use Rattle.std.specs.List.{filter, list_all}
 use Rattle.std.specs.Option.{option_map, option_map_or, option_and_then, option_to_list, unwrap_or, is_some}
 use Rattle.std.proofs.lemmas.Bool.Decides.{nat_tests}
@@ -20,6 +20,7 @@ use Rattle.mt_info.proofs.SameRowLaws.{row_eq-refl}
 use Rattle.mt_events.specs.Posts.{itself}
 use Rattle.mt_events.specs.Difference.{is_row_of, HoldsChanged}
 use Rattle.mt_events.specs.ByMount.{collected, new_row}
+use Rattle.mt_events.proofs.DifferenceLaws.{gone_is, row_seen}
 
 -- what is found through a map that keeps the keys
 module _ {X Y : Type 0} (key : X → ℕ) (code : Y → ℕ) (f : X → Y) (keeps : (x : X) → code (f x) ≡ key x) where
@@ -30,18 +31,16 @@ module _ {X Y : Type 0} (key : X → ℕ) (code : Y → ℕ) (f : X → Y) (keep
 
 -- the row of a mount in a table
 module _ (w : WorldView) (n i : ℕ) (h : IsWellFormed w) where
-  row_in_table : row_at row_id i (table_of w n) ≡ option_map (row_of w) (passing (in_space n) (mount_at w.forest i))
-  row_in_table =
+  row_by : (o : Option Mount) → mount_at w.forest i ≡ o → row_at row_id i (table_of w n) ≡ option_map (row_of w) (passing (in_space n) o)
+  row_by o e =
       row_at-mapped id_of row_id (row_of w) (λ m. refl) i (filter (in_space n) w.forest) ∙ ap (option_map (row_of w)) (row_at-filter id_of (in_space n) i w.forest h.forest.rising)
+      ∙ ap (λ o. option_map (row_of w) (passing (in_space n) o)) e
 
   pub row_nowhere : mount_at w.forest i ≡ None → row_at row_id i (table_of w n) ≡ None
-  row_nowhere e = row_in_table ∙ ap (λ o. option_map (row_of w) (passing (in_space n) o)) e
+  row_nowhere = row_by None
 
   pub row_by_space : (m : Mount) → mount_at w.forest i ≡ Some m → row_at row_id i (table_of w n) ≡ option_map (row_of w) (cond (eqb m.space n) (Some m) None)
-  row_by_space m e = row_in_table ∙ ap (λ o. option_map (row_of w) (passing (in_space n) o)) e
-
-  row_here : (m : Mount) → mount_at w.forest i ≡ Some m → eqb m.space n ≡ true → row_at row_id i (table_of w n) ≡ Some (row_of w m)
-  row_here m e here = row_by_space m e ∙ ap (λ b. option_map (row_of w) (cond b (Some m) None)) here
+  row_by_space m = row_by (Some m)
 
   pub row_elsewhere : (m : Mount) → mount_at w.forest i ≡ Some m → eqb m.space n ≡ false → row_at row_id i (table_of w n) ≡ None
   row_elsewhere m e other = row_by_space m e ∙ ap (λ b. option_map (row_of w) (cond b (Some m) None)) other
@@ -50,40 +49,42 @@ module _ (w : WorldView) (n i : ℕ) (h : IsWellFormed w) where
   row_there m e here = row_by_space m e ∙ ap (λ b. option_map (row_of w) (cond b (Some m) None)) here ∙ ap (λ o. Some (row_of w (unwrap_or o unknown))) (sym e)
 
   pub has_by_space : (m : Mount) → mount_at w.forest i ≡ Some m → eqb m.space n ≡ has row_id i (table_of w n)
-  has_by_space m e = go (eqb m.space n) refl
+  has_by_space m e =
+      elim (eqb m.space n) as (λ b. b ≡ is_some (option_map (row_of w) (cond b (Some m) None))) [ true ↦ refl | false ↦ refl ] ∙ sym (ap is_some (row_by_space m e))
+
+  -- a row of the table is that of a mount
+  row_is : (r : Row) → row_at row_id i (table_of w n) ≡ Some r → (m : Mount) × (mount_at w.forest i ≡ Some m) × (row_of w m ≡ r)
+  row_is r at = by (mount_at w.forest i) refl
     where
-      go : (b : Bool) → eqb m.space n ≡ b → b ≡ has row_id i (table_of w n)
-      go true is = sym (ap is_some (row_there m e is))
-      go false is = sym (ap is_some (row_elsewhere m e is))
+      by : (o : Option Mount) → mount_at w.forest i ≡ o → (m : Mount) × (mount_at w.forest i ≡ Some m) × (row_of w m ≡ r)
+      by None e = absurd (cc (row_nowhere e, at))
+      by (Some m) e = (m, e, grind (arith, row_by_space m e, at))
+
+-- the row of one mount, where its rows before and after are known
+module _ (a b : List Row) (i : ℕ) (r : Row) (at : row_at row_id i b ≡ Some r) where
+  new_by : (o : Option Row) → row_at row_id i a ≡ o → new_row a b i ≡ cond (option_map_or (λ s. row_eq s r) o false) None (Some r)
+  new_by o old = ap (option_and_then (λ r. cond (is_row_of a r) None (Some r))) at ∙ ap (λ v. cond v None (Some r)) (row_seen a b i r o at old)
+
+  pub new_arrived : row_at row_id i a ≡ None → new_row a b i ≡ Some r
+  new_arrived = new_by None
+
+  pub new_kept : (s : Row) → row_at row_id i a ≡ Some s → row_eq s r ≡ true → new_row a b i ≡ None
+  new_kept s old same = new_by (Some s) old ∙ ap (λ v. cond v None (Some r)) same
+
+  pub new_changed : (s : Row) → row_at row_id i a ≡ Some s → row_eq s r ≡ false → new_row a b i ≡ Some r
+  new_changed s old other = new_by (Some s) old ∙ ap (λ v. cond v None (Some r)) other
 
 -- a row that differs from the one that its mount had is new, and so is one whose mount was not there
 pub new_other : (v w : WorldView) (n i : ℕ) → IsWellFormed v → IsWellFormed w → (row : Row) → row_at row_id i (table_of w n) ≡ Some row
     → ((x y : Mount) → mount_at v.forest i ≡ Some x → mount_at w.forest i ≡ Some y → row_eq (row_of v x) (row_of w y) ≡ false) → Some row ≡ new_row (table_of v n) (table_of w n) i
-new_other v w n i h g row at other =
-    sym (ap (option_and_then (λ r. cond (is_row_of (table_of v n) r) None (Some r))) at ∙ ap (λ b. cond b None (Some row)) absent)
+new_other v w n i h g row at other = by (row_at row_id i (table_of v n)) refl
   where
-    -- the row that the mount has after
-    is : (o : Option Mount) → mount_at w.forest i ≡ o → (y : Mount) × (mount_at w.forest i ≡ Some y) × (row ≡ row_of w y)
-    is None e = absurd (let f : None ≡ Some row = sym (row_nowhere w n i g e) ∙ at in cc)
-    is (Some y) e = by (eqb y.space n) refl
-      where
-        by : (b : Bool) → eqb y.space n ≡ b → (y : Mount) × (mount_at w.forest i ≡ Some y) × (row ≡ row_of w y)
-        by false s = absurd (let f : None ≡ Some row = sym (row_elsewhere w n i g y e s) ∙ at in cc)
-        by true s = (y, e, (let f : Some (row_of w y) ≡ Some row = sym (row_here w n i g y e s) ∙ at in cc))
-
-    -- the row that it had
-    had : (o : Option Mount) → mount_at v.forest i ≡ o → option_map_or (λ s. row_eq s row) (row_at row_id i (table_of v n)) false ≡ false
-    had None e = ap (λ o. option_map_or (λ s. row_eq s row) o false) (row_nowhere v n i h e)
-    had (Some x) e = by (eqb x.space n) refl
-      where
-        by : (b : Bool) → eqb x.space n ≡ b → option_map_or (λ s. row_eq s row) (row_at row_id i (table_of v n)) false ≡ false
-        by false s = ap (λ o. option_map_or (λ s. row_eq s row) o false) (row_elsewhere v n i h x e s)
-        by true s =
-            let y = is (mount_at w.forest i) refl in
-            ap (λ o. option_map_or (λ s. row_eq s row) o false) (row_here v n i h x e s) ∙ ap (row_eq (row_of v x)) y.2 ∙ other x y.0 e y.1
-
-    absent : is_row_of (table_of v n) row ≡ false
-    absent = ap (λ k. option_map_or (λ s. row_eq s row) (row_at row_id k (table_of v n)) false) (row_at-key row_id i (table_of w n) row at) ∙ had (mount_at v.forest i) refl
+    by : (o : Option Row) → row_at row_id i (table_of v n) ≡ o → Some row ≡ new_row (table_of v n) (table_of w n) i
+    by None old = sym (new_arrived (table_of v n) (table_of w n) i row at old)
+    by (Some s) old =
+        let x = row_is v n i h s old in
+        let y = row_is w n i g row at in
+        sym (new_changed (table_of v n) (table_of w n) i row at s old ((λ k. row_eq (sym x.2 k) (sym y.2 k)) ∙ other x.0 y.0 x.1 y.1))
 
 -- one number more of those for which is collected
 pub collected-step : {X : Type 0} (f : ℕ → Option X) (ids : List ℕ) (i d : ℕ) (out more all : List X) (o : Option X) → i < length ids → out ++ collected f (drop i ids) ≡ all → o ≡ f (get_or ids i d)
@@ -96,11 +97,7 @@ collected-step f ids i d out more all o l before is e =
 module _ {X : Type 0} (key : X → ℕ) (f : ℕ → Option X) (named : (i : ℕ) (x : X) → f i ≡ Some x → key x ≡ i) where
   above : (k : ℕ) (ids : List ℕ) → list_all (λ i. ltb k (itself i)) ids ≡ true → list_all (λ x. ltb k (key x)) (collected f ids) ≡ true
   above k [] h = refl
-  above k (i ∷ ids) h = go (f i) refl (above k ids (and_second _ _ h))
-    where
-      go : (o : Option X) → f i ≡ o → list_all (λ x. ltb k (key x)) (collected f ids) ≡ true → list_all (λ x. ltb k (key x)) (option_to_list o ++ collected f ids) ≡ true
-      go None e ih = ih
-      go (Some x) e ih = and-true (ltb k (key x)) _ (ap (ltb k) (named i x e) ∙ and_first (ltb k i) _ h) ih
+  above k (i ∷ ids) h = let key_is = λ (x : X). named i x in grind (arith, nat_tests, above k ids, key_is)
 
   rises_collected : (ids : List ℕ) → rises itself ids ≡ true → rises key (collected f ids) ≡ true
   rises_collected [] h = refl
@@ -112,96 +109,53 @@ module _ {X : Type 0} (key : X → ℕ) (f : ℕ → Option X) (named : (i : ℕ
 
   row_at_collected : (q : ℕ) (ids : List ℕ) → row_at key q (collected f ids) ≡ cond (among ids q) (f q) None
   row_at_collected q [] = refl
-  row_at_collected q (i ∷ ids) = go (f i) refl (row_at_collected q ids)
-    where
-      go : (o : Option X) → f i ≡ o → row_at key q (collected f ids) ≡ cond (among ids q) (f q) None → row_at key q (option_to_list o ++ collected f ids) ≡ cond (eqb i q || among ids q) (f q) None
-      go None e ih = let same : i ≡ q → f q ≡ None = λ s. ap f (sym s) ∙ e in grind (arith, nat_tests)
-      go (Some x) e ih = let is = named i x e in let same : i ≡ q → f q ≡ Some x = λ s. ap f (sym s) ∙ e in grind (arith, nat_tests)
+  row_at_collected q (i ∷ ids) =
+      let key_is = λ (x : X). named i x in
+      let same : i ≡ q → f i ≡ f q = ap f in
+      grind (arith, nat_tests, row_at_collected q ids, key_is, same)
 
   pub collected_is : (ids : List ℕ) (xs : List X) → rises itself ids ≡ true → rises key xs ≡ true → ((i : ℕ) → among ids i ≡ false → f i ≡ None) → ((i : ℕ) → row_at key i xs ≡ f i) → collected f ids ≡ xs
-  collected_is ids xs r s out at = same_rows key (collected f ids) xs (rises_collected ids r) s (λ q. row_at_collected q ids ∙ go q (among ids q) refl ∙ sym (at q))
-    where
-      go : (q : ℕ) (b : Bool) → among ids q ≡ b → cond b (f q) None ≡ f q
-      go q true e = refl
-      go q false e = sym (out q e)
+  collected_is ids xs r s out at = same_rows key (collected f ids) xs (rises_collected ids r) s (λ q. grind (arith, row_at_collected q ids, out q, at q))
 
 -- the two parts of a difference, where a list has every mount that differs
 module _ (a b : List Row) (ids : List ℕ) (rising : rises itself ids ≡ true) (h : HoldsChanged a b ids) where
-  new_named : (i : ℕ) (x : Row) → new_row a b i ≡ Some x → row_id x ≡ i
-  new_named i x e = go (row_at row_id i b) refl e
-    where
-      kept : (r : Row) (v : Bool) → row_at row_id i b ≡ Some r → cond v None (Some r) ≡ Some x → row_id x ≡ i
-      kept r true at e = absurd (cc)
-      kept r false at e = let same : r ≡ x = cc in ap row_id (sym same) ∙ row_at-key row_id i b r at
-
-      go : (o : Option Row) → row_at row_id i b ≡ o → option_and_then (λ r. cond (is_row_of a r) None (Some r)) o ≡ Some x → row_id x ≡ i
-      go None at e = absurd (cc)
-      go (Some r) at e = kept r (is_row_of a r) at e
-
+  -- no other mount has a new row
   new_out : (i : ℕ) → among ids i ≡ false → new_row a b i ≡ None
-  new_out i out = go (row_at row_id i b) refl
+  new_out i out = by (row_at row_id i b) refl
     where
-      go : (o : Option Row) → row_at row_id i b ≡ o → option_and_then (λ r. cond (is_row_of a r) None (Some r)) o ≡ None
-      go None at = refl
-      go (Some r) at =
-          let old : row_at row_id r.id a ≡ Some r = ap (λ k. row_at row_id k a) (row_at-key row_id i b r at) ∙ h i out ∙ at in
-          let same : is_row_of a r ≡ true = ap (λ o. option_map_or (λ s. row_eq s r) o false) old ∙ row_eq-refl r in
-          rw same refl
+      by : (o : Option Row) → row_at row_id i b ≡ o → new_row a b i ≡ None
+      by None at = ap (option_and_then (λ r. cond (is_row_of a r) None (Some r))) at
+      by (Some r) at = new_kept a b i r at r (h i out ∙ at) (row_eq-refl r)
 
+  -- the rows that are new, by their mounts
   new_at : rises row_id b ≡ true → (i : ℕ) → row_at row_id i (filter (λ r. not (is_row_of a r)) b) ≡ new_row a b i
-  new_at rb i = row_at-filter row_id (λ r. not (is_row_of a r)) i b rb ∙ go (row_at row_id i b)
-    where
-      go : (o : Option Row) → passing (λ r. not (is_row_of a r)) o ≡ option_and_then (λ r. cond (is_row_of a r) None (Some r)) o
-      go None = refl
-      go (Some r) = elim (is_row_of a r) as (λ v. cond (not v) (Some r) None ≡ cond v None (Some r)) [ true ↦ refl | false ↦ refl ]
+  new_at rb i = grind (arith, row_at-filter row_id (λ r. not (is_row_of a r)) i b rb)
 
   pub new_rows_are : rises row_id b ≡ true → collected (new_row a b) ids ≡ filter (λ r. not (is_row_of a r)) b
   new_rows_are rb =
-      collected_is row_id (new_row a b) new_named ids (filter (λ r. not (is_row_of a r)) b) rising (rises-filter row_id (λ r. not (is_row_of a r)) b rb) new_out (new_at rb)
+      let news : List Row = filter (λ r. not (is_row_of a r)) b in
+      collected_is row_id (new_row a b) (λ i x e. row_at-key row_id i news x (new_at rb i ∙ e)) ids news rising (rises-filter row_id (λ r. not (is_row_of a r)) b rb) new_out (new_at rb)
+
+  -- what is among the numbers that pass a test, and the number that is found
+  among_filter : (p : ℕ → Bool) (q : ℕ) (xs : List ℕ) → among (filter p xs) q ≡ (among xs q && p q)
+  among_filter p q [] = refl
+  among_filter p q (x ∷ xs) = let ih = among_filter p q xs in grind (arith, nat_tests)
 
   number_at : (q : ℕ) (xs : List ℕ) → row_at itself q xs ≡ cond (among xs q) (Some q) None
   number_at q [] = refl
   number_at q (i ∷ xs) = let ih = number_at q xs in grind (arith, nat_tests)
 
-  gone_kept : (q : ℕ) (x : Row) → row_id x ≡ q → (w : Bool) → cond (not w) (Some q) None ≡ option_map row_id (cond (not w) (Some x) None)
-  gone_kept q x key true = refl
-  gone_kept q x key false = ap Some (sym key)
-
-  gone_at : (q : ℕ) → passing (λ i. has row_id i a && not (has row_id i b)) (row_at itself q ids) ≡ option_map row_id (passing (λ (r : Row). not (has row_id r.id b)) (row_at row_id q a))
-  gone_at q = rw (number_at q ids) (go (row_at row_id q a) (among ids q) refl refl)
-    where
-      go : (o : Option Row) (v : Bool) → row_at row_id q a ≡ o → among ids q ≡ v
-          → passing (λ i. has row_id i a && not (has row_id i b)) (cond v (Some q) None) ≡ option_map row_id (passing (λ (r : Row). not (has row_id r.id b)) o)
-      go None true at is = rw at refl
-      go None false at is = refl
-      go (Some x) true at is =
-          let key = row_at-key row_id q a x at in
-          ap (λ v. cond (v && not (has row_id q b)) (Some q) None) (ap is_some at) ∙ gone_kept q x key (has row_id q b) ∙ ap (λ k. option_map row_id (cond (not (has row_id k b)) (Some x) None)) (sym key)
-      go (Some x) false at is =
-          let key = row_at-key row_id q a x at in
-          let still : has row_id x.id b ≡ true = ap (λ k. has row_id k b) key ∙ ap is_some (sym (h q is) ∙ at) in
-          rw still refl
+  -- a mount left if it is listed, and the first table alone has it
+  gone_at : (q : ℕ) → among (filter (λ i. has row_id i a && not (has row_id i b)) ids) q ≡ among (map row_id (filter (λ (r : Row). not (has row_id r.id b)) a)) q
+  gone_at q =
+      let same : among ids q ≡ false → has row_id q a ≡ has row_id q b = λ out. ap is_some (h q out) in
+      let listed : (among ids q && (has row_id q a && not (has row_id q b))) ≡ (has row_id q a && not (has row_id q b)) = grind (arith, nat_tests) in
+      among_filter (λ i. has row_id i a && not (has row_id i b)) q ids ∙ listed ∙ sym (gone_is q a b)
 
   pub gone_are : rises row_id a ≡ true → filter (λ i. has row_id i a && not (has row_id i b)) ids ≡ map row_id (filter (λ (r : Row). not (has row_id r.id b)) a)
   gone_are ra =
+      let here : List ℕ = filter (λ i. has row_id i a && not (has row_id i b)) ids in
       let left : List Row = filter (λ (r : Row). not (has row_id r.id b)) a in
-      same_rows itself (filter (λ i. has row_id i a && not (has row_id i b)) ids) (map row_id left) (rises-filter itself (λ i. has row_id i a && not (has row_id i b)) ids rising)
+      same_rows itself here (map row_id left) (rises-filter itself (λ i. has row_id i a && not (has row_id i b)) ids rising)
       (rises-keys row_id left ∙ rises-filter row_id (λ (r : Row). not (has row_id r.id b)) a ra)
-      (λ q. row_at-filter itself (λ i. has row_id i a && not (has row_id i b)) q ids rising ∙ gone_at q ∙ ap (option_map row_id) (sym (row_at-filter row_id (λ (r : Row). not (has row_id r.id b)) q a ra)) ∙ sym (row_at-mapped row_id itself row_id (λ r. refl) q left))
-
--- the row of one mount, where its rows before and after are known
-module _ (a b : List Row) (i : ℕ) (r : Row) (at : row_at row_id i b ≡ Some r) where
-  new_by : (o : Option Row) → row_at row_id i a ≡ o → new_row a b i ≡ cond (option_map_or (λ s. row_eq s r) o false) None (Some r)
-  new_by o old =
-      let seen : is_row_of a r ≡ option_map_or (λ s. row_eq s r) o false =
-      ap (λ k. option_map_or (λ s. row_eq s r) (row_at row_id k a) false) (row_at-key row_id i b r at) ∙ ap (λ o. option_map_or (λ s. row_eq s r) o false) old in
-      ap (option_and_then (λ r. cond (is_row_of a r) None (Some r))) at ∙ ap (λ v. cond v None (Some r)) seen
-
-  pub new_arrived : row_at row_id i a ≡ None → new_row a b i ≡ Some r
-  new_arrived old = new_by None old
-
-  pub new_kept : (s : Row) → row_at row_id i a ≡ Some s → row_eq s r ≡ true → new_row a b i ≡ None
-  new_kept s old same = new_by (Some s) old ∙ ap (λ v. cond v None (Some r)) same
-
-  pub new_changed : (s : Row) → row_at row_id i a ≡ Some s → row_eq s r ≡ false → new_row a b i ≡ Some r
-  new_changed s old other = new_by (Some s) old ∙ ap (λ v. cond v None (Some r)) other
+      (λ q. number_at q here ∙ ap (λ v. cond v (Some q) None) (gone_at q) ∙ sym (number_at q (map row_id left)))
