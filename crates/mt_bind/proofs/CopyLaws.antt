@@ -169,6 +169,7 @@ module _ (w : WorldView) (h : IsWellFormed w) (n : ℕ) (less : Bool) where
     master_fs = masters-show (with_copy w n less) alike;
   }
 
+-- the copy done mount by mount
 module _ (w : WorldView) (h : IsWellFormed w) (n : ℕ) (less : Bool) where
   -- the copies of the mounts and of their states, made in a world that is still the same
   pub record AreCopies (u : WorldView) (cs : List Mount) (rs : List (ℕ × State)) : Type 0 where

@@ -73,6 +73,7 @@ module _ (w : WorldView) (h : IsWellFormed w) (n : ℕ) where
     master_fs = masters-show (without_space w n) alike;
   }
 
+-- the end done mount by mount
 module _ (w : WorldView) (h : IsWellFormed w) (n : ℕ) where
   -- a namespace that is there has a number from 1 on
   from-one : is_space w n ≡ true → 1 ≤ n

@@ -120,6 +120,7 @@ below_among w rising i j m ids e there =
 pub moved_tree : (w : WorldView) (s : Place) → rises id_of w.forest ≡ true → is_mount_root w s ≡ true → (ids : List ℕ) → ids ≡ subtree w.forest s.mount → copied_source w s.mount s.dir ids true ≡ tree_of w s.mount
 moved_tree w s rising named ids e = below-source w rising s.mount s.dir (let is = eqb-true s.dir (root_dir w s.mount) named in grind arith) ids e
 
+-- the way from a mount up to the top, step by step
 module _ (w : WorldView) (p : Place) where
   -- what is asked of a way up to the top: no mount of it is unbindable, and the last one stands within the directory, or if there is none the mount passed last
   abbrev asked : Bool → Option ℕ → List ℕ → Bool

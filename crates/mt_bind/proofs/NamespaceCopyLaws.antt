@@ -37,6 +37,7 @@ module _ (w : WorldView) (n : ℕ) where
   abbrev pub copy : Mount → Mount
   copy = copy_of w (map id_of (originals w n))
 
+-- in a well-formed world a copy has a number of its own, and is found among the mounts that were there
 module _ (w : WorldView) (h : IsWellFormed w) (n : ℕ) where
   abbrev pub ids : List ℕ
   ids = map id_of (originals w n)
@@ -118,6 +119,7 @@ module _ (w : WorldView) (h : IsWellFormed w) (n : ℕ) where
 pub each_way : {A B C D R : Type 0} → A ⊎ B → C ⊎ D → (A → C → R) → (A → D → R) → (B → C → R) → (B → D → R) → R
 each_way x y f g k l = elim x [ inl a ↦ elim y [ inl c ↦ f a c | inr d ↦ g a d ] | inr b ↦ elim y [ inl c ↦ k b c | inr d ↦ l b d ] ]
 
+-- the mounts that were there with the copies are one tree in each namespace
 module _ (w : WorldView) (h : IsWellFormed w) (n : ℕ) where
   abbrev pub grown : List Mount
   grown = w.forest ++ copies w h n

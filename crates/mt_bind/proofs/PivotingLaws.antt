@@ -41,6 +41,7 @@ use Rattle.mt_bind.proofs.NamespaceCopyLaws.{each_way}
 pub root_unplaced : (n : ℕ) (m : Mount) → is_root n m ≡ true → m.place ≡ None
 root_unplaced n m e = let none = (root_here n m e).0 in grind arith
 
+-- the mounts once one of them has become the root mount
 module _ (w : WorldView) (h : IsWellFormed w) (i j : ℕ) (p : Place) (a : MayPivot w i j p) where
   abbrev ms : List Mount
   ms = w.forest
@@ -223,6 +224,7 @@ module _ (w : WorldView) (h : IsWellFormed w) (i j : ℕ) (p : Place) (a : MayPi
         same_rows id_of (put id_of back moved) (map (pivoted_mount i j p) ms) (rises-put id_of back moved moved_rises)
         (rises-map id_of (pivoted_mount i j p) (λ x. refl) ms ∙ h.forest.rising) same-row
 
+-- the world then
 module _ (w : WorldView) (i j : ℕ) (p : Place) where
   abbrev pivoting : Mount → Mount
   pivoting = pivoted_mount i j p
