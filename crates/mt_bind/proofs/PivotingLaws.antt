@@ -109,7 +109,8 @@ module _ (w : WorldView) (h : IsWellFormed w) (i j : ℕ) (p : Place) (a : MayPi
         | inl old ↦ rw (old.0, above, sym m.4, sym old.1, a.inside) (omega arith)
         | inr still ↦
             let f = rank-fell w.skel ms h.forest x u.0 m.1 u.1 still.1 in
-            rw (sym m.4, below_parent w h i x m.1.mount still.0 (parent-is ms x u.0 m.1 u.1 still.1)) (elim (is_below ms i m.1.mount) as (λ b. cond b (rank_of ms m.1.mount) (rank_of ms m.1.mount + suc (rank_of ms p.mount)) < cond b (rank_of ms x) (rank_of ms x + suc (rank_of ms p.mount))) [ true ↦ f | false ↦ omega (arith, f) ])
+            rw (sym m.4, below_parent w h i x m.1.mount still.0 (parent-is ms x u.0 m.1 u.1 still.1))
+            (elim (is_below ms i m.1.mount) as (λ b. cond b (rank_of ms m.1.mount) (rank_of ms m.1.mount + suc (rank_of ms p.mount)) < cond b (rank_of ms x) (rank_of ms x + suc (rank_of ms p.mount))) [ true ↦ f | false ↦ omega (arith, f) ])
       ]
 
   pub pivot_forest : IsForest w.skel (map pivot ms)
