@@ -7,7 +7,6 @@ use Rattle.std.proofs.lemmas.List.{drop_more}
 use Rattle.mt_skel.specs.Keyed.{row_at, has, rises}
 use Rattle.mt_mounts.specs.declared.mount.Mount.{Mount}
 use Rattle.mt_mounts.specs.Forest.{mount_at}
-use Rattle.mt_mounts.proofs.FollowLaws.{none_is}
 use Rattle.mt_propagate.specs.World.{WorldView}
 use Rattle.mt_propagate.specs.WellFormed.{IsWellFormed}
 use Rattle.mt_info.specs.declared.row.Row.{Row}
@@ -21,7 +20,8 @@ use Rattle.mt_events.proofs.TouchedLaws.{new_arrived, new_other, gone_are, new_r
 -- a mount that the first table has not has a new row exactly where the second has one
 pub arrived-new : (a b : List Row) (i : ℕ) → has row_id i a ≡ false → is_some (new_row a b i) ≡ has row_id i b
 arrived-new a b i out =
-    let new = λ (r : Row) (e : row_at row_id i b ≡ Some r). new_arrived a b i r e (none_is (row_at row_id i a) _ out refl) in
+    let none : row_at row_id i a ≡ None = grind (arith, out) in
+    let new = λ (r : Row) (e : row_at row_id i b ≡ Some r). new_arrived a b i r e none in
     grind (arith, new)
 
 -- one that both have has a new row where it is known to differ

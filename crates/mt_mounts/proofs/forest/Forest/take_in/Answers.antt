@@ -1,6 +1,5 @@
-use Rattle.std.proofs.Common.{◌≡◌, Some, None, sym, ap, ◌∙◌}
+use Rattle.std.proofs.Common.{◌≡◌, Some, None, sym, ap, ◌∙◌, arith}
 use Rattle.mt_skel.specs.Keyed.{put}
-use Rattle.mt_skel.proofs.AddedLaws.{none_tested}
 use Rattle.mt_mounts.specs.Forest.{id_of, mount_at}
 use Rattle.mt_mounts.proofs.SlotLaws.{row_put_here}
 use Rattle.mt_mounts.proofs.WrittenLaws.{put_written, but_written}
@@ -14,7 +13,7 @@ put_in-requires c =
     let os = c.args.other.now.mounts in
     let i = c.args.id in
     let m = c.in-Some.mount in
-    let absent : mount_at ms i ≡ None = none_tested c.get.result (mount_at ms i) c.is_some.result c.is_some.ensures c.if-is_some.false c.get.ensures in
+    let absent : mount_at ms i ≡ None = grind (arith, c.is_some.ensures, c.if-is_some.false, c.get.ensures) in
     let there : mount_at os i ≡ Some m = sym c.get-2.ensures ∙ c.in-Some.is in
     record {
       room = c.requires.room;
