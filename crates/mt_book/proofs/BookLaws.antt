@@ -20,11 +20,11 @@ use Rattle.mt_book.specs.declared.prepared.Prepared.{Prepared}
 use Rattle.mt_book.specs.Step.{step, makes_space, after}
 use Rattle.mt_book.specs.Commands.{IsCommand}
 use Rattle.mt_book.specs.History.{posts_of}
-use Rattle.mt_book.specs.Book.{command_limit, space_numbers, counted, posts_at_change, with_newborn, still_there, AreNumbers, answer, reply_of}
+use Rattle.mt_book.specs.Book.{command_limit, space_numbers, counted, posts_at_change, with_newborn, still_there, answer, reply_of}
 use Rattle.mt_book.specs.Kept.{IsBehind, IsSpare, IsPrepared, IsBook, shown_world, lagging_of, prepared_posts}
 use Rattle.mt_book.proofs.ValidLaws.{one_valid}
 use Rattle.mt_book.proofs.GrowthLaws.{IsReached, reached}
-use Rattle.mt_book.proofs.NextLaws.{after-accepted, accepts-next, numbers-next, posts-next, numbers-are}
+use Rattle.mt_book.proofs.NextLaws.{after-accepted, accepts-next, numbers-next, posts-next}
 
 -- the numbers that come next are far from the greatest
 pub record IsSmall (w : WorldView) : Type 0 where
@@ -87,42 +87,26 @@ book_committed old spare ks cs p h q =
 pub book_taken : (old new : Shown) (spare lags : Spare) (ks : List (ℕ × ℕ)) (cs js : List Command) (p : Prepared) → new ≡ Later p.world → lags ≡ lagging_of old
     → js ≡ cs ++ p.command ∷ [] → IsBook (world_view (shown_world old)) (since_view (shown_world old)) spare ks cs → IsPrepared cs p → IsBook (world_view (shown_world new)) (since_view (shown_world new)) lags p.numbers.items js
 book_taken old new spare lags ks cs js p n l j h q =
-    subst (λ (x : Shown). IsBook (world_view (shown_world x)) (since_view (shown_world x)) lags p.numbers.items js) (sym n)
-    (subst (λ (x : Spare). IsBook (world_view p.world.value) (since_view p.world.value) x p.numbers.items js) (sym l)
-    (subst (λ (x : List Command). IsBook (world_view p.world.value) (since_view p.world.value) (lagging_of old) p.numbers.items x) (sym j) (book_committed old spare ks cs p h q)))
+    rw (n, l, j) (book_committed old spare ks cs p h q)
 
 -- the world after a command is well-formed
 pub accepted_kept : (cs : List Command) (world v : WorldView) (c : Command) (r : Reply) → world ≡ after cs → step world c ≡ Ok (v, r) → IsWellFormed v
 accepted_kept cs world v c r w e =
     subst IsWellFormed (after-accepted cs c v r (ap (λ (x : WorldView). step x c) (sym w) ∙ e)) (reached (cs ++ c ∷ [])).well_formed
 
-pub book_numbers : (w : WorldView) (noted : SinceView) (spare : Spare) (ks : List (ℕ × ℕ)) (cs : List Command) (more : Bool) → IsBook w noted spare ks cs → AreNumbers (with_newborn ks w.next_space more)
-book_numbers w noted spare ks cs more h =
-    subst (λ (x : WorldView). AreNumbers (with_newborn ks x.next_space more)) (sym h.world)
-    (subst (λ (l : List (ℕ × ℕ)). AreNumbers (with_newborn l (after cs).next_space more)) (sym h.counts) (numbers-are cs more h.few))
-
 -- a command that was done on an equal world is prepared for the book
-pub prepared_for : (shown world : WorldView) (noted : SinceView) (spare : Spare) (ks : List (ℕ × ℕ)) (cs : List Command) (c : Command) (p : Prepared) → IsBook shown noted spare ks cs → length cs < command_limit → world ≡ after cs
-    → step world c ≡ Ok (world_view p.world.value, p.reply) → p.command ≡ c → p.numbers.items ≡ still_there (world_view p.world.value) (counted shown (world_view p.world.value) (with_newborn ks shown.next_space (makes_space c)))
-    → p.posts ≡ cond p.heard (posts_at_change shown (world_view p.world.value) (with_newborn ks shown.next_space (makes_space c))) [] → IsCommand c → since_view p.world.value ≡ since_of world → IsPrepared cs p
-prepared_for shown world noted spare ks cs c p h few w e same numbers posts texts since =
+pub prepared_for : (cs : List Command) (c : Command) (world : WorldView) (p : Prepared) → length cs < command_limit → world ≡ after cs → step world c ≡ Ok (world_view p.world.value, p.reply) → p.command ≡ c
+    → p.numbers.items ≡ still_there (world_view p.world.value) (counted (after cs) (world_view p.world.value) (with_newborn (space_numbers cs) (after cs).next_space (makes_space c)))
+    → p.posts ≡ cond p.heard (posts_at_change (after cs) (world_view p.world.value) (with_newborn (space_numbers cs) (after cs).next_space (makes_space c))) []
+    → IsCommand c → since_view p.world.value ≡ since_of world → IsPrepared cs p
+prepared_for cs c world p few w e same numbers posts texts since =
     let v = world_view p.world.value in
     let done = ap (λ (x : WorldView). step x c) (sym w) ∙ e in
     record {
       few = few;
       accepted = ap (step (after cs)) same ∙ done;
-      numbers =
-          numbers
-          ∙ ap (λ (x : WorldView). still_there v (counted x v (with_newborn ks x.next_space (makes_space c)))) h.world
-          ∙ ap (λ (l : List (ℕ × ℕ)). still_there v (counted (after cs) v (with_newborn l (after cs).next_space (makes_space c)))) h.counts
-          ∙ numbers-next cs c v p.reply done
-          ∙ ap (λ (x : Command). space_numbers (cs ++ x ∷ [])) (sym same);
-      posts =
-          posts
-          ∙ ap (λ (l : List PostView). cond p.heard l []) (ap (λ (x : WorldView). posts_at_change x v (with_newborn ks x.next_space (makes_space c))) h.world
-          ∙ ap (λ (l : List (ℕ × ℕ)). posts_at_change (after cs) v (with_newborn l (after cs).next_space (makes_space c))) h.counts
-          ∙ posts-next cs c v p.reply done
-          ∙ ap (posts_of cs) (sym same));
+      numbers = numbers ∙ numbers-next cs c v p.reply done ∙ ap (λ (x : Command). space_numbers (cs ++ x ∷ [])) (sym same);
+      posts = posts ∙ ap (λ (l : List PostView). cond p.heard l []) (posts-next cs c v p.reply done ∙ ap (posts_of cs) (sym same));
       texts = subst IsCommand (sym same) texts;
       since = since ∙ ap since_of w;
     }

@@ -10,11 +10,9 @@ use Rattle.mt_book.proofs.HistoryLaws.{given}
 
 few_given : (f : ℕ → Option PostView) (a n : ℕ) → length (filter_map f (range_with_len a n)) ≤ n
 few_given f a zero = omega arith
-few_given f a (suc n) = by (f a) (few_given f (a + 1) n)
-  where
-    by : (o : Option PostView) → length (filter_map f (range_with_len (a + 1) n)) ≤ n → length (cons_option o (filter_map f (range_with_len (a + 1) n))) ≤ suc n
-    by None l = omega (arith, l)
-    by (Some p) l = omega (arith, l)
+few_given f a (suc n) =
+    let ih = few_given f (a + 1) n in
+    elim (f a) as (λ o. length (cons_option o (filter_map f (range_with_len (a + 1) n))) ≤ suc n) [ None ↦ omega (arith, ih) | Some p ↦ omega (arith, ih) ]
 
 pub few_posts : (cs : List Command) (c : Command) → length (posts_of cs c) ≤ length cs + 1
 unfolding posts_of

@@ -1,12 +1,12 @@
 -- Where the posts of a namespace begin and end.
-use Rattle.std.proofs.Common.{◌≡◌, ◌⊎◌, inl, inr, ℕ, ◌+◌, ◌<◌, ◌≤◌, Bool, true, false, cond, not, ◌&&◌, ◌==◌, ltb, List, [], ◌∷◌, ◌++◌, map, length, Option, Some, None, Result, Ok, Err, refl, sym, ap, ◌∙◌, arith, length-append}
+use Rattle.std.proofs.Common.{◌≡◌, ◌⊎◌, inl, inr, ℕ, ◌+◌, ◌<◌, ◌≤◌, Bool, true, false, cond, not, ◌&&◌, ◌==◌, List, [], ◌∷◌, ◌++◌, map, length, Option, Some, None, Ok, refl, sym, ap, ◌∙◌, arith, length-append}
 use Rattle.std.specs.List.{filter}
 use Rattle.std.specs.Option.{option_to_list}
-use Rattle.std.proofs.lemmas.Bool.Decides.{nat_tests}
+use Rattle.std.proofs.lemmas.Bool.Decides.{nat_tests, leb_tells}
 use Rattle.std.proofs.lemmas.List.{length-map}
-use Rattle.mt_skel.specs.declared.fault.Fault.{Fault}
 use Rattle.mt_skel.specs.Keyed.{has}
 use Rattle.mt_propagate.specs.World.{WorldView, empty_world, is_space}
+use Rattle.mt_bind.proofs.AcceptedLaws.{drop_space_accepted}
 use Rattle.mt_info.specs.declared.row.Row.{Row}
 use Rattle.mt_info.specs.Table.{row_id, table_of}
 use Rattle.mt_events.specs.Posts.{PostView}
@@ -18,18 +18,16 @@ use Rattle.mt_book.specs.declared.command.Command.TheVariants.{DropSpace}
 use Rattle.mt_book.specs.declared.command.Reply.{Reply}
 use Rattle.mt_book.specs.Step.{step, makes_space, world_or, next_world, after_from, after}
 use Rattle.mt_book.specs.History.{events_from, events, space_number, posts_of, posts_from}
-use Rattle.mt_book.proofs.EffectLaws.{done_ok, space_dropped}
-use Rattle.mt_book.proofs.HistoryLaws.{IsGood, next_good, empty_good, after_good, next_higher, no_post, same_table, table_nowhere, given, given_out, posts_of_space, space_events}
+use Rattle.mt_book.proofs.EffectLaws.{done_ok, next_by}
+use Rattle.mt_book.proofs.HasLaws.{out_nowhere}
+use Rattle.mt_book.proofs.DirectoryLaws.{no_post}
+use Rattle.mt_book.proofs.HistoryLaws.{IsGood, next_good, after_good, next_higher, same_table, table_nowhere, given, given_out, posts_of_space, space_events}
 use Rattle.mt_book.proofs.GrowthLaws.{IsReached, step_spaces, next_reached, none_reached}
-use Rattle.mt_book.proofs.SpaceLaws.{step_gone, step_ends, has_row, made_there, late_nowhere}
+use Rattle.mt_book.proofs.SpaceLaws.{step_gone, step_ends, has_row, made_there}
 
 -- one that is gone does not come again
 next_gone : (n : ℕ) (w : WorldView) (c : Command) → IsGood w → n < w.next_space → is_space w n ≡ false → is_space (next_world w c) n ≡ false
-next_gone n w c g low gone = by (step w c) (λ v r e. step_gone w c v r n g.formed g.skeleton e low gone)
-  where
-    by : (q : Result (WorldView × Reply) Fault) → ((v : WorldView) (r : Reply) → q ≡ Ok (v, r) → is_space v n ≡ false) → is_space (world_or w q) n ≡ false
-    by (Ok p) f = f p.0 p.1 refl
-    by (Err x) f = gone
+next_gone n w c g low gone = next_by (λ v. is_space v n ≡ false) w c gone (λ v r e. step_gone w c v r n g.formed g.skeleton e low gone)
 
 -- ---- before it is made
 
@@ -48,7 +46,7 @@ none_late n number w (c ∷ cs) g late =
 
 pub number_late : (n : ℕ) (cs : List Command) → (n ≡ 0) ⊎ ((after cs).next_space ≤ n) → space_number n cs ≡ 0
 unfolding after events
-number_late n cs late = ap length (none_late n 1 empty_world cs empty_good late)
+number_late n cs late = ap length (none_late n 1 empty_world cs (after_good []) late)
 
 -- ---- when it is made
 
@@ -68,7 +66,7 @@ given_some n number w c g off on = by (given n number w c) refl
 
 -- it is there then
 next_made : (n k : ℕ) (w : WorldView) (c : Command) → IsReached w k → w.next_space ≤ n → n < (next_world w c).next_space → is_space (next_world w c) n ≡ true
-next_made n k w c h low high = by (step w c) (λ v r e l. made v r e l) high
+next_made n k w c h low high = next_by (λ v. n < v.next_space → is_space v n ≡ true) w c (λ l. absurd (omega (arith, low, l))) made high
   where
     made : (v : WorldView) (r : Reply) → step w c ≡ Ok (v, r) → n < v.next_space → is_space v n ≡ true
     made v r e l = which (makes_space c) refl (step_spaces w c v r k h e)
@@ -79,26 +77,18 @@ next_made n k w c h low high = by (step w c) (λ v r e l. made v r e l) high
             ap (is_space v) (sym same) ∙ made_there w c v r h.well_formed h.skeleton e m
         which false m s = absurd (omega (arith, low, l, s))
 
-    by : (q : Result (WorldView × Reply) Fault) → ((v : WorldView) (r : Reply) → q ≡ Ok (v, r) → n < v.next_space → is_space v n ≡ true) → n < (world_or w q).next_space → is_space (world_or w q) n ≡ true
-    by (Ok p) f l = f p.0 p.1 refl l
-    by (Err x) f l = absurd (omega (arith, low, l))
-
 made_from : (n number k : ℕ) (w : WorldView) (cs : List Command) → IsReached w k → w.next_space ≤ n → n < (after_from w cs).next_space → 1 ≤ length (events_from n number w cs)
 made_from n number k w [] h low high = absurd (omega (arith, low, high))
-made_from n number k w (c ∷ cs) h low high = by (ltb n (next_world w c).next_space) refl (λ l. made_from n (number + length (option_to_list (given n number w c))) (k + 1) (next_world w c) cs (next_reached w c k h) l high)
-  where
-    by : (b : Bool) → ltb n (next_world w c).next_space ≡ b → ((next_world w c).next_space ≤ n → 1 ≤ length (events_from n (number + length (option_to_list (given n number w c))) (next_world w c) cs))
-        → 1 ≤ length (option_to_list (given n number w c) ++ events_from n (number + length (option_to_list (given n number w c))) (next_world w c) cs)
-    by true l later =
-        let some = given_some n number w c (record { formed = h.well_formed; skeleton = h.skeleton }) (late_nowhere w n h.well_formed low) (next_made n k w c h low (grind (arith, nat_tests))) in
-        let all = length-append (option_to_list (given n number w c)) (events_from n (number + length (option_to_list (given n number w c))) (next_world w c) cs) in
-        omega (arith, some, all)
-    by false l later =
-        let rest = later (grind (arith, nat_tests)) in
-        let all = length-append (option_to_list (given n number w c)) (events_from n (number + length (option_to_list (given n number w c))) (next_world w c) cs) in
-        omega (arith, rest, all)
+made_from n number k w (c ∷ cs) h low high =
+    let here = option_to_list (given n number w c) in
+    let all = length-append here (events_from n (number + length here) (next_world w c) cs) in
+    elim (leb_tells (next_world w c).next_space n) [
+      | inl late ↦ let later = made_from n (number + length here) (k + 1) (next_world w c) cs (next_reached w c k h) late.1 high in omega (arith, later, all)
+      | inr made ↦
+          let some = given_some n number w c (record { formed = h.well_formed; skeleton = h.skeleton }) (out_nowhere w n h.well_formed (inr low)) (next_made n k w c h low made.1) in
+          omega (arith, some, all)
+    ]
 
--- a namespace whose number was given out has had a post
 pub number_some : (n : ℕ) (cs : List Command) → 1 ≤ n → n < (after cs).next_space → 1 ≤ space_number n cs
 unfolding after events
 number_some n cs one low = made_from n 1 0 empty_world cs none_reached one low
@@ -111,7 +101,7 @@ no_more n number w [] g low gone = refl
 no_more n number w (c ∷ cs) g low gone =
     let v = next_good w c g in
     let later = next_gone n w c g low gone in
-    let post = no_post n number w (next_world w c) g v (table_nowhere w n g.formed gone ∙ sym (table_nowhere (next_world w c) n v.formed later)) in
+    let post = no_post w (next_world w c) n g.formed (table_nowhere (next_world w c) n v.formed later ∙ sym (table_nowhere w n g.formed gone)) number in
     ap (λ o. option_to_list o ++ events_from n (number + length (option_to_list o)) (next_world w c) cs) post
     ∙ no_more n (number + 0) (next_world w c) cs v (omega (arith, low, next_higher w c)) later
 
@@ -120,11 +110,10 @@ silent n before cs low gone = space_events n before cs ∙ no_more n (space_numb
 
 -- so a namespace that is not there has had no post, or has none more
 pub none_or_silent : (n number : ℕ) (before cs : List Command) → is_space (after before) n ≡ false → (space_number n before ≡ 0) ⊎ (events_from n number (after before) cs ≡ [])
-none_or_silent n number before cs gone = by (ltb n (after before).next_space) refl
-  where
-    by : (b : Bool) → ltb n (after before).next_space ≡ b → (space_number n before ≡ 0) ⊎ (events_from n number (after before) cs ≡ [])
-    by true l = inr (no_more n number (after before) cs (after_good before) (grind (arith, nat_tests)) gone)
-    by false l = inl (number_late n before (inr (grind (arith, nat_tests))))
+none_or_silent n number before cs gone = elim (leb_tells (after before).next_space n) [
+  | inl late ↦ inl (number_late n before (inr late.1))
+  | inr low ↦ inr (no_more n number (after before) cs (after_good before) low.1 gone)
+]
 
 -- ---- the last post
 
@@ -156,7 +145,7 @@ last_post n cs v r e =
     let w = after cs in
     let g = after_good cs in
     let k = space_number n cs + 1 in
-    let there = (space_dropped w v n (done_ok _ v r e)).0 in
+    let there = (drop_space_accepted w n v (done_ok _ v r e)).there in
     let next : next_world w (DropSpace n) ≡ v = ap (world_or w) e in
     let gone = step_ends w v r n g.formed g.skeleton e in
     let empty : table_of (next_world w (DropSpace n)) n ≡ [] = table_nowhere (next_world w (DropSpace n)) n (next_good w (DropSpace n) g).formed (ap (λ (x : WorldView). is_space x n) next ∙ gone) in

@@ -5,6 +5,15 @@ use Rattle.mt_events.specs.Posts.{PostView}
 use Rattle.mt_book.specs.Between.{BetweenView, heard_posts}
 use Rattle.mt_book.specs.Book.{next_post, posts_at_change}
 
+-- where nobody asks there is none
+pub heard_one : (h : Bool) (o : Option PostView) → cond h (option_to_list o) [] ≡ option_to_list (cond h o None)
+heard_one true o = refl
+heard_one false o = refl
+
+pub heard_none : (h : Bool) → cond {A = List PostView} h [] [] ≡ []
+heard_none true = refl
+heard_none false = refl
+
 heard_first : (h : Bool) (o : Option PostView) (l : List PostView) → cond h (option_to_list o ++ l) [] ≡ option_to_list (cond h o None) ++ cond h l []
 heard_first true o l = refl
 heard_first false o l = refl

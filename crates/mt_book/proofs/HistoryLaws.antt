@@ -1,21 +1,19 @@
 -- The posts of lists of commands.
-use Rattle.std.proofs.Common.{◌≡◌, ◌≢◌, ◌⊎◌, inl, inr, ℕ, zero, suc, ◌+◌, ◌-◌, ◌<◌, ◌≤◌, Bool, true, false, cond, ◌==◌, eqb, ltb, List, [], ◌∷◌, ◌++◌, map, length, Option, Some, None, slice_get, Ok, Err, refl, sym, ap, ◌∙◌, subst, arith, append_assoc, length-append, true≢false}
-use Rattle.std.specs.Prelude.{Result}
+use Rattle.std.proofs.Common.{◌≡◌, ◌≢◌, ◌⊎◌, inl, inr, ℕ, zero, suc, ◌+◌, ◌-◌, ◌<◌, ◌≤◌, Bool, true, false, cond, ◌==◌, eqb-true, List, [], ◌∷◌, ◌++◌, map, length, Option, Some, None, slice_get, Ok, refl, sym, ap, ◌∙◌, subst, arith, append_assoc, length-append, true≢false}
 use Rattle.std.specs.List.{filter, filter_map, cons_option, range_with_len}
-use Rattle.std.specs.Option.{option_to_list, is_none, is_some}
-use Rattle.std.proofs.lemmas.Bool.Decides.{nat_tests}
+use Rattle.std.specs.Option.{option_to_list}
+use Rattle.std.proofs.lemmas.Bool.{false_from_ne_true}
+use Rattle.std.proofs.lemmas.Bool.Decides.{nat_tests, leb_tells}
 use Rattle.std.proofs.lemmas.List.{append-nil}
 use Rattle.std.proofs.lemmas.List.Elements.{filter-append}
-use Rattle.mt_skel.specs.declared.fault.Fault.{Fault}
 use Rattle.mt_skel.specs.Skeleton.{IsSkeleton}
 use Rattle.mt_mounts.specs.declared.mount.Mount.{Mount}
-use Rattle.mt_mounts.specs.Forest.{id_of, is_root}
+use Rattle.mt_mounts.specs.Forest.{id_of}
 use Rattle.mt_propagate.specs.World.{WorldView, empty_world, is_space}
 use Rattle.mt_propagate.specs.WellFormed.{IsWellFormed}
-use Rattle.mt_skel.proofs.ElementLaws.{In, in_row, row_in, in_found}
+use Rattle.mt_skel.proofs.ElementLaws.{in_row}
 use Rattle.mt_info.specs.Table.{row_of, table_of}
 use Rattle.mt_info.proofs.TableLaws.{table_rises}
-use Rattle.mt_skel.proofs.MiddleLaws.{and-true}
 use Rattle.mt_propagate.proofs.RowLaws.{none-picked}
 use Rattle.mt_events.specs.Posts.{PostView}
 use Rattle.mt_events.specs.declared.post.Delta.{Delta}
@@ -25,11 +23,14 @@ use Rattle.mt_events.proofs.DifferenceLaws.{applied-difference}
 use Rattle.mt_events.proofs.EmptyLaws.{empty-equal}
 use Rattle.mt_book.specs.declared.command.Command.{Command}
 use Rattle.mt_book.specs.declared.command.Reply.{Reply}
-use Rattle.mt_book.specs.Step.{step, world_or, next_world, after_from, after}
+use Rattle.mt_book.specs.Step.{step, next_world, after_from, after}
 use Rattle.mt_book.specs.History.{events_from, events, space_number, posts_of, posts_from}
 use Rattle.mt_book.specs.Laws.{IsTableAsOf}
-use Rattle.mt_book.proofs.SkelLaws.{none_there}
-use Rattle.mt_book.proofs.StepLaws.{next_kept, empty_kept}
+use Rattle.mt_book.proofs.EffectLaws.{next_by}
+use Rattle.mt_book.proofs.StepLaws.{step_kept}
+use Rattle.mt_book.proofs.HasLaws.{Has, has_space, out_nowhere}
+use Rattle.mt_book.proofs.GrowthLaws.{reached}
+use Rattle.mt_book.proofs.DirectoryLaws.{no_post}
 use Rattle.mt_book.proofs.RiseLaws.{step_rises}
 
 pub posts_from-append : (before xs ys : List Command) → posts_from before (xs ++ ys) ≡ posts_from before xs ++ posts_from (before ++ xs) ys
@@ -44,21 +45,16 @@ pub record IsGood (w : WorldView) : Type 0 where
   pub formed : IsWellFormed w
   pub skeleton : IsSkeleton w.skel
 
+pub step_good : (w : WorldView) (c : Command) (v : WorldView) (r : Reply) → IsGood w → step w c ≡ Ok (v, r) → IsGood v
+step_good w c v r h e = let k = step_kept w c v r h.formed h.skeleton e in record { formed = k.0; skeleton = k.1 }
+
 pub next_good : (w : WorldView) (c : Command) → IsGood w → IsGood (next_world w c)
-next_good w c h = let k = next_kept w c h.formed h.skeleton in record { formed = k.0; skeleton = k.1 }
-
-from_good : (w : WorldView) (cs : List Command) → IsGood w → IsGood (after_from w cs)
-from_good w [] h = h
-from_good w (c ∷ cs) h = from_good (next_world w c) cs (next_good w c h)
-
-pub empty_good : IsGood empty_world
-empty_good = record { formed = empty_kept; skeleton = none_there }
+next_good w c h = next_by IsGood w c h (λ v r e. step_good w c v r h e)
 
 pub after_good : (cs : List Command) → IsGood (after cs)
-unfolding after
-after_good cs = from_good empty_world cs empty_good
+after_good cs = let k = reached cs in record { formed = k.well_formed; skeleton = k.skeleton }
 
-pub after_from-append : (w : WorldView) (xs ys : List Command) → after_from w (xs ++ ys) ≡ after_from (after_from w xs) ys
+after_from-append : (w : WorldView) (xs ys : List Command) → after_from w (xs ++ ys) ≡ after_from (after_from w xs) ys
 after_from-append w [] ys = refl
 after_from-append w (x ∷ xs) ys = after_from-append (next_world w x) xs ys
 
@@ -67,36 +63,14 @@ unfolding after
 after-append xs ys = after_from-append empty_world xs ys
 
 pub next_higher : (w : WorldView) (c : Command) → w.next_space ≤ (next_world w c).next_space
-next_higher w c = by (step w c) (λ v r e. (step_rises w c v r e).spaces)
-  where
-    by : (q : Result (WorldView × Reply) Fault) → ((v : WorldView) (r : Reply) → q ≡ Ok (v, r) → w.next_space ≤ v.next_space) → w.next_space ≤ (world_or w q).next_space
-    by (Ok p) f = f p.0 p.1 refl
-    by (Err x) f = omega arith
+next_higher w c = next_by (λ v. w.next_space ≤ v.next_space) w c (omega arith) (λ v r e. (step_rises w c v r e).spaces)
 
 -- ---- a namespace that is not there has the empty table
 
-table_none : (w : WorldView) (n : ℕ) → ((m : Mount) → In m w.forest → (m.space == n) ≡ false) → table_of w n ≡ []
-table_none w n h = ap (map (row_of w)) (none-picked (λ (m : Mount). m.space == n) w.forest h)
-
-pub table_outside : (w : WorldView) (n : ℕ) → IsWellFormed w → (n ≡ 0) ⊎ (w.next_space ≤ n) → table_of w n ≡ []
-table_outside w n h out = table_none w n (λ m there.
-    let b = h.below m.id m (in_row id_of w.forest m h.forest.rising there) in
-    let low : 1 ≤ m.space = b.2 in
-    let high : m.space < w.next_space = b.3 in
-    elim out [ inl zero_is ↦ grind (arith, nat_tests) | inr above ↦ grind (arith, nat_tests) ])
-
 pub table_nowhere : (w : WorldView) (n : ℕ) → IsWellFormed w → is_space w n ≡ false → table_of w n ≡ []
-table_nowhere w n h gone = table_none w n (λ m there. by m there (m.space == n) refl)
-  where
-    by : (m : Mount) → In m w.forest → (b : Bool) → (m.space == n) ≡ b → (m.space == n) ≡ false
-    by m there false e = e
-    by m there true e =
-        let r = h.forest.rooted m.id m (in_row id_of w.forest m h.forest.rising there) in
-        let root : Mount = r.1 in
-        let space : root.space ≡ m.space = r.4 in
-        let is : is_root n root ≡ true = and-true (is_none root.place) (root.space == n) (ap is_none r.3) (ap (λ k. k == n) space ∙ e) in
-        let f = in_found (is_root n) w.forest root (row_in id_of r.0 w.forest root r.2) is in
-        absurd (true≢false (sym (ap is_some f.1) ∙ gone))
+table_nowhere w n h gone = ap (map (row_of w)) (none-picked (λ (m : Mount). m.space == n) w.forest (λ m there. false_from_ne_true (m.space == n) (λ here.
+    let has : Has n w = record { id = m.id; mount = m; there = in_row id_of w.forest m h.forest.rising there; space = eqb-true m.space n here } in
+    true≢false (sym (has_space n w h has) ∙ gone))))
 
 -- ---- the post of one namespace
 
@@ -115,11 +89,6 @@ post_is n number d p e = by (is_empty d) e
         let same : r ≡ p = cc in
         subst (IsPostOf n number d) same (record { space_is = refl; number_is = refl; delta_is = refl })
 
-pub no_post : (n number : ℕ) (v w : WorldView) → IsGood v → IsGood w → table_of v n ≡ table_of w n → post_of n number (difference (table_of v n) (table_of w n)) ≡ None
-no_post n number v w g h e =
-    let empty = (empty-equal (table_of v n) (table_of w n) (table_rises v n g.formed) (table_rises w n h.formed)).1 e in
-    ap (λ b. cond b None (Some (record { space = n; number = number; gone = (difference (table_of v n) (table_of w n)).gone; rows = (difference (table_of v n) (table_of w n)).rows }))) empty
-
 pub same_table : (n number : ℕ) (v w : WorldView) → IsGood v → IsGood w → post_of n number (difference (table_of v n) (table_of w n)) ≡ None → table_of v n ≡ table_of w n
 same_table n number v w g h e = (empty-equal (table_of v n) (table_of w n) (table_rises v n g.formed) (table_rises w n h.formed)).0 (by (is_empty (difference (table_of v n) (table_of w n))) refl e)
   where
@@ -134,44 +103,35 @@ same_table n number v w g h e = (empty-equal (table_of v n) (table_of w n) (tabl
 abbrev of_space : ℕ → PostView → Bool
 of_space n p = p.space == n
 
-pick_out : (f : ℕ → Option PostView) → ((m : ℕ) (p : PostView) → f m ≡ Some p → p.space ≡ m) → (n a len : ℕ) → (n < a) ⊎ (a + len ≤ n) → filter (of_space n) (filter_map f (range_with_len a len)) ≡ []
-pick_out f each n a zero out = refl
-pick_out f each n a (suc len) out = by (f a) refl (pick_out f each n (a + 1) len (elim out [ inl l ↦ inl (omega (arith, l)) | inr l ↦ inr (omega (arith, l)) ]))
-  where
-    apart : a ≢ n
-    apart e = elim out [ inl l ↦ absurd (omega (arith, l, e)) | inr l ↦ absurd (omega (arith, l, e)) ]
+module _ (f : ℕ → Option PostView) (each : (m : ℕ) (p : PostView) → f m ≡ Some p → p.space ≡ m) (n : ℕ) where
+  abbrev posts : ℕ → ℕ → List PostView
+  posts a len = filter (of_space n) (filter_map f (range_with_len a len))
 
-    by : (o : Option PostView) → f a ≡ o → filter (of_space n) (filter_map f (range_with_len (a + 1) len)) ≡ [] → filter (of_space n) (cons_option o (filter_map f (range_with_len (a + 1) len))) ≡ []
-    by None e ih = ih
-    by (Some p) e ih =
-        let space = each a p e in
-        let off : (p.space == n) ≡ false = (let d = apart in grind (arith, nat_tests)) in
-        ap (λ b. cond b (p ∷ filter (of_space n) (filter_map f (range_with_len (a + 1) len))) (filter (of_space n) (filter_map f (range_with_len (a + 1) len)))) off ∙ ih
+  first : (a len : ℕ) → posts a (suc len) ≡ cond (a == n) (option_to_list (f a)) [] ++ posts (a + 1) len
+  first a len = by (f a) refl
+    where
+      by : (o : Option PostView) → f a ≡ o → filter (of_space n) (cons_option o (filter_map f (range_with_len (a + 1) len))) ≡ cond (a == n) (option_to_list o) [] ++ posts (a + 1) len
+      by None e = elim (a == n) as (λ b. posts (a + 1) len ≡ cond b [] [] ++ posts (a + 1) len) [ true ↦ refl | false ↦ refl ]
+      by (Some p) e =
+          ap (λ k. cond (k == n) (p ∷ posts (a + 1) len) (posts (a + 1) len)) (each a p e)
+          ∙ elim (a == n) as (λ b. cond b (p ∷ posts (a + 1) len) (posts (a + 1) len) ≡ cond b (p ∷ []) [] ++ posts (a + 1) len) [ true ↦ refl | false ↦ refl ]
 
-pick_in : (f : ℕ → Option PostView) → ((m : ℕ) (p : PostView) → f m ≡ Some p → p.space ≡ m) → (n a len : ℕ) → a ≤ n → n < a + len → filter (of_space n) (filter_map f (range_with_len a len)) ≡ option_to_list (f n)
-pick_in f each n a zero low high = absurd (omega (arith, low, high))
-pick_in f each n a (suc len) low high = which (eqb a n) refl (λ q. pick_in f each n (a + 1) len (omega (arith, low, q)) (omega (arith, high)))
-  where
-    same : a ≡ n → filter (of_space n) (filter_map f (range_with_len (a + 1) len)) ≡ [] → (o : Option PostView) → f a ≡ o → filter (of_space n) (cons_option o (filter_map f (range_with_len (a + 1) len))) ≡ option_to_list o
-    same is none None e = none
-    same is none (Some p) e =
-        let space = each a p e in
-        let on : (p.space == n) ≡ true = grind (arith, nat_tests) in
-        ap (λ b. cond b (p ∷ filter (of_space n) (filter_map f (range_with_len (a + 1) len))) (filter (of_space n) (filter_map f (range_with_len (a + 1) len)))) on ∙ ap (λ l. p ∷ l) none
+  pick_out : (a len : ℕ) → (n < a) ⊎ (a + len ≤ n) → posts a len ≡ []
+  pick_out a zero out = refl
+  pick_out a (suc len) out =
+      let off : (a == n) ≡ false = elim out [ inl l ↦ grind (arith, nat_tests) | inr l ↦ grind (arith, nat_tests) ] in
+      first a len ∙ ap (λ b. cond b (option_to_list (f a)) [] ++ posts (a + 1) len) off ∙ pick_out (a + 1) len (elim out [ inl l ↦ inl (omega (arith, l)) | inr l ↦ inr (omega (arith, l)) ])
 
-    other : a ≢ n → filter (of_space n) (filter_map f (range_with_len (a + 1) len)) ≡ option_to_list (f n) → (o : Option PostView) → f a ≡ o → filter (of_space n) (cons_option o (filter_map f (range_with_len (a + 1) len))) ≡ option_to_list (f n)
-    other ne ih None e = ih
-    other ne ih (Some p) e =
-        let space = each a p e in
-        let off : (p.space == n) ≡ false = grind (arith, nat_tests) in
-        ap (λ b. cond b (p ∷ filter (of_space n) (filter_map f (range_with_len (a + 1) len))) (filter (of_space n) (filter_map f (range_with_len (a + 1) len)))) off ∙ ih
-
-    which : (b : Bool) → eqb a n ≡ b → (a ≢ n → filter (of_space n) (filter_map f (range_with_len (a + 1) len)) ≡ option_to_list (f n))
-        → filter (of_space n) (cons_option (f a) (filter_map f (range_with_len (a + 1) len))) ≡ option_to_list (f n)
-    which true e ih =
-        let is : a ≡ n = grind (arith, nat_tests) in
-        same is (pick_out f each n (a + 1) len (inl (omega (arith, is)))) (f a) refl ∙ ap (λ k. option_to_list (f k)) is
-    which false e ih = let ne : a ≢ n = (λ q. absurd (grind (arith, nat_tests))) in other ne (ih ne) (f a) refl
+  pick_in : (a len : ℕ) → a ≤ n → n < a + len → posts a len ≡ option_to_list (f n)
+  pick_in a zero low high = absurd (omega (arith, low, high))
+  pick_in a (suc len) low high = first a len ∙ by (a == n) refl (λ l. pick_in (a + 1) len l (omega (arith, high)))
+    where
+      by : (b : Bool) → (a == n) ≡ b → (a + 1 ≤ n → posts (a + 1) len ≡ option_to_list (f n)) → cond b (option_to_list (f a)) [] ++ posts (a + 1) len ≡ option_to_list (f n)
+      by true e later =
+          let is : a ≡ n = grind (arith, nat_tests) in
+          let none = pick_out (a + 1) len (inl (omega (arith, is))) in
+          (λ i. option_to_list (f (is i)) ++ none i) ∙ append-nil (option_to_list (f n))
+      by false e later = later (grind (arith, nat_tests))
 
 -- the post of namespace n that a command gives, where its table differs
 abbrev pub given : ℕ → ℕ → WorldView → Command → Option PostView
@@ -181,35 +141,31 @@ pub given_out : (n number : ℕ) (w : WorldView) (c : Command) → IsGood w → 
 given_out n number w c g out =
     let v = next_good w c g in
     let low = next_higher w c in
-    no_post n number w (next_world w c) g v (table_outside w n g.formed (elim out [ inl z ↦ inl z | inr l ↦ inr (omega (arith, l, low)) ]) ∙ sym (table_outside (next_world w c) n v.formed out))
+    let before = out_nowhere w n g.formed (elim out [ inl z ↦ inl z | inr l ↦ inr (omega (arith, l, low)) ]) in
+    no_post w (next_world w c) n g.formed (table_nowhere (next_world w c) n v.formed (out_nowhere (next_world w c) n v.formed out) ∙ sym (table_nowhere w n g.formed before)) number
+
+-- a number was given out, or not
+given_or_not : (n s : ℕ) → ((n ≡ 0) ⊎ (s ≤ n)) ⊎ ((1 ≤ n) × (n < s))
+given_or_not n s = elim (leb_tells 1 n) [
+  | inl one ↦ elim (leb_tells s n) [ inl late ↦ inl (inr late.1) | inr low ↦ inr (one.1, low.1) ]
+  | inr zero_is ↦ inl (inl (omega (arith, zero_is.1)))
+]
 
 pub posts_of_space : (cs : List Command) (c : Command) (n : ℕ) → filter (of_space n) (posts_of cs c) ≡ option_to_list (given n (space_number n cs + 1) (after cs) c)
 unfolding posts_of
-posts_of_space cs c n = by (eqb n 0) (ltb n (next_world (after cs) c).next_space) refl refl
-  where
-    f : ℕ → Option PostView
-    f m = given m (space_number m cs + 1) (after cs) c
-
-    each : (m : ℕ) (p : PostView) → given m (space_number m cs + 1) (after cs) c ≡ Some p → p.space ≡ m
-    each m p e = (post_is m (space_number m cs + 1) (difference (table_of (after cs) m) (table_of (next_world (after cs) c) m)) p e).space_is
-
-    one : 1 ≤ (next_world (after cs) c).next_space
-    one = (next_good (after cs) c (after_good cs)).formed.from_one.1
-
-    by : (a b : Bool) → eqb n 0 ≡ a → ltb n (next_world (after cs) c).next_space ≡ b
-        → filter (of_space n) (filter_map (λ m. given m (space_number m cs + 1) (after cs) c) (range_with_len 1 ((next_world (after cs) c).next_space - 1))) ≡ option_to_list (given n (space_number n cs + 1) (after cs) c)
-    by true b z l =
-        let zero_is : n ≡ 0 = grind (arith, nat_tests) in
-        pick_out (λ m. given m (space_number m cs + 1) (after cs) c) each n 1 ((next_world (after cs) c).next_space - 1) (inl (omega (arith, zero_is)))
-        ∙ sym (ap option_to_list (given_out n (space_number n cs + 1) (after cs) c (after_good cs) (inl zero_is)))
-    by false false z l =
-        let above : (next_world (after cs) c).next_space ≤ n = grind (arith, nat_tests) in
-        pick_out (λ m. given m (space_number m cs + 1) (after cs) c) each n 1 ((next_world (after cs) c).next_space - 1) (inr (omega (arith, above, one)))
-        ∙ sym (ap option_to_list (given_out n (space_number n cs + 1) (after cs) c (after_good cs) (inr above)))
-    by false true z l =
-        let low : 1 ≤ n = grind (arith, nat_tests) in
-        let high : n < (next_world (after cs) c).next_space = grind (arith, nat_tests) in
-        pick_in (λ m. given m (space_number m cs + 1) (after cs) c) each n 1 ((next_world (after cs) c).next_space - 1) low (omega (arith, high, one))
+posts_of_space cs c n =
+    let f : ℕ → Option PostView = λ m. given m (space_number m cs + 1) (after cs) c in
+    let each : (m : ℕ) (p : PostView) → f m ≡ Some p → p.space ≡ m =
+    λ m p e. (post_is m (space_number m cs + 1) (difference (table_of (after cs) m) (table_of (next_world (after cs) c) m)) p e).space_is in
+    let next = (next_world (after cs) c).next_space in
+    let good = after_good cs in
+    let one = (next_good (after cs) c good).formed.from_one.1 in
+    elim (given_or_not n next) [
+      | inl out ↦
+          pick_out f each n 1 (next - 1) (elim out [ inl z ↦ inl (omega (arith, z)) | inr l ↦ inr (omega (arith, l, one)) ])
+          ∙ sym (ap option_to_list (given_out n (space_number n cs + 1) (after cs) c good out))
+      | inr low ↦ pick_in f each n 1 (next - 1) low.0 (omega (arith, low.1, one))
+    ]
 
 -- ---- the events of one namespace
 

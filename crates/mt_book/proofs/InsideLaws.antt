@@ -7,100 +7,70 @@ use Rattle.std.proofs.lemmas.Bool.{true≢false}
 use Rattle.std.proofs.lemmas.Bool.Decides.{nat_tests}
 use Rattle.mt_skel.specs.declared.fault.Fault.{Fault}
 use Rattle.mt_skel.specs.declared.fault.Fault.TheVariants.{JournalFull}
-use Rattle.mt_skel.specs.Skeleton.{Skeleton, Filesystem, IsSkeleton, added_fs, added_dir}
+use Rattle.mt_skel.specs.Skeleton.{IsSkeleton}
 use Rattle.mt_propagate.specs.World.{WorldView}
 use Rattle.mt_propagate.specs.WellFormed.{IsWellFormed}
 use Rattle.mt_propagate.specs.Contained.{IsContained, IsSameOutside}
-use Rattle.mt_bind.specs.Spaces.{new_space, with_copy, copy_space, drop_space}
-use Rattle.mt_bind.specs.Mounting.{mounted, bound, moved}
-use Rattle.mt_bind.specs.Pivoting.{pivoted}
-use Rattle.mt_bind.proofs.AcceptedLaws.{copy_space_accepted}
+use Rattle.mt_bind.specs.Spaces.{with_copy}
+use Rattle.mt_bind.proofs.AcceptedLaws.{copy_space_accepted, drop_space_accepted}
 use Rattle.mt_bind.proofs.InsideLaws.{mount_contained, mount_outside, bind_contained, bind_outside, move_contained, move_outside, made_contained, copied_contained, less_copied, end_contained, end_outside}
 use Rattle.mt_bind.proofs.PivotingLaws.{pivoted_contained, pivoted_outside}
-use Rattle.mt_unmount.specs.Unmounting.{unmounted}
-use Rattle.mt_unmount.specs.Detaching.{detached}
 use Rattle.mt_unmount.proofs.InsideLaws.{unmounted-contained, unmounted-outside}
 use Rattle.mt_unmount.proofs.DetachInsideLaws.{detached-contained, detached-outside}
-use Rattle.mt_setattr.specs.Change.{attributed}
 use Rattle.mt_setattr.proofs.InsideLaws.{attributed-contained, attributed-outside}
 use Rattle.mt_info.specs.Table.{table_of}
 use Rattle.mt_info.proofs.OutsideTables.{same_table}
 use Rattle.mt_book.specs.declared.command.Command.{Command}
 use Rattle.mt_book.specs.declared.command.Command.TheVariants.{MakeFs, MakeDir, NewSpace, CopySpace, DropSpace, Mount, Bind, Move, Pivot, Unmount, Detach, SetAttr}
 use Rattle.mt_book.specs.declared.command.Reply.{Reply}
-use Rattle.mt_book.specs.declared.command.Reply.TheVariants.{Done, Number}
-use Rattle.mt_book.specs.Step.{with_made_number, step, world_or, next_world, after_from, after}
+use Rattle.mt_book.specs.declared.command.Reply.TheVariants.{Number}
+use Rattle.mt_book.specs.Step.{step, makes_directories, world_or, next_world, after_from, after}
 use Rattle.mt_book.specs.History.{events, space_number}
 use Rattle.mt_book.specs.Book.{command_limit, answer, reply_of}
 use Rattle.mt_book.specs.Inside.{is_issued_in, is_copy_of, IsNotCopied, StaysInCopy, AllStayInCopies}
-use Rattle.mt_book.proofs.EffectLaws.{skel_ok, number_ok, done_ok, space_dropped}
+use Rattle.mt_book.proofs.EffectLaws.{number_ok, done_ok, directories_made, next_by}
 use Rattle.mt_book.proofs.StepLaws.{step_kept}
 use Rattle.mt_book.proofs.RiseLaws.{step_rises}
-use Rattle.mt_book.proofs.HistoryLaws.{IsGood, next_good, after_good, after-append, events-append, no_post}
+use Rattle.mt_book.proofs.HistoryLaws.{IsGood, step_good, after_good, after-append, events-append}
+use Rattle.mt_book.proofs.DirectoryLaws.{no_post}
 
 -- directories have no part in it
-skel_contained : (n : ℕ) (w v : WorldView) (t : Skeleton) → v ≡ record w { skel = t } → IsContained n w → IsContained n v
-skel_contained n w v t e a =
-    let b : IsContained n (record w { skel = t }) = record { groups = a.groups; chains = a.chains } in
-    subst (IsContained n) (sym e) b
+skel_contained : (n : ℕ) (w : WorldView) (c : Command) (v : WorldView) (r : Reply) → makes_directories c ≡ true → step w c ≡ Ok (v, r) → IsContained n w → IsContained n v
+skel_contained n w c v r d e a = let m = directories_made w c v r d e in subst (IsContained n) (sym m.1) (record { groups = a.groups; chains = a.chains })
 
 other : (k n : ℕ) → (k == n) ≡ false → n ≢ k
 other k n off same = let is : (k == n) ≡ true = grind (arith, nat_tests) in true≢false (sym is ∙ off)
 
 pub step_contained : (n : ℕ) (w : WorldView) (c : Command) (v : WorldView) (r : Reply) → IsWellFormed w → IsContained n w → n < w.next_space → is_copy_of n c ≡ false → step w c ≡ Ok (v, r) → IsContained n v
 unfolding step
-step_contained n w (MakeFs name kind source) v r h a low off e =
-    let f : Filesystem = record { name = name; kind = kind; source = source } in
-    let q = skel_ok w (λ s. Number (length s.filesystems)) (added_fs w.skel f) v r e in
-    skel_contained n w v q.0 q.2 a
-step_contained n w (MakeDir fs path) v r h a low off e =
-    let q = skel_ok w (λ s. Done) (added_dir w.skel fs path) v r e in
-    skel_contained n w v q.0 q.2 a
-step_contained n w (NewSpace fs) v r h a low off e =
-    let q = number_ok (new_space w fs) v r e in
-    made_contained n w fs v q.0 h a q.1
-step_contained n w (CopySpace k less) v r h a low off e =
-    let q = number_ok (copy_space w k less) v r e in
-    copied_contained n w k less v q.0 h a low (other k n off) q.1
-step_contained n w (DropSpace k) v r h a low off e =
-    let m = space_dropped w v k (done_ok (drop_space w k) v r e) in
-    subst (IsContained n) (sym m.1) (end_contained w h k n a)
-step_contained n w (Mount k fs path) v r h a low off e =
-    let q = number_ok (mounted w k fs path) v r e in
-    mount_contained n w k fs path v q.0 h a q.1
-step_contained n w (Bind k src dst recursive) v r h a low off e =
-    let q = number_ok (bound w k recursive src dst) v r e in
-    bind_contained n w k recursive src dst v q.0 h a q.1
-step_contained n w (Move k src dst) v r h a low off e = move_contained n w k src dst v h a (done_ok (moved w k src dst) v r e)
-step_contained n w (Pivot k new old) v r h a low off e = pivoted_contained n w k new old v h a (done_ok (pivoted w k new old) v r e)
-step_contained n w (Unmount k path) v r h a low off e = unmounted-contained n w k path v h a (done_ok (unmounted w k path) v r e)
-step_contained n w (Detach k path) v r h a low off e = detached-contained n w k path v h a (done_ok (detached w k path) v r e)
-step_contained n w (SetAttr k path change) v r h a low off e = attributed-contained n w k path change v h a (done_ok (attributed w k path change) v r e)
+step_contained n w (MakeFs name kind source) v r h a low off e = skel_contained n w (MakeFs name kind source) v r refl e a
+step_contained n w (MakeDir fs path) v r h a low off e = skel_contained n w (MakeDir fs path) v r refl e a
+step_contained n w (NewSpace fs) v r h a low off e = let q = number_ok _ v r e in made_contained n w fs v q.0 h a q.1
+step_contained n w (CopySpace k less) v r h a low off e = let q = number_ok _ v r e in copied_contained n w k less v q.0 h a low (other k n off) q.1
+step_contained n w (DropSpace k) v r h a low off e = subst (IsContained n) (drop_space_accepted w k v (done_ok _ v r e)).world (end_contained w h k n a)
+step_contained n w (Mount k fs path) v r h a low off e = let q = number_ok _ v r e in mount_contained n w k fs path v q.0 h a q.1
+step_contained n w (Bind k src dst deep) v r h a low off e = let q = number_ok _ v r e in bind_contained n w k deep src dst v q.0 h a q.1
+step_contained n w (Move k src dst) v r h a low off e = move_contained n w k src dst v h a (done_ok _ v r e)
+step_contained n w (Pivot k new old) v r h a low off e = pivoted_contained n w k new old v h a (done_ok _ v r e)
+step_contained n w (Unmount k path) v r h a low off e = unmounted-contained n w k path v h a (done_ok _ v r e)
+step_contained n w (Detach k path) v r h a low off e = detached-contained n w k path v h a (done_ok _ v r e)
+step_contained n w (SetAttr k path change) v r h a low off e = attributed-contained n w k path change v h a (done_ok _ v r e)
 
--- the namespace in which a command is issued
-moved_to : (k n : ℕ) (w v : WorldView) → (k == n) ≡ true → IsContained n w → (IsContained k w → IsSameOutside k w v) → IsSameOutside n w v
-moved_to k n w v is a f = let same = eqb-true k n is in subst (λ x. IsSameOutside x w v) same (f (subst (λ x. IsContained x w) (sym same) a))
+-- a command that is issued in a contained namespace changes nothing outside it
+at_issue : (k n : ℕ) (w v : WorldView) → (k == n) ≡ true → IsContained n w → (IsContained k w → IsSameOutside k w v) → IsSameOutside n w v
+at_issue k n w v is a f = let same = eqb-true k n is in subst (λ x. IsSameOutside x w v) same (f (subst (λ x. IsContained x w) (sym same) a))
 
 step_outside : (n : ℕ) (w : WorldView) (c : Command) (v : WorldView) (r : Reply) → IsWellFormed w → IsContained n w → is_issued_in n c ≡ true → step w c ≡ Ok (v, r) → IsSameOutside n w v
 unfolding step
-step_outside n w (MakeFs name kind source) v r h a is e = absurd (cc)
-step_outside n w (MakeDir fs path) v r h a is e = absurd (cc)
-step_outside n w (NewSpace fs) v r h a is e = absurd (cc)
-step_outside n w (CopySpace k less) v r h a is e = absurd (cc)
-step_outside n w (DropSpace k) v r h a is e =
-    let m = space_dropped w v k (done_ok (drop_space w k) v r e) in
-    moved_to k n w v is a (λ b. subst (IsSameOutside k w) (sym m.1) (end_outside w h k b))
-step_outside n w (Mount k fs path) v r h a is e =
-    let q = number_ok (mounted w k fs path) v r e in
-    moved_to k n w v is a (λ b. mount_outside w k fs path v q.0 h b q.1)
-step_outside n w (Bind k src dst recursive) v r h a is e =
-    let q = number_ok (bound w k recursive src dst) v r e in
-    moved_to k n w v is a (λ b. bind_outside w k recursive src dst v q.0 h b q.1)
-step_outside n w (Move k src dst) v r h a is e = moved_to k n w v is a (λ b. move_outside w k src dst v h b (done_ok (moved w k src dst) v r e))
-step_outside n w (Pivot k new old) v r h a is e = moved_to k n w v is a (λ b. pivoted_outside w k new old v h b (done_ok (pivoted w k new old) v r e))
-step_outside n w (Unmount k path) v r h a is e = moved_to k n w v is a (λ b. unmounted-outside w k path v h b (done_ok (unmounted w k path) v r e))
-step_outside n w (Detach k path) v r h a is e = moved_to k n w v is a (λ b. detached-outside w k path v h b (done_ok (detached w k path) v r e))
-step_outside n w (SetAttr k path change) v r h a is e = moved_to k n w v is a (λ b. attributed-outside w k path change v h b (done_ok (attributed w k path change) v r e))
+step_outside n w (DropSpace k) v r h a is e = at_issue k n w v is a (λ b. subst (IsSameOutside k w) (drop_space_accepted w k v (done_ok _ v r e)).world (end_outside w h k b))
+step_outside n w (Mount k fs path) v r h a is e = at_issue k n w v is a (λ b. let q = number_ok _ v r e in mount_outside w k fs path v q.0 h b q.1)
+step_outside n w (Bind k src dst deep) v r h a is e = at_issue k n w v is a (λ b. let q = number_ok _ v r e in bind_outside w k deep src dst v q.0 h b q.1)
+step_outside n w (Move k src dst) v r h a is e = at_issue k n w v is a (λ b. move_outside w k src dst v h b (done_ok _ v r e))
+step_outside n w (Pivot k new old) v r h a is e = at_issue k n w v is a (λ b. pivoted_outside w k new old v h b (done_ok _ v r e))
+step_outside n w (Unmount k path) v r h a is e = at_issue k n w v is a (λ b. unmounted-outside w k path v h b (done_ok _ v r e))
+step_outside n w (Detach k path) v r h a is e = at_issue k n w v is a (λ b. detached-outside w k path v h b (done_ok _ v r e))
+step_outside n w (SetAttr k path change) v r h a is e = at_issue k n w v is a (λ b. attributed-outside w k path change v h b (done_ok _ v r e))
+step_outside n w c v r h a is e = absurd (cc)
 
 pub step_inside : (n : ℕ) (w : WorldView) (c : Command) (v : WorldView) (r : Reply) → IsWellFormed w → IsSkeleton w.skel → IsContained n w → is_issued_in n c ≡ true → step w c ≡ Ok (v, r) → (k : ℕ) → k ≢ n
     → table_of v k ≡ table_of w k
@@ -114,43 +84,25 @@ record Stands (n : ℕ) (w : WorldView) : Type 0 where
 
 step_stands : (n : ℕ) (w : WorldView) (c : Command) (v : WorldView) (r : Reply) → Stands n w → is_copy_of n c ≡ false → step w c ≡ Ok (v, r) → Stands n v
 step_stands n w c v r s off e =
-    let kept = step_kept w c v r s.good.formed s.good.skeleton e in
     let rises = (step_rises w c v r e).spaces in
     let low = s.given in
     record {
-      good = record { formed = kept.0; skeleton = kept.1 };
+      good = step_good w c v r s.good e;
       given = omega (arith, low, rises);
       contained = step_contained n w c v r s.good.formed s.contained s.given off e;
     }
 
 next_stands : (n : ℕ) (w : WorldView) (c : Command) → Stands n w → ((v : WorldView) (r : Reply) → step w c ≡ Ok (v, r) → is_copy_of n c ≡ false) → Stands n (next_world w c)
-next_stands n w c s off = go (step w c) refl
-  where
-    go : (q : Result (WorldView × Reply) Fault) → step w c ≡ q → Stands n (world_or w q)
-    go (Ok p) e = step_stands n w c p.0 p.1 s (off p.0 p.1 e) e
-    go (Err f) e = s
+next_stands n w c s off = next_by (Stands n) w c s (λ v r e. step_stands n w c v r s (off v r e) e)
 
 all_stand : (n : ℕ) (w : WorldView) (done : List Command) → Stands n w → IsNotCopied n w done → Stands n (after_from w done)
 all_stand n w [] s off = s
 all_stand n w (c ∷ later) s off = all_stand n (next_world w c) later (next_stands n w c s off.0) off.1
 
 stands_inside : (n : ℕ) (w : WorldView) (c : Command) → Stands n w → is_issued_in n c ≡ true → (k : ℕ) → k ≢ n → table_of (next_world w c) k ≡ table_of w k
-stands_inside n w c s is k off = go (step w c) refl
-  where
-    go : (q : Result (WorldView × Reply) Fault) → step w c ≡ q → table_of (world_or w q) k ≡ table_of w k
-    go (Ok p) e = step_inside n w c p.0 p.1 s.good.formed s.good.skeleton s.contained is e k off
-    go (Err f) e = refl
+stands_inside n w c s is k off = next_by (λ v. table_of v k ≡ table_of w k) w c refl (λ v r e. step_inside n w c v r s.good.formed s.good.skeleton s.contained is e k off)
 
 -- a less privileged copy, as it is made
-numbered_ok : (q : Result (WorldView × ℕ) Fault) (v : WorldView) (n : ℕ) → with_made_number q ≡ Ok (v, Number n) → q ≡ Ok (v, n)
-numbered_ok (Ok p) v n e =
-    let same : ◌≡◌ {A = WorldView × Reply} (p.0, Number p.1) (v, Number n) = cc in
-    let world : p.0 ≡ v = ap (λ (x : WorldView × Reply). x.0) same in
-    let reply : Number p.1 ≡ Number n = ap (λ (x : WorldView × Reply). x.1) same in
-    let number : p.1 ≡ n = cc in
-    λ i. Ok (world i, number i)
-numbered_ok (Err f) v n e = absurd (cc)
-
 new_given : (w : WorldView) (k : ℕ) → w.next_space < (with_copy w k true).next_space
 unfolding with_copy
 new_given w k = omega arith
@@ -158,11 +110,12 @@ new_given w k = omega arith
 less_stands : (w : WorldView) (m n : ℕ) (v : WorldView) → IsGood w → step w (CopySpace m true) ≡ Ok (v, Number n) → Stands n v
 unfolding step
 less_stands w m n v g e =
-    let is = numbered_ok (copy_space w m true) v n e in
+    let q = number_ok _ v (Number n) e in
+    let number : q.0 ≡ n = (let same = q.2 in cc) in
+    let is = q.1 ∙ ap (λ i. Ok (v, i)) number in
     let made = copy_space_accepted w m true v n is in
-    let kept = step_kept w (CopySpace m true) v (Number n) g.formed g.skeleton e in
     record {
-      good = record { formed = kept.0; skeleton = kept.1 };
+      good = step_good w (CopySpace m true) v (Number n) g e;
       given = subst (λ x. n < x.next_space) made.world (subst (λ k. k < (with_copy w m true).next_space) made.number (new_given w m));
       contained = less_copied w m v n g.formed is;
     }
@@ -174,8 +127,8 @@ less_inside w m n v h s e done off c is k other = stands_inside n (after_from v 
 -- a table that stays leaves its number
 pub number_stays : (k : ℕ) (cs : List Command) (c : Command) → table_of (after (cs ++ c ∷ [])) k ≡ table_of (after cs) k → space_number k (cs ++ c ∷ []) ≡ space_number k cs
 number_stays k cs c same =
-    let next : table_of (after cs) k ≡ table_of (next_world (after cs) c) k = sym same ∙ ap (λ w. table_of w k) (after-append cs (c ∷ [])) in
-    let none = no_post k (space_number k cs + 1) (after cs) (next_world (after cs) c) (after_good cs) (next_good (after cs) c (after_good cs)) next in
+    let next : table_of (next_world (after cs) c) k ≡ table_of (after cs) k = ap (λ w. table_of w k) (sym (after-append cs (c ∷ []))) ∙ same in
+    let none = no_post (after cs) (next_world (after cs) c) k (after_good cs).formed next (space_number k cs + 1) in
     ap length (events-append k cs (c ∷ []))
     ∙ ap (λ o. length (events k cs ++ (option_to_list o ++ []))) none ∙ ap length (append-nil (events k cs))
 

@@ -1,9 +1,7 @@
-pub mod AcceptedLaws
 pub mod SkelLaws
 pub mod EffectLaws
 pub mod StepLaws
 pub mod RiseLaws
-pub mod DirectoryLaws
 pub mod GrowthLaws
 pub mod HistoryLaws
 pub mod HasLaws
@@ -16,7 +14,7 @@ pub mod StayLaws
 pub mod ChangedLaws
 pub mod LoneLaws
 pub mod NextLaws
-pub mod NumberLaws
+pub mod DirectoryLaws
 pub mod HeardLaws
 pub mod BookLaws
 pub mod ReadingLaws

@@ -1,5 +1,5 @@
 -- One command more: its posts, and the numbers.
-use Rattle.std.proofs.Common.{◌≡◌, inr, ℕ, ◌+◌, ◌-◌, ◌<◌, ◌≤◌, Bool, true, false, cond, List, [], ◌∷◌, ◌++◌, length, None, Some, Ok, refl, sym, ap, ◌∙◌, subst, arith, length-append, append-nil}
+use Rattle.std.proofs.Common.{◌≡◌, inr, ℕ, ◌+◌, ◌-◌, ◌<◌, ◌≤◌, Bool, true, false, cond, List, [], ◌∷◌, ◌++◌, length, Option, None, Some, Ok, refl, sym, ap, ◌∙◌, subst, arith, length-append, append-nil}
 use Rattle.std.specs.List.{filter_map, range_with_len}
 use Rattle.std.specs.Option.{option_to_list}
 use Rattle.std.specs.Result.{is_ok}
@@ -14,7 +14,8 @@ use Rattle.mt_book.specs.Step.{step, makes_space, world_or, next_world, after_fr
 use Rattle.mt_book.specs.History.{events_from, events, space_number, posts_of}
 use Rattle.mt_book.specs.Book.{command_limit, accepts, spaces_of, space_numbers, next_number, next_post, counted, posts_at_change, with_newborn, still_there, AreNumbers}
 use Rattle.mt_book.proofs.GrowthLaws.{reached, step_spaces}
-use Rattle.mt_book.proofs.HistoryLaws.{IsGood, after_good, after-append, events-append, no_post, table_nowhere, given}
+use Rattle.mt_book.proofs.HistoryLaws.{step_good, after_good, after-append, events-append, table_nowhere, given}
+use Rattle.mt_book.proofs.DirectoryLaws.{no_post}
 use Rattle.mt_book.proofs.SpaceLaws.{step_gone}
 use Rattle.mt_book.proofs.ThereLaws.{paired, all_in, newborn-rows, counted-rows, posted-rows, there-rows, spaces-next, posts-all, all-rise, rows-few}
 use Rattle.mt_book.proofs.EndLaws.{number_late}
@@ -23,13 +24,9 @@ pub after-accepted : (cs : List Command) (c : Command) (v : WorldView) (r : Repl
 after-accepted cs c v r e = after-append cs (c ∷ []) ∙ ap (world_or (after cs)) e
 
 -- at most one post of a namespace for each command
-given-few : (b : Bool) (p : PostView) → length (option_to_list (cond b None (Some p))) ≡ cond b 0 1
-given-few true p = refl
-given-few false p = refl
-
-add-one-or-none : (b : Bool) (k : ℕ) → k + cond b 0 1 ≡ cond b k (k + 1)
-add-one-or-none true k = omega arith
-add-one-or-none false k = omega arith
+one-more : (b : Bool) (k : ℕ) (p : PostView) → k + length (option_to_list (cond b None (Some p))) ≡ cond b k (k + 1)
+one-more true k p = omega arith
+one-more false k p = omega arith
 
 number-more : (n : ℕ) (cs : List Command) (c : Command) → space_number n (cs ++ c ∷ []) ≡ next_number (after cs) (next_world (after cs) c) n (space_number n cs)
 number-more n cs c =
@@ -40,8 +37,7 @@ number-more n cs c =
     ap (λ (l : List PostView). length l) (events-append n cs (c ∷ []))
     ∙ length-append (events n cs) (here ++ [])
     ∙ ap (λ (l : List PostView). space_number n cs + length l) (append-nil here)
-    ∙ ap (λ x. space_number n cs + x) (given-few (is_empty d) post)
-    ∙ add-one-or-none (is_empty d) (space_number n cs)
+    ∙ one-more (is_empty d) (space_number n cs) post
 
 pub number-next : (n : ℕ) (cs : List Command) (c : Command) (v : WorldView) (r : Reply) → step (after cs) c ≡ Ok (v, r) → next_number (after cs) v n (space_number n cs) ≡ space_number n (cs ++ c ∷ [])
 number-next n cs c v r e = ap (λ (x : WorldView). next_number (after cs) x n (space_number n cs)) (sym (ap (world_or (after cs)) e)) ∙ sym (number-more n cs c)
@@ -50,15 +46,12 @@ number-next n cs c v r e = ap (λ (x : WorldView). next_number (after cs) x n (s
 from-few : (n k : ℕ) (w : WorldView) (cs : List Command) → length (events_from n k w cs) ≤ length cs
 from-few n k w [] = omega arith
 from-few n k w (c ∷ cs) =
-    let w' = next_world w c in
-    let d = difference (table_of w n) (table_of w' n) in
     let first = option_to_list (given n k w c) in
-    let post : PostView = record { space = n; number = k; gone = d.gone; rows = d.rows } in
-    omega (arith, length-append first (events_from n (k + length first) w' cs), from-few n (k + length first) w' cs, given-few (is_empty d) post, one_at_most (is_empty d))
+    omega (arith, length-append first (events_from n (k + length first) (next_world w c) cs), from-few n (k + length first) (next_world w c) cs, at-most-one (given n k w c))
   where
-    one_at_most : (b : Bool) → cond b 0 1 ≤ 1
-    one_at_most true = omega arith
-    one_at_most false = omega arith
+    at-most-one : (o : Option PostView) → length (option_to_list o) ≤ 1
+    at-most-one None = omega arith
+    at-most-one (Some p) = omega arith
 
 pub number-few : (n : ℕ) (cs : List Command) → space_number n cs ≤ length cs
 unfolding events
@@ -68,9 +61,6 @@ pub number-newborn : (n : ℕ) (cs : List Command) → (after cs).next_space ≤
 number-newborn n cs late = number_late n cs (inr late)
 
 -- ---- the numbers and posts of all namespaces
-
-accepted_good : (cs : List Command) (c : Command) (v : WorldView) (r : Reply) → step (after cs) c ≡ Ok (v, r) → IsGood v
-accepted_good cs c v r e = subst IsGood (after-accepted cs c v r e) (after_good (cs ++ c ∷ []))
 
 pub numbers-next : (cs : List Command) (c : Command) (v : WorldView) (r : Reply) → step (after cs) c ≡ Ok (v, r)
     → still_there v (counted (after cs) v (with_newborn (space_numbers cs) (after cs).next_space (makes_space c))) ≡ space_numbers (cs ++ c ∷ [])
@@ -92,8 +82,7 @@ gone_none : (cs : List Command) (c : Command) (v : WorldView) (r : Reply) → st
 gone_none cs c v r e n k low gone =
     let w = after cs in
     let g = after_good cs in
-    let h = accepted_good cs c v r e in
-    no_post n (k + 1) w v g h (table_nowhere w n g.formed gone ∙ sym (table_nowhere v n h.formed (step_gone w c v r n g.formed g.skeleton e low gone)))
+    no_post w v n g.formed (table_nowhere v n (step_good w c v r g e).formed (step_gone w c v r n g.formed g.skeleton e low gone) ∙ sym (table_nowhere w n g.formed gone)) (k + 1)
 
 pub posts-next : (cs : List Command) (c : Command) (v : WorldView) (r : Reply) → step (after cs) c ≡ Ok (v, r)
     → posts_at_change (after cs) v (with_newborn (space_numbers cs) (after cs).next_space (makes_space c)) ≡ posts_of cs c

@@ -1,14 +1,13 @@
 -- The rows of a world's tables have in their fields what every row has there by its type.
-use Rattle.std.proofs.Common.{◌≡◌, ℕ, zero, suc, ◌-◌, ◌<◌, ◌≤◌, ◌^◌, Bool, true, false, cond, List, [], ◌∷◌, map, length, drop, reverse, ◌==◌, Option, Some, None, IsTrue, ◌&&◌, inl, inr, refl, sym, ap, ◌∙◌, arith}
+use Rattle.std.proofs.Common.{◌≡◌, ℕ, zero, suc, ◌-◌, ◌<◌, ◌≤◌, ◌^◌, Bool, true, false, cond, List, [], ◌∷◌, length, drop, reverse, ◌==◌, Option, Some, None, IsTrue, ◌&&◌, refl, sym, ap, ◌∙◌, subst, arith}
 use Rattle.std.proofs.lemmas.List.{length-map}
 use Rattle.std.specs.List.{list_all, flat_map, filter, find, AllByRecursion}
-use Rattle.std.specs.Option.{ForSome, option_map, option_map_or, option_and_then, unwrap_or}
-use Rattle.std.proofs.lemmas.Option.{slice_get-get_or}
-use Rattle.std.proofs.lemmas.List.Folds.{list_all-append}
+use Rattle.std.specs.Option.{ForSome, option_map, option_map_or, unwrap_or}
+use Rattle.std.proofs.lemmas.Option.{slice_get-get_or, option_and_then_some}
 use Rattle.mt_skel.specs.Names.{is_name}
-use Rattle.mt_skel.specs.Skeleton.{Skeleton, IsSkeleton, holds, directory, path_below}
-use Rattle.mt_skel.proofs.ElementLaws.{In, in_row, in_any, find_in}
-use Rattle.mt_skel.proofs.MiddleLaws.{and_first, and_second, and-true}
+use Rattle.mt_skel.specs.Skeleton.{Skeleton, IsSkeleton, directory, path_below}
+use Rattle.mt_skel.proofs.ElementLaws.{in_row, in_any, in_flat, in_map, in_filter, find_in}
+use Rattle.mt_skel.proofs.MiddleLaws.{and_first, and_second}
 use Rattle.mt_mounts.specs.declared.mount.Mount.{Mount}
 use Rattle.mt_mounts.specs.declared.mount.Place.{Place}
 use Rattle.mt_mounts.specs.Forest.{id_of, mount_at, parents_up}
@@ -21,6 +20,7 @@ use Rattle.mt_propagate.specs.World.{WorldView, root_dir, state_of, space_of, pr
 use Rattle.mt_propagate.specs.FromGroup.{from_group, is_seen}
 use Rattle.mt_propagate.specs.WellFormed.{IsWellFormed}
 use Rattle.mt_propagate.specs.Named.{mount_or_unknown}
+use Rattle.mt_propagate.proofs.RowLaws.{in_all, all_in, each_in}
 use Rattle.mt_propagate.proofs.SizeLaws.{few_pass}
 use Rattle.mt_info.specs.Laws.{IsRow}
 use Rattle.mt_info.specs.Table.{own_names, mount_point, row_of, table_of}
@@ -42,11 +42,10 @@ pub record CanTell (w : WorldView) : Type 0 where
 dropped : (q : List ℕ → Bool) (n : ℕ) (xs : List (List ℕ)) → list_all q xs ≡ true → list_all q (drop n xs) ≡ true
 dropped q zero xs h = h
 dropped q (suc n) [] h = h
-dropped q (suc n) (x ∷ xs) h = dropped q n xs (and_second (q x) (list_all q xs) h)
+dropped q (suc n) (x ∷ xs) h = dropped q n xs (and_second _ _ h)
 
 joined : (q : List ℕ → Bool) (f : ℕ → List (List ℕ)) → ((i : ℕ) → list_all q (f i) ≡ true) → (ids : List ℕ) → list_all q (flat_map f ids) ≡ true
-joined q f h [] = refl
-joined q f h (i ∷ ids) = list_all-append q (f i) (flat_map f ids) ∙ and-true (list_all q (f i)) (list_all q (flat_map f ids)) (h i) (joined q f h ids)
+joined q f h ids = in_all q (flat_map f ids) (λ x there. let at = in_flat f x ids there in all_in q (f at.0) x (h at.0) at.2)
 
 path_named : (s : Skeleton) → HasTexts s → (d : ℕ) → IsTrue (list_all is_name (directory s d).path)
 path_named s h d = each_or HasNames s.directories d (record { fs = 0; path = [] }) h.names refl
@@ -63,19 +62,19 @@ point_named w h i = joined is_name (own_names w) (own_named w h) (reverse (paren
 
 -- ---- numbers
 
-group_below : (w : WorldView) (i : ℕ) → IsWellFormed w → ForSome (state_of w i).group (λ g. g < w.peering.next)
-group_below w i h g = by (state_at w.peering.peers i) (λ s e is. h.peering.below i s g e is)
+-- what every state has is had by the state of any mount, or by that of a private one
+of_state : (w : WorldView) (i : ℕ) (P : State → Type 0) → ((s : State) → state_at w.peering.peers i ≡ Some s → P s) → P private → P (state_of w i)
+of_state w i P each alone = by (state_at w.peering.peers i) refl
   where
-    by : (o : Option State) → ((s : State) → o ≡ Some s → s.group ≡ Some g → g < w.peering.next) → (unwrap_or o private).group ≡ Some g → g < w.peering.next
-    by None f e = absurd (cc)
-    by (Some s) f e = f s refl e
+    by : (o : Option State) → state_at w.peering.peers i ≡ o → P (unwrap_or o private)
+    by None e = alone
+    by (Some s) e = each s e
+
+group_below : (w : WorldView) (i : ℕ) → IsWellFormed w → ForSome (state_of w i).group (λ g. g < w.peering.next)
+group_below w i h = of_state w i (λ s. ForSome s.group (λ g. g < w.peering.next)) (λ s e g is. h.peering.below i s g e is) (λ g is. absurd (cc))
 
 master_below : (w : WorldView) (i : ℕ) → IsWellFormed w → ForSome (state_of w i).master (λ g. g < w.peering.next)
-master_below w i h g = by (state_at w.peering.peers i) (λ s e is. old_master w.peering h.peering i s g e is)
-  where
-    by : (o : Option State) → ((s : State) → o ≡ Some s → s.master ≡ Some g → g < w.peering.next) → (unwrap_or o private).master ≡ Some g → g < w.peering.next
-    by None f e = absurd (cc)
-    by (Some s) f e = f s refl e
+master_below w i h = of_state w i (λ s. ForSome s.master (λ g. g < w.peering.next)) (λ s e g is. old_master w.peering h.peering i s g e is) (λ g is. absurd (cc))
 
 -- a group that is seen has a member
 seen_below : (w : WorldView) (n g : ℕ) → IsWellFormed w → is_seen w n g ≡ true → g < w.peering.next
@@ -85,26 +84,22 @@ seen_below w n g h e =
     h.peering.below q.0.mount q.0.state g at (named q.0.state.group g (and_first (names q.0.state.group g) _ q.2))
 
 via_below : (w : WorldView) (i : ℕ) → IsWellFormed w → ForSome (from_group w i) (λ g. g < w.peering.next)
-via_below w i h g e = by (state_of w i).master e
+via_below w i h g e =
+    let seen = is_seen w (space_of w i) in
+    option_and_then_some _ (state_of w i).master g e (λ m at above.
+    option_and_then_some _ (find seen (groups_up w.peering.peers m)) g above (λ x is other.
+    by (x == m) x (find_in seen (groups_up w.peering.peers m) x is).1 other))
   where
-    told : (m : ℕ) (b : Bool) (x : ℕ) → is_seen w (space_of w i) x ≡ true → cond b None (Some x) ≡ Some g → g < w.peering.next
-    told m true x s f = absurd (let v : None ≡ Some g = f in cc)
-    told m false x s f = let v : x ≡ g = cc in seen_below w (space_of w i) g h (ap (is_seen w (space_of w i)) (sym v) ∙ s)
-
-    found : (m : ℕ) (o : Option ℕ) → find (is_seen w (space_of w i)) (groups_up w.peering.peers m) ≡ o → option_and_then (λ g. cond (g == m) None (Some g)) o ≡ Some g → g < w.peering.next
-    found m None is f = absurd (let v : None ≡ Some g = f in cc)
-    found m (Some x) is f = told m (x == m) x (find_in (is_seen w (space_of w i)) (groups_up w.peering.peers m) x is).1 f
-
-    by : (o : Option ℕ) → option_and_then (λ m. option_and_then (λ g. cond (g == m) None (Some g)) (find (is_seen w (space_of w i)) (groups_up w.peering.peers m))) o ≡ Some g → g < w.peering.next
-    by None f = absurd (let v : None ≡ Some g = f in cc)
-    by (Some m) f = found m (find (is_seen w (space_of w i)) (groups_up w.peering.peers m)) refl f
+    by : (b : Bool) (x : ℕ) → is_seen w (space_of w i) x ≡ true → cond b None (Some x) ≡ Some g → g < w.peering.next
+    by true x s f = absurd (let v : None ≡ Some g = f in cc)
+    by false x s f = let v : x ≡ g = cc in seen_below w (space_of w i) g h (ap (is_seen w (space_of w i)) (sym v) ∙ s)
 
 parent_below : (w : WorldView) (m : Mount) → IsWellFormed w → mount_at w.forest m.id ≡ Some m → option_map_or (λ p. p.mount) m.place m.id < w.next_mount
-parent_below w m h at = by m.place (λ p e. h.forest.placed m.id m p at e)
+parent_below w m h at = by m.place refl
   where
-    by : (o : Option Place) → ((p : Place) → o ≡ Some p → (q : Mount) × (mount_at w.forest p.mount ≡ Some q) × (q.space ≡ m.space) × IsTrue (holds w.skel q.root p.dir)) → option_map_or (λ (p : Place). p.mount) o m.id < w.next_mount
-    by None f = (h.below m.id m at).1
-    by (Some p) f = let q = f p refl in (h.below p.mount q.0 q.1).1
+    by : (o : Option Place) → m.place ≡ o → option_map_or (λ (p : Place). p.mount) o m.id < w.next_mount
+    by None e = (h.below m.id m at).1
+    by (Some p) e = let q = h.forest.placed m.id m p at e in (h.below p.mount q.0 q.1).1
 
 -- ---- rows
 
@@ -131,17 +126,12 @@ row_valid w m h at =
       source = labels.1;
     }
 
-rows_valid : (w : WorldView) (t : Mount → Bool) (ms : List Mount) → ((m : Mount) → In m ms → IsRow (row_of w m)) → AllByRecursion IsRow (map (row_of w) (filter t ms))
-rows_valid w t [] h = tt
-rows_valid w t (m ∷ ms) h = by (t m) (rows_valid w t ms (λ x there. h x (inr there)))
-  where
-    by : (b : Bool) → AllByRecursion IsRow (map (row_of w) (filter t ms)) → AllByRecursion IsRow (map (row_of w) (cond b (m ∷ filter t ms) (filter t ms)))
-    by true rest = (h m (inl refl), rest)
-    by false rest = rest
-
 -- the rows of the table of any namespace
 pub table_valid : (w : WorldView) (n : ℕ) → CanTell w → AllByRecursion IsRow (table_of w n)
-table_valid w n h = rows_valid w (λ (m : Mount). m.space == n) w.forest (λ m there. row_valid w m h (in_row id_of w.forest m h.formed.forest.rising there))
+table_valid w n h = each_in IsRow (table_of w n) (λ r there.
+    let m = in_map (row_of w) r (filter (λ (m : Mount). m.space == n) w.forest) there in
+    let at = in_row id_of w.forest m.0 h.formed.forest.rising (in_filter (λ (m : Mount). m.space == n) m.0 w.forest m.1).0 in
+    subst IsRow m.2 (row_valid w m.0 h at))
 
 -- and there are few of them
 pub table_within : (w : WorldView) (n : ℕ) → CanTell w → length (table_of w n) ≤ 4096

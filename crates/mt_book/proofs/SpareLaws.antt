@@ -5,7 +5,7 @@ use Rattle.mt_propagate.specs.World.{WorldView}
 use Rattle.mt_book.specs.declared.command.Command.{Command}
 use Rattle.mt_book.specs.Step.{after, makes_directories}
 use Rattle.mt_book.specs.Kept.{IsBehind}
-use Rattle.mt_book.proofs.TouchedLaws.{skel_kept}
+use Rattle.mt_book.proofs.EffectLaws.{skel_kept}
 
 -- a last command that makes no directories left them as they were
 pub behind_skel : (cs : List Command) (w shown : WorldView) (c : Command) → IsBehind cs w → shown ≡ after cs → c ≡ get_or cs (length cs - 1) c → makes_directories c ≡ false → shown.skel ≡ w.skel

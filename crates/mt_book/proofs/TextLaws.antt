@@ -1,8 +1,7 @@
 -- The texts of the directories and filesystems of a world are those of the commands that made them.
-use Rattle.std.proofs.Common.{◌≡◌, ℕ, ◌+◌, ◌≤◌, false, List, [], ◌∷◌, ◌++◌, length, nat_le, Result, Ok, Err, IsTrue, refl, sym, subst, arith, length-append}
+use Rattle.std.proofs.Common.{◌≡◌, ℕ, ◌+◌, ◌≤◌, false, List, [], ◌∷◌, ◌++◌, length, nat_le, Ok, IsTrue, refl, sym, subst, arith, length-append}
 use Rattle.std.specs.List.{list_all, AllByRecursion}
 use Rattle.std.proofs.lemmas.Bool.Decides.{nat_tests}
-use Rattle.mt_skel.specs.declared.fault.Fault.{Fault}
 use Rattle.mt_skel.specs.Names.{is_label, is_name}
 use Rattle.mt_skel.specs.Skeleton.{Skeleton, Directory, Filesystem, added_fs, added_dir}
 use Rattle.mt_skel.proofs.MiddleLaws.{each_append}
@@ -10,12 +9,10 @@ use Rattle.mt_propagate.specs.World.{WorldView, empty_world}
 use Rattle.mt_book.specs.declared.command.Command.{Command}
 use Rattle.mt_book.specs.declared.command.Command.TheVariants.{MakeFs, MakeDir}
 use Rattle.mt_book.specs.declared.command.Reply.{Reply}
-use Rattle.mt_book.specs.declared.command.Reply.TheVariants.{Done, Number}
-use Rattle.mt_book.specs.Step.{step, world_or, next_world, after_from, after}
+use Rattle.mt_book.specs.Step.{step, next_world, after_from, after}
 use Rattle.mt_book.specs.Commands.{IsCommand}
-use Rattle.mt_book.proofs.AcceptedLaws.{fs_accepted, named_dir, dir_accepted}
-use Rattle.mt_book.proofs.EffectLaws.{skel_ok}
-use Rattle.mt_book.proofs.TouchedLaws.{skel_kept}
+use Rattle.mt_book.proofs.SkelLaws.{fs_accepted, named_dir, dir_accepted}
+use Rattle.mt_book.proofs.EffectLaws.{skel_ok, skel_kept, next_by}
 
 -- a filesystem has labels, and a directory names
 abbrev pub HasLabels : Filesystem → Type 0
@@ -59,21 +56,16 @@ dir_texts s t name path h l e =
 step_texts : (w : WorldView) (c : Command) (v : WorldView) (r : Reply) → HasTexts w.skel → IsCommand c → step w c ≡ Ok (v, r) → HasTexts v.skel
 unfolding step
 step_texts w (MakeFs name kind source) v r h l e =
-    let f : Filesystem = record { name = name; kind = kind; source = source } in
-    let q = skel_ok w (λ s. Number (length s.filesystems)) (added_fs w.skel f) v r e in
-    subst (λ (x : WorldView). HasTexts x.skel) (sym q.2) (fs_texts w.skel q.0 f h l q.1)
+    let q = skel_ok w _ _ v r e in
+    subst (λ (x : WorldView). HasTexts x.skel) (sym q.2) (fs_texts w.skel q.0 _ h l q.1)
 step_texts w (MakeDir fs path) v r h l e =
-    let q = skel_ok w (λ s. Done) (added_dir w.skel fs path) v r e in
+    let q = skel_ok w _ _ v r e in
     subst (λ (x : WorldView). HasTexts x.skel) (sym q.2) (dir_texts w.skel q.0 fs path h l q.1)
 step_texts w c v r h l e = subst HasTexts (sym (skel_kept w c v r refl e)) h
 
 -- any command, also a refused one
 pub next_texts : (w : WorldView) (c : Command) → HasTexts w.skel → IsCommand c → HasTexts (next_world w c).skel
-next_texts w c h l = by (step w c) (λ v r e. step_texts w c v r h l e)
-  where
-    by : (q : Result (WorldView × Reply) Fault) → ((v : WorldView) (r : Reply) → q ≡ Ok (v, r) → HasTexts v.skel) → HasTexts (world_or w q).skel
-    by (Ok p) f = f p.0 p.1 refl
-    by (Err x) f = h
+next_texts w c h l = next_by (λ v. HasTexts v.skel) w c h (λ v r e. step_texts w c v r h l e)
 
 from_texts : (w : WorldView) (cs : List Command) → HasTexts w.skel → AllByRecursion IsCommand cs → HasTexts (after_from w cs).skel
 from_texts w [] h l = h

@@ -1,12 +1,18 @@
 -- The namespaces that are there, by rising number, and what is kept of each.
-use Rattle.std.proofs.Common.{◌≡◌, ℕ, zero, suc, ◌+◌, ◌-◌, ◌<◌, ◌≤◌, Bool, true, false, cond, ◌&&◌, ◌==◌, eqb, List, [], ◌∷◌, ◌++◌, map, length, slice_index_or, Option, Some, None, refl, sym, ap, ◌∙◌, arith, append-nil}
+use Rattle.std.proofs.Common.{◌≡◌, inl, inr, ℕ, zero, suc, ◌+◌, ◌-◌, ◌<◌, ◌≤◌, Bool, true, false, cond, ◌&&◌, ◌==◌, List, [], ◌∷◌, ◌++◌, map, length, slice_index_or, Option, Some, None, refl, sym, ap, ◌∙◌, arith, append-nil}
 use Rattle.std.specs.Prelude.{nat_lt}
-use Rattle.std.specs.List.{filter, filter_map, cons_option, find, list_all, range_with_len}
-use Rattle.std.specs.Option.{option_map, option_to_list}
+use Rattle.std.specs.List.{filter, filter_map, find, range_with_len}
+use Rattle.std.specs.Option.{option_map}
 use Rattle.std.proofs.lemmas.Bool.Decides.{nat_tests}
 use Rattle.std.proofs.lemmas.List.{map-append}
 use Rattle.std.proofs.lemmas.List.Elements.{filter-append, filter_map-append}
 use Rattle.mt_skel.specs.Keyed.{rises}
+use Rattle.mt_skel.proofs.ElementLaws.{In, row_in, in_filter}
+use Rattle.mt_skel.proofs.KeyedLaws.{row_at-key, rises-put, rises-filter}
+use Rattle.mt_skel.proofs.SortedLaws.{rises-keys}
+use Rattle.mt_peers.proofs.MemberLaws.{filter-mapped}
+use Rattle.mt_propagate.proofs.AddedLaws.{put-last}
+use Rattle.mt_propagate.proofs.RowLaws.{filter-same, filter-two, each_in, in_all}
 use Rattle.mt_skel.proofs.MiddleLaws.{and-true}
 use Rattle.mt_propagate.specs.World.{WorldView, is_space}
 use Rattle.mt_events.specs.Posts.{PostView}
@@ -37,27 +43,14 @@ newborn-rows f w false z = append-nil (paired f (spaces_of w)) ∙ ap (paired f)
 
 pub counted-rows : (w v : WorldView) (f g : ℕ → ℕ) → ((n : ℕ) → next_number w v n (f n) ≡ g n) → (xs : List ℕ) → counted w v (paired f xs) ≡ paired g xs
 counted-rows w v f g same [] = refl
-counted-rows w v f g same (x ∷ xs) =
-    ap (λ k. numbered_row x k ∷ counted w v (paired f xs)) (same x) ∙ ap (λ l. numbered_row x (g x) ∷ l) (counted-rows w v f g same xs)
+counted-rows w v f g same (x ∷ xs) = let rest = counted-rows w v f g same xs in λ i. numbered_row x (same x i) ∷ rest i
 
 pub posted-rows : (w v : WorldView) (f : ℕ → ℕ) (xs : List ℕ) → posts_at_change w v (paired f xs) ≡ filter_map (λ n. next_post w v n (f n)) xs
 posted-rows w v f [] = refl
-posted-rows w v f (x ∷ xs) =
-    ap (λ l. option_to_list (next_post w v x (f x)) ++ l) (posted-rows w v f xs)
-    ∙ list-cons (next_post w v x (f x)) (filter_map (λ n. next_post w v n (f n)) xs)
-  where
-    list-cons : (o : Option PostView) (ps : List PostView) → option_to_list o ++ ps ≡ cons_option o ps
-    list-cons None ps = refl
-    list-cons (Some p) ps = refl
+posted-rows w v f (x ∷ xs) = let ih = posted-rows w v f xs in grind (arith, nat_tests)
 
 pub there-rows : (v : WorldView) (f : ℕ → ℕ) (xs : List ℕ) → still_there v (paired f xs) ≡ paired f (filter (is_space v) xs)
-there-rows v f [] = refl
-there-rows v f (x ∷ xs) = by (is_space v x) (there-rows v f xs)
-  where
-    by : (b : Bool) → still_there v (paired f xs) ≡ paired f (filter (is_space v) xs)
-        → cond b (numbered_row x (f x) ∷ still_there v (paired f xs)) (still_there v (paired f xs)) ≡ paired f (cond b (x ∷ filter (is_space v) xs) (filter (is_space v) xs))
-    by true ih = ap (λ l. numbered_row x (f x) ∷ l) ih
-    by false ih = ih
+there-rows v f xs = filter-mapped (λ r. is_space v (space_in r)) (λ n. numbered_row n (f n)) xs
 
 -- ---- all numbers that were given out, and those of namespaces that are there
 
@@ -65,24 +58,26 @@ range-more : (a n j : ℕ) → a + n ≡ j → range_with_len a (suc n) ≡ rang
 range-more a zero j e = ap (λ x. x ∷ []) (omega (arith, e))
 range-more a (suc n) j e = ap (λ l. a ∷ l) (range-more (a + 1) n j (omega (arith, e)))
 
+in_range : (a k n : ℕ) → In n (range_with_len a k) → (a ≤ n) × (n < a + k)
+in_range a zero n there = absurd there
+in_range a (suc k) n there = elim there [ inl here ↦ (omega (arith, here), omega (arith, here)) | inr later ↦ let l = in_range (a + 1) k n later in (omega (arith, l.0), omega (arith, l.1)) ]
+
 -- one that is not there before is not there after
 there-twice : (p q : ℕ → Bool) (a k b : ℕ) → ((n : ℕ) → n < b → p n ≡ false → q n ≡ false) → a + k ≤ b → filter q (filter p (range_with_len a k)) ≡ filter q (range_with_len a k)
-there-twice p q a zero b off l = refl
-there-twice p q a (suc k) b off l = by (p a) refl (there-twice p q (a + 1) k b off (omega (arith, l)))
+there-twice p q a k b off l =
+    filter-two q p (λ n. p n && q n) (λ n. refl) (range_with_len a k)
+    ∙ filter-same (λ n. p n && q n) q (range_with_len a k) (each_in (λ n. (p n && q n) ≡ q n) (range_with_len a k) (λ n there. let low = in_range a k n there in by (p n) (off n (omega (arith, l, low.1)))))
   where
-    by : (x : Bool) → p a ≡ x → filter q (filter p (range_with_len (a + 1) k)) ≡ filter q (range_with_len (a + 1) k)
-        → filter q (cond x (a ∷ filter p (range_with_len (a + 1) k)) (filter p (range_with_len (a + 1) k))) ≡ cond (q a) (a ∷ filter q (range_with_len (a + 1) k)) (filter q (range_with_len (a + 1) k))
-    by true e ih = ap (λ r. cond (q a) (a ∷ r) r) ih
-    by false e ih = ih ∙ sym (ap (λ x. cond x (a ∷ filter q (range_with_len (a + 1) k)) (filter q (range_with_len (a + 1) k))) (off a (omega (arith, l)) e))
+    by : {t : Bool} (x : Bool) → (x ≡ false → t ≡ false) → (x && t) ≡ t
+    by true f = refl
+    by false f = sym (f refl)
 
 told-there : (p : ℕ → Bool) (h : ℕ → Option PostView) (a k b : ℕ) → ((n : ℕ) → n < b → p n ≡ false → h n ≡ None) → a + k ≤ b → filter_map h (filter p (range_with_len a k)) ≡ filter_map h (range_with_len a k)
 told-there p h a zero b off l = refl
-told-there p h a (suc k) b off l = by (p a) refl (told-there p h (a + 1) k b off (omega (arith, l)))
-  where
-    by : (x : Bool) → p a ≡ x → filter_map h (filter p (range_with_len (a + 1) k)) ≡ filter_map h (range_with_len (a + 1) k)
-        → filter_map h (cond x (a ∷ filter p (range_with_len (a + 1) k)) (filter p (range_with_len (a + 1) k))) ≡ cons_option (h a) (filter_map h (range_with_len (a + 1) k))
-    by true e ih = ap (λ r. cons_option (h a) r) ih
-    by false e ih = ih ∙ sym (ap (λ o. cons_option o (filter_map h (range_with_len (a + 1) k))) (off a (omega (arith, l)) e))
+told-there p h a (suc k) b off l =
+    let ih : filter_map h (filter p (range_with_len (a + 1) k)) ≡ filter_map h (range_with_len (a + 1) k) = told-there p h (a + 1) k b off (omega (arith, l)) in
+    let here = off a (omega (arith, l)) in
+    grind (arith, nat_tests)
 
 all-range : (w : WorldView) (more : Bool) (s : ℕ) → 1 ≤ w.next_space → s ≡ w.next_space + cond more 1 0 → range_with_len 1 (w.next_space - 1) ++ cond more (w.next_space ∷ []) [] ≡ range_with_len 1 (s - 1)
 all-range w true s one e = sym (ap (range_with_len 1) (longer (s - 1) (w.next_space - 1) (omega (arith, one, e))) ∙ range-more 1 (w.next_space - 1) w.next_space (omega (arith, one)))
@@ -109,34 +104,20 @@ posts-all w more s h one e off =
 
 -- ---- their order
 
-rows-above : (f : ℕ → ℕ) (x : ℕ) (ys : List ℕ) → list_all (λ r. nat_lt x (space_in r)) (paired f ys) ≡ list_all (λ y. nat_lt x y) ys
-rows-above f x [] = refl
-rows-above f x (y ∷ ys) = ap (λ b. nat_lt x y && b) (rows-above f x ys)
-
 rows-rise : (f : ℕ → ℕ) (xs : List ℕ) → rises space_in (paired f xs) ≡ rises (λ k. k) xs
-rows-rise f [] = refl
-rows-rise f (x ∷ xs) =
-    ap (λ b. b && rises space_in (paired f xs)) (rows-above f x xs) ∙ ap (λ b. list_all (λ y. nat_lt x y) xs && b) (rows-rise f xs)
+rows-rise f xs = sym (rises-keys space_in (paired f xs)) ∙ ap (rises (λ k. k)) (rows-spaces f xs)
 
-above-part : (p : ℕ → Bool) (more : Bool) (b a k s : ℕ) → b < a → a + k ≡ s → list_all (λ y. nat_lt b y) (filter p (range_with_len a k) ++ cond more (s ∷ []) []) ≡ true
-above-part p true b a zero s low e = and-true (nat_lt b s) true (grind (arith, nat_tests)) refl
-above-part p false b a zero s low e = refl
-above-part p more b a (suc k) s low e = by (p a) (above-part p more b (a + 1) k s (omega (arith, low)) (omega (arith, e)))
-  where
-    by : (x : Bool) → list_all (λ y. nat_lt b y) (filter p (range_with_len (a + 1) k) ++ cond more (s ∷ []) []) ≡ true
-        → list_all (λ y. nat_lt b y) (cond x (a ∷ filter p (range_with_len (a + 1) k)) (filter p (range_with_len (a + 1) k)) ++ cond more (s ∷ []) []) ≡ true
-    by true ih = and-true (nat_lt b a) (list_all (λ y. nat_lt b y) (filter p (range_with_len (a + 1) k) ++ cond more (s ∷ []) [])) (grind (arith, nat_tests)) ih
-    by false ih = ih
+range-rises : (a k : ℕ) → rises (λ n. n) (range_with_len a k) ≡ true
+range-rises a zero = refl
+range-rises a (suc k) = and-true _ _ (in_all (λ n. nat_lt a n) (range_with_len (a + 1) k) (λ n there. let low = in_range (a + 1) k n there in grind (arith, nat_tests))) (range-rises (a + 1) k)
 
 rises-part : (p : ℕ → Bool) (more : Bool) (a k s : ℕ) → a + k ≡ s → rises (λ n. n) (filter p (range_with_len a k) ++ cond more (s ∷ []) []) ≡ true
-rises-part p true a zero s e = refl
-rises-part p false a zero s e = refl
-rises-part p more a (suc k) s e = by (p a) (rises-part p more (a + 1) k s (omega (arith, e)))
-  where
-    by : (x : Bool) → rises (λ n. n) (filter p (range_with_len (a + 1) k) ++ cond more (s ∷ []) []) ≡ true
-        → rises (λ n. n) (cond x (a ∷ filter p (range_with_len (a + 1) k)) (filter p (range_with_len (a + 1) k)) ++ cond more (s ∷ []) []) ≡ true
-    by true ih = and-true (list_all (λ y. nat_lt a y) (filter p (range_with_len (a + 1) k) ++ cond more (s ∷ []) [])) (rises (λ n. n) (filter p (range_with_len (a + 1) k) ++ cond more (s ∷ []) [])) (above-part p more a (a + 1) k s (omega arith) (omega (arith, e))) ih
-    by false ih = ih
+rises-part p true a k s e =
+    let part = filter p (range_with_len a k) in
+    ap (rises (λ n. n)) (sym (put-last (λ n. n) s part (λ i n at.
+    let low = in_range a k n (in_filter p n (range_with_len a k) (row_in (λ n. n) i part n at)).0 in
+    omega (arith, low.1, e, row_at-key (λ n. n) i part n at)))) ∙ rises-put (λ n. n) s part (rises-filter (λ n. n) p (range_with_len a k) (range-rises a k))
+rises-part p false a k s e = ap (rises (λ n. n)) (append-nil (filter p (range_with_len a k))) ∙ rises-filter (λ n. n) p (range_with_len a k) (range-rises a k)
 
 pub all-rise : (f : ℕ → ℕ) (w : WorldView) (more : Bool) → 1 ≤ w.next_space → rises space_in (paired f (all_in w more)) ≡ true
 all-rise f w more one = rows-rise f (all_in w more) ∙ rises-part (is_space w) more 1 (w.next_space - 1) w.next_space (omega (arith, one))
@@ -150,39 +131,19 @@ rows-few f l few (x ∷ xs) (suc i) r low e = rows-few f l few xs i r (omega (ar
 
 find_row : (f : ℕ → ℕ) (n : ℕ) (xs : List ℕ) → option_map number_in (find (λ r. space_in r == n) (paired f xs)) ≡ option_map f (find (λ m. m == n) xs)
 find_row f n [] = refl
-find_row f n (x ∷ xs) = by (eqb x n) (find_row f n xs)
-  where
-    by : (b : Bool) → option_map number_in (find (λ r. space_in r == n) (paired f xs)) ≡ option_map f (find (λ m. m == n) xs)
-        → option_map number_in (cond b (Some (numbered_row x (f x))) (find (λ r. space_in r == n) (paired f xs))) ≡ option_map f (cond b (Some x) (find (λ m. m == n) xs))
-    by true ih = refl
-    by false ih = ih
+find_row f n (x ∷ xs) = let ih = find_row f n xs in grind (arith, nat_tests)
 
 -- a number among those that pass a test
 pub find_failing : (t : ℕ → Bool) (n : ℕ) (xs : List ℕ) → t n ≡ false → find (λ m. m == n) (filter t xs) ≡ None
 find_failing t n [] e = refl
-find_failing t n (x ∷ xs) e = by (t x) refl (eqb x n) refl (find_failing t n xs e)
-  where
-    by : (a : Bool) → t x ≡ a → (b : Bool) → eqb x n ≡ b → find (λ m. m == n) (filter t xs) ≡ None → find (λ m. m == n) (cond a (x ∷ filter t xs) (filter t xs)) ≡ None
-    by false ta b q ih = ih
-    by true ta false q ih = ap (λ c. cond c (Some x) (find (λ m. m == n) (filter t xs))) q ∙ ih
-    by true ta true q ih =
-        let same : x ≡ n = grind (arith, nat_tests) in
-        absurd (let bad : true ≡ false = sym ta ∙ ap t same ∙ e in cc)
+find_failing t n (x ∷ xs) e = let ih = find_failing t n xs e in let here : x ≡ n → t x ≡ false = λ same. ap t same ∙ e in grind (arith, nat_tests)
 
 pub find_passing : (t : ℕ → Bool) (n a len : ℕ) → t n ≡ true → a ≤ n → n < a + len → find (λ m. m == n) (filter t (range_with_len a len)) ≡ Some n
 find_passing t n a zero e low high = absurd (omega (arith, low, high))
-find_passing t n a (suc len) e low high = by (eqb a n) refl (t a) refl (λ l. find_passing t n (a + 1) len e l (omega (arith, high)))
-  where
-    by : (b : Bool) → eqb a n ≡ b → (c : Bool) → t a ≡ c → (a + 1 ≤ n → find (λ m. m == n) (filter t (range_with_len (a + 1) len)) ≡ Some n)
-        → find (λ m. m == n) (cond c (a ∷ filter t (range_with_len (a + 1) len)) (filter t (range_with_len (a + 1) len))) ≡ Some n
-    by true q true ta ih =
-        let same : a ≡ n = grind (arith, nat_tests) in
-        ap (λ b. cond b (Some a) (find (λ m. m == n) (filter t (range_with_len (a + 1) len)))) q ∙ ap Some same
-    by true q false ta ih =
-        let same : a ≡ n = grind (arith, nat_tests) in
-        absurd (let bad : true ≡ false = sym e ∙ ap t (sym same) ∙ ta in cc)
-    by false q true ta ih = ap (λ b. cond b (Some a) (find (λ m. m == n) (filter t (range_with_len (a + 1) len)))) q ∙ ih (grind (arith, nat_tests))
-    by false q false ta ih = ih (grind (arith, nat_tests))
+find_passing t n a (suc len) e low high =
+    let ih : a + 1 ≤ n → find (λ m. m == n) (filter t (range_with_len (a + 1) len)) ≡ Some n = λ l. find_passing t n (a + 1) len e l (omega (arith, high)) in
+    let here : a ≡ n → t a ≡ true = λ same. ap t same ∙ e in
+    grind (arith, nat_tests)
 
 -- the number that is kept of a namespace that is there
 pub number_there : (f : ℕ → ℕ) (w : WorldView) (n : ℕ) → is_space w n ≡ true → 1 ≤ n → n < w.next_space → option_map number_in (find (λ r. space_in r == n) (paired f (spaces_of w))) ≡ Some (f n)

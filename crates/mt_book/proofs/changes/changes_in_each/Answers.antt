@@ -5,9 +5,7 @@ use Rattle.std.specs.Option.{option_to_list}
 use Rattle.std.specs.List.{filter}
 use Rattle.mt_skel.specs.Keyed.{rises}
 use Rattle.mt_skel.proofs.KeyedLaws.{rises-filter}
-use Rattle.mt_info.specs.Table.{table_of}
-use Rattle.mt_events.specs.Difference.{HoldsChanged}
-use Rattle.mt_book.specs.Between.{BetweenView, AreWorlds, heard_posts}
+use Rattle.mt_book.specs.Between.{BetweenView, AreWorlds, HoldsAll, heard_posts}
 use Rattle.mt_book.specs.Parts.{is_part, space_at}
 use Rattle.mt_book.proofs.TouchedLaws.{part_holds, part_is}
 use Rattle.mt_book.proofs.HeardLaws.{heard_next}
@@ -31,7 +29,7 @@ change-requires-clause-held c =
     let ids = c.args.ids.now in
     let part : c.as_slice-part.result.now ≡ filter t ids =
     c.as_slice-part.ensures ∙ part_is c.in_ok-parts.parts.items c.index.result.now ids c.spaces.i _ t c.index.ensures c.in_ok-parts.ensures.len (omega (arith, c.spaces-test.true)) (λ l. c.in_ok-parts.ensures.parts c.spaces.i l ∙ ap (λ (b : BetweenView). filter (is_part b.old b.new (space_at c.args.numbers.now c.spaces.i)) ids) c.between.view_is) in
-    subst (HoldsChanged (table_of b.old n) (table_of b.new n)) (sym part) (part_holds b.old b.new n ids worlds.old worlds.new (c.requires.held n))
+    subst (λ (l : List ℕ). HoldsAll b l n) (sym part) (part_holds b.old b.new n ids worlds.old worlds.new (c.requires.held n))
 
 pub spaces-preserved : goal.spaces-preserved
 spaces-preserved c =

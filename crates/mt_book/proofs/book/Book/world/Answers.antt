@@ -2,11 +2,9 @@ use Rattle.std.proofs.Common.{◌≡◌, ◌∙◌, ap, subst, sym}
 use Rattle.mt_propagate.specs.World.{world_view}
 use Rattle.mt_propagate.specs.declared.world.World.{World}
 use Rattle.mt_propagate.specs.WellFormed.{IsWellFormed}
-use Rattle.mt_propagate.specs.Touched.{since_view}
 use Rattle.mt_book.specs.Step.{after}
 use Rattle.mt_book.specs.Book.{BookView}
-use Rattle.mt_book.specs.Kept.{shown_world}
-use Rattle.mt_book.proofs.ReadingLaws.{book_small}
+use Rattle.mt_book.proofs.HistoryLaws.{after_good}
 use Rattle.mt_book.proofs.book.Book.world.Goals as goal
 
 pub returns-clause-world : goal.returns-clause-world
@@ -16,4 +14,4 @@ returns-clause-world c =
 pub returns-clause-well_formed : goal.returns-clause-well_formed
 returns-clause-well_formed c =
     subst (λ (w : World). IsWellFormed (world_view w)) (sym c.world.ensures)
-    (book_small (world_view (shown_world c.self.inside.shown)) (since_view (shown_world c.self.inside.shown)) c.self.inside.spare c.self.inside.numbers.items c.self.inside.journal.items c.self.invariant).well_formed
+    (subst IsWellFormed (sym c.self.invariant.world) (after_good c.self.inside.journal.items).formed)
