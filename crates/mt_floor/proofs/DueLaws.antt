@@ -12,11 +12,9 @@ use Rattle.mt_floor.proofs.RowLaws.{turned}
 
 due_for-append : (key : ℕ) (xs ys : List Due) → due_for key (xs ++ ys) ≡ due_for key xs ++ due_for key ys
 due_for-append key [] ys = refl
-due_for-append key (x ∷ xs) ys = by (eqb x.key key) (due_for-append key xs ys)
-  where
-    by : (b : Bool) → due_for key (xs ++ ys) ≡ due_for key xs ++ due_for key ys → cond b (x.post ∷ due_for key (xs ++ ys)) (due_for key (xs ++ ys)) ≡ cond b (x.post ∷ due_for key xs) (due_for key xs) ++ due_for key ys
-    by true e = ap (λ l. x.post ∷ l) e
-    by false e = e
+due_for-append key (x ∷ xs) ys =
+    let ih = due_for-append key xs ys in
+    elim (eqb x.key key) as (λ b. cond b (x.post ∷ due_for key (xs ++ ys)) (due_for key (xs ++ ys)) ≡ cond b (x.post ∷ due_for key xs) (due_for key xs) ++ due_for key ys) [ true ↦ ap (λ l. x.post ∷ l) ih | false ↦ ih ]
 
 -- a post that is due to these watchers
 abbrev for_each : PostView → List Watcher → List Due
@@ -42,11 +40,7 @@ due_row ps o = option_map_or (λ (r : Watcher). cond (is_open r.phase) (filter (
 
 passed : (p : PostView) (o : Option Watcher) → one_if p (passing (follows p) o) ≡ option_map_or (λ r. cond (follows p r) (p ∷ []) []) o []
 passed p None = refl
-passed p (Some r) = by (follows p r)
-  where
-    by : (b : Bool) → one_if p (cond b (Some r) None) ≡ cond b (p ∷ []) []
-    by true = refl
-    by false = refl
+passed p (Some r) = elim (follows p r) as (λ b. one_if p (cond b (Some r) None) ≡ cond b (p ∷ []) []) [ true ↦ refl | false ↦ refl ]
 
 both : (p : PostView) (ps : List PostView) (o : Option Watcher) → option_map_or (λ r. cond (follows p r) (p ∷ []) []) o [] ++ due_row ps o ≡ due_row (p ∷ ps) o
 both p ps None = refl
@@ -59,11 +53,7 @@ both p ps (Some r) = by (is_open r.phase) (names_space r.scope p.space)
 
 none_due : (o : Option Watcher) → ◌≡◌ {A = List PostView} [] (due_row [] o)
 none_due None = refl
-none_due (Some r) = by (is_open r.phase)
-  where
-    by : (b : Bool) → ◌≡◌ {A = List PostView} [] (cond b [] [])
-    by true = refl
-    by false = refl
+none_due (Some r) = elim (is_open r.phase) as (λ b. ◌≡◌ {A = List PostView} [] (cond b [] [])) [ true ↦ refl | false ↦ refl ]
 
 -- to an open watcher those are due that its scope names, to another none
 pub due_all : (key : ℕ) (ps : List PostView) (rs : List Watcher) → rises watcher_key rs ≡ true → due_for key (due_pairs ps rs) ≡ due_row ps (row_at watcher_key key rs)

@@ -1,276 +1,247 @@
--- What each event keeps, and what it does to the watcher of one key.
-use Rattle.std.proofs.Common.{◌≡◌, ℕ, ◌+◌, Bool, true, false, cond, not, ◌⊎◌, inl, inr, eqb, ltb, List, [], ◌∷◌, ◌++◌, length, drop, map, Option, Some, None, slice_get, Ok, Err, refl, sym, ap, ◌∙◌, subst, arith, append_assoc, eq-eqb, eqb-true, lt-ltb, ne_eqb}
-use Rattle.std.specs.Prelude.{Result}
+-- What each event does to the watcher of one key.
+use Rattle.std.proofs.Common.{◌≡◌, ℕ, ◌+◌, Bool, true, false, cond, not, eqb, ltb, List, [], ◌∷◌, ◌++◌, length, drop, map, Option, Some, None, slice_get, Ok, Err, refl, sym, ap, ◌∙◌, subst, arith, append_assoc, eq-eqb, eqb-true, lt-ltb, ne_eqb}
 use Rattle.std.specs.List.{filter, list_all}
-use Rattle.std.specs.Option.{option_map, option_map_or}
+use Rattle.std.specs.Option.{option_map}
 use Rattle.std.proofs.lemmas.List.{append-nil}
-use Rattle.mt_skel.specs.declared.fault.Fault.{Fault}
-use Rattle.mt_skel.specs.declared.fault.Fault.TheVariants.{Lagged as WasLagged, Stopped}
-use Rattle.mt_skel.specs.Keyed.{row_at}
-use Rattle.mt_skel.proofs.KeyedLaws.{row_at-key, row_at-filter, row_at-map, rises-filter, rises-map, passing}
+use Rattle.std.proofs.lemmas.List.Elements.{filter-append}
+use Rattle.std.proofs.lemmas.List.Folds.{list_all-map}
+use Rattle.mt_skel.specs.Keyed.{row_at, put}
+use Rattle.mt_skel.proofs.KeyedLaws.{row_at-key, row_at-map, rises-filter, rises-map}
 use Rattle.mt_propagate.specs.World.{WorldView}
+use Rattle.mt_propagate.proofs.RowLaws.{mapped-row}
 use Rattle.mt_events.specs.Posts.{PostView}
 use Rattle.mt_events.specs.declared.opening.Scope.{Scope}
+use Rattle.mt_events.specs.Following.{names_space}
 use Rattle.mt_book.specs.declared.command.Command.{Command}
 use Rattle.mt_book.specs.declared.command.Reply.{Reply}
-use Rattle.mt_book.specs.Step.{step, after}
+use Rattle.mt_book.specs.History.{posts_of, posts_from}
+use Rattle.mt_book.proofs.HistoryLaws.{posts_from-append}
 use Rattle.mt_floor.specs.declared.watch.Phase.{Phase}
 use Rattle.mt_floor.specs.declared.watch.Phase.TheVariants.{Open as IsOpen, Lagged, Ended}
 use Rattle.mt_floor.specs.declared.event.Event.{Event}
-use Rattle.mt_floor.specs.declared.event.Event.TheVariants.{Apply, PostNext, Open, Take, Meet, Close, Stop}
+use Rattle.mt_floor.specs.declared.event.Event.TheVariants.{Apply, PostNext, Open, Take, Close, Stop}
 use Rattle.mt_floor.specs.declared.event.Answer.TheVariants.{Opened, Took}
-use Rattle.mt_floor.specs.Watcher.{Watcher, watcher_key, is_open, due_for, opening_of}
-use Rattle.mt_floor.specs.Schedule.{FloorView, floor_step, at_row, changed, replied, nothing_left, took, met, closed, halted, opened, has_open, applied, command_refusal, opening_refusal}
-use Rattle.mt_floor.proofs.RowLaws.{put_same, put_other, other_last, all_filter, all_higher, all_last, rises-last}
-use Rattle.mt_floor.proofs.HeldLaws.{Kept, IsRowFor, Held, Goes, held_same, more, off, still, idle, refused, of_row, kept_put, apply_goes, post_goes}
-
--- the post that is taken next
-next_taken : {X : Type 0} (xs ys : List X) (x : X) → slice_get (xs ++ ys) (length xs) ≡ Some x → ys ≡ x ∷ drop 1 ys
-next_taken [] [] x e = absurd (let same : None ≡ Some x = e in cc)
-next_taken [] (y ∷ ys) x e = let same : Some y ≡ Some x = e in let eq : y ≡ x = cc in ap (λ z. z ∷ ys) eq
-next_taken (z ∷ xs) ys x e = next_taken xs ys x e
+use Rattle.mt_floor.specs.Watcher.{Watcher, Due, watcher_key, is_open, due_for, due_pairs, opening_of, followed_posts}
+use Rattle.mt_floor.specs.Schedule.{FloorView, Stepped, floor_step, changed, sent_to, replied, closed, halted, has_open}
+use Rattle.mt_floor.specs.Headline.{takes_from, first_due}
+use Rattle.mt_floor.proofs.RowLaws.{get_behind, first_of, turned, other_last, all_filter, all_higher, all_last, rises-last, row_without}
+use Rattle.mt_floor.proofs.DueLaws.{due_row, due_all, but, but_same, but_other}
+use Rattle.mt_floor.proofs.EffectLaws.{newcomer, opens, Still, put_off, refused, emptied, told, still_answer, each_event}
+use Rattle.mt_floor.proofs.HeldLaws.{Kept, IsRowFor, Held, Goes, held_same, more, off, no_row, is_found_open, only, aside, ends, kept_put, other_row, own_row}
 
 pub nothing : (b : Bool) → ◌≡◌ {A = List PostView} (cond b [] []) []
 nothing true = refl
 nothing false = refl
 
--- a newcomer has the greatest key
-abbrev pub newcomer : FloorView → Scope → Watcher
-newcomer s sc = record { key = s.next_key; scope = sc; since = length s.journal; opening = opening_of s.journal sc; sent = []; taken = []; phase = IsOpen }
-
-pub newcomer_kept : (s : FloorView) (sc : Scope) → Kept s → Kept (record s { next_key = s.next_key + 1; watchers = s.watchers ++ newcomer s sc ∷ [] })
+pub newcomer_kept : (s : FloorView) (sc : Scope) → Kept s → Kept (opens s sc)
 newcomer_kept s sc k = record {
   rising = rises-last watcher_key (newcomer s sc) s.watchers k.below k.rising;
-  below = all_last watcher_key (λ (x : Watcher). ltb x.key (s.next_key + 1)) (newcomer s sc) s.watchers (lt-ltb s.next_key (s.next_key + 1) (omega arith)) (all_higher watcher_key s.next_key (s.next_key + 1) s.watchers (omega arith) k.below);
+  below = all_last (λ (x : Watcher). ltb x.key (s.next_key + 1)) (newcomer s sc) s.watchers (lt-ltb s.next_key (s.next_key + 1) (omega arith)) (all_higher watcher_key s.next_key (s.next_key + 1) s.watchers (omega arith) k.below);
 }
 
-module _ (key : ℕ) (scope : Scope) (before since : List Command) (sent taken : List PostView) (s : FloorView) (k : Kept s) (h : Held key scope before since sent taken s) where
-  -- Open
-  open_goes : (sc : Scope) → Goes key scope before since sent taken s (Open sc)
-      (record s { next_key = s.next_key + 1; watchers = s.watchers ++ newcomer s sc ∷ [] }, Ok (Opened s.next_key (opening_of s.journal sc)))
-  open_goes sc =
-      let s' : FloorView = record s { next_key = s.next_key + 1; watchers = s.watchers ++ newcomer s sc ∷ [] } in
-      let row_is = other_last watcher_key key (newcomer s sc) s.watchers (ne_eqb key s.next_key (λ e. absurd (omega (arith, h.old, e)))) in
-      let open_is = ap (λ o. option_map_or (λ (x : Watcher). is_open x.phase) o false) row_is in record {
-        kept = newcomer_kept s sc k;
-        held = held_same key scope before since (since ++ []) sent (sent ++ []) taken (taken ++ []) s'
-            (sym (append-nil since)) (sym (append-nil sent)) (sym (append-nil taken)) (record {
-              journal = h.journal;
-              old = omega (arith, h.old);
-              not_taken = h.not_taken;
-              taken_is = h.taken_is;
-              not_posted = h.not_posted;
-              posted_is = h.posted_is;
-              row = λ x e. h.row x (sym row_is ∙ e);
-              due = h.due ∙ ap (λ b. cond b h.not_posted []) (sym open_is);
-            });
-        shut = λ o. (open_is ∙ o, refl);
-        quiet = λ o. refl;
-        ended = λ x. off (sym x);
-        next = omega arith;
-      }
+-- the posts of one more command
+pub followed_more : (scope : Scope) (before since : List Command) (c : Command)
+    → followed_posts scope before (since ++ c ∷ []) ≡ followed_posts scope before since ++ filter (λ (p : PostView). names_space scope p.space) (posts_of (before ++ since) c)
+followed_more scope before since c =
+    ap (filter (λ (p : PostView). names_space scope p.space)) (posts_from-append before since (c ∷ []) ∙ ap (λ l. posts_from before since ++ l) (append-nil (posts_of (before ++ since) c)))
+    ∙ filter-append (λ (p : PostView). names_space scope p.space) (posts_from before since) (posts_of (before ++ since) c)
 
-  -- Take
-  take_other : (q : ℕ) (r : Watcher) (p : PostView) → row_at watcher_key q s.watchers ≡ Some r → eqb q key ≡ false
-      → Goes key scope before since sent taken s (Take q) (changed s (record r { taken = r.taken ++ p ∷ [] }), Ok (Took (Some p)))
-  take_other q r p at ne =
-      let r' : Watcher = record r { taken = r.taken ++ p ∷ [] } in
-      let row_is = put_other watcher_key key r' s.watchers (ap (λ n. eqb n key) (row_at-key watcher_key q s.watchers r at) ∙ ne) in
-      let open_is = ap (λ o. option_map_or (λ (x : Watcher). is_open x.phase) o false) row_is in
-      let none : cond (eqb q key) (p ∷ []) [] ≡ [] = ap (λ b. cond b (p ∷ []) []) ne in record {
-        kept = kept_put key scope before since sent taken s k h q r r' s.due at refl;
-        held = held_same key scope before since (since ++ []) sent (sent ++ []) taken (taken ++ cond (eqb q key) (p ∷ []) []) (changed s r')
-            (sym (append-nil since)) (sym (append-nil sent)) (more taken (cond (eqb q key) (p ∷ []) []) none) (record {
-              journal = h.journal;
-              old = h.old;
-              not_taken = h.not_taken;
-              taken_is = h.taken_is;
-              not_posted = h.not_posted;
-              posted_is = h.posted_is;
-              row = λ x e. h.row x (sym row_is ∙ e);
-              due = h.due ∙ ap (λ b. cond b h.not_posted []) (sym open_is);
-            });
-        shut = λ o. (open_is ∙ o, refl);
-        quiet = λ o. refl;
-        ended = λ x. off (sym x);
-        next = omega arith;
-      }
+-- what is due of posts to a watcher with this scope
+row_due : (scope : Scope) (ps : List PostView) (o : Option Watcher) → ((r : Watcher) → o ≡ Some r → r.scope ≡ scope)
+    → due_row ps o ≡ cond (is_found_open o) (filter (λ (p : PostView). names_space scope p.space) ps) []
+row_due scope ps None is = refl
+row_due scope ps (Some r) is = ap (λ x. cond (is_open r.phase) (filter (λ (p : PostView). names_space x p.space) ps) []) (is r refl)
 
-  take_same : (q : ℕ) (r : Watcher) (p : PostView) → row_at watcher_key q s.watchers ≡ Some r → slice_get r.sent (length r.taken) ≡ Some p → q ≡ key
-      → Goes key scope before since sent taken s (Take q) (changed s (record r { taken = r.taken ++ p ∷ [] }), Ok (Took (Some p)))
-  take_same q r p at next same =
-      let r' : Watcher = record r { taken = r.taken ++ p ∷ [] } in
-      let here : row_at watcher_key key s.watchers ≡ Some r = ap (λ n. row_at watcher_key n s.watchers) (sym same) ∙ at in
-      let was : IsRowFor scope before sent taken r = h.row r here in
-      let row_is = put_same watcher_key key r' s.watchers (sym same ∙ sym (row_at-key watcher_key q s.watchers r at)) in
-      let open_is = ap (λ o. option_map_or (λ (x : Watcher). is_open x.phase) o false) row_is ∙ sym (ap (λ o. option_map_or (λ (x : Watcher). is_open x.phase) o false) here) in
-      let some : cond (eqb q key) (p ∷ []) [] ≡ p ∷ [] = ap (λ b. cond b (p ∷ []) []) (eq-eqb q key same) in
-      let left = next_taken taken h.not_taken p ((λ i. slice_get (sym h.taken_is i) (length taken)) ∙ sym ((λ i. slice_get (was.posted_is i) (length (was.taken_is i)))) ∙ next) in
-      let one : (x y : Watcher) → ◌≡◌ {A = Option Watcher} (Some x) (Some y) → x ≡ y = λ x y e. (let eq : x ≡ y = cc in eq) in record {
-        kept = kept_put key scope before since sent taken s k h q r r' s.due at refl;
-        held = held_same key scope before since (since ++ []) sent (sent ++ []) (taken ++ p ∷ []) (taken ++ cond (eqb q key) (p ∷ []) []) (changed s r')
-            (sym (append-nil since)) (sym (append-nil sent)) (ap (λ l. taken ++ l) (sym some)) (record {
-              journal = h.journal;
-              old = h.old;
-              not_taken = drop 1 h.not_taken;
-              taken_is = h.taken_is ∙ ap (λ l. taken ++ l) left ∙ sym (append_assoc taken (p ∷ []) (drop 1 h.not_taken));
-              not_posted = h.not_posted;
-              posted_is = h.posted_is;
-              row = λ x e. subst (IsRowFor scope before sent (taken ++ p ∷ [])) (one r' x (sym row_is ∙ e)) (record { scope_is = was.scope_is; since_is = was.since_is; opening_is = was.opening_is; posted_is = was.posted_is; taken_is = ap (λ l. l ++ p ∷ []) was.taken_is });
-              due = h.due ∙ ap (λ b. cond b h.not_posted []) (sym open_is);
-            });
-        shut = λ o. (open_is ∙ o, refl);
-        quiet = λ o. refl;
-        ended = λ x. off (sym x);
-        next = omega arith;
-      }
+-- something is due to an open watcher only
+due_open : (p : PostView) (ps rest : List PostView) (b : Bool) → p ∷ ps ≡ cond b rest [] → (b ≡ true) × (rest ≡ p ∷ ps)
+due_open p ps rest true e = (refl, sym e)
+due_open p ps rest false e = absurd (cc)
 
-  take_goes : (q : ℕ) (r : Watcher) → row_at watcher_key q s.watchers ≡ Some r → Goes key scope before since sent taken s (Take q) (took s r)
-  take_goes q r at = by (slice_get r.sent (length r.taken)) refl
+-- what a stop makes of a watcher
+abbrev as_ended : Watcher → Watcher
+as_ended r = record r { phase = cond (is_open r.phase) Ended r.phase }
+
+module _ {key : ℕ} {scope : Scope} {before since : List Command} {sent taken : List PostView} {s : FloorView} (k : Kept s) (h : Held key scope before since sent taken s) where
+  abbrev After : Event → Stepped → Type 0
+  After e a = Goes key scope before since sent taken s e a
+
+  unmoved : (e : Event) (a : Still) → After e (s, still_answer a)
+  unmoved e emptied = aside k h e (s, still_answer emptied) k refl (omega arith) refl refl refl refl (nothing (takes_from key e)) refl refl
+  unmoved e a = aside k h e (s, still_answer a) k refl (omega arith) refl refl refl refl refl refl refl
+
+  abbrev new_posts : Command → List PostView
+  new_posts c = filter (λ (p : PostView). names_space scope p.space) (posts_of (before ++ since) c)
+
+  after_apply : (c : Command) (p : WorldView × Reply) → s.due ≡ [] → After (Apply c) (replied s c (Ok p))
+  after_apply c p none = record {
+    kept = record { rising = k.rising; below = k.below };
+    held = held_same refl (sym (append-nil sent)) (sym (append-nil taken)) (record {
+      journal = ap (λ l. l ++ c ∷ []) h.journal ∙ append_assoc before since (c ∷ []);
+      old = h.old;
+      first = record {
+        not_taken = h.first.not_taken;
+        taken_is = h.first.taken_is;
+        not_posted = h.first.not_posted ++ new_posts c;
+        posted_is = followed_more scope before since c ∙ ap (λ l. l ++ new_posts c) h.first.posted_is ∙ append_assoc sent h.first.not_posted (new_posts c);
+      };
+      row = h.row;
+      due = due_all key (posts_of s.journal c) s.watchers k.rising ∙ row_due scope (posts_of s.journal c) (row_at watcher_key key s.watchers) (λ r at. (h.row r at).scope_is)
+          ∙ ap (λ l. cond (has_open key s) (filter (λ (p : PostView). names_space scope p.space) (posts_of l c)) []) h.journal ∙ by (has_open key s) (sym h.due ∙ ap (due_for key) none);
+    });
+    gone = λ n. (n, refl);
+    shut = λ o. (o, refl, refl);
+    ended = λ x. off (sym x);
+    next = omega arith;
+  }
     where
-      none_left : (f : Phase) → Goes key scope before since sent taken s (Take q) (s, nothing_left f)
-      none_left IsOpen = still key scope before since sent taken s k h (Take q) (Ok (Took None)) refl refl (nothing (eqb q key)) refl refl
-      none_left Lagged = still key scope before since sent taken s k h (Take q) (Err WasLagged) refl refl refl refl refl
-      none_left Ended = still key scope before since sent taken s k h (Take q) (Err Stopped) refl refl refl refl refl
+      by : (b : Bool) → cond b h.first.not_posted [] ≡ [] → cond b (new_posts c) [] ≡ cond b (h.first.not_posted ++ new_posts c) []
+      by true e = ap (λ l. l ++ new_posts c) (sym e)
+      by false e = refl
 
-      by : (o : Option PostView) → slice_get r.sent (length r.taken) ≡ o
-          → Goes key scope before since sent taken s (Take q) (option_map_or (λ p. (changed s (record r { taken = r.taken ++ p ∷ [] }), Ok (Took (Some p)))) o (s, nothing_left r.phase))
-      by None e = none_left r.phase
-      by (Some p) e = which (eqb q key) refl
-        where
-          which : (b : Bool) → eqb q key ≡ b → Goes key scope before since sent taken s (Take q) (changed s (record r { taken = r.taken ++ p ∷ [] }), Ok (Took (Some p)))
-          which true y = take_same q r p at e (eqb-true q key y)
-          which false y = take_other q r p at y
+  module _ (d : Due) (ds : List Due) (r : Watcher) (is : s.due ≡ d ∷ ds) (at : row_at watcher_key d.key s.watchers ≡ Some r) where
+    -- a post to another watcher
+    module _ (ne : eqb d.key key ≡ false) where
+      rest : due_for key ds ≡ due_for key s.due
+      rest = sym (ap (due_for key) is ∙ ap (λ b. cond b (d.post ∷ due_for key ds) (due_for key ds)) ne)
 
-  -- Close
-  close_goes : (q : ℕ) (r : Watcher) → row_at watcher_key q s.watchers ≡ Some r → s.due ≡ [] → Goes key scope before since sent taken s (Close q) (closed s r)
-  close_goes q r at none =
-      let gone : Watcher → Bool = λ (x : Watcher). not (eqb x.key r.key) in
-      let s' : FloorView = record s { watchers = filter gone s.watchers } in
-      let row_is = row_at-filter watcher_key gone key s.watchers k.rising in
-      let open_is : (has_open key s' ≡ false) ⊎ (has_open key s' ≡ has_open key s) = by (row_at watcher_key key s.watchers) row_is refl in record {
-        kept = record { rising = rises-filter watcher_key gone s.watchers k.rising; below = all_filter watcher_key (λ (x : Watcher). ltb x.key s.next_key) gone s.watchers k.below };
-        held = held_same key scope before since (since ++ []) sent (sent ++ []) taken (taken ++ []) s'
-            (sym (append-nil since)) (sym (append-nil sent)) (sym (append-nil taken)) (record {
+      other_lags : After PostNext (sent_to s d ds true r)
+      other_lags = aside k h PostNext (sent_to s d ds true r) (kept_put k h d.key r (record r { phase = Lagged }) (but d.key ds) at refl) refl (omega arith)
+          (other_row k h d.key r (record r { phase = Lagged }) at refl ne) (but_other d.key key ds ne ∙ rest) refl refl refl ne ne
+
+      other_sent : After PostNext (sent_to s d ds false r)
+      other_sent = aside k h PostNext (sent_to s d ds false r) (kept_put k h d.key r (record r { sent = r.sent ++ d.post ∷ [] }) ds at refl) refl (omega arith)
+          (other_row k h d.key r (record r { sent = r.sent ++ d.post ∷ [] }) at refl ne) rest refl (ap (λ b. cond b (first_due s.due) []) ne) refl ne refl
+
+    -- a post to this one, which is open
+    module _ (same : d.key ≡ key) where
+      here : row_at watcher_key key s.watchers ≡ Some r
+      here = ap (λ q. row_at watcher_key q s.watchers) (sym same) ∙ at
+
+      opened : (has_open key s ≡ true) × (h.first.not_posted ≡ d.post ∷ due_for key ds)
+      opened = due_open d.post (due_for key ds) h.first.not_posted (has_open key s)
+          (sym (ap (due_for key) is ∙ ap (λ b. cond b (d.post ∷ due_for key ds) (due_for key ds)) (eq-eqb d.key key same)) ∙ h.due)
+
+      own_lags : After PostNext (sent_to s d ds true r)
+      own_lags =
+          let was = h.row r here in
+          let row = own_row k h d.key r (record r { phase = Lagged }) at refl same in
+          ends k h PostNext (sent_to s d ds true r) (kept_put k h d.key r (record r { phase = Lagged }) (but d.key ds) at refl) refl (omega arith)
+          (only row (record { scope_is = was.scope_is; since_is = was.since_is; opening_is = was.opening_is; posted_is = was.posted_is; taken_is = was.taken_is }))
+          (ap is_found_open row) (ap (λ q. due_for q (but d.key ds)) (sym same) ∙ but_same d.key ds) refl refl refl (λ n. no_row n here) (λ o. off (sym opened.0 ∙ o))
+
+      own_sent : After PostNext (sent_to s d ds false r)
+      own_sent =
+          let was = h.row r here in
+          let row = own_row k h d.key r (record r { sent = r.sent ++ d.post ∷ [] }) at refl same in
+          let post : cond (eqb d.key key) (first_due s.due) [] ≡ d.post ∷ [] = ap (λ b. cond b (first_due s.due) []) (eq-eqb d.key key same) ∙ ap first_due is in record {
+            kept = kept_put k h d.key r (record r { sent = r.sent ++ d.post ∷ [] }) ds at refl;
+            held = held_same (sym (append-nil since)) (ap (λ l. sent ++ l) (sym post)) (sym (append-nil taken)) (record {
               journal = h.journal;
               old = h.old;
-              not_taken = h.not_taken;
-              taken_is = h.taken_is;
-              not_posted = h.not_posted;
-              posted_is = h.posted_is;
-              row = λ x e. h.row x (was (row_at watcher_key key s.watchers) x (sym row_is ∙ e));
-              due = elim open_is [
-                | inl shut ↦ ap (due_for key) none ∙ ap (λ b. cond b h.not_posted []) (sym shut)
-                | inr same ↦ h.due ∙ ap (λ b. cond b h.not_posted []) (sym same)
-              ];
+              first = record {
+                not_taken = h.first.not_taken ++ d.post ∷ [];
+                taken_is = ap (λ l. l ++ d.post ∷ []) h.first.taken_is ∙ append_assoc taken h.first.not_taken (d.post ∷ []);
+                not_posted = due_for key ds;
+                posted_is = h.first.posted_is ∙ ap (λ l. sent ++ l) opened.1 ∙ sym (append_assoc sent (d.post ∷ []) (due_for key ds));
+              };
+              row = only row (record { scope_is = was.scope_is; since_is = was.since_is; opening_is = was.opening_is; posted_is = ap (λ l. l ++ d.post ∷ []) was.posted_is; taken_is = was.taken_is });
+              due = ap (λ b. cond b (due_for key ds) []) (sym (ap is_found_open row ∙ sym (ap is_found_open here) ∙ opened.0));
             });
-        shut = λ o. (elim open_is [ inl shut ↦ shut | inr same ↦ same ∙ o ], refl);
-        quiet = λ o. refl;
-        ended = λ x. gone_now (row_at watcher_key key s.watchers) refl (key_was ∙ eqb-true q key x) row_is;
-        next = omega arith;
-      }
-    where
-      key_was : r.key ≡ q
-      key_was = row_at-key watcher_key q s.watchers r at
+            gone = λ n. no_row n here;
+            shut = λ o. off (sym opened.0 ∙ o);
+            ended = λ x. off (sym x);
+            next = omega arith;
+          }
 
-      gone_now : (o : Option Watcher) → row_at watcher_key key s.watchers ≡ o → r.key ≡ key
-          → row_at watcher_key key (filter (λ (y : Watcher). not (eqb y.key r.key)) s.watchers) ≡ passing (λ (y : Watcher). not (eqb y.key r.key)) (row_at watcher_key key s.watchers)
-          → option_map_or (λ (x : Watcher). is_open x.phase) (row_at watcher_key key (filter (λ (y : Watcher). not (eqb y.key r.key)) s.watchers)) false ≡ false
-      gone_now None f same e = ap (λ o. option_map_or (λ (x : Watcher). is_open x.phase) o false) (e ∙ ap (passing (λ (y : Watcher). not (eqb y.key r.key))) f)
-      gone_now (Some y) f same e =
-          let mine : eqb y.key r.key ≡ true = eq-eqb y.key r.key (row_at-key watcher_key key s.watchers y f ∙ sym same) in
-          ap (λ o. option_map_or (λ (x : Watcher). is_open x.phase) o false) (e ∙ ap (passing (λ (y : Watcher). not (eqb y.key r.key))) f ∙ ap (λ b. cond b (Some y) None) (ap not mine))
+  after_open : (sc : Scope) → After (Open sc) (opens s sc, Ok (Opened s.next_key (opening_of s.journal sc)))
+  after_open sc = aside k h (Open sc) _ (newcomer_kept s sc k) refl (omega arith) (other_last watcher_key key (newcomer s sc) s.watchers (ne_eqb key s.next_key (λ e. absurd (omega (arith, h.old, e))))) refl refl refl refl refl refl
 
-      was : (o : Option Watcher) (x : Watcher) → passing (λ (y : Watcher). not (eqb y.key r.key)) o ≡ Some x → o ≡ Some x
-      was None x e = e
-      was (Some y) x e = pick (not (eqb y.key r.key)) e
-        where
-          pick : (b : Bool) → cond b (Some y) None ≡ Some x → Some y ≡ Some x
-          pick true q = q
-          pick false q = absurd (cc)
+  module _ (q : ℕ) (r : Watcher) (at : row_at watcher_key q s.watchers ≡ Some r) where
+    module _ (p : PostView) (left : slice_get r.sent (length r.taken) ≡ Some p) where
+      abbrev taker : Watcher
+      taker = record r { taken = r.taken ++ p ∷ [] }
 
-      by : (o : Option Watcher) → row_at watcher_key key (filter (λ (y : Watcher). not (eqb y.key r.key)) s.watchers) ≡ passing (λ (y : Watcher). not (eqb y.key r.key)) o → row_at watcher_key key s.watchers ≡ o
-          → (option_map_or (λ (x : Watcher). is_open x.phase) (row_at watcher_key key (filter (λ (y : Watcher). not (eqb y.key r.key)) s.watchers)) false ≡ false)
-          ⊎ (option_map_or (λ (x : Watcher). is_open x.phase) (row_at watcher_key key (filter (λ (y : Watcher). not (eqb y.key r.key)) s.watchers)) false ≡ has_open key s)
-      by None e f = inl (ap (λ o. option_map_or (λ (x : Watcher). is_open x.phase) o false) e)
-      by (Some y) e f = pick (not (eqb y.key r.key)) e
-        where
-          pick : (b : Bool) → row_at watcher_key key (filter (λ (y : Watcher). not (eqb y.key r.key)) s.watchers) ≡ cond b (Some y) None
-              → (option_map_or (λ (x : Watcher). is_open x.phase) (row_at watcher_key key (filter (λ (y : Watcher). not (eqb y.key r.key)) s.watchers)) false ≡ false)
-              ⊎ (option_map_or (λ (x : Watcher). is_open x.phase) (row_at watcher_key key (filter (λ (y : Watcher). not (eqb y.key r.key)) s.watchers)) false ≡ has_open key s)
-          pick true g = inr (ap (λ o. option_map_or (λ (x : Watcher). is_open x.phase) o false) (g ∙ sym f))
-          pick false g = inl (ap (λ o. option_map_or (λ (x : Watcher). is_open x.phase) o false) g)
+      other_takes : eqb q key ≡ false → After (Take q) (changed s taker, Ok (Took (Some p)))
+      other_takes ne = aside k h (Take q) _ (kept_put k h q r taker s.due at refl) refl (omega arith) (other_row k h q r taker at refl ne) refl refl refl (ap (λ b. cond b (p ∷ []) []) ne) refl refl
 
-  -- Stop
-  abbrev ends : Watcher → Watcher
-  ends r = record r { phase = cond (is_open r.phase) Ended r.phase }
-
-  stop_goes : s.due ≡ [] → Goes key scope before since sent taken s Stop (halted s)
-  stop_goes none =
-      let s' : FloorView = record s { stopped = true; watchers = map ends s.watchers } in
-      let row_is = row_at-map watcher_key ends (λ r. refl) key s.watchers in
-      let shut_is : has_open key s' ≡ false = ap (λ o. option_map_or (λ (x : Watcher). is_open x.phase) o false) row_is ∙ no_open (row_at watcher_key key s.watchers) in record {
-        kept = record { rising = rises-map watcher_key ends (λ r. refl) s.watchers ∙ k.rising; below = all_ends s.watchers k.below };
-        held = held_same key scope before since (since ++ []) sent (sent ++ []) taken (taken ++ []) s'
-            (sym (append-nil since)) (sym (append-nil sent)) (sym (append-nil taken)) (record {
+      own_takes : q ≡ key → After (Take q) (changed s taker, Ok (Took (Some p)))
+      own_takes same =
+          let here : row_at watcher_key key s.watchers ≡ Some r = ap (λ n. row_at watcher_key n s.watchers) (sym same) ∙ at in
+          let was = h.row r here in
+          let row = own_row k h q r taker at refl same in
+          let first = first_of h.first.not_taken p (sym (get_behind taken h.first.not_taken) ∙ (λ i. slice_get ((sym h.first.taken_is ∙ sym was.posted_is) i) (length (sym was.taken_is i))) ∙ left) in record {
+            kept = kept_put k h q r taker s.due at refl;
+            held = held_same (sym (append-nil since)) (sym (append-nil sent)) (ap (λ b. taken ++ cond b (p ∷ []) []) (sym (eq-eqb q key same))) (record {
               journal = h.journal;
               old = h.old;
-              not_taken = h.not_taken;
-              taken_is = h.taken_is;
-              not_posted = h.not_posted;
-              posted_is = h.posted_is;
-              row = λ x e. was (row_at watcher_key key s.watchers) x refl (sym row_is ∙ e);
-              due = ap (due_for key) none ∙ ap (λ b. cond b h.not_posted []) (sym shut_is);
+              first = record {
+                not_taken = drop 1 h.first.not_taken;
+                taken_is = h.first.taken_is ∙ ap (λ l. taken ++ l) first ∙ sym (append_assoc taken (p ∷ []) (drop 1 h.first.not_taken));
+                not_posted = h.first.not_posted;
+                posted_is = h.first.posted_is;
+              };
+              row = only row (record { scope_is = was.scope_is; since_is = was.since_is; opening_is = was.opening_is; posted_is = was.posted_is; taken_is = ap (λ l. l ++ p ∷ []) was.taken_is });
+              due = h.due ∙ ap (λ b. cond b h.first.not_posted []) (ap is_found_open here ∙ sym (ap is_found_open row));
             });
-        shut = λ o. (shut_is, refl);
-        quiet = λ o. refl;
-        ended = λ x. shut_is;
-        next = omega arith;
-      }
+            gone = λ n. no_row n here;
+            shut = λ o. (ap is_found_open row ∙ sym (ap is_found_open here) ∙ o, refl, refl);
+            ended = λ x. off (sym x);
+            next = omega arith;
+          }
+
+    module _ (none : s.due ≡ []) where
+      row_left : row_at watcher_key key (closed s r).0.watchers ≡ cond (eqb key q) None (row_at watcher_key key s.watchers)
+      row_left = ap (λ n. row_at watcher_key key (filter (λ (x : Watcher). not (eqb x.key n)) s.watchers)) (row_at-key watcher_key q s.watchers r at) ∙ row_without watcher_key key q s.watchers k.rising
+
+      closed_kept : Kept (closed s r).0
+      closed_kept = record { rising = rises-filter watcher_key (λ (x : Watcher). not (eqb x.key r.key)) s.watchers k.rising; below = all_filter (λ (x : Watcher). ltb x.key s.next_key) (λ (x : Watcher). not (eqb x.key r.key)) s.watchers k.below }
+
+      other_closes : eqb q key ≡ false → After (Close q) (closed s r)
+      other_closes ne = aside k h (Close q) (closed s r) closed_kept refl (omega arith) (row_left ∙ ap (λ b. cond b None (row_at watcher_key key s.watchers)) (turned q key ne)) refl refl refl refl refl ne
+
+      own_closes : q ≡ key → After (Close q) (closed s r)
+      own_closes same =
+          let gone : row_at watcher_key key (closed s r).0.watchers ≡ None = row_left ∙ ap (λ b. cond b None (row_at watcher_key key s.watchers)) (eq-eqb key q (sym same)) in
+          ends k h (Close q) (closed s r) closed_kept refl (omega arith) (λ x e. no_row gone e) (ap is_found_open gone) (ap (due_for key) none) refl refl refl (λ n. gone) (λ o. refl)
+
+  after_stop : s.due ≡ [] → After Stop (halted s)
+  after_stop none =
+      let row = row_at-map watcher_key as_ended (λ r. refl) key s.watchers in
+      ends k h Stop (halted s) (record { rising = rises-map watcher_key as_ended (λ r. refl) s.watchers ∙ k.rising; below = list_all-map (λ (r : Watcher). ltb r.key s.next_key) as_ended s.watchers ∙ k.below }) refl (omega arith) was
+      (ap is_found_open row ∙ no_open (row_at watcher_key key s.watchers)) (ap (due_for key) none) refl refl refl (λ n. row ∙ ap (option_map as_ended) n) (λ o. refl)
     where
       no_phase : (f : Phase) → is_open (cond (is_open f) Ended f) ≡ false
       no_phase IsOpen = refl
       no_phase Lagged = refl
       no_phase Ended = refl
 
-      no_open : (o : Option Watcher) → option_map_or (λ (x : Watcher). is_open x.phase) (option_map ends o) false ≡ false
+      no_open : (o : Option Watcher) → is_found_open (option_map as_ended o) ≡ false
       no_open None = refl
       no_open (Some r) = no_phase r.phase
 
-      all_ends : (rs : List Watcher) → list_all (λ (r : Watcher). ltb r.key s.next_key) rs ≡ true → list_all (λ (r : Watcher). ltb r.key s.next_key) (map ends rs) ≡ true
-      all_ends [] e = refl
-      all_ends (r ∷ rs) e = let ih = all_ends rs in grind (arith)
+      was : (x : Watcher) → row_at watcher_key key (map as_ended s.watchers) ≡ Some x → IsRowFor scope before sent taken x
+      was x e =
+          let m = mapped-row watcher_key as_ended (λ r. refl) s.watchers key x e in
+          let old = h.row m.0 m.1 in
+          subst (IsRowFor scope before sent taken) (sym m.2) (record { scope_is = old.scope_is; since_is = old.since_is; opening_is = old.opening_is; posted_is = old.posted_is; taken_is = old.taken_is })
 
-      was : (o : Option Watcher) (x : Watcher) → row_at watcher_key key s.watchers ≡ o → option_map ends o ≡ Some x → IsRowFor scope before sent taken x
-      was None x f e = absurd (cc)
-      was (Some r) x f e =
-          let old : IsRowFor scope before sent taken r = h.row r f in
-          let same : ends r ≡ x = cc in
-          subst (IsRowFor scope before sent taken) same (record { scope_is = old.scope_is; since_is = old.since_is; opening_is = old.opening_is; posted_is = old.posted_is; taken_is = old.taken_is })
+  -- an event of a watcher that is another or this one
+  which : (q : ℕ) (e : Event) (a : Stepped) → (eqb q key ≡ false → After e a) → (q ≡ key → After e a) → After e a
+  which q e a other own = by (eqb q key) refl
+    where
+      by : (b : Bool) → eqb q key ≡ b → After e a
+      by true is = own (eqb-true q key is)
+      by false is = other is
 
--- each event keeps all this
-pub goes :
-    (key : ℕ) (scope : Scope) (before since : List Command) (sent taken : List PostView) (s : FloorView) → Kept s → Held key scope before since sent taken s → (e : Event)
-    → Goes key scope before since sent taken s e (floor_step s e)
-unfolding floor_step
-goes key scope before since sent taken s k h (Apply c) =
-    idle key scope before since sent taken s k h (Apply c) (applied s c)
-    (λ none. refused key scope before since sent taken s k h (Apply c) (command_refusal s) (replied s c (step (after s.journal) c)) (by none (step (after s.journal) c)))
-  where
-    by : s.due ≡ [] → (q : Result (WorldView × Reply) Fault) → Goes key scope before since sent taken s (Apply c) (replied s c q)
-    by none (Ok p) = apply_goes key scope before since sent taken s k h c p none
-    by none (Err f) = still key scope before since sent taken s k h (Apply c) (Err f) refl refl refl refl refl
-goes key scope before since sent taken s k h PostNext = post_goes key scope before since sent taken s k h
-goes key scope before since sent taken s k h (Open sc) =
-    idle key scope before since sent taken s k h (Open sc) (opened s sc)
-    (λ none. refused key scope before since sent taken s k h (Open sc) (opening_refusal s sc)
-    (record s { next_key = s.next_key + 1; watchers = s.watchers ++ newcomer s sc ∷ [] }, Ok (Opened s.next_key (opening_of s.journal sc)))
-    (open_goes key scope before since sent taken s k h sc))
-goes key scope before since sent taken s k h (Take q) = of_row key scope before since sent taken s k h (Take q) q (took s) (λ r at. take_goes key scope before since sent taken s k h q r at)
-goes key scope before since sent taken s k h (Meet q) =
-    idle key scope before since sent taken s k h (Meet q) (at_row s q (met s)) (λ none. of_row key scope before since sent taken s k h (Meet q) q (met s) (λ r at.
-    still key scope before since sent taken s k h (Meet q) (met s r).1 refl refl refl refl refl))
-goes key scope before since sent taken s k h (Close q) =
-    idle key scope before since sent taken s k h (Close q) (at_row s q (closed s)) (λ none. of_row key scope before since sent taken s k h (Close q) q (closed s) (λ r at.
-    close_goes key scope before since sent taken s k h q r at none))
-goes key scope before since sent taken s k h Stop = idle key scope before since sent taken s k h Stop (halted s) (λ none. stop_goes key scope before since sent taken s k h none)
+  -- each event keeps all this
+  pub goes : (e : Event) → After e (floor_step s e)
+  goes = each_event s After (record {
+    on_still = unmoved;
+    on_apply = λ c p none can. after_apply c p none;
+    on_lag = λ d ds r is at. which d.key PostNext (sent_to s d ds true r) (other_lags d ds r is at) (own_lags d ds r is at);
+    on_send = λ d ds r is at. which d.key PostNext (sent_to s d ds false r) (other_sent d ds r is at) (own_sent d ds r is at);
+    on_open = λ sc none can. after_open sc;
+    on_take = λ q r p at left. which q (Take q) _ (other_takes q r at p left) (own_takes q r at p left);
+    on_close = λ q r at none. which q (Close q) (closed s r) (other_closes q r at none) (own_closes q r at none);
+    on_stop = after_stop;
+  })

@@ -1,5 +1,5 @@
 -- The headline of the events that a call does, and of the posts that a watcher was told.
-use Rattle.std.proofs.Common.{◌≡◌, ℕ, List, ◌++◌, Some, slice_get, Ok, sym, ap, ◌∙◌, subst, append_assoc}
+use Rattle.std.proofs.Common.{◌≡◌, ℕ, List, ◌++◌, Some, slice_get, Ok, sym, ap, ◌∙◌, append_assoc}
 use Rattle.std.specs.Prelude.{Result}
 use Rattle.mt_skel.specs.declared.fault.Fault.{Fault}
 use Rattle.mt_events.specs.Posts.{PostView}
@@ -9,10 +9,9 @@ use Rattle.mt_floor.specs.declared.event.Event.{Event}
 use Rattle.mt_floor.specs.declared.event.Answer.{Answer}
 use Rattle.mt_floor.specs.declared.event.Answer.TheVariants.{Opened}
 use Rattle.mt_floor.specs.Schedule.{FloorView, empty_floor, run}
-use Rattle.mt_floor.specs.Headline.{answers, accepted_before, accepted_since, posted_since, WatchersFollow, HeadlineHolds, TellTables}
+use Rattle.mt_floor.specs.Headline.{answers, posted_since, followed_since, WatchersFollow, HeadlineHolds, TellTables}
 use Rattle.mt_floor.proofs.RunLaws.{run_state, run_told}
-use Rattle.mt_floor.proofs.FollowedLaws.{is_run}
-use Rattle.mt_floor.proofs.HeadLaws.{held_at, opening_told, in_order}
+use Rattle.mt_floor.proofs.HeadLaws.{held_at, run_from_opening, in_order}
 use Rattle.mt_floor.proofs.TableLaws.{rebuild, posts_tell}
 
 pub all_follow : (capacity : ℕ) (es : List Event) → WatchersFollow capacity es
@@ -28,13 +27,11 @@ headline_holds old now es told is capacity before from = record {
 
 -- the first of the posts that were posted to a watcher are in order, and tell its tables
 module _ (capacity : ℕ) (es : List Event) (at key : ℕ) (o : Opening) (is : slice_get (answers capacity es) at ≡ Some (Ok (Opened key o))) (ps rest : List PostView) (first : posted_since capacity es at key ≡ ps ++ rest) where
+  followed : followed_since capacity es at o.scope ≡ ps ++ (rest ++ (held_at capacity es at key o is).first.not_posted)
+  followed = let h = held_at capacity es at key o is in h.first.posted_is ∙ ap (λ l. l ++ h.first.not_posted) first ∙ append_assoc ps rest h.first.not_posted
+
   pub told_in_order : IsRun o ps
-  told_in_order =
-      let h = held_at capacity es at key o is in
-      subst (λ (x : Opening). IsRun x ps) (sym (opening_told capacity es at key o is))
-      (is_run o.scope (accepted_before capacity es at) (accepted_since capacity es at) ps (rest ++ h.not_posted) (h.posted_is ∙ ap (λ l. l ++ h.not_posted) first ∙ append_assoc ps rest h.not_posted))
+  told_in_order = run_from_opening capacity es at key o is ps _ followed
 
   pub told_tables : TellTables capacity es o ps
-  told_tables =
-      let h = held_at capacity es at key o is in
-      posts_tell capacity es at key o is ps (rest ++ h.not_posted) (h.posted_is ∙ ap (λ l. l ++ h.not_posted) first ∙ append_assoc ps rest h.not_posted)
+  told_tables = posts_tell capacity es at key o is ps _ followed

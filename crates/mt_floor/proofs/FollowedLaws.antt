@@ -1,9 +1,10 @@
 -- The followed posts of a watcher are a run from what it found.
-use Rattle.std.proofs.Common.{◌≡◌, ℕ, zero, suc, ◌+◌, Bool, true, false, cond, ◌==◌, eqb, List, [], ◌∷◌, ◌++◌, length, take, Some, None, slice_get, refl, sym, ap, ◌∙◌, arith}
+use Rattle.std.proofs.Common.{◌≡◌, ℕ, zero, suc, ◌+◌, Bool, true, false, cond, ◌==◌, eqb, List, [], ◌∷◌, ◌++◌, length, take, Some, None, slice_get, refl, sym, ap, ◌∙◌, arith, eqb-true}
 use Rattle.std.specs.List.{filter}
 use Rattle.std.proofs.lemmas.Bool.Decides.{nat_tests}
 use Rattle.std.proofs.lemmas.List.Elements.{filter-append}
 use Rattle.mt_skel.proofs.ElementLaws.{in_filter, get_in}
+use Rattle.mt_propagate.proofs.RowLaws.{part-filtered}
 use Rattle.mt_events.specs.Posts.{PostView}
 use Rattle.mt_events.specs.declared.opening.Scope.{Scope}
 use Rattle.mt_events.specs.Following.{names_space, start_of, posts_in, space_posts, IsRun}
@@ -12,26 +13,12 @@ use Rattle.mt_book.specs.Step.{after}
 use Rattle.mt_book.specs.History.{space_number, posts_from, events_from}
 use Rattle.mt_book.proofs.HistoryLaws.{space_events, numbers}
 use Rattle.mt_floor.specs.Watcher.{opening_of, followed_posts}
+use Rattle.mt_floor.proofs.RunLaws.{get_left}
 use Rattle.mt_floor.proofs.OpeningLaws.{numbers_found}
 
 -- the posts of a namespace that is followed are all followed
 pub space_followed : (scope : Scope) (n : ℕ) → names_space scope n ≡ true → (ps : List PostView) → space_posts n (filter (λ (p : PostView). names_space scope p.space) ps) ≡ space_posts n ps
-space_followed scope n named [] = refl
-space_followed scope n named (p ∷ ps) = by (names_space scope p.space) refl (eqb p.space n) refl (space_followed scope n named ps)
-  where
-    by : (a : Bool) → names_space scope p.space ≡ a → (b : Bool) → eqb p.space n ≡ b → space_posts n (filter (λ (q : PostView). names_space scope q.space) ps) ≡ space_posts n ps
-        → space_posts n (cond a (p ∷ filter (λ (q : PostView). names_space scope q.space) ps) (filter (λ (q : PostView). names_space scope q.space) ps)) ≡ cond b (p ∷ space_posts n ps) (space_posts n ps)
-    by true f true e ih = ap (λ c. cond c (p ∷ space_posts n (filter (λ (q : PostView). names_space scope q.space) ps)) (space_posts n (filter (λ (q : PostView). names_space scope q.space) ps))) e ∙ ap (λ l. p ∷ l) ih
-    by true f false e ih = ap (λ c. cond c (p ∷ space_posts n (filter (λ (q : PostView). names_space scope q.space) ps)) (space_posts n (filter (λ (q : PostView). names_space scope q.space) ps))) e ∙ ih
-    by false f false e ih = ih
-    by false f true e ih =
-        let same : p.space ≡ n = grind (arith, nat_tests) in
-        absurd (let bad : true ≡ false = sym named ∙ ap (names_space scope) (sym same) ∙ f in cc)
-
-get_left : {X : Type 0} (xs ys : List X) (k : ℕ) (x : X) → slice_get xs k ≡ Some x → slice_get (xs ++ ys) k ≡ Some x
-get_left [] ys k x e = absurd (cc)
-get_left (y ∷ xs) ys zero x e = e
-get_left (y ∷ xs) ys (suc k) x e = get_left xs ys k x e
+space_followed scope n named ps = part-filtered (λ (p : PostView). p.space == n) (λ (p : PostView). names_space scope p.space) ps (λ p on. ap (names_space scope) (eqb-true p.space n on) ∙ named)
 
 -- the place of a post among those of its namespace
 place_of_space : (n : ℕ) (ps : List PostView) (k : ℕ) (p : PostView) → slice_get ps k ≡ Some p → p.space ≡ n → slice_get (space_posts n ps) (posts_in n (take k ps)) ≡ Some p
@@ -55,11 +42,11 @@ is_run scope before since ps rest split = record { each = each }
     each : (k : ℕ) (p : PostView) → slice_get ps k ≡ Some p
         → (names_space scope p.space ≡ true) × (p.number ≡ start_of (opening_of before scope) p.space + posts_in p.space (take k ps) + 1)
     each k p e =
-        let there : slice_get (followed_posts scope before since) k ≡ Some p = ap (λ l. slice_get l k) split ∙ get_left ps rest k p e in
+        let there : slice_get (followed_posts scope before since) k ≡ Some p = ap (λ l. slice_get l k) split ∙ get_left ps rest k e in
         let named = (in_filter (λ (q : PostView). names_space scope q.space) p (posts_from before since) (get_in (followed_posts scope before since) k p there)).1 in
         let n = p.space in
         let all : space_posts n ps ++ space_posts n rest ≡ events_from n (space_number n before + 1) (after before) since =
         sym (filter-append (λ (q : PostView). q.space == n) ps rest) ∙ ap (space_posts n) (sym split) ∙ space_followed scope n named (posts_from before since) ∙ space_events n before since in
-        let at = ap (λ l. slice_get l (posts_in n (take k ps))) (sym all) ∙ get_left (space_posts n ps) (space_posts n rest) (posts_in n (take k ps)) p (place_of_space n ps k p e refl) in
+        let at = ap (λ l. slice_get l (posts_in n (take k ps))) (sym all) ∙ get_left (space_posts n ps) (space_posts n rest) (posts_in n (take k ps)) (place_of_space n ps k p e refl) in
         let number = (numbers n (space_number n before + 1) (after before) since (posts_in n (take k ps)) p at).1 in
         (named, omega (arith, number, numbers_found before since scope n (space_number n before + 1) (posts_in n (take k ps)) p named at))

@@ -1,13 +1,15 @@
--- What each event does to the rows of a floor.
-use Rattle.std.proofs.Common.{◌≡◌, ℕ, ◌+◌, ◌^◌, ◌<◌, ◌≤◌, Bool, true, false, cond, not, eqb, List, [], ◌∷◌, ◌++◌, map, length, set, get_or, take, drop, Option, Some, None, slice_get, Ok, Err, refl, sym, ap, ◌∙◌, subst, arith, append_assoc, length-append, length-set}
+-- What each event of a watcher, and a stop, do to the rows of a floor.
+use Rattle.std.proofs.Common.{◌≡◌, ℕ, ◌+◌, ◌^◌, ◌<◌, ◌≤◌, Bool, true, cond, List, [], ◌∷◌, ◌++◌, map, length, set, get_or, take, drop, Option, Some, None, slice_get, Ok, Err, refl, sym, ap, ◌∙◌, subst, arith, append_assoc, length-append}
 use Rattle.std.specs.Prelude.{Result, nat_le}
-use Rattle.std.specs.List.{filter, position_from, remove, AllByRecursion}
+use Rattle.std.specs.List.{position_from, remove, AllByRecursion}
 use Rattle.std.specs.Option.{option_map_or}
 use Rattle.std.proofs.lemmas.Bool.Decides.{nat_tests}
-use Rattle.std.proofs.lemmas.List.{take_at, length-take-le, drop_at}
+use Rattle.std.proofs.lemmas.List.{length-take-le, drop_at}
+use Rattle.std.proofs.lemmas.Option.{slice_get_within}
+use Rattle.mt_skel.proofs.ListLaws.{take_found}
 use Rattle.mt_skel.specs.declared.fault.Fault.{Fault}
 use Rattle.mt_skel.specs.declared.fault.Fault.TheVariants.{NoWatcher}
-use Rattle.mt_skel.specs.Keyed.{row_at, put}
+use Rattle.mt_skel.specs.Keyed.{row_at}
 use Rattle.mt_events.specs.Posts.{PostView}
 use Rattle.mt_book.specs.declared.command.Command.{Command}
 use Rattle.mt_floor.specs.declared.watch.Meeting.{Meeting}
@@ -17,213 +19,195 @@ use Rattle.mt_floor.specs.declared.event.Event.TheVariants.{Take, Meet, Close, S
 use Rattle.mt_floor.specs.declared.event.Answer.{Answer}
 use Rattle.mt_floor.specs.declared.event.Answer.TheVariants.{Took, Met, Closed, Halted}
 use Rattle.mt_floor.specs.Watcher.{Watcher, Due, watcher_key, is_open, followed_posts}
-use Rattle.mt_floor.specs.Schedule.{FloorView, Stepped, floor_step, if_idle, at_row, changed, is_full, nothing_left, took, met, closed, halted}
+use Rattle.mt_floor.specs.Schedule.{FloorView, Stepped, floor_step, if_idle, at_row, changed, is_full, nothing_left, took, met, closed, halted, waiting}
 use Rattle.mt_floor.specs.WellFormed.{IsFloor}
 use Rattle.mt_floor.specs.Rows.{FloorRowView, row_after_stop, next_taken, watcher_of, floor_of, IsFloorRow, IsKeptFloor}
+use Rattle.mt_floor.proofs.RowLaws.{get_behind, first_of}
+use Rattle.mt_floor.proofs.RunLaws.{get_left}
 use Rattle.mt_floor.proofs.StandingLaws.{stays, lists_short}
-use Rattle.mt_floor.proofs.PlaceLaws.{IsAt, is_of, found_at, got_at, within_at, row_read, watcher_at, changed_at, without_at, no_watcher}
+use Rattle.mt_floor.proofs.PlaceLaws.{IsAt, Found, is_of, got_at, row_read, watcher_at, changed_at, without_at, no_watcher}
 use Rattle.mt_skel.proofs.MiddleLaws.{each_mid, each_with, each_without, each_map, set_mid, remove_mid}
 
--- a floor after an event is kept, if its rows are
-pub kept_after : (c c' : ℕ) (j j' : List Command) (l l' : ℕ) (st st' : Bool) (rows rows' : List FloorRowView) (due due' : List Due) (e : Event) (a : Result Answer Fault) → IsKeptFloor c j l st rows due
-    → floor_step (floor_of c j l st rows due) e ≡ (floor_of c' j' l' st' rows' due', a) → AllByRecursion (IsFloorRow c' j') rows' → IsKeptFloor c' j' l' st' rows' due'
-kept_after c c' j j' l l' st st' rows rows' due due' e a h is each = record { floor = subst IsFloor (ap (λ (x : Stepped). x.0) is) (stays (floor_of c j l st rows due) e h.floor); each = each }
+-- an event was done on a floor, which is kept
+pub record IsDone (s : FloorView) (e : Event) (a : Result Answer Fault) (c : ℕ) (j : List Command) (l : ℕ) (st : Bool) (rows : List FloorRowView) (due : List Due) : Type 0 where
+  pub step : floor_step s e ≡ (floor_of c j l st rows due, a)
+  pub kept : IsKeptFloor c j l st rows due
+
+-- the same step, with an equal answer
+pub with_answer : {s : FloorView} {x : Stepped} {a b : Result Answer Fault} → x ≡ (s, a) → a ≡ b → x ≡ (s, b)
+with_answer {s = s} e same = e ∙ ap (λ r. (s, r)) same
+
+-- a key without a watcher
+pub record IsAbsent (s : FloorView) (q : ℕ) : Type 0 where
+  pub none : row_at watcher_key q s.watchers ≡ None
+  pub take : floor_step s (Take q) ≡ (s, Err NoWatcher)
+  pub meet : s.due ≡ [] → floor_step s (Meet q) ≡ (s, Err NoWatcher)
+  pub close : s.due ≡ [] → floor_step s (Close q) ≡ (s, Err NoWatcher)
+  pub waits : waiting s q ≡ []
+
+-- where nothing is due, an event is not put off
+pub not_late : (s : FloorView) (done : Stepped) → s.due ≡ [] → if_idle s.due s done ≡ done
+not_late s done idle = ap (λ ds. if_idle ds s done) idle
+
+absent : (s : FloorView) (q : ℕ) → row_at watcher_key q s.watchers ≡ None → IsAbsent s q
+unfolding floor_step
+absent s q none = record {
+  none = none;
+  take = of_row (took s);
+  meet = λ idle. not_late s (at_row s q (met s)) idle ∙ of_row (met s);
+  close = λ idle. not_late s (at_row s q (closed s)) idle ∙ of_row (closed s);
+  waits = ap (λ o. option_map_or (λ (r : Watcher). drop (length r.taken) r.sent) o []) none;
+}
+  where
+    of_row : (f : Watcher → Stepped) → at_row s q f ≡ (s, Err NoWatcher)
+    of_row f = ap (λ o. option_map_or f o (s, Err NoWatcher)) none
 
 -- what a watcher follows
 abbrev pub follows_all : List Command → FloorRowView → List PostView
 follows_all j r = followed_posts r.scope (take r.since j) (drop r.since j)
 
--- it has taken so many posts
-taken_count : (c : ℕ) (j : List Command) (r : FloorRowView) → IsFloorRow c j r → length (take r.taken (follows_all j r)) ≡ r.taken
-taken_count c j r h = length-take-le r.taken (follows_all j r) h.taken
+module _ (c : ℕ) (j : List Command) (r : FloorRowView) (h : IsFloorRow c j r) where
+  -- it has taken so many posts
+  taken_count : length (take r.taken (follows_all j r)) ≡ r.taken
+  taken_count = length-take-le r.taken (follows_all j r) h.taken
 
-sent_count : (c : ℕ) (j : List Command) (r : FloorRowView) → IsFloorRow c j r → length (watcher_of j r).sent ≡ r.taken + length r.waiting
-sent_count c j r h = omega (arith, length-append (take r.taken (follows_all j r)) r.waiting, taken_count c j r h)
+  sent_count : length (watcher_of j r).sent ≡ r.taken + length r.waiting
+  sent_count = omega (arith, length-append (take r.taken (follows_all j r)) r.waiting, taken_count)
 
--- its queue is full where so many posts wait
-pub full_is : (c : ℕ) (j : List Command) (r : FloorRowView) → IsFloorRow c j r → is_full c (watcher_of j r) ≡ nat_le c (length r.waiting)
-full_is c j r h = same (length (watcher_of j r).taken + c) (length (watcher_of j r).sent) c (length r.waiting) r.taken (omega (arith, taken_count c j r h)) (sent_count c j r h)
-  where
-    same : (a b m n t : ℕ) → a ≡ t + m → b ≡ t + n → nat_le a b ≡ nat_le m n
-    same a b m n t e f = by (nat_le m n) refl
-      where
-        by : (x : Bool) → nat_le m n ≡ x → nat_le a b ≡ x
-        by true q = grind (arith, nat_tests)
-        by false q = grind (arith, nat_tests)
-
--- the first of two lists one behind the other, and what comes behind it
-get_behind : {X : Type 0} (xs ys : List X) → slice_get (xs ++ ys) (length xs) ≡ slice_get ys 0
-get_behind [] ys = refl
-get_behind (x ∷ xs) ys = get_behind xs ys
-
-first_of : {X : Type 0} (xs : List X) (x : X) → slice_get xs 0 ≡ Some x → xs ≡ x ∷ drop 1 xs
-first_of [] x e = absurd (let bad : ◌≡◌ {A = Option _} None (Some x) = e in cc)
-first_of (y ∷ ys) x e = let same : y ≡ x = cc in ap (λ z. z ∷ ys) same
+  -- its queue is full where so many posts wait
+  pub full_is : is_full c (watcher_of j r) ≡ nat_le c (length r.waiting)
+  full_is = same (length (watcher_of j r).taken + c) (length (watcher_of j r).sent) c (length r.waiting) r.taken (omega (arith, taken_count)) sent_count
+    where
+      same : (a b m n t : ℕ) → a ≡ t + m → b ≡ t + n → nat_le a b ≡ nat_le m n
+      same a b m n t e f = grind (arith, nat_tests)
 
 none_of : {X : Type 0} (xs : List X) → slice_get xs 0 ≡ None → xs ≡ []
 none_of [] e = refl
-none_of (y ∷ ys) e = absurd (let bad : ◌≡◌ {A = Option _} (Some y) None = e in cc)
+none_of (y ∷ ys) e = absurd (cc)
 
-module _ (c : ℕ) (j : List Command) (l : ℕ) (st : Bool) (rows : List FloorRowView) (due : List Due) (h : IsKeptFloor c j l st rows due) where
-  -- no watcher of this key
-  pub take_none : (q : ℕ) → position_from (is_of q) 0 rows ≡ None → floor_step (floor_of c j l st rows due) (Take q) ≡ (floor_of c j l st rows due, Err NoWatcher)
-  unfolding floor_step
-  take_none q e = ap (λ o. option_map_or (took (floor_of c j l st rows due)) o (floor_of c j l st rows due, Err NoWatcher)) (no_watcher j q 0 rows e)
+module _ {c : ℕ} {j : List Command} {l : ℕ} {st : Bool} {rows : List FloorRowView} {due : List Due} {s : FloorView} (h : IsKeptFloor c j l st rows due) (view : floor_of c j l st rows due ≡ s) where
+  abbrev here : FloorView
+  here = floor_of c j l st rows due
 
-  pub meet_none : (q : ℕ) → due ≡ [] → position_from (is_of q) 0 rows ≡ None → floor_step (floor_of c j l st rows due) (Meet q) ≡ (floor_of c j l st rows due, Err NoWatcher)
-  unfolding floor_step
-  meet_none q idle e =
-      ap (λ ds. if_idle ds (floor_of c j l st rows due) (at_row (floor_of c j l st rows due) q (met (floor_of c j l st rows due)))) idle
-      ∙ ap (λ o. option_map_or (met (floor_of c j l st rows due)) o (floor_of c j l st rows due, Err NoWatcher)) (no_watcher j q 0 rows e)
+  pub is_floor : IsFloor s
+  is_floor = subst IsFloor view h.floor
 
-  pub close_none : (q : ℕ) → due ≡ [] → position_from (is_of q) 0 rows ≡ None → floor_step (floor_of c j l st rows due) (Close q) ≡ (floor_of c j l st rows due, Err NoWatcher)
-  unfolding floor_step
-  close_none q idle e =
-      ap (λ ds. if_idle ds (floor_of c j l st rows due) (at_row (floor_of c j l st rows due) q (closed (floor_of c j l st rows due)))) idle
-      ∙ ap (λ o. option_map_or (closed (floor_of c j l st rows due)) o (floor_of c j l st rows due, Err NoWatcher)) (no_watcher j q 0 rows e)
+  pub idle_there : s.due ≡ [] → due ≡ []
+  idle_there idle = ap (λ (f : FloorView). f.due) view ∙ idle
 
-  module _ (q i : ℕ) (row : FloorRowView) (at : IsAt q i rows row) where
+  -- the floor that an event makes is kept, if its rows are
+  pub done : {c' : ℕ} {j' : List Command} {l' : ℕ} {st' : Bool} {rows' : List FloorRowView} {due' : List Due} (e : Event) {a : Result Answer Fault}
+      → floor_step (floor_of c j l st rows due) e ≡ (floor_of c' j' l' st' rows' due', a) → AllByRecursion (IsFloorRow c' j') rows' → IsDone s e a c' j' l' st' rows' due'
+  done e is each = record {
+    step = ap (λ (f : FloorView). floor_step f e) (sym view) ∙ is;
+    kept = record { floor = subst IsFloor (ap (λ (x : Stepped). x.0) is) (stays here e h.floor); each = each };
+  }
+
+  -- a search for a key that found no row
+  pub unsought : (q : ℕ) {now : List FloorRowView} {o : Option ℕ} → now ≡ rows → o ≡ position_from (is_of q) 0 now → o ≡ None → IsAbsent s q
+  unsought q same is none = absent s q (ap (λ (f : FloorView). row_at watcher_key q f.watchers) (sym view) ∙ no_watcher j q 0 rows (ap (position_from (is_of q) 0) (sym same) ∙ sym is ∙ none))
+
+  module _ {q i : ℕ} {row : FloorRowView} (at : IsAt q i rows row) where
     pub row_is : IsFloorRow c j row
     row_is = each_mid (IsFloorRow c j) at.front at.back row (subst (AllByRecursion (IsFloorRow c j)) at.split h.each)
 
     pub found : row_at watcher_key q (map (watcher_of j) rows) ≡ Some (watcher_of j row)
-    found = watcher_at j q i rows row at h.floor.rising
+    found = watcher_at j at h.floor.rising
+
+    of_row : (f : Watcher → Stepped) → at_row here q f ≡ f (watcher_of j row)
+    of_row f = ap (λ o. option_map_or f o (here, Err NoWatcher)) found
 
     pub few : row.taken + length row.waiting ≤ 2 ^ 40
-    few = omega (arith, (lists_short (floor_of c j l st rows due) q (watcher_of j row) h.floor found).1, sent_count c j row row_is)
+    few = omega (arith, (lists_short here q (watcher_of j row) h.floor found).1, sent_count c j row row_is)
 
     pub each_set : (new : FloorRowView) → IsFloorRow c j new → AllByRecursion (IsFloorRow c j) (set rows i new)
     each_set new p =
         subst (AllByRecursion (IsFloorRow c j)) (sym (set_mid at.front at.back row new) ∙ (λ k. set (sym at.split k) (sym at.place k) new))
         (each_with (IsFloorRow c j) at.front at.back row new (subst (AllByRecursion (IsFloorRow c j)) at.split h.each) p)
 
-    -- Meet
-    pub meet_some : due ≡ [] → (m : Meeting) → m ≡ record { posted = row.taken + length row.waiting; taken = row.taken; state = row.phase } → floor_step (floor_of c j l st rows due) (Meet q) ≡ (floor_of c j l st rows due, Ok (Met m))
+    abbrev front : List PostView
+    front = take row.taken (follows_all j row)
+
+    -- what waits for it
+    left : drop (length (watcher_of j row).taken) (watcher_of j row).sent ≡ row.waiting
+    left = drop_at front row.waiting (length front) refl
+
+    pub waiting_is : waiting s q ≡ row.waiting
+    waiting_is = ap (λ (f : FloorView). waiting f q) (sym view) ∙ ap (λ o. option_map_or (λ (r : Watcher). drop (length r.taken) r.sent) o []) found ∙ left
+
+    pub meet_some : s.due ≡ [] → {m : Meeting} → m ≡ record { posted = row.taken + length row.waiting; taken = row.taken; state = row.phase } → floor_step s (Meet q) ≡ (s, Ok (Met m))
     unfolding floor_step
-    meet_some idle m is =
-        ap (λ ds. if_idle ds (floor_of c j l st rows due) (at_row (floor_of c j l st rows due) q (met (floor_of c j l st rows due)))) idle
-        ∙ ap (λ o. option_map_or (met (floor_of c j l st rows due)) o (floor_of c j l st rows due, Err NoWatcher)) found
-        ∙ told m (is ∙ same)
-      where
-        same : ◌≡◌ {A = Meeting} (record { posted = row.taken + length row.waiting; taken = row.taken; state = row.phase }) (record { posted = length (watcher_of j row).sent; taken = length (watcher_of j row).taken; state = row.phase })
-        same = λ k. record { posted = sym (sent_count c j row row_is) k; taken = sym (taken_count c j row row_is) k; state = row.phase }
+    meet_some idle {m = m} is = subst (λ (f : FloorView). floor_step f (Meet q) ≡ (f, Ok (Met m))) view
+        (not_late here (at_row here q (met here)) (idle_there idle) ∙ of_row (met here)
+        ∙ (λ k. (here, Ok (Met (record { posted = sent_count c j row row_is k; taken = taken_count c j row row_is k; state = row.phase })))) ∙ ap (λ (x : Meeting). (here, Ok (Met x))) (sym is))
 
-        told : (n : Meeting) → n ≡ record { posted = length (watcher_of j row).sent; taken = length (watcher_of j row).taken; state = row.phase } → met (floor_of c j l st rows due) (watcher_of j row) ≡ (floor_of c j l st rows due, Ok (Met n))
-        told n e = ap (λ (x : Meeting). (floor_of c j l st rows due, Ok (Met x))) (sym e)
-
-    -- Close
-    pub close_some : due ≡ [] → (rows' : List FloorRowView) (ps : List PostView) → rows' ≡ remove rows i → ps ≡ row.waiting
-        → (floor_step (floor_of c j l st rows due) (Close q) ≡ (floor_of c j l st rows' due, Ok (Closed ps))) × AllByRecursion (IsFloorRow c j) rows'
+    pub close_done : s.due ≡ [] → {rows' : List FloorRowView} {ps : List PostView} → rows' ≡ remove rows i → ps ≡ row.waiting → IsDone s (Close q) (Ok (Closed ps)) c j l st rows' due
     unfolding floor_step
-    close_some idle rows' ps gone is = (
-      ap (λ ds. if_idle ds (floor_of c j l st rows due) (at_row (floor_of c j l st rows due) q (closed (floor_of c j l st rows due)))) idle
-          ∙ ap (λ o. option_map_or (closed (floor_of c j l st rows due)) o (floor_of c j l st rows due, Err NoWatcher)) found
-          ∙ answered (without_at j q i rows row at h.floor.rising ∙ ap (map (watcher_of j)) (sym gone)) (drop_at (take row.taken (follows_all j row)) row.waiting (length (take row.taken (follows_all j row))) refl ∙ sym is),
-      subst (AllByRecursion (IsFloorRow c j)) ((sym (remove_mid at.front at.back row) ∙ (λ k. remove (sym at.split k) (sym at.place k))) ∙ sym gone)
-          (each_without (IsFloorRow c j) at.front at.back row (subst (AllByRecursion (IsFloorRow c j)) at.split h.each)),
-    )
-      where
-        answered : filter (λ (x : Watcher). not (eqb x.key row.key)) (map (watcher_of j) rows) ≡ map (watcher_of j) rows' → drop (length (watcher_of j row).taken) (watcher_of j row).sent ≡ ps
-            → closed (floor_of c j l st rows due) (watcher_of j row) ≡ (floor_of c j l st rows' due, Ok (Closed ps))
-        answered e f = λ k. (record { capacity = c; journal = j; next_key = l + 1; stopped = st; watchers = e k; due = due }, Ok (Closed (f k)))
-
-    -- Take
-    take_more : (p : PostView) → slice_get row.waiting 0 ≡ Some p → take (row.taken + 1) (follows_all j row) ≡ take row.taken (follows_all j row) ++ p ∷ []
-    take_more p e =
-        let f = h.floor.rows q (watcher_of j row) found in
-        let front = take row.taken (follows_all j row) in
-        let all : follows_all j row ≡ (front ++ p ∷ []) ++ (drop 1 row.waiting ++ f.not_posted) =
-        f.posted ∙ ap (λ w. (front ++ w) ++ f.not_posted) (first_of row.waiting p e) ∙ ap (λ w. w ++ f.not_posted) (sym (append_assoc front (p ∷ []) (drop 1 row.waiting))) ∙ append_assoc (front ++ p ∷ []) (drop 1 row.waiting) f.not_posted in
-        ap (take (row.taken + 1)) all ∙ take_at (front ++ p ∷ []) (drop 1 row.waiting ++ f.not_posted) (row.taken + 1) (omega (arith, length-append front (p ∷ []), taken_count c j row row_is))
+    close_done idle gone is =
+        let watchers = without_at j at h.floor.rising ∙ ap (map (watcher_of j)) (sym gone) in
+        let posts = left ∙ sym is in
+        done (Close q) (not_late here (at_row here q (closed here)) (idle_there idle) ∙ of_row (closed here) ∙ (λ k. (record here { watchers = watchers k }, Ok (Closed (posts k)))))
+        (subst (AllByRecursion (IsFloorRow c j)) ((sym (remove_mid at.front at.back row) ∙ (λ k. remove (sym at.split k) (sym at.place k))) ∙ sym gone)
+        (each_without (IsFloorRow c j) at.front at.back row (subst (AllByRecursion (IsFloorRow c j)) at.split h.each)))
 
     step_took : (o : Option PostView) → slice_get row.waiting 0 ≡ o
-        → floor_step (floor_of c j l st rows due) (Take q)
-        ≡ option_map_or {U = Stepped} (λ p. (changed (floor_of c j l st rows due) (record (watcher_of j row) { taken = (watcher_of j row).taken ++ p ∷ [] }), Ok (Took (Some p)))) o (floor_of c j l st rows due, nothing_left row.phase)
+        → floor_step here (Take q) ≡ option_map_or {U = Stepped} (λ p. (changed here (record (watcher_of j row) { taken = front ++ p ∷ [] }), Ok (Took (Some p)))) o (here, nothing_left row.phase)
     unfolding floor_step
     step_took o e =
-        ap (λ x. option_map_or (took (floor_of c j l st rows due)) x (floor_of c j l st rows due, Err NoWatcher)) found
-        ∙ ap (λ x. option_map_or {U = Stepped} (λ p. (changed (floor_of c j l st rows due) (record (watcher_of j row) { taken = (watcher_of j row).taken ++ p ∷ [] }), Ok (Took (Some p)))) x (floor_of c j l st rows due, nothing_left row.phase))
-        (get_behind (take row.taken (follows_all j row)) row.waiting ∙ e)
+        of_row (took here)
+        ∙ ap (λ x. option_map_or {U = Stepped} (λ p. (changed here (record (watcher_of j row) { taken = front ++ p ∷ [] }), Ok (Took (Some p)))) x (here, nothing_left row.phase)) (get_behind front row.waiting ∙ e)
 
-    taken_row : (p : PostView) → slice_get row.waiting 0 ≡ Some p → watcher_of j (next_taken row.waiting row) ≡ record (watcher_of j row) { taken = take row.taken (follows_all j row) ++ p ∷ [] }
-    taken_row p e =
-        let more = take_more p e in
-        let wait = first_of row.waiting p e in
-        ap (λ w. watcher_of j (next_taken w row)) wait ∙ moved more (ap (λ t. t ++ drop 1 row.waiting) more ∙ append_assoc (take row.taken (follows_all j row)) (p ∷ []) (drop 1 row.waiting) ∙ ap (λ w. take row.taken (follows_all j row) ++ w) (sym wait))
-      where
-        moved : take (row.taken + 1) (follows_all j row) ≡ take row.taken (follows_all j row) ++ p ∷ []
-            → take (row.taken + 1) (follows_all j row) ++ drop 1 row.waiting ≡ take row.taken (follows_all j row) ++ row.waiting
-            → watcher_of j (record row { taken = row.taken + 1; waiting = drop 1 row.waiting; room = row.room + 1 }) ≡ record (watcher_of j row) { taken = take row.taken (follows_all j row) ++ p ∷ [] }
-        moved a b = λ k. record { key = row.key; scope = row.scope; since = row.since; opening = (watcher_of j row).opening; sent = b k; taken = a k; phase = row.phase }
+    -- a post waits
+    module _ {p : PostView} (next : slice_get row.waiting 0 ≡ Some p) where
+      wait : row.waiting ≡ p ∷ drop 1 row.waiting
+      wait = first_of row.waiting p next
 
-    pub take_some : (rows' : List FloorRowView) (p : PostView) → slice_get row.waiting 0 ≡ Some p → rows' ≡ set rows i (next_taken row.waiting row)
-        → (floor_step (floor_of c j l st rows due) (Take q) ≡ (floor_of c j l st rows' due, Ok (Took (Some p)))) × AllByRecursion (IsFloorRow c j) rows'
-    take_some rows' p e is = (
-      step_took (Some p) e ∙ answered (changed_at j q i rows row at h.floor.rising (next_taken row.waiting row) (record (watcher_of j row) { taken = take row.taken (follows_all j row) ++ p ∷ [] }) (taken_row p e) refl ∙ ap (map (watcher_of j)) (sym is)),
-      subst (AllByRecursion (IsFloorRow c j)) (sym is) (each_set (next_taken row.waiting row) (subst (λ w. IsFloorRow c j (next_taken w row)) (sym (first_of row.waiting p e)) is_row)),
-    )
-      where
-        answered : put watcher_key (record (watcher_of j row) { taken = take row.taken (follows_all j row) ++ p ∷ [] }) (map (watcher_of j) rows) ≡ map (watcher_of j) rows'
-            → ◌≡◌ {A = Stepped} (changed (floor_of c j l st rows due) (record (watcher_of j row) { taken = take row.taken (follows_all j row) ++ p ∷ [] }), Ok (Took (Some p))) (floor_of c j l st rows' due, Ok (Took (Some p)))
-        answered e = λ k. (record { capacity = c; journal = j; next_key = l + 1; stopped = st; watchers = e k; due = due }, Ok (Took (Some p)))
+      there : slice_get (follows_all j row) row.taken ≡ Some p
+      there =
+          let f = h.floor.rows q (watcher_of j row) found in
+          ap (λ l. slice_get l row.taken) f.posted ∙ get_left (front ++ row.waiting) f.not_posted row.taken (ap (slice_get (front ++ row.waiting)) (sym (taken_count c j row row_is)) ∙ get_behind front row.waiting ∙ next)
 
-        longer : row.taken + 1 ≤ length (follows_all j row)
-        longer =
-            let f = h.floor.rows q (watcher_of j row) found in
-            let front = take row.taken (follows_all j row) in
-            omega (arith, ap (λ (x : List PostView). length x) f.posted, length-append (front ++ row.waiting) f.not_posted, length-append front row.waiting, taken_count c j row row_is, ap (λ (x : List PostView). length x) (first_of row.waiting p e))
+      more : take (row.taken + 1) (follows_all j row) ≡ front ++ p ∷ []
+      more = take_found (follows_all j row) row.taken p there
 
-        is_row : IsFloorRow c j (record row { taken = row.taken + 1; waiting = drop 1 row.waiting; room = row.room + 1 })
-        is_row = record { since = row_is.since; taken = longer; room = omega (arith, row_is.room, ap (λ (x : List PostView). length x) (first_of row.waiting p e)) }
+      taken_row : watcher_of j (next_taken row.waiting row) ≡ record (watcher_of j row) { taken = front ++ p ∷ [] }
+      taken_row =
+          let sent = ap (λ t. t ++ drop 1 row.waiting) more ∙ append_assoc front (p ∷ []) (drop 1 row.waiting) ∙ ap (λ w. front ++ w) (sym wait) in
+          ap (λ w. watcher_of j (next_taken w row)) wait ∙ (λ k. record (watcher_of j row) { sent = sent k; taken = more k })
 
-    pub take_last : (rows' : List FloorRowView) → slice_get row.waiting 0 ≡ None → rows' ≡ set rows i (next_taken row.waiting row)
-        → (floor_step (floor_of c j l st rows due) (Take q) ≡ (floor_of c j l st rows' due, nothing_left row.phase)) × (rows' ≡ rows)
-    take_last rows' e is =
-        let still : rows' ≡ rows = is ∙ ap (λ w. set rows i (next_taken w row)) (none_of row.waiting e) ∙ (λ k. set (at.split k) (at.place k) row) ∙ set_mid at.front at.back row row ∙ sym at.split in
-        (step_took None e ∙ ap (λ x. (floor_of c j l st x due, nothing_left row.phase)) (sym still), still)
+      taken_kept : IsFloorRow c j (next_taken row.waiting row)
+      taken_kept = subst (λ w. IsFloorRow c j (next_taken w row)) (sym wait) (record {
+        since = row_is.since;
+        taken = omega (arith, slice_get_within (follows_all j row) row.taken p there);
+        room = omega (arith, row_is.room, ap (λ (x : List PostView). length x) wait);
+      })
+
+      take_some : {rows' : List FloorRowView} → rows' ≡ set rows i (next_taken row.waiting row) → IsDone s (Take q) (Ok (Took (Some p))) c j l st rows' due
+      take_some is =
+          let watchers = changed_at j at h.floor.rising (next_taken row.waiting row) (record (watcher_of j row) { taken = front ++ p ∷ [] }) taken_row refl ∙ ap (map (watcher_of j)) (sym is) in
+          done (Take q) (step_took (Some p) next ∙ (λ k. (record here { watchers = watchers k }, Ok (Took (Some p)))))
+          (subst (AllByRecursion (IsFloorRow c j)) (sym is) (each_set (next_taken row.waiting row) taken_kept))
 
   -- a take, as its search and its rows tell it
-  pub take_given : (q i : ℕ) (rows' : List FloorRowView) (p : PostView) → position_from (is_of q) 0 rows ≡ Some i → ((row : FloorRowView) → slice_get rows i ≡ Some row → Some p ≡ slice_get row.waiting 0)
-      → ((row : FloorRowView) → slice_get rows i ≡ Some row → rows' ≡ set rows i (next_taken row.waiting row))
-      → (floor_step (floor_of c j l st rows due) (Take q) ≡ (floor_of c j l st rows' due, Ok (Took (Some p)))) × AllByRecursion (IsFloorRow c j) rows'
-  take_given q i rows' p e post now =
-      let at = found_at q i rows e in
-      let got = got_at q i rows at.0 at.1 in
-      take_some q i at.0 at.1 rows' p (sym (post at.0 got)) (now at.0 got)
+  module _ {q i : ℕ} (f : Found q i rows) {rows' : List FloorRowView} (now : (row : FloorRowView) → slice_get rows i ≡ Some row → rows' ≡ set rows i (next_taken row.waiting row)) where
+    pub take_given : {p : PostView} → ((row : FloorRowView) → slice_get rows i ≡ Some row → Some p ≡ slice_get row.waiting 0) → IsDone s (Take q) (Ok (Took (Some p))) c j l st rows' due
+    take_given post = take_some f.at (sym (post f.row (got_at f.at))) (now f.row (got_at f.at))
 
-  pub take_empty : (q i : ℕ) (rows' : List FloorRowView) (x : FloorRowView) → position_from (is_of q) 0 rows ≡ Some i → ((row : FloorRowView) → slice_get rows i ≡ Some row → None ≡ slice_get row.waiting 0)
-      → ((row : FloorRowView) → slice_get rows i ≡ Some row → rows' ≡ set rows i (next_taken row.waiting row)) → x ≡ get_or rows' i x
-      → (floor_step (floor_of c j l st rows due) (Take q) ≡ (floor_of c j l st rows' due, nothing_left x.phase)) × AllByRecursion (IsFloorRow c j) rows'
-  take_empty q i rows' x e post now read =
-      let at = found_at q i rows e in
-      let got = got_at q i rows at.0 at.1 in
-      let still = (take_last q i at.0 at.1 rows' (sym (post at.0 got)) (now at.0 got)).1 in
-      let there = row_read q i rows x e (read ∙ ap (λ l. get_or l i x) still) in
-      let has = got_at q i rows x there in
-      ((take_last q i x there rows' (sym (post x has)) (now x has)).0, subst (AllByRecursion (IsFloorRow c j)) (sym still) h.each)
+    pub take_empty : {x : FloorRowView} → ((row : FloorRowView) → slice_get rows i ≡ Some row → None ≡ slice_get row.waiting 0) → x ≡ get_or rows' i x → IsDone s (Take q) (nothing_left x.phase) c j l st rows' due
+    take_empty {x = x} post read =
+        let at = f.at in
+        let still : rows' ≡ rows = now f.row (got_at at) ∙ ap (λ w. set rows i (next_taken w f.row)) (none_of f.row.waiting (sym (post f.row (got_at at)))) ∙ (λ k. set (at.split k) (at.place k) f.row) ∙ set_mid at.front at.back f.row f.row ∙ sym at.split in
+        let there = row_read f (read ∙ ap (λ l. get_or l i x) still) in
+        done (Take q) (step_took there None (sym (post x (got_at there))) ∙ ap (λ r. (floor_of c j l st r due, nothing_left x.phase)) (sym still)) (subst (AllByRecursion (IsFloorRow c j)) (sym still) h.each)
 
-  pub same_length : (q i : ℕ) (rows' : List FloorRowView) → position_from (is_of q) 0 rows ≡ Some i → ((row : FloorRowView) → slice_get rows i ≡ Some row → rows' ≡ set rows i (next_taken row.waiting row)) → i < length rows'
-  same_length q i rows' e now =
-      let at = found_at q i rows e in
-      omega (arith, within_at q i rows at.0 at.1, ap (λ (x : List FloorRowView). length x) (now at.0 (got_at q i rows at.0 at.1)), length-set rows i (next_taken (at.0).waiting at.0))
-
--- the same step, with an equal answer
-pub with_answer : (s : FloorView) (x : Stepped) (a b : Result Answer Fault) → x ≡ (s, a) → a ≡ b → x ≡ (s, b)
-with_answer s x a b e f = e ∙ ap (λ r. (s, r)) f
-
--- ---- Stop
-
-pub stop_done : (c : ℕ) (j : List Command) (l : ℕ) (st : Bool) (rows rows' : List FloorRowView) (due : List Due) → IsKeptFloor c j l st rows due → due ≡ [] → rows' ≡ map row_after_stop rows
-    → (floor_step (floor_of c j l st rows due) Stop ≡ (floor_of c j l true rows' due, Ok Halted)) × AllByRecursion (IsFloorRow c j) rows'
-unfolding floor_step
-stop_done c j l st rows rows' due h idle is = (
-  ap (λ ds. if_idle ds (floor_of c j l st rows due) (halted (floor_of c j l st rows due))) idle ∙ answered (all_end rows ∙ ap (map (watcher_of j)) (sym is)),
-  subst (AllByRecursion (IsFloorRow c j)) (sym is) (each_map (IsFloorRow c j) (IsFloorRow c j) row_after_stop (λ r p. record { since = p.since; taken = p.taken; room = p.room }) rows h.each),
-)
-  where
-    all_end : (rs : List FloorRowView) → map (λ (r : Watcher). record r { phase = cond (is_open r.phase) Ended r.phase }) (map (watcher_of j) rs) ≡ map (watcher_of j) (map row_after_stop rs)
-    all_end [] = refl
-    all_end (r ∷ rs) = ap (λ ws. watcher_of j (row_after_stop r) ∷ ws) (all_end rs)
-
-    answered : map (λ (r : Watcher). record r { phase = cond (is_open r.phase) Ended r.phase }) (map (watcher_of j) rows) ≡ map (watcher_of j) rows' → halted (floor_of c j l st rows due) ≡ (floor_of c j l true rows' due, Ok Halted)
-    answered e = λ k. (record { capacity = c; journal = j; next_key = l + 1; stopped = true; watchers = e k; due = due }, Ok Halted)
+  -- a stop
+  pub stop_done : s.due ≡ [] → {rows' : List FloorRowView} → rows' ≡ map row_after_stop rows → IsDone s Stop (Ok Halted) c j l true rows' due
+  unfolding floor_step
+  stop_done idle is =
+      let watchers = all_end rows ∙ ap (map (watcher_of j)) (sym is) in
+      done Stop (not_late here (halted here) (idle_there idle) ∙ (λ k. (record here { stopped = true; watchers = watchers k }, Ok Halted)))
+      (subst (AllByRecursion (IsFloorRow c j)) (sym is) (each_map (IsFloorRow c j) (IsFloorRow c j) row_after_stop (λ r p. record { since = p.since; taken = p.taken; room = p.room }) rows h.each))
+    where
+      all_end : (rs : List FloorRowView) → map (λ (r : Watcher). record r { phase = cond (is_open r.phase) Ended r.phase }) (map (watcher_of j) rs) ≡ map (watcher_of j) (map row_after_stop rs)
+      all_end [] = refl
+      all_end (r ∷ rs) = ap (λ ws. watcher_of j (row_after_stop r) ∷ ws) (all_end rs)

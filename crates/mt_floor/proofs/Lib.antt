@@ -1,6 +1,7 @@
 pub mod AllowedLaws
 pub mod DueLaws
 pub mod RowLaws
+pub mod EffectLaws
 pub mod HeldLaws
 pub mod FloorLaws
 pub mod RunLaws
@@ -14,18 +15,13 @@ pub mod OpenedLaws
 pub mod GivenLaws
 pub mod SinceLaws
 pub mod BoundLaws
-pub mod GoneLaws
 pub mod StandingLaws
 pub mod KeyLaws
 pub mod MeetingLaws
-pub mod EndLaws
-pub mod FindLaws
 pub mod PlaceLaws
 pub mod KeptLaws
 pub mod PostLaws
-pub mod WaitingLaws
 pub mod SettledLaws
 pub mod ApplyLaws
 pub mod StepLaws
 pub mod RunningLaws
-pub mod HeardLaws

@@ -4,8 +4,6 @@ use Rattle.std.specs.Prelude.{Result}
 use Rattle.std.proofs.lemmas.Bool.Decides.{nat_tests}
 use Rattle.mt_skel.specs.declared.fault.Fault.{Fault}
 use Rattle.mt_skel.specs.Keyed.{row_at}
-use Rattle.mt_skel.proofs.KeyedLaws.{row_at-key}
-use Rattle.mt_propagate.proofs.RowLaws.{all-row}
 use Rattle.mt_events.specs.declared.opening.Scope.{Scope}
 use Rattle.mt_events.specs.declared.opening.Scope.TheVariants.{One, All}
 use Rattle.mt_events.specs.declared.opening.Opening.{Opening}
@@ -17,6 +15,7 @@ use Rattle.mt_floor.specs.Schedule.{FloorView, empty_floor, floor_step, run}
 use Rattle.mt_floor.specs.Headline.{answers, floor_after}
 use Rattle.mt_floor.proofs.BeginLaws.{counts}
 use Rattle.mt_floor.proofs.RunLaws.{ran, after_kept, start_held}
+use Rattle.mt_floor.proofs.StandingLaws.{key_below}
 use Rattle.mt_floor.proofs.HeadLaws.{held_at, opening_told}
 
 -- an answer that begins the watcher of a key
@@ -44,8 +43,8 @@ given s (e ∷ es) key low high =
 -- keys count from 1
 no_key : (capacity : ℕ) (es : List Event) (r : Watcher) → row_at watcher_key 0 (floor_after capacity es).watchers ≡ Some r → ⊥
 no_key capacity es r at =
-    let a = (ran 0 All [] [] [] [] (empty_floor capacity) (after_kept capacity []) (start_held capacity All) es).held.row r at in
-    let b = (ran 0 (One 0) [] [] [] [] (empty_floor capacity) (after_kept capacity []) (start_held capacity (One 0)) es).held.row r at in
+    let a = (ran (after_kept capacity []) (start_held capacity All) es).held.row r at in
+    let b = (ran (after_kept capacity []) (start_held capacity (One 0)) es).held.row r at in
     let bad : ◌≡◌ {A = Scope} All (One 0) = sym a.scope_is ∙ b.scope_is in cc
 
 -- so the watcher of a row has begun, with the row's opening
@@ -54,10 +53,6 @@ pub row_began : (capacity : ℕ) (es : List Event) (key : ℕ) (r : Watcher) →
 row_began capacity es zero r at = absurd (no_key capacity es r at)
 row_began capacity es (suc k) r at =
     let key = suc k in
-    let s = floor_after capacity es in
-    let kept = after_kept capacity es in
-    let low : ltb r.key s.next_key ≡ true = all-row watcher_key (λ (x : Watcher). ltb x.key s.next_key) s.watchers key r kept.below at in
-    let below : key < s.next_key = subst (λ n. n < s.next_key) (row_at-key watcher_key key s.watchers r at) (ltb-true r.key s.next_key low) in
-    let g = given (empty_floor capacity) es key (omega arith) below in
+    let g = given (empty_floor capacity) es key (omega arith) (key_below (after_kept capacity es) at) in
     let opening : g.1 ≡ r.opening = opening_told capacity es g.0 key g.1 g.2 ∙ sym ((held_at capacity es g.0 key g.1 g.2).row r at).opening_is in
     (g.0, g.2 ∙ ap (λ (o : Opening). Some (Ok (Opened key o))) opening)

@@ -1,8 +1,9 @@
 -- A row among the others: the place where it stands, and what changes or leaves there.
-use Rattle.std.proofs.Common.{◌≡◌, ℕ, ◌+◌, Bool, true, false, cond, not, eqb, List, [], ◌∷◌, ◌++◌, map, length, set, get_or, Option, Some, None, slice_get, refl, sym, ap, ◌∙◌, subst, arith, length-append, ◌<◌, eqb-true}
+use Rattle.std.proofs.Common.{◌≡◌, ℕ, ◌+◌, Bool, true, false, cond, not, eqb, List, [], ◌∷◌, ◌++◌, map, length, set, get_or, Option, Some, None, slice_get, refl, sym, ap, ◌∙◌, subst, arith, ◌<◌, eqb-true}
 use Rattle.std.specs.List.{filter, position_from, remove}
 use Rattle.std.proofs.lemmas.List.{map-append}
-use Rattle.std.proofs.lemmas.Option.{slice_get_read}
+use Rattle.std.specs.Option.{IfSome}
+use Rattle.std.proofs.lemmas.Option.{slice_get_read, slice_get_within}
 use Rattle.mt_skel.specs.Keyed.{row_at, put, rises}
 use Rattle.mt_skel.proofs.MiddleLaws.{row_mid, put_mid, without_mid, set_mid, remove_mid, get_mid}
 use Rattle.mt_book.specs.declared.command.Command.{Command}
@@ -36,31 +37,33 @@ found_from q n i (r ∷ rows) e = by (eqb r.key q) refl e (found_from q (n + 1) 
         let at = f.3 in
         (f.0 + 1, f.1, omega (arith, f.2), record { front = r ∷ at.front; back = at.back; split = ap (λ l. r ∷ l) at.split; place = omega (arith, at.place); is = at.is })
 
-pub found_at : (q i : ℕ) (rows : List FloorRowView) → position_from (is_of q) 0 rows ≡ Some i → (row : FloorRowView) × IsAt q i rows row
-found_at q i rows e =
-    let f = found_from q 0 i rows e in
-    let same : f.0 ≡ i = omega (arith, f.2) in
-    (f.1, subst (λ n. IsAt q n rows f.1) same f.3)
+pub record Found (q i : ℕ) (rows : List FloorRowView) : Type 0 where
+  pub row : FloorRowView
+  pub at : IsAt q i rows row
 
-pub got_at : (q i : ℕ) (rows : List FloorRowView) (row : FloorRowView) → IsAt q i rows row → slice_get rows i ≡ Some row
-got_at q i rows row at = ap (λ l. slice_get l i) at.split ∙ ap (slice_get (at.front ++ row ∷ at.back)) at.place ∙ get_mid at.front at.back row
+-- what a search for a key has found
+pub sought : (q : ℕ) {i : ℕ} {rows now : List FloorRowView} {o : Option ℕ} → now ≡ rows → o ≡ position_from (is_of q) 0 now → o ≡ Some i → Found q i rows
+sought q {i = i} {rows = rows} same is what =
+    let f = found_from q 0 i rows (ap (position_from (is_of q) 0) (sym same) ∙ sym is ∙ what) in
+    let here : f.0 ≡ i = omega (arith, f.2) in
+    record { row = f.1; at = subst (λ n. IsAt q n rows f.1) here f.3 }
 
-pub within_at : (q i : ℕ) (rows : List FloorRowView) (row : FloorRowView) → IsAt q i rows row → i < length rows
-within_at q i rows row at = omega (arith, at.place, ap (λ (l : List FloorRowView). length l) at.split, length-append at.front (row ∷ at.back))
+pub got_at : {q i : ℕ} {rows : List FloorRowView} {row : FloorRowView} → IsAt q i rows row → slice_get rows i ≡ Some row
+got_at {row = row} at = (λ k. slice_get (at.split k) (at.place k)) ∙ get_mid at.front at.back row
 
--- the row that stands there
-pub row_there : (q i : ℕ) (rows : List FloorRowView) (row : FloorRowView) → position_from (is_of q) 0 rows ≡ Some i → slice_get rows i ≡ Some row → IsAt q i rows row
-row_there q i rows row e got =
-    let f = found_at q i rows e in
-    let two : ◌≡◌ {A = Option FloorRowView} (Some f.0) (Some row) = sym (got_at q i rows f.0 f.1) ∙ got in
-    let same : f.0 ≡ row = cc in
-    subst (IsAt q i rows) same f.1
+pub within_at : {q i : ℕ} {rows : List FloorRowView} → Found q i rows → i < length rows
+within_at {i = i} {rows = rows} f = slice_get_within rows i f.row (got_at f.at)
 
--- the one that is read there
-pub row_read : (q i : ℕ) (rows : List FloorRowView) (row : FloorRowView) → position_from (is_of q) 0 rows ≡ Some i → row ≡ get_or rows i row → IsAt q i rows row
-row_read q i rows row e is =
-    let f = found_at q i rows e in
-    row_there q i rows row e (slice_get_read rows (length rows) i row refl (within_at q i rows f.0 f.1) is)
+-- what is so of its row is so of the one that stands there
+pub at_place : {q i : ℕ} {rows : List FloorRowView} (f : Found q i rows) (P : FloorRowView → Type 0) → P f.row → IfSome (slice_get rows i) P
+at_place f P is = subst (λ o. IfSome o P) (sym (got_at f.at)) is
+
+-- and its row is the one that is read there
+pub row_read : {q i : ℕ} {rows : List FloorRowView} {row : FloorRowView} → Found q i rows → row ≡ get_or rows i row → IsAt q i rows row
+row_read {q = q} {i = i} {rows = rows} {row = row} f is =
+    let two : ◌≡◌ {A = Option FloorRowView} (Some f.row) (Some row) = sym (got_at f.at) ∙ slice_get_read rows (length rows) i row refl (within_at f) is in
+    let same : f.row ≡ row = cc in
+    subst (IsAt q i rows) same f.at
 
 -- a key without a row has no watcher
 pub no_watcher : (journal : List Command) (q n : ℕ) (rows : List FloorRowView) → position_from (is_of q) n rows ≡ None → row_at watcher_key q (map (watcher_of journal) rows) ≡ None
@@ -73,37 +76,33 @@ no_watcher journal q n (r ∷ rows) e = by (eqb r.key q) refl e (no_watcher jour
     by true is e ih = absurd (cc)
     by false is e ih = ap (λ b. cond b (Some (watcher_of journal r)) (row_at watcher_key q (map (watcher_of journal) rows))) (turned r.key q is) ∙ ih e
 
--- the watchers of rows, around one
-pub watchers_mid : (journal : List Command) (front back : List FloorRowView) (row : FloorRowView)
-    → map (watcher_of journal) (front ++ row ∷ back) ≡ map (watcher_of journal) front ++ watcher_of journal row ∷ map (watcher_of journal) back
-watchers_mid journal front back row = map-append (watcher_of journal) front (row ∷ back)
+module _ (journal : List Command) {q i : ℕ} {rows : List FloorRowView} {row : FloorRowView} (at : IsAt q i rows row) (rising : rises watcher_key (map (watcher_of journal) rows) ≡ true) where
+  abbrev watchers : List FloorRowView → List Watcher
+  watchers rs = map (watcher_of journal) rs
 
-module _ (journal : List Command) (q i : ℕ) (rows : List FloorRowView) (row : FloorRowView) (at : IsAt q i rows row) (rising : rises watcher_key (map (watcher_of journal) rows) ≡ true) where
-  mid_rises : rises watcher_key (map (watcher_of journal) at.front ++ watcher_of journal row ∷ map (watcher_of journal) at.back) ≡ true
-  mid_rises = ap (rises watcher_key) (sym (ap (map (watcher_of journal)) at.split ∙ watchers_mid journal at.front at.back row)) ∙ rising
+  -- the watchers of rows, around one
+  mid : watchers rows ≡ watchers at.front ++ watcher_of journal row ∷ watchers at.back
+  mid = ap watchers at.split ∙ map-append (watcher_of journal) at.front (row ∷ at.back)
+
+  mid_rises : rises watcher_key (watchers at.front ++ watcher_of journal row ∷ watchers at.back) ≡ true
+  mid_rises = ap (rises watcher_key) (sym mid) ∙ rising
 
   pub watcher_at : row_at watcher_key q (map (watcher_of journal) rows) ≡ Some (watcher_of journal row)
-  watcher_at =
-      (λ j. row_at watcher_key (sym at.is j) ((ap (map (watcher_of journal)) at.split ∙ watchers_mid journal at.front at.back row) j))
-      ∙ row_mid watcher_key (map (watcher_of journal) at.front) (map (watcher_of journal) at.back) (watcher_of journal row) mid_rises
+  watcher_at = (λ j. row_at watcher_key (sym at.is j) (mid j)) ∙ row_mid watcher_key (watchers at.front) (watchers at.back) (watcher_of journal row) mid_rises
 
   -- a row that changes is put in its place
   pub changed_at : (new : FloorRowView) (w : Watcher) → watcher_of journal new ≡ w → w.key ≡ row.key → put watcher_key w (map (watcher_of journal) rows) ≡ map (watcher_of journal) (set rows i new)
   changed_at new w is same =
-      ap (put watcher_key w) (ap (map (watcher_of journal)) at.split ∙ watchers_mid journal at.front at.back row)
-      ∙ put_mid watcher_key (map (watcher_of journal) at.front) (map (watcher_of journal) at.back) (watcher_of journal row) w same mid_rises
-      ∙ ap (λ x. map (watcher_of journal) at.front ++ x ∷ map (watcher_of journal) at.back) (sym is)
-      ∙ sym (watchers_mid journal at.front at.back new)
-      ∙ ap (map (watcher_of journal)) (sym (set_mid at.front at.back row new) ∙ (λ j. set (sym at.split j) (sym at.place j) new))
+      ap (put watcher_key w) mid
+      ∙ put_mid watcher_key (watchers at.front) (watchers at.back) (watcher_of journal row) w same mid_rises
+      ∙ ap (λ x. watchers at.front ++ x ∷ watchers at.back) (sym is)
+      ∙ sym (map-append (watcher_of journal) at.front (new ∷ at.back))
+      ∙ ap watchers (sym (set_mid at.front at.back row new) ∙ (λ j. set (sym at.split j) (sym at.place j) new))
 
   -- and one that leaves
   pub without_at : filter (λ (x : Watcher). not (eqb x.key row.key)) (map (watcher_of journal) rows) ≡ map (watcher_of journal) (remove rows i)
   without_at =
-      ap (filter (λ (x : Watcher). not (eqb x.key row.key))) (ap (map (watcher_of journal)) at.split ∙ watchers_mid journal at.front at.back row)
-      ∙ without_mid watcher_key (map (watcher_of journal) at.front) (map (watcher_of journal) at.back) (watcher_of journal row) mid_rises
+      ap (filter (λ (x : Watcher). not (eqb x.key row.key))) mid
+      ∙ without_mid watcher_key (watchers at.front) (watchers at.back) (watcher_of journal row) mid_rises
       ∙ sym (map-append (watcher_of journal) at.front at.back)
-      ∙ ap (map (watcher_of journal)) (sym (remove_mid at.front at.back row) ∙ (λ j. remove (sym at.split j) (sym at.place j)))
-
--- what a search for a key says
-pub sought : (q : ℕ) (rows now : List FloorRowView) (o p : Option ℕ) → now ≡ rows → o ≡ position_from (is_of q) 0 now → o ≡ p → position_from (is_of q) 0 rows ≡ p
-sought q rows now o p same is what = ap (position_from (is_of q) 0) (sym same) ∙ sym is ∙ what
+      ∙ ap watchers (sym (remove_mid at.front at.back row) ∙ (λ j. remove (sym at.split j) (sym at.place j)))

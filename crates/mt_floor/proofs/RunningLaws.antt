@@ -24,29 +24,19 @@ one_done s now e (Err f) done refused memory still = by (lacked e (Err f)) refl
         let step = refused other in
         λ k. ((step k).0, (step k).1 ∷ [])
 
-events_last : (es : List Event) (ans : List (Result Answer Fault)) (e : Event) (a : Result Answer Fault) → length ans ≡ length es
-    → done_events (es ++ e ∷ []) (ans ++ a ∷ []) ≡ done_events es ans ++ cond (lacked e a) [] (e ∷ [])
-events_last [] [] e a l = refl
-events_last [] (b ∷ ans) e a l = absurd (omega (arith, l))
-events_last (x ∷ es) [] e a l = absurd (omega (arith, l))
-events_last (x ∷ es) (b ∷ ans) e a l = by (lacked x b) (events_last es ans e a (omega (arith, l)))
+-- what is done of one event more
+last_done : (es : List Event) (ans : List (Result Answer Fault)) (e : Event) (a : Result Answer Fault) → length ans ≡ length es
+    → (done_events (es ++ e ∷ []) (ans ++ a ∷ []) ≡ done_events es ans ++ cond (lacked e a) [] (e ∷ [])) × (done_answers (es ++ e ∷ []) (ans ++ a ∷ []) ≡ done_answers es ans ++ cond (lacked e a) [] (a ∷ []))
+last_done [] [] e a l = (refl, refl)
+last_done [] (b ∷ ans) e a l = absurd (omega (arith, l))
+last_done (x ∷ es) [] e a l = absurd (omega (arith, l))
+last_done (x ∷ es) (b ∷ ans) e a l = by (lacked x b) (last_done es ans e a (omega (arith, l)))
   where
-    by : (t : Bool) → done_events (es ++ e ∷ []) (ans ++ a ∷ []) ≡ done_events es ans ++ cond (lacked e a) [] (e ∷ [])
-        → cond t (done_events (es ++ e ∷ []) (ans ++ a ∷ [])) (x ∷ done_events (es ++ e ∷ []) (ans ++ a ∷ [])) ≡ cond t (done_events es ans) (x ∷ done_events es ans) ++ cond (lacked e a) [] (e ∷ [])
+    by : (t : Bool) → (done_events (es ++ e ∷ []) (ans ++ a ∷ []) ≡ done_events es ans ++ cond (lacked e a) [] (e ∷ [])) × (done_answers (es ++ e ∷ []) (ans ++ a ∷ []) ≡ done_answers es ans ++ cond (lacked e a) [] (a ∷ []))
+        → (cond t (done_events (es ++ e ∷ []) (ans ++ a ∷ [])) (x ∷ done_events (es ++ e ∷ []) (ans ++ a ∷ [])) ≡ cond t (done_events es ans) (x ∷ done_events es ans) ++ cond (lacked e a) [] (e ∷ []))
+        × (cond t (done_answers (es ++ e ∷ []) (ans ++ a ∷ [])) (b ∷ done_answers (es ++ e ∷ []) (ans ++ a ∷ [])) ≡ cond t (done_answers es ans) (b ∷ done_answers es ans) ++ cond (lacked e a) [] (a ∷ []))
     by true ih = ih
-    by false ih = ap (λ r. x ∷ r) ih
-
-answers_last : (es : List Event) (ans : List (Result Answer Fault)) (e : Event) (a : Result Answer Fault) → length ans ≡ length es
-    → done_answers (es ++ e ∷ []) (ans ++ a ∷ []) ≡ done_answers es ans ++ cond (lacked e a) [] (a ∷ [])
-answers_last [] [] e a l = refl
-answers_last [] (b ∷ ans) e a l = absurd (omega (arith, l))
-answers_last (x ∷ es) [] e a l = absurd (omega (arith, l))
-answers_last (x ∷ es) (b ∷ ans) e a l = by (lacked x b) (answers_last es ans e a (omega (arith, l)))
-  where
-    by : (t : Bool) → done_answers (es ++ e ∷ []) (ans ++ a ∷ []) ≡ done_answers es ans ++ cond (lacked e a) [] (a ∷ [])
-        → cond t (done_answers (es ++ e ∷ []) (ans ++ a ∷ [])) (b ∷ done_answers (es ++ e ∷ []) (ans ++ a ∷ [])) ≡ cond t (done_answers es ans) (b ∷ done_answers es ans) ++ cond (lacked e a) [] (a ∷ [])
-    by true ih = ih
-    by false ih = ap (λ r. b ∷ r) ih
+    by false ih = (ap (λ r. x ∷ r) ih.0, ap (λ r. b ∷ r) ih.1)
 
 pub joined : (s now : FloorView) (xs ys : List Event) (told more : List (Result Answer Fault)) (mid : FloorView) → run s xs ≡ (mid, told) → run mid ys ≡ (now, more) → run s (xs ++ ys) ≡ (now, told ++ more)
 joined s now xs ys told more mid e f =
@@ -58,6 +48,6 @@ pub run_next : (s mid now : FloorView) (es : List Event) (ans ans' : List (Resul
     → IfErr a (λ f. f ≡ NoMemory → takes_memory e ≡ true) → OnErr a (now ≡ mid) → run s (done_events (es ++ e ∷ []) ans') ≡ (now, done_answers (es ++ e ∷ []) ans')
 run_next s mid now es ans ans' e a l before new done refused memory still =
     ap (λ r. run s (done_events (es ++ e ∷ []) r)) new
-    ∙ ap (run s) (events_last es ans e a l)
+    ∙ ap (run s) (last_done es ans e a l).0
     ∙ joined s now (done_events es ans) (cond (lacked e a) [] (e ∷ [])) (done_answers es ans) (cond (lacked e a) [] (a ∷ [])) mid before (one_done mid now e a done refused memory still)
-    ∙ ap (λ r. (now, r)) (sym (answers_last es ans e a l) ∙ ap (done_answers (es ++ e ∷ [])) (sym new))
+    ∙ ap (λ r. (now, r)) (sym (last_done es ans e a l).1 ∙ ap (done_answers (es ++ e ∷ [])) (sym new))

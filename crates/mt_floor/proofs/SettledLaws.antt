@@ -1,5 +1,5 @@
 -- Floors on which nothing is due: how they are reached, and what keeps them so.
-use Rattle.std.proofs.Common.{◌≡◌, ℕ, zero, suc, ◌-◌, ◌≤◌, Bool, true, false, cond, not, eqb, List, [], ◌∷◌, ◌++◌, length, replicate, Option, Some, None, slice_get, Ok, Err, refl, sym, ap, ◌∙◌, subst, arith, eq-eqb}
+use Rattle.std.proofs.Common.{◌≡◌, ◌≢◌, ℕ, zero, suc, ◌-◌, ◌≤◌, Bool, true, false, cond, not, eqb, List, [], ◌∷◌, length, replicate, Option, Some, None, Ok, Err, refl, sym, ap, ◌∙◌, subst, arith, eq-eqb}
 use Rattle.std.specs.Prelude.{Result}
 use Rattle.std.specs.Option.{option_map_or}
 use Rattle.mt_skel.specs.declared.fault.Fault.{Fault}
@@ -8,13 +8,16 @@ use Rattle.mt_skel.specs.Keyed.{row_at}
 use Rattle.mt_propagate.proofs.SizeLaws.{few_pass}
 use Rattle.mt_events.specs.Posts.{PostView}
 use Rattle.mt_events.specs.declared.opening.Scope.{Scope}
-use Rattle.mt_floor.specs.declared.event.Event.TheVariants.{PostNext, Open, Take, Meet, Close, Stop}
+use Rattle.mt_book.specs.declared.command.Command.{Command}
+use Rattle.mt_floor.specs.declared.event.Event.{Event}
+use Rattle.mt_floor.specs.declared.event.Event.TheVariants.{Apply, PostNext, Open, Take, Meet, Close, Stop}
 use Rattle.mt_floor.specs.declared.event.Answer.{Answer}
-use Rattle.mt_floor.specs.declared.event.Answer.TheVariants.{Opened, Took, NotNow}
-use Rattle.mt_floor.specs.Watcher.{Watcher, Due, watcher_key, is_open, due_for, opening_of}
-use Rattle.mt_floor.specs.Schedule.{FloorView, Stepped, floor_step, run, settled, unless, if_idle, at_row, changed, sent_to, is_full, posted, nothing_left, took, met, closed, halted, opened, opening_refusal}
+use Rattle.mt_floor.specs.declared.event.Answer.TheVariants.{NotNow}
+use Rattle.mt_floor.specs.Watcher.{Watcher, Due, watcher_key, due_for}
+use Rattle.mt_floor.specs.Schedule.{FloorView, Stepped, floor_step, run, settled, if_idle, sent_to, is_full, posted, met}
 use Rattle.mt_floor.specs.WellFormed.{IsFloor}
-use Rattle.mt_floor.proofs.BeginLaws.{opens}
+use Rattle.mt_floor.proofs.HeldLaws.{is_found_open}
+use Rattle.mt_floor.proofs.EffectLaws.{each_event}
 use Rattle.mt_floor.proofs.StandingLaws.{stays}
 
 -- ---- Events one after another
@@ -25,44 +28,30 @@ settled_idle s none = ap (λ (ds : List Due). (run s (replicate (length ds) Post
 
 -- ---- What keeps a floor idle
 
--- where nothing is due, an event that may be put off is not
-idle_so : (s : FloorView) (done : Stepped) → s.due ≡ [] → done.0.due ≡ [] → (if_idle s.due s done).0.due ≡ []
-idle_so s done none go = by s.due
-  where
-    by : (ds : List Due) → (if_idle ds s done).0.due ≡ []
-    by [] = go
-    by (d ∷ ds) = none
-
-row_so : (s : FloorView) (key : ℕ) (f : Watcher → Stepped) → s.due ≡ [] → ((r : Watcher) → (f r).0.due ≡ []) → (at_row s key f).0.due ≡ []
-row_so s key f none go = by (row_at watcher_key key s.watchers)
-  where
-    by : (o : Option Watcher) → (option_map_or f o (s, Err NoWatcher)).0.due ≡ []
-    by None = none
-    by (Some r) = go r
+-- where nothing is due, only a command makes something due
+keeps_idle : (s : FloorView) (e : Event) → s.due ≡ [] → ((c : Command) → e ≢ Apply c) → (floor_step s e).0.due ≡ []
+keeps_idle s e idle = each_event s (λ e a. ((c : Command) → e ≢ Apply c) → a.0.due ≡ []) (record {
+  on_still = λ e a other. idle;
+  on_apply = λ c p none can other. absurd (other c refl);
+  on_lag = λ d ds r some at other. absurd (let bad : ◌≡◌ {A = List Due} [] (d ∷ ds) = sym idle ∙ some in cc);
+  on_send = λ d ds r some at other. absurd (let bad : ◌≡◌ {A = List Due} [] (d ∷ ds) = sym idle ∙ some in cc);
+  on_open = λ sc none can other. idle;
+  on_take = λ q r p at left other. idle;
+  on_close = λ q r at none other. idle;
+  on_stop = λ none other. idle;
+}) e
 
 pub take_idle : (s : FloorView) (key : ℕ) → s.due ≡ [] → (floor_step s (Take key)).0.due ≡ []
-unfolding floor_step
-take_idle s key none = row_so s key (took s) none (λ r. by r (slice_get r.sent (length r.taken)))
-  where
-    by : (r : Watcher) (o : Option PostView) → (option_map_or {U = Stepped} (λ p. (changed s (record r { taken = r.taken ++ p ∷ [] }), Ok (Took (Some p)))) o (s, nothing_left r.phase)).0.due ≡ []
-    by r None = none
-    by r (Some p) = none
+take_idle s key none = keeps_idle s (Take key) none (λ c e. cc)
 
 pub close_idle : (s : FloorView) (key : ℕ) → s.due ≡ [] → (floor_step s (Close key)).0.due ≡ []
-unfolding floor_step
-close_idle s key none = idle_so s (at_row s key (closed s)) none (row_so s key (closed s) none (λ r. none))
+close_idle s key none = keeps_idle s (Close key) none (λ c e. cc)
 
 pub stop_idle : (s : FloorView) → s.due ≡ [] → (floor_step s Stop).0.due ≡ []
-unfolding floor_step
-stop_idle s none = idle_so s (halted s) none none
+stop_idle s none = keeps_idle s Stop none (λ c e. cc)
 
 pub open_idle : (s : FloorView) (scope : Scope) → s.due ≡ [] → (floor_step s (Open scope)).0.due ≡ []
-unfolding floor_step
-open_idle s scope none = idle_so s (opened s scope) none (by (opening_refusal s scope))
-  where
-    by : (o : Option Fault) → (unless o s (opens s scope, Ok (Opened s.next_key (opening_of s.journal scope)))).0.due ≡ []
-    by None = none
-    by (Some f) = none
+open_idle s scope none = keeps_idle s (Open scope) none (λ c e. cc)
 
 pub meet_same : (s : FloorView) (key : ℕ) → (floor_step s (Meet key)).0 ≡ s
 unfolding floor_step
@@ -87,7 +76,7 @@ post_fewer s h = by s.due refl
     to : (d : Due) (ds : List Due) → s.due ≡ d ∷ ds → (o : Option Watcher) → row_at watcher_key d.key s.watchers ≡ o
         → length (option_map_or (λ r. sent_to s d ds (is_full s.capacity r) r) o (s, Ok NotNow)).0.due ≤ length ds
     to d ds is None none =
-        let shut = h.idle d.key (ap (λ o. option_map_or (λ (x : Watcher). is_open x.phase) o false) none) in
+        let shut = h.idle d.key (ap is_found_open none) in
         let bad : ◌≡◌ {A = List PostView} (d.post ∷ due_for d.key ds) [] =
         sym (ap (λ b. cond b (d.post ∷ due_for d.key ds) (due_for d.key ds)) (eq-eqb d.key d.key refl)) ∙ sym (ap (due_for d.key) is) ∙ shut in
         absurd (cc)
@@ -132,5 +121,5 @@ settled_step s h =
     enough (length after.due) (length s.due) after (stays s PostNext h) (omega arith) (omega (arith, fewer)) ∙ enough (suc (length s.due)) (length s.due) s h (omega arith) (omega arith)
 
 -- both, as a `PostNext` tells it
-pub post_told : (s now : FloorView) (a : Result Answer Fault) → IsFloor s → floor_step s PostNext ≡ (now, a) → (length now.due ≤ length s.due - 1) × (settled now ≡ settled s)
-post_told s now a h is = subst (λ (x : Stepped). (length x.0.due ≤ length s.due - 1) × (settled x.0 ≡ settled s)) is (post_fewer s h, settled_step s h)
+pub post_told : {s now : FloorView} {a : Result Answer Fault} → IsFloor s → floor_step s PostNext ≡ (now, a) → (length now.due ≤ length s.due - 1) × (settled now ≡ settled s)
+post_told {s = s} h is = subst (λ (x : Stepped). (length x.0.due ≤ length s.due - 1) × (settled x.0 ≡ settled s)) is (post_fewer s h, settled_step s h)

@@ -46,15 +46,9 @@ module _ (capacity : ℕ) (es : List Event) (at key : ℕ) (o : Opening) (is : s
     pub posts_tell : TellTables capacity es o ps
     posts_tell = record { untouched = λ n named e. ap (with_posts (start_table o n)) e; as_of = table_told }
 
-  pub rebuilt : IsRebuilt capacity es at key o
-  rebuilt =
-      let h = held_at capacity es at key o is in
-      let taken = taken_since capacity es at key in
-      let tell = posts_tell taken (h.not_taken ++ h.not_posted) (h.posted_is ∙ ap (λ l. l ++ h.not_posted) h.taken_is ∙ append_assoc taken h.not_taken h.not_posted) in record {
-        found = table_found;
-        untouched = tell.untouched;
-        as_of = tell.as_of;
-      }
-
 pub rebuild : (capacity : ℕ) (es : List Event) (at key : ℕ) (o : Opening) → slice_get (answers capacity es) at ≡ Some (Ok (Opened key o)) → IsRebuilt capacity es at key o
-rebuild capacity es at key o is = rebuilt capacity es at key o is
+rebuild capacity es at key o is =
+    let h = held_at capacity es at key o is in
+    let taken = taken_since capacity es at key in
+    let tell = posts_tell capacity es at key o is taken (h.first.not_taken ++ h.first.not_posted) (h.first.posted_is ∙ ap (λ l. l ++ h.first.not_posted) h.first.taken_is ∙ append_assoc taken h.first.not_taken h.first.not_posted) in
+    record { found = table_found capacity es at key o is; untouched = tell.untouched; as_of = tell.as_of }

@@ -15,7 +15,8 @@ use std::sync::Arc;
 
 /// The index of the watcher of a key.
 pub(crate) fn place_of(rows: &[FloorRow], key: WatchKey) -> Option<usize>
-    ensures { result ≡ position_from (λ (r : FloorRowView). r.key == key) 0 rows.now }
+    ensures value { result ≡ position_from (λ (r : FloorRowView). r.key == key) 0 rows.now }
+    ensures within { IfSome result (λ place. place < length rows.now) }
 {
     rows.iter().position(|row| row.key() == key)
 }
@@ -71,6 +72,7 @@ pub(crate) fn take_at(rows: &mut Vec<FloorRow>, place: usize) -> Option<Arc<Post
     requires count { IfSome (slice_get rows.old.items place) (λ row. row.taken + 1 < 2 ^ 64) }
     ensures rows { (row : FloorRowView) → slice_get rows.old.items place ≡ Some row → rows.new.items ≡ set rows.old.items place (next_taken row.waiting row) }
     ensures post { (row : FloorRowView) → slice_get rows.old.items place ≡ Some row → option_map (λ p. arc_value p) result ≡ slice_get row.waiting 0 }
+    ensures length { length rows.new.items ≡ length rows.old.items }
 {
     let row = &mut rows[place];
     row.take()

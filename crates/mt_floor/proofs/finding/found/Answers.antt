@@ -1,7 +1,7 @@
 use Rattle.std.proofs.Common.{◌∙◌, ap}
 use Rattle.std.specs.List.{flat_map}
 use Rattle.mt_floor.specs.Finding.{part_if, opening_of_parts}
-use Rattle.mt_floor.proofs.FindLaws.{opening_found, found_rises}
+use Rattle.mt_floor.proofs.OpeningLaws.{opening_found, found_rises}
 use Rattle.mt_floor.proofs.finding.found.Goals as goal
 
 pub new-requires : goal.new-requires
