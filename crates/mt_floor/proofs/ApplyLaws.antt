@@ -9,7 +9,7 @@ use Rattle.std.proofs.Math.Seq.{take-length}
 use Rattle.mt_skel.specs.declared.fault.Fault.{Fault}
 use Rattle.mt_skel.specs.declared.fault.Fault.TheVariants.{Stopped, JournalFull}
 use Rattle.mt_skel.specs.Outcome.{refuse_if, first_fault}
-use Rattle.mt_propagate.specs.World.{WorldView, world_view}
+use Rattle.mt_propagate.specs.World.{WorldView}
 use Rattle.mt_events.specs.Posts.{PostView}
 use Rattle.mt_events.specs.declared.opening.Scope.{Scope}
 use Rattle.mt_events.specs.declared.opening.Opening.{Opening}
@@ -41,7 +41,7 @@ due_to j p [] = refl
 due_to j p (r ∷ rows) =
     let ih = due_to j p rows in
     elim (row_follows p r) as (λ b. cond b (record { post = p; key = r.key } ∷ []) [] ++ flat_map (due_if p) rows
-        ≡ map (λ (w : Watcher). record { post = p; key = w.key }) (cond b (watcher_of j r ∷ filter (follows p) (map (watcher_of j) rows)) (filter (follows p) (map (watcher_of j) rows)))) [
+    ≡ map (λ (w : Watcher). record { post = p; key = w.key }) (cond b (watcher_of j r ∷ filter (follows p) (map (watcher_of j) rows)) (filter (follows p) (map (watcher_of j) rows)))) [
       | true ↦ ap (λ (l : List Due). record { post = p; key = r.key } ∷ l) ih
       | false ↦ ih
     ]
@@ -50,7 +50,7 @@ due_of_all : (j : List Command) (ps : List PostView) (rows : List FloorRowView) 
 due_of_all j [] rows = refl
 due_of_all j (p ∷ ps) rows = (λ k. due_to j p rows k ++ due_of_all j ps rows k)
 
-pub due_is : {X : Type 0} (g : X → PostView) (xs : List X) (j : List Command) (ps : List PostView) (rows : List FloorRowView) → map g xs ≡ ps
+due_is : {X : Type 0} (g : X → PostView) (xs : List X) (j : List Command) (ps : List PostView) (rows : List FloorRowView) → map g xs ≡ ps
     → flat_map (λ x. flat_map (due_if (g x)) rows) xs ≡ due_pairs ps (map (watcher_of j) rows)
 due_is g xs j ps rows e = sym (flat_map-map (λ p. flat_map (due_if p) rows) g xs) ∙ ap (flat_map (λ p. flat_map (due_if p) rows)) e ∙ due_of_all j ps rows
 
@@ -127,17 +127,21 @@ module _ {c : ℕ} {j : List Command} {l : ℕ} {st : Bool} {rows : List FloorRo
       by false (Ok p) r = absurd (cc)
       by false (Err g) r = let same : g ≡ f = cc in ap (λ y. (here, Err y)) same
 
-  pub apply_done : (x : Command) {p : Prepared} {j' : List Command} {due' : List Due} {reply : Reply} → st ≡ false → IsPrepared j p → p.heard ≡ list_any (λ (r : FloorRowView). is_open r.phase) rows → p.command ≡ x
-      → j' ≡ j ++ p.command ∷ [] → due' ≡ due_pairs p.posts (map (watcher_of j) rows) → reply ≡ p.reply → IsDone s (Apply x) (Ok (Replied reply)) c j' l st rows due'
-  apply_done x {p = p} {j' = j'} e q heard same journal new is =
+  -- the posts are read from where they are shared, and the rows behind a reference
+  pub apply_done : {X : Type 0} (g : X → PostView) (xs : List X) (x : Command) {p : Prepared} {j' : List Command} {due' : List Due} {reply : Reply} {hearing asked : List FloorRowView} → st ≡ false → IsPrepared j p
+      → p.heard ≡ list_any (λ (r : FloorRowView). is_open r.phase) hearing → hearing ≡ rows → p.command ≡ x → j' ≡ j ++ p.command ∷ []
+      → due' ≡ flat_map (λ a. flat_map (due_if (g a)) asked) xs → asked ≡ rows → map g xs ≡ p.posts → reply ≡ p.reply → IsDone s (Apply x) (Ok (Replied reply)) c j' l st rows due'
+  apply_done g xs x {p = p} {j' = j'} e q heard by same journal new to read is =
       let more : j' ≡ j ++ x ∷ [] = journal ∙ ap (λ y. j ++ y ∷ []) same in
-      let posts = ap (λ ps. due_pairs ps (map (watcher_of j) rows)) (ap (posts_of j) (sym same)) ∙ sym (due_asked p.heard (posts_of j p.command) j rows heard) ∙ ap (λ ps. due_pairs ps (map (watcher_of j) rows)) (sym q.posts) ∙ sym new in
+      let open_rows = heard ∙ ap (list_any (λ (r : FloorRowView). is_open r.phase)) by in
+      let made = new ∙ ap (λ rs. flat_map (λ a. flat_map (due_if (g a)) rs) xs) to ∙ due_is g xs j p.posts rows read in
+      let posts = ap (λ ps. due_pairs ps (map (watcher_of j) rows)) (ap (posts_of j) (sym same)) ∙ sym (due_asked p.heard (posts_of j p.command) j rows open_rows) ∙ ap (λ ps. due_pairs ps (map (watcher_of j) rows)) (sym q.posts) ∙ sym made in
       let watchers = sym (watchers_more c j x rows h.each) ∙ ap (λ js. map (watcher_of js) rows) (sym more) in
       done h view (Apply x) (
-        tried x
-        ∙ (λ k. unless (first_fault (refuse_if (e k) Stopped ∷ refuse_if (lt-leb command_limit (length j) q.few k) JournalFull ∷ [])) here (replied here x (step (after j) x)))
-        ∙ ap (replied here x) (ap (step (after j)) (sym same) ∙ q.accepted)
-        ∙ (λ k. (record here { journal = sym more k; watchers = watchers k; due = posts k }, Ok (Replied (sym is k))))
+      tried x
+      ∙ (λ k. unless (first_fault (refuse_if (e k) Stopped ∷ refuse_if (lt-leb command_limit (length j) q.few k) JournalFull ∷ [])) here (replied here x (step (after j) x)))
+      ∙ ap (replied here x) (ap (step (after j)) (sym same) ∙ q.accepted)
+      ∙ (λ k. (record here { journal = sym more k; watchers = watchers k; due = posts k }, Ok (Replied (sym is k))))
       ) (subst (λ js. AllByRecursion (IsFloorRow c js) rows) (sym more) (each_still (IsFloorRow c j) (IsFloorRow c (j ++ x ∷ [])) (row_more c j x) rows h.each))
 
   -- ---- Open
@@ -146,14 +150,15 @@ module _ {c : ℕ} {j : List Command} {l : ℕ} {st : Bool} {rows : List FloorRo
   unfolding floor_step
   open_refused scope is some = not_late s (opened s scope) idle ∙ ap (λ x. unless x s (opens s scope, Ok (Opened s.next_key (opening_of s.journal scope)))) (sym is ∙ some)
 
-  pub open_done : {scope : Scope} {o : Option Fault} {row : FloorRowView} {rows' : List FloorRowView} {found : Opening} → o ≡ opening_refusal s scope → o ≡ None
-      → row ≡ new_floor_row (l + 1) scope (length j) c → rows' ≡ rows ++ row ∷ [] → found ≡ opening_of j scope → IsDone s (Open scope) (Ok (Opened (l + 1) found)) c j (l + 1) st rows' due
+  pub open_done : {scope : Scope} {o : Option Fault} {n : ℕ} {row : FloorRowView} {rows' : List FloorRowView} {found : Opening} → o ≡ opening_refusal s scope → o ≡ None
+      → n ≡ length j → row ≡ new_floor_row (l + 1) scope n c → rows' ≡ rows ++ row ∷ [] → found ≡ opening_of j scope → IsDone s (Open scope) (Ok (Opened (l + 1) found)) c j (l + 1) st rows' due
   unfolding floor_step
-  open_done {scope = scope} {row = row} is none new all opening =
+  open_done {scope = scope} {row = row} is none since begun all opening =
+      let new = begun ∙ ap (λ k. new_floor_row (l + 1) scope k c) since in
       let begins_so : watcher_of j (new_floor_row (l + 1) scope (length j) c) ≡ newcomer here scope = λ k. record { key = l + 1; scope = scope; since = length j; opening = opening_of (take-length j k) scope; sent = []; taken = []; phase = IsOpen } in
       let watchers = sym (ap (map (watcher_of j)) all ∙ map-append (watcher_of j) rows (row ∷ []) ∙ ap (λ w. map (watcher_of j) rows ++ w ∷ []) (ap (watcher_of j) new ∙ begins_so)) in
       done h view (Open scope) (
-        not_late here (opened here scope) (idle_there h view idle)
-        ∙ ap (λ x. unless x here (opens here scope, Ok (Opened (l + 1) (opening_of j scope)))) (ap (λ (f : FloorView). opening_refusal f scope) view ∙ sym is ∙ none)
-        ∙ (λ k. (record here { next_key = l + 1 + 1; watchers = watchers k }, Ok (Opened (l + 1) (sym opening k))))
+      not_late here (opened here scope) (idle_there h view idle)
+      ∙ ap (λ x. unless x here (opens here scope, Ok (Opened (l + 1) (opening_of j scope)))) (ap (λ (f : FloorView). opening_refusal f scope) view ∙ sym is ∙ none)
+      ∙ (λ k. (record here { next_key = l + 1 + 1; watchers = watchers k }, Ok (Opened (l + 1) (sym opening k))))
       ) (subst (AllByRecursion (IsFloorRow c j)) (sym all) (each_last (IsFloorRow c j) rows row h.each (subst (IsFloorRow c j) (sym new) (record { since = omega arith; taken = omega arith; room = omega arith }))))

@@ -1,19 +1,15 @@
 -- Only `Open` begins a watcher, and what a watcher is when it begins.
-use Rattle.std.proofs.Common.{◌≡◌, ◌⊎◌, inl, inr, ℕ, ◌+◌, ◌≤◌, Bool, false, cond, [], ◌∷◌, ◌++◌, Option, Some, None, Ok, refl, sym, ap, ◌∙◌, subst, arith, eq-eqb}
-use Rattle.std.specs.Prelude.{Result}
+use Rattle.std.proofs.Common.{◌≡◌, ◌⊎◌, inl, inr, ℕ, ◌+◌, ◌≤◌, false, cond, [], ◌∷◌, Some, None, Ok, refl, sym, ap, ◌∙◌, subst, arith, eq-eqb}
 use Rattle.std.proofs.lemmas.List.{append-nil}
-use Rattle.mt_skel.specs.declared.fault.Fault.{Fault}
-use Rattle.mt_skel.specs.Keyed.{row_at}
 use Rattle.mt_propagate.proofs.RowLaws.{row-second}
 use Rattle.mt_events.specs.declared.opening.Scope.{Scope}
 use Rattle.mt_events.specs.declared.opening.Opening.{Opening}
 use Rattle.mt_floor.specs.declared.event.Event.{Event}
-use Rattle.mt_floor.specs.declared.event.Answer.{Answer}
 use Rattle.mt_floor.specs.declared.event.Answer.TheVariants.{Opened}
 use Rattle.mt_floor.specs.Watcher.{watcher_key, due_for, opening_of, is_missing}
 use Rattle.mt_floor.specs.Schedule.{FloorView, Stepped, floor_step, has_open}
 use Rattle.mt_floor.proofs.RowLaws.{fresh}
-use Rattle.mt_floor.proofs.EffectLaws.{newcomer, Still, put_off, refused, emptied, told, still_answer, each_event}
+use Rattle.mt_floor.proofs.EffectLaws.{newcomer, Still, emptied, still_answer, each_event}
 use Rattle.mt_floor.proofs.HeldLaws.{Kept, Held, only}
 use Rattle.mt_floor.proofs.FloorLaws.{newcomer_kept, nothing}
 pub use Rattle.mt_floor.proofs.EffectLaws.{opens}

@@ -26,6 +26,7 @@ use Rattle.mt_floor.proofs.AllowedLaws.{IsAllowedCommand, IsAllowedOpening, comm
 abbrev pub newcomer : FloorView → Scope → Watcher
 newcomer s sc = record { key = s.next_key; scope = sc; since = length s.journal; opening = opening_of s.journal sc; sent = []; taken = []; phase = IsOpen }
 
+-- the floor on which a newcomer has begun
 abbrev pub opens : FloorView → Scope → FloorView
 opens s sc = record s { next_key = s.next_key + 1; watchers = s.watchers ++ newcomer s sc ∷ [] }
 
@@ -55,6 +56,7 @@ pub record Cases (s : FloorView) (P : Event → Stepped → Type 0) : Type 0 whe
   pub on_stop : s.due ≡ [] → P Stop (halted s)
 
 module _ (s : FloorView) (P : Event → Stepped → Type 0) (c : Cases s P) where
+  -- an event that may be put off, one that may be refused, and one of the watcher of a key
   idle : (e : Event) (done : Stepped) → (s.due ≡ [] → P e done) → P e (if_idle s.due s done)
   idle e done go = by s.due refl
     where
@@ -73,6 +75,7 @@ module _ (s : FloorView) (P : Event → Stepped → Type 0) (c : Cases s P) wher
       by None none = c.on_still e (refused NoWatcher)
       by (Some r) some = go r some
 
+  -- a command, the sending of a due post, and a take
   replies : (x : Command) → s.due ≡ [] → IsAllowedCommand s → (q : Result (WorldView × Reply) Fault) → P (Apply x) (replied s x q)
   replies x none can (Ok p) = c.on_apply x p none can
   replies x none can (Err f) = c.on_still (Apply x) (refused f)

@@ -1,11 +1,11 @@
 -- What each event does to the watcher of one key.
-use Rattle.std.proofs.Common.{◌≡◌, ℕ, ◌+◌, Bool, true, false, cond, not, eqb, ltb, List, [], ◌∷◌, ◌++◌, length, drop, map, Option, Some, None, slice_get, Ok, Err, refl, sym, ap, ◌∙◌, subst, arith, append_assoc, eq-eqb, eqb-true, lt-ltb, ne_eqb}
-use Rattle.std.specs.List.{filter, list_all}
+use Rattle.std.proofs.Common.{◌≡◌, ℕ, ◌+◌, Bool, true, false, cond, not, eqb, ltb, List, [], ◌∷◌, ◌++◌, length, drop, map, Option, Some, None, slice_get, Ok, refl, sym, ap, ◌∙◌, subst, arith, append_assoc, eq-eqb, eqb-true, lt-ltb, ne_eqb}
+use Rattle.std.specs.List.{filter}
 use Rattle.std.specs.Option.{option_map}
 use Rattle.std.proofs.lemmas.List.{append-nil}
 use Rattle.std.proofs.lemmas.List.Elements.{filter-append}
 use Rattle.std.proofs.lemmas.List.Folds.{list_all-map}
-use Rattle.mt_skel.specs.Keyed.{row_at, put}
+use Rattle.mt_skel.specs.Keyed.{row_at}
 use Rattle.mt_skel.proofs.KeyedLaws.{row_at-key, row_at-map, rises-filter, rises-map}
 use Rattle.mt_propagate.specs.World.{WorldView}
 use Rattle.mt_propagate.proofs.RowLaws.{mapped-row}
@@ -21,18 +21,20 @@ use Rattle.mt_floor.specs.declared.watch.Phase.TheVariants.{Open as IsOpen, Lagg
 use Rattle.mt_floor.specs.declared.event.Event.{Event}
 use Rattle.mt_floor.specs.declared.event.Event.TheVariants.{Apply, PostNext, Open, Take, Close, Stop}
 use Rattle.mt_floor.specs.declared.event.Answer.TheVariants.{Opened, Took}
-use Rattle.mt_floor.specs.Watcher.{Watcher, Due, watcher_key, is_open, due_for, due_pairs, opening_of, followed_posts}
+use Rattle.mt_floor.specs.Watcher.{Watcher, Due, watcher_key, is_open, due_for, opening_of, followed_posts}
 use Rattle.mt_floor.specs.Schedule.{FloorView, Stepped, floor_step, changed, sent_to, replied, closed, halted, has_open}
 use Rattle.mt_floor.specs.Headline.{takes_from, first_due}
 use Rattle.mt_floor.proofs.RowLaws.{get_behind, first_of, turned, other_last, all_filter, all_higher, all_last, rises-last, row_without}
 use Rattle.mt_floor.proofs.DueLaws.{due_row, due_all, but, but_same, but_other}
-use Rattle.mt_floor.proofs.EffectLaws.{newcomer, opens, Still, put_off, refused, emptied, told, still_answer, each_event}
-use Rattle.mt_floor.proofs.HeldLaws.{Kept, IsRowFor, Held, Goes, held_same, more, off, no_row, is_found_open, only, aside, ends, kept_put, other_row, own_row}
+use Rattle.mt_floor.proofs.EffectLaws.{newcomer, opens, Still, emptied, still_answer, each_event}
+use Rattle.mt_floor.proofs.HeldLaws.{Kept, IsRowFor, Held, Goes, held_same, off, no_row, is_found_open, only, aside, ends, kept_put, other_row, own_row}
 
+-- nothing, whichever way a test goes
 pub nothing : (b : Bool) → ◌≡◌ {A = List PostView} (cond b [] []) []
 nothing true = refl
 nothing false = refl
 
+-- a newcomer stands behind the others
 pub newcomer_kept : (s : FloorView) (sc : Scope) → Kept s → Kept (opens s sc)
 newcomer_kept s sc k = record {
   rising = rises-last watcher_key (newcomer s sc) s.watchers k.below k.rising;
@@ -65,10 +67,12 @@ module _ {key : ℕ} {scope : Scope} {before since : List Command} {sent taken :
   abbrev After : Event → Stepped → Type 0
   After e a = Goes key scope before since sent taken s e a
 
+  -- an event that changes nothing
   unmoved : (e : Event) (a : Still) → After e (s, still_answer a)
   unmoved e emptied = aside k h e (s, still_answer emptied) k refl (omega arith) refl refl refl refl (nothing (takes_from key e)) refl refl
   unmoved e a = aside k h e (s, still_answer a) k refl (omega arith) refl refl refl refl refl refl refl
 
+  -- the followed posts of a command, and the command: they are due then, if the watcher is open
   abbrev new_posts : Command → List PostView
   new_posts c = filter (λ (p : PostView). names_space scope p.space) (posts_of (before ++ since) c)
 
@@ -153,10 +157,12 @@ module _ {key : ℕ} {scope : Scope} {before since : List Command} {sent taken :
             next = omega arith;
           }
 
+  -- a newcomer has another key
   after_open : (sc : Scope) → After (Open sc) (opens s sc, Ok (Opened s.next_key (opening_of s.journal sc)))
   after_open sc = aside k h (Open sc) _ (newcomer_kept s sc k) refl (omega arith) (other_last watcher_key key (newcomer s sc) s.watchers (ne_eqb key s.next_key (λ e. absurd (omega (arith, h.old, e))))) refl refl refl refl refl refl
 
   module _ (q : ℕ) (r : Watcher) (at : row_at watcher_key q s.watchers ≡ Some r) where
+    -- a watcher takes a post
     module _ (p : PostView) (left : slice_get r.sent (length r.taken) ≡ Some p) where
       abbrev taker : Watcher
       taker = record r { taken = r.taken ++ p ∷ [] }
@@ -189,6 +195,7 @@ module _ {key : ℕ} {scope : Scope} {before since : List Command} {sent taken :
             next = omega arith;
           }
 
+    -- a watcher goes
     module _ (none : s.due ≡ []) where
       row_left : row_at watcher_key key (closed s r).0.watchers ≡ cond (eqb key q) None (row_at watcher_key key s.watchers)
       row_left = ap (λ n. row_at watcher_key key (filter (λ (x : Watcher). not (eqb x.key n)) s.watchers)) (row_at-key watcher_key q s.watchers r at) ∙ row_without watcher_key key q s.watchers k.rising
@@ -204,6 +211,7 @@ module _ {key : ℕ} {scope : Scope} {before since : List Command} {sent taken :
           let gone : row_at watcher_key key (closed s r).0.watchers ≡ None = row_left ∙ ap (λ b. cond b None (row_at watcher_key key s.watchers)) (eq-eqb key q (sym same)) in
           ends k h (Close q) (closed s r) closed_kept refl (omega arith) (λ x e. no_row gone e) (ap is_found_open gone) (ap (due_for key) none) refl refl refl (λ n. gone) (λ o. refl)
 
+  -- no watcher is open after a stop
   after_stop : s.due ≡ [] → After Stop (halted s)
   after_stop none =
       let row = row_at-map watcher_key as_ended (λ r. refl) key s.watchers in

@@ -1,5 +1,5 @@
 -- What a watcher is given: the posts that it takes, and then those that its close answers.
-use Rattle.std.proofs.Common.{◌≡◌, inl, inr, ◌⊎◌, ℕ, Bool, true, false, cond, eqb, List, [], ◌∷◌, ◌++◌, length, take, drop, Option, Some, None, slice_get, Ok, Err, refl, sym, ap, ◌∙◌, append_assoc, eq-eqb, eqb-true}
+use Rattle.std.proofs.Common.{◌≡◌, inl, inr, ◌⊎◌, ℕ, Bool, true, false, cond, eqb, List, [], ◌∷◌, ◌++◌, length, take, drop, Option, Some, None, slice_get, Ok, refl, sym, ap, ◌∙◌, append_assoc, eq-eqb, eqb-true}
 use Rattle.std.specs.Prelude.{Result}
 use Rattle.std.specs.Option.{option_map_or}
 use Rattle.std.proofs.lemmas.List.{append-nil, drop_at}
@@ -32,6 +32,7 @@ use Rattle.mt_floor.proofs.FollowLaws.{told_in_order, told_tables}
 abbrev Gives : ℕ → Event → Result Answer Fault → Type 0
 Gives key e a = (given_by key e a ≡ taken_by key e a) ⊎ ((ps : List PostView) × (e ≡ Close key) × (a ≡ Ok (Closed ps)))
 
+-- each answer does one or the other
 closing : (key : ℕ) (e : Event) (ps : List PostView) → Gives key e (Ok (Closed ps))
 closing key (Close k) ps = by (eqb k key) refl
   where

@@ -1,14 +1,10 @@
 -- The headline's first half, of every list of events.
-use Rattle.std.proofs.Common.{◌≡◌, ℕ, suc, ◌<◌, ◌+◌, ◌-◌, cond, List, [], ◌∷◌, ◌++◌, take, drop, Option, Some, None, slice_get, Ok, sym, ap, ◌∙◌, subst, arith}
-use Rattle.std.specs.Prelude.{Result}
+use Rattle.std.proofs.Common.{◌≡◌, ℕ, suc, ◌<◌, ◌+◌, ◌-◌, cond, List, [], ◌∷◌, ◌++◌, take, drop, Some, slice_get, Ok, sym, ap, ◌∙◌, subst, arith}
 use Rattle.std.proofs.lemmas.List.{append-nil}
-use Rattle.mt_skel.specs.declared.fault.Fault.{Fault}
 use Rattle.mt_skel.proofs.ElementLaws.{get_in}
 use Rattle.mt_events.specs.Posts.{PostView}
 use Rattle.mt_events.specs.declared.opening.Opening.{Opening}
-use Rattle.mt_book.specs.declared.command.Command.{Command}
 use Rattle.mt_floor.specs.declared.event.Event.{Event}
-use Rattle.mt_floor.specs.declared.event.Answer.{Answer}
 use Rattle.mt_floor.specs.declared.event.Answer.TheVariants.{Opened}
 use Rattle.mt_events.specs.Following.{IsRun}
 use Rattle.mt_floor.specs.Watcher.{due_for, opening_of}

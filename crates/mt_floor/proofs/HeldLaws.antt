@@ -1,10 +1,8 @@
 -- What the watcher of one key has, and what events do to it that post to it and take from it nothing.
-use Rattle.std.proofs.Common.{◌≡◌, ℕ, ◌<◌, ◌≤◌, Bool, true, false, cond, not, eqb, ltb, List, [], ◌∷◌, ◌++◌, length, Option, Some, None, Ok, Err, refl, sym, ap, ◌∙◌, subst, arith, true≢false}
-use Rattle.std.specs.Prelude.{Result}
+use Rattle.std.proofs.Common.{◌≡◌, ℕ, ◌<◌, ◌≤◌, Bool, true, false, cond, eqb, ltb, List, [], ◌++◌, length, Option, Some, None, sym, ap, ◌∙◌, subst, arith, true≢false}
 use Rattle.std.specs.List.{list_all}
 use Rattle.std.specs.Option.{option_map_or}
 use Rattle.std.proofs.lemmas.List.{append-nil}
-use Rattle.mt_skel.specs.declared.fault.Fault.{Fault}
 use Rattle.mt_skel.specs.Keyed.{row_at, put, rises}
 use Rattle.mt_skel.proofs.KeyedLaws.{row_at-key, rises-put}
 use Rattle.mt_propagate.proofs.RowLaws.{all-row}
@@ -12,7 +10,6 @@ use Rattle.mt_events.specs.Posts.{PostView}
 use Rattle.mt_events.specs.declared.opening.Scope.{Scope}
 use Rattle.mt_book.specs.declared.command.Command.{Command}
 use Rattle.mt_floor.specs.declared.event.Event.{Event}
-use Rattle.mt_floor.specs.declared.event.Answer.{Answer}
 use Rattle.mt_floor.specs.Watcher.{Watcher, Due, watcher_key, is_open, due_for, opening_of, followed_posts}
 use Rattle.mt_floor.specs.Schedule.{FloorView, Stepped, has_open}
 use Rattle.mt_floor.specs.Headline.{accepted_by, taken_by, posted_by, posts_to, ends_watcher}
@@ -63,9 +60,11 @@ pub held_same : {key : ℕ} {scope : Scope} {before since since' : List Command}
     → Held key scope before since sent taken s → Held key scope before since' sent' taken' s
 held_same {key = key} {scope = scope} {before = before} {s = s} a b c h = coe 0 1 (i. Held key scope before (a i) (b i) (c i) s) h
 
+-- a list with nothing behind it
 pub more : {X : Type 0} (xs : List X) {ys : List X} → ys ≡ [] → xs ≡ xs ++ ys
 more xs e = sym (append-nil xs) ∙ ap (λ l. xs ++ l) (sym e)
 
+-- what cannot be: a test that gives both answers, and a key with and without a row
 pub off : {A : Type 0} → true ≡ false → A
 off e = absurd (true≢false e)
 

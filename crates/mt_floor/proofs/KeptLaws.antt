@@ -1,5 +1,5 @@
 -- What each event of a watcher, and a stop, do to the rows of a floor.
-use Rattle.std.proofs.Common.{◌≡◌, ℕ, ◌+◌, ◌^◌, ◌<◌, ◌≤◌, Bool, true, cond, List, [], ◌∷◌, ◌++◌, map, length, set, get_or, take, drop, Option, Some, None, slice_get, Ok, Err, refl, sym, ap, ◌∙◌, subst, arith, append_assoc, length-append}
+use Rattle.std.proofs.Common.{◌≡◌, ℕ, ◌+◌, ◌^◌, ◌≤◌, Bool, true, cond, List, [], ◌∷◌, ◌++◌, map, length, set, get_or, take, drop, Option, Some, None, slice_get, Ok, Err, refl, sym, ap, ◌∙◌, subst, arith, append_assoc, length-append}
 use Rattle.std.specs.Prelude.{Result, nat_le}
 use Rattle.std.specs.List.{position_from, remove, AllByRecursion}
 use Rattle.std.specs.Option.{option_map_or}
@@ -49,6 +49,7 @@ pub record IsAbsent (s : FloorView) (q : ℕ) : Type 0 where
 pub not_late : (s : FloorView) (done : Stepped) → s.due ≡ [] → if_idle s.due s done ≡ done
 not_late s done idle = ap (λ ds. if_idle ds s done) idle
 
+-- it has no watcher to be met, to take or to close
 absent : (s : FloorView) (q : ℕ) → row_at watcher_key q s.watchers ≡ None → IsAbsent s q
 unfolding floor_step
 absent s q none = record {
@@ -81,6 +82,7 @@ module _ (c : ℕ) (j : List Command) (r : FloorRowView) (h : IsFloorRow c j r) 
       same : (a b m n t : ℕ) → a ≡ t + m → b ≡ t + n → nat_le a b ≡ nat_le m n
       same a b m n t e f = grind (arith, nat_tests)
 
+-- a list without a first element is empty
 none_of : {X : Type 0} (xs : List X) → slice_get xs 0 ≡ None → xs ≡ []
 none_of [] e = refl
 none_of (y ∷ ys) e = absurd (cc)
@@ -108,6 +110,7 @@ module _ {c : ℕ} {j : List Command} {l : ℕ} {st : Bool} {rows : List FloorRo
   unsought q same is none = absent s q (ap (λ (f : FloorView). row_at watcher_key q f.watchers) (sym view) ∙ no_watcher j q 0 rows (ap (position_from (is_of q) 0) (sym same) ∙ sym is ∙ none))
 
   module _ {q i : ℕ} {row : FloorRowView} (at : IsAt q i rows row) where
+    -- its row, and its watcher
     pub row_is : IsFloorRow c j row
     row_is = each_mid (IsFloorRow c j) at.front at.back row (subst (AllByRecursion (IsFloorRow c j)) at.split h.each)
 
@@ -135,6 +138,7 @@ module _ {c : ℕ} {j : List Command} {l : ℕ} {st : Bool} {rows : List FloorRo
     pub waiting_is : waiting s q ≡ row.waiting
     waiting_is = ap (λ (f : FloorView). waiting f q) (sym view) ∙ ap (λ o. option_map_or (λ (r : Watcher). drop (length r.taken) r.sent) o []) found ∙ left
 
+    -- it is met, it is closed, and it takes
     pub meet_some : s.due ≡ [] → {m : Meeting} → m ≡ record { posted = row.taken + length row.waiting; taken = row.taken; state = row.phase } → floor_step s (Meet q) ≡ (s, Ok (Met m))
     unfolding floor_step
     meet_some idle {m = m} is = subst (λ (f : FloorView). floor_step f (Meet q) ≡ (f, Ok (Met m))) view

@@ -16,12 +16,10 @@ pub mod GivenLaws
 pub mod SinceLaws
 pub mod BoundLaws
 pub mod StandingLaws
-pub mod KeyLaws
 pub mod MeetingLaws
 pub mod PlaceLaws
 pub mod KeptLaws
 pub mod PostLaws
 pub mod SettledLaws
 pub mod ApplyLaws
-pub mod StepLaws
 pub mod RunningLaws

@@ -15,7 +15,7 @@ use Rattle.mt_floor.specs.declared.event.Event.TheVariants.{Meet, Close}
 use Rattle.mt_floor.specs.declared.event.Answer.{Answer}
 use Rattle.mt_floor.specs.declared.event.Answer.TheVariants.{Opened, Met, Closed, NotNow}
 use Rattle.mt_floor.specs.Watcher.{Watcher, Due, watcher_key}
-use Rattle.mt_floor.specs.Schedule.{FloorView, empty_floor, Stepped, floor_step, run, if_idle, at_row, met, closed}
+use Rattle.mt_floor.specs.Schedule.{FloorView, Stepped, floor_step, run, if_idle, at_row, met, closed}
 use Rattle.mt_floor.specs.Headline.{answers, floor_after, taken_since, posted_since}
 use Rattle.mt_floor.specs.Laws.{IsTold}
 use Rattle.mt_floor.proofs.RunLaws.{get_drop, told_next}

@@ -1,5 +1,5 @@
--- Every watcher on a floor began with an event.
-use Rattle.std.proofs.Common.{◌≡◌, inl, inr, ℕ, zero, suc, ◌+◌, ◌<◌, ◌≤◌, Bool, true, false, eqb, ltb, List, [], ◌∷◌, Some, slice_get, Ok, refl, sym, ap, ◌∙◌, subst, arith, eqb-true, ltb-true}
+-- Keys are given out once, and every watcher on a floor began with an event.
+use Rattle.std.proofs.Common.{◌≡◌, inl, inr, ℕ, zero, suc, ◌+◌, ◌<◌, ◌≤◌, Bool, true, false, eqb, List, [], ◌∷◌, Some, slice_get, Ok, refl, sym, ap, ◌∙◌, arith, eqb-true}
 use Rattle.std.specs.Prelude.{Result}
 use Rattle.std.proofs.lemmas.Bool.Decides.{nat_tests}
 use Rattle.mt_skel.specs.declared.fault.Fault.{Fault}
@@ -13,10 +13,32 @@ use Rattle.mt_floor.specs.declared.event.Answer.TheVariants.{Opened}
 use Rattle.mt_floor.specs.Watcher.{Watcher, watcher_key}
 use Rattle.mt_floor.specs.Schedule.{FloorView, empty_floor, floor_step, run}
 use Rattle.mt_floor.specs.Headline.{answers, floor_after}
-use Rattle.mt_floor.proofs.BeginLaws.{counts}
+use Rattle.mt_floor.proofs.BeginLaws.{counts, begins, grows}
 use Rattle.mt_floor.proofs.RunLaws.{ran, after_kept, start_held}
-use Rattle.mt_floor.proofs.StandingLaws.{key_below}
+use Rattle.mt_floor.proofs.StandingLaws.{key_below, kept_of, stays, begins_well}
 use Rattle.mt_floor.proofs.HeadLaws.{held_at, opening_told}
+use Rattle.mt_skel.proofs.ElementLaws.{get_in}
+use Rattle.mt_floor.specs.WellFormed.{IsFloor}
+
+-- a key that is answered is the next one at that moment
+answered : (s : FloorView) (es : List Event) (key : ℕ) (o : Opening) → IsFloor s → (n : ℕ) → slice_get (run s es).1 n ≡ Some (Ok (Opened key o)) → s.next_key ≤ key
+answered s [] key o k n is = absurd (get_in [] n _ is)
+answered s (e ∷ es) key o k zero is = let opened : (floor_step s e).1 ≡ Ok (Opened key o) = cc in omega (arith, (begins s e (kept_of k) key o opened).key_is)
+answered s (e ∷ es) key o k (suc n) is = omega (arith, grows s e, answered (floor_step s e).0 es key o (stays s e k) n is)
+
+-- so it is not answered again
+once : (s : FloorView) (e : Event) (es : List Event) (key : ℕ) (o p : Opening) → IsFloor s → (floor_step s e).1 ≡ Ok (Opened key o) → (n : ℕ) → slice_get (run (floor_step s e).0 es).1 n ≡ Some (Ok (Opened key p)) → ⊥
+once s e es key o p k opened n later = omega (arith, (begins s e (kept_of k) key o opened).held.old, answered (floor_step s e).0 es key p (stays s e k) n later)
+
+same_place : (s : FloorView) (es : List Event) (key : ℕ) (o p : Opening) → IsFloor s → (i j : ℕ) → slice_get (run s es).1 i ≡ Some (Ok (Opened key o)) → slice_get (run s es).1 j ≡ Some (Ok (Opened key p)) → i ≡ j
+same_place s [] key o p k i j a b = absurd (get_in [] i _ a)
+same_place s (e ∷ es) key o p k zero zero a b = refl
+same_place s (e ∷ es) key o p k zero (suc j) a b = let opened : (floor_step s e).1 ≡ Ok (Opened key o) = cc in absurd (once s e es key o p k opened j b)
+same_place s (e ∷ es) key o p k (suc i) zero a b = let opened : (floor_step s e).1 ≡ Ok (Opened key p) = cc in absurd (once s e es key p o k opened i a)
+same_place s (e ∷ es) key o p k (suc i) (suc j) a b = ap suc (same_place (floor_step s e).0 es key o p (stays s e k) i j a b)
+
+pub keys_apart : (capacity : ℕ) (es : List Event) (i j key : ℕ) (o p : Opening) → slice_get (answers capacity es) i ≡ Some (Ok (Opened key o)) → slice_get (answers capacity es) j ≡ Some (Ok (Opened key p)) → i ≡ j
+keys_apart capacity es i j key o p = same_place (empty_floor capacity) es key o p (begins_well capacity) i j
 
 -- an answer that begins the watcher of a key
 abbrev Given : List (Result Answer Fault) → ℕ → Type 0

@@ -37,17 +37,19 @@ found_from q n i (r ∷ rows) e = by (eqb r.key q) refl e (found_from q (n + 1) 
         let at = f.3 in
         (f.0 + 1, f.1, omega (arith, f.2), record { front = r ∷ at.front; back = at.back; split = ap (λ l. r ∷ l) at.split; place = omega (arith, at.place); is = at.is })
 
+-- the row that a search for a key has found
 pub record Found (q i : ℕ) (rows : List FloorRowView) : Type 0 where
   pub row : FloorRowView
   pub at : IsAt q i rows row
 
--- what a search for a key has found
+-- a search finds one, if it tells a place
 pub sought : (q : ℕ) {i : ℕ} {rows now : List FloorRowView} {o : Option ℕ} → now ≡ rows → o ≡ position_from (is_of q) 0 now → o ≡ Some i → Found q i rows
 sought q {i = i} {rows = rows} same is what =
     let f = found_from q 0 i rows (ap (position_from (is_of q) 0) (sym same) ∙ sym is ∙ what) in
     let here : f.0 ≡ i = omega (arith, f.2) in
     record { row = f.1; at = subst (λ n. IsAt q n rows f.1) here f.3 }
 
+-- it stands there, within the list
 pub got_at : {q i : ℕ} {rows : List FloorRowView} {row : FloorRowView} → IsAt q i rows row → slice_get rows i ≡ Some row
 got_at {row = row} at = (λ k. slice_get (at.split k) (at.place k)) ∙ get_mid at.front at.back row
 
@@ -87,6 +89,7 @@ module _ (journal : List Command) {q i : ℕ} {rows : List FloorRowView} {row : 
   mid_rises : rises watcher_key (watchers at.front ++ watcher_of journal row ∷ watchers at.back) ≡ true
   mid_rises = ap (rises watcher_key) (sym mid) ∙ rising
 
+  -- the watcher of the key is that of its row
   pub watcher_at : row_at watcher_key q (map (watcher_of journal) rows) ≡ Some (watcher_of journal row)
   watcher_at = (λ j. row_at watcher_key (sym at.is j) (mid j)) ∙ row_mid watcher_key (watchers at.front) (watchers at.back) (watcher_of journal row) mid_rises
 

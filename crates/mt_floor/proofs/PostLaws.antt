@@ -1,7 +1,7 @@
 -- What the sending of a due post does to the rows of a floor.
-use Rattle.std.proofs.Common.{◌≡◌, ℕ, ◌+◌, ◌<◌, ◌≤◌, Bool, true, false, cond, not, eqb, List, [], ◌∷◌, ◌++◌, map, length, set, drop, Option, Some, None, slice_get, Ok, refl, sym, ap, ◌∙◌, subst, arith, append_assoc, length-append, eq-eqb}
+use Rattle.std.proofs.Common.{◌≡◌, ℕ, ◌+◌, ◌<◌, ◌≤◌, Bool, true, false, cond, not, List, [], ◌∷◌, ◌++◌, map, length, set, drop, Option, Some, None, slice_get, Ok, refl, sym, ap, ◌∙◌, subst, arith, append_assoc, length-append, eq-eqb}
 use Rattle.std.specs.Prelude.{nat_le}
-use Rattle.std.specs.List.{filter, AllByRecursion}
+use Rattle.std.specs.List.{AllByRecursion}
 use Rattle.std.specs.Option.{option_map, option_map_or, IfSome}
 use Rattle.std.proofs.lemmas.Bool.Decides.{nat_tests}
 use Rattle.mt_skel.specs.Keyed.{row_at}
@@ -13,7 +13,7 @@ use Rattle.mt_floor.specs.Watcher.{Due, watcher_key}
 use Rattle.mt_floor.specs.Schedule.{FloorView, floor_step, sent_to, is_full, posted}
 use Rattle.mt_floor.specs.Rows.{FloorRowView, with_post, lagged, watcher_of, floor_of, IsFloorRow, IsKeptFloor}
 use Rattle.mt_floor.proofs.DueLaws.{but}
-use Rattle.mt_floor.proofs.PlaceLaws.{IsAt, Found, got_at, at_place, changed_at}
+use Rattle.mt_floor.proofs.PlaceLaws.{Found, got_at, at_place, changed_at}
 use Rattle.mt_floor.proofs.KeptLaws.{IsDone, full_is, row_is, each_set, found, done}
 
 -- the key that is posted to first
@@ -75,9 +75,9 @@ module _ {c : ℕ} {j : List Command} {l : ℕ} {st : Bool} {rows : List FloorRo
             let got = got_at f.at in
             let now = sets f.row d got (ap (λ x. slice_get x 0) is) in
             done h view PostNext (
-              ap (posted (floor_of c j l st rows due)) is
-              ∙ ap (λ o. option_map_or (λ r. sent_to (floor_of c j l st rows due) d ds (is_full c r) r) o (floor_of c j l st rows due, Ok NotNow)) (ap (λ k. row_at watcher_key k (map (watcher_of j) rows)) same ∙ found h view f.at)
-              ∙ ap (λ x. sent_to (floor_of c j l st rows due) d ds x (watcher_of j f.row)) (full_is c j f.row (row_is h view f.at) ∙ sym (full f.row got))
-              ∙ sent d ds same b
-              ∙ (λ k. (floor_of c j l st (sym now k) (sym g k), Ok (Posted q b)))
+            ap (posted (floor_of c j l st rows due)) is
+            ∙ ap (λ o. option_map_or (λ r. sent_to (floor_of c j l st rows due) d ds (is_full c r) r) o (floor_of c j l st rows due, Ok NotNow)) (ap (λ k. row_at watcher_key k (map (watcher_of j) rows)) same ∙ found h view f.at)
+            ∙ ap (λ x. sent_to (floor_of c j l st rows due) d ds x (watcher_of j f.row)) (full_is c j f.row (row_is h view f.at) ∙ sym (full f.row got))
+            ∙ sent d ds same b
+            ∙ (λ k. (floor_of c j l st (sym now k) (sym g k), Ok (Posted q b)))
             ) (subst (AllByRecursion (IsFloorRow c j)) (sym now) (each_set h view f.at (cond b (lagged f.row) (with_post f.row d.post)) (sent_row d ds same b (sym (full f.row got)))))

@@ -11,12 +11,12 @@ use Rattle.mt_events.specs.declared.opening.Scope.TheVariants.{All}
 use Rattle.mt_book.specs.declared.command.Command.{Command}
 use Rattle.mt_floor.specs.declared.event.Event.{Event}
 use Rattle.mt_floor.specs.declared.event.Answer.{Answer}
-use Rattle.mt_floor.specs.Watcher.{Watcher}
 use Rattle.mt_floor.specs.Schedule.{FloorView, empty_floor, floor_step, run, has_open}
 use Rattle.mt_floor.specs.Headline.{accepted_by, accepted, taken_by, taken_posts, posted_by, posted_to, posts_to, ends_watcher, answers, floor_after, accepted_before}
 use Rattle.mt_floor.proofs.HeldLaws.{Kept, Held, held_same, no_row}
 use Rattle.mt_floor.proofs.FloorLaws.{goes}
 
+-- some events, and then others
 pub run_state : (s : FloorView) (xs ys : List Event) → (run s (xs ++ ys)).0 ≡ (run (run s xs).0 ys).0
 run_state s [] ys = refl
 run_state s (x ∷ xs) ys = run_state (floor_step s x).0 xs ys

@@ -1,4 +1,4 @@
-use Rattle.mt_floor.proofs.KeyLaws.{keys_apart}
+use Rattle.mt_floor.proofs.OpenedLaws.{keys_apart}
 use Rattle.mt_floor.proofs.MeetingLaws.{told}
 use Rattle.mt_floor.proofs.RunLaws.{run_state, run_told}
 use Rattle.mt_floor.proofs.laws.answers_tell.Goals as goal

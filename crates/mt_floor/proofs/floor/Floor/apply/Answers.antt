@@ -1,6 +1,6 @@
 use Rattle.std.proofs.Common.{rules, ◌≤◌, length, ap, arith}
 use Rattle.mt_floor.specs.Schedule.{FloorView}
-use Rattle.mt_floor.proofs.StepLaws.{command_put_off}
+use Rattle.mt_floor.proofs.SettledLaws.{command_put_off}
 use Rattle.mt_floor.proofs.floor.Floor.apply.Goals as goal
 
 pub returns-then-not-is_empty-clause-done : goal.returns-then-not-is_empty-clause-done

@@ -1,12 +1,10 @@
 use Rattle.std.proofs.Common.{◌∙◌, sym, ap, Err, [], ◌++◌, ◌∷◌}
 use Rattle.std.specs.Arc.{arc_value}
-use Rattle.std.specs.List.{flat_map, list_any}
 use Rattle.std.proofs.lemmas.Result.{err_from_is_err_and}
 use Rattle.mt_skel.specs.declared.fault.Fault.{Fault}
-use Rattle.mt_floor.specs.Watcher.{is_open}
 use Rattle.mt_floor.specs.Schedule.{FloorView}
-use Rattle.mt_floor.specs.Rows.{FloorRowView, due_if, floor_of}
-use Rattle.mt_floor.proofs.ApplyLaws.{apply_stopped, apply_refused, apply_done, due_is}
+use Rattle.mt_floor.specs.Rows.{floor_of}
+use Rattle.mt_floor.proofs.ApplyLaws.{apply_stopped, apply_refused, apply_done}
 use Rattle.mt_floor.proofs.floor.Floor.apply_idle.Goals as goal
 
 pub returns-then-self-clause-refused : goal.returns-then-self-clause-refused
@@ -23,11 +21,13 @@ returns-in_err-prepared-clause-refused c =
 pub invariant_of-self-2 : goal.invariant_of-self-2
 invariant_of-self-2 c =
     let p = c.in_ok-prepared in
-    let due = c.in_ok-due.ensures.due ∙ ap (λ rs. flat_map (λ a. flat_map (due_if (arc_value a)) rs) c.posts.result.now) c.deref-2.ensures.value ∙ due_is (λ a. arc_value a) c.posts.result.now c.self.inside.book.journal p.prepared.posts c.self.inside.rows.items c.posts.ensures in
-    (apply_done c.self.invariant c.self.view_is c.requires.idle c.args.command.now c.if-self.false p.ensures.prepared (p.ensures.heard ∙ c.is_heard.ensures ∙ ap (list_any (λ (r : FloorRowView). is_open r.phase)) c.deref.ensures.value) p.ensures.command (c.commit-reply.ensures.journal ∙ ap (λ js. js ++ p.prepared.command ∷ []) p.ensures.unchanged) due c.commit-reply.ensures.reply).kept
+    let journal = c.commit-reply.ensures.journal ∙ ap (λ js. js ++ p.prepared.command ∷ []) p.ensures.unchanged in
+    (apply_done c.self.invariant c.self.view_is c.requires.idle (λ a. arc_value a) c.posts.result.now c.args.command.now c.if-self.false p.ensures.prepared (p.ensures.heard ∙ c.is_heard.ensures) c.deref.ensures.value p.ensures.command journal
+    c.in_ok-due.ensures.due c.deref-2.ensures.value c.posts.ensures c.commit-reply.ensures.reply).kept
 
 pub returns-clause-done : goal.returns-clause-done
 returns-clause-done c =
     let p = c.in_ok-prepared in
-    let due = c.in_ok-due.ensures.due ∙ ap (λ rs. flat_map (λ a. flat_map (due_if (arc_value a)) rs) c.posts.result.now) c.deref-2.ensures.value ∙ due_is (λ a. arc_value a) c.posts.result.now c.self.inside.book.journal p.prepared.posts c.self.inside.rows.items c.posts.ensures in
-    (apply_done c.self.invariant c.self.view_is c.requires.idle c.args.command.now c.if-self.false p.ensures.prepared (p.ensures.heard ∙ c.is_heard.ensures ∙ ap (list_any (λ (r : FloorRowView). is_open r.phase)) c.deref.ensures.value) p.ensures.command (c.commit-reply.ensures.journal ∙ ap (λ js. js ++ p.prepared.command ∷ []) p.ensures.unchanged) due c.commit-reply.ensures.reply).step
+    let journal = c.commit-reply.ensures.journal ∙ ap (λ js. js ++ p.prepared.command ∷ []) p.ensures.unchanged in
+    (apply_done c.self.invariant c.self.view_is c.requires.idle (λ a. arc_value a) c.posts.result.now c.args.command.now c.if-self.false p.ensures.prepared (p.ensures.heard ∙ c.is_heard.ensures) c.deref.ensures.value p.ensures.command journal
+    c.in_ok-due.ensures.due c.deref-2.ensures.value c.posts.ensures c.commit-reply.ensures.reply).step

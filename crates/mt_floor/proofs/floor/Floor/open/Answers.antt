@@ -1,6 +1,5 @@
-use Rattle.std.proofs.Common.{◌≡◌, ◌∙◌, ◌+◌, length, ap, List, [], ◌∷◌, ◌++◌, arith}
+use Rattle.std.proofs.Common.{◌≡◌, length, ap, List, [], ◌∷◌, ◌++◌, arith}
 use Rattle.mt_book.specs.declared.command.Command.{Command}
-use Rattle.mt_floor.specs.Rows.{new_floor_row}
 use Rattle.mt_floor.proofs.ApplyLaws.{open_refused, open_done}
 use Rattle.mt_floor.proofs.floor.Floor.open.Goals as goal
 
@@ -9,16 +8,14 @@ returns-in-Some-clause-refused c = λ ne. open_refused c.self.invariant c.self.v
 
 pub invariant_of-self-2 : goal.invariant_of-self-2
 invariant_of-self-2 c =
-    let f = c.self.inside in
     let row = c.in_ok-row in
-    let pushed : c.push.new.self.items ≡ f.rows.items ++ row.row ∷ [] = grind arith in
-    let new = row.ensures.row ∙ ap (λ n. new_floor_row (f.last_key + 1) c.args.scope n f.capacity) (ap (λ (l : List Command). length l) c.journal-since.ensures.journal) in
-    (open_done c.self.invariant c.self.view_is c.requires.idle c.refuses.ensures c.in_default.is new pushed c.in_ok-opening.ensures.opening).kept
+    let pushed : c.push.new.self.items ≡ c.self.inside.rows.items ++ row.row ∷ [] = grind arith in
+    let since = ap (λ (l : List Command). length l) c.journal-since.ensures.journal in
+    (open_done c.self.invariant c.self.view_is c.requires.idle c.refuses.ensures c.in_default.is since row.ensures.row pushed c.in_ok-opening.ensures.opening).kept
 
 pub returns-clause-done : goal.returns-clause-done
 returns-clause-done c =
-    let f = c.self.inside in
     let row = c.in_ok-row in
-    let pushed : c.push.new.self.items ≡ f.rows.items ++ row.row ∷ [] = grind arith in
-    let new = row.ensures.row ∙ ap (λ n. new_floor_row (f.last_key + 1) c.args.scope n f.capacity) (ap (λ (l : List Command). length l) c.journal-since.ensures.journal) in
-    (open_done c.self.invariant c.self.view_is c.requires.idle c.refuses.ensures c.in_default.is new pushed c.in_ok-opening.ensures.opening).step
+    let pushed : c.push.new.self.items ≡ c.self.inside.rows.items ++ row.row ∷ [] = grind arith in
+    let since = ap (λ (l : List Command). length l) c.journal-since.ensures.journal in
+    (open_done c.self.invariant c.self.view_is c.requires.idle c.refuses.ensures c.in_default.is since row.ensures.row pushed c.in_ok-opening.ensures.opening).step

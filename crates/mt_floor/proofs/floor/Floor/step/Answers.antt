@@ -1,6 +1,6 @@
 use Rattle.std.proofs.Common.{◌∙◌, sym}
 use Rattle.mt_floor.specs.declared.event.Event.TheVariants.{Take, Close}
-use Rattle.mt_floor.proofs.StepLaws.{put_off, refused_still}
+use Rattle.mt_floor.proofs.SettledLaws.{put_off, refused_still}
 use Rattle.mt_floor.proofs.floor.Floor.step.Goals as goal
 
 pub returns-then-puts_off-clause-done : goal.returns-then-puts_off-clause-done

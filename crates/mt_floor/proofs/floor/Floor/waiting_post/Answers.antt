@@ -1,4 +1,4 @@
-use Rattle.std.proofs.Common.{◌≡◌, ◌∙◌, List, [], slice_get, MatchOption, None, Some, sym, ap, subst, arith, zero-le}
+use Rattle.std.proofs.Common.{◌≡◌, ◌∙◌, List, [], slice_get, MatchOption, None, Some, sym, ap, subst, arith}
 use Rattle.std.proofs.lemmas.Option.{slice_get_past}
 use Rattle.mt_events.specs.Posts.{PostView}
 use Rattle.mt_floor.proofs.PlaceLaws.{sought, row_read}
