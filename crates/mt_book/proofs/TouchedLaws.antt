@@ -1,16 +1,17 @@
 -- Which mounts are looked at where the tables of two worlds are compared.
-use Rattle.std.proofs.Common.{◌≡◌, ℕ, ◌<◌, Bool, true, false, ◌==◌, List, [], length, get_or, Option, Some, None, refl, sym, ap, ◌∙◌, arith}
+use Rattle.std.proofs.Common.{◌≡◌, ℕ, ◌<◌, Bool, true, false, ◌==◌, eqb-true, List, [], length, get_or, Option, Some, None, refl, sym, ap, ◌∙◌, arith}
 use Rattle.std.specs.List.{filter}
 use Rattle.std.specs.Option.{option_map, unwrap_or}
-use Rattle.std.proofs.lemmas.Bool.{true≢false, or_parts, false_from_ne_true}
+use Rattle.std.proofs.lemmas.Bool.{or_parts}
+use Rattle.std.proofs.lemmas.Map.Views.{any-filter_same}
 use Rattle.std.proofs.lemmas.List.{get_or_default}
-use Rattle.mt_skel.specs.Keyed.{row_at, among}
+use Rattle.std.specs.Prelude.{nat_eq}
+use Rattle.mt_skel.specs.Keyed.{row_at}
 use Rattle.mt_mounts.specs.declared.mount.Mount.{Mount}
 use Rattle.mt_mounts.specs.Forest.{mount_at}
 use Rattle.mt_propagate.specs.World.{WorldView, space_of}
 use Rattle.mt_propagate.specs.WellFormed.{IsWellFormed}
 use Rattle.mt_info.specs.Table.{row_id, table_of}
-use Rattle.mt_info.proofs.KeptRows.{among-filter}
 use Rattle.mt_events.specs.Difference.{HoldsChanged}
 use Rattle.mt_events.proofs.TouchedLaws.{row_nowhere, row_elsewhere}
 use Rattle.mt_book.specs.declared.command.Command.{Command}
@@ -38,7 +39,7 @@ part_holds w v n rows h g held i out = go (is_part w v n i) refl
     space o = unwrap_or (option_map (λ (m : Mount). m.space) o) 0
 
     go : (b : Bool) → is_part w v n i ≡ b → row_at row_id i (table_of w n) ≡ row_at row_id i (table_of v n)
-    go true is = held i (false_from_ne_true (among rows i) (λ on. true≢false (sym (among-filter (is_part w v n) rows i is on) ∙ out)))
+    go true is = held i (sym (any-filter_same (λ k. nat_eq k i) (is_part w v n) true (λ k e. ap (is_part w v n) (eqb-true k i e) ∙ is) rows) ∙ out)
     go false is =
         let off = or_parts (space_of w i == n) _ is in
         no_row w n i h (λ m e. ap (λ o. space o == n) (sym e) ∙ off.0) ∙ sym (no_row v n i g (λ m e. ap (λ o. space o == n) (sym e) ∙ off.1))
