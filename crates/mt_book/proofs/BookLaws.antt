@@ -83,12 +83,6 @@ book_committed old spare ks cs p h q =
       texts = each_append IsCommand cs (p.command ∷ []) h.texts (q.texts, tt);
     }
 
--- the same, where the book has taken what was prepared
-pub book_taken : (old new : Shown) (spare lags : Spare) (ks : List (ℕ × ℕ)) (cs js : List Command) (p : Prepared) → new ≡ Later p.world → lags ≡ lagging_of old
-    → js ≡ cs ++ p.command ∷ [] → IsBook (world_view (shown_world old)) (since_view (shown_world old)) spare ks cs → IsPrepared cs p → IsBook (world_view (shown_world new)) (since_view (shown_world new)) lags p.numbers.items js
-book_taken old new spare lags ks cs js p n l j h q =
-    rw (n, l, j) (book_committed old spare ks cs p h q)
-
 -- the world after a command is well-formed
 pub accepted_kept : (cs : List Command) (world v : WorldView) (c : Command) (r : Reply) → world ≡ after cs → step world c ≡ Ok (v, r) → IsWellFormed v
 accepted_kept cs world v c r w e =

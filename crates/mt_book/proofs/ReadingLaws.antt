@@ -61,5 +61,4 @@ pub run_more : (cs commands : List Command) (i : ℕ) (answers more : List (Resu
 run_more cs commands i answers more end c a last within at h push done posts grown refused kept =
     let one = one_run end c a last done posts grown refused kept in
     let long = run_longer cs (take i commands) answers end c a last h one in
-    subst (λ (l : List Command). AreAnswered cs l more last) (sym ((take_at_read commands i c within).1 ∙ ap (λ (x : Command). take i commands ++ x ∷ []) (sym at)))
-    (subst (λ (l : List (Result (Reply × List PostView) Fault)). AreAnswered cs (take i commands ++ c ∷ []) l last) (sym push) long)
+    rw ((take_at_read commands i c within).1 ∙ ap (λ (x : Command). take i commands ++ x ∷ []) (sym at), push) long

@@ -11,25 +11,24 @@ use Rattle.mt_book.proofs.TouchedLaws.{part_holds, part_is}
 use Rattle.mt_book.proofs.HeardLaws.{heard_next}
 use Rattle.mt_book.proofs.changes.changes_in_each.Goals as goal
 
+-- the mounts that were or are in the namespace
+part : (c : goal.After-row-1) → c.as_slice-part.result.now ≡ filter (is_part c.args.between.now.old c.args.between.now.new (space_at c.args.numbers.now c.spaces.i)) c.args.ids.now
+part c =
+    c.as_slice-part.ensures
+    ∙ part_is c.in_ok-parts.parts.items c.index.result.now c.args.ids.now c.spaces.i _ (is_part c.args.between.now.old c.args.between.now.new (space_at c.args.numbers.now c.spaces.i)) c.index.ensures c.in_ok-parts.ensures.len
+    (omega (arith, c.spaces-test.true)) (λ l. c.in_ok-parts.ensures.parts c.spaces.i l ∙ ap (λ (b : BetweenView). filter (is_part b.old b.new (space_at c.args.numbers.now c.spaces.i)) c.args.ids.now) c.between.view_is)
+
 pub change-requires-clause-rising : goal.change-requires-clause-rising
 change-requires-clause-rising c =
     let b = c.args.between.now in
-    let t = is_part b.old b.new (space_at c.args.numbers.now c.spaces.i) in
-    let ids = c.args.ids.now in
-    let part : c.as_slice-part.result.now ≡ filter t ids =
-    c.as_slice-part.ensures ∙ part_is c.in_ok-parts.parts.items c.index.result.now ids c.spaces.i _ t c.index.ensures c.in_ok-parts.ensures.len (omega (arith, c.spaces-test.true)) (λ l. c.in_ok-parts.ensures.parts c.spaces.i l ∙ ap (λ (b : BetweenView). filter (is_part b.old b.new (space_at c.args.numbers.now c.spaces.i)) ids) c.between.view_is) in
-    subst (λ (l : List ℕ). rises (λ k. k) l ≡ true) (sym part) (rises-filter (λ k. k) t ids c.requires.rising)
+    subst (λ (l : List ℕ). rises (λ k. k) l ≡ true) (sym (part c)) (rises-filter (λ k. k) (is_part b.old b.new (space_at c.args.numbers.now c.spaces.i)) c.args.ids.now c.requires.rising)
 
 pub change-requires-clause-held : goal.change-requires-clause-held
 change-requires-clause-held c =
     let b = c.args.between.now in
     let worlds = subst AreWorlds c.between.view_is c.between.invariant in
     let n = space_at c.args.numbers.now c.spaces.i in
-    let t = is_part b.old b.new n in
-    let ids = c.args.ids.now in
-    let part : c.as_slice-part.result.now ≡ filter t ids =
-    c.as_slice-part.ensures ∙ part_is c.in_ok-parts.parts.items c.index.result.now ids c.spaces.i _ t c.index.ensures c.in_ok-parts.ensures.len (omega (arith, c.spaces-test.true)) (λ l. c.in_ok-parts.ensures.parts c.spaces.i l ∙ ap (λ (b : BetweenView). filter (is_part b.old b.new (space_at c.args.numbers.now c.spaces.i)) ids) c.between.view_is) in
-    subst (λ (l : List ℕ). HoldsAll b l n) (sym part) (part_holds b.old b.new n ids worlds.old worlds.new (c.requires.held n))
+    subst (λ (l : List ℕ). HoldsAll b l n) (sym (part c)) (part_holds b.old b.new n c.args.ids.now worlds.old worlds.new (c.requires.held n))
 
 pub spaces-preserved : goal.spaces-preserved
 spaces-preserved c =

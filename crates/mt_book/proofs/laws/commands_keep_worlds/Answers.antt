@@ -4,14 +4,10 @@ use Rattle.mt_book.proofs.SpaceLaws.{step_stays}
 use Rattle.mt_book.proofs.StepLaws.{step_kept}
 use Rattle.mt_book.proofs.laws.commands_keep_worlds.Goals as goal
 
-pub returns-clause-step : goal.returns-clause-step
-returns-clause-step c = step_kept
-
-pub returns-clause-after : goal.returns-clause-after
-returns-clause-after c cs = (after_good cs).formed
-
-pub returns-clause-numbers : goal.returns-clause-numbers
-returns-clause-numbers c = step_rises
-
-pub returns-clause-spaces : goal.returns-clause-spaces
-returns-clause-spaces c = step_stays
+pub returns : goal.returns
+returns c = record {
+  step = step_kept;
+  after = λ cs. (after_good cs).formed;
+  numbers = step_rises;
+  spaces = step_stays;
+}
