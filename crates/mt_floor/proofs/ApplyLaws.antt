@@ -4,6 +4,7 @@ use Rattle.std.specs.Prelude.{Result, nat_le, if◌then◌else◌}
 use Rattle.std.specs.List.{filter, flat_map, list_any, AllByRecursion}
 use Rattle.std.proofs.lemmas.List.{take-append-le, drop-append-le, map-append}
 use Rattle.std.proofs.lemmas.List.Folds.{flat_map-map}
+use Rattle.std.proofs.lemmas.Bool.Decides.{nat_tests}
 use Rattle.std.proofs.lemmas.Bool.{lt-leb}
 use Rattle.std.proofs.Math.Seq.{take-length}
 use Rattle.mt_skel.specs.declared.fault.Fault.{Fault}
@@ -27,7 +28,8 @@ use Rattle.mt_floor.specs.declared.event.Answer.TheVariants.{Replied, Opened}
 use Rattle.mt_floor.specs.Watcher.{Watcher, Due, is_open, follows, due_pairs, opening_of, followed_posts}
 use Rattle.mt_floor.specs.Schedule.{FloorView, floor_step, unless, replied, applied, opened, opening_refusal}
 use Rattle.mt_floor.specs.Rows.{FloorRowView, new_floor_row, row_follows, due_if, watcher_of, floor_of, IsFloorRow, IsKeptFloor}
-use Rattle.mt_floor.proofs.EffectLaws.{newcomer, opens}
+use Rattle.mt_floor.proofs.EffectLaws.{newcomer}
+use Rattle.mt_floor.proofs.BeginLaws.{opens}
 use Rattle.mt_floor.proofs.FloorLaws.{followed_more}
 use Rattle.mt_skel.proofs.MiddleLaws.{each_last, each_still}
 use Rattle.mt_floor.proofs.KeptLaws.{IsDone, not_late, follows_all, idle_there, done}
@@ -57,13 +59,7 @@ due_is g xs j ps rows e = sym (flat_map-map (λ p. flat_map (due_if p) rows) g x
 -- where no watcher is open, nothing is due
 nobody_follows : (p : PostView) (j : List Command) (rows : List FloorRowView) → list_any (λ (r : FloorRowView). is_open r.phase) rows ≡ false → filter (follows p) (map (watcher_of j) rows) ≡ []
 nobody_follows p j [] e = refl
-nobody_follows p j (r ∷ rows) e = by (is_open r.phase) e (nobody_follows p j rows)
-  where
-    by : (b : Bool) → (b || list_any (λ (r : FloorRowView). is_open r.phase) rows) ≡ false
-        → (list_any (λ (r : FloorRowView). is_open r.phase) rows ≡ false → filter (follows p) (map (watcher_of j) rows) ≡ [])
-        → cond (b && names_space r.scope p.space) (watcher_of j r ∷ filter (follows p) (map (watcher_of j) rows)) (filter (follows p) (map (watcher_of j) rows)) ≡ []
-    by true e ih = absurd (cc)
-    by false e ih = ih e
+nobody_follows p j (r ∷ rows) e = let ih = nobody_follows p j rows in grind (arith, nat_tests)
 
 nothing_due : (ps : List PostView) (j : List Command) (rows : List FloorRowView) → list_any (λ (r : FloorRowView). is_open r.phase) rows ≡ false → due_pairs ps (map (watcher_of j) rows) ≡ []
 nothing_due [] j rows e = refl

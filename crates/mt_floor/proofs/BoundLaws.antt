@@ -25,15 +25,11 @@ use Rattle.mt_floor.proofs.EffectLaws.{newcomer, each_event}
 -- a row that is put in the place of another
 length-put : {X : Type 0} (key : X → ℕ) (x : X) (xs : List X) (y : X) → rises key xs ≡ true → row_at key (key x) xs ≡ Some y → length (put key x xs) ≡ length xs
 length-put key x [] y h e = absurd (let no_row : ◌≡◌ {A = Option _} None (Some y) = e in cc)
-length-put key x (z ∷ zs) y h e = by (ltb (key x) (key z)) refl (eqb (key x) (key z)) refl (length-put key x zs y (and_second _ _ h))
-  where
-    by : (a : Bool) → ltb (key x) (key z) ≡ a → (b : Bool) → eqb (key x) (key z) ≡ b → (row_at key (key x) zs ≡ Some y → length (put key x zs) ≡ length zs)
-        → length (cond a (x ∷ z ∷ zs) (cond b (x ∷ zs) (z ∷ put key x zs))) ≡ length (z ∷ zs)
-    by true l b q ih =
-        let gone = row_at-below key (key x) (z ∷ zs) (and-true (ltb (key x) (key z)) (list_all (λ w. ltb (key x) (key w)) zs) l (all-lower key (key x) (key z) zs (ltb-true (key x) (key z) l) (and_first _ _ h))) in
-        absurd (let no_row : ◌≡◌ {A = Option _} None (Some y) = sym gone ∙ e in cc)
-    by false l true q ih = refl
-    by false l false q ih = ap suc (ih (sym (ap (λ c. cond c (Some z) (row_at key (key x) zs)) q) ∙ e))
+length-put key x (z ∷ zs) y h e =
+    let ih = length-put key x zs y (and_second (list_all (λ w. ltb (key z) (key w)) zs) (rises key zs) h) in
+    let lower = all-lower key (key x) (key z) zs in
+    let gone = row_at-below key (key x) (z ∷ zs) in
+    grind (arith, nat_tests)
 
 room : (a b : ℕ) → nat_le a b ≡ false → b + 1 ≤ a
 room a b e = grind (arith, nat_tests)

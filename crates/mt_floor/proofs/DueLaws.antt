@@ -1,7 +1,8 @@
 -- The posts that are due to one watcher.
-use Rattle.std.proofs.Common.{◌≡◌, ℕ, Bool, true, false, cond, not, ◌&&◌, eqb, ltb, List, [], ◌∷◌, ◌++◌, map, Option, Some, None, refl, sym, ap, ◌∙◌, eq-eqb, eqb-true}
+use Rattle.std.proofs.Common.{◌≡◌, ℕ, Bool, true, false, cond, not, ◌&&◌, eqb, ltb, List, [], ◌∷◌, ◌++◌, map, Option, Some, None, refl, sym, ap, ◌∙◌, arith, eq-eqb, eqb-true}
 use Rattle.std.specs.List.{filter, list_all}
 use Rattle.std.specs.Option.{option_map_or}
+use Rattle.std.proofs.lemmas.Bool.Decides.{nat_tests}
 use Rattle.mt_skel.specs.Keyed.{row_at, rises}
 use Rattle.mt_skel.proofs.KeyedLaws.{row_at-below, row_at-filter, rises-filter, passing}
 use Rattle.mt_skel.proofs.MiddleLaws.{and_first, and_second}
@@ -12,9 +13,7 @@ use Rattle.mt_floor.proofs.RowLaws.{turned}
 
 due_for-append : (key : ℕ) (xs ys : List Due) → due_for key (xs ++ ys) ≡ due_for key xs ++ due_for key ys
 due_for-append key [] ys = refl
-due_for-append key (x ∷ xs) ys =
-    let ih = due_for-append key xs ys in
-    elim (eqb x.key key) as (λ b. cond b (x.post ∷ due_for key (xs ++ ys)) (due_for key (xs ++ ys)) ≡ cond b (x.post ∷ due_for key xs) (due_for key xs) ++ due_for key ys) [ true ↦ ap (λ l. x.post ∷ l) ih | false ↦ ih ]
+due_for-append key (x ∷ xs) ys = let ih = due_for-append key xs ys in grind (arith, nat_tests)
 
 -- a post that is due to these watchers
 abbrev for_each : PostView → List Watcher → List Due
@@ -25,14 +24,10 @@ one_if p o = option_map_or (λ (r : Watcher). p ∷ []) o []
 
 once : (key : ℕ) (p : PostView) (rs : List Watcher) → rises watcher_key rs ≡ true → due_for key (for_each p rs) ≡ one_if p (row_at watcher_key key rs)
 once key p [] h = refl
-once key p (r ∷ rs) h = by (eqb r.key key) refl (once key p rs (and_second _ _ h))
-  where
-    by : (b : Bool) → eqb r.key key ≡ b → due_for key (for_each p rs) ≡ one_if p (row_at watcher_key key rs)
-        → cond b (p ∷ due_for key (for_each p rs)) (due_for key (for_each p rs)) ≡ one_if p (cond (eqb key r.key) (Some r) (row_at watcher_key key rs))
-    by true e ih =
-        let none = row_at-below watcher_key key rs (ap (λ k. list_all (λ y. ltb k (watcher_key y)) rs) (sym (eqb-true r.key key e)) ∙ and_first _ _ h) in
-        ap (λ l. p ∷ l) (ih ∙ ap (one_if p) none) ∙ sym (ap (λ b. one_if p (cond b (Some r) (row_at watcher_key key rs))) (eq-eqb key r.key (sym (eqb-true r.key key e))))
-    by false e ih = ih ∙ sym (ap (λ b. one_if p (cond b (Some r) (row_at watcher_key key rs))) (turned r.key key e))
+once key p (r ∷ rs) h =
+    let ih = once key p rs (and_second (list_all (λ y. ltb (watcher_key r) (watcher_key y)) rs) (rises watcher_key rs) h) in
+    let none = row_at-below watcher_key key rs in
+    grind (arith, nat_tests)
 
 -- what of some posts is due to a watcher
 abbrev pub due_row : List PostView → Option Watcher → List PostView
@@ -44,12 +39,7 @@ passed p (Some r) = elim (follows p r) as (λ b. one_if p (cond b (Some r) None)
 
 both : (p : PostView) (ps : List PostView) (o : Option Watcher) → option_map_or (λ r. cond (follows p r) (p ∷ []) []) o [] ++ due_row ps o ≡ due_row (p ∷ ps) o
 both p ps None = refl
-both p ps (Some r) = by (is_open r.phase) (names_space r.scope p.space)
-  where
-    by : (a b : Bool) → cond (a && b) (p ∷ []) [] ++ cond a (filter (λ (q : PostView). names_space r.scope q.space) ps) [] ≡ cond a (cond b (p ∷ filter (λ (q : PostView). names_space r.scope q.space) ps) (filter (λ (q : PostView). names_space r.scope q.space) ps)) []
-    by true true = refl
-    by true false = refl
-    by false b = refl
+both p ps (Some r) = grind (arith, nat_tests)
 
 none_due : (o : Option Watcher) → ◌≡◌ {A = List PostView} [] (due_row [] o)
 none_due None = refl
@@ -69,17 +59,8 @@ but key ds = filter (λ (e : Due). not (eqb e.key key)) ds
 -- nothing is due to a watcher whose posts were taken out
 pub but_same : (key : ℕ) (ds : List Due) → due_for key (but key ds) ≡ []
 but_same key [] = refl
-but_same key (e ∷ ds) = by (eqb e.key key) refl (but_same key ds)
-  where
-    by : (b : Bool) → eqb e.key key ≡ b → due_for key (but key ds) ≡ [] → due_for key (cond (not b) (e ∷ but key ds) (but key ds)) ≡ []
-    by true is h = h
-    by false is h = ap (λ b. cond b (e.post ∷ due_for key (but key ds)) (due_for key (but key ds))) is ∙ h
+but_same key (e ∷ ds) = let ih = but_same key ds in grind (arith, nat_tests)
 
 pub but_other : (key other : ℕ) (ds : List Due) → eqb key other ≡ false → due_for other (but key ds) ≡ due_for other ds
 but_other key other [] ne = refl
-but_other key other (e ∷ ds) ne = by (eqb e.key key) refl (but_other key other ds ne)
-  where
-    by : (b : Bool) → eqb e.key key ≡ b → due_for other (but key ds) ≡ due_for other ds
-        → due_for other (cond (not b) (e ∷ but key ds) (but key ds)) ≡ cond (eqb e.key other) (e.post ∷ due_for other ds) (due_for other ds)
-    by true is h = h ∙ sym (ap (λ b. cond b (e.post ∷ due_for other ds) (due_for other ds)) (ap (λ k. eqb k other) (eqb-true e.key key is) ∙ ne))
-    by false is h = ap (λ l. cond (eqb e.key other) (e.post ∷ l) l) h
+but_other key other (e ∷ ds) ne = let ih = but_other key other ds ne in grind (arith, nat_tests)

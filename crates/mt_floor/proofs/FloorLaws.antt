@@ -198,7 +198,7 @@ module _ {key : ℕ} {scope : Scope} {before since : List Command} {sent taken :
     -- a watcher goes
     module _ (none : s.due ≡ []) where
       row_left : row_at watcher_key key (closed s r).0.watchers ≡ cond (eqb key q) None (row_at watcher_key key s.watchers)
-      row_left = ap (λ n. row_at watcher_key key (filter (λ (x : Watcher). not (eqb x.key n)) s.watchers)) (row_at-key watcher_key q s.watchers r at) ∙ row_without watcher_key key q s.watchers k.rising
+      row_left = ap (λ n. row_at watcher_key key (filter (λ (x : Watcher). not (eqb x.key n)) s.watchers)) (row_at-key watcher_key q s.watchers r at) ∙ row_without watcher_key key q s.watchers
 
       closed_kept : Kept (closed s r).0
       closed_kept = record { rising = rises-filter watcher_key (λ (x : Watcher). not (eqb x.key r.key)) s.watchers k.rising; below = all_filter (λ (x : Watcher). ltb x.key s.next_key) (λ (x : Watcher). not (eqb x.key r.key)) s.watchers k.below }

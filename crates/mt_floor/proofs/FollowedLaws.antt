@@ -27,12 +27,9 @@ place_of_space n (q ∷ ps) zero p e is =
     let same : q ≡ p = cc in
     let on : eqb q.space n ≡ true = (let s : q.space ≡ n = ap (λ (x : PostView). x.space) same ∙ is in grind (arith, nat_tests)) in
     ap (λ b. slice_get (cond b (q ∷ space_posts n ps) (space_posts n ps)) 0) on ∙ e
-place_of_space n (q ∷ ps) (suc k) p e is = by (eqb q.space n) (place_of_space n ps k p e is)
-  where
-    by : (b : Bool) → slice_get (space_posts n ps) (posts_in n (take k ps)) ≡ Some p
-        → slice_get (cond b (q ∷ space_posts n ps) (space_posts n ps)) (length (cond b (q ∷ space_posts n (take k ps)) (space_posts n (take k ps)))) ≡ Some p
-    by true ih = ih
-    by false ih = ih
+place_of_space n (q ∷ ps) (suc k) p e is =
+    let ih = place_of_space n ps k p e is in
+    elim (eqb q.space n) as (λ b. slice_get (cond b (q ∷ space_posts n ps) (space_posts n ps)) (length (cond b (q ∷ space_posts n (take k ps)) (space_posts n (take k ps)))) ≡ Some p) [ true ↦ ih | false ↦ ih ]
 
 -- so what begins the followed posts is a run
 pub is_run : (scope : Scope) (before since : List Command) (ps rest : List PostView) → followed_posts scope before since ≡ ps ++ rest → IsRun (opening_of before scope) ps

@@ -69,7 +69,7 @@ module _ {key : ℕ} {scope : Scope} {before since : List Command} {posted taken
       inr (
         [],
         ap (λ (x : Event). row_at watcher_key key (floor_step s x).0.watchers) event ∙ ap (λ (x : Stepped). row_at watcher_key key x.0.watchers) c.told
-            ∙ row_without watcher_key key c.row.key s.watchers k.rising ∙ ap (λ b. cond b None (row_at watcher_key key s.watchers)) (eq-eqb key c.row.key (sym (row_at-key watcher_key key s.watchers c.row c.at))),
+            ∙ row_without watcher_key key c.row.key s.watchers ∙ ap (λ b. cond b None (row_at watcher_key key s.watchers)) (eq-eqb key c.row.key (sym (row_at-key watcher_key key s.watchers c.row c.at))),
         (λ i. posted ++ posted_by key s.due (answer i)) ∙ append-nil posted ∙ h.first.taken_is ∙ (λ i. sym all i ++ sym rest i) ∙ ap (λ l. given ++ l) (sym gave) ∙ sym (append-nil (given ++ given_by key e done.1)),
       )
 

@@ -3,6 +3,7 @@ use Rattle.std.proofs.Common.{◌≡◌, ℕ, ◌+◌, Bool, true, false, cond, 
 use Rattle.std.specs.List.{filter, position_from, remove}
 use Rattle.std.proofs.lemmas.List.{map-append}
 use Rattle.std.specs.Option.{IfSome}
+use Rattle.std.proofs.lemmas.Bool.Decides.{nat_tests}
 use Rattle.std.proofs.lemmas.Option.{slice_get_read, slice_get_within}
 use Rattle.mt_skel.specs.Keyed.{row_at, put, rises}
 use Rattle.mt_skel.proofs.MiddleLaws.{row_mid, put_mid, without_mid, set_mid, remove_mid, get_mid}
@@ -70,13 +71,7 @@ row_read {q = q} {i = i} {rows = rows} {row = row} f is =
 -- a key without a row has no watcher
 pub no_watcher : (journal : List Command) (q n : ℕ) (rows : List FloorRowView) → position_from (is_of q) n rows ≡ None → row_at watcher_key q (map (watcher_of journal) rows) ≡ None
 no_watcher journal q n [] e = refl
-no_watcher journal q n (r ∷ rows) e = by (eqb r.key q) refl e (no_watcher journal q (n + 1) rows)
-  where
-    by : (b : Bool) → eqb r.key q ≡ b → cond b (Some n) (position_from (is_of q) (n + 1) rows) ≡ None
-        → (position_from (is_of q) (n + 1) rows ≡ None → row_at watcher_key q (map (watcher_of journal) rows) ≡ None)
-        → cond (eqb q r.key) (Some (watcher_of journal r)) (row_at watcher_key q (map (watcher_of journal) rows)) ≡ None
-    by true is e ih = absurd (cc)
-    by false is e ih = ap (λ b. cond b (Some (watcher_of journal r)) (row_at watcher_key q (map (watcher_of journal) rows))) (turned r.key q is) ∙ ih e
+no_watcher journal q n (r ∷ rows) e = let ih = no_watcher journal q (n + 1) rows in grind (arith, nat_tests)
 
 module _ (journal : List Command) {q i : ℕ} {rows : List FloorRowView} {row : FloorRowView} (at : IsAt q i rows row) (rising : rises watcher_key (map (watcher_of journal) rows) ≡ true) where
   abbrev watchers : List FloorRowView → List Watcher

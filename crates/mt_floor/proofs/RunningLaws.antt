@@ -1,6 +1,7 @@
 -- Events that are done one after another.
 use Rattle.std.proofs.Common.{◌≡◌, ◌≢◌, Bool, true, false, cond, List, [], ◌∷◌, ◌++◌, length, Ok, Err, refl, sym, ap, ◌∙◌, arith}
 use Rattle.std.specs.Prelude.{Result, IfOk, IfErr, OnErr}
+use Rattle.std.proofs.lemmas.Bool.Decides.{nat_tests}
 use Rattle.mt_skel.specs.declared.fault.Fault.{Fault}
 use Rattle.mt_skel.specs.declared.fault.Fault.TheVariants.{NoMemory}
 use Rattle.mt_floor.specs.declared.event.Event.{Event}
@@ -30,13 +31,7 @@ last_done : (es : List Event) (ans : List (Result Answer Fault)) (e : Event) (a 
 last_done [] [] e a l = (refl, refl)
 last_done [] (b ∷ ans) e a l = absurd (omega (arith, l))
 last_done (x ∷ es) [] e a l = absurd (omega (arith, l))
-last_done (x ∷ es) (b ∷ ans) e a l = by (lacked x b) (last_done es ans e a (omega (arith, l)))
-  where
-    by : (t : Bool) → (done_events (es ++ e ∷ []) (ans ++ a ∷ []) ≡ done_events es ans ++ cond (lacked e a) [] (e ∷ [])) × (done_answers (es ++ e ∷ []) (ans ++ a ∷ []) ≡ done_answers es ans ++ cond (lacked e a) [] (a ∷ []))
-        → (cond t (done_events (es ++ e ∷ []) (ans ++ a ∷ [])) (x ∷ done_events (es ++ e ∷ []) (ans ++ a ∷ [])) ≡ cond t (done_events es ans) (x ∷ done_events es ans) ++ cond (lacked e a) [] (e ∷ []))
-        × (cond t (done_answers (es ++ e ∷ []) (ans ++ a ∷ [])) (b ∷ done_answers (es ++ e ∷ []) (ans ++ a ∷ [])) ≡ cond t (done_answers es ans) (b ∷ done_answers es ans) ++ cond (lacked e a) [] (a ∷ []))
-    by true ih = ih
-    by false ih = (ap (λ r. x ∷ r) ih.0, ap (λ r. b ∷ r) ih.1)
+last_done (x ∷ es) (b ∷ ans) e a l = let ih = last_done es ans e a (omega (arith, l)) in (grind (arith, nat_tests), grind (arith, nat_tests))
 
 pub joined : (s now : FloorView) (xs ys : List Event) (told more : List (Result Answer Fault)) (mid : FloorView) → run s xs ≡ (mid, told) → run mid ys ≡ (now, more) → run s (xs ++ ys) ≡ (now, told ++ more)
 joined s now xs ys told more mid e f =

@@ -2,6 +2,7 @@
 use Rattle.std.proofs.Common.{◌≡◌, ◌≢◌, ℕ, zero, suc, ◌-◌, ◌≤◌, Bool, true, false, cond, not, eqb, List, [], ◌∷◌, length, replicate, Option, Some, None, Ok, Err, refl, sym, ap, ◌∙◌, subst, arith, eq-eqb}
 use Rattle.std.specs.Prelude.{Result, OnErr}
 use Rattle.std.specs.Option.{option_map_or}
+use Rattle.std.proofs.lemmas.List.{nil_from_length}
 use Rattle.mt_skel.specs.declared.fault.Fault.{Fault}
 use Rattle.mt_skel.specs.declared.fault.Fault.TheVariants.{NoWatcher}
 use Rattle.mt_skel.specs.Keyed.{row_at}
@@ -126,11 +127,7 @@ abbrev posts : ℕ → FloorView → FloorView
 posts n s = (run s (replicate n PostNext)).0
 
 pub none_due : (s : FloorView) → length s.due ≤ 0 → s.due ≡ []
-none_due s low = by s.due low
-  where
-    by : (ds : List Due) → length ds ≤ 0 → ds ≡ []
-    by [] l = refl
-    by (d ∷ ds) l = absurd (omega (arith, l))
+none_due s low = nil_from_length s.due (omega (arith, low))
 
 -- where nothing is due, there is nothing to be sent
 post_still : (s : FloorView) → s.due ≡ [] → (floor_step s PostNext).0 ≡ s
