@@ -1,15 +1,14 @@
 -- The posts that are due to one watcher.
-use Rattle.std.proofs.Common.{◌≡◌, ℕ, Bool, true, false, cond, not, ◌&&◌, eqb, ltb, List, [], ◌∷◌, ◌++◌, map, Option, Some, None, refl, sym, ap, ◌∙◌, arith, eq-eqb, eqb-true}
+use Rattle.std.proofs.Common.{◌≡◌, ℕ, true, false, cond, not, eqb, ltb, List, [], ◌∷◌, ◌++◌, map, Option, Some, None, refl, ap, ◌∙◌, arith}
 use Rattle.std.specs.List.{filter, list_all}
 use Rattle.std.specs.Option.{option_map_or}
 use Rattle.std.proofs.lemmas.Bool.Decides.{nat_tests}
 use Rattle.mt_skel.specs.Keyed.{row_at, rises}
 use Rattle.mt_skel.proofs.KeyedLaws.{row_at-below, row_at-filter, rises-filter, passing}
-use Rattle.mt_skel.proofs.MiddleLaws.{and_first, and_second}
+use Rattle.mt_skel.proofs.MiddleLaws.{and_second}
 use Rattle.mt_events.specs.Posts.{PostView}
 use Rattle.mt_events.specs.Following.{names_space}
 use Rattle.mt_floor.specs.Watcher.{Watcher, Due, watcher_key, is_open, follows, due_for, due_pairs}
-use Rattle.mt_floor.proofs.RowLaws.{turned}
 
 due_for-append : (key : ℕ) (xs ys : List Due) → due_for key (xs ++ ys) ≡ due_for key xs ++ due_for key ys
 due_for-append key [] ys = refl

@@ -14,7 +14,6 @@ pub mod FollowLaws
 pub mod OpenedLaws
 pub mod GivenLaws
 pub mod SinceLaws
-pub mod BoundLaws
 pub mod StandingLaws
 pub mod MeetingLaws
 pub mod PlaceLaws

@@ -10,7 +10,6 @@ use Rattle.mt_skel.proofs.MiddleLaws.{row_mid, put_mid, without_mid, set_mid, re
 use Rattle.mt_book.specs.declared.command.Command.{Command}
 use Rattle.mt_floor.specs.Watcher.{Watcher, watcher_key}
 use Rattle.mt_floor.specs.Rows.{FloorRowView, watcher_of}
-use Rattle.mt_floor.proofs.RowLaws.{turned}
 
 -- the row of a key, with those before it and those behind it
 pub record IsAt (q i : ℕ) (rows : List FloorRowView) (row : FloorRowView) : Type 0 where
