@@ -1,14 +1,8 @@
 pub mod RowsLaws
-pub mod LateLaws
-pub mod PutLaws
 pub mod RunLaws
 pub mod ScheduleLaws
-pub mod SendLaws
-pub mod ApplyLaws
 pub mod PlaceLaws
-pub mod DueLaws
 pub mod DeskLaws
 pub mod SendingLaws
 pub mod SentLaws
-pub mod HeardLaws
 pub mod FollowLaws

@@ -1,46 +1,32 @@
 -- The places of a desk, and the rows at them.
-use Rattle.std.proofs.Common.{◌≡◌, ◌≢◌, ℕ, zero, suc, ◌+◌, Bool, true, false, cond, not, eqb, ltb, List, [], ◌∷◌, ◌++◌, length, map, set, Option, Some, slice_get, inl, inr, refl, sym, ap, ◌∙◌, subst, arith, length-append}
-use Rattle.std.specs.Prelude.{◌⊎◌, ◌==◌}
+use Rattle.std.proofs.Common.{◌≡◌, ℕ, zero, suc, ◌+◌, true, false, cond, not, eqb, ltb, List, [], ◌∷◌, ◌++◌, length, map, set, Option, Some, None, slice_get, refl, sym, ap, ◌∙◌, subst, arith, length-append}
+use Rattle.std.specs.Prelude.{◌==◌, ◌||◌}
 use Rattle.std.specs.List.{filter, list_all, AllByRecursion}
-use Rattle.std.specs.Option.{option_map_or}
+use Rattle.std.specs.Option.{option_map, option_map_or}
 use Rattle.std.proofs.lemmas.Bool.Decides.{nat_tests}
 use Rattle.std.proofs.lemmas.List.{map-append, length-set, length-map}
-use Rattle.std.proofs.lemmas.List.Elements.{filter-append}
+use Rattle.std.proofs.lemmas.Option.{slice_get-map, get_or_from_slice_get}
+use Rattle.std.proofs.Math.Seq.{map-set_same}
 use Rattle.mt_skel.specs.Keyed.{row_at, put, without, rises}
+use Rattle.mt_skel.proofs.MiddleLaws.{each_map, each_still, each_last}
 use Rattle.mt_queue.specs.Halves.{LineId, LineView}
-use Rattle.mt_skel.proofs.MiddleLaws.{and_first, and_second, row_mid, put_mid, without_mid, each_still, each_append, each_left, each_right}
 use Rattle.mt_desk.specs.Desk.{DeskRow, row_key, desk_row_after_stop}
 use Rattle.mt_desk.specs.Rows.{PlacedRowView, ended_row}
 use Rattle.mt_desk.specs.declared.places.Slot.{Slot}
 use Rattle.mt_desk.specs.declared.places.Slot.TheVariants.{Parked, Used, Away}
-use Rattle.mt_desk.specs.Places.{line_of, IsParked, no_row, slot_row, row_in, rows_at_places, use_of, uses, IsLine, IsUsed, IsAmong, ArePlaces, AreLines, ended_slot}
+use Rattle.mt_desk.specs.Places.{line_of, capacity_of, IsHere, IsParked, no_row, slot_row, row_in, rows_at_places, use_of, uses, IsLine, IsUsed, is_among, ArePlaces, AreLines, ended_slot}
 
 -- ---- A list in which one element was set
 
-pub get_set : {X : Type 0} (xs : List X) (p : ℕ) (x : X) (k : ℕ) (s : X) → slice_get (set xs p x) k ≡ Some s → ((k ≡ p) × (x ≡ s)) ⊎ ((k ≢ p) × (slice_get xs k ≡ Some s))
-get_set [] p x k s e = absurd cc
-get_set (y ∷ xs) zero x zero s e = inl (refl, cc)
-get_set (y ∷ xs) zero x (suc k) s e = inr ((λ q. absurd (omega (arith, q))), e)
-get_set (y ∷ xs) (suc p) x zero s e = inr ((λ q. absurd (omega (arith, q))), e)
-get_set (y ∷ xs) (suc p) x (suc k) s e = elim (get_set xs p x k s e) [ inl h ↦ inl (ap suc h.0, h.1) | inr h ↦ inr ((λ q. h.0 (omega (arith, q))), h.1) ]
+-- what stands at each place
+pub get_set : {X : Type 0} (xs : List X) (p : ℕ) (s x : X) → slice_get xs p ≡ Some s → (k : ℕ) → slice_get (set xs p x) k ≡ cond (eqb k p) (Some x) (slice_get xs k)
+get_set [] p s x at k = absurd cc
+get_set (y ∷ xs) zero s x at zero = refl
+get_set (y ∷ xs) zero s x at (suc k) = grind (arith, nat_tests)
+get_set (y ∷ xs) (suc p) s x at zero = grind (arith, nat_tests)
+get_set (y ∷ xs) (suc p) s x at (suc k) = grind (arith, nat_tests, get_set xs p s x at k)
 
-pub get_other : {X : Type 0} (xs : List X) (p : ℕ) (x : X) (k : ℕ) → k ≢ p → slice_get (set xs p x) k ≡ slice_get xs k
-get_other [] p x k ne = refl
-get_other (y ∷ xs) zero x zero ne = absurd (ne refl)
-get_other (y ∷ xs) zero x (suc k) ne = refl
-get_other (y ∷ xs) (suc p) x zero ne = refl
-get_other (y ∷ xs) (suc p) x (suc k) ne = get_other xs p x k (λ q. ne (ap suc q))
-
-pub get_same : {X : Type 0} (xs : List X) (p : ℕ) (s x : X) → slice_get xs p ≡ Some s → slice_get (set xs p x) p ≡ Some x
-get_same [] p s x e = absurd cc
-get_same (y ∷ xs) zero s x e = refl
-get_same (y ∷ xs) (suc p) s x e = get_same xs p s x e
-
-map_set : {X Y : Type 0} (f : X → Y) (xs : List X) (p : ℕ) (s x : X) → slice_get xs p ≡ Some s → f x ≡ f s → map f (set xs p x) ≡ map f xs
-map_set f [] p s x at e = absurd cc
-map_set f (y ∷ xs) zero s x at e = let same : y ≡ s = cc in ap (λ l. l ∷ map f xs) (e ∙ ap f (sym same))
-map_set f (y ∷ xs) (suc p) s x at e = ap (λ l. f y ∷ l) (map_set f xs p s x at e)
-
+-- what is true of each element, and of the one at a place
 each_set : {X : Type 0} (P : X → Type 0) (xs : List X) (p : ℕ) (x : X) → AllByRecursion P xs → P x → AllByRecursion P (set xs p x)
 each_set P [] p x all it = tt
 each_set P (y ∷ xs) zero x all it = (it, all.1)
@@ -51,218 +37,165 @@ each_get P [] k s all e = absurd cc
 each_get P (y ∷ xs) zero s all e = let same : y ≡ s = cc in subst P same all.0
 each_get P (y ∷ xs) (suc k) s all e = each_get P xs k s all.1 e
 
+-- how many are in use
 uses_set : (slots : List Slot) (p : ℕ) (s x : Slot) → slice_get slots p ≡ Some s → uses (set slots p x) + use_of s ≡ uses slots + use_of x
 uses_set [] p s x e = absurd cc
 uses_set (y ∷ slots) zero s x e = let same : y ≡ s = cc in omega (arith, ap use_of same)
 uses_set (y ∷ slots) (suc p) s x e = omega (arith, uses_set slots p s x e)
 
--- ---- A place among others
+-- ---- One place among others
 
-among_right : (p : ℕ) (xs ys : List ℕ) → IsAmong p ys → IsAmong p (xs ++ ys)
-among_right p [] ys h = h
-among_right p (x ∷ xs) ys h = inr (among_right p xs ys h)
-
-pub among_left : (p : ℕ) (xs ys : List ℕ) → IsAmong p xs → IsAmong p (xs ++ ys)
-among_left p [] ys h = absurd h
-among_left p (x ∷ xs) ys h = elim h [ inl here ↦ inl here | inr later ↦ inr (among_left p xs ys later) ]
-
-pub among_get : (P : ℕ → Type 0) (p : ℕ) (ks : List ℕ) → IsAmong p ks → AllByRecursion P ks → P p
-among_get P p [] h all = absurd h
-among_get P p (k ∷ ks) h all = elim h [ inl here ↦ subst P here all.0 | inr later ↦ among_get P p ks later all.1 ]
-
--- those in front of it and those behind
-record Around (p : ℕ) (ks : List ℕ) : Type 0 where
-  pub front : List ℕ
-  pub back : List ℕ
-  pub split : ks ≡ front ++ p ∷ back
-
-around : (p : ℕ) (ks : List ℕ) → IsAmong p ks → Around p ks
-around p [] h = absurd h
-around p (k ∷ ks) h = elim h [
-  | inl here ↦ record { front = []; back = ks; split = ap (λ n. n ∷ ks) here }
-  | inr later ↦ let r = around p ks later in record { front = k ∷ r.front; back = r.back; split = ap (λ l. k ∷ l) r.split }
-]
-
-abbrev AreOther : ℕ → List ℕ → Type 0
-AreOther p ks = AllByRecursion (λ k. k ≢ p) ks
-
-among_other : (p k : ℕ) (front back : List ℕ) → k ≢ p → IsAmong k (front ++ p ∷ back) → IsAmong k (front ++ back)
-among_other p k [] back ne h = elim h [ inl here ↦ absurd (ne (sym here)) | inr later ↦ later ]
-among_other p k (z ∷ front) back ne h = elim h [ inl here ↦ inl here | inr later ↦ inr (among_other p k front back ne later) ]
-
-others_stay : (p : ℕ) (ks : List ℕ) → AreOther p ks → filter (λ k. not (eqb k p)) ks ≡ ks
+-- nothing goes where it is not among them
+others_stay : (p : ℕ) (ks : List ℕ) → is_among p ks ≡ false → filter (λ k. not (eqb k p)) ks ≡ ks
 others_stay p [] h = refl
-others_stay p (k ∷ ks) h =
-    let ne = h.0 in
-    let test : eqb k p ≡ false = grind (arith, nat_tests, ne) in
-    ap (λ b. cond (not b) (k ∷ filter (λ j. not (eqb j p)) ks) (filter (λ j. not (eqb j p)) ks)) test ∙ ap (λ l. k ∷ l) (others_stay p ks h.1)
+others_stay p (k ∷ ks) h = grind (arith, nat_tests, others_stay p ks)
 
-dropped : (p : ℕ) (front back : List ℕ) → AreOther p front → AreOther p back → filter (λ k. not (eqb k p)) (front ++ p ∷ back) ≡ front ++ back
-dropped p front back f b =
-    let test : eqb p p ≡ true = grind (arith, nat_tests) in
-    filter-append (λ k. not (eqb k p)) front (p ∷ back)
-    ∙ (λ i. others_stay p front f i ++ cond (not (test i)) (p ∷ filter (λ k. not (eqb k p)) back) (filter (λ k. not (eqb k p)) back))
-    ∙ ap (λ l. front ++ l) (others_stay p back b)
+-- the others are left, and what is true of each
+still_among : (j p : ℕ) (ks : List ℕ) → eqb j p ≡ false → is_among j ks ≡ true → is_among j (filter (λ k. not (eqb k p)) ks) ≡ true
+still_among j p [] other h = absurd cc
+still_among j p (k ∷ ks) other h = grind (arith, nat_tests, still_among j p ks)
 
--- ---- Rows at places that rise
+-- one place more, behind the others
+among_last : (j p : ℕ) (ks : List ℕ) → is_among j (ks ++ p ∷ []) ≡ (is_among j ks || eqb p j)
+among_last j p [] = grind arith
+among_last j p (k ∷ ks) = grind (arith, among_last j p ks)
 
-all_among : (t : DeskRow → Bool) (slots : List Slot) (ks : List ℕ) (p : ℕ) → list_all t (rows_at_places slots ks) ≡ true → IsAmong p ks → t (row_in slots p) ≡ true
-all_among t slots [] p h a = absurd a
-all_among t slots (k ∷ ks) p h a = elim a [ inl here ↦ ap (λ n. t (row_in slots n)) (sym here) ∙ and_first _ _ h | inr later ↦ all_among t slots ks p (and_second _ _ h) later ]
+each_left : (P Q : ℕ → Type 0) (p : ℕ) → ((k : ℕ) → eqb k p ≡ false → P k → Q k) → (ks : List ℕ) → AllByRecursion P ks → AllByRecursion Q (filter (λ k. not (eqb k p)) ks)
+each_left P Q p go [] h = tt
+each_left P Q p go (k ∷ ks) h =
+    elim (eqb k p) as (λ b. eqb k p ≡ b → AllByRecursion Q (cond (not b) (k ∷ filter (λ k. not (eqb k p)) ks) (filter (λ k. not (eqb k p)) ks))) [
+      | true ↦ λ e. each_left P Q p go ks h.1
+      | false ↦ λ e. (go k e h.0, each_left P Q p go ks h.1)
+    ] refl
 
-not_below : (n : ℕ) → ltb n n ≡ true → ⊥
-not_below n h = absurd (let no : ltb n n ≡ false = grind (arith, nat_tests) in let bad : true ≡ false = sym h ∙ no in cc)
+-- Rows at places, by rising key: `it` tells the row of each place, and p is one of the places.
+module _ {X : Type 0} (key : X → ℕ) (it : ℕ → X) (p : ℕ) where
+  -- one below all of them has a lower key, and one above them is none of them
+  lower : (k : ℕ) (ks : List ℕ) → list_all (λ y. ltb (key (it k)) (key y)) (map it ks) ≡ true → is_among p ks ≡ true → ltb (key (it k)) (key (it p)) ≡ true
+  lower k [] h a = absurd cc
+  lower k (j ∷ ks) h a = grind (arith, nat_tests, lower k ks)
 
-front_apart : (slots : List Slot) (p : ℕ) (front back : List ℕ) → rises row_key (rows_at_places slots (front ++ p ∷ back)) ≡ true → AreOther p front
-front_apart slots p [] back h = tt
-front_apart slots p (z ∷ front) back h = (
-  (λ e. not_below (row_in slots p).key (
-      ap (λ n. ltb (row_in slots n).key (row_in slots p).key) (sym e)
-      ∙ all_among (λ y. ltb (row_in slots z).key (row_key y)) slots (front ++ p ∷ back) p (and_first _ _ h) (among_right p front (p ∷ back) (inl refl))
-      )),
-  front_apart slots p front back (and_second _ _ h),
-)
+  not_above : (ks : List ℕ) → list_all (λ y. ltb (key (it p)) (key y)) (map it ks) ≡ true → is_among p ks ≡ false
+  not_above [] h = refl
+  not_above (k ∷ ks) h = grind (arith, nat_tests, not_above ks)
 
-above_apart : (slots : List Slot) (p : ℕ) (ks : List ℕ) → list_all (λ y. ltb (row_in slots p).key (row_key y)) (rows_at_places slots ks) ≡ true → AreOther p ks
-above_apart slots p [] h = tt
-above_apart slots p (k ∷ ks) h = (
-  (λ e. not_below (row_in slots p).key (ap (λ n. ltb (row_in slots p).key (row_in slots n).key) (sym e) ∙ and_first _ _ h)),
-  above_apart slots p ks (and_second _ _ h),
-)
+  -- the row of its key is that at p
+  row_found : (ks : List ℕ) → rises key (map it ks) ≡ true → is_among p ks ≡ true → row_at key (key (it p)) (map it ks) ≡ Some (it p)
+  row_found [] h a = absurd cc
+  row_found (k ∷ ks) h a = grind (arith, nat_tests, lower k ks, row_found ks)
 
-back_apart : (slots : List Slot) (p : ℕ) (front back : List ℕ) → rises row_key (rows_at_places slots (front ++ p ∷ back)) ≡ true → AreOther p back
-back_apart slots p [] back h = above_apart slots p back (and_first _ _ h)
-back_apart slots p (z ∷ front) back h = back_apart slots p front back (and_second _ _ h)
+  -- one is left out
+  left_count : (ks : List ℕ) → rises key (map it ks) ≡ true → is_among p ks ≡ true → length (filter (λ k. not (eqb k p)) ks) + 1 ≡ length ks
+  left_count [] h a = absurd cc
+  left_count (k ∷ ks) h a = grind (arith, nat_tests, not_above ks, others_stay p ks, left_count ks)
 
+  -- the row at p is another now
+  module _ (new : ℕ → X) (x : X) (becomes : (k : ℕ) → new k ≡ cond (eqb k p) x (it k)) where
+    -- the rows of places that p is not among are the same
+    others_as_they_were : (ks : List ℕ) → is_among p ks ≡ false → map new ks ≡ map it ks
+    others_as_they_were [] h = refl
+    others_as_they_were (k ∷ ks) h = grind (arith, nat_tests, becomes k, others_as_they_were ks)
+
+    -- where p is among them, the row is put in the place of the one with its key
+    one_put : (ks : List ℕ) → rises key (map it ks) ≡ true → is_among p ks ≡ true → key x ≡ key (it p) → map new ks ≡ put key x (map it ks)
+    one_put [] h a same = absurd cc
+    one_put (k ∷ ks) h a same = grind (arith, nat_tests, becomes k, not_above ks, others_as_they_were ks, lower k ks, one_put ks)
+
+    -- without p, the row of its key is gone
+    one_left : (ks : List ℕ) → ((k : ℕ) → is_among k ks ≡ true → eqb (key (it k)) (key (it p)) ≡ eqb k p) → map new (filter (λ k. not (eqb k p)) ks) ≡ filter (λ y. not (eqb (key y) (key (it p)))) (map it ks)
+    one_left [] u = refl
+    one_left (k ∷ ks) u =
+        let here : eqb (key (it k)) (key (it p)) ≡ eqb k p = u k (grind (arith, nat_tests)) in
+        grind (arith, nat_tests, becomes k, here, one_left ks (λ j a. u j (grind (arith, nat_tests, a))))
+
+-- two places with one key are the same
+pub apart : {X : Type 0} (key : X → ℕ) (it : ℕ → X) (j k : ℕ) (ks : List ℕ) → rises key (map it ks) ≡ true → is_among j ks ≡ true → is_among k ks ≡ true → eqb (key (it j)) (key (it k)) ≡ eqb j k
+apart key it j k [] h a b = absurd cc
+apart key it j k (z ∷ ks) h a b = grind (arith, nat_tests, lower key it j z ks, lower key it k z ks, apart key it j k ks)
+
+-- the row that stands at a place
 pub row_there : (slots : List Slot) (p : ℕ) (s : Slot) → slice_get slots p ≡ Some s → row_in slots p ≡ slot_row s
 row_there slots p s at = ap (λ o. option_map_or slot_row o no_row) at
 
-other_rows : (slots : List Slot) (p : ℕ) (x : Slot) (ks : List ℕ) → AreOther p ks → rows_at_places (set slots p x) ks ≡ rows_at_places slots ks
-other_rows slots p x [] h = refl
-other_rows slots p x (k ∷ ks) h = (λ i. option_map_or slot_row (get_other slots p x k h.0 i) no_row ∷ other_rows slots p x ks h.1 i)
+-- the row of each place, once another slot stands at one
+pub row_set : (slots : List Slot) (p : ℕ) (s x : Slot) → slice_get slots p ≡ Some s → (k : ℕ) → row_in (set slots p x) k ≡ cond (eqb k p) (slot_row x) (row_in slots k)
+row_set slots p s x at k =
+    rw (get_set slots p s x at k)
+    (elim (eqb k p) as (λ b. option_map_or slot_row (cond b (Some x) (slice_get slots k)) no_row ≡ cond b (slot_row x) (row_in slots k)) [ true ↦ refl | false ↦ refl ])
 
-other_used : (slots : List Slot) (p : ℕ) (x : Slot) (ks : List ℕ) → AreOther p ks → AllByRecursion (IsUsed slots) ks → AllByRecursion (IsUsed (set slots p x)) ks
-other_used slots p x [] h u = tt
-other_used slots p x (k ∷ ks) h u = (record { row = u.0.row; there = get_other slots p x k h.0 ∙ u.0.there }, other_used slots p x ks h.1 u.1)
-
+-- where a row comes, all places with a row have one still
 pub still_used : (slots : List Slot) (p : ℕ) (s : Slot) (r : PlacedRowView) → slice_get slots p ≡ Some s → (k : ℕ) → IsUsed slots k → IsUsed (set slots p (Used r)) k
-still_used slots p s r at k u = by (eqb k p) refl
-  where
-    by : (b : Bool) → eqb k p ≡ b → IsUsed (set slots p (Used r)) k
-    by true e = let same : p ≡ k = grind (arith, nat_tests) in subst (IsUsed (set slots p (Used r))) same (record { row = r; there = get_same slots p s (Used r) at })
-    by false e = record { row = u.row; there = get_other slots p (Used r) k (λ q. absurd (let on : eqb k p ≡ true = grind (arith, nat_tests) in let bad : true ≡ false = sym on ∙ e in cc)) ∙ u.there }
+still_used slots p s r at k u = record {
+  row = cond (eqb k p) r u.row;
+  there = get_set slots p s (Used r) at k ∙ (elim (eqb k p) as (λ b. cond b (Some (Used r)) (slice_get slots k) ≡ Some (Used (cond b r u.row))) [ true ↦ refl | false ↦ u.there ]);
+}
 
 -- ---- What happens at one place
 
-module _ (lines : List LineId) (c : ℕ) (slots : List Slot) (order : List ℕ) (places : ArePlaces lines c slots order) (rising : rises row_key (rows_at_places slots order) ≡ true) (p : ℕ) (r : PlacedRowView) (at : slice_get slots p ≡ Some (Used r)) where
-  here : Around p order
-  here = around p order (places.ordered p r at)
-
-  mid_rises : rises row_key (rows_at_places slots (here.front ++ p ∷ here.back)) ≡ true
-  mid_rises = ap (λ l. rises row_key (rows_at_places slots l)) (sym here.split) ∙ rising
-
-  front_other : AreOther p here.front
-  front_other = front_apart slots p here.front here.back mid_rises
-
-  back_other : AreOther p here.back
-  back_other = back_apart slots p here.front here.back mid_rises
-
-  -- the rows around it
-  rows_mid : rows_at_places slots order ≡ rows_at_places slots here.front ++ r.row ∷ rows_at_places slots here.back
-  rows_mid = ap (rows_at_places slots) here.split ∙ map-append (row_in slots) here.front (p ∷ here.back) ∙ ap (λ q. rows_at_places slots here.front ++ q ∷ rows_at_places slots here.back) (row_there slots p (Used r) at)
-
-  row_rises : rises row_key (rows_at_places slots here.front ++ r.row ∷ rows_at_places slots here.back) ≡ true
-  row_rises = ap (rises row_key) (sym rows_mid) ∙ rising
-
-  -- its row is that of its key
-  pub row_of_place : row_at row_key r.row.key (rows_at_places slots order) ≡ Some r.row
-  row_of_place = ap (row_at row_key r.row.key) rows_mid ∙ row_mid row_key (rows_at_places slots here.front) (rows_at_places slots here.back) r.row row_rises
-
-  -- the row changes, and keeps its line and its key
-  module _ (now : PlacedRowView) (line : now.line ≡ r.line) (capacity : now.capacity ≡ r.capacity) (key : now.row.key ≡ r.row.key) where
-    pub put_rows : rows_at_places (set slots p (Used now)) order ≡ put row_key now.row (rows_at_places slots order)
-    put_rows =
-        ap (rows_at_places (set slots p (Used now))) here.split
-        ∙ map-append (row_in (set slots p (Used now))) here.front (p ∷ here.back)
-        ∙ (λ i. other_rows slots p (Used now) here.front front_other i ++ row_there (set slots p (Used now)) p (Used now) (get_same slots p (Used r) (Used now) at) i ∷ other_rows slots p (Used now) here.back back_other i)
-        ∙ sym (put_mid row_key (rows_at_places slots here.front) (rows_at_places slots here.back) r.row now.row key row_rises)
-        ∙ ap (put row_key now.row) (sym rows_mid)
-
-    pub put_places : ArePlaces lines c (set slots p (Used now)) order
-    put_places = record {
-      lines_are = map_set line_of slots p (Used r) (Used now) at line ∙ places.lines_are;
-      number = length-set slots p (Used now) ∙ places.number;
-      each = each_set (IsLine c) slots p (Used now) places.each (record { here = tt; capacity_is = capacity ∙ (each_get (IsLine c) slots p (Used r) places.each at).capacity_is });
-      used = each_still (IsUsed slots) (IsUsed (set slots p (Used now))) (still_used slots p (Used r) now at) order places.used;
-      ordered = λ k q e. elim (get_set slots p (Used now) k (Used q) e) [ inl h ↦ subst (λ n. IsAmong n order) (sym h.0) (places.ordered p r at) | inr h ↦ places.ordered k q h.1 ];
-      count = omega (arith, places.count, uses_set slots p (Used r) (Used now) at);
-    }
-
-  -- the row goes, and its line is parked
-  module _ (l : LineView) (line : l.line ≡ r.line) (capacity : l.capacity ≡ r.capacity) (order' : List ℕ) (left : order' ≡ filter (λ k. not (eqb k p)) order) where
-    left_is : order' ≡ here.front ++ here.back
-    left_is = left ∙ ap (filter (λ k. not (eqb k p))) here.split ∙ dropped p here.front here.back front_other back_other
-
-    pub left_rows : rows_at_places (set slots p (Parked l)) order' ≡ without (λ (q : DeskRow). q.key == r.row.key) (rows_at_places slots order)
-    left_rows =
-        ap (rows_at_places (set slots p (Parked l))) left_is
-        ∙ map-append (row_in (set slots p (Parked l))) here.front here.back
-        ∙ (λ i. other_rows slots p (Parked l) here.front front_other i ++ other_rows slots p (Parked l) here.back back_other i)
-        ∙ sym (without_mid row_key (rows_at_places slots here.front) (rows_at_places slots here.back) r.row row_rises)
-        ∙ ap (filter (λ (q : DeskRow). not (eqb q.key r.row.key))) (sym rows_mid)
-
-    pub left_places : ArePlaces lines c (set slots p (Parked l)) order'
-    left_places = record {
-      lines_are = map_set line_of slots p (Used r) (Parked l) at line ∙ places.lines_are;
-      number = length-set slots p (Parked l) ∙ places.number;
-      each = each_set (IsLine c) slots p (Parked l) places.each (record { here = tt; capacity_is = capacity ∙ (each_get (IsLine c) slots p (Used r) places.each at).capacity_is });
-      used =
-          let all = subst (AllByRecursion (IsUsed slots)) here.split places.used in
-          let front = other_used slots p (Parked l) here.front front_other (each_left (IsUsed slots) here.front (p ∷ here.back) all) in
-          let back = other_used slots p (Parked l) here.back back_other (each_right (IsUsed slots) here.front (p ∷ here.back) all).1 in
-          subst (AllByRecursion (IsUsed (set slots p (Parked l)))) (sym left_is) (each_append (IsUsed (set slots p (Parked l))) here.front here.back front back);
-      ordered = λ k q e. elim (get_set slots p (Parked l) k (Used q) e) [
-        | inl h ↦ absurd (let bad : ◌≡◌ {A = Slot} (Parked l) (Used q) = h.1 in cc)
-        | inr h ↦ subst (IsAmong k) (sym left_is) (among_other p k here.front here.back h.0 (subst (IsAmong k) here.split (places.ordered k q h.1)))
-      ];
-      count = omega (
-        arith,
-        places.count,
-        uses_set slots p (Used r) (Parked l) at,
-        ap (λ (l : List ℕ). length l) left_is,
-        ap (λ (l : List ℕ). length l) here.split,
-        length-append here.front here.back,
-        length-append here.front (p ∷ here.back),
-      );
-    }
-
--- a parked line gets a row
-module _ (lines : List LineId) (c : ℕ) (slots : List Slot) (order : List ℕ) (places : ArePlaces lines c slots order) (p : ℕ) (l : LineView) (at : slice_get slots p ≡ Some (Parked l)) (now : PlacedRowView)
-    (line : now.line ≡ l.line) (capacity : now.capacity ≡ l.capacity) where
-  not_parked : (ks : List ℕ) → AllByRecursion (IsUsed slots) ks → AreOther p ks
-  not_parked [] u = tt
-  not_parked (k ∷ ks) u = ((λ e. let two : ◌≡◌ {A = Option Slot} (Some (Used u.0.row)) (Some (Parked l)) = sym u.0.there ∙ ap (slice_get slots) e ∙ at in absurd cc), not_parked ks u.1)
-
-  pub begun_rows : rows_at_places (set slots p (Used now)) (order ++ p ∷ []) ≡ rows_at_places slots order ++ now.row ∷ []
-  begun_rows =
-      map-append (row_in (set slots p (Used now))) order (p ∷ [])
-      ∙ (λ i. other_rows slots p (Used now) order (not_parked order places.used) i ++ row_there (set slots p (Used now)) p (Used now) (get_same slots p (Parked l) (Used now) at) i ∷ [])
-
-  pub begun_places : ArePlaces lines c (set slots p (Used now)) (order ++ p ∷ [])
-  begun_places = record {
-    lines_are = map_set line_of slots p (Parked l) (Used now) at line ∙ places.lines_are;
-    number = length-set slots p (Used now) ∙ places.number;
-    each = each_set (IsLine c) slots p (Used now) places.each (record { here = tt; capacity_is = capacity ∙ (each_get (IsLine c) slots p (Parked l) places.each at).capacity_is });
-    used =
-        each_append (IsUsed (set slots p (Used now))) order (p ∷ [])
-        (each_still (IsUsed slots) (IsUsed (set slots p (Used now))) (still_used slots p (Parked l) now at) order places.used)
-        (record { row = now; there = get_same slots p (Parked l) (Used now) at }, tt);
-    ordered = λ k q e. elim (get_set slots p (Used now) k (Used q) e) [
-      | inl h ↦ among_right k order (p ∷ []) (inl (sym h.0))
-      | inr h ↦ among_left k order (p ∷ []) (places.ordered k q h.1)
-    ];
-    count = omega (arith, places.count, uses_set slots p (Parked l) (Used now) at, length-append order (p ∷ []));
+module _ {lines : List LineId} {c : ℕ} {slots : List Slot} {order : List ℕ} (places : ArePlaces lines c slots order) (p : ℕ) where
+  -- another slot with the same line comes to a place
+  set_places : (s x : Slot) (order' : List ℕ) → slice_get slots p ≡ Some s → IsHere x → line_of x ≡ line_of s → capacity_of x ≡ capacity_of s → AllByRecursion (IsUsed (set slots p x)) order'
+      → ((k : ℕ) (q : PlacedRowView) → slice_get (set slots p x) k ≡ Some (Used q) → is_among k order' ≡ true) → length order' + use_of s ≡ length order + use_of x → ArePlaces lines c (set slots p x) order'
+  set_places s x order' at here line capacity used ordered count = record {
+    lines_are = map-set_same line_of slots p x s (line ∙ ap line_of (sym (get_or_from_slice_get slots p s s at))) ∙ places.lines_are;
+    number = length-set slots p x ∙ places.number;
+    each = each_set (IsLine c) slots p x places.each (record { here = here; capacity_is = capacity ∙ (each_get (IsLine c) slots p s places.each at).capacity_is });
+    used = used;
+    ordered = ordered;
+    count = omega (arith, count, places.count, uses_set slots p s x at);
   }
+
+  module _ (rising : rises row_key (rows_at_places slots order) ≡ true) (r : PlacedRowView) (at : slice_get slots p ≡ Some (Used r)) where
+    -- its row is that of its key
+    pub row_of_place : row_at row_key r.row.key (rows_at_places slots order) ≡ Some r.row
+    row_of_place = subst (λ (q : DeskRow). row_at row_key q.key (rows_at_places slots order) ≡ Some q) (row_there slots p (Used r) at) (row_found row_key (row_in slots) p order rising (places.ordered p r at))
+
+    -- the row changes, and keeps its line and its key
+    module _ (now : PlacedRowView) (line : now.line ≡ r.line) (capacity : now.capacity ≡ r.capacity) (key : now.row.key ≡ r.row.key) where
+      pub put_rows : rows_at_places (set slots p (Used now)) order ≡ put row_key now.row (rows_at_places slots order)
+      put_rows =
+          one_put row_key (row_in slots) p (row_in (set slots p (Used now))) now.row (row_set slots p (Used r) (Used now) at) order rising (places.ordered p r at)
+          (key ∙ ap row_key (sym (row_there slots p (Used r) at)))
+
+      pub put_places : ArePlaces lines c (set slots p (Used now)) order
+      put_places =
+          set_places (Used r) (Used now) order at tt line capacity (each_still (IsUsed slots) (IsUsed (set slots p (Used now))) (still_used slots p (Used r) now at) order places.used)
+          (λ k q e. grind (arith, nat_tests, sym (get_set slots p (Used r) (Used now) at k) ∙ e, places.ordered p r at, places.ordered k q)) refl
+
+    -- the row goes, and its line is parked
+    module _ (l : LineView) (line : l.line ≡ r.line) (capacity : l.capacity ≡ r.capacity) (order' : List ℕ) (left : order' ≡ filter (λ k. not (eqb k p)) order) where
+      pub left_rows : rows_at_places (set slots p (Parked l)) order' ≡ without (λ (q : DeskRow). q.key == r.row.key) (rows_at_places slots order)
+      left_rows =
+          ap (rows_at_places (set slots p (Parked l))) left
+          ∙ one_left row_key (row_in slots) p (row_in (set slots p (Parked l))) no_row (row_set slots p (Used r) (Parked l) at) order (λ k a. apart row_key (row_in slots) k p order rising a (places.ordered p r at))
+          ∙ ap (λ (y : DeskRow). without (λ (q : DeskRow). q.key == y.key) (rows_at_places slots order)) (row_there slots p (Used r) at)
+
+      pub left_places : ArePlaces lines c (set slots p (Parked l)) order'
+      left_places =
+          let was = get_set slots p (Used r) (Parked l) at in
+          rw left (set_places (Used r) (Parked l) (filter (λ k. not (eqb k p)) order) at tt line capacity
+          (each_left (IsUsed slots) (IsUsed (set slots p (Parked l))) p (λ k other u. record { row = u.row; there = was k ∙ ap (λ b. cond b (Some (Parked l)) (slice_get slots k)) other ∙ u.there }) order places.used)
+          (λ k q e. grind (arith, nat_tests, sym (was k) ∙ e, places.ordered k q, still_among k p order)) (omega (arith, left_count row_key (row_in slots) p order rising (places.ordered p r at))))
+
+  -- a parked line gets a row
+  module _ (l : LineView) (at : slice_get slots p ≡ Some (Parked l)) (now : PlacedRowView) (line : now.line ≡ l.line) (capacity : now.capacity ≡ l.capacity) where
+    not_parked : (ks : List ℕ) → AllByRecursion (IsUsed slots) ks → is_among p ks ≡ false
+    not_parked [] u = refl
+    not_parked (k ∷ ks) u = grind (arith, nat_tests, u.0.there, at, not_parked ks u.1)
+
+    there_now : slice_get (set slots p (Used now)) p ≡ Some (Used now)
+    there_now = grind (arith, nat_tests, get_set slots p (Parked l) (Used now) at p)
+
+    pub begun_rows : rows_at_places (set slots p (Used now)) (order ++ p ∷ []) ≡ rows_at_places slots order ++ now.row ∷ []
+    begun_rows =
+        map-append (row_in (set slots p (Used now))) order (p ∷ [])
+        ∙ (λ i. others_as_they_were row_key (row_in slots) p (row_in (set slots p (Used now))) now.row (row_set slots p (Parked l) (Used now) at) order (not_parked order places.used) i ++ row_there (set slots p (Used now)) p (Used now) there_now i ∷ [])
+
+    pub begun_places : ArePlaces lines c (set slots p (Used now)) (order ++ p ∷ [])
+    begun_places =
+        set_places (Parked l) (Used now) (order ++ p ∷ []) at tt line capacity
+        (each_last (IsUsed (set slots p (Used now))) order p (each_still (IsUsed slots) (IsUsed (set slots p (Used now))) (still_used slots p (Parked l) now at) order places.used) (record { row = now; there = there_now }))
+        (λ k q e. grind (arith, nat_tests, among_last k p order, sym (get_set slots p (Parked l) (Used now) at k) ∙ e, places.ordered k q)) (omega (arith, length-append order (p ∷ [])))
 
 -- ---- All places
 
@@ -273,6 +206,7 @@ full c (Parked l ∷ slots) h each = absurd (h.0 tt)
 full c (Used r ∷ slots) h each = omega (arith, full c slots h.1 each.1)
 full c (Away ∷ slots) h each = absurd each.0.here
 
+-- where all are parked, none is in use
 none_used : (slots : List Slot) → AllByRecursion IsParked slots → uses slots ≡ 0
 none_used [] h = refl
 none_used (Parked l ∷ slots) h = omega (arith, none_used slots h.1)
@@ -290,47 +224,38 @@ new_places c slots order room h = record {
   count = ap (λ (l : List ℕ). length l) h.empty ∙ sym (none_used slots h.parked);
 }
 
--- after a stop
-ended_get : (slots : List Slot) (k : ℕ) (r : PlacedRowView) → slice_get slots k ≡ Some (Used r) → slice_get (map ended_slot slots) k ≡ Some (Used (ended_row r))
-ended_get [] k r e = absurd cc
-ended_get (s ∷ slots) zero r e = let same : s ≡ Used r = cc in ap (λ x. Some (ended_slot x)) same
-ended_get (s ∷ slots) (suc k) r e = ended_get slots k r e
-
-was_used : (slots : List Slot) (k : ℕ) (r : PlacedRowView) → slice_get (map ended_slot slots) k ≡ Some (Used r) → (q : PlacedRowView) × (slice_get slots k ≡ Some (Used q))
-was_used [] k r e = absurd cc
-was_used (Parked l ∷ slots) zero r e = absurd (let same : ◌≡◌ {A = Slot} (Parked l) (Used r) = cc in cc)
-was_used (Used q ∷ slots) zero r e = (q, refl)
-was_used (Away ∷ slots) zero r e = absurd (let same : ◌≡◌ {A = Slot} Away (Used r) = cc in cc)
-was_used (s ∷ slots) (suc k) r e = was_used slots k r e
+-- after a stop a place has the same line, in use or not
+ended_same : (s : Slot) → (line_of (ended_slot s) ≡ line_of s) × (use_of (ended_slot s) ≡ use_of s) × ((c : ℕ) → IsLine c s → IsLine c (ended_slot s))
+ended_same (Parked l) = (refl, refl, λ c h. h)
+ended_same (Used r) = (refl, refl, λ c h. record { here = tt; capacity_is = h.capacity_is })
+ended_same Away = (refl, refl, λ c h. h)
 
 ended_lines : (slots : List Slot) → map line_of (map ended_slot slots) ≡ map line_of slots
 ended_lines [] = refl
-ended_lines (Parked l ∷ slots) = ap (λ ls. l.line ∷ ls) (ended_lines slots)
-ended_lines (Used r ∷ slots) = ap (λ ls. r.line ∷ ls) (ended_lines slots)
-ended_lines (Away ∷ slots) = ap (λ ls. line_of Away ∷ ls) (ended_lines slots)
+ended_lines (s ∷ slots) = λ i. (ended_same s).0 i ∷ ended_lines slots i
 
 ended_uses : (slots : List Slot) → uses (map ended_slot slots) ≡ uses slots
 ended_uses [] = refl
-ended_uses (s ∷ slots) = (λ i. same s i + ended_uses slots i)
-  where
-    same : (x : Slot) → use_of (ended_slot x) ≡ use_of x
-    same (Parked l) = refl
-    same (Used r) = refl
-    same Away = refl
+ended_uses (s ∷ slots) = λ i. (ended_same s).1 i + ended_uses slots i
 
-ended_each : (c : ℕ) (slots : List Slot) → AllByRecursion (IsLine c) slots → AllByRecursion (IsLine c) (map ended_slot slots)
-ended_each c [] h = tt
-ended_each c (Parked l ∷ slots) h = (record { here = tt; capacity_is = h.0.capacity_is }, ended_each c slots h.1)
-ended_each c (Used r ∷ slots) h = (record { here = tt; capacity_is = h.0.capacity_is }, ended_each c slots h.1)
-ended_each c (Away ∷ slots) h = absurd h.0.here
+-- and the row that was there has ended
+ended_get : (slots : List Slot) (k : ℕ) (r : PlacedRowView) → slice_get slots k ≡ Some (Used r) → slice_get (map ended_slot slots) k ≡ Some (Used (ended_row r))
+ended_get slots k r e = slice_get-map ended_slot slots k ∙ ap (option_map ended_slot) e
 
+was_used : (o : Option Slot) (r : PlacedRowView) → option_map ended_slot o ≡ Some (Used r) → (q : PlacedRowView) × (o ≡ Some (Used q))
+was_used None r e = absurd cc
+was_used (Some (Parked l)) r e = absurd cc
+was_used (Some (Used q)) r e = (q, refl)
+was_used (Some Away) r e = absurd cc
+
+-- so the places stay in order, and each of their rows has ended
 pub ended_places : (lines : List LineId) (c : ℕ) (slots : List Slot) (order : List ℕ) → ArePlaces lines c slots order → ArePlaces lines c (map ended_slot slots) order
 ended_places lines c slots order h = record {
   lines_are = ended_lines slots ∙ h.lines_are;
   number = length-map slots ended_slot ∙ h.number;
-  each = ended_each c slots h.each;
+  each = each_map (IsLine c) (IsLine c) ended_slot (λ s. (ended_same s).2 c) slots h.each;
   used = each_still (IsUsed slots) (IsUsed (map ended_slot slots)) (λ k u. record { row = ended_row u.row; there = ended_get slots k u.row u.there }) order h.used;
-  ordered = λ k r e. let q = was_used slots k r e in h.ordered k q.0 q.1;
+  ordered = λ k r e. let q = was_used (slice_get slots k) r (sym (slice_get-map ended_slot slots k) ∙ e) in h.ordered k q.0 q.1;
   count = h.count ∙ sym (ended_uses slots);
 }
 

@@ -1,7 +1,7 @@
 -- What stands at the places of a desk, and what it is read as. No public clause cites this module.
 -- A word with no source is this project's rule.
-use Rattle.std.specs.Prelude.{◌≡◌, ℕ, ◌+◌, ◌<◌, ◌≤◌, ◌⊎◌, Bool, List, [], ◌∷◌, length, map, set, Some, slice_get}
-use Rattle.std.specs.List.{AllByRecursion}
+use Rattle.std.specs.Prelude.{◌≡◌, ℕ, ◌+◌, ◌<◌, ◌≤◌, ◌==◌, Bool, true, List, [], ◌∷◌, length, map, set, Some, slice_get}
+use Rattle.std.specs.List.{list_any, AllByRecursion}
 use Rattle.std.specs.Option.{option_map_or}
 use Rattle.mt_events.specs.Posts.{PostView}
 use Rattle.mt_events.specs.declared.opening.Scope.{Scope}
@@ -85,9 +85,8 @@ pub record IsUsed (slots : List Slot) (place : ℕ) : Type 0 where
   pub there : slice_get slots place ≡ Some (Used row)
 
 -- a place is one of these
-abbrev pub IsAmong : ℕ → List ℕ → Type 0
-IsAmong place [] = ⊥
-IsAmong place (k ∷ ks) = (k ≡ place) ⊎ IsAmong place ks
+abbrev pub is_among : ℕ → List ℕ → Bool
+is_among place order = list_any (λ k. k == place) order
 
 -- The places of a desk: at each a line of its name, and the order tells the places that are in use.
 pub record ArePlaces (lines : List LineId) (capacity : ℕ) (slots : List Slot) (order : List ℕ) : Type 0 where
@@ -95,7 +94,7 @@ pub record ArePlaces (lines : List LineId) (capacity : ℕ) (slots : List Slot) 
   pub number : length slots ≡ line_count
   pub each : AllByRecursion (IsLine capacity) slots
   pub used : AllByRecursion (IsUsed slots) order
-  pub ordered : (place : ℕ) (r : PlacedRowView) → slice_get slots place ≡ Some (Used r) → IsAmong place order
+  pub ordered : (place : ℕ) (r : PlacedRowView) → slice_get slots place ≡ Some (Used r) → is_among place order ≡ true
   pub count : length order ≡ uses slots
 
 -- what is always true of a desk

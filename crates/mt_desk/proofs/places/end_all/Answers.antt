@@ -1,7 +1,10 @@
-use Rattle.std.proofs.Common.{arith}
-use Rattle.mt_desk.proofs.DueLaws.{ended_next}
+use Rattle.std.proofs.Common.{set, sym, ap, ◌∙◌, arith}
+use Rattle.std.proofs.lemmas.List.Edits.{map_over_more}
+use Rattle.mt_desk.specs.Places.{ended_slot}
 use Rattle.mt_desk.proofs.places.end_all.Goals as goal
 
+-- one row more has ended
 pub slots-preserved : goal.slots-preserved
 slots-preserved c =
-    ended_next c.deref_mut-slot-items.result.now c.slots.slot-items c.slots.slot-index c.slot-item.result c.end.new.self (omega arith) c.slots.invariant c.slot-item.is c.end.ensures
+    ap (set c.slots.slot-items c.slots.slot-index) (c.end.ensures ∙ ap ended_slot (sym c.slot-item.is))
+    ∙ map_over_more ended_slot c.deref_mut-slot-items.result.now c.slots.slot-items c.slots.slot-index c.slot-item.result (omega arith) c.slots.invariant c.slot-item.is
