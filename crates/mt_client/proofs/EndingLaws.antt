@@ -1,29 +1,198 @@
--- Posts that were passed on up to the line that ends them, and what cannot come first where one is refused.
-use Rattle.std.proofs.Common.{◌≡◌, ℕ, ◌+◌, ◌<◌, ◌≤◌, Bool, true, false, List, [], ◌∷◌, ◌++◌, length, refl, sym, ap, subst, ◌∙◌, arith, length-append, codes, Some, None, if◌then◌else◌, inl, inr, ◌⊎◌}
-use Rattle.std.specs.List.{flat_map, AllByRecursion}
-use Rattle.std.specs.Str.{bytes_eq}
-use Rattle.std.proofs.lemmas.Slice.Eq.{bytes_eq-Decides}
+-- Rows, namespaces and posts that were passed on, also up to the line that ends them, what cannot come first where one
+-- is refused, and a refusal in the place of an answer.
+use Rattle.std.proofs.Common.{◌≡◌, ◌≢◌, ℕ, ◌+◌, ◌<◌, ◌^◌, Bool, List, [], ◌∷◌, ◌++◌, length, refl, sym, ap, subst, ◌∙◌, arith, append-nil, length-append, Some, None, true, false, codes, if◌then◌else◌, inl, inr, ◌⊎◌, ◌&&◌, is_some, IsTrue, Result, Ok, Err, OnOk, OnErr}
+use Rattle.std.proofs.lemmas.List.{map-append, length-map}
+use Rattle.std.proofs.lemmas.Grind.{flat_map-append}
+use Rattle.std.specs.List.{flat_map, join_with_byte, AllByRecursion}
 use Rattle.std.proofs.lemmas.Option.{same_Some}
 use Rattle.mt_lines.specs.Words.{words, number_in_text}
 use Rattle.mt_lines.specs.Lines.{Item, Text}
 use Rattle.mt_skel.proofs.MiddleLaws.{each_last}
-use Rattle.mt_client.specs.declared.block.Block.TheVariants.{Post}
+use Rattle.mt_info.specs.Laws.{IsRow}
+use Rattle.mt_info.specs.RowLine.{line}
+use Rattle.mt_events.specs.Posts.{PostView, IsPost, post_text, ended}
 use Rattle.mt_protocol.specs.declared.form.Form.{Form}
+use Rattle.mt_client.specs.declared.block.Block.{Block}
+use Rattle.mt_client.specs.declared.block.Block.TheVariants.{Namespace, Post}
+use Rattle.mt_client.specs.declared.opening.Heading.{Heading}
+use Rattle.mt_client.specs.Requests.{verdict, lines_behind, event_count, refuses, is_refusal}
+use Rattle.mt_client.specs.Reading.{texts, printed, HasRead, NoneFirst, AreSoMany, HasPassed, IsSentPart}
+use Rattle.mt_client.specs.Mirroring.{heading_words, HasRefused}
+use Rattle.mt_client.specs.Awaited.{IsRowLine, AreRowLines, IsPostBehind}
+use Rattle.mt_client.specs.Replies.{IsPartLines, IsPostLines, IsBlock, IsBlockOf, AreBlocks, AreBlockLines, AreBehind, IsHeaded, most_posts, IsEnding, IsFollowAnswer, IsAnswer}
+use Rattle.mt_client.proofs.FollowLaws.{post_counted, printed_post, HasReadMore}
+use Rattle.mt_client.proofs.OpeningLaws.{first_taken, needs_line, heading_tells, rows_cut}
+use Rattle.mt_client.proofs.SeriesLaws.{Series, IsSeries, Came, came_cut, in_lines, are_in_lines, groups}
+use Rattle.mt_client.proofs.RelayLaws.{sent_whole, lines_alike}
+use Rattle.std.specs.Str.{bytes_eq}
+use Rattle.std.proofs.lemmas.Slice.Eq.{bytes_eq-Decides}
 use Rattle.mt_protocol.specs.declared.form.Form.TheVariants.{Done, Number, Place, Table, Opening, Posts, Followed, Never}
 use Rattle.mt_protocol.specs.Verbs.{first_of}
-use Rattle.mt_client.specs.Requests.{verdict, event_count}
-use Rattle.mt_client.specs.Reading.{HasRead, NoneFirst, AreSoMany}
-use Rattle.mt_client.specs.Replies.{IsPostLines, IsBlockOf, most_posts, IsEnding, IsHeaded, IsFollowAnswer, IsAnswer}
-use Rattle.mt_client.proofs.SeriesLaws.{Series, IsSeries, Came, came_more, came_cut, groups}
-use Rattle.mt_client.proofs.OpeningLaws.{first_taken, needs_line}
-use Rattle.mt_client.proofs.ReplyLaws.{posts_alike, post_some, group_only, flat_more}
+use Rattle.mt_protocol.specs.Refusals.{refusal_named}
+use Rattle.mt_lines.specs.declared.stream.Cut.{Cut}
+use Rattle.mt_lines.specs.declared.stream.Output.{Ghosts as OutputGhosts}
+use Rattle.mt_client.specs.Calls.{IsOut, IsOutInPart}
+
+-- rows
+pub no_rows : AreRowLines 0 []
+no_rows = record { rows = []; valid = tt; many = refl; all = refl }
+
+pub rows_join : (n : ℕ) (ls ms : List (List ℕ)) → AreRowLines n ls → IsRowLine ms → AreRowLines (n + 1) (ls ++ ms)
+rows_join n ls ms a r =
+    let l = length-append a.rows (r.0 ∷ []) in
+    let m = a.many in
+    record {
+      rows = a.rows ++ r.0 ∷ [];
+      valid = each_last IsRow a.rows r.0 a.valid r.1;
+      many = omega (arith, l, m);
+      all = (λ i. a.all i ++ r.2 i) ∙ sym (map-append line a.rows (r.0 ∷ []));
+    }
+
+pub rows_ended : (n count : ℕ) (before middle : List Item) → HasRead (AreRowLines n) before middle → n < count → NoneFirst IsRowLine middle → NoneFirst (AreRowLines count) before
+rows_ended n count before middle h lt none = rows_cut n count h.1.rows before middle (h.2 ∙ ap (λ ls. texts ls ++ middle) h.1.all) h.1.many lt h.1.valid none
+
+rows_many : (n : ℕ) (ls : List (List ℕ)) → AreRowLines n ls → length ls ≡ n
+rows_many n ls a = ap length a.all ∙ length-map a.rows line ∙ a.many
+
+-- namespaces
+pub part_made : (h : Heading) (seen : List ℕ) (rows : List (List ℕ)) → seen ≡ join_with_byte 32 (heading_words h.space h.number h.count) → (h.space < 2 ^ 64) × (h.number < 2 ^ 64) × (h.count < 2 ^ 64) → AreRowLines h.count rows → IsBlockOf Namespace h.count (seen ∷ rows)
+part_made h seen rows is small valid =
+    let m = rows_many h.count rows valid in (
+      record { space = h.space; number = h.number; count = h.count; rows = rows; small = small; all = ap (λ l. l ∷ rows) is; valid = valid },
+      omega (arith, m),
+    )
+
+pub part_joined : (h : Heading) (seen : List ℕ) → seen ≡ join_with_byte 32 (heading_words h.space h.number h.count) → (h.space < 2 ^ 64) × (h.number < 2 ^ 64) × (h.count < 2 ^ 64) → (ls ms : List (List ℕ)) → ls ≡ seen ∷ [] → AreRowLines h.count ms → IsBlockOf Namespace h.count (ls ++ ms)
+part_joined h seen is small ls ms one valid = subst (λ x. IsBlockOf Namespace h.count (x ++ ms)) (sym one) (part_made h seen ms is small valid)
+
+pub part_needs_heading : (seen : List ℕ) (middle : List Item) → ((space number count : ℕ) → space < 2 ^ 64 → number < 2 ^ 64 → count < 2 ^ 64 → seen ≢ join_with_byte 32 (heading_words space number count)) → NoneFirst IsPartLines (Text seen ∷ middle)
+part_needs_heading seen middle none lines later k e = none k.space k.number k.count k.small.0 k.small.1 k.small.2 (sym (first_taken later refl k.all e).0)
+
+pub part_needs_rows : (h : Heading) (seen : List ℕ) (middle : List Item) → seen ≡ join_with_byte 32 (heading_words h.space h.number h.count) → (h.space < 2 ^ 64) × (h.number < 2 ^ 64) × (h.count < 2 ^ 64) → NoneFirst (AreRowLines h.count) middle
+    → NoneFirst IsPartLines (Text seen ∷ middle)
+part_needs_rows h seen middle is small none lines later k e =
+    let t = first_taken later refl k.all e in
+    let w = heading_tells k.space k.number k.count h.space h.number h.count k.small.0 k.small.1 k.small.2 small.0 small.1 small.2 (t.0 ∙ is) in
+    none k.rows later (subst (λ n. AreRowLines n k.rows) w.2 k.valid) t.1
+
+-- posts
+pub post_made : (n : ℕ) (seen : List ℕ) (others : List (List ℕ)) (text begun : List ℕ) → Some n ≡ event_count (words seen) → length others ≡ n → begun ≡ [] ++ ended seen → text ≡ begun ++ printed others → ((post : PostView) × IsPost post × (text ≡ post_text post))
+    → IsBlockOf Post n (seen ∷ others) × (text ≡ printed (seen ∷ others))
+post_made n seen others text begun counts many began is post =
+    let whole : text ≡ printed (seen ∷ others) = is ∙ ap (λ x. x ++ printed others) began in (
+      (record { first = seen; others = others; post = post.0; all = refl; counted = sym counts ∙ ap Some (sym many); valid = post.1; text = sym whole ∙ post.2 }, omega (arith, many)),
+      whole,
+    )
+
+pub post_needs_count : (seen : List ℕ) (middle : List Item) → None ≡ event_count (words seen) → NoneFirst IsPostLines (Text seen ∷ middle)
+post_needs_count seen middle none lines later k e =
+    let t = first_taken later refl k.all e in
+    let no : None ≡ Some (length k.others) = none ∙ ap (λ l. event_count (words l)) (sym t.0) ∙ k.counted in
+    cc
+
+post_many : (n : ℕ) (seen : List ℕ) (middle later : List Item) (lines : List (List ℕ)) → Some n ≡ event_count (words seen) → (k : IsPostLines lines) → Text seen ∷ middle ≡ texts lines ++ later → length k.others ≡ n
+post_many n seen middle later lines counts k e =
+    let t = first_taken later refl k.all e in
+    sym (same_Some n (length k.others) (counts ∙ ap (λ l. event_count (words l)) (sym t.0) ∙ k.counted))
+
+pub post_needs_lines : (n : ℕ) (seen : List ℕ) (middle : List Item) → Some n ≡ event_count (words seen) → NoneFirst (AreSoMany n) middle → NoneFirst IsPostLines (Text seen ∷ middle)
+post_needs_lines n seen middle counts none lines later k e = none k.others later (post_many n seen middle later lines counts k e) (first_taken later refl k.all e).1
+
+pub post_needs_text : (n : ℕ) (seen : List ℕ) (middle after : List Item) (text begun : List ℕ) → Some n ≡ event_count (words seen) → begun ≡ [] ++ ended seen
+    → HasReadMore n middle after begun text → ((post : PostView) → IsPost post → text ≢ post_text post) → NoneFirst IsPostLines (Text seen ∷ middle)
+post_needs_text n seen middle after text begun counts began read none lines later k e =
+    let t = first_taken later refl k.all e in
+    let a = lines_alike read.0 k.others after later (read.1 ∙ sym (post_many n seen middle later lines counts k e)) (sym read.2 ∙ t.1) in
+    let front : begun ++ printed read.0 ≡ printed (k.first ∷ k.others) = (λ i. began i ++ printed (a.0 i)) ∙ ap (λ l. printed (l ∷ k.others)) (sym t.0) in
+    none k.post k.valid (read.3 ∙ front ∙ ap printed (sym k.all) ∙ k.text)
+
+-- no post comes behind its first line, where no lines of one come with it
+pub post_behind : (seen : List ℕ) (middle : List Item) → NoneFirst IsPostLines (Text seen ∷ middle) → NoneFirst (IsPostBehind seen) middle
+post_behind seen middle none lines later k e =
+    none (seen ∷ lines) later (record { first = seen; others = lines; post = k.0; all = refl; counted = post_counted seen lines k.0 k.1 k.2; valid = k.1; text = printed_post (seen ∷ lines) k.0 k.2 }) (ap (λ x. Text seen ∷ x) e)
+
+-- two blocks that come first have as many lines
+abbrev pub Alike : (List (List ℕ) → Type 0) → Type 0
+Alike kind = (g h : List (List ℕ)) (middle later : List Item) → kind g → kind h → texts g ++ middle ≡ texts h ++ later → length g ≡ length h
+
+-- the group of lines that comes first is the one that was read
+pub group_only : {kind : List (List ℕ) → Type 0} → Alike kind → (xs : List (List ℕ)) (middle after : List Item) → kind xs → middle ≡ texts xs ++ after → (g : List (List ℕ)) (later : List Item) → kind g → middle ≡ texts g ++ later → (length g ≡ length xs) × (after ≡ later)
+group_only alike xs middle after is read g later other e =
+    let both : texts xs ++ after ≡ texts g ++ later = sym read ∙ e in
+    let many = alike xs g after later is other both in
+    (sym many, (lines_alike xs g after later many both).1)
+
+parts_alike : Alike IsPartLines
+parts_alike g h middle later p q e =
+    let t = first_taken later refl q.all (sym (ap (λ ls. texts ls ++ middle) p.all) ∙ e) in
+    let w = heading_tells q.space q.number q.count p.space p.number p.count q.small.0 q.small.1 q.small.2 p.small.0 p.small.1 p.small.2 t.0 in
+    let first = ap length p.all in
+    let second = ap length q.all in
+    let same = rows_many p.count p.rows p.valid ∙ sym w.2 ∙ sym (rows_many q.count q.rows q.valid) in
+    omega (arith, first, second, same)
+
+pub posts_alike : Alike IsPostLines
+posts_alike g h middle later p q e =
+    let m = post_many (length p.others) p.first (texts p.others ++ middle) later h (sym p.counted) q (sym (ap (λ ls. texts ls ++ middle) p.all) ∙ e) in
+    let first = ap length p.all in
+    let second = ap length q.all in
+    omega (arith, first, second, m)
+
+pub blocks_alike : (block : Block) → Alike (IsBlock block)
+blocks_alike Namespace = parts_alike
+blocks_alike Post = posts_alike
+
+pub block_read : {T : Type 0} (block read : Block) (before middle : List Item) → read ≡ block → (T → before ≡ middle) → T → NoneFirst (IsBlock read) middle → NoneFirst (IsBlock block) before
+block_read block read before middle is came t none = subst (λ b. NoneFirst (IsBlock b) before) is (subst (NoneFirst (IsBlock read)) (sym (came t)) none)
+
+pub block_needs_line : (block : Block) (before : List Item) → NoneFirst (AreSoMany 1) before → NoneFirst (IsBlock block) before
+block_needs_line Namespace before none = needs_line (λ _ k. (_, _, k.all)) none
+block_needs_line Post before none = needs_line (λ _ k. (_, _, k.all)) none
+
+-- blocks, and one more
+pub flat_more : (ls ms : List (List ℕ)) (blocks : List (List (List ℕ))) → ls ≡ flat_map (λ block. block) blocks → ls ++ ms ≡ flat_map (λ block. block) (blocks ++ ms ∷ [])
+flat_more ls ms blocks e = ap (λ x. x ++ ms) e ∙ ap (λ x. flat_map (λ block. block) blocks ++ x) (sym (append-nil ms)) ∙ sym (flat_map-append (λ block. block) blocks (ms ∷ []))
+
+abbrev pub AreSoFar : Block → ℕ → ℕ → List (List ℕ) → Type 0
+AreSoFar block count left lines = AreBlocks (IsBlock block) lines × (length lines + left ≡ count)
+
+pub blocks_join : (block : Block) (count left rest behind : ℕ) → left ≡ 1 + (behind + rest) → (ls ms : List (List ℕ)) → AreSoFar block count left ls → IsBlockOf block behind ms → AreSoFar block count rest (ls ++ ms)
+blocks_join block count left rest behind is ls ms a g =
+    let l = length-append ls ms in
+    let m = g.1 in
+    let n = a.1 in (
+      record { blocks = a.0.blocks ++ ms ∷ []; each = each_last (IsBlock block) a.0.blocks ms a.0.each g.0; all = flat_more ls ms a.0.blocks a.0.all },
+      omega (arith, l, m, n, is),
+    )
+
+-- blocks, counted by their lines
+abbrev pub blocks_of : Block → Series
+blocks_of block = groups (IsBlock block) (λ n ls. ls ≡ [])
+
+pub are_blocks : (block : Block) (count : ℕ) (lines : List (List ℕ)) → AreBlockLines block count lines → IsSeries (in_lines (blocks_of block)) (count, tt) lines
+are_blocks block count lines a = are_in_lines (blocks_of block) count tt a.0.blocks lines a.0.each a.1 a.0.all
+
+-- the block that comes first is the one that was read
+pub one_block : (block : Block) (behind : ℕ) (middle after : List Item) → HasRead (IsBlockOf block behind) middle after → (g : List (List ℕ)) (later : List Item) → IsBlock block g → middle ≡ texts g ++ later → (length g ≡ 1 + behind) × ◌≡◌ {A = Unit {0}} tt tt × (after ≡ later)
+one_block block behind middle after h g later is e =
+    let o = group_only (blocks_alike block) h.0 middle after h.1.0 h.2 g later is e in
+    (o.0 ∙ h.1.1, refl, o.1)
+
+-- the lines of an answer that is known by its first line
+pub headed_whole : (form : Form) (told : Bool) (count : ℕ) (seen : List ℕ) → Some told ≡ verdict seen → Some count ≡ lines_behind form told seen → (ls ms : List (List ℕ)) → ls ≡ seen ∷ [] → AreBehind form count ms → IsHeaded form (ls ++ ms) told
+headed_whole form told count seen v n ls ms one behind = record { first = seen; others = ms; count = count; all = ap (λ x. x ++ ms) one; tells = sym v; counted = sym n; behind = behind }
+
+pub headed_needs_behind : (form : Form) (told : Bool) (count : ℕ) (seen : List ℕ) (before middle : List Item) → before ≡ Text seen ∷ middle → Some told ≡ verdict seen → Some count ≡ lines_behind form told seen → NoneFirst (AreBehind form count) middle
+    → NoneFirst (λ all. (told : Bool) × IsHeaded form all told) before
+headed_needs_behind form told count seen before middle there tells counts none lines later k e =
+    let t = first_taken later there k.1.all e in
+    let told_is : told ≡ k.0 = same_Some told k.0 (tells ∙ ap verdict (sym t.0) ∙ k.1.tells) in
+    let same = same_Some count k.1.count (counts ∙ (λ i. lines_behind form (told_is i) (sym t.0 i)) ∙ k.1.counted) in
+    none k.1.others later (subst (λ n. AreBehind form n k.1.others) (sym same) k.1.behind) t.1
 
 -- so many posts
 abbrev pub ArePosts : ℕ → List (List ℕ) → Type 0
 ArePosts taken lines = (posts : List (List (List ℕ))) × (length posts ≡ taken) × AllByRecursion IsPostLines posts × (lines ≡ flat_map (λ post. post) posts)
-
-pub no_posts : ArePosts 0 []
-no_posts = ([], refl, tt, refl)
 
 pub posts_join : (taken behind : ℕ) (ls ms : List (List ℕ)) → ArePosts taken ls → IsBlockOf Post behind ms → ArePosts (taken + 1) (ls ++ ms)
 posts_join taken behind ls ms a g =
@@ -54,9 +223,6 @@ silent_words (a ∷ b ∷ d ∷ f ∷ rest) n e = go (bytes_eq a (codes "event")
     go true is e = let same : a ≡ codes "event" = (bytes_eq-Decides a (codes "event")).0 is in rw same refl
     go false is e = cc
 
-silent : (post : List (List ℕ)) (k : IsPostLines post) → verdict k.first ≡ None
-silent post k = silent_words (words k.first) (length k.others) k.counted
-
 -- posts up to the line that ends so many of them
 abbrev pub answer_posts : Series
 answer_posts = groups IsPostLines (λ n ls. (last : List ℕ) × (ls ≡ last ∷ []) × (told : Bool) × (verdict last ≡ Some told) × IsEnding told n last × (n < most_posts))
@@ -64,46 +230,31 @@ answer_posts = groups IsPostLines (λ n ls. (last : List ℕ) × (ls ≡ last �
 abbrev pub Whole : List (List ℕ) → Type 0
 Whole lines = (told : Bool) × IsFollowAnswer lines told
 
-whole_posts : (lines : List (List ℕ)) → Whole lines → IsSeries answer_posts tt lines
+pub whole_posts : (lines : List (List ℕ)) → Whole lines → IsSeries answer_posts tt lines
 whole_posts lines f = record { items = f.1.posts; last = f.1.last ∷ []; due = f.1.each; ends = (f.1.last, refl, f.0, f.1.tells, f.1.ends, f.1.bounded); all = f.1.all }
 
 -- a line that tells something begins no post, and one that tells nothing ends none
 no_post_begins : (told : Bool) (seen : List ℕ) (middle rest : List Item) → middle ≡ Text seen ∷ rest → Some told ≡ verdict seen → NoneFirst IsPostLines middle
 no_post_begins told seen middle rest there tells lines later k e =
-    let t = first_taken seen k.first lines k.others middle rest later there k.all e in
-    let not : Some told ≡ None = tells ∙ ap verdict (sym t.0) ∙ silent lines k in
+    let t = first_taken later there k.all e in
+    let not : Some told ≡ None = tells ∙ ap verdict (sym t.0) ∙ silent_words (words k.first) (length k.others) k.counted in
     cc
 
-no_end_comes : (taken : ℕ) (seen : List ℕ) (middle rest : List Item) → middle ≡ Text seen ∷ rest → None ≡ verdict seen → NoneFirst (λ ls. answer_posts.AreDue tt [] × answer_posts.Ends taken tt ls) middle
+pub no_end_comes : (taken : ℕ) (seen : List ℕ) (middle rest : List Item) → middle ≡ Text seen ∷ rest → None ≡ verdict seen → NoneFirst (λ ls. answer_posts.AreDue tt [] × answer_posts.Ends taken tt ls) middle
 no_end_comes taken seen middle rest there tells lines later h e =
-    let t = first_taken seen h.1.0 lines [] middle rest later there h.1.1 e in
+    let t = first_taken later there h.1.1 e in
     let not : None ≡ Some h.1.2 = tells ∙ ap verdict (sym t.0) ∙ h.1.3 in
     cc
 
--- no answer came first where no line comes, where a line is no end of so many posts, or no post comes, and where too many did
-pub answer_cut : (taken : ℕ) (before middle : List Item) → Came answer_posts taken tt tt before middle → NoneFirst (AreSoMany 1) middle → NoneFirst Whole before
-answer_cut taken before middle came none = came_cut answer_posts taken tt tt before middle whole_posts came (λ ls later h. none ls later (ap length h.1.1)) (λ g rest n made last is more ends. needs_line middle post_some none g rest is)
-
+-- no answer came first where a line is no end of so many posts
 pub answer_ending : (taken : ℕ) (told : Bool) (seen : List ℕ) (before middle rest : List Item) → Came answer_posts taken tt tt before middle → middle ≡ Text seen ∷ rest → Some told ≡ verdict seen → (IsEnding told taken seen → ⊥) → NoneFirst Whole before
 answer_ending taken told seen before middle rest came there tells not =
     came_cut answer_posts taken tt tt before middle whole_posts came
     (λ ls later h e.
-    let t = first_taken seen h.1.0 ls [] middle rest later there h.1.1 e in
+    let t = first_taken later there h.1.1 e in
     let alike : told ≡ h.1.2 = same_Some told h.1.2 (tells ∙ ap verdict (sym t.0) ∙ h.1.3) in
     not (subst (λ b. IsEnding b taken seen) (sym alike) (subst (λ l. IsEnding h.1.2 taken l) t.0 h.1.4)))
     (λ g later n made last is more ends. no_post_begins told seen middle rest there tells g later is)
-
-pub answer_post : (taken : ℕ) (seen : List ℕ) (before middle rest : List Item) → Came answer_posts taken tt tt before middle → middle ≡ Text seen ∷ rest → None ≡ verdict seen → NoneFirst IsPostLines middle → NoneFirst Whole before
-answer_post taken seen before middle rest came there tells none = came_cut answer_posts taken tt tt before middle whole_posts came (no_end_comes taken seen middle rest there tells) (λ g later n made last is more ends. none g later is)
-
-pub answer_over : (taken : ℕ) (before middle : List Item) → Came answer_posts taken tt tt before middle → most_posts ≤ taken → NoneFirst Whole before
-answer_over taken before middle came over =
-    came_cut answer_posts taken tt tt before middle whole_posts came (λ ls later h e. let few = h.1.5 in omega (arith, few, over)) (λ g rest n made last is more ends e. let few = ends.5 in omega (arith, few, more, over))
-
--- one more post was read
-pub answer_more : (taken behind : ℕ) (seen : List ℕ) (before middle rest after : List Item) → Came answer_posts taken tt tt before middle → middle ≡ Text seen ∷ rest → None ≡ verdict seen → HasRead (IsBlockOf Post behind) middle after → Came answer_posts (taken + 1) tt tt before after
-answer_more taken behind seen before middle rest after came there tells h =
-    came_more answer_posts taken tt tt tt before middle after came (no_end_comes taken seen middle rest there tells) (λ g later is e. (refl, (group_only posts_alike h.0 middle after h.1.0 h.2 g later is e).1))
 
 -- every answer but that of posts that are followed is known by its first line
 pub heads : (form : Form) → ((form ≡ Done) ⊎ ((form ≡ Number) ⊎ ((form ≡ Place) ⊎ ((form ≡ Table) ⊎ ((form ≡ Opening) ⊎ ((form ≡ Posts) ⊎ (form ≡ Never))))))) → ◌≡◌ {A = List (List ℕ) → Bool → Type 0} (IsHeaded form) (IsAnswer form)
@@ -115,11 +266,40 @@ heads form (inr (inr (inr (inr (inl e))))) = rw e refl
 heads form (inr (inr (inr (inr (inr (inl e)))))) = rw e refl
 heads form (inr (inr (inr (inr (inr (inr e)))))) = rw e refl
 
-pub headed_is : (form : Form) (told : Bool) → ◌≡◌ {A = List (List ℕ) → Bool → Type 0} (IsHeaded form) (IsAnswer form) → (lines : List (List ℕ)) → IsHeaded form lines told → IsAnswer form lines told
-headed_is form told same lines h = subst (λ K. K lines told) same h
+-- a line that refuses tells `no`
+no_tells : (first : List ℕ) (held named : Bool) → bytes_eq first (codes "no") ≡ held → (held && named) ≡ true
+    → (if bytes_eq first (codes "ok") then Some true else (if bytes_eq first (codes "no") then Some false else None)) ≡ Some false
+no_tells first true named is e = let same : first ≡ codes "no" = (bytes_eq-Decides first (codes "no")).0 is in rw same refl
+no_tells first false named is e = cc
 
-pub headed_none : (form : Form) → ◌≡◌ {A = List (List ℕ) → Bool → Type 0} (IsHeaded form) (IsAnswer form) → (before : List Item) → NoneFirst (λ ls. (told : Bool) × IsHeaded form ls told) before → NoneFirst (λ ls. (told : Bool) × IsAnswer form ls told) before
-headed_none form same before none = subst (λ K. NoneFirst (λ ls. (told : Bool) × K ls told) before) same none
+words_tell : (ws : List (List ℕ)) → refuses ws ≡ true → (if bytes_eq (first_of ws) (codes "ok") then Some true else (if bytes_eq (first_of ws) (codes "no") then Some false else None)) ≡ Some false
+words_tell [] e = cc
+words_tell (a ∷ []) e = cc
+words_tell (a ∷ b ∷ []) e = no_tells a (bytes_eq a (codes "no")) (is_some (refusal_named b)) refl e
+words_tell (a ∷ b ∷ d ∷ rest) e = cc
 
-pub followed_none : (form : Form) → form ≡ Followed → (before : List Item) → NoneFirst (λ ls. (told : Bool) × IsFollowAnswer ls told) before → NoneFirst (λ ls. (told : Bool) × IsAnswer form ls told) before
-followed_none form is before none = subst (λ k. NoneFirst (λ ls. (told : Bool) × IsAnswer k ls told) before) (sym is) none
+refusal_tells : (line : List ℕ) → is_refusal line ≡ true → verdict line ≡ Some false
+refusal_tells line e = words_tell (words line) e
+
+-- a refusal is a whole answer to each request
+headed_refusal : (form : Form) (line : List ℕ) → AreBehind form 0 [] → is_refusal line ≡ true → IsHeaded form (line ∷ []) false
+headed_refusal form line behind e = record { first = line; others = []; count = 0; all = refl; tells = refusal_tells line e; counted = rw e refl; behind = behind }
+
+refusal_answers : (form : Form) (line : List ℕ) → is_refusal line ≡ true → IsAnswer form (line ∷ []) false
+refusal_answers Done line e = headed_refusal Done line (refl, refl) e
+refusal_answers Number line e = headed_refusal Number line (refl, refl) e
+refusal_answers Place line e = headed_refusal Place line (refl, refl) e
+refusal_answers Table line e = headed_refusal Table line no_rows e
+refusal_answers Opening line e = headed_refusal Opening line (record { blocks = []; each = tt; all = refl }, refl) e
+refusal_answers Posts line e = headed_refusal Posts line (record { blocks = []; each = tt; all = refl }, refl) e
+refusal_answers Followed line e = record { posts = []; last = line; each = tt; all = refl; tells = refusal_tells line e; ends = e; bounded = omega arith }
+refusal_answers Never line e = headed_refusal Never line (refl, refl) e
+
+pub refused_passed : (form : Form) (refusal : List ℕ) (before after : List Item) (old new : List ℕ) → HasRefused refusal before after → new ≡ old ++ ended refusal
+    → HasPassed (λ all. IsAnswer form all false) before after old new
+refused_passed form refusal before after old new refused e = (refusal ∷ [], refusal_answers form refusal refused.is, record { read = refused.read; out = e ∙ ap (λ x. old ++ x) (sym (append-nil (ended refusal))) })
+
+-- what of a text went out, all of it or not
+pub part_sent : {W : Type 0} (w : OutputGhosts W) (text : List ℕ) (old new : W) (r : Result (Unit {0}) Cut) → IsTrue w.tells → OnOk r (IsOut w text old new) → OnErr r (IsOutInPart w text old new) → IsSentPart text (w.written old) (w.written new)
+part_sent w text old new (Ok u) t sent cut = sent_whole text (w.written old) (w.written new) (sent.went t)
+part_sent w text old new (Err f) t sent cut = let k = cut.cut t in record { count = k.count; out = k.out }

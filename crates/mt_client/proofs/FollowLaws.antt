@@ -1,25 +1,86 @@
--- What cannot come first where a post or the end of posts is refused, and what was read of posts.
-use Rattle.std.proofs.Common.{◌≡◌, ℕ, ◌+◌, Bool, false, List, [], ◌∷◌, ◌++◌, map, length, refl, sym, ap, subst, ◌∙◌, arith, length-append, codes, decimal, Some, inl, inr, Result, Ok, Err, IfOk}
+-- What a mirror has read of posts, the texts that the lines are, and what cannot come first where a post is refused.
+use Rattle.std.proofs.Common.{◌≡◌, ◌≢◌, ℕ, ◌+◌, IfOk, Result, Ok, Err, Bool, true, false, List, [], ◌∷◌, ◌++◌, map, length, refl, sym, ap, subst, ◌∙◌, arith, length-append, codes, decimal, Some, inl, inr}
+use Rattle.std.proofs.lemmas.List.{append-nil, length-map}
+use Rattle.std.proofs.lemmas.Grind.{flat_map-append, fold-append}
 use Rattle.std.specs.List.{join_with_byte}
-use Rattle.std.proofs.lemmas.List.{length-map}
-use Rattle.std.proofs.lemmas.Bool.{false≢true}
-use Rattle.std.proofs.lemmas.Option.{same_Some}
 use Rattle.mt_lines.specs.Words.{words}
-use Rattle.mt_lines.proofs.NumberLaws.{number_decimal}
 use Rattle.mt_lines.proofs.PieceLaws.{pieces_joined}
 use Rattle.mt_lines.specs.Lines.{Item, Text}
-use Rattle.mt_events.specs.Posts.{PostView, IsPost, event_words, gone_line, row_line, post_lines, post_text, ended}
-use Rattle.mt_events.specs.Mirrors.{MirrorView}
-use Rattle.mt_events.proofs.PostLaws.{text_tells, event_lacks}
+use Rattle.mt_skel.proofs.MiddleLaws.{and-true, each_last}
+use Rattle.mt_events.specs.Posts.{PostView, IsPost, post_text, ended, event_words, gone_line, row_line, post_lines}
+use Rattle.mt_events.specs.Mirrors.{MirrorView, is_next, are_next, mirrored}
+use Rattle.mt_events.specs.Texts.{count_text}
 use Rattle.mt_client.specs.Reading.{texts, printed, NoneFirst}
-use Rattle.mt_client.specs.Mirroring.{counted_line, opening_lines, HasOpened, IsPosted}
+use Rattle.mt_client.specs.Mirroring.{counted_line, opening_lines, HasOpened, IsPosted, HasFollowed, HasFollowedSome, HasFollowedAll, HasMirrored}
+use Rattle.mt_client.proofs.OpeningLaws.{first_taken, unrefused_or, opening_is, opened_alike}
+use Rattle.mt_client.proofs.SeriesLaws.{IsSeries, following, are_both, up_to}
+use Rattle.mt_client.proofs.RelayLaws.{texts_split, printed-append, runs_read, lines_alike}
+use Rattle.std.proofs.lemmas.Bool.{false≢true}
+use Rattle.std.proofs.lemmas.Option.{same_Some}
+use Rattle.mt_lines.proofs.NumberLaws.{number_decimal}
+use Rattle.mt_events.proofs.PostLaws.{text_tells, event_lacks}
 use Rattle.mt_client.specs.Awaited.{IsOneRefusal, IsRefusedOr, IsOpening, IsSuchPost, IsPostBehind, IsOnlyPost, IsOnlyApplied, IsFollowing, IsMirroring}
 use Rattle.mt_client.specs.Requests.{event_count}
-use Rattle.mt_client.proofs.SeriesLaws.{IsSeries, following, up_to}
-use Rattle.mt_client.proofs.RelayLaws.{texts_split, lines_alike}
-use Rattle.mt_client.proofs.OpeningLaws.{first_taken, unrefused_or}
-use Rattle.mt_client.proofs.FoundLaws.{opened_alike}
 
+-- posts one after another
+pub none_followed : (before : List Item) (mirror : MirrorView) → HasFollowedSome 0 before before mirror mirror
+none_followed before mirror = record { lines = []; posts = []; valid = tt; read = refl; text = refl; many = refl; follows = record { are = refl; make = refl } }
+
+pub followed_more : (n : ℕ) (before middle after : List Item) (old between new : MirrorView) → HasFollowedSome n before middle old between → HasFollowed middle after between new → HasFollowedSome (n + 1) before after old new
+followed_more n before middle after old between new f h =
+    let l = length-append f.posts (h.post ∷ []) in
+    record {
+      lines = f.lines ++ h.lines;
+      posts = f.posts ++ h.post ∷ [];
+      valid = each_last IsPost f.posts h.post f.valid h.valid;
+      read = runs_read f.lines h.lines after f.read h.read;
+      text =
+          printed-append f.lines h.lines ∙ (λ k. f.text k ++ (h.text ∙ sym (append-nil (post_text h.post))) k)
+          ∙ sym (flat_map-append post_text f.posts (h.post ∷ []));
+      many = let m = f.many in omega (arith, l, m);
+      follows = record {
+        are = are_both following f.posts (h.post ∷ []) old f.follows.are (subst (λ m. are_next m (h.post ∷ []) ≡ true) f.follows.make h.follows.are);
+        make = h.follows.make ∙ ap (λ m. mirrored m h.post) f.follows.make ∙ sym (fold-append mirrored old f.posts (h.post ∷ []));
+      };
+    }
+
+pub followed_all : (count : ℕ) (before middle after : List Item) (old new : MirrorView) → HasFollowedSome count before middle old new → middle ≡ texts (counted_line count ∷ []) ++ after → HasFollowedAll count before after old new
+followed_all count before middle after old new f e = record {
+  lines = f.lines ++ counted_line count ∷ [];
+  posts = f.posts;
+  valid = f.valid;
+  read = runs_read f.lines (counted_line count ∷ []) after f.read e;
+  text = printed-append f.lines (counted_line count ∷ []) ∙ (λ k. f.text k ++ append-nil (count_text count) k);
+  many = f.many;
+  follows = f.follows;
+}
+
+pub mirrored_whole : (space count : ℕ) (before middle after : List Item) (found made : MirrorView) → HasOpened space before middle found → HasFollowedAll count middle after found made → HasMirrored space count before after made
+mirrored_whole space count before middle after found made o f = record {
+  found = found;
+  posts = f.posts;
+  lines = opening_lines found ++ f.lines;
+  shown = o.shown;
+  valid = f.valid;
+  of = o.of;
+  read = runs_read (opening_lines found) f.lines after o.read f.read;
+  text = printed-append (opening_lines found) f.lines ∙ (λ k. opening_is found k ++ f.text k);
+  many = f.many;
+  follows = f.follows;
+}
+
+-- a post behind its first line
+pub followed_by_post : (first : List ℕ) (post : PostView) (before middle after : List Item) (old new : MirrorView) → before ≡ Text first ∷ middle → IsPosted first middle after post → IsPost post → (is_next old post ≡ true) × (new ≡ mirrored old post) → HasFollowed before after old new
+followed_by_post first post before middle after old new e p valid applied = record {
+  lines = first ∷ p.others;
+  post = post;
+  valid = valid;
+  read = e ∙ ap (λ x. Text first ∷ x) p.read;
+  text = p.text;
+  follows = record { are = and-true (is_next old post) true applied.0 refl; make = applied.1 };
+}
+
+-- the line behind so many posts
 pub ok_both : {A E : Type 0} {P Q R : A → Type 0} (r : Result A E) → ((a : A) → P a → Q a → R a) → IfOk r P → IfOk r Q → IfOk r R
 ok_both (Ok a) go p q = go a p q
 ok_both (Err e) go p q = tt
@@ -30,13 +91,11 @@ behind_lines p = map gone_line p.gone ++ map row_line p.rows
 abbrev event_line : PostView → List ℕ
 event_line p = join_with_byte 32 (event_words p.space p.number (length p.gone + length p.rows))
 
-first_is : (seen : List ℕ) (others : List (List ℕ)) (p : PostView) → seen ∷ others ≡ post_lines p → (seen ≡ event_line p) × (others ≡ behind_lines p)
-first_is seen others p all = let both : seen ∷ others ≡ event_line p ∷ behind_lines p = all in (cc, cc)
-
 -- the first line of a post tells how many lines stand behind it
 pub post_counted : (seen : List ℕ) (others : List (List ℕ)) (p : PostView) → IsPost p → seen ∷ others ≡ post_lines p → event_count (words seen) ≡ Some (length others)
 post_counted seen others p valid all =
-    let f = first_is seen others p all in
+    let both : seen ∷ others ≡ event_line p ∷ behind_lines p = all in
+    let f : (seen ≡ event_line p) × (others ≡ behind_lines p) = (cc, cc) in
     let n : ℕ = length p.gone + length p.rows in
     let e = ap length f.1 in
     let l = length-append (map gone_line p.gone) (map row_line p.rows) in
@@ -78,12 +137,8 @@ behind_posted n seen before after begun text post counts began read said = recor
 pub post_taken : (seen : List ℕ) (before middle later : List Item) (lines : List (List ℕ)) (p : PostView) → before ≡ Text seen ∷ middle → lines ≡ post_lines p → before ≡ texts lines ++ later
     → (others : List (List ℕ)) × (seen ∷ others ≡ post_lines p) × (middle ≡ texts others ++ later)
 post_taken seen before middle later lines p there is e =
-    let t = first_taken seen (event_line p) lines (behind_lines p) before middle later there is e in
+    let t = first_taken later there is e in
     (behind_lines p, ap (λ l. l ∷ behind_lines p) (sym t.0), t.1)
-
--- a post that a test accepts
-pub such_some : (test : PostView → Bool) (lines : List (List ℕ)) → IsSuchPost test lines → (first : List ℕ) × (others : List (List ℕ)) × (lines ≡ first ∷ others)
-such_some test lines k = (event_line k.post, behind_lines k.post, k.all)
 
 -- none comes first where no post does, or one that the test does not accept
 pub such_needs_post : (test : PostView → Bool) (seen : List ℕ) (before middle : List Item) → before ≡ Text seen ∷ middle → NoneFirst (IsPostBehind seen) middle → NoneFirst (IsSuchPost test) before
@@ -118,6 +173,6 @@ mirroring_needs_opening space count before none lines later (inr k) e =
 pub mirroring_needs_posts : (space count : ℕ) (mirror : MirrorView) (before middle : List Item) → HasOpened space before middle mirror → NoneFirst IsOneRefusal before
     → NoneFirst (IsFollowing (counted_line count) count mirror) middle → NoneFirst (IsRefusedOr (IsMirroring space count)) before
 mirroring_needs_posts space count mirror before middle o refusal none =
-    unrefused_or before refusal (λ lines later k e.
+    unrefused_or refusal (λ lines later k e.
     let a = opened_alike space before middle (texts k.others ++ later) mirror k.found o k.shown (e ∙ ap (λ ls. texts ls ++ later) k.all ∙ texts_split (opening_lines k.found) k.others later) in
     none k.others later (subst (λ m. IsFollowing (counted_line count) count m k.others) (sym a.0) k.following) a.1)

@@ -1,17 +1,9 @@
-pub mod RequestLaws
 pub mod RelayLaws
 pub mod CallLaws
-pub mod AskLaws
-pub mod MirrorLaws
 pub mod OpeningLaws
 pub mod SeriesLaws
 pub mod FollowLaws
-pub mod ReplyLaws
 pub mod EndingLaws
-pub mod FoundLaws
-pub mod SendingLaws
 pub mod PlaceLaws
 pub mod TellingLaws
-pub mod AheadLaws
-pub mod EffectLaws
 pub mod MissingLaws

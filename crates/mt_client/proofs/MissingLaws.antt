@@ -1,29 +1,108 @@
--- What cannot come first where the posts of a watcher that is closed are refused, and what of their lines has come.
-use Rattle.std.proofs.Common.{◌≡◌, ℕ, true, false, Some, None, List, [], ◌∷◌, length, refl, sym, ap, subst, ◌∙◌, arith, IsTrue, inl, inr, ◌⊎◌}
-use Rattle.std.proofs.lemmas.Option.{same_Some}
+-- What cannot come first where a telling is cut off, or the posts of a watcher that is closed, and what of it has come.
+use Rattle.std.proofs.Common.{◌≡◌, ℕ, ◌+◌, ◌<◌, ◌≤◌, true, List, [], ◌∷◌, ◌++◌, length, refl, sym, ap, subst, ◌∙◌, arith, inl, inr, false, Some, None}
+use Rattle.std.proofs.lemmas.Grind.{fold-append}
+use Rattle.std.specs.List.{flat_map, fold, AllByRecursion}
+use Rattle.mt_skel.proofs.MiddleLaws.{each_left, each_right}
 use Rattle.mt_lines.specs.Lines.{Item, Text}
-use Rattle.mt_lines.specs.Words.{words}
-use Rattle.mt_lines.specs.Reading.{failed_calls, last_faults}
-use Rattle.mt_lines.specs.declared.line.LineReader.{LineReader}
-use Rattle.mt_lines.specs.declared.stream.Input.{Ghosts}
-use Rattle.mt_lines.specs.declared.stream.Output.{Ghosts as OutputGhosts}
-use Rattle.mt_events.specs.Posts.{PostView, post_lines}
+use Rattle.mt_events.specs.Posts.{PostView, IsPost, post_lines}
 use Rattle.mt_events.specs.Mirrors.{MirrorView}
+use Rattle.mt_events.specs.declared.opening.Scope.{Scope}
+use Rattle.mt_client.specs.Reading.{texts, NoneFirst}
+use Rattle.mt_client.specs.Mirroring.{IsRefusal, counted_line}
+use Rattle.mt_client.specs.Awaited.{IsOneRefusal, IsRefusedOr, IsOnlyPost}
+use Rattle.mt_client.specs.Finding.{found_lines, HasFound, IsFinding}
+use Rattle.mt_client.specs.Telling.{mirrors_with, mirrors_by, are_due, portion}
+use Rattle.mt_client.specs.Due.{AreDuePosts, most_portions, portion_lines, AreDuePortions, IsTelling, AreOnlyApplied}
+use Rattle.mt_client.proofs.FollowLaws.{event_many, post_taken}
+use Rattle.mt_client.proofs.OpeningLaws.{first_taken, no_refusal, unrefused_or, found_alike}
+use Rattle.mt_client.proofs.SeriesLaws.{Series, IsSeries, Came, came_or, came_more, came_cut, in_lines, are_in_lines, due_to, are_apart, post_series, up_to, last_within}
+use Rattle.mt_client.proofs.RelayLaws.{texts_split}
+use Rattle.std.proofs.lemmas.Option.{same_Some}
+use Rattle.mt_lines.specs.Words.{words}
 use Rattle.mt_events.specs.declared.opening.Scope.TheVariants.{All}
 use Rattle.mt_protocol.specs.declared.form.Form.TheVariants.{Posts}
-use Rattle.mt_client.specs.declared.fault.ClientFault.{ClientFault}
-use Rattle.mt_client.specs.declared.fault.ClientFault.TheVariants.{Connection}
 use Rattle.mt_client.specs.Requests.{is_refusal, lines_behind, event_count}
-use Rattle.mt_client.specs.Reading.{lines_left, HasBroken, NoneFirst, AreSoMany}
-use Rattle.mt_client.specs.Calls.{ReadsOn, WritesOn, IsTellFault, IsPassFault, IsAskFault}
-use Rattle.mt_client.specs.Awaited.{IsOneRefusal, IsRefusedOr, IsOnlyPost}
-use Rattle.mt_client.specs.Telling.{mirrors_with}
-use Rattle.mt_client.specs.Missing.{AreDueLines, IsClosing, IsMissing, IsMissingAnswer, IsEffectFault, IsOnlyCounted}
-use Rattle.mt_client.proofs.RelayLaws.{broken_later}
-use Rattle.mt_client.proofs.CallLaws.{either}
-use Rattle.mt_client.proofs.OpeningLaws.{first_taken, needs_line, refused_some, no_refusal, unrefused_or}
-use Rattle.mt_client.proofs.SeriesLaws.{Series, IsSeries, in_lines, are_in_lines, due_to, post_series}
-use Rattle.mt_client.proofs.FollowLaws.{event_many, post_taken}
+use Rattle.mt_client.specs.Missing.{AreDueLines, IsClosing, IsMissing, IsMissingAnswer, IsOnlyCounted}
+
+-- posts that are due, up to their end
+abbrev pub due_posts : (count : ℕ) (scope : Scope) (mirrors : List MirrorView) (lines : List (List ℕ)) → AreDuePosts count scope mirrors lines → IsSeries (up_to (due_to scope) (counted_line count) count) mirrors lines
+due_posts count scope mirrors lines d = record { items = d.posts; last = d.last ∷ []; due = (d.valid, d.due); ends = (d.last, refl, d.ends); all = d.all }
+
+-- posts that came first were so many, and applied, where their end was read behind the last
+pub posts_whole : (count taken : ℕ) (scope : Scope) (old now : List MirrorView) (before middle after : List Item) → count ≤ taken → Came (up_to (due_to scope) (counted_line count) count) taken old now before middle → NoneFirst IsOneRefusal middle → middle ≡ texts (counted_line count ∷ []) ++ after
+    → AreOnlyApplied count scope old now before after
+posts_whole count taken scope old now before middle after all came none end lines later d e =
+    let w = last_within (counted_line count) count (length d.posts) d.last d.ends in
+    came_or (up_to (due_to scope) (counted_line count) count) taken old now before middle came lines later (due_posts count scope old lines d) e
+    (λ due many make there. (omega (arith, w, many, all), λ r. none (d.last ∷ []) later (d.last, r, refl) there, make, behind (sym end ∙ there))) (λ p rest is due many make there. absurd (omega (arith, w, many, all)))
+  where
+    behind : Text (counted_line count) ∷ after ≡ Text d.last ∷ later → after ≡ later
+    behind both = cc
+
+-- portions of so many posts, and behind them fewer posts and a refusal
+abbrev flat : List (List PostView) → List PostView
+flat portions = flat_map (λ posts. posts) portions
+
+abbrev pub portions_of : ℕ → Scope → Series
+portions_of count scope = record {
+  X = List PostView;
+  S = List MirrorView;
+  lines_of = portion_lines count;
+  step = mirrors_by;
+  IsDue = λ ms posts. (length posts ≡ count) × AllByRecursion IsPost posts × (are_due scope ms posts ≡ true);
+  AreDue = λ ms portions. AllByRecursion (λ posts. length posts ≡ count) portions × AllByRecursion IsPost (flat portions) × (are_due scope ms (flat portions) ≡ true);
+  first = λ ms q qs h. let due = are_apart (due_to scope) q (flat qs) ms h.2 in ((h.0.0, each_left IsPost q (flat qs) h.1, due.0), (h.0.1, each_right IsPost q (flat qs) h.1, due.1));
+  Ends = λ n ms ls. (d : AreDuePosts count scope ms ls) × IsRefusal d.last × (n < most_portions);
+}
+
+-- the mirrors that posts make in portions
+flat_by : (portions : List (List PostView)) (mirrors : List MirrorView) → fold mirrors_by mirrors portions ≡ mirrors_by mirrors (flat portions)
+flat_by [] mirrors = refl
+flat_by (q ∷ qs) mirrors = flat_by qs (mirrors_by mirrors q) ∙ sym (fold-append mirrors_with mirrors q (flat qs))
+
+-- what a telling waits for is such portions
+are_portions : (count : ℕ) (scope : Scope) (mirrors : List MirrorView) (lines : List (List ℕ)) → AreDuePortions count scope mirrors lines → IsSeries (portions_of count scope) mirrors lines
+are_portions count scope mirrors lines a =
+    let due = are_apart (due_to scope) (flat a.portions) a.rest mirrors a.due in
+    let behind : are_due scope (fold mirrors_by mirrors a.portions) a.rest ≡ true = ap (λ ms. are_due scope ms a.rest) (flat_by a.portions mirrors) ∙ due.1 in
+    record {
+      items = a.portions;
+      last = flat_map post_lines a.rest ++ a.refusal ∷ [];
+      due = (a.whole, each_left IsPost (flat a.portions) a.rest a.valid, due.0);
+      ends = (record { posts = a.rest; last = a.refusal; all = refl; valid = each_right IsPost (flat a.portions) a.rest a.valid; due = behind; ends = inr (a.within, a.refused) }, a.refused, a.bounded);
+      all = a.all;
+    }
+
+-- a portion with its end
+abbrev whole_portion : (count : ℕ) (scope : Scope) (mirrors : List MirrorView) (posts : List PostView) → (length posts ≡ count) × AllByRecursion IsPost posts × (are_due scope mirrors posts ≡ true) → AreDuePosts count scope mirrors (portion_lines count posts)
+whole_portion count scope mirrors posts is = record { posts = posts; last = counted_line count; all = refl; valid = is.1; due = is.2; ends = inl (is.0, refl) }
+
+-- one more portion came, none comes where neither posts nor a refusal do, and none where too many came
+pub portions_more : (count taken : ℕ) (scope : Scope) (old now new : List MirrorView) (before middle after : List Item) → Came (portions_of count scope) taken old now before middle → AreOnlyApplied count scope now new middle after → Came (portions_of count scope) (taken + 1) old new before after
+portions_more count taken scope old now new before middle after came only =
+    came_more (portions_of count scope) taken old now new before middle after came (λ ls later h e. (only ls later h.1.0 e).1 h.1.1)
+    (λ q rest is e. let k = only (portion_lines count q) rest (whole_portion count scope now q is) e in (k.2, k.3))
+
+pub portions_cut : (count taken : ℕ) (scope : Scope) (old now : List MirrorView) (before middle : List Item) → Came (portions_of count scope) taken old now before middle → NoneFirst (AreDuePosts count scope now) middle → NoneFirst (AreDuePortions count scope old) before
+portions_cut count taken scope old now before middle came none =
+    came_cut (portions_of count scope) taken old now before middle (are_portions count scope old) came (λ ls later h. none ls later h.1.0) (λ q rest n made last is more ends. none (portion_lines count q) rest (whole_portion count scope now q is))
+
+pub portions_over : (count taken : ℕ) (scope : Scope) (old now : List MirrorView) (before middle : List Item) → most_portions ≤ taken → Came (portions_of count scope) taken old now before middle → NoneFirst (AreDuePortions count scope old) before
+portions_over count taken scope old now before middle all came =
+    came_cut (portions_of count scope) taken old now before middle (are_portions count scope old) came (λ ls later h e. let few = h.1.2 in omega (arith, few, all)) (λ q rest n made last is more ends e. let few = ends.2 in omega (arith, few, more, all))
+
+-- a whole telling
+pub telling_needs_opening : (scope : Scope) (before : List Item) → NoneFirst (IsRefusedOr (IsFinding scope)) before → NoneFirst (IsRefusedOr (IsTelling scope)) before
+telling_needs_opening scope before none lines later (inl r) e = none lines later (inl r) e
+telling_needs_opening scope before none lines later (inr k) e =
+    none (found_lines k.found) (texts k.others ++ later) (inr (record { found = k.found; shown = k.shown; all = refl }))
+    (e ∙ ap (λ ls. texts ls ++ later) k.all ∙ texts_split (found_lines k.found) k.others later)
+
+pub telling_needs_posts : (scope : Scope) (parts : List MirrorView) (before middle : List Item) → HasFound scope before middle parts → NoneFirst IsOneRefusal before → NoneFirst (AreDuePortions portion scope parts) middle → NoneFirst (IsRefusedOr (IsTelling scope)) before
+telling_needs_posts scope parts before middle found refusal none =
+    unrefused_or refusal (λ lines later k e.
+    let a = found_alike scope before middle (texts k.others ++ later) parts k.found found k.shown (e ∙ ap (λ ls. texts ls ++ later) k.all ∙ texts_split (found_lines k.found) k.others later) in
+    none k.others later (subst (λ ms. AreDuePortions portion scope ms k.others) (sym a.0) k.behind) a.1)
 
 -- a post that was read, with so many lines behind its first one, was applied
 pub only_counted : (behind : ℕ) (seen : List ℕ) (before middle after : List Item) (post : PostView) (old new : List MirrorView) → before ≡ Text seen ∷ middle → Some behind ≡ event_count (words seen) → IsOnlyPost seen middle after post → new ≡ mirrors_with old post
@@ -43,24 +122,18 @@ pub due_lines : (count : ℕ) (mirrors : List MirrorView) (lines : List (List �
 due_lines count mirrors lines d = are_in_lines posts_due count mirrors d.posts lines (d.valid, d.due) d.many d.all
 
 -- the answer of a watcher that is closed
-closing_some : (mirrors : List MirrorView) (lines : List (List ℕ)) → IsClosing mirrors lines → (first : List ℕ) × (others : List (List ℕ)) × (lines ≡ first ∷ others)
-closing_some mirrors lines k = (k.first, k.others, k.all)
-
-pub closing_needs_line : (mirrors : List MirrorView) (before : List Item) → NoneFirst (AreSoMany 1) before → NoneFirst (IsRefusedOr (IsClosing mirrors)) before
-closing_needs_line mirrors before none = needs_line before (refused_some (closing_some mirrors)) none
-
 pub closing_needs_count : (mirrors : List MirrorView) (seen : List ℕ) (before middle : List Item) → before ≡ Text seen ∷ middle → is_refusal seen ≡ false → None ≡ lines_behind Posts true seen → NoneFirst (IsRefusedOr (IsClosing mirrors)) before
 closing_needs_count mirrors seen before middle there tells counts =
-    unrefused_or before (no_refusal seen before middle there tells) (λ lines later k e.
-    let t = first_taken seen k.first lines k.others before middle later there k.all e in
+    unrefused_or (no_refusal there tells) (λ lines later k e.
+    let t = first_taken later there k.all e in
     let no : None ≡ Some k.count = counts ∙ ap (lines_behind Posts true) (sym t.0) ∙ k.counted in
     cc)
 
 pub closing_needs_posts : (count : ℕ) (mirrors : List MirrorView) (seen : List ℕ) (before middle : List Item) → before ≡ Text seen ∷ middle → is_refusal seen ≡ false → Some count ≡ lines_behind Posts true seen → NoneFirst (AreDueLines count mirrors) middle
     → NoneFirst (IsRefusedOr (IsClosing mirrors)) before
 closing_needs_posts count mirrors seen before middle there tells counts none =
-    unrefused_or before (no_refusal seen before middle there tells) (λ lines later k e.
-    let t = first_taken seen k.first lines k.others before middle later there k.all e in
+    unrefused_or (no_refusal there tells) (λ lines later k e.
+    let t = first_taken later there k.all e in
     let same : count ≡ k.count = same_Some count k.count (counts ∙ ap (lines_behind Posts true) (sym t.0) ∙ k.counted) in
     none k.others later (subst (λ n. AreDueLines n mirrors k.others) (sym same) k.posts) t.1)
 
@@ -72,37 +145,3 @@ missing_later f (inr m) = inr (f m.0, m.1)
 pub answer_later : {A B : Type 0} (line : List ℕ) (mirrors : List MirrorView) (opened : List Item) → (A → B) → IsMissingAnswer A line mirrors opened → IsMissingAnswer B line mirrors opened
 answer_later line mirrors opened f (inl m) = inl (missing_later f m)
 answer_later line mirrors opened f (inr m) = inr (m.0, m.1, missing_later f m.2)
-
--- a fault of calls that read, print and ask
-pub effect_unsent : {R W O : Type 0} {g : Ghosts R} {w : OutputGhosts W} {h : OutputGhosts O} {f : ClientFault} (missing : Type 0 → Type 0) {a b : LineReader R g} {k l : W} {x y : O} → ((unsent : Type 0) → unsent → NoneFirst IsOneRefusal (lines_left a) → missing unsent)
-    → (IsTrue w.counts → HasBroken (w.failed k) (w.failed l) (w.faults k) (w.faults l)) → IsPassFault h f IsOneRefusal [] a b x y → IsEffectFault w h f missing a b k l x y
-effect_unsent missing needs cause q = record { limit = q.limit; cut = λ e t u v. either (λ broken. broken) (λ none. needs _ (cause v) none) (q.cut e t u); cause = q.cause }
-
-pub effect_telling : {R W O : Type 0} {g : Ghosts R} {w : OutputGhosts W} {h : OutputGhosts O} {f : ClientFault} {kind : List (List ℕ) → Type 0} (missing : Type 0 → Type 0) {a b : LineReader R g} {k l : W} {x y : O} → ((unsent : Type 0) → NoneFirst kind (lines_left a) → missing unsent)
-    → IsTellFault h f kind a b x y → IsEffectFault w h f missing a b k l x y
-effect_telling missing needs q = record { limit = q.limit; cut = λ e t u v. either (λ broken. broken) (λ none. needs _ none) (q.cut e t u); cause = q.cause }
-
-pub effect_passing : {R W O : Type 0} {g : Ghosts R} {w : OutputGhosts W} {h : OutputGhosts O} {f : ClientFault} {kind : List (List ℕ) → Type 0} (missing : Type 0 → Type 0) {a b : LineReader R g} {k l : W} {x y : O} → ((unsent : Type 0) → NoneFirst kind (lines_left a) → missing unsent)
-    → IsPassFault h f kind [] a b x y → IsEffectFault w h f missing a b k l x y
-effect_passing missing needs q = record { limit = q.limit; cut = λ e t u v. either (λ broken. broken) (λ none. needs _ none) (q.cut e t u); cause = q.cause }
-
-pub effect_behind : {R W O : Type 0} {g : Ghosts R} {w : OutputGhosts W} {h : OutputGhosts O} {f : ClientFault} (inner missing : Type 0 → Type 0) {a b c : LineReader R g} {k l m : W} {x y z : O}
-    → ReadsOn a b → WritesOn w k l → WritesOn h x y → (IsTrue g.tells → (less more : Type 0) → (less → more) → inner less → missing more) → IsEffectFault w h f inner b c l m y z → IsEffectFault w h f missing a c k m x z
-effect_behind {R} {W} {O} {g} {w} {h} {f} inner missing {a} {b} {c} {k} {l} {m} {x} {y} {z} p s o needs q = record {
-  limit = q.limit ∙ p.limit;
-  cut = λ e t u v.
-      either (broken_later (failed_calls a) (failed_calls b) (failed_calls c) (last_faults a) (last_faults b) (last_faults c) (p.counted u) (p.reads u))
-      (needs t _ _ (broken_later (w.failed k) (w.failed l) (w.failed m) (w.faults k) (w.faults l) (w.faults m) (s.counted v) (s.serves v))) (q.cut e t u v);
-  cause = λ e u. broken_later (h.failed x) (h.failed y) (h.failed z) (h.faults x) (h.faults y) (h.faults z) (o.counted u) (o.serves u) (q.cause e u);
-}
-
--- the cause of a fault of a request and of what is read behind it
-pub ask_missing : {R W O : Type 0} {g : Ghosts R} {w : OutputGhosts W} {h : OutputGhosts O} {f : ClientFault} {kind : List (List ℕ) → Type 0} {a b : LineReader R g} {k l : W} {x y : O} → IsAskFault w h f kind a b k l x y → f ≡ Connection → IsTrue g.tells → IsTrue g.counts → IsTrue w.counts
-    → HasBroken (failed_calls a) (failed_calls b) (last_faults a) (last_faults b) ⊎ IsMissing (HasBroken (w.failed k) (w.failed l) (w.faults k) (w.faults l)) kind (lines_left a)
-ask_missing {R} {W} {O} {g} {w} {h} {f} {kind} {a} {b} {k} {l} q e t u v = go (q.cut e t u v)
-  where
-    go : (HasBroken (w.failed k) (w.failed l) (w.faults k) (w.faults l) × (HasBroken (failed_calls a) (failed_calls b) (last_faults a) (last_faults b) ⊎ NoneFirst IsOneRefusal (lines_left a)))
-        ⊎ (HasBroken (failed_calls a) (failed_calls b) (last_faults a) (last_faults b) ⊎ NoneFirst kind (lines_left a))
-        → HasBroken (failed_calls a) (failed_calls b) (last_faults a) (last_faults b) ⊎ IsMissing (HasBroken (w.failed k) (w.failed l) (w.faults k) (w.faults l)) kind (lines_left a)
-    go (inl both) = either (λ broken. broken) (λ none. inr (both.0, none)) both.1
-    go (inr cut) = either (λ broken. broken) (λ none. inl none) cut

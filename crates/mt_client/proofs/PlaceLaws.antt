@@ -27,13 +27,6 @@ here n at xs = option_map_or (λ (y : MirrorView). y.space == n) (slice_get xs a
 abbrev without_here : ℕ → ℕ → List MirrorView → List MirrorView
 without_here n at xs = cond (here n at xs) (remove xs at) xs
 
-pub placed : (n at : ℕ) (x : MirrorView) (old middle new : List MirrorView) → x.space ≡ n → at ≡ place n old → middle ≡ without_here n at old → new ≡ insert middle at x → new ≡ put mirror_space x old
-placed n at x old middle new same is taken e =
-    e ∙ ap (λ xs. insert xs at x) taken
-    ∙ ap (λ k. insert (without_here n k old) k x) is
-    ∙ ap (λ k. insert (without_here k (place k old) old) (place k old) x) (sym same)
-    ∙ put_is mirror_space x old
-
 -- the mirror at that place
 row_here : (n : ℕ) (xs : List MirrorView) → rises mirror_space xs ≡ true → row_at mirror_space n xs ≡ cond (here n (place n xs) xs) (slice_get xs (place n xs)) None
 row_here n [] h = refl
@@ -88,7 +81,12 @@ pub applied_there : (p : PostView) (k at : ℕ) (m x : MirrorView) (shown old mi
     → new ≡ mirrors_with old p
 applied_there p k at m x shown old middle new same shown_is is made there taken e =
     let whole : x ≡ mirrored (mirror_in old p.space) p = made ∙ ap (λ y. mirrored y p) is in
-    placed k at x old middle new (ap mirror_space whole ∙ mirror_of p.space old ∙ sym same) (there ∙ ap (place k) shown_is) taken e ∙ ap (λ y. put mirror_space y old) whole
+    let there_is : at ≡ place k old = there ∙ ap (place k) shown_is in
+    e ∙ ap (λ xs. insert xs at x) taken
+    ∙ ap (λ j. insert (without_here k j old) j x) there_is
+    ∙ ap (λ j. insert (without_here j (place j old) old) (place j old) x) (same ∙ sym (ap mirror_space whole ∙ mirror_of p.space old))
+    ∙ put_is mirror_space x old
+    ∙ ap (λ y. put mirror_space y old) whole
 
 pub rises_with : (p : PostView) (old new : List MirrorView) → IsTrue (rises mirror_space old) → new ≡ mirrors_with old p → IsTrue (rises mirror_space new)
 rises_with p old new rising e = ap (rises mirror_space) e ∙ rises-put mirror_space (mirrored (mirror_in old p.space) p) old rising

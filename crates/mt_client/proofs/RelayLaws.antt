@@ -1,7 +1,10 @@
--- What was read and printed, line by line, and what cannot come first then.
-use Rattle.std.proofs.Common.{◌≡◌, ◌≢◌, ℕ, ◌+◌, ◌<◌, ◌≤◌, List, [], ◌∷◌, ◌++◌, length, refl, sym, ap, subst, ◌∙◌, arith, append_assoc, length-append, Result, Err, IsErrAnd, inl, inr, ◌⊎◌}
-use Rattle.std.specs.List.{AllByRecursion}
-use Rattle.std.proofs.lemmas.List.{append-nil, map-append}
+-- The lines of requests and what of them went out; what was read and printed, line by line, and what cannot come first.
+use Rattle.std.proofs.Common.{Bor, ◌≡◌, ℕ, suc, ◌+◌, ◌<◌, List, [], ◌∷◌, ◌++◌, map, length, take, drop, take_all, take-append-drop, refl, sym, ap, ◌∙◌, arith, append_assoc, length-append, Result, Ok, Err, OnErr, ◌≢◌, ◌≤◌, subst, IsErrAnd, inl, inr, ◌⊎◌}
+use Rattle.std.proofs.lemmas.List.{append-nil, take-append-le, map-append}
+use Rattle.std.specs.List.{flat_map, join_with_byte, AllByRecursion}
+use Rattle.mt_skel.specs.Escapes.{escaped}
+use Rattle.mt_client.specs.Requests.{request_text}
+use Rattle.mt_client.specs.Reading.{IsCutOff, IsSentPart, texts, printed, Passed, HasRead, IsWhole, HasBroken, IsBroken, NoneFirst, AreSoMany, reading_fault}
 use Rattle.std.proofs.lemmas.Grind.{flat_map-append}
 use Rattle.mt_lines.specs.Lines.{Item, Text, lines_of}
 use Rattle.mt_lines.specs.Reading.{IsNext, IsFaultCause, IsFaultRun}
@@ -11,8 +14,73 @@ use Rattle.mt_lines.specs.declared.line.ReadFault.TheVariants.{Device, Interrupt
 use Rattle.mt_client.specs.declared.fault.ClientFault.{ClientFault}
 use Rattle.mt_client.specs.declared.fault.ClientFault.TheVariants.{Connection, Output, NoMemory}
 use Rattle.mt_events.specs.Posts.{ended}
-use Rattle.mt_client.specs.Reading.{texts, printed, Passed, HasRead, IsWhole, HasBroken, IsBroken, IsCutOff, NoneFirst, AreSoMany, reading_fault}
-use Rattle.mt_client.proofs.RequestLaws.{cut_second}
+
+-- the words behind the first stand each behind the byte between
+pub joined : (c : ℕ) (word : List ℕ) (words : List (List ℕ)) → join_with_byte c (word ∷ words) ≡ word ++ flat_map (λ w. c ∷ w) words
+joined c word [] = sym (append-nil word)
+joined c word (next ∷ words) = ap (λ rest. word ++ c ∷ rest) (joined c next words)
+
+-- what holds after a fault
+pub on_err : {A E : Type 0} {P : Type 0} (r : Result A E) → P → OnErr r P
+on_err (Ok a) p = tt
+on_err (Err e) p = p
+
+-- a text that was cut in its first piece, or in its second
+pub cut_first : (text rest old new : List ℕ) (n : ℕ) → n < length text → new ≡ old ++ take n text → IsCutOff (text ++ rest) old new
+cut_first text rest old new n lt e = record {
+  count = n;
+  out = e ∙ ap (λ x. old ++ x) (sym (take-append-le n text rest (omega (arith, lt))));
+  within = let l = length-append text rest in omega (arith, lt, l);
+}
+
+take_behind : (text rest : List ℕ) (n : ℕ) → take (length text + n) (text ++ rest) ≡ text ++ take n rest
+take_behind [] rest n = let e : length {A = ℕ} [] + n ≡ n = omega arith in rw e refl
+take_behind (b ∷ text) rest n =
+    let e : length (b ∷ text) + n ≡ suc (length text + n) = omega arith in
+    rw e (ap (λ x. b ∷ x) (take_behind text rest n))
+
+pub cut_second : (text rest old between new : List ℕ) (n : ℕ) → between ≡ old ++ text → n < length rest → new ≡ between ++ take n rest → IsCutOff (text ++ rest) old new
+cut_second text rest old between new n e lt f = record {
+  count = length text + n;
+  out = f ∙ ap (λ x. x ++ take n rest) e ∙ append_assoc old text (take n rest) ∙ ap (λ x. old ++ x) (sym (take_behind text rest n));
+  within = let l = length-append text rest in omega (arith, lt, l);
+}
+
+-- the words of a request, of which the first was appended alone
+pub words_joined : (words others : List (Bor (List ℕ))) (first : Bor (List ℕ)) (begun all : List ℕ) → words ≡ first ∷ others → begun ≡ escaped first.now
+    → all ≡ begun ++ flat_map (λ word. 32 ∷ escaped word.now) others → all ≡ request_text (map (λ word. word.now) words)
+words_joined words others first begun all is e f =
+    f ∙ ap (λ x. x ++ flat_map (λ word. 32 ∷ escaped word.now) others) e
+    ∙ ap (λ x. escaped first.now ++ x) (behind others)
+    ∙ sym (joined 32 (escaped first.now) (map escaped (map (λ word. word.now) others)))
+    ∙ ap (λ x. request_text (map (λ word. word.now) x)) (sym is)
+  where
+    behind : (ws : List (Bor (List ℕ))) → flat_map (λ word. 32 ∷ escaped word.now) ws ≡ flat_map (λ w. 32 ∷ w) (map escaped (map (λ word. word.now) ws))
+    behind [] = refl
+    behind (w ∷ ws) = ap (λ x. 32 ∷ escaped w.now ++ x) (behind ws)
+
+-- a text that went out whole, or not at all, went out in part
+pub sent_whole : (text old new : List ℕ) → new ≡ old ++ text → IsSentPart text old new
+sent_whole text old new e = record { count = length text; out = e ∙ ap (λ x. old ++ x) (sym (take_all (length text) text (omega arith))) }
+
+-- a part of a text, and of one that begins with it
+take_front : (text rest : List ℕ) (n : ℕ) → take (length (take n text)) (text ++ rest) ≡ take n text
+take_front text rest n =
+    let k : ℕ = length (take n text) in
+    ap (λ t. take k (t ++ rest)) (sym (take-append-drop n text)) ∙ ap (take k) (append_assoc (take n text) (drop n text) rest) ∙ take-append-le k (take n text) (drop n text ++ rest) (omega arith) ∙ take_all k (take n text) (omega arith)
+
+pub part_first : (first second old new : List ℕ) → IsSentPart first old new → IsSentPart (first ++ second) old new
+part_first first second old new p = record { count = length (take p.count first); out = p.out ∙ ap (λ x. old ++ x) (sym (take_front first second p.count)) }
+
+pub part_second : (first second old between new : List ℕ) → between ≡ old ++ first → IsSentPart second between new → IsSentPart (first ++ second) old new
+part_second first second old between new e p = record {
+  count = length first + p.count;
+  out = p.out ∙ ap (λ x. x ++ take p.count second) e ∙ append_assoc old first (take p.count second) ∙ ap (λ x. old ++ x) (sym (take_behind first second p.count));
+}
+
+-- the first of two texts went out, or both
+pub part_one : (first second old new : List ℕ) → new ≡ old ++ first → IsSentPart (first ++ second) old new
+part_one first second old new e = part_first first second old new (sent_whole first old new e)
 
 pub texts-append : (xs ys : List (List ℕ)) → texts (xs ++ ys) ≡ texts xs ++ texts ys
 texts-append xs ys = map-append Text xs ys
@@ -23,20 +91,18 @@ texts_split xs ys later = ap (λ x. x ++ later) (texts-append xs ys) ∙ append_
 pub printed-append : (xs ys : List (List ℕ)) → printed (xs ++ ys) ≡ printed xs ++ printed ys
 printed-append xs ys = flat_map-append ended xs ys
 
+-- lines read in two runs
+pub runs_read : (ls ms : List (List ℕ)) {before middle : List Item} (after : List Item) → before ≡ texts ls ++ middle → middle ≡ texts ms ++ after → before ≡ texts (ls ++ ms) ++ after
+runs_read ls ms after e f = e ∙ ap (λ x. texts ls ++ x) f ∙ sym (texts_split ls ms after)
+
 -- a line that is no text leaves nothing to be read
 pub none_there : (before : List Item) → ((line : List ℕ) (later : List Item) → before ≢ Text line ∷ later) → NoneFirst (AreSoMany 1) before
 none_there before none [] later one e = absurd (omega (arith, one))
 none_there before none (line ∷ lines) later one e = none line (texts lines ++ later) e
 
 -- calls that failed later
-pub broken_later : (old first new : ℕ) (none some all : List StreamFault) → old ≤ first → (none ≡ [] → some ≡ []) → HasBroken first new some all → HasBroken old new none all
-broken_later old first new none some all low served b = record { more = let more = b.more in omega (arith, low, more); last = λ e. b.last (served e) }
-
--- a cut within is a cut of the whole, where what is left out rules out the whole
-pub cut_within : {kind inner : List (List ℕ) → Type 0} (before middle : List Item) (old first new : ℕ) (none some all : List StreamFault) → old ≤ first → (none ≡ [] → some ≡ [])
-    → (NoneFirst inner middle → NoneFirst kind before) → HasBroken first new some all ⊎ NoneFirst inner middle → HasBroken old new none all ⊎ NoneFirst kind before
-cut_within before middle old first new none some all low served out (inl b) = inl (broken_later old first new none some all low served b)
-cut_within before middle old first new none some all low served out (inr not) = inr (out not)
+pub broken_later : {old first new : ℕ} {none some all : List StreamFault} → old ≤ first → (none ≡ [] → some ≡ []) → HasBroken first new some all → HasBroken old new none all
+broken_later low served b = record { more = let more = b.more in omega (arith, low, more); last = λ e. b.last (served e) }
 
 -- what is known by its lines: whether one is valid, its lines, and those of several
 pub record KnownByLines : Type 1 where
@@ -85,38 +151,29 @@ pub items_cut : (k : KnownByLines) (xs ys : List k.X) (middle later : List Item)
 items_cut k xs ys middle later p q few e never = items_or k xs ys middle later p q (omega (arith, few)) e (λ same end. let n = ap (λ zs. length (k.all zs)) same in omega (arith, few, n)) never
 
 -- two lines that come first are one, and so are lists of as many lines
-pub first_alike : (x y : List ℕ) (middle later : List Item) → Text x ∷ middle ≡ Text y ∷ later → (x ≡ y) × (middle ≡ later)
-first_alike x y middle later e = (cc, cc)
+pub first_alike : {x y : List ℕ} {middle later : List Item} → Text x ∷ middle ≡ Text y ∷ later → (x ≡ y) × (middle ≡ later)
+first_alike e = (cc, cc)
 
 each_line : (lines : List (List ℕ)) → AllByRecursion (λ line. Unit {0}) lines
 each_line [] = tt
 each_line (line ∷ lines) = (tt, each_line lines)
 
 abbrev line_items : KnownByLines
-line_items = record { X = List ℕ; IsValid = λ line. Unit {0}; lines_of = λ line. line ∷ []; all = λ lines. lines; none = refl; both = λ line lines. refl; some = λ line. omega arith; alike = λ x y middle later p q e. first_alike x y middle later e }
+line_items = record { X = List ℕ; IsValid = λ line. Unit {0}; lines_of = λ line. line ∷ []; all = λ lines. lines; none = refl; both = λ line lines. refl; some = λ line. omega arith; alike = λ x y middle later p q e. first_alike e }
 
 pub lines_alike : (xs ys : List (List ℕ)) (middle later : List Item) → length xs ≡ length ys → texts xs ++ middle ≡ texts ys ++ later → (xs ≡ ys) × (middle ≡ later)
 lines_alike xs ys middle later many e = items_alike line_items xs ys middle later (each_line xs) (each_line ys) many e
 
 -- lines one after another
-pub passed_more : (ls ms : List (List ℕ)) (before middle after : List Item) (old between new : List ℕ) → Passed ls before middle old between → Passed ms middle after between new → Passed (ls ++ ms) before after old new
-passed_more ls ms before middle after old between new p q = record {
-  read = p.read ∙ ap (λ x. texts ls ++ x) q.read ∙ sym (append_assoc (texts ls) (texts ms) after) ∙ ap (λ x. x ++ after) (sym (texts-append ls ms));
-  out = q.out ∙ ap (λ x. x ++ printed ms) p.out ∙ append_assoc old (printed ls) (printed ms) ∙ ap (λ x. old ++ x) (sym (printed-append ls ms));
-}
-
-pub one_passed : (line : List ℕ) (before after : List Item) (old new : List ℕ) → before ≡ Text line ∷ after → new ≡ old ++ ended line → Passed (line ∷ []) before after old new
-one_passed line before after old new e f = record { read = e; out = f ∙ ap (λ x. old ++ x) (sym (append-nil (ended line))) }
+printed_both : (ls ms : List (List ℕ)) (old : List ℕ) {between new : List ℕ} → between ≡ old ++ printed ls → new ≡ between ++ printed ms → new ≡ old ++ printed (ls ++ ms)
+printed_both ls ms old e f = f ∙ ap (λ x. x ++ printed ms) e ∙ append_assoc old (printed ls) (printed ms) ∙ ap (λ x. old ++ x) (sym (printed-append ls ms))
 
 -- a fault behind lines that were passed on
-pub broken_more : (f : ClientFault) (ls : List (List ℕ)) (before middle : List Item) (old between new : List ℕ) → Passed ls before middle old between → IsBroken f middle between new → IsBroken f before old new
-broken_more f ls before middle old between new p b = go f b
+pub broken_more : (f : ClientFault) (ls : List (List ℕ)) {before middle : List Item} {old between : List ℕ} (new : List ℕ) → Passed ls before middle old between → IsBroken f middle between new → IsBroken f before old new
+broken_more f ls {before} {middle} {old} {between} new p b = go f b
   where
     whole : IsWhole middle between new → IsWhole before old new
-    whole w =
-        let q : Passed w.lines middle w.later between new = record { read = w.read; out = w.out } in
-        let r = passed_more ls w.lines before middle w.later old between new p q in
-        record { lines = ls ++ w.lines; later = w.later; read = r.read; out = r.out }
+    whole w = record { lines = ls ++ w.lines; later = w.later; read = runs_read ls w.lines w.later p.read w.read; out = printed_both ls w.lines old p.out w.out }
 
     go : (f : ClientFault) → IsBroken f middle between new → IsBroken f before old new
     go Connection w = whole w
@@ -124,7 +181,7 @@ broken_more f ls before middle old between new p b = go f b
     go Output w = record {
       lines = ls ++ w.lines;
       later = w.later;
-      read = p.read ∙ ap (λ x. texts ls ++ x) w.read ∙ sym (append_assoc (texts ls) (texts w.lines) w.later) ∙ ap (λ x. x ++ w.later) (sym (texts-append ls w.lines));
+      read = runs_read ls w.lines w.later p.read w.read;
       out = subst (λ x. IsCutOff x old new) (sym (printed-append ls w.lines)) (cut_second (printed ls) (printed w.lines) old between new w.out.count p.out w.out.within w.out.out);
     }
 

@@ -1,5 +1,5 @@
--- Posts that were told, one after another, and what stands behind them.
-use Rattle.std.proofs.Common.{◌≡◌, ◌≢◌, ℕ, zero, suc, ◌+◌, ◌≤◌, MatchBool, IfOk, IfErr, Result, Ok, Err, OnOk, Bool, true, false, List, [], ◌∷◌, ◌++◌, replicate, refl, sym, ap, subst, ◌∙◌, arith, append_assoc, length-append, codes, ◌⊎◌, inl, inr}
+-- Posts that were told, one after another, also counted by their lines, and what stands behind them.
+use Rattle.std.proofs.Common.{◌≡◌, ◌≢◌, ℕ, zero, suc, ◌+◌, ◌≤◌, true, List, [], ◌∷◌, ◌++◌, replicate, refl, sym, ap, subst, ◌∙◌, arith, append_assoc, length-append, codes, inl, inr, Some, length}
 use Rattle.std.proofs.lemmas.List.{append-nil}
 use Rattle.std.proofs.lemmas.Grind.{flat_map-append, fold-append}
 use Rattle.std.specs.List.{flat_map}
@@ -12,16 +12,19 @@ use Rattle.mt_events.specs.declared.opening.Scope.{Scope}
 use Rattle.mt_client.specs.declared.named.NamedTelling.{NamedTelling}
 use Rattle.mt_client.specs.declared.fault.ClientFault.{ClientFault}
 use Rattle.mt_client.specs.declared.fault.ClientFault.TheVariants.{Connection, Output, NoMemory}
-use Rattle.mt_client.specs.Requests.{numbered_text}
+use Rattle.mt_client.specs.Requests.{numbered_text, event_count}
 use Rattle.mt_client.specs.Reading.{texts, IsCutOff, IsBroken, IsSentPart}
 use Rattle.mt_client.specs.Mirroring.{HasRefused, IsPosted, counted_line}
 use Rattle.mt_client.specs.Finding.{watch_text, HasFound}
-use Rattle.mt_client.specs.Telling.{told_in, mirrors_with, mirrors_by, is_due, are_due, posts_told, portion, follows_text, telling_text, all_posts, portions_text, HasCome, HasTold, IsUnsaid, IsHalfTold, IsStopped, IsBrokenOff, AreTold, HasToldPost, HasToldSome, HasToldPortion, HasToldSo, HasToldAll, HasToldAllOut, IsToldUpTo}
-use Rattle.mt_client.proofs.RequestLaws.{sent_whole, part_first, part_second}
-use Rattle.mt_client.proofs.RelayLaws.{printed-append, broken_cut}
+use Rattle.mt_client.specs.Telling.{told_in, mirrors_with, mirrors_by, is_due, are_due, posts_told, portion, follows_text, telling_text, all_posts, portions_text, HasCome, HasTold, IsUnsaid, IsStopped, IsBrokenOff, AreTold, HasToldPost, HasToldSome, HasToldPortion, HasToldSo, HasToldAll, HasToldAllOut, IsToldUpTo}
+use Rattle.mt_client.proofs.OpeningLaws.{watched_whole}
 use Rattle.mt_client.proofs.SeriesLaws.{due_to, are_both}
-use Rattle.mt_client.proofs.MirrorLaws.{runs_read}
-use Rattle.mt_client.proofs.FoundLaws.{watched_whole}
+use Rattle.mt_client.proofs.CallLaws.{connection≢output, no_memory≢output}
+use Rattle.mt_client.proofs.RelayLaws.{part_first, part_second, printed-append, runs_read, broken_cut}
+use Rattle.std.proofs.lemmas.Option.{same_Some}
+use Rattle.mt_lines.specs.Words.{words}
+use Rattle.mt_events.specs.declared.opening.Scope.TheVariants.{All}
+use Rattle.mt_client.specs.Effects.{HasToldLines}
 
 pub told_both : (named : NamedTelling) (ps qs : List PostView) (old : List MirrorView) → posts_told named old (ps ++ qs) ≡ posts_told named old ps ++ posts_told named (mirrors_by old ps) qs
 told_both named [] qs old = refl
@@ -29,14 +32,14 @@ told_both named (p ∷ ps) qs old =
     ap (λ t. told_in named old p ++ t) (told_both named ps qs (mirrors_with old p))
     ∙ sym (append_assoc (told_in named old p) (posts_told named (mirrors_with old p) ps) (posts_told named (mirrors_by (mirrors_with old p) ps) qs))
 
-abbrev pub both_told : {named : NamedTelling} (scope : Scope) (ps qs : List PostView) (s t : List ℕ) (old mid new : List MirrorView) (before middle after : List Item) (begun between done : List ℕ)
+abbrev pub both_told : {named : NamedTelling} {scope : Scope} {ps qs : List PostView} {s t : List ℕ} {old mid new : List MirrorView} {before middle after : List Item} {begun between done : List ℕ}
     → AreTold named scope ps s old mid before middle begun between → AreTold named scope qs t mid new middle after between done → AreTold named scope (ps ++ qs) (s ++ t) old new before after begun done
-both_told {named} scope ps qs s t old mid new before middle after begun between done f h = record {
+both_told {named} {scope} {ps} {qs} {s} {t} {old} {mid} {new} {before} {middle} {after} {begun} f h = record {
   lines = f.lines ++ h.lines;
   valid = each_append IsPost ps qs f.valid h.valid;
   due = are_both (due_to scope) ps qs old f.due (subst (λ ms. are_due scope ms qs ≡ true) f.make h.due);
   make = h.make ∙ ap (λ ms. mirrors_by ms qs) f.make ∙ sym (fold-append mirrors_with old ps qs);
-  read = runs_read f.lines h.lines before middle after f.read h.read;
+  read = runs_read f.lines h.lines after f.read h.read;
   text = printed-append f.lines h.lines ∙ (λ k. f.text k ++ h.text k);
   out =
       h.out ∙ (λ k. f.out k ++ posts_told named (f.make k) qs)
@@ -44,16 +47,16 @@ both_told {named} scope ps qs s t old mid new before middle after begun between 
       ∙ ap (λ x. begun ++ x) (sym (told_both named ps qs old));
 }
 
-abbrev pub none_told : {named : NamedTelling} (scope : Scope) (old : List MirrorView) (before : List Item) (begun : List ℕ) → AreTold named scope [] [] old old before before begun begun
-none_told {named} scope old before begun = record { lines = []; valid = tt; due = refl; make = refl; read = refl; text = refl; out = sym (append-nil begun) }
+abbrev pub none_told : {named : NamedTelling} {scope : Scope} {old : List MirrorView} {before : List Item} {begun : List ℕ} → AreTold named scope [] [] old old before before begun begun
+none_told {named} {scope} {old} {before} {begun} = record { lines = []; valid = tt; due = refl; make = refl; read = refl; text = refl; out = sym (append-nil begun) }
 
-abbrev pub said_so : {named : NamedTelling} (scope : Scope) (ps : List PostView) (s t : List ℕ) (old new : List MirrorView) (before after : List Item) (begun done : List ℕ) → s ≡ t → AreTold named scope ps s old new before after begun done → AreTold named scope ps t old new before after begun done
-said_so {named} scope ps s t old new before after begun done e f = record { lines = f.lines; valid = f.valid; due = f.due; make = f.make; read = f.read; text = f.text ∙ e; out = f.out }
+abbrev pub said_so : {named : NamedTelling} {scope : Scope} {ps : List PostView} {s t : List ℕ} {old new : List MirrorView} {before after : List Item} {begun done : List ℕ} → s ≡ t → AreTold named scope ps s old new before after begun done → AreTold named scope ps t old new before after begun done
+said_so e f = record { lines = f.lines; valid = f.valid; due = f.due; make = f.make; read = f.read; text = f.text ∙ e; out = f.out }
 
 -- one post
-abbrev pub post_told : {named : NamedTelling} (scope : Scope) (first : List ℕ) (post : PostView) (old new : List MirrorView) (before middle after : List Item) (begun done : List ℕ) → before ≡ Text first ∷ middle → IsPosted first middle after post → IsPost post
+abbrev pub post_told : {named : NamedTelling} (scope : Scope) {first : List ℕ} {post : PostView} (old : List MirrorView) {new : List MirrorView} {before middle after : List Item} (begun : List ℕ) {done : List ℕ} → before ≡ Text first ∷ middle → IsPosted first middle after post → IsPost post
     → is_due scope old post ≡ true → new ≡ mirrors_with old post → done ≡ begun ++ told_in named old post → HasToldPost named scope old new before after begun done
-post_told {named} scope first post old new before middle after begun done there p valid due make out = (
+post_told {named} scope {first} {post} old begun there p valid due make out = (
   post,
   record {
     lines = first ∷ p.others;
@@ -66,61 +69,45 @@ post_told {named} scope first post old new before middle after begun done there 
   },
 )
 
-pub half_told : {named : NamedTelling} (scope : Scope) (first : List ℕ) (post : PostView) (old : List MirrorView) (before middle after : List Item) (begun done : List ℕ) → before ≡ Text first ∷ middle → IsPosted first middle after post → IsPost post → is_due scope old post ≡ true
-    → IsCutOff (told_in named old post) begun done → IsHalfTold named scope old before begun done
-half_told {named} scope first post old before middle after begun done there p valid due out = record {
-  post = post;
-  lines = first ∷ p.others;
-  later = after;
-  valid = valid;
-  due = due;
-  read = there ∙ ap (λ x. Text first ∷ x) p.read;
-  text = p.text;
-  out = out;
-}
-
 -- what was printed up to a fault
-pub unsaid : (f : ClientFault) (before : List Item) (old new : List ℕ) → f ≢ Output → new ≡ old → IsUnsaid f before old new
-unsaid Connection before old new other same = same
-unsaid NoMemory before old new other same = same
-unsaid Output before old new other same = absurd (other refl)
-
 pub unsaid_of : (f : ClientFault) (before : List Item) (old new : List ℕ) → IsBroken f before old new → (f ≢ Output → new ≡ old) → IsUnsaid f before old new
-unsaid_of Connection before old new b kept = kept (λ e. let no : ◌≡◌ {A = ClientFault} Connection Output = e in cc)
-unsaid_of NoMemory before old new b kept = kept (λ e. let no : ◌≡◌ {A = ClientFault} NoMemory Output = e in cc)
+unsaid_of Connection before old new b kept = kept connection≢output
+unsaid_of NoMemory before old new b kept = kept no_memory≢output
 unsaid_of Output before old new b kept = b
 
-pub stopped_post : {named : NamedTelling} (f : ClientFault) (scope : Scope) (first : List ℕ) (post : PostView) (old : List MirrorView) (before middle after : List Item) (begun done : List ℕ) → before ≡ Text first ∷ middle → IsPosted first middle after post → IsPost post
+pub stopped_post : {named : NamedTelling} {f : ClientFault} (scope : Scope) {first : List ℕ} {post : PostView} (old : List MirrorView) {before middle after : List Item} {begun done : List ℕ} → before ≡ Text first ∷ middle → IsPosted first middle after post → IsPost post
     → (f ≢ Output → done ≡ begun) → (f ≡ Output → (is_due scope old post ≡ true) × IsCutOff (told_in named old post) begun done) → IsStopped named f scope old before begun done
-stopped_post {named} f scope first post old before middle after begun done there p valid kept cut = go f kept cut
+stopped_post {named} {f} scope {first} {post} old {before} {middle} {after} {begun} {done} there p valid kept cut = go f kept cut
   where
     go : (f : ClientFault) → (f ≢ Output → done ≡ begun) → (f ≡ Output → (is_due scope old post ≡ true) × IsCutOff (told_in named old post) begun done) → IsStopped named f scope old before begun done
-    go Connection same half = inl (same (λ e. let no : ◌≡◌ {A = ClientFault} Connection Output = e in cc))
-    go NoMemory same half = inl (same (λ e. let no : ◌≡◌ {A = ClientFault} NoMemory Output = e in cc))
-    go Output same half = let h = half refl in inr (refl, half_told scope first post old before middle after begun done there p valid h.0 h.1)
+    go Connection same half = inl (same connection≢output)
+    go NoMemory same half = inl (same no_memory≢output)
+    go Output same half =
+        let h = half refl in
+        inr (refl, record { post = post; lines = first ∷ p.others; later = after; valid = valid; due = h.0; read = there ∙ ap (λ x. Text first ∷ x) p.read; text = p.text; out = h.1 })
 
 -- so many posts
-pub none_yet : {named : NamedTelling} (scope : Scope) (old : List MirrorView) (before : List Item) (begun : List ℕ) → HasToldSome named 0 scope old old before before begun begun
-none_yet {named} scope old before begun = record { posts = []; many = refl; told = none_told scope old before begun }
+pub none_yet : {named : NamedTelling} {scope : Scope} {old : List MirrorView} {before : List Item} {begun : List ℕ} → HasToldSome named 0 scope old old before before begun begun
+none_yet = record { posts = []; many = refl; told = none_told }
 
-pub some_more : {named : NamedTelling} (n : ℕ) (scope : Scope) (old mid new : List MirrorView) (before middle after : List Item) (begun between done : List ℕ) → HasToldSome named n scope old mid before middle begun between → HasToldPost named scope mid new middle after between done
+pub some_more : {named : NamedTelling} {n : ℕ} {scope : Scope} {old mid new : List MirrorView} {before middle after : List Item} {begun between done : List ℕ} → HasToldSome named n scope old mid before middle begun between → HasToldPost named scope mid new middle after between done
     → HasToldSome named (n + 1) scope old new before after begun done
-some_more {named} n scope old mid new before middle after begun between done f h =
+some_more f h =
     let p : PostView = h.0 in
     let l = length-append f.posts (p ∷ []) in
     let m = f.many in
     record {
       posts = f.posts ++ p ∷ [];
       many = omega (arith, l, m);
-      told = said_so scope (f.posts ++ p ∷ []) (flat_map post_text f.posts ++ post_text p) (flat_map post_text (f.posts ++ p ∷ [])) old new before after begun done
+      told = said_so
           (ap (λ x. flat_map post_text f.posts ++ x) (sym (append-nil (post_text p))) ∙ sym (flat_map-append post_text f.posts (p ∷ [])))
-          (both_told scope f.posts (p ∷ []) (flat_map post_text f.posts) (post_text p) old mid new before middle after begun between done f.told h.1);
+          (both_told f.told h.1);
     }
 
 -- their end
-pub portion_whole : {named : NamedTelling} (count n : ℕ) (scope : Scope) (old new : List MirrorView) (before middle after : List Item) (begun done : List ℕ) → n ≡ count → HasToldSome named n scope old new before middle begun done → middle ≡ texts (counted_line count ∷ []) ++ after
+pub portion_whole : {named : NamedTelling} {count n : ℕ} {scope : Scope} {old new : List MirrorView} {before middle after : List Item} {begun done : List ℕ} → n ≡ count → HasToldSome named n scope old new before middle begun done → middle ≡ texts (counted_line count ∷ []) ++ after
     → HasToldPortion named count scope old new before after begun done
-portion_whole {named} count n scope old new before middle after begun done all f e =
+portion_whole {named} {count} {n} {scope} {old} {new} {before} {middle} {after} all f e =
     let t = f.told in
     record {
       posts = f.posts;
@@ -130,26 +117,26 @@ portion_whole {named} count n scope old new before middle after begun done all f
         valid = t.valid;
         due = t.due;
         make = t.make;
-        read = runs_read t.lines (counted_line count ∷ []) before middle after t.read e;
+        read = runs_read t.lines (counted_line count ∷ []) after t.read e;
         text = printed-append t.lines (counted_line count ∷ []) ∙ (λ k. t.text k ++ append-nil (count_text count) k);
         out = t.out;
       };
     }
 
 -- at most so many posts, and no whole portion before them
-pub so_few : {named : NamedTelling} (count n : ℕ) (scope : Scope) (old new : List MirrorView) (before after : List Item) (begun done : List ℕ) → n ≤ count → HasToldSome named n scope old new before after begun done → HasToldSo named count scope old new before after begun done
-so_few {named} count n scope old new before after begun done le f = record { portions = []; rest = f.posts; whole = tt; within = let m = f.many in omega (arith, m, le); told = f.told }
+pub so_few : {named : NamedTelling} {count n : ℕ} {scope : Scope} {old new : List MirrorView} {before after : List Item} {begun done : List ℕ} → n ≤ count → HasToldSome named n scope old new before after begun done → HasToldSo named count scope old new before after begun done
+so_few le f = record { portions = []; rest = f.posts; whole = tt; within = let m = f.many in omega (arith, m, le); told = f.told }
 
-pub so_none : {named : NamedTelling} (count : ℕ) (scope : Scope) (old : List MirrorView) (before : List Item) (begun : List ℕ) → HasToldSo named count scope old old before before begun begun
-so_none {named} count scope old before begun = so_few count 0 scope old old before before begun begun (omega arith) (none_yet scope old before begun)
+pub so_none : {named : NamedTelling} {count : ℕ} {scope : Scope} {old : List MirrorView} {before : List Item} {begun : List ℕ} → HasToldSo named count scope old old before before begun begun
+so_none = so_few (omega arith) none_yet
 
 -- what is told from here on is told from the start on, behind the portions that were told
 abbrev pub AreToldBefore : NamedTelling → ℕ → Scope → List MirrorView → List MirrorView → List Item → List Item → List ℕ → List ℕ → Type 0
 AreToldBefore named count scope old mid before middle begun between =
     (new : List MirrorView) (after : List Item) (done : List ℕ) → HasToldSo named count scope mid new middle after between done → HasToldSo named count scope old new before after begun done
 
-pub portion_before : {named : NamedTelling} (count : ℕ) (scope : Scope) (old mid : List MirrorView) (before middle : List Item) (begun between : List ℕ) → HasToldPortion named count scope old mid before middle begun between → AreToldBefore named count scope old mid before middle begun between
-portion_before {named} count scope old mid before middle begun between f new after done h =
+pub portion_before : {named : NamedTelling} {count : ℕ} {scope : Scope} {old mid : List MirrorView} {before middle : List Item} {begun between : List ℕ} → HasToldPortion named count scope old mid before middle begun between → AreToldBefore named count scope old mid before middle begun between
+portion_before {named} {count} {scope} {old} {mid} {before} {middle} {begun} f new after done h =
     let first : List ℕ = followed_text f.posts (count_text count) in
     let posts : f.posts ++ all_posts h.portions h.rest ≡ all_posts (f.posts ∷ h.portions) h.rest = sym (append_assoc f.posts (flat_map (λ posts. posts) h.portions) h.rest) in
     let text : first ++ portions_text count h.portions h.rest ≡ portions_text count (f.posts ∷ h.portions) h.rest =
@@ -160,8 +147,8 @@ portion_before {named} count scope old mid before middle begun between f new aft
       whole = (f.many, h.whole);
       within = h.within;
       told = subst (λ x. AreTold named scope x (portions_text count (f.posts ∷ h.portions) h.rest) old new before after begun done) posts
-          (said_so scope (f.posts ++ all_posts h.portions h.rest) (first ++ portions_text count h.portions h.rest) (portions_text count (f.posts ∷ h.portions) h.rest) old new before after begun done text
-          (both_told scope f.posts (all_posts h.portions h.rest) first (portions_text count h.portions h.rest) old mid new before middle after begun between done f.told h.told));
+          (said_so text
+          (both_told f.told h.told));
     }
 
 -- a refusal behind them, and a fault
@@ -171,63 +158,29 @@ all_behind {named} count scope old mid before middle after begun between done f 
     let a : HasToldAll named count scope h.0 mid middle after between h.1 = h.2 in
     (h.0, h.1, record { made = a.made; middle = a.middle; so = f a.made a.middle h.1 a.so; refused = a.refused }, h.3)
 
-pub up_to_behind : {named : NamedTelling} (fault : ClientFault) (count : ℕ) (scope : Scope) (old mid : List MirrorView) (before middle : List Item) (begun between done : List ℕ) → AreToldBefore named count scope old mid before middle begun between → IsToldUpTo named fault count scope mid middle between done
-    → IsToldUpTo named fault count scope old before begun done
-up_to_behind {named} fault count scope old mid before middle begun between done f h =
-    record { made = h.made; middle = h.middle; between = h.between; so = f h.made h.middle h.between h.so; stopped = h.stopped }
-
-pub up_to_whole : {named : NamedTelling} (count : ℕ) (scope : Scope) (old new : List MirrorView) (before middle : List Item) (begun done : List ℕ) → AreToldBefore named count scope old new before middle begun done → IsToldUpTo named Connection count scope old before begun done
-up_to_whole {named} count scope old new before middle begun done f = record { made = new; middle = middle; between = done; so = f new middle done (so_none count scope new middle done); stopped = inl refl }
-
 -- the line behind so many posts
-pub all_told : {named : NamedTelling} {T O : Type 0} (r : Result Bool ClientFault) (count n : ℕ) (scope : Scope) (refusal : List ℕ) (old new : List MirrorView) (before middle after : List Item) (begun done : List ℕ) → n ≡ count → (T → O → HasToldSome named n scope old new before middle begun done)
-    → IfOk r (λ going. T → MatchBool going (middle ≡ texts (counted_line count ∷ []) ++ after) (HasRefused refusal middle after))
-    → IfOk r (λ going. T → O → MatchBool going (HasToldPortion named count scope old new before after begun done) (HasToldAll named count scope refusal old before after begun done))
-all_told {named} (Ok true) count n scope refusal old new before middle after begun done e f h = λ t u. portion_whole count n scope old new before middle after begun done e (f t u) (h t)
-all_told {named} (Ok false) count n scope refusal old new before middle after begun done e f h =
-    λ t u. record { made = new; middle = middle; so = so_few count n scope old new before middle begun done (omega (arith, e)) (f t u); refused = h t }
-all_told {named} (Err k) count n scope refusal old new before middle after begun done e f h = tt
-
-pub all_few : {named : NamedTelling} (count n : ℕ) (scope : Scope) (refusal : List ℕ) (old new : List MirrorView) (before middle after : List Item) (begun between done : List ℕ) → n ≤ count → HasToldSome named n scope old new before middle begun between → (done ≡ between) × HasRefused refusal middle after
+pub all_few : {named : NamedTelling} {count n : ℕ} {scope : Scope} {refusal : List ℕ} {old new : List MirrorView} {before middle after : List Item} {begun between done : List ℕ} → n ≤ count → HasToldSome named n scope old new before middle begun between → (done ≡ between) × HasRefused refusal middle after
     → HasToldAll named count scope refusal old before after begun done
-all_few {named} count n scope refusal old new before middle after begun between done le f r = record {
+all_few {named} {count} {n} {scope} {refusal} {old} {new} {before} {middle} {after} {begun} le f r = record {
   made = new;
   middle = middle;
-  so = subst (λ x. HasToldSo named count scope old new before middle begun x) (sym r.0) (so_few count n scope old new before middle begun between le f);
+  so = subst (λ x. HasToldSo named count scope old new before middle begun x) (sym r.0) (so_few le f);
   refused = r.1;
 }
 
-pub up_to_some : {named : NamedTelling} (fault : ClientFault) (count n : ℕ) (scope : Scope) (old new : List MirrorView) (before middle : List Item) (begun between done : List ℕ) → n ≤ count → HasToldSome named n scope old new before middle begun between → IsStopped named fault scope new middle between done
+pub up_to_some : {named : NamedTelling} {fault : ClientFault} {count n : ℕ} {scope : Scope} {old new : List MirrorView} {before middle : List Item} {begun between done : List ℕ} → n ≤ count → HasToldSome named n scope old new before middle begun between → IsStopped named fault scope new middle between done
     → IsToldUpTo named fault count scope old before begun done
-up_to_some {named} fault count n scope old new before middle begun between done le f s =
-    record { made = new; middle = middle; between = between; so = so_few count n scope old new before middle begun between le f; stopped = s }
+up_to_some {named} {fault} {count} {n} {scope} {old} {new} {before} {middle} {begun} {between} le f s =
+    record { made = new; middle = middle; between = between; so = so_few le f; stopped = s }
 
-pub end_broken : {named : NamedTelling} (r : Result Bool ClientFault) (count n : ℕ) (scope : Scope) (old new : List MirrorView) (before middle : List Item) (begun done : List ℕ) → IfErr r (λ f. f ≢ Output) → n ≤ count → HasToldSome named n scope old new before middle begun done
-    → IfErr r (λ fault. IsToldUpTo named fault count scope old before begun done)
-end_broken {named} (Ok b) count n scope old new before middle begun done kind le f = tt
-end_broken {named} (Err k) count n scope old new before middle begun done kind le f = up_to_some k count n scope old new before middle begun done done le f (inl (unsaid k middle done done kind refl))
-
-pub up_to_none : {named : NamedTelling} (fault : ClientFault) (count : ℕ) (scope : Scope) (old : List MirrorView) (before : List Item) (begun done : List ℕ) → IsUnsaid fault before begun done → IsToldUpTo named fault count scope old before begun done
-up_to_none {named} fault count scope old before begun done u = record { made = old; middle = before; between = begun; so = so_none count scope old before begun; stopped = inl u }
-
-pub no_memory_told : {named : NamedTelling} (fault : ClientFault) (count : ℕ) (scope : Scope) (old : List MirrorView) (before : List Item) (begun : List ℕ) → fault ≡ NoMemory → IsToldUpTo named fault count scope old before begun begun
-no_memory_told {named} fault count scope old before begun kind = up_to_none fault count scope old before begun begun (subst (λ f. IsUnsaid f before begun begun) (sym kind) refl)
-
--- a refusal that is printed, in part or whole
-pub refused_at_once : {named : NamedTelling} (count : ℕ) (scope : Scope) (refusal : List ℕ) (old : List MirrorView) (before after : List Item) (begun done : List ℕ) → HasRefused refusal before after → done ≡ begun ++ ended refusal → HasToldAllOut named count scope old before after begun done
-refused_at_once {named} count scope refusal old before after begun done r e = (refusal, begun, record { made = old; middle = before; so = so_none count scope old before begun; refused = r }, e)
+pub up_to_none : {named : NamedTelling} {fault : ClientFault} {count : ℕ} {scope : Scope} {old : List MirrorView} {before : List Item} {begun done : List ℕ} → IsUnsaid fault before begun done → IsToldUpTo named fault count scope old before begun done
+up_to_none {named} {fault} {count} {scope} {old} {before} {begun} u = record { made = old; middle = before; between = begun; so = so_none; stopped = inl u }
 
 -- of a line that was read a part was printed, not all
-pub unsaid_cut : (fault : ClientFault) (line : List ℕ) (before after : List Item) (begun done : List ℕ) → fault ≡ Output → before ≡ Text line ∷ after → IsCutOff (ended line) begun done → IsUnsaid fault before begun done
-unsaid_cut fault line before after begun done kind there cut =
+pub unsaid_cut : {fault : ClientFault} {line : List ℕ} {before after : List Item} {begun done : List ℕ} → fault ≡ Output → before ≡ Text line ∷ after → IsCutOff (ended line) begun done → IsUnsaid fault before begun done
+unsaid_cut {fault} {line} {before} {after} {begun} {done} kind there cut =
     let part : IsUnsaid Output before begun done = broken_cut Output line before after begun done there refl cut in
     subst (λ f. IsUnsaid f before begun done) (sym kind) part
-
-pub refusal_cut : {named : NamedTelling} (fault : ClientFault) (count : ℕ) (scope : Scope) (refusal : List ℕ) (old : List MirrorView) (before after : List Item) (begun between done : List ℕ) → fault ≡ Output → HasToldAll named count scope refusal old before after begun between → IsCutOff (ended refusal) between done
-    → IsToldUpTo named fault count scope old before begun done
-refusal_cut {named} fault count scope refusal old before after begun between done kind a cut =
-    let r = a.refused in
-    record { made = a.made; middle = a.middle; between = between; so = a.so; stopped = inl (unsaid_cut fault refusal a.middle after between done kind r.read cut) }
 
 -- the requests for posts
 follows_again : (line : List ℕ) (k : ℕ) → flat_map ended (replicate k line) ++ ended line ≡ ended line ++ flat_map ended (replicate k line)
@@ -247,18 +200,12 @@ pub follows_part : (count k : ℕ) (old mid new : List ℕ) → mid ≡ old ++ f
 follows_part count k old mid new e p =
     (k + 1, subst (λ t. IsSentPart t old new) (sym (follows_more count k)) (part_second (follows_text count k) (ended (numbered_text (codes "follow") count)) old mid new e p))
 
-pub follows_whole : (count k : ℕ) (old new : List ℕ) → new ≡ old ++ follows_text count k → (times : ℕ) × IsSentPart (follows_text count times) old new
-follows_whole count k old new e = (k, sent_whole (follows_text count k) old new e)
-
 pub telling_first : (scope : Scope) (old new : List ℕ) → IsSentPart (ended (watch_text scope)) old new → (times : ℕ) × IsSentPart (telling_text scope times) old new
 telling_first scope old new p = (0, part_first (ended (watch_text scope)) (follows_text portion 0) old new p)
 
-pub telling_second : (scope : Scope) (old mid new : List ℕ) → mid ≡ old ++ ended (watch_text scope) → ((times : ℕ) × IsSentPart (follows_text portion times) mid new) → (times : ℕ) × IsSentPart (telling_text scope times) old new
-telling_second scope old mid new e p = (p.0, part_second (ended (watch_text scope)) (follows_text portion p.0) old mid new e p.1)
-
 -- a whole telling
-come_whole : {named : NamedTelling} (scope : Scope) (found made : List MirrorView) (before opened after : List Item) (begun done : List ℕ) → HasFound scope before opened found → (s : HasToldSo named portion scope found made opened after begun done) → HasCome scope s.portions s.rest before after found
-come_whole {named} scope found made before opened after begun done f s =
+come_whole : {named : NamedTelling} {scope : Scope} {found made : List MirrorView} {before opened after : List Item} {begun done : List ℕ} → HasFound scope before opened found → (s : HasToldSo named portion scope found made opened after begun done) → HasCome scope s.portions s.rest before after found
+come_whole {named} {scope} {found} {made} {before} {opened} {after} f s =
     let w = watched_whole scope found before opened f in
     let t = s.told in
     record {
@@ -268,13 +215,13 @@ come_whole {named} scope found made before opened after begun done f s =
       within = s.within;
       valid = t.valid;
       due = t.due;
-      read = runs_read w.lines t.lines before opened after w.read t.read;
+      read = runs_read w.lines t.lines after w.read t.read;
       text = printed-append w.lines t.lines ∙ (λ k. w.text k ++ t.text k);
     }
 
-pub told_whole : {named : NamedTelling} (scope : Scope) (found : List MirrorView) (before opened after : List Item) (begun done : List ℕ) → HasFound scope before opened found → HasToldAllOut named portion scope found opened after begun done
+pub told_whole : {named : NamedTelling} {scope : Scope} {found : List MirrorView} {before opened : List Item} (after : List Item) (begun done : List ℕ) → HasFound scope before opened found → HasToldAllOut named portion scope found opened after begun done
     → (mirrors : List MirrorView) × (portions : List (List PostView)) × (rest : List PostView) × (refusal : List ℕ) × HasTold scope portions rest refusal before after mirrors × (done ≡ begun ++ posts_told named mirrors (all_posts portions rest) ++ ended refusal)
-told_whole {named} scope found before opened after begun done f h =
+told_whole {named} {scope} {found} {before} {opened} after begun done f h =
     let a : HasToldAll named portion scope h.0 found opened after begun h.1 = h.2 in
     let s = a.so in
     let t = s.told in (
@@ -282,12 +229,12 @@ told_whole {named} scope found before opened after begun done f h =
       s.portions,
       s.rest,
       h.0,
-      record { middle = a.middle; came = come_whole scope found a.made before opened a.middle begun h.1 f s; refused = a.refused },
+      record { middle = a.middle; came = come_whole f s; refused = a.refused },
       h.3 ∙ ap (λ x. x ++ ended h.0) t.out,
     )
 
-pub telling_stopped : {named : NamedTelling} (fault : ClientFault) (scope : Scope) (found : List MirrorView) (before opened : List Item) (begun done : List ℕ) → HasFound scope before opened found → IsToldUpTo named fault portion scope found opened begun done → IsBrokenOff named fault scope before begun done
-telling_stopped {named} fault scope found before opened begun done f h =
+pub telling_stopped : {named : NamedTelling} {fault : ClientFault} {scope : Scope} {found : List MirrorView} {before opened : List Item} {begun done : List ℕ} → HasFound scope before opened found → IsToldUpTo named fault portion scope found opened begun done → IsBrokenOff named fault scope before begun done
+telling_stopped {named} {fault} {scope} {found} {before} {opened} {begun} {done} f h =
     let s = h.so in
     let t = s.told in
     inr (
@@ -295,19 +242,36 @@ telling_stopped {named} fault scope found before opened begun done f h =
       s.portions,
       s.rest,
       h.middle,
-      come_whole scope found h.made before opened h.middle begun h.between f s,
+      come_whole f s,
       subst (λ x. IsStopped named fault scope (mirrors_by found (all_posts s.portions s.rest)) h.middle x done) t.out
           (subst (λ ms. IsStopped named fault scope ms h.middle h.between done) t.make h.stopped),
     )
 
-pub stopped_behind : (named : NamedTelling) (r : Result (Unit {0}) ClientFault) (scope : Scope) (found : List MirrorView) (before opened : List Item) (begun done : List ℕ) → HasFound scope before opened found → IfErr r (λ fault. IsToldUpTo named fault portion scope found opened begun done)
-    → IfErr r (λ fault. IsBrokenOff named fault scope before begun done)
-stopped_behind named (Ok u) scope found before opened begun done f h = tt
-stopped_behind named (Err k) scope found before opened begun done f h = telling_stopped k scope found before opened begun done f h
+-- some, and then others
+pub both_lines : {named : NamedTelling} {k n : ℕ} {old mid new : List MirrorView} {before middle after : List Item} {begun between done : List ℕ}
+    → HasToldLines named k old mid before middle begun between → HasToldLines named n mid new middle after between done → HasToldLines named (k + n) old new before after begun done
+both_lines f h =
+    let ps = f.posts in
+    let qs = h.posts in
+    record {
+      posts = ps ++ qs;
+      told = said_so (sym (flat_map-append post_text ps qs))
+          (both_told f.told h.told);
+      many = length-append f.told.lines h.told.lines ∙ (λ i. f.many i + h.many i);
+    }
 
-pub told_behind : (named : NamedTelling) (T U Y : Type 0) (r : Result (Unit {0}) ClientFault) (scope : Scope) (found : List MirrorView) (before opened after : List Item) (begun done : List ℕ) → (T → HasFound scope before opened found) → OnOk r (T → U → HasToldAllOut named portion scope found opened after begun done)
-    → OnOk r (T → U → Y ⊎ ((mirrors : List MirrorView) × (portions : List (List PostView)) × (rest : List PostView) × (refusal : List ℕ) × HasTold scope portions rest refusal before after mirrors × (done ≡ begun ++ posts_told named mirrors (all_posts portions rest) ++ ended refusal)))
-told_behind named T U Y (Ok x) scope found before opened after begun done f h = λ t u. inr (told_whole scope found before opened after begun done (f t) (h t u))
-told_behind named T U Y (Err k) scope found before opened after begun done f h = tt
+-- one post, of its first line and so many behind it
+pub one_told : {named : NamedTelling} {behind : ℕ} {first : List ℕ} {post : PostView} {old new : List MirrorView} {before middle after : List Item} {begun done : List ℕ}
+    → before ≡ Text first ∷ middle → Some behind ≡ event_count (words first) → IsPosted first middle after post → IsPost post → is_due All old post ≡ true → new ≡ mirrors_with old post → done ≡ begun ++ told_in named old post
+    → HasToldLines named (1 + behind) old new before after begun done
+one_told {named} {behind} {first} {post} {old} {new} {before} {middle} {after} {begun} there counts p valid due make out =
+    let same = same_Some behind (length p.others) (counts ∙ p.counted) in
+    record {
+      posts = post ∷ [];
+      told = said_so (sym (append-nil (post_text post))) (post_told All old begun there p valid due make out).1;
+      many = omega (arith, same);
+    }
 
--- a refusal in the place of an opening
+-- posts of all but some lines
+abbrev pub HasToldBut : NamedTelling → ℕ → ℕ → List MirrorView → List MirrorView → List Item → List Item → List ℕ → List ℕ → Type 0
+HasToldBut named count left old new before after begun done = (k : ℕ) × (k + left ≡ count) × HasToldLines named k old new before after begun done

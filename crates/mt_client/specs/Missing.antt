@@ -1,21 +1,15 @@
 -- Which lines are missing where the effects of a line are not told: what a watcher finds, an answer, or the posts of a watcher that is closed.
 -- A word with no source is this project's rule.
-use Rattle.std.specs.Prelude.{◌≡◌, ℕ, ◌+◌, Bool, true, List, ◌∷◌, ◌++◌, length, Some, IsTrue, ◌⊎◌}
+use Rattle.std.specs.Prelude.{◌≡◌, ℕ, ◌+◌, Bool, true, List, ◌∷◌, ◌++◌, length, Some, ◌⊎◌}
 use Rattle.std.specs.List.{flat_map, AllByRecursion}
 use Rattle.mt_lines.specs.Lines.{Item}
-use Rattle.mt_lines.specs.Reading.{failed_calls, last_faults, limit_of}
-use Rattle.mt_lines.specs.declared.line.LineReader.{LineReader}
-use Rattle.mt_lines.specs.declared.stream.Input.{Ghosts}
-use Rattle.mt_lines.specs.declared.stream.Output.{Ghosts as OutputGhosts}
 use Rattle.mt_events.specs.Posts.{PostView, IsPost, post_lines}
 use Rattle.mt_events.specs.Mirrors.{MirrorView}
 use Rattle.mt_events.specs.declared.opening.Scope.TheVariants.{All}
 use Rattle.mt_protocol.specs.declared.form.Form.TheVariants.{Posts}
 use Rattle.mt_protocol.specs.Verbs.{form_of}
-use Rattle.mt_client.specs.declared.fault.ClientFault.{ClientFault}
-use Rattle.mt_client.specs.declared.fault.ClientFault.TheVariants.{Connection, Output}
 use Rattle.mt_client.specs.Requests.{lines_behind}
-use Rattle.mt_client.specs.Reading.{texts, HasRead, HasBroken, NoneFirst}
+use Rattle.mt_client.specs.Reading.{texts, HasRead, NoneFirst}
 use Rattle.mt_client.specs.Replies.{IsAnswer}
 use Rattle.mt_client.specs.Awaited.{IsOneRefusal, IsRefusedOr}
 use Rattle.mt_client.specs.Finding.{HasFound, IsFinding}
@@ -53,13 +47,6 @@ abbrev pub IsMissingEffect : Type 0 → List ℕ → List Item → Type 0
 IsMissingEffect unsent line before =
     IsMissing unsent (IsRefusedOr (IsFinding All)) before
     ⊎ ((found : List MirrorView) × (opened : List Item) × HasFound All before opened found × IsMissingAnswer unsent line found opened)
-
--- a fault of calls that read, print and ask: Connection only where calls that read failed, or lines are missing, and Output only where calls of the output failed
-pub record IsEffectFault {R W O : Type 0} {g : Ghosts R} (w : OutputGhosts W) (h : OutputGhosts O) (fault : ClientFault) (missing : Type 0 → Type 0) (old new : LineReader R g) (asked sent : W) (begun done : O) : Type 0 where
-  pub limit : limit_of new ≡ limit_of old
-  pub cut : fault ≡ Connection → IsTrue g.tells → IsTrue g.counts → IsTrue w.counts
-      → HasBroken (failed_calls old) (failed_calls new) (last_faults old) (last_faults new) ⊎ missing (HasBroken (w.failed asked) (w.failed sent) (w.faults asked) (w.faults sent))
-  pub cause : fault ≡ Output → IsTrue h.counts → HasBroken (h.failed begun) (h.failed done) (h.faults begun) (h.faults done)
 
 -- where the lines of a post come first, so many stand behind its first one, it was applied, and all of them are read, and no others
 abbrev pub IsOnlyCounted : ℕ → List MirrorView → List MirrorView → List Item → List Item → Type 0

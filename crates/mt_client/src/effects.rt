@@ -7,12 +7,12 @@ ghost use Rattle.mt_events.specs.Posts.{ended};
 ghost use Rattle.mt_protocol.specs.Verbs.{form_of};
 ghost use Rattle.mt_client.specs.Replies.{IsAnswer};
 ghost use Rattle.mt_client.specs.Reading.{lines_left, HasBroken, IsSentPart, HasPassed};
-ghost use Rattle.mt_client.specs.Calls.{ReadsOn, WritesOn, IsOut, IsTellFault};
+ghost use Rattle.mt_client.specs.Calls.{ReadsOn, WritesOn, IsOut, IsTellFault, IsEffectFault};
 ghost use Rattle.mt_client.specs.Awaited.{IsRefusedOr, IsSuchPost};
 ghost use Rattle.mt_client.specs.Finding.{mirror_space};
 ghost use Rattle.mt_client.specs.Telling.{is_due, IsStopped};
 ghost use Rattle.mt_client.specs.Effects.{effects_text, HasToldLines, HasToldClosed, HasEffects, IsRefusedOut, IsRefusedLine, IsRefusedEffect, IsToldShort, IsClosedShort, IsAnsweredShort, IsEffectShort};
-ghost use Rattle.mt_client.specs.Missing.{AreDueLines, IsClosing, IsMissing, IsMissingAnswer, IsMissingEffect, IsEffectFault, IsOnlyCounted};
+ghost use Rattle.mt_client.specs.Missing.{AreDueLines, IsClosing, IsMissing, IsMissingAnswer, IsMissingEffect, IsOnlyCounted};
 ghost use Rattle.mt_events.specs.declared.opening.Scope.TheVariants.{All};
 
 use crate::answer::{is_refusal, lines_behind};

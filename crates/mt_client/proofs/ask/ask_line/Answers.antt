@@ -1,7 +1,8 @@
 use Rattle.std.proofs.Common.{rules, inl}
+use Rattle.mt_client.proofs.EndingLaws.{refused_passed}
+use Rattle.mt_client.proofs.CallLaws.{passes_passed, refused_of}
 use Rattle.mt_client.proofs.RelayLaws.{same_fault}
-use Rattle.mt_client.proofs.CallLaws.{refused_of, answer_passed}
-use Rattle.mt_client.proofs.SendingLaws.{refused_passed}
+use Rattle.std.proofs.lemmas.Result.{IfOk-weaker}
 use Rattle.mt_client.proofs.ask.ask_line.Goals as goal
 
 pub returns-then-not-branch-clause-answer : goal.returns-then-not-branch-clause-answer
@@ -13,4 +14,4 @@ returns-in_err-send_request-clause-connection g c is t u v = inl (c.send_request
 pub returns-clause-answer : goal.returns-clause-answer
 returns-clause-answer g c =
     rw (c.send_request.ensures.unread (search rules), c.send_request.ensures.unprinted (search rules), c.form_of.ensures) at
-    (answer_passed g.O.Output c.form_of.result c.pass_answer.result c.send_request.new.lines c.pass_answer.new.lines c.send_request.new.out c.pass_answer.new.out c.pass_answer.ensures.passed)
+    (IfOk-weaker c.pass_answer.result _ _ (λ told p. passes_passed p) c.pass_answer.ensures.passed)

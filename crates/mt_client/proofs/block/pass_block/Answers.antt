@@ -2,12 +2,12 @@ use Rattle.std.proofs.Common.{sym, subst}
 use Rattle.std.proofs.lemmas.Result.{IfOk-weaker, IfErr-weaker}
 use Rattle.mt_client.specs.declared.block.Block.TheVariants.{Namespace, Post}
 use Rattle.mt_client.specs.Replies.{IsBlockOf}
-use Rattle.mt_client.proofs.CallLaws.{read_still, handed_on, passes_as, passes_behind, pass_fault_reading, pass_fault_inner}
-use Rattle.mt_client.proofs.ReplyLaws.{block_needs_line, block_read}
+use Rattle.mt_client.proofs.EndingLaws.{block_read, block_needs_line}
+use Rattle.mt_client.proofs.CallLaws.{handed_on, fault_as, passes_as, passes_behind, pass_unprinted, pass_fault_inner}
 use Rattle.mt_client.proofs.block.pass_block.Goals as goal
 
 pub returns-in_err-next_text-clause-fault : goal.returns-in_err-next_text-clause-fault
-returns-in_err-next_text-clause-fault g c = handed_on _ _ _ c.from_residual.ensures.1 (pass_fault_reading (read_still _ c.requires.fresh) (λ t. block_needs_line c.args.block _) c.in_err-next_text.ensures.fault)
+returns-in_err-next_text-clause-fault g c = handed_on _ _ _ c.from_residual.ensures.1 (pass_unprinted (fault_as (λ t. block_needs_line c.args.block _) (λ b. b) c.in_err-next_text.ensures.fault))
 
 pub returns-in-Namespace-clause-passed : goal.returns-in-Namespace-clause-passed
 returns-in-Namespace-clause-passed g c =

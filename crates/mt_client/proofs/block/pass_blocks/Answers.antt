@@ -1,12 +1,12 @@
-use Rattle.std.proofs.Common.{◌≡◌, ◌+◌, arith, refl, sym}
-use Rattle.mt_client.proofs.RelayLaws.{printed-append}
-use Rattle.mt_client.proofs.CallLaws.{read_both, out_both, out_as, handed_on, passes_read, passes_nothing, passes_both, pass_fault_behind, pass_refused_behind}
+use Rattle.std.proofs.Common.{[], ◌≡◌, ◌+◌, arith, refl, sym}
+use Rattle.mt_client.proofs.EndingLaws.{blocks_join, blocks_of, are_blocks, one_block}
 use Rattle.mt_client.proofs.SeriesLaws.{lines_at_first, lines_more, lines_cut}
-use Rattle.mt_client.proofs.ReplyLaws.{none_so_far, blocks_join, blocks_of, are_blocks, one_block}
+use Rattle.mt_client.proofs.CallLaws.{read_both, out_both, out_as, handed_on, passes_read, passes_nothing, passes_both, pass_fault_behind, pass_refused_behind}
+use Rattle.mt_client.proofs.RelayLaws.{printed-append}
 use Rattle.mt_client.proofs.block.pass_blocks.Goals as goal
 
 pub passing-init : goal.passing-init
-passing-init g c = record { goes = λ t. lines_at_first (blocks_of c.args.block) c.args.count tt _; passed = passes_nothing g.O.Output _ _ _ c.requires.fresh (none_so_far c.args.block c.args.count) }
+passing-init g c = record { goes = λ t. lines_at_first (blocks_of c.args.block) c.args.count tt _; passed = passes_nothing g.O.Output _ _ _ c.requires.fresh (record { blocks = []; each = tt; all = refl }, omega arith) }
 
 pub returns-in_err-behind-clause-fault : goal.returns-in_err-behind-clause-fault
 returns-in_err-behind-clause-fault g c =

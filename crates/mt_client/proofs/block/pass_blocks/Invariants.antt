@@ -1,8 +1,8 @@
 use Rattle.std.proofs.Common.{[], IsTrue}
 use Rattle.mt_client.specs.Reading.{lines_left}
 use Rattle.mt_client.specs.Calls.{PassesOn}
+use Rattle.mt_client.proofs.EndingLaws.{AreSoFar, blocks_of}
 use Rattle.mt_client.proofs.SeriesLaws.{CameInLines}
-use Rattle.mt_client.proofs.ReplyLaws.{AreSoFar, blocks_of}
 use Rattle.mt_client.proofs.block.pass_blocks.Given as goal
 
 -- blocks of all but the lines that are left were passed on

@@ -1,10 +1,10 @@
 use Rattle.std.proofs.Common.{refl}
-use Rattle.mt_client.proofs.CallLaws.{nothing_read, out_as, line_text, handed_on, passes_seen, passes_both, pass_fault_behind, pass_fault_printing, pass_refused}
-use Rattle.mt_client.proofs.ReplyLaws.{part_joined, part_needs_heading, part_needs_rows}
+use Rattle.mt_client.proofs.EndingLaws.{part_joined, part_needs_heading, part_needs_rows}
+use Rattle.mt_client.proofs.CallLaws.{nothing_read, out_as, line_text, handed_on, fault_refused, passes_seen, passes_both, pass_unprinted, pass_fault_behind, pass_fault_printing}
 use Rattle.mt_client.proofs.block.pass_part.Goals as goal
 
 pub returns-in_default-clause-fault : goal.returns-in_default-clause-fault
-returns-in_default-clause-fault g c = pass_refused refl (λ t. part_needs_heading _ _ (rw c.line.ensures at c.in_default.ensures.heading))
+returns-in_default-clause-fault g c = pass_unprinted (fault_refused refl (λ t. part_needs_heading _ _ (rw c.line.ensures at c.in_default.ensures.heading)))
 
 pub returns-in_err-print_line-clause-fault : goal.returns-in_err-print_line-clause-fault
 returns-in_err-print_line-clause-fault g c = handed_on _ _ _ c.from_residual.ensures.1 (pass_fault_printing (nothing_read _ c.requires.fresh) (line_text _ _ c.line-2.ensures) c.in_err-print_line.ensures.part)

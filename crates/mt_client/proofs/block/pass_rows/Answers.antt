@@ -1,5 +1,5 @@
+use Rattle.mt_client.proofs.EndingLaws.{no_rows, rows_join, rows_ended}
 use Rattle.mt_client.proofs.CallLaws.{handed_on, passes_read, passes_nothing, passes_both, pass_fault_behind}
-use Rattle.mt_client.proofs.ReplyLaws.{no_rows, rows_join, rows_ended}
 use Rattle.mt_client.proofs.block.pass_rows.Goals as goal
 
 pub rows-init : goal.rows-init

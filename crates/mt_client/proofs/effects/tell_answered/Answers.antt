@@ -2,11 +2,11 @@ use Rattle.std.proofs.Common.{rules, inl, inr}
 use Rattle.std.proofs.lemmas.Result.{IfErr-weaker, on_ok_weaker}
 use Rattle.mt_lines.specs.Reading.{last_line}
 use Rattle.mt_client.specs.Reading.{lines_left}
-use Rattle.mt_client.proofs.RequestLaws.{part_first, part_second, part_one}
+use Rattle.mt_client.proofs.CallLaws.{reads_both, writes_both, out_both, handed_on, fault_as, passes_passed, passes_read, refused_of, as_fault, effect_behind}
+use Rattle.mt_client.proofs.MissingLaws.{missing_later}
+use Rattle.mt_client.proofs.RelayLaws.{part_first, part_second, part_one}
 use Rattle.mt_client.specs.Missing.{IsClosing, IsMissing, IsMissingAnswer}
 use Rattle.mt_client.specs.Awaited.{IsRefusedOr}
-use Rattle.mt_client.proofs.CallLaws.{reads_both, writes_both, out_both, handed_on, passes_passed, passes_read, refused_of}
-use Rattle.mt_client.proofs.MissingLaws.{missing_later, effect_unsent, effect_passing, effect_behind}
 use Rattle.mt_client.proofs.effects.tell_answered.Goals as goal
 
 pub returns-in_err-send_request-clause-part : goal.returns-in_err-send_request-clause-part
@@ -15,7 +15,7 @@ returns-in_err-send_request-clause-part g c u = part_first _ _ _ _ (c.send_reque
 pub returns-in_err-send_request-clause-fault : goal.returns-in_err-send_request-clause-fault
 returns-in_err-send_request-clause-fault g c =
     handed_on _ _ _ c.from_residual.ensures.1
-    (effect_unsent (λ unsent. IsMissingAnswer unsent c.args.line.now c.args.mirrors.now.items (lines_left c.args.lines.now)) (λ unsent s none. inl (inr (s, none))) (c.send_request.ensures.cause (search rules)) c.in_err-send_request.ensures.fault)
+    (fault_as (λ t none v. inl (inr (c.send_request.ensures.cause (search rules) v, none))) (λ b. b) (as_fault c.in_err-send_request.ensures.fault))
 
 pub returns-in_err-send_request-clause-broken : goal.returns-in_err-send_request-clause-broken
 returns-in_err-send_request-clause-broken g c t u = handed_on _ _ _ c.from_residual.ensures.1 (inl (c.in_err-send_request.ensures.fault.broken t u))
@@ -32,8 +32,8 @@ returns-in_err-pass_answer-clause-part g c u = part_one _ _ _ _ ((c.send_request
 pub returns-in_err-pass_answer-clause-fault : goal.returns-in_err-pass_answer-clause-fault
 returns-in_err-pass_answer-clause-fault g c =
     handed_on _ _ _ c.from_residual-in_err-pass_answer.ensures.1
-    (effect_passing (λ unsent. IsMissingAnswer unsent c.args.line.now c.args.mirrors.now.items (lines_left c.args.lines.now)) (λ unsent none. inl (inl none))
-    (rw (c.form_of.ensures, c.send_request.ensures.unread (search rules), c.send_request.ensures.unprinted (search rules)) at c.in_err-pass_answer.ensures.fault))
+    (fault_as (λ t none v. inl (inl none)) (λ b. b)
+    (as_fault (rw (c.form_of.ensures, c.send_request.ensures.unread (search rules), c.send_request.ensures.unprinted (search rules)) at c.in_err-pass_answer.ensures.fault)))
 
 pub returns-in_err-pass_answer-clause-broken : goal.returns-in_err-pass_answer-clause-broken
 returns-in_err-pass_answer-clause-broken g c t u = handed_on _ _ _ c.from_residual-in_err-pass_answer.ensures.1 (inl (rw (c.send_request.ensures.unread (search rules), c.send_request.ensures.unprinted (search rules)) at (c.in_err-pass_answer.ensures.fault.broken t u)))

@@ -1,13 +1,9 @@
 use Rattle.std.proofs.Common.{rules, refl, inl, inr}
 use Rattle.std.proofs.lemmas.Result.{IfErr-weaker}
-use Rattle.mt_client.specs.Reading.{lines_left}
 use Rattle.mt_client.specs.declared.fault.ClientFault.TheVariants.{Output}
-use Rattle.mt_client.specs.Awaited.{IsRefusedOr}
-use Rattle.mt_client.specs.Missing.{IsClosing, IsMissing}
-use Rattle.mt_client.proofs.RelayLaws.{same_fault}
-use Rattle.mt_client.proofs.CallLaws.{handed_on}
 use Rattle.mt_client.proofs.TellingLaws.{unsaid_of}
-use Rattle.mt_client.proofs.MissingLaws.{effect_unsent, effect_telling}
+use Rattle.mt_client.proofs.CallLaws.{handed_on, fault_as, as_fault}
+use Rattle.mt_client.proofs.RelayLaws.{same_fault}
 use Rattle.mt_client.proofs.effects.tell_changes.Goals as goal
 
 pub returns-in_err-send_request-clause-broken : goal.returns-in_err-send_request-clause-broken
@@ -18,13 +14,12 @@ returns-in_err-send_request-clause-broken g c t u =
 pub returns-in_err-send_request-clause-fault : goal.returns-in_err-send_request-clause-fault
 returns-in_err-send_request-clause-fault g c =
     handed_on _ _ _ c.from_residual.ensures.1
-    (effect_unsent (λ unsent. IsMissing unsent (IsRefusedOr (IsClosing c.args.mirrors.now.items)) (lines_left c.args.lines.now)) (λ unsent s none. inr (s, none)) (c.send_request.ensures.cause (search rules)) c.in_err-send_request.ensures.fault)
+    (fault_as (λ t none v. inr (c.send_request.ensures.cause (search rules) v, none)) (λ b. b) (as_fault c.in_err-send_request.ensures.fault))
 
 pub returns-clause-broken : goal.returns-clause-broken
 returns-clause-broken g c t u = rw (c.send_request.ensures.unread (search rules), c.send_request.ensures.unprinted (search rules)) at (c.tell_closed.ensures.broken t u)
 
 pub returns-clause-fault : goal.returns-clause-fault
 returns-clause-fault g c =
-    IfErr-weaker c.tell_closed.result _ _
-    (λ f q. effect_telling (λ unsent. IsMissing unsent (IsRefusedOr (IsClosing c.args.mirrors.now.items)) (lines_left c.args.lines.now)) (λ unsent none. inl none) q)
+    IfErr-weaker c.tell_closed.result _ _ (λ f q. fault_as (λ t none v. inl none) (λ b. b) q)
     (rw (c.send_request.ensures.unread (search rules), c.send_request.ensures.unprinted (search rules)) at c.tell_closed.ensures.fault)

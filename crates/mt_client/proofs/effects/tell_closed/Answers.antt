@@ -1,35 +1,35 @@
 use Rattle.std.proofs.Common.{rules, inl, inr}
 use Rattle.mt_lines.specs.Reading.{last_line}
 use Rattle.mt_client.specs.Reading.{lines_left}
-use Rattle.mt_client.proofs.CallLaws.{connection≢output, read_still, writes_still, handed_on, tell_fault_reading, tell_fault_printing, tell_fault_behind, tell_checked}
 use Rattle.mt_client.proofs.TellingLaws.{unsaid_cut}
-use Rattle.mt_client.proofs.MissingLaws.{closing_needs_line, closing_needs_count, closing_needs_posts}
+use Rattle.mt_client.proofs.OpeningLaws.{needs_line, refused_some}
+use Rattle.mt_client.proofs.CallLaws.{handed_on, fault_as, fault_behind, fault_refused, fault_printing}
+use Rattle.mt_client.proofs.MissingLaws.{closing_needs_count, closing_needs_posts}
 use Rattle.mt_client.proofs.effects.tell_closed.Goals as goal
 
 pub returns-in_err-print_line-clause-broken : goal.returns-in_err-print_line-clause-broken
 returns-in_err-print_line-clause-broken g c t u =
     handed_on _ _ _ c.from_residual-in_err-print_line.ensures.1
-    (inl (unsaid_cut c.in_err-print_line.field-0.0 (last_line c.next_text.new.lines) _ (lines_left c.next_text.new.lines) _ _ c.in_err-print_line.ensures.part.0 (c.in_ok-next_text.ensures.read.came t)
+    (inl (unsaid_cut c.in_err-print_line.ensures.part.0 (c.in_ok-next_text.ensures.read.came t)
     (rw c.line-then-is_refusal.ensures at (c.in_err-print_line.ensures.part.1.cut u))))
 
 pub returns-in_err-tell_lines-clause-broken : goal.returns-in_err-tell_lines-clause-broken
 returns-in_err-tell_lines-clause-broken g c t u = handed_on _ _ _ c.from_residual-in_err-tell_lines.ensures.1 (inr (last_line c.next_text.new.lines, lines_left c.next_text.new.lines, c.in_ok-next_text.ensures.read.came t, c.in_err-tell_lines.ensures.broken t u))
 
 pub returns-in_err-next_text-clause-fault : goal.returns-in_err-next_text-clause-fault
-returns-in_err-next_text-clause-fault g c = handed_on _ _ _ c.from_residual.ensures.1 (tell_fault_reading (read_still _ c.requires.fresh) (λ t. closing_needs_line c.args.mirrors.now.items _) c.in_err-next_text.ensures.fault)
+returns-in_err-next_text-clause-fault g c = handed_on _ _ _ c.from_residual.ensures.1 (fault_as (λ t. needs_line (refused_some (λ _ k. (_, _, k.all)))) (λ no. absurd no) c.in_err-next_text.ensures.fault)
 
 pub returns-in_err-print_line-clause-fault : goal.returns-in_err-print_line-clause-fault
-returns-in_err-print_line-clause-fault g c = handed_on _ _ _ c.from_residual-in_err-print_line.ensures.1 (tell_fault_printing c.in_ok-next_text.ensures.read.on c.in_err-print_line.ensures.part)
+returns-in_err-print_line-clause-fault g c = handed_on _ _ _ c.from_residual-in_err-print_line.ensures.1 (fault_printing c.in_ok-next_text.ensures.read.on c.in_err-print_line.ensures.part.0 c.in_err-print_line.ensures.part.1.cause)
 
 pub returns-in_default-clause-fault : goal.returns-in_default-clause-fault
 returns-in_default-clause-fault g c =
-    tell_checked c.in_ok-next_text.ensures.read.on.limit
-    (λ e t. closing_needs_count c.args.mirrors.now.items (last_line c.next_text.new.lines) _ (lines_left c.next_text.new.lines) (c.in_ok-next_text.ensures.read.came t) (search rules) (rw c.line-2.ensures at c.in_default.ensures))
-    (λ e. absurd (connection≢output e))
+    fault_refused c.in_ok-next_text.ensures.read.on.limit
+    (λ t. closing_needs_count c.args.mirrors.now.items (last_line c.next_text.new.lines) _ (lines_left c.next_text.new.lines) (c.in_ok-next_text.ensures.read.came t) (search rules) (rw c.line-2.ensures at c.in_default.ensures))
 
 pub returns-in_err-tell_lines-clause-fault : goal.returns-in_err-tell_lines-clause-fault
 returns-in_err-tell_lines-clause-fault g c =
     handed_on _ _ _ c.from_residual-in_err-tell_lines.ensures.1
-    (tell_fault_behind c.in_ok-next_text.ensures.read.on (writes_still g.O.Output _)
+    (fault_behind c.in_ok-next_text.ensures.read.on
     (λ t. closing_needs_posts c.in-Some.count c.args.mirrors.now.items (last_line c.next_text.new.lines) _ _ (c.in_ok-next_text.ensures.read.came t) (search rules) (rw c.line-2.ensures at c.in-Some.ensures))
-    c.in_err-tell_lines.ensures.fault)
+    (λ b. b) c.in_err-tell_lines.ensures.fault)

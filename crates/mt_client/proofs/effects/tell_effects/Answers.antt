@@ -6,11 +6,10 @@ use Rattle.mt_events.specs.Posts.{ended}
 use Rattle.mt_events.specs.declared.opening.Scope.TheVariants.{All}
 use Rattle.mt_client.specs.Reading.{lines_left}
 use Rattle.mt_client.specs.Finding.{watch_text}
-use Rattle.mt_client.proofs.RequestLaws.{part_first, part_second}
-use Rattle.mt_client.proofs.RelayLaws.{same_fault, broken_later}
 use Rattle.mt_client.proofs.TellingLaws.{unsaid_of}
 use Rattle.mt_client.proofs.CallLaws.{either, out_both, handed_on}
-use Rattle.mt_client.proofs.MissingLaws.{answer_later, ask_missing}
+use Rattle.mt_client.proofs.MissingLaws.{answer_later}
+use Rattle.mt_client.proofs.RelayLaws.{part_first, part_second, broken_later, same_fault}
 use Rattle.mt_client.proofs.effects.tell_effects.Goals as goal
 
 pub returns-in_err-mirrors-clause-part : goal.returns-in_err-mirrors-clause-part
@@ -22,7 +21,7 @@ returns-in_err-mirrors-clause-broken g c t u =
     handed_on _ _ _ c.from_residual.ensures.1 (inl (unsaid_of c.in_err-mirrors.field-0.0 _ _ _ (fault.broken t u) (λ other. fault.kept other u)))
 
 pub returns-in_err-mirrors-clause-connection : goal.returns-in_err-mirrors-clause-connection
-returns-in_err-mirrors-clause-connection g c is t u v = either (λ broken. broken) inl (ask_missing c.in_err-mirrors.ensures.fault (same_fault _ _ _ c.from_residual.ensures.1 is) t u v)
+returns-in_err-mirrors-clause-connection g c is t u v = either (λ broken. broken) (λ m. inl (m v)) (c.in_err-mirrors.ensures.fault.cut (same_fault _ _ _ c.from_residual.ensures.1 is) t u)
 
 pub returns-in_err-mirrors-clause-output : goal.returns-in_err-mirrors-clause-output
 returns-in_err-mirrors-clause-output g c is u = c.in_err-mirrors.ensures.fault.cause (same_fault _ _ _ c.from_residual.ensures.1 is) u
@@ -49,7 +48,7 @@ returns g c =
       part = λ u. part_second (ended (watch_text All)) (ended c.args.line.now ++ ended (codes "close")) _ _ _ (sent.went u) (c.tell_answered.ensures.part u);
       connection = λ is t u v.
           let fault = IfErr-at_err _ is c.tell_answered.ensures.fault in
-          either (broken_later _ _ _ _ _ _ (on.counted u) (on.reads u)) (λ m. inr (c.in-Some.mirrors.items, lines_left c.watch.new.lines, found t, answer_later c.args.line.now c.in-Some.mirrors.items (lines_left c.watch.new.lines) (broken_later _ _ _ _ _ _ (sent.on.counted v) (sent.on.serves v)) m)) (fault.cut refl t u v);
+          either (broken_later (on.counted u) (on.reads u)) (λ m. inr (c.in-Some.mirrors.items, lines_left c.watch.new.lines, found t, answer_later c.args.line.now c.in-Some.mirrors.items (lines_left c.watch.new.lines) (broken_later (sent.on.counted v) (sent.on.serves v)) (m v))) (fault.cut refl t u);
       output = λ is u. let fault = IfErr-at_err _ is c.tell_answered.ensures.fault in rw same at (fault.cause refl u);
       fresh = search rules;
       reads = search rules;

@@ -1,11 +1,11 @@
-use Rattle.std.proofs.Common.{◌≡◌, ◌+◌, ◌∙◌, arith, refl, subst, inl}
-use Rattle.mt_client.proofs.CallLaws.{connection≢output, read_still, reads_both, writes_still, writes_both, handed_on, tell_fault_behind, tell_checked}
+use Rattle.std.proofs.Common.{[], ◌≡◌, ◌+◌, ◌∙◌, arith, refl, subst, inl}
+use Rattle.mt_client.proofs.TellingLaws.{none_told, both_lines}
+use Rattle.mt_client.proofs.SeriesLaws.{lines_at_first, lines_more, lines_cut}
+use Rattle.mt_client.proofs.CallLaws.{read_still, reads_both, writes_still, writes_both, handed_on, breaks_later, fault_behind, fault_refused}
+use Rattle.mt_client.proofs.MissingLaws.{posts_due, due_lines}
 use Rattle.mt_client.specs.Reading.{lines_left}
 use Rattle.mt_client.specs.Effects.{HasToldLines}
-use Rattle.mt_client.proofs.EffectLaws.{all_left, more_lines, both_lines}
 use Rattle.mt_events.specs.Posts.{post_lines}
-use Rattle.mt_client.proofs.SeriesLaws.{lines_at_first, lines_more, lines_cut}
-use Rattle.mt_client.proofs.MissingLaws.{posts_due, due_lines}
 use Rattle.mt_client.proofs.effects.tell_lines.Goals as goal
 
 pub telling-init : goal.telling-init
@@ -14,7 +14,7 @@ telling-init g c = record {
   prints = writes_still g.O.Output _;
   rising = c.requires.rising;
   coming = λ t. lines_at_first posts_due c.args.count c.args.mirrors.now.items _;
-  told = λ t u. all_left c.args.named.now c.args.count c.args.mirrors.now.items _ _;
+  told = λ t u. (0, omega arith, record { posts = []; told = none_told; many = refl });
 }
 
 pub telling-preserved : goal.telling-preserved
@@ -28,7 +28,7 @@ telling-preserved g c =
       prints = writes_both c.telling.invariant.prints c.in_ok-behind.ensures.prints;
       rising = c.in_ok-behind.ensures.rising;
       coming = λ t. lines_more posts_due c.args.count c.telling.left (1 + c.in_ok-behind.behind) c.in-Some.rest c.args.mirrors.now.items c.telling.mirrors.items _ _ _ _ less c.telling-test.true (c.telling.invariant.coming t) (λ p rest due. c.in_ok-behind.ensures.only t p rest due.0);
-      told = λ t u. more_lines c.args.named.now c.args.count c.telling.left (1 + c.in_ok-behind.behind) c.in-Some.rest c.args.mirrors.now.items c.telling.mirrors.items _ _ _ _ _ _ _ less (c.telling.invariant.told t u) (c.in_ok-behind.ensures.told t u);
+      told = λ t u. let h = c.telling.invariant.told t u in (h.0 + (1 + c.in_ok-behind.behind), omega (arith, less, h.1), both_lines h.2 (c.in_ok-behind.ensures.told t u));
     }
 
 pub returns-clause-told : goal.returns-clause-told
@@ -45,23 +45,22 @@ returns-in_err-behind-clause-broken g c t u =
 pub returns-in_default-clause-broken : goal.returns-in_default-clause-broken
 returns-in_default-clause-broken g c t u =
     let h = c.telling.invariant.told t u in
-    record { count = h.0 + (1 + c.in_ok-behind.behind); made = c.tell_next.new.mirrors.items; middle = lines_left c.tell_next.new.lines; between = g.O.Output.written c.tell_next.new.out; stopped = inl refl; so = both_lines c.args.named.now h.0 (1 + c.in_ok-behind.behind) c.args.mirrors.now.items c.telling.mirrors.items _ _ _ _ _ _ _ h.2 (c.in_ok-behind.ensures.told t u) }
+    record { count = h.0 + (1 + c.in_ok-behind.behind); made = c.tell_next.new.mirrors.items; middle = lines_left c.tell_next.new.lines; between = g.O.Output.written c.tell_next.new.out; stopped = inl refl; so = both_lines h.2 (c.in_ok-behind.ensures.told t u) }
 
 pub returns-in_err-behind-clause-fault : goal.returns-in_err-behind-clause-fault
 returns-in_err-behind-clause-fault g c =
     handed_on _ _ _ c.from_residual.ensures.1
-    (tell_fault_behind c.telling.invariant.on c.telling.invariant.prints
+    (fault_behind c.telling.invariant.on
     (λ t none.
     lines_cut posts_due c.args.count c.telling.left c.args.mirrors.now.items c.telling.mirrors.items _ _ (due_lines c.args.count c.args.mirrors.now.items) c.telling-test.true (c.telling.invariant.coming t)
     (λ p rest due within. none (post_lines p) rest (record { post = p; valid = due.0; such = due.1; all = refl })))
-    c.in_err-behind.ensures.fault)
+    (breaks_later c.telling.invariant.prints) c.in_err-behind.ensures.fault)
 
 pub returns-in_default-clause-fault : goal.returns-in_default-clause-fault
 returns-in_default-clause-fault g c =
-    tell_checked (c.in_ok-behind.ensures.on.limit ∙ c.telling.invariant.on.limit)
-    (λ e t.
+    fault_refused (c.in_ok-behind.ensures.on.limit ∙ c.telling.invariant.on.limit)
+    (λ t.
     lines_cut posts_due c.args.count c.telling.left c.args.mirrors.now.items c.telling.mirrors.items _ _ (due_lines c.args.count c.args.mirrors.now.items) c.telling-test.true (c.telling.invariant.coming t)
     (λ p rest due within there.
     let size = (c.in_ok-behind.ensures.only t p rest due.0 there).0 in
     omega (arith, size, within, c.in_default.ensures, c.telling-test.true)))
-    (λ e. absurd (connection≢output e))

@@ -3,7 +3,7 @@ use Rattle.mt_skel.specs.Keyed.{rises}
 use Rattle.mt_client.specs.Reading.{lines_left}
 use Rattle.mt_client.specs.Calls.{ReadsOn, WritesOn}
 use Rattle.mt_client.specs.Finding.{mirror_space}
-use Rattle.mt_client.proofs.EffectLaws.{HasToldBut}
+use Rattle.mt_client.proofs.TellingLaws.{HasToldBut}
 use Rattle.mt_client.proofs.SeriesLaws.{CameInLines}
 use Rattle.mt_client.proofs.MissingLaws.{posts_due}
 use Rattle.mt_client.proofs.effects.tell_lines.Given as goal

@@ -1,11 +1,10 @@
-use Rattle.std.proofs.Common.{rules, Err, ◌∙◌}
+use Rattle.std.proofs.Common.{rules, Err, ap, ◌∙◌}
 use Rattle.mt_lines.specs.Reading.{last_line}
 use Rattle.mt_events.specs.Mirrors.{is_next, mirrored}
 use Rattle.mt_client.specs.Reading.{lines_left}
+use Rattle.mt_client.proofs.FollowLaws.{followed_by_post, such_needs_post, such_needs_such, only_applied}
 use Rattle.mt_client.proofs.OpeningLaws.{needs_line, refused_some, no_refusal, unrefused_or}
-use Rattle.mt_client.proofs.CallLaws.{handed_on, read_fault_of, read_fault_behind, checked_end}
-use Rattle.mt_client.proofs.FollowLaws.{such_some, such_needs_post, such_needs_such, only_applied}
-use Rattle.mt_client.proofs.MirrorLaws.{followed_by_post}
+use Rattle.mt_client.proofs.CallLaws.{handed_on, fault_as, fault_behind, fault_checked}
 use Rattle.mt_client.proofs.mirror.follow_post.Goals as goal
 
 pub returns-clause-followed : goal.returns-clause-followed
@@ -16,16 +15,16 @@ returns-clause-applied g c is t =
     only_applied mirrored (last_line c.next_text.new.lines) (lines_left c.args.lines.now) (lines_left c.next_text.new.lines) (lines_left c.read_posted.new.lines) c.in_ok-post.post c.args.mirror.now c.apply_next.new.mirror (c.in_ok-next_text.ensures.read.came t) (c.in_ok-post.ensures.only t) c.in_ok-apply_next.ensures.applied.1
 
 pub returns-in_err-next_text-clause-fault : goal.returns-in_err-next_text-clause-fault
-returns-in_err-next_text-clause-fault g c = handed_on _ _ _ c.from_residual.ensures.1 (read_fault_of (needs_line _ (refused_some (such_some (is_next c.args.mirror.now)))) c.in_err-next_text.ensures.fault)
+returns-in_err-next_text-clause-fault g c = handed_on _ _ _ c.from_residual.ensures.1 (fault_as (λ t. needs_line (refused_some (λ _ k. (_, _, k.all)))) (λ b. b) c.in_err-next_text.ensures.fault)
 
 pub returns-in_err-post-clause-fault : goal.returns-in_err-post-clause-fault
 returns-in_err-post-clause-fault g c =
     handed_on _ _ _ c.from_residual-in_err-post.ensures.1
-    (read_fault_behind c.in_ok-next_text.ensures.read.on
-    (λ t none. let came = c.in_ok-next_text.ensures.read.came t in unrefused_or _ (no_refusal _ _ _ came (search rules)) (such_needs_post (is_next c.args.mirror.now) _ _ _ came none)) c.in_err-post.ensures.fault)
+    (fault_behind c.in_ok-next_text.ensures.read.on
+    (λ t none. let came = c.in_ok-next_text.ensures.read.came t in unrefused_or (no_refusal came (search rules)) (such_needs_post (is_next c.args.mirror.now) _ _ _ came none)) (λ b. b) c.in_err-post.ensures.fault)
 
 pub returns-in_err-apply_next-clause-fault : goal.returns-in_err-apply_next-clause-fault
 returns-in_err-apply_next-clause-fault g c =
     handed_on _ _ _ c.from_residual-in_err-apply_next.ensures.1
-    (checked_end _ _ c.args.lines.now c.read_posted.new.lines (Err c.in_err-apply_next.field-0.0) c.in_err-apply_next.ensures.kind (c.in_ok-post.ensures.on.limit ∙ c.in_ok-next_text.ensures.read.on.limit)
-    (λ is t. let came = c.in_ok-next_text.ensures.read.came t in unrefused_or _ (no_refusal _ _ _ came (search rules)) (such_needs_such (is_next c.args.mirror.now) _ _ _ _ c.in_ok-post.post came (c.in_ok-post.ensures.only t) (c.in_err-apply_next.ensures.refused is))))
+    (fault_checked (c.in_ok-post.ensures.on.limit ∙ c.in_ok-next_text.ensures.read.on.limit)
+    (λ e t. let came = c.in_ok-next_text.ensures.read.came t in unrefused_or (no_refusal came (search rules)) (such_needs_such (is_next c.args.mirror.now) _ _ _ _ c.in_ok-post.post came (c.in_ok-post.ensures.only t) (c.in_err-apply_next.ensures.refused (ap Err e)))) (λ e. c.in_err-apply_next.ensures.kind (ap Err e)))

@@ -3,19 +3,16 @@ use Rattle.std.proofs.lemmas.Option.{MatchOption-at_some}
 use Rattle.std.proofs.lemmas.Result.{IfErr-at_err}
 use Rattle.mt_lines.specs.Reading.{last_line}
 use Rattle.mt_client.specs.Reading.{lines_left}
-use Rattle.mt_client.proofs.RequestLaws.{part_first, part_second}
-use Rattle.mt_client.proofs.RelayLaws.{cut_within, same_fault}
-use Rattle.mt_client.proofs.MirrorLaws.{mirrored_whole}
-use Rattle.mt_client.proofs.FollowLaws.{mirroring_needs_opening, mirroring_needs_posts}
-use Rattle.mt_client.proofs.CallLaws.{either, out_both, handed_on}
-use Rattle.mt_client.proofs.AskLaws.{broken_behind, writes_told}
+use Rattle.mt_client.proofs.FollowLaws.{mirrored_whole, mirroring_needs_opening, mirroring_needs_posts}
+use Rattle.mt_client.proofs.CallLaws.{either, out_both, handed_on, ask_cut, talk_cut, writes_told}
+use Rattle.mt_client.proofs.RelayLaws.{part_first, part_second, same_fault}
 use Rattle.mt_client.proofs.mirror.mirror.Goals as goal
 
 pub returns-in_err-mirror-clause-part : goal.returns-in_err-mirror-clause-part
 returns-in_err-mirror-clause-part g c u = part_first _ _ _ _ (c.watch_one.ensures.part u)
 
 pub returns-in_err-mirror-clause-connection : goal.returns-in_err-mirror-clause-connection
-returns-in_err-mirror-clause-connection g c is t u v = either (λ b. b) (either (λ b. b) (mirroring_needs_opening c.args.space c.args.count _)) (c.in_err-mirror.ensures.fault.cut (same_fault _ _ _ c.from_residual.ensures.1 is) t u v)
+returns-in_err-mirror-clause-connection g c is t u v = ask_cut (mirroring_needs_opening c.args.space c.args.count _) c.in_err-mirror.ensures.fault (same_fault _ _ _ c.from_residual.ensures.1 is) t u v
 
 pub returns-in_err-mirror-clause-kept : goal.returns-in_err-mirror-clause-kept
 returns-in_err-mirror-clause-kept g c = handed_on _ _ _ c.from_residual.ensures.1 c.in_err-mirror.ensures.fault.kept
@@ -49,16 +46,12 @@ returns g c =
           (last_line c.print_followed.new.lines, inr (c.in-Some.mirror, left.0, lines_left c.watch_one.new.lines, opened t, left.1), out.went u);
       sent = λ is u. let all = out_both sent (c.print_followed.ensures.sent is) in all.went u;
       part = λ u. part_second _ _ _ _ _ (sent.went u) (c.print_followed.ensures.part u);
-      connection = λ is t u v.
-          let fault = IfErr-at_err _ is c.print_followed.ensures.fault in
-          either (λ broken. (broken_behind sent v broken, inr (unrefused t)))
-          (cut_within _ _ _ _ _ _ _ _ (on.counted u) (on.reads u) (mirroring_needs_posts c.args.space c.args.count c.in-Some.mirror _ _ (opened t) (unrefused t)))
-          (fault.cut refl t u v);
+      connection = λ is. talk_cut on sent unrefused (λ t. mirroring_needs_posts c.args.space c.args.count c.in-Some.mirror _ _ (opened t) (unrefused t)) (IfErr-at_err _ is c.print_followed.ensures.fault) refl;
       kept = rw same at c.print_followed.ensures.kept;
       output = λ is u. let fault = IfErr-at_err _ is c.print_followed.ensures.fault in rw same at (fault.cause refl u);
       fresh = search rules;
       reads = search rules;
-      writes = writes_told g.W.Output _ _ c.args.writer.now c.watch_one.new.writer c.print_followed.new.writer c.print_followed.result sent c.print_followed.ensures.sent c.print_followed.ensures.unsent;
+      writes = writes_told c.print_followed.result sent c.print_followed.ensures.sent c.print_followed.ensures.unsent;
       prints = search rules;
       limit = search rules;
     }

@@ -1,17 +1,16 @@
-use Rattle.std.proofs.Common.{rules, refl, arith, ap, inl, inr}
+use Rattle.std.proofs.Common.{rules, arith, ap, inl, inr}
 use Rattle.std.proofs.lemmas.Bool.{MatchBool-at_true, MatchBool-at_false}
 use Rattle.mt_events.specs.Posts.{ended}
 use Rattle.mt_client.specs.Reading.{lines_left}
-use Rattle.mt_client.proofs.MirrorLaws.{none_followed}
-use Rattle.mt_client.proofs.CallLaws.{handed_on, out_as, refused_of, talk_no_memory, talk_fault_sending, talk_fault_telling, talk_fault_printing, tell_fault_reading, read_still}
-use Rattle.mt_client.proofs.AskLaws.{writes_same}
+use Rattle.mt_client.proofs.FollowLaws.{none_followed}
+use Rattle.mt_client.proofs.CallLaws.{out_as, handed_on, fault_as, fault_no_memory, fault_printing, refused_of, as_fault}
 use Rattle.mt_client.proofs.mirror.print_followed.Goals as goal
 
 pub returns-in_err-follow-clause-fault : goal.returns-in_err-follow-clause-fault
-returns-in_err-follow-clause-fault g c = handed_on _ _ _ c.from_residual.ensures.1 (talk_no_memory refl)
+returns-in_err-follow-clause-fault g c = handed_on _ _ _ c.from_residual.ensures.1 (fault_no_memory)
 
 pub returns-in_err-send_request-clause-fault : goal.returns-in_err-send_request-clause-fault
-returns-in_err-send_request-clause-fault g c = handed_on _ _ _ c.from_residual-in_err-send_request.ensures.1 (talk_fault_sending (c.send_request.ensures.cause (search rules)) c.in_err-send_request.ensures.fault)
+returns-in_err-send_request-clause-fault g c = handed_on _ _ _ c.from_residual-in_err-send_request.ensures.1 (fault_as (λ t none v. inl (c.send_request.ensures.cause (search rules) v)) (λ b. b) (as_fault c.in_err-send_request.ensures.fault))
 
 pub returns-then-not-branch-clause-left : goal.returns-then-not-branch-clause-left
 returns-then-not-branch-clause-left g c is t =
@@ -23,13 +22,12 @@ returns-then-not-branch-clause-unsent g c is v = inr (c.send_request.ensures.cau
 
 pub returns-in_err-follow_posts-clause-fault : goal.returns-in_err-follow_posts-clause-fault
 returns-in_err-follow_posts-clause-fault g c =
-    let fault = rw (c.send_request.ensures.unread (search rules)) at c.in_err-follow_posts.ensures.fault in
-    handed_on _ _ _ c.from_residual-in_err-follow_posts.ensures.1 (talk_fault_telling (tell_fault_reading (read_still _ c.requires.fresh) (λ t none. none) fault))
+    handed_on _ _ _ c.from_residual-in_err-follow_posts.ensures.1 (fault_as (λ t none v. inr none) (λ no. absurd no) (rw (c.send_request.ensures.unread (search rules)) at c.in_err-follow_posts.ensures.fault))
 
 pub returns-in_err-print_line-clause-fault : goal.returns-in_err-print_line-clause-fault
 returns-in_err-print_line-clause-fault g c =
     handed_on _ _ _ c.from_residual-in_err-print_line.ensures.1
-    (talk_fault_printing (rw (c.send_request.ensures.unread (search rules)) at c.in_ok-follow_posts.ensures.on) (writes_same g.O.Output c.args.out.now c.send_request.new.out (c.send_request.ensures.unprinted (search rules))) c.in_err-print_line.ensures.part)
+    (fault_printing (rw (c.send_request.ensures.unread (search rules)) at c.in_ok-follow_posts.ensures.on) c.in_err-print_line.ensures.part.0 (rw (c.send_request.ensures.unprinted (search rules)) at c.in_err-print_line.ensures.part.1.cause))
 
 pub returns-then-not-branch-2-clause-left : goal.returns-then-not-branch-2-clause-left
 returns-then-not-branch-2-clause-left g c is t =

@@ -2,8 +2,8 @@ use Rattle.std.proofs.Common.{◌++◌, Err, sym, ap, ◌∙◌}
 use Rattle.mt_events.specs.Posts.{PostView}
 use Rattle.mt_events.specs.Mirrors.{is_next}
 use Rattle.mt_render.specs.Events.{told_as}
-use Rattle.mt_client.proofs.RelayLaws.{same_fault}
 use Rattle.mt_client.proofs.PlaceLaws.{found_there, applied_there, rises_with}
+use Rattle.mt_client.proofs.RelayLaws.{same_fault}
 use Rattle.mt_client.proofs.mirrors.apply_told.Goals as goal
 
 pub returns-in_err-apply_next-clause-refused : goal.returns-in_err-apply_next-clause-refused

@@ -1,4 +1,4 @@
-use Rattle.mt_client.proofs.MirrorLaws.{heading_is}
+use Rattle.mt_client.proofs.OpeningLaws.{heading_is}
 use Rattle.mt_client.proofs.opening.read_heading.Goals as goal
 
 pub returns-clause-heading : goal.returns-clause-heading

@@ -1,4 +1,4 @@
-use Rattle.mt_client.proofs.FoundLaws.{rising_kept}
+use Rattle.mt_client.proofs.OpeningLaws.{rising_kept}
 use Rattle.mt_client.proofs.parts.is_rising.Goals as goal
 
 pub parts-preserved : goal.parts-preserved

@@ -1,23 +1,23 @@
 use Rattle.std.proofs.Common.{rules, ◌∙◌}
-use Rattle.mt_client.proofs.CallLaws.{handed_on, read_fault_of, read_fault_behind, read_refused}
-use Rattle.mt_client.proofs.FoundLaws.{within_needs_line, within_needs_room, within_needs_rows, within_needs_rising}
+use Rattle.mt_client.proofs.OpeningLaws.{needs_line, within_needs_room, within_needs_rows, within_needs_rising}
+use Rattle.mt_client.proofs.CallLaws.{handed_on, fault_as, fault_behind, fault_refused}
 use Rattle.mt_client.proofs.parts.read_next.Goals as goal
 
 pub returns-in_err-next_text-clause-fault : goal.returns-in_err-next_text-clause-fault
-returns-in_err-next_text-clause-fault g c = handed_on _ _ _ c.from_residual.ensures.1 (read_fault_of (within_needs_line c.args.left _) c.in_err-next_text.ensures.fault)
+returns-in_err-next_text-clause-fault g c = handed_on _ _ _ c.from_residual.ensures.1 (fault_as (λ t. needs_line (λ _ k. (_, _, k.all))) (λ b. b) c.in_err-next_text.ensures.fault)
 
 pub returns-then-heading-left-clause-fault : goal.returns-then-heading-left-clause-fault
 returns-then-heading-left-clause-fault g c =
-    read_refused c.in_ok-next_text.ensures.read.on.limit
+    fault_refused c.in_ok-next_text.ensures.read.on.limit
     (λ t. within_needs_room c.args.left c.in-Some.heading _ _ _ (c.in_ok-next_text.ensures.read.came t) (rw c.line.ensures at c.in-Some.ensures.heading) c.in-Some.ensures.small c.if-heading-left.true)
 
 pub returns-in_err-rows-clause-fault : goal.returns-in_err-rows-clause-fault
 returns-in_err-rows-clause-fault g c =
     handed_on _ _ _ c.from_residual-in_err-rows.ensures.1
-    (read_fault_behind c.in_ok-next_text.ensures.read.on (λ t. within_needs_rows c.args.left c.in-Some.heading _ _ _ (c.in_ok-next_text.ensures.read.came t) (rw c.line.ensures at c.in-Some.ensures.heading) c.in-Some.ensures.small) c.in_err-rows.ensures.fault)
+    (fault_behind c.in_ok-next_text.ensures.read.on (λ t. within_needs_rows c.args.left c.in-Some.heading _ _ _ (c.in_ok-next_text.ensures.read.came t) (rw c.line.ensures at c.in-Some.ensures.heading) c.in-Some.ensures.small) (λ b. b) c.in_err-rows.ensures.fault)
 
 pub returns-in-None-clause-fault : goal.returns-in-None-clause-fault
 returns-in-None-clause-fault g c =
-    read_refused (c.in_ok-rows.ensures.rows.on.limit ∙ c.in_ok-next_text.ensures.read.on.limit)
+    fault_refused (c.in_ok-rows.ensures.rows.on.limit ∙ c.in_ok-next_text.ensures.read.on.limit)
     (λ t. within_needs_rising c.args.left c.in-Some.heading _ c.in_ok-rows.rows.items _ _ _ (c.in_ok-next_text.ensures.read.came t) (rw c.line.ensures at c.in-Some.ensures.heading) c.in-Some.ensures.small
     (c.in_ok-rows.ensures.rows.came t) c.in_ok-rows.ensures.many c.in_ok-rows.ensures.valid (search rules))

@@ -2,13 +2,13 @@ use Rattle.std.proofs.Common.{rules, refl, ap, ◌∙◌, ◌++◌}
 use Rattle.std.proofs.lemmas.Option.{MatchOption-at_some}
 use Rattle.mt_lines.specs.Reading.{last_line}
 use Rattle.mt_render.specs.Drawings.{drawing_text}
+use Rattle.mt_client.proofs.OpeningLaws.{watched_whole}
+use Rattle.mt_client.proofs.CallLaws.{either, handed_on, ask_cut}
 use Rattle.mt_client.proofs.RelayLaws.{same_fault}
-use Rattle.mt_client.proofs.FoundLaws.{watched_whole}
-use Rattle.mt_client.proofs.CallLaws.{handed_on, either}
 use Rattle.mt_client.proofs.picture.draw.Goals as goal
 
 pub returns-in_err-parts-clause-connection : goal.returns-in_err-parts-clause-connection
-returns-in_err-parts-clause-connection g c is t u v = c.in_err-parts.ensures.fault.cut (same_fault _ _ _ c.from_residual.ensures.1 is) t u v
+returns-in_err-parts-clause-connection g c is t u v = ask_cut (λ none. none) c.in_err-parts.ensures.fault (same_fault _ _ _ c.from_residual.ensures.1 is) t u v
 
 pub returns-in_err-parts-clause-output : goal.returns-in_err-parts-clause-output
 returns-in_err-parts-clause-output g c is u = c.in_err-parts.ensures.fault.cause (same_fault _ _ _ c.from_residual.ensures.1 is) u

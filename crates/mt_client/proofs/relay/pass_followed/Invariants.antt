@@ -1,8 +1,8 @@
 use Rattle.std.proofs.Common.{[], IsTrue}
 use Rattle.mt_client.specs.Reading.{lines_left}
 use Rattle.mt_client.specs.Calls.{PassesOn}
-use Rattle.mt_client.proofs.SeriesLaws.{Came}
 use Rattle.mt_client.proofs.EndingLaws.{ArePosts, answer_posts}
+use Rattle.mt_client.proofs.SeriesLaws.{Came}
 use Rattle.mt_client.proofs.relay.pass_followed.Given as goal
 
 -- so many posts were passed on

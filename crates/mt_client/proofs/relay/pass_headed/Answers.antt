@@ -1,10 +1,11 @@
-use Rattle.mt_client.proofs.CallLaws.{read_still, out_as, line_text, handed_on, passes_line, passes_both, pass_fault_reading, pass_fault_behind, pass_fault_printing}
+use Rattle.mt_client.proofs.EndingLaws.{headed_whole, headed_needs_behind}
+use Rattle.mt_client.proofs.OpeningLaws.{needs_line}
+use Rattle.mt_client.proofs.CallLaws.{out_as, line_text, handed_on, fault_as, passes_line, passes_both, pass_unprinted, pass_fault_behind, pass_fault_printing}
 use Rattle.std.proofs.Common.{refl}
-use Rattle.mt_client.proofs.ReplyLaws.{headed_whole, headed_needs_line, headed_needs_behind}
 use Rattle.mt_client.proofs.relay.pass_headed.Goals as goal
 
 pub returns-in_err-next_text-clause-fault : goal.returns-in_err-next_text-clause-fault
-returns-in_err-next_text-clause-fault g c = handed_on _ _ _ c.from_residual.ensures.1 (pass_fault_reading (read_still _ c.requires.fresh) (λ t. headed_needs_line c.args.form _) c.in_err-next_text.ensures.fault)
+returns-in_err-next_text-clause-fault g c = handed_on _ _ _ c.from_residual.ensures.1 (pass_unprinted (fault_as (λ t. needs_line (λ _ k. (_, _, k.1.all))) (λ b. b) c.in_err-next_text.ensures.fault))
 
 pub returns-in_err-print_line-clause-fault : goal.returns-in_err-print_line-clause-fault
 returns-in_err-print_line-clause-fault g c =

@@ -1,5 +1,5 @@
 use Rattle.std.proofs.Common.{rules}
-use Rattle.mt_client.proofs.RequestLaws.{words_joined}
+use Rattle.mt_client.proofs.RelayLaws.{words_joined}
 use Rattle.mt_client.proofs.request.request_line.Goals as goal
 
 pub returns : goal.returns

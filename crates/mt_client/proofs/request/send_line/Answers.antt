@@ -1,6 +1,5 @@
 use Rattle.std.proofs.Common.{[], ◌∷◌}
-use Rattle.mt_client.proofs.RequestLaws.{on_err, cut_first, cut_second}
-use Rattle.mt_client.proofs.RelayLaws.{broken_later}
+use Rattle.mt_client.proofs.RelayLaws.{on_err, cut_first, cut_second, broken_later}
 use Rattle.mt_client.proofs.request.send_line.Goals as goal
 
 pub returns-in_err-send-clause-part : goal.returns-in_err-send-clause-part
@@ -13,6 +12,6 @@ returns-in_err-send-clause-part g c =
 pub returns-in_err-send-2-clause-part : goal.returns-in_err-send-2-clause-part
 returns-in_err-send-2-clause-part g c =
     on_err c.from_residual-in_err-send-2.result (record {
-      cause = λ t. broken_later _ _ _ _ _ _ (c.in_ok-send.ensures.counted t) (c.in_ok-send.ensures.served t) (record { more = c.in_err-send-2.ensures.cause t; last = c.in_err-send-2.ensures.faults t });
+      cause = λ t. broken_later (c.in_ok-send.ensures.counted t) (c.in_ok-send.ensures.served t) (record { more = c.in_err-send-2.ensures.cause t; last = c.in_err-send-2.ensures.faults t });
       cut = λ t. cut_second c.args.line.now (10 ∷ []) _ _ _ c.in_err-send-2.field-0.0.sent (c.in_ok-send.ensures.whole t) c.in_err-send-2.ensures.within (c.in_err-send-2.ensures.cut t);
     })

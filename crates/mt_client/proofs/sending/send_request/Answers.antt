@@ -1,5 +1,5 @@
 use Rattle.mt_events.specs.Posts.{ended}
-use Rattle.mt_client.proofs.SendingLaws.{part_sent}
+use Rattle.mt_client.proofs.EndingLaws.{part_sent}
 use Rattle.mt_client.proofs.sending.send_request.Goals as goal
 
 pub returns-then-is_ok-clause-part : goal.returns-then-is_ok-clause-part

@@ -1,12 +1,11 @@
-use Rattle.std.proofs.Common.{rules, IsTrue, refl, inl, inr}
+use Rattle.std.proofs.Common.{rules, refl, inl, inr}
 use Rattle.std.proofs.lemmas.Option.{MatchOption-at_some}
-use Rattle.std.proofs.lemmas.Result.{IfErr-at_err}
+use Rattle.std.proofs.lemmas.Result.{IfErr-at_err, IfErr-weaker, on_ok_weaker}
 use Rattle.mt_lines.specs.Reading.{last_line}
-use Rattle.mt_client.specs.Reading.{lines_left}
-use Rattle.mt_client.proofs.RelayLaws.{broken_later, cut_within, same_fault}
-use Rattle.mt_client.proofs.CallLaws.{either, handed_on}
-use Rattle.mt_client.proofs.AheadLaws.{telling_needs_opening, telling_needs_posts}
-use Rattle.mt_client.proofs.TellingLaws.{telling_first, telling_second, told_behind, stopped_behind, unsaid_of}
+use Rattle.mt_client.proofs.TellingLaws.{unsaid_of, telling_first, told_whole, telling_stopped}
+use Rattle.mt_client.proofs.CallLaws.{handed_on, ask_cut, talk_cut}
+use Rattle.mt_client.proofs.MissingLaws.{telling_needs_opening, telling_needs_posts}
+use Rattle.mt_client.proofs.RelayLaws.{part_second, same_fault}
 use Rattle.mt_client.proofs.telling.tell.Goals as goal
 
 pub returns-in_err-mirrors-clause-part : goal.returns-in_err-mirrors-clause-part
@@ -18,7 +17,7 @@ returns-in_err-mirrors-clause-broken g c t u =
     handed_on _ _ _ c.from_residual.ensures.1 (inl (unsaid_of c.in_err-mirrors.field-0.0 _ _ _ (fault.broken t u) (λ other. fault.kept other u)))
 
 pub returns-in_err-mirrors-clause-connection : goal.returns-in_err-mirrors-clause-connection
-returns-in_err-mirrors-clause-connection g c is t u v = either (λ b. b) (either (λ b. b) (telling_needs_opening c.args.scope _)) (c.in_err-mirrors.ensures.fault.cut (same_fault _ _ _ c.from_residual.ensures.1 is) t u v)
+returns-in_err-mirrors-clause-connection g c is t u v = ask_cut (telling_needs_opening c.args.scope _) c.in_err-mirrors.ensures.fault (same_fault _ _ _ c.from_residual.ensures.1 is) t u v
 
 pub returns-in_err-mirrors-clause-output : goal.returns-in_err-mirrors-clause-output
 returns-in_err-mirrors-clause-output g c is u = c.in_err-mirrors.ensures.fault.cause (same_fault _ _ _ c.from_residual.ensures.1 is) u
@@ -37,16 +36,10 @@ returns g c =
     let same = MatchOption-at_some {o = c.in_ok-mirrors.field-0} _ _ c.in-Some.mirrors (search rules) c.in_ok-mirrors.ensures.unprinted in
     let on = c.in_ok-mirrors.ensures.on in
     record {
-      told =
-          told_behind c.args.named.now (IsTrue g.R.Input.tells) (IsTrue g.O.Output.tells) _ c.tell_portions.result c.args.scope c.in-Some.mirrors.items (lines_left c.args.lines.now) (lines_left c.watch.new.lines) (lines_left c.tell_portions.new.lines) (g.O.Output.written c.args.out.now) (g.O.Output.written c.tell_portions.new.out)
-          found (rw same at c.tell_portions.ensures.told);
-      broken = λ t u. stopped_behind c.args.named.now c.tell_portions.result c.args.scope c.in-Some.mirrors.items (lines_left c.args.lines.now) (lines_left c.watch.new.lines) _ _ (found t) (rw same at (c.tell_portions.ensures.broken t u));
-      part = λ u. telling_second c.args.scope _ _ _ (sent.went u) (c.tell_portions.ensures.part u);
-      connection = λ is t u v.
-          let fault = IfErr-at_err _ is c.tell_portions.ensures.fault in
-          either (λ broken. (broken_later _ _ _ _ _ _ (sent.on.counted v) (sent.on.serves v) broken, inr (unrefused t)))
-          (cut_within _ _ _ _ _ _ _ _ (on.counted u) (on.reads u) (telling_needs_posts c.args.scope c.in-Some.mirrors.items _ _ (found t) (unrefused t)))
-          (fault.cut refl t u v);
+      told = on_ok_weaker c.tell_portions.result (λ h t u. inr (told_whole _ _ _ (found t) (h t u))) (rw same at c.tell_portions.ensures.told);
+      broken = λ t u. IfErr-weaker c.tell_portions.result _ _ (λ f q. telling_stopped (found t) q) (rw same at (c.tell_portions.ensures.broken t u));
+      part = λ u. let p = c.tell_portions.ensures.part u in (p.0, part_second _ _ _ _ _ (sent.went u) p.1);
+      connection = λ is. talk_cut on sent unrefused (λ t. telling_needs_posts c.args.scope c.in-Some.mirrors.items _ _ (found t) (unrefused t)) (IfErr-at_err _ is c.tell_portions.ensures.fault) refl;
       output = λ is u. let fault = IfErr-at_err _ is c.tell_portions.ensures.fault in rw same at (fault.cause refl u);
       fresh = search rules;
       reads = search rules;

@@ -1,9 +1,12 @@
-use Rattle.std.proofs.Common.{Ok, ap, append-nil, sym}
+use Rattle.std.proofs.Common.{Ok, ap, append-nil, refl, sym, ◌⊎◌, inl, inr}
 use Rattle.std.proofs.lemmas.Bool.{MatchBool-at_true, MatchBool-at_false}
-use Rattle.mt_client.proofs.CallLaws.{read_still, reads_both, writes_still, writes_both, handed_on, talk_fault_behind, talk_refused}
+use Rattle.mt_client.proofs.TellingLaws.{so_none, portion_before, all_behind, follows_sent, follows_part}
 use Rattle.mt_client.proofs.SeriesLaws.{came_at_first}
-use Rattle.mt_client.proofs.AheadLaws.{portions_of, portions_more, portions_cut, portions_over}
-use Rattle.mt_client.proofs.TellingLaws.{portion_before, all_behind, up_to_behind, up_to_whole, follows_sent, follows_part, follows_whole}
+use Rattle.mt_client.proofs.CallLaws.{either, read_still, reads_both, writes_still, writes_both, handed_on, fault_refused, effect_behind}
+use Rattle.mt_client.proofs.MissingLaws.{portions_of, portions_more, portions_cut, portions_over}
+use Rattle.mt_client.proofs.RelayLaws.{sent_whole}
+use Rattle.mt_client.specs.Reading.{lines_left, NoneFirst}
+use Rattle.mt_client.specs.Due.{AreDuePosts, AreDuePortions}
 use Rattle.mt_client.proofs.telling.tell_portions.Goals as goal
 
 pub portions-init : goal.portions-init
@@ -18,7 +21,9 @@ portions-init g c = record {
 }
 
 pub returns-in_err-tell_portion-clause-broken : goal.returns-in_err-tell_portion-clause-broken
-returns-in_err-tell_portion-clause-broken g c t u = handed_on _ _ _ c.from_residual.ensures.1 (up_to_behind c.in_err-tell_portion.field-0.0 c.args.count c.args.scope _ _ _ _ _ _ _ (c.portions.invariant.told t u) (c.in_err-tell_portion.ensures.broken t u))
+returns-in_err-tell_portion-clause-broken g c t u =
+    let h = c.in_err-tell_portion.ensures.broken t u in
+    handed_on _ _ _ c.from_residual.ensures.1 (record { made = h.made; middle = h.middle; between = h.between; so = c.portions.invariant.told t u _ _ _ h.so; stopped = h.stopped })
 
 pub returns-in_err-tell_portion-clause-part : goal.returns-in_err-tell_portion-clause-part
 returns-in_err-tell_portion-clause-part g c u = follows_part c.args.count c.portions._portion _ _ _ (c.portions.invariant.sent u) (c.in_err-tell_portion.ensures.part u)
@@ -39,19 +44,20 @@ portions-preserved g c =
       rising = c.in_ok-tell_portion.ensures.rising;
       goes = λ t. portions_more c.args.count c.portions._portion c.args.scope _ _ _ _ _ _ (c.portions.invariant.goes t) (c.in_ok-tell_portion.ensures.applied going t);
       sent = λ u. follows_sent c.args.count c.portions._portion _ _ _ (c.portions.invariant.sent u) ((c.in_ok-tell_portion.ensures.sent going).went u);
-      told = λ t u new after done so. c.portions.invariant.told t u new after done (portion_before c.args.count c.args.scope _ _ _ _ _ _ (MatchBool-at_true _ _ c.if-not-branch.false (c.in_ok-tell_portion.ensures.told t u)) new after done so);
+      told = λ t u new after done so. c.portions.invariant.told t u new after done (portion_before (MatchBool-at_true _ _ c.if-not-branch.false (c.in_ok-tell_portion.ensures.told t u)) new after done so);
     }
 
 pub returns-clause-broken : goal.returns-clause-broken
-returns-clause-broken g c t u = up_to_whole c.args.count c.args.scope _ _ _ _ _ _ (c.portions.invariant.told t u)
+returns-clause-broken g c t u = record { made = c.portions.mirrors.items; middle = lines_left c.portions.lines; between = g.O.Output.written c.portions.out; so = c.portions.invariant.told t u _ _ _ so_none; stopped = inl refl }
 
 pub returns-clause-part : goal.returns-clause-part
-returns-clause-part g c u = follows_whole c.args.count c.portions._portion _ _ (c.portions.invariant.sent u)
+returns-clause-part g c u = (c.portions._portion, sent_whole _ _ _ (c.portions.invariant.sent u))
 
 pub returns-in_err-tell_portion-clause-fault : goal.returns-in_err-tell_portion-clause-fault
 returns-in_err-tell_portion-clause-fault g c =
     let h = c.portions.invariant in
-    handed_on _ _ _ c.from_residual.ensures.1 (talk_fault_behind h.on h.writes h.prints (λ t. portions_cut c.args.count c.portions._portion c.args.scope _ _ _ _ (h.goes t)) c.in_err-tell_portion.ensures.fault)
+    handed_on _ _ _ c.from_residual.ensures.1 (effect_behind (λ unsent. unsent ⊎ NoneFirst (AreDuePosts c.args.count c.args.scope c.portions.mirrors.items) (lines_left c.portions.lines)) (λ unsent. unsent ⊎ NoneFirst (AreDuePortions c.args.count c.args.scope c.args.mirrors.now.items) (lines_left c.args.lines.now)) h.on h.writes h.prints
+    (λ t less more later m. either later (portions_cut c.args.count c.portions._portion c.args.scope _ _ _ _ (h.goes t)) m) c.in_err-tell_portion.ensures.fault)
 
 pub returns-clause-fault : goal.returns-clause-fault
-returns-clause-fault g c = talk_refused c.portions.invariant.on.limit (λ t. portions_over c.args.count c.portions._portion c.args.scope _ _ _ _ c.portions-test.false (c.portions.invariant.goes t))
+returns-clause-fault g c = fault_refused c.portions.invariant.on.limit (λ t v. inr (portions_over c.args.count c.portions._portion c.args.scope _ _ _ _ c.portions-test.false (c.portions.invariant.goes t)))

@@ -6,7 +6,7 @@ use Rattle.mt_client.specs.Finding.{mirror_space}
 use Rattle.mt_client.specs.Telling.{follows_text}
 use Rattle.mt_client.proofs.TellingLaws.{AreToldBefore}
 use Rattle.mt_client.proofs.SeriesLaws.{Came}
-use Rattle.mt_client.proofs.AheadLaws.{portions_of}
+use Rattle.mt_client.proofs.MissingLaws.{portions_of}
 use Rattle.mt_client.proofs.telling.tell_portions.Given as goal
 
 -- whole portions were told, each behind its request

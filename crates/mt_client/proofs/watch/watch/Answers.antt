@@ -1,16 +1,15 @@
-use Rattle.std.proofs.Common.{rules, refl, ap, ◌∙◌}
+use Rattle.std.proofs.Common.{rules, refl, sym, ap, subst, ◌∙◌, inl, inr, [], ◌∷◌}
 use Rattle.std.proofs.lemmas.Option.{MatchOption-at_none, MatchOption-at_some}
 use Rattle.mt_events.specs.Posts.{ended}
+use Rattle.mt_client.specs.Calls.{WritesOn, AreRead}
 use Rattle.mt_client.specs.declared.fault.ClientFault.TheVariants.{Output}
-use Rattle.mt_client.specs.Awaited.{IsRefusedOr}
-use Rattle.mt_client.specs.Finding.{watch_text, IsFinding}
+use Rattle.mt_client.proofs.CallLaws.{writes_still, out_as, line_text, handed_on, refused_of, pass_unprinted, pass_fault_printing, ask_no_memory, ask_fault_sending, ask_fault_passing}
 use Rattle.mt_client.proofs.RelayLaws.{same_fault}
-use Rattle.mt_client.proofs.CallLaws.{out_as, handed_on}
-use Rattle.mt_client.proofs.AskLaws.{writes_same, turned_away, turned_away_behind, ask_no_memory, ask_fault_sending, ask_fault_reading, ask_fault_printing}
+use Rattle.mt_lines.specs.Reading.{last_line}
 use Rattle.mt_client.proofs.watch.watch.Goals as goal
 
 pub returns-in_err-line-clause-fault : goal.returns-in_err-line-clause-fault
-returns-in_err-line-clause-fault g c = handed_on _ _ _ c.from_residual.ensures.1 (ask_no_memory _ _ _)
+returns-in_err-line-clause-fault g c = handed_on _ _ _ c.from_residual.ensures.1 (ask_no_memory)
 
 pub returns-in_err-send_request-clause-fault : goal.returns-in_err-send_request-clause-fault
 returns-in_err-send_request-clause-fault g c =
@@ -19,26 +18,29 @@ returns-in_err-send_request-clause-fault g c =
     (ask_fault_sending (c.send_request.ensures.cause (search rules)) (λ other. c.in_err-send_request.ensures.kept (λ e. other (same_fault _ f Output refl e))) c.in_err-send_request.ensures.fault)
 
 pub returns-then-not-branch-clause-refused : goal.returns-then-not-branch-clause-refused
-returns-then-not-branch-clause-refused g c is = turned_away (c.send_request.ensures.passed (search rules)) (c.send_request.ensures.cause (search rules))
+returns-then-not-branch-clause-refused g c is = let p = c.send_request.ensures.passed (search rules) in record { refused = refused_of p; out = p.out; gone = inr (c.send_request.ensures.cause (search rules)) }
 
 pub returns-in_err-parts-clause-fault : goal.returns-in_err-parts-clause-fault
 returns-in_err-parts-clause-fault g c =
-    handed_on _ _ _ c.from_residual-in_err-parts.ensures.1
-    (ask_fault_reading g.W.Output g.O.Output _ (IsRefusedOr (IsFinding c.args.scope)) c.args.lines.now c.send_request.new.lines c.read_found.new.lines c.args.writer.now c.send_request.new.writer c.args.out.now c.send_request.new.out
-    (c.send_request.ensures.unread (search rules)) (c.send_request.ensures.unprinted (search rules)) c.in_err-parts.ensures.fault)
+    rw (c.send_request.ensures.unprinted (search rules))
+    (handed_on _ _ _ c.from_residual-in_err-parts.ensures.1 (ask_fault_passing (λ other u. refl) (pass_unprinted (rw (c.send_request.ensures.unread (search rules)) at c.in_err-parts.ensures.fault))))
 
 pub returns-in_err-print_line-clause-fault : goal.returns-in_err-print_line-clause-fault
 returns-in_err-print_line-clause-fault g c =
+    let read : AreRead (last_line c.read_found.new.lines ∷ []) c.args.lines.now c.read_found.new.lines = record {
+      on = rw (c.send_request.ensures.unread (search rules)) at c.in_ok-parts.ensures.on;
+      came = λ t. let r = rw (c.send_request.ensures.unread (search rules)) at (MatchOption-at_none {o = c.in_ok-parts.field-0} _ _ (search rules) (c.in_ok-parts.ensures.found t)) in r.read;
+    } in
     handed_on _ _ _ c.from_residual-in_err-print_line.ensures.1
-    (ask_fault_printing g.W.Output g.O.Output _ (IsRefusedOr (IsFinding c.args.scope)) c.line.result.now c.args.lines.now c.send_request.new.lines c.read_found.new.lines c.args.writer.now c.send_request.new.writer c.args.out.now c.send_request.new.out c.print_line.new.out
-    (c.send_request.ensures.unread (search rules)) (c.send_request.ensures.unprinted (search rules)) c.line.ensures c.in_ok-parts.ensures.on
-    (λ t. MatchOption-at_none {o = c.in_ok-parts.field-0} _ _ (search rules) (c.in_ok-parts.ensures.found t)) c.in_err-print_line.ensures.part)
+    (ask_fault_passing (λ other u. absurd (other c.in_err-print_line.ensures.part.0))
+    (pass_fault_printing read (line_text _ _ c.line.ensures) (rw (c.send_request.ensures.unprinted (search rules)) at c.in_err-print_line.ensures.part)))
 
 pub returns-in_default-clause-refused : goal.returns-in_default-clause-refused
-returns-in_default-clause-refused g c is =
-    turned_away_behind g.W.Output g.O.Output (ended (watch_text c.args.scope)) (ended c.as_slice.result.now) c.line.result.now c.args.lines.now c.send_request.new.lines c.read_found.new.lines c.args.writer.now c.send_request.new.writer c.args.out.now c.send_request.new.out c.print_line.new.out
-    (c.send_request.ensures.unread (search rules)) (c.send_request.ensures.unprinted (search rules)) (ap ended (c.as_slice.ensures.value ∙ c.in_ok-line.ensures)) c.line.ensures
-    (λ t. MatchOption-at_none {o = c.in_ok-parts.field-0} _ _ (search rules) (c.in_ok-parts.ensures.found t)) (c.send_request.ensures.sent (search rules)) c.in_ok-print_line.ensures.out
+returns-in_default-clause-refused g c is = record {
+  refused = λ t. rw (c.send_request.ensures.unread (search rules)) at (MatchOption-at_none {o = c.in_ok-parts.field-0} _ _ (search rules) (c.in_ok-parts.ensures.found t));
+  out = out_as (ap ended c.line.ensures) (rw (c.send_request.ensures.unprinted (search rules)) at c.in_ok-print_line.ensures.out);
+  gone = inl (out_as (ap ended (c.as_slice.ensures.value ∙ c.in_ok-line.ensures)) (c.send_request.ensures.sent (search rules)));
+}
 
 pub returns-clause-found : goal.returns-clause-found
 returns-clause-found g c t = rw (c.send_request.ensures.unread (search rules)) at (MatchOption-at_some {o = c.in_ok-parts.field-0} _ _ c.in-Some.parts (search rules) (c.in_ok-parts.ensures.found t))
@@ -53,4 +55,4 @@ pub returns-clause-on : goal.returns-clause-on
 returns-clause-on g c = rw (c.send_request.ensures.unread (search rules)) at c.in_ok-parts.ensures.on
 
 pub returns-clause-prints : goal.returns-clause-prints
-returns-clause-prints g c = writes_same g.O.Output c.args.out.now c.send_request.new.out (c.send_request.ensures.unprinted (search rules))
+returns-clause-prints g c = subst (λ o. WritesOn g.O.Output c.args.out.now o) (sym (c.send_request.ensures.unprinted (search rules))) (writes_still g.O.Output _)
