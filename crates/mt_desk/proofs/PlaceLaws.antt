@@ -14,7 +14,7 @@ use Rattle.mt_desk.specs.Desk.{DeskRow, row_key, desk_row_after_stop}
 use Rattle.mt_desk.specs.Rows.{PlacedRowView, ended_row}
 use Rattle.mt_desk.specs.declared.places.Slot.{Slot}
 use Rattle.mt_desk.specs.declared.places.Slot.TheVariants.{Parked, Used, Away}
-use Rattle.mt_desk.specs.Places.{line_of, capacity_of, IsHere, IsParked, no_row, slot_row, row_in, rows_at_places, use_of, uses, IsLine, IsUsed, is_among, ArePlaces, AreLines, ended_slot}
+use Rattle.mt_desk.specs.Places.{line_of, capacity_of, IsHere, IsParked, no_row, slot_row, row_in, rows_at_places, use_of, uses, IsLine, IsUsed, has_place, ArePlaces, AreLines, ended_slot}
 
 -- ---- A list in which one element was set
 
@@ -46,17 +46,17 @@ uses_set (y ∷ slots) (suc p) s x e = omega (arith, uses_set slots p s x e)
 -- ---- One place among others
 
 -- nothing goes where it is not among them
-others_stay : (p : ℕ) (ks : List ℕ) → is_among p ks ≡ false → filter (λ k. not (eqb k p)) ks ≡ ks
+others_stay : (p : ℕ) (ks : List ℕ) → has_place p ks ≡ false → filter (λ k. not (eqb k p)) ks ≡ ks
 others_stay p [] h = refl
 others_stay p (k ∷ ks) h = grind (arith, nat_tests, others_stay p ks)
 
 -- the others are left, and what is true of each
-still_among : (j p : ℕ) (ks : List ℕ) → eqb j p ≡ false → is_among j ks ≡ true → is_among j (filter (λ k. not (eqb k p)) ks) ≡ true
+still_among : (j p : ℕ) (ks : List ℕ) → eqb j p ≡ false → has_place j ks ≡ true → has_place j (filter (λ k. not (eqb k p)) ks) ≡ true
 still_among j p [] other h = absurd cc
 still_among j p (k ∷ ks) other h = grind (arith, nat_tests, still_among j p ks)
 
 -- one place more, behind the others
-among_last : (j p : ℕ) (ks : List ℕ) → is_among j (ks ++ p ∷ []) ≡ (is_among j ks || eqb p j)
+among_last : (j p : ℕ) (ks : List ℕ) → has_place j (ks ++ p ∷ []) ≡ (has_place j ks || eqb p j)
 among_last j p [] = grind arith
 among_last j p (k ∷ ks) = grind (arith, among_last j p ks)
 
@@ -71,45 +71,45 @@ each_left P Q p go (k ∷ ks) h =
 -- Rows at places, by rising key: `it` tells the row of each place, and p is one of the places.
 module _ {X : Type 0} (key : X → ℕ) (it : ℕ → X) (p : ℕ) where
   -- one below all of them has a lower key, and one above them is none of them
-  lower : (k : ℕ) (ks : List ℕ) → list_all (λ y. ltb (key (it k)) (key y)) (map it ks) ≡ true → is_among p ks ≡ true → ltb (key (it k)) (key (it p)) ≡ true
+  lower : (k : ℕ) (ks : List ℕ) → list_all (λ y. ltb (key (it k)) (key y)) (map it ks) ≡ true → has_place p ks ≡ true → ltb (key (it k)) (key (it p)) ≡ true
   lower k [] h a = absurd cc
   lower k (j ∷ ks) h a = grind (arith, nat_tests, lower k ks)
 
-  not_above : (ks : List ℕ) → list_all (λ y. ltb (key (it p)) (key y)) (map it ks) ≡ true → is_among p ks ≡ false
+  not_above : (ks : List ℕ) → list_all (λ y. ltb (key (it p)) (key y)) (map it ks) ≡ true → has_place p ks ≡ false
   not_above [] h = refl
   not_above (k ∷ ks) h = grind (arith, nat_tests, not_above ks)
 
   -- the row of its key is that at p
-  row_found : (ks : List ℕ) → rises key (map it ks) ≡ true → is_among p ks ≡ true → row_at key (key (it p)) (map it ks) ≡ Some (it p)
+  row_found : (ks : List ℕ) → rises key (map it ks) ≡ true → has_place p ks ≡ true → row_at key (key (it p)) (map it ks) ≡ Some (it p)
   row_found [] h a = absurd cc
   row_found (k ∷ ks) h a = grind (arith, nat_tests, lower k ks, row_found ks)
 
   -- one is left out
-  left_count : (ks : List ℕ) → rises key (map it ks) ≡ true → is_among p ks ≡ true → length (filter (λ k. not (eqb k p)) ks) + 1 ≡ length ks
+  left_count : (ks : List ℕ) → rises key (map it ks) ≡ true → has_place p ks ≡ true → length (filter (λ k. not (eqb k p)) ks) + 1 ≡ length ks
   left_count [] h a = absurd cc
   left_count (k ∷ ks) h a = grind (arith, nat_tests, not_above ks, others_stay p ks, left_count ks)
 
   -- the row at p is another now
   module _ (new : ℕ → X) (x : X) (becomes : (k : ℕ) → new k ≡ cond (eqb k p) x (it k)) where
     -- the rows of places that p is not among are the same
-    others_as_they_were : (ks : List ℕ) → is_among p ks ≡ false → map new ks ≡ map it ks
+    others_as_they_were : (ks : List ℕ) → has_place p ks ≡ false → map new ks ≡ map it ks
     others_as_they_were [] h = refl
     others_as_they_were (k ∷ ks) h = grind (arith, nat_tests, becomes k, others_as_they_were ks)
 
     -- where p is among them, the row is put in the place of the one with its key
-    one_put : (ks : List ℕ) → rises key (map it ks) ≡ true → is_among p ks ≡ true → key x ≡ key (it p) → map new ks ≡ put key x (map it ks)
+    one_put : (ks : List ℕ) → rises key (map it ks) ≡ true → has_place p ks ≡ true → key x ≡ key (it p) → map new ks ≡ put key x (map it ks)
     one_put [] h a same = absurd cc
     one_put (k ∷ ks) h a same = grind (arith, nat_tests, becomes k, not_above ks, others_as_they_were ks, lower k ks, one_put ks)
 
     -- without p, the row of its key is gone
-    one_left : (ks : List ℕ) → ((k : ℕ) → is_among k ks ≡ true → eqb (key (it k)) (key (it p)) ≡ eqb k p) → map new (filter (λ k. not (eqb k p)) ks) ≡ filter (λ y. not (eqb (key y) (key (it p)))) (map it ks)
+    one_left : (ks : List ℕ) → ((k : ℕ) → has_place k ks ≡ true → eqb (key (it k)) (key (it p)) ≡ eqb k p) → map new (filter (λ k. not (eqb k p)) ks) ≡ filter (λ y. not (eqb (key y) (key (it p)))) (map it ks)
     one_left [] u = refl
     one_left (k ∷ ks) u =
         let here : eqb (key (it k)) (key (it p)) ≡ eqb k p = u k (grind (arith, nat_tests)) in
         grind (arith, nat_tests, becomes k, here, one_left ks (λ j a. u j (grind (arith, nat_tests, a))))
 
 -- two places with one key are the same
-pub apart : {X : Type 0} (key : X → ℕ) (it : ℕ → X) (j k : ℕ) (ks : List ℕ) → rises key (map it ks) ≡ true → is_among j ks ≡ true → is_among k ks ≡ true → eqb (key (it j)) (key (it k)) ≡ eqb j k
+pub apart : {X : Type 0} (key : X → ℕ) (it : ℕ → X) (j k : ℕ) (ks : List ℕ) → rises key (map it ks) ≡ true → has_place j ks ≡ true → has_place k ks ≡ true → eqb (key (it j)) (key (it k)) ≡ eqb j k
 apart key it j k [] h a b = absurd cc
 apart key it j k (z ∷ ks) h a b = grind (arith, nat_tests, lower key it j z ks, lower key it k z ks, apart key it j k ks)
 
@@ -135,7 +135,7 @@ still_used slots p s r at k u = record {
 module _ {lines : List LineId} {c : ℕ} {slots : List Slot} {order : List ℕ} (places : ArePlaces lines c slots order) (p : ℕ) where
   -- another slot with the same line comes to a place
   set_places : (s x : Slot) (order' : List ℕ) → slice_get slots p ≡ Some s → IsHere x → line_of x ≡ line_of s → capacity_of x ≡ capacity_of s → AllByRecursion (IsUsed (set slots p x)) order'
-      → ((k : ℕ) (q : PlacedRowView) → slice_get (set slots p x) k ≡ Some (Used q) → is_among k order' ≡ true) → length order' + use_of s ≡ length order + use_of x → ArePlaces lines c (set slots p x) order'
+      → ((k : ℕ) (q : PlacedRowView) → slice_get (set slots p x) k ≡ Some (Used q) → has_place k order' ≡ true) → length order' + use_of s ≡ length order + use_of x → ArePlaces lines c (set slots p x) order'
   set_places s x order' at here line capacity used ordered count = record {
     lines_are = map-set_same line_of slots p x s (line ∙ ap line_of (sym (get_or_from_slice_get slots p s s at))) ∙ places.lines_are;
     number = length-set slots p x ∙ places.number;
@@ -179,7 +179,7 @@ module _ {lines : List LineId} {c : ℕ} {slots : List Slot} {order : List ℕ} 
 
   -- a parked line gets a row
   module _ (l : LineView) (at : slice_get slots p ≡ Some (Parked l)) (now : PlacedRowView) (line : now.line ≡ l.line) (capacity : now.capacity ≡ l.capacity) where
-    not_parked : (ks : List ℕ) → AllByRecursion (IsUsed slots) ks → is_among p ks ≡ false
+    not_parked : (ks : List ℕ) → AllByRecursion (IsUsed slots) ks → has_place p ks ≡ false
     not_parked [] u = refl
     not_parked (k ∷ ks) u = grind (arith, nat_tests, u.0.there, at, not_parked ks u.1)
 

@@ -31,7 +31,7 @@ use Rattle.mt_desk.specs.Sent.{IsSentOne, IsSentOneIn, IsSendingPosts}
 use Rattle.mt_desk.specs.Rows.{PlacedRowView, MayBeSent}
 use Rattle.mt_desk.specs.declared.places.Slot.{Slot}
 use Rattle.mt_desk.specs.declared.places.Slot.TheVariants.{Parked, Used, Away}
-use Rattle.mt_desk.specs.Places.{row_in, rows_at_places, desk_of, IsLine, IsUsed, is_among, ArePlaces, IsKeptDesk}
+use Rattle.mt_desk.specs.Places.{row_in, rows_at_places, desk_of, IsLine, IsUsed, has_place, ArePlaces, IsKeptDesk}
 use Rattle.mt_desk.specs.Sending.{PlaceDue, slot_follows, slot_hears, due_at, posts_at, AreDue, SendsAt, SendsAll}
 use Rattle.mt_desk.proofs.PlaceLaws.{get_set, each_get, apart, row_there, row_set, still_used, row_of_place, put_rows, put_places}
 use Rattle.mt_desk.proofs.ScheduleLaws.{rows_rise}
@@ -93,21 +93,21 @@ one_of slots p k e =
     ]
 
 -- so all that is due is due to places of the order
-due_of_order : (slots : List Slot) (ps : List PostView) (order : List ℕ) → AllByRecursion (λ (e : PlaceDue). is_among e.place order ≡ true) (flat_map (λ p. flat_map (due_at p slots) order) ps)
+due_of_order : (slots : List Slot) (ps : List PostView) (order : List ℕ) → AllByRecursion (λ (e : PlaceDue). has_place e.place order ≡ true) (flat_map (λ p. flat_map (due_at p slots) order) ps)
 due_of_order slots ps order = each_in _ _ (λ e m.
     let of_post = in_flat (λ p. flat_map (due_at p slots) order) e ps m in
     let of_place = in_flat (due_at of_post.0 slots) e order of_post.2 in
     any_in (λ k. eqb k e.place) of_place.0 order of_place.1 (eq-eqb _ _ (one_of slots of_post.0 of_place.0 e of_place.2)))
 
 -- what is true of each place of the order is true of one of them
-among_get : (P : ℕ → Type 0) (p : ℕ) (ks : List ℕ) → is_among p ks ≡ true → AllByRecursion P ks → P p
+among_get : (P : ℕ → Type 0) (p : ℕ) (ks : List ℕ) → has_place p ks ≡ true → AllByRecursion P ks → P p
 among_get P p [] h all = absurd cc
 among_get P p (k ∷ ks) h all =
     elim (eqb k p) as (λ b. eqb k p ≡ b → P p) [ true ↦ λ e. subst P (eqb-true k p e) all.0 | false ↦ λ e. among_get P p ks (grind (arith, nat_tests, e)) all.1 ] refl
 
 -- what is due to a key is due to its place
-due_here : (slots : List Slot) (order : List ℕ) (place : ℕ) (ds : List PlaceDue) → rises row_key (rows_at_places slots order) ≡ true → is_among place order ≡ true
-    → AllByRecursion (λ (e : PlaceDue). is_among e.place order ≡ true) ds → due_for (row_in slots place).key (map (keyed slots) ds) ≡ posts_at place ds
+due_here : (slots : List Slot) (order : List ℕ) (place : ℕ) (ds : List PlaceDue) → rises row_key (rows_at_places slots order) ≡ true → has_place place order ≡ true
+    → AllByRecursion (λ (e : PlaceDue). has_place e.place order ≡ true) ds → due_for (row_in slots place).key (map (keyed slots) ds) ≡ posts_at place ds
 due_here slots order place [] rising a all = refl
 due_here slots order place (e ∷ ds) rising a all =
     let same : eqb (row_in slots e.place).key (row_in slots place).key ≡ eqb e.place place = apart row_key (row_in slots) e.place place order rising all.0 a in
@@ -230,8 +230,8 @@ module _ {lines : List LineId} {c : ℕ} {journal : List Command} (last_key : �
         ∙ ap (λ y. flat_map (λ q. flat_map (due_at q slots) order) (posts_of journal y)) same
 
     -- what was found to be due is due to places in use, and is what the floor has due
-    all_in_order : AllByRecursion (λ (e : PlaceDue). is_among e.place order ≡ true) due
-    all_in_order = subst (AllByRecursion (λ (e : PlaceDue). is_among e.place order ≡ true)) (sym posts_are) (due_of_order slots (posts_of journal x) order)
+    all_in_order : AllByRecursion (λ (e : PlaceDue). has_place e.place order ≡ true) due
+    all_in_order = subst (AllByRecursion (λ (e : PlaceDue). has_place e.place order ≡ true)) (sym posts_are) (due_of_order slots (posts_of journal x) order)
 
     first : IsSendingPosts desk x p.reply (rows_at_places slots order) (map (keyed slots) due)
     first =
@@ -241,7 +241,7 @@ module _ {lines : List LineId} {c : ℕ} {journal : List Command} (last_key : �
     -- what is due may be sent
     pub prepared_due : AreDue slots due
     prepared_due = record {
-      used = each_still (λ (e : PlaceDue). is_among e.place order ≡ true) (λ (e : PlaceDue). IsUsed slots e.place) (λ e a. among_get (IsUsed slots) e.place order a h.places.used) due all_in_order;
+      used = each_still (λ (e : PlaceDue). has_place e.place order ≡ true) (λ (e : PlaceDue). IsUsed slots e.place) (λ e a. among_get (IsUsed slots) e.place order a h.places.used) due all_in_order;
       runs = λ place r at is.
           let rising = rows_rise desk h.desk in
           let here = due_here slots order place due rising (h.places.ordered place r at) all_in_order in

@@ -84,9 +84,9 @@ pub record IsUsed (slots : List Slot) (place : ℕ) : Type 0 where
   pub row : PlacedRowView
   pub there : slice_get slots place ≡ Some (Used row)
 
--- a place is one of these
-abbrev pub is_among : ℕ → List ℕ → Bool
-is_among place order = list_any (λ k. k == place) order
+-- these places have this one
+abbrev pub has_place : ℕ → List ℕ → Bool
+has_place place order = list_any (λ k. k == place) order
 
 -- The places of a desk: at each a line of its name, and the order tells the places that are in use.
 pub record ArePlaces (lines : List LineId) (capacity : ℕ) (slots : List Slot) (order : List ℕ) : Type 0 where
@@ -94,7 +94,7 @@ pub record ArePlaces (lines : List LineId) (capacity : ℕ) (slots : List Slot) 
   pub number : length slots ≡ line_count
   pub each : AllByRecursion (IsLine capacity) slots
   pub used : AllByRecursion (IsUsed slots) order
-  pub ordered : (place : ℕ) (r : PlacedRowView) → slice_get slots place ≡ Some (Used r) → is_among place order ≡ true
+  pub ordered : (place : ℕ) (r : PlacedRowView) → slice_get slots place ≡ Some (Used r) → has_place place order ≡ true
   pub count : length order ≡ uses slots
 
 -- what is always true of a desk
