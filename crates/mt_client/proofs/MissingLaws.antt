@@ -16,7 +16,7 @@ use Rattle.mt_client.specs.Due.{AreDuePosts, most_portions, portion_lines, AreDu
 use Rattle.mt_client.proofs.FollowLaws.{event_many, post_taken}
 use Rattle.mt_client.proofs.OpeningLaws.{first_taken, no_refusal, unrefused_or, found_alike}
 use Rattle.mt_client.proofs.SeriesLaws.{Series, IsSeries, Came, came_or, came_more, came_cut, in_lines, are_in_lines, due_to, are_apart, post_series, up_to, last_within}
-use Rattle.mt_client.proofs.RelayLaws.{texts_split}
+use Rattle.mt_client.proofs.RelayLaws.{texts_split, first_alike}
 use Rattle.std.proofs.lemmas.Option.{same_Some}
 use Rattle.mt_lines.specs.Words.{words}
 use Rattle.mt_events.specs.declared.opening.Scope.TheVariants.{All}
@@ -34,10 +34,7 @@ pub posts_whole : (count taken : ℕ) (scope : Scope) (old now : List MirrorView
 posts_whole count taken scope old now before middle after all came none end lines later d e =
     let w = last_within (counted_line count) count (length d.posts) d.last d.ends in
     came_or (up_to (due_to scope) (counted_line count) count) taken old now before middle came lines later (due_posts count scope old lines d) e
-    (λ due many make there. (omega (arith, w, many, all), λ r. none (d.last ∷ []) later (d.last, r, refl) there, make, behind (sym end ∙ there))) (λ p rest is due many make there. absurd (omega (arith, w, many, all)))
-  where
-    behind : Text (counted_line count) ∷ after ≡ Text d.last ∷ later → after ≡ later
-    behind both = cc
+    (λ due many make there. (omega (arith, w, many, all), λ r. none (d.last ∷ []) later (d.last, r, refl) there, make, (first_alike (sym end ∙ there)).1)) (λ p rest is due many make there. absurd (omega (arith, w, many, all)))
 
 -- portions of so many posts, and behind them fewer posts and a refusal
 abbrev flat : List (List PostView) → List PostView

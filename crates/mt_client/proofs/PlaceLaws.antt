@@ -32,20 +32,13 @@ row_here : (n : ℕ) (xs : List MirrorView) → rises mirror_space xs ≡ true �
 row_here n [] h = refl
 row_here n (y ∷ ys) h = go (nat_le n y.space) refl (row_here n ys (and_second _ _ h))
   where
-    first : (b : Bool) → (y.space == n) ≡ b → nat_le n y.space ≡ true → row_at mirror_space n (y ∷ ys) ≡ cond (y.space == n) (Some y) None
-    first true e is =
-        let same : nat_eq n y.space ≡ true = grind (arith, nat_tests) in
-        rw (e, same) refl
-    first false e is =
-        let same : nat_eq n y.space ≡ false = grind (arith, nat_tests) in
-        let less : n < y.space = grind (arith, nat_tests) in
-        let none = row_at-below mirror_space n ys (all-lower mirror_space n y.space ys less (and_first _ _ h)) in
-        rw (e, same) none
+    below : n < y.space → row_at mirror_space n ys ≡ None
+    below less = row_at-below mirror_space n ys (all-lower mirror_space n y.space ys less (and_first _ _ h))
 
     go : (le : Bool) → nat_le n y.space ≡ le
         → row_at mirror_space n ys ≡ cond (here n (place n ys) ys) (slice_get ys (place n ys)) None
         → row_at mirror_space n (y ∷ ys) ≡ cond (here n (cond (not le) (1 + place n ys) 0) (y ∷ ys)) (slice_get (y ∷ ys) (cond (not le) (1 + place n ys) 0)) None
-    go true is ih = first (y.space == n) refl is
+    go true is ih = grind (arith, nat_tests, is, below)
     go false is ih =
         let same : nat_eq n y.space ≡ false = grind (arith, nat_tests) in
         let at : ℕ = place n ys in
@@ -55,14 +48,9 @@ row_here n (y ∷ ys) h = go (nat_le n y.space) refl (row_here n ys (and_second 
 
 pub mirror_is : (n at : ℕ) (xs : List MirrorView) (m : MirrorView) → IsTrue (rises mirror_space xs) → at ≡ place n xs
     → (here n at xs ≡ true → slice_get xs at ≡ Some m) → (here n at xs ≡ false → m ≡ mirror_begun n) → m ≡ mirror_in xs n
-mirror_is n at xs m rising is there begun = go (here n at xs) refl
-  where
-    row : row_at mirror_space n xs ≡ cond (here n at xs) (slice_get xs at) None
-    row = row_here n xs rising ∙ ap (λ k. cond (here n k xs) (slice_get xs k) None) (sym is)
-
-    go : (b : Bool) → here n at xs ≡ b → m ≡ mirror_in xs n
-    go true e = ap (λ o. option_map_or (λ (y : MirrorView). y) o (mirror_begun n)) (sym (there e) ∙ ap (λ b. cond b (slice_get xs at) None) (sym e) ∙ sym row)
-    go false e = begun e ∙ ap (λ o. option_map_or (λ (y : MirrorView). y) o (mirror_begun n)) (ap (λ b. cond b (slice_get xs at) None) (sym e) ∙ sym row)
+mirror_is n at xs m rising is there begun =
+    let row : row_at mirror_space n xs ≡ cond (here n at xs) (slice_get xs at) None = row_here n xs rising ∙ ap (λ k. cond (here n k xs) (slice_get xs k) None) (sym is) in
+    grind (arith, row, there, begun)
 
 pub found_there : (n k at : ℕ) (shown old : List MirrorView) (m : MirrorView) → k ≡ n → shown ≡ old → IsTrue (rises mirror_space old) → at ≡ place k shown
     → (here k at old ≡ true → slice_get old at ≡ Some m) → (here k at old ≡ false → m ≡ mirror_begun k) → m ≡ mirror_in old n
@@ -70,11 +58,7 @@ found_there n k at shown old m same is rising e there begun = mirror_is k at old
 
 -- it is of its namespace
 pub mirror_of : (n : ℕ) (xs : List MirrorView) → mirror_space (mirror_in xs n) ≡ n
-mirror_of n xs = go (row_at mirror_space n xs) refl
-  where
-    go : (o : Option MirrorView) → row_at mirror_space n xs ≡ o → mirror_space (option_map_or (λ (y : MirrorView). y) o (mirror_begun n)) ≡ n
-    go None e = refl
-    go (Some m) e = row_at-key mirror_space n xs m e
+mirror_of n xs = grind (arith, row_at-key mirror_space n xs)
 
 -- a post applied in that place
 pub applied_there : (p : PostView) (k at : ℕ) (m x : MirrorView) (shown old middle new : List MirrorView) → k ≡ p.space → shown ≡ old → m ≡ mirror_in old p.space → x ≡ mirrored m p → at ≡ place k shown → middle ≡ without_here k at old → new ≡ insert middle at x

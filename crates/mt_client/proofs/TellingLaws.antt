@@ -271,7 +271,3 @@ one_told {named} {behind} {first} {post} {old} {new} {before} {middle} {after} {
       told = said_so (sym (append-nil (post_text post))) (post_told All old begun there p valid due make out).1;
       many = omega (arith, same);
     }
-
--- posts of all but some lines
-abbrev pub HasToldBut : NamedTelling → ℕ → ℕ → List MirrorView → List MirrorView → List Item → List Item → List ℕ → List ℕ → Type 0
-HasToldBut named count left old new before after begun done = (k : ℕ) × (k + left ≡ count) × HasToldLines named k old new before after begun done

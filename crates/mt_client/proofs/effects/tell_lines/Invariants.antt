@@ -1,9 +1,9 @@
-use Rattle.std.proofs.Common.{IsTrue}
+use Rattle.std.proofs.Common.{◌≡◌, ℕ, ◌+◌, IsTrue}
 use Rattle.mt_skel.specs.Keyed.{rises}
 use Rattle.mt_client.specs.Reading.{lines_left}
 use Rattle.mt_client.specs.Calls.{ReadsOn, WritesOn}
 use Rattle.mt_client.specs.Finding.{mirror_space}
-use Rattle.mt_client.proofs.TellingLaws.{HasToldBut}
+use Rattle.mt_client.specs.Effects.{HasToldLines}
 use Rattle.mt_client.proofs.SeriesLaws.{CameInLines}
 use Rattle.mt_client.proofs.MissingLaws.{posts_due}
 use Rattle.mt_client.proofs.effects.tell_lines.Given as goal
@@ -15,7 +15,7 @@ invariant-telling g l = record {
   prints : WritesOn g.O.Output l.initial.out l.out;
   rising : IsTrue (rises mirror_space l.mirrors.items);
   coming : IsTrue g.R.Input.tells → CameInLines posts_due l.initial.count l.left l.initial.mirrors.items l.mirrors.items (lines_left l.initial.lines) (lines_left l.lines);
-  told : IsTrue g.R.Input.tells → IsTrue g.O.Output.tells → HasToldBut l.initial.named l.initial.count l.left l.initial.mirrors.items l.mirrors.items (lines_left l.initial.lines) (lines_left l.lines) (g.O.Output.written l.initial.out) (g.O.Output.written l.out);
+  told : IsTrue g.R.Input.tells → IsTrue g.O.Output.tells → (k : ℕ) × (k + l.left ≡ l.initial.count) × HasToldLines l.initial.named k l.initial.mirrors.items l.mirrors.items (lines_left l.initial.lines) (lines_left l.lines) (g.O.Output.written l.initial.out) (g.O.Output.written l.out);
 }
 
 abbrev pub decreases-telling : goal.decreases-telling
