@@ -1,11 +1,11 @@
 -- Rows, namespaces and posts that were passed on, also up to the line that ends them, what cannot come first where one
 -- is refused, and a refusal in the place of an answer.
-use Rattle.std.proofs.Common.{◌≡◌, ◌≢◌, ℕ, ◌+◌, ◌<◌, ◌^◌, Bool, List, [], ◌∷◌, ◌++◌, length, refl, sym, ap, subst, ◌∙◌, arith, append-nil, length-append, Some, None, true, false, codes, if◌then◌else◌, inl, inr, ◌⊎◌, ◌&&◌, is_some, IsTrue, Result, Ok, Err, OnOk, OnErr}
+use Rattle.std.proofs.Common.{◌≡◌, ◌≢◌, ℕ, ◌+◌, ◌<◌, ◌^◌, Bool, List, [], ◌∷◌, ◌++◌, length, refl, sym, ap, subst, ◌∙◌, arith, append-nil, length-append, Some, None, true, false, codes, if◌then◌else◌, ◌⊎◌, IsTrue, Result, Ok, Err, OnOk, OnErr}
 use Rattle.std.proofs.lemmas.List.{map-append, length-map}
 use Rattle.std.proofs.lemmas.Grind.{flat_map-append}
 use Rattle.std.specs.List.{flat_map, join_with_byte, AllByRecursion}
 use Rattle.std.proofs.lemmas.Option.{same_Some}
-use Rattle.mt_lines.specs.Words.{words, number_in_text}
+use Rattle.mt_lines.specs.Words.{words}
 use Rattle.mt_lines.specs.Lines.{Item, Text}
 use Rattle.mt_skel.proofs.MiddleLaws.{each_last}
 use Rattle.mt_info.specs.Laws.{IsRow}
@@ -28,7 +28,6 @@ use Rattle.std.specs.Str.{bytes_eq}
 use Rattle.std.proofs.lemmas.Slice.Eq.{bytes_eq-Decides}
 use Rattle.mt_protocol.specs.declared.form.Form.TheVariants.{Done, Number, Place, Table, Opening, Posts, Followed, Never}
 use Rattle.mt_protocol.specs.Verbs.{first_of}
-use Rattle.mt_protocol.specs.Refusals.{refusal_named}
 use Rattle.mt_lines.specs.declared.stream.Cut.{Cut}
 use Rattle.mt_lines.specs.declared.stream.Output.{Ghosts as OutputGhosts}
 use Rattle.mt_client.specs.Calls.{IsOut, IsOutInPart}
@@ -217,11 +216,7 @@ silent_words [] n e = cc
 silent_words (a ∷ []) n e = cc
 silent_words (a ∷ b ∷ []) n e = cc
 silent_words (a ∷ b ∷ d ∷ []) n e = cc
-silent_words (a ∷ b ∷ d ∷ f ∷ rest) n e = go (bytes_eq a (codes "event")) refl e
-  where
-    go : (is : Bool) → bytes_eq a (codes "event") ≡ is → (if is then number_in_text f else None) ≡ Some n → (if bytes_eq a (codes "ok") then Some true else (if bytes_eq a (codes "no") then Some false else None)) ≡ None
-    go true is e = let same : a ≡ codes "event" = (bytes_eq-Decides a (codes "event")).0 is in rw same refl
-    go false is e = cc
+silent_words (a ∷ b ∷ d ∷ f ∷ rest) n e = let same = λ (is : bytes_eq a (codes "event") ≡ true). (bytes_eq-Decides a (codes "event")).0 is in grind (arith, same, e)
 
 -- posts up to the line that ends so many of them
 abbrev pub answer_posts : Series
@@ -258,24 +253,13 @@ answer_ending taken told seen before middle rest came there tells not =
 
 -- every answer but that of posts that are followed is known by its first line
 pub heads : (form : Form) → ((form ≡ Done) ⊎ ((form ≡ Number) ⊎ ((form ≡ Place) ⊎ ((form ≡ Table) ⊎ ((form ≡ Opening) ⊎ ((form ≡ Posts) ⊎ (form ≡ Never))))))) → ◌≡◌ {A = List (List ℕ) → Bool → Type 0} (IsHeaded form) (IsAnswer form)
-heads form (inl e) = rw e refl
-heads form (inr (inl e)) = rw e refl
-heads form (inr (inr (inl e))) = rw e refl
-heads form (inr (inr (inr (inl e)))) = rw e refl
-heads form (inr (inr (inr (inr (inl e))))) = rw e refl
-heads form (inr (inr (inr (inr (inr (inl e)))))) = rw e refl
-heads form (inr (inr (inr (inr (inr (inr e)))))) = rw e refl
+heads form is = grind (arith, is)
 
 -- a line that refuses tells `no`
-no_tells : (first : List ℕ) (held named : Bool) → bytes_eq first (codes "no") ≡ held → (held && named) ≡ true
-    → (if bytes_eq first (codes "ok") then Some true else (if bytes_eq first (codes "no") then Some false else None)) ≡ Some false
-no_tells first true named is e = let same : first ≡ codes "no" = (bytes_eq-Decides first (codes "no")).0 is in rw same refl
-no_tells first false named is e = cc
-
 words_tell : (ws : List (List ℕ)) → refuses ws ≡ true → (if bytes_eq (first_of ws) (codes "ok") then Some true else (if bytes_eq (first_of ws) (codes "no") then Some false else None)) ≡ Some false
 words_tell [] e = cc
 words_tell (a ∷ []) e = cc
-words_tell (a ∷ b ∷ []) e = no_tells a (bytes_eq a (codes "no")) (is_some (refusal_named b)) refl e
+words_tell (a ∷ b ∷ []) e = let same = λ (is : bytes_eq a (codes "no") ≡ true). (bytes_eq-Decides a (codes "no")).0 is in grind (arith, same, e)
 words_tell (a ∷ b ∷ d ∷ rest) e = cc
 
 refusal_tells : (line : List ℕ) → is_refusal line ≡ true → verdict line ≡ Some false
